@@ -1,0 +1,186 @@
+-- Laws of rows in memory and of tests of every index.
+-- Assumes nothing.
+use mathlib.Core.Path.{_≡_, refl, sym, _∙_, ap, subst}
+use mathlib.Core.Bool.{Bool, true, false, cond, _&&_}
+use mathlib.Core.List.{List, [], _∷_, _++_, append-assoc}
+use mathlib.Core.Logic.{_⊎_, inl, inr, ⊎-elim}
+use Prim.Native.Nat.{ℕ, zero, suc, _+_, _-_, _≤_, _<_}
+use native.Mathlib.Numerals.{add-one}
+use native.Mathlib.Nat.{not-suc-le-zero, le-of-suc-le-suc, eq-or-lt-of-le, lt-of-not-le, add-zero, le-refl}
+use native.Mathlib.Decide.{decLe}
+use native.Mathlib.Omega.{arith}
+use borrow.Author.Tests.{lt-ltb, le-ltb, ltb-true, ltb-false, eqb-true, eqb-false}
+use lib.Dec.{ltb, eqb}
+use lib.ListN.{length, getD, set, length-set, replicate}
+use lib.Seq.{ext-getD, getD-set-same, getD-set-other}
+use Rattle.arithmetic.specs.Sum.{only}
+use Rattle.arithmetic.specs.Row.{row, values, each, overlay}
+use Rattle.arithmetic.proofs.SumLaws.{only-same, only-other}
+
+pub length-row : (n : ℕ) (f : ℕ → ℕ) → length (row n f) ≡ n
+unfolding row
+length-row zero f = refl
+length-row (suc n) f = ap suc (length-row n (λ k. f (suc k)))
+
+pub values-row : (n k : ℕ) (f : ℕ → ℕ) → k < n → values (row n f) k ≡ f k
+unfolding row
+values-row zero k f h = absurd (not-suc-le-zero h)
+values-row (suc n) zero f h = refl
+values-row (suc n) (suc k) f h = values-row n k (λ i. f (suc i)) (le-of-suc-le-suc h)
+
+-- a list of n values that are those of f
+pub row-of : (l : List ℕ) (n : ℕ) (f : ℕ → ℕ) → length l ≡ n → ((k : ℕ) → k < n → values l k ≡ f k) → l ≡ row n f
+row-of l n f e h =
+    ext-getD 0 l (row n f) (e ∙ sym (length-row n f))
+    (λ k i. let i′ : k < n = rw e at i in h k i′ ∙ sym (values-row n k f i′))
+
+-- A row being filled from its start: i places of l hold f, and the others what they held in l₀.
+pub record Filled (l₀ l : List ℕ) (f : ℕ → ℕ) (i : ℕ) : Type 0 where
+  pub same : length l ≡ length l₀
+  pub done : (j : ℕ) → j < i → values l j ≡ f j
+  pub rest : (j : ℕ) → i ≤ j → values l j ≡ values l₀ j
+
+pub filled-start : (l : List ℕ) (f : ℕ → ℕ) → Filled l l f 0
+filled-start l f = record { same = refl; done = λ j h. absurd (not-suc-le-zero h); rest = λ j h. refl }
+
+pub filled-next :
+    (l₀ l : List ℕ) (f : ℕ → ℕ) (i x : ℕ) → Filled l₀ l f i → i < length l → x ≡ f i → Filled l₀ (set l i x) f (i + 1)
+filled-next l₀ l f i x s h e =
+    record {
+      same = length-set l i x ∙ s .same;
+      done = λ j b. go j b (eq-or-lt-of-le (before j b));
+      rest = λ j b. getD-set-other l i j x 0 (λ n. apart j b n) ∙ s .rest j (omega arith);
+    }
+  where
+    before : (j : ℕ) → j < i + 1 → j ≤ i
+    before j b = omega arith
+
+    apart : (j : ℕ) → i + 1 ≤ j → j ≡ i → ⊥
+    apart j b n = omega arith
+
+    go : (j : ℕ) → j < i + 1 → (j ≡ i) ⊎ (j < i) → values (set l i x) j ≡ f j
+    go j b (inl n) = rw n (getD-set-same l i x 0 h ∙ e)
+    go j b (inr n) = getD-set-other l i j x 0 (λ m. below-apart j n m) ∙ s .done j n
+      where
+        below-apart : (j : ℕ) → j < i → j ≡ i → ⊥
+        below-apart j n m = omega arith
+
+pub filled-all : (l₀ l : List ℕ) (f : ℕ → ℕ) (i : ℕ) → Filled l₀ l f i → i ≡ length l₀ → l ≡ row (length l₀) f
+filled-all l₀ l f i s e = row-of l (length l₀) f (s .same) (λ k h. s .done k (rw e h))
+
+-- three ways for two places to stand
+pub lt-or-eq : (a j : ℕ) → (a ≡ j) ⊎ ((a < j) ⊎ (j < a))
+lt-or-eq a j = first (decLe a j)
+  where
+    second : (a ≡ j) ⊎ (a < j) → (a ≡ j) ⊎ ((a < j) ⊎ (j < a))
+    second (inl e) = inl e
+    second (inr d) = inr (inl d)
+
+    first : Dec (a ≤ j) → (a ≡ j) ⊎ ((a < j) ⊎ (j < a))
+    first (yes h) = second (eq-or-lt-of-le h)
+    first (no n) = inr (inr (lt-of-not-le n))
+
+-- adding an amount at one place
+pub set-only :
+    (l : List ℕ) (a x : ℕ) → a < length l → set l a (values l a + x) ≡ row (length l) (λ j. values l j + only a j x)
+set-only l a x h =
+    row-of (set l a (values l a + x)) (length l) (λ j. values l j + only a j x) (length-set l a (values l a + x))
+    (λ j i. go j (lt-or-eq a j))
+  where
+    apart-low : (j : ℕ) → j < a → j ≡ a → ⊥
+    apart-low j d e = omega arith
+
+    apart-high : (j : ℕ) → a < j → j ≡ a → ⊥
+    apart-high j d e = omega arith
+
+    go : (j : ℕ) → (a ≡ j) ⊎ ((a < j) ⊎ (j < a)) → values (set l a (values l a + x)) j ≡ values l j + only a j x
+    go j (inl e) = rw (← e) (getD-set-same l a (values l a + x) 0 h ∙ ap (λ (y : ℕ). values l a + y) (sym (only-same a x)))
+    go j (inr (inl d)) =
+        getD-set-other l a j (values l a + x) 0 (apart-high j d)
+        ∙ (sym (add-zero (values l j)) ∙ ap (λ (y : ℕ). values l j + y) (sym (only-other a j x (inl d))))
+    go j (inr (inr d)) =
+        getD-set-other l a j (values l a + x) 0 (apart-low j d)
+        ∙ (sym (add-zero (values l j)) ∙ ap (λ (y : ℕ). values l j + y) (sym (only-other a j x (inr d))))
+
+-- rows of equal values are equal
+pub row-cong : (n : ℕ) (f g : ℕ → ℕ) → ((k : ℕ) → k < n → f k ≡ g k) → row n f ≡ row n g
+row-cong n f g h = row-of (row n f) n g (length-row n f) (λ k i. values-row n k f i ∙ h k i)
+
+-- what adding at one place gives, by length and by value
+pub added-length : (l l′ : List ℕ) (a x : ℕ) → l′ ≡ row (length l) (λ j. values l j + only a j x) → length l′ ≡ length l
+added-length l l′ a x e = ap length e ∙ length-row (length l) (λ j. values l j + only a j x)
+
+pub added-value :
+    (l l′ : List ℕ) (a x : ℕ) → l′ ≡ row (length l) (λ j. values l j + only a j x) → (j : ℕ) → j < length l →
+    values l′ j ≡ values l j + only a j x
+added-value l l′ a x e j h = ap (λ (m : List ℕ). values m j) e ∙ values-row (length l) j (λ j. values l j + only a j x) h
+
+-- three additions in a row
+pub added-thrice :
+    (l l₁ l₂ l₃ : List ℕ) (a b c x y z : ℕ) →
+    l₁ ≡ row (length l) (λ j. values l j + only a j x) →
+    l₂ ≡ row (length l₁) (λ j. values l₁ j + only b j y) →
+    l₃ ≡ row (length l₂) (λ j. values l₂ j + only c j z) →
+    l₃ ≡ row (length l) (λ j. values l j + (only a j x + only b j y + only c j z))
+added-thrice l l₁ l₂ l₃ a b c x y z e₁ e₂ e₃ =
+    let n₁ = added-length l l₁ a x e₁ in
+    let n₂ = added-length l₁ l₂ b y e₂ in
+    let n₃ = added-length l₂ l₃ c z e₃ in
+    row-of l₃ (length l) (λ j. values l j + (only a j x + only b j y + only c j z)) (n₃ ∙ (n₂ ∙ n₁))
+    (λ j h.
+    let h₁ : j < length l₁ = omega arith in
+    let h₂ : j < length l₂ = omega arith in
+    omega (arith, added-value l l₁ a x e₁ j h, added-value l₁ l₂ b y e₂ j h₁, added-value l₂ l₃ c z e₃ j h₂))
+
+pub each-none : (p : ℕ → Bool) → each 0 p ≡ true
+unfolding each
+each-none p = refl
+
+pub each-more : (n : ℕ) (p : ℕ → Bool) → each n p ≡ true → p n ≡ true → each (n + 1) p ≡ true
+unfolding each
+each-more n p a b = rw (add-one n, a, b)
+
+pub each-fails : (n k : ℕ) (p : ℕ → Bool) → k < n → p k ≡ false → each n p ≡ false
+unfolding each
+each-fails zero k p h e = absurd (none h)
+  where
+    none : k < 0 → ⊥
+    none g = omega arith
+each-fails (suc n) k p h e = ⊎-elim last (λ g. earlier (each-fails n k p g e)) (eq-or-lt-of-le (le-of-suc-le-suc h))
+  where
+    either : (b : Bool) → (b && false) ≡ false
+    either true = refl
+    either false = refl
+
+    last : k ≡ n → (each n p && p n) ≡ false
+    last q = ap (λ (j : ℕ). each n p && p j) (sym q) ∙ ap (λ (b : Bool). each n p && b) e ∙ either (each n p)
+
+    earlier : each n p ≡ false → (each n p && p n) ≡ false
+    earlier q = ap (λ (b : Bool). b && p n) q
+
+pub overlay-none : (g h : ℕ → ℕ) (k : ℕ) → overlay 0 g h k ≡ h k
+unfolding overlay
+overlay-none g h k = rw (le-ltb k 0 (omega arith))
+
+-- one more place is written
+pub overlay-more : (l : List ℕ) (g h : ℕ → ℕ) (i v : ℕ) → i < length l → v ≡ g i → ((k : ℕ) → getD l k 0 ≡ overlay i g h k) → (k : ℕ) → getD (set l i v) k 0 ≡ overlay (i + 1) g h k
+unfolding overlay
+overlay-more l g h i v p e f k = by-place (ltb k i) refl (eqb k i) refl
+  where
+    past : i ≤ k → (k ≡ i → ⊥) → i + 1 ≤ k
+    past a b = omega arith
+
+    by-place : (a : Bool) → ltb k i ≡ a → (b : Bool) → eqb k i ≡ b → getD (set l i v) k 0 ≡ cond (ltb k (i + 1)) (g k) (h k)
+    by-place a ea true eb =
+        let q : k ≡ i = eqb-true k i eb in
+        rw (lt-ltb k (i + 1) (omega arith), q) (getD-set-same l i v 0 p ∙ e)
+    by-place true ea false eb =
+        let q : k < i = ltb-true k i ea in
+        getD-set-other l i k v 0 (eqb-false k i eb) ∙ f k ∙ rw (ea, lt-ltb k (i + 1) (omega arith))
+    by-place false ea false eb =
+        getD-set-other l i k v 0 (eqb-false k i eb) ∙ f k ∙ rw (ea, le-ltb k (i + 1) (past (ltb-false k i ea) (eqb-false k i eb)))
+
+pub zeros : (n k : ℕ) → getD {A = ℕ} (replicate n 0) k 0 ≡ 0
+zeros zero k = refl
+zeros (suc n) zero = refl
+zeros (suc n) (suc k) = zeros n k

@@ -1,0 +1,12 @@
+-- An answer that can be a refusal (document 01, When the engine declines).
+-- Assumes nothing.
+use Prim.Native.Nat.{ℕ}
+use Rattle.arithmetic.specs.declared.Answer.{Answer}
+
+-- the number of a cause, with a zero
+abbrev pub refused : ℕ → Answer
+refused cause = record { number = cause; value = 0 }
+
+-- a result, with number 0
+abbrev pub answered : ℕ → Answer
+answered result = record { number = 0; value = result }

@@ -1,0 +1,5 @@
+pub mod Rounding
+pub mod Sum
+pub mod Row
+pub mod Power
+pub mod Answers

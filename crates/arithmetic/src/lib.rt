@@ -1,0 +1,51 @@
+// Rounding, sums and rows that every layer shares, and the powers of ten.
+ghost use mathlib.Core.Path.{_≡_};
+ghost use Prim.Native.Nat.{_<_, _^_};
+ghost use Rattle.arithmetic.specs.Power.{powerOfTen};
+
+// An answer that can be a refusal: number 0 with the value, or the refusal's number with value 0.
+pub struct Answer {
+    pub number: u64,
+    pub value: u64,
+}
+
+// 10^0 to 10^18.
+const POWERS_OF_TEN: [u64; 19] = [
+    1,
+    10,
+    100,
+    1_000,
+    10_000,
+    100_000,
+    1_000_000,
+    10_000_000,
+    100_000_000,
+    1_000_000_000,
+    10_000_000_000,
+    100_000_000_000,
+    1_000_000_000_000,
+    10_000_000_000_000,
+    100_000_000_000_000,
+    1_000_000_000_000_000,
+    10_000_000_000_000_000,
+    100_000_000_000_000_000,
+    1_000_000_000_000_000_000,
+];
+
+fn table_entry(exponent: usize) -> u64
+    requires { ⌜ exponent < 19 ⌝ }
+    ensures { λ r. ⌜ r ≡ 10 ^ exponent ⌝ }
+{
+    POWERS_OF_TEN[exponent]
+}
+
+// The power of ten with this exponent, or 0 where the table has none.
+pub fn power_of_ten(exponent: usize) -> u64
+    ensures { λ r. ⌜ r ≡ powerOfTen exponent ⌝ }
+{
+    if exponent < 19 {
+        table_entry(exponent)
+    } else {
+        0
+    }
+}

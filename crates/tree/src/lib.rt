@@ -1,0 +1,1 @@
+// Trees of any width and any transition: definitions and laws, no code.
