@@ -1,0 +1,4 @@
+pub mod StepLaws
+pub mod Repricing
+pub mod Shortfall
+pub mod WholeFit

@@ -1,0 +1,77 @@
+-- The fit over all rows: every quote is repriced within 300 billionths, and no step overflows.
+-- Assumes nothing.
+use mathlib.Core.Path.{_≡_, refl, _∙_, sym, ap}
+use Prim.Native.Nat.{ℕ, zero, suc, _+_, _-_, _*_, _/_, _^_, _≤_, _<_}
+use native.Mathlib.Omega.{arith}
+use Rattle.arithmetic.specs.Sum.{sum}
+use Rattle.arithmetic.specs.Rounding.{one}
+
+use Rattle.fit_laws.specs.Step.{discount, next-price}
+use Rattle.tree.specs.Tree.{Tree, Sound, unit}
+use Rattle.fit_laws.specs.StatePrices.{state-price, fitted-price, fitted-discount}
+use Rattle.arithmetic.proofs.SumLaws.{sum-single}
+use Rattle.fit_laws.proofs.Repricing.{Fittable, repriced}
+
+-- the fitted state prices are those that follow from the fitted discounts
+pub fitted-is-state :
+    (t : Tree) (u : ℕ → ℕ → ℕ) (p : ℕ → ℕ) (i : ℕ) → fitted-price t u p i ≡ state-price t (fitted-discount t u p) i
+unfolding fitted-price state-price fitted-discount
+fitted-is-state t u p zero = refl
+fitted-is-state t u p (suc i) =
+    ap
+    (λ (q : ℕ → ℕ). next-price (t .step i) (t .nodes i) q
+    (discount (t .nodes i) (fitted-price t u p i) (u i) (p (suc i))))
+    (fitted-is-state t u p i)
+
+-- What a curve and its factors must keep for an n-step fit: the ranges of the quotes and of the factors, and the node counts.
+pub record Curve (t : Tree) (n : ℕ) (u : ℕ → ℕ → ℕ) (p : ℕ → ℕ) : Type 0 where
+  pub steps : n ≤ 60
+  pub counts : (i : ℕ) → t .nodes i ≤ 2 * i + 1
+  pub quote-low : (i : ℕ) → i < n → 100000000 ≤ p (suc i)
+  pub quote-high : (i : ℕ) → i < n → p (suc i) ≤ 2000000000
+  pub factor-low : (i k : ℕ) → i < n → k < t .nodes i → 360000000 ≤ u i k
+  pub factor-high : (i k : ℕ) → i < n → k < t .nodes i → u i k ≤ 2720000000
+
+module _ (t : Tree) (s : Sound t) (n : ℕ) (u : ℕ → ℕ → ℕ) (p : ℕ → ℕ) (c : Curve t n u p) where
+  -- each row that a fit step starts from
+  fittable-of :
+      (i : ℕ) → i < n → 99999700 ≤ sum (t .nodes i) (fitted-price t u p i) → sum (t .nodes i) (fitted-price t u p i) ≤ 2000000300 →
+      Fittable (t .step i) (t .nodes i) (t .nodes (suc i)) (p (suc i)) (fitted-price t u p i) (u i)
+  fittable-of i l low high =
+      record {
+        inside = s .inside i;
+        total = s .total i;
+        nodes = omega (arith, c .steps, c .counts i);
+        next-nodes = omega (arith, c .steps, c .counts (suc i));
+        sum-low = low;
+        sum-high = high;
+        factor-low = λ k h. c .factor-low i k l h;
+        factor-high = λ k h. c .factor-high i k l h;
+        quote-high = c .quote-high i l;
+      }
+
+  root-sum : sum (t .nodes 0) (fitted-price t u p 0) ≡ one
+  unfolding fitted-price
+  root-sum = rw (s .root) (sum-single (λ k. one))
+
+  pub fittable :
+      (i : ℕ) → i < n → Fittable (t .step i) (t .nodes i) (t .nodes (suc i)) (p (suc i)) (fitted-price t u p i) (u i)
+  unfolding fitted-price
+  fittable zero l = fittable-of 0 l (omega (arith, root-sum)) (omega (arith, root-sum))
+  fittable (suc i) l =
+      let l′ : i < n = omega arith in
+      let r : (p (suc i) ≤ sum (t .nodes (suc i)) (fitted-price t u p (suc i)) + 242)
+      × (sum (t .nodes (suc i)) (fitted-price t u p (suc i)) ≤ p (suc i) + 55)
+      = repriced (t .step i) (t .nodes i) (t .nodes (suc i)) (p (suc i)) (fitted-price t u p i) (u i) (fittable i l′) in
+      fittable-of (suc i) l (omega (arith, r, c .quote-low i l′)) (omega (arith, r, c .quote-high i l′))
+
+  -- every quote is repriced within 300 billionths; the sum stays within what weighing takes
+  pub quotes-repriced :
+      (i : ℕ) → i < n →
+      (p (suc i) ≤ sum (t .nodes (suc i)) (fitted-price t u p (suc i)) + 300)
+      × (sum (t .nodes (suc i)) (fitted-price t u p (suc i)) ≤ p (suc i) + 300)
+      × (sum (t .nodes (suc i)) (fitted-price t u p (suc i)) ≤ 2000000100)
+  unfolding fitted-price
+  quotes-repriced i l =
+      let r = repriced (t .step i) (t .nodes i) (t .nodes (suc i)) (p (suc i)) (fitted-price t u p i) (u i) (fittable i l) in
+      (omega (arith, r), omega (arith, r), omega (arith, r, c .quote-high i l))
