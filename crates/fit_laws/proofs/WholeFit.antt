@@ -5,7 +5,6 @@ use Prim.Native.Nat.{ℕ, zero, suc, _+_, _-_, _*_, _/_, _^_, _≤_, _<_}
 use native.Mathlib.Omega.{arith}
 use Rattle.arithmetic.specs.Sum.{sum}
 use Rattle.arithmetic.specs.Rounding.{one}
-
 use Rattle.fit_laws.specs.Step.{discount, next-price}
 use Rattle.tree.specs.Tree.{Tree, Sound, unit}
 use Rattle.fit_laws.specs.StatePrices.{state-price, fitted-price, fitted-discount}

@@ -1,0 +1,119 @@
+-- A row's branches by the tests that code makes, and what they are on a row of the lattice.
+-- Assumes nothing.
+use mathlib.Core.Path.{_≡_, refl, sym, ap, _∙_}
+use mathlib.Core.Bool.{Bool, true, false, cond, _||_}
+use mathlib.Core.List.{List}
+use Prim.Native.Nat.{ℕ, zero, suc, _+_, _-_, _*_, _≤_, _<_}
+use native.Mathlib.Omega.{arith}
+use lib.Dec.{eqb, leb, ltb}
+use lib.ListN.{length}
+use borrow.Author.Tests.{eq-eqb, ne-eqb, lt-ltb, le-ltb, le-leb, lt-leb}
+use Rattle.arithmetic.specs.Row.{values}
+use Rattle.arithmetic.proofs.Numbers.{by-order, by-equal}
+use Rattle.tree.specs.Tree.{Transition, Tree, whole}
+use Rattle.lattice.specs.Shape.{half-width, node-count}
+use Rattle.lattice.specs.Branching.{up, middle, down}
+use Rattle.lattice.specs.RateTree.{node, low, rate-tree}
+use Rattle.lattice.proofs.Sizes.{half-grows, half-full, highest-positive}
+use Rattle.lattice.proofs.RateTreeLaws.{low-growing, low-lowest, low-highest, low-inner, up-is-down, index-laws}
+use Rattle.row_branches.specs.declared.RowBranch.{RowBranch}
+use Rattle.row_branches.specs.RowBranches.{lowest, opposite, noBranch, row-branch, row-transition}
+
+module _ (count next k : ℕ) where
+  pub lowest-grown : count < next → k ≡ lowest count next k
+  unfolding lowest
+  lowest-grown g = rw (lt-ltb count next g)
+
+  module _ (g : next ≤ count) where
+    pub lowest-first : k < 2 → 0 ≡ lowest count next k
+    unfolding lowest
+    lowest-first h = rw (le-ltb count next g, lt-ltb k 2 h)
+
+    module _ (h : 2 ≤ k) where
+      pub lowest-last : k + 1 ≡ count → k - 2 ≡ lowest count next k
+      unfolding lowest
+      lowest-last e = rw (le-ltb count next g, le-ltb k 2 h, eq-eqb (k + 1) count e)
+
+      pub lowest-inner : (k + 1 ≡ count → ⊥) → k - 1 ≡ lowest count next k
+      unfolding lowest
+      lowest-inner e = rw (le-ltb count next g, le-ltb k 2 h, ne-eqb (k + 1) count e)
+
+module _ (downs : List ℕ) (next k : ℕ) where
+  pub branch-past : length downs ≤ k → noBranch ≡ row-branch downs next k
+  unfolding row-branch
+  branch-past h = rw (le-leb (length downs) k h)
+
+  module _ (h : k < length downs) where
+    pub branch-over : whole < values downs k + opposite downs k → noBranch ≡ row-branch downs next k
+    unfolding row-branch
+    branch-over g = rw (lt-leb (length downs) k h, lt-ltb whole (values downs k + opposite downs k) g)
+
+    pub branch-found : (l : ℕ) → l ≡ lowest (length downs) next k → values downs k + opposite downs k ≤ whole →
+        _≡_ {A = RowBranch}
+        (record { low = l; down = values downs k; middle = whole - values downs k - opposite downs k; up = opposite downs k })
+        (row-branch downs next k)
+    unfolding row-branch
+    branch-found l e g = rw (lt-leb (length downs) k h, le-ltb whole (values downs k + opposite downs k) g, e)
+
+-- where branches lead, by the node counts of the two rows
+pub lowest-is : (b i k : ℕ) → k < node-count b i → low b i k ≡ lowest (node-count b i) (node-count b (suc i)) k
+unfolding node-count
+lowest-is b i k h =
+    by-order (half-width b (suc i)) (half-width b i)
+    (λ c. let e : half-width b (suc i) ≡ half-width b i = omega (arith, half-grows b i) in capped e)
+    (λ g. low-growing b i k h g ∙ lowest-grown _ _ k (omega arith))
+  where
+    capped : half-width b (suc i) ≡ half-width b i → low b i k ≡ lowest (2 * half-width b i + 1) (2 * half-width b (suc i) + 1) k
+    capped e =
+        by-order 2 k
+        (λ l. by-equal (k + 1) (2 * half-width b i + 1)
+        (λ z. low-highest b i k h e (omega arith) ∙ lowest-last _ _ k (omega arith) l z)
+        (λ nz. low-inner b i k h e (omega arith) (omega (arith, nz)) ∙ lowest-inner _ _ k (omega arith) l nz))
+        (λ l. first l ∙ lowest-first _ _ k (omega arith) l)
+      where
+        first : k < 2 → low b i k ≡ 0
+        first l =
+            by-equal k 0 (λ z. low-lowest b i k h e z)
+            (λ nz.
+            let p : 0 < k = omega (arith, nz) in
+            let z : k - 1 ≡ 0 = omega arith in
+            low-inner b i k h e p (omega (arith, half-full b i e .1, highest-positive b)) ∙ z)
+
+-- On a row of the lattice, and a list that holds its down-probabilities.
+module _ (b i : ℕ) (hb : b ≤ 6000) (downs : List ℕ) (size : length downs ≡ node-count b i)
+    (holds : (k : ℕ) → k < node-count b i → values downs k ≡ down b (node b i k)) where
+  opposite-is : (k : ℕ) → k < node-count b i → opposite downs k ≡ up b (node b i k)
+  unfolding node-count
+  opposite-is k h =
+      let e : length downs - 1 - k ≡ 2 * half-width b i - k = omega arith in
+      let l : 2 * half-width b i - k < node-count b i = omega arith in
+      ap (values downs) e ∙ holds (2 * half-width b i - k) l ∙ sym (up-is-down b (half-width b i) k (omega arith))
+
+  pub row-branch-is : (k : ℕ) → k < node-count b i →
+      row-branch downs (node-count b (suc i)) k
+      ≡ record { low = low b i k; down = down b (node b i k); middle = middle b (node b i k); up = up b (node b i k) }
+  row-branch-is k h =
+      let o = opposite-is k h in
+      let d = holds k h in
+      let t = index-laws b i k h hb .total in
+      let m : whole - down b (node b i k) - up b (node b i k) ≡ middle b (node b i k) = omega arith in
+      sym (branch-found downs (node-count b (suc i)) k (omega arith) (low b i k)
+      (lowest-is b i k h ∙ ap (λ (c : ℕ). lowest c (node-count b (suc i)) k) (sym size)) (omega arith))
+      ∙ rw (d, o, m)
+
+  -- so each of the transition's numbers is the lattice's
+  pub low-is : (k : ℕ) → k < node-count b i → row-transition downs (node-count b (suc i)) .low k ≡ rate-tree b .step i .low k
+  unfolding row-transition rate-tree
+  low-is k h = ap (λ (x : RowBranch). x .low) (row-branch-is k h)
+
+  pub down-is : (k : ℕ) → k < node-count b i → row-transition downs (node-count b (suc i)) .down k ≡ rate-tree b .step i .down k
+  unfolding row-transition rate-tree
+  down-is k h = ap (λ (x : RowBranch). x .down) (row-branch-is k h)
+
+  pub middle-is : (k : ℕ) → k < node-count b i → row-transition downs (node-count b (suc i)) .middle k ≡ rate-tree b .step i .middle k
+  unfolding row-transition rate-tree
+  middle-is k h = ap (λ (x : RowBranch). x .middle) (row-branch-is k h)
+
+  pub up-is : (k : ℕ) → k < node-count b i → row-transition downs (node-count b (suc i)) .up k ≡ rate-tree b .step i .up k
+  unfolding row-transition rate-tree
+  up-is k h = ap (λ (x : RowBranch). x .up) (row-branch-is k h)
