@@ -1,7 +1,7 @@
 -- `spacing::spacing` meets its contract: the square root of the quotient is the greatest h of the product.
 -- Assumes nothing.
 use mathlib.Core.Path.{_≡_, sym, _∙_}
-use mathlib.Core.Bool.{true, false}
+use mathlib.Core.Bool.{true}
 use Prim.Native.Nat.{ℕ, _*_, _≤_}
 use native.Mathlib.Nat.{mul-le-mul, div-le-self, lt-of-le-of-lt}
 use native.Mathlib.Omega.{arith}
