@@ -92,7 +92,8 @@ alternating-least y hy =
     le-of-mul-le-mul-left {m = 44 * one} {n = 120 * (series false (term y) + 14)} {k = scale}
     (omega (arith, exact-least y hy, exact-zero y, series-within y false hy .below)) scale-positive
 
-sum-least : (y : ℕ) → one ≤ series true (term y)
+-- the sum is at least one,
+pub sum-least : (y : ℕ) → one ≤ series true (term y)
 unfolding series
 sum-least y = omega (arith, sum-term 13 0 (term y) (lit≤ tt), term-zero y)
 
@@ -103,7 +104,7 @@ sum-most-at y hy = le-trans (sum-le 13 (term y) (term one) (λ k l. term-grows y
     at-one : sum 13 (term one) ≡ 2718281823
     at-one = sum-at-one
 
--- the alternating series is at most one,
+-- with alternating signs it is at most one,
 pub alternating-within-one : (y : ℕ) → y ≤ one → series false (term y) ≤ one
 alternating-within-one y hy = omega (arith, alternating-most (term y) (λ k l. term-falls y k hy), term-zero y)
 

@@ -16,7 +16,7 @@ use Rattle.arithmetic.proofs.Numbers.{by-order}
 use Rattle.factor.specs.Series.{term, even, odd, series, scale, Within}
 use Rattle.factor.specs.Factor.{factor, exact-factor, node-answer, side-factor, side-answer}
 use Rattle.factor.proofs.SeriesLaws.{series-within, sum-by-parts, odd-le-even, term-falls}
-use Rattle.factor.proofs.Bounds.{series-bounds, alternating-within-one}
+use Rattle.factor.proofs.Bounds.{series-bounds, sum-least, alternating-within-one}
 
 -- U(j) by the distance and the side of j
 pub factor-side : (j : ℤ) (h : ℕ) → factor j h ≡ side-factor (natAbs j) (ltZ j (pos 0)) h
@@ -67,7 +67,11 @@ side-bounds d below h l = series-bounds (d * h) below l
 pub factor-bounds : (j : ℤ) (h : ℕ) → natAbs j * h ≤ one → (360000000 ≤ factor j h) × (factor j h ≤ 2720000000)
 factor-bounds j h l = rw (factor-side j h) (side-bounds (natAbs j) (ltZ j (pos 0)) h l)
 
--- not above one at the middle node and higher,
+-- at least one below the middle, at most one above it,
+pub side-below-least : (d h : ℕ) → one ≤ side-factor d true h
+unfolding side-factor
+side-below-least d h = sum-least (d * h)
+
 pub side-above-most : (d h : ℕ) → d * h ≤ one → side-factor d false h ≤ one
 unfolding side-factor
 side-above-most d h l = alternating-within-one (d * h) l

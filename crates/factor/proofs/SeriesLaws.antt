@@ -13,8 +13,11 @@ use Rattle.arithmetic.proofs.RoundingLaws.{down-le, down-gt, down-rounds}
 use Rattle.arithmetic.proofs.SumLaws.{sum-le, sum-add, sum-scale, sum-grow, sum-shift}
 use Rattle.factor.specs.Series.{term, even, odd, series, falling, exact-term, scale, Within}
 
+suc-positive : (k : ℕ) → 0 < suc k
+suc-positive k = omega arith
+
 positive-divisor : (k o : ℕ) → 0 < o → 0 < suc k * o
-positive-divisor k o h = mul-pos {m = suc k} (omega arith) h
+positive-divisor k o h = mul-pos {m = suc k} (suc-positive k) h
 
 -- any series by its even and odd terms
 pub sum-by-parts : (t : ℕ → ℕ) → series true t ≡ sum 7 (even t) + sum 6 (odd t)
@@ -56,10 +59,7 @@ term-next y k = refl
 pub term-falls : (y k : ℕ) → y ≤ one → term y (suc k) ≤ term y k
 unfolding term down
 term-falls y k h =
-    div-le-of-le-mul (suc k * one) (omega (arith, mul-le-mul-left (term y k) h, mul-le-mul-left (term y k * one) (positive k)))
-  where
-    positive : (k : ℕ) → 0 < suc k
-    positive k = omega arith
+    div-le-of-le-mul (suc k * one) (omega (arith, mul-le-mul-left (term y k) h, mul-le-mul-left (term y k * one) (suc-positive k)))
 
 pub term-most : (y k : ℕ) → y ≤ one → term y k ≤ one
 term-most y zero h = omega (arith, term-zero y)
@@ -87,11 +87,8 @@ exact-zero y = rw (pow-zero y) refl
 pub exact-falls : (y k : ℕ) → y ≤ one → k < 12 → exact-term y (suc k) ≤ exact-term y k
 exact-falls y k h l =
     le-of-mul-le-mul-left {m = exact-term y (suc k)} {n = exact-term y k} {k = suc k * one}
-    (omega (arith, exact-next y k l, mul-le-mul-left (exact-term y k) h, mul-le-mul-left (exact-term y k * one) (positive k)))
+    (omega (arith, exact-next y k l, mul-le-mul-left (exact-term y k) h, mul-le-mul-left (exact-term y k * one) (suc-positive k)))
     (positive-divisor k one (lit≤ tt))
-  where
-    positive : (k : ℕ) → 0 < suc k
-    positive k = omega arith
 
 -- One step over any unit o and any scale w: x and x′ are the exact terms, times w; b and b′ bound the error in hundredths.
 module _ (w o k y t x x′ : ℕ) (pos : 0 < o) (e : x′ * (suc k * o) ≡ x * y) where
@@ -128,10 +125,7 @@ error (suc (suc k)) = 100 + (error (suc k) + suc k) / suc (suc k)
 
 error-next : (k : ℕ) → 100 * suc (suc k) + error (suc k) ≤ suc (suc k) * error (suc (suc k))
 unfolding error
-error-next k = omega (arith, lt-div-mul-add {a = error (suc k) + suc k} {b = suc (suc k)} (positive k))
-  where
-    positive : (k : ℕ) → 0 < suc (suc k)
-    positive k = omega arith
+error-next k = omega (arith, lt-div-mul-add {a = error (suc k) + suc k} {b = suc (suc k)} (suc-positive (suc k)))
 
 -- term 1 is y
 term-one : (y : ℕ) → term y 1 ≡ y
@@ -186,21 +180,42 @@ total-error : sum 7 (even error) + sum 6 (odd error) ≤ 1400
 unfolding sum error
 total-error = lit≤ tt
 
--- what holds of the even and of the odd terms holds of their sum and of their difference
-parts-within :
-    (w e o e′ o′ b c : ℕ) → w * e ≤ e′ → w * o ≤ o′ → 100 * e′ ≤ w * (100 * e + b) → 100 * o′ ≤ w * (100 * o + c) →
-    b + c ≤ 1400 → Within w 14 (e + o) (e′ + o′)
-parts-within w e o e′ o′ b c le lo he ho h =
-    record { above = omega arith; below = omega (arith, mul-le-mul-left w h) }
+-- Rounded sums e and o of the even and of the odd terms, at most 14 below the exact ones in all.
+record Parts (w e o e′ o′ : ℕ) : Type 0 where
+  evens : ℕ
+  odds : ℕ
+  even-low : w * e ≤ e′
+  odd-low : w * o ≤ o′
+  even-high : 100 * e′ ≤ w * (100 * e + evens)
+  odd-high : 100 * o′ ≤ w * (100 * o + odds)
+  total : evens + odds ≤ 1400
 
-difference-within :
-    (w e o e′ o′ b c d d′ : ℕ) → w * e ≤ e′ → w * o ≤ o′ → 100 * e′ ≤ w * (100 * e + b) → 100 * o′ ≤ w * (100 * o + c) →
-    b + c ≤ 1400 → d + o ≡ e → d′ + o′ ≡ e′ → Within w 14 d d′
-difference-within w e o e′ o′ b c d d′ le lo he ho h p q =
+parts-of : (y : ℕ) → y ≤ one → Parts scale (sum 7 (even (term y))) (sum 6 (odd (term y))) (sum 7 (even (exact-term y))) (sum 6 (odd (exact-term y)))
+parts-of y hy =
     record {
-      above = omega (arith, mul-le-mul-left w h, ap (λ (x : ℕ). w * x) p);
-      below = omega (arith, mul-le-mul-left w h, ap (λ (x : ℕ). w * x) p);
+      evens = sum 7 (even error);
+      odds = sum 6 (odd error);
+      even-low = chosen-low y 7 (λ i. 2 * i) hy even-place;
+      odd-low = chosen-low y 6 (λ i. 2 * i + 1) hy odd-place;
+      even-high = chosen-high y 7 (λ i. 2 * i) hy even-place;
+      odd-high = chosen-high y 6 (λ i. 2 * i + 1) hy odd-place;
+      total = total-error;
     }
+  where
+    even-place : (i : ℕ) → i < 7 → 2 * i < 13
+    even-place i l = omega arith
+
+    odd-place : (i : ℕ) → i < 6 → 2 * i + 1 < 13
+    odd-place i l = omega arith
+
+-- their sum, and their difference
+sum-within : (w e o e′ o′ : ℕ) → Parts w e o e′ o′ → Within w 14 (e + o) (e′ + o′)
+sum-within w e o e′ o′ p = record { above = omega arith; below = omega (arith, mul-le-mul-left w (p .total)) }
+
+difference-within : (w e o e′ o′ d d′ : ℕ) → Parts w e o e′ o′ → d + o ≡ e → d′ + o′ ≡ e′ → Within w 14 d d′
+difference-within w e o e′ o′ d d′ p r s =
+    let scaled : w * (d + o) ≡ w * e = ap (λ (x : ℕ). w * x) r in
+    record { above = omega (arith, mul-le-mul-left w (p .total)); below = omega (arith, mul-le-mul-left w (p .total)) }
 
 -- neither the rounded nor the exact series cuts anything off
 module _ (y : ℕ) (hy : y ≤ one) where
@@ -212,29 +227,7 @@ module _ (y : ℕ) (hy : y ≤ one) where
 
 -- for y up to one the rounded series is within 14 of the exact one, either sign
 pub series-within : (y : ℕ) (below : Bool) → y ≤ one → Within scale 14 (series below (term y)) (series below (exact-term y))
-series-within y below hy = go below
-  where
-    even-place : (i : ℕ) → i < 7 → 2 * i < 13
-    even-place i l = omega arith
-
-    odd-place : (i : ℕ) → i < 6 → 2 * i + 1 < 13
-    odd-place i l = omega arith
-
-    go : (b : Bool) → Within scale 14 (series b (term y)) (series b (exact-term y))
-    go true =
-        rw (sum-by-parts (term y), sum-by-parts (exact-term y))
-        (parts-within scale _ _ _ _ _ _
-        (chosen-low y 7 (λ i. 2 * i) hy even-place)
-        (chosen-low y 6 (λ i. 2 * i + 1) hy odd-place)
-        (chosen-high y 7 (λ i. 2 * i) hy even-place)
-        (chosen-high y 6 (λ i. 2 * i + 1) hy odd-place)
-        total-error)
-    go false =
-        difference-within scale _ _ _ _ _ _ _ _
-        (chosen-low y 7 (λ i. 2 * i) hy even-place)
-        (chosen-low y 6 (λ i. 2 * i + 1) hy odd-place)
-        (chosen-high y 7 (λ i. 2 * i) hy even-place)
-        (chosen-high y 6 (λ i. 2 * i + 1) hy odd-place)
-        total-error
-        (rounded-whole y hy)
-        (exact-whole y hy)
+series-within y true hy =
+    rw (sum-by-parts (term y), sum-by-parts (exact-term y)) (sum-within scale _ _ _ _ (parts-of y hy))
+series-within y false hy =
+    difference-within scale _ _ _ _ _ _ (parts-of y hy) (rounded-whole y hy) (exact-whole y hy)

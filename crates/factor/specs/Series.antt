@@ -21,7 +21,7 @@ even t i = t (2 * i)
 abbrev pub odd : (ℕ → ℕ) → ℕ → ℕ
 odd t i = t (2 * i + 1)
 
--- terms 0 to 12 of any series: their sum, or their sum with alternating signs
+-- terms 0 to 12 of any series: their sum (true), or their sum with alternating signs (false)
 unfoldable pub series : Bool → (ℕ → ℕ) → ℕ
 series true t = sum 13 t
 series false t = sum 7 (even t) - sum 6 (odd t)

@@ -117,7 +117,7 @@ pub fn factor_of_node(node: i64, spacing: u64) -> Answer
     ensures { λ r. ⌜ r ≡ node-answer node spacing ⌝ }
 {
     if node < 0 {
-        // One at a time: the lowest number has no opposite.
+        // The lowest number has no opposite: its size less one is taken first.
         let nearer = -1 - node;
         return factor(nearer as u64 + 1, true, spacing);
     }
