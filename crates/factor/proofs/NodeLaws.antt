@@ -53,9 +53,9 @@ module _ (z : ℤ) (f : SFits w64 z) where
     pub nearer-held : toZ w64 (ofZ w64 (negsuc 0 -ℤ toZ w64 (ofZ w64 z))) ≡ pos (natAbs z - 1)
     nearer-held = toZ-ofZ nearer-fits ∙ nearer-is
 
-    pub node-below : (h : ℕ) → side-answer (natAbs z - 1 + 1) true h ≡ node-answer z h
+    pub node-below : (h : ℕ) → side-answer (natAbs (pos (natAbs z - 1)) + 1) true h ≡ node-answer z h
     node-below h =
-        let e : natAbs z - 1 + 1 ≡ natAbs z = omega (arith, size-positive z below) in
+        let e : natAbs (pos (natAbs z - 1)) + 1 ≡ natAbs z = omega (arith, size-positive z below) in
         rw e (sym (rw below at (node-side z h)))
 
   -- zero and above
