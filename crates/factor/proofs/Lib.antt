@@ -1,0 +1,6 @@
+pub mod SeriesLaws
+pub mod Figures
+pub mod Bounds
+pub mod SumsLaws
+pub mod FactorLaws
+pub mod NodeLaws

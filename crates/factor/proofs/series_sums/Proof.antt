@@ -1,0 +1,125 @@
+-- `factor::series_sums` meets its contract.
+-- Assumes nothing.
+use mathlib.Core.Path.{_≡_}
+use Prim.Native.Nat.{_+_, _-_, _*_, _≤_}
+use native.Mathlib.Omega.{arith}
+use borrow.Author.Needs.{needs}
+use Rattle.factor.specs.Series.{term}
+use Rattle.factor.proofs.SeriesLaws.{term-most}
+use Rattle.factor.proofs.SumsLaws.{divisor-positive, next-is, Summed, summed-start, summed-next, latest-most, even-most, odd-most}
+use Rattle.factor.proofs.series_sums.Statement.{statement}
+use Rattle.factor.proofs.series_sums.Tie as tie
+
+abbrev Inv-loop : tie.InvT-loop
+Inv-loop y divisors last₀ even₀ odd₀ pair₀ last even odd pair = (pair ≤ 6) × Summed y last even odd pair
+
+abbrev μ-loop : tie.MeasureT-loop
+μ-loop y divisors last₀ even₀ odd₀ pair₀ last even odd pair = 6 - pair
+
+-- the two terms of a turn
+first-is :
+    (c : tie.After-next-term Inv-loop μ-loop) →
+    c .next-term .result ≡ term (c .before .before .before .before .args .y) (2 * c .before .before .loop .pair + 1)
+first-is c = next-is _ (c .before .before .before .divisors .ensures) _ (omega arith) _ _ _ (c .before .before .loop .inv .1 .latest) (c .next-term .ensures)
+
+second-is :
+    (c : tie.After-next-term2 Inv-loop μ-loop) →
+    c .next-term2 .result ≡ term (c .before .before .before .before .before .args .y) (2 * c .before .before .before .loop .pair + 1 + 1)
+second-is c = next-is _ (c .before .before .before .before .divisors .ensures) _ (omega arith) _ _ _ (first-is (c .before)) (c .next-term2 .ensures)
+
+divisors-requires : tie.Need-divisors-requires Inv-loop μ-loop
+divisors-requires c κs = search needs
+
+loop-holds : tie.Need-loop-holds Inv-loop μ-loop
+loop-holds c = (omega arith, summed-start _)
+
+mul-next-term : tie.Need-mul-next-term Inv-loop μ-loop
+mul-next-term c = search needs
+
+mul-next-term-2 : tie.Need-mul-next-term-2 Inv-loop μ-loop
+mul-next-term-2 c = search needs
+
+array-read-next-term : tie.Need-array-read-next-term Inv-loop μ-loop
+array-read-next-term c = search needs
+
+next-term-requires : tie.Need-next-term-requires Inv-loop μ-loop
+next-term-requires c κs = (
+  latest-most _ _ _ _ _ (c .before .before .before .pre) (c .before .loop .inv .1),
+  c .before .before .before .pre,
+  divisor-positive _ (c .before .before .divisors .ensures) _ (omega arith),
+)
+
+mul-next-term-3 : tie.Need-mul-next-term-3 Inv-loop μ-loop
+mul-next-term-3 c = search needs
+
+add-next-term : tie.Need-add-next-term Inv-loop μ-loop
+add-next-term c = search needs
+
+mul-next-term-4 : tie.Need-mul-next-term-4 Inv-loop μ-loop
+mul-next-term-4 c = search needs
+
+array-read-next-term-2 : tie.Need-array-read-next-term-2 Inv-loop μ-loop
+array-read-next-term-2 c = search needs
+
+next-term-requires-2 : tie.Need-next-term-requires-2 Inv-loop μ-loop
+next-term-requires-2 c κs = (
+  omega (arith, first-is c, term-most _ (2 * c .before .before .loop .pair + 1) (c .before .before .before .before .pre)),
+  c .before .before .before .before .pre,
+  divisor-positive _ (c .before .before .before .divisors .ensures) _ (omega arith),
+)
+
+add-odd : tie.Need-add-odd Inv-loop μ-loop
+add-odd c =
+    omega (
+      arith,
+      first-is (c .before),
+      term-most _ (2 * c .before .before .before .loop .pair + 1) (c .before .before .before .before .before .pre),
+      odd-most _ _ _ _ _ (c .before .before .before .before .before .pre) (c .before .before .before .loop .inv .1),
+    )
+
+add-even : tie.Need-add-even Inv-loop μ-loop
+add-even c =
+    omega (
+      arith,
+      second-is c,
+      term-most _ (2 * c .before .before .before .loop .pair + 1 + 1) (c .before .before .before .before .before .pre),
+      even-most _ _ _ _ _ (c .before .before .before .before .before .pre) (c .before .before .before .loop .inv .1),
+    )
+
+add-pair : tie.Need-add-pair Inv-loop μ-loop
+add-pair c = search needs
+
+loop-less : tie.Need-loop-less Inv-loop μ-loop
+loop-less c = search needs
+
+loop-again : tie.Need-loop-again Inv-loop μ-loop
+loop-again c = (omega arith, summed-next _ _ _ _ _ _ _ (c .before .before .before .loop .inv .1) (first-is (c .before)) (second-is c))
+
+returns : tie.Need-returns Inv-loop μ-loop
+returns c =
+    let six : c .before .loop .pair ≡ 6 = omega arith in
+    (rw six at (c .before .loop .inv .1 .even-sum), rw six at (c .before .loop .inv .1 .odd-sum))
+
+pub series-sums-spec : {M : Type 1} → statement M
+series-sums-spec =
+    tie.close
+    (tie.spec
+    Inv-loop
+    μ-loop
+    divisors-requires
+    loop-holds
+    mul-next-term
+    mul-next-term-2
+    array-read-next-term
+    next-term-requires
+    mul-next-term-3
+    add-next-term
+    mul-next-term-4
+    array-read-next-term-2
+    next-term-requires-2
+    add-odd
+    add-even
+    add-pair
+    loop-less
+    loop-again
+    returns)

@@ -1,0 +1,125 @@
+// The factor of a node: the exponential series to its twelfth term, each term rounded down.
+ghost use mathlib.Core.Path.{_≡_};
+ghost use Prim.Native.Nat.{_+_, _*_, _≤_, _<_, min};
+ghost use Rattle.arithmetic.specs.Rounding.{one, down};
+ghost use Rattle.arithmetic.specs.Row.{row};
+ghost use Rattle.arithmetic.specs.Sum.{sum};
+ghost use Rattle.factor.specs.Series.{divisor, term, even, odd};
+ghost use Rattle.factor.specs.Factor.{side-answer, node-answer};
+use arithmetic::Answer;
+
+const ONE: u64 = 1_000_000_000;
+
+// The divisors of the series: 1 to 12 times one.
+const DIVISORS: [u64; 12] = [
+    1_000_000_000,
+    2_000_000_000,
+    3_000_000_000,
+    4_000_000_000,
+    5_000_000_000,
+    6_000_000_000,
+    7_000_000_000,
+    8_000_000_000,
+    9_000_000_000,
+    10_000_000_000,
+    11_000_000_000,
+    12_000_000_000,
+];
+
+// A copy of the table, made once for a series: a constant table is built anew wherever it is indexed.
+fn divisors() -> [u64; 12]
+    ensures { λ r. ⌜ r ≡ row 12 divisor ⌝ }
+{
+    DIVISORS
+}
+
+fn next_term(last: u64, y: u64, divisor: u64) -> u64
+    requires { ⌜ (last ≤ one) × (y ≤ one) × (0 < divisor) ⌝ }
+    ensures { λ r. ⌜ r ≡ down (last * y) divisor ⌝ }
+{
+    last * y / divisor
+}
+
+// The sums of the terms of even place and of odd place.
+struct Sums {
+    even: u64,
+    odd: u64,
+}
+
+fn series_sums(y: u64) -> Sums
+    requires { ⌜ y ≤ one ⌝ }
+    ensures { λ r. ⌜ (r .even ≡ sum 7 (even (term y))) × (r .odd ≡ sum 6 (odd (term y))) ⌝ }
+{
+    let divisors = divisors();
+    let mut last = ONE;
+    let mut even = ONE;
+    let mut odd: u64 = 0;
+    let mut pair: usize = 0;
+    while pair < 6 {
+        let next = next_term(last, y, divisors[2 * pair]);
+        last = next_term(next, y, divisors[2 * pair + 1]);
+        odd += next;
+        even += last;
+        pair += 1;
+    }
+    Sums { even, odd }
+}
+
+// The product where it is at most one, else one more than that: the product itself may not fit.
+fn bounded_product(distance: u64, spacing: u64) -> u64
+    ensures { λ r. ⌜ r ≡ min (distance * spacing) (one + 1) ⌝ }
+{
+    if distance == 0 {
+        return 0;
+    }
+    if spacing == 0 {
+        return 0;
+    }
+    if ONE < distance {
+        return ONE + 1;
+    }
+    if ONE < spacing {
+        return ONE + 1;
+    }
+    let product = distance * spacing;
+    if ONE < product {
+        return ONE + 1;
+    }
+    product
+}
+
+// The factor of the node at a distance from the middle one, below it or not; refuses with 8.
+pub fn factor(distance: u64, below: bool, spacing: u64) -> Answer
+    ensures { λ r. ⌜ r ≡ side-answer distance below spacing ⌝ }
+{
+    let y = bounded_product(distance, spacing);
+    if ONE < y {
+        return Answer {
+            number: 8,
+            value: 0,
+        };
+    }
+    let sums = series_sums(y);
+    if below {
+        return Answer {
+            number: 0,
+            value: sums.even + sums.odd,
+        };
+    }
+    Answer {
+        number: 0,
+        value: sums.even - sums.odd,
+    }
+}
+
+// The factor of a node by its signed number; refuses with 8.
+pub fn factor_of_node(node: i64, spacing: u64) -> Answer
+    ensures { λ r. ⌜ r ≡ node-answer node spacing ⌝ }
+{
+    if node < 0 {
+        // The lowest number has no opposite: its size less one is taken first.
+        let nearer = -1 - node;
+        return factor(nearer as u64 + 1, true, spacing);
+    }
+    factor(node as u64, false, spacing)
+}

@@ -1,0 +1,2 @@
+pub mod SpacingLaws
+pub mod Figures

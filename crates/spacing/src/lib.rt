@@ -1,0 +1,62 @@
+// The spacing of the nodes.
+ghost use mathlib.Core.Path.{_≡_};
+ghost use Prim.Native.Nat.{_+_, _*_, _≤_, _<_};
+ghost use Rattle.spacing.specs.Spacing.{listed, spacing-answer};
+use arithmetic::Answer;
+
+fn is_listed(frequency: u64) -> bool
+    ensures { λ r. ⌜ r ≡ listed frequency ⌝ }
+{
+    if frequency == 1 {
+        return true;
+    }
+    if frequency == 2 {
+        return true;
+    }
+    if frequency == 4 {
+        return true;
+    }
+    frequency == 12
+}
+
+// The whole square root of a number below 2^54, by halving an interval of 2^27: 27 steps.
+fn square_root(square: u64) -> u64
+    requires { ⌜ square < 18014398509481984 ⌝ }
+    ensures { λ r. ⌜ (r * r ≤ square) × (square < (r + 1) * (r + 1)) ⌝ }
+{
+    let mut low: u64 = 0;
+    let mut high: u64 = 134_217_728;
+    while 1 < high - low {
+        let middle = low + (high - low) / 2;
+        if middle * middle <= square {
+            low = middle;
+        } else {
+            high = middle;
+        }
+    }
+    low
+}
+
+// The spacing of the nodes for a listed number of steps a year and a yearly volatility in millionths; refuses with 2 or 5.
+pub fn spacing(frequency: u64, volatility: u64) -> Answer
+    ensures { λ r. ⌜ r ≡ spacing-answer frequency volatility ⌝ }
+{
+    if !is_listed(frequency) {
+        return Answer {
+            number: 2,
+            value: 0,
+        };
+    }
+    if 50_000 < volatility {
+        return Answer {
+            number: 5,
+            value: 0,
+        };
+    }
+    let scaled = 1_000 * volatility;
+    let cube = frequency * frequency * frequency;
+    Answer {
+        number: 0,
+        value: square_root(3 * (scaled * scaled) / cube),
+    }
+}
