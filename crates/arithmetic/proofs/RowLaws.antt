@@ -184,3 +184,19 @@ pub zeros : (n k : ℕ) → getD {A = ℕ} (replicate n 0) k 0 ≡ 0
 zeros zero k = refl
 zeros (suc n) zero = refl
 zeros (suc n) (suc k) = zeros n k
+
+-- a test that holds of each number holds of one of them
+pub each-holds : (n k : ℕ) (p : ℕ → Bool) → each n p ≡ true → k < n → p k ≡ true
+each-holds n k p e h = go (p k) refl
+  where
+    both : each n p ≡ true → each n p ≡ false → ⊥
+    both a b = let z : _≡_ {A = ℕ} 0 1 = cc in omega arith
+
+    go : (t : Bool) → p k ≡ t → t ≡ true
+    go true f = refl
+    go false f = absurd (both e (each-fails n k p h f))
+
+pub each-cong : (n : ℕ) (p r : ℕ → Bool) → ((k : ℕ) → k < n → p k ≡ r k) → each n p ≡ each n r
+unfolding each
+each-cong zero p r h = refl
+each-cong (suc n) p r h = rw (each-cong n p r (λ k l. h k (omega arith)), h n (omega arith))

@@ -1,0 +1,69 @@
+-- `fitting::step/divide` meets its contract.
+-- Assumes nothing.
+use mathlib.Core.Path.{_≡_, refl, sym, ap, _∙_}
+use native.Mathlib.Omega.{arith}
+use borrow.Author.Needs.{needs}
+use Prim.Native.Nat.{ℕ, _+_, _-_, _*_, _/_, _≤_, _<_}
+use lib.ListN.{length}
+use Rattle.arithmetic.proofs.RowLaws.{Filled, filled-start, filled-next, filled-all, each-none, each-more, each-fails}
+use Rattle.arithmetic.specs.Row.{row, values, each}
+use native.Mathlib.Nat.{le-refl}
+use Rattle.fitting.proofs.step.divide.Statement.{statement}
+use Rattle.fitting.proofs.step.divide.Tie as tie
+
+abbrev Inv-loop : tie.InvT-loop
+Inv-loop next₀ k₀ next k = (k ≤ length next₀) × Filled next₀ next (λ j. values next₀ j / 600000000) k
+
+abbrev μ-loop : tie.MeasureT-loop
+μ-loop next₀ k₀ next k = length next₀ - k
+
+loop-holds : tie.Need-loop-holds Inv-loop μ-loop
+loop-holds c = (search needs, filled-start _ (λ j. values (c .args .next .now) j / 600000000))
+
+mul-next : tie.Need-mul-next Inv-loop μ-loop
+mul-next c = search needs
+
+slice-read-next : tie.Need-slice-read-next Inv-loop μ-loop
+slice-read-next c = search needs
+
+mul-next-2 : tie.Need-mul-next-2 Inv-loop μ-loop
+mul-next-2 c = search needs
+
+slice-write-next : tie.Need-slice-write-next Inv-loop μ-loop
+slice-write-next c = search needs
+
+add-k : tie.Need-add-k Inv-loop μ-loop
+add-k c = search needs
+
+loop-less : tie.Need-loop-less Inv-loop μ-loop
+loop-less c = omega (arith, c .before .before .loop .inv .1 .same)
+
+loop-again : tie.Need-loop-again Inv-loop μ-loop
+loop-again c = (
+      omega (arith, c .before .before .loop .inv .1 .same),
+      filled-next _ _ (λ j. values (c .before .before .before .args .next .now) j / 600000000) _ _ (c .before .before .loop .inv .1) (search needs)
+          (ap (λ (x : ℕ). x / 600000000) (c .before .before .loop .inv .1 .rest _ (le-refl _))),
+    )
+
+same-length : tie.Need-same-length Inv-loop μ-loop
+same-length c = c .before .loop .inv .1 .same
+
+returns : tie.Need-returns Inv-loop μ-loop
+returns c = filled-all _ _ (λ j. values (c .before .before .args .next .now) j / 600000000) _ (c .before .loop .inv .1) (omega (arith, c .before .loop .inv .1 .same))
+
+pub divide-spec : {M : Type 1} → statement M
+divide-spec =
+    tie.close
+    (tie.spec
+    Inv-loop
+    μ-loop
+    loop-holds
+    mul-next
+    slice-read-next
+    mul-next-2
+    slice-write-next
+    add-k
+    loop-less
+    loop-again
+    same-length
+    returns)

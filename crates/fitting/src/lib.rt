@@ -1,0 +1,2 @@
+// The fit of a rate tree to quoted discounts.
+mod step;
