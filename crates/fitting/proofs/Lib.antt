@@ -1,1 +1,2 @@
 pub mod StepRows
+pub mod RowStep

@@ -1,7 +1,8 @@
 -- The loops of one step: what each holds after k nodes, and that it stays small.
 -- Assumes nothing.
 use mathlib.Core.Path.{_≡_, refl, sym, _∙_, ap}
-use mathlib.Core.Bool.{Bool, true, false, cond}
+use mathlib.Core.Bool.{Bool, true, false, cond, _&&_}
+use native.Mathlib.Numerals.{add-one}
 use mathlib.Core.List.{List}
 use Prim.Native.Nat.{ℕ, zero, suc, _+_, _*_, _/_, _≤_, _<_}
 use native.Mathlib.Nat.{mul-le-mul, mul-le-mul-left}
@@ -9,7 +10,7 @@ use native.Mathlib.Omega.{arith}
 use lib.ListN.{length}
 use Rattle.arithmetic.specs.Rounding.{one}
 use Rattle.arithmetic.specs.Sum.{sum, only}
-use Rattle.arithmetic.specs.Row.{row, values}
+use Rattle.arithmetic.specs.Row.{row, values, each}
 use Rattle.arithmetic.proofs.SumLaws.{sum-next, sum-grow, sum-weigh-le, sum-term}
 use Rattle.arithmetic.proofs.RowLaws.{row-cong, values-row, length-row}
 use Rattle.tree.specs.Tree.{Transition, Inside, Total, chance, incoming, whole}
@@ -110,3 +111,7 @@ never e = absurd (different (ap (λ (t : Bool). cond t 1 0) e))
   where
     different : _≡_ {A = ℕ} 0 1 → ⊥
     different z = omega arith
+
+pub each-joined : (k : ℕ) (p : ℕ → Bool) (a b : Bool) → a ≡ each k p → b ≡ p k → (a && b) ≡ each (k + 1) p
+unfolding each
+each-joined k p a b ea eb = rw (add-one k, ea, eb)

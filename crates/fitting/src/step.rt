@@ -1,13 +1,13 @@
 // One step of the fit, over one row: the sums, divisions and branches of document 01.
 ghost use mathlib.Core.Path.{_≡_};
-ghost use mathlib.Core.Bool.{true};
+ghost use mathlib.Core.Bool.{true, _&&_};
 ghost use Prim.Native.Nat.{ℕ, _+_, _*_, _/_, _≤_, _<_};
 ghost use lib.ListN.{length};
 ghost use Rattle.arithmetic.specs.Sum.{sum, only};
 ghost use Rattle.arithmetic.specs.Row.{row, values, each};
 ghost use Rattle.tree.specs.Tree.{Inside, Total, incoming};
 ghost use Rattle.row_branches.specs.RowBranches.{row-branch, row-transition};
-ghost use Rattle.fit_laws.specs.Step.{normaliser, carried, accepted-discount};
+ghost use Rattle.fit_laws.specs.Step.{normaliser, discount, carried, accepted-discount};
 ghost use Rattle.fitting.specs.Rows.{Factors};
 
 const ONE: u64 = 1_000_000_000;
@@ -35,22 +35,27 @@ fn is_accepted(discount: u64) -> bool
     discount <= 1_100_000_000
 }
 
-// The discounts of a row, up to the first that is not accepted.
+fn both(a: bool, b: bool) -> bool
+    ensures { λ r. ⌜ r ≡ (a && b) ⌝ }
+{
+    if a { b } else { false }
+}
+
+// The discounts of a row, and whether all are accepted.
 pub(crate) fn fill_discounts(factors: &[u64], quote: u64, z: u64, discounts: &mut [u64]) -> bool
     requires { ⌜ Factors (now factors) (length (now discounts)) × (quote ≤ 2000000000) × (0 < z) ⌝ }
     ensures tested { λ r. ⌜ r ≡ each (length (now (discounts .entry))) (λ k. accepted-discount (quote * values (now (factors .entry)) k / z)) ⌝ }
-    ensures filled { λ r. ⌜ (r ≡ true → now (discounts .exit) ≡ row (length (now (discounts .entry))) (λ k. quote * values (now (factors .entry)) k / z)) ⌝ }
+    ensures filled { λ _. ⌜ now (discounts .exit) ≡ row (length (now (discounts .entry))) (λ k. quote * values (now (factors .entry)) k / z) ⌝ }
 {
+    let mut good = true;
     let mut k: usize = 0;
     while k < discounts.len() {
         let discount = quote * factors[k] / z;
         discounts[k] = discount;
-        if !is_accepted(discount) {
-            return false;
-        }
+        good = both(good, is_accepted(discount));
         k += 1;
     }
-    true
+    good
 }
 
 // The carried amounts of a row.
@@ -128,4 +133,41 @@ pub(crate) fn divide(next: &mut [u64])
         next[k] = next[k] / 600_000_000;
         k += 1;
     }
+}
+
+// The discounts of a row from its state prices, and, where all are accepted, the carried amounts.
+pub(crate) fn step_row(
+    prices: &[u64],
+    factors: &[u64],
+    quote: u64,
+    discounts: &mut [u64],
+    amounts: &mut [u64],
+) -> bool
+    requires { ⌜ Factors (now factors) (length (now prices)) × (length (now discounts) ≡ length (now prices)) × (length (now amounts) ≡ length (now prices))
+        × (99999700 ≤ sum (length (now prices)) (values (now prices))) × (sum (length (now prices)) (values (now prices)) ≤ 2000000300) × (quote ≤ 2000000000) ⌝ }
+    ensures tested { λ r. ⌜ r ≡ each (length (now (prices .entry))) (λ k. accepted-discount
+        (discount (length (now (prices .entry))) (values (now (prices .entry))) (values (now (factors .entry))) quote k)) ⌝ }
+    ensures filled { λ _. ⌜ now (discounts .exit) ≡ row (length (now (prices .entry)))
+        (discount (length (now (prices .entry))) (values (now (prices .entry))) (values (now (factors .entry))) quote) ⌝ }
+    ensures carries { λ r. ⌜ (r ≡ true → now (amounts .exit) ≡ row (length (now (prices .entry)))
+        (carried (values (now (prices .entry))) (discount (length (now (prices .entry))) (values (now (prices .entry))) (values (now (factors .entry))) quote))) ⌝ }
+{
+    let z = normaliser_of(prices, factors);
+    if !fill_discounts(factors, quote, z, discounts) {
+        return false;
+    }
+    carry(prices, discounts, amounts);
+    true
+}
+
+// The state prices of the next row from the carried amounts of a row.
+pub(crate) fn next_row(amounts: &[u64], downs: &[u64], next: &mut [u64])
+    requires { ⌜ (length (now downs) ≡ length (now amounts)) × Inside (row-transition (now downs) (length (now next))) (length (now amounts)) (length (now next)) × Total (row-transition (now downs) (length (now next))) (length (now amounts))
+        × (sum (length (now amounts)) (values (now amounts)) ≤ 2200000330) ⌝ }
+    ensures { λ _. ⌜ now (next .exit) ≡ row (length (now (next .entry)))
+        (λ j. incoming (row-transition (now (downs .entry)) (length (now (next .entry)))) (length (now (amounts .entry))) (values (now (amounts .entry))) j / 600000000) ⌝ }
+{
+    clear(next);
+    spread(amounts, downs, next);
+    divide(next);
 }

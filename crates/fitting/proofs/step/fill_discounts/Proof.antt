@@ -9,22 +9,18 @@ use Rattle.arithmetic.proofs.RowLaws.{Filled, filled-start, filled-next, filled
 use Rattle.arithmetic.specs.Row.{row, values, each}
 use Rattle.fitting.proofs.StepRows as laws
 use Rattle.fit_laws.specs.Step.{normaliser, carried, accepted-discount}
-use mathlib.Core.Bool.{Bool, true, false}
-use borrow.Author.Tests.{not-true, not-false}
+use mathlib.Core.Bool.{Bool, true, false, _&&_}
 use Rattle.fitting.proofs.step.fill_discounts.Statement.{statement}
 use Rattle.fitting.proofs.step.fill_discounts.Tie as tie
 
 abbrev Inv-loop : tie.InvT-loop
-Inv-loop factors quote z discounts₀ k₀ discounts k = 
-    (k ≤ length discounts₀)
-    × Filled discounts₀ discounts (λ i. quote * values factors i / z) k
-    × (each k (λ i. accepted-discount (quote * values factors i / z)) ≡ true)
+Inv-loop factors quote z discounts₀ good₀ k₀ discounts good k = (k ≤ length discounts₀) × Filled discounts₀ discounts (λ i. quote * values factors i / z) k × (good ≡ each k (λ i. accepted-discount (quote * values factors i / z)))
 
 abbrev μ-loop : tie.MeasureT-loop
-μ-loop factors quote z discounts₀ k₀ discounts k = length discounts₀ - k
+μ-loop factors quote z discounts₀ good₀ k₀ discounts good k = length discounts₀ - k
 
 loop-holds : tie.Need-loop-holds Inv-loop μ-loop
-loop-holds c = (search needs, filled-start _ (λ i. c .before .before .args .quote * values (c .before .before .args .factors .now) i / c .before .before .args .z), each-none (λ i. accepted-discount (c .before .before .args .quote * values (c .before .before .args .factors .now) i / c .before .before .args .z)))
+loop-holds c = (search needs, filled-start _ (λ i. c .before .before .args .quote * values (c .before .before .args .factors .now) i / c .before .before .args .z), sym (each-none (λ i. accepted-discount (c .before .before .args .quote * values (c .before .before .args .factors .now) i / c .before .before .args .z))))
 
 mul-discount : tie.Need-mul-discount Inv-loop μ-loop
 mul-discount c = search needs
@@ -47,14 +43,8 @@ slice-write-discounts c = search needs
 is-accepted-requires : tie.Need-is-accepted-requires Inv-loop μ-loop
 is-accepted-requires c κs = search needs
 
-same-length : tie.Need-same-length Inv-loop μ-loop
-same-length c = search needs
-
-returns : tie.Need-returns Inv-loop μ-loop
-returns c = (
-      sym (each-fails _ (c .before .before .before .before .loop .k) (λ i. accepted-discount (c .before .before .before .before .before .before .before .args .quote * values (c .before .before .before .before .before .before .before .args .factors .now) i / c .before .before .before .before .before .before .before .args .z)) (omega (arith, c .before .before .before .before .loop .inv .1 .same)) (sym (c .before .is-accepted .ensures) ∙ not-true _ (c .if1 .taken))),
-      λ e. laws.never e,
-    )
+both-requires : tie.Need-both-requires Inv-loop μ-loop
+both-requires c κs = search needs
 
 add-k : tie.Need-add-k Inv-loop μ-loop
 add-k c = search needs
@@ -66,17 +56,17 @@ loop-again : tie.Need-loop-again Inv-loop μ-loop
 loop-again c = (
       omega (arith, c .before .before .before .before .loop .inv .1 .same),
       filled-next _ _ (λ i. c .before .before .before .before .before .before .before .args .quote * values (c .before .before .before .before .before .before .before .args .factors .now) i / c .before .before .before .before .before .before .before .args .z) _ _ (c .before .before .before .before .loop .inv .1) (search needs) refl,
-      each-more (c .before .before .before .before .loop .k) (λ i. accepted-discount (c .before .before .before .before .before .before .before .args .quote * values (c .before .before .before .before .before .before .before .args .factors .now) i / c .before .before .before .before .before .before .before .args .z)) (c .before .before .before .before .loop .inv .2) (sym (c .before .is-accepted .ensures) ∙ not-false _ (c .if1 .left)),
+      c .both .ensures ∙ laws.each-joined _ (λ i. accepted-discount (c .before .before .before .before .before .before .before .args .quote * values (c .before .before .before .before .before .before .before .args .factors .now) i / c .before .before .before .before .before .before .before .args .z)) _ _ (c .before .before .before .before .loop .inv .2) (c .before .is-accepted .ensures),
     )
 
-same-length-2 : tie.Need-same-length-2 Inv-loop μ-loop
-same-length-2 c = c .before .loop .inv .1 .same
+same-length : tie.Need-same-length Inv-loop μ-loop
+same-length c = c .before .loop .inv .1 .same
 
-returns-2 : tie.Need-returns-2 Inv-loop μ-loop
-returns-2 c = 
+returns : tie.Need-returns Inv-loop μ-loop
+returns c = 
     let e : c .before .loop .k ≡ length (c .before .before .before .before .args .discounts .now) = omega (arith, c .before .loop .inv .1 .same) in (
-      sym (ap (λ (n : ℕ). each n (λ i. accepted-discount (c .before .before .before .before .args .quote * values (c .before .before .before .before .args .factors .now) i / c .before .before .before .before .args .z))) (sym e) ∙ c .before .loop .inv .2),
-      λ _. filled-all _ _ (λ i. c .before .before .before .before .args .quote * values (c .before .before .before .before .args .factors .now) i / c .before .before .before .before .args .z) _ (c .before .loop .inv .1) e,
+      c .before .loop .inv .2 ∙ ap (λ (n : ℕ). each n (λ i. accepted-discount (c .before .before .before .before .args .quote * values (c .before .before .before .before .args .factors .now) i / c .before .before .before .before .args .z))) e,
+      filled-all _ _ (λ i. c .before .before .before .before .args .quote * values (c .before .before .before .before .args .factors .now) i / c .before .before .before .before .args .z) _ (c .before .loop .inv .1) e,
     )
 
 pub fill-discounts-spec : {M : Type 1} → statement M
@@ -93,10 +83,9 @@ fill-discounts-spec =
     mul-discounts
     slice-write-discounts
     is-accepted-requires
-    same-length
-    returns
+    both-requires
     add-k
     loop-less
     loop-again
-    same-length-2
-    returns-2)
+    same-length
+    returns)
