@@ -1,2 +1,3 @@
 pub mod StepRows
 pub mod RowStep
+pub mod RowParts

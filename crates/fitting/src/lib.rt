@@ -1,2 +1,3 @@
 // The fit of a rate tree to quoted discounts.
+mod rows;
 mod step;
