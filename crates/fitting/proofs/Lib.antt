@@ -1,3 +1,4 @@
 pub mod StepRows
 pub mod RowStep
 pub mod RowParts
+pub mod TreeRows

@@ -2,12 +2,20 @@
 use crate::step;
 ghost use mathlib.Core.Path.{_≡_};
 ghost use mathlib.Core.Bool.{cond};
-ghost use Prim.Native.Nat.{ℕ, _+_, _*_, _/_, _≤_, _<_};
+ghost use Prim.Native.Nat.{ℕ, suc, _+_, _*_, _/_, _≤_, _<_};
 ghost use lib.ListN.{length, take, drop};
+ghost use Rattle.arithmetic.specs.Row;
 ghost use Rattle.arithmetic.specs.Row.{row, values, place, each};
 ghost use Rattle.row_branches.specs.RowBranches.{row-transition};
 ghost use Rattle.fit_laws.specs.Step.{discount, next-price, accepted-discount};
-ghost use Rattle.fitting.specs.Rows.{RowReady};
+ghost use Rattle.lattice.specs.Shape.{node-count, row-start};
+ghost use Rattle.lattice.specs.RateTree.{rate-tree};
+ghost use Rattle.fitting.specs.Rows.{
+  RowReady,
+  TreeRow,
+  table-factor,
+  row-shape,
+};
 
 // A row, which starts at the same place of both memories: its discounts, and the next row's state prices where all are accepted.
 fn fit_row(
@@ -44,4 +52,66 @@ fn fit_row(
     }
     step::next_row(&amounts[..count], downs, &mut prices[end..last]);
     true
+}
+
+// Where a row stands: in the memories, its node count and the next row's, and in the tables of the widest row.
+pub(crate) struct RowShape {
+    start: usize,
+    count: usize,
+    next: usize,
+    offset: usize,
+}
+
+fn shape_of(reversion: u64, steps: usize, row: usize) -> RowShape
+    requires { ⌜ (reversion ≤ 6000) × (steps ≤ 60) × (row < steps) ⌝ }
+    ensures { λ r. ⌜ r ≡ row-shape reversion steps row ⌝ }
+{
+    let widest = lattice::half_width(reversion, steps - 1);
+    let half = lattice::half_width(reversion, row);
+    let next = lattice::node_count(reversion, row + 1);
+    let start = lattice::row_start(reversion, row);
+    RowShape {
+        start: start.value as usize,
+        count: 2 * half.value as usize + 1,
+        next: next.value as usize,
+        offset: (widest.value - half.value) as usize,
+    }
+}
+
+// Row `row` of the tree of so many steps.
+fn tree_row(
+    reversion: u64,
+    steps: usize,
+    row: usize,
+    quote: u64,
+    factors: &[u64],
+    downs: &[u64],
+    discounts: &mut [u64],
+    prices: &mut [u64],
+    amounts: &mut [u64],
+) -> bool
+    requires { ⌜ TreeRow reversion steps row quote (now factors) (now downs) (now discounts) (now prices) (now amounts) ⌝ }
+    ensures tested { λ r. ⌜ r ≡ each (node-count reversion row) (λ k. accepted-discount
+        (discount (node-count reversion row) (values (take (node-count reversion row) (drop (row-start reversion row) (now (prices .entry))))) (table-factor reversion steps (now (factors .entry)) row) quote k)) ⌝ }
+    ensures filled { λ _. ⌜ now (discounts .exit) ≡ place (now (discounts .entry)) (row-start reversion row) (Row.row (node-count reversion row)
+        (discount (node-count reversion row) (values (take (node-count reversion row) (drop (row-start reversion row) (now (prices .entry))))) (table-factor reversion steps (now (factors .entry)) row) quote)) ⌝ }
+    ensures stepped { λ r. ⌜ now (prices .exit) ≡ cond r (place (now (prices .entry)) (row-start reversion (suc row)) (Row.row (node-count reversion (suc row))
+        (next-price (rate-tree reversion .step row) (node-count reversion row) (values (take (node-count reversion row) (drop (row-start reversion row) (now (prices .entry)))))
+        (discount (node-count reversion row) (values (take (node-count reversion row) (drop (row-start reversion row) (now (prices .entry))))) (table-factor reversion steps (now (factors .entry)) row) quote))))
+        (now (prices .entry)) ⌝ }
+{
+    let shape = shape_of(reversion, steps, row);
+    let start = shape.start;
+    let offset = shape.offset;
+    let end = offset + shape.count;
+    fit_row(
+        start,
+        shape.next,
+        quote,
+        &factors[offset..end],
+        &downs[offset..end],
+        discounts,
+        prices,
+        amounts,
+    )
 }
