@@ -9,6 +9,10 @@ use native.Mathlib.Omega.{arith}
 use borrow.Author.Tests.{le-leb, lt-leb, lt-ltb, le-ltb}
 use lib.Ieee.{Float, nan, inf, fin, binary64, fits, ofBits, toBits, isNan, nanBits}
 use lib.Ieee.Bits.{ofBits-toBits, nanBits-is, nanBits-above}
+use mir.Syntax.{w64}
+use mir.Val.{toZ, ofZ}
+use mir.Facts.{toZ-ofZ}
+use Rattle.arithmetic.proofs.Signed.{fits-by-size}
 use Rattle.figure.specs.declared.Figure.{Figure}
 use Rattle.figure.specs.Figure.{magnitudeOf, negative, beyond, signed, billionthsOf, figureOf, refused, accepted, patternFloat}
 use Rattle.figure.proofs.Patterns.{accepted-field, accepted-sign, magnitude-bound, fieldOf}
@@ -93,6 +97,10 @@ module _ (x : Float) (r : Figure) (e : r ≡ figureOf x) where
       by-test : (b : Bool) → beyond x ≡ b → natAbs (cond b refused (accepted (billionthsOf x)) .value) ≤ 10000000000
       by-test true h = omega arith
       by-test false h = billionths-bound x h
+
+  -- read back from its bits, it is the same
+  pub value-back : toZ w64 (ofZ w64 (r .value)) ≡ r .value
+  value-back = toZ-ofZ (fits-by-size (r .value) (omega (arith, value-bound)))
 
 -- ---- patterns of a NaN
 

@@ -16,7 +16,11 @@ refusal-requires : tie.Need-refusal-requires
 refusal-requires c κs = search needs
 
 returns : tie.Need-returns
-returns c = c .refusal .ensures ∙ sym (lone-frequency (c .before .before .before .args .frequency) (c .before .before .before .args .kind) (c .before .before .before .args .point) (sym (c .before .before .is-listed .ensures) ∙ not-true (c .before .before .is-listed .result) (c .before .if1 .taken)))
+returns c =
+    let l = c .before .before in
+    let a = l .before .args in
+    c .refusal .ensures
+    ∙ sym (lone-frequency (a .frequency) (a .kind) (a .point) (sym (l .is-listed .ensures) ∙ not-true (l .is-listed .result) (c .before .if1 .taken)))
 
 refusal-requires-2 : tie.Need-refusal-requires-2
 refusal-requires-2 c κs = search needs
@@ -25,19 +29,32 @@ known : (c : tie.Else1) → listed (c .before .before .args .frequency) ≡ true
 known c = sym (c .before .is-listed .ensures) ∙ not-false (c .before .is-listed .result) (c .if1 .left)
 
 returns-2 : tie.Need-returns-2
-returns-2 c = c .refusal2 .ensures ∙ sym (lone-row (c .before .before .before .before .args .frequency) (c .before .before .before .before .args .kind) (c .before .before .before .before .args .point) (known (c .before .before)) (row-low (c .before .before .before .before .args .point .row) (c .before .if2 .taken)))
+returns-2 c =
+    let l = c .before .before in
+    let a = l .before .before .args in
+    c .refusal2 .ensures ∙ sym (lone-row (a .frequency) (a .kind) (a .point) (known l) (row-low (a .point .row) (c .before .if2 .taken)))
 
 refusal-requires-3 : tie.Need-refusal-requires-3
 refusal-requires-3 c κs = search needs
 
 returns-3 : tie.Need-returns-3
-returns-3 c = c .refusal3 .ensures ∙ sym (lone-row (c .before .before .before .before .before .args .frequency) (c .before .before .before .before .before .args .kind) (c .before .before .before .before .before .args .point) (known (c .before .before .before)) (row-high (c .before .before .before .before .before .args .point .row) (c .before .before .if2 .left) (c .before .if3 .taken)))
+returns-3 c =
+    let l = c .before .before .before in
+    let a = l .before .before .args in
+    c .refusal3 .ensures
+    ∙ sym (lone-row (a .frequency) (a .kind) (a .point) (known l) (row-high (a .point .row) (c .before .before .if2 .left) (c .before .if3 .taken)))
 
 of-point-requires : tie.Need-of-point-requires
-of-point-requires c κs = (listed-small (c .before .before .before .before .args .frequency) (known (c .before .before)) .1, c .if3 .left)
+of-point-requires c κs =
+    let l = c .before .before in
+    (listed-small (l .before .before .args .frequency) (known l) .1, c .if3 .left)
 
 returns-4 : tie.Need-returns-4
-returns-4 c = c .of-point .ensures ∙ sym (lone-kind (c .before .before .before .before .before .args .frequency) (c .before .before .before .before .before .args .kind) (c .before .before .before .before .before .args .point) (known (c .before .before .before)) (row-known (c .before .before .before .before .before .args .point .row) (c .before .before .if2 .left) (c .before .if3 .left)))
+returns-4 c =
+    let l = c .before .before .before in
+    let a = l .before .before .args in
+    c .of-point .ensures
+    ∙ sym (lone-kind (a .frequency) (a .kind) (a .point) (known l) (row-known (a .point .row) (c .before .before .if2 .left) (c .before .if3 .left)))
 
 pub lone-point-spec : {M : Type 1} → statement M
 lone-point-spec =

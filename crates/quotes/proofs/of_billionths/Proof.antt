@@ -49,7 +49,9 @@ size c = divisor-size (c .args .frequency) (c .args .row) (c .args .rate) (c .pr
 
 returns : tie.Need-returns
 unfolding rateDiscount
-returns c = c .refusal .ensures ∙ sym (ranged-none _ (quotient-none (one * one * c .before .before .args .frequency) (divisor (c .before .before)) (rw (back (c .before .before)) at (c .before .if1 .taken))))
+returns c =
+    c .refusal .ensures
+    ∙ sym (ranged-none _ (quotient-none (one * one * c .before .before .args .frequency) (divisor (c .before .before)) (rw (back (c .before .before)) at (c .before .if1 .taken))))
 
 mul-ranged : tie.Need-mul-ranged
 mul-ranged c = search needs
@@ -71,7 +73,9 @@ ranged-requires c κs = search needs
 
 returns-2 : tie.Need-returns-2
 unfolding rateDiscount
-returns-2 c = c .ranged .ensures ∙ ap rangedAnswer (rw (back (c .before .before)) (sym (quotient-some (one * one * c .before .before .args .frequency) (divisor (c .before .before)) (positive (c .before)) .2)))
+returns-2 c =
+    c .ranged .ensures
+    ∙ ap rangedAnswer (rw (back (c .before .before)) (sym (quotient-some (one * one * c .before .before .args .frequency) (divisor (c .before .before)) (positive (c .before)) .2)))
 
 pub of-billionths-spec : {M : Type 1} → statement M
 of-billionths-spec =

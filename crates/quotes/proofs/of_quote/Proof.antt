@@ -1,7 +1,6 @@
 -- `quotes::of_quote` meets its contract.
 -- Assumes nothing.
 use mathlib.Core.Path.{sym, _∙_, ap}
-use Rattle.quotes.specs.declared.Quote.{Quote}
 use Rattle.quotes.specs.Quotes.{quoteAnswer}
 use borrow.Author.Needs.{needs}
 use Rattle.quotes.proofs.of_quote.Statement.{statement}
@@ -21,11 +20,15 @@ of-rate-requires c κs = search needs
 
 returns : tie.Need-returns
 unfolding quoteAnswer
-returns c = c .of-factor .ensures ∙ sym (ap (λ (q : Quote). quoteAnswer (c .before .before .before .before .args .frequency) (c .before .before .before .before .args .row) q) (c .before .before .quote .given .1))
+returns c =
+    let a = c .before .before .before .before .args in
+    c .of-factor .ensures ∙ sym (ap (quoteAnswer (a .frequency) (a .row)) (c .before .before .quote .given .1))
 
 returns-2 : tie.Need-returns-2
 unfolding quoteAnswer
-returns-2 c = c .of-rate .ensures ∙ sym (ap (λ (q : Quote). quoteAnswer (c .before .before .before .before .args .frequency) (c .before .before .before .before .args .row) q) (c .before .before .quote2 .given .1))
+returns-2 c =
+    let a = c .before .before .before .before .args in
+    c .of-rate .ensures ∙ sym (ap (quoteAnswer (a .frequency) (a .row)) (c .before .before .quote2 .given .1))
 
 pub of-quote-spec : {M : Type 1} → statement M
 of-quote-spec =
