@@ -125,11 +125,18 @@ def table(name, kind, items, spell=str):
 spell_hex = lambda x: f"0x{x:016X}"
 if sys.argv[1:] == ["tables"]:
     table("PATTERNS", "u64", PATTERNS, spell_hex)
-    table("KINDS", "u8", [k for _, k, _, _ in POINTS])
-    table("POINTS", "u64", [v for f, _, t, x in POINTS for v in (str(f), str(t), spell_hex(pattern(x)))])
+    table("FREQUENCIES", "u64", [p[0] for p in POINTS])
+    table("KINDS", "u8", [p[1] for p in POINTS])
+    table("ROWS", "u64", [p[2] for p in POINTS])
+    table("FIGURES", "u64", [pattern(p[3]) for p in POINTS], spell_hex)
     table("DISCOUNTS", "u64", DISCOUNTS)
-    table("CURVE_KINDS", "u8", [c[3] for c in CURVES])
-    table("CURVES", "u64", [v for f, n, t, _, x, k, m in CURVES for v in (str(f), str(n), str(t), spell_hex(x), str(k), str(m))])
+    table("CURVE_FREQUENCIES", "u64", [c[0] for c in CURVES])
+    table("CURVE_STEPS", "usize", [c[1] for c in CURVES])
+    table("LAST_ROWS", "u64", [c[2] for c in CURVES])
+    table("FIRST_KINDS", "u8", [c[3] for c in CURVES])
+    table("FIRST_FIGURES", "u64", [c[4] for c in CURVES], spell_hex)
+    table("KINDS_LENT", "usize", [c[5] for c in CURVES])
+    table("PLACES_LENT", "usize", [c[6] for c in CURVES])
 else:
     assert len(PATTERNS) == len(POINTS) == len(DISCOUNTS) == 40 and len(CURVES) == 15
     for bits, (f, k, t, x), v in zip(PATTERNS, POINTS, DISCOUNTS):

@@ -112,6 +112,12 @@ module _ (v : ℕ) where
   unfolding rateAnswer discountKnown
   answer-known h l = rw (le-leb 1 v h, le-leb v 1100000000 l)
 
+  -- an accepted answer is negative exactly where the discount is above one, positive exactly where it is below
+  pub answer-sign :
+      0 < v → v ≤ 1100000000 →
+      (ltZ (rateAnswer v .value) (pos 0) ≡ ltb one v) × (ltZ (pos 0) (rateAnswer v .value) ≡ ltb v one)
+  answer-sign h l = rw (answer-known h l) (rate-negative v h, rate-positive v h)
+
 known-bounds : (v : ℕ) → discountKnown v ≡ true → (0 < v) × (v ≤ 1100000000)
 unfolding discountKnown
 known-bounds v h = by-low (leb 1 v) refl h
