@@ -1,0 +1,79 @@
+-- `curve::cause` meets its contract.
+-- Assumes nothing.
+use mathlib.Core.Path.{_≡_, sym, _∙_}
+use mathlib.Core.Bool.{true}
+use borrow.Author.Tests.{not-true, not-false}
+use Rattle.quotes.specs.Quotes.{listed}
+use Rattle.curve.specs.Curve.{inPlace}
+use Rattle.curve.proofs.CurveLaws.{placed-kinds, placed-figures, number-frequency, number-low, number-high, number-place, number-quotes, number-accepted}
+use borrow.Author.Needs.{needs}
+use Rattle.curve.proofs.cause.Statement.{statement}
+use Rattle.curve.proofs.cause.Tie as tie
+
+is-listed-requires : tie.Need-is-listed-requires
+is-listed-requires c κs = search needs
+
+returns : tie.Need-returns
+returns c =
+    sym (number-frequency _ _ _ _ _ _ (sym (c .before .is-listed .ensures) ∙ not-true (c .before .is-listed .result) (c .if1 .taken)))
+
+known : (c : tie.Else1) → listed (c .before .before .before .before .before .args .frequency) ≡ true
+known c = sym (c .before .is-listed .ensures) ∙ not-false (c .before .is-listed .result) (c .if1 .left)
+
+returns-2 : tie.Need-returns-2
+returns-2 c = sym (number-low _ _ _ _ _ _ (known (c .before)) (c .if2 .taken))
+
+returns-3 : tie.Need-returns-3
+returns-3 c = sym (number-high _ _ _ _ _ _ (known (c .before .before)) (c .before .if2 .left) (c .if3 .taken))
+
+is-in-place-requires : tie.Need-is-in-place-requires
+is-in-place-requires c κs = search needs
+
+returns-4 : tie.Need-returns-4
+returns-4 c =
+    let p = c .before in
+    let s = p .before in
+    sym (number-place _ _ _ _ _ _ (known (s .before .before)) (s .before .if2 .left) (s .if3 .left)
+    (sym (p .is-in-place .ensures) ∙ not-true (p .is-in-place .result) (c .if4 .taken)))
+
+abbrev start : tie.Else4 → tie.Start
+start c = c .before .before .before .before .before .before .before .before .before
+
+placed :
+    (c : tie.Else4) →
+    inPlace (start c .args .steps) (start c .args .rows .now) (start c .args .kinds .now) (start c .args .figures .now) (start c .args .room) ≡ true
+placed c = sym (c .before .is-in-place .ensures) ∙ not-false (c .before .is-in-place .result) (c .if4 .left)
+
+all-convert-requires : tie.Need-all-convert-requires
+all-convert-requires c κs =
+    let a = start c .args in
+    placed-figures (a .steps) (a .rows .now) (a .kinds .now) (a .figures .now) (a .room) (placed c)
+    ∙ sym (placed-kinds (a .steps) (a .rows .now) (a .kinds .now) (a .figures .now) (a .room) (placed c))
+
+returns-5 : tie.Need-returns-5
+returns-5 c =
+    let q = c .before in
+    let s = q .before .before .before in
+    sym (number-quotes _ _ _ _ _ _ (known (s .before .before)) (s .before .if2 .left) (s .if3 .left) (placed (q .before))
+    (sym (q .all-convert .ensures) ∙ not-true (q .all-convert .result) (c .if5 .taken)))
+
+returns-6 : tie.Need-returns-6
+returns-6 c =
+    let q = c .before in
+    let s = q .before .before .before in
+    sym (number-accepted _ _ _ _ _ _ (known (s .before .before)) (s .before .if2 .left) (s .if3 .left) (placed (q .before))
+    (sym (q .all-convert .ensures) ∙ not-false (q .all-convert .result) (c .if5 .left)))
+
+pub cause-spec : {M : Type 1} → statement M
+cause-spec =
+    tie.close
+    (tie.spec
+    is-listed-requires
+    returns
+    returns-2
+    returns-3
+    is-in-place-requires
+    returns-4
+    all-convert-requires
+    returns-5
+    returns-6)

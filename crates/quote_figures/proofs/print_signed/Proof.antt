@@ -1,0 +1,58 @@
+-- `quote_figures::print_signed` is safe and ends.
+-- Assumes nothing.
+use native.Mathlib.Omega.{arith}
+use Rattle.arithmetic.proofs.Signed.{is-whole, back, negated-fits, negated-back}
+use borrow.Author.Needs.{needs}
+use Rattle.quote_figures.proofs.print_signed.Statement.{statement}
+use Rattle.quote_figures.proofs.print_signed.Tie as tie
+
+print-refusal-requires : tie.Need-print-refusal-requires
+print-refusal-requires c κs = search needs
+
+returns : tie.Need-returns
+returns c = search needs
+
+slice-aggregate-write-all : tie.Need-slice-aggregate-write-all
+slice-aggregate-write-all c = search needs
+
+write-all-requires : tie.Need-write-all-requires
+write-all-requires c κs = search needs
+
+sub-print-decimal : tie.Need-sub-print-decimal
+sub-print-decimal c = negated-fits (c .before .before .before .before .args .value) (omega (arith, c .before .before .before .before .pre)) (c .before .before .before .before .fits .value) (c .before .before .if2 .taken)
+
+cast-print-decimal : tie.Need-cast-print-decimal
+cast-print-decimal c = rw (negated-back (c .before .before .before .before .args .value) (omega (arith, c .before .before .before .before .pre)) (c .before .before .before .before .fits .value) (c .before .before .if2 .taken)) (tt, record { fits = omega (arith, c .before .before .before .before .pre) })
+
+print-decimal-requires : tie.Need-print-decimal-requires
+print-decimal-requires c κs = search needs
+
+returns-2 : tie.Need-returns-2
+returns-2 c = search needs
+
+cast-print-decimal-2 : tie.Need-cast-print-decimal-2
+cast-print-decimal-2 c =
+    let same = back (c .before .before .args .value) (omega (arith, c .before .before .pre)) (c .before .before .fits .value) in
+    rw same (is-whole (c .before .before .args .value) (rw same at (c .if2 .left)), record { fits = omega (arith, c .before .before .pre) })
+
+print-decimal-requires-2 : tie.Need-print-decimal-requires-2
+print-decimal-requires-2 c κs = search needs
+
+returns-3 : tie.Need-returns-3
+returns-3 c = search needs
+
+pub print-signed-spec : {M : Type 1} → statement M
+print-signed-spec =
+    tie.close
+    (tie.spec
+    print-refusal-requires
+    returns
+    slice-aggregate-write-all
+    write-all-requires
+    sub-print-decimal
+    cast-print-decimal
+    print-decimal-requires
+    returns-2
+    cast-print-decimal-2
+    print-decimal-requires-2
+    returns-3)

@@ -1,0 +1,3 @@
+pub mod Divisor
+pub mod QuoteLaws
+pub mod Figures

@@ -1,0 +1,71 @@
+-- `quotes::lone_point` meets its contract.
+-- Assumes nothing.
+use mathlib.Core.Path.{_≡_, sym, _∙_}
+use mathlib.Core.Bool.{true}
+use borrow.Author.Tests.{not-true, not-false}
+use Rattle.quotes.specs.Quotes.{listed}
+use Rattle.quotes.proofs.QuoteLaws.{listed-small, row-low, row-high, row-known, lone-frequency, lone-row, lone-kind}
+use borrow.Author.Needs.{needs}
+use Rattle.quotes.proofs.lone_point.Statement.{statement}
+use Rattle.quotes.proofs.lone_point.Tie as tie
+
+is-listed-requires : tie.Need-is-listed-requires
+is-listed-requires c κs = search needs
+
+refusal-requires : tie.Need-refusal-requires
+refusal-requires c κs = search needs
+
+returns : tie.Need-returns
+returns c =
+    let l = c .before .before in
+    let a = l .before .args in
+    c .refusal .ensures
+    ∙ sym (lone-frequency (a .frequency) (a .kind) (a .point) (sym (l .is-listed .ensures) ∙ not-true (l .is-listed .result) (c .before .if1 .taken)))
+
+refusal-requires-2 : tie.Need-refusal-requires-2
+refusal-requires-2 c κs = search needs
+
+known : (c : tie.Else1) → listed (c .before .before .args .frequency) ≡ true
+known c = sym (c .before .is-listed .ensures) ∙ not-false (c .before .is-listed .result) (c .if1 .left)
+
+returns-2 : tie.Need-returns-2
+returns-2 c =
+    let l = c .before .before in
+    let a = l .before .before .args in
+    c .refusal2 .ensures ∙ sym (lone-row (a .frequency) (a .kind) (a .point) (known l) (row-low (a .point .row) (c .before .if2 .taken)))
+
+refusal-requires-3 : tie.Need-refusal-requires-3
+refusal-requires-3 c κs = search needs
+
+returns-3 : tie.Need-returns-3
+returns-3 c =
+    let l = c .before .before .before in
+    let a = l .before .before .args in
+    c .refusal3 .ensures
+    ∙ sym (lone-row (a .frequency) (a .kind) (a .point) (known l) (row-high (a .point .row) (c .before .before .if2 .left) (c .before .if3 .taken)))
+
+of-point-requires : tie.Need-of-point-requires
+of-point-requires c κs =
+    let l = c .before .before in
+    (listed-small (l .before .before .args .frequency) (known l) .1, c .if3 .left)
+
+returns-4 : tie.Need-returns-4
+returns-4 c =
+    let l = c .before .before .before in
+    let a = l .before .before .args in
+    c .of-point .ensures
+    ∙ sym (lone-kind (a .frequency) (a .kind) (a .point) (known l) (row-known (a .point .row) (c .before .before .if2 .left) (c .before .if3 .left)))
+
+pub lone-point-spec : {M : Type 1} → statement M
+lone-point-spec =
+    tie.close
+    (tie.spec
+    is-listed-requires
+    refusal-requires
+    returns
+    refusal-requires-2
+    returns-2
+    refusal-requires-3
+    returns-3
+    of-point-requires
+    returns-4)

@@ -1,0 +1,42 @@
+-- `quotes::of_quote` meets its contract.
+-- Assumes nothing.
+use mathlib.Core.Path.{sym, _∙_, ap}
+use Rattle.quotes.specs.Quotes.{quoteAnswer}
+use borrow.Author.Needs.{needs}
+use Rattle.quotes.proofs.of_quote.Statement.{statement}
+use Rattle.quotes.proofs.of_quote.Tie as tie
+
+enum-known-quote : tie.Need-enum-known-quote
+enum-known-quote c = search needs
+
+of-factor-requires : tie.Need-of-factor-requires
+of-factor-requires c κs = search needs
+
+enum-known-quote-2 : tie.Need-enum-known-quote-2
+enum-known-quote-2 c = search needs
+
+of-rate-requires : tie.Need-of-rate-requires
+of-rate-requires c κs = search needs
+
+returns : tie.Need-returns
+unfolding quoteAnswer
+returns c =
+    let a = c .before .before .before .before .args in
+    c .of-factor .ensures ∙ sym (ap (quoteAnswer (a .frequency) (a .row)) (c .before .before .quote .given .1))
+
+returns-2 : tie.Need-returns-2
+unfolding quoteAnswer
+returns-2 c =
+    let a = c .before .before .before .before .args in
+    c .of-rate .ensures ∙ sym (ap (quoteAnswer (a .frequency) (a .row)) (c .before .before .quote2 .given .1))
+
+pub of-quote-spec : {M : Type 1} → statement M
+of-quote-spec =
+    tie.close
+    (tie.spec
+    enum-known-quote
+    of-factor-requires
+    enum-known-quote-2
+    of-rate-requires
+    returns
+    returns-2)

@@ -1,0 +1,145 @@
+// Quoted points, and the discounts that they give.
+ghost use mathlib.Core.Path.{_≡_};
+ghost use Prim.Native.Nat.{_≤_};
+ghost use lib.IntN.{natAbs};
+ghost use Rattle.arithmetic.specs.Answers.{refused};
+ghost use Rattle.quotes.specs.Quotes.{listed, rateDiscount, factorDiscount, rangedAnswer, figureAnswer, quoteAnswer, kindAnswer, loneAnswer};
+use arithmetic::Answer;
+
+const ONE: u64 = 1_000_000_000;
+
+// A quoted point: a row number and a figure.
+pub struct Point {
+    pub row: u64,
+    pub figure: f64,
+}
+
+// A figure by its kind: a discount factor (kind 5) or a simple yearly rate (kind 6).
+pub enum Quote {
+    DiscountFactor(f64),
+    YearlyRate(f64),
+}
+
+// Whether the steps a year are 1, 2, 4 or 12.
+pub fn is_listed(frequency: u64) -> bool
+    ensures { λ r. ⌜ r ≡ listed frequency ⌝ }
+{
+    if frequency == 1 {
+        return true;
+    }
+    if frequency == 2 {
+        return true;
+    }
+    if frequency == 4 {
+        return true;
+    }
+    frequency == 12
+}
+
+fn refusal(cause: u64) -> Answer
+    ensures { λ r. ⌜ r ≡ refused cause ⌝ }
+{
+    Answer {
+        number: cause,
+        value: 0,
+    }
+}
+
+// A discount within its range.
+fn ranged(discount: u64) -> Answer
+    ensures { λ r. ⌜ r ≡ rangedAnswer discount ⌝ }
+{
+    if discount < 100_000_000 {
+        return refusal(7);
+    }
+    if discount > 2_000_000_000 {
+        return refusal(7);
+    }
+    Answer {
+        number: 0,
+        value: discount,
+    }
+}
+
+// The discount of a discount factor.
+fn of_factor(figure: f64) -> Answer
+    ensures { λ r. ⌜ r ≡ figureAnswer figure factorDiscount ⌝ }
+{
+    let factor = figure::billionths(figure);
+    if factor.number != 0 {
+        return refusal(7);
+    }
+    let value = factor.value;
+    if value < 0 {
+        return refusal(7);
+    }
+    ranged(value as u64)
+}
+
+// The discount of a yearly rate in billionths.
+fn of_billionths(frequency: u64, row: u64, rate: i64) -> Answer
+    requires { ⌜ (frequency ≤ 12) × (row ≤ 60) × (natAbs rate ≤ 10000000000) ⌝ }
+    ensures { λ r. ⌜ r ≡ rangedAnswer (rateDiscount frequency row rate) ⌝ }
+{
+    let divisor = (frequency * ONE) as i64 + (row as i64) * rate;
+    if divisor <= 0 {
+        return refusal(7);
+    }
+    ranged(ONE * ONE * frequency / (divisor as u64))
+}
+
+// The discount of a yearly rate.
+fn of_rate(frequency: u64, row: u64, figure: f64) -> Answer
+    requires { ⌜ (frequency ≤ 12) × (row ≤ 60) ⌝ }
+    ensures { λ r. ⌜ r ≡ figureAnswer figure (rateDiscount frequency row) ⌝ }
+{
+    let rate = figure::billionths(figure);
+    if rate.number != 0 {
+        return refusal(7);
+    }
+    of_billionths(frequency, row, rate.value)
+}
+
+// The discount of a quote for a row, case by case.
+fn of_quote(frequency: u64, row: u64, quote: Quote) -> Answer
+    requires { ⌜ (frequency ≤ 12) × (row ≤ 60) ⌝ }
+    ensures { λ r. ⌜ r ≡ quoteAnswer frequency row quote ⌝ }
+{
+    match quote {
+        Quote::DiscountFactor(x) => of_factor(x),
+        Quote::YearlyRate(x) => of_rate(frequency, row, x),
+    }
+}
+
+// The discount of a point whose kind is told by its number.
+fn of_point(frequency: u64, kind: u8, point: Point) -> Answer
+    requires { ⌜ (frequency ≤ 12) × (point .row ≤ 60) ⌝ }
+    ensures { λ r. ⌜ r ≡ kindAnswer frequency kind point ⌝ }
+{
+    let row = point.row;
+    let figure = point.figure;
+    if kind == 5 {
+        return of_quote(frequency, row, Quote::DiscountFactor(figure));
+    }
+    if kind == 6 {
+        return of_quote(frequency, row, Quote::YearlyRate(figure));
+    }
+    refusal(7)
+}
+
+// The discount of a lone point. Refusals, the lowest first: 2 the steps a year, 6 the row, 7 the kind, the figure or the discount.
+pub fn lone_point(frequency: u64, kind: u8, point: Point) -> Answer
+    ensures { λ r. ⌜ r ≡ loneAnswer frequency kind point ⌝ }
+{
+    if !is_listed(frequency) {
+        return refusal(2);
+    }
+    let row = point.row;
+    if row < 1 {
+        return refusal(6);
+    }
+    if row > 60 {
+        return refusal(6);
+    }
+    of_point(frequency, kind, point)
+}

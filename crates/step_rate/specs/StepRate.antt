@@ -1,0 +1,29 @@
+-- The step rate of a discount (document 01, Spacing and fit).
+-- Assumes nothing.
+use Prim.Native.Nat.{ℕ}
+use mathlib.Core.Bool.{Bool, cond, not, _&&_}
+use lib.Dec.{leb}
+use lib.IntN.{ℤ, pos, _-ℤ_, _*ℤ_}
+use Rattle.arithmetic.specs.Rounding.{one, nearest-signed}
+use Rattle.step_rate.specs.declared.Rate.{Rate}
+
+-- (one - v) × one / v, nearest
+unfoldable pub stepRate : ℕ → ℤ
+unfolding nearest-signed
+stepRate v = nearest-signed ((pos one -ℤ pos v) *ℤ pos one) v
+
+-- a node discount: 1 to 1,100,000,000
+unfoldable pub discountKnown : ℕ → Bool
+discountKnown v = leb 1 v && leb v 1100000000
+
+-- refusal 9 with zero
+abbrev pub refused : Rate
+refused = record { number = 9; value = pos 0 }
+
+abbrev pub answered : ℤ → Rate
+answered z = record { number = 0; value = z }
+
+-- the answer to a discount
+unfoldable pub rateAnswer : ℕ → Rate
+unfolding discountKnown stepRate
+rateAnswer v = cond (not (discountKnown v)) refused (answered (stepRate v))

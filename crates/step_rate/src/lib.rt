@@ -1,0 +1,49 @@
+// The rate of one step, with its sign, from the step's discount.
+ghost use mathlib.Core.Path.{_≡_};
+ghost use Prim.Native.Nat.{_*_, _≤_};
+ghost use Rattle.arithmetic.specs.Rounding.{one, nearest};
+ghost use Rattle.step_rate.specs.StepRate.{rateAnswer};
+
+const ONE: u64 = 1_000_000_000;
+
+// Number 0 with the signed rate in billionths, or refusal 9 with value 0.
+pub struct Rate {
+    pub number: u64,
+    pub value: i64,
+}
+
+// gap × one / discount, to the nearest.
+fn ratio(gap: u64, discount: u64) -> u64
+    requires { ⌜ (1 ≤ discount) × (discount ≤ 1100000000) × (gap ≤ one) ⌝ }
+    ensures { λ r. ⌜ r ≡ nearest (gap * one) discount ⌝ }
+{
+    (2 * (gap * ONE) + discount) / (2 * discount)
+}
+
+// The step rate of a discount. Refusal 9: the discount is 0 or above 1.1.
+pub fn of_discount(discount: u64) -> Rate
+    ensures { λ r. ⌜ r ≡ rateAnswer discount ⌝ }
+{
+    if discount == 0 {
+        return Rate {
+            number: 9,
+            value: 0,
+        };
+    }
+    if discount > 1_100_000_000 {
+        return Rate {
+            number: 9,
+            value: 0,
+        };
+    }
+    if discount > ONE {
+        return Rate {
+            number: 0,
+            value: -(ratio(discount - ONE, discount) as i64),
+        };
+    }
+    Rate {
+        number: 0,
+        value: ratio(ONE - discount, discount) as i64,
+    }
+}
