@@ -2,3 +2,4 @@ pub mod StepRows
 pub mod RowStep
 pub mod RowParts
 pub mod TreeRows
+pub mod Progress

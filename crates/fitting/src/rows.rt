@@ -1,7 +1,8 @@
 // The fit over all rows, in two memories that store their rows one after the other.
 use crate::step;
 ghost use mathlib.Core.Path.{_≡_};
-ghost use mathlib.Core.Bool.{cond};
+ghost use mathlib.Core.Bool.{true, cond};
+ghost use mathlib.Core.List.{_++_};
 ghost use Prim.Native.Nat.{ℕ, suc, _+_, _*_, _/_, _≤_, _<_};
 ghost use lib.ListN.{length, take, drop};
 ghost use Rattle.arithmetic.specs.Row;
@@ -13,9 +14,12 @@ ghost use Rattle.lattice.specs.RateTree.{rate-tree};
 ghost use Rattle.fitting.specs.Rows.{
   RowReady,
   TreeRow,
+  Tables,
   table-factor,
   row-shape,
 };
+ghost use Rattle.tree.specs.Layout.{laid};
+ghost use Rattle.fitting.specs.Fit.{table-discount, table-price, table-accepted};
 
 // A row, which starts at the same place of both memories: its discounts, and the next row's state prices where all are accepted.
 fn fit_row(
@@ -114,4 +118,47 @@ fn tree_row(
         prices,
         amounts,
     )
+}
+
+// All rows, up to the first that has a discount that is not accepted.
+pub(crate) fn fit_rows(
+    reversion: u64,
+    quotes: &[u64],
+    factors: &[u64],
+    downs: &[u64],
+    discounts: &mut [u64],
+    prices: &mut [u64],
+    amounts: &mut [u64],
+) -> bool
+    requires { ⌜ Tables reversion (length (now quotes)) (now factors) (now downs)
+        × ((i : ℕ) → i < length (now quotes) → 100000000 ≤ values (now quotes) i) × ((i : ℕ) → i < length (now quotes) → values (now quotes) i ≤ 2000000000)
+        × (row-start reversion (length (now quotes)) ≤ length (now discounts)) × (row-start reversion (suc (length (now quotes))) ≤ length (now prices))
+        × (121 ≤ length (now amounts)) ⌝ }
+    ensures tested { λ r. ⌜ r ≡ table-accepted reversion (now (quotes .entry)) (now (factors .entry)) ⌝ }
+    ensures fitted { λ r. ⌜ (r ≡ true →
+        (now (discounts .exit) ≡ laid (rate-tree reversion) (table-discount reversion (now (quotes .entry)) (now (factors .entry))) (length (now (quotes .entry))) ++ drop (row-start reversion (length (now (quotes .entry)))) (now (discounts .entry)))
+        × (now (prices .exit) ≡ laid (rate-tree reversion) (table-price reversion (now (quotes .entry)) (now (factors .entry))) (suc (length (now (quotes .entry)))) ++ drop (row-start reversion (suc (length (now (quotes .entry))))) (now (prices .entry)))) ⌝ }
+    ensures kept { λ _. ⌜ (drop (row-start reversion (length (now (quotes .entry)))) (now (discounts .exit)) ≡ drop (row-start reversion (length (now (quotes .entry)))) (now (discounts .entry)))
+        × (drop (row-start reversion (suc (length (now (quotes .entry))))) (now (prices .exit)) ≡ drop (row-start reversion (suc (length (now (quotes .entry))))) (now (prices .entry))) ⌝ }
+{
+    prices[0] = 1_000_000_000;
+    let steps = quotes.len();
+    let mut row: usize = 0;
+    while row < steps {
+        if !tree_row(
+            reversion,
+            steps,
+            row,
+            quotes[row],
+            factors,
+            downs,
+            discounts,
+            prices,
+            amounts,
+        ) {
+            return false;
+        }
+        row += 1;
+    }
+    true
 }
