@@ -5,10 +5,11 @@ use Prim.Native.Nat.{ℕ, zero, suc, _+_, _-_, _*_, _/_, _^_, _≤_, _<_}
 use native.Mathlib.Omega.{arith}
 use Rattle.arithmetic.specs.Sum.{sum}
 use Rattle.arithmetic.specs.Rounding.{one}
-use Rattle.fit_laws.specs.Step.{discount, next-price}
+use Rattle.fit_laws.specs.Step.{normaliser, discount, next-price}
 use Rattle.tree.specs.Tree.{Tree, Sound, unit}
 use Rattle.fit_laws.specs.StatePrices.{state-price, fitted-price, fitted-discount}
-use Rattle.arithmetic.proofs.SumLaws.{sum-single}
+use Rattle.arithmetic.proofs.SumLaws.{sum-single, sum-cong}
+use Rattle.fit_laws.proofs.StepLaws.{next-cong}
 use Rattle.fit_laws.proofs.Repricing.{Fittable, repriced}
 
 -- the fitted state prices are those that follow from the fitted discounts
@@ -74,3 +75,25 @@ module _ (t : Tree) (s : Sound t) (n : ℕ) (u : ℕ → ℕ → ℕ) (p : ℕ �
   quotes-repriced i l =
       let r = repriced (t .step i) (t .nodes i) (t .nodes (suc i)) (p (suc i)) (fitted-price t u p i) (u i) (fittable i l) in
       (omega (arith, r), omega (arith, r), omega (arith, r, c .quote-high i l))
+
+-- the fit goes by the factors of the tree's own nodes
+module _ (t : Tree) (u w : ℕ → ℕ → ℕ) (p : ℕ → ℕ) (n : ℕ) (same : (i k : ℕ) → i < n → k < t .nodes i → u i k ≡ w i k) where
+  discount-by : (i : ℕ) → i < n → ((k : ℕ) → k < t .nodes i → fitted-price t u p i k ≡ fitted-price t w p i k) → (k : ℕ) → k < t .nodes i →
+      discount (t .nodes i) (fitted-price t u p i) (u i) (p (suc i)) k ≡ discount (t .nodes i) (fitted-price t w p i) (w i) (p (suc i)) k
+  unfolding discount normaliser
+  discount-by i h e k l =
+      ap (λ (x : ℕ). p (suc i) * x / (sum (t .nodes i) (λ k. fitted-price t u p i k * u i k) / one)) (same i k h l)
+      ∙ ap (λ (s : ℕ). p (suc i) * w i k / (s / one))
+      (sum-cong (t .nodes i) (λ k. fitted-price t u p i k * u i k) (λ k. fitted-price t w p i k * w i k)
+      (λ k m. ap (λ (x : ℕ). x * u i k) (e k m) ∙ ap (λ (x : ℕ). fitted-price t w p i k * x) (same i k h m)))
+
+  pub price-by : (i : ℕ) → i ≤ n → (k : ℕ) → fitted-price t u p i k ≡ fitted-price t w p i k
+  unfolding fitted-price
+  price-by zero h k = refl
+  price-by (suc i) h k =
+      let e = price-by i (omega arith) in
+      next-cong (t .step i) (t .nodes i) _ _ _ _ (λ c _. e c) (discount-by i (omega arith) (λ c _. e c)) k
+
+  pub fitted-discount-by : (i : ℕ) → i < n → (k : ℕ) → k < t .nodes i → fitted-discount t u p i k ≡ fitted-discount t w p i k
+  unfolding fitted-discount
+  fitted-discount-by i h k l = discount-by i h (λ c _. price-by i (omega arith) c) k l

@@ -3,3 +3,4 @@ pub mod RowStep
 pub mod RowParts
 pub mod TreeRows
 pub mod Progress
+pub mod TableFit

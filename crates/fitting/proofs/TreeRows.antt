@@ -64,7 +64,7 @@ next-same n t s q v w el ed em eu ev j =
     ap (λ (x : ℕ). x / whole) (sum-cong n _ _ (λ k h. rw (el k h, ed k h, em k h, eu k h, ev k h)))
 
 module _ (b n i : ℕ) (h : i < n) where
-  offset-is : half-width b i + table-offset b n i ≡ half-width b (n - 1)
+  pub offset-is : half-width b i + table-offset b n i ≡ half-width b (n - 1)
   unfolding table-offset
   offset-is = omega (arith, half-later b i (n - 1) (omega arith))
 

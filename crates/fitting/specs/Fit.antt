@@ -2,10 +2,14 @@
 -- Assumes nothing.
 use mathlib.Core.Bool.{Bool}
 use mathlib.Core.List.{List}
-use Prim.Native.Nat.{ℕ, zero, suc}
+use mathlib.Core.Path.{_≡_}
+use Prim.Native.Nat.{ℕ, zero, suc, _-_, _*_, _≤_, _<_}
 use lib.ListN.{length}
 use Rattle.arithmetic.specs.Row.{values, each}
-use Rattle.lattice.specs.RateTree.{rate-tree}
+use Rattle.arithmetic.specs.Rounding.{one}
+use Rattle.lattice.specs.Shape.{half-width, row-start}
+use Rattle.lattice.specs.RateTree.{node, rate-tree}
+use Rattle.factor.specs.Factor.{factor}
 use Rattle.fit_laws.specs.StatePrices.{fitted-price, fitted-discount, accepted-row}
 use Rattle.fitting.specs.Rows.{table-factor}
 
@@ -24,3 +28,28 @@ table-price b quotes factors = fitted-price (rate-tree b) (table-factor b (lengt
 -- whether every discount of every row is accepted
 unfoldable pub table-accepted : ℕ → List ℕ → List ℕ → Bool
 table-accepted b quotes factors = each (length quotes) (accepted-row (rate-tree b) (table-discount b quotes factors))
+
+-- the fit of converted quotes: U(j) of each node with spacing h
+abbrev pub node-factor : ℕ → ℕ → ℕ → ℕ → ℕ
+node-factor b h i k = factor (node b i k) h
+
+abbrev pub curve-discount : ℕ → ℕ → List ℕ → ℕ → ℕ → ℕ
+curve-discount b h quotes = fitted-discount (rate-tree b) (node-factor b h) (quoted quotes)
+
+abbrev pub curve-price : ℕ → ℕ → List ℕ → ℕ → ℕ → ℕ
+curve-price b h quotes = fitted-price (rate-tree b) (node-factor b h) (quoted quotes)
+
+unfoldable pub curve-accepted : ℕ → ℕ → List ℕ → Bool
+curve-accepted b h quotes = each (length quotes) (accepted-row (rate-tree b) (curve-discount b h quotes))
+
+-- what the code asks once causes 2 to 8 were tested
+pub record Fittable (b h w : ℕ) (quotes : List ℕ) (discounts prices : ℕ) : Type 0 where
+  pub some : 0 < length quotes
+  pub few : length quotes ≤ 60
+  pub reverting : b ≤ 6000
+  pub widest : w ≡ half-width b (length quotes - 1)
+  pub narrow : w * h ≤ one
+  pub least : (i : ℕ) → i < length quotes → 100000000 ≤ values quotes i
+  pub most : (i : ℕ) → i < length quotes → values quotes i ≤ 2000000000
+  pub room-discounts : row-start b (length quotes) ≤ discounts
+  pub room-prices : row-start b (suc (length quotes)) ≤ prices

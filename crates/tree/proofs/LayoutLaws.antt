@@ -12,7 +12,7 @@ use Rattle.arithmetic.specs.Row.{row, values, place}
 use Rattle.tree.specs.Tree.{Tree}
 use Rattle.tree.specs.Layout.{start, laid}
 use Rattle.arithmetic.proofs.SumLaws.{sum-suc, sum-grow}
-use Rattle.arithmetic.proofs.RowLaws.{length-row}
+use Rattle.arithmetic.proofs.RowLaws.{length-row, row-cong}
 
 pub start-suc : (t : Tree) (i : ℕ) → start t (suc i) ≡ start t i + t .nodes i
 unfolding start
@@ -72,3 +72,10 @@ laid-length t f i m m₀ h e =
       length-laid t f i,
       length-drop (start t i) m₀,
     )
+
+-- rows of the same values
+pub laid-cong : (t : Tree) (f g : ℕ → ℕ → ℕ) (i : ℕ) → ((r k : ℕ) → r < i → k < t .nodes r → f r k ≡ g r k) → laid t f i ≡ laid t g i
+unfolding laid
+laid-cong t f g zero h = refl
+laid-cong t f g (suc i) h =
+    rw (laid-cong t f g i (λ r k l m. h r k (omega arith) m), row-cong (t .nodes i) (f i) (g i) (λ k m. h i k (omega arith) m))

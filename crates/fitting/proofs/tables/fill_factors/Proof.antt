@@ -1,0 +1,61 @@
+-- `fitting::tables/fill_factors` meets its contract.
+-- Assumes nothing.
+use mathlib.Core.Path.{_≡_, refl, sym, ap, _∙_}
+use native.Mathlib.Omega.{arith}
+use borrow.Author.Needs.{needs}
+use Prim.Native.Nat.{ℕ, _+_, _-_, _*_, _/_, _≤_, _<_}
+use lib.ListN.{length}
+use Rattle.arithmetic.proofs.RowLaws.{Filled, filled-start, filled-next, filled-all, each-none, each-more, each-fails}
+use Rattle.factor.specs.Factor.{factor}
+use Rattle.lattice.specs.RateTree.{node-at}
+use Rattle.fitting.proofs.tables.fill_factors.Statement.{statement}
+use Rattle.fitting.proofs.tables.fill_factors.Tie as tie
+
+abbrev Inv-loop : tie.InvT-loop
+Inv-loop widest spacing factors₀ k₀ factors k = (k ≤ length factors₀) × Filled factors₀ factors (λ i. factor (node-at widest i) spacing) k
+
+abbrev μ-loop : tie.MeasureT-loop
+μ-loop widest spacing factors₀ k₀ factors k = length factors₀ - k
+
+loop-holds : tie.Need-loop-holds Inv-loop μ-loop
+loop-holds c = (search needs, filled-start _ _)
+
+factor-at-requires : tie.Need-factor-at-requires Inv-loop μ-loop
+factor-at-requires c κs = (c .before .before .before .pre .0, c .before .before .before .pre .1, omega (arith, c .before .before .before .pre .2, c .before .loop .inv .1 .same))
+
+mul-factors : tie.Need-mul-factors Inv-loop μ-loop
+mul-factors c = search needs
+
+slice-write-factors : tie.Need-slice-write-factors Inv-loop μ-loop
+slice-write-factors c = search needs
+
+add-k : tie.Need-add-k Inv-loop μ-loop
+add-k c = search needs
+
+loop-less : tie.Need-loop-less Inv-loop μ-loop
+loop-less c = omega (arith, c .before .before .loop .inv .1 .same)
+
+loop-again : tie.Need-loop-again Inv-loop μ-loop
+loop-again c = (omega (arith, c .before .before .loop .inv .1 .same), filled-next _ _ (λ k. factor (node-at (c .before .before .before .before .args .widest) k) (c .before .before .before .before .args .spacing)) _ _ (c .before .before .loop .inv .1) (search needs) (c .factor-at .ensures))
+
+same-length : tie.Need-same-length Inv-loop μ-loop
+same-length c = c .before .loop .inv .1 .same
+
+returns : tie.Need-returns Inv-loop μ-loop
+returns c = filled-all _ _ (λ k. factor (node-at (c .before .before .before .args .widest) k) (c .before .before .before .args .spacing)) _ (c .before .loop .inv .1) (omega (arith, c .before .loop .inv .1 .same))
+
+pub fill-factors-spec : {M : Type 1} → statement M
+fill-factors-spec =
+    tie.close
+    (tie.spec
+    Inv-loop
+    μ-loop
+    loop-holds
+    factor-at-requires
+    mul-factors
+    slice-write-factors
+    add-k
+    loop-less
+    loop-again
+    same-length
+    returns)

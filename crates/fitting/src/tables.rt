@@ -1,0 +1,115 @@
+// The tables of a tree, worked out once for each node index, and the fit from them.
+use crate::rows;
+use crate::step;
+ghost use mathlib.Core.Path.{_≡_};
+ghost use mathlib.Core.Bool.{cond};
+ghost use mathlib.Core.List.{_++_};
+ghost use Prim.Native.Nat.{ℕ, suc, _+_, _-_, _*_, _≤_, _<_};
+ghost use lib.ListN.{length, drop};
+ghost use Rattle.arithmetic.specs.Rounding.{one};
+ghost use Rattle.arithmetic.specs.Row.{row, values};
+ghost use Rattle.tree.specs.Layout.{laid};
+ghost use Rattle.lattice.specs.Shape.{half-width, node-count, row-start};
+ghost use Rattle.lattice.specs.RateTree.{node-at, rate-tree};
+ghost use Rattle.factor.specs.Factor.{factor};
+ghost use Rattle.fitting.specs.Rows.{Tables};
+ghost use Rattle.fitting.specs.Fit.{
+  table-discount,
+  table-price,
+  table-accepted,
+  Fittable,
+  curve-accepted,
+  curve-discount,
+  curve-price,
+};
+
+// The factor of the node at an index of a row of this half width.
+fn factor_at(widest: usize, spacing: u64, index: usize) -> u64
+    requires { ⌜ (widest ≤ 60) × (widest * spacing ≤ one) × (index ≤ 2 * widest) ⌝ }
+    ensures { λ r. ⌜ r ≡ factor (node-at widest index) spacing ⌝ }
+{
+    if index < widest {
+        let below = factor::factor((widest - index) as u64, true, spacing);
+        return below.value;
+    }
+    let above = factor::factor((index - widest) as u64, false, spacing);
+    above.value
+}
+
+fn fill_factors(widest: usize, spacing: u64, factors: &mut [u64])
+    requires { ⌜ (widest ≤ 60) × (widest * spacing ≤ one) × (length (now factors) ≡ 2 * widest + 1) ⌝ }
+    ensures { λ _. ⌜ now (factors .exit) ≡ row (length (now (factors .entry))) (λ k. factor (node-at widest k) spacing) ⌝ }
+{
+    let mut k: usize = 0;
+    while k < factors.len() {
+        factors[k] = factor_at(widest, spacing, k);
+        k += 1;
+    }
+}
+
+fn clear_front(memory: &mut [u64], count: usize)
+    requires { ⌜ count ≤ length (now memory) ⌝ }
+    ensures { λ _. ⌜ now (memory .exit) ≡ row count (λ j. 0) ++ drop count (now (memory .entry)) ⌝ }
+{
+    step::clear(&mut memory[..count]);
+}
+
+// The fit from tables. Where a discount is not accepted, zeros in the needed parts of both memories.
+fn fit_or_clear(
+    reversion: u64,
+    quotes: &[u64],
+    factors: &[u64],
+    downs: &[u64],
+    discounts: &mut [u64],
+    prices: &mut [u64],
+    amounts: &mut [u64],
+) -> bool
+    requires { ⌜ Tables reversion (length (now quotes)) (now factors) (now downs)
+        × ((i : ℕ) → i < length (now quotes) → 100000000 ≤ values (now quotes) i) × ((i : ℕ) → i < length (now quotes) → values (now quotes) i ≤ 2000000000)
+        × (row-start reversion (length (now quotes)) ≤ length (now discounts)) × (row-start reversion (suc (length (now quotes))) ≤ length (now prices))
+        × (121 ≤ length (now amounts)) ⌝ }
+    ensures tested { λ r. ⌜ r ≡ table-accepted reversion (now (quotes .entry)) (now (factors .entry)) ⌝ }
+    ensures discounted { λ r. ⌜ now (discounts .exit) ≡ cond r
+        (laid (rate-tree reversion) (table-discount reversion (now (quotes .entry)) (now (factors .entry))) (length (now (quotes .entry))))
+        (row (row-start reversion (length (now (quotes .entry)))) (λ j. 0)) ++ drop (row-start reversion (length (now (quotes .entry)))) (now (discounts .entry)) ⌝ }
+    ensures priced { λ r. ⌜ now (prices .exit) ≡ cond r
+        (laid (rate-tree reversion) (table-price reversion (now (quotes .entry)) (now (factors .entry))) (suc (length (now (quotes .entry)))))
+        (row (row-start reversion (suc (length (now (quotes .entry))))) (λ j. 0)) ++ drop (row-start reversion (suc (length (now (quotes .entry))))) (now (prices .entry)) ⌝ }
+{
+    let steps = quotes.len();
+    let needed = lattice::discounts_needed(steps, reversion);
+    let all = lattice::state_prices_needed(steps, reversion);
+    if rows::fit_rows(reversion, quotes, factors, downs, discounts, prices, amounts) {
+        return true;
+    }
+    clear_front(discounts, needed.value as usize);
+    clear_front(prices, all.value as usize);
+    false
+}
+
+// Fills the tables and fits: `factors` and `downs` are as long as row n - 1.
+fn fit_tables(
+    reversion: u64,
+    spacing: u64,
+    widest: usize,
+    quotes: &[u64],
+    factors: &mut [u64],
+    downs: &mut [u64],
+    discounts: &mut [u64],
+    prices: &mut [u64],
+    amounts: &mut [u64],
+) -> bool
+    requires { ⌜ Fittable reversion spacing widest (now quotes) (length (now discounts)) (length (now prices))
+        × (length (now factors) ≡ 2 * widest + 1) × (length (now downs) ≡ 2 * widest + 1) × (121 ≤ length (now amounts)) ⌝ }
+    ensures tested { λ r. ⌜ r ≡ curve-accepted reversion spacing (now (quotes .entry)) ⌝ }
+    ensures discounted { λ r. ⌜ now (discounts .exit) ≡ cond r
+        (laid (rate-tree reversion) (curve-discount reversion spacing (now (quotes .entry))) (length (now (quotes .entry))))
+        (row (row-start reversion (length (now (quotes .entry)))) (λ j. 0)) ++ drop (row-start reversion (length (now (quotes .entry)))) (now (discounts .entry)) ⌝ }
+    ensures priced { λ r. ⌜ now (prices .exit) ≡ cond r
+        (laid (rate-tree reversion) (curve-price reversion spacing (now (quotes .entry))) (suc (length (now (quotes .entry)))))
+        (row (row-start reversion (suc (length (now (quotes .entry))))) (λ j. 0)) ++ drop (row-start reversion (suc (length (now (quotes .entry))))) (now (prices .entry)) ⌝ }
+{
+    fill_factors(widest, spacing, factors);
+    lattice::down_probabilities(reversion, widest, downs);
+    fit_or_clear(reversion, quotes, factors, downs, discounts, prices, amounts)
+}
