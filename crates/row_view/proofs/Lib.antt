@@ -1,0 +1,2 @@
+pub mod TreeEntries
+pub mod ViewLaws
