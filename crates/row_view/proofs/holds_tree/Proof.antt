@@ -1,6 +1,5 @@
 -- `row_view::holds_tree` meets its contract.
 -- Assumes nothing.
-use mathlib.Core.Path.{_≡_}
 use Rattle.row_view.proofs.TreeEntries.{Accepted, tree-accepted, tree-value}
 use Rattle.row_view.proofs.ViewLaws as laws
 use borrow.Author.Needs.{needs}

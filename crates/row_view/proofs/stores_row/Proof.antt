@@ -1,6 +1,5 @@
 -- `row_view::stores_row` meets its contract.
 -- Assumes nothing.
-use Rattle.row_view.specs.RowView.{stores-row}
 use borrow.Author.Needs.{needs}
 use Rattle.row_view.proofs.stores_row.Statement.{statement}
 use Rattle.row_view.proofs.stores_row.Tie as tie
