@@ -1,0 +1,176 @@
+-- Laws of the row view.
+-- Assumes nothing.
+use mathlib.Core.Path.{_≡_, refl, ap, _∙_}
+use Prim.Native.Nat.{ℕ, suc, _+_, _-_, _≤_, _<_}
+use mathlib.Core.Bool.{Bool, true, false, cond, _&&_, and-false}
+use mathlib.Core.List.{List}
+use denote.Ref.{RefT}
+use native.Mathlib.Omega.{arith}
+use lib.Dec.{ltb, leb}
+use lib.ListN.{length, take, drop, length-drop}
+use lib.Seq.{length-take-le, getD-take, getD-drop}
+use borrow.Author.Tests.{ltb-true, leb-true, lt-ltb, le-leb, lt-leb}
+use Rattle.arithmetic.specs.Row.{values}
+use Rattle.arithmetic.specs.declared.Answer.{Answer}
+use Rattle.lattice.specs.Shape.{node-count, row-start, discounts-needed, state-prices-needed}
+use Rattle.lattice.specs.Entries.{about-tree}
+use Rattle.lattice.proofs.Sizes.{row-ends, count-positive}
+use Rattle.row_view.specs.declared.RowKind.{RowKind}
+use Rattle.row_view.specs.declared.RowKind.the-variants.{Discounts, StatePrices}
+use Rattle.row_view.specs.RowView.{is-tree, holds-tree, stores-row, memory-of, is-shown, view-start, view-count, PartOf}
+use Rattle.lattice.proofs.TreeEntries.{Accepted, by-tree}
+
+and-left : (x y : Bool) → x && y ≡ true → x ≡ true
+and-left true y h = refl
+and-left false y h = h
+
+and-right : (x y : Bool) → x && y ≡ true → y ≡ true
+and-right true y h = h
+and-right false y h = cc
+
+-- ---- whether both memories hold the tree, by the tests that code makes
+
+module _ (discounts prices : List ℕ) (n b : ℕ) where
+  no-tree : is-tree n b ≡ false → false ≡ holds-tree discounts prices n b
+  unfolding holds-tree
+  no-tree h = rw h
+
+  pub refused-tree : (x : ℕ) (a : Answer) → a ≡ about-tree n b x → (a .number ≡ 0 → ⊥) → false ≡ holds-tree discounts prices n b
+  unfolding is-tree
+  refused-tree x a e nz =
+      by-tree n b x (λ r. (r .number ≡ 0 → ⊥) → false ≡ holds-tree discounts prices n b)
+      (λ z k. no-tree (simp (lt-leb 1 n (omega arith))))
+      (λ h k. no-tree (simp (lt-leb n 60 h, and-false)))
+      (λ p h s k. no-tree (simp (lt-leb b 6000 s, and-false)))
+      (λ l k. absurd (k refl))
+      (λ z. nz (ap (λ (r : Answer). r .number) e ∙ z))
+
+  module _ (l : Accepted n b) where
+    a-tree : is-tree n b ≡ true
+    unfolding is-tree
+    a-tree = simp (le-leb 1 n (l .some), le-leb n 60 (l .few), le-leb b 6000 (l .gentle))
+
+    pub short-discounts : (x : ℕ) → x ≡ discounts-needed n b → length discounts < x → false ≡ holds-tree discounts prices n b
+    unfolding holds-tree
+    short-discounts x e h = rw (a-tree, lt-leb (discounts-needed n b) (length discounts) (omega arith))
+
+    pub long-discounts : (x y : ℕ) → x ≡ discounts-needed n b → y ≡ state-prices-needed n b → x ≤ length discounts →
+        leb y (length prices) ≡ holds-tree discounts prices n b
+    unfolding holds-tree
+    long-discounts x y e f h = rw (a-tree, le-leb (discounts-needed n b) (length discounts) (omega arith), f)
+
+-- what memories that hold the tree tell
+pub record Holding (discounts prices : List ℕ) (n b : ℕ) : Type 0 where
+  pub few : n ≤ 60
+  pub gentle : b ≤ 6000
+  pub discounts-room : row-start b n ≤ length discounts
+  pub prices-room : row-start b (suc n) ≤ length prices
+
+pub holding : (discounts prices : List ℕ) (n b : ℕ) → holds-tree discounts prices n b ≡ true → Holding discounts prices n b
+unfolding holds-tree is-tree discounts-needed state-prices-needed
+holding discounts prices n b h =
+    let t₁ = leb 1 n in
+    let t₂ = leb n 60 in
+    let t₃ = leb b 6000 in
+    let t₄ = leb (row-start b n) (length discounts) in
+    let t₅ = leb (row-start b (suc n)) (length prices) in
+    let room = and-left (t₁ && t₂ && t₃ && t₄) t₅ h in
+    let limits = and-left (t₁ && t₂ && t₃) t₄ room in
+    record {
+      few = leb-true n 60 (and-right t₁ t₂ (and-left (t₁ && t₂) t₃ limits));
+      gentle = leb-true b 6000 (and-right (t₁ && t₂) t₃ limits);
+      discounts-room = leb-true (row-start b n) (length discounts) (and-right (t₁ && t₂ && t₃) t₄ room);
+      prices-room = leb-true (row-start b (suc n)) (length prices) (and-right (t₁ && t₂ && t₃ && t₄) t₅ h);
+    }
+
+-- ---- the shown part
+
+module _ (discounts prices : RefT (List ℕ)) (kind : RowKind) (n b i : ℕ) where
+  abbrev Shown : Bool
+  Shown = is-shown (discounts .now) (prices .now) kind n b i
+
+  -- a stored row ends within its memory
+  pub row-room : Holding (discounts .now) (prices .now) n b → stores-row kind n i ≡ true →
+      (b ≤ 6000) × (i ≤ 60) × (row-start b i + node-count b i ≤ length (memory-of discounts prices kind .now))
+  row-room h = go kind
+    where
+      go : (kind : RowKind) → stores-row kind n i ≡ true →
+          (b ≤ 6000) × (i ≤ 60) × (row-start b i + node-count b i ≤ length (memory-of discounts prices kind .now))
+      go Discounts s =
+          let l : i < n = ltb-true i n s in
+          omega (arith, h, row-ends b i n l)
+      go StatePrices s =
+          let l : i ≤ n = leb-true i n s in
+          omega (arith, h, row-ends b i (suc n) (omega arith))
+
+  module _ (memory part : RefT (List ℕ)) (e : memory ≡ memory-of discounts prices kind) where
+    -- the shown part, by whether the row is shown
+    pub shown-part : Shown ≡ true → PartOf memory (row-start b i) (node-count b i) part →
+        PartOf (memory-of discounts prices kind) (view-start (discounts .now) (prices .now) kind n b i)
+        (view-count (discounts .now) (prices .now) kind n b i) part
+    unfolding view-start view-count
+    shown-part s p = simp (s, ← e) p
+
+    pub refused-part : Shown ≡ false → PartOf memory 0 0 part →
+        PartOf (memory-of discounts prices kind) (view-start (discounts .now) (prices .now) kind n b i)
+        (view-count (discounts .now) (prices .now) kind n b i) part
+    unfolding view-start view-count
+    refused-part s p = simp (s, ← e) p
+
+module _ (discounts prices : List ℕ) (kind : RowKind) (n b i : ℕ) where
+  pub not-held : holds-tree discounts prices n b ≡ false → is-shown discounts prices kind n b i ≡ false
+  unfolding is-shown
+  not-held h = rw h
+
+  pub not-stored : stores-row kind n i ≡ false → is-shown discounts prices kind n b i ≡ false
+  unfolding is-shown
+  not-stored h = simp (h, and-false)
+
+  pub is-stored : holds-tree discounts prices n b ≡ true → stores-row kind n i ≡ true → is-shown discounts prices kind n b i ≡ true
+  unfolding is-shown
+  is-stored h s = simp (h, s)
+
+-- the part between a start and an end that code has computed
+pub part-between : (memory : List ℕ) {s start n count : ℕ} → s ≡ start → n ≡ count → take (s + n - s) (drop s memory) ≡ take count (drop start memory)
+part-between memory {s} {start} {n} {count} p q = let e : s + n - s ≡ count = omega arith in rw (e, p)
+
+-- ---- what callers use of a part and of the view
+
+module _ (whole : RefT (List ℕ)) (start count : ℕ) (part : RefT (List ℕ)) (p : PartOf whole start count part) where
+  pub part-length : start + count ≤ length (whole .now) → length (part .now) ≡ count
+  part-length h =
+      let room : count ≤ length (drop start (whole .now)) = simp length-drop (omega arith) in
+      ap length (p .contents) ∙ length-take-le count (drop start (whole .now)) room
+
+  pub part-value : (k : ℕ) → k < count → values (part .now) k ≡ values (whole .now) (start + k)
+  part-value k h = rw (p .contents, getD-take, getD-drop)
+
+-- a refusal is an empty part, and an accepted row has at least one node
+pub refusal-is-empty : (discounts prices : List ℕ) (kind : RowKind) (n b i : ℕ) →
+    ltb 0 (view-count discounts prices kind n b i) ≡ is-shown discounts prices kind n b i
+unfolding view-count
+refusal-is-empty discounts prices kind n b i = go (is-shown discounts prices kind n b i)
+  where
+    go : (shown : Bool) → ltb 0 (cond shown (node-count b i) 0) ≡ shown
+    go true = lt-ltb 0 (node-count b i) (count-positive b i)
+    go false = refl
+
+module _ (discounts prices : RefT (List ℕ)) (kind : RowKind) (n b i : ℕ) where
+  pub view-within :
+      view-start (discounts .now) (prices .now) kind n b i + view-count (discounts .now) (prices .now) kind n b i
+      ≤ length (memory-of discounts prices kind .now)
+  unfolding view-start view-count is-shown
+  view-within = go (holds-tree (discounts .now) (prices .now) n b) (stores-row kind n i) refl refl
+    where
+      go : (t u : Bool) → holds-tree (discounts .now) (prices .now) n b ≡ t → stores-row kind n i ≡ u →
+          cond (t && u) (row-start b i) 0 + cond (t && u) (node-count b i) 0 ≤ length (memory-of discounts prices kind .now)
+      go true true h s = row-room discounts prices kind n b i (holding _ _ _ _ h) s .2
+      go true false h s = omega arith
+      go false u h s = omega arith
+
+  -- the view has as many elements as its count says
+  pub view-length : (part : RefT (List ℕ)) →
+      PartOf (memory-of discounts prices kind) (view-start (discounts .now) (prices .now) kind n b i)
+      (view-count (discounts .now) (prices .now) kind n b i) part →
+      length (part .now) ≡ view-count (discounts .now) (prices .now) kind n b i
+  view-length part p = part-length _ _ _ part p view-within

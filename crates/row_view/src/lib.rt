@@ -1,0 +1,89 @@
+// Either kind of row of a tree, shown as the part of the lent memory that contains it.
+ghost use mathlib.Core.Path.{_≡_};
+ghost use Prim.Native.Nat.{_+_, _≤_};
+ghost use lib.ListN.{length};
+ghost use Rattle.lattice.specs.Shape.{node-count, row-start};
+ghost use Rattle.row_view.specs.RowView.{
+  holds-tree,
+  stores-row,
+  memory-of,
+  PartOf,
+  view-start,
+  view-count,
+};
+
+// The two kinds of rows that a tree has in memory.
+pub enum RowKind {
+    Discounts,
+    StatePrices,
+}
+
+// Whether the steps and the reversion are within their limits and both memories are long enough for the tree.
+fn holds_tree(discounts: &[u64], state_prices: &[u64], steps: usize, reversion: u64) -> bool
+    ensures { λ r. ⌜ r ≡ holds-tree (now (discounts .entry)) (now («state_prices» .entry)) steps reversion ⌝ }
+{
+    let discounts_needed = lattice::discounts_needed(steps, reversion);
+    if discounts_needed.number != 0 {
+        return false;
+    }
+    if (discounts.len() as u64) < discounts_needed.value {
+        return false;
+    }
+    let state_prices_needed = lattice::state_prices_needed(steps, reversion);
+    state_prices_needed.value <= state_prices.len() as u64
+}
+
+// Discounts have rows 0 to n - 1, state prices rows 0 to n.
+fn stores_row(kind: RowKind, steps: usize, row: usize) -> bool
+    ensures { λ r. ⌜ r ≡ stores-row kind steps row ⌝ }
+{
+    match kind {
+        RowKind::Discounts => row < steps,
+        RowKind::StatePrices => row <= steps,
+    }
+}
+
+// The lent memory of a kind: the caller's own reference.
+fn memory_of<'a>(discounts: &'a [u64], state_prices: &'a [u64], kind: RowKind) -> &'a [u64]
+    ensures { λ r. ⌜ r ≡ memory-of (discounts .entry) («state_prices» .entry) kind ⌝ }
+{
+    match kind {
+        RowKind::Discounts => discounts,
+        RowKind::StatePrices => state_prices,
+    }
+}
+
+// The part of a memory that contains a row.
+fn row_part(memory: &[u64], reversion: u64, row: usize) -> &[u64]
+    requires { ⌜ (reversion ≤ 6000) × (row ≤ 60) × (row-start reversion row + node-count reversion row ≤ length (now memory)) ⌝ }
+    ensures { λ r. ⌜ PartOf (memory .entry) (row-start reversion row) (node-count reversion row) r ⌝ }
+{
+    let first = lattice::row_start(reversion, row);
+    let nodes = lattice::node_count(reversion, row);
+    let start = first.value as usize;
+    let end = start + nodes.value as usize;
+    &memory[start..end]
+}
+
+// The wanted row of the discounts or of the state prices. A refusal is the empty part at the start of the wanted memory.
+pub fn row_view<'a>(
+    discounts: &'a [u64],
+    state_prices: &'a [u64],
+    kind: RowKind,
+    steps: usize,
+    reversion: u64,
+    row: usize,
+) -> &'a [u64]
+    ensures { λ r. ⌜ PartOf (memory-of (discounts .entry) («state_prices» .entry) kind)
+        (view-start (now (discounts .entry)) (now («state_prices» .entry)) kind steps reversion row)
+        (view-count (now (discounts .entry)) (now («state_prices» .entry)) kind steps reversion row) r ⌝ }
+{
+    let memory = memory_of(discounts, state_prices, kind);
+    if !holds_tree(discounts, state_prices, steps, reversion) {
+        return &memory[0..0];
+    }
+    if !stores_row(kind, steps, row) {
+        return &memory[0..0];
+    }
+    row_part(memory, reversion, row)
+}

@@ -1,0 +1,3 @@
+pub mod BoundLaws
+pub mod Meaning
+pub mod Figures

@@ -1,0 +1,95 @@
+-- `state_price_bound::bound_of_row` meets its contract.
+-- Assumes nothing.
+use Rattle.lattice.specs.Shape.{node-count}
+use Rattle.lattice.proofs.Sizes.{start-within}
+use mathlib.Core.Path.{_≡_}
+use Prim.Native.Nat.{_+_, _≤_, _-_}
+use lib.ListN.{length}
+use native.Mathlib.Omega.{arith}
+use borrow.Author.Needs.{needs}
+use Rattle.lattice.proofs.TreeEntries.{row-value}
+use Rattle.state_price_bound.proofs.BoundLaws as laws
+use Rattle.state_price_bound.proofs.bound_of_row.Statement.{statement}
+use Rattle.state_price_bound.proofs.bound_of_row.Tie as tie
+
+abbrev Inv-loop : tie.InvT-loop
+Inv-loop reversion discounts row bound₀ start₀ nodes₀ index₀ bound start nodes index = (index ≤ row) × laws.Reached reversion discounts index bound start nodes
+
+abbrev μ-loop : tie.MeasureT-loop
+μ-loop reversion discounts row bound₀ start₀ nodes₀ index₀ bound start nodes index = row - index
+
+loop-holds : tie.Need-loop-holds Inv-loop μ-loop
+loop-holds c = (search needs, laws.reached-start _ _)
+
+-- the row lies within the discounts
+room : (c : tie.In-loop Inv-loop μ-loop) → c .before .loop .start + c .before .loop .nodes ≤ length (c .before .before .before .args .discounts .now)
+room c = laws.reached-room _ _ _ _ _ _ (c .before .loop .inv .1) _ (omega arith) (c .before .before .before .pre .0 .2)
+
+add-end : tie.Need-add-end Inv-loop μ-loop
+add-end c = omega (arith, room c)
+
+mul-greatest-value : tie.Need-mul-greatest-value Inv-loop μ-loop
+mul-greatest-value c = omega (arith, c .before .loop .inv .1 .starts, start-within (c .before .before .before .args .reversion) (c .before .loop .index) (omega arith))
+
+sub-greatest-value : tie.Need-sub-greatest-value Inv-loop μ-loop
+sub-greatest-value c = search needs
+
+part-greatest-value-start : tie.Need-part-greatest-value-start Inv-loop μ-loop
+part-greatest-value-start c = search needs
+
+part-greatest-value-end : tie.Need-part-greatest-value-end Inv-loop μ-loop
+part-greatest-value-end c = omega (arith, room c)
+
+greatest-value-requires : tie.Need-greatest-value-requires Inv-loop μ-loop
+greatest-value-requires c κs = search needs
+
+add-node-count : tie.Need-add-node-count Inv-loop μ-loop
+add-node-count c = search needs
+
+node-count-requires : tie.Need-node-count-requires Inv-loop μ-loop
+node-count-requires c κs = search needs
+
+counts : (c : tie.After-node-count Inv-loop μ-loop) → c .node-count .result .value ≡ node-count (c .before .before .before .before .before .before .args .reversion) (c .before .before .before .before .loop .index + 1)
+counts c = row-value _ _ _ _ (c .node-count .ensures) (omega arith) (omega arith)
+
+next-bound-requires : tie.Need-next-bound-requires Inv-loop μ-loop
+next-bound-requires c κs =
+    laws.reached-sizes _ _ _ _ _ _ (c .before .before .before .before .loop .inv .1) _ (room (c .before .before .before)) (c .before .greatest-value .ensures) _ (counts c)
+    _ (omega arith) (c .before .before .before .before .before .before .pre .1) (omega arith)
+
+add-index : tie.Need-add-index Inv-loop μ-loop
+add-index c = search needs
+
+loop-less : tie.Need-loop-less Inv-loop μ-loop
+loop-less c = search needs
+
+loop-again : tie.Need-loop-again Inv-loop μ-loop
+loop-again c = (
+  search needs,
+  laws.reached-next _ _ _ _ _ _ (c .before .before .before .before .before .loop .inv .1) _ (room (c .before .before .before .before)) (c .before .before .greatest-value .ensures) _ (counts (c .before))
+      _ (c .next-bound .ensures),
+)
+
+returns : tie.Need-returns Inv-loop μ-loop
+returns c = laws.reached-last _ _ _ _ _ _ (c .before .loop .inv .1) _ (omega arith)
+
+pub bound-of-row-spec : {M : Type 1} → statement M
+bound-of-row-spec =
+    tie.close
+    (tie.spec
+    Inv-loop
+    μ-loop
+    loop-holds
+    add-end
+    mul-greatest-value
+    sub-greatest-value
+    part-greatest-value-start
+    part-greatest-value-end
+    greatest-value-requires
+    add-node-count
+    node-count-requires
+    next-bound-requires
+    add-index
+    loop-less
+    loop-again
+    returns)
