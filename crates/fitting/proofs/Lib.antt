@@ -4,3 +4,5 @@ pub mod RowParts
 pub mod TreeRows
 pub mod Progress
 pub mod TableFit
+pub mod CauseLaws
+pub mod FitEntry

@@ -65,7 +65,7 @@ pub next-joined : (downs : List ℕ) (m n : ℕ) (c : ℕ → ℕ) (l₁ l₂ l�
 next-joined downs m n c l₁ l₂ l₃ e₁ e₂ e₃ =
     let w₁ = cleared-length m l₁ e₁ in
     let f₂ : l₂ ≡ row m (incoming (row-transition downs m) n c) =
-          e₂ ∙ ap (λ (x : ℕ). row x (incoming (row-transition downs x) n c)) w₁ in
+    e₂ ∙ ap (λ (x : ℕ). row x (incoming (row-transition downs x) n c)) w₁ in
     e₃
     ∙ ap (λ (x : ℕ). row x (λ j. values l₂ j / 600000000)) (ap length f₂ ∙ length-row m _)
     ∙ row-cong m _ _ (λ j h. ap (λ (x : ℕ). x / 600000000) (ap (λ (x : List ℕ). values x j) f₂ ∙ values-row m j _ h))

@@ -144,3 +144,20 @@ module _ (b n : ℕ) (a : Answer) (some : 0 < n) (few : n ≤ 60) (hb : b ≤ 60
 pub wiped : (a b : ℕ) (x m m₀ : List ℕ) → a ≡ b → x ≡ row a (λ j. 0) ++ drop a m → drop b m ≡ drop b m₀ → x ≡ row b (λ j. 0) ++ drop b m₀
 wiped a b x m m₀ e ex em =
     ex ∙ (ap (λ (n : ℕ). row n (λ j. 0) ++ drop n m) e ∙ ap (λ (y : List ℕ). row b (λ j. 0) ++ y) em)
+
+-- the test as the number of a cause
+abbrev as-cause : Bool → ℕ
+as-cause r = cond r 0 9
+
+pub as-number : (r t : Bool) (d₁ d₂ p₁ p₂ d p x y : List ℕ) (n : ℕ) → n ≡ cond r 0 9 → r ≡ t → d ≡ cond r d₁ d₂ ++ x → p ≡ cond r p₁ p₂ ++ y →
+    (n ≡ cond t 0 9) × ((d ≡ cond t d₁ d₂ ++ x) × (p ≡ cond t p₁ p₂ ++ y))
+as-number r t d₁ d₂ p₁ p₂ d p x y n en e ed ep = (
+  en ∙ ap as-cause e,
+  (ed ∙ ap (λ (s : Bool). cond s d₁ d₂ ++ x) e, ep ∙ ap (λ (s : Bool). cond s p₁ p₂ ++ y) e),
+)
+
+pub cause-none : (r : Bool) → r ≡ true → _≡_ {A = ℕ} 0 (cond r 0 9)
+cause-none r e = sym (ap as-cause e)
+
+pub cause-nine : (r : Bool) → r ≡ false → _≡_ {A = ℕ} 9 (cond r 0 9)
+cause-nine r e = sym (ap as-cause e)

@@ -79,7 +79,15 @@ fn fit_or_clear(
     let steps = quotes.len();
     let needed = lattice::discounts_needed(steps, reversion);
     let all = lattice::state_prices_needed(steps, reversion);
-    if rows::fit_rows(reversion, quotes, factors, downs, discounts, prices, amounts) {
+    if rows::fit_rows(
+        reversion,
+        quotes,
+        factors,
+        downs,
+        discounts,
+        prices,
+        amounts,
+    ) {
         return true;
     }
     clear_front(discounts, needed.value as usize);
@@ -111,5 +119,52 @@ fn fit_tables(
 {
     fill_factors(widest, spacing, factors);
     lattice::down_probabilities(reversion, widest, downs);
-    fit_or_clear(reversion, quotes, factors, downs, discounts, prices, amounts)
+    fit_or_clear(
+        reversion,
+        quotes,
+        factors,
+        downs,
+        discounts,
+        prices,
+        amounts,
+    )
+}
+
+// The fit of converted quotes once causes 2 to 8 were tested: 0 or 9.
+pub(crate) fn fit_quotes(
+    reversion: u64,
+    spacing: u64,
+    widest: usize,
+    quotes: &[u64],
+    discounts: &mut [u64],
+    prices: &mut [u64],
+) -> u64
+    requires { ⌜ Fittable reversion spacing widest (now quotes) (length (now discounts)) (length (now prices)) ⌝ }
+    ensures number { λ r. ⌜ r ≡ cond (curve-accepted reversion spacing (now (quotes .entry))) 0 9 ⌝ }
+    ensures discounted { λ _. ⌜ now (discounts .exit) ≡ cond (curve-accepted reversion spacing (now (quotes .entry)))
+        (laid (rate-tree reversion) (curve-discount reversion spacing (now (quotes .entry))) (length (now (quotes .entry))))
+        (row (row-start reversion (length (now (quotes .entry)))) (λ j. 0)) ++ drop (row-start reversion (length (now (quotes .entry)))) (now (discounts .entry)) ⌝ }
+    ensures priced { λ _. ⌜ now (prices .exit) ≡ cond (curve-accepted reversion spacing (now (quotes .entry)))
+        (laid (rate-tree reversion) (curve-price reversion spacing (now (quotes .entry))) (suc (length (now (quotes .entry)))))
+        (row (row-start reversion (suc (length (now (quotes .entry))))) (λ j. 0)) ++ drop (row-start reversion (suc (length (now (quotes .entry))))) (now (prices .entry)) ⌝ }
+{
+    let count = 2 * widest + 1;
+    let mut factors = [0u64; 121];
+    let mut downs = [0u64; 121];
+    let mut amounts = [0u64; 121];
+    if fit_tables(
+        reversion,
+        spacing,
+        widest,
+        quotes,
+        &mut factors[..count],
+        &mut downs[..count],
+        discounts,
+        prices,
+        &mut amounts,
+    ) {
+        0
+    } else {
+        9
+    }
 }

@@ -51,7 +51,7 @@ same-length-3 : tie.Need-same-length-3 Inv-loop μ-loop
 same-length-3 c = search needs
 
 returns : tie.Need-returns Inv-loop μ-loop
-returns c = 
+returns c =
     let x = laws.refused (c .before .before .before .before .before .before .before .before .before .before .before .before .before .before .before .before .before .before .before .before .args .reversion) (c .before .before .before .before .before .before .before .before .before .before .before .before .before .before .before .before .before .before .before .before .args .quotes .now) (c .before .before .before .before .before .before .before .before .before .before .before .before .before .before .before .before .before .before .before .before .args .factors .now) (c .before .before .before .before .before .before .before .before .before .before .before .before .before .before .before .before .before .before .before .before .args .downs .now) (c .before .before .before .before .before .before .before .before .before .before .before .before .before .before .before .before .before .before .before .before .args .discounts .now) (set (c .before .before .before .before .before .before .before .before .before .before .before .before .before .before .before .before .before .before .before .before .args .prices .now) 0 1000000000) (c .before .before .before .before .before .before .before .before .before .before .before .before .before .before .before .before .before .before .before .before .args .amounts .now) (laws.known-of (c .before .before .before .before .before .before .before .before .before .before .before .before .before .before .before .before .before .before .before .before .args .reversion) (c .before .before .before .before .before .before .before .before .before .before .before .before .before .before .before .before .before .before .before .before .args .quotes .now) (c .before .before .before .before .before .before .before .before .before .before .before .before .before .before .before .before .before .before .before .before .args .factors .now) (c .before .before .before .before .before .before .before .before .before .before .before .before .before .before .before .before .before .before .before .before .args .downs .now) (c .before .before .before .before .before .before .before .before .before .before .before .before .before .before .before .before .before .before .before .before .args .discounts .now) (c .before .before .before .before .before .before .before .before .before .before .before .before .before .before .before .before .before .before .before .before .args .prices .now) (c .before .before .before .before .before .before .before .before .before .before .before .before .before .before .before .before .before .before .before .before .args .amounts .now) (c .before .before .before .before .before .before .before .before .before .before .before .before .before .before .before .before .before .before .before .before .pre)) (c .before .before .before .before .before .before .before .before .before .before .before .before .before .loop .discounts) (c .before .before .before .before .before .before .before .before .before .before .before .before .before .loop .prices) (c .before .before .before .before .before .before .before .before .before .before .before .before .before .loop .amounts) (c .before .before .before .before .before .before .before .before .before .before .before .before .before .loop .row) (c .before .before .before .before .before .before .before .before .before .before .before .before .before .loop .inv .2) (omega arith) (c .before .before .before .before .before .before .before .before .before .before .before .before .before .loop .inv .3) _ _ _ (c .before .before .before .before .before .before .before .tree-row .ensures .0) (c .before .before .before .before .before .before .before .tree-row .ensures .1 .0) (c .before .before .before .before .before .before .before .tree-row .ensures .1 .1) (not-true _ (c .if1 .taken)) in (
       x .0,
       (λ e. never e, (x .1, laws.past-stored (c .before .before .before .before .before .before .before .before .before .before .before .before .before .before .before .before .before .before .before .before .args .reversion) _ (c .before .before .before .before .before .before .before .before .before .before .before .before .before .before .before .before .before .before .before .before .args .prices .now) _ (x .2))),
@@ -76,7 +76,7 @@ same-length-6 : tie.Need-same-length-6 Inv-loop μ-loop
 same-length-6 c = search needs
 
 returns-2 : tie.Need-returns-2 Inv-loop μ-loop
-returns-2 c = 
+returns-2 c =
     let e : c .before .loop .row ≡ length (c .before .before .before .before .before .before .before .before .args .quotes .now) = omega arith in
     let x = laws.complete (c .before .before .before .before .before .before .before .before .args .reversion) (c .before .before .before .before .before .before .before .before .args .quotes .now) (c .before .before .before .before .before .before .before .before .args .factors .now) (c .before .before .before .before .before .before .before .before .args .discounts .now) (c .before .before .before .before .before .before .before .before .args .prices .now) (c .before .loop .discounts) (c .before .loop .prices) (c .before .loop .row) e (c .before .loop .inv .2) in (
       laws.complete-accepted (c .before .before .before .before .before .before .before .before .args .reversion) (c .before .before .before .before .before .before .before .before .args .quotes .now) (c .before .before .before .before .before .before .before .before .args .factors .now) (c .before .before .before .before .before .before .before .before .args .discounts .now) (c .before .before .before .before .before .before .before .before .args .prices .now) (c .before .loop .discounts) (c .before .loop .prices) (c .before .loop .row) e (c .before .loop .inv .2),

@@ -54,12 +54,12 @@ same-length-3 c = search needs
 
 returns : tie.Need-returns
 returns c = (
-      laws.shaped-tested (c .before .before .before .before .before .before .before .before .before .before .before .before .before .before .before .before .before .before .before .args .reversion) (c .before .before .before .before .before .before .before .before .before .before .before .before .before .before .before .before .before .before .before .args .steps) (c .before .before .before .before .before .before .before .before .before .before .before .before .before .before .before .before .before .before .before .args .row) (c .before .before .before .before .before .before .before .before .before .before .before .before .before .before .before .before .before .before .before .args .quote) (c .before .before .before .before .before .before .before .before .before .before .before .before .before .before .before .before .before .before .before .args .factors .now) (c .before .before .before .before .before .before .before .before .before .before .before .before .before .before .before .before .before .before .before .args .downs .now) (c .before .before .before .before .before .before .before .before .before .before .before .before .before .before .before .before .before .before .before .args .discounts .now) (c .before .before .before .before .before .before .before .before .before .before .before .before .before .before .before .before .before .before .before .args .prices .now) (c .before .before .before .before .before .before .before .before .before .before .before .before .before .before .before .before .before .before .before .args .amounts .now) (c .before .before .before .before .before .before .before .before .before .before .before .before .before .before .before .before .before .before .before .pre) (c .before .before .before .before .before .before .before .before .before .before .before .before .before .shape-of .result) (c .before .before .before .before .before .before .before .before .before .before .before .before .before .shape-of .ensures) _ (c .before .before .before .before .before .before .fit-row .ensures .0),
-      (
-        laws.shaped-filled (c .before .before .before .before .before .before .before .before .before .before .before .before .before .before .before .before .before .before .before .args .reversion) (c .before .before .before .before .before .before .before .before .before .before .before .before .before .before .before .before .before .before .before .args .steps) (c .before .before .before .before .before .before .before .before .before .before .before .before .before .before .before .before .before .before .before .args .row) (c .before .before .before .before .before .before .before .before .before .before .before .before .before .before .before .before .before .before .before .args .quote) (c .before .before .before .before .before .before .before .before .before .before .before .before .before .before .before .before .before .before .before .args .factors .now) (c .before .before .before .before .before .before .before .before .before .before .before .before .before .before .before .before .before .before .before .args .downs .now) (c .before .before .before .before .before .before .before .before .before .before .before .before .before .before .before .before .before .before .before .args .discounts .now) (c .before .before .before .before .before .before .before .before .before .before .before .before .before .before .before .before .before .before .before .args .prices .now) (c .before .before .before .before .before .before .before .before .before .before .before .before .before .before .before .before .before .before .before .args .amounts .now) (c .before .before .before .before .before .before .before .before .before .before .before .before .before .before .before .before .before .before .before .pre) (c .before .before .before .before .before .before .before .before .before .before .before .before .before .shape-of .result) (c .before .before .before .before .before .before .before .before .before .before .before .before .before .shape-of .ensures) _ (c .before .before .before .before .before .before .fit-row .ensures .1 .0),
-        laws.shaped-stepped (c .before .before .before .before .before .before .before .before .before .before .before .before .before .before .before .before .before .before .before .args .reversion) (c .before .before .before .before .before .before .before .before .before .before .before .before .before .before .before .before .before .before .before .args .steps) (c .before .before .before .before .before .before .before .before .before .before .before .before .before .before .before .before .before .before .before .args .row) (c .before .before .before .before .before .before .before .before .before .before .before .before .before .before .before .before .before .before .before .args .quote) (c .before .before .before .before .before .before .before .before .before .before .before .before .before .before .before .before .before .before .before .args .factors .now) (c .before .before .before .before .before .before .before .before .before .before .before .before .before .before .before .before .before .before .before .args .downs .now) (c .before .before .before .before .before .before .before .before .before .before .before .before .before .before .before .before .before .before .before .args .discounts .now) (c .before .before .before .before .before .before .before .before .before .before .before .before .before .before .before .before .before .before .before .args .prices .now) (c .before .before .before .before .before .before .before .before .before .before .before .before .before .before .before .before .before .before .before .args .amounts .now) (c .before .before .before .before .before .before .before .before .before .before .before .before .before .before .before .before .before .before .before .pre) (c .before .before .before .before .before .before .before .before .before .before .before .before .before .shape-of .result) (c .before .before .before .before .before .before .before .before .before .before .before .before .before .shape-of .ensures) (c .before .before .before .before .before .before .fit-row .result) _ (c .before .before .before .before .before .before .fit-row .ensures .1 .1)
-      ),
-    )
+  laws.shaped-tested (c .before .before .before .before .before .before .before .before .before .before .before .before .before .before .before .before .before .before .before .args .reversion) (c .before .before .before .before .before .before .before .before .before .before .before .before .before .before .before .before .before .before .before .args .steps) (c .before .before .before .before .before .before .before .before .before .before .before .before .before .before .before .before .before .before .before .args .row) (c .before .before .before .before .before .before .before .before .before .before .before .before .before .before .before .before .before .before .before .args .quote) (c .before .before .before .before .before .before .before .before .before .before .before .before .before .before .before .before .before .before .before .args .factors .now) (c .before .before .before .before .before .before .before .before .before .before .before .before .before .before .before .before .before .before .before .args .downs .now) (c .before .before .before .before .before .before .before .before .before .before .before .before .before .before .before .before .before .before .before .args .discounts .now) (c .before .before .before .before .before .before .before .before .before .before .before .before .before .before .before .before .before .before .before .args .prices .now) (c .before .before .before .before .before .before .before .before .before .before .before .before .before .before .before .before .before .before .before .args .amounts .now) (c .before .before .before .before .before .before .before .before .before .before .before .before .before .before .before .before .before .before .before .pre) (c .before .before .before .before .before .before .before .before .before .before .before .before .before .shape-of .result) (c .before .before .before .before .before .before .before .before .before .before .before .before .before .shape-of .ensures) _ (c .before .before .before .before .before .before .fit-row .ensures .0),
+  (
+    laws.shaped-filled (c .before .before .before .before .before .before .before .before .before .before .before .before .before .before .before .before .before .before .before .args .reversion) (c .before .before .before .before .before .before .before .before .before .before .before .before .before .before .before .before .before .before .before .args .steps) (c .before .before .before .before .before .before .before .before .before .before .before .before .before .before .before .before .before .before .before .args .row) (c .before .before .before .before .before .before .before .before .before .before .before .before .before .before .before .before .before .before .before .args .quote) (c .before .before .before .before .before .before .before .before .before .before .before .before .before .before .before .before .before .before .before .args .factors .now) (c .before .before .before .before .before .before .before .before .before .before .before .before .before .before .before .before .before .before .before .args .downs .now) (c .before .before .before .before .before .before .before .before .before .before .before .before .before .before .before .before .before .before .before .args .discounts .now) (c .before .before .before .before .before .before .before .before .before .before .before .before .before .before .before .before .before .before .before .args .prices .now) (c .before .before .before .before .before .before .before .before .before .before .before .before .before .before .before .before .before .before .before .args .amounts .now) (c .before .before .before .before .before .before .before .before .before .before .before .before .before .before .before .before .before .before .before .pre) (c .before .before .before .before .before .before .before .before .before .before .before .before .before .shape-of .result) (c .before .before .before .before .before .before .before .before .before .before .before .before .before .shape-of .ensures) _ (c .before .before .before .before .before .before .fit-row .ensures .1 .0),
+    laws.shaped-stepped (c .before .before .before .before .before .before .before .before .before .before .before .before .before .before .before .before .before .before .before .args .reversion) (c .before .before .before .before .before .before .before .before .before .before .before .before .before .before .before .before .before .before .before .args .steps) (c .before .before .before .before .before .before .before .before .before .before .before .before .before .before .before .before .before .before .before .args .row) (c .before .before .before .before .before .before .before .before .before .before .before .before .before .before .before .before .before .before .before .args .quote) (c .before .before .before .before .before .before .before .before .before .before .before .before .before .before .before .before .before .before .before .args .factors .now) (c .before .before .before .before .before .before .before .before .before .before .before .before .before .before .before .before .before .before .before .args .downs .now) (c .before .before .before .before .before .before .before .before .before .before .before .before .before .before .before .before .before .before .before .args .discounts .now) (c .before .before .before .before .before .before .before .before .before .before .before .before .before .before .before .before .before .before .before .args .prices .now) (c .before .before .before .before .before .before .before .before .before .before .before .before .before .before .before .before .before .before .before .args .amounts .now) (c .before .before .before .before .before .before .before .before .before .before .before .before .before .before .before .before .before .before .before .pre) (c .before .before .before .before .before .before .before .before .before .before .before .before .before .shape-of .result) (c .before .before .before .before .before .before .before .before .before .before .before .before .before .shape-of .ensures) (c .before .before .before .before .before .before .fit-row .result) _ (c .before .before .before .before .before .before .fit-row .ensures .1 .1),
+  ),
+)
 
 pub tree-row-spec : {M : Type 1} → statement M
 tree-row-spec =

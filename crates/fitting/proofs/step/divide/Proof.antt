@@ -40,10 +40,10 @@ loop-less c = omega (arith, c .before .before .loop .inv .1 .same)
 
 loop-again : tie.Need-loop-again Inv-loop μ-loop
 loop-again c = (
-      omega (arith, c .before .before .loop .inv .1 .same),
-      filled-next _ _ (λ j. values (c .before .before .before .args .next .now) j / 600000000) _ _ (c .before .before .loop .inv .1) (search needs)
-          (ap (λ (x : ℕ). x / 600000000) (c .before .before .loop .inv .1 .rest _ (le-refl _))),
-    )
+  omega (arith, c .before .before .loop .inv .1 .same),
+  filled-next _ _ (λ j. values (c .before .before .before .args .next .now) j / 600000000) _ _ (c .before .before .loop .inv .1) (search needs)
+      (ap (λ (x : ℕ). x / 600000000) (c .before .before .loop .inv .1 .rest _ (le-refl _))),
+)
 
 same-length : tie.Need-same-length Inv-loop μ-loop
 same-length c = c .before .loop .inv .1 .same

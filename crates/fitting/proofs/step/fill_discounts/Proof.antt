@@ -54,16 +54,16 @@ loop-less c = omega (arith, c .before .before .before .before .loop .inv .1 .sam
 
 loop-again : tie.Need-loop-again Inv-loop μ-loop
 loop-again c = (
-      omega (arith, c .before .before .before .before .loop .inv .1 .same),
-      filled-next _ _ (λ i. c .before .before .before .before .before .before .before .args .quote * values (c .before .before .before .before .before .before .before .args .factors .now) i / c .before .before .before .before .before .before .before .args .z) _ _ (c .before .before .before .before .loop .inv .1) (search needs) refl,
-      c .both .ensures ∙ laws.each-joined _ (λ i. accepted-discount (c .before .before .before .before .before .before .before .args .quote * values (c .before .before .before .before .before .before .before .args .factors .now) i / c .before .before .before .before .before .before .before .args .z)) _ _ (c .before .before .before .before .loop .inv .2) (c .before .is-accepted .ensures),
-    )
+  omega (arith, c .before .before .before .before .loop .inv .1 .same),
+  filled-next _ _ (λ i. c .before .before .before .before .before .before .before .args .quote * values (c .before .before .before .before .before .before .before .args .factors .now) i / c .before .before .before .before .before .before .before .args .z) _ _ (c .before .before .before .before .loop .inv .1) (search needs) refl,
+  c .both .ensures ∙ laws.each-joined _ (λ i. accepted-discount (c .before .before .before .before .before .before .before .args .quote * values (c .before .before .before .before .before .before .before .args .factors .now) i / c .before .before .before .before .before .before .before .args .z)) _ _ (c .before .before .before .before .loop .inv .2) (c .before .is-accepted .ensures),
+)
 
 same-length : tie.Need-same-length Inv-loop μ-loop
 same-length c = c .before .loop .inv .1 .same
 
 returns : tie.Need-returns Inv-loop μ-loop
-returns c = 
+returns c =
     let e : c .before .loop .k ≡ length (c .before .before .before .before .args .discounts .now) = omega (arith, c .before .loop .inv .1 .same) in (
       c .before .loop .inv .2 ∙ ap (λ (n : ℕ). each n (λ i. accepted-discount (c .before .before .before .before .args .quote * values (c .before .before .before .before .args .factors .now) i / c .before .before .before .before .args .z))) e,
       filled-all _ _ (λ i. c .before .before .before .before .args .quote * values (c .before .before .before .before .args .factors .now) i / c .before .before .before .before .args .z) _ (c .before .loop .inv .1) e,

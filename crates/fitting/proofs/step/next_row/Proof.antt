@@ -15,7 +15,7 @@ clear-requires : tie.Need-clear-requires
 clear-requires c κs = search needs
 
 spread-requires : tie.Need-spread-requires
-spread-requires c κs = 
+spread-requires c κs =
     rw (laws.cleared-length _ _ (c .before .before .before .clear .ensures))
     (c .before .before .before .before .before .before .before .before .pre .0, c .before .before .before .before .before .before .before .before .pre .1, c .before .before .before .before .before .before .before .before .pre .2, c .before .before .before .before .before .before .before .before .pre .3, c .before .before .before .clear .ensures)
 

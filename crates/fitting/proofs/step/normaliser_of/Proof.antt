@@ -51,7 +51,7 @@ loop-again c = (omega arith, laws.weighed-next _ _ _ (values (c .before .before 
 
 returns : tie.Need-returns Inv-loop μ-loop
 unfolding normaliser
-returns c = 
+returns c =
     let e : c .before .loop .k ≡ length (c .before .before .args .prices .now) = omega arith in
     ap (λ (x : ℕ). x / 1000000000) (c .before .loop .inv .1 ∙ ap (λ (n : ℕ). sum n (λ i. values (c .before .before .args .prices .now) i * values (c .before .before .args .factors .now) i)) e)
 

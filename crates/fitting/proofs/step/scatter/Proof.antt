@@ -26,7 +26,7 @@ mul-add-at-2 : tie.Need-mul-add-at-2
 mul-add-at-2 c = omega (arith, laws.product-small (c .before .before .before .before .before .before .args .middle) (c .before .before .before .before .before .before .args .amount) (omega (arith, c .before .before .before .before .before .before .pre .1)) (c .before .before .before .before .before .before .pre .2))
 
 add-at-requires-2 : tie.Need-add-at-requires-2
-add-at-requires-2 c κs = 
+add-at-requires-2 c κs =
     let i : c .before .before .before .before .before .before .args .low + 1 < length (c .before .before .before .before .before .before .args .next .now) = omega (arith, c .before .before .before .before .before .before .pre .0) in (
       omega (arith, added-length (c .before .before .before .before .before .before .args .next .now) (c .before .before .before .add-at .last .0) (c .before .before .before .before .before .before .args .low) (c .before .before .before .before .before .before .args .down * c .before .before .before .before .before .before .args .amount) (c .before .before .before .add-at .ensures)),
       omega (
@@ -46,7 +46,7 @@ mul-add-at-3 : tie.Need-mul-add-at-3
 mul-add-at-3 c = omega (arith, laws.product-small (c .before .before .before .before .before .before .before .before .before .before .args .up) (c .before .before .before .before .before .before .before .before .before .before .args .amount) (omega (arith, c .before .before .before .before .before .before .before .before .before .before .pre .1)) (c .before .before .before .before .before .before .before .before .before .before .pre .2))
 
 add-at-requires-3 : tie.Need-add-at-requires-3
-add-at-requires-3 c κs = 
+add-at-requires-3 c κs =
     let n₁ = added-length (c .before .before .before .before .before .before .before .before .before .before .args .next .now) (c .before .before .before .before .before .before .before .add-at .last .0) (c .before .before .before .before .before .before .before .before .before .before .args .low) (c .before .before .before .before .before .before .before .before .before .before .args .down * c .before .before .before .before .before .before .before .before .before .before .args .amount) (c .before .before .before .before .before .before .before .add-at .ensures) in
     let n₂ = added-length (c .before .before .before .before .before .before .before .add-at .last .0) (c .before .before .before .add-at2 .last .0) (c .before .before .before .before .before .before .before .before .before .before .args .low + 1) (c .before .before .before .before .before .before .before .before .before .before .args .middle * c .before .before .before .before .before .before .before .before .before .before .args .amount) (c .before .before .before .add-at2 .ensures) in
     let i : c .before .before .before .before .before .before .before .before .before .before .args .low + 2 < length (c .before .before .before .before .before .before .before .before .before .before .args .next .now) = omega (arith, c .before .before .before .before .before .before .before .before .before .before .pre .0) in
@@ -69,7 +69,7 @@ same-length : tie.Need-same-length
 same-length c = search needs
 
 returns : tie.Need-returns
-returns c = 
+returns c =
     added-thrice (c .before .before .before .before .before .before .before .before .before .before .before .before .before .args .next .now) (c .before .before .before .before .before .before .before .before .before .before .add-at .last .0) (c .before .before .before .before .before .before .add-at2 .last .0) (c .before .before .add-at3 .last .0) (c .before .before .before .before .before .before .before .before .before .before .before .before .before .args .low) (c .before .before .before .before .before .before .before .before .before .before .before .before .before .args .low + 1) (c .before .before .before .before .before .before .before .before .before .before .before .before .before .args .low + 2) (c .before .before .before .before .before .before .before .before .before .before .before .before .before .args .down * c .before .before .before .before .before .before .before .before .before .before .before .before .before .args .amount) (c .before .before .before .before .before .before .before .before .before .before .before .before .before .args .middle * c .before .before .before .before .before .before .before .before .before .before .before .before .before .args .amount)
     (c .before .before .before .before .before .before .before .before .before .before .before .before .before .args .up * c .before .before .before .before .before .before .before .before .before .before .before .before .before .args .amount) (c .before .before .before .before .before .before .before .before .before .before .add-at .ensures) (c .before .before .before .before .before .before .add-at2 .ensures) (c .before .before .add-at3 .ensures)
 

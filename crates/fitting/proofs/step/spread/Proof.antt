@@ -16,7 +16,7 @@ use Rattle.fitting.proofs.step.spread.Statement.{statement}
 use Rattle.fitting.proofs.step.spread.Tie as tie
 
 abbrev Inv-loop : tie.InvT-loop
-Inv-loop amounts downs next₀ count k₀ next k = 
+Inv-loop amounts downs next₀ count k₀ next k =
     (k ≤ length amounts) × (count ≡ length next₀) × (next ≡ row (length next₀) (incoming (row-transition downs (length next₀)) k (values amounts)))
 
 abbrev μ-loop : tie.MeasureT-loop
@@ -35,7 +35,7 @@ shared-slice-read-scatter : tie.Need-shared-slice-read-scatter Inv-loop μ-loop
 shared-slice-read-scatter c = search needs
 
 scatter-requires : tie.Need-scatter-requires Inv-loop μ-loop
-scatter-requires c κs = 
+scatter-requires c κs =
     let i : c .before .before .before .before .loop .k < length (c .before .before .before .before .before .before .before .before .args .amounts .now) = omega arith in
     let e : c .before .before .row-branch .result ≡ row-branch (c .before .before .before .before .before .before .before .before .args .downs .now) (length (c .before .before .before .before .before .before .before .before .args .next .now)) (c .before .before .before .before .loop .k) = c .before .before .row-branch .ensures in (
       rw (ap length (c .before .before .before .before .loop .inv .2) ∙ length-row (length (c .before .before .before .before .before .before .before .before .args .next .now)) _) (laws.branch-inside (c .before .before .before .before .before .before .before .before .args .downs .now) (length (c .before .before .before .before .before .before .before .before .args .next .now)) _ _ _ _ (c .before .before .before .before .before .before .before .before .pre .1) i e),
@@ -57,7 +57,7 @@ same-length : tie.Need-same-length Inv-loop μ-loop
 same-length c = ap length (c .before .loop .inv .2) ∙ length-row (length (c .before .before .before .before .before .args .next .now)) _
 
 returns : tie.Need-returns Inv-loop μ-loop
-returns c = 
+returns c =
     let e : c .before .loop .k ≡ length (c .before .before .before .before .before .args .amounts .now) = omega arith in
     c .before .loop .inv .2 ∙ ap (λ (n : ℕ). row (length (c .before .before .before .before .before .args .next .now)) (incoming (row-transition (c .before .before .before .before .before .args .downs .now) (length (c .before .before .before .before .before .args .next .now))) n (values (c .before .before .before .before .before .args .amounts .now)))) e
 

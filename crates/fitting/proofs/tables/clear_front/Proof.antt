@@ -24,7 +24,7 @@ same-length : tie.Need-same-length
 same-length c = search needs
 
 returns : tie.Need-returns
-returns c = 
+returns c =
     ap (λ (x : List ℕ). x ++ drop (c .before .before .before .before .before .args .count) (c .before .before .before .before .before .args .memory .now))
     (c .before .before .clear .ensures ∙ ap (λ (n : ℕ). row n (λ j. 0)) (length-take-le (c .before .before .before .before .before .args .count) (c .before .before .before .before .before .args .memory .now) (c .before .before .before .before .before .pre)))
 

@@ -28,7 +28,7 @@ same-length-3 : tie.Need-same-length-3
 same-length-3 c = search needs
 
 returns : tie.Need-returns
-returns c = 
+returns c =
     let w = c .before .before .before .before .before .before .before .fit-rows .ensures .1 .0 (c .if1 .taken) in
     (sym (c .if1 .taken) ∙ c .before .before .before .before .before .before .before .fit-rows .ensures .0, (w .0, w .1))
 
@@ -49,12 +49,12 @@ same-length-6 c = search needs
 
 returns-2 : tie.Need-returns-2
 returns-2 c = (
-      sym (c .before .before .before .before .before .before .before .before .if1 .left) ∙ c .before .before .before .before .before .before .before .before .before .before .before .before .before .before .before .fit-rows .ensures .0,
-      (
-        laws.wiped _ _ _ _ _ (laws.needed-discounts (c .before .before .before .before .before .before .before .before .before .before .before .before .before .before .before .before .before .before .before .before .before .before .before .before .before .before .before .args .reversion) (length (c .before .before .before .before .before .before .before .before .before .before .before .before .before .before .before .before .before .before .before .before .before .before .before .before .before .before .before .args .quotes .now)) _ (c .before .before .before .before .before .before .before .before .before .before .before .before .before .before .before .before .before .before .before .before .before .before .before .before .before .before .before .pre .0 .some) (c .before .before .before .before .before .before .before .before .before .before .before .before .before .before .before .before .before .before .before .before .before .before .before .before .before .before .before .pre .0 .few) (c .before .before .before .before .before .before .before .before .before .before .before .before .before .before .before .before .before .before .before .before .before .before .before .before .before .before .before .pre .0 .reverting) (c .before .before .before .before .before .before .before .before .before .before .before .before .before .before .before .before .before .before .before .before .discounts-needed .ensures)) (c .before .before .before .before .before .before .clear-front .ensures) (c .before .before .before .before .before .before .before .before .before .before .before .before .before .before .before .fit-rows .ensures .1 .1 .0),
-        laws.wiped _ _ _ _ _ (laws.needed-prices (c .before .before .before .before .before .before .before .before .before .before .before .before .before .before .before .before .before .before .before .before .before .before .before .before .before .before .before .args .reversion) (length (c .before .before .before .before .before .before .before .before .before .before .before .before .before .before .before .before .before .before .before .before .before .before .before .before .before .before .before .args .quotes .now)) _ (c .before .before .before .before .before .before .before .before .before .before .before .before .before .before .before .before .before .before .before .before .before .before .before .before .before .before .before .pre .0 .some) (c .before .before .before .before .before .before .before .before .before .before .before .before .before .before .before .before .before .before .before .before .before .before .before .before .before .before .before .pre .0 .few) (c .before .before .before .before .before .before .before .before .before .before .before .before .before .before .before .before .before .before .before .before .before .before .before .before .before .before .before .pre .0 .reverting) (c .before .before .before .before .before .before .before .before .before .before .before .before .before .before .before .before .before .before .before .state-prices-needed .ensures)) (c .before .before .clear-front2 .ensures) (c .before .before .before .before .before .before .before .before .before .before .before .before .before .before .before .fit-rows .ensures .1 .1 .1),
-      ),
-    )
+  sym (c .before .before .before .before .before .before .before .before .if1 .left) ∙ c .before .before .before .before .before .before .before .before .before .before .before .before .before .before .before .fit-rows .ensures .0,
+  (
+    laws.wiped _ _ _ _ _ (laws.needed-discounts (c .before .before .before .before .before .before .before .before .before .before .before .before .before .before .before .before .before .before .before .before .before .before .before .before .before .before .before .args .reversion) (length (c .before .before .before .before .before .before .before .before .before .before .before .before .before .before .before .before .before .before .before .before .before .before .before .before .before .before .before .args .quotes .now)) _ (c .before .before .before .before .before .before .before .before .before .before .before .before .before .before .before .before .before .before .before .before .before .before .before .before .before .before .before .pre .0 .some) (c .before .before .before .before .before .before .before .before .before .before .before .before .before .before .before .before .before .before .before .before .before .before .before .before .before .before .before .pre .0 .few) (c .before .before .before .before .before .before .before .before .before .before .before .before .before .before .before .before .before .before .before .before .before .before .before .before .before .before .before .pre .0 .reverting) (c .before .before .before .before .before .before .before .before .before .before .before .before .before .before .before .before .before .before .before .before .discounts-needed .ensures)) (c .before .before .before .before .before .before .clear-front .ensures) (c .before .before .before .before .before .before .before .before .before .before .before .before .before .before .before .fit-rows .ensures .1 .1 .0),
+    laws.wiped _ _ _ _ _ (laws.needed-prices (c .before .before .before .before .before .before .before .before .before .before .before .before .before .before .before .before .before .before .before .before .before .before .before .before .before .before .before .args .reversion) (length (c .before .before .before .before .before .before .before .before .before .before .before .before .before .before .before .before .before .before .before .before .before .before .before .before .before .before .before .args .quotes .now)) _ (c .before .before .before .before .before .before .before .before .before .before .before .before .before .before .before .before .before .before .before .before .before .before .before .before .before .before .before .pre .0 .some) (c .before .before .before .before .before .before .before .before .before .before .before .before .before .before .before .before .before .before .before .before .before .before .before .before .before .before .before .pre .0 .few) (c .before .before .before .before .before .before .before .before .before .before .before .before .before .before .before .before .before .before .before .before .before .before .before .before .before .before .before .pre .0 .reverting) (c .before .before .before .before .before .before .before .before .before .before .before .before .before .before .before .before .before .before .before .state-prices-needed .ensures)) (c .before .before .clear-front2 .ensures) (c .before .before .before .before .before .before .before .before .before .before .before .before .before .before .before .fit-rows .ensures .1 .1 .1),
+  ),
+)
 
 pub fit-or-clear-spec : {M : Type 1} → statement M
 fit-or-clear-spec =

@@ -1,0 +1,82 @@
+// The causes 2 to 8 of a fit.
+ghost use mathlib.Core.Path.{_≡_};
+ghost use mathlib.Core.Bool.{cond};
+ghost use Prim.Native.Nat.{ℕ, _-_, _*_, _≤_, _<_};
+ghost use lib.Dec.{eqb, leb, ltb};
+ghost use Rattle.lattice.specs.Entries.{discountsNeeded, statePricesNeeded};
+ghost use Rattle.fitting.specs.Entry.{lowest-cause, memory-cause};
+ghost use Rattle.fitting.specs.Plans.{Planned};
+
+// What a fit needs to know of its numbers, or the number of a cause.
+pub(crate) struct Plan {
+    pub(crate) number: u64,
+    pub(crate) spacing: u64,
+    pub(crate) widest: usize,
+}
+
+fn lowest(a: u64, b: u64) -> u64
+    ensures { λ r. ⌜ r ≡ lowest-cause a b ⌝ }
+{
+    if a == 0 {
+        return b;
+    }
+    if b == 0 {
+        return a;
+    }
+    if a < b { a } else { b }
+}
+
+fn memory_of(steps: usize, reversion: u64, discounts: usize, prices: usize) -> u64
+    ensures { λ r. ⌜ r ≡ memory-cause steps reversion discounts prices ⌝ }
+{
+    let needed = lattice::discounts_needed(steps, reversion);
+    let all = lattice::state_prices_needed(steps, reversion);
+    if (discounts as u64) < needed.value {
+        return 6;
+    }
+    if (prices as u64) < all.value {
+        return 6;
+    }
+    0
+}
+
+// `converted` is the number of the quotes' conversion.
+pub(crate) fn plan_of(
+    frequency: u64,
+    steps: usize,
+    reversion: u64,
+    volatility: u64,
+    converted: u64,
+    discounts: usize,
+    prices: usize,
+) -> Plan
+    ensures { λ r. ⌜ Planned frequency steps reversion volatility converted discounts prices r ⌝ }
+{
+    let tree = lattice::discounts_needed(steps, reversion);
+    let spaced = spacing::spacing(frequency, volatility);
+    let memory = memory_of(steps, reversion, discounts, prices);
+    let early = lowest(
+        lowest(converted, tree.number),
+        lowest(spaced.number, memory),
+    );
+    if early != 0 {
+        return Plan {
+            number: early,
+            spacing: 0,
+            widest: 0,
+        };
+    }
+    let widest = lattice::half_width(reversion, steps - 1);
+    if 1_000_000_000 < widest.value * spaced.value {
+        return Plan {
+            number: 8,
+            spacing: 0,
+            widest: 0,
+        };
+    }
+    Plan {
+        number: 0,
+        spacing: spaced.value,
+        widest: widest.value as usize,
+    }
+}
