@@ -11,7 +11,7 @@ use Rattle.tree.specs.Tree.{Tree, Sound, outgoing, whole, unit}
 use Rattle.tree.proofs.StepLaws.{outgoing-cong}
 use Rattle.pricing_laws.specs.Pricer.{bond, Side, Schedule, option}
 use Rattle.pricing_laws.specs.Schedule.{side-of, schedule-of}
-use Rattle.pricing_laws.specs.TreePricer.{roll-rounding, roll-loss, roll, exact-roll, engine, exact, greatest-discount, price-error-bound}
+use Rattle.pricing_laws.specs.TreePricer.{roll-rounding, roll-loss, node-roll, roll, exact-roll, engine, exact, greatest-discount, price-error-bound}
 use Rattle.pricing_laws.proofs.Near.{Near, near-average, near-discount}
 use Rattle.pricing_laws.proofs.Accuracy.{Within, Close, bond-within, option-within, bond-below, loss-a-step}
 use Rattle.pricing_laws.proofs.Recurrences.{schedule-last}
@@ -37,7 +37,7 @@ pub roll-close :
     (divide : ℕ → ℕ → ℕ) (over under : ℕ) → Rounds divide over under → (t : Tree) → Sound t → (discount : ℕ → ℕ → ℕ) (n : ℕ) →
     Close n unit (On t) (roll t discount divide) (exact-roll t discount) (greatest-discount t discount)
     (cost over (greatest-discount t discount)) (cost under (greatest-discount t discount))
-unfolding roll exact-roll greatest-discount
+unfolding roll node-roll exact-roll greatest-discount
 roll-close divide over under rounds t sound discount n =
     record {
       roll-near = λ i hi v x l u l' u' M hl hu near k hk.
@@ -52,7 +52,7 @@ roll-close divide over under rounds t sound discount n =
 pub roll-same :
     (t : Tree) → Sound t → (discount : ℕ → ℕ → ℕ) (divide : ℕ → ℕ → ℕ) (i : ℕ) (v w : ℕ → ℕ) → ((j : ℕ) → j < t .nodes (suc i) → v j ≡ w j) →
     (k : ℕ) → k < t .nodes i → roll t discount divide i v k ≡ roll t discount divide i w k
-unfolding roll
+unfolding roll node-roll
 roll-same t sound discount divide i v w h k hk =
     rw (outgoing-cong (t .step i) (t .nodes i) (t .nodes (suc i)) (sound .inside i) v w k hk h)
 

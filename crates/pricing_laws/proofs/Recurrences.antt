@@ -10,7 +10,7 @@ use Rattle.arithmetic.specs.Rounding.{one, down, up}
 use Rattle.tree.specs.Tree.{Tree, outgoing, whole, unit}
 use Rattle.pricing_laws.specs.Pricer.{Pricer, bond-from, bare-bond-from, bond, bare-bond, Side, call, put, exercise, exercise-row, Schedule, held-or-exercised, option-from, option, error-bound-from, error-bound, payoff-value}
 use Rattle.pricing_laws.specs.Schedule.{european, american, side-of, schedule-of}
-use Rattle.pricing_laws.specs.TreePricer.{roll, exact-roll, engine, exact, greatest-discount, price-error-bound}
+use Rattle.pricing_laws.specs.TreePricer.{node-roll, roll, exact-roll, engine, exact, greatest-discount, price-error-bound}
 
 module _ {Node : Type 0} (p : Pricer Node) (flow : ℕ → ℕ) (n : ℕ) where
   -- row n is its flow
@@ -81,7 +81,7 @@ module _ (t : Tree) (discount : ℕ → ℕ → ℕ) (flow : ℕ → ℕ) (n : �
       (i : ℕ) → i < n → (k : ℕ) →
       bond (engine t discount) flow n i k
       ≡ outgoing (t .step i) (bond (engine t discount) flow n (suc i)) k / 600000000 * discount i k / one + flow i
-  unfolding roll down
+  unfolding roll node-roll down
   engine-bond-before i h k = bond-before (engine t discount) flow n i h k
 
   module _ (side : Side) (strike expiry : ℕ) where
@@ -95,7 +95,7 @@ module _ (t : Tree) (discount : ℕ → ℕ → ℕ) (flow : ℕ → ℕ) (n : �
         (i : ℕ) → i < expiry → (k : ℕ) →
         option (engine t discount) flow n side strike (european expiry) i k
         ≡ outgoing (t .step i) (option (engine t discount) flow n side strike (european expiry) (suc i)) k / 600000000 * discount i k / one
-    unfolding european held-or-exercised roll down
+    unfolding european held-or-exercised roll node-roll down
     engine-european-before i h k = option-before (engine t discount) flow n side strike (european expiry) i h k
 
     pub engine-american-before :
@@ -103,7 +103,7 @@ module _ (t : Tree) (discount : ℕ → ℕ → ℕ) (flow : ℕ → ℕ) (n : �
         option (engine t discount) flow n side strike (american expiry) i k
         ≡ max (outgoing (t .step i) (option (engine t discount) flow n side strike (american expiry) (suc i)) k / 600000000 * discount i k / one)
         (exercise side strike (bond (engine t discount) flow n i k))
-    unfolding american held-or-exercised roll down exercise-row
+    unfolding american held-or-exercised roll node-roll down exercise-row
     engine-american-before i h k = option-before (engine t discount) flow n side strike (american expiry) i h k
 
 -- The exact pricer: sum of probability × value, divided by 600,000,000, times discount, divided by one. Row i is held times m^(n - i).

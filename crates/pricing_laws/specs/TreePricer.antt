@@ -3,7 +3,7 @@
 use Prim.Native.Nat.{ℕ, _*_}
 use Rattle.arithmetic.specs.Rounding.{one, down}
 use Rattle.arithmetic.specs.Sum.{greatest}
-use Rattle.tree.specs.Tree.{Tree, outgoing, whole, unit}
+use Rattle.tree.specs.Tree.{Tree, Transition, outgoing, whole, unit}
 use Rattle.pricing_laws.specs.Pricer.{Pricer, rounded, fractions, error-bound}
 
 -- the rounding of both divisions of a roll: down
@@ -14,10 +14,14 @@ roll-rounding = down
 abbrev pub roll-loss : ℕ
 roll-loss = 3
 
+-- the roll of a node: the sum of probability × later value, divided by 600,000,000; then × discount, divided by one
+unfoldable pub node-roll : (ℕ → ℕ → ℕ) → Transition → (ℕ → ℕ) → ℕ → ℕ → ℕ
+node-roll divide step later discount k = divide (divide (outgoing step later k) whole * discount) one
+
 module _ (t : Tree) (discount : ℕ → ℕ → ℕ) where
-  -- the sum of probability × later value, divided by 600,000,000; then × discount, divided by one
+  -- the roll from row i + 1 to row i
   unfoldable pub roll : (ℕ → ℕ → ℕ) → ℕ → (ℕ → ℕ) → ℕ → ℕ
-  roll divide i v k = divide (divide (outgoing (t .step i) v k) whole * discount i k) one
+  roll divide i v k = node-roll divide (t .step i) v (discount i k) k
 
   -- the same in exact fractions, times unit
   unfoldable pub exact-roll : ℕ → (ℕ → ℕ) → ℕ → ℕ

@@ -1,0 +1,3 @@
+pub mod Option
+pub mod Entry
+pub mod Rows
