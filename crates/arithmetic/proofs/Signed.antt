@@ -61,8 +61,12 @@ pub is-whole : (z : ℤ) → ltZ z (pos 0) ≡ false → T (nonNeg z)
 is-whole (pos n) h = tt
 is-whole (negsuc n) h = let e : _≡_ {A = ℕ} 0 1 = cc in absurd (different e)
 
+pub not-negative : (z : ℤ) → ltZ z (pos 0) ≡ false → z ≡ pos (natAbs z)
+not-negative (pos n) h = refl
+not-negative (negsuc n) h = cc
+
 -- a negated number below zero is its size
-negated : (z : ℤ) → ltZ z (pos 0) ≡ true → pos 0 -ℤ z ≡ pos (natAbs z)
+pub negated : (z : ℤ) → ltZ z (pos 0) ≡ true → pos 0 -ℤ z ≡ pos (natAbs z)
 negated (pos n) h = absurd (below-zero n (ltb-true n 0 h))
 negated (negsuc n) h = +ℤ-idl (pos (suc n))
 

@@ -1,0 +1,8 @@
+pub mod Sizes
+pub mod Formulas
+pub mod Nodes
+pub mod Differences
+pub mod RateTreeLaws
+pub mod EntryLaws
+pub mod BranchLaws
+pub mod TableLaws

@@ -1,0 +1,27 @@
+-- `lattice::discounts_needed` meets its contract.
+-- Assumes nothing.
+use Rattle.lattice.specs.Shape.{half-width, node-count, row-start, discounts-needed, state-prices-needed}
+use Prim.Native.Nat.{ℕ}
+use mathlib.Core.Path.{refl, sym, ap, _∙_}
+use native.Mathlib.Omega.{arith}
+use Rattle.lattice.proofs.EntryLaws as entry
+use borrow.Author.Needs.{needs}
+use Rattle.lattice.proofs.discounts_needed.Statement.{statement}
+use Rattle.lattice.proofs.discounts_needed.Tie as tie
+
+clipped-requires : tie.Need-clipped-requires
+clipped-requires c κs = search needs
+
+row-start-of-requires : tie.Need-row-start-of-requires
+row-start-of-requires c κs = search needs
+
+about-tree-requires : tie.Need-about-tree-requires
+about-tree-requires c κs = search needs
+
+returns : tie.Need-returns
+unfolding discounts-needed
+returns c = c .about-tree .ensures ∙ entry.tree-answer _ _ (λ (n : ℕ). discounts-needed n (c .before .before .before .args .reversion)) _ _ (c .before .before .clipped .ensures) (c .before .row-start-of .ensures)
+
+pub discounts-needed-spec : {M : Type 1} → statement M
+discounts-needed-spec =
+    tie.close (tie.spec clipped-requires row-start-of-requires about-tree-requires returns)

@@ -1,0 +1,25 @@
+-- `lattice::half_width` meets its contract.
+-- Assumes nothing.
+use Rattle.lattice.specs.Shape.{half-width, node-count, row-start, discounts-needed, state-prices-needed}
+use mathlib.Core.Path.{refl, sym, ap, _∙_}
+use native.Mathlib.Omega.{arith}
+use Rattle.lattice.proofs.EntryLaws as entry
+use borrow.Author.Needs.{needs}
+use Rattle.lattice.proofs.half_width.Statement.{statement}
+use Rattle.lattice.proofs.half_width.Tie as tie
+
+clipped-requires : tie.Need-clipped-requires
+clipped-requires c κs = search needs
+
+half-width-of-requires : tie.Need-half-width-of-requires
+half-width-of-requires c κs = search needs
+
+about-row-requires : tie.Need-about-row-requires
+about-row-requires c κs = search needs
+
+returns : tie.Need-returns
+returns c = c .about-row .ensures ∙ entry.row-answer _ _ (half-width _) _ _ (c .before .before .clipped .ensures) (c .before .half-width-of .ensures)
+
+pub half-width-spec : {M : Type 1} → statement M
+half-width-spec =
+    tie.close (tie.spec clipped-requires half-width-of-requires about-row-requires returns)

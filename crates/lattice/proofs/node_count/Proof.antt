@@ -1,0 +1,44 @@
+-- `lattice::node_count` meets its contract.
+-- Assumes nothing.
+use Rattle.lattice.specs.Shape.{half-width, node-count, row-start, discounts-needed, state-prices-needed}
+use Prim.Native.Nat.{ℕ, _+_, _*_, _≤_}
+use Rattle.lattice.proofs.Sizes.{half-within}
+use mathlib.Core.Path.{refl, sym, ap, _∙_}
+use native.Mathlib.Omega.{arith}
+use Rattle.lattice.proofs.EntryLaws as entry
+use borrow.Author.Needs.{needs}
+use Rattle.lattice.proofs.node_count.Statement.{statement}
+use Rattle.lattice.proofs.node_count.Tie as tie
+
+small : (c : tie.After-half-width-of) → c .half-width-of .result ≤ 60
+small c = omega (arith, half-within (c .before .before .args .reversion) (c .before .clipped .result))
+
+clipped-requires : tie.Need-clipped-requires
+clipped-requires c κs = search needs
+
+half-width-of-requires : tie.Need-half-width-of-requires
+half-width-of-requires c κs = search needs
+
+mul-about-row : tie.Need-mul-about-row
+mul-about-row c = omega (arith, small c)
+
+add-about-row : tie.Need-add-about-row
+add-about-row c = omega (arith, small c)
+
+about-row-requires : tie.Need-about-row-requires
+about-row-requires c κs = search needs
+
+returns : tie.Need-returns
+unfolding node-count
+returns c = c .about-row .ensures ∙ entry.row-answer _ _ (node-count _) _ _ (c .before .before .clipped .ensures) (ap (λ (x : ℕ). 2 * x + 1) (c .before .half-width-of .ensures))
+
+pub node-count-spec : {M : Type 1} → statement M
+node-count-spec =
+    tie.close
+    (tie.spec
+    clipped-requires
+    half-width-of-requires
+    mul-about-row
+    add-about-row
+    about-row-requires
+    returns)

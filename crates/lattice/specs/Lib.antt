@@ -1,0 +1,4 @@
+pub mod Shape
+pub mod Branching
+pub mod RateTree
+pub mod Entries
