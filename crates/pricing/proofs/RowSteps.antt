@@ -15,7 +15,7 @@ use Rattle.tree.specs.Tree.{whole}
 use Rattle.pricing_laws.specs.Pricer.{exercise, held-or-exercised}
 use Rattle.pricing.specs.declared.rows.Branch.{Branch}
 use Rattle.pricing.specs.declared.values.Terms.{Terms}
-use Rattle.pricing.specs.Option.{side}
+use Rattle.pricing.specs.Terms.{side}
 use Rattle.pricing.specs.Rows.{lowest, opposite, branch-at, branch-roll, rolled-row, bond-values, option-values, Rollable, Limited, Later, Holds}
 
 -- where a branch leads, by the tests that the code makes

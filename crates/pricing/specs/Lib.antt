@@ -1,3 +1,4 @@
-pub mod Option
-pub mod Entry
+pub mod Prices
+pub mod Terms
 pub mod Rows
+pub mod Trees

@@ -13,7 +13,7 @@ use Rattle.pricing_laws.specs.Pricer.{Side, exercise, held-or-exercised}
 use Rattle.pricing_laws.specs.TreePricer.{roll-rounding}
 use Rattle.pricing.specs.declared.rows.Branch.{Branch}
 use Rattle.pricing.specs.declared.values.Terms.{Terms}
-use Rattle.pricing.specs.Option.{side}
+use Rattle.pricing.specs.Terms.{side}
 
 -- the lowest node that node k of a row of count nodes leads to, in a row of next nodes: the row grows, or its edges branch inwards
 unfoldable pub lowest : ℕ → ℕ → ℕ → ℕ

@@ -6,7 +6,7 @@ ghost use Prim.Native.Nat.{ℕ, _+_, _-_, _*_, _<_, _≤_, max};
 ghost use lib.ListN.{length};
 ghost use Rattle.arithmetic.specs.Row.{values};
 ghost use Rattle.pricing_laws.specs.Pricer.{exercise};
-ghost use Rattle.pricing.specs.Option.{side};
+ghost use Rattle.pricing.specs.Terms.{side};
 ghost use Rattle.arithmetic.specs.Sum.{greatest};
 ghost use Rattle.pricing.specs.Rows.{
   lowest,

@@ -3,13 +3,24 @@ ghost use mathlib.Core.Path.{_≡_};
 ghost use mathlib.Core.Bool.{Bool, true, false};
 ghost use Prim.Native.Nat.{ℕ, _-_, max};
 ghost use Rattle.pricing_laws.specs.Pricer.{exercise, held-or-exercised};
-ghost use Rattle.pricing.specs.Option.{side};
+ghost use Rattle.pricing.specs.Terms.{side, terms-of};
 
 // An option's side and strike, and whether rows before expiry are listed for exercise.
 pub(crate) struct Terms {
     pub(crate) call: bool,
     pub(crate) listed: bool,
     pub(crate) strike: u64,
+}
+
+// The terms of a kind: 1 European call, 2 European put, 3 American call, 4 American put.
+pub(crate) fn terms_of(kind: u64, strike: u64) -> Terms
+    ensures { λ r. ⌜ r ≡ terms-of kind strike ⌝ }
+{
+    Terms {
+        call: kind == 1 || kind == 3,
+        listed: 2 < kind,
+        strike,
+    }
 }
 
 // The difference, or 0 where it would be below 0.

@@ -1,20 +1,24 @@
 -- The engine's prices against the exact ones, on every sound tree with discounts of at most 1,100,000,000.
 -- Assumes nothing.
 use mathlib.Core.Path.{_≡_, sym}
-use Prim.Native.Nat.{ℕ, suc, _+_, _*_, _^_, _≤_, _<_}
-use native.Mathlib.Nat.{mul-assoc, mul-le-mul-right}
+use Prim.Native.Nat.{ℕ, zero, suc, _+_, _-_, _*_, _/_, _^_, _≤_, _<_}
+use native.Mathlib.Nat.{mul-assoc, mul-le-mul-right, le-refl}
 use native.Mathlib.Omega.{arith}
-use Rattle.arithmetic.specs.Rounding.{one, Rounds}
+use native.Mathlib.Decide.{le-ind}
+use lib.Dec.{lit≤}
+use Rattle.arithmetic.specs.Rounding.{one, up, Rounds}
+use Rattle.arithmetic.specs.Sum.{greatest}
 use Rattle.arithmetic.proofs.RoundingLaws.{down-rounds}
-use Rattle.arithmetic.proofs.SumLaws.{greatest-ge, greatest-le}
+use Rattle.arithmetic.proofs.SumLaws.{greatest-ge, greatest-le, greatest-cong}
 use Rattle.tree.specs.Tree.{Tree, Sound, outgoing, whole, unit}
 use Rattle.tree.proofs.StepLaws.{outgoing-cong}
-use Rattle.pricing_laws.specs.Pricer.{bond, Side, Schedule, option}
+use Rattle.pricing_laws.specs.Pricer.{bond, Side, Schedule, option, error-bound-from, error-bound}
 use Rattle.pricing_laws.specs.Schedule.{side-of, schedule-of}
 use Rattle.pricing_laws.specs.TreePricer.{roll-rounding, roll-loss, node-roll, roll, exact-roll, engine, exact, greatest-discount, price-error-bound}
 use Rattle.pricing_laws.proofs.Near.{Near, near-average, near-discount}
 use Rattle.pricing_laws.proofs.Accuracy.{Within, Close, bond-within, option-within, bond-below, loss-a-step}
 use Rattle.pricing_laws.proofs.Recurrences.{schedule-last}
+use Rattle.pricing_laws.proofs.Backward.{Greatest, Local}
 
 -- node k is one of row i
 abbrev pub On : Tree → ℕ → ℕ → Type 0
@@ -97,6 +101,48 @@ module _ (t : Tree) (sound : Sound t) (discount : ℕ → ℕ → ℕ) (n : ℕ)
       (option (engine t discount) flow n (side-of kind) strike (schedule-of kind expiry) 0 0)
       (option (exact t discount) flow n (side-of kind) strike (schedule-of kind expiry) 0 0)
   kind-accurate kind expiry strike h = option-accurate (side-of kind) strike (schedule-of kind expiry) (omega (arith, schedule-last kind expiry))
+
+-- what the laws of a walk back use: the greatest value of a row, and that a roll is local
+pub row-greatest : (t : Tree) → Greatest (On t) (λ i v. greatest (t .nodes i) v)
+row-greatest t =
+    record {
+      at-most = λ i v k hk. greatest-ge (t .nodes i) v k hk;
+      bounded = λ i v g h. greatest-le (t .nodes i) v g h;
+      same = λ i v w h. greatest-cong (t .nodes i) v w h;
+    }
+
+pub roll-local : (t : Tree) → Sound t → (discount : ℕ → ℕ → ℕ) (divide : ℕ → ℕ → ℕ) → Local (On t) (roll t discount divide)
+roll-local t sound discount divide = record { roll-same = λ i v w h k hk. roll-same t sound discount divide i v w h k hk }
+
+-- at most so much over s rows, where no discount is above 1,100,000,000
+ceiling : ℕ → ℕ
+ceiling zero = 0
+ceiling (suc s) = 11 * ceiling s / 10 + 5
+
+ceiling-60 : ceiling 60 ≤ 1000000
+unfolding ceiling
+ceiling-60 = lit≤ tt
+
+ceiling-grows : (s r : ℕ) → s ≤ r → ceiling s ≤ ceiling r
+unfolding ceiling
+ceiling-grows s r h = le-ind (λ (m : ℕ). ceiling s ≤ ceiling m) (le-refl (ceiling s)) (λ m _ p. omega arith) r h
+
+ceiling-step : (g a c : ℕ) → g ≤ 1100000000 → a ≤ c → up (g * a) one + 3 ≤ 11 * c / 10 + 5
+unfolding up
+ceiling-step g a c hg ha = omega (arith, mul-le-mul-right a hg)
+
+module _ (t : Tree) (discount : ℕ → ℕ → ℕ) (n : ℕ) (hd : Discounts-at-most 1100000000 t discount n) where
+  bound-ceiling : (s i : ℕ) → i + s ≡ n → error-bound-from roll-loss (greatest-discount t discount) s i ≤ ceiling s
+  unfolding error-bound-from ceiling greatest-discount
+  bound-ceiling zero i e = omega arith
+  bound-ceiling (suc s) i e =
+      ceiling-step _ _ _ (greatest-le (t .nodes i) (discount i) 1100000000 (λ k l. hd i k (omega arith) l)) (bound-ceiling s (suc i) (omega arith))
+
+  -- the error bound of every row of at most 60 steps is small
+  pub error-bound-small : n ≤ 60 → (i : ℕ) → i ≤ n → price-error-bound t discount n i ≤ 1000000
+  unfolding error-bound
+  error-bound-small few i h =
+      omega (arith, bound-ceiling (n - i) i (omega arith), ceiling-grows (n - i) 60 (omega arith), ceiling-60)
 
 -- where no discount is above one: at most 3 a step
 pub error-bound-a-step :

@@ -7,7 +7,7 @@ use native.Mathlib.Omega.{arith}
 use lib.ListN.{length}
 use Rattle.arithmetic.specs.Row.{values, each}
 use Rattle.arithmetic.proofs.RowLaws.{each-none, each-more, each-fails}
-use Rattle.pricing.specs.Entry.{between}
+use Rattle.pricing.specs.Prices.{between}
 use Rattle.pricing.proofs.CheckLaws.{between-holds, between-below, between-above}
 use Rattle.pricing.proofs.causes.all_between.Statement.{statement}
 use Rattle.pricing.proofs.causes.all_between.Tie as tie

@@ -7,7 +7,7 @@ use lib.ListN.{length}
 use Rattle.arithmetic.specs.Row.{values}
 use Rattle.arithmetic.proofs.RowLaws.{Filled, filled-start, filled-next}
 use Rattle.pricing_laws.specs.Pricer.{exercise}
-use Rattle.pricing.specs.Option.{side}
+use Rattle.pricing.specs.Terms.{side}
 use borrow.Author.Needs.{needs}
 use Rattle.pricing.proofs.rows.exercise_row.Statement.{statement}
 use Rattle.pricing.proofs.rows.exercise_row.Tie as tie
