@@ -66,7 +66,7 @@ same-length-8 c = search needs
 returns-2 : tie.Need-returns-2
 returns-2 c =
     let s = c .before .before .before .before .before .before .before .before .before .before .before .before .before .before .before .before .before .before .before .before .before .before .before .before .before .before .before .before .before .before .before .before .before .before .before .before in
-    c .refused2 .ensures ∙ option-refused-price _ _ _ _ (s .args .kind) (s .args .expiry) (s .args .strike) _ (c .before .before .before .before .before .before .before .before .before .before .roll-option .last .1 .1 .1 .1 .1 .1 .1 .1 .1 .0) (c .before .before .before .before .before .before .before .before .before .before .roll-option .ensures) (c .before .if2 .taken)
+    c .refused2 .ensures ∙ option-refused-price _ _ _ _ (s .args .kind) (s .args .expiry) (s .args .strike) (c .before .before .before .before .before .before .before .before .before .before .roll-option .result) (c .before .before .before .before .before .before .before .before .before .before .roll-option .last .1 .1 .1 .1 .1 .1 .1 .1 .1 .0) (c .before .before .before .before .before .before .before .before .before .before .roll-option .ensures) (c .before .if2 .taken)
 
 slice-read-t36 : tie.Need-slice-read-t36
 slice-read-t36 c = omega (arith, c .before .before .before .before .before .before .before .before .before .before .roll-option .kept .1 .1 .1 .1 .1 .1 .1 .1 .1 .0, c .before .before .before .before .before .before .before .before .before .before .before .before .before .before .before .before .before .before .before .before .before .before .before .before .before .before .before .before .before .before .before .before .before .before .before .before .pre .6)
@@ -92,7 +92,7 @@ same-length-13 c = search needs
 returns-3 : tie.Need-returns-3
 returns-3 c =
     let s = c .before .before .before .before .before .before .before .before .before .before .before .before .before .before .before .before .before .before .before .before .before .before .before .before .before .before .before .before .before .before .before .before .before .before .before .before .before in
-    option-given-price _ _ _ _ (s .args .kind) (s .args .expiry) (s .args .strike) _ _ (c .before .before .before .before .before .before .before .before .before .before .before .roll-option .last .1 .1 .1 .1 .1 .1 .1 .1 .1 .0) (c .before .before .before .before .before .before .before .before .before .before .before .roll-option .ensures) (c .before .before .if2 .left) (c .error-bound .ensures)
+    option-given-price _ _ _ _ (s .args .kind) (s .args .expiry) (s .args .strike) (c .before .before .before .before .before .before .before .before .before .before .before .roll-option .result) _ (c .before .before .before .before .before .before .before .before .before .before .before .roll-option .last .1 .1 .1 .1 .1 .1 .1 .1 .1 .0) (c .before .before .before .before .before .before .before .before .before .before .before .roll-option .ensures) (c .before .before .if2 .left) (c .error-bound .ensures)
 
 pub priced-option-spec : {M : Type 1} → statement M
 priced-option-spec =
