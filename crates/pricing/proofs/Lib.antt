@@ -1,0 +1,9 @@
+pub mod NodeLaws
+pub mod CheckLaws
+pub mod RowSteps
+pub mod TreeRows
+pub mod StepParts
+pub mod WalkStates
+pub mod WalkTurns
+pub mod EntryLaws
+pub mod Accuracy

@@ -1,0 +1,214 @@
+-- The rows of an accepted tree, as parts of the lent discounts and of the table of down-probabilities.
+-- Assumes nothing.
+use mathlib.Core.Path.{_≡_, refl, sym, ap, ap₂, _∙_}
+use mathlib.Core.List.{List}
+use Prim.Native.Nat.{ℕ, zero, suc, _+_, _-_, _*_, _/_, _≤_, _<_, max}
+use native.Mathlib.Nat.{le-refl}
+use native.Mathlib.Omega.{arith}
+use lib.ListN.{length, take, drop, length-take, length-drop}
+use lib.Seq.{getD-take, getD-drop}
+use Rattle.arithmetic.specs.Row.{row, values}
+use Rattle.arithmetic.specs.Sum.{greatest}
+use Rattle.arithmetic.proofs.SumLaws.{greatest-cong}
+use Rattle.arithmetic.specs.Answers.{answered}
+use Rattle.arithmetic.specs.declared.Answer.{Answer}
+use Rattle.arithmetic.proofs.Numbers.{by-order, by-equal}
+use Rattle.arithmetic.proofs.RowLaws.{length-row, values-row}
+use Rattle.tree.specs.Tree.{whole, outgoing}
+use Rattle.lattice.specs.Shape.{half-width, node-count, row-start}
+use Rattle.lattice.specs.Branching.{up, middle, down}
+use Rattle.lattice.specs.RateTree.{node-at, node, low, rate-tree}
+use Rattle.lattice.specs.Entries.{about-row}
+use Rattle.lattice.proofs.Sizes.{half-within, half-grows, half-next, row-within, within-row, row-ends}
+use Rattle.lattice.proofs.EntryLaws.{row-found}
+use Rattle.lattice.proofs.RateTreeLaws.{low-within, low-growing, low-lowest, low-highest, low-inner, index-laws}
+use Rattle.lattice.proofs.TableLaws.{down-from-table, up-from-table, middle-is-rest}
+use Rattle.pricing_laws.specs.Pricer.{exercise, held-or-exercised}
+use Rattle.pricing_laws.specs.TreePricer.{roll-rounding, node-roll, roll, greatest-discount}
+use Rattle.pricing.specs.declared.values.Terms.{Terms}
+use Rattle.pricing.specs.Terms.{side}
+use Rattle.pricing.specs.declared.rows.Branch.{Branch}
+use Rattle.pricing.specs.declared.walk.RowShape.{RowShape}
+use Rattle.pricing.specs.Prices.{discount-at, flow-at}
+use Rattle.pricing.specs.Rows.{lowest, opposite, branch-at, branch-roll, rolled-row, bond-values, option-values, Rollable, Holds}
+use Rattle.pricing.specs.Trees.{Accepted, Accepted-flows, down-table, row-shape, rolled-at, bond-step, option-step}
+use Rattle.pricing.proofs.RowSteps.{lowest-grown, lowest-first, lowest-last, lowest-inner}
+
+-- what the lattice answers about a row of the tree
+pub answer-value : (b i x : ℕ) (a : Answer) → b ≤ 6000 → i ≤ 60 → a ≡ about-row b i x → a .value ≡ x
+answer-value b i x a hb hi e = ap (λ (y : Answer). y .value) (e ∙ row-found b i x hb hi)
+
+-- later rows are no narrower
+pub half-later : (b i n : ℕ) → i ≤ n → half-width b i ≤ half-width b n
+half-later b i n h =
+    row-within b n (half-width b i) (omega (arith, half-within b i)) (within-row b i (half-width b i) (le-refl (half-width b i)))
+
+pub shape-built :
+    (n b i widest half next start : ℕ) → widest ≡ half-width b n → half ≡ half-width b i → next ≡ node-count b (i + 1) → start ≡ row-start b i →
+    _≡_ {A = RowShape} (record { start = start; count = 2 * half + 1; next = next; offset = widest - half }) (row-shape n b i)
+unfolding row-shape node-count
+shape-built n b i widest half next start ew eh en es =
+    let z : i + 1 ≡ suc i = omega arith in
+    rw (ew, eh, es, en, z)
+
+-- where branches lead, by the node counts of the two rows
+pub lowest-is : (b i k : ℕ) → k < node-count b i → lowest (node-count b i) (node-count b (suc i)) k ≡ low b i k
+unfolding node-count
+lowest-is b i k h =
+    by-order (half-width b (suc i)) (half-width b i)
+    (λ c. let e : half-width b (suc i) ≡ half-width b i = omega (arith, half-grows b i) in capped e)
+    (λ g. lowest-grown _ _ k (omega arith) ∙ sym (low-growing b i k h g))
+  where
+    capped : half-width b (suc i) ≡ half-width b i → lowest (2 * half-width b i + 1) (2 * half-width b (suc i) + 1) k ≡ low b i k
+    capped e =
+        by-equal k 0
+        (λ z. lowest-first _ _ k (omega arith) z ∙ sym (low-lowest b i k h e z))
+        (λ nz. by-equal (k + 1) (2 * half-width b i + 1)
+        (λ l. lowest-last _ _ k (omega arith) nz l ∙ sym (low-highest b i k h e (omega arith)))
+        (λ nl. lowest-inner _ _ k (omega arith) nz nl ∙ sym (low-inner b i k h e (omega (arith, nz)) (omega (arith, nl)))))
+
+-- a part of a list
+pub part-value : (l : List ℕ) (start count k : ℕ) → k < count → values (take count (drop start l)) k ≡ values l (start + k)
+part-value l start count k h = rw (getD-take, getD-drop)
+
+pub part-length : (l : List ℕ) (start count : ℕ) → start + count ≤ length l → length (take count (drop start l)) ≡ count
+part-length l start count h = simp (length-take, length-drop) (omega arith)
+
+module _ (n b i : ℕ) (hi : i < n) where
+  table-room : half-width b n - half-width b i + node-count b i ≤ node-count b n
+  unfolding node-count
+  table-room = omega (arith, half-later b i n (omega arith))
+
+  pub table-fits : half-width b n - half-width b i + node-count b i ≤ length (down-table n b)
+  unfolding down-table
+  table-fits = rw length-row table-room
+
+  -- row i's part of the table
+  abbrev pub table-part : List ℕ
+  table-part = take (node-count b i) (drop (half-width b n - half-width b i) (down-table n b))
+
+  pub table-part-length : length table-part ≡ node-count b i
+  table-part-length = part-length (down-table n b) _ _ table-fits
+
+  pub table-down : (k : ℕ) → k < node-count b i → values table-part k ≡ down b (node b i k)
+  unfolding down-table
+  table-down k h =
+      let d = half-width b n - half-width b i in
+      let w : half-width b n ≡ half-width b i + d = omega (arith, half-later b i n (omega arith)) in
+      let z : d + k ≡ k + d = omega arith in
+      part-value (down-table n b) d (node-count b i) k h
+      ∙ values-row (node-count b n) (d + k) (λ j. down b (node b n j)) (omega (arith, table-room))
+      ∙ ap₂ (λ (x y : ℕ). down b (node-at x y)) w z
+      ∙ sym (down-from-table b i d k)
+
+  pub table-up : (k : ℕ) → k < node-count b i → opposite table-part k ≡ up b (node b i k)
+  unfolding down-table node-count
+  table-up k h =
+      let d = half-width b n - half-width b i in
+      let w : half-width b n ≡ half-width b i + d = omega (arith, half-later b i n (omega arith)) in
+      let l : length table-part - 1 - k ≡ 2 * half-width b i - k = omega (arith, table-part-length) in
+      let z : d + (2 * half-width b i - k) ≡ 2 * half-width b i - k + d = omega arith in
+      ap (values table-part) l
+      ∙ part-value (down-table n b) d (node-count b i) (2 * half-width b i - k) (omega arith)
+      ∙ values-row (node-count b n) (d + (2 * half-width b i - k)) (λ j. down b (node b n j)) (omega (arith, table-room))
+      ∙ ap₂ (λ (x y : ℕ). down b (node-at x y)) w z
+      ∙ sym (up-from-table b i d k (omega arith))
+
+  module _ (discounts : List ℕ) (a : Accepted n b discounts) where
+    pub discounts-fit : row-start b i + node-count b i ≤ length discounts
+    discounts-fit = omega (arith, row-ends b i n hi, a .room)
+
+    -- row i's part of the discounts
+    abbrev pub discount-part : List ℕ
+    discount-part = take (node-count b i) (drop (row-start b i) discounts)
+
+    pub discount-part-length : length discount-part ≡ node-count b i
+    discount-part-length = part-length discounts _ _ discounts-fit
+
+    pub discount-part-at : (k : ℕ) → k < node-count b i → values discount-part k ≡ discount-at b discounts i k
+    unfolding discount-at
+    discount-part-at k h = part-value discounts (row-start b i) (node-count b i) k h
+
+    pub discount-within : (k : ℕ) → k < node-count b i → discount-at b discounts i k ≤ 1100000000
+    unfolding discount-at
+    discount-within k h = a .discounted (row-start b i + k) (omega (arith, row-ends b i n hi))
+
+    total-is : (k : ℕ) → k < node-count b i → up b (node b i k) + middle b (node b i k) + down b (node b i k) ≡ whole
+    total-is k h = index-laws b i k h (a .reverting) .total
+
+    pub rollable : Rollable table-part discount-part (node-count b (suc i))
+    rollable =
+        record {
+          same = table-part-length ∙ sym discount-part-length;
+          inside = λ k h.
+              let h′ : k < node-count b i = rw discount-part-length at h in
+              rw table-part-length (rw (lowest-is b i k h′) (low-within b i k h′));
+          total = λ k h.
+              let h′ : k < node-count b i = rw discount-part-length at h in
+              omega (arith, table-down k h′, table-up k h′, total-is k h′);
+          discounted = λ k h.
+              let h′ : k < node-count b i = rw discount-part-length at h in
+              omega (arith, discount-part-at k h′, discount-within k h′);
+        }
+
+    -- the row as the code rolls it is the tree's roll
+    pub rolled-is : (later : List ℕ) (k : ℕ) → k < node-count b i → rolled-row later table-part discount-part (node-count b (suc i)) k ≡ rolled-at b discounts i later k
+    unfolding rolled-row rolled-at branch-at branch-roll roll node-roll outgoing rate-tree
+    rolled-is later k h =
+        let m : whole - (values table-part k + opposite table-part k) ≡ middle b (node b i k)
+        = omega (arith, table-down k h, table-up k h, total-is k h) in
+        let l : lowest (length table-part) (node-count b (suc i)) k ≡ low b i k
+        = ap (λ (x : ℕ). lowest x (node-count b (suc i)) k) table-part-length ∙ lowest-is b i k h in
+        rw (l, m, table-down k h, table-up k h, discount-part-at k h)
+
+    -- a row of the bond, and of the option beside it, as the code gives them
+    pub bond-row-is :
+        (later : List ℕ) (flow top : ℕ) (row : List ℕ) →
+        Holds row (length discount-part) (bond-values later table-part discount-part (node-count b (suc i)) flow)
+        × (top ≡ greatest (length discount-part) (bond-values later table-part discount-part (node-count b (suc i)) flow)) →
+        Holds row (node-count b i) (bond-step b discounts i later flow) × (top ≡ greatest (node-count b i) (bond-step b discounts i later flow))
+    bond-row-is later flow top row (h, t) =
+        let e : (k : ℕ) → k < node-count b i → bond-values later table-part discount-part (node-count b (suc i)) flow k ≡ bond-step b discounts i later flow k
+        = λ k l. ap (λ (x : ℕ). x + flow) (rolled-is later k l) in
+        (λ k l. h k (rw discount-part-length l) ∙ e k l, t ∙ rw discount-part-length (greatest-cong (node-count b i) _ _ e))
+
+    pub option-row-is :
+        (terms : Terms) (bonds options : List ℕ) (flow top : ℕ) (bond option : List ℕ) →
+        Holds bond (length discount-part) (bond-values bonds table-part discount-part (node-count b (suc i)) flow)
+        × Holds option (length discount-part) (option-values terms bonds options table-part discount-part (node-count b (suc i)) flow)
+        × (top ≡ greatest (length discount-part)
+        (λ k. max (bond-values bonds table-part discount-part (node-count b (suc i)) flow k)
+        (option-values terms bonds options table-part discount-part (node-count b (suc i)) flow k))) →
+        Holds bond (node-count b i) (bond-step b discounts i bonds flow)
+        × Holds option (node-count b i) (option-step terms b discounts i bonds options flow)
+        × (top ≡ greatest (node-count b i) (λ k. max (bond-step b discounts i bonds flow k) (option-step terms b discounts i bonds options flow k)))
+    option-row-is terms bonds options flow top bond option (h, g, t) =
+        let e : (k : ℕ) → k < node-count b i → bond-values bonds table-part discount-part (node-count b (suc i)) flow k ≡ bond-step b discounts i bonds flow k
+        = λ k l. ap (λ (x : ℕ). x + flow) (rolled-is bonds k l) in
+        let f : (k : ℕ) → k < node-count b i →
+        option-values terms bonds options table-part discount-part (node-count b (suc i)) flow k ≡ option-step terms b discounts i bonds options flow k
+        = λ k l. ap₂ (λ (x y : ℕ). held-or-exercised (terms .listed) x (exercise (side (terms .call)) (terms .strike) y)) (rolled-is options k l) (e k l) in (
+          λ k l. h k (rw discount-part-length l) ∙ e k l,
+          λ k l. g k (rw discount-part-length l) ∙ f k l,
+          t ∙ rw discount-part-length (greatest-cong (node-count b i) _ _ (λ k l. ap₂ max (e k l) (f k l))),
+        )
+
+    -- the greatest discount of the row
+    pub greatest-discount-is : (g : ℕ) → g ≡ greatest (length discount-part) (values discount-part) → g ≡ greatest-discount (rate-tree b) (discount-at b discounts) i
+    unfolding greatest-discount rate-tree
+    greatest-discount-is g e = e ∙ rw discount-part-length (greatest-cong (node-count b i) _ _ discount-part-at)
+
+-- the flow of a row
+pub flow-none : (flows : List ℕ) (i : ℕ) → i ≡ 0 → flow-at flows i ≡ 0
+unfolding flow-at
+flow-none flows i e = rw e
+
+pub flow-later : (flows : List ℕ) (i : ℕ) → (i ≡ 0 → ⊥) → flow-at flows i ≡ values flows (i - 1)
+unfolding flow-at
+flow-later flows zero n = absurd (n refl)
+flow-later flows (suc t) n = let e : t ≡ suc t - 1 = omega arith in ap (values flows) e
+
+pub flow-within : (n : ℕ) (flows : List ℕ) → Accepted-flows n flows → (i : ℕ) → i ≤ n → flow-at flows i ≤ 2000000000
+unfolding flow-at
+flow-within n flows a zero h = omega arith
+flow-within n flows a (suc t) h = a .flowing t h

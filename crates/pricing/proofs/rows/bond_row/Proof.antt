@@ -1,0 +1,100 @@
+-- `pricing::rows::bond_row` meets its contract: the loop fills the row from its lowest node.
+-- Assumes nothing.
+use mathlib.Core.Path.{_≡_, ap}
+use Prim.Native.Nat.{ℕ, _+_, _-_, _≤_}
+use native.Mathlib.Omega.{arith}
+use lib.ListN.{length}
+use denote.Ref.{now}
+use Rattle.pricing.specs.Rows.{bond-values}
+use Rattle.pricing.proofs.RowSteps.{branch-inside, branch-total, branch-limited, branch-rolled, Row-state, row-start, row-next, row-done}
+use borrow.Author.Needs.{needs}
+use Rattle.pricing.proofs.rows.bond_row.Statement.{statement}
+use Rattle.pricing.proofs.rows.bond_row.Tie as tie
+
+abbrev Inv-loop : tie.InvT-loop
+Inv-loop later downs discounts next flow row₀ top₀ k₀ row top k =
+    (k ≤ length discounts) × Row-state row₀ row (bond-values later downs discounts next flow) top k
+
+abbrev μ-loop : tie.MeasureT-loop
+μ-loop later downs discounts next flow row₀ top₀ k₀ row top k = length discounts - k
+
+loop-holds : tie.Need-loop-holds Inv-loop μ-loop
+loop-holds c = (omega arith, row-start _ _)
+
+branch-of-requires : tie.Need-branch-of-requires Inv-loop μ-loop
+branch-of-requires c κs =
+    let s = c .before .before .before .before .before .before in
+    let r = s .pre .0 in
+    (omega (arith, r .same), r .inside (c .before .loop .k) (omega arith), r .total (c .before .loop .k) (omega arith))
+
+mul-roll-node : tie.Need-mul-roll-node Inv-loop μ-loop
+mul-roll-node c = omega arith
+
+shared-slice-read-roll-node : tie.Need-shared-slice-read-roll-node Inv-loop μ-loop
+shared-slice-read-roll-node c = omega arith
+
+roll-node-requires : tie.Need-roll-node-requires Inv-loop μ-loop
+roll-node-requires c κs =
+    let s = c .before .before .before .before .before .before .before .before in
+    let e = c .before .branch-of .ensures in (
+      branch-inside _ _ (now (s .args .later)) _ _ (s .pre .0) (s .pre .1) (omega arith) _ e,
+      branch-total _ _ (now (s .args .later)) _ _ (s .pre .0) (s .pre .1) (omega arith) _ e,
+      branch-limited _ _ (now (s .args .later)) _ _ (s .pre .0) (s .pre .1) (omega arith) _ e,
+      s .pre .0 .discounted (c .before .before .before .loop .k) (omega arith),
+    )
+
+add-value : tie.Need-add-value Inv-loop μ-loop
+add-value c = omega (arith, c .roll-node .ensures .1, c .before .before .before .before .before .before .before .before .before .pre .3)
+
+mul-row : tie.Need-mul-row Inv-loop μ-loop
+mul-row c = omega (arith, c .before .before .before .before .loop .inv .1 .filled .same, c .before .before .before .before .before .before .before .before .before .pre .2)
+
+slice-write-row : tie.Need-slice-write-row Inv-loop μ-loop
+slice-write-row c = omega (arith, c .before .before .before .before .loop .inv .1 .filled .same, c .before .before .before .before .before .before .before .before .before .pre .2)
+
+larger-requires : tie.Need-larger-requires Inv-loop μ-loop
+larger-requires c κs = search needs
+
+add-k : tie.Need-add-k Inv-loop μ-loop
+add-k c = omega arith
+
+loop-less : tie.Need-loop-less Inv-loop μ-loop
+loop-less c = omega arith
+
+loop-again : tie.Need-loop-again Inv-loop μ-loop
+loop-again c =
+    let s = c .before .before .before .before .before .before .before .before .before .before in
+    let l = c .before .before .before .before .before .loop in (
+      omega arith,
+      row-next _ (l .row) _ (l .top) (l .k) _ _ (l .inv .1) (omega (arith, l .inv .1 .filled .same, s .pre .2))
+          (ap (λ (x : ℕ). x + s .args .flow)
+          (branch-rolled _ _ _ _ _ (s .pre .0) (s .pre .1) (omega arith) _ (c .before .before .before .branch-of .ensures) _ (c .before .roll-node .ensures .0)))
+          (c .larger .ensures),
+    )
+
+same-length : tie.Need-same-length Inv-loop μ-loop
+same-length c = c .before .loop .inv .1 .filled .same
+
+returns : tie.Need-returns Inv-loop μ-loop
+returns c = row-done _ _ _ _ _ _ (c .before .loop .inv .1) (omega arith)
+
+pub bond-row-spec : {M : Type 1} → statement M
+bond-row-spec =
+    tie.close
+    (tie.spec
+    Inv-loop
+    μ-loop
+    loop-holds
+    branch-of-requires
+    mul-roll-node
+    shared-slice-read-roll-node
+    roll-node-requires
+    add-value
+    mul-row
+    slice-write-row
+    larger-requires
+    add-k
+    loop-less
+    loop-again
+    same-length
+    returns)

@@ -1,0 +1,5 @@
+pub mod Prices
+pub mod Exact
+pub mod Terms
+pub mod Rows
+pub mod Trees

@@ -1,0 +1,62 @@
+-- What the code holds of a tree that was accepted.
+-- Assumes nothing.
+use mathlib.Core.Path.{_≡_}
+use mathlib.Core.List.{List}
+use Prim.Native.Nat.{ℕ, suc, _+_, _-_, _≤_, _<_, max}
+use lib.ListN.{length}
+use Rattle.arithmetic.specs.Row.{row, values}
+use Rattle.lattice.specs.Shape.{half-width, node-count, row-start}
+use Rattle.lattice.specs.Branching.{down}
+use Rattle.lattice.specs.RateTree.{node, rate-tree}
+use Rattle.pricing_laws.specs.Pricer.{exercise, held-or-exercised}
+use Rattle.pricing_laws.specs.Peak.{peak, greatest-value}
+use Rattle.pricing_laws.specs.TreePricer.{roll-rounding, roll}
+use Rattle.pricing.specs.declared.walk.RowShape.{RowShape}
+use Rattle.pricing.specs.declared.values.Terms.{Terms}
+use Rattle.pricing.specs.Prices.{discount-at, bond-at, option-at, bond-peak, option-peak, limit-cause}
+use Rattle.pricing.specs.Rows.{Holds}
+use Rattle.pricing.specs.Terms.{side}
+
+-- a tree and its discounts, and its flows, after the causes 3 to 10 were tested
+pub record Accepted (n b : ℕ) (discounts : List ℕ) : Type 0 where
+  pub some : 0 < n
+  pub few : n ≤ 60
+  pub reverting : b ≤ 6000
+  pub room : row-start b n ≤ length discounts
+  pub discounted : (k : ℕ) → k < row-start b n → values discounts k ≤ 1100000000
+
+pub record Accepted-flows (n : ℕ) (flows : List ℕ) : Type 0 where
+  pub count : length flows ≡ n
+  pub flowing : (k : ℕ) → k < n → values flows k ≤ 2000000000
+
+-- the down-probabilities of all nodes of row n
+unfoldable pub down-table : ℕ → ℕ → List ℕ
+down-table n b = row (node-count b n) (λ k. down b (node b n k))
+
+-- where row i stands in the discounts and in the table, its node count and the next row's
+unfoldable pub row-shape : ℕ → ℕ → ℕ → RowShape
+row-shape n b i =
+    record { start = row-start b i; count = node-count b i; next = node-count b (suc i); offset = half-width b n - half-width b i }
+
+-- a row rolled back from the values of the next one
+unfoldable pub rolled-at : ℕ → List ℕ → ℕ → List ℕ → ℕ → ℕ
+rolled-at b discounts i later = roll (rate-tree b) (discount-at b discounts) roll-rounding i (values later)
+
+-- row i of the bond and of the option, from the later rows
+abbrev pub bond-step : ℕ → List ℕ → ℕ → List ℕ → ℕ → ℕ → ℕ
+bond-step b discounts i later flow k = rolled-at b discounts i later k + flow
+
+abbrev pub option-step : Terms → ℕ → List ℕ → ℕ → List ℕ → List ℕ → ℕ → ℕ → ℕ
+option-step terms b discounts i bonds options flow k =
+    held-or-exercised (terms .listed) (rolled-at b discounts i options k)
+    (exercise (side (terms .call)) (terms .strike) (bond-step b discounts i bonds flow k))
+
+-- the bond rolled back to row i: 12 where a value on the way is above the limit, else the row
+pub record Bond-rolled (n b : ℕ) (discounts flows : List ℕ) (i : ℕ) (number : ℕ) (row : List ℕ) : Type 0 where
+  pub cause : number ≡ limit-cause (peak (greatest-value (rate-tree b) (bond-at n b discounts flows)) n i)
+  pub held : number ≡ 0 → Holds row (node-count b i) (bond-at n b discounts flows i)
+
+-- the option rolled back to row 0: 12 where a value of bond or option on the way is above the limit, else the row
+pub record Option-rolled (n b : ℕ) (discounts flows : List ℕ) (kind expiry strike : ℕ) (number : ℕ) (row : List ℕ) : Type 0 where
+  pub cause : number ≡ limit-cause (max (bond-peak n b discounts flows) (option-peak n b discounts flows kind expiry strike))
+  pub held : number ≡ 0 → values row 0 ≡ option-at n b discounts flows kind expiry strike 0 0

@@ -1,0 +1,167 @@
+// One row of the tree, rolled back from the row after it.
+use crate::values::Terms;
+use crate::values::{self};
+ghost use mathlib.Core.Path.{_≡_};
+ghost use Prim.Native.Nat.{ℕ, _+_, _-_, _*_, _<_, _≤_, max};
+ghost use lib.ListN.{length};
+ghost use Rattle.arithmetic.specs.Row.{values};
+ghost use Rattle.pricing_laws.specs.Pricer.{exercise};
+ghost use Rattle.pricing.specs.Terms.{side};
+ghost use Rattle.arithmetic.specs.Sum.{greatest};
+ghost use Rattle.pricing.specs.Rows.{
+  lowest,
+  opposite,
+  branch-at,
+  branch-roll,
+  bond-values,
+  option-values,
+  Rollable,
+  Limited,
+  Later,
+  Holds,
+};
+
+// The three nodes of the next row that a node leads to, from the lowest, and their probabilities over 600,000,000.
+struct Branch {
+    low: usize,
+    down: u64,
+    middle: u64,
+    up: u64,
+}
+
+// The lowest node of the next row that node k leads to: the row grows, or its edges branch inwards.
+fn lowest_target(count: usize, next: usize, k: usize) -> usize
+    requires { ⌜ (k < count) × (lowest count next k + 2 < next) ⌝ }
+    ensures { λ r. ⌜ r ≡ lowest count next k ⌝ }
+{
+    if count < next {
+        return k;
+    }
+    if k == 0 {
+        return 0;
+    }
+    if k + 1 == count {
+        return k - 2;
+    }
+    k - 1
+}
+
+// The branch of node k. Its up-probability is the down-probability of the node opposite.
+fn branch_of(downs: &[u64], next: usize, k: usize) -> Branch
+    requires { ⌜ (k < length (now downs)) × (lowest (length (now downs)) next k + 2 < next) × (values (now downs) k + opposite (now downs) k ≤ 600000000) ⌝ }
+    ensures { λ r. ⌜ r ≡ branch-at (now (downs .entry)) next k ⌝ }
+{
+    let low = lowest_target(downs.len(), next, k);
+    let down = downs[k];
+    let up = downs[downs.len() - 1 - k];
+    Branch {
+        low,
+        down,
+        middle: 600_000_000 - (down + up),
+        up,
+    }
+}
+
+// The roll of a node along its branch: divided by 600,000,000, down; then discounted, down.
+fn roll_node(branch: Branch, later: &[u64], discount: u64) -> u64
+    requires { ⌜ (branch .low + 2 < length (now later)) × (branch .down + branch .middle + branch .up ≡ 600000000) × Limited (now later) (branch .low + 3) × (discount ≤ 1100000000) ⌝ }
+    ensures { λ r. ⌜ (r ≡ branch-roll branch (values (now (later .entry))) discount) × (r ≤ 8800000000) ⌝ }
+{
+    let low = branch.low;
+    let sum = branch.down * later[low]
+        + branch.middle * later[low + 1]
+        + branch.up * later[low + 2];
+    sum / 600_000_000 * discount / 1_000_000_000
+}
+
+// Rolls the bond back by one row and adds the row's flow. Gives the greatest value of the row.
+pub(crate) fn bond_row(
+    later: &[u64],
+    downs: &[u64],
+    discounts: &[u64],
+    next: usize,
+    flow: u64,
+    row: &mut [u64],
+) -> u64
+    requires { ⌜ Rollable (now downs) (now discounts) next × Later (now later) next × (length (now discounts) ≤ length (now row)) × (flow ≤ 2000000000) ⌝ }
+    ensures { λ r. ⌜ Holds (now (row .exit)) (length (now (discounts .entry))) (bond-values (now (later .entry)) (now (downs .entry)) (now (discounts .entry)) next flow) × (r ≡ greatest (length (now (discounts .entry))) (bond-values (now (later .entry)) (now (downs .entry)) (now (discounts .entry)) next flow)) ⌝ }
+{
+    let mut top: u64 = 0;
+    let mut k: usize = 0;
+    while k < discounts.len() {
+        let branch = branch_of(downs, next, k);
+        let value = roll_node(branch, later, discounts[k]) + flow;
+        row[k] = value;
+        top = values::larger(top, value);
+        k += 1;
+    }
+    top
+}
+
+// Rolls bond and option back by one row together, each node's branch worked out once for both. Gives the greatest value of the two rows.
+pub(crate) fn option_row(
+    bonds: &[u64],
+    options: &[u64],
+    downs: &[u64],
+    discounts: &[u64],
+    next: usize,
+    flow: u64,
+    terms: Terms,
+    bond: &mut [u64],
+    option: &mut [u64],
+) -> u64
+    requires { ⌜ Rollable (now downs) (now discounts) next × Later (now bonds) next × Later (now options) next × (length (now discounts) ≤ length (now bond)) × (length (now discounts) ≤ length (now option)) × (flow ≤ 2000000000) ⌝ }
+    ensures { λ r. ⌜ Holds (now (bond .exit)) (length (now (discounts .entry))) (bond-values (now (bonds .entry)) (now (downs .entry)) (now (discounts .entry)) next flow)
+        × Holds (now (option .exit)) (length (now (discounts .entry))) (option-values terms (now (bonds .entry)) (now (options .entry)) (now (downs .entry)) (now (discounts .entry)) next flow)
+        × (r ≡ greatest (length (now (discounts .entry))) (λ k. max (bond-values (now (bonds .entry)) (now (downs .entry)) (now (discounts .entry)) next flow k) (option-values terms (now (bonds .entry)) (now (options .entry)) (now (downs .entry)) (now (discounts .entry)) next flow k))) ⌝ }
+{
+    let mut top: u64 = 0;
+    let mut k: usize = 0;
+    while k < discounts.len() {
+        let branch = branch_of(downs, next, k);
+        let discount = discounts[k];
+        let value = roll_node(branch, bonds, discount) + flow;
+        let right = values::held_value(terms, roll_node(branch, options, discount), value);
+        bond[k] = value;
+        option[k] = right;
+        top = values::larger(top, values::larger(value, right));
+        k += 1;
+    }
+    top
+}
+
+// The exercise values of a row of the bond.
+pub(crate) fn exercise_row(terms: Terms, bond: &[u64], count: usize, option: &mut [u64])
+    requires { ⌜ (count ≤ length (now bond)) × (count ≤ length (now option)) ⌝ }
+    ensures { λ _. ⌜ Holds (now (option .exit)) count (λ k. exercise (side (terms .call)) (terms .strike) (values (now (bond .entry)) k)) ⌝ }
+{
+    let mut k: usize = 0;
+    while k < count {
+        option[k] = values::exercise_value(terms, bond[k]);
+        k += 1;
+    }
+}
+
+// One value on each of the first nodes of a row.
+pub(crate) fn fill_row(value: u64, count: usize, row: &mut [u64])
+    requires { ⌜ count ≤ length (now row) ⌝ }
+    ensures { λ _. ⌜ Holds (now (row .exit)) count (λ k. value) ⌝ }
+{
+    let mut k: usize = 0;
+    while k < count {
+        row[k] = value;
+        k += 1;
+    }
+}
+
+// A copy of the first values of a row.
+pub(crate) fn copy_row(row: &[u64], count: usize, later: &mut [u64])
+    requires { ⌜ (count ≤ length (now row)) × (count ≤ length (now later)) ⌝ }
+    ensures { λ _. ⌜ Holds (now (later .exit)) count (values (now (row .entry))) ⌝ }
+{
+    let mut k: usize = 0;
+    while k < count {
+        later[k] = row[k];
+        k += 1;
+    }
+}

@@ -1,0 +1,164 @@
+"""What pricing_figures must write, from document 01 alone: whole numbers for the engine, fractions for the exact pricer.
+
+    python3 reference.py > stdout
+
+Each price is also held against its exact price: within its error bound, a bond never above.
+"""
+from fractions import Fraction
+
+ONE = 10**9
+
+
+def half_width(b, i):
+    return i if b == 0 else min(i, 1840 // b + 1)
+
+
+def branch(b, j):
+    """the nodes that node j leads to, with their probabilities over 600,000,000"""
+    z = j * b
+    highest = None if b == 0 else 1840 // b + 1
+    if b != 0 and j == highest:
+        return [(j, 7 * 10**8 + 3 * z * z - 90000 * z), (j - 1, -2 * 10**8 - 6 * z * z + 120000 * z), (j - 2, 10**8 + 3 * z * z - 30000 * z)]
+    if b != 0 and j == -highest:
+        return [(j + 2, 10**8 + 3 * z * z + 30000 * z), (j + 1, -2 * 10**8 - 6 * z * z - 120000 * z), (j, 7 * 10**8 + 3 * z * z + 90000 * z)]
+    return [(j + 1, 10**8 + 3 * z * z - 30000 * z), (j, 4 * 10**8 - 6 * z * z), (j - 1, 10**8 + 3 * z * z + 30000 * z)]
+
+
+def rows(n, b, discounts):
+    """the discount of each node, by row and node"""
+    at, found = 0, []
+    for i in range(n):
+        w = half_width(b, i)
+        found.append({j: discounts[at + j + w] for j in range(-w, w + 1)})
+        at += 2 * w + 1
+    return found
+
+
+def needed(n, b):
+    return sum(2 * half_width(b, i) + 1 for i in range(n))
+
+
+def engine_roll(b, later, j, d):
+    return sum(p * later[k] for k, p in branch(b, j)) // 600000000 * d // ONE
+
+
+def exact_roll(b, later, j, d):
+    return sum(p * later[k] for k, p in branch(b, j)) * Fraction(d, 600000000 * ONE)
+
+
+def bonds(n, b, tree, flows, roll):
+    values = [None] * (n + 1)
+    w = half_width(b, n)
+    values[n] = {j: flows[n - 1] for j in range(-w, w + 1)}
+    for i in range(n - 1, -1, -1):
+        flow = flows[i - 1] if i > 0 else 0
+        values[i] = {j: roll(b, values[i + 1], j, d) + flow for j, d in tree[i].items()}
+    return values
+
+
+def options(b, tree, bond, kind, expiry, strike, roll):
+    def exercise(x):
+        return max(x - strike if kind in (1, 3) else strike - x, 0)
+
+    values = [None] * (expiry + 1)
+    values[expiry] = {j: exercise(x) for j, x in bond[expiry].items()}
+    for i in range(expiry - 1, -1, -1):
+        values[i] = {}
+        for j, d in tree[i].items():
+            held = roll(b, values[i + 1], j, d)
+            values[i][j] = held if kind in (1, 2) else max(held, exercise(bond[i][j]))
+    return values
+
+
+def error_bound(tree):
+    bound = 0
+    for row in reversed(tree):
+        bound = -(-max(row.values()) * bound // ONE) + 3
+    return bound
+
+
+def price(n, b, discounts, flows, terms=None):
+    if not 1 <= n <= 60:
+        return 3, 0, 0
+    if b > 6000:
+        return 4, 0, 0
+    if len(flows) != n or len(discounts) < needed(n, b):
+        return 6, 0, 0
+    if any(d < 1 or d > 1100000000 for d in discounts[:needed(n, b)]):
+        return 9, 0, 0
+    if any(f > 2 * ONE for f in flows):
+        return 10, 0, 0
+    if terms is not None:
+        kind, expiry, strike = terms
+        if not 1 <= kind <= 4 or expiry > n or strike > 4 * ONE:
+            return 11, 0, 0
+    tree = rows(n, b, discounts)
+    found = bonds(n, b, tree, flows, engine_roll)
+    exact = bonds(n, b, tree, flows, exact_roll)
+    held = list(found)
+    if terms is not None:
+        kind, expiry, strike = terms
+        found = options(b, tree, found, kind, expiry, strike, engine_roll)
+        exact = options(b, tree, exact, kind, expiry, strike, exact_roll)
+        held += found
+    if any(x > 8 * ONE for row in held for x in row.values()):
+        return 12, 0, 0
+    bound = error_bound(tree)
+    assert abs(found[0][0] - exact[0][0]) <= bound
+    assert terms is not None or found[0][0] <= exact[0][0]
+    if all(d <= ONE for row in tree for d in row.values()):
+        assert bound <= 3 * n
+    return 0, found[0][0], bound
+
+
+def bond(n, b, discounts, flows):
+    print("bond", n, b, *price(n, b, discounts, flows))
+
+
+def option(n, b, discounts, flows, kind, expiry, strike):
+    print("option", n, b, kind, expiry, strike, *price(n, b, discounts, flows, (kind, expiry, strike)))
+
+
+def tree(n, b, discounts, flows):
+    bond(n, b, discounts, flows)
+    for kind in range(1, 5):
+        option(n, b, discounts, flows, kind, 0, 900000000)
+        option(n, b, discounts, flows, kind, n // 2, 500000000)
+        option(n, b, discounts, flows, kind, n, 30000000)
+
+
+bond(1, 0, [1002500000], [ONE])
+option(1, 0, [1002500000], [ONE], 4, 1, 1010000000)
+discounts = [930000000 + k * 7919003 % 150000001 for k in range(3600)]
+flows = [20000000 + k * 31415927 % 80000009 for k in range(60)]
+for n, b in ((1, 0), (3, 0), (60, 0), (4, 1000), (12, 1840), (12, 1841), (30, 100), (60, 6000)):
+    tree(n, b, discounts, flows[:n])
+
+most = [2 * ONE] * 4
+bond(4, 0, [ONE] * 16, most)
+option(4, 0, [ONE] * 16, most, 3, 4, 0)
+bond(4, 0, [ONE + 1] + [ONE] * 15, most)
+option(4, 0, [ONE + 1] + [ONE] * 15, most, 2, 0, 4000000000)
+
+steep = [1100000000] * 36
+late = [0] + [2 * ONE] * 5
+bond(6, 0, steep, late)
+option(6, 0, steep, late, 2, 1, 0)
+bond(6, 0, [1] * 4 + steep[4:], late)
+
+bond(0, 0, discounts, [])
+bond(61, 7000, discounts, flows)
+bond(2, 6001, discounts, flows)
+bond(2, 0, discounts, flows[:3])
+bond(2, 0, discounts[:3], flows[:2])
+
+over = [2 * ONE + 1, 0]
+bond(2, 0, [ONE, ONE, ONE, 0], over)
+bond(2, 0, [ONE, 1100000001, ONE, ONE], over)
+bond(2, 0, discounts, over)
+option(2, 0, discounts, over, 0, 1, 0)
+option(2, 0, discounts, flows[:2], 0, 1, 0)
+option(2, 0, discounts, flows[:2], 5, 1, 0)
+option(2, 0, discounts, flows[:2], 1, 3, 0)
+option(2, 0, discounts, flows[:2], 1, 2, 4000000001)
+option(2, 0, discounts, flows[:2], 2, 2, 4000000000)

@@ -1,0 +1,181 @@
+// Prices of trees of several shapes, held against reference.py, which works them out from document 01 alone.
+use pricing::Price;
+ghost use Prim.Native.Nat.{_≤_, _<_};
+
+// Numbers from base on, below base + range, in no simple order.
+fn fill(numbers: &mut [u64], base: u64, factor: u64, range: u64)
+    requires { ⌜ (base ≤ 1000000000) × (factor ≤ 1000000000) × (range ≤ 1000000000) × (0 < range) ⌝ }
+{
+    let mut place: usize = 0;
+    while place < numbers.len() {
+        let k = (place % 3600) as u64;
+        numbers[place] = base + k * factor % range;
+        place += 1;
+    }
+}
+
+// The first numbers of a list, or all where it has fewer.
+fn first(numbers: &[u64], count: usize) -> &[u64] {
+    let start = 0;
+    if count <= numbers.len() {
+        &numbers[start..count]
+    } else {
+        numbers
+    }
+}
+
+fn number(n: u64) {
+    io::write_all(1, b" ");
+    io::print_decimal(1, n);
+}
+
+fn show(p: Price) {
+    number(p.number);
+    number(p.value);
+    number(p.bound);
+    io::write_all(1, b"\n");
+}
+
+fn bond(steps: usize, reversion: u64, discounts: &[u64], flows: &[u64]) {
+    io::write_all(1, b"bond");
+    number(steps as u64);
+    number(reversion);
+    show(pricing::bond_price(steps, reversion, discounts, flows));
+}
+
+fn option(
+    steps: usize,
+    reversion: u64,
+    discounts: &[u64],
+    flows: &[u64],
+    kind: u64,
+    expiry: usize,
+    strike: u64,
+) {
+    io::write_all(1, b"option");
+    number(steps as u64);
+    number(reversion);
+    number(kind);
+    number(expiry as u64);
+    number(strike);
+    show(pricing::option_price(steps, reversion, discounts, flows, kind, expiry, strike));
+}
+
+// Options of a kind that expire at the first row, on the way and at the last row.
+fn options(steps: usize, reversion: u64, discounts: &[u64], flows: &[u64], kind: u64) {
+    option(steps, reversion, discounts, flows, kind, 0, 900_000_000);
+    option(
+        steps,
+        reversion,
+        discounts,
+        flows,
+        kind,
+        steps / 2,
+        500_000_000,
+    );
+    option(steps, reversion, discounts, flows, kind, steps, 30_000_000);
+}
+
+fn tree(steps: usize, reversion: u64, discounts: &[u64], all_flows: &[u64]) {
+    let flows = first(all_flows, steps);
+    bond(steps, reversion, discounts, flows);
+    options(steps, reversion, discounts, flows, 1);
+    options(steps, reversion, discounts, flows, 2);
+    options(steps, reversion, discounts, flows, 3);
+    options(steps, reversion, discounts, flows, 4);
+}
+
+// Trees that grow to their last row, and trees that are capped on the way.
+fn trees(discounts: &[u64], flows: &[u64]) {
+    tree(1, 0, discounts, flows);
+    tree(3, 0, discounts, flows);
+    tree(60, 0, discounts, flows);
+    tree(4, 1000, discounts, flows);
+    tree(12, 1840, discounts, flows);
+    tree(12, 1841, discounts, flows);
+    tree(30, 100, discounts, flows);
+    tree(60, 6000, discounts, flows);
+}
+
+// The job of document 01.
+fn example() {
+    let discounts = [1_002_500_000u64];
+    let flows = [1_000_000_000u64];
+    bond(1, 0, &discounts, &flows);
+    option(1, 0, &discounts, &flows, 4, 1, 1_010_000_000);
+}
+
+// Values of 8 × one, and of one billionth more, at row 0 alone.
+fn limits() {
+    let level = [1_000_000_000u64; 16];
+    let most = [2_000_000_000u64; 4];
+    bond(4, 0, &level, &most);
+    option(4, 0, &level, &most, 3, 4, 0);
+    let mut above = [1_000_000_000u64; 16];
+    above[0] = 1_000_000_001;
+    bond(4, 0, &above, &most);
+    option(4, 0, &above, &most, 2, 0, 4_000_000_000);
+}
+
+// A bond that passes the limit on a row before its last, and an option that expires earlier.
+fn steep() {
+    let steep = [1_100_000_000u64; 36];
+    let flows = [
+        0u64,
+        2_000_000_000,
+        2_000_000_000,
+        2_000_000_000,
+        2_000_000_000,
+        2_000_000_000,
+    ];
+    bond(6, 0, &steep, &flows);
+    option(6, 0, &steep, &flows, 2, 1, 0);
+    let mut level = [1_100_000_000u64; 36];
+    level[0] = 1;
+    level[1] = 1;
+    level[2] = 1;
+    level[3] = 1;
+    bond(6, 0, &level, &flows);
+}
+
+// The lower number where two causes apply.
+fn tree_refusals(discounts: &[u64], flows: &[u64]) {
+    bond(0, 0, discounts, first(flows, 0));
+    bond(61, 7000, discounts, flows);
+    bond(2, 6001, discounts, flows);
+    bond(2, 0, discounts, first(flows, 3));
+    bond(2, 0, first(discounts, 3), first(flows, 2));
+}
+
+fn number_refusals(discounts: &[u64], flows: &[u64]) {
+    let over = [2_000_000_001u64, 0];
+    let zero = [1_000_000_000u64, 1_000_000_000, 1_000_000_000, 0];
+    let large = [
+        1_000_000_000u64,
+        1_100_000_001,
+        1_000_000_000,
+        1_000_000_000,
+    ];
+    bond(2, 0, &zero, &over);
+    bond(2, 0, &large, &over);
+    bond(2, 0, discounts, &over);
+    option(2, 0, discounts, &over, 0, 1, 0);
+    option(2, 0, discounts, flows, 0, 1, 0);
+    option(2, 0, discounts, flows, 5, 1, 0);
+    option(2, 0, discounts, flows, 1, 3, 0);
+    option(2, 0, discounts, flows, 1, 2, 4_000_000_001);
+    option(2, 0, discounts, flows, 2, 2, 4_000_000_000);
+}
+
+fn main() {
+    let mut discounts = [0u64; 3600];
+    fill(&mut discounts, 930_000_000, 7_919_003, 150_000_001);
+    let mut flows = [0u64; 60];
+    fill(&mut flows, 20_000_000, 31_415_927, 80_000_009);
+    example();
+    trees(&discounts, &flows);
+    limits();
+    steep();
+    tree_refusals(&discounts, &flows);
+    number_refusals(&discounts, first(&flows, 2));
+}

@@ -1,0 +1,6 @@
+pub mod Near
+pub mod Accuracy
+pub mod Recurrences
+pub mod PriceLaws
+pub mod Peaks
+pub mod Backward

@@ -1,0 +1,4 @@
+pub mod Pricer
+pub mod Schedule
+pub mod TreePricer
+pub mod Peak

@@ -1,0 +1,22 @@
+-- The greatest value of rows i to n, from the greatest value of each (document 01, cause 12).
+-- Assumes nothing.
+use Prim.Native.Nat.{ℕ, zero, suc, _-_, max}
+use Rattle.arithmetic.specs.Sum.{greatest}
+use Rattle.tree.specs.Tree.{Tree}
+
+-- 8 × one: no value may be above it
+abbrev pub value-limit : ℕ
+value-limit = 8000000000
+
+-- the greatest of top i, .., top (i + s)
+unfoldable pub peak-from : (ℕ → ℕ) → ℕ → ℕ → ℕ
+peak-from top zero i = top i
+peak-from top (suc s) i = max (top i) (peak-from top s (suc i))
+
+-- the greatest of top i, .., top n
+unfoldable pub peak : (ℕ → ℕ) → ℕ → ℕ → ℕ
+peak top n i = peak-from top (n - i) i
+
+-- the greatest value of row i, of values by row and node
+unfoldable pub greatest-value : Tree → (ℕ → ℕ → ℕ) → ℕ → ℕ
+greatest-value t value i = greatest (t .nodes i) (value i)

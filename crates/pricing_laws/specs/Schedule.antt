@@ -1,0 +1,21 @@
+-- The four kinds of option (document 01, Prices) as a side and a schedule.
+-- Assumes nothing.
+use Prim.Native.Nat.{ℕ}
+use mathlib.Core.Bool.{Bool, true, false, cond, _||_}
+use lib.Dec.{eqb, leb}
+use Rattle.pricing_laws.specs.Pricer.{Side, call, put, Schedule}
+
+-- expiry alone
+unfoldable pub european : ℕ → Schedule
+european expiry = record { last = expiry; listed = λ i. false }
+
+-- every row from 0 to expiry
+unfoldable pub american : ℕ → Schedule
+american expiry = record { last = expiry; listed = λ i. true }
+
+-- kinds 1 European call, 2 European put, 3 American call, 4 American put
+unfoldable pub side-of : ℕ → Side
+side-of kind = cond (eqb kind 1 || eqb kind 3) call put
+
+unfoldable pub schedule-of : ℕ → ℕ → Schedule
+schedule-of kind expiry = cond (leb 3 kind) (american expiry) (european expiry)
