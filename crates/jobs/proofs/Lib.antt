@@ -7,3 +7,4 @@ pub mod Written
 pub mod Places
 pub mod Reread
 pub mod ReadLaws
+pub mod Figures

@@ -80,8 +80,9 @@ pub record Encodes (s : List ℕ) (job : Job) : Type 0 where
   pub short : length s ≤ 4700
 
 -- reading by the grammar: the bytes of a record give that record, what is accepted is the bytes of the record given,
--- and everything else is refused with 1
+-- and everything else is refused with 1. The record is a sound one either way: zeros are
 pub record ReadsAs (s : List ℕ) (r : Reading) : Type 0 where
   pub reads : (job : Job) → Encodes s job → r ≡ accepted job
   pub only : r .number ≡ 0 → Encodes s (r .job)
   pub refuses : (r .number ≡ 0 → ⊥) → r ≡ malformed
+  pub sound : Sound (r .job)

@@ -2,3 +2,4 @@ pub mod Bytes
 pub mod Form
 pub mod Reader
 pub mod Grammar
+pub mod Example
