@@ -1,15 +1,15 @@
 -- Laws of the columns of a record: entries, and zeros after them.
 -- Assumes nothing.
 use Prim.Native.Nat.{ℕ, _+_, _*_, _≤_, _<_}
-use native.Mathlib.Nat.{lt-of-not-le, mul-le-mul-left}
+use native.Mathlib.Nat.{mul-le-mul-left}
 use native.Mathlib.Omega.{arith}
 use mathlib.Core.List.{List}
-use mathlib.Core.Path.{_≡_, refl, sym, ap, _∙_}
+use mathlib.Core.Path.{_≡_, sym, _∙_}
 use borrow.Author.Tests.{lt-ltb, le-ltb}
-use lib.ListN.{length, getD, replicate, length-replicate, List·getD-eq-default}
-use Rattle.arithmetic.specs.Row.{row, values, overlay}
+use lib.ListN.{length, replicate, length-replicate, List·getD-eq-default}
+use Rattle.arithmetic.specs.Row.{values, overlay}
 use Rattle.arithmetic.proofs.Numbers.{by-order}
-use Rattle.arithmetic.proofs.RowLaws.{length-row, values-row, row-of, row-cong, Filled, zeros}
+use Rattle.arithmetic.proofs.RowLaws.{length-row, values-row, row-of, Filled, zeros}
 use Rattle.jobs.specs.Reader.{padded}
 use Rattle.jobs.specs.Grammar.{Column}
 

@@ -1,7 +1,7 @@
 -- The job that document 01 prints, read, and lists of bytes that are no job.
 -- Assumes nothing.
 use Prim.Native.Nat.{ℕ, _<_}
-use mathlib.Core.List.{List, [], _∷_, _++_}
+use mathlib.Core.List.{List, [], _++_}
 use mathlib.Core.Path.{_≡_, refl, sym}
 use lib.ListN.{length}
 use Rattle.arithmetic.specs.Row.{row, overlay, each}

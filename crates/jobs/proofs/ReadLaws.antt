@@ -1,9 +1,9 @@
 -- Reading by the grammar, and what callers use of a job that was read.
 -- Assumes nothing.
-use Prim.Native.Nat.{ℕ, _^_, _≤_, _<_}
+use Prim.Native.Nat.{ℕ, _^_, _<_}
 use native.Mathlib.Nat.{not-suc-le-zero}
 use native.Mathlib.Omega.{arith}
-use mathlib.Core.Bool.{Bool, true, false, cond}
+use mathlib.Core.Bool.{Bool, true, false}
 use mathlib.Core.List.{List}
 use mathlib.Core.Path.{_≡_, refl, sym, ap, _∙_}
 use lib.ListN.{length, take, replicate, length-replicate, length-take}
@@ -33,6 +33,25 @@ module _ (s : List ℕ) where
   pub reading-bad : wellFormed s ≡ false → readingOf s ≡ malformed
   unfolding readingOf
   reading-bad h = rw h
+
+-- what a caller's test of the number says. r is what the reader gave
+module _ (s : List ℕ) (r : Reading) (e : r ≡ readingOf s) where
+  pub accepted-well : r .number ≡ 0 → (wellFormed s ≡ true) × (r .job ≡ jobOf s)
+  accepted-well zero = go (wellFormed s) refl
+    where
+      go : (t : Bool) → wellFormed s ≡ t → (wellFormed s ≡ true) × (r .job ≡ jobOf s)
+      go true h = (h, ap (λ (q : Reading). q .job) (e ∙ reading-well s h))
+      go false h =
+          let one : r .number ≡ 1 = ap (λ (q : Reading). q .number) (e ∙ reading-bad s h) in
+          let none : ⊥ = omega arith in
+          absurd none
+
+  pub refused-bad : (r .number ≡ 0 → ⊥) → (wellFormed s ≡ false) × (r ≡ malformed)
+  refused-bad other = go (wellFormed s) refl
+    where
+      go : (t : Bool) → wellFormed s ≡ t → (wellFormed s ≡ false) × (r ≡ malformed)
+      go true h = absurd (other (ap (λ (q : Reading). q .number) (e ∙ reading-well s h)))
+      go false h = (h, e ∙ reading-bad s h)
 
 -- a record's bytes are accepted, and give that record
 encoded-by : (s : List ℕ) (job : Job) → Encodes s job → encode job ≡ s → readingOf s ≡ accepted job

@@ -10,7 +10,7 @@ use lib.ListN.{length, getD, length-append}
 use lib.Dec.{eqb}
 use Rattle.arithmetic.specs.Row.{values}
 use Rattle.jobs.specs.Bytes.{numberAt, digits}
-use Rattle.jobs.specs.Form.{fieldAt, eitherAt, fieldsFrom, headFormed, restFormed, wellFormed, stepsOf}
+use Rattle.jobs.specs.Form.{fieldAt, eitherAt, headFormed, restFormed, wellFormed, stepsOf}
 use Rattle.jobs.specs.Reader.{padded, tagOf, dataOf, noOption, optionAt, jobOf}
 use Rattle.jobs.specs.Grammar.{field, joined, quoteField, flowField, optionField, encode, isKind, OptionSound, Sound}
 use Rattle.jobs.specs.declared.OptionRecord.{OptionRecord}

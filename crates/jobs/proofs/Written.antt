@@ -1,17 +1,17 @@
 -- What is accepted is the bytes of the record read.
 -- Assumes nothing.
-use Prim.Native.Nat.{ℕ, _+_, _*_, _^_, _≤_, _<_}
+use Prim.Native.Nat.{ℕ, _+_, _*_, _^_, _<_}
 use native.Mathlib.Omega.{arith}
-use mathlib.Core.Bool.{true, false}
+use mathlib.Core.Bool.{true}
 use mathlib.Core.List.{List, _++_}
 use mathlib.Core.Path.{_≡_, refl, sym, ap, _∙_}
 use borrow.Author.Tests.{eq-eqb, ne-eqb}
-use lib.ListN.{length, getD, take, drop, length-drop, drop-of-length-le}
+use lib.ListN.{length, take, drop, length-drop, drop-of-length-le}
 use lib.Seq.{take-all}
 use Rattle.arithmetic.proofs.Numbers.{by-equal}
 use Rattle.jobs.specs.Bytes.{Bytes, numberAt, digits}
 use Rattle.jobs.specs.Form.{fieldAt, eitherAt, headFormed, restFormed, wellFormed, stepsOf}
-use Rattle.jobs.specs.Reader.{padded, tagOf, dataOf, optionAt, jobOf}
+use Rattle.jobs.specs.Reader.{tagOf, dataOf, optionAt, jobOf}
 use Rattle.jobs.specs.Grammar.{field, joined, quoteField, flowField, optionField, encode, OptionSound, Sound}
 use Rattle.jobs.proofs.Answers.{first}
 use Rattle.jobs.proofs.Numbers.{number-bound}

@@ -1,6 +1,6 @@
 -- `jobs::well_formed` meets its contract.
 -- Assumes nothing.
-use mathlib.Core.Path.{_≡_, sym, _∙_}
+use mathlib.Core.Path.{_∙_}
 use native.Mathlib.Omega.{arith}
 use Rattle.jobs.proofs.Answers.{passed, failed}
 use Rattle.jobs.proofs.Forms.{head-whole, refuse-long, refuse-head, refuse-quotes, refuse-flows, formed-by-rest}
