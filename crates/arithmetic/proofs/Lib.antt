@@ -5,3 +5,4 @@ pub mod RowLaws
 pub mod RoundingLaws
 pub mod PowerLaws
 pub mod Signed
+pub mod FrequencyLaws

@@ -3,3 +3,4 @@ pub mod Sum
 pub mod Row
 pub mod Power
 pub mod Answers
+pub mod Frequency

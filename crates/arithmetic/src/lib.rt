@@ -2,6 +2,7 @@
 ghost use mathlib.Core.Path.{_≡_};
 ghost use Prim.Native.Nat.{_<_, _^_};
 ghost use Rattle.arithmetic.specs.Power.{powerOfTen};
+ghost use Rattle.arithmetic.specs.Frequency.{listed};
 
 // An answer that can be a refusal: number 0 with the value, or the refusal's number with value 0.
 pub struct Answer {
@@ -48,4 +49,20 @@ pub fn power_of_ten(exponent: usize) -> u64
     } else {
         0
     }
+}
+
+// Whether the steps a year are 1, 2, 4 or 12.
+pub fn is_listed(frequency: u64) -> bool
+    ensures { λ r. ⌜ r ≡ listed frequency ⌝ }
+{
+    if frequency == 1 {
+        return true;
+    }
+    if frequency == 2 {
+        return true;
+    }
+    if frequency == 4 {
+        return true;
+    }
+    frequency == 12
 }

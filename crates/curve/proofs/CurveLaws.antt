@@ -14,7 +14,7 @@ use lib.Ieee.{Float, nan}
 use Rattle.arithmetic.specs.declared.Answer.{Answer}
 use Rattle.arithmetic.specs.Row.{row, values, place, each}
 use Rattle.arithmetic.proofs.RowLaws.{length-row, values-row}
-use Rattle.quotes.specs.Quotes.{listed}
+use Rattle.arithmetic.specs.Frequency.{listed}
 use Rattle.quotes.proofs.QuoteLaws.{lone-told, lone-seventh, row-known}
 use Rattle.curve.specs.Curve.{stepsKnown, placeAt, inPlace, answerAt, convertsAt, discountAt, curveNumber, curveMemory}
 use Rattle.curve.proofs.PlaceLaws.{length-place, place-inside, place-after, each-holds}

@@ -8,7 +8,8 @@ use lib.ListN.{length, getD}
 use lib.Ieee.{Float, nan}
 use Rattle.arithmetic.specs.declared.Answer.{Answer}
 use Rattle.arithmetic.specs.Row.{row, values, place, each}
-use Rattle.quotes.specs.Quotes.{listed, loneAnswer}
+use Rattle.arithmetic.specs.Frequency.{listed}
+use Rattle.quotes.specs.Quotes.{loneAnswer}
 
 -- n, steps: 1 to 60
 unfoldable pub stepsKnown : ℕ → Bool

@@ -109,7 +109,17 @@ fn lone() {
     let figures: [f64; 1] = [1.2];
     let mut discounts = [0u64; 1];
     let mut prices = [0u64; 4];
-    let fitted = fitting::fit(1, 1, 0, 0, &rows, &kinds, &figures, &mut discounts, &mut prices);
+    let fitted = fitting::fit(
+        1,
+        1,
+        0,
+        0,
+        &rows,
+        &kinds,
+        &figures,
+        &mut discounts,
+        &mut prices,
+    );
     number(b"lone ", fitted);
 }
 
@@ -118,7 +128,19 @@ fn wide(steps: usize) -> u64 {
     let rows: [u64; 13] = [1, 2, 3, 4, 5, 6, 7, 8, 9, 10, 11, 12, 13];
     let kinds: [u8; 13] = [5, 5, 5, 5, 5, 5, 5, 5, 5, 5, 5, 5, 5];
     let figures: [f64; 13] = [
-        1.0, 1.0, 1.0, 1.0, 1.0, 1.0, 1.0, 1.0, 1.0, 1.0, 1.0, 1.0, 1.0,
+        1.0,
+        1.0,
+        1.0,
+        1.0,
+        1.0,
+        1.0,
+        1.0,
+        1.0,
+        1.0,
+        1.0,
+        1.0,
+        1.0,
+        1.0,
     ];
     let mut discounts = [0u64; 169];
     let mut prices = [0u64; 196];

@@ -15,6 +15,7 @@ use Rattle.lattice.specs.Entries.{about-row, about-tree, discountsNeeded, state
 use Rattle.lattice.proofs.Sizes.{half-within}
 use Rattle.lattice.proofs.TreeEntries.{Accepted, tree-accepted, tree-value, row-value}
 use Rattle.spacing.specs.Spacing.{spacing, spacing-answer}
+use Rattle.arithmetic.proofs.FrequencyLaws.{listed-small}
 use Rattle.spacing.proofs.SpacingLaws as spacings
 use Rattle.fitting.specs.declared.causes.Plan.{Plan}
 use Rattle.fitting.specs.Entry.{lowest-cause, memory-cause, early-cause}
@@ -126,7 +127,7 @@ module _ (f n b s converted ds ps : ℕ) (tree spaced : Answer) (memory early le
     spacing-small : spaced .value ≤ 86602540
     spacing-small =
         let a = spacings.spacing-zero f s (sym (ap (λ (a : Answer). a .number) es) ∙ rights .0) in
-        rw spacing-known (spacings.spacing-most f s (spacings.listed-range f (a .frequency) .0) (a .volatility))
+        rw spacing-known (spacings.spacing-most f s (listed-small f (a .frequency) .0) (a .volatility))
 
     module _ (half : Answer) (eh : half ≡ halfWidth b (n - 1)) where
       half-known : half .value ≡ half-width b (n - 1)

@@ -23,9 +23,9 @@ use Rattle.lattice.specs.RateTree.{rate-tree}
 use Rattle.lattice.specs.Entries.{discountsNeeded, statePricesNeeded}
 use Rattle.lattice.proofs.RateTreeLaws.{start-is}
 use Rattle.lattice.proofs.TreeEntries.{by-tree}
-use Rattle.spacing.specs.Spacing.{spacing, spacing-answer, listed}
+use Rattle.spacing.specs.Spacing.{spacing, spacing-answer}
+use Rattle.arithmetic.specs.Frequency.{listed}
 use Rattle.curve.specs.Curve.{discountAt, convertsAt, stepsKnown, inPlace, curveNumber, curveMemory}
-use Rattle.quotes.specs.Quotes as quotes
 use Rattle.curve.proofs.CurveLaws.{curve-range, curve-stored}
 use Rattle.fitting.specs.declared.causes.Plan.{Plan}
 use Rattle.fitting.specs.Fit.{Fittable, curve-discount, curve-price, curve-accepted}
@@ -45,7 +45,7 @@ chain-small false false false false = omega arith
 curve-small : (f n : ℕ) (rows kinds : List ℕ) (figures : List Float) (room : ℕ) → curveNumber f n rows kinds figures room ≤ 7
 unfolding curveNumber
 curve-small f n rows kinds figures room =
-    chain-small (not (quotes.listed f)) (not (stepsKnown n)) (not (inPlace n rows kinds figures room)) (not (each n (convertsAt f kinds figures)))
+    chain-small (not (listed f)) (not (stepsKnown n)) (not (inPlace n rows kinds figures room)) (not (each n (convertsAt f kinds figures)))
 
 tree-small : (n b : ℕ) → discountsNeeded n b .number ≤ 7
 tree-small n b =

@@ -7,15 +7,12 @@ use lib.IntN.{ℤ, pos, negsuc, _+ℤ_, _*ℤ_}
 use lib.Ieee.{Float}
 use Rattle.arithmetic.specs.declared.Answer.{Answer}
 use Rattle.arithmetic.specs.Answers.{refused, answered}
+use Rattle.arithmetic.specs.Frequency.{listed}
 use Rattle.arithmetic.specs.Rounding.{one, down}
 use Rattle.figure.specs.Figure.{billionthsOf, beyond}
 use Rattle.quotes.specs.declared.Point.{Point}
 use Rattle.quotes.specs.declared.Quote.{Quote}
 use Rattle.quotes.specs.declared.Quote.the-variants.{DiscountFactor, YearlyRate}
-
--- f, steps a year: 1, 2, 4 or 12
-unfoldable pub listed : ℕ → Bool
-listed f = eqb f 1 || eqb f 2 || eqb f 4 || eqb f 12
 
 -- the row of a lone point: 1 to 60
 unfoldable pub rowKnown : ℕ → Bool

@@ -3,7 +3,7 @@ ghost use mathlib.Core.Path.{_≡_};
 ghost use Prim.Native.Nat.{_≤_};
 ghost use lib.IntN.{natAbs};
 ghost use Rattle.arithmetic.specs.Answers.{refused};
-ghost use Rattle.quotes.specs.Quotes.{listed, rateDiscount, factorDiscount, rangedAnswer, figureAnswer, quoteAnswer, kindAnswer, loneAnswer};
+ghost use Rattle.quotes.specs.Quotes.{rateDiscount, factorDiscount, rangedAnswer, figureAnswer, quoteAnswer, kindAnswer, loneAnswer};
 use arithmetic::Answer;
 
 const ONE: u64 = 1_000_000_000;
@@ -18,22 +18,6 @@ pub struct Point {
 pub enum Quote {
     DiscountFactor(f64),
     YearlyRate(f64),
-}
-
-// Whether the steps a year are 1, 2, 4 or 12.
-pub fn is_listed(frequency: u64) -> bool
-    ensures { λ r. ⌜ r ≡ listed frequency ⌝ }
-{
-    if frequency == 1 {
-        return true;
-    }
-    if frequency == 2 {
-        return true;
-    }
-    if frequency == 4 {
-        return true;
-    }
-    frequency == 12
 }
 
 fn refusal(cause: u64) -> Answer
@@ -131,7 +115,7 @@ fn of_point(frequency: u64, kind: u8, point: Point) -> Answer
 pub fn lone_point(frequency: u64, kind: u8, point: Point) -> Answer
     ensures { λ r. ⌜ r ≡ loneAnswer frequency kind point ⌝ }
 {
-    if !is_listed(frequency) {
+    if !arithmetic::is_listed(frequency) {
         return refusal(2);
     }
     let row = point.row;

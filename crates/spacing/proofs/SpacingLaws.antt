@@ -11,7 +11,9 @@ use lib.Dec.{leb, T, leb→le, le→leb}
 use Rattle.arithmetic.specs.Answers.{refused, answered}
 use Rattle.arithmetic.specs.declared.Answer.{Answer}
 use Rattle.arithmetic.proofs.Numbers.{by-order, by-equal}
-use Rattle.spacing.specs.Spacing.{greatest-passing, greatest-root, spacing, listed, spacing-answer}
+use Rattle.spacing.specs.Spacing.{greatest-passing, greatest-root, spacing, spacing-answer}
+use Rattle.arithmetic.specs.Frequency.{listed}
+use Rattle.arithmetic.proofs.FrequencyLaws.{listed-small}
 
 -- what passes among 0 to n is at most the greatest that passes, which passes if 0 does
 passing-most : (test : ℕ → Bool) (n k : ℕ) → k ≤ n → T (test k) → k ≤ greatest-passing test n
@@ -105,16 +107,6 @@ module _ (f s : ℕ) where
             let square : 86602541 * 86602541 ≤ h * h = mul-le-mul l l in
             omega (arith, mul-le-mul-left (h * h) cube, mul-le-mul small small)
 
--- a listed number of steps a year is from 1 to 12
-pub listed-range : (f : ℕ) → listed f ≡ true → (1 ≤ f) × (f ≤ 12)
-unfolding listed
-listed-range f e =
-    by-equal f 1 (λ h. omega arith)
-    (λ n₁. by-equal f 2 (λ h. omega arith)
-    (λ n₂. by-equal f 4 (λ h. omega arith)
-    (λ n₄. let l : f ≡ 12 = eqb-true f 12 (rw (ne-eqb f 1 n₁, ne-eqb f 2 n₂, ne-eqb f 4 n₄) at e) in omega arith)))
-
--- the entry's answers
 pub spacing-unlisted : (f s : ℕ) → listed f ≡ false → spacing-answer f s ≡ refused 2
 unfolding spacing-answer
 spacing-unlisted f s u = rw u
@@ -135,7 +127,7 @@ pub spacing-found :
 unfolding spacing
 spacing-found f s h u l low high =
     spacing-accepted f s u l
-    ∙ ap answered (sym (root-of-quotient (f * f * f) (3 * (1000 * s * (1000 * s))) (cube-positive (listed-range f u .0)) h low high))
+    ∙ ap answered (sym (root-of-quotient (f * f * f) (3 * (1000 * s * (1000 * s))) (cube-positive (listed-small f u .0)) h low high))
 
 -- number 0 means accepted, and the value is h
 pub record Accepted (f s : ℕ) (answer : Answer) : Type 0 where

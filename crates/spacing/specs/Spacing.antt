@@ -3,6 +3,7 @@
 use Prim.Native.Nat.{ℕ, zero, suc, _*_}
 use mathlib.Core.Bool.{Bool, cond, not, _||_}
 use lib.Dec.{leb, ltb, eqb}
+use Rattle.arithmetic.specs.Frequency.{listed}
 use Rattle.arithmetic.specs.Answers.{refused, answered}
 use Rattle.arithmetic.specs.declared.Answer.{Answer}
 
@@ -18,10 +19,6 @@ greatest-root c x = greatest-passing (λ h. leb (h * h * c) x) x
 -- h: the greatest whole number with h² × f³ ≤ 3 × (1,000 s)²
 unfoldable pub spacing : ℕ → ℕ → ℕ
 spacing f s = greatest-root (f * f * f) (3 * (1000 * s * (1000 * s)))
-
--- f is one of the listed numbers of steps a year
-unfoldable pub listed : ℕ → Bool
-listed f = eqb f 1 || (eqb f 2 || (eqb f 4 || eqb f 12))
 
 -- what the entry answers: cause 2, cause 5, or h
 unfoldable pub spacing-answer : ℕ → ℕ → Answer

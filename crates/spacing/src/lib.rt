@@ -1,23 +1,8 @@
 // The spacing of the nodes.
 ghost use mathlib.Core.Path.{_≡_};
 ghost use Prim.Native.Nat.{_+_, _*_, _≤_, _<_};
-ghost use Rattle.spacing.specs.Spacing.{listed, spacing-answer};
+ghost use Rattle.spacing.specs.Spacing.{spacing-answer};
 use arithmetic::Answer;
-
-fn is_listed(frequency: u64) -> bool
-    ensures { λ r. ⌜ r ≡ listed frequency ⌝ }
-{
-    if frequency == 1 {
-        return true;
-    }
-    if frequency == 2 {
-        return true;
-    }
-    if frequency == 4 {
-        return true;
-    }
-    frequency == 12
-}
 
 // The whole square root of a number below 2^54, by halving an interval of 2^27: 27 steps.
 fn square_root(square: u64) -> u64
@@ -41,7 +26,7 @@ fn square_root(square: u64) -> u64
 pub fn spacing(frequency: u64, volatility: u64) -> Answer
     ensures { λ r. ⌜ r ≡ spacing-answer frequency volatility ⌝ }
 {
-    if !is_listed(frequency) {
+    if !arithmetic::is_listed(frequency) {
         return Answer {
             number: 2,
             value: 0,

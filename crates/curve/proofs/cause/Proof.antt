@@ -3,7 +3,7 @@
 use mathlib.Core.Path.{_≡_, sym, _∙_}
 use mathlib.Core.Bool.{true}
 use borrow.Author.Tests.{not-true, not-false}
-use Rattle.quotes.specs.Quotes.{listed}
+use Rattle.arithmetic.specs.Frequency.{listed}
 use Rattle.curve.specs.Curve.{inPlace}
 use Rattle.curve.proofs.CurveLaws.{placed-kinds, placed-figures, number-frequency, number-low, number-high, number-place, number-quotes, number-accepted}
 use borrow.Author.Needs.{needs}

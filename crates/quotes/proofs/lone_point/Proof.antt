@@ -3,8 +3,9 @@
 use mathlib.Core.Path.{_≡_, sym, _∙_}
 use mathlib.Core.Bool.{true}
 use borrow.Author.Tests.{not-true, not-false}
-use Rattle.quotes.specs.Quotes.{listed}
-use Rattle.quotes.proofs.QuoteLaws.{listed-small, row-low, row-high, row-known, lone-frequency, lone-row, lone-kind}
+use Rattle.arithmetic.specs.Frequency.{listed}
+use Rattle.arithmetic.proofs.FrequencyLaws.{listed-small}
+use Rattle.quotes.proofs.QuoteLaws.{row-low, row-high, row-known, lone-frequency, lone-row, lone-kind}
 use borrow.Author.Needs.{needs}
 use Rattle.quotes.proofs.lone_point.Statement.{statement}
 use Rattle.quotes.proofs.lone_point.Tie as tie

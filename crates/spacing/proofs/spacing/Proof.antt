@@ -7,8 +7,9 @@ use native.Mathlib.Nat.{mul-le-mul, div-le-self, lt-of-le-of-lt}
 use native.Mathlib.Omega.{arith}
 use borrow.Author.Needs.{needs}
 use borrow.Author.Tests.{not-true, not-false}
-use Rattle.spacing.specs.Spacing.{listed}
-use Rattle.spacing.proofs.SpacingLaws.{listed-range, cube-positive, spacing-unlisted, spacing-volatile, spacing-found}
+use Rattle.arithmetic.specs.Frequency.{listed}
+use Rattle.arithmetic.proofs.FrequencyLaws.{listed-small}
+use Rattle.spacing.proofs.SpacingLaws.{cube-positive, spacing-unlisted, spacing-volatile, spacing-found}
 use Rattle.spacing.proofs.spacing.Statement.{statement}
 use Rattle.spacing.proofs.spacing.Tie as tie
 
@@ -17,7 +18,7 @@ accepted : (c : tie.Else1) → listed (c .before .before .args .frequency) ≡ t
 accepted c = sym (c .before .is-listed .ensures) ∙ not-false _ (c .if1 .left)
 
 range : (c : tie.Else2) → (1 ≤ c .before .before .before .args .frequency) × (c .before .before .before .args .frequency ≤ 12)
-range c = listed-range _ (accepted (c .before))
+range c = listed-small _ (accepted (c .before))
 
 square-fits : {s : ℕ} → s ≤ 50000 → 1000 * s * (1000 * s) ≤ 2500000000000000
 square-fits h = omega (arith, mul-le-mul h h)

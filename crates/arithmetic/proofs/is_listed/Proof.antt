@@ -1,10 +1,10 @@
--- `quotes::is_listed` meets its contract.
+-- `arithmetic::is_listed` meets its contract.
 -- Assumes nothing.
 use borrow.Author.Tests.{eq-eqb, ne-eqb}
-use Rattle.quotes.specs.Quotes.{listed}
-use Rattle.quotes.proofs.QuoteLaws.{listed-last}
-use Rattle.quotes.proofs.is_listed.Statement.{statement}
-use Rattle.quotes.proofs.is_listed.Tie as tie
+use Rattle.arithmetic.specs.Frequency.{listed}
+use Rattle.arithmetic.proofs.FrequencyLaws.{listed-last}
+use Rattle.arithmetic.proofs.is_listed.Statement.{statement}
+use Rattle.arithmetic.proofs.is_listed.Tie as tie
 
 returns : tie.Need-returns
 unfolding listed
