@@ -91,14 +91,14 @@ up-negated (pos zero) d h = ap pos (rw mul-zero at (up-exact 0 d h)) ∙ ap (λ 
 up-negated (pos (suc a)) d h = refl
 up-negated (negsuc a) d h = sym (negℤ-negℤ (pos (up (suc a) d)))
 
+abs-negative : (n : ℕ) → natAbs (negℤ (pos n)) ≡ n
+abs-negative zero = refl
+abs-negative (suc n) = refl
+
 pub nearest-magnitude : (z : ℤ) (d : ℕ) → natAbs (nearest-signed z d) ≡ nearest (natAbs z) d
 unfolding nearest-signed
 nearest-magnitude (pos a) d = refl
 nearest-magnitude (negsuc a) d = abs-negative (nearest (suc a) d)
-  where
-    abs-negative : (n : ℕ) → natAbs (negℤ (pos n)) ≡ n
-    abs-negative zero = refl
-    abs-negative (suc n) = refl
 
 -- the nearest number of n / (2 g h), by a first division by g
 pub nearest-by-parts : (n g h : ℕ) → 0 < g → 0 < h → nearest n (g * (h * 2)) ≡ (n / g + h) / (h * 2)
@@ -145,3 +145,19 @@ product-by-parts s one g pg =
         ap (λ (a : ℕ). a + s % g * one) (sym (mul-assoc g (s / g) one))
         ∙ omega arith
         ∙ ap (λ (a : ℕ). a * one) (div-add-mod s g)
+
+-- the bounds of a quotient with a sign, by its magnitude
+pub nearest-signed-bounds : (z : ℤ) (d : ℕ) → 0 < d →
+    (2 * (d * natAbs (nearest-signed z d)) ≤ 2 * natAbs z + d) × (2 * natAbs z < 2 * (d * natAbs (nearest-signed z d)) + d)
+nearest-signed-bounds z d h = rw (nearest-magnitude z d) (nearest-le-half (natAbs z) d h, nearest-gt-half (natAbs z) d h)
+
+-- below zero, down goes away from zero and up towards it
+pub down-signed-bounds : (a d : ℕ) → 0 < d →
+    (suc a ≤ d * natAbs (down-signed (negsuc a) d)) × (d * natAbs (down-signed (negsuc a) d) < suc a + d)
+unfolding down-signed
+down-signed-bounds a d h = rw (abs-negative (up (suc a) d)) (up-ge (suc a) d h, up-lt (suc a) d h)
+
+pub up-signed-bounds : (a d : ℕ) → 0 < d →
+    (d * natAbs (up-signed (negsuc a) d) ≤ suc a) × (suc a < d * natAbs (up-signed (negsuc a) d) + d)
+unfolding up-signed
+up-signed-bounds a d h = rw (abs-negative (down (suc a) d)) (down-le (suc a) d h, down-gt (suc a) d h)
