@@ -1,16 +1,16 @@
 -- Prices that are not refused stand within their error bound of the exact price, whoever lent the discounts.
 -- Assumes nothing.
-use mathlib.Core.Path.{_≡_, refl, sym, ap, _∙_}
+use mathlib.Core.Path.{_≡_, refl}
 use mathlib.Core.Bool.{Bool, true, false, cond}
 use mathlib.Core.List.{List}
-use Prim.Native.Nat.{ℕ, suc, _+_, _*_, _^_, _≤_, _<_, max}
+use Prim.Native.Nat.{ℕ, _+_, _*_, _^_, _≤_, _<_, max}
 use native.Mathlib.Omega.{arith}
 use lib.Dec.{eqb}
 use borrow.Author.Tests.{eqb-true, eqb-false}
 use Rattle.arithmetic.specs.Rounding.{one}
 use Rattle.arithmetic.specs.Row.{values}
 use Rattle.tree.specs.Tree.{unit}
-use Rattle.lattice.specs.Shape.{row-start, discounts-needed, node-count}
+use Rattle.lattice.specs.Shape.{row-start, discounts-needed}
 use Rattle.lattice.specs.RateTree.{rate-tree}
 use Rattle.lattice.proofs.Sizes.{row-ends}
 use Rattle.lattice.proofs.RateTreeLaws.{rate-tree-sound}

@@ -1,11 +1,9 @@
 -- The entries' answers by what the code found.
 -- Assumes nothing.
-use mathlib.Core.Path.{_≡_, refl, sym, ap, subst, _∙_}
-use mathlib.Core.Bool.{Bool, true, false, cond}
+use mathlib.Core.Path.{_≡_, sym, ap, subst, _∙_}
 use mathlib.Core.List.{List}
-use Prim.Native.Nat.{ℕ, _+_, _≤_, _<_, max}
+use Prim.Native.Nat.{ℕ, _+_, _≤_, max}
 use native.Mathlib.Omega.{arith}
-use lib.Dec.{eqb}
 use lib.ListN.{length, take, length-take}
 use borrow.Author.Tests.{eq-eqb, ne-eqb}
 use Rattle.arithmetic.specs.Row.{values}
@@ -83,17 +81,18 @@ module _ (n b : ℕ) (discounts flows : List ℕ) where
   module _ (kind expiry strike : ℕ) where
     -- the bond passes the limit before expiry is reached
     pub option-late-refused :
-        (number : ℕ) (l : List ℕ) → expiry ≤ n → Bond-rolled n b discounts flows expiry number l → (number ≡ 0 → ⊥) →
-        _≡_ {A = Price} (record { number = number; value = 0; bound = 0 })
-        (priced (limit-cause (max (bond-peak n b discounts flows) (option-peak n b discounts flows kind expiry strike)))
-        (option-at n b discounts flows kind expiry strike 0 0) (bound-of n b discounts))
+        (number : ℕ) (l option : List ℕ) → expiry ≤ n → Bond-rolled n b discounts flows expiry number l → (number ≡ 0 → ⊥) →
+        Option-rolled n b discounts flows kind expiry strike number option
     unfolding bond-peak
-    option-late-refused number l h s z =
-        priced-refused number _ _ _
-        (by-order late value-limit
-        (λ low. absurd (z (s .cause ∙ limit-kept late low)))
-        (λ high. s .cause ∙ limit-over late high ∙ sym (limit-over (max (peak bonds n 0) (option-peak n b discounts flows kind expiry strike)) (omega (arith, grown)))))
-        z
+    option-late-refused number l option h s z =
+        record {
+          cause =
+              by-order late value-limit
+              (λ low. absurd (z (s .cause ∙ limit-kept late low)))
+              (λ high. s .cause ∙ limit-over late high
+              ∙ sym (limit-over (max (peak bonds n 0) (option-peak n b discounts flows kind expiry strike)) (omega (arith, grown))));
+          held = λ e. absurd (z e);
+        }
       where
         bonds : ℕ → ℕ
         bonds = greatest-value (rate-tree b) (bond-at n b discounts flows)

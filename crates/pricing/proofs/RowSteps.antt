@@ -1,9 +1,8 @@
 -- One row as the code rolls it: where branches lead, and the state of the loop over the row's nodes.
 -- Assumes nothing.
-use mathlib.Core.Path.{_≡_, refl, sym, ap, ap₂, _∙_}
-use mathlib.Core.Bool.{Bool, true, false, cond}
+use mathlib.Core.Path.{_≡_, sym, ap, ap₂, _∙_}
 use mathlib.Core.List.{List}
-use Prim.Native.Nat.{ℕ, suc, _+_, _-_, _*_, _/_, _≤_, _<_, max}
+use Prim.Native.Nat.{ℕ, _+_, _-_, _≤_, _<_, max}
 use native.Mathlib.Omega.{arith}
 use lib.ListN.{length, set}
 use borrow.Author.Tests.{lt-ltb, le-ltb, eq-eqb, ne-eqb}
@@ -16,7 +15,7 @@ use Rattle.pricing_laws.specs.Pricer.{exercise, held-or-exercised}
 use Rattle.pricing.specs.declared.rows.Branch.{Branch}
 use Rattle.pricing.specs.declared.values.Terms.{Terms}
 use Rattle.pricing.specs.Terms.{side}
-use Rattle.pricing.specs.Rows.{lowest, opposite, branch-at, branch-roll, rolled-row, bond-values, option-values, Rollable, Limited, Later, Holds}
+use Rattle.pricing.specs.Rows.{lowest, opposite, branch-at, branch-roll, rolled-row, option-values, Rollable, Limited, Later, Holds}
 
 -- where a branch leads, by the tests that the code makes
 module _ (count next k : ℕ) where

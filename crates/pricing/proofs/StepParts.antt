@@ -1,8 +1,8 @@
 -- One step back, in the code's terms: the row's shape, and its parts of the table and of the discounts.
 -- Assumes nothing.
-use mathlib.Core.Path.{_≡_, refl, sym, ap, ap₂, _∙_, subst}
+use mathlib.Core.Path.{_≡_, refl, ap, ap₂, _∙_}
 use mathlib.Core.List.{List}
-use Prim.Native.Nat.{ℕ, zero, suc, _+_, _-_, _*_, _/_, _≤_, _<_, max}
+use Prim.Native.Nat.{ℕ, suc, _+_, _-_, _*_, _/_, _≤_, _<_, max}
 use native.Mathlib.Nat.{mul-le-mul}
 use native.Mathlib.Omega.{arith}
 use lib.ListN.{length, take, drop}
@@ -16,7 +16,7 @@ use Rattle.lattice.proofs.Sizes.{count-within}
 use Rattle.pricing_laws.specs.TreePricer.{greatest-discount}
 use Rattle.pricing.specs.declared.values.Terms.{Terms}
 use Rattle.pricing.specs.declared.walk.RowShape.{RowShape}
-use Rattle.pricing.specs.Prices.{discount-at}
+use Rattle.pricing.specs.Prices.{discount-at, flow-at}
 use Rattle.pricing.specs.Rows.{bond-values, option-values, Rollable, Later, Holds}
 use Rattle.pricing.specs.Trees.{Accepted, down-table, row-shape, bond-step, option-step}
 use Rattle.pricing.proofs.TreeRows.{table-fits, table-part, discounts-fit, discount-part, discount-part-length, discount-within, rollable, bond-row-is, option-row-is, greatest-discount-is}
@@ -41,10 +41,16 @@ module _ (n b i : ℕ) (discounts : List ℕ) (a : Accepted n b discounts) (hi :
   pub discount-room : s .start + s .count ≤ length discounts
   discount-room = rw (start-is, count-is) (discounts-fit n b i hi discounts a)
 
-  pub later-next : (later : List ℕ) → Later later (node-count b (i + 1)) → Later later (s .next)
-  later-next later l =
+  -- a copy of a later row that may be rolled back
+  pub later-copied : (later row : List ℕ) → Holds later 121 (values row) → 121 ≤ length later → Later row (node-count b (i + 1)) → Later later (s .next)
+  later-copied later row c room l =
       let z : i + 1 ≡ suc i = omega arith in
-      rw next-is (rw z at l)
+      let n = count-within b (suc i) (omega (arith, a .few)) in
+      rw (next-is, ← z)
+      (record {
+        room = omega (arith, ap (node-count b) z);
+        limited = λ k h. omega (arith, c k (omega (arith, ap (node-count b) z)), l .limited k h);
+      })
 
   module _ (part : List ℕ) (ep : part ≡ take (s .count) (drop (s .start) discounts)) where
     part-is : part ≡ discount-part n b i hi discounts a
@@ -65,23 +71,25 @@ module _ (n b i : ℕ) (discounts : List ℕ) (a : Accepted n b discounts) (hi :
         pub part-rollable : Rollable table part (s .next)
         part-rollable = rw (table-is, part-is, next-is) (rollable n b i hi discounts a)
 
-        pub part-bond :
-            (later : List ℕ) (flow top : ℕ) (row : List ℕ) →
-            Holds row (length part) (bond-values later table part (s .next) flow) × (top ≡ greatest (length part) (bond-values later table part (s .next) flow)) →
-            Holds row (node-count b i) (bond-step b discounts i later flow) × (top ≡ greatest (node-count b i) (bond-step b discounts i later flow))
-        part-bond later flow top row h = bond-row-is n b i hi discounts a later flow top row (rw (table-is, part-is, next-is) at h)
+        module _ (flows : List ℕ) (flow : ℕ) (ef : flow ≡ flow-at flows i) where
+          pub part-bond :
+              (later row : List ℕ) (top : ℕ) (after : List ℕ) → Holds later 121 (values row) →
+              Holds after (length part) (bond-values later table part (s .next) flow) × (top ≡ greatest (length part) (bond-values later table part (s .next) flow)) →
+              Holds after (node-count b i) (bond-step b discounts flows i row) × (top ≡ greatest (node-count b i) (bond-step b discounts flows i row))
+          part-bond later row top after c h = bond-row-is n b i hi discounts a flows flow ef later row top after c (rw (table-is, part-is, next-is) at h)
 
-        pub part-option :
-            (terms : Terms) (bonds options : List ℕ) (flow top : ℕ) (bond option : List ℕ) →
-            Holds bond (length part) (bond-values bonds table part (s .next) flow)
-            × Holds option (length part) (option-values terms bonds options table part (s .next) flow)
-            × (top ≡ greatest (length part)
-            (λ k. max (bond-values bonds table part (s .next) flow k) (option-values terms bonds options table part (s .next) flow k))) →
-            Holds bond (node-count b i) (bond-step b discounts i bonds flow)
-            × Holds option (node-count b i) (option-step terms b discounts i bonds options flow)
-            × (top ≡ greatest (node-count b i) (λ k. max (bond-step b discounts i bonds flow k) (option-step terms b discounts i bonds options flow k)))
-        part-option terms bonds options flow top bond option h =
-            option-row-is n b i hi discounts a terms bonds options flow top bond option (rw (table-is, part-is, next-is) at h)
+          pub part-option :
+              (terms : Terms) (bonds options bond option : List ℕ) (top : ℕ) (bond′ option′ : List ℕ) →
+              Holds bonds 121 (values bond) → Holds options 121 (values option) →
+              Holds bond′ (length part) (bond-values bonds table part (s .next) flow)
+              × Holds option′ (length part) (option-values terms bonds options table part (s .next) flow)
+              × (top ≡ greatest (length part)
+              (λ k. max (bond-values bonds table part (s .next) flow k) (option-values terms bonds options table part (s .next) flow k))) →
+              Holds bond′ (node-count b i) (bond-step b discounts flows i bond)
+              × Holds option′ (node-count b i) (option-step terms b discounts flows i bond option)
+              × (top ≡ greatest (node-count b i) (λ k. max (bond-step b discounts flows i bond k) (option-step terms b discounts flows i bond option k)))
+          part-option terms bonds options bond option top bond′ option′ cb co h =
+              option-row-is n b i hi discounts a flows flow ef terms bonds options bond option top bond′ option′ cb co (rw (table-is, part-is, next-is) at h)
 
   pub table-room : (downs : List ℕ) → downs ≡ down-table n b → s .offset + s .count ≤ length downs
   table-room downs e = rw (e, offset-is, count-is) (table-fits n b i hi)

@@ -2,7 +2,7 @@
 -- Assumes nothing.
 use mathlib.Core.Path.{_≡_, refl, sym, ap, ap₂, _∙_}
 use mathlib.Core.List.{List}
-use Prim.Native.Nat.{ℕ, zero, suc, _+_, _-_, _*_, _/_, _≤_, _<_, max}
+use Prim.Native.Nat.{ℕ, zero, suc, _+_, _-_, _*_, _≤_, _<_, max}
 use native.Mathlib.Nat.{le-refl}
 use native.Mathlib.Omega.{arith}
 use lib.ListN.{length, take, drop, length-take, length-drop}
@@ -10,7 +10,6 @@ use lib.Seq.{getD-take, getD-drop}
 use Rattle.arithmetic.specs.Row.{row, values}
 use Rattle.arithmetic.specs.Sum.{greatest}
 use Rattle.arithmetic.proofs.SumLaws.{greatest-cong}
-use Rattle.arithmetic.specs.Answers.{answered}
 use Rattle.arithmetic.specs.declared.Answer.{Answer}
 use Rattle.arithmetic.proofs.Numbers.{by-order, by-equal}
 use Rattle.arithmetic.proofs.RowLaws.{length-row, values-row}
@@ -19,15 +18,15 @@ use Rattle.lattice.specs.Shape.{half-width, node-count, row-start}
 use Rattle.lattice.specs.Branching.{up, middle, down}
 use Rattle.lattice.specs.RateTree.{node-at, node, low, rate-tree}
 use Rattle.lattice.specs.Entries.{about-row}
-use Rattle.lattice.proofs.Sizes.{half-within, half-grows, half-next, row-within, within-row, row-ends}
+use Rattle.lattice.proofs.Sizes.{half-within, half-grows, row-within, within-row, row-ends, count-within}
 use Rattle.lattice.proofs.EntryLaws.{row-found}
-use Rattle.lattice.proofs.RateTreeLaws.{low-within, low-growing, low-lowest, low-highest, low-inner, index-laws}
-use Rattle.lattice.proofs.TableLaws.{down-from-table, up-from-table, middle-is-rest}
+use Rattle.lattice.proofs.RateTreeLaws.{rate-tree-sound, low-within, low-growing, low-lowest, low-highest, low-inner, index-laws}
+use Rattle.lattice.proofs.TableLaws.{down-from-table, up-from-table}
 use Rattle.pricing_laws.specs.Pricer.{exercise, held-or-exercised}
 use Rattle.pricing_laws.specs.TreePricer.{roll-rounding, node-roll, roll, greatest-discount}
 use Rattle.pricing.specs.declared.values.Terms.{Terms}
 use Rattle.pricing.specs.Terms.{side}
-use Rattle.pricing.specs.declared.rows.Branch.{Branch}
+use Rattle.pricing_laws.proofs.PriceLaws.{roll-same}
 use Rattle.pricing.specs.declared.walk.RowShape.{RowShape}
 use Rattle.pricing.specs.Prices.{discount-at, flow-at}
 use Rattle.pricing.specs.Rows.{lowest, opposite, branch-at, branch-roll, rolled-row, bond-values, option-values, Rollable, Holds}
@@ -161,37 +160,57 @@ module _ (n b i : ℕ) (hi : i < n) where
         = ap (λ (x : ℕ). lowest x (node-count b (suc i)) k) table-part-length ∙ lowest-is b i k h in
         rw (l, m, table-down k h, table-up k h, discount-part-at k h)
 
-    -- a row of the bond, and of the option beside it, as the code gives them
-    pub bond-row-is :
-        (later : List ℕ) (flow top : ℕ) (row : List ℕ) →
-        Holds row (length discount-part) (bond-values later table-part discount-part (node-count b (suc i)) flow)
-        × (top ≡ greatest (length discount-part) (bond-values later table-part discount-part (node-count b (suc i)) flow)) →
-        Holds row (node-count b i) (bond-step b discounts i later flow) × (top ≡ greatest (node-count b i) (bond-step b discounts i later flow))
-    bond-row-is later flow top row (h, t) =
-        let e : (k : ℕ) → k < node-count b i → bond-values later table-part discount-part (node-count b (suc i)) flow k ≡ bond-step b discounts i later flow k
-        = λ k l. ap (λ (x : ℕ). x + flow) (rolled-is later k l) in
-        (λ k l. h k (rw discount-part-length l) ∙ e k l, t ∙ rw discount-part-length (greatest-cong (node-count b i) _ _ e))
+    -- a copy of the later row is rolled alike
+    rolled-copy : (later row : List ℕ) → Holds later 121 (values row) → (k : ℕ) → k < node-count b i → rolled-at b discounts i later k ≡ rolled-at b discounts i row k
+    unfolding rolled-at rate-tree
+    rolled-copy later row h k l =
+        roll-same (rate-tree b) (rate-tree-sound b (a .reverting)) (discount-at b discounts) roll-rounding i (values later) (values row)
+        (λ j g. h j (omega (arith, count-within b (suc i) (omega (arith, a .few))))) k l
 
-    pub option-row-is :
-        (terms : Terms) (bonds options : List ℕ) (flow top : ℕ) (bond option : List ℕ) →
-        Holds bond (length discount-part) (bond-values bonds table-part discount-part (node-count b (suc i)) flow)
-        × Holds option (length discount-part) (option-values terms bonds options table-part discount-part (node-count b (suc i)) flow)
-        × (top ≡ greatest (length discount-part)
-        (λ k. max (bond-values bonds table-part discount-part (node-count b (suc i)) flow k)
-        (option-values terms bonds options table-part discount-part (node-count b (suc i)) flow k))) →
-        Holds bond (node-count b i) (bond-step b discounts i bonds flow)
-        × Holds option (node-count b i) (option-step terms b discounts i bonds options flow)
-        × (top ≡ greatest (node-count b i) (λ k. max (bond-step b discounts i bonds flow k) (option-step terms b discounts i bonds options flow k)))
-    option-row-is terms bonds options flow top bond option (h, g, t) =
-        let e : (k : ℕ) → k < node-count b i → bond-values bonds table-part discount-part (node-count b (suc i)) flow k ≡ bond-step b discounts i bonds flow k
-        = λ k l. ap (λ (x : ℕ). x + flow) (rolled-is bonds k l) in
-        let f : (k : ℕ) → k < node-count b i →
-        option-values terms bonds options table-part discount-part (node-count b (suc i)) flow k ≡ option-step terms b discounts i bonds options flow k
-        = λ k l. ap₂ (λ (x y : ℕ). held-or-exercised (terms .listed) x (exercise (side (terms .call)) (terms .strike) y)) (rolled-is options k l) (e k l) in (
-          λ k l. h k (rw discount-part-length l) ∙ e k l,
-          λ k l. g k (rw discount-part-length l) ∙ f k l,
-          t ∙ rw discount-part-length (greatest-cong (node-count b i) _ _ (λ k l. ap₂ max (e k l) (f k l))),
-        )
+    -- a row of the bond, and of the option beside it, as the code gives them
+    module _ (flows : List ℕ) (flow : ℕ) (ef : flow ≡ flow-at flows i) where
+      bond-value-is :
+          (later row : List ℕ) → Holds later 121 (values row) → (k : ℕ) → k < node-count b i →
+          bond-values later table-part discount-part (node-count b (suc i)) flow k ≡ bond-step b discounts flows i row k
+      bond-value-is later row c k l = ap₂ (λ (x y : ℕ). x + y) (rolled-is later k l ∙ rolled-copy later row c k l) ef
+
+      pub bond-row-is :
+          (later row : List ℕ) (top : ℕ) (after : List ℕ) → Holds later 121 (values row) →
+          Holds after (length discount-part) (bond-values later table-part discount-part (node-count b (suc i)) flow)
+          × (top ≡ greatest (length discount-part) (bond-values later table-part discount-part (node-count b (suc i)) flow)) →
+          Holds after (node-count b i) (bond-step b discounts flows i row) × (top ≡ greatest (node-count b i) (bond-step b discounts flows i row))
+      bond-row-is later row top after c (h, t) = (
+        λ k l. h k (rw discount-part-length l) ∙ bond-value-is later row c k l,
+        t ∙ rw discount-part-length (greatest-cong (node-count b i) _ _ (bond-value-is later row c)),
+      )
+
+      option-value-is :
+          (terms : Terms) (bonds options bond option : List ℕ) → Holds bonds 121 (values bond) → Holds options 121 (values option) →
+          (k : ℕ) → k < node-count b i →
+          option-values terms bonds options table-part discount-part (node-count b (suc i)) flow k
+          ≡ option-step terms b discounts flows i bond option k
+      option-value-is terms bonds options bond option cb co k l =
+          ap₂ (λ (x y : ℕ). held-or-exercised (terms .listed) x (exercise (side (terms .call)) (terms .strike) y))
+          (rolled-is options k l ∙ rolled-copy options option co k l) (bond-value-is bonds bond cb k l)
+
+      pub option-row-is :
+          (terms : Terms) (bonds options bond option : List ℕ) (top : ℕ) (bond′ option′ : List ℕ) →
+          Holds bonds 121 (values bond) → Holds options 121 (values option) →
+          Holds bond′ (length discount-part) (bond-values bonds table-part discount-part (node-count b (suc i)) flow)
+          × Holds option′ (length discount-part) (option-values terms bonds options table-part discount-part (node-count b (suc i)) flow)
+          × (top ≡ greatest (length discount-part)
+          (λ k. max (bond-values bonds table-part discount-part (node-count b (suc i)) flow k)
+          (option-values terms bonds options table-part discount-part (node-count b (suc i)) flow k))) →
+          Holds bond′ (node-count b i) (bond-step b discounts flows i bond)
+          × Holds option′ (node-count b i) (option-step terms b discounts flows i bond option)
+          × (top ≡ greatest (node-count b i) (λ k. max (bond-step b discounts flows i bond k) (option-step terms b discounts flows i bond option k)))
+      option-row-is terms bonds options bond option top bond′ option′ cb co (h, g, t) = (
+        λ k l. h k (rw discount-part-length l) ∙ bond-value-is bonds bond cb k l,
+        λ k l. g k (rw discount-part-length l) ∙ option-value-is terms bonds options bond option cb co k l,
+        t ∙ rw discount-part-length
+            (greatest-cong (node-count b i) _ _
+            (λ k l. ap₂ max (bond-value-is bonds bond cb k l) (option-value-is terms bonds options bond option cb co k l))),
+      )
 
     -- the greatest discount of the row
     pub greatest-discount-is : (g : ℕ) → g ≡ greatest (length discount-part) (values discount-part) → g ≡ greatest-discount (rate-tree b) (discount-at b discounts) i

@@ -3,18 +3,17 @@
 use mathlib.Core.Path.{_≡_, refl, sym, ap, ap₂, _∙_, subst}
 use mathlib.Core.Bool.{Bool, true, false, cond, _||_}
 use mathlib.Core.List.{List}
-use Prim.Native.Nat.{ℕ, zero, suc, _+_, _-_, _*_, _/_, _≤_, _<_, max}
+use Prim.Native.Nat.{ℕ, zero, suc, _+_, _-_, _*_, _≤_, _<_, max}
 use native.Mathlib.Nat.{le-refl}
 use native.Mathlib.Omega.{arith}
-use lib.Dec.{eqb, leb, ltb}
+use lib.Dec.{eqb, leb}
 use lib.ListN.{length}
-use borrow.Author.Tests.{lt-ltb, le-ltb, ltb-false, lt-leb, le-leb}
-use Rattle.arithmetic.specs.Rounding.{one, up}
+use borrow.Author.Tests.{lt-ltb, le-ltb}
+use Rattle.arithmetic.specs.Rounding.{up}
 use Rattle.arithmetic.specs.Row.{values}
 use Rattle.arithmetic.specs.Sum.{greatest}
 use Rattle.arithmetic.proofs.Numbers.{by-order}
 use Rattle.arithmetic.proofs.SumLaws.{greatest-cong}
-use Rattle.tree.specs.Tree.{Tree}
 use Rattle.lattice.specs.Shape.{node-count}
 use Rattle.lattice.specs.RateTree.{rate-tree}
 use Rattle.lattice.proofs.Sizes.{count-within, count-positive}
@@ -23,13 +22,13 @@ use Rattle.pricing_laws.specs.Pricer.{rounded, bond, option, Side, Schedule, ex
 use Rattle.pricing_laws.specs.Schedule.{side-of, schedule-of, european, american}
 use Rattle.pricing_laws.specs.TreePricer.{roll-rounding, roll-loss, roll, greatest-discount, price-error-bound}
 use Rattle.pricing_laws.specs.Peak.{value-limit, peak, greatest-value}
-use Rattle.pricing_laws.proofs.Peaks.{peak-grows, row-in-peak}
+use Rattle.pricing_laws.proofs.Peaks.{peak-grows}
 use Rattle.pricing_laws.proofs.PriceLaws.{On, row-greatest, roll-local, error-bound-small}
 use Rattle.pricing_laws.proofs.Recurrences.{error-bound-last, error-bound-before, schedule-last}
 use Rattle.pricing_laws.proofs.Backward as back
 use Rattle.pricing.specs.declared.values.Terms.{Terms}
 use Rattle.pricing.specs.Prices.{discount-at, flow-at, bond-at, option-at, bound-of, limit-cause, bond-peak, option-peak}
-use Rattle.pricing.specs.Rows.{Limited, Later, Holds}
+use Rattle.pricing.specs.Rows.{Later, Holds}
 use Rattle.pricing.specs.Terms.{side, terms-of}
 use Rattle.pricing.specs.Trees.{Accepted, Accepted-flows, rolled-at, bond-step, option-step, Bond-rolled, Option-rolled}
 use Rattle.pricing.proofs.TreeRows.{discount-within, flow-within}
@@ -94,12 +93,6 @@ module _ (n b : ℕ) (discounts flows : List ℕ) (a : Accepted n b discounts) (
       back.bond-first n (On (rate-tree b)) (top b) great the-roll local (flow-at flows) (values l)
       (omega (arith, flow-within n flows f n (le-refl n))) (λ k hk. h k (narrow n k (le-refl n) hk))
 
-  -- a copy of the row
-  pub bonds-copied : (i : ℕ) (l later : List ℕ) → Holds later 121 (values l) → Bonds n b discounts flows i l → Bonds n b discounts flows i later
-  unfolding Bonds rate-tree
-  bonds-copied i l later h s =
-      record { in-tree = s .in-tree; held = λ k hk. h k (narrow i k (s .in-tree) hk) ∙ s .held k hk; within-limit = s .within-limit }
-
   pub bonds-later : (i : ℕ) (later : List ℕ) → 121 ≤ length later → Bonds n b discounts flows i later → Later later (node-count b i)
   unfolding Bonds rate-tree
   bonds-later i later room s =
@@ -110,7 +103,7 @@ module _ (n b : ℕ) (discounts flows : List ℕ) (a : Accepted n b discounts) (
 
   -- one row back
   module _ (r : ℕ) (later : List ℕ) (some : 0 < r) (s : Bonds n b discounts flows r later) (l : List ℕ)
-      (h : Holds l (node-count b (r - 1)) (bond-step b discounts (r - 1) later (flow-at flows (r - 1)))) where
+      (h : Holds l (node-count b (r - 1)) (bond-step b discounts flows (r - 1) later)) where
     before : Bonds n b discounts flows (suc (r - 1)) later
     before = let e : r ≡ suc (r - 1) = omega arith in subst (λ (x : ℕ). Bonds n b discounts flows x later) e s
 
@@ -216,17 +209,6 @@ module _ (n b : ℕ) (discounts flows : List ℕ) (a : Accepted n b discounts) (
               h k (narrow (the-rows .last) k (omega (arith, schedule-last kind expiry)) hk)
               ∙ ap₂ (λ (x : Side) (y : ℕ). exercise x y (values bonds k)) side-is strike-is
 
-      pub options-copied :
-          (i : ℕ) (l later : List ℕ) → Holds later 121 (values l) → Options n b discounts flows kind expiry strike i l →
-          Options n b discounts flows kind expiry strike i later
-      unfolding Options rate-tree
-      options-copied i l later h s =
-          record {
-            before-last = s .before-last;
-            held = λ k hk. h k (narrow i k (omega (arith, s .before-last, schedule-last kind expiry)) hk) ∙ s .held k hk;
-            within-limit = s .within-limit;
-          }
-
       pub options-later :
           (i : ℕ) (later : List ℕ) → 121 ≤ length later → Options n b discounts flows kind expiry strike i later → Later later (node-count b i)
       unfolding Options rate-tree
@@ -240,12 +222,12 @@ module _ (n b : ℕ) (discounts flows : List ℕ) (a : Accepted n b discounts) (
       -- one row back, bond and option together
       module _ (r : ℕ) (bonds options : List ℕ) (some : 0 < r) (sb : Bonds n b discounts flows r bonds)
           (so : Options n b discounts flows kind expiry strike r options) (bond option : List ℕ)
-          (hb : Holds bond (node-count b (r - 1)) (bond-step b discounts (r - 1) bonds (flow-at flows (r - 1))))
-          (ho : Holds option (node-count b (r - 1)) (option-step terms b discounts (r - 1) bonds options (flow-at flows (r - 1))))
+          (hb : Holds bond (node-count b (r - 1)) (bond-step b discounts flows (r - 1) bonds))
+          (ho : Holds option (node-count b (r - 1)) (option-step terms b discounts flows (r - 1) bonds options))
           (found : ℕ)
           (ef : found ≡ greatest (node-count b (r - 1))
-          (λ k. max (bond-step b discounts (r - 1) bonds (flow-at flows (r - 1)) k)
-          (option-step terms b discounts (r - 1) bonds options (flow-at flows (r - 1)) k))) where
+          (λ k. max (bond-step b discounts flows (r - 1) bonds k)
+          (option-step terms b discounts flows (r - 1) bonds options k))) where
         options-before : Options n b discounts flows kind expiry strike (suc (r - 1)) options
         options-before =
             let e : r ≡ suc (r - 1) = omega arith in subst (λ (x : ℕ). Options n b discounts flows kind expiry strike x options) e so
@@ -260,10 +242,10 @@ module _ (n b : ℕ) (discounts flows : List ℕ) (a : Accepted n b discounts) (
         option-value-is k h =
             ho k h
             ∙ ap (λ (t : Bool). held-or-exercised t (rolled-at b discounts (r - 1) options k)
-            (exercise (side (terms .call)) (terms .strike) (bond-step b discounts (r - 1) bonds (flow-at flows (r - 1)) k)))
+            (exercise (side (terms .call)) (terms .strike) (bond-step b discounts flows (r - 1) bonds k)))
             (listed-is (r - 1))
             ∙ ap (held-or-exercised (the-rows .listed (r - 1)) (rolled-at b discounts (r - 1) options k))
-            (ap₂ (λ (x : Side) (y : ℕ). exercise x y (bond-step b discounts (r - 1) bonds (flow-at flows (r - 1)) k)) side-is strike-is
+            (ap₂ (λ (x : Side) (y : ℕ). exercise x y (bond-step b discounts flows (r - 1) bonds k)) side-is strike-is
             ∙ ap (exercise (side-of kind) strike) (sym (hb k h)))
 
         bond-found : ℕ

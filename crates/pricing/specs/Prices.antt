@@ -8,7 +8,7 @@ use lib.ListN.{length}
 use Rattle.arithmetic.specs.Row.{values, each}
 use Rattle.lattice.specs.Shape.{row-start, discounts-needed}
 use Rattle.lattice.specs.RateTree.{rate-tree}
-use Rattle.pricing_laws.specs.Pricer.{Pricer, bond, option}
+use Rattle.pricing_laws.specs.Pricer.{bond, option}
 use Rattle.pricing_laws.specs.Schedule.{side-of, schedule-of}
 use Rattle.pricing_laws.specs.TreePricer.{engine, price-error-bound}
 use Rattle.pricing_laws.specs.Peak.{value-limit, peak, greatest-value}

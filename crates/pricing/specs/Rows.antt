@@ -1,15 +1,15 @@
 -- One row, as the code holds it: the later row, the row's discounts, and the row's part of the table of down-probabilities.
 -- Assumes nothing.
 use mathlib.Core.Path.{_≡_}
-use mathlib.Core.Bool.{Bool, cond}
+use mathlib.Core.Bool.{cond}
 use mathlib.Core.List.{List}
-use Prim.Native.Nat.{ℕ, suc, _+_, _-_, _*_, _≤_, _<_, max}
+use Prim.Native.Nat.{ℕ, _+_, _-_, _*_, _≤_, _<_}
 use lib.Dec.{eqb, ltb}
 use lib.ListN.{length}
 use Rattle.arithmetic.specs.Rounding.{one}
 use Rattle.arithmetic.specs.Row.{values}
 use Rattle.tree.specs.Tree.{whole}
-use Rattle.pricing_laws.specs.Pricer.{Side, exercise, held-or-exercised}
+use Rattle.pricing_laws.specs.Pricer.{exercise, held-or-exercised}
 use Rattle.pricing_laws.specs.TreePricer.{roll-rounding}
 use Rattle.pricing.specs.declared.rows.Branch.{Branch}
 use Rattle.pricing.specs.declared.values.Terms.{Terms}

@@ -13,7 +13,7 @@ use Rattle.pricing_laws.specs.Peak.{peak, greatest-value}
 use Rattle.pricing_laws.specs.TreePricer.{roll-rounding, roll}
 use Rattle.pricing.specs.declared.walk.RowShape.{RowShape}
 use Rattle.pricing.specs.declared.values.Terms.{Terms}
-use Rattle.pricing.specs.Prices.{discount-at, bond-at, option-at, bond-peak, option-peak, limit-cause}
+use Rattle.pricing.specs.Prices.{discount-at, flow-at, bond-at, option-at, bond-peak, option-peak, limit-cause}
 use Rattle.pricing.specs.Rows.{Holds}
 use Rattle.pricing.specs.Terms.{side}
 
@@ -43,13 +43,13 @@ unfoldable pub rolled-at : ℕ → List ℕ → ℕ → List ℕ → ℕ → ℕ
 rolled-at b discounts i later = roll (rate-tree b) (discount-at b discounts) roll-rounding i (values later)
 
 -- row i of the bond and of the option, from the later rows
-abbrev pub bond-step : ℕ → List ℕ → ℕ → List ℕ → ℕ → ℕ → ℕ
-bond-step b discounts i later flow k = rolled-at b discounts i later k + flow
+abbrev pub bond-step : ℕ → List ℕ → List ℕ → ℕ → List ℕ → ℕ → ℕ
+bond-step b discounts flows i later k = rolled-at b discounts i later k + flow-at flows i
 
-abbrev pub option-step : Terms → ℕ → List ℕ → ℕ → List ℕ → List ℕ → ℕ → ℕ → ℕ
-option-step terms b discounts i bonds options flow k =
+abbrev pub option-step : Terms → ℕ → List ℕ → List ℕ → ℕ → List ℕ → List ℕ → ℕ → ℕ
+option-step terms b discounts flows i bonds options k =
     held-or-exercised (terms .listed) (rolled-at b discounts i options k)
-    (exercise (side (terms .call)) (terms .strike) (bond-step b discounts i bonds flow k))
+    (exercise (side (terms .call)) (terms .strike) (bond-step b discounts flows i bonds k))
 
 -- the bond rolled back to row i: 12 where a value on the way is above the limit, else the row
 pub record Bond-rolled (n b : ℕ) (discounts flows : List ℕ) (i : ℕ) (number : ℕ) (row : List ℕ) : Type 0 where

@@ -74,7 +74,7 @@ fn priced_bond(
     }
 }
 
-// The option of an accepted tree: the bond is rolled back to expiry, then both together.
+// The option of an accepted tree, in memory that is lent for the table, two rows and the rows after them.
 fn priced_option(
     steps: usize,
     reversion: u64,
@@ -93,20 +93,7 @@ fn priced_option(
     ensures { λ r. ⌜ r ≡ priced (limit-cause (max (bond-peak steps reversion (now (discounts .entry)) (now (flows .entry))) (option-peak steps reversion (now (discounts .entry)) (now (flows .entry)) kind expiry strike))) (option-at steps reversion (now (discounts .entry)) (now (flows .entry)) kind expiry strike 0 0) (bound-of steps reversion (now (discounts .entry))) ⌝ }
 {
     fill_table(steps, reversion, table);
-    let late = walk::roll_bond(
-        steps,
-        reversion,
-        expiry,
-        table,
-        discounts,
-        flows,
-        bond,
-        bonds,
-    );
-    if late != 0 {
-        return refused(late);
-    }
-    let number = walk::roll_option(
+    let number = walk::roll_both(
         steps,
         reversion,
         kind,

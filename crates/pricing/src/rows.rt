@@ -1,6 +1,6 @@
 // One row of the tree, rolled back from the row after it.
+use crate::values;
 use crate::values::Terms;
-use crate::values::{self};
 ghost use mathlib.Core.Path.{_≡_};
 ghost use Prim.Native.Nat.{ℕ, _+_, _-_, _*_, _<_, _≤_, max};
 ghost use lib.ListN.{length};

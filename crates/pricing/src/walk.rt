@@ -1,8 +1,8 @@
 // The way back through the tree, row by row.
 use crate::causes;
 use crate::rows;
+use crate::values;
 use crate::values::Terms;
-use crate::values::{self};
 ghost use mathlib.Core.Path.{_≡_};
 ghost use Prim.Native.Nat.{ℕ, _+_, _-_, _*_, _<_, _≤_, max};
 ghost use lib.ListN.{length, take, drop};
@@ -15,6 +15,12 @@ ghost use Rattle.pricing_laws.specs.TreePricer.{greatest-discount, roll-loss};
 ghost use Rattle.pricing.specs.Prices.{discount-at, flow-at, bound-of};
 ghost use Rattle.pricing.specs.Rows.{Later, Holds};
 ghost use Rattle.pricing.specs.Trees.{Accepted, Accepted-flows, down-table, row-shape, bond-step, option-step, Bond-rolled, Option-rolled};
+
+// The nodes of the widest row.
+const MOST_NODES: usize = 121;
+
+// No value may be above 8 × one.
+const VALUE_LIMIT: u64 = 8_000_000_000;
 
 // Where a row stands in the discounts and in the table of down-probabilities, its node count and the next row's.
 struct RowShape {
@@ -60,51 +66,54 @@ fn part(memory: &[u64], start: usize, count: usize) -> &[u64]
     &memory[start..end]
 }
 
-// Row `row` of the bond from the later row, with its flow. Gives the row's greatest value.
+// The bond one row back, with the row's flow; the row after it is copied to `later` first. Gives the row's greatest value.
 fn bond_step(
     steps: usize,
     reversion: u64,
     row: usize,
     downs: &[u64],
     discounts: &[u64],
-    flow: u64,
-    later: &[u64],
+    flows: &[u64],
     bond: &mut [u64],
+    later: &mut [u64],
 ) -> u64
-    requires { ⌜ Accepted steps reversion (now discounts) × (row < steps) × (now downs ≡ down-table steps reversion) × (flow ≤ 2000000000) × Later (now later) (node-count reversion (row + 1)) × (121 ≤ length (now bond)) ⌝ }
-    ensures { λ r. ⌜ Holds (now (bond .exit)) (node-count reversion row) (bond-step reversion (now (discounts .entry)) row (now (later .entry)) flow)
-        × (r ≡ greatest (node-count reversion row) (bond-step reversion (now (discounts .entry)) row (now (later .entry)) flow)) ⌝ }
+    requires { ⌜ Accepted steps reversion (now discounts) × Accepted-flows steps (now flows) × (row < steps) × (now downs ≡ down-table steps reversion) × Later (now bond) (node-count reversion (row + 1)) × (121 ≤ length (now bond)) × (121 ≤ length (now later)) ⌝ }
+    ensures { λ r. ⌜ Holds (now (bond .exit)) (node-count reversion row) (bond-step reversion (now (discounts .entry)) (now (flows .entry)) row (now (bond .entry)))
+        × (r ≡ greatest (node-count reversion row) (bond-step reversion (now (discounts .entry)) (now (flows .entry)) row (now (bond .entry)))) ⌝ }
 {
+    rows::copy_row(bond, MOST_NODES, later);
     let shape = row_shape(steps, reversion, row);
     rows::bond_row(
         later,
         part(downs, shape.offset, shape.count),
         part(discounts, shape.start, shape.count),
         shape.next,
-        flow,
+        flow_of(flows, row),
         bond,
     )
 }
 
-// Row `row` of bond and option from the later rows. Gives the greatest value of both.
+// Bond and option one row back; the rows after it are copied to `bonds` and `options` first. Gives the greatest value of both.
 fn option_step(
     steps: usize,
     reversion: u64,
     row: usize,
     downs: &[u64],
     discounts: &[u64],
-    flow: u64,
+    flows: &[u64],
     terms: Terms,
-    bonds: &[u64],
-    options: &[u64],
     bond: &mut [u64],
     option: &mut [u64],
+    bonds: &mut [u64],
+    options: &mut [u64],
 ) -> u64
-    requires { ⌜ Accepted steps reversion (now discounts) × (row < steps) × (now downs ≡ down-table steps reversion) × (flow ≤ 2000000000) × Later (now bonds) (node-count reversion (row + 1)) × Later (now options) (node-count reversion (row + 1)) × (121 ≤ length (now bond)) × (121 ≤ length (now option)) ⌝ }
-    ensures { λ r. ⌜ Holds (now (bond .exit)) (node-count reversion row) (bond-step reversion (now (discounts .entry)) row (now (bonds .entry)) flow)
-        × Holds (now (option .exit)) (node-count reversion row) (option-step terms reversion (now (discounts .entry)) row (now (bonds .entry)) (now (options .entry)) flow)
-        × (r ≡ greatest (node-count reversion row) (λ k. max (bond-step reversion (now (discounts .entry)) row (now (bonds .entry)) flow k) (option-step terms reversion (now (discounts .entry)) row (now (bonds .entry)) (now (options .entry)) flow k))) ⌝ }
+    requires { ⌜ Accepted steps reversion (now discounts) × Accepted-flows steps (now flows) × (row < steps) × (now downs ≡ down-table steps reversion) × Later (now bond) (node-count reversion (row + 1)) × Later (now option) (node-count reversion (row + 1)) × (121 ≤ length (now bond)) × (121 ≤ length (now option)) × (121 ≤ length (now bonds)) × (121 ≤ length (now options)) ⌝ }
+    ensures { λ r. ⌜ Holds (now (bond .exit)) (node-count reversion row) (bond-step reversion (now (discounts .entry)) (now (flows .entry)) row (now (bond .entry)))
+        × Holds (now (option .exit)) (node-count reversion row) (option-step terms reversion (now (discounts .entry)) (now (flows .entry)) row (now (bond .entry)) (now (option .entry)))
+        × (r ≡ greatest (node-count reversion row) (λ k. max (bond-step reversion (now (discounts .entry)) (now (flows .entry)) row (now (bond .entry)) k) (option-step terms reversion (now (discounts .entry)) (now (flows .entry)) row (now (bond .entry)) (now (option .entry)) k))) ⌝ }
 {
+    rows::copy_row(bond, MOST_NODES, bonds);
+    rows::copy_row(option, MOST_NODES, options);
     let shape = row_shape(steps, reversion, row);
     rows::option_row(
         bonds,
@@ -112,7 +121,7 @@ fn option_step(
         part(downs, shape.offset, shape.count),
         part(discounts, shape.start, shape.count),
         shape.next,
-        flow,
+        flow_of(flows, row),
         terms,
         bond,
         option,
@@ -157,14 +166,12 @@ pub(crate) fn roll_bond(
     requires { ⌜ Accepted steps reversion (now discounts) × Accepted-flows steps (now flows) × (last ≤ steps) × (now downs ≡ down-table steps reversion) × (121 ≤ length (now bond)) × (121 ≤ length (now later)) ⌝ }
     ensures { λ r. ⌜ Bond-rolled steps reversion (now (discounts .entry)) (now (flows .entry)) last r (now (bond .exit)) ⌝ }
 {
-    rows::fill_row(flow_of(flows, steps), 121, bond);
+    rows::fill_row(flow_of(flows, steps), MOST_NODES, bond);
     let mut row = steps;
     while last < row {
         row -= 1;
-        rows::copy_row(bond, 121, later);
-        let flow = flow_of(flows, row);
-        let top = bond_step(steps, reversion, row, downs, discounts, flow, later, bond);
-        if 8_000_000_000 < top {
+        let top = bond_step(steps, reversion, row, downs, discounts, flows, bond, later);
+        if VALUE_LIMIT < top {
             return 12;
         }
     }
@@ -172,7 +179,7 @@ pub(crate) fn roll_bond(
 }
 
 // The option from its expiry back to row 0, and the bond with it. 12 where a value on the way is above 8 × one.
-pub(crate) fn roll_option(
+fn roll_option(
     steps: usize,
     reversion: u64,
     kind: u64,
@@ -190,29 +197,73 @@ pub(crate) fn roll_option(
     ensures { λ r. ⌜ Option-rolled steps reversion (now (discounts .entry)) (now (flows .entry)) kind expiry strike r (now (option .exit)) ⌝ }
 {
     let terms = values::terms_of(kind, strike);
-    rows::exercise_row(terms, bond, 121, option);
+    rows::exercise_row(terms, bond, MOST_NODES, option);
     let mut row = expiry;
     while 0 < row {
         row -= 1;
-        rows::copy_row(bond, 121, bonds);
-        rows::copy_row(option, 121, options);
-        let flow = flow_of(flows, row);
         let top = option_step(
             steps,
             reversion,
             row,
             downs,
             discounts,
-            flow,
+            flows,
             terms,
-            bonds,
-            options,
             bond,
             option,
+            bonds,
+            options,
         );
-        if 8_000_000_000 < top {
+        if VALUE_LIMIT < top {
             return 12;
         }
     }
     0
+}
+
+// The bond back to the option's expiry, then both together: one pass over the tree.
+pub(crate) fn roll_both(
+    steps: usize,
+    reversion: u64,
+    kind: u64,
+    expiry: usize,
+    strike: u64,
+    downs: &[u64],
+    discounts: &[u64],
+    flows: &[u64],
+    bond: &mut [u64],
+    option: &mut [u64],
+    bonds: &mut [u64],
+    options: &mut [u64],
+) -> u64
+    requires { ⌜ Accepted steps reversion (now discounts) × Accepted-flows steps (now flows) × (expiry ≤ steps) × (strike ≤ 4000000000) × (now downs ≡ down-table steps reversion) × (121 ≤ length (now bond)) × (121 ≤ length (now option)) × (121 ≤ length (now bonds)) × (121 ≤ length (now options)) ⌝ }
+    ensures { λ r. ⌜ Option-rolled steps reversion (now (discounts .entry)) (now (flows .entry)) kind expiry strike r (now (option .exit)) ⌝ }
+{
+    let number = roll_bond(
+        steps,
+        reversion,
+        expiry,
+        downs,
+        discounts,
+        flows,
+        bond,
+        bonds,
+    );
+    if number != 0 {
+        return number;
+    }
+    roll_option(
+        steps,
+        reversion,
+        kind,
+        expiry,
+        strike,
+        downs,
+        discounts,
+        flows,
+        bond,
+        option,
+        bonds,
+        options,
+    )
 }

@@ -3,11 +3,11 @@
 use mathlib.Core.Path.{_≡_}
 use mathlib.Core.Bool.{Bool}
 use Prim.Native.Nat.{ℕ, zero, suc, _+_, _-_, _*_, _^_, _≤_, _<_}
-use native.Mathlib.Nat.{pow-suc, sub-zero, mul-zero, mul-add}
+use native.Mathlib.Nat.{pow-suc, sub-zero, mul-zero}
 use native.Mathlib.Omega.{arith}
-use Rattle.arithmetic.specs.Rounding.{one, up}
+use Rattle.arithmetic.specs.Rounding.{one}
 use Rattle.arithmetic.proofs.RoundingLaws.{up-ge, up-shrinks}
-use Rattle.pricing_laws.specs.Pricer.{Pricer, rounded, fractions, bond-from, bond, Side, exercise-row, Schedule, option-from, option, error-bound-from, error-bound}
+use Rattle.pricing_laws.specs.Pricer.{rounded, fractions, bond-from, bond, Side, exercise-row, Schedule, option-from, option, error-bound-from, error-bound}
 use Rattle.pricing_laws.proofs.Near.{Near, near-flow, near-exercise, near-held}
 
 -- the number e stands within a of the exact number x, which is held times M

@@ -1,11 +1,11 @@
 -- The state of a loop that goes back row by row, for any pricer in whole billionths: what the code holds of bond and option, and that no
 -- value so far is above the limit. v is what the code holds at a node.
 -- Assumes nothing.
-use mathlib.Core.Path.{_≡_, refl, sym, ap, ap₂, _∙_}
-use Prim.Native.Nat.{ℕ, zero, suc, _+_, _-_, _*_, _≤_, _<_, max}
+use mathlib.Core.Path.{_≡_, sym, ap, ap₂, _∙_}
+use Prim.Native.Nat.{ℕ, suc, _+_, _-_, _≤_, _<_}
 use native.Mathlib.Nat.{le-refl}
 use native.Mathlib.Omega.{arith}
-use Rattle.pricing_laws.specs.Pricer.{Pricer, rounded, bond, Side, exercise, exercise-row, Schedule, held-or-exercised, option}
+use Rattle.pricing_laws.specs.Pricer.{rounded, bond, Side, exercise, exercise-row, Schedule, held-or-exercised, option}
 use Rattle.pricing_laws.specs.Peak.{value-limit, peak}
 use Rattle.pricing_laws.proofs.Peaks.{peak-last, peak-before, row-in-peak}
 use Rattle.pricing_laws.proofs.Recurrences.{bond-last, bond-before, option-last, option-before}

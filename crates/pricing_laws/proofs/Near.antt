@@ -1,10 +1,10 @@
 -- How far a rounded value may be from the exact one, and what averaging, discounting, flows and exercise do to that distance.
 -- Distances are counted in half billionths, so that one rounding to nearest counts 1.
 -- Assumes nothing.
-use mathlib.Core.Path.{_≡_, refl, sym, ap, _∙_}
+use mathlib.Core.Path.{_≡_, ap, _∙_}
 use mathlib.Core.Bool.{Bool, true, false}
-use Prim.Native.Nat.{ℕ, zero, suc, _+_, _-_, _*_, _/_, _^_, _≤_, _<_, max}
-use native.Mathlib.Nat.{add-mul, mul-add, mul-assoc, mul-comm, mul-sub, mul-left-comm, mul-le-mul-left, mul-le-mul-right, max-eq-left, max-eq-right, le-of-lt}
+use Prim.Native.Nat.{ℕ, _+_, _-_, _*_, _≤_, _<_, max}
+use native.Mathlib.Nat.{add-mul, mul-comm, mul-sub, mul-le-mul-left, mul-le-mul-right, max-eq-left, max-eq-right, le-of-lt}
 use native.Mathlib.Omega.{arith}
 use Rattle.arithmetic.specs.Rounding.{one, Rounds}
 use Rattle.tree.specs.Tree.{whole, Transition, outgoing, Inside, Total}

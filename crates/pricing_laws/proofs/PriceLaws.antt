@@ -1,6 +1,6 @@
 -- The engine's prices against the exact ones, on every sound tree with discounts of at most 1,100,000,000.
 -- Assumes nothing.
-use mathlib.Core.Path.{_≡_, sym}
+use mathlib.Core.Path.{_≡_}
 use Prim.Native.Nat.{ℕ, zero, suc, _+_, _-_, _*_, _/_, _^_, _≤_, _<_}
 use native.Mathlib.Nat.{mul-assoc, mul-le-mul-right, le-refl}
 use native.Mathlib.Omega.{arith}
@@ -10,12 +10,12 @@ use Rattle.arithmetic.specs.Rounding.{one, up, Rounds}
 use Rattle.arithmetic.specs.Sum.{greatest}
 use Rattle.arithmetic.proofs.RoundingLaws.{down-rounds}
 use Rattle.arithmetic.proofs.SumLaws.{greatest-ge, greatest-le, greatest-cong}
-use Rattle.tree.specs.Tree.{Tree, Sound, outgoing, whole, unit}
+use Rattle.tree.specs.Tree.{Tree, Sound, whole, unit}
 use Rattle.tree.proofs.StepLaws.{outgoing-cong}
 use Rattle.pricing_laws.specs.Pricer.{bond, Side, Schedule, option, error-bound-from, error-bound}
 use Rattle.pricing_laws.specs.Schedule.{side-of, schedule-of}
 use Rattle.pricing_laws.specs.TreePricer.{roll-rounding, roll-loss, node-roll, roll, exact-roll, engine, exact, greatest-discount, price-error-bound}
-use Rattle.pricing_laws.proofs.Near.{Near, near-average, near-discount}
+use Rattle.pricing_laws.proofs.Near.{near-average, near-discount}
 use Rattle.pricing_laws.proofs.Accuracy.{Within, Close, bond-within, option-within, bond-below, loss-a-step}
 use Rattle.pricing_laws.proofs.Recurrences.{schedule-last}
 use Rattle.pricing_laws.proofs.Backward.{Greatest, Local}

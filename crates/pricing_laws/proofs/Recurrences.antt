@@ -1,13 +1,13 @@
 -- The definitions row by row, in document 01's words: for any pricer, then for the engine and for the exact pricer.
 -- Assumes nothing.
-use mathlib.Core.Path.{_≡_, refl, sym, ap, _∙_}
+use mathlib.Core.Path.{_≡_, refl, _∙_}
 use mathlib.Core.Bool.{Bool, true, false, cond}
-use Prim.Native.Nat.{ℕ, zero, suc, _+_, _-_, _*_, _/_, _^_, _≤_, _<_, max}
-use native.Mathlib.Nat.{sub-self, mul-one, pow-zero}
+use Prim.Native.Nat.{ℕ, suc, _+_, _-_, _*_, _/_, _^_, _<_, max}
+use native.Mathlib.Nat.{sub-self}
 use native.Mathlib.Omega.{arith}
 use lib.Dec.{leb}
 use Rattle.arithmetic.specs.Rounding.{one, down, up}
-use Rattle.tree.specs.Tree.{Tree, outgoing, whole, unit}
+use Rattle.tree.specs.Tree.{Tree, outgoing, unit}
 use Rattle.pricing_laws.specs.Pricer.{Pricer, bond-from, bare-bond-from, bond, bare-bond, Side, call, put, exercise, exercise-row, Schedule, held-or-exercised, option-from, option, error-bound-from, error-bound, payoff-value}
 use Rattle.pricing_laws.specs.Schedule.{european, american, side-of, schedule-of}
 use Rattle.pricing_laws.specs.TreePricer.{node-roll, roll, exact-roll, engine, exact, greatest-discount, price-error-bound}

@@ -1,7 +1,7 @@
 -- The four kinds of option (document 01, Prices) as a side and a schedule.
 -- Assumes nothing.
 use Prim.Native.Nat.{ℕ}
-use mathlib.Core.Bool.{Bool, true, false, cond, _||_}
+use mathlib.Core.Bool.{true, false, cond, _||_}
 use lib.Dec.{eqb, leb}
 use Rattle.pricing_laws.specs.Pricer.{Side, call, put, Schedule}
 

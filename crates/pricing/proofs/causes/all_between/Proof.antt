@@ -2,9 +2,8 @@
 -- Assumes nothing.
 use mathlib.Core.Path.{_≡_, sym, ap, _∙_}
 use mathlib.Core.Bool.{true}
-use Prim.Native.Nat.{ℕ, _+_, _-_, _≤_}
+use Prim.Native.Nat.{ℕ, _-_, _≤_}
 use native.Mathlib.Omega.{arith}
-use lib.ListN.{length}
 use Rattle.arithmetic.specs.Row.{values, each}
 use Rattle.arithmetic.proofs.RowLaws.{each-none, each-more, each-fails}
 use Rattle.pricing.specs.Prices.{between}

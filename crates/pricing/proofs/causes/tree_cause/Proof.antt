@@ -1,6 +1,5 @@
 -- `pricing::causes::tree_cause` meets its contract.
 -- Assumes nothing.
-use native.Mathlib.Omega.{arith}
 use borrow.Author.Tests.{not-true, not-false}
 use Rattle.pricing.proofs.CheckLaws.{needed-refused, flows-refused, room-refused, discounts-refused, flow-refused, tree-passed}
 use borrow.Author.Needs.{needs}

@@ -1,6 +1,6 @@
 -- `pricing::rows::bond_row` meets its contract: the loop fills the row from its lowest node.
 -- Assumes nothing.
-use mathlib.Core.Path.{_≡_, ap}
+use mathlib.Core.Path.{ap}
 use Prim.Native.Nat.{ℕ, _+_, _-_, _≤_}
 use native.Mathlib.Omega.{arith}
 use lib.ListN.{length}

@@ -1,6 +1,6 @@
 -- `pricing::rows::option_row` meets its contract: the loop fills both rows from their lowest node.
 -- Assumes nothing.
-use mathlib.Core.Path.{_≡_, ap}
+use mathlib.Core.Path.{ap}
 use Prim.Native.Nat.{ℕ, _+_, _-_, _≤_}
 use native.Mathlib.Omega.{arith}
 use lib.ListN.{length}

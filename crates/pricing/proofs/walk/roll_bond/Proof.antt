@@ -1,11 +1,9 @@
 -- `pricing::walk::roll_bond` meets its contract: the bond stands at the row that the loop has reached.
 -- Assumes nothing.
 use mathlib.Core.Path.{_≡_, refl}
-use Prim.Native.Nat.{_-_, _≤_, _<_}
+use Prim.Native.Nat.{_-_, _≤_}
 use native.Mathlib.Omega.{arith}
 use lib.ListN.{length}
-use denote.Ref.{now}
-use Rattle.pricing.proofs.TreeRows.{flow-within}
 use Rattle.pricing.proofs.WalkStates.{Bonds, bonds-inside, bonds-first, bond-rolled}
 use Rattle.pricing.proofs.WalkTurns.{turn-later, turn-over, turn-next}
 use borrow.Author.Needs.{needs}
@@ -33,22 +31,17 @@ loop-holds c =
 sub-row : tie.Need-sub-row Inv-loop μ-loop
 sub-row c = omega arith
 
-copy-row-requires : tie.Need-copy-row-requires Inv-loop μ-loop
-copy-row-requires c κs = search needs
-
-flow-of-requires-2 : tie.Need-flow-of-requires-2 Inv-loop μ-loop
-flow-of-requires-2 c κs = omega (arith, c .before .before .before .before .before .before .before .before .before .before .before .before .before .before .before .before .before .pre .1 .count, bonds-inside _ _ _ _ _ _ (c .before .before .before .before .before .before .loop .inv .3))
-
 bond-step-requires : tie.Need-bond-step-requires Inv-loop μ-loop
 bond-step-requires c κs =
-    let s = c .before .before .before .before .before .before .before .before .before .before .before .before .before .before .before .before .before .before .before .before in
-    let l = c .before .before .before .before .before .before .before .before .before .loop in
+    let s = c .before .before .before .before .before .before .before .before .before .before .before .before .before .before in
+    let l = c .before .before .before .loop in
     let i = bonds-inside _ _ _ _ _ _ (l .inv .3) in (
       s .pre .0,
+      s .pre .1,
       omega (arith, i),
       s .pre .3,
-      omega (arith, c .before .before .flow-of2 .ensures, flow-within _ _ (s .pre .1) (l .row - 1) (omega (arith, i))),
-      turn-later _ _ _ _ (s .pre .0) (s .pre .1) (l .row) (l .bond) (c .before .before .before .before .before .copy-row .last .1 .1 .0) (omega arith) (l .inv .3) (c .before .before .before .before .before .copy-row .ensures) (search needs),
+      turn-later _ _ _ _ (s .pre .0) (s .pre .1) (l .row) (l .bond) (omega arith) (l .inv .3) (search needs),
+      search needs,
       search needs,
     )
 
@@ -60,23 +53,21 @@ same-length-2 c = search needs
 
 returns : tie.Need-returns Inv-loop μ-loop
 returns c =
-    let s = c .before .before .before .before .before .before .before .before .before .before .before .before .before .before .before .before .before .before .before .before .before .before .before .before in
-    let l = c .before .before .before .before .before .before .before .before .before .before .before .before .before .loop in
-    turn-over _ _ _ _ (s .pre .0) (s .pre .1) (l .row) (l .bond) (c .before .before .before .before .before .before .before .before .before .copy-row .last .1 .1 .0) (omega arith) (l .inv .3) (c .before .before .before .before .before .before .before .before .before .copy-row .ensures) _ (c .before .before .before .before .before .before .flow-of2 .ensures) _ (c .before .before .before .bond-step .last .1 .1 .1 .1 .1 .1 .1 .0) (c .before .before .before .bond-step .ensures)
-    (s .args .last) (c .before .before .before .before .before .before .before .before .before .before .before .before .loop-test .taken) (c .if1 .taken)
+    let s = c .before .before .before .before .before .before .before .before .before .before .before .before .before .before .before .before .before .before .before .before in
+    let l = c .before .before .before .before .before .before .before .before .before .loop in
+    turn-over _ _ _ _ (s .pre .0) (s .pre .1) (l .row) (l .bond) (omega arith) (l .inv .3) _ (c .before .before .before .before .before .bond-step .last .1 .1 .1 .1 .1 .1 .0) (c .before .before .before .before .before .bond-step .ensures) (s .args .last) (c .before .before .before .before .before .before .before .before .loop-test .taken) (c .if1 .taken)
 
 loop-less : tie.Need-loop-less Inv-loop μ-loop
 loop-less c = search needs
 
 loop-again : tie.Need-loop-again Inv-loop μ-loop
 loop-again c =
-    let s = c .before .before .before .before .before .before .before .before .before .before .before .before .before .before .before .before .before .before .before .before .before .before .before .before in
-    let l = c .before .before .before .before .before .before .before .before .before .before .before .before .before .loop in (
-      omega (arith, c .before .before .before .before .before .before .before .before .before .before .before .before .loop-test .taken),
+    let s = c .before .before .before .before .before .before .before .before .before .before .before .before .before .before .before .before .before .before .before .before in
+    let l = c .before .before .before .before .before .before .before .before .before .loop in (
+      omega (arith, c .before .before .before .before .before .before .before .before .loop-test .taken),
       search needs,
       search needs,
-      turn-next _ _ _ _ (s .pre .0) (s .pre .1) (l .row) (l .bond) (c .before .before .before .before .before .before .before .before .before .copy-row .last .1 .1 .0) (omega (arith, c .before .before .before .before .before .before .before .before .before .before .before .before .loop-test .taken)) (l .inv .3) (c .before .before .before .before .before .before .before .before .before .copy-row .ensures) _ (c .before .before .before .before .before .before .flow-of2 .ensures) _ (c .before .before .before .bond-step .last .1 .1 .1 .1 .1 .1 .1 .0) (c .before .before .before .bond-step .ensures)
-          (c .if1 .left),
+      turn-next _ _ _ _ (s .pre .0) (s .pre .1) (l .row) (l .bond) (omega (arith, c .before .before .before .before .before .before .before .before .loop-test .taken)) (l .inv .3) _ (c .before .before .before .before .before .bond-step .last .1 .1 .1 .1 .1 .1 .0) (c .before .before .before .before .before .bond-step .ensures) (c .if1 .left),
     )
 
 same-length-3 : tie.Need-same-length-3 Inv-loop μ-loop
@@ -100,8 +91,6 @@ roll-bond-spec =
     fill-row-requires
     loop-holds
     sub-row
-    copy-row-requires
-    flow-of-requires-2
     bond-step-requires
     same-length
     same-length-2

@@ -1,11 +1,9 @@
 -- `pricing::walk::roll_option` meets its contract: bond and option stand at the row that the loop has reached.
 -- Assumes nothing.
-use mathlib.Core.Path.{_≡_, refl, _∙_}
-use Prim.Native.Nat.{_-_, _≤_, _<_}
+use mathlib.Core.Path.{_≡_, refl}
+use Prim.Native.Nat.{_-_}
 use native.Mathlib.Omega.{arith}
 use lib.ListN.{length}
-use denote.Ref.{now}
-use Rattle.pricing.proofs.TreeRows.{flow-within}
 use Rattle.pricing.proofs.WalkStates.{Bonds, Options, bonds-inside, bonds-from, options-first, option-rolled}
 use Rattle.pricing.proofs.WalkTurns.{turn-later, turn-options-later, turn-both-over, turn-both-next}
 use borrow.Author.Needs.{needs}
@@ -45,26 +43,19 @@ loop-holds c =
 sub-row : tie.Need-sub-row Inv-loop μ-loop
 sub-row c = omega arith
 
-copy-row-requires : tie.Need-copy-row-requires Inv-loop μ-loop
-copy-row-requires c κs = search needs
-
-copy-row-requires-2 : tie.Need-copy-row-requires-2 Inv-loop μ-loop
-copy-row-requires-2 c κs = search needs
-
-flow-of-requires : tie.Need-flow-of-requires Inv-loop μ-loop
-flow-of-requires c κs = omega (arith, c .before .before .before .before .before .before .before .before .before .before .before .before .before .before .before .before .before .before .before .before .before .before .before .before .before .pre .1 .count, bonds-inside _ _ _ _ _ _ (c .before .before .before .before .before .before .before .before .before .before .before .loop .inv .4))
-
 option-step-requires : tie.Need-option-step-requires Inv-loop μ-loop
 option-step-requires c κs =
-    let s = c .before .before .before .before .before .before .before .before .before .before .before .before .before .before .before .before .before .before .before .before .before .before .before .before .before .before .before .before .before .before in
-    let l = c .before .before .before .before .before .before .before .before .before .before .before .before .before .before .before .before .loop in
+    let s = c .before .before .before .before .before .before .before .before .before .before .before .before .before .before .before .before .before .before .before in
+    let l = c .before .before .before .before .before .loop in
     let i = bonds-inside _ _ _ _ _ _ (l .inv .4) in (
       s .pre .0,
+      s .pre .1,
       omega (arith, i),
       s .pre .4,
-      omega (arith, c .before .before .before .before .flow-of .ensures, flow-within _ _ (s .pre .1) (l .row - 1) (omega (arith, i))),
-      turn-later _ _ _ _ (s .pre .0) (s .pre .1) (l .row) (l .bond) (c .before .before .before .before .before .before .before .before .before .before .before .before .copy-row .last .1 .1 .0) (c .before .before .before .before .before .before .before .before .before .before .before .before .before .before .before .loop-test .taken) (l .inv .4) (c .before .before .before .before .before .before .before .before .before .before .before .before .copy-row .ensures) (search needs),
-      turn-options-later _ _ _ _ (s .pre .0) (s .pre .1) (s .args .kind) (s .args .expiry) (s .args .strike) _ (c .before .before .before .before .before .before .before .before .before .before .before .before .before .before .before .before .before .before .before .before .before .before .terms-of .ensures) (s .pre .2) (l .row) (l .bond) (l .option) (c .before .before .before .before .before .before .before .before .before .before .before .before .copy-row .last .1 .1 .0) (c .before .before .before .before .before .before .before .copy-row2 .last .1 .1 .0) (c .before .before .before .before .before .before .before .before .before .before .before .before .before .before .before .loop-test .taken) (l .inv .4) (l .inv .5) (c .before .before .before .before .before .before .before .before .before .before .before .before .copy-row .ensures) (c .before .before .before .before .before .before .before .copy-row2 .ensures) (search needs),
+      turn-later _ _ _ _ (s .pre .0) (s .pre .1) (l .row) (l .bond) (c .before .before .before .before .loop-test .taken) (l .inv .4) (search needs),
+      turn-options-later _ _ _ _ (s .pre .0) (s .pre .1) (s .args .kind) (s .args .expiry) (s .args .strike) _ (c .before .before .before .before .before .before .before .before .before .before .before .terms-of .ensures) (s .pre .2) (l .row) (l .bond) (l .option) (c .before .before .before .before .loop-test .taken) (l .inv .4) (l .inv .5) (search needs),
+      search needs,
+      search needs,
       search needs,
       search needs,
     )
@@ -83,25 +74,19 @@ same-length-4 c = search needs
 
 returns : tie.Need-returns Inv-loop μ-loop
 returns c =
-    let s = c .before .before .before .before .before .before .before .before .before .before .before .before .before .before .before .before .before .before .before .before .before .before .before .before .before .before .before .before .before .before .before .before .before .before .before .before in
-    let l = c .before .before .before .before .before .before .before .before .before .before .before .before .before .before .before .before .before .before .before .before .before .before .loop in
-    turn-both-over _ _ _ _ (s .pre .0) (s .pre .1) (s .args .kind) (s .args .expiry) (s .args .strike) _ (c .before .before .before .before .before .before .before .before .before .before .before .before .before .before .before .before .before .before .before .before .before .before .before .before .before .before .before .before .terms-of .ensures) (s .pre .2) (l .row) (l .bond) (l .option) (c .before .before .before .before .before .before .before .before .before .before .before .before .before .before .before .before .before .before .copy-row .last .1 .1 .0) (c .before .before .before .before .before .before .before .before .before .before .before .before .before .copy-row2 .last .1 .1 .0) (c .before .before .before .before .before .before .before .before .before .before .before .before .before .before .before .before .before .before .before .before .before .loop-test .taken) (l .inv .4) (l .inv .5) (c .before .before .before .before .before .before .before .before .before .before .before .before .before .before .before .before .before .before .copy-row .ensures) (c .before .before .before .before .before .before .before .before .before .before .before .before .before .copy-row2 .ensures) _ (c .before .before .before .before .before .before .before .before .before .before .flow-of .ensures) _ (c .before .before .before .before .before .option-step .last .1 .1 .1 .1 .1 .1 .1 .1 .1 .0) (c .before .before .before .before .before .option-step .last .1 .1 .1 .1 .1 .1 .1 .1 .1 .1 .0) (c .before .before .before .before .before .option-step .ensures) (c .if1 .taken)
+    let s = c .before .before .before .before .before .before .before .before .before .before .before .before .before .before .before .before .before .before .before .before .before .before .before .before .before .before .before .before .before in
+    let l = c .before .before .before .before .before .before .before .before .before .before .before .before .before .before .before .loop in
+    turn-both-over _ _ _ _ (s .pre .0) (s .pre .1) (s .args .kind) (s .args .expiry) (s .args .strike) _ (c .before .before .before .before .before .before .before .before .before .before .before .before .before .before .before .before .before .before .before .before .before .terms-of .ensures) (s .pre .2) (l .row) (l .bond) (l .option) (c .before .before .before .before .before .before .before .before .before .before .before .before .before .before .loop-test .taken) (l .inv .4) (l .inv .5) _ (c .before .before .before .before .before .before .before .before .before .option-step .last .1 .1 .1 .1 .1 .1 .1 .0) (c .before .before .before .before .before .before .before .before .before .option-step .last .1 .1 .1 .1 .1 .1 .1 .1 .0) (c .before .before .before .before .before .before .before .before .before .option-step .ensures) (c .if1 .taken)
 
 loop-less : tie.Need-loop-less Inv-loop μ-loop
-loop-less c = omega (arith, c .before .before .before .before .before .before .before .before .before .before .before .before .before .before .before .before .before .before .before .before .before .loop-test .taken)
+loop-less c = omega (arith, c .before .before .before .before .before .before .before .before .before .before .before .before .before .before .loop-test .taken)
 
 loop-again : tie.Need-loop-again Inv-loop μ-loop
 loop-again c =
-    let s = c .before .before .before .before .before .before .before .before .before .before .before .before .before .before .before .before .before .before .before .before .before .before .before .before .before .before .before .before .before .before .before .before .before .before .before .before in
-    let l = c .before .before .before .before .before .before .before .before .before .before .before .before .before .before .before .before .before .before .before .before .before .before .loop in
-    let n = turn-both-next _ _ _ _ (s .pre .0) (s .pre .1) (s .args .kind) (s .args .expiry) (s .args .strike) _ (c .before .before .before .before .before .before .before .before .before .before .before .before .before .before .before .before .before .before .before .before .before .before .before .before .before .before .before .before .terms-of .ensures) (s .pre .2) (l .row) (l .bond) (l .option) (c .before .before .before .before .before .before .before .before .before .before .before .before .before .before .before .before .before .before .copy-row .last .1 .1 .0) (c .before .before .before .before .before .before .before .before .before .before .before .before .before .copy-row2 .last .1 .1 .0) (c .before .before .before .before .before .before .before .before .before .before .before .before .before .before .before .before .before .before .before .before .before .loop-test .taken) (l .inv .4) (l .inv .5) (c .before .before .before .before .before .before .before .before .before .before .before .before .before .before .before .before .before .before .copy-row .ensures) (c .before .before .before .before .before .before .before .before .before .before .before .before .before .copy-row2 .ensures) _ (c .before .before .before .before .before .before .before .before .before .before .flow-of .ensures) _ (c .before .before .before .before .before .option-step .last .1 .1 .1 .1 .1 .1 .1 .1 .1 .0) (c .before .before .before .before .before .option-step .last .1 .1 .1 .1 .1 .1 .1 .1 .1 .1 .0) (c .before .before .before .before .before .option-step .ensures) (c .if1 .left) in (
-      search needs,
-      search needs,
-      c .before .before .before .before .before .before .before .before .before .before .before .before .before .before .before .before .before .before .copy-row .kept .1 .1 .0 ∙ l .inv .2,
-      c .before .before .before .before .before .before .before .before .before .before .before .before .before .copy-row2 .kept .1 .1 .0 ∙ l .inv .3,
-      n .0,
-      n .1,
-    )
+    let s = c .before .before .before .before .before .before .before .before .before .before .before .before .before .before .before .before .before .before .before .before .before .before .before .before .before .before .before .before .before in
+    let l = c .before .before .before .before .before .before .before .before .before .before .before .before .before .before .before .loop in
+    let n = turn-both-next _ _ _ _ (s .pre .0) (s .pre .1) (s .args .kind) (s .args .expiry) (s .args .strike) _ (c .before .before .before .before .before .before .before .before .before .before .before .before .before .before .before .before .before .before .before .before .before .terms-of .ensures) (s .pre .2) (l .row) (l .bond) (l .option) (c .before .before .before .before .before .before .before .before .before .before .before .before .before .before .loop-test .taken) (l .inv .4) (l .inv .5) _ (c .before .before .before .before .before .before .before .before .before .option-step .last .1 .1 .1 .1 .1 .1 .1 .0) (c .before .before .before .before .before .before .before .before .before .option-step .last .1 .1 .1 .1 .1 .1 .1 .1 .0) (c .before .before .before .before .before .before .before .before .before .option-step .ensures) (c .if1 .left) in
+    (search needs, search needs, search needs, search needs, n .0, n .1)
 
 same-length-5 : tie.Need-same-length-5 Inv-loop μ-loop
 same-length-5 c = search needs
@@ -130,9 +115,6 @@ roll-option-spec =
     exercise-row-requires
     loop-holds
     sub-row
-    copy-row-requires
-    copy-row-requires-2
-    flow-of-requires
     option-step-requires
     same-length
     same-length-2
