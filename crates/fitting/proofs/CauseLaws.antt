@@ -105,7 +105,7 @@ module _ (f n b s converted ds ps : ℕ) (tree spaced : Answer) (memory early le
     pub steps-some : 0 < n
     steps-some = accepted .some
 
-    known : Numbers f n b s converted ds ps
+    pub known : Numbers f n b s converted ds ps
     unfolding discounts-needed state-prices-needed
     known =
         let room = memory-none n b ds ps (sym em ∙ rights .1) in
@@ -162,3 +162,9 @@ module _ (f n b s converted ds ps : ℕ) (tree spaced : Answer) (memory early le
             widest-is = λ _. half-known;
             narrow = λ _. h;
           }
+
+-- no early cause: the numbers are those of an accepted tree
+pub numbers-of : (f n b s converted ds ps : ℕ) → early-cause converted f n b s ds ps ≡ 0 → Numbers f n b s converted ds ps
+unfolding early-cause
+numbers-of f n b s converted ds ps z =
+    known f n b s converted ds ps (discountsNeeded n b) (spacing-answer f s) _ _ _ _ refl refl refl refl refl refl z

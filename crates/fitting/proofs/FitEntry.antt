@@ -100,7 +100,7 @@ written false rows memory after m e ea =
     let z : 0 + length (row (length rows) (λ j. 0)) ≡ m = omega (arith, length-row (length rows) (λ j. 0)) in
     ea ∙ ap (λ (k : ℕ). row k (λ j. 0) ++ drop m memory) (sym e) ∙ ap (λ (k : ℕ). row (length rows) (λ j. 0) ++ drop k memory) (sym z)
 
-cond-zero : (t : Bool) → _≡_ {A = ℕ} (cond t 8 0) 0 → t ≡ false
+pub cond-zero : (t : Bool) → _≡_ {A = ℕ} (cond t 8 0) 0 → t ≡ false
 cond-zero true e = absurd (none e)
   where
     none : _≡_ {A = ℕ} 8 0 → ⊥

@@ -6,3 +6,4 @@ pub mod Progress
 pub mod TableFit
 pub mod CauseLaws
 pub mod FitEntry
+pub mod Promised

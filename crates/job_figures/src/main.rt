@@ -1,0 +1,117 @@
+// Reads jobs from standard input, each after its length in two bytes, and writes what the reader gives. vectors.py makes the input, and
+// works the output out apart, field after field.
+ghost use Prim.Native.Nat.{_+_, _≤_, _<_};
+ghost use mathlib.Core.Path.{_≡_};
+ghost use lib.ListN.{length};
+ghost use Rattle.jobs.specs.Grammar.{Sound};
+use jobs::Job;
+use jobs::OptionRecord;
+
+fn write(text: &[u8]) {
+    io::write_all(1, text);
+}
+
+fn write_number(value: u64) {
+    write(b" ");
+    io::print_decimal(1, value);
+}
+
+fn wide(x: u8) -> u64 {
+    x as u64
+}
+
+fn size(high: u8, low: u8) -> usize
+    ensures { λ r. ⌜ r < 65536 ⌝ }
+{
+    high as usize * 256 + low as usize
+}
+
+fn show_head(number: u64, frequency: u64, steps: u64, reversion: u64, volatility: u64) {
+    write(b"job");
+    write_number(number);
+    write_number(frequency);
+    write_number(steps);
+    write_number(reversion);
+    write_number(volatility);
+    write(b"\n");
+}
+
+fn show_row(kind: u8, figure: u64, flow: u64) {
+    write(b"row");
+    write_number(wide(kind));
+    write_number(figure);
+    write_number(flow);
+    write(b"\n");
+}
+
+fn show_rows(kinds: &[u8], figures: &[u64], flows: &[u64])
+    requires { ⌜ (length (now figures) ≡ length (now kinds)) × (length (now flows) ≡ length (now kinds)) ⌝ }
+{
+    let mut i = 0usize;
+    while i < kinds.len() {
+        show_row(kinds[i], figures[i], flows[i]);
+        i += 1;
+    }
+}
+
+fn show_option(option: OptionRecord) {
+    if option.present {
+        write(b"option");
+        write_number(option.kind);
+        write_number(option.expiry);
+        write_number(option.strike);
+        write(b"\n");
+    }
+}
+
+fn show_job(number: u64, job: Job)
+    requires { ⌜ Sound job ⌝ }
+{
+    let steps = job.steps;
+    show_head(
+        number,
+        job.frequency,
+        steps as u64,
+        job.reversion,
+        job.volatility,
+    );
+    let kinds = job.kinds;
+    let figures = job.figures;
+    let flows = job.flows;
+    show_rows(&kinds[..steps], &figures[..steps], &flows[..steps]);
+    show_option(job.option);
+}
+
+fn show(bytes: &[u8]) {
+    let reading = jobs::read(bytes);
+    show_job(reading.number, reading.job);
+}
+
+// Shows the job at a place and gives the place after it. A job that is cut short ends the input.
+fn show_next(input: &[u8], at: usize) -> usize
+    requires { ⌜ (at + 2 ≤ length (now input)) × (length (now input) ≤ 65536) ⌝ }
+    ensures { λ r. ⌜ (at < r) × (r ≤ length (now (input .entry))) ⌝ }
+{
+    let from = at + 2;
+    let end = from + size(input[at], input[at + 1]);
+    if input.len() < end {
+        return input.len();
+    }
+    show(&input[from..end]);
+    end
+}
+
+fn show_all(input: &[u8])
+    requires { ⌜ length (now input) ≤ 65536 ⌝ }
+{
+    let mut at = 0usize;
+    while at + 2 <= input.len() {
+        at = show_next(input, at);
+    }
+}
+
+fn main() {
+    let mut input = io::large_buffer();
+    let count = io::read_full(0, &mut input);
+    show_all(&input[..count]);
+}

@@ -1,0 +1,122 @@
+#!/usr/bin/env python3
+"""The jobs of this crate and what the reader must give of each, worked out from document 01's list of fields alone: a walk from field to
+field, which knows nothing of places.
+
+    vectors.py    writes the files stdin and stdout beside itself
+"""
+import os, random, struct
+
+random.seed(1994)
+EXAMPLE = bytes.fromhex("01000101" "02000101" "0300020000" "04000400000000" "0500083FF00A3D70A3D70A" "0700043B9ACA00" "08000604013C336080")
+
+
+class Malformed(Exception):
+    pass
+
+
+class Walk:
+    def __init__(self, job):
+        self.left = job
+
+    def field(self, tags, width):
+        """tag and data of the next field, which must have one of the tags and this width"""
+        if len(self.left) < 3:
+            raise Malformed
+        tag, length = struct.unpack(">BH", self.left[:3])
+        content, self.left = self.left[3:3 + length], self.left[3 + length:]
+        if tag not in tags or length != width or len(content) != width:
+            raise Malformed
+        return tag, content
+
+    def number(self, tag, width):
+        return int.from_bytes(self.field([tag], width)[1], "big")
+
+
+def read(job):
+    """the lines of a job"""
+    if len(job) > 4700:
+        raise Malformed
+    walk = Walk(job)
+    f, n, b, s = walk.number(1, 1), walk.number(2, 1), walk.number(3, 2), walk.number(4, 4)
+    quotes = [walk.field([5, 6], 8) for _ in range(n)]
+    flows = [walk.number(7, 4) for _ in range(n)]
+    lines = ["job 0 %d %d %d %d" % (f, n, b, s)]
+    lines += ["row %d %d %d" % (kind, int.from_bytes(figure, "big"), flow) for (kind, figure), flow in zip(quotes, flows)]
+    if walk.left:
+        content = walk.field([8], 6)[1]
+        lines.append("option %d %d %d" % struct.unpack(">BBI", content))
+    if walk.left:
+        raise Malformed
+    return lines
+
+
+def answer(job):
+    try:
+        return read(job)
+    except Malformed:
+        return ["job 1 0 0 0 0"]
+
+
+def field(tag, content):
+    return struct.pack(">BH", tag, len(content)) + content
+
+
+SPECIAL = [0x7FF8000000000000, 0x7FF0000000000001, 0xFFFFFFFFFFFFFFFF, 0x8000000000000000, 0x7FF0000000000000, 0xFFF0000000000000, 1, 0]
+
+
+def fields(n, option):
+    """the fields of a job of n steps, with any numbers"""
+    number = lambda width: random.choice([0, 256 ** width - 1, random.randrange(256 ** width)]).to_bytes(width, "big")
+    figure = lambda: random.choice(SPECIAL + [random.getrandbits(64)] * 8).to_bytes(8, "big")
+    parts = [field(1, number(1)), field(2, bytes([n])), field(3, number(2)), field(4, number(4))]
+    parts += [field(random.choice([5, 6]), figure()) for _ in range(n)]
+    parts += [field(7, number(4)) for _ in range(n)]
+    return parts + ([field(8, number(1) + number(1) + number(4))] if option else [])
+
+
+def jobs():
+    yield EXAMPLE
+    for n in [0, 1, 2, 3, 60, 255]:
+        for option in [False, True]:
+            yield b"".join(fields(n, option))
+    for _ in range(20):
+        yield b"".join(fields(random.randrange(1, 6), random.random() < 0.5))
+    # cut short, and with bytes after it
+    for k in range(len(EXAMPLE)):
+        yield EXAMPLE[:k]
+    for more in [b"\0", b"\x08", EXAMPLE[-9:], EXAMPLE[-16:-9], EXAMPLE[:4], EXAMPLE]:
+        yield EXAMPLE + more
+    # each byte of the example one higher, one lower, and another
+    for k, x in enumerate(EXAMPLE):
+        for other in {(x + 1) % 256, (x - 1) % 256, random.randrange(256)} - {x}:
+            yield EXAMPLE[:k] + bytes([other]) + EXAMPLE[k + 1:]
+    # fields left out, doubled and exchanged
+    parts = fields(2, True)
+    for k in range(len(parts)):
+        yield b"".join(parts[:k] + parts[k + 1:])
+        yield b"".join(parts[:k] + parts[k:k + 1] + parts[k:])
+        for i in range(k):
+            swapped = list(parts)
+            swapped[i], swapped[k] = swapped[k], swapped[i]
+            yield b"".join(swapped)
+    # tags that are no part of this form
+    for tag in [0, 9, 10, 11, 16, 255]:
+        yield b"".join(fields(1, False)) + field(tag, bytes(6))
+        yield b"".join(fields(1, True)) + field(tag, bytes(1))
+    # about the greatest length, and past it
+    longest = b"".join(fields(255, True))
+    for length in [4620, 4700, 4701]:
+        yield longest + bytes(length - len(longest))
+    yield bytes(random.randrange(256) for _ in range(4701))
+    yield bytes(5000)
+
+
+if __name__ == "__main__":
+    here = os.path.dirname(os.path.abspath(__file__))
+    all_jobs = list(jobs())
+    data = b"".join(struct.pack(">H", len(job)) + job for job in all_jobs)
+    assert len(data) <= 65536
+    with open(os.path.join(here, "stdin"), "wb") as out:
+        out.write(data)
+    with open(os.path.join(here, "stdout"), "w") as out:
+        out.write("".join(line + "\n" for job in all_jobs for line in answer(job)))

@@ -1,0 +1,38 @@
+-- The job that document 01 prints, read, and lists of bytes that are no job.
+-- Assumes nothing.
+use Prim.Native.Nat.{ℕ, _<_}
+use mathlib.Core.List.{List, [], _++_}
+use mathlib.Core.Path.{_≡_, refl, sym}
+use lib.ListN.{length}
+use Rattle.arithmetic.specs.Row.{row, overlay, each}
+use Rattle.jobs.specs.Bytes.{digits, numberAt}
+use Rattle.jobs.specs.Form.{fieldAt, eitherAt, fieldsFrom, headFormed, restFormed, wellFormed}
+use Rattle.jobs.specs.Reader.{padded, optionAt, jobOf, accepted, malformed, readingOf}
+use Rattle.jobs.specs.Grammar.{field, joined, optionField, encode}
+use Rattle.jobs.specs.Example.{exampleHead, exampleQuote, exampleFlow, exampleOption, example, exampleJob}
+use Rattle.jobs.proofs.Forms.{refuse-long}
+use Rattle.jobs.proofs.ReadLaws.{reading-bad}
+
+pub example-read : readingOf example ≡ accepted exampleJob
+unfolding numberAt fieldAt eitherAt fieldsFrom headFormed restFormed wellFormed padded optionAt jobOf readingOf row overlay each
+example-read = refl
+
+pub example-written : encode exampleJob ≡ example
+unfolding field joined optionField encode digits
+example-written = refl
+
+pub nothing-read : readingOf [] ≡ malformed
+unfolding numberAt fieldAt eitherAt fieldsFrom headFormed restFormed wellFormed readingOf
+nothing-read = refl
+
+pub second-option : readingOf (example ++ exampleOption) ≡ malformed
+unfolding numberAt fieldAt eitherAt fieldsFrom headFormed restFormed wellFormed readingOf each
+second-option = refl
+
+pub flow-first : readingOf (exampleHead ++ (exampleFlow ++ (exampleQuote ++ exampleOption))) ≡ malformed
+unfolding numberAt fieldAt eitherAt fieldsFrom headFormed restFormed wellFormed readingOf each
+flow-first = refl
+
+-- over 4,700 bytes
+pub long-refused : (s : List ℕ) → 4700 < length s → readingOf s ≡ malformed
+long-refused s long = reading-bad s (sym (refuse-long s long))

@@ -1,0 +1,10 @@
+pub mod Numbers
+pub mod Answers
+pub mod Forms
+pub mod Columns
+pub mod Pieces
+pub mod Written
+pub mod Places
+pub mod Reread
+pub mod ReadLaws
+pub mod Figures

@@ -1,0 +1,13 @@
+-- `jobs::no_job` meets its contract.
+-- Assumes nothing.
+use mathlib.Core.Path.{refl}
+use Rattle.jobs.specs.Reader.{noJob}
+use Rattle.jobs.proofs.no_job.Statement.{statement}
+use Rattle.jobs.proofs.no_job.Tie as tie
+
+returns : tie.Need-returns
+unfolding noJob
+returns c = refl
+
+pub no-job-spec : {M : Type 1} → statement M
+no-job-spec = tie.close (tie.spec returns)

@@ -1,0 +1,31 @@
+-- `jobs::read` meets its contract.
+-- Assumes nothing.
+use native.Mathlib.Omega.{arith}
+use Rattle.jobs.proofs.Answers.{passed, failed}
+use Rattle.jobs.proofs.ReadLaws.{read-well, read-bad}
+use borrow.Author.Needs.{needs}
+use Rattle.jobs.proofs.read.Statement.{statement}
+use Rattle.jobs.proofs.read.Tie as tie
+
+well-formed-requires : tie.Need-well-formed-requires
+well-formed-requires c κs = search needs
+
+no-job-requires : tie.Need-no-job-requires
+no-job-requires c κs = search needs
+
+returns : tie.Need-returns
+returns c =
+    read-bad _ (λ i. omega (arith, c .before .before .before .shared-slice-known .given i)) _ (c .no-job .ensures)
+    (failed (c .before .before .well-formed .ensures) (c .before .if1 .taken))
+
+job-of-requires : tie.Need-job-of-requires
+job-of-requires c κs = passed (c .before .well-formed .ensures) (c .if1 .left)
+
+returns-2 : tie.Need-returns-2
+returns-2 c =
+    read-well _ (λ i. omega (arith, c .before .before .before .shared-slice-known .given i)) _ (c .job-of .ensures)
+    (passed (c .before .before .well-formed .ensures) (c .before .if1 .left))
+
+pub read-spec : {M : Type 1} → statement M
+read-spec =
+    tie.close (tie.spec well-formed-requires no-job-requires returns job-of-requires returns-2)

@@ -1,0 +1,5 @@
+pub mod Bytes
+pub mod Form
+pub mod Reader
+pub mod Grammar
+pub mod Example

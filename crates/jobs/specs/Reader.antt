@@ -1,0 +1,72 @@
+-- What reading gives, each field from its place.
+-- Assumes nothing.
+use Prim.Native.Nat.{ℕ, _+_, _*_}
+use mathlib.Core.List.{List}
+use mathlib.Core.Bool.{true, false, cond}
+use lib.ListN.{length, getD, replicate}
+use lib.Dec.{eqb}
+use Rattle.arithmetic.specs.Row.{row, overlay}
+use Rattle.jobs.specs.Bytes.{numberAt}
+use Rattle.jobs.specs.Form.{stepsOf, wellFormed}
+use Rattle.jobs.specs.declared.OptionRecord.{OptionRecord}
+use Rattle.jobs.specs.declared.Job.{Job}
+use Rattle.jobs.specs.declared.Reading.{Reading}
+
+-- f 0, .., f (n - 1) in the 255 places of a record, zeros after them
+unfoldable pub padded : ℕ → (ℕ → ℕ) → List ℕ
+padded n f = row 255 (overlay n f (λ k. 0))
+
+-- of the fields of one width from a place on: tag and data of the i-th
+abbrev pub tagOf : List ℕ → ℕ → ℕ → ℕ → ℕ
+tagOf s from width i = getD s (from + (width + 3) * i) 0
+
+abbrev pub dataOf : List ℕ → ℕ → ℕ → ℕ → ℕ
+dataOf s from width i = numberAt s (from + (width + 3) * i + 3) width
+
+-- no option: zeros
+abbrev pub noOption : OptionRecord
+noOption = record { present = false; kind = 0; expiry = 0; strike = 0 }
+
+-- the option whose field stands at a place, if the bytes do not end there
+unfoldable pub optionAt : List ℕ → ℕ → OptionRecord
+optionAt s at =
+    cond (eqb (length s) at) noOption
+    (record { present = true; kind = numberAt s (at + 3) 1; expiry = numberAt s (at + 4) 1; strike = numberAt s (at + 5) 4 })
+
+unfoldable pub jobOf : List ℕ → Job
+jobOf s =
+    record {
+      frequency = numberAt s 3 1;
+      steps = stepsOf s;
+      reversion = numberAt s 11 2;
+      volatility = numberAt s 16 4;
+      kinds = padded (stepsOf s) (tagOf s 20 8);
+      figures = padded (stepsOf s) (dataOf s 20 8);
+      flows = padded (stepsOf s) (dataOf s (20 + 11 * stepsOf s) 4);
+      option = optionAt s (20 + 18 * stepsOf s);
+    }
+
+-- zeros
+unfoldable pub noJob : Job
+noJob =
+    record {
+      frequency = 0;
+      steps = 0;
+      reversion = 0;
+      volatility = 0;
+      kinds = replicate 255 0;
+      figures = replicate 255 0;
+      flows = replicate 255 0;
+      option = noOption;
+    }
+
+-- number 0 with a job
+abbrev pub accepted : Job → Reading
+accepted job = record { number = 0; job = job }
+
+-- cause 1, with zeros
+abbrev pub malformed : Reading
+malformed = record { number = 1; job = noJob }
+
+unfoldable pub readingOf : List ℕ → Reading
+readingOf s = cond (wellFormed s) (accepted (jobOf s)) malformed

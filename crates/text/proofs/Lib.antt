@@ -1,0 +1,5 @@
+pub mod PutLaws
+pub mod DecimalLaws
+pub mod Signs
+pub mod LineLaws
+pub mod Figures

@@ -1,0 +1,216 @@
+// The lines of the sheet, put into a lent buffer from its end: each function puts its text just before a place and answers where the
+// text starts, so that the line that stands above it is put before that. A line that has no room is not put, and the answer is the place.
+ghost use mathlib.Core.Path.{_≡_};
+ghost use mathlib.Core.Bool.{Bool};
+ghost use mathlib.Core.List.{List, [], _∷_, _++_};
+ghost use Prim.Native.Nat.{ℕ, _+_, _-_, _≤_, _<_};
+ghost use lib.ListN.{length};
+ghost use lib.IntN.{natAbs};
+ghost use Rattle.text.specs.Decimal.{natural, digits, decimal, signOf, signedDecimal};
+ghost use Rattle.text.specs.Lines.{
+  nodeLine,
+  rowLine,
+  priceLine,
+  bondLine,
+  optionLine,
+  refusedLine,
+  hasRoom,
+  lineStart,
+  withLine,
+};
+ghost use Rattle.text.specs.Put.{Put};
+
+// No line is longer.
+const LONGEST_LINE: usize = 128;
+
+fn has_room(size: usize, end: usize) -> bool
+    ensures { λ r. ⌜ r ≡ hasRoom size end ⌝ }
+{
+    if end < LONGEST_LINE {
+        return false;
+    }
+    end <= size
+}
+
+fn put_byte(out: &mut [u8], end: usize, byte: u8) -> usize
+    requires { ⌜ (0 < end) × (end ≤ length (now out)) ⌝ }
+    ensures { λ r. ⌜ Put (now (out .entry)) end (byte ∷ []) r (now (out .exit)) ⌝ }
+{
+    let start = end - 1;
+    out[start] = byte;
+    start
+}
+
+fn put_word(out: &mut [u8], end: usize, word: &[u8]) -> usize
+    requires { ⌜ (length (now word) ≤ end) × (end ≤ length (now out)) ⌝ }
+    ensures { λ r. ⌜ Put (now (out .entry)) end (now (word .entry)) r (now (out .exit)) ⌝ }
+{
+    let mut start = end;
+    let mut left = word.len();
+    while left > 0 {
+        left -= 1;
+        start -= 1;
+        out[start] = word[left];
+    }
+    start
+}
+
+// The last `count` digits of a number.
+fn put_digits(out: &mut [u8], end: usize, number: u64, count: usize) -> usize
+    requires { ⌜ (count ≤ end) × (end ≤ length (now out)) ⌝ }
+    ensures { λ r. ⌜ Put (now (out .entry)) end (digits count number) r (now (out .exit)) ⌝ }
+{
+    let mut rest = number;
+    let mut start = end;
+    let mut left = count;
+    while left > 0 {
+        start -= 1;
+        out[start] = 48 + (rest % 10) as u8;
+        rest /= 10;
+        left -= 1;
+    }
+    start
+}
+
+// The digits of a number, with no zeros in front.
+fn put_natural(out: &mut [u8], end: usize, number: u64) -> usize
+    requires { ⌜ (length (natural number) ≤ end) × (end ≤ length (now out)) ⌝ }
+    ensures { λ r. ⌜ Put (now (out .entry)) end (natural number) r (now (out .exit)) ⌝ }
+{
+    let mut rest = number;
+    let mut start = end;
+    while rest > 9 {
+        start -= 1;
+        out[start] = 48 + (rest % 10) as u8;
+        rest /= 10;
+    }
+    put_byte(out, start, 48 + rest as u8)
+}
+
+// A number over a power of ten, with as many decimals.
+fn put_decimal(out: &mut [u8], end: usize, number: u64, decimals: usize) -> usize
+    requires { ⌜ (decimals < 19) × (length (decimal decimals number) ≤ end) × (end ≤ length (now out)) ⌝ }
+    ensures { λ r. ⌜ Put (now (out .entry)) end (decimal decimals number) r (now (out .exit)) ⌝ }
+{
+    if decimals == 0 {
+        return put_natural(out, end, number);
+    }
+    let after = put_digits(out, end, number, decimals);
+    let point = put_byte(out, after, b'.');
+    put_natural(out, point, number / arithmetic::power_of_ten(decimals))
+}
+
+// A number and the byte that follows it.
+fn put_field(out: &mut [u8], end: usize, number: u64, decimals: usize, follower: u8) -> usize
+    requires { ⌜ (decimals < 19) × (length (decimal decimals number ++ (follower ∷ [])) ≤ end) × (end ≤ length (now out)) ⌝ }
+    ensures { λ r. ⌜ Put (now (out .entry)) end (decimal decimals number ++ (follower ∷ [])) r (now (out .exit)) ⌝ }
+{
+    let after = put_byte(out, end, follower);
+    put_decimal(out, after, number, decimals)
+}
+
+fn magnitude(number: i64) -> u64
+    ensures { λ r. ⌜ r ≡ natAbs number ⌝ }
+{
+    // The one number whose negation an i64 does not hold.
+    if number < -9_223_372_036_854_775_807 {
+        return 9_223_372_036_854_775_808;
+    }
+    if number < 0 {
+        let size = 0 - number;
+        return size as u64;
+    }
+    number as u64
+}
+
+// A minus where the number is negative.
+fn put_sign(out: &mut [u8], end: usize, number: i64) -> usize
+    requires { ⌜ (length (signOf number) ≤ end) × (end ≤ length (now out)) ⌝ }
+    ensures { λ r. ⌜ Put (now (out .entry)) end (signOf number) r (now (out .exit)) ⌝ }
+{
+    if number < 0 {
+        return put_byte(out, end, b'-');
+    }
+    end
+}
+
+// A number with its sign and the byte that follows it.
+fn put_signed_field(out: &mut [u8], end: usize, number: i64, decimals: usize, follower: u8) -> usize
+    requires { ⌜ (decimals < 19) × (length (signedDecimal decimals number ++ (follower ∷ [])) ≤ end) × (end ≤ length (now out)) ⌝ }
+    ensures { λ r. ⌜ Put (now (out .entry)) end (signedDecimal decimals number ++ (follower ∷ [])) r (now (out .exit)) ⌝ }
+{
+    let unsigned = put_field(out, end, magnitude(number), decimals, follower);
+    put_sign(out, unsigned, number)
+}
+
+// `node ROW NODE DISCOUNT RATE`: the rate is in billionths, and is put in percent.
+pub fn node_line(out: &mut [u8], end: usize, row: u64, node: i64, discount: u64, rate: i64) -> usize
+    ensures { λ r. ⌜ r ≡ lineStart (now (out .entry)) end (nodeLine row node discount rate) ⌝ }
+    ensures { λ r. ⌜ now (out .exit) ≡ withLine (now (out .entry)) end (nodeLine row node discount rate) ⌝ }
+{
+    if !has_room(out.len(), end) {
+        return end;
+    }
+    let rate_start = put_signed_field(out, end, rate, 7, b'\n');
+    let discount_start = put_field(out, rate_start, discount, 9, b' ');
+    let node_start = put_signed_field(out, discount_start, node, 0, b' ');
+    let row_start = put_field(out, node_start, row, 0, b' ');
+    put_word(out, row_start, b"node ")
+}
+
+// `row ROW QUOTE SUM ALLOWANCE`.
+pub fn row_line(out: &mut [u8], end: usize, row: u64, quote: u64, total: u64, bound: u64) -> usize
+    ensures { λ r. ⌜ r ≡ lineStart (now (out .entry)) end (rowLine row quote total bound) ⌝ }
+    ensures { λ r. ⌜ now (out .exit) ≡ withLine (now (out .entry)) end (rowLine row quote total bound) ⌝ }
+{
+    if !has_room(out.len(), end) {
+        return end;
+    }
+    let bound_start = put_field(out, end, bound, 0, b'\n');
+    let total_start = put_field(out, bound_start, total, 9, b' ');
+    let quote_start = put_field(out, total_start, quote, 9, b' ');
+    let row_start = put_field(out, quote_start, row, 0, b' ');
+    put_word(out, row_start, b"row ")
+}
+
+// A word, a price and its error bound.
+fn price_line(out: &mut [u8], end: usize, word: &[u8], price: u64, bound: u64) -> usize
+    requires { ⌜ length (now word) ≤ 8 ⌝ }
+    ensures { λ r. ⌜ r ≡ lineStart (now (out .entry)) end (priceLine (now (word .entry)) price bound) ⌝ }
+    ensures { λ r. ⌜ now (out .exit) ≡ withLine (now (out .entry)) end (priceLine (now (word .entry)) price bound) ⌝ }
+{
+    if !has_room(out.len(), end) {
+        return end;
+    }
+    let bound_start = put_field(out, end, bound, 0, b'\n');
+    let price_start = put_field(out, bound_start, price, 9, b' ');
+    put_word(out, price_start, word)
+}
+
+// `bond PRICE ALLOWANCE`.
+pub fn bond_line(out: &mut [u8], end: usize, price: u64, bound: u64) -> usize
+    ensures { λ r. ⌜ r ≡ lineStart (now (out .entry)) end (bondLine price bound) ⌝ }
+    ensures { λ r. ⌜ now (out .exit) ≡ withLine (now (out .entry)) end (bondLine price bound) ⌝ }
+{
+    price_line(out, end, b"bond ", price, bound)
+}
+
+// `option PRICE ALLOWANCE`.
+pub fn option_line(out: &mut [u8], end: usize, price: u64, bound: u64) -> usize
+    ensures { λ r. ⌜ r ≡ lineStart (now (out .entry)) end (optionLine price bound) ⌝ }
+    ensures { λ r. ⌜ now (out .exit) ≡ withLine (now (out .entry)) end (optionLine price bound) ⌝ }
+{
+    price_line(out, end, b"option ", price, bound)
+}
+
+// `refused NUMBER`.
+pub fn refused_line(out: &mut [u8], end: usize, number: u64) -> usize
+    ensures { λ r. ⌜ r ≡ lineStart (now (out .entry)) end (refusedLine number) ⌝ }
+    ensures { λ r. ⌜ now (out .exit) ≡ withLine (now (out .entry)) end (refusedLine number) ⌝ }
+{
+    if !has_room(out.len(), end) {
+        return end;
+    }
+    let number_start = put_field(out, end, number, 0, b'\n');
+    put_word(out, number_start, b"refused ")
+}
