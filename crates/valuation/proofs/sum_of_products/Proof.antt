@@ -1,0 +1,77 @@
+-- `valuation::sum_of_products` meets its contract.
+-- Assumes nothing.
+use Prim.Native.Nat.{_+_, _*_, _≤_, _-_}
+use lib.ListN.{length}
+use native.Mathlib.Omega.{arith}
+use Rattle.arithmetic.specs.Row.{values}
+use borrow.Author.Needs.{needs}
+use Rattle.valuation.proofs.EntryLaws as laws
+use Rattle.valuation.proofs.sum_of_products.Statement.{statement}
+use Rattle.valuation.proofs.sum_of_products.Tie as tie
+
+abbrev Inv-loop : tie.InvT-loop
+Inv-loop prices payoffs total₀ index₀ total index = (index ≤ length prices) × laws.Multiplied prices payoffs index total
+
+abbrev μ-loop : tie.MeasureT-loop
+μ-loop prices payoffs total₀ index₀ total index = length prices - index
+
+loop-holds : tie.Need-loop-holds Inv-loop μ-loop
+loop-holds c = (search needs, laws.products-start _ _)
+
+mul-total : tie.Need-mul-total Inv-loop μ-loop
+mul-total c = search needs
+
+shared-slice-read-total : tie.Need-shared-slice-read-total Inv-loop μ-loop
+shared-slice-read-total c = search needs
+
+mul-total-2 : tie.Need-mul-total-2 Inv-loop μ-loop
+mul-total-2 c = search needs
+
+shared-slice-read-total-2 : tie.Need-shared-slice-read-total-2 Inv-loop μ-loop
+shared-slice-read-total-2 c = search needs
+
+-- the next sum fits 64 bits
+small : (c : tie.After-shared-slice-known2 Inv-loop μ-loop) →
+    c .before .before .before .loop .total
+    + values (c .before .before .before .before .args .prices .now) (c .before .before .before .loop .index)
+    * values (c .before .before .before .before .args .payoffs .now) (c .before .before .before .loop .index)
+    ≤ 16000000800000000000
+small c =
+    laws.product-small _ _ (c .before .before .before .before .pre .0) (c .before .before .before .before .pre .1) (c .before .before .before .before .pre .2)
+    _ _ (omega arith) (c .before .before .before .loop .inv .1 .sums)
+
+mul-total-3 : tie.Need-mul-total-3 Inv-loop μ-loop
+mul-total-3 c = omega (arith, small c)
+
+add-total : tie.Need-add-total Inv-loop μ-loop
+add-total c = omega (arith, small c)
+
+add-index : tie.Need-add-index Inv-loop μ-loop
+add-index c = search needs
+
+loop-less : tie.Need-loop-less Inv-loop μ-loop
+loop-less c = search needs
+
+loop-again : tie.Need-loop-again Inv-loop μ-loop
+loop-again c = (search needs, laws.products-next _ _ _ _ (c .before .before .before .loop .inv .1))
+
+returns : tie.Need-returns Inv-loop μ-loop
+returns c = laws.products-all _ _ _ _ (c .before .loop .inv .1) (omega arith)
+
+pub sum-of-products-spec : {M : Type 1} → statement M
+sum-of-products-spec =
+    tie.close
+    (tie.spec
+    Inv-loop
+    μ-loop
+    loop-holds
+    mul-total
+    shared-slice-read-total
+    mul-total-2
+    shared-slice-read-total-2
+    mul-total-3
+    add-total
+    add-index
+    loop-less
+    loop-again
+    returns)

@@ -1,0 +1,140 @@
+// What payoffs on a row are worth by the row's state prices, and how far that may fall short of their exact price.
+use arithmetic::Answer;
+ghost use mathlib.Core.Path.{_≡_};
+ghost use mathlib.Core.Bool.{Bool};
+ghost use Prim.Native.Nat.{ℕ, _≤_};
+ghost use lib.Dec.{ltb};
+ghost use lib.ListN.{length};
+ghost use Rattle.arithmetic.specs.Sum.{sum};
+ghost use Rattle.arithmetic.specs.Row.{values};
+ghost use Rattle.state_price_bound.specs.ErrorBound.{greatest-of};
+ghost use Rattle.valuation_laws.specs.Valuation.{valuation-bound};
+ghost use Rattle.valuation.specs.Entries.{
+  sum-limit,
+  value-limit,
+  sum-of,
+  sum-of-products,
+  with-payoffs,
+  valueByStatePrices,
+  valuationErrorBound,
+};
+
+const ONE: u64 = 1_000_000_000;
+
+// No value may be above 8.
+const VALUE_LIMIT: u64 = 8_000_000_000;
+
+fn refused(number: u64) -> Answer
+    ensures { λ r. ⌜ r ≡ record { number = number; value = 0 } ⌝ }
+{
+    Answer { number, value: 0 }
+}
+
+// Whether state prices sum above 2,000,000,100. Tests what is left before it adds, so that no sum wraps.
+fn sums_above_limit(prices: &[u64]) -> bool
+    ensures { λ r. ⌜ r ≡ ltb sum-limit (sum-of (now (prices .entry))) ⌝ }
+{
+    let mut total: u64 = 0;
+    let mut index = 0;
+    while index < prices.len() {
+        if 2_000_000_100 - total < prices[index] {
+            return true;
+        }
+        total += prices[index];
+        index += 1;
+    }
+    false
+}
+
+// At most 2,000,000,100 times 8,000,000,000, which 64 bits hold.
+fn sum_of_products(prices: &[u64], payoffs: &[u64]) -> u64
+    requires { ⌜ (length (now prices) ≡ length (now payoffs)) × (sum-of (now prices) ≤ sum-limit) × (greatest-of (now payoffs) ≤ value-limit) ⌝ }
+    ensures { λ r. ⌜ r ≡ sum-of-products (now (prices .entry)) (now (payoffs .entry)) ⌝ }
+{
+    let mut total: u64 = 0;
+    let mut index = 0;
+    while index < prices.len() {
+        total += prices[index] * payoffs[index];
+        index += 1;
+    }
+    total
+}
+
+// The value of payoffs on a row, by the row's state prices.
+pub fn value_by_state_prices(prices: &[u64], payoffs: &[u64]) -> Answer
+    ensures { λ r. ⌜ r ≡ valueByStatePrices (now (prices .entry)) (now (payoffs .entry)) ⌝ }
+{
+    if prices.len() != payoffs.len() {
+        return refused(6);
+    }
+    if prices.len() % 2 == 0 {
+        return refused(6);
+    }
+    if 121 < prices.len() {
+        return refused(6);
+    }
+    if VALUE_LIMIT < state_price_bound::greatest_value(payoffs) {
+        return refused(12);
+    }
+    if sums_above_limit(prices) {
+        return refused(12);
+    }
+    let value = sum_of_products(prices, payoffs) / ONE;
+    if VALUE_LIMIT < value {
+        return refused(12);
+    }
+    Answer { number: 0, value }
+}
+
+// The refusal of a tree or row, 0 where there is none, joined with the causes about payoffs: lowest number first.
+fn with_payoffs(number: u64, fitting: bool, greatest: u64) -> u64
+    ensures { λ r. ⌜ r ≡ with-payoffs number fitting (ltb value-limit greatest) ⌝ }
+{
+    if number == 0 {
+        if !fitting {
+            return 6;
+        }
+        if VALUE_LIMIT < greatest {
+            return 12;
+        }
+        return 0;
+    }
+    if number == 9 {
+        if fitting {
+            return 9;
+        }
+        return 6;
+    }
+    number
+}
+
+fn bound_of_value(greatest: u64, bound: u64) -> u64
+    requires { ⌜ (greatest ≤ value-limit) × (bound ≤ 1000000) ⌝ }
+    ensures { λ r. ⌜ r ≡ valuation-bound greatest bound ⌝ }
+{
+    (greatest * bound + (ONE - 1)) / ONE + 1
+}
+
+// How far the value of payoffs on a row may fall short of their exact price, from the tree's discounts.
+pub fn valuation_error_bound(
+    steps: usize,
+    reversion: u64,
+    discounts: &[u64],
+    row: usize,
+    payoffs: &[u64],
+) -> Answer
+    ensures { λ r. ⌜ r ≡ valuationErrorBound steps reversion (now (discounts .entry)) row (now (payoffs .entry)) ⌝ }
+{
+    let bound = state_price_bound::state_price_error_bound(steps, reversion, discounts, row);
+    let nodes = lattice::node_count(reversion, row);
+    let greatest = state_price_bound::greatest_value(payoffs);
+    let fitting = payoffs.len() as u64 == nodes.value;
+    let number = with_payoffs(bound.number, fitting, greatest);
+    if number != 0 {
+        return refused(number);
+    }
+    Answer {
+        number: 0,
+        value: bound_of_value(greatest, bound.value),
+    }
+}
