@@ -1,0 +1,18 @@
+-- `node_reader::following_at` meets its contract.
+-- Assumes nothing.
+use borrow.Author.Needs.{needs}
+use borrow.Author.Tests.{lt-ltb, le-ltb}
+use Rattle.node_reader.proofs.following_at.Statement.{statement}
+use Rattle.node_reader.proofs.following_at.Tie as tie
+
+add-result : tie.Need-add-result
+add-result c = search needs
+
+returns : tie.Need-returns
+returns c = simp (lt-ltb _ _ (c .if1 .taken))
+
+returns-2 : tie.Need-returns-2
+returns-2 c = simp (le-ltb _ _ (c .if1 .left))
+
+pub following-at-spec : {M : Type 1} → statement M
+following-at-spec = tie.close (tie.spec add-result returns returns-2)
