@@ -1,6 +1,6 @@
 -- One step back, in the code's terms: the row's shape, and its parts of the table and of the discounts.
 -- Assumes nothing.
-use mathlib.Core.Path.{_≡_, refl, ap, ap₂, _∙_}
+use mathlib.Core.Path.{_≡_, refl, sym, ap, ap₂, _∙_}
 use mathlib.Core.List.{List}
 use Prim.Native.Nat.{ℕ, suc, _+_, _-_, _*_, _/_, _≤_, _<_, max}
 use native.Mathlib.Nat.{mul-le-mul}
@@ -41,16 +41,18 @@ module _ (n b i : ℕ) (discounts : List ℕ) (a : Accepted n b discounts) (hi :
   pub discount-room : s .start + s .count ≤ length discounts
   discount-room = rw (start-is, count-is) (discounts-fit n b i hi discounts a)
 
+  -- the next row is no wider than the widest
+  pub next-most : s .next ≤ 121
+  next-most = omega (arith, next-is, count-within b (suc i) (omega (arith, a .few)))
+
   -- a copy of a later row that may be rolled back
-  pub later-copied : (later row : List ℕ) → Holds later 121 (values row) → 121 ≤ length later → Later row (node-count b (i + 1)) → Later later (s .next)
+  pub later-copied : (later row : List ℕ) → Holds later (s .next) (values row) → 121 ≤ length later → Later row (node-count b (i + 1)) → Later later (s .next)
   later-copied later row c room l =
-      let z : i + 1 ≡ suc i = omega arith in
-      let n = count-within b (suc i) (omega (arith, a .few)) in
-      rw (next-is, ← z)
-      (record {
-        room = omega (arith, ap (node-count b) z);
-        limited = λ k h. omega (arith, c k (omega (arith, ap (node-count b) z)), l .limited k h);
-      })
+      let z : node-count b (i + 1) ≡ s .next = ap (node-count b) (omega arith) ∙ sym next-is in
+      record {
+        room = omega (arith, next-most);
+        limited = λ k h. omega (arith, c k h, l .limited k (omega arith));
+      }
 
   module _ (part : List ℕ) (ep : part ≡ take (s .count) (drop (s .start) discounts)) where
     part-is : part ≡ discount-part n b i hi discounts a
@@ -73,14 +75,14 @@ module _ (n b i : ℕ) (discounts : List ℕ) (a : Accepted n b discounts) (hi :
 
         module _ (flows : List ℕ) (flow : ℕ) (ef : flow ≡ flow-at flows i) where
           pub part-bond :
-              (later row : List ℕ) (top : ℕ) (after : List ℕ) → Holds later 121 (values row) →
+              (later row : List ℕ) (top : ℕ) (after : List ℕ) → Holds later (s .next) (values row) →
               Holds after (length part) (bond-values later table part (s .next) flow) × (top ≡ greatest (length part) (bond-values later table part (s .next) flow)) →
               Holds after (node-count b i) (bond-step b discounts flows i row) × (top ≡ greatest (node-count b i) (bond-step b discounts flows i row))
-          part-bond later row top after c h = bond-row-is n b i hi discounts a flows flow ef later row top after c (rw (table-is, part-is, next-is) at h)
+          part-bond later row top after c h = bond-row-is n b i hi discounts a flows flow ef later row top after (rw next-is at c) (rw (table-is, part-is, next-is) at h)
 
           pub part-option :
               (terms : Terms) (bonds options bond option : List ℕ) (top : ℕ) (bond′ option′ : List ℕ) →
-              Holds bonds 121 (values bond) → Holds options 121 (values option) →
+              Holds bonds (s .next) (values bond) → Holds options (s .next) (values option) →
               Holds bond′ (length part) (bond-values bonds table part (s .next) flow)
               × Holds option′ (length part) (option-values terms bonds options table part (s .next) flow)
               × (top ≡ greatest (length part)
@@ -89,7 +91,7 @@ module _ (n b i : ℕ) (discounts : List ℕ) (a : Accepted n b discounts) (hi :
               × Holds option′ (node-count b i) (option-step terms b discounts flows i bond option)
               × (top ≡ greatest (node-count b i) (λ k. max (bond-step b discounts flows i bond k) (option-step terms b discounts flows i bond option k)))
           part-option terms bonds options bond option top bond′ option′ cb co h =
-              option-row-is n b i hi discounts a flows flow ef terms bonds options bond option top bond′ option′ cb co (rw (table-is, part-is, next-is) at h)
+              option-row-is n b i hi discounts a flows flow ef terms bonds options bond option top bond′ option′ (rw next-is at cb) (rw next-is at co) (rw (table-is, part-is, next-is) at h)
 
   pub table-room : (downs : List ℕ) → downs ≡ down-table n b → s .offset + s .count ≤ length downs
   table-room downs e = rw (e, offset-is, count-is) (table-fits n b i hi)

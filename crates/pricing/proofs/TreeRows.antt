@@ -18,7 +18,7 @@ use Rattle.lattice.specs.Shape.{half-width, node-count, row-start}
 use Rattle.lattice.specs.Branching.{up, middle, down}
 use Rattle.lattice.specs.RateTree.{node-at, node, low, rate-tree}
 use Rattle.lattice.specs.Entries.{about-row}
-use Rattle.lattice.proofs.Sizes.{half-within, half-grows, row-within, within-row, row-ends, count-within}
+use Rattle.lattice.proofs.Sizes.{half-within, half-grows, row-within, within-row, row-ends}
 use Rattle.lattice.proofs.EntryLaws.{row-found}
 use Rattle.lattice.proofs.RateTreeLaws.{rate-tree-sound, low-within, low-growing, low-lowest, low-highest, low-inner, index-laws}
 use Rattle.lattice.proofs.TableLaws.{down-from-table, up-from-table}
@@ -161,21 +161,21 @@ module _ (n b i : ℕ) (hi : i < n) where
         rw (l, m, table-down k h, table-up k h, discount-part-at k h)
 
     -- a copy of the later row is rolled alike
-    rolled-copy : (later row : List ℕ) → Holds later 121 (values row) → (k : ℕ) → k < node-count b i → rolled-at b discounts i later k ≡ rolled-at b discounts i row k
+    rolled-copy : (later row : List ℕ) → Holds later (node-count b (suc i)) (values row) → (k : ℕ) → k < node-count b i → rolled-at b discounts i later k ≡ rolled-at b discounts i row k
     unfolding rolled-at rate-tree
     rolled-copy later row h k l =
         roll-same (rate-tree b) (rate-tree-sound b (a .reverting)) (discount-at b discounts) roll-rounding i (values later) (values row)
-        (λ j g. h j (omega (arith, count-within b (suc i) (omega (arith, a .few))))) k l
+        h k l
 
     -- a row of the bond, and of the option beside it, as the code gives them
     module _ (flows : List ℕ) (flow : ℕ) (ef : flow ≡ flow-at flows i) where
       bond-value-is :
-          (later row : List ℕ) → Holds later 121 (values row) → (k : ℕ) → k < node-count b i →
+          (later row : List ℕ) → Holds later (node-count b (suc i)) (values row) → (k : ℕ) → k < node-count b i →
           bond-values later table-part discount-part (node-count b (suc i)) flow k ≡ bond-step b discounts flows i row k
       bond-value-is later row c k l = ap₂ (λ (x y : ℕ). x + y) (rolled-is later k l ∙ rolled-copy later row c k l) ef
 
       pub bond-row-is :
-          (later row : List ℕ) (top : ℕ) (after : List ℕ) → Holds later 121 (values row) →
+          (later row : List ℕ) (top : ℕ) (after : List ℕ) → Holds later (node-count b (suc i)) (values row) →
           Holds after (length discount-part) (bond-values later table-part discount-part (node-count b (suc i)) flow)
           × (top ≡ greatest (length discount-part) (bond-values later table-part discount-part (node-count b (suc i)) flow)) →
           Holds after (node-count b i) (bond-step b discounts flows i row) × (top ≡ greatest (node-count b i) (bond-step b discounts flows i row))
@@ -185,7 +185,7 @@ module _ (n b i : ℕ) (hi : i < n) where
       )
 
       option-value-is :
-          (terms : Terms) (bonds options bond option : List ℕ) → Holds bonds 121 (values bond) → Holds options 121 (values option) →
+          (terms : Terms) (bonds options bond option : List ℕ) → Holds bonds (node-count b (suc i)) (values bond) → Holds options (node-count b (suc i)) (values option) →
           (k : ℕ) → k < node-count b i →
           option-values terms bonds options table-part discount-part (node-count b (suc i)) flow k
           ≡ option-step terms b discounts flows i bond option k
@@ -195,7 +195,7 @@ module _ (n b i : ℕ) (hi : i < n) where
 
       pub option-row-is :
           (terms : Terms) (bonds options bond option : List ℕ) (top : ℕ) (bond′ option′ : List ℕ) →
-          Holds bonds 121 (values bond) → Holds options 121 (values option) →
+          Holds bonds (node-count b (suc i)) (values bond) → Holds options (node-count b (suc i)) (values option) →
           Holds bond′ (length discount-part) (bond-values bonds table-part discount-part (node-count b (suc i)) flow)
           × Holds option′ (length discount-part) (option-values terms bonds options table-part discount-part (node-count b (suc i)) flow)
           × (top ≡ greatest (length discount-part)

@@ -81,8 +81,8 @@ fn bond_step(
     ensures { λ r. ⌜ Holds (now (bond .exit)) (node-count reversion row) (bond-step reversion (now (discounts .entry)) (now (flows .entry)) row (now (bond .entry)))
         × (r ≡ greatest (node-count reversion row) (bond-step reversion (now (discounts .entry)) (now (flows .entry)) row (now (bond .entry)))) ⌝ }
 {
-    rows::copy_row(bond, MOST_NODES, later);
     let shape = row_shape(steps, reversion, row);
+    rows::copy_row(bond, shape.next, later);
     rows::bond_row(
         later,
         part(downs, shape.offset, shape.count),
@@ -112,9 +112,9 @@ fn option_step(
         × Holds (now (option .exit)) (node-count reversion row) (option-step terms reversion (now (discounts .entry)) (now (flows .entry)) row (now (bond .entry)) (now (option .entry)))
         × (r ≡ greatest (node-count reversion row) (λ k. max (bond-step reversion (now (discounts .entry)) (now (flows .entry)) row (now (bond .entry)) k) (option-step terms reversion (now (discounts .entry)) (now (flows .entry)) row (now (bond .entry)) (now (option .entry)) k))) ⌝ }
 {
-    rows::copy_row(bond, MOST_NODES, bonds);
-    rows::copy_row(option, MOST_NODES, options);
     let shape = row_shape(steps, reversion, row);
+    rows::copy_row(bond, shape.next, bonds);
+    rows::copy_row(option, shape.next, options);
     rows::option_row(
         bonds,
         options,
