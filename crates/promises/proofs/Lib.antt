@@ -1,0 +1,3 @@
+pub mod TreeKept
+pub mod PayoffsKept
+pub mod Kept
