@@ -4,6 +4,7 @@ use Rattle.pricing.proofs.Accuracy.{bond-within-bound, bond-at-most-exact, bond
 use Rattle.promises.specs.Promises.{Promises, Price-promises}
 use Rattle.promises.proofs.TreeKept.{tree-kept}
 use Rattle.promises.proofs.PayoffsKept.{payoffs-kept}
+use Rattle.promises.proofs.FitStored.{fit-unaltered}
 
 pub prices-kept : Price-promises
 prices-kept =
@@ -17,6 +18,7 @@ prices-kept =
       bond-a-step = bond-bound-a-step;
       option-a-step = option-bound-a-step;
       payoffs-accurate = payoffs-kept;
+      fit-stored = fit-unaltered;
     }
 
 pub promises-kept : Promises

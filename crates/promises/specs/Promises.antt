@@ -7,7 +7,7 @@ use Prim.Native.Nat.{ℕ, suc, _+_, _*_, _^_, _≤_, _<_}
 use lib.Dec.{ltb}
 use lib.Ieee.{Float}
 use lib.IntN.{ℤ, pos, negℤ, natAbs, _*ℤ_}
-use lib.ListN.{length}
+use lib.ListN.{length, take, drop}
 use lib.Signed.{ltZ}
 use Rattle.arithmetic.specs.Rounding.{one}
 use Rattle.arithmetic.specs.Sum.{sum}
@@ -18,7 +18,7 @@ use Rattle.lattice.specs.Branching.{branching, z-of, up-at, middle-at, down-at,
 use Rattle.lattice.specs.Entries.{branchAnswer}
 use Rattle.step_rate.specs.StepRate.{rateAnswer}
 use Rattle.curve.specs.Curve.{discountAt}
-use Rattle.fitting.specs.Entry.{fitNumber, fit-discount, fit-price}
+use Rattle.fitting.specs.Entry.{fitNumber, fit-discount, fit-price, fit-memory, fit-discounts, fit-prices}
 use Rattle.pricing.specs.Prices.{bondPrice, optionPrice}
 use Rattle.pricing.specs.Exact.{exact-bond, exact-option, exact-payoff}
 use Rattle.valuation.specs.Entries.{valueByStatePrices, valuationErrorBound}
@@ -93,6 +93,10 @@ pub record Price-promises : Type 0 where
       valueByStatePrices prices payoffs .number ≡ 0 → valuationErrorBound n b discounts r payoffs .number ≡ 0 →
       Short-of (valuationErrorBound n b discounts r payoffs .value) (unit ^ r) (valueByStatePrices prices payoffs .value)
       (exact-payoff b discounts r payoffs)
+  -- and those are what an accepted fit leaves in the two memories, d and q before it
+  pub fit-stored : (f n b s : ℕ) (kinds : List ℕ) (figures : List Float) (d q : List ℕ) (r : ℕ) → r ≤ n →
+      Unaltered f n b s kinds figures (fit-memory 0 (fit-discounts f n b s kinds figures) d) r
+      (take (node-count b r) (drop (row-start b r) (fit-memory 0 (fit-prices f n b s kinds figures) q)))
 
 -- Both together, undivided.
 pub record Promises : Type 0 where
