@@ -1,0 +1,25 @@
+-- The promises are kept.
+-- Assumes nothing.
+use Rattle.pricing.proofs.Accuracy.{bond-within-bound, bond-at-most-exact, bond-bound-a-step, option-within-bound, option-bound-a-step}
+use Rattle.promises.specs.Promises.{Promises, Price-promises}
+use Rattle.promises.proofs.TreeKept.{tree-kept}
+use Rattle.promises.proofs.PayoffsKept.{payoffs-kept}
+use Rattle.promises.proofs.FitStored.{fit-unaltered}
+
+pub prices-kept : Price-promises
+prices-kept =
+    record {
+      bond-accurate =
+          λ n b discounts flows z.
+          record { never-above = bond-at-most-exact n b discounts flows z; short = bond-within-bound n b discounts flows z .below };
+      option-accurate =
+          λ n b discounts flows kind expiry strike z.
+          let w = option-within-bound n b discounts flows kind expiry strike z in record { above = w .above; below = w .below };
+      bond-a-step = bond-bound-a-step;
+      option-a-step = option-bound-a-step;
+      payoffs-accurate = payoffs-kept;
+      fit-stored = fit-unaltered;
+    }
+
+pub promises-kept : Promises
+promises-kept = record { tree = tree-kept; prices = prices-kept }

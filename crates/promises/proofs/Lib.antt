@@ -1,0 +1,4 @@
+pub mod TreeKept
+pub mod PayoffsKept
+pub mod FitStored
+pub mod Kept

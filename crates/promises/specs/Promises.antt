@@ -1,0 +1,104 @@
+-- What the engine promises (document 01): the demands on branching, rates and fit, and the accuracy of every price. Each line is about the
+-- answer that an entry's contract gives, where its number is 0. m is 600,000,000 × one; the exact pricer's values are held times powers of m.
+-- Assumes nothing.
+use mathlib.Core.Path.{_≡_}
+use mathlib.Core.List.{List}
+use Prim.Native.Nat.{ℕ, suc, _+_, _*_, _^_, _≤_, _<_}
+use lib.Dec.{ltb}
+use lib.Ieee.{Float}
+use lib.IntN.{ℤ, pos, negℤ, natAbs, _*ℤ_}
+use lib.ListN.{length, take, drop}
+use lib.Signed.{ltZ}
+use Rattle.arithmetic.specs.Rounding.{one}
+use Rattle.arithmetic.specs.Sum.{sum}
+use Rattle.arithmetic.specs.Row.{values}
+use Rattle.tree.specs.Tree.{unit}
+use Rattle.lattice.specs.Shape.{node-count, row-start, discounts-needed}
+use Rattle.lattice.specs.Branching.{branching, z-of, up-at, middle-at, down-at, up, middle, down, change, square}
+use Rattle.lattice.specs.Entries.{branchAnswer}
+use Rattle.step_rate.specs.StepRate.{rateAnswer}
+use Rattle.curve.specs.Curve.{discountAt}
+use Rattle.fitting.specs.Entry.{fitNumber, fit-discount, fit-price, fit-memory, fit-discounts, fit-prices}
+use Rattle.pricing.specs.Prices.{bondPrice, optionPrice}
+use Rattle.pricing.specs.Exact.{exact-bond, exact-option, exact-payoff}
+use Rattle.valuation.specs.Entries.{valueByStatePrices, valuationErrorBound}
+
+-- ---- branching, rates and fit
+
+-- the probabilities of node j: the paper's formulas, none below 0, with exact sum, mean −z / 10,000 and variance 1/3
+pub record Probabilities (b : ℕ) (j : ℤ) : Type 0 where
+  pub up-whole : up-at (branching b j) (z-of b j) ≡ pos (up b j)
+  pub middle-whole : middle-at (branching b j) (z-of b j) ≡ pos (middle b j)
+  pub down-whole : down-at (branching b j) (z-of b j) ≡ pos (down b j)
+  pub total : up b j + middle b j + down b j ≡ 600000000
+  pub mean : pos 10000 *ℤ change b j ≡ negℤ (pos 600000000 *ℤ z-of b j)
+  pub variance : 3 * (600000000 * square b j) ≡ 600000000 * 600000000 + 3 * (natAbs (change b j) * natAbs (change b j))
+
+-- a quote and the sum of its row's state prices are at most 300 billionths apart
+pub record Repriced (quote total : ℕ) : Type 0 where
+  pub below : quote ≤ total + 300
+  pub above : total ≤ quote + 300
+
+-- f steps a year, n steps, reversion b, volatility s; quotes as rows, kinds and figures; the lengths of both memories
+pub record Tree-promises : Type 0 where
+  pub probabilities-exact : (b i : ℕ) (j : ℤ) → branchAnswer b i j .number ≡ 0 → Probabilities b j
+  -- a step rate is negative exactly where the discount is above one, positive exactly where it is below
+  pub sign-of-rates : (v : ℕ) → rateAnswer v .number ≡ 0 →
+      (ltZ (rateAnswer v .value) (pos 0) ≡ ltb one v) × (ltZ (pos 0) (rateAnswer v .value) ≡ ltb v one)
+  pub quotes-repriced : (f n b s : ℕ) (rows kinds : List ℕ) (figures : List Float) (room-discounts room-prices : ℕ) →
+      fitNumber f n b s rows kinds figures room-discounts room-prices ≡ 0 → (i : ℕ) → i < n →
+      Repriced (discountAt f kinds figures i) (sum (node-count b (suc i)) (fit-price f n b s kinds figures (suc i)))
+
+-- ---- prices
+
+-- a price of whole billionths within its allowance of the exact price x, which is held times M
+pub record Within (allowance M price x : ℕ) : Type 0 where
+  pub above : price * M ≤ x + allowance * M
+  pub below : x ≤ (price + allowance) * M
+
+-- never above the exact price, and short of it by at most the allowance
+pub record Short-of (allowance M price x : ℕ) : Type 0 where
+  pub never-above : price * M ≤ x
+  pub short : x ≤ (price + allowance) * M
+
+-- no node discount that is needed is above one
+abbrev pub None-above-one : ℕ → ℕ → List ℕ → Type 0
+None-above-one n b discounts = (k : ℕ) → k < discounts-needed n b → values discounts k ≤ one
+
+-- the discounts of the tree and the state prices of row r are those of the fit, unaltered since
+pub record Unaltered (f n b s : ℕ) (kinds : List ℕ) (figures : List Float) (discounts : List ℕ) (r : ℕ) (prices : List ℕ) : Type 0 where
+  pub discounts-kept : (i k : ℕ) → i < n → k < node-count b i → values discounts (row-start b i + k) ≡ fit-discount f n b s kinds figures i k
+  pub row-length : length prices ≡ node-count b r
+  pub prices-kept : (k : ℕ) → k < node-count b r → values prices k ≡ fit-price f n b s kinds figures r k
+
+-- Prices on any accepted tree, whoever lent its discounts; and payoffs valued by fitted state prices, unaltered since.
+pub record Price-promises : Type 0 where
+  pub bond-accurate : (n b : ℕ) (discounts flows : List ℕ) → bondPrice n b discounts flows .number ≡ 0 →
+      Short-of (bondPrice n b discounts flows .bound) (unit ^ n) (bondPrice n b discounts flows .value) (exact-bond n b discounts flows)
+  -- the four kinds of option
+  pub option-accurate : (n b : ℕ) (discounts flows : List ℕ) (kind expiry strike : ℕ) →
+      optionPrice n b discounts flows kind expiry strike .number ≡ 0 →
+      Within (optionPrice n b discounts flows kind expiry strike .bound) (unit ^ n) (optionPrice n b discounts flows kind expiry strike .value)
+      (exact-option n b discounts flows kind expiry strike)
+  -- at most 3 billionths a step
+  pub bond-a-step : (n b : ℕ) (discounts flows : List ℕ) → bondPrice n b discounts flows .number ≡ 0 → None-above-one n b discounts →
+      bondPrice n b discounts flows .bound ≤ 3 * n
+  pub option-a-step : (n b : ℕ) (discounts flows : List ℕ) (kind expiry strike : ℕ) →
+      optionPrice n b discounts flows kind expiry strike .number ≡ 0 → None-above-one n b discounts →
+      optionPrice n b discounts flows kind expiry strike .bound ≤ 3 * n
+  -- whatever was fitted, payoffs valued by the fitted state prices of any row, against the exact price on the same fit's node discounts
+  pub payoffs-accurate : (f n b s : ℕ) (rows kinds : List ℕ) (figures : List Float) (room-discounts room-prices : ℕ) →
+      fitNumber f n b s rows kinds figures room-discounts room-prices ≡ 0 →
+      (discounts : List ℕ) (r : ℕ) (prices payoffs : List ℕ) → r ≤ n → Unaltered f n b s kinds figures discounts r prices →
+      valueByStatePrices prices payoffs .number ≡ 0 → valuationErrorBound n b discounts r payoffs .number ≡ 0 →
+      Short-of (valuationErrorBound n b discounts r payoffs .value) (unit ^ r) (valueByStatePrices prices payoffs .value)
+      (exact-payoff b discounts r payoffs)
+  -- and those are what an accepted fit leaves in the two memories, d and q before it
+  pub fit-stored : (f n b s : ℕ) (kinds : List ℕ) (figures : List Float) (d q : List ℕ) (r : ℕ) → r ≤ n →
+      Unaltered f n b s kinds figures (fit-memory 0 (fit-discounts f n b s kinds figures) d) r
+      (take (node-count b r) (drop (row-start b r) (fit-memory 0 (fit-prices f n b s kinds figures) q)))
+
+-- Both together, undivided.
+pub record Promises : Type 0 where
+  pub tree : Tree-promises
+  pub prices : Price-promises

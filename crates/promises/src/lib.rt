@@ -1,0 +1,1 @@
+// No code: what the entries promise together, over the definitions that their contracts cite.
