@@ -6,16 +6,17 @@ use Prim.Native.Nat.{ℕ, zero, suc, _+_, _≤_, _<_}
 use native.Mathlib.Nat.{not-suc-le-zero}
 use native.Mathlib.Omega.{arith}
 use lib.Ieee.{Float}
-use lib.ListN.{length, take, drop}
+use lib.ListN.{length, take, drop, length-append}
 use lib.Seq.{getD-take, getD-drop}
 use Rattle.arithmetic.specs.Row.{row, values, place}
 use Rattle.arithmetic.proofs.Numbers.{by-equal}
 use Rattle.arithmetic.proofs.RowLaws.{values-row, length-row}
 use Rattle.tree.specs.Tree.{Tree}
 use Rattle.tree.specs.Layout.{start, laid}
-use Rattle.tree.proofs.LayoutLaws.{laid-row}
+use Rattle.tree.proofs.LayoutLaws.{laid-row, length-laid}
 use Rattle.lattice.specs.Shape.{node-count, row-start}
 use Rattle.lattice.specs.RateTree.{rate-tree}
+use Rattle.lattice.proofs.RateTreeLaws.{start-is}
 use Rattle.fitting.specs.Entry.{fit-memory, fit-discount, fit-price, fit-discounts, fit-prices}
 use Rattle.promises.specs.Promises.{Unaltered}
 
@@ -38,6 +39,13 @@ pub fit-unaltered : (f n b s : ℕ) (kinds : List ℕ) (figures : List Float) (d
 unfolding fit-memory place rate-tree row-start start
 fit-unaltered f n b s kinds figures d q r h =
     record {
+      discounts-long =
+          omega (
+            arith,
+            length-append (fit-discounts f n b s kinds figures) (drop (0 + length (fit-discounts f n b s kinds figures)) d),
+            length-laid (rate-tree b) (fit-discount f n b s kinds figures) n,
+            start-is b n,
+          );
       discounts-kept =
           λ i k hi hk.
           part-value _ (row-start b i) (node-count b i) k hk

@@ -1,32 +1,35 @@
 -- The promise about payoffs valued by fitted state prices.
 -- Assumes nothing.
 use mathlib.Core.Path.{_≡_, refl, ap, sym, _∙_}
-use mathlib.Core.Bool.{Bool, true, false, cond, not}
+use mathlib.Core.Bool.{Bool, true, false, cond, not, _&&_}
 use mathlib.Core.List.{List}
-use Prim.Native.Nat.{ℕ, zero, suc, _+_, _*_, _/_, _^_, _≤_, _<_}
+use Prim.Native.Nat.{ℕ, zero, suc, _+_, _*_, _/_, _%_, _^_, _≤_, _<_}
 use native.Mathlib.Omega.{arith}
-use lib.Dec.{eqb, ltb}
+use lib.Dec.{eqb, leb, ltb}
 use lib.Ieee.{Float}
 use lib.ListN.{length}
-use borrow.Author.Tests.{eqb-false}
+use borrow.Author.Tests.{eqb-false, eqb-true, eq-eqb, ne-eqb, le-ltb}
 use Rattle.arithmetic.specs.Rounding.{one}
 use Rattle.arithmetic.specs.Sum.{sum}
 use Rattle.arithmetic.specs.Row.{values}
 use Rattle.arithmetic.specs.Answers.{refused, answered}
 use Rattle.arithmetic.proofs.SumLaws.{sum-cong}
+use Rattle.arithmetic.proofs.RowLaws.{each-cong}
 use Rattle.tree.specs.Tree.{Tree, unit}
-use Rattle.lattice.specs.Shape.{node-count, row-start}
+use Rattle.lattice.specs.Shape.{node-count, row-start, discounts-needed}
 use Rattle.lattice.specs.RateTree.{rate-tree}
 use Rattle.spacing.specs.Spacing.{spacing}
-use Rattle.fit_laws.specs.StatePrices.{state-price}
+use Rattle.fit_laws.specs.StatePrices.{state-price, accepted-row}
+use Rattle.fit_laws.specs.Step.{accepted-discount}
 use Rattle.fit_laws.proofs.StepLaws.{next-cong}
 use Rattle.fit_laws.proofs.WholeFit.{fitted-is-state}
 use Rattle.fitting.specs.Fit.{node-factor, quoted}
 use Rattle.fitting.specs.Entry.{quotes-of, fitNumber, fit-discount, fit-price}
-use Rattle.fitting.proofs.Promised.{fit-sound}
+use Rattle.fitting.proofs.Promised.{fit-sound, fit-numbers, fit-accepted}
 use Rattle.pricing.specs.Prices.{discount-at}
 use Rattle.pricing.specs.Exact.{exact-payoff}
-use Rattle.state_price_bound.specs.ErrorBound.{greatest-of, stored}
+use Rattle.state_price_bound.specs.ErrorBound.{greatest-of, stored, accepted-discounts}
+use Rattle.state_price_bound.proofs.Meaning.{accepted-by-row}
 use Rattle.valuation_laws.specs.Valuation.{value-by-state-prices, valuation-error-bound, exact-price}
 use Rattle.valuation_laws.proofs.ValuationLaws.{value-below, value-short}
 use Rattle.valuation.specs.Entries.{value-limit, sum-limit, sum-of, value-of, fit-a-row, valueByStatePrices, valuation-refusal, valuationErrorBound}
@@ -81,14 +84,59 @@ exact-same b discounts r payoffs = refl
 turned : (e a M x : ℕ) → M * e ≤ x → x ≤ M * (e + a) → Short-of a M e x
 turned e a M x h l = record { never-above = omega (arith, h); short = omega (arith, l) }
 
-pub payoffs-kept : (f n b s : ℕ) (rows kinds : List ℕ) (figures : List Float) (ds ps : ℕ) →
+-- a value that was given: the lengths are the same, and no payoff is too high
+value-parts : (f h s v : Bool) (x : ℕ) →
+    cond (not f) (refused 6) (cond h (refused 12) (cond s (refused 12) (cond v (refused 12) (answered x)))) .number ≡ 0 → (f ≡ true) × (h ≡ false)
+value-parts false h s v x e = absurd (none e)
+  where
+    none : _≡_ {A = ℕ} 6 0 → ⊥
+    none z = omega arith
+value-parts true true s v x e = absurd (none e)
+  where
+    none : _≡_ {A = ℕ} 12 0 → ⊥
+    none z = omega arith
+value-parts true false s v x e = (refl, refl)
+
+first-of : (a b c : Bool) → (a && b && c) ≡ true → a ≡ true
+first-of true b c e = refl
+first-of false b c e = e
+
+payoffs-known : (prices payoffs : List ℕ) → valueByStatePrices prices payoffs .number ≡ 0 →
+    (length prices ≡ length payoffs) × (ltb value-limit (greatest-of payoffs) ≡ false)
+unfolding valueByStatePrices fit-a-row
+payoffs-known prices payoffs z =
+    let p = value-parts (fit-a-row prices payoffs) (ltb value-limit (greatest-of payoffs)) (ltb sum-limit (sum-of prices)) (ltb value-limit (value-of prices payoffs)) (value-of prices payoffs) z in
+    (eqb-true (length prices) (length payoffs) (first-of (eqb (length prices) (length payoffs)) (not (eqb (length prices % 2) 0)) (leb (length prices) 121) (p .0)), p .1)
+
+-- the discounts of an accepted fit are an accepted tree, so the error bound of its rows is given
+module _ (f n b s : ℕ) (rows kinds : List ℕ) (figures : List Float) (ds ps : ℕ) (z : fitNumber f n b s rows kinds figures ds ps ≡ 0)
+    (discounts : List ℕ) (r : ℕ) (prices payoffs : List ℕ) (h : r ≤ n) (kept : Unaltered f n b s kinds figures discounts r prices) where
+  discounts-accepted : accepted-discounts n b discounts ≡ true
+  unfolding accepted-row stored rate-tree
+  discounts-accepted =
+      accepted-by-row n b discounts
+      ∙ each-cong n _ _ (λ i hi. each-cong (node-count b i) _ _ (λ k hk. ap accepted-discount (kept .discounts-kept i k hi hk)))
+      ∙ fit-accepted f n b s rows kinds figures ds ps z
+
+  bound-accepted : valueByStatePrices prices payoffs .number ≡ 0 → valuationErrorBound n b discounts r payoffs .number ≡ 0
+  unfolding valuationErrorBound valuation-refusal discounts-needed
+  bound-accepted zv =
+      let m = fit-numbers f n b s rows kinds figures ds ps z in
+      let q = payoffs-known prices payoffs zv in
+      let e : length payoffs ≡ node-count b r = sym (q .0) ∙ kept .row-length in
+      rw (ne-eqb n 0 (some (m .some)), le-ltb 60 n (m .few), le-ltb 6000 b (m .reverting), le-ltb (length discounts) (row-start b n) (kept .discounts-long), le-ltb n r h, eq-eqb (length payoffs) (node-count b r) e, discounts-accepted, q .1)
+    where
+      some : 0 < n → n ≡ 0 → ⊥
+      some p x = omega arith
+
+payoffs-within : (f n b s : ℕ) (rows kinds : List ℕ) (figures : List Float) (ds ps : ℕ) →
     fitNumber f n b s rows kinds figures ds ps ≡ 0 →
     (discounts : List ℕ) (r : ℕ) (prices payoffs : List ℕ) → r ≤ n → Unaltered f n b s kinds figures discounts r prices →
     valueByStatePrices prices payoffs .number ≡ 0 → valuationErrorBound n b discounts r payoffs .number ≡ 0 →
     Short-of (valuationErrorBound n b discounts r payoffs .value) (unit ^ r) (valueByStatePrices prices payoffs .value)
     (exact-payoff b discounts r payoffs)
 unfolding value-of rate-tree stored
-payoffs-kept f n b s rows kinds figures ds ps z discounts r prices payoffs h kept zv zb =
+payoffs-within f n b s rows kinds figures ds ps z discounts r prices payoffs h kept zv zb =
     let sound = fit-sound f n b s rows kinds figures ds ps z in
     let v : ℕ → ℕ → ℕ = stored b discounts in
     let price-is : (k : ℕ) → k < node-count b r → values prices k ≡ state-price (rate-tree b) v r k =
@@ -99,3 +147,14 @@ payoffs-kept f n b s rows kinds figures ds ps z discounts r prices payoffs h kep
     value-given prices payoffs zv ∙ value-by (length prices) (node-count b r) (values prices) (state-price (rate-tree b) v r) (values payoffs) (kept .row-length) price-is in
     rw (same, bound-given n b discounts r payoffs zb, ← exact-same b discounts r payoffs)
     (turned _ _ _ _ (value-below (rate-tree b) sound v r (values payoffs)) (value-short (rate-tree b) sound v r (values payoffs)))
+
+pub payoffs-kept : (f n b s : ℕ) (rows kinds : List ℕ) (figures : List Float) (ds ps : ℕ) →
+    fitNumber f n b s rows kinds figures ds ps ≡ 0 →
+    (discounts : List ℕ) (r : ℕ) (prices payoffs : List ℕ) → r ≤ n → Unaltered f n b s kinds figures discounts r prices →
+    valueByStatePrices prices payoffs .number ≡ 0 →
+    (valuationErrorBound n b discounts r payoffs .number ≡ 0)
+    × Short-of (valuationErrorBound n b discounts r payoffs .value) (unit ^ r) (valueByStatePrices prices payoffs .value)
+    (exact-payoff b discounts r payoffs)
+payoffs-kept f n b s rows kinds figures ds ps z discounts r prices payoffs h kept zv =
+    let g = bound-accepted f n b s rows kinds figures ds ps z discounts r prices payoffs h kept zv in
+    (g, payoffs-within f n b s rows kinds figures ds ps z discounts r prices payoffs h kept zv g)

@@ -67,6 +67,7 @@ None-above-one n b discounts = (k : ℕ) → k < discounts-needed n b → values
 
 -- the discounts of the tree and the state prices of row r are those of the fit, unaltered since
 pub record Unaltered (f n b s : ℕ) (kinds : List ℕ) (figures : List Float) (discounts : List ℕ) (r : ℕ) (prices : List ℕ) : Type 0 where
+  pub discounts-long : row-start b n ≤ length discounts
   pub discounts-kept : (i k : ℕ) → i < n → k < node-count b i → values discounts (row-start b i + k) ≡ fit-discount f n b s kinds figures i k
   pub row-length : length prices ≡ node-count b r
   pub prices-kept : (k : ℕ) → k < node-count b r → values prices k ≡ fit-price f n b s kinds figures r k
@@ -90,8 +91,9 @@ pub record Price-promises : Type 0 where
   pub payoffs-accurate : (f n b s : ℕ) (rows kinds : List ℕ) (figures : List Float) (room-discounts room-prices : ℕ) →
       fitNumber f n b s rows kinds figures room-discounts room-prices ≡ 0 →
       (discounts : List ℕ) (r : ℕ) (prices payoffs : List ℕ) → r ≤ n → Unaltered f n b s kinds figures discounts r prices →
-      valueByStatePrices prices payoffs .number ≡ 0 → valuationErrorBound n b discounts r payoffs .number ≡ 0 →
-      Short-of (valuationErrorBound n b discounts r payoffs .value) (unit ^ r) (valueByStatePrices prices payoffs .value)
+      valueByStatePrices prices payoffs .number ≡ 0 →
+      (valuationErrorBound n b discounts r payoffs .number ≡ 0)
+      × Short-of (valuationErrorBound n b discounts r payoffs .value) (unit ^ r) (valueByStatePrices prices payoffs .value)
       (exact-payoff b discounts r payoffs)
   -- and those are what an accepted fit leaves in the two memories, d and q before it
   pub fit-stored : (f n b s : ℕ) (kinds : List ℕ) (figures : List Float) (d q : List ℕ) (r : ℕ) → r ≤ n →
