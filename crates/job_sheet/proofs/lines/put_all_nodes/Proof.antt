@@ -1,0 +1,69 @@
+-- `job_sheet::lines::put_all_nodes` meets its contract.
+-- Assumes nothing.
+use mathlib.Core.Path.{_≡_, refl, sym, ap, _∙_, subst}
+use Prim.Native.Nat.{ℕ, suc, _+_, _-_, _*_, _≤_, _<_, _^_}
+use mathlib.Core.List.{List}
+use lib.ListN.{length, getD}
+use Rattle.lattice.specs.Shape.{node-count, row-start, discounts-needed}
+use Rattle.lattice.proofs.Sizes.{start-suc}
+use Rattle.job_sheet.specs.TreeSheet.{nodesOfRow, nodeLines}
+use Rattle.job_sheet.proofs.Pieces.{Progress, begun, gone, ended}
+use Rattle.job_sheet.proofs.PartLaws as laws
+use borrow.Author.Needs.{needs}
+use native.Mathlib.Omega.{arith}
+use Rattle.job_sheet.proofs.lines.put_all_nodes.Statement.{statement}
+use Rattle.job_sheet.proofs.lines.put_all_nodes.Tie as tie
+
+abbrev Inv-loop : tie.InvT-loop
+Inv-loop out₀ end steps reversion discounts state-prices start₀ left₀ out start left =
+    Progress (nodesOfRow reversion discounts) (λ (i : ℕ). 128 * row-start reversion i) out₀ end steps out start left
+
+abbrev μ-loop : tie.MeasureT-loop
+μ-loop out₀ end steps reversion discounts state-prices start₀ left₀ out start left = left
+
+needed : (n b end : ℕ) → 128 * discounts-needed n b ≤ end → 128 * row-start b n ≤ end
+unfolding discounts-needed
+needed n b end h = h
+
+fits : (c : tie.After-shared-slice-known2 Inv-loop μ-loop) (i : ℕ) → i < c .before .before .before .args .steps → 128 * row-start (c .before .before .before .args .reversion) i + length (nodesOfRow (c .before .before .before .args .reversion) (c .before .before .before .args .discounts .now) i) ≤ 128 * row-start (c .before .before .before .args .reversion) (suc i)
+fits c = laws.nodes-fit (c .before .before .before .args .steps) (c .before .before .before .args .reversion) (c .before .before .before .args .discounts .now) (c .before .before .before .args .state-prices .now) (c .before .before .before .pre .0) (λ j. c .before .shared-slice-known .given j .fits)
+
+loop-holds : tie.Need-loop-holds Inv-loop μ-loop
+loop-holds c = (let a = c .before .before .before .args in begun (nodesOfRow (a .reversion) (a .discounts .now)) (λ (i : ℕ). 128 * row-start (a .reversion) i) (a .steps) (fits c) (a .out .now) (a .end) (needed (a .steps) (a .reversion) (a .end) (c .before .before .before .pre .1)))
+
+sub-left : tie.Need-sub-left Inv-loop μ-loop
+sub-left c = search needs
+
+put-nodes-requires : tie.Need-put-nodes-requires Inv-loop μ-loop
+put-nodes-requires c κs =
+    let l = c .before .before .loop in
+    let p = l .inv in
+    let e : suc (l .left - 1) ≡ l .left = omega arith in
+    let s : row-start (c .before .before .before .before .before .before .args .reversion) (l .left) ≡ row-start (c .before .before .before .before .before .before .args .reversion) (l .left - 1) + node-count (c .before .before .before .before .before .before .args .reversion) (l .left - 1) = rw e at (start-suc (c .before .before .before .before .before .before .args .reversion) (l .left - 1)) in
+    (omega (arith, p .upto), c .before .before .before .before .before .before .pre .0, omega (arith, s, p .enough), omega (arith, p .below, p .same, c .before .before .before .before .before .before .pre .2))
+
+loop-less : tie.Need-loop-less Inv-loop μ-loop
+loop-less c = search needs
+
+loop-again : tie.Need-loop-again Inv-loop μ-loop
+loop-again c = (let a = c .before .before .before .before .before .before .before .before .before .args in gone (nodesOfRow (a .reversion) (a .discounts .now)) (λ (i : ℕ). 128 * row-start (a .reversion) i) (a .steps) (fits (c .before .before .before .before .before .before)) (a .out .now) (a .end) (c .before .before .before .before .before .loop .inv) (omega arith) (c .before .before .put-nodes .ensures))
+
+same-length : tie.Need-same-length Inv-loop μ-loop
+same-length c = (c .before .loop .inv .same)
+
+returns : tie.Need-returns Inv-loop μ-loop
+returns c = (let a = c .before .before .before .before .before .args in ended (nodesOfRow (a .reversion) (a .discounts .now)) (λ (i : ℕ). 128 * row-start (a .reversion) i) (a .steps) (fits (c .before .before)) (a .out .now) (a .end) (c .before .loop .inv) (omega arith) (c .before .before .before .before .before .pre .2))
+
+pub put-all-nodes-spec : {M : Type 1} → statement M
+put-all-nodes-spec =
+    tie.close
+    (tie.spec
+    Inv-loop
+    μ-loop
+    loop-holds
+    sub-left
+    put-nodes-requires
+    loop-less
+    loop-again
+    same-length
+    returns)

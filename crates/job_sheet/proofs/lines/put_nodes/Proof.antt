@@ -1,0 +1,43 @@
+-- `job_sheet::lines::put_nodes` meets its contract.
+-- Assumes nothing.
+use mathlib.Core.Path.{_≡_, refl, sym, ap, _∙_, subst}
+use Prim.Native.Nat.{ℕ, suc, _+_, _-_, _*_, _≤_, _<_, _^_}
+use mathlib.Core.List.{List}
+use lib.ListN.{length, getD}
+use borrow.Author.Tests.{lt-ltb}
+use Rattle.lattice.specs.Shape.{node-count}
+use Rattle.lattice.proofs.Sizes.{count-within}
+use Rattle.row_view.specs.declared.RowKind.the-variants.{Discounts}
+use Rattle.text.specs.Put.{Put}
+use Rattle.node_lines.specs.Rows.{rowText, rowStart, withRow}
+use Rattle.job_sheet.specs.TreeSheet.{row-part}
+use Rattle.job_sheet.proofs.PartLaws as laws
+use borrow.Author.Needs.{needs}
+use native.Mathlib.Omega.{arith}
+use Rattle.job_sheet.proofs.lines.put_nodes.Statement.{statement}
+use Rattle.job_sheet.proofs.lines.put_nodes.Tie as tie
+
+row-view-requires : tie.Need-row-view-requires
+row-view-requires c κs = search needs
+
+node-lines-requires : tie.Need-node-lines-requires
+node-lines-requires c κs = search needs
+
+same-length : tie.Need-same-length
+same-length c = search needs
+
+returns : tie.Need-returns
+returns c =
+    let a = c .before .before .before .before .before .before .before .before .args in
+    let pre = c .before .before .before .before .before .before .before .before .pre in
+    let stored = pre .1 in
+    let e = laws.shown (a .discounts) (a .state-prices) Discounts (a .steps) (a .reversion) (a .row) (c .before .before .before .before .row-view .result) stored (lt-ltb (a .row) (a .steps) (pre .0)) (c .before .before .before .before .row-view .ensures) in
+    let size = laws.part-size (a .reversion) (a .row) (a .discounts .now) (laws.discounts-end (a .steps) (a .reversion) (a .discounts .now) (a .state-prices .now) stored (a .row) (pre .0)) in
+    let long = laws.nodes-length (a .steps) (a .reversion) (a .discounts .now) (a .state-prices .now) stored (λ j. c .before .before .before .before .before .before .shared-slice-known .given j .fits) (a .row) (pre .0) in
+    let part = row-part (a .reversion) (a .discounts .now) (a .row) in
+    laws.row-stands (a .out .now) (a .end) (a .row) part _ _ (omega (arith, size, pre .2)) (pre .3) (omega (arith, size, long))
+      (subst (λ (d : List ℕ). c .before .before .node-lines .result ≡ rowStart (a .out .now) (a .end) (a .row) d) e (c .before .before .node-lines .ensures .0))
+      (subst (λ (d : List ℕ). c .before .before .node-lines .last .0 ≡ withRow (a .out .now) (a .end) (a .row) d) e (c .before .before .node-lines .ensures .1))
+
+pub put-nodes-spec : {M : Type 1} → statement M
+put-nodes-spec = tie.close (tie.spec row-view-requires node-lines-requires same-length returns)

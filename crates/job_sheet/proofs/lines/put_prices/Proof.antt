@@ -1,0 +1,26 @@
+-- `job_sheet::lines::put_prices` meets its contract.
+-- Assumes nothing.
+use mathlib.Core.Path.{_≡_, refl, sym, ap, _∙_, subst}
+use Prim.Native.Nat.{ℕ, suc, _+_, _-_, _*_, _≤_, _<_, _^_}
+use mathlib.Core.List.{List}
+use lib.ListN.{length, getD}
+use Rattle.job_sheet.proofs.PartLaws as laws
+use borrow.Author.Needs.{needs}
+use native.Mathlib.Omega.{arith}
+use Rattle.job_sheet.proofs.lines.put_prices.Statement.{statement}
+use Rattle.job_sheet.proofs.lines.put_prices.Tie as tie
+
+put-option-requires : tie.Need-put-option-requires
+put-option-requires c κs = (omega (arith, c .before .before .pre .0), c .before .before .pre .1)
+
+bond-line-requires : tie.Need-bond-line-requires
+bond-line-requires c κs = search needs
+
+same-length : tie.Need-same-length
+same-length c = search needs
+
+returns : tie.Need-returns
+returns c = laws.prices-stand _ _ (c .before .before .before .before .before .before .before .before .before .args .bond) (c .before .before .before .before .before .before .before .before .before .args .present) (c .before .before .before .before .before .before .before .before .before .args .option) (search needs, search needs) (search needs, search needs) (c .before .before .before .before .before .before .before .before .before .pre .0) (c .before .before .before .before .before .before .put-option .ensures) (c .before .before .bond-line .ensures .0) (c .before .before .bond-line .ensures .1)
+
+pub put-prices-spec : {M : Type 1} → statement M
+put-prices-spec = tie.close (tie.spec put-option-requires bond-line-requires same-length returns)

@@ -1,0 +1,39 @@
+-- `job_sheet::lines::put_sheet` meets its contract.
+-- Assumes nothing.
+use mathlib.Core.Path.{_≡_, refl, sym, ap, _∙_, subst}
+use Prim.Native.Nat.{ℕ, suc, _+_, _-_, _*_, _≤_, _<_, _^_}
+use mathlib.Core.List.{List}
+use lib.ListN.{length, getD}
+use Rattle.job_sheet.proofs.PartLaws as laws
+use borrow.Author.Needs.{needs}
+use native.Mathlib.Omega.{arith}
+use Rattle.job_sheet.proofs.lines.put_sheet.Statement.{statement}
+use Rattle.job_sheet.proofs.lines.put_sheet.Tie as tie
+
+put-prices-requires : tie.Need-put-prices-requires
+put-prices-requires c κs = (omega (arith, c .before .before .before .before .before .pre .0 .2), omega arith)
+
+put-rows-requires : tie.Need-put-rows-requires
+put-rows-requires c κs =
+    let a = c .before .before .before .before .before .before .before .before .before .args in
+    let room = laws.rows-room (a .steps) (a .reversion) (a .quotes .now) (a .discounts .now) (a .state-prices .now) (a .bond) (a .present) (a .option) (c .before .before .before .before .before .before .before .before .before .pre .0 .0) (search needs, search needs) (search needs, search needs) (c .before .before .before .before .before .before .before .before .before .pre .0 .2) (c .before .before .before .put-prices .ensures) in
+    ((c .before .before .before .before .before .before .before .before .before .pre .0 .0, c .before .before .before .before .before .before .before .before .before .pre .0 .1, room .0, room .1), c .before .before .before .before .before .before .before .before .before .pre .1)
+
+put-all-nodes-requires : tie.Need-put-all-nodes-requires
+put-all-nodes-requires c κs =
+    let a = c .before .before .before .before .before .before .before .before .before .before .before .before .before .args in
+    let room = laws.nodes-room (a .steps) (a .reversion) (a .quotes .now) (a .discounts .now) (a .state-prices .now) (a .bond) (a .present) (a .option) (c .before .before .before .before .before .before .before .before .before .before .before .before .before .pre .0 .0) (search needs, search needs) (search needs, search needs) (c .before .before .before .before .before .before .before .before .before .before .before .before .before .pre .0 .2) (c .before .before .before .before .before .before .before .put-prices .ensures) (c .before .before .before .put-rows .ensures) (λ j. c .before .before .before .before .before .before .before .before .before .before .before .shared-slice-known .given j .fits) (c .before .before .before .before .before .before .before .before .before .before .before .before .before .pre .1) in
+    (c .before .before .before .before .before .before .before .before .before .before .before .before .before .pre .0 .0, room .0, room .1)
+
+same-length : tie.Need-same-length
+same-length c = search needs
+
+returns : tie.Need-returns
+returns c =
+    let a = c .before .before .before .before .before .before .before .before .before .before .before .before .before .before .before .before .args in
+    laws.sheet-stands (a .steps) (a .reversion) (a .quotes .now) (a .discounts .now) (a .state-prices .now) (a .bond) (a .present) (a .option) (c .before .before .before .before .before .before .before .before .before .before .put-prices .ensures) (c .before .before .before .before .before .before .put-rows .ensures) (c .before .before .put-all-nodes .ensures)
+
+pub put-sheet-spec : {M : Type 1} → statement M
+put-sheet-spec =
+    tie.close
+    (tie.spec put-prices-requires put-rows-requires put-all-nodes-requires same-length returns)
