@@ -1,2 +1,4 @@
 pub mod Pieces
 pub mod PartLaws
+pub mod FittedLaws
+pub mod SheetLaws

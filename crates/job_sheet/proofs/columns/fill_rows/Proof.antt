@@ -1,0 +1,61 @@
+-- `job_sheet::columns::fill_rows` meets its contract.
+-- Assumes nothing.
+use mathlib.Core.Path.{_≡_, refl, sym, ap, _∙_, subst}
+use Prim.Native.Nat.{ℕ, suc, _+_, _-_, _*_, _≤_, _<_, _^_}
+use lib.ListN.{length, getD}
+use Rattle.arithmetic.proofs.RowLaws.{Filled, filled-start, filled-next, length-row}
+use Rattle.job_sheet.proofs.SheetLaws as laws
+use borrow.Author.Needs.{needs}
+use native.Mathlib.Omega.{arith}
+use Rattle.job_sheet.proofs.columns.fill_rows.Statement.{statement}
+use Rattle.job_sheet.proofs.columns.fill_rows.Tie as tie
+
+abbrev Inv-loop : tie.InvT-loop
+Inv-loop rows₀ count index₀ rows index =
+    (index ≤ count) × (length rows ≡ length rows₀) × Filled rows₀ rows (λ (k : ℕ). k + 1) index
+
+abbrev μ-loop : tie.MeasureT-loop
+μ-loop rows₀ count index₀ rows index = count - index
+
+loop-holds : tie.Need-loop-holds Inv-loop μ-loop
+loop-holds c = (search needs, refl, filled-start _ _)
+
+add-rows : tie.Need-add-rows Inv-loop μ-loop
+add-rows c = search needs
+
+mul-rows : tie.Need-mul-rows Inv-loop μ-loop
+mul-rows c = search needs
+
+slice-write-rows : tie.Need-slice-write-rows Inv-loop μ-loop
+slice-write-rows c = search needs
+
+add-index : tie.Need-add-index Inv-loop μ-loop
+add-index c = search needs
+
+loop-less : tie.Need-loop-less Inv-loop μ-loop
+loop-less c = search needs
+
+loop-again : tie.Need-loop-again Inv-loop μ-loop
+loop-again c = (let next = filled-next (c .before .before .args .rows .now) (c .before .loop .rows) (λ (k : ℕ). k + 1) (c .before .loop .index) (c .before .loop .index + 1) (c .before .loop .inv .2) (omega arith) refl in (omega arith, next .same, next))
+
+same-length : tie.Need-same-length Inv-loop μ-loop
+same-length c = c .before .loop .inv .1
+
+returns : tie.Need-returns Inv-loop μ-loop
+returns c = laws.rows-filled (c .before .before .args .rows .now) (c .before .loop .rows) (c .before .before .args .count) (c .before .loop .index) (λ (k : ℕ). k + 1) (c .before .loop .inv .2) (omega arith) (c .before .before .pre)
+
+pub fill-rows-spec : {M : Type 1} → statement M
+fill-rows-spec =
+    tie.close
+    (tie.spec
+    Inv-loop
+    μ-loop
+    loop-holds
+    add-rows
+    mul-rows
+    slice-write-rows
+    add-index
+    loop-less
+    loop-again
+    same-length
+    returns)
