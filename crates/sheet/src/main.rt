@@ -1,0 +1,8 @@
+// The sheet of the job on standard input, on standard output.
+fn main() {
+    let mut input = io::large_buffer();
+    let count = io::read_full(0, &mut input);
+    let mut room = job_sheet::sheet_room();
+    let start = job_sheet::printed(&input[..count], &mut room);
+    io::write_all(1, &room[start..]);
+}
