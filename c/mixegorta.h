@@ -2,7 +2,7 @@
  *
  * Link with target/staticlib/libcapi.a or target/libmixegorta.so; tools/library builds both. The archive needs memcpy and memset
  * of the C library and nothing else: no function here allocates, keeps a pointer, calls back, prints or reads global state, so
- * any number of threads may call at once.
+ * any number of threads may call at once. During a call no other thread may write what the call is handed.
  *
  * Numbers. "One" is 1,000,000,000 billionths. Discounts, state prices, flows, strikes, payoffs, values and error bounds are
  * whole billionths; probabilities are whole numbers over 600,000,000.

@@ -281,7 +281,35 @@ static void ranges(void) {
     CHECK(ranged(mixegorta_row_range(NULL, 0, prices, 4, MIXEGORTA_STATE_PRICES, 1, 0, 0), 0, 0));
 }
 
-/* Every row of a fit reprices its quote by its state prices within 300, and a bond's price is within its bound of the quote's. */
+/* The header's limits are the engine's: each limit is accepted, and one more is not. */
+static void limits(void) {
+    struct mixegorta_point point = {1, 0.1};
+    CHECK(answered(mixegorta_quote_discount(1, MIXEGORTA_DISCOUNT_FACTOR, point), MIXEGORTA_MIN_QUOTE_DISCOUNT));
+    point.figure = 0.099999999;
+    CHECK(refused(mixegorta_quote_discount(1, MIXEGORTA_DISCOUNT_FACTOR, point), 7));
+    point.figure = 2.0;
+    CHECK(answered(mixegorta_quote_discount(1, MIXEGORTA_DISCOUNT_FACTOR, point), MIXEGORTA_MAX_QUOTE_DISCOUNT));
+    point.figure = 2.000000001;
+    CHECK(refused(mixegorta_quote_discount(1, MIXEGORTA_DISCOUNT_FACTOR, point), 7));
+    CHECK(mixegorta_half_width(MIXEGORTA_MAX_REVERSION, 0).number == 0);
+    CHECK(mixegorta_half_width(MIXEGORTA_MAX_REVERSION + 1, 0).number == 4);
+    CHECK(mixegorta_discounts_needed(MIXEGORTA_MAX_STEPS, 0).number == 0);
+    CHECK(mixegorta_discounts_needed(MIXEGORTA_MAX_STEPS + 1, 0).number == 3);
+    falling_curve(0.98);
+    CHECK(fit(12, 1, 0, MIXEGORTA_MAX_VOLATILITY) == 0);
+    CHECK(fit(12, 1, 0, MIXEGORTA_MAX_VOLATILITY + 1) == 5);
+    uint64_t discount[] = {MIXEGORTA_MAX_NODE_DISCOUNT}, flow[] = {MIXEGORTA_MAX_FLOW};
+    CHECK(priced(mixegorta_bond_price(1, 0, discount, 1, flow, 1), 2200000000, 3));
+    struct mixegorta_price put = mixegorta_option_price(1, 0, discount, 1, flow, 1, MIXEGORTA_EUROPEAN_PUT, 1, MIXEGORTA_MAX_STRIKE);
+    CHECK(priced(put, 2200000000, 3));
+    uint64_t row[] = {MIXEGORTA_MAX_STATE_PRICE_SUM}, payoff[] = {ONE};
+    CHECK(answered(mixegorta_value_by_state_prices(row, 1, payoff, 1), MIXEGORTA_MAX_STATE_PRICE_SUM));
+    row[0] = ONE;
+    payoff[0] = MIXEGORTA_MAX_VALUE;
+    CHECK(answered(mixegorta_value_by_state_prices(row, 1, payoff, 1), MIXEGORTA_MAX_VALUE));
+}
+
+/* Every row of a fit reprices its quote by its state prices within 300. */
 static void repricing(void) {
     enum { STEPS = 60 };
     uint64_t quoted[STEPS];
@@ -383,6 +411,7 @@ int main(void) {
     rates();
     fits();
     ranges();
+    limits();
     repricing();
     price_refusals();
     value_limits();
