@@ -1,7 +1,6 @@
 /* The figures of the scope (document 01) and every refusal, through the C header. Exit status 1 where a check fails. */
 #include "mixegorta.h"
 
-#include <inttypes.h>
 #include <math.h>
 #include <stdbool.h>
 #include <stdio.h>
