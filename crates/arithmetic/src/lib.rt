@@ -5,6 +5,7 @@ ghost use Rattle.arithmetic.specs.Power.{powerOfTen};
 ghost use Rattle.arithmetic.specs.Frequency.{listed};
 
 // An answer that can be a refusal: number 0 with the value, or the refusal's number with value 0.
+#[repr(C)]
 pub struct Answer {
     pub number: u64,
     pub value: u64,

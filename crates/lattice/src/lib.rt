@@ -36,6 +36,7 @@ ghost use Rattle.lattice.specs.Entries.{
 };
 
 // Where a node leads: to `lowest` and the two nodes above it, with probabilities up, middle, down over 600,000,000.
+#[repr(C)]
 pub struct Branches {
     pub number: u64,
     pub lowest: i64,

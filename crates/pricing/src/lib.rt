@@ -24,6 +24,7 @@ ghost use Rattle.pricing.specs.Prices.{
 ghost use Rattle.pricing.specs.Trees.{Accepted, Accepted-flows, down-table};
 
 // A price in billionths with its error bound; a refusal's number with zeros.
+#[repr(C)]
 pub struct Price {
     pub number: u64,
     pub value: u64,

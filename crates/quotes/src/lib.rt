@@ -9,6 +9,7 @@ use arithmetic::Answer;
 const ONE: u64 = 1_000_000_000;
 
 // A quoted point: a row number and a figure.
+#[repr(C)]
 pub struct Point {
     pub row: u64,
     pub figure: f64,

@@ -9,7 +9,7 @@ use native.Mathlib.Omega.{arith}
 use lib.Dec.{ltb, leb}
 use lib.ListN.{length, take, drop, length-drop}
 use lib.Seq.{length-take-le, getD-take, getD-drop}
-use borrow.Author.Tests.{ltb-true, leb-true, lt-ltb, le-leb, lt-leb}
+use borrow.Author.Tests.{ltb-true, leb-true, lt-ltb, le-leb, lt-leb, eq-eqb, ne-eqb}
 use Rattle.arithmetic.specs.Row.{values}
 use Rattle.arithmetic.specs.declared.Answer.{Answer}
 use Rattle.lattice.specs.Shape.{node-count, row-start, discounts-needed, state-prices-needed}
@@ -17,7 +17,8 @@ use Rattle.lattice.specs.Entries.{about-tree}
 use Rattle.lattice.proofs.Sizes.{row-ends, count-positive}
 use Rattle.row_view.specs.declared.RowKind.{RowKind}
 use Rattle.row_view.specs.declared.RowKind.the-variants.{Discounts, StatePrices}
-use Rattle.row_view.specs.RowView.{is-tree, holds-tree, stores-row, memory-of, is-shown, view-start, view-count, PartOf}
+use Rattle.row_view.specs.declared.RowRange.{RowRange}
+use Rattle.row_view.specs.RowView.{is-tree, holds-tree, stores-row, memory-of, is-shown, view-start, view-count, range-of-row, no-range, range-by-number, PartOf}
 use Rattle.lattice.proofs.TreeEntries.{Accepted, by-tree}
 
 and-left : (x y : Bool) → x && y ≡ true → x ≡ true
@@ -86,9 +87,6 @@ holding discounts prices n b h =
 -- ---- the shown part
 
 module _ (discounts prices : RefT (List ℕ)) (kind : RowKind) (n b i : ℕ) where
-  abbrev Shown : Bool
-  Shown = is-shown (discounts .now) (prices .now) kind n b i
-
   -- a stored row ends within its memory
   pub row-room : Holding (discounts .now) (prices .now) n b → stores-row kind n i ≡ true →
       (b ≤ 6000) × (i ≤ 60) × (row-start b i + node-count b i ≤ length (memory-of discounts prices kind .now))
@@ -103,20 +101,6 @@ module _ (discounts prices : RefT (List ℕ)) (kind : RowKind) (n b i : ℕ) whe
           let l : i ≤ n = leb-true i n s in
           omega (arith, h, row-ends b i (suc n) (omega arith))
 
-  module _ (memory part : RefT (List ℕ)) (e : memory ≡ memory-of discounts prices kind) where
-    -- the shown part, by whether the row is shown
-    pub shown-part : Shown ≡ true → PartOf memory (row-start b i) (node-count b i) part →
-        PartOf (memory-of discounts prices kind) (view-start (discounts .now) (prices .now) kind n b i)
-        (view-count (discounts .now) (prices .now) kind n b i) part
-    unfolding view-start view-count
-    shown-part s p = simp (s, ← e) p
-
-    pub refused-part : Shown ≡ false → PartOf memory 0 0 part →
-        PartOf (memory-of discounts prices kind) (view-start (discounts .now) (prices .now) kind n b i)
-        (view-count (discounts .now) (prices .now) kind n b i) part
-    unfolding view-start view-count
-    refused-part s p = simp (s, ← e) p
-
 module _ (discounts prices : List ℕ) (kind : RowKind) (n b i : ℕ) where
   pub not-held : holds-tree discounts prices n b ≡ false → is-shown discounts prices kind n b i ≡ false
   unfolding is-shown
@@ -130,9 +114,34 @@ module _ (discounts prices : List ℕ) (kind : RowKind) (n b i : ℕ) where
   unfolding is-shown
   is-stored h s = simp (h, s)
 
+  -- the range of a row, by whether the row is shown
+  pub hidden-range : is-shown discounts prices kind n b i ≡ false → no-range ≡ range-of-row discounts prices kind n b i
+  unfolding view-start view-count
+  hidden-range h = rw h
+
+  pub shown-range : (start count : ℕ) → is-shown discounts prices kind n b i ≡ true → start ≡ row-start b i → count ≡ node-count b i →
+      _≡_ {A = RowRange} (record { start = start; count = count }) (range-of-row discounts prices kind n b i)
+  unfolding view-start view-count
+  shown-range start count h p q = rw (h, p, q)
+
+-- the range by the kind's number
+module _ (discounts prices : List ℕ) (kind n b i : ℕ) where
+  pub numbered-discounts : kind ≡ 1 → range-of-row discounts prices Discounts n b i ≡ range-by-number discounts prices kind n b i
+  unfolding range-by-number
+  numbered-discounts h = simp (eq-eqb kind 1 h)
+
+  module _ (h : kind ≡ 1 → ⊥) where
+    pub numbered-prices : kind ≡ 2 → range-of-row discounts prices StatePrices n b i ≡ range-by-number discounts prices kind n b i
+    unfolding range-by-number
+    numbered-prices k = simp (ne-eqb kind 1 h, eq-eqb kind 2 k)
+
+    pub numbered-otherwise : (kind ≡ 2 → ⊥) → no-range ≡ range-by-number discounts prices kind n b i
+    unfolding range-by-number
+    numbered-otherwise k = simp (ne-eqb kind 1 h, ne-eqb kind 2 k)
+
 -- the part between a start and an end that code has computed
-pub part-between : (memory : List ℕ) {s start n count : ℕ} → s ≡ start → n ≡ count → take (s + n - s) (drop s memory) ≡ take count (drop start memory)
-part-between memory {s} {start} {n} {count} p q = let e : s + n - s ≡ count = omega arith in rw (e, p)
+pub part-between : (memory : List ℕ) (start count : ℕ) → take (start + count - start) (drop start memory) ≡ take count (drop start memory)
+part-between memory start count = let e : start + count - start ≡ count = omega arith in rw e
 
 -- ---- what callers use of a part and of the view
 
@@ -174,3 +183,19 @@ module _ (discounts prices : RefT (List ℕ)) (kind : RowKind) (n b i : ℕ) whe
       (view-count (discounts .now) (prices .now) kind n b i) part →
       length (part .now) ≡ view-count (discounts .now) (prices .now) kind n b i
   view-length part p = part-length _ _ _ part p view-within
+
+  module _ (memory : RefT (List ℕ)) (e : memory ≡ memory-of discounts prices kind)
+      (r : RowRange) (q : r ≡ range-of-row (discounts .now) (prices .now) kind n b i) where
+    starts : r .start ≡ view-start (discounts .now) (prices .now) kind n b i
+    starts = ap (λ (x : RowRange). x .start) q
+
+    counts : r .count ≡ view-count (discounts .now) (prices .now) kind n b i
+    counts = ap (λ (x : RowRange). x .count) q
+
+    pub range-within : r .start + r .count ≤ length (memory .now)
+    range-within = rw (starts, counts, e) view-within
+
+    pub range-part : (part : RefT (List ℕ)) → PartOf memory (r .start) (r .count) part →
+        PartOf (memory-of discounts prices kind) (view-start (discounts .now) (prices .now) kind n b i)
+        (view-count (discounts .now) (prices .now) kind n b i) part
+    range-part part p = rw (← starts, ← counts, ← e) p

@@ -5,11 +5,12 @@ use mathlib.Core.Bool.{Bool, cond, _&&_}
 use mathlib.Core.List.{List}
 use mathlib.Core.Path.{_≡_}
 use denote.Ref.{RefT}
-use lib.Dec.{leb, ltb}
+use lib.Dec.{eqb, leb, ltb}
 use lib.ListN.{length, take, drop}
 use Rattle.lattice.specs.Shape.{node-count, row-start, discounts-needed, state-prices-needed}
 use Rattle.row_view.specs.declared.RowKind.{RowKind}
 use Rattle.row_view.specs.declared.RowKind.the-variants.{Discounts, StatePrices}
+use Rattle.row_view.specs.declared.RowRange.{RowRange}
 
 -- n is 1 to 60, b at most 6,000
 unfoldable pub is-tree : ℕ → ℕ → Bool
@@ -40,6 +41,21 @@ view-start discounts prices kind n b i = cond (is-shown discounts prices kind n 
 
 unfoldable pub view-count : List ℕ → List ℕ → RowKind → ℕ → ℕ → ℕ → ℕ
 view-count discounts prices kind n b i = cond (is-shown discounts prices kind n b i) (node-count b i) 0
+
+-- both as one answer
+abbrev pub range-of-row : List ℕ → List ℕ → RowKind → ℕ → ℕ → ℕ → RowRange
+range-of-row discounts prices kind n b i =
+    record { start = view-start discounts prices kind n b i; count = view-count discounts prices kind n b i }
+
+abbrev pub no-range : RowRange
+no-range = record { start = 0; count = 0 }
+
+-- the same, the kind told by its number: 1 discounts, 2 state prices; any other is refused
+unfoldable pub range-by-number : List ℕ → List ℕ → ℕ → ℕ → ℕ → ℕ → RowRange
+range-by-number discounts prices kind n b i =
+    cond (eqb kind 1) (range-of-row discounts prices Discounts n b i)
+    (cond (eqb kind 2) (range-of-row discounts prices StatePrices n b i)
+    no-range)
 
 -- the caller's own part: a reference into the same block, at element start, with count elements; an element takes 8 bytes
 pub record PartOf (whole : RefT (List ℕ)) (start count : ℕ) (part : RefT (List ℕ)) : Type 0 where

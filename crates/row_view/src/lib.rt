@@ -1,8 +1,5 @@
 // Either kind of row of a tree, shown as the part of the lent memory that contains it.
 ghost use mathlib.Core.Path.{_≡_};
-ghost use Prim.Native.Nat.{_+_, _≤_};
-ghost use lib.ListN.{length};
-ghost use Rattle.lattice.specs.Shape.{node-count, row-start};
 ghost use Rattle.row_view.specs.RowView.{
   holds-tree,
   stores-row,
@@ -10,12 +7,21 @@ ghost use Rattle.row_view.specs.RowView.{
   PartOf,
   view-start,
   view-count,
+  range-of-row,
+  range-by-number,
 };
 
 // The two kinds of rows that a tree has in memory.
 pub enum RowKind {
     Discounts,
     StatePrices,
+}
+
+// A row's place in the memory of its kind: where it starts, and how many nodes it has.
+#[repr(C)]
+pub struct RowRange {
+    pub start: usize,
+    pub count: usize,
 }
 
 // Whether the steps and the reversion are within their limits and both memories are long enough for the tree.
@@ -53,16 +59,63 @@ fn memory_of<'a>(discounts: &'a [u64], state_prices: &'a [u64], kind: RowKind) -
     }
 }
 
-// The part of a memory that contains a row.
-fn row_part(memory: &[u64], reversion: u64, row: usize) -> &[u64]
-    requires { ⌜ (reversion ≤ 6000) × (row ≤ 60) × (row-start reversion row + node-count reversion row ≤ length (now memory)) ⌝ }
-    ensures { λ r. ⌜ PartOf (memory .entry) (row-start reversion row) (node-count reversion row) r ⌝ }
+// Where a row stands in the memory of its kind, and how many nodes it has. A refusal is 0 and 0.
+pub fn row_range(
+    discounts: &[u64],
+    state_prices: &[u64],
+    kind: RowKind,
+    steps: usize,
+    reversion: u64,
+    row: usize,
+) -> RowRange
+    ensures { λ r. ⌜ r ≡ range-of-row (now (discounts .entry)) (now («state_prices» .entry)) kind steps reversion row ⌝ }
 {
+    if !holds_tree(discounts, state_prices, steps, reversion) {
+        return RowRange { start: 0, count: 0 };
+    }
+    if !stores_row(kind, steps, row) {
+        return RowRange { start: 0, count: 0 };
+    }
     let first = lattice::row_start(reversion, row);
     let nodes = lattice::node_count(reversion, row);
-    let start = first.value as usize;
-    let end = start + nodes.value as usize;
-    &memory[start..end]
+    RowRange {
+        start: first.value as usize,
+        count: nodes.value as usize,
+    }
+}
+
+// The same, the kind told by its number: 1 discounts, 2 state prices. Any other number is a refusal.
+pub fn range_by_number(
+    discounts: &[u64],
+    state_prices: &[u64],
+    kind: u64,
+    steps: usize,
+    reversion: u64,
+    row: usize,
+) -> RowRange
+    ensures { λ r. ⌜ r ≡ range-by-number (now (discounts .entry)) (now («state_prices» .entry)) kind steps reversion row ⌝ }
+{
+    if kind == 1 {
+        return row_range(
+            discounts,
+            state_prices,
+            RowKind::Discounts,
+            steps,
+            reversion,
+            row,
+        );
+    }
+    if kind == 2 {
+        return row_range(
+            discounts,
+            state_prices,
+            RowKind::StatePrices,
+            steps,
+            reversion,
+            row,
+        );
+    }
+    RowRange { start: 0, count: 0 }
 }
 
 // The wanted row of the discounts or of the state prices. A refusal is the empty part at the start of the wanted memory.
@@ -79,11 +132,8 @@ pub fn row_view<'a>(
         (view-count (now (discounts .entry)) (now («state_prices» .entry)) kind steps reversion row) r ⌝ }
 {
     let memory = memory_of(discounts, state_prices, kind);
-    if !holds_tree(discounts, state_prices, steps, reversion) {
-        return &memory[0..0];
-    }
-    if !stores_row(kind, steps, row) {
-        return &memory[0..0];
-    }
-    row_part(memory, reversion, row)
+    let range = row_range(discounts, state_prices, kind, steps, reversion, row);
+    let start = range.start;
+    let end = start + range.count;
+    &memory[start..end]
 }

@@ -7,6 +7,7 @@ ghost use Rattle.step_rate.specs.StepRate.{rateAnswer};
 const ONE: u64 = 1_000_000_000;
 
 // Number 0 with the signed rate in billionths, or refusal 9 with value 0.
+#[repr(C)]
 pub struct Rate {
     pub number: u64,
     pub value: i64,

@@ -1,0 +1,207 @@
+/* Mixegorta for C: a Hull-White trinomial rate tree in whole billionths.
+ *
+ * Link with target/staticlib/libcapi.a or target/libmixegorta.so; tools/library builds both. The archive needs memcpy and memset
+ * of the C library and nothing else: no function here allocates, keeps a pointer, calls back, prints or reads global state, so
+ * any number of threads may call at once. During a call no other thread may write what the call is handed.
+ *
+ * Numbers. "One" is 1,000,000,000 billionths. Discounts, state prices, flows, strikes, payoffs, values and error bounds are
+ * whole billionths; probabilities are whole numbers over 600,000,000.
+ *
+ * Trees. Row i of a tree of n steps runs from 0 to n. Its nodes are numbered -w to w, w being the row's half width. A memory holds
+ * row after row, the lowest node of a row first: discounts for rows 0 to n - 1, state prices for rows 0 to n.
+ *
+ * Arguments. Any numbers may be passed: a call gives its full answer, or the number of a refusal with every other field 0.
+ * Where several refusals apply, the lowest number is given.
+ *
+ *   reversion   reversion per step (yearly reversion times step length) in ten-thousandths, 0 to 6,000
+ *   steps       n, 1 to 60
+ *   frequency   steps a year: 1, 2, 4 or 12
+ *   volatility  yearly volatility in millionths, 0 to 50,000
+ *
+ * Refusals, the field `number` or a returned uint64_t; 0 means that nothing was refused:
+ *
+ *    2  frequency is not listed                     8  (half width of row n - 1) x spacing is above one
+ *    3  steps outside 1 to 60                       9  a node discount is 0 or above 1,100,000,000
+ *    4  reversion above 6,000                      10  a flow is above 2,000,000,000
+ *    5  volatility above 50,000                    11  option kind, expiry or strike outside its limit
+ *    6  a length, row or node that is not in       12  a value above 8,000,000,000, or weighed state
+ *       the tree; a memory too short                   prices that sum above 2,000,000,100
+ *    7  unknown quote kind; a figure that is NaN, infinite or beyond +-10; a rate whose divisor is 0 or less;
+ *       a quoted discount outside 100,000,000 to 2,000,000,000
+ *
+ * Memory. A slice is a pointer followed by its count of elements, never of bytes. The pointer is aligned for its type and points to
+ * that many elements; with count 0 it may be NULL. Elements behind a pointer to const are only read, and such slices may overlap
+ * each other. What a pointer without const reaches must overlap nothing else that the same call is handed. A refused call leaves
+ * every memory as it was, except refusal 9 of mixegorta_fit. */
+#ifndef MIXEGORTA_H
+#define MIXEGORTA_H
+
+#include <stddef.h>
+#include <stdint.h>
+
+#ifdef __cplusplus
+extern "C" {
+#endif
+
+/* Billionths in one, and the whole of which probabilities are parts. */
+#define MIXEGORTA_ONE UINT64_C(1000000000)
+#define MIXEGORTA_PROBABILITY_ONE UINT64_C(600000000)
+
+/* The largest sizes: steps, nodes of a row, and numbers in each memory of a tree. A memory of the largest size serves every tree. */
+#define MIXEGORTA_MAX_STEPS 60
+#define MIXEGORTA_MAX_NODES 121
+#define MIXEGORTA_MAX_DISCOUNTS 3600
+#define MIXEGORTA_MAX_STATE_PRICES 3721
+
+/* The limits of arguments and values. */
+#define MIXEGORTA_MAX_REVERSION 6000
+#define MIXEGORTA_MAX_VOLATILITY 50000
+#define MIXEGORTA_MIN_QUOTE_DISCOUNT UINT64_C(100000000)
+#define MIXEGORTA_MAX_QUOTE_DISCOUNT UINT64_C(2000000000)
+#define MIXEGORTA_MAX_NODE_DISCOUNT UINT64_C(1100000000)
+#define MIXEGORTA_MAX_FLOW UINT64_C(2000000000)
+#define MIXEGORTA_MAX_STRIKE UINT64_C(4000000000)
+#define MIXEGORTA_MAX_VALUE UINT64_C(8000000000)
+#define MIXEGORTA_MAX_STATE_PRICE_SUM UINT64_C(2000000100)
+
+/* Quote kinds. */
+#define MIXEGORTA_DISCOUNT_FACTOR 5
+#define MIXEGORTA_YEARLY_RATE 6
+
+/* Row kinds. */
+#define MIXEGORTA_DISCOUNTS 1
+#define MIXEGORTA_STATE_PRICES 2
+
+/* Option kinds. */
+#define MIXEGORTA_EUROPEAN_CALL 1
+#define MIXEGORTA_EUROPEAN_PUT 2
+#define MIXEGORTA_AMERICAN_CALL 3
+#define MIXEGORTA_AMERICAN_PUT 4
+
+/* A number with its value; value is 0 where refused. */
+struct mixegorta_answer {
+    uint64_t number;
+    uint64_t value;
+};
+
+/* A signed rate of one step in billionths; value is 0 where refused. */
+struct mixegorta_rate {
+    uint64_t number;
+    int64_t value;
+};
+
+/* A price and its error bound, both in billionths: the exact price is at most `bound` away. Both are 0 where refused. */
+struct mixegorta_price {
+    uint64_t number;
+    uint64_t value;
+    uint64_t bound;
+};
+
+/* Where a node leads: to node `lowest` of the next row and the two nodes above it. probabilities[0] is up, to lowest + 2; [1] is
+ * middle, to lowest + 1; [2] is down, to lowest. They sum to 600,000,000. All are 0 where refused. */
+struct mixegorta_branches {
+    uint64_t number;
+    int64_t lowest;
+    uint64_t probabilities[3];
+};
+
+/* A quoted point: the row, 1 to 60, and the figure, a discount factor or a yearly rate from -10 to 10. */
+struct mixegorta_point {
+    uint64_t row;
+    double figure;
+};
+
+/* A row's place in the memory of its kind: elements start to start + count - 1. A refusal is start 0 and count 0. */
+struct mixegorta_row_range {
+    size_t start;
+    size_t count;
+};
+
+/* ---- The shape of a tree. No memory is touched. */
+
+/* The half width w of a row. row: 0 to 60. Refusals: 4 reversion, 6 row. */
+struct mixegorta_answer mixegorta_half_width(uint64_t reversion, size_t row);
+
+/* The number of nodes of a row, 2w + 1, at most 121. row: 0 to 60. Refusals: 4 reversion, 6 row. */
+struct mixegorta_answer mixegorta_node_count(uint64_t reversion, size_t row);
+
+/* The element at which a row starts in either memory. row: 0 to 60. Refusals: 4 reversion, 6 row. */
+struct mixegorta_answer mixegorta_row_start(uint64_t reversion, size_t row);
+
+/* How many discounts a tree has, at most 3,600. Refusals: 3 steps, 4 reversion. */
+struct mixegorta_answer mixegorta_discounts_needed(size_t steps, uint64_t reversion);
+
+/* How many state prices a tree has, at most 3,721. Refusals: 3 steps, 4 reversion. */
+struct mixegorta_answer mixegorta_state_prices_needed(size_t steps, uint64_t reversion);
+
+/* Where a node leads and how likely. row: 0 to 59, since no branch leaves row 60; node: -w to w of that row.
+ * Refusals: 4 reversion, 6 row or node. */
+struct mixegorta_branches mixegorta_branches(uint64_t reversion, size_t row, int64_t node);
+
+/* ---- Level one: quotes, the fit, its rows and rates. */
+
+/* The discount of one quoted point. kind: 5 or 6; point.row: 1 to 60. No memory is touched.
+ * Refusals: 2 frequency, 6 the point's row, 7 kind, figure or discount. */
+struct mixegorta_answer mixegorta_quote_discount(uint64_t frequency, uint8_t kind, struct mixegorta_point point);
+
+/* The discounts of the quotes of rows 1 to n. rows, kinds, figures: n elements each; rows are 1, 2 .. n; kinds are 5 or 6; figures
+ * -10 to 10. discounts: at least n elements. Returns the number. 0: the first n elements of discounts are the quoted discounts and
+ * the others are as they were. Refusals leave discounts as it was: 2 frequency, 3 steps, 6 a count or a row, 7 a quote. */
+uint64_t mixegorta_curve_discounts(uint64_t frequency, size_t steps, const uint64_t *rows, size_t rows_len,
+                                   const uint8_t *kinds, size_t kinds_len, const double *figures, size_t figures_len,
+                                   uint64_t *discounts, size_t discounts_len);
+
+/* Fits a tree to the quotes of rows 1 to n, handed over as above. discounts and state_prices: at least as many elements as
+ * mixegorta_discounts_needed and mixegorta_state_prices_needed say. Returns the number. 0: both memories hold the tree from their
+ * start. 9: as many elements at the start of both as the tree needs are 0. Any other number, 2 to 8: both are as they were.
+ * Elements past those that the tree needs never change. */
+uint64_t mixegorta_fit(uint64_t frequency, size_t steps, uint64_t reversion, uint64_t volatility, const uint64_t *rows,
+                       size_t rows_len, const uint8_t *kinds, size_t kinds_len, const double *figures, size_t figures_len,
+                       uint64_t *discounts, size_t discounts_len, uint64_t *state_prices, size_t state_prices_len);
+
+/* Where a row stands in the memory of its kind. kind: 1 discounts, row 0 to n - 1; 2 state prices, row 0 to n. Both memories must
+ * be long enough for the tree, whichever is asked for; their elements are not read. A refusal, of an unknown kind too, has no
+ * number: its count is 0, and an accepted row has at least one node. */
+struct mixegorta_row_range mixegorta_row_range(const uint64_t *discounts, size_t discounts_len, const uint64_t *state_prices,
+                                               size_t state_prices_len, uint64_t kind, size_t steps, uint64_t reversion,
+                                               size_t row);
+
+/* The rate of one step, in billionths, of a discount from 1 to 1,100,000,000. No memory is touched. Refusal: 9. */
+struct mixegorta_rate mixegorta_step_rate(uint64_t discount);
+
+/* How far below the exact ones the fitted state prices of a row may be in sum, in billionths, from the tree's discounts. discounts:
+ * at least as many as needed, each needed one 1 to 1,100,000,000; only read. row: 0 to n.
+ * Refusals: 3 steps, 4 reversion, 6 discounts too few or row, 9 a discount. */
+struct mixegorta_answer mixegorta_state_price_error_bound(size_t steps, uint64_t reversion, const uint64_t *discounts,
+                                                          size_t discounts_len, size_t row);
+
+/* ---- Level two: prices on any discounts, a fit's or the caller's own. Memories are only read. */
+
+/* The price of a bond at row 0. discounts: as above. flows: n elements, those of rows 1 to n, each 0 to 2,000,000,000.
+ * Refusals: 3 steps, 4 reversion, 6 discounts too few or flows not n, 9 a discount, 10 a flow, 12 a value on the way. */
+struct mixegorta_price mixegorta_bond_price(size_t steps, uint64_t reversion, const uint64_t *discounts, size_t discounts_len,
+                                            const uint64_t *flows, size_t flows_len);
+
+/* The price at row 0 of an option on that bond. kind: 1 to 4; expiry: row 0 to n; strike: 0 to 4,000,000,000.
+ * Refusals: those of the bond, and 11 kind, expiry or strike, before 12. */
+struct mixegorta_price mixegorta_option_price(size_t steps, uint64_t reversion, const uint64_t *discounts,
+                                              size_t discounts_len, const uint64_t *flows, size_t flows_len, uint64_t kind,
+                                              size_t expiry, uint64_t strike);
+
+/* What payoffs on a row are worth by the row's state prices. Both counts are equal, odd and at most 121. payoffs: each 0 to
+ * 8,000,000,000; state prices: their sum at most 2,000,000,100. Refusals: 6 the counts, 12 payoffs, sum or value. */
+struct mixegorta_answer mixegorta_value_by_state_prices(const uint64_t *state_prices, size_t state_prices_len,
+                                                        const uint64_t *payoffs, size_t payoffs_len);
+
+/* How far below the exact price that value may be, in billionths, for the fitted state prices of a row. discounts: as above, the
+ * tree's. row: 0 to n. payoffs: as many as the row has nodes, each 0 to 8,000,000,000.
+ * Refusals: 3 steps, 4 reversion, 6 discounts too few, row or payoffs' count, 9 a discount, 12 a payoff. */
+struct mixegorta_answer mixegorta_valuation_error_bound(size_t steps, uint64_t reversion, const uint64_t *discounts,
+                                                        size_t discounts_len, size_t row, const uint64_t *payoffs,
+                                                        size_t payoffs_len);
+
+#ifdef __cplusplus
+}
+#endif
+
+#endif

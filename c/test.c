@@ -1,0 +1,421 @@
+/* The figures of the scope (document 01) and every refusal, through the C header. Exit status 1 where a check fails. */
+#include "mixegorta.h"
+
+#include <math.h>
+#include <stdbool.h>
+#include <stdio.h>
+
+#define ONE MIXEGORTA_ONE
+
+static unsigned checks, failures;
+
+static void check(bool holds, int line, const char *text) {
+    checks++;
+    if (!holds) {
+        failures++;
+        printf("test.c:%d: not so: %s\n", line, text);
+    }
+}
+
+#define CHECK(condition) check((condition), __LINE__, #condition)
+
+static bool answered(struct mixegorta_answer a, uint64_t value) { return a.number == 0 && a.value == value; }
+static bool refused(struct mixegorta_answer a, uint64_t number) { return a.number == number && a.value == 0; }
+
+static bool priced(struct mixegorta_price p, uint64_t value, uint64_t bound) {
+    return p.number == 0 && p.value == value && p.bound == bound;
+}
+
+static bool unpriced(struct mixegorta_price p, uint64_t number) { return p.number == number && p.value == 0 && p.bound == 0; }
+
+static bool ranged(struct mixegorta_row_range r, size_t start, size_t count) { return r.start == start && r.count == count; }
+
+static bool branched(struct mixegorta_branches b, int64_t lowest, uint64_t up, uint64_t middle, uint64_t down) {
+    return b.number == 0 && b.lowest == lowest && b.probabilities[0] == up && b.probabilities[1] == middle && b.probabilities[2] == down;
+}
+
+static bool unbranched(struct mixegorta_branches b, uint64_t number) {
+    return b.number == number && b.lowest == 0 && b.probabilities[0] == 0 && b.probabilities[1] == 0 && b.probabilities[2] == 0;
+}
+
+/* A curve of n quotes of one kind, and both memories of a tree with room to spare. */
+enum { SPARE = 5, QUOTES = MIXEGORTA_MAX_STEPS + 1 };
+
+static uint64_t rows[QUOTES];
+static uint8_t kinds[QUOTES];
+static double figures[QUOTES];
+static uint64_t discounts[MIXEGORTA_MAX_DISCOUNTS + SPARE];
+static uint64_t prices[MIXEGORTA_MAX_STATE_PRICES + SPARE];
+static const size_t discounts_size = sizeof discounts / sizeof discounts[0];
+static const size_t prices_size = sizeof prices / sizeof prices[0];
+
+/* What stands in a memory before a call. */
+static uint64_t pattern(size_t i) { return 0xA5A5000000000000u + i; }
+
+static void reset(void) {
+    for (size_t i = 0; i < discounts_size; i++) discounts[i] = pattern(i);
+    for (size_t i = 0; i < prices_size; i++) prices[i] = pattern(i);
+}
+
+static bool untouched_from(size_t discount, size_t price) {
+    for (size_t i = discount; i < discounts_size; i++)
+        if (discounts[i] != pattern(i)) return false;
+    for (size_t i = price; i < prices_size; i++)
+        if (prices[i] != pattern(i)) return false;
+    return true;
+}
+
+static bool zeros(const uint64_t *memory, size_t count) {
+    for (size_t i = 0; i < count; i++)
+        if (memory[i] != 0) return false;
+    return true;
+}
+
+/* Quotes of rows 1 to QUOTES: yearly discount factors that fall by the same part. */
+static void falling_curve(double part) {
+    double factor = 1;
+    for (size_t i = 0; i < QUOTES; i++) {
+        factor *= part;
+        rows[i] = i + 1;
+        kinds[i] = MIXEGORTA_DISCOUNT_FACTOR;
+        figures[i] = factor;
+    }
+}
+
+static uint64_t fit(uint64_t frequency, size_t steps, uint64_t reversion, uint64_t volatility) {
+    reset();
+    return mixegorta_fit(frequency, steps, reversion, volatility, rows, steps, kinds, steps, figures, steps, discounts,
+                         discounts_size, prices, prices_size);
+}
+
+static uint64_t sum(const uint64_t *memory, size_t count) {
+    uint64_t total = 0;
+    for (size_t i = 0; i < count; i++) total += memory[i];
+    return total;
+}
+
+static void shapes(void) {
+    CHECK(answered(mixegorta_half_width(1840, 60), 2));
+    CHECK(answered(mixegorta_half_width(1841, 60), 1));
+    CHECK(answered(mixegorta_half_width(1000, 60), 2));
+    CHECK(answered(mixegorta_half_width(1000, 1), 1));
+    CHECK(answered(mixegorta_half_width(0, 60), 60));
+    CHECK(refused(mixegorta_half_width(6001, 61), 4));
+    CHECK(refused(mixegorta_half_width(6000, 61), 6));
+    CHECK(answered(mixegorta_node_count(0, 60), MIXEGORTA_MAX_NODES));
+    CHECK(answered(mixegorta_node_count(1000, 3), 5));
+    CHECK(refused(mixegorta_node_count(6001, 0), 4));
+    CHECK(refused(mixegorta_node_count(0, SIZE_MAX), 6));
+    CHECK(answered(mixegorta_row_start(0, 7), 49));
+    CHECK(answered(mixegorta_row_start(1000, 4), 1 + 3 + 5 + 5));
+    CHECK(refused(mixegorta_row_start(UINT64_MAX, 0), 4));
+    CHECK(refused(mixegorta_row_start(0, 61), 6));
+    CHECK(answered(mixegorta_discounts_needed(60, 0), MIXEGORTA_MAX_DISCOUNTS));
+    CHECK(answered(mixegorta_state_prices_needed(60, 0), MIXEGORTA_MAX_STATE_PRICES));
+    CHECK(answered(mixegorta_discounts_needed(1, 0), 1));
+    CHECK(answered(mixegorta_state_prices_needed(1, 0), 4));
+    CHECK(refused(mixegorta_discounts_needed(0, 6001), 3));
+    CHECK(refused(mixegorta_discounts_needed(61, 0), 3));
+    CHECK(refused(mixegorta_discounts_needed(60, 6001), 4));
+    CHECK(refused(mixegorta_state_prices_needed(0, 0), 3));
+    CHECK(refused(mixegorta_state_prices_needed(60, 6001), 4));
+}
+
+static void branches(void) {
+    CHECK(branched(mixegorta_branches(1000, 1, 1), 0, 73000000, 394000000, 133000000));
+    CHECK(branched(mixegorta_branches(1000, 1, -1), -2, 133000000, 394000000, 73000000));
+    CHECK(branched(mixegorta_branches(1000, 2, 2), 0, 532000000, 16000000, 52000000));
+    CHECK(branched(mixegorta_branches(1000, 2, -2), -2, 52000000, 16000000, 532000000));
+    CHECK(branched(mixegorta_branches(0, 59, 59), 58, 100000000, 400000000, 100000000));
+    CHECK(unbranched(mixegorta_branches(6001, 60, 0), 4));
+    CHECK(unbranched(mixegorta_branches(0, 60, 0), 6));
+    CHECK(unbranched(mixegorta_branches(0, 1, 2), 6));
+    CHECK(unbranched(mixegorta_branches(0, 1, INT64_MIN), 6));
+    CHECK(unbranched(mixegorta_branches(0, 1, INT64_MAX), 6));
+    for (uint64_t reversion = 0; reversion <= MIXEGORTA_MAX_REVERSION; reversion += 250) {
+        int64_t width = (int64_t)mixegorta_half_width(reversion, 59).value;
+        for (int64_t node = -width; node <= width; node++) {
+            struct mixegorta_branches b = mixegorta_branches(reversion, 59, node);
+            int64_t up = (int64_t)b.probabilities[0], middle = (int64_t)b.probabilities[1], down = (int64_t)b.probabilities[2];
+            int64_t low = b.lowest - node;
+            CHECK(up + middle + down == (int64_t)MIXEGORTA_PROBABILITY_ONE);
+            CHECK(up * (low + 2) + middle * (low + 1) + down * low == -60000 * node * (int64_t)reversion);
+        }
+    }
+}
+
+static void quotes(void) {
+    struct mixegorta_point point = {1, -0.0025};
+    CHECK(answered(mixegorta_quote_discount(1, MIXEGORTA_YEARLY_RATE, point), 1002506265));
+    CHECK(refused(mixegorta_quote_discount(1, MIXEGORTA_DISCOUNT_FACTOR, point), 7));
+    point.figure = 0.0009765625; /* 976,563 billionths: half a billionth goes away from zero */
+    CHECK(answered(mixegorta_quote_discount(1, MIXEGORTA_YEARLY_RATE, point), ONE * ONE / (ONE + 976563)));
+    point.figure = 1.0025;
+    CHECK(answered(mixegorta_quote_discount(1, MIXEGORTA_DISCOUNT_FACTOR, point), 1002500000));
+    CHECK(refused(mixegorta_quote_discount(3, 0, point), 2));
+    CHECK(refused(mixegorta_quote_discount(1, 4, point), 7));
+    CHECK(refused(mixegorta_quote_discount(1, 255, point), 7));
+    point.row = 0;
+    CHECK(refused(mixegorta_quote_discount(1, 0, point), 6));
+    point.row = 61;
+    CHECK(refused(mixegorta_quote_discount(1, MIXEGORTA_DISCOUNT_FACTOR, point), 6));
+    point.row = 60;
+    const double bad[] = {NAN, -NAN, INFINITY, -INFINITY, 10.5, -10.5, 0.0, -0.0, 0.0999, 2.0001};
+    for (size_t i = 0; i < sizeof bad / sizeof bad[0]; i++) {
+        point.figure = bad[i];
+        CHECK(refused(mixegorta_quote_discount(1, MIXEGORTA_DISCOUNT_FACTOR, point), 7));
+    }
+    point.figure = -1.0; /* divisor 12 - 60 x 1 is below 0 */
+    CHECK(refused(mixegorta_quote_discount(12, MIXEGORTA_YEARLY_RATE, point), 7));
+}
+
+static uint64_t curve(uint64_t frequency, size_t steps, size_t count, size_t room) {
+    reset();
+    return mixegorta_curve_discounts(frequency, steps, rows, count, kinds, count, figures, count, discounts, room);
+}
+
+static void curves(void) {
+    falling_curve(0.98);
+    CHECK(curve(4, 3, 3, 3) == 0);
+    CHECK(discounts[0] == 980000000 && discounts[1] == 960400000 && discounts[2] == 941192000);
+    CHECK(untouched_from(3, 0));
+    CHECK(curve(3, 0, 3, 3) == 2 && untouched_from(0, 0));
+    CHECK(curve(4, 0, 3, 3) == 3 && untouched_from(0, 0));
+    CHECK(curve(4, 61, 61, 61) == 3 && untouched_from(0, 0));
+    CHECK(curve(4, 3, 2, 3) == 6 && untouched_from(0, 0));
+    CHECK(curve(4, 3, 3, 2) == 6 && untouched_from(0, 0));
+    figures[0] = NAN;
+    rows[2] = 2;
+    CHECK(curve(4, 3, 3, 3) == 6 && untouched_from(0, 0));
+    rows[2] = 3;
+    CHECK(curve(4, 3, 3, 3) == 7 && untouched_from(0, 0));
+    CHECK(mixegorta_curve_discounts(4, 3, NULL, 0, NULL, 0, NULL, 0, NULL, 0) == 6);
+}
+
+/* The job that the scope prints whole: one yearly step, no reversion, no volatility. */
+static void example(void) {
+    const uint64_t flow[] = {ONE}, payoffs[] = {ONE, ONE, ONE};
+    rows[0] = 1;
+    kinds[0] = MIXEGORTA_DISCOUNT_FACTOR;
+    figures[0] = 1.0025;
+    CHECK(fit(1, 1, 0, 0) == 0);
+    CHECK(discounts[0] == 1002500000);
+    CHECK(prices[0] == ONE && prices[1] == 167083333 && prices[2] == 668333333 && prices[3] == 167083333);
+    CHECK(untouched_from(1, 4));
+    struct mixegorta_rate rate = mixegorta_step_rate(discounts[0]);
+    CHECK(rate.number == 0 && rate.value == -2493766);
+    CHECK(sum(prices + 1, 3) == 1002499999);
+    CHECK(answered(mixegorta_state_price_error_bound(1, 0, discounts, 1, 1), 4));
+    CHECK(priced(mixegorta_bond_price(1, 0, discounts, 1, flow, 1), 1002500000, 3));
+    CHECK(priced(mixegorta_option_price(1, 0, discounts, 1, flow, 1, MIXEGORTA_AMERICAN_PUT, 1, 1010000000), 10025000, 3));
+    CHECK(answered(mixegorta_value_by_state_prices(prices + 1, 3, payoffs, 3), 1002499999));
+    CHECK(answered(mixegorta_valuation_error_bound(1, 0, discounts, 1, 1, payoffs, 3), 5));
+}
+
+static void rates(void) {
+    struct mixegorta_rate rate = mixegorta_step_rate(1000000001);
+    CHECK(rate.number == 0 && rate.value == -1);
+    rate = mixegorta_step_rate(ONE);
+    CHECK(rate.number == 0 && rate.value == 0);
+    rate = mixegorta_step_rate(1);
+    CHECK(rate.number == 0 && rate.value == INT64_C(999999999000000000));
+    rate = mixegorta_step_rate(0);
+    CHECK(rate.number == 9 && rate.value == 0);
+    rate = mixegorta_step_rate(MIXEGORTA_MAX_NODE_DISCOUNT + 1);
+    CHECK(rate.number == 9 && rate.value == 0);
+}
+
+static uint64_t fit_rooms(size_t steps, size_t discount_room, size_t price_room) {
+    reset();
+    return mixegorta_fit(4, steps, 1000, 10000, rows, steps, kinds, steps, figures, steps, discounts, discount_room, prices,
+                         price_room);
+}
+
+static void fits(void) {
+    falling_curve(0.98);
+    for (size_t steps = 1; steps <= MIXEGORTA_MAX_STEPS; steps++) {
+        CHECK(fit(4, steps, 1000, 10000) == 0);
+        size_t needed = mixegorta_discounts_needed(steps, 1000).value, needed_prices = mixegorta_state_prices_needed(steps, 1000).value;
+        CHECK(untouched_from(needed, needed_prices));
+        CHECK(fit_rooms(steps, needed, needed_prices) == 0);
+        CHECK(fit_rooms(steps, needed - 1, needed_prices) == 6 && untouched_from(0, 0));
+        CHECK(fit_rooms(steps, needed, needed_prices - 1) == 6 && untouched_from(0, 0));
+    }
+    CHECK(fit(0, 0, 6001, 50001) == 2 && untouched_from(0, 0));
+    CHECK(fit(12, 0, 6001, 50001) == 3 && untouched_from(0, 0));
+    CHECK(fit(12, 61, 6001, 50001) == 3 && untouched_from(0, 0));
+    CHECK(fit(12, 60, 6001, 50001) == 4 && untouched_from(0, 0));
+    CHECK(fit(12, 60, 6000, 50001) == 5 && untouched_from(0, 0));
+    CHECK(mixegorta_fit(12, 60, 0, 0, NULL, 0, NULL, 0, NULL, 0, NULL, 0, NULL, 0) == 6);
+    kinds[1] = 7;
+    CHECK(fit(4, 2, 1000, 10000) == 7 && untouched_from(0, 0));
+    kinds[1] = MIXEGORTA_DISCOUNT_FACTOR;
+    falling_curve(0.9);
+    CHECK(fit(1, 13, 0, 50000) == 8 && untouched_from(0, 0));
+    CHECK(fit(1, 12, 0, 50000) == 9);
+    CHECK(zeros(discounts, 144) && zeros(prices, 169) && untouched_from(144, 169));
+    figures[0] = 1.2;
+    CHECK(fit(1, 1, 0, 0) == 9);
+    CHECK(zeros(discounts, 1) && zeros(prices, 4) && untouched_from(1, 4));
+}
+
+static struct mixegorta_row_range range(uint64_t kind, size_t steps, uint64_t reversion, size_t row) {
+    return mixegorta_row_range(discounts, discounts_size, prices, prices_size, kind, steps, reversion, row);
+}
+
+static void ranges(void) {
+    for (size_t row = 0; row <= 60; row++) {
+        size_t start = mixegorta_row_start(700, row).value, count = mixegorta_node_count(700, row).value;
+        CHECK(ranged(range(MIXEGORTA_STATE_PRICES, 60, 700, row), start, count));
+        CHECK(ranged(range(MIXEGORTA_DISCOUNTS, 60, 700, row), row < 60 ? start : 0, row < 60 ? count : 0));
+    }
+    CHECK(ranged(range(MIXEGORTA_STATE_PRICES, 60, 700, 61), 0, 0));
+    CHECK(ranged(range(0, 60, 700, 1), 0, 0));
+    CHECK(ranged(range(3, 60, 700, 1), 0, 0));
+    CHECK(ranged(range(MIXEGORTA_DISCOUNTS, 0, 700, 0), 0, 0));
+    CHECK(ranged(range(MIXEGORTA_DISCOUNTS, 61, 700, 1), 0, 0));
+    CHECK(ranged(range(MIXEGORTA_DISCOUNTS, 60, 6001, 1), 0, 0));
+    CHECK(ranged(mixegorta_row_range(discounts, 1, prices, 4, MIXEGORTA_DISCOUNTS, 1, 0, 0), 0, 1));
+    CHECK(ranged(mixegorta_row_range(discounts, 1, prices, 3, MIXEGORTA_DISCOUNTS, 1, 0, 0), 0, 0));
+    CHECK(ranged(mixegorta_row_range(NULL, 0, prices, 4, MIXEGORTA_STATE_PRICES, 1, 0, 0), 0, 0));
+}
+
+/* The header's limits are the engine's: each limit is accepted, and one more is not. */
+static void limits(void) {
+    struct mixegorta_point point = {1, 0.1};
+    CHECK(answered(mixegorta_quote_discount(1, MIXEGORTA_DISCOUNT_FACTOR, point), MIXEGORTA_MIN_QUOTE_DISCOUNT));
+    point.figure = 0.099999999;
+    CHECK(refused(mixegorta_quote_discount(1, MIXEGORTA_DISCOUNT_FACTOR, point), 7));
+    point.figure = 2.0;
+    CHECK(answered(mixegorta_quote_discount(1, MIXEGORTA_DISCOUNT_FACTOR, point), MIXEGORTA_MAX_QUOTE_DISCOUNT));
+    point.figure = 2.000000001;
+    CHECK(refused(mixegorta_quote_discount(1, MIXEGORTA_DISCOUNT_FACTOR, point), 7));
+    CHECK(mixegorta_half_width(MIXEGORTA_MAX_REVERSION, 0).number == 0);
+    CHECK(mixegorta_half_width(MIXEGORTA_MAX_REVERSION + 1, 0).number == 4);
+    CHECK(mixegorta_discounts_needed(MIXEGORTA_MAX_STEPS, 0).number == 0);
+    CHECK(mixegorta_discounts_needed(MIXEGORTA_MAX_STEPS + 1, 0).number == 3);
+    falling_curve(0.98);
+    CHECK(fit(12, 1, 0, MIXEGORTA_MAX_VOLATILITY) == 0);
+    CHECK(fit(12, 1, 0, MIXEGORTA_MAX_VOLATILITY + 1) == 5);
+    uint64_t discount[] = {MIXEGORTA_MAX_NODE_DISCOUNT}, flow[] = {MIXEGORTA_MAX_FLOW};
+    CHECK(priced(mixegorta_bond_price(1, 0, discount, 1, flow, 1), 2200000000, 3));
+    struct mixegorta_price put = mixegorta_option_price(1, 0, discount, 1, flow, 1, MIXEGORTA_EUROPEAN_PUT, 1, MIXEGORTA_MAX_STRIKE);
+    CHECK(priced(put, 2200000000, 3));
+    uint64_t row[] = {MIXEGORTA_MAX_STATE_PRICE_SUM}, payoff[] = {ONE};
+    CHECK(answered(mixegorta_value_by_state_prices(row, 1, payoff, 1), MIXEGORTA_MAX_STATE_PRICE_SUM));
+    row[0] = ONE;
+    payoff[0] = MIXEGORTA_MAX_VALUE;
+    CHECK(answered(mixegorta_value_by_state_prices(row, 1, payoff, 1), MIXEGORTA_MAX_VALUE));
+}
+
+/* Every row of a fit reprices its quote by its state prices within 300. */
+static void repricing(void) {
+    enum { STEPS = 60 };
+    uint64_t quoted[STEPS];
+    falling_curve(0.99);
+    CHECK(mixegorta_curve_discounts(12, STEPS, rows, STEPS, kinds, STEPS, figures, STEPS, quoted, STEPS) == 0);
+    CHECK(fit(12, STEPS, 50, 10000) == 0);
+    for (size_t row = 1; row <= STEPS; row++) {
+        struct mixegorta_row_range r = range(MIXEGORTA_STATE_PRICES, STEPS, 50, row);
+        uint64_t total = sum(prices + r.start, r.count);
+        CHECK(total <= quoted[row - 1] + 300 && quoted[row - 1] <= total + 300);
+        uint64_t payoffs[MIXEGORTA_MAX_NODES];
+        for (size_t i = 0; i < r.count; i++) payoffs[i] = ONE;
+        CHECK(answered(mixegorta_value_by_state_prices(prices + r.start, r.count, payoffs, r.count), total));
+        uint64_t bound = mixegorta_state_price_error_bound(STEPS, 50, discounts, discounts_size, row).value;
+        CHECK(answered(mixegorta_valuation_error_bound(STEPS, 50, discounts, discounts_size, row, payoffs, r.count), bound + 1));
+    }
+}
+
+static void price_refusals(void) {
+    uint64_t flat[4] = {ONE, ONE, ONE, ONE}, flows[2] = {0, ONE};
+    CHECK(priced(mixegorta_bond_price(2, 0, flat, 4, flows, 2), ONE, 6));
+    CHECK(priced(mixegorta_option_price(2, 0, flat, 4, flows, 2, MIXEGORTA_EUROPEAN_CALL, 1, 900000000), 100000000, 6));
+    CHECK(priced(mixegorta_option_price(2, 0, flat, 4, flows, 2, MIXEGORTA_EUROPEAN_PUT, 1, 900000000), 0, 6));
+    CHECK(priced(mixegorta_option_price(2, 0, flat, 4, flows, 2, MIXEGORTA_AMERICAN_CALL, 0, 0), ONE, 6));
+    CHECK(unpriced(mixegorta_bond_price(0, 6001, NULL, 0, NULL, 0), 3));
+    CHECK(unpriced(mixegorta_bond_price(2, 6001, NULL, 0, NULL, 0), 4));
+    CHECK(unpriced(mixegorta_bond_price(2, 0, NULL, 0, NULL, 0), 6));
+    CHECK(unpriced(mixegorta_bond_price(2, 0, flat, 3, flows, 2), 6));
+    CHECK(unpriced(mixegorta_bond_price(2, 0, flat, 4, flows, 1), 6));
+    for (uint64_t kind = 0; kind <= 5; kind += 5)
+        CHECK(unpriced(mixegorta_option_price(2, 0, flat, 4, flows, 2, kind, 1, ONE), 11));
+    CHECK(unpriced(mixegorta_option_price(2, 0, flat, 4, flows, 2, 1, 3, ONE), 11));
+    CHECK(unpriced(mixegorta_option_price(2, 0, flat, 4, flows, 2, 1, 1, MIXEGORTA_MAX_STRIKE + 1), 11));
+    CHECK(unpriced(mixegorta_option_price(61, 0, flat, 4, flows, 2, 0, 1, ONE), 3));
+    flows[0] = MIXEGORTA_MAX_FLOW + 1;
+    CHECK(unpriced(mixegorta_bond_price(2, 0, flat, 4, flows, 2), 10));
+    flat[3] = 0;
+    CHECK(unpriced(mixegorta_bond_price(2, 0, flat, 4, flows, 2), 9));
+    CHECK(unpriced(mixegorta_option_price(2, 0, flat, 4, flows, 2, 0, 1, ONE), 9));
+    flat[3] = MIXEGORTA_MAX_NODE_DISCOUNT + 1;
+    CHECK(unpriced(mixegorta_bond_price(2, 0, flat, 4, flows, 2), 9));
+}
+
+static void value_limits(void) {
+    uint64_t flat[25], flows[5];
+    for (size_t i = 0; i < 25; i++) flat[i] = ONE;
+    for (size_t i = 0; i < 5; i++) flows[i] = MIXEGORTA_MAX_FLOW;
+    CHECK(unpriced(mixegorta_bond_price(5, 0, flat, 25, flows, 5), 12));
+    CHECK(unpriced(mixegorta_option_price(5, 0, flat, 25, flows, 5, 1, 5, 0), 12));
+    flows[0] = 0;
+    CHECK(priced(mixegorta_bond_price(5, 0, flat, 25, flows, 5), MIXEGORTA_MAX_VALUE, 15));
+}
+
+static void values(void) {
+    uint64_t row[3] = {ONE, ONE, 100}, payoffs[3] = {ONE, 2 * ONE, 3 * ONE}, many[122] = {0};
+    CHECK(answered(mixegorta_value_by_state_prices(row, 3, payoffs, 3), 3 * ONE + 300));
+    CHECK(refused(mixegorta_value_by_state_prices(row, 3, payoffs, 2), 6));
+    CHECK(refused(mixegorta_value_by_state_prices(row, 2, payoffs, 2), 6));
+    CHECK(refused(mixegorta_value_by_state_prices(NULL, 0, NULL, 0), 6));
+    CHECK(refused(mixegorta_value_by_state_prices(many, 122, many, 122), 6));
+    CHECK(answered(mixegorta_value_by_state_prices(many, 121, many, 121), 0)); /* read-only slices may overlap */
+    row[2] = 101;
+    CHECK(refused(mixegorta_value_by_state_prices(row, 3, payoffs, 3), 12));
+    row[2] = UINT64_MAX;
+    CHECK(refused(mixegorta_value_by_state_prices(row, 3, payoffs, 3), 12));
+    row[2] = 0;
+    payoffs[0] = MIXEGORTA_MAX_VALUE + 1;
+    CHECK(refused(mixegorta_value_by_state_prices(row, 3, payoffs, 3), 12));
+    payoffs[0] = payoffs[1] = MIXEGORTA_MAX_VALUE;
+    CHECK(refused(mixegorta_value_by_state_prices(row, 3, payoffs, 3), 12));
+}
+
+static void bounds(void) {
+    uint64_t flat[4] = {ONE, ONE, ONE, ONE}, payoffs[5] = {0, 0, 2 * ONE, 0, 0};
+    CHECK(answered(mixegorta_state_price_error_bound(2, 0, flat, 4, 0), 0));
+    CHECK(answered(mixegorta_state_price_error_bound(2, 0, flat, 4, 2), 4 + 8));
+    CHECK(refused(mixegorta_state_price_error_bound(0, 6001, NULL, 0, 0), 3));
+    CHECK(refused(mixegorta_state_price_error_bound(2, 6001, NULL, 0, 0), 4));
+    CHECK(refused(mixegorta_state_price_error_bound(2, 0, NULL, 0, 0), 6));
+    CHECK(refused(mixegorta_state_price_error_bound(2, 0, flat, 4, 3), 6));
+    CHECK(answered(mixegorta_valuation_error_bound(2, 0, flat, 4, 2, payoffs, 5), 2 * 12 + 1));
+    CHECK(refused(mixegorta_valuation_error_bound(0, 6001, NULL, 0, 0, NULL, 0), 3));
+    CHECK(refused(mixegorta_valuation_error_bound(2, 6001, NULL, 0, 0, NULL, 0), 4));
+    CHECK(refused(mixegorta_valuation_error_bound(2, 0, flat, 4, 2, payoffs, 3), 6));
+    CHECK(refused(mixegorta_valuation_error_bound(2, 0, flat, 4, 3, payoffs, 5), 6));
+    payoffs[0] = MIXEGORTA_MAX_VALUE + 1;
+    CHECK(refused(mixegorta_valuation_error_bound(2, 0, flat, 4, 2, payoffs, 5), 12));
+    flat[0] = 0;
+    CHECK(refused(mixegorta_valuation_error_bound(2, 0, flat, 4, 2, payoffs, 5), 9));
+    CHECK(refused(mixegorta_state_price_error_bound(2, 0, flat, 4, 0), 9));
+}
+
+int main(void) {
+    shapes();
+    branches();
+    quotes();
+    curves();
+    example();
+    rates();
+    fits();
+    ranges();
+    limits();
+    repricing();
+    price_refusals();
+    value_limits();
+    values();
+    bounds();
+    printf("C: %u checks, %u failed\n", checks, failures);
+    return failures != 0;
+}

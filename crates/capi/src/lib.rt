@@ -1,0 +1,208 @@
+// The engine for C, Rust and Python. Each function hands its arguments on to the entry below it and has that entry's contract.
+ghost use mathlib.Core.Path.{_≡_};
+ghost use lib.ListN.{length};
+ghost use Rattle.lattice.specs.Entries.{
+  halfWidth,
+  nodeCount,
+  rowStart,
+  discountsNeeded,
+  statePricesNeeded,
+  branchAnswer,
+};
+ghost use Rattle.quotes.specs.Quotes.{loneAnswer};
+ghost use Rattle.curve.specs.Curve.{curveNumber, curveMemory};
+ghost use Rattle.step_rate.specs.StepRate.{rateAnswer};
+ghost use Rattle.fitting.specs.Entry.{fitNumber, fit-memory, fit-discounts, fit-prices};
+ghost use Rattle.row_view.specs.RowView.{range-by-number};
+ghost use Rattle.state_price_bound.specs.ErrorBound.{statePriceErrorBound};
+ghost use Rattle.pricing.specs.Prices.{bondPrice, optionPrice};
+ghost use Rattle.valuation.specs.Entries.{valueByStatePrices, valuationErrorBound};
+use arithmetic::Answer;
+use lattice::Branches;
+use pricing::Price;
+use quotes::Point;
+use row_view::RowRange;
+use step_rate::Rate;
+
+// ---- the shape of a tree
+
+#[no_mangle]
+pub extern "C" fn mixegorta_half_width(reversion: u64, row: usize) -> Answer
+    ensures { λ r. ⌜ r ≡ halfWidth reversion row ⌝ }
+{
+    lattice::half_width(reversion, row)
+}
+
+#[no_mangle]
+pub extern "C" fn mixegorta_node_count(reversion: u64, row: usize) -> Answer
+    ensures { λ r. ⌜ r ≡ nodeCount reversion row ⌝ }
+{
+    lattice::node_count(reversion, row)
+}
+
+#[no_mangle]
+pub extern "C" fn mixegorta_row_start(reversion: u64, row: usize) -> Answer
+    ensures { λ r. ⌜ r ≡ rowStart reversion row ⌝ }
+{
+    lattice::row_start(reversion, row)
+}
+
+#[no_mangle]
+pub extern "C" fn mixegorta_discounts_needed(steps: usize, reversion: u64) -> Answer
+    ensures { λ r. ⌜ r ≡ discountsNeeded steps reversion ⌝ }
+{
+    lattice::discounts_needed(steps, reversion)
+}
+
+#[no_mangle]
+pub extern "C" fn mixegorta_state_prices_needed(steps: usize, reversion: u64) -> Answer
+    ensures { λ r. ⌜ r ≡ statePricesNeeded steps reversion ⌝ }
+{
+    lattice::state_prices_needed(steps, reversion)
+}
+
+#[no_mangle]
+pub extern "C" fn mixegorta_branches(reversion: u64, row: usize, node: i64) -> Branches
+    ensures { λ r. ⌜ r ≡ branchAnswer reversion row node ⌝ }
+{
+    lattice::branch(reversion, row, node)
+}
+
+// ---- level one: quotes, the fit, rows, rates
+
+#[no_mangle]
+pub extern "C" fn mixegorta_quote_discount(frequency: u64, kind: u8, point: Point) -> Answer
+    ensures { λ r. ⌜ r ≡ loneAnswer frequency kind point ⌝ }
+{
+    quotes::lone_point(frequency, kind, point)
+}
+
+#[no_mangle]
+pub extern "C" fn mixegorta_curve_discounts(
+    frequency: u64,
+    steps: usize,
+    rows: &[u64],
+    kinds: &[u8],
+    figures: &[f64],
+    discounts: &mut [u64],
+) -> u64
+    ensures number { λ r. ⌜ r ≡ curveNumber frequency steps (now (rows .entry)) (now (kinds .entry)) (now (figures .entry)) (length (now (discounts .entry))) ⌝ }
+    ensures memory { λ _. ⌜ now (discounts .exit) ≡ curveMemory frequency steps (now (rows .entry)) (now (kinds .entry)) (now (figures .entry)) (now (discounts .entry)) ⌝ }
+{
+    curve::convert(frequency, steps, rows, kinds, figures, discounts)
+}
+
+#[no_mangle]
+pub extern "C" fn mixegorta_fit(
+    frequency: u64,
+    steps: usize,
+    reversion: u64,
+    volatility: u64,
+    rows: &[u64],
+    kinds: &[u8],
+    figures: &[f64],
+    discounts: &mut [u64],
+    state_prices: &mut [u64],
+) -> u64
+    ensures number { λ r. ⌜ r ≡ fitNumber frequency steps reversion volatility (now (rows .entry)) (now (kinds .entry)) (now (figures .entry)) (length (now (discounts .entry))) (length (now («state_prices» .entry))) ⌝ }
+    ensures discounted { λ _. ⌜ now (discounts .exit) ≡ fit-memory
+        (fitNumber frequency steps reversion volatility (now (rows .entry)) (now (kinds .entry)) (now (figures .entry)) (length (now (discounts .entry))) (length (now («state_prices» .entry))))
+        (fit-discounts frequency steps reversion volatility (now (kinds .entry)) (now (figures .entry))) (now (discounts .entry)) ⌝ }
+    ensures priced { λ _. ⌜ now («state_prices» .exit) ≡ fit-memory
+        (fitNumber frequency steps reversion volatility (now (rows .entry)) (now (kinds .entry)) (now (figures .entry)) (length (now (discounts .entry))) (length (now («state_prices» .entry))))
+        (fit-prices frequency steps reversion volatility (now (kinds .entry)) (now (figures .entry))) (now («state_prices» .entry)) ⌝ }
+{
+    fitting::fit(
+        frequency,
+        steps,
+        reversion,
+        volatility,
+        rows,
+        kinds,
+        figures,
+        discounts,
+        state_prices,
+    )
+}
+
+#[no_mangle]
+pub extern "C" fn mixegorta_row_range(
+    discounts: &[u64],
+    state_prices: &[u64],
+    kind: u64,
+    steps: usize,
+    reversion: u64,
+    row: usize,
+) -> RowRange
+    ensures { λ r. ⌜ r ≡ range-by-number (now (discounts .entry)) (now («state_prices» .entry)) kind steps reversion row ⌝ }
+{
+    row_view::range_by_number(discounts, state_prices, kind, steps, reversion, row)
+}
+
+#[no_mangle]
+pub extern "C" fn mixegorta_step_rate(discount: u64) -> Rate
+    ensures { λ r. ⌜ r ≡ rateAnswer discount ⌝ }
+{
+    step_rate::of_discount(discount)
+}
+
+#[no_mangle]
+pub extern "C" fn mixegorta_state_price_error_bound(
+    steps: usize,
+    reversion: u64,
+    discounts: &[u64],
+    row: usize,
+) -> Answer
+    ensures { λ r. ⌜ r ≡ statePriceErrorBound steps reversion (now (discounts .entry)) row ⌝ }
+{
+    state_price_bound::state_price_error_bound(steps, reversion, discounts, row)
+}
+
+// ---- level two: prices on any lent discounts
+
+#[no_mangle]
+pub extern "C" fn mixegorta_bond_price(
+    steps: usize,
+    reversion: u64,
+    discounts: &[u64],
+    flows: &[u64],
+) -> Price
+    ensures { λ r. ⌜ r ≡ bondPrice steps reversion (now (discounts .entry)) (now (flows .entry)) ⌝ }
+{
+    pricing::bond_price(steps, reversion, discounts, flows)
+}
+
+#[no_mangle]
+pub extern "C" fn mixegorta_option_price(
+    steps: usize,
+    reversion: u64,
+    discounts: &[u64],
+    flows: &[u64],
+    kind: u64,
+    expiry: usize,
+    strike: u64,
+) -> Price
+    ensures { λ r. ⌜ r ≡ optionPrice steps reversion (now (discounts .entry)) (now (flows .entry)) kind expiry strike ⌝ }
+{
+    pricing::option_price(steps, reversion, discounts, flows, kind, expiry, strike)
+}
+
+#[no_mangle]
+pub extern "C" fn mixegorta_value_by_state_prices(state_prices: &[u64], payoffs: &[u64]) -> Answer
+    ensures { λ r. ⌜ r ≡ valueByStatePrices (now («state_prices» .entry)) (now (payoffs .entry)) ⌝ }
+{
+    valuation::value_by_state_prices(state_prices, payoffs)
+}
+
+#[no_mangle]
+pub extern "C" fn mixegorta_valuation_error_bound(
+    steps: usize,
+    reversion: u64,
+    discounts: &[u64],
+    row: usize,
+    payoffs: &[u64],
+) -> Answer
+    ensures { λ r. ⌜ r ≡ valuationErrorBound steps reversion (now (discounts .entry)) row (now (payoffs .entry)) ⌝ }
+{
+    valuation::valuation_error_bound(steps, reversion, discounts, row, payoffs)
+}

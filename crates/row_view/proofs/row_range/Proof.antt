@@ -1,0 +1,62 @@
+-- `row_view::row_range` meets its contract.
+-- Assumes nothing.
+use mathlib.Core.Path.{_≡_, sym, _∙_}
+use mathlib.Core.Bool.{true}
+use denote.Ref.{now}
+use borrow.Author.Tests.{not-true, not-false}
+use Rattle.lattice.proofs.TreeEntries.{row-value}
+use Rattle.row_view.specs.RowView.{holds-tree, stores-row}
+use Rattle.row_view.proofs.ViewLaws as laws
+use borrow.Author.Needs.{needs}
+use Rattle.row_view.proofs.row_range.Statement.{statement}
+use Rattle.row_view.proofs.row_range.Tie as tie
+
+holds-tree-requires : tie.Need-holds-tree-requires
+holds-tree-requires c κs = search needs
+
+returns : tie.Need-returns
+returns c =
+    laws.hidden-range _ _ _ _ _ _
+    (laws.not-held _ _ _ _ _ _ (sym (c .before .holds-tree .ensures) ∙ not-true _ (c .if1 .taken)))
+
+stores-row-requires : tie.Need-stores-row-requires
+stores-row-requires c κs = search needs
+
+returns-2 : tie.Need-returns-2
+returns-2 c =
+    laws.hidden-range _ _ _ _ _ _
+    (laws.not-stored _ _ _ _ _ _ (sym (c .before .stores-row .ensures) ∙ not-true _ (c .if2 .taken)))
+
+held : (c : tie.Else1) → holds-tree (now (c .before .before .before .before .args .discounts)) (now (c .before .before .before .before .args .state-prices)) (c .before .before .before .before .args .steps) (c .before .before .before .before .args .reversion) ≡ true
+held c = sym (c .before .holds-tree .ensures) ∙ not-false _ (c .if1 .left)
+
+stored : (c : tie.Else2) → stores-row (c .before .before .before .before .before .before .args .kind) (c .before .before .before .before .before .before .args .steps) (c .before .before .before .before .before .before .args .row) ≡ true
+stored c = sym (c .before .stores-row .ensures) ∙ not-false _ (c .if2 .left)
+
+row-start-requires : tie.Need-row-start-requires
+row-start-requires c κs = search needs
+
+node-count-requires : tie.Need-node-count-requires
+node-count-requires c κs = search needs
+
+returns-3 : tie.Need-returns-3
+returns-3 c =
+    let a = c .before .before .before .before .before .before .before .before .args in
+    let h = held (c .before .before .before .before) in
+    let s = stored (c .before .before) in
+    let room = laws.row-room (a .discounts) (a .state-prices) (a .kind) (a .steps) (a .reversion) (a .row) (laws.holding _ _ _ _ h) s in
+    laws.shown-range _ _ _ _ _ _ _ _ (laws.is-stored _ _ _ _ _ _ h s)
+    (row-value _ _ _ _ (c .before .row-start .ensures) (room .0) (room .1))
+    (row-value _ _ _ _ (c .node-count .ensures) (room .0) (room .1))
+
+pub row-range-spec : {M : Type 1} → statement M
+row-range-spec =
+    tie.close
+    (tie.spec
+    holds-tree-requires
+    returns
+    stores-row-requires
+    returns-2
+    row-start-requires
+    node-count-requires
+    returns-3)

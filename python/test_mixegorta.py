@@ -1,0 +1,145 @@
+"""The figures of the scope (document 01), refusals and memories, through the Python module."""
+import ctypes
+import math
+import os
+import sys
+import unittest
+from array import array
+
+HERE = os.path.dirname(os.path.abspath(__file__))
+sys.path[:0] = [HERE, os.path.join(HERE, "..", "tools")]
+import declarations
+import mixegorta as m
+from mixegorta import ONE, Branches, Point, Price
+
+PATTERN = 0xA5A5A5A5A5A5A5A5
+
+
+def falling(part, steps):
+    return [Point(row, m.DISCOUNT_FACTOR, part**row) for row in range(1, steps + 1)]
+
+
+class Test(unittest.TestCase):
+    def refused(self, number, function, *arguments):
+        with self.assertRaises(m.Refused) as caught:
+            function(*arguments)
+        self.assertEqual(caught.exception.number, number)
+
+    def test_declarations_are_those_of_the_archive(self):
+        functions, structs = declarations.exported()
+        numbers = {"u8": m.U8, "u64": m.U64, "i64": m.I64, "usize": m.SIZE, "f64": m.F64, "[u64; 3]": m.U64 * 3}
+        for name, fields in structs.items():
+            self.assertEqual(getattr(m, "C" + name)._fields_, [(field, numbers[kind]) for field, kind in fields], name)
+
+        def result(kind):
+            return numbers.get(kind) or getattr(m, "C" + kind)
+
+        def parameters(kind):
+            if kind.startswith("&"):
+                return [ctypes.POINTER(numbers[kind.removeprefix("&").removeprefix("mut ").strip("[]")]), m.SIZE]
+            return [result(kind)]
+
+        wanted = {name: (result(kind), sum((parameters(k) for _, k in taken), [])) for name, (taken, kind) in functions.items()}
+        self.assertEqual({"mixegorta_" + name: pair for name, pair in m.DECLARATIONS.items()}, wanted)
+
+    def test_shapes(self):
+        self.assertEqual([m.half_width(b, 60) for b in (1840, 1841, 1000)], [2, 1, 2])
+        self.assertEqual(m.node_count(0, 60), m.MAX_NODES)
+        self.assertEqual(m.row_start(1000, 4), 1 + 3 + 5 + 5)
+        self.assertEqual(m.discounts_needed(m.MAX_STEPS, 0), m.MAX_DISCOUNTS)
+        self.assertEqual(m.state_prices_needed(m.MAX_STEPS, 0), m.MAX_STATE_PRICES)
+        self.refused(4, m.half_width, 6001, 61)
+        self.refused(6, m.node_count, 0, 61)
+        self.refused(6, m.row_start, 0, 2**64 - 1)
+        self.refused(3, m.discounts_needed, 0, 6001)
+        self.refused(4, m.state_prices_needed, 60, 6001)
+
+    def test_branches(self):
+        self.assertEqual(m.branches(1000, 1, 1), Branches(0, 73_000_000, 394_000_000, 133_000_000))
+        self.assertEqual(m.branches(1000, 2, 2), Branches(0, 532_000_000, 16_000_000, 52_000_000))
+        self.refused(6, m.branches, 0, 59, -(2**63))
+        self.refused(6, m.branches, 0, 60, 0)
+
+    def test_quotes_and_rates(self):
+        self.assertEqual(m.quote_discount(1, (1, m.YEARLY_RATE, -0.0025)), 1_002_506_265)
+        self.assertEqual(m.quote_discount(1, (1, m.YEARLY_RATE, 0.0009765625)), ONE * ONE // (ONE + 976_563))
+        for figure in (math.nan, math.inf, 10.1, 2.1, 0.0, -0.0):
+            self.refused(7, m.quote_discount, 1, (1, m.DISCOUNT_FACTOR, figure))
+        self.refused(7, m.quote_discount, 1, (1, 7, 1.0))
+        self.refused(2, m.quote_discount, 3, (0, 0, 1.0))
+        self.refused(6, m.quote_discount, 1, (61, m.DISCOUNT_FACTOR, 1.0))
+        self.assertEqual(m.step_rate(1_000_000_001), -1)
+        self.refused(9, m.step_rate, 0)
+
+    def test_curve(self):
+        self.assertEqual(list(m.curve_discounts(4, 3, falling(0.98, 3))), [980_000_000, 960_400_000, 941_192_000])
+        self.refused(6, m.curve_discounts, 4, 2, falling(0.98, 3))
+        self.refused(6, m.curve_discounts, 4, 1, [])
+        self.refused(3, m.curve_discounts, 4, 0, [])
+        self.refused(7, m.curve_discounts, 4, 1, falling(11.0, 1))
+
+    def test_printed_example(self):
+        tree = m.Tree(1, 1, 0, 0, [Point(1, m.DISCOUNT_FACTOR, 1.0025)])
+        self.assertEqual(list(tree.discounts), [1_002_500_000])
+        self.assertEqual(m.step_rate(tree.discounts[0]), -2_493_766)
+        self.assertEqual(list(tree.row(m.STATE_PRICES, 1)), [167_083_333, 668_333_333, 167_083_333])
+        self.assertIsNone(tree.row(m.DISCOUNTS, 1))
+        self.assertIsNone(tree.row(3, 0))
+        self.assertEqual(tree.state_price_error_bound(1), 4)
+        self.assertEqual(tree.bond_price([ONE]), Price(1_002_500_000, 3))
+        self.assertEqual(tree.option_price([ONE], m.AMERICAN_PUT, 1, 1_010_000_000), Price(10_025_000, 3))
+        self.assertEqual(tree.value(1, [ONE] * 3), Price(1_002_499_999, 5))
+        self.refused(6, tree.value, 2, [ONE] * 3)
+
+    def test_refused_fits_and_their_memories(self):
+        discounts, prices = array("Q", [PATTERN] * 3), array("Q", [PATTERN] * 6)
+        curve = falling(1.0025, 1)
+        for number, *numbers in ((2, 5, 0, 6001, 50001), (3, 1, 0, 6001, 50001), (4, 1, 1, 6001, 50001), (5, 1, 1, 0, 50001),
+                                 (6, 1, 2, 0, 0)):
+            self.refused(number, m.fit_into, *numbers, curve, discounts, prices)
+        self.refused(7, m.fit_into, 1, 1, 0, 0, [(1, 4, 1.0)], discounts, prices)
+        self.assertEqual((list(discounts), list(prices)), ([PATTERN] * 3, [PATTERN] * 6))
+        self.refused(9, m.fit_into, 1, 1, 0, 0, falling(1.2, 1), discounts, prices)
+        self.assertEqual((list(discounts), list(prices)), ([0] + [PATTERN] * 2, [0] * 4 + [PATTERN] * 2))
+        self.refused(8, m.Tree, 1, 13, 0, 50000, falling(0.9, 13))
+        self.refused(6, m.fit_into, 1, 1, 0, 0, curve, array("Q"), array("Q"))
+        with self.assertRaises(ValueError):
+            m.fit_into(1, 1, 0, 0, curve, discounts, discounts)
+        with self.assertRaises(TypeError):
+            m.fit_into(1, 1, 0, 0, curve, [0], [0] * 4)
+
+    def test_every_row_reprices_its_quote(self):
+        curve = falling(0.99, 60)
+        tree = m.Tree(12, 60, 50, 10000, curve)
+        for row, quote in enumerate(m.curve_discounts(12, 60, curve), 1):
+            prices = tree.row(m.STATE_PRICES, row)
+            self.assertLessEqual(abs(sum(prices) - quote), 300)
+            value = Price(sum(prices), tree.state_price_error_bound(row) + 1)
+            self.assertEqual(tree.value(row, [ONE] * len(prices)), value)
+
+    def test_prices_on_lent_discounts(self):
+        flat = array("Q", [ONE] * 4)
+        self.assertEqual(m.bond_price(2, 0, flat, (0, ONE)), Price(ONE, 6))
+        self.assertEqual(m.option_price(2, 0, flat, (0, ONE), m.EUROPEAN_CALL, 1, 900_000_000), Price(100_000_000, 6))
+        self.refused(6, m.bond_price, 2, 0, (), ())
+        self.refused(9, m.bond_price, 2, 0, [0] * 4, [2 * ONE + 1, 0])
+        self.refused(10, m.bond_price, 2, 0, flat, [2 * ONE + 1, 0])
+        self.refused(11, m.option_price, 2, 0, flat, [0, ONE], 5, 1, ONE)
+        self.refused(12, m.bond_price, 5, 0, [ONE] * 25, [2 * ONE] * 5)
+        self.assertEqual(m.value_by_state_prices([ONE, ONE, 100], [ONE, 2 * ONE, 3 * ONE]), 3 * ONE + 300)
+        self.refused(12, m.value_by_state_prices, [ONE, ONE, 101], [ONE] * 3)
+        self.assertEqual(m.valuation_error_bound(2, 0, flat, 2, [0, 0, 2 * ONE, 0, 0]), 2 * 12 + 1)
+        self.assertEqual(m.row_range(flat, [ONE] * 9, m.STATE_PRICES, 2, 0, 2), range(4, 9))
+        self.assertIsNone(m.row_range(flat, [ONE] * 8, m.DISCOUNTS, 2, 0, 1))
+
+    def test_numbers_that_do_not_fit(self):
+        for call in ((m.step_rate, -1), (m.step_rate, 2**64), (m.branches, 0, 1, 2**63), (m.bond_price, 1, 0, [-1], [0]),
+                     (m.quote_discount, 1, (1, 256, 1.0)), (m.half_width, 0, 2**64)):
+            with self.assertRaises(OverflowError):
+                call[0](*call[1:])
+        with self.assertRaises(TypeError):
+            m.step_rate(1.0)
+
+
+if __name__ == "__main__":
+    unittest.main()

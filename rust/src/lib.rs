@@ -1,0 +1,456 @@
+//! A Hull-White trinomial rate tree in whole billionths, over the proved archive `libcapi.a`.
+//!
+//! [`ONE`] is 1,000,000,000 billionths. Any arguments may be passed: each call gives its full answer or a [`Refusal`], and the engine
+//! itself judges every argument. Discounts stand row after row, lowest node first, for rows 0 to n - 1, state prices for rows 0 to n.
+//!
+//! ```
+//! use mixegorta::{Curve, OptionKind, OptionTerms, Quote, Tree, ONE};
+//!
+//! let curve = Curve::of_quotes(&[Quote::DiscountFactor(1.0025)]);
+//! let tree = Tree::fit(1, 1, 0, 0, &curve)?;
+//! assert_eq!(tree.discounts(), [1_002_500_000]);
+//!
+//! let flows = [ONE];
+//! let bond = tree.bond_price(&flows)?;
+//! assert_eq!((bond.value, bond.bound), (1_002_500_000, 3));
+//!
+//! let put = OptionTerms { kind: OptionKind::AmericanPut, expiry: 1, strike: 1_010_000_000 };
+//! assert_eq!(tree.option_price(&flows, put)?.value, 10_025_000);
+//! # Ok::<(), mixegorta::Refusal>(())
+//! ```
+
+mod raw;
+mod tree;
+
+pub use tree::Tree;
+
+use std::fmt;
+use std::ops::Range;
+
+/// Billionths in one.
+pub const ONE: u64 = 1_000_000_000;
+/// The whole of which probabilities are parts.
+pub const PROBABILITY_ONE: u64 = 600_000_000;
+/// The largest number of steps.
+pub const MAX_STEPS: usize = 60;
+/// The largest number of nodes of a row.
+pub const MAX_NODES: usize = 121;
+/// The largest number of discounts of a tree.
+pub const MAX_DISCOUNTS: usize = 3_600;
+/// The largest number of state prices of a tree.
+pub const MAX_STATE_PRICES: usize = 3_721;
+
+/// Why a call was refused: the engine's number, as `c/mixegorta.h` lists them. Lowest number first where several apply.
+#[derive(Clone, Copy, Debug, PartialEq, Eq, PartialOrd, Ord, Hash)]
+pub struct Refusal(u64);
+
+impl Refusal {
+    pub const FREQUENCY: Refusal = Refusal(2);
+    pub const STEPS: Refusal = Refusal(3);
+    pub const REVERSION: Refusal = Refusal(4);
+    pub const VOLATILITY: Refusal = Refusal(5);
+    pub const LENGTH_OR_ROW: Refusal = Refusal(6);
+    pub const QUOTE: Refusal = Refusal(7);
+    pub const SPACING: Refusal = Refusal(8);
+    pub const DISCOUNT: Refusal = Refusal(9);
+    pub const FLOW: Refusal = Refusal(10);
+    pub const OPTION: Refusal = Refusal(11);
+    pub const VALUE: Refusal = Refusal(12);
+
+    /// The engine's number.
+    pub fn number(self) -> u64 {
+        self.0
+    }
+
+    fn cause(self) -> &'static str {
+        match self.0 {
+            2 => "the steps a year are not 1, 2, 4 or 12",
+            3 => "the steps are outside 1 to 60",
+            4 => "the reversion is above 6,000",
+            5 => "the volatility is above 50,000",
+            6 => "a length, row or node is not in the tree, or a memory is too short",
+            7 => "a quote's kind, figure or discount is outside its limits",
+            8 => "the nodes are too far apart",
+            9 => "a node discount is 0 or above 1,100,000,000",
+            10 => "a flow is above 2,000,000,000",
+            11 => "the option's kind, expiry or strike is outside its limit",
+            12 => "a value is above 8,000,000,000, or state prices sum above 2,000,000,100",
+            _ => "not listed",
+        }
+    }
+}
+
+impl fmt::Display for Refusal {
+    fn fmt(&self, f: &mut fmt::Formatter<'_>) -> fmt::Result {
+        write!(f, "refused {}: {}", self.0, self.cause())
+    }
+}
+
+impl std::error::Error for Refusal {}
+
+fn accepted<T>(number: u64, value: T) -> Result<T, Refusal> {
+    if number == 0 {
+        Ok(value)
+    } else {
+        Err(Refusal(number))
+    }
+}
+
+fn value_of(answer: raw::Answer) -> Result<u64, Refusal> {
+    accepted(answer.number, answer.value)
+}
+
+/// A quoted figure.
+#[derive(Clone, Copy, Debug, PartialEq)]
+pub enum Quote {
+    DiscountFactor(f64),
+    YearlyRate(f64),
+}
+
+impl Quote {
+    fn kind(self) -> u8 {
+        match self {
+            Quote::DiscountFactor(_) => 5,
+            Quote::YearlyRate(_) => 6,
+        }
+    }
+
+    fn figure(self) -> f64 {
+        match self {
+            Quote::DiscountFactor(figure) | Quote::YearlyRate(figure) => figure,
+        }
+    }
+}
+
+/// The quotes of a curve with the row of each.
+#[derive(Clone, Debug, Default, PartialEq)]
+pub struct Curve {
+    rows: Vec<u64>,
+    kinds: Vec<u8>,
+    figures: Vec<f64>,
+}
+
+impl Curve {
+    /// Quotes of rows 1, 2 and so on.
+    pub fn of_quotes(quotes: &[Quote]) -> Curve {
+        Curve {
+            rows: (1..=quotes.len() as u64).collect(),
+            kinds: quotes.iter().map(|q| q.kind()).collect(),
+            figures: quotes.iter().map(|q| q.figure()).collect(),
+        }
+    }
+
+    /// Quotes with rows of their own; the engine refuses one that is not in its place.
+    pub fn of_points(points: &[(u64, Quote)]) -> Curve {
+        Curve {
+            rows: points.iter().map(|p| p.0).collect(),
+            kinds: points.iter().map(|p| p.1.kind()).collect(),
+            figures: points.iter().map(|p| p.1.figure()).collect(),
+        }
+    }
+
+    /// How many quotes there are.
+    pub fn len(&self) -> usize {
+        self.rows.len()
+    }
+
+    pub fn is_empty(&self) -> bool {
+        self.rows.is_empty()
+    }
+}
+
+/// Which of the two memories of a tree.
+#[derive(Clone, Copy, Debug, PartialEq, Eq)]
+pub enum RowKind {
+    Discounts = 1,
+    StatePrices = 2,
+}
+
+#[derive(Clone, Copy, Debug, PartialEq, Eq)]
+pub enum OptionKind {
+    EuropeanCall = 1,
+    EuropeanPut = 2,
+    AmericanCall = 3,
+    AmericanPut = 4,
+}
+
+/// An option on a bond: expiry is a row, 0 to n; the strike is 0 to 4,000,000,000 billionths.
+#[derive(Clone, Copy, Debug, PartialEq, Eq)]
+pub struct OptionTerms {
+    pub kind: OptionKind,
+    pub expiry: usize,
+    pub strike: u64,
+}
+
+/// A price in billionths; the exact price is at most `bound` away.
+#[derive(Clone, Copy, Debug, PartialEq, Eq)]
+pub struct Price {
+    pub value: u64,
+    pub bound: u64,
+}
+
+/// Where a node leads: to `lowest` and the two nodes above it, with probabilities over [`PROBABILITY_ONE`].
+#[derive(Clone, Copy, Debug, PartialEq, Eq)]
+pub struct Branches {
+    pub lowest: i64,
+    pub up: u64,
+    pub middle: u64,
+    pub down: u64,
+}
+
+// Why each `unsafe` below is sound: the archive asks that a slice's pointer is aligned and reaches its count of elements, and that
+// what it may write overlaps nothing else of the call. Rust's own references keep both, and empty slices are allowed.
+
+/// The half width of a row, 0 to 60.
+pub fn half_width(reversion: u64, row: usize) -> Result<u64, Refusal> {
+    value_of(unsafe { raw::mixegorta_half_width(reversion, row) })
+}
+
+/// The number of nodes of a row, 0 to 60.
+pub fn node_count(reversion: u64, row: usize) -> Result<u64, Refusal> {
+    value_of(unsafe { raw::mixegorta_node_count(reversion, row) })
+}
+
+/// The element at which a row, 0 to 60, starts in either memory.
+pub fn row_start(reversion: u64, row: usize) -> Result<u64, Refusal> {
+    value_of(unsafe { raw::mixegorta_row_start(reversion, row) })
+}
+
+/// How many discounts a tree has.
+pub fn discounts_needed(steps: usize, reversion: u64) -> Result<u64, Refusal> {
+    value_of(unsafe { raw::mixegorta_discounts_needed(steps, reversion) })
+}
+
+/// How many state prices a tree has.
+pub fn state_prices_needed(steps: usize, reversion: u64) -> Result<u64, Refusal> {
+    value_of(unsafe { raw::mixegorta_state_prices_needed(steps, reversion) })
+}
+
+/// Where a node of a row, 0 to 59, leads.
+pub fn branches(reversion: u64, row: usize, node: i64) -> Result<Branches, Refusal> {
+    let answer = unsafe { raw::mixegorta_branches(reversion, row, node) };
+    let [up, middle, down] = answer.probabilities;
+    accepted(
+        answer.number,
+        Branches {
+            lowest: answer.lowest,
+            up,
+            middle,
+            down,
+        },
+    )
+}
+
+/// The discount of one quote for a row, 1 to 60.
+pub fn quote_discount(frequency: u64, row: u64, quote: Quote) -> Result<u64, Refusal> {
+    let point = raw::Point {
+        row,
+        figure: quote.figure(),
+    };
+    value_of(unsafe { raw::mixegorta_quote_discount(frequency, quote.kind(), point) })
+}
+
+/// Puts the discounts of a curve of n quotes at the start of `discounts`. A refusal leaves it as it was.
+pub fn curve_discounts(
+    frequency: u64,
+    steps: usize,
+    curve: &Curve,
+    discounts: &mut [u64],
+) -> Result<(), Refusal> {
+    let number = unsafe {
+        raw::mixegorta_curve_discounts(
+            frequency,
+            steps,
+            curve.rows.as_ptr(),
+            curve.rows.len(),
+            curve.kinds.as_ptr(),
+            curve.kinds.len(),
+            curve.figures.as_ptr(),
+            curve.figures.len(),
+            discounts.as_mut_ptr(),
+            discounts.len(),
+        )
+    };
+    accepted(number, ())
+}
+
+/// Fits a tree to a curve of n quotes, at the start of both memories. [`Refusal::DISCOUNT`] leaves zeros in the parts that the tree
+/// needs; any other refusal leaves both memories as they were. Nothing past those parts ever changes.
+pub fn fit(
+    frequency: u64,
+    steps: usize,
+    reversion: u64,
+    volatility: u64,
+    curve: &Curve,
+    discounts: &mut [u64],
+    state_prices: &mut [u64],
+) -> Result<(), Refusal> {
+    let number = unsafe {
+        raw::mixegorta_fit(
+            frequency,
+            steps,
+            reversion,
+            volatility,
+            curve.rows.as_ptr(),
+            curve.rows.len(),
+            curve.kinds.as_ptr(),
+            curve.kinds.len(),
+            curve.figures.as_ptr(),
+            curve.figures.len(),
+            discounts.as_mut_ptr(),
+            discounts.len(),
+            state_prices.as_mut_ptr(),
+            state_prices.len(),
+        )
+    };
+    accepted(number, ())
+}
+
+/// Where a row stands in the memory of its kind; `None` where steps, reversion, row or a length is refused.
+pub fn row_range(
+    discounts: &[u64],
+    state_prices: &[u64],
+    kind: RowKind,
+    steps: usize,
+    reversion: u64,
+    row: usize,
+) -> Option<Range<usize>> {
+    let range = unsafe {
+        raw::mixegorta_row_range(
+            discounts.as_ptr(),
+            discounts.len(),
+            state_prices.as_ptr(),
+            state_prices.len(),
+            kind as u64,
+            steps,
+            reversion,
+            row,
+        )
+    };
+    (range.count != 0).then(|| range.start..range.start + range.count)
+}
+
+/// A row as the part of the memory that holds it; `None` where refused.
+pub fn row_view<'a>(
+    discounts: &'a [u64],
+    state_prices: &'a [u64],
+    kind: RowKind,
+    steps: usize,
+    reversion: u64,
+    row: usize,
+) -> Option<&'a [u64]> {
+    let range = row_range(discounts, state_prices, kind, steps, reversion, row)?;
+    match kind {
+        RowKind::Discounts => discounts.get(range),
+        RowKind::StatePrices => state_prices.get(range),
+    }
+}
+
+/// The signed rate of one step, in billionths, of a discount from 1 to 1,100,000,000.
+pub fn step_rate(discount: u64) -> Result<i64, Refusal> {
+    let rate = unsafe { raw::mixegorta_step_rate(discount) };
+    accepted(rate.number, rate.value)
+}
+
+/// How far below the exact ones the fitted state prices of a row may be in sum.
+pub fn state_price_error_bound(
+    steps: usize,
+    reversion: u64,
+    discounts: &[u64],
+    row: usize,
+) -> Result<u64, Refusal> {
+    value_of(unsafe {
+        raw::mixegorta_state_price_error_bound(
+            steps,
+            reversion,
+            discounts.as_ptr(),
+            discounts.len(),
+            row,
+        )
+    })
+}
+
+fn priced(price: raw::Price) -> Result<Price, Refusal> {
+    accepted(
+        price.number,
+        Price {
+            value: price.value,
+            bound: price.bound,
+        },
+    )
+}
+
+/// The price at row 0 of the bond with these flows of rows 1 to n.
+pub fn bond_price(
+    steps: usize,
+    reversion: u64,
+    discounts: &[u64],
+    flows: &[u64],
+) -> Result<Price, Refusal> {
+    priced(unsafe {
+        raw::mixegorta_bond_price(
+            steps,
+            reversion,
+            discounts.as_ptr(),
+            discounts.len(),
+            flows.as_ptr(),
+            flows.len(),
+        )
+    })
+}
+
+/// The price at row 0 of an option on that bond.
+pub fn option_price(
+    steps: usize,
+    reversion: u64,
+    discounts: &[u64],
+    flows: &[u64],
+    terms: OptionTerms,
+) -> Result<Price, Refusal> {
+    priced(unsafe {
+        raw::mixegorta_option_price(
+            steps,
+            reversion,
+            discounts.as_ptr(),
+            discounts.len(),
+            flows.as_ptr(),
+            flows.len(),
+            terms.kind as u64,
+            terms.expiry,
+            terms.strike,
+        )
+    })
+}
+
+/// What payoffs on a row are worth by the row's state prices.
+pub fn value_by_state_prices(state_prices: &[u64], payoffs: &[u64]) -> Result<u64, Refusal> {
+    value_of(unsafe {
+        raw::mixegorta_value_by_state_prices(
+            state_prices.as_ptr(),
+            state_prices.len(),
+            payoffs.as_ptr(),
+            payoffs.len(),
+        )
+    })
+}
+
+/// How far below the exact price that value may be, for the fitted state prices of a row.
+pub fn valuation_error_bound(
+    steps: usize,
+    reversion: u64,
+    discounts: &[u64],
+    row: usize,
+    payoffs: &[u64],
+) -> Result<u64, Refusal> {
+    value_of(unsafe {
+        raw::mixegorta_valuation_error_bound(
+            steps,
+            reversion,
+            discounts.as_ptr(),
+            discounts.len(),
+            row,
+            payoffs.as_ptr(),
+            payoffs.len(),
+        )
+    })
+}

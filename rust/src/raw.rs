@@ -1,0 +1,129 @@
+//! What the archive exports. `tools/declarations.py` holds these declarations against its source.
+
+#[repr(C)]
+pub struct Answer {
+    pub number: u64,
+    pub value: u64,
+}
+
+#[repr(C)]
+pub struct Rate {
+    pub number: u64,
+    pub value: i64,
+}
+
+#[repr(C)]
+pub struct Price {
+    pub number: u64,
+    pub value: u64,
+    pub bound: u64,
+}
+
+#[repr(C)]
+pub struct Branches {
+    pub number: u64,
+    pub lowest: i64,
+    pub probabilities: [u64; 3],
+}
+
+#[repr(C)]
+pub struct Point {
+    pub row: u64,
+    pub figure: f64,
+}
+
+#[repr(C)]
+pub struct RowRange {
+    pub start: usize,
+    pub count: usize,
+}
+
+extern "C" {
+    pub fn mixegorta_half_width(reversion: u64, row: usize) -> Answer;
+    pub fn mixegorta_node_count(reversion: u64, row: usize) -> Answer;
+    pub fn mixegorta_row_start(reversion: u64, row: usize) -> Answer;
+    pub fn mixegorta_discounts_needed(steps: usize, reversion: u64) -> Answer;
+    pub fn mixegorta_state_prices_needed(steps: usize, reversion: u64) -> Answer;
+    pub fn mixegorta_branches(reversion: u64, row: usize, node: i64) -> Branches;
+    pub fn mixegorta_quote_discount(frequency: u64, kind: u8, point: Point) -> Answer;
+    pub fn mixegorta_curve_discounts(
+        frequency: u64,
+        steps: usize,
+        rows: *const u64,
+        rows_len: usize,
+        kinds: *const u8,
+        kinds_len: usize,
+        figures: *const f64,
+        figures_len: usize,
+        discounts: *mut u64,
+        discounts_len: usize,
+    ) -> u64;
+    pub fn mixegorta_fit(
+        frequency: u64,
+        steps: usize,
+        reversion: u64,
+        volatility: u64,
+        rows: *const u64,
+        rows_len: usize,
+        kinds: *const u8,
+        kinds_len: usize,
+        figures: *const f64,
+        figures_len: usize,
+        discounts: *mut u64,
+        discounts_len: usize,
+        state_prices: *mut u64,
+        state_prices_len: usize,
+    ) -> u64;
+    pub fn mixegorta_row_range(
+        discounts: *const u64,
+        discounts_len: usize,
+        state_prices: *const u64,
+        state_prices_len: usize,
+        kind: u64,
+        steps: usize,
+        reversion: u64,
+        row: usize,
+    ) -> RowRange;
+    pub fn mixegorta_step_rate(discount: u64) -> Rate;
+    pub fn mixegorta_state_price_error_bound(
+        steps: usize,
+        reversion: u64,
+        discounts: *const u64,
+        discounts_len: usize,
+        row: usize,
+    ) -> Answer;
+    pub fn mixegorta_bond_price(
+        steps: usize,
+        reversion: u64,
+        discounts: *const u64,
+        discounts_len: usize,
+        flows: *const u64,
+        flows_len: usize,
+    ) -> Price;
+    pub fn mixegorta_option_price(
+        steps: usize,
+        reversion: u64,
+        discounts: *const u64,
+        discounts_len: usize,
+        flows: *const u64,
+        flows_len: usize,
+        kind: u64,
+        expiry: usize,
+        strike: u64,
+    ) -> Price;
+    pub fn mixegorta_value_by_state_prices(
+        state_prices: *const u64,
+        state_prices_len: usize,
+        payoffs: *const u64,
+        payoffs_len: usize,
+    ) -> Answer;
+    pub fn mixegorta_valuation_error_bound(
+        steps: usize,
+        reversion: u64,
+        discounts: *const u64,
+        discounts_len: usize,
+        row: usize,
+        payoffs: *const u64,
+        payoffs_len: usize,
+    ) -> Answer;
+}

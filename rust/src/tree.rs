@@ -1,0 +1,107 @@
+//! A fitted tree with memories of its own.
+
+use crate::{Branches, Curve, OptionTerms, Price, Refusal, RowKind};
+
+/// A tree that was fitted to a curve and not refused.
+#[derive(Clone, Debug, PartialEq, Eq)]
+pub struct Tree {
+    steps: usize,
+    reversion: u64,
+    discounts: Vec<u64>,
+    state_prices: Vec<u64>,
+}
+
+impl Tree {
+    /// Fits a tree: steps a year, steps, reversion per step in ten-thousandths, yearly volatility in millionths.
+    pub fn fit(
+        frequency: u64,
+        steps: usize,
+        reversion: u64,
+        volatility: u64,
+        curve: &Curve,
+    ) -> Result<Tree, Refusal> {
+        // Where the sizes are refused the fit refuses too, and it alone knows the lowest number.
+        let discounts = crate::discounts_needed(steps, reversion).unwrap_or(0);
+        let state_prices = crate::state_prices_needed(steps, reversion).unwrap_or(0);
+        let mut tree = Tree {
+            steps,
+            reversion,
+            discounts: vec![0; discounts as usize],
+            state_prices: vec![0; state_prices as usize],
+        };
+        crate::fit(
+            frequency,
+            steps,
+            reversion,
+            volatility,
+            curve,
+            &mut tree.discounts,
+            &mut tree.state_prices,
+        )?;
+        Ok(tree)
+    }
+
+    pub fn steps(&self) -> usize {
+        self.steps
+    }
+
+    pub fn reversion(&self) -> u64 {
+        self.reversion
+    }
+
+    /// The discounts of rows 0 to n - 1, row after row, lowest node first.
+    pub fn discounts(&self) -> &[u64] {
+        &self.discounts
+    }
+
+    /// The state prices of rows 0 to n, row after row, lowest node first.
+    pub fn state_prices(&self) -> &[u64] {
+        &self.state_prices
+    }
+
+    /// The discounts or the state prices of a row; `None` where the tree has no such row.
+    pub fn row(&self, kind: RowKind, row: usize) -> Option<&[u64]> {
+        crate::row_view(
+            &self.discounts,
+            &self.state_prices,
+            kind,
+            self.steps,
+            self.reversion,
+            row,
+        )
+    }
+
+    /// Where a node leads.
+    pub fn branches(&self, row: usize, node: i64) -> Result<Branches, Refusal> {
+        crate::branches(self.reversion, row, node)
+    }
+
+    /// How far below the exact ones the state prices of a row may be in sum.
+    pub fn state_price_error_bound(&self, row: usize) -> Result<u64, Refusal> {
+        crate::state_price_error_bound(self.steps, self.reversion, &self.discounts, row)
+    }
+
+    /// The price of the bond with these flows of rows 1 to n.
+    pub fn bond_price(&self, flows: &[u64]) -> Result<Price, Refusal> {
+        crate::bond_price(self.steps, self.reversion, &self.discounts, flows)
+    }
+
+    /// The price of an option on that bond.
+    pub fn option_price(&self, flows: &[u64], terms: OptionTerms) -> Result<Price, Refusal> {
+        crate::option_price(self.steps, self.reversion, &self.discounts, flows, terms)
+    }
+
+    /// What payoffs on a row are worth: never above the exact price, and at most the bound below it.
+    pub fn value(&self, row: usize, payoffs: &[u64]) -> Result<Price, Refusal> {
+        let state_prices = self.row(RowKind::StatePrices, row).unwrap_or(&[]);
+        let value = crate::value_by_state_prices(state_prices, payoffs)?;
+        let bound = crate::valuation_error_bound(
+            self.steps,
+            self.reversion,
+            &self.discounts,
+            row,
+            payoffs,
+        )?;
+        Ok(Price { value, bound })
+    }
+}

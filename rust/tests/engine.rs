@@ -1,0 +1,297 @@
+//! The figures of the scope (document 01), refusals and memories, through the safe functions.
+use mixegorta::*;
+
+const PATTERN: u64 = 0xA5A5_A5A5_A5A5_A5A5;
+
+fn falling(part: f64, steps: usize) -> Curve {
+    let quotes: Vec<Quote> = (1..=steps)
+        .map(|row| Quote::DiscountFactor(part.powi(row as i32)))
+        .collect();
+    Curve::of_quotes(&quotes)
+}
+
+fn lone(figure: f64) -> Curve {
+    Curve::of_quotes(&[Quote::DiscountFactor(figure)])
+}
+
+#[test]
+fn shapes_of_trees() {
+    assert_eq!(half_width(1_840, 60), Ok(2));
+    assert_eq!(half_width(1_841, 60), Ok(1));
+    assert_eq!(half_width(1_000, 60), Ok(2));
+    assert_eq!(half_width(6_001, 61), Err(Refusal::REVERSION));
+    assert_eq!(node_count(0, 60), Ok(MAX_NODES as u64));
+    assert_eq!(node_count(0, 61), Err(Refusal::LENGTH_OR_ROW));
+    assert_eq!(row_start(1_000, 4), Ok(1 + 3 + 5 + 5));
+    assert_eq!(discounts_needed(MAX_STEPS, 0), Ok(MAX_DISCOUNTS as u64));
+    assert_eq!(
+        state_prices_needed(MAX_STEPS, 0),
+        Ok(MAX_STATE_PRICES as u64)
+    );
+    assert_eq!(discounts_needed(0, 6_001), Err(Refusal::STEPS));
+    assert_eq!(state_prices_needed(usize::MAX, 0), Err(Refusal::STEPS));
+}
+
+#[test]
+fn branches_of_nodes() {
+    let ordinary = Branches {
+        lowest: 0,
+        up: 73_000_000,
+        middle: 394_000_000,
+        down: 133_000_000,
+    };
+    assert_eq!(branches(1_000, 1, 1), Ok(ordinary));
+    let edge = Branches {
+        lowest: 0,
+        up: 532_000_000,
+        middle: 16_000_000,
+        down: 52_000_000,
+    };
+    assert_eq!(branches(1_000, 2, 2), Ok(edge));
+    assert_eq!(branches(1_000, 2, 3), Err(Refusal::LENGTH_OR_ROW));
+    assert_eq!(branches(0, 60, 0), Err(Refusal::LENGTH_OR_ROW));
+    assert_eq!(branches(0, 59, i64::MIN), Err(Refusal::LENGTH_OR_ROW));
+    let b = branches(345, 40, -5).unwrap();
+    assert_eq!(b.up + b.middle + b.down, PROBABILITY_ONE);
+}
+
+#[test]
+fn quotes_and_rates() {
+    assert_eq!(
+        quote_discount(1, 1, Quote::YearlyRate(-0.0025)),
+        Ok(1_002_506_265)
+    );
+    let half_away = ONE * ONE / (ONE + 976_563);
+    assert_eq!(
+        quote_discount(1, 1, Quote::YearlyRate(0.0009765625)),
+        Ok(half_away)
+    );
+    assert_eq!(
+        quote_discount(3, 0, Quote::YearlyRate(f64::NAN)),
+        Err(Refusal::FREQUENCY)
+    );
+    assert_eq!(
+        quote_discount(1, 61, Quote::YearlyRate(f64::NAN)),
+        Err(Refusal::LENGTH_OR_ROW)
+    );
+    for figure in [f64::NAN, f64::INFINITY, 10.1, 2.1, 0.0, -0.0] {
+        assert_eq!(
+            quote_discount(1, 1, Quote::DiscountFactor(figure)),
+            Err(Refusal::QUOTE)
+        );
+    }
+    assert_eq!(step_rate(1_000_000_001), Ok(-1));
+    assert_eq!(step_rate(1_002_500_000), Ok(-2_493_766));
+    assert_eq!(step_rate(0), Err(Refusal::DISCOUNT));
+}
+
+#[test]
+fn curve_into_memory() {
+    let mut memory = [PATTERN; 4];
+    assert_eq!(
+        curve_discounts(4, 3, &falling(0.98, 3), &mut memory),
+        Ok(())
+    );
+    assert_eq!(memory, [980_000_000, 960_400_000, 941_192_000, PATTERN]);
+    let mut memory = [PATTERN; 2];
+    assert_eq!(
+        curve_discounts(4, 3, &falling(0.98, 3), &mut memory),
+        Err(Refusal::LENGTH_OR_ROW)
+    );
+    let misplaced = Curve::of_points(&[(2, Quote::DiscountFactor(0.9))]);
+    assert_eq!(
+        curve_discounts(4, 1, &misplaced, &mut memory),
+        Err(Refusal::LENGTH_OR_ROW)
+    );
+    assert_eq!(
+        curve_discounts(4, 1, &lone(11.0), &mut memory),
+        Err(Refusal::QUOTE)
+    );
+    assert_eq!(memory, [PATTERN; 2]);
+    assert_eq!(
+        curve_discounts(4, 1, &Curve::default(), &mut []),
+        Err(Refusal::LENGTH_OR_ROW)
+    );
+}
+
+#[test]
+fn printed_example() {
+    let tree = Tree::fit(1, 1, 0, 0, &lone(1.0025)).unwrap();
+    assert_eq!(tree.discounts(), [1_002_500_000]);
+    assert_eq!(
+        tree.row(RowKind::StatePrices, 1),
+        Some(&[167_083_333, 668_333_333, 167_083_333][..])
+    );
+    assert_eq!(tree.row(RowKind::Discounts, 1), None);
+    assert_eq!(tree.state_price_error_bound(1), Ok(4));
+    assert_eq!(
+        tree.bond_price(&[ONE]),
+        Ok(Price {
+            value: 1_002_500_000,
+            bound: 3
+        })
+    );
+    let put = OptionTerms {
+        kind: OptionKind::AmericanPut,
+        expiry: 1,
+        strike: 1_010_000_000,
+    };
+    assert_eq!(
+        tree.option_price(&[ONE], put),
+        Ok(Price {
+            value: 10_025_000,
+            bound: 3
+        })
+    );
+    assert_eq!(
+        tree.value(1, &[ONE; 3]),
+        Ok(Price {
+            value: 1_002_499_999,
+            bound: 5
+        })
+    );
+    assert_eq!(tree.value(2, &[ONE; 3]), Err(Refusal::LENGTH_OR_ROW));
+}
+
+#[test]
+fn refused_fits_and_their_memories() {
+    let mut discounts = [PATTERN; 3];
+    let mut prices = [PATTERN; 6];
+    let curve = lone(1.0025);
+    let mut refused = |frequency, steps, reversion, volatility, curve: &Curve| {
+        let result = fit(
+            frequency,
+            steps,
+            reversion,
+            volatility,
+            curve,
+            &mut discounts,
+            &mut prices,
+        );
+        assert_eq!((discounts, prices), ([PATTERN; 3], [PATTERN; 6]));
+        result.unwrap_err()
+    };
+    assert_eq!(refused(5, 0, 6_001, 50_001, &curve), Refusal::FREQUENCY);
+    assert_eq!(refused(1, 0, 6_001, 50_001, &curve), Refusal::STEPS);
+    assert_eq!(refused(1, 1, 6_001, 50_001, &curve), Refusal::REVERSION);
+    assert_eq!(refused(1, 1, 0, 50_001, &curve), Refusal::VOLATILITY);
+    assert_eq!(refused(1, 2, 0, 0, &curve), Refusal::LENGTH_OR_ROW);
+    assert_eq!(refused(1, 1, 0, 0, &lone(0.05)), Refusal::QUOTE);
+    assert_eq!(
+        fit(1, 1, 0, 0, &lone(1.2), &mut discounts, &mut prices),
+        Err(Refusal::DISCOUNT)
+    );
+    assert_eq!(discounts, [0, PATTERN, PATTERN]);
+    assert_eq!(prices, [0, 0, 0, 0, PATTERN, PATTERN]);
+    assert_eq!(
+        Tree::fit(1, 13, 0, 50_000, &falling(0.9, 13)),
+        Err(Refusal::SPACING)
+    );
+    assert_eq!(Tree::fit(3, 61, 0, 0, &curve), Err(Refusal::FREQUENCY));
+}
+
+#[test]
+fn every_row_reprices_its_quote() {
+    let steps = 60;
+    let curve = falling(0.99, steps);
+    let mut quoted = [0; 60];
+    curve_discounts(12, steps, &curve, &mut quoted).unwrap();
+    let tree = Tree::fit(12, steps, 50, 10_000, &curve).unwrap();
+    for (row, quote) in (1..).zip(quoted) {
+        let prices = tree.row(RowKind::StatePrices, row).unwrap();
+        let total: u64 = prices.iter().sum();
+        assert!(
+            total.abs_diff(quote) <= 300,
+            "row {row}: {total} for {quote}"
+        );
+        let value = tree.value(row, &vec![ONE; prices.len()]).unwrap();
+        assert_eq!(
+            value,
+            Price {
+                value: total,
+                bound: tree.state_price_error_bound(row).unwrap() + 1
+            }
+        );
+    }
+    assert_eq!(tree.row(RowKind::StatePrices, 61), None);
+}
+
+#[test]
+fn prices_on_lent_discounts() {
+    let flat = [ONE; 4];
+    assert_eq!(
+        bond_price(2, 0, &flat, &[0, ONE]),
+        Ok(Price {
+            value: ONE,
+            bound: 6
+        })
+    );
+    assert_eq!(
+        bond_price(2, 0, &flat[1..], &[0, ONE]),
+        Err(Refusal::LENGTH_OR_ROW)
+    );
+    assert_eq!(bond_price(2, 0, &[], &[]), Err(Refusal::LENGTH_OR_ROW));
+    assert_eq!(
+        bond_price(2, 0, &[0; 4], &[2 * ONE + 1, 0]),
+        Err(Refusal::DISCOUNT)
+    );
+    assert_eq!(
+        bond_price(2, 0, &flat, &[2 * ONE + 1, 0]),
+        Err(Refusal::FLOW)
+    );
+    assert_eq!(
+        bond_price(5, 0, &[ONE; 25], &[2 * ONE; 5]),
+        Err(Refusal::VALUE)
+    );
+    let call = OptionTerms {
+        kind: OptionKind::EuropeanCall,
+        expiry: 1,
+        strike: 900_000_000,
+    };
+    assert_eq!(
+        option_price(2, 0, &flat, &[0, ONE], call),
+        Ok(Price {
+            value: 100_000_000,
+            bound: 6
+        })
+    );
+    let late = OptionTerms { expiry: 3, ..call };
+    assert_eq!(
+        option_price(2, 0, &flat, &[0, ONE], late),
+        Err(Refusal::OPTION)
+    );
+    assert_eq!(
+        value_by_state_prices(&[ONE, ONE, 100], &[ONE, 2 * ONE, 3 * ONE]),
+        Ok(3 * ONE + 300)
+    );
+    assert_eq!(
+        value_by_state_prices(&[ONE, ONE, 101], &[ONE; 3]),
+        Err(Refusal::VALUE)
+    );
+    assert_eq!(
+        value_by_state_prices(&[ONE; 2], &[ONE; 2]),
+        Err(Refusal::LENGTH_OR_ROW)
+    );
+    assert_eq!(
+        valuation_error_bound(2, 0, &flat, 2, &[0, 0, 2 * ONE, 0, 0]),
+        Ok(2 * 12 + 1)
+    );
+    assert_eq!(
+        row_range(&flat, &[ONE; 9], RowKind::StatePrices, 2, 0, 2),
+        Some(4..9)
+    );
+    assert_eq!(
+        row_view(&flat, &[ONE; 8], RowKind::Discounts, 2, 0, 1),
+        None
+    );
+}
+
+#[test]
+fn a_refusal_says_its_number() {
+    let refusal = step_rate(0).unwrap_err();
+    assert_eq!(refusal.number(), 9);
+    assert_eq!(
+        refusal.to_string(),
+        "refused 9: a node discount is 0 or above 1,100,000,000"
+    );
+}
