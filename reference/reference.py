@@ -1,0 +1,347 @@
+#!/usr/bin/env python3
+"""Document 01 in whole numbers and fractions, written from the document alone.
+
+    reference.py < job > sheet
+
+Words are those of the document: f, n, b, s, J, w, h, U, Z, P. Amounts are
+billionths. Every rule returns its value or raises Refused with its number.
+"""
+import struct
+import sys
+from fractions import Fraction
+from math import isqrt
+
+ONE = 10 ** 9
+D = 600_000_000
+M = D * ONE
+LONGEST_JOB = 4_700
+VALUE_LIMIT = 8 * ONE
+DISCOUNT_LIMIT = 1_100_000_000
+FLOW_LIMIT = 2 * ONE
+STRIKE_LIMIT = 4 * ONE
+WEIGHED_LIMIT = 2_000_000_100
+CALLS = (1, 3)
+AMERICAN = (3, 4)
+
+
+class Refused(Exception):
+    def __init__(self, number):
+        super().__init__(number)
+        self.number = number
+
+
+# Rounding
+
+def up(numerator, denominator):
+    return -(-numerator // denominator)
+
+
+def nearest(x):
+    """Halves away from zero."""
+    x = Fraction(x)
+    size = (2 * abs(x.numerator) + x.denominator) // (2 * x.denominator)
+    return size if x >= 0 else -size
+
+
+# Quotes
+
+def whole_billionths(pattern):
+    """The number of a float given by its 64 bits: NaN, infinity and figures beyond ten give 7."""
+    exponent = pattern >> 52 & 0x7FF
+    fraction = pattern & (1 << 52) - 1
+    if exponent == 0x7FF:
+        raise Refused(7)
+    if exponent == 0:
+        size = Fraction(fraction, 2 ** 1074)
+    else:
+        size = Fraction(2 ** 52 + fraction) * Fraction(2) ** (exponent - 1075)
+    if size > 10:
+        raise Refused(7)
+    return nearest(-size * ONE if pattern >> 63 else size * ONE)
+
+
+def quote(f, row, kind, pattern):
+    if kind not in (5, 6):
+        raise Refused(7)
+    figure = whole_billionths(pattern)
+    if kind == 5:
+        p = figure
+    else:
+        divisor = f * ONE + row * figure
+        if divisor <= 0:
+            raise Refused(7)
+        p = ONE * ONE * f // divisor
+    if not 100_000_000 <= p <= 2_000_000_000:
+        raise Refused(7)
+    return p
+
+
+def pattern_of(figure):
+    return struct.unpack('>Q', struct.pack('>d', figure))[0]
+
+
+# Branching
+
+def highest(b):
+    """J, or None where there is no J."""
+    return 1_840 // b + 1 if b else None
+
+
+def half_width(b, i):
+    return min(i, highest(b)) if b else i
+
+
+def nodes(b, i):
+    w = half_width(b, i)
+    return range(-w, w + 1)
+
+
+def branches(b, j):
+    """Three pairs of target node and probability over D: up, middle, down."""
+    z = j * b
+    top = highest(b)
+    if b and j == top:
+        return ((j, 7 * 10 ** 8 + 3 * z * z - 90_000 * z),
+                (j - 1, -2 * 10 ** 8 - 6 * z * z + 120_000 * z),
+                (j - 2, 10 ** 8 + 3 * z * z - 30_000 * z))
+    if b and j == -top:
+        return ((j + 2, 10 ** 8 + 3 * z * z + 30_000 * z),
+                (j + 1, -2 * 10 ** 8 - 6 * z * z - 120_000 * z),
+                (j, 7 * 10 ** 8 + 3 * z * z + 90_000 * z))
+    return ((j + 1, 10 ** 8 + 3 * z * z - 30_000 * z),
+            (j, 4 * 10 ** 8 - 6 * z * z),
+            (j - 1, 10 ** 8 + 3 * z * z + 30_000 * z))
+
+
+# Spacing and fit
+
+def spacing(f, s):
+    return isqrt(3 * (1_000 * s) ** 2 // f ** 3)
+
+
+def factor(j, h):
+    y = abs(j) * h
+    term = total = ONE
+    for k in range(1, 13):
+        term = term * y // (k * ONE)
+        total += -term if j >= 0 and k % 2 else term
+    return total
+
+
+def fit(n, b, h, quotes):
+    """Rows of discounts and of state prices, each a dictionary by node."""
+    prices = [{0: ONE}]
+    discounts = []
+    for i in range(n):
+        row = prices[i]
+        z = sum(row[j] * factor(j, h) for j in row) // ONE
+        shown = {j: quotes[i] * factor(j, h) // z for j in row}
+        if any(not 1 <= v <= DISCOUNT_LIMIT for v in shown.values()):
+            raise Refused(9)
+        later = {j: 0 for j in nodes(b, i + 1)}
+        for j in row:
+            carried = row[j] * shown[j] // ONE
+            for target, probability in branches(b, j):
+                later[target] += probability * carried
+        discounts.append(shown)
+        prices.append({j: later[j] // D for j in later})
+    return discounts, prices
+
+
+def step_rate(discount):
+    return nearest(Fraction((ONE - discount) * ONE, discount))
+
+
+# Prices
+
+def rolled(b, discounts, later):
+    return {j: sum(p * later[k] for k, p in branches(b, j)) // D * discounts[j] // ONE
+            for j in discounts}
+
+
+def within_limit(row):
+    if any(v > VALUE_LIMIT for v in row.values()):
+        raise Refused(12)
+    return row
+
+
+def bond_rows(n, b, discounts, flows):
+    """Bond values on rows 0 to n; flows[t] is the flow of row t + 1."""
+    rows = [None] * n + [within_limit({j: flows[n - 1] for j in nodes(b, n)})]
+    for i in range(n - 1, -1, -1):
+        flow = flows[i - 1] if i else 0
+        roll = rolled(b, discounts[i], rows[i + 1])
+        rows[i] = within_limit({j: roll[j] + flow for j in roll})
+    return rows
+
+
+def exercise(kind, strike, bond):
+    return max(bond - strike if kind in CALLS else strike - bond, 0)
+
+
+def option_value(n, b, discounts, flows, kind, expiry, strike):
+    bonds = bond_rows(n, b, discounts, flows)
+    row = within_limit({j: exercise(kind, strike, v) for j, v in bonds[expiry].items()})
+    for i in range(expiry - 1, -1, -1):
+        row = rolled(b, discounts[i], row)
+        if kind in AMERICAN:
+            row = {j: max(v, exercise(kind, strike, bonds[i][j])) for j, v in row.items()}
+        within_limit(row)
+    return row[0]
+
+
+def price_allowance(discounts):
+    allowance = 0
+    for row in reversed(discounts):
+        allowance = up(max(row.values()) * allowance, ONE) + 3
+    return allowance
+
+
+def state_price_allowance(b, discounts, row):
+    allowance = 0
+    for i in range(row):
+        counts = len(nodes(b, i)) + len(nodes(b, i + 1))
+        allowance = up(max(discounts[i].values()) * allowance, ONE) + counts
+    return allowance
+
+
+def weighing(prices, payoffs):
+    if len(prices) != len(payoffs) or len(prices) % 2 == 0 or len(prices) > 121:
+        raise Refused(6)
+    value = sum(q * x for q, x in zip(prices, payoffs)) // ONE
+    if max(payoffs) > VALUE_LIMIT or sum(prices) > WEIGHED_LIMIT or value > VALUE_LIMIT:
+        raise Refused(12)
+    return value
+
+
+def weighing_allowance(b, discounts, row, payoffs):
+    return up(max(payoffs) * state_price_allowance(b, discounts, row), ONE) + 1
+
+
+# The exact pricer: fractions, no rounding, no refusals
+
+def exact_roll(b, discounts, later):
+    return {j: Fraction(sum(p * later[k] for k, p in branches(b, j))) / D * discounts[j] / ONE
+            for j in discounts}
+
+
+def exact_bond_rows(n, b, discounts, flows):
+    rows = [None] * n + [{j: Fraction(flows[n - 1]) for j in nodes(b, n)}]
+    for i in range(n - 1, -1, -1):
+        roll = exact_roll(b, discounts[i], rows[i + 1])
+        rows[i] = {j: roll[j] + (flows[i - 1] if i else 0) for j in roll}
+    return rows
+
+
+def exact_option(n, b, discounts, flows, kind, expiry, strike):
+    bonds = exact_bond_rows(n, b, discounts, flows)
+    row = {j: exercise(kind, strike, v) for j, v in bonds[expiry].items()}
+    for i in range(expiry - 1, -1, -1):
+        row = exact_roll(b, discounts[i], row)
+        if kind in AMERICAN:
+            row = {j: max(v, exercise(kind, strike, bonds[i][j])) for j, v in row.items()}
+    return row[0]
+
+
+def exact_payoffs(b, discounts, row, payoffs):
+    values = dict(zip(nodes(b, row), payoffs))
+    for i in range(row - 1, -1, -1):
+        values = exact_roll(b, discounts[i], values)
+    return values[0]
+
+
+# Job and sheet
+
+class Fields:
+    def __init__(self, job):
+        self.job = job
+        self.at = 0
+
+    def tag(self):
+        return self.job[self.at] if self.at < len(self.job) else None
+
+    def take(self, tags, length):
+        """The tag and data of the next field, which must be one of the tags and have the length."""
+        end = self.at + 3 + length
+        head = self.job[self.at:self.at + 3]
+        if end > len(self.job) or head[0] not in tags or head[1] * 256 + head[2] != length:
+            raise Refused(1)
+        data = self.job[self.at + 3:end]
+        self.at = end
+        return head[0], data
+
+    def number(self, tag, length):
+        return int.from_bytes(self.take((tag,), length)[1], 'big')
+
+
+def read(job):
+    """f, n, b, s, quotes as (kind, pattern), flows, option as (kind, expiry, strike) or None."""
+    if len(job) > LONGEST_JOB:
+        raise Refused(1)
+    fields = Fields(job)
+    f, n = fields.number(0x01, 1), fields.number(0x02, 1)
+    b, s = fields.number(0x03, 2), fields.number(0x04, 4)
+    quotes = [fields.take((0x05, 0x06), 8) for _ in range(n)]
+    quotes = [(kind, int.from_bytes(data, 'big')) for kind, data in quotes]
+    flows = [fields.number(0x07, 4) for _ in range(n)]
+    option = None
+    if fields.tag() == 0x08:
+        data = fields.take((0x08,), 6)[1]
+        option = data[0], data[1], int.from_bytes(data[2:], 'big')
+    if fields.at != len(job):
+        raise Refused(1)
+    return f, n, b, s, quotes, flows, option
+
+
+def refuse_if(wrong, number):
+    if wrong:
+        raise Refused(number)
+
+
+def amount(x):
+    return '%d.%09d' % divmod(x, ONE)
+
+
+def percent(rate):
+    return ('-' if rate < 0 else '') + '%d.%07d' % divmod(abs(rate), 10 ** 7)
+
+
+def lines(job):
+    """The sheet's lines; causes are judged over the whole job, lowest number first."""
+    f, n, b, s, quoted, flows, option = read(job)
+    refuse_if(f not in (1, 2, 4, 12), 2)
+    refuse_if(not 1 <= n <= 60, 3)
+    refuse_if(b > 6_000, 4)
+    refuse_if(s > 50_000, 5)
+    quotes = [quote(f, t, kind, pattern) for t, (kind, pattern) in enumerate(quoted, 1)]
+    h = spacing(f, s)
+    refuse_if(half_width(b, n - 1) * h > ONE, 8)
+    discounts, prices = fit(n, b, h, quotes)
+    refuse_if(any(flow > FLOW_LIMIT for flow in flows), 10)
+    if option:
+        kind, expiry, strike = option
+        refuse_if(kind not in (1, 2, 3, 4) or expiry > n or strike > STRIKE_LIMIT, 11)
+    bond = bond_rows(n, b, discounts, flows)[0][0]
+    out = ['node %d %d %s %s' % (i, j, amount(v), percent(step_rate(v)))
+           for i, row in enumerate(discounts) for j, v in sorted(row.items())]
+    for t in range(1, n + 1):
+        out.append('row %d %s %s %d' % (t, amount(quotes[t - 1]), amount(sum(prices[t].values())),
+                                        state_price_allowance(b, discounts, t)))
+    allowance = price_allowance(discounts)
+    out.append('bond %s %d' % (amount(bond), allowance))
+    if option:
+        price = option_value(n, b, discounts, flows, kind, expiry, strike)
+        out.append('option %s %d' % (amount(price), allowance))
+    return out
+
+
+def sheet(job):
+    try:
+        out = lines(job)
+    except Refused as refusal:
+        out = ['refused %d' % refusal.number]
+    return ''.join(line + '\n' for line in out).encode()
+
+
+if __name__ == '__main__':
+    sys.stdout.buffer.write(sheet(sys.stdin.buffer.read()))
