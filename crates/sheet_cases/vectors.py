@@ -1,0 +1,216 @@
+#!/usr/bin/env python3
+"""The jobs of this crate and the sheet of each, worked out by reference/reference.py from document 01 alone.
+
+    vectors.py    writes the files stdin and stdout beside itself
+
+stdin: jobs one after the other, each after its length in two bytes, high byte first. stdout: their sheets one after the other.
+"""
+import os
+import struct
+import sys
+
+HERE = os.path.dirname(os.path.abspath(__file__))
+sys.path.insert(0, os.path.join(HERE, '..', '..', 'reference'))
+sys.dont_write_bytecode = True
+import reference
+
+ONE = reference.ONE
+EXAMPLE = bytes.fromhex('01000101' '02000101' '0300020000' '04000400000000' '0500083FF00A3D70A3D70A' '0700043B9ACA00' '08000604013C336080')
+NAN, INFINITY = 0x7FF8000000000000, 0x7FF0000000000000
+MOST_STDIN = 65_536
+MOST_WIDE_JOBS = 2
+
+
+def field(tag, data):
+    return struct.pack('>BH', tag, len(data)) + data
+
+
+def job(f=4, n=None, b=0, s=5_000, quotes=(), flows=None, option=None):
+    """A job in good form; a quote is (kind, float) or (kind, 64 bits)."""
+    n = len(quotes) if n is None else n
+    flows = [50_000_000] * (n - 1) + [ONE + 50_000_000] if flows is None else flows
+    out = field(1, bytes([f])) + field(2, bytes([n])) + field(3, struct.pack('>H', b)) + field(4, struct.pack('>I', s))
+    for kind, figure in quotes:
+        pattern = figure if isinstance(figure, int) else reference.pattern_of(figure)
+        out += field(kind, struct.pack('>Q', pattern))
+    for flow in flows:
+        out += field(7, struct.pack('>I', flow))
+    if option:
+        kind, expiry, strike = option
+        out += field(8, struct.pack('>BBI', kind, expiry, strike))
+    return out
+
+
+def rates(n, first, slope=0.0):
+    return [(6, first + slope * t) for t in range(1, n + 1)]
+
+
+def factors(n, step):
+    return [(5, step ** t) for t in range(1, n + 1)]
+
+
+FOUR = factors(4, 0.99)
+WIDE_FLOWS = [20_000_000] * 59 + [ONE + 20_000_000]
+
+
+def good():
+    yield 0, EXAMPLE
+    yield 0, job(f=12, b=0, s=10_000, quotes=rates(60, 0.02, 0.0002), flows=WIDE_FLOWS, option=(4, 48, 1_400_000_000))
+    yield 0, job(f=12, b=83, s=10_000, quotes=rates(60, 0.03), flows=WIDE_FLOWS, option=(3, 36, 1_300_000_000))
+    yield 0, job(f=4, b=6_000, s=12_000, quotes=factors(60, 0.991), flows=WIDE_FLOWS, option=(4, 60, 1_000_000_000))
+    yield 0, job(f=2, b=1_840, s=9_999, quotes=factors(20, 0.985), option=(3, 19, 1_000_000_000))
+    yield 0, job(f=2, b=1_841, s=9_999, quotes=factors(20, 0.985), option=(3, 19, 1_000_000_000))
+    yield 0, job(f=1, b=1_000, s=10_000, quotes=rates(8, -0.0025), option=(3, 5, 1_100_000_000))
+    yield 0, job(f=4, b=0, s=800, quotes=rates(9, -0.0025), option=(2, 9, 1_000_000_000))
+    yield 0, job(f=12, b=0, s=10_000, quotes=rates(12, 0.01, 0.003))
+    yield 0, job(f=1, b=100, s=15_000, quotes=rates(5, 0.04), option=(1, 3, 1_000_000_000))
+    yield 0, job(f=1, b=100, s=15_000, quotes=rates(5, 0.04), option=(2, 3, 1_200_000_000))
+    yield 0, job(f=1, b=100, s=15_000, quotes=rates(5, 0.04), option=(4, 0, 2_000_000_000))
+    yield 0, job(f=1, b=100, s=15_000, quotes=rates(5, 0.04), option=(1, 5, 0))
+    yield 0, job(f=2, s=0, quotes=factors(3, 0.98), option=(2, 3, 4 * ONE))
+    yield 0, job(f=12, s=50_000, quotes=[(6, 0.05)], option=(4, 1, ONE))
+    yield 0, job(f=1, s=50_000, quotes=rates(3, 0.1), flows=[0] * 3, option=(1, 2, 0))
+    yield 0, job(f=1, s=10_000, quotes=[(5, 1.0), (6, 0.0), (5, 0.97), (6, -0.0)])
+    yield 0, job(f=1, s=0, quotes=[(5, 0.1)], flows=[2 * ONE])
+    yield 0, job(f=1, s=0, quotes=factors(4, 0.999), flows=[2 * ONE] * 4, option=(3, 4, 0))
+    yield 0, job(f=1, s=0, quotes=[(5, 1.1)], flows=[2 * ONE], option=(4, 1, 4 * ONE))
+    yield 0, job(f=1, b=6_000, s=50_000, quotes=factors(13, 0.93), option=(4, 7, ONE))
+
+
+def malformed():
+    whole = job(quotes=FOUR, option=(1, 2, ONE))
+    plain = job(quotes=FOUR)
+    yield b''
+    yield b'\x01'
+    yield bytes(4_701)
+    yield EXAMPLE + bytes(4_701 - len(EXAMPLE))
+    yield EXAMPLE + bytes(4_700 - len(EXAMPLE))
+    yield bytes(range(256))
+    yield b'\xff' * 60
+    yield b'refused 1\n'
+    for end in (1, 3, 4, 8, 10, 20, 60, len(whole) - 9, len(whole) - 1):
+        yield whole[:len(whole) - end]
+    yield plain[:-1]
+    yield plain + b'\x00'
+    yield whole + b'\x08'
+    yield whole + field(8, struct.pack('>BBI', 1, 2, ONE))
+    yield plain[4:8] + plain[:4] + plain[8:]
+    yield plain[:20] + plain[20 + 44:] + plain[20:20 + 44]
+    yield b'\x01\x00\x02\x04\x04' + plain[4:]
+    yield plain[:20] + b'\x05\x00\x07' + plain[24:]
+    yield plain[:20] + b'\x05\x01\x08' + plain[23:]
+    yield plain[:20] + b'\x07' + plain[21:]
+    yield plain[:20] + b'\x09' + plain[21:]
+    yield job(quotes=FOUR, flows=[ONE] * 3)
+    yield job(quotes=FOUR, flows=[ONE] * 5)
+    yield job(n=5, quotes=FOUR, flows=[ONE] * 5)
+    yield job(n=0, quotes=[]) + b'\x00'
+    yield job(f=3, n=255, quotes=factors(254, 0.999))
+    yield job(f=3, b=9_999, s=99_999, quotes=[(5, NAN)], flows=[3 * ONE]) + b'\x08'
+
+
+def each_cause():
+    for f in (0, 3, 5, 6, 11, 13, 255):
+        yield 2, job(f=f, quotes=FOUR)
+    yield 3, job(n=0, quotes=[], flows=[])
+    yield 3, job(n=0, quotes=[], flows=[], option=(1, 0, ONE))
+    yield 3, job(quotes=factors(61, 0.995))
+    yield 3, job(quotes=factors(255, 0.999), option=(1, 1, ONE))
+    for b in (6_001, 65_535):
+        yield 4, job(b=b, quotes=FOUR)
+    for s in (50_001, 0xFFFFFFFF):
+        yield 5, job(s=s, quotes=FOUR)
+    for kind in (5, 6):
+        for pattern in (NAN, NAN | 1 << 63, INFINITY, INFINITY | 1 << 63, INFINITY + 1, reference.pattern_of(10.0) + 1,
+                        reference.pattern_of(-10.0) + 1, reference.pattern_of(1e300)):
+            yield 7, job(quotes=FOUR[:3] + [(kind, pattern)])
+    yield 7, job(f=1, quotes=[(6, -1.0)])
+    yield 7, job(f=1, quotes=[(6, 0.01), (6, -0.5)])
+    yield 7, job(f=1, quotes=[(6, 0.01), (6, -0.6)])
+    yield 7, job(f=1, quotes=[(6, 10.0)])
+    yield 7, job(f=1, quotes=[(6, -0.51)])
+    for figure in (0.0, -0.0, -0.98, 0.0999999994, 2.0000000006, 10.0, -10.0):
+        yield 7, job(quotes=[(5, figure)])
+    yield 8, job(f=1, s=50_000, quotes=factors(13, 0.95))
+    yield 8, job(f=1, b=20, s=50_000, quotes=factors(60, 0.97))
+    yield 9, job(f=1, s=50_000, quotes=factors(12, 0.95))
+    yield 9, job(quotes=[(5, 1.2)])
+    yield 9, job(quotes=[(5, 2.0)])
+    yield 9, job(f=1, s=0, quotes=[(5, 0.5), (5, 0.99)])
+    yield 9, job(f=4, s=5_000, quotes=rates(4, -0.3))
+    yield 10, job(quotes=FOUR, flows=[0, 0, 0, 2 * ONE + 1])
+    yield 10, job(quotes=FOUR, flows=[0xFFFFFFFF, 0, 0, 0])
+    for kind in (0, 5, 255):
+        yield 11, job(quotes=FOUR, option=(kind, 2, ONE))
+    for expiry in (5, 255):
+        yield 11, job(quotes=FOUR, option=(1, expiry, ONE))
+    for strike in (4 * ONE + 1, 0xFFFFFFFF):
+        yield 11, job(quotes=FOUR, option=(2, 2, strike))
+    yield 12, job(f=1, s=0, quotes=factors(5, 0.999), flows=[2 * ONE] * 5)
+    yield 12, job(f=1, s=0, quotes=factors(5, 0.999), flows=[2 * ONE] * 5, option=(2, 1, ONE))
+    rising = [(5, 0.5 * 1.1 ** t) for t in range(9)]
+    yield 12, job(f=1, s=0, quotes=rising, flows=[0] * 9, option=(2, 9, 4 * ONE))
+    yield 12, job(f=1, s=0, quotes=rising, flows=[0] * 9, option=(4, 9, 4 * ONE))
+    yield 0, job(f=1, s=0, quotes=rising, flows=[0] * 9, option=(2, 8, 4 * ONE - 500_000_000))
+    low = [(5, 0.101)] + [(5, 0.1)] * 5
+    yield 12, job(f=1, s=0, quotes=low, flows=[2 * ONE] * 6)
+    yield 12, job(f=1, s=0, quotes=low, flows=[2 * ONE] * 6, option=(4, 0, ONE))
+    yield 12, job(f=4, b=500, s=10_000, quotes=factors(30, 0.99), flows=[ONE] * 30, option=(3, 2, ONE))
+
+
+def pairs():
+    """Two or more causes in one job: the lowest number wins, wherever each stands."""
+    strange = [(5, NAN)]
+    yield 2, job(f=3, quotes=factors(61, 0.99))
+    yield 2, job(f=0, n=0, quotes=[], flows=[])
+    yield 2, job(f=7, b=6_001, s=50_001, quotes=FOUR + strange, flows=[3 * ONE] * 5, option=(9, 9, 0xFFFFFFFF))
+    yield 3, job(b=6_001, s=50_001, quotes=factors(61, 0.99))
+    yield 4, job(b=6_001, s=50_001, quotes=FOUR)
+    yield 4, job(b=7_000, quotes=strange)
+    yield 5, job(s=50_001, quotes=strange)
+    yield 5, job(f=1, s=50_001, quotes=factors(14, 0.95), option=(0, 0, 0))
+    yield 7, job(f=1, s=50_000, quotes=factors(12, 0.95) + strange)
+    yield 7, job(quotes=[(5, 1.2)] + strange)
+    yield 7, job(quotes=FOUR[:3] + strange, flows=[3 * ONE, 0, 0, 0])
+    yield 8, job(f=1, s=50_000, quotes=[(5, 1.2)] + factors(12, 0.95))
+    yield 8, job(f=1, s=50_000, quotes=factors(13, 0.95), flows=[3 * ONE] * 13, option=(0, 0, 0))
+    yield 9, job(quotes=FOUR[:3] + [(5, 1.2)], flows=[3 * ONE, 0, 0, 0])
+    yield 9, job(quotes=[(5, 1.2)], option=(0, 0, 0))
+    yield 9, job(quotes=[(5, 1.2)] * 5, flows=[2 * ONE] * 5)
+    yield 10, job(quotes=FOUR, flows=[0, 0, 0, 3 * ONE], option=(0, 2, ONE))
+    yield 10, job(quotes=factors(6, 0.99), flows=[2 * ONE] * 5 + [3 * ONE])
+    yield 11, job(quotes=factors(6, 0.999), flows=[2 * ONE] * 6, option=(1, 7, ONE))
+    yield 11, job(quotes=factors(6, 0.999), flows=[2 * ONE] * 6, option=(5, 1, ONE))
+
+
+def jobs():
+    yield from good()
+    yield from ((1, made) for made in malformed())
+    yield from each_cause()
+    yield from pairs()
+
+
+def number_of(sheet):
+    return int(sheet.split()[1]) if sheet.startswith(b'refused ') else 0
+
+
+def main():
+    stdin, stdout, wide, numbers = b'', b'', 0, set()
+    for number, made in jobs():
+        sheet = reference.sheet(made)
+        if number_of(sheet) != number:
+            raise SystemExit('a job meant to give %d gives %d: %s' % (number, number_of(sheet), made.hex()))
+        wide += sheet.count(b'\nnode') >= 3_599
+        numbers.add(number)
+        stdin += struct.pack('>H', len(made)) + made
+        stdout += sheet
+    if len(stdin) > MOST_STDIN or wide > MOST_WIDE_JOBS or numbers != {0, 1, 2, 3, 4, 5, 7, 8, 9, 10, 11, 12}:
+        raise SystemExit('too long, too wide or a number missing')
+    for name, content in (('stdin', stdin), ('stdout', stdout)):
+        with open(os.path.join(HERE, name), 'wb') as file:
+            file.write(content)
+    print(len(stdin), 'bytes of jobs,', len(stdout), 'bytes of sheets')
+
+
+if __name__ == '__main__':
+    main()
