@@ -148,7 +148,7 @@ def each_cause():
         yield 11, job(quotes=FOUR, option=(2, 2, strike))
     yield 12, job(f=1, s=0, quotes=factors(5, 0.999), flows=[2 * ONE] * 5)
     yield 12, job(f=1, s=0, quotes=factors(5, 0.999), flows=[2 * ONE] * 5, option=(2, 1, ONE))
-    rising = [(5, 0.5 * 1.1 ** t) for t in range(9)]
+    rising = [(5, 0.5 * 1.0999 ** t) for t in range(9)]
     yield 12, job(f=1, s=0, quotes=rising, flows=[0] * 9, option=(2, 9, 4 * ONE))
     yield 12, job(f=1, s=0, quotes=rising, flows=[0] * 9, option=(4, 9, 4 * ONE))
     yield 0, job(f=1, s=0, quotes=rising, flows=[0] * 9, option=(2, 8, 4 * ONE - 500_000_000))
