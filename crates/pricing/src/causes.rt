@@ -25,7 +25,22 @@ pub(crate) fn all_between(low: u64, high: u64, xs: &[u64], count: usize) -> bool
     true
 }
 
-// The greatest of a row, 0 where it is empty.
+// The next place with a number above the greatest so far; the length where there is none.
+fn next_above(xs: &[u64], best: u64, from: usize) -> usize
+    requires { ⌜ (from ≤ length (now xs)) × (best ≡ greatest from (values (now xs))) ⌝ }
+    ensures { λ r. ⌜ (from ≤ r) × (r ≤ length (now (xs .entry))) × (best ≡ greatest r (values (now (xs .entry)))) ⌝ }
+{
+    let mut k: usize = from;
+    while k < xs.len() {
+        if best < xs[k] {
+            return k;
+        }
+        k += 1;
+    }
+    k
+}
+
+// The greatest of a row, 0 where it is empty. A search between the few places where it grows costs less than a choice at each.
 pub(crate) fn greatest_of(xs: &[u64]) -> u64
     ensures { λ r. ⌜ r ≡ greatest (length (now (xs .entry))) (values (now (xs .entry))) ⌝ }
 {
@@ -36,7 +51,7 @@ pub(crate) fn greatest_of(xs: &[u64]) -> u64
         if best < x {
             best = x;
         }
-        k += 1;
+        k = next_above(xs, best, k + 1);
     }
     best
 }

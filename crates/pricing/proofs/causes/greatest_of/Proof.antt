@@ -26,20 +26,23 @@ mul-x c = omega arith
 shared-slice-read-x : tie.Need-shared-slice-read-x Inv-loop μ-loop
 shared-slice-read-x c = omega arith
 
-add-k : tie.Need-add-k Inv-loop μ-loop
-add-k c = omega arith
+add-next-above : tie.Need-add-next-above Inv-loop μ-loop
+add-next-above c = omega arith
+
+next-above-requires : tie.Need-next-above-requires Inv-loop μ-loop
+next-above-requires c κs =
+    let e = greatest-next (c .before .before .before .loop .k) (values (c .before .before .before .before .before .args .xs .now)) in
+    ⊎-elim (λ w. omega arith) (λ w. omega arith) (c .if1 .came)
 
 loop-less : tie.Need-loop-less Inv-loop μ-loop
-loop-less c = omega arith
+loop-less c = omega (arith, c .next-above .ensures .0, c .next-above .ensures .1)
 
 loop-again : tie.Need-loop-again Inv-loop μ-loop
-loop-again c =
-    let e = greatest-next (c .before .before .before .loop .k) (values (c .before .before .before .before .args .xs .now)) in
-    ⊎-elim (λ w. omega arith) (λ w. omega arith) (c .if1 .came)
+loop-again c = (c .next-above .ensures .1, c .next-above .ensures .2)
 
 returns : tie.Need-returns Inv-loop μ-loop
 returns c =
-    c .before .loop .inv .1 ∙ ap (λ (k : ℕ). greatest k (values (c .before .before .args .xs .now))) (omega arith)
+    c .before .loop .inv .1 ∙ ap (λ (k : ℕ). greatest k (values (c .before .before .before .args .xs .now))) (omega arith)
 
 pub greatest-of-spec : {M : Type 1} → statement M
 greatest-of-spec =
@@ -50,7 +53,8 @@ greatest-of-spec =
     loop-holds
     mul-x
     shared-slice-read-x
-    add-k
+    add-next-above
+    next-above-requires
     loop-less
     loop-again
     returns)

@@ -1,0 +1,258 @@
+/* The library against plain C, and against QuantLib where it is there: the same work, taken in turn, medians of many turns. */
+#define _POSIX_C_SOURCE 200809L
+#include "../c/mixegorta.h"
+#include "plain.h"
+#include <math.h>
+#include <stdio.h>
+#include <stdlib.h>
+#include <string.h>
+#include <time.h>
+
+#define ONE 1000000000u
+#define MOST_STEPS 60
+#define MOST_DISCOUNTS 3600
+#define MOST_PRICES 3721
+#define MOST_TURNS 1001
+#define CURVES 2000
+
+struct work {
+    uint64_t f, b, s, kind, strike;
+    size_t n, expiry;
+    uint64_t rows[MOST_STEPS], flows[MOST_STEPS];
+    uint8_t kinds[MOST_STEPS];
+    double figures[MOST_STEPS];
+};
+
+struct result {
+    uint64_t number, discounts[MOST_DISCOUNTS], prices[MOST_PRICES];
+    struct plain_price bond, option;
+};
+
+enum part { FIT = 1, BOND = 2, OPTION = 4, WHOLE_JOB = 7 };
+
+static struct plain_price of_library(struct mixegorta_price p)
+{
+    const struct plain_price out = {p.number, p.value, p.bound};
+    return out;
+}
+
+static void by_library(const struct work *w, struct result *r, int parts)
+{
+    if (parts & FIT)
+        r->number = mixegorta_fit(w->f, w->n, w->b, w->s, w->rows, w->n, w->kinds, w->n, w->figures, w->n, r->discounts, MOST_DISCOUNTS,
+                                  r->prices, MOST_PRICES);
+    if (parts & BOND)
+        r->bond = of_library(mixegorta_bond_price(w->n, w->b, r->discounts, MOST_DISCOUNTS, w->flows, w->n));
+    if (parts & OPTION)
+        r->option = of_library(mixegorta_option_price(w->n, w->b, r->discounts, MOST_DISCOUNTS, w->flows, w->n, w->kind, w->expiry, w->strike));
+}
+
+static void by_plain_c(const struct work *w, struct result *r, int parts)
+{
+    if (parts & FIT)
+        r->number = plain_fit(w->f, w->n, w->b, w->s, w->rows, w->kinds, w->figures, r->discounts, r->prices);
+    if (parts & BOND)
+        r->bond = plain_bond(w->n, w->b, r->discounts, w->flows);
+    if (parts & OPTION)
+        r->option = plain_option(w->n, w->b, r->discounts, w->flows, w->kind, w->expiry, w->strike);
+}
+
+static double uniform(void)
+{
+    static uint64_t state = 20240229;
+    state = state * 6364136223846793005u + 1442695040888963407u;
+    return (double)(state >> 11) / 9007199254740992.0;
+}
+
+/* Monthly steps, a rising curve quoted as rates, a coupon bond and an American call on it. */
+static struct work work_of(size_t n, uint64_t b, double level, double slope)
+{
+    struct work w = {.f = 12, .b = b, .s = 8000, .kind = 3, .strike = ONE, .n = n, .expiry = n - n / 5};
+    for (size_t t = 1; t <= n; t++) {
+        w.rows[t - 1] = t;
+        w.kinds[t - 1] = 6;
+        w.figures[t - 1] = level + slope * (double)t;
+        w.flows[t - 1] = 3000000 + (t == n ? ONE : 0);
+    }
+    return w;
+}
+
+static void must_be_equal(const struct work *w, const struct result *x, const struct result *y)
+{
+    if (memcmp(x, y, sizeof *x) == 0)
+        return;
+    fprintf(stderr, "DIFFERENT at n = %zu, b = %llu: number %llu and %llu, bond %llu and %llu, option %llu and %llu\n", w->n,
+            (unsigned long long)w->b, (unsigned long long)x->number, (unsigned long long)y->number, (unsigned long long)x->bond.value,
+            (unsigned long long)y->bond.value, (unsigned long long)x->option.value, (unsigned long long)y->option.value);
+    exit(1);
+}
+
+/* Both on many curves, accepted and refused: all that they write and answer must be equal. */
+static void compare_results(void)
+{
+    static struct result x, y;
+    static const uint64_t reversions[] = {0, 1, 31, 83, 500, 1000, 1840, 1841, 6000}, frequencies[] = {12, 4, 2, 1};
+    int accepted = 0;
+    for (int i = 0; i < CURVES; i++) {
+        struct work w = work_of(1 + (size_t)(uniform() * 60), reversions[i % 9], uniform() * 0.1 - 0.02, uniform() * 0.002 - 0.0005);
+        w.f = frequencies[i % 4];
+        w.kind = 1 + (uint64_t)(i / 4 % 4);
+        w.s = (uint64_t)(uniform() * 40000);
+        w.expiry = (size_t)(uniform() * (double)(w.n + 1));
+        w.strike = (uint64_t)(uniform() * 2e9);
+        memset(&x, 0, sizeof x);
+        memset(&y, 0, sizeof y);
+        by_library(&w, &x, WHOLE_JOB);
+        by_plain_c(&w, &y, WHOLE_JOB);
+        must_be_equal(&w, &x, &y);
+        accepted += x.number == 0;
+    }
+    printf("results of library and plain C equal on %d curves, %d of them accepted\n\n", CURVES, accepted);
+}
+
+static double now(void)
+{
+    struct timespec t;
+    clock_gettime(CLOCK_PROCESS_CPUTIME_ID, &t);
+    return (double)t.tv_sec * 1e6 + (double)t.tv_nsec / 1e3;
+}
+
+static int ascending(const void *a, const void *b)
+{
+    const double x = *(const double *)a, y = *(const double *)b;
+    return (x > y) - (x < y);
+}
+
+static double median(double *list, int count)
+{
+    qsort(list, (size_t)count, sizeof *list, ascending);
+    return list[count / 2];
+}
+
+typedef void (*worker)(const struct work *, struct result *, int);
+
+static double microseconds(worker run, const struct work *w, struct result *r, int parts, int repeats)
+{
+    const double start = now();
+    for (int i = 0; i < repeats; i++)
+        run(w, r, parts);
+    return (now() - start) / repeats;
+}
+
+struct timing {
+    double first, second, ratio;
+};
+
+/* The two workers in turn; the ratio is the median of the turns' own ratios. */
+static struct timing side_by_side(worker a, worker b, const struct work *w, int parts, int turns, int repeats)
+{
+    static struct result x, y;
+    static double first[MOST_TURNS], second[MOST_TURNS], ratio[MOST_TURNS];
+    memset(&x, 0, sizeof x);
+    memset(&y, 0, sizeof y);
+    a(w, &x, WHOLE_JOB);
+    b(w, &y, WHOLE_JOB);
+    for (int i = 0; i < turns; i++) {
+        first[i] = microseconds(a, w, &x, parts, repeats);
+        second[i] = microseconds(b, w, &y, parts, repeats);
+        ratio[i] = first[i] / second[i];
+    }
+    if (b == by_plain_c)
+        must_be_equal(w, &x, &y);
+    const struct timing out = {median(first, turns), median(second, turns), median(ratio, turns)};
+    return out;
+}
+
+static void against_plain_c(int turns)
+{
+    static const uint64_t reversions[] = {0, 83, 1000};
+    static const struct { const char *name; int parts; } rows[] = {
+        {"fit, bond and option", WHOLE_JOB}, {"fit", FIT}, {"bond", BOND}, {"American option", OPTION}};
+    printf("n = 60                            library        plain C      ratio\n");
+    for (int i = 0; i < 3; i++)
+        for (int k = 0; k < 4; k++) {
+            const struct work w = work_of(60, reversions[i], 0.02, 0.0003);
+            const struct timing t = side_by_side(by_library, by_plain_c, &w, rows[k].parts, turns, 20);
+            printf("b = %-5llu %-22s %8.1f us    %8.1f us     %6.2f\n", (unsigned long long)w.b, rows[k].name, t.first, t.second, t.ratio);
+        }
+}
+
+#define SIZES 4
+
+/* Every size in each turn, so that a busy machine slows them alike. */
+static void growth(int turns)
+{
+    static struct result x;
+    static double time[SIZES][MOST_TURNS], against[SIZES][MOST_TURNS], over[SIZES][MOST_TURNS];
+    printf("\nfit, bond and option              library        plain C      ratio    library, times n = 15\n");
+    for (uint64_t b = 0; b <= 1000; b += 1000) {
+        for (int i = 0; i < turns; i++)
+            for (int k = 0; k < SIZES; k++) {
+                const struct work w = work_of(15 * (size_t)(k + 1), b, 0.02, 0.0003);
+                time[k][i] = microseconds(by_library, &w, &x, WHOLE_JOB, 20);
+                against[k][i] = microseconds(by_plain_c, &w, &x, WHOLE_JOB, 20);
+                over[k][i] = time[k][i] / time[0][i];
+            }
+        for (int k = 0; k < SIZES; k++) {
+            const double first = median(time[k], turns), second = median(against[k], turns);
+            printf("b = %-5llu n = %-18d %8.1f us    %8.1f us     %6.2f    %6.2f\n", (unsigned long long)b, 15 * (k + 1), first, second,
+                   first / second, median(over[k], turns));
+        }
+    }
+}
+
+#ifdef HAVE_QUANTLIB
+void quantlib_curve(size_t n, double step, const double *factors);
+double quantlib_prices(size_t n, double step, double reversion, double volatility, const double *flows, size_t expiry, double strike,
+                       double *bond_price);
+
+/* A reversion of 0 is no reversion of QuantLib's tree; this one gives the same tree. */
+static void by_quantlib(const struct work *w, struct result *r, int parts)
+{
+    double flows[MOST_STEPS], bond;
+    (void)parts;
+    const double step = 1.0 / (double)w->f, reversion = w->b ? (double)w->b / 1e4 / step : 1e-9;
+    for (size_t t = 0; t < w->n; t++)
+        flows[t] = (double)w->flows[t] / ONE;
+    const double option = quantlib_prices(w->n, step, reversion, (double)w->s / 1e6, flows, w->expiry, (double)w->strike / ONE, &bond);
+    r->bond.value = (uint64_t)llround(bond * ONE);
+    r->option.value = (uint64_t)llround(option * ONE);
+}
+
+static void against_quantlib(int turns)
+{
+    static struct result x, y;
+    static const uint64_t reversions[] = {0, 83, 1000};
+    printf("\nfit, bond and option, n = 60      library       QuantLib    times as fast    bond, option (library; QuantLib)\n");
+    for (int i = 0; i < 3; i++) {
+        const struct work w = work_of(60, reversions[i], 0.02, 0.0003);
+        double factors[MOST_STEPS];
+        for (size_t t = 1; t <= w.n; t++)
+            factors[t - 1] = 1 / (1 + w.figures[t - 1] * (double)t / (double)w.f);
+        quantlib_curve(w.n, 1.0 / (double)w.f, factors);
+        const struct timing t = side_by_side(by_quantlib, by_library, &w, WHOLE_JOB, turns, 2);
+        by_library(&w, &x, WHOLE_JOB);
+        by_quantlib(&w, &y, WHOLE_JOB);
+        printf("b = %-5llu %22s %8.1f us    %8.1f us     %8.1f         %.9f %.9f; %.9f %.9f\n", (unsigned long long)w.b, "", t.second,
+               t.first, t.ratio, x.bond.value / 1e9, x.option.value / 1e9, y.bond.value / 1e9, y.option.value / 1e9);
+    }
+}
+#else
+static void against_quantlib(int turns)
+{
+    (void)turns;
+    printf("\nQuantLib is not installed: not compared\n");
+}
+#endif
+
+int main(int argc, char **argv)
+{
+    int turns = argc > 1 ? atoi(argv[1]) : 201;
+    if (turns < 1 || turns > MOST_TURNS)
+        return fprintf(stderr, "turns: 1 to %d\n", MOST_TURNS), 2;
+    compare_results();
+    against_plain_c(turns);
+    growth(turns);
+    against_quantlib(turns / 4 + 1);
+    return 0;
+}

@@ -1,0 +1,317 @@
+/* Document 01's fit, bond and option, written straight down. All sums fit 64 bits once the limits are checked. */
+#include "plain.h"
+#include <math.h>
+#include <string.h>
+
+#define ONE 1000000000u
+#define WHOLE 600000000u
+#define MOST_STEPS 60
+#define MOST_NODES (2 * MOST_STEPS + 1)
+#define DISCOUNT_LIMIT 1100000000u
+#define VALUE_LIMIT (8ull * ONE)
+#define FLOW_LIMIT (2ull * ONE)
+#define STRIKE_LIMIT (4ull * ONE)
+
+typedef unsigned __int128 wide;
+
+/* Probabilities by node, from the lowest of the widest row. */
+struct branch {
+    uint64_t down, middle, up;
+};
+
+static size_t half_width(uint64_t b, size_t row)
+{
+    size_t highest = b ? 1840 / b + 1 : row;
+    return row < highest ? row : highest;
+}
+
+static struct branch branch_at(int64_t j, uint64_t b, int64_t highest)
+{
+    const int64_t z = j * (int64_t)b, square = 3 * z * z;
+    struct branch p;
+    if (b && j == highest) {
+        p.up = 700000000 + square - 90000 * z;
+        p.middle = -200000000 - 2 * square + 120000 * z;
+        p.down = 100000000 + square - 30000 * z;
+    } else if (b && j == -highest) {
+        p.up = 100000000 + square + 30000 * z;
+        p.middle = -200000000 - 2 * square - 120000 * z;
+        p.down = 700000000 + square + 90000 * z;
+    } else {
+        p.up = 100000000 + square - 30000 * z;
+        p.middle = 400000000 - 2 * square;
+        p.down = 100000000 + square + 30000 * z;
+    }
+    return p;
+}
+
+static void branches(struct branch *table, uint64_t b, size_t w)
+{
+    const int64_t highest = b ? 1840 / (int64_t)b + 1 : 0;
+    for (size_t k = 0; k <= 2 * w; k++)
+        table[k] = branch_at((int64_t)k - (int64_t)w, b, highest);
+}
+
+/* A float times one, to the nearest; 0 for what is refused anyway. */
+static int refused_figure(double x, int64_t *out)
+{
+    if (!(fabs(x) <= 10.0))
+        return 1;
+    int exponent;
+    const double mantissa = frexp(fabs(x), &exponent);
+    const uint64_t significand = (uint64_t)ldexp(mantissa, 53);
+    const int shift = 53 - exponent;
+    int64_t size = 0;
+    if (shift <= 100)
+        size = (int64_t)((((wide)significand * ONE << 1) + ((wide)1 << shift)) >> (shift + 1));
+    *out = signbit(x) ? -size : size;
+    return 0;
+}
+
+static uint64_t quote(uint64_t f, uint64_t t, uint8_t kind, double x, uint64_t *out)
+{
+    int64_t figure;
+    if (refused_figure(x, &figure) || (kind != 5 && kind != 6))
+        return 7;
+    if (kind == 6) {
+        const int64_t divisor = (int64_t)(f * ONE) + (int64_t)t * figure;
+        if (divisor <= 0)
+            return 7;
+        const uint64_t p = (uint64_t)ONE * ONE * f / (uint64_t)divisor;
+        figure = p > 2ull * ONE ? 0 : (int64_t)p;
+    }
+    if (figure < 100000000 || figure > 2000000000)
+        return 7;
+    *out = (uint64_t)figure;
+    return 0;
+}
+
+static uint64_t spacing(uint64_t f, uint64_t s)
+{
+    const uint64_t square = 3000000 * s * s / (f * f * f);
+    uint64_t h = (uint64_t)sqrt((double)square);
+    while (h * h > square)
+        h--;
+    while ((h + 1) * (h + 1) <= square)
+        h++;
+    return h;
+}
+
+/* Factors of nodes -w to w. */
+static void factors(uint64_t *table, size_t w, uint64_t h)
+{
+    static const uint64_t divisors[13] = {0, ONE, 2ull * ONE, 3ull * ONE, 4ull * ONE, 5ull * ONE, 6ull * ONE, 7ull * ONE,
+                                          8ull * ONE, 9ull * ONE, 10ull * ONE, 11ull * ONE, 12ull * ONE};
+    for (size_t j = 0; j <= w; j++) {
+        const uint64_t y = j * h;
+        uint64_t term = ONE, even = ONE, odd = 0;
+        for (int k = 1; k <= 12; k++) {
+            term = term * y / divisors[k];
+            if (k % 2)
+                odd += term;
+            else
+                even += term;
+        }
+        table[w - j] = even + odd;
+        table[w + j] = even - odd;
+    }
+}
+
+/* One row: its discounts, and the next row's state prices. */
+static uint64_t step(size_t w, size_t next, uint64_t quote, const uint64_t *u, const struct branch *p, const uint64_t *row,
+                     uint64_t *discounts, uint64_t *later)
+{
+    const size_t count = 2 * w + 1;
+    uint64_t z = 0, sums[MOST_NODES] = {0};
+    for (size_t k = 0; k < count; k++)
+        z += row[k] * u[k];
+    z /= ONE;
+    for (size_t k = 0; k < count; k++) {
+        const uint64_t v = quote * u[k] / z;
+        if (v == 0 || v > DISCOUNT_LIMIT)
+            return 9;
+        discounts[k] = v;
+        const uint64_t carried = row[k] * v / ONE;
+        size_t low = k;
+        if (next == w)
+            low = k == 0 ? 0 : k == count - 1 ? k - 2 : k - 1;
+        sums[low] += p[k].down * carried;
+        sums[low + 1] += p[k].middle * carried;
+        sums[low + 2] += p[k].up * carried;
+    }
+    for (size_t k = 0; k <= 2 * next; k++)
+        later[k] = sums[k] / WHOLE;
+    return 0;
+}
+
+uint64_t plain_fit(uint64_t f, size_t n, uint64_t b, uint64_t s, const uint64_t *rows, const uint8_t *kinds,
+                   const double *figures, uint64_t *discounts, uint64_t *state_prices)
+{
+    uint64_t quotes[MOST_STEPS], u[MOST_NODES];
+    struct branch p[MOST_NODES];
+    if (f != 1 && f != 2 && f != 4 && f != 12)
+        return 2;
+    if (n < 1 || n > MOST_STEPS)
+        return 3;
+    if (b > 6000)
+        return 4;
+    if (s > 50000)
+        return 5;
+    for (size_t t = 1; t <= n; t++)
+        if (rows[t - 1] != t)
+            return 6;
+    for (size_t t = 1; t <= n; t++)
+        if (quote(f, t, kinds[t - 1], figures[t - 1], &quotes[t - 1]))
+            return 7;
+    const size_t widest = half_width(b, n - 1);
+    const uint64_t h = spacing(f, s);
+    if (widest * h > ONE)
+        return 8;
+    factors(u, widest, h);
+    branches(p, b, widest);
+    uint64_t *const first_discount = discounts, *const first_price = state_prices;
+    state_prices[0] = ONE;
+    for (size_t i = 0; i < n; i++) {
+        const size_t w = half_width(b, i), next = half_width(b, i + 1), from = widest - w;
+        uint64_t *later = state_prices + 2 * w + 1;
+        if (step(w, next, quotes[i], u + from, p + from, state_prices, discounts, later)) {
+            size_t needed = 0;
+            for (size_t row = 0; row < n; row++)
+                needed += 2 * half_width(b, row) + 1;
+            memset(first_discount, 0, needed * sizeof *discounts);
+            memset(first_price, 0, (needed + 2 * half_width(b, n) + 1) * sizeof *discounts);
+            return 9;
+        }
+        discounts += 2 * w + 1;
+        state_prices = later;
+    }
+    return 0;
+}
+
+/* A row rolled back in place: values[k] is read at the node's branches and written at the node. */
+static uint64_t roll(size_t w, size_t next, const struct branch *p, const uint64_t *discounts, const uint64_t *later, uint64_t flow,
+                     uint64_t *values)
+{
+    const size_t count = 2 * w + 1;
+    uint64_t above = 0;
+    for (size_t k = 0; k < count; k++) {
+        size_t low = k;
+        if (next == w)
+            low = k == 0 ? 0 : k == count - 1 ? k - 2 : k - 1;
+        const uint64_t sum = p[k].down * later[low] + p[k].middle * later[low + 1] + p[k].up * later[low + 2];
+        values[k] = sum / WHOLE * discounts[k] / ONE + flow;
+        above |= values[k] > VALUE_LIMIT;
+    }
+    return above;
+}
+
+static uint64_t rows_refused(size_t n, uint64_t b, const uint64_t *discounts, const uint64_t *flows, size_t *needed)
+{
+    if (n < 1 || n > MOST_STEPS)
+        return 3;
+    if (b > 6000)
+        return 4;
+    *needed = 0;
+    for (size_t i = 0; i < n; i++)
+        *needed += 2 * half_width(b, i) + 1;
+    for (size_t k = 0; k < *needed; k++)
+        if (discounts[k] == 0 || discounts[k] > DISCOUNT_LIMIT)
+            return 9;
+    for (size_t t = 0; t < n; t++)
+        if (flows[t] > FLOW_LIMIT)
+            return 10;
+    return 0;
+}
+
+static uint64_t next_bound(const uint64_t *discounts, size_t count, uint64_t bound)
+{
+    uint64_t greatest = 0;
+    for (size_t k = 0; k < count; k++)
+        greatest = discounts[k] > greatest ? discounts[k] : greatest;
+    return (greatest * bound + ONE - 1) / ONE + 3;
+}
+
+static const struct plain_price none = {0, 0, 0};
+
+static struct plain_price refused(uint64_t number)
+{
+    struct plain_price price = none;
+    price.number = number;
+    return price;
+}
+
+struct plain_price plain_bond(size_t n, uint64_t b, const uint64_t *discounts, const uint64_t *flows)
+{
+    uint64_t rows[2][MOST_NODES];
+    struct branch p[MOST_NODES];
+    size_t start;
+    struct plain_price out = none;
+    const uint64_t number = rows_refused(n, b, discounts, flows, &start);
+    if (number)
+        return refused(number);
+    const size_t widest = half_width(b, n - 1);
+    branches(p, b, widest);
+    uint64_t *later = rows[0], *now = rows[1];
+    for (size_t k = 0; k <= 2 * half_width(b, n); k++)
+        later[k] = flows[n - 1];
+    for (size_t i = n; i-- > 0;) {
+        const size_t w = half_width(b, i), next = half_width(b, i + 1);
+        start -= 2 * w + 1;
+        if (roll(w, next, p + (widest - w), discounts + start, later, i ? flows[i - 1] : 0, now))
+            return refused(12);
+        out.bound = next_bound(discounts + start, 2 * w + 1, out.bound);
+        uint64_t *swap = later;
+        later = now;
+        now = swap;
+    }
+    out.value = later[0];
+    return out;
+}
+
+static uint64_t exercise(int call, uint64_t bond, uint64_t strike)
+{
+    if (call)
+        return bond > strike ? bond - strike : 0;
+    return strike > bond ? strike - bond : 0;
+}
+
+struct plain_price plain_option(size_t n, uint64_t b, const uint64_t *discounts, const uint64_t *flows, uint64_t kind,
+                                size_t expiry, uint64_t strike)
+{
+    uint64_t bonds[2][MOST_NODES], options[2][MOST_NODES];
+    struct branch p[MOST_NODES];
+    size_t start;
+    struct plain_price out = none;
+    const uint64_t number = rows_refused(n, b, discounts, flows, &start);
+    if (number)
+        return refused(number);
+    if (kind < 1 || kind > 4 || expiry > n || strike > STRIKE_LIMIT)
+        return refused(11);
+    const int call = kind == 1 || kind == 3, american = kind >= 3;
+    const size_t widest = half_width(b, n - 1), last = 2 * half_width(b, n) + 1;
+    branches(p, b, widest);
+    int at = 0;
+    for (size_t k = 0; k < last; k++)
+        bonds[at][k] = flows[n - 1];
+    if (expiry == n)
+        for (size_t k = 0; k < last; k++)
+            options[at][k] = exercise(call, flows[n - 1], strike);
+    for (size_t i = n; i-- > 0; at = !at) {
+        const size_t w = half_width(b, i), next = half_width(b, i + 1), from = widest - w, count = 2 * w + 1;
+        uint64_t *bond = bonds[!at], *option = options[!at], above = 0;
+        start -= count;
+        above |= roll(w, next, p + from, discounts + start, bonds[at], i ? flows[i - 1] : 0, bond);
+        if (i < expiry)
+            above |= roll(w, next, p + from, discounts + start, options[at], 0, option);
+        if (i == expiry || (i < expiry && american))
+            for (size_t k = 0; k < count; k++) {
+                const uint64_t now = exercise(call, bond[k], strike);
+                option[k] = i < expiry && option[k] > now ? option[k] : now;
+            }
+        if (above)
+            return refused(12);
+        out.bound = next_bound(discounts + start, count, out.bound);
+    }
+    out.value = options[at][0];
+    return out;
+}

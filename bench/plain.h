@@ -1,0 +1,17 @@
+/* Document 01's fit, bond and option in plain C. */
+#ifndef PLAIN_H
+#define PLAIN_H
+#include <stddef.h>
+#include <stdint.h>
+
+struct plain_price {
+    uint64_t number, value, bound;
+};
+
+uint64_t plain_fit(uint64_t f, size_t n, uint64_t b, uint64_t s, const uint64_t *rows, const uint8_t *kinds,
+                   const double *figures, uint64_t *discounts, uint64_t *state_prices);
+struct plain_price plain_bond(size_t n, uint64_t b, const uint64_t *discounts, const uint64_t *flows);
+struct plain_price plain_option(size_t n, uint64_t b, const uint64_t *discounts, const uint64_t *flows, uint64_t kind,
+                                size_t expiry, uint64_t strike);
+
+#endif

@@ -1,0 +1,239 @@
+// What is compared of one input. A difference panics.
+use crate::engine;
+use crate::exact::Exact;
+use crate::inputs::Case;
+use crate::natural::Natural;
+use crate::rules::{self, Curve, Fitted, Outcome, Tree, ONE};
+use std::collections::BTreeMap;
+use std::fmt;
+
+const UNTOUCHED: u64 = 0xA5A5_5A5A_DEAD_BEEF;
+const GUARD: usize = 4;
+const REPRICED_WITHIN: u64 = 300;
+
+#[derive(Default)]
+pub struct Tally {
+    results: BTreeMap<&'static str, BTreeMap<u64, u64>>,
+    shapes: BTreeMap<&'static str, (u64, u64)>,
+    exact: BTreeMap<&'static str, u64>,
+}
+
+impl Tally {
+    fn result<T>(&mut self, entry: &'static str, outcome: &Outcome<T>) {
+        let number = outcome.as_ref().err().copied().unwrap_or(0);
+        *self.results.entry(entry).or_default().entry(number).or_default() += 1;
+    }
+
+    fn exact(&mut self, what: &'static str) {
+        *self.exact.entry(what).or_default() += 1;
+    }
+}
+
+impl fmt::Display for Tally {
+    fn fmt(&self, f: &mut fmt::Formatter) -> fmt::Result {
+        writeln!(f, "results compared, by refusal number (0: accepted)")?;
+        for (entry, numbers) in &self.results {
+            let words: Vec<String> = numbers.iter().map(|(number, count)| format!("{number}: {count}")).collect();
+            writeln!(f, "  {entry:<22}{}", words.join("  "))?;
+        }
+        writeln!(f, "curves, of which fitted")?;
+        for (shape, (all, fitted)) in &self.shapes {
+            writeln!(f, "  {shape:<22}{all}, {fitted}")?;
+        }
+        writeln!(f, "held against exact fractions, multiplied out")?;
+        for (what, count) in &self.exact {
+            writeln!(f, "  {what:<34}{count}")?;
+        }
+        Ok(())
+    }
+}
+
+pub fn all(case: &Case, tally: &mut Tally) {
+    shape_of_tree(case, tally);
+    quotes(case, tally);
+    let fitted = fit(case, tally);
+    views(case, tally);
+    match &fitted {
+        Some(fitted) => {
+            laws_of_fit(case, fitted, tally);
+            prices(case, &fitted.discounts, "on a fit", tally);
+        }
+        None => rates(&case.lent),
+    }
+    prices(case, &case.lent, "on lent", tally);
+    weighing(case, fitted.as_ref(), tally);
+}
+
+fn agree<T: PartialEq + fmt::Debug>(entry: &'static str, engine: Outcome<T>, rules: Outcome<T>, tally: &mut Tally) -> Option<T> {
+    assert_eq!(engine, rules, "{entry}: library left, rules right");
+    tally.result(entry, &rules);
+    rules.ok()
+}
+
+// Rows, counts, branches
+
+fn shape_of_tree(case: &Case, tally: &mut Tally) {
+    let (tree, row, node) = (case.fit.tree, case.row, case.node);
+    let b = tree.reversion;
+    let shown = rules::lowest(&[(4, rules::reversion_wrong(b)), (6, row > 60)]);
+    agree("half width", engine::half_width(b, row), shown.map(|_| tree.half_width(row) as u64), tally);
+    agree("node count", engine::node_count(b, row), shown.map(|_| tree.node_count(row) as u64), tally);
+    agree("row start", engine::row_start(b, row), shown.map(|_| tree.start(row) as u64), tally);
+    let whole = rules::lowest(&[(3, rules::steps_wrong(tree.steps)), (4, rules::reversion_wrong(b))]);
+    agree("discounts needed", engine::discounts_needed(&tree), whole.map(|_| tree.discounts_needed() as u64), tally);
+    agree("state prices needed", engine::state_prices_needed(&tree), whole.map(|_| tree.state_prices_needed() as u64), tally);
+    let wide = row <= 59 && b <= 6_000 && node.unsigned_abs() <= tree.half_width(row) as u64;
+    let there = rules::lowest(&[(4, b > 6_000), (6, !wide)]);
+    let branch = there.map(|_| {
+        let branches = tree.branches(node);
+        (branches[2].0, branches.map(|to| to.1))
+    });
+    agree("branches", engine::branches(b, row, node), branch, tally);
+}
+
+// Quotes and fit
+
+fn quotes(case: &Case, tally: &mut Tally) {
+    let (f, curve) = (case.fit.frequency, &case.fit.curve);
+    let Curve { rows, kinds, figures } = curve;
+    for i in 0..rows.len().min(kinds.len()).min(figures.len()) {
+        let rules = rules::lone_quote(f, rows[i], kinds[i], figures[i]);
+        agree("quote", engine::lone_quote(f, rows[i], kinds[i], figures[i]), rules, tally);
+    }
+    let length = case.fit.discounts_length.min(case.fit.tree.steps.saturating_add(3)).min(70);
+    let mut memory = vec![UNTOUCHED; length + GUARD];
+    let number = engine::convert(f, case.fit.tree.steps, curve, &mut memory[..length]);
+    let rules = rules::convert(f, case.fit.tree.steps, curve, length);
+    let mut expected = rules.clone().unwrap_or_default();
+    expected.resize(length + GUARD, UNTOUCHED);
+    assert_eq!(memory, expected, "curve: memory");
+    agree("curve", if number == 0 { Ok(()) } else { Err(number) }, rules.map(|_| ()), tally);
+}
+
+/// A memory after a fit: the tree or, for 9, zeros, and what was there before past the needed part.
+fn memory_after(outcome: Outcome<&Vec<u64>>, needed: usize, length: usize) -> Vec<u64> {
+    let mut made = match outcome {
+        Ok(stored) => stored.clone(),
+        Err(9) => vec![0; needed],
+        Err(_) => Vec::new(),
+    };
+    made.resize(length, UNTOUCHED);
+    made
+}
+
+fn fit(case: &Case, tally: &mut Tally) -> Option<Fitted> {
+    let input = &case.fit;
+    let (first, second) = (input.discounts_length, input.state_prices_length);
+    let mut discounts = vec![UNTOUCHED; first + GUARD];
+    let mut state_prices = vec![UNTOUCHED; second + GUARD];
+    let number = engine::fit(input, &mut discounts[..first], &mut state_prices[..second]);
+    let rules = input.fit();
+    let (needed, also) = match input.tree.accepted() {
+        true => (input.tree.discounts_needed(), input.tree.state_prices_needed()),
+        false => (0, 0),
+    };
+    let outcome = rules.as_ref().map_err(|e| *e);
+    assert_eq!(outcome.map(|_| ()).err().unwrap_or(0), number, "fit: rules left, library right");
+    assert_eq!(memory_after(outcome.map(|t| &t.discounts), needed, first + GUARD), discounts, "fit: discounts");
+    assert_eq!(memory_after(outcome.map(|t| &t.state_prices), also, second + GUARD), state_prices, "fit: state prices");
+    tally.result("fit", &rules);
+    let shape = tally.shapes.entry(case.shape).or_default();
+    shape.0 += 1;
+    shape.1 += rules.is_ok() as u64;
+    rules.ok()
+}
+
+fn views(case: &Case, tally: &mut Tally) {
+    let (tree, row) = (case.fit.tree, case.row);
+    let discounts = vec![ONE; case.fit.discounts_length];
+    let state_prices = vec![ONE; case.fit.state_prices_length];
+    let range = engine::row_range(&discounts, &state_prices, case.row_kind, &tree, row);
+    let rules = match case.row_kind {
+        1 | 2 => rules::row_part(discounts.len(), state_prices.len(), case.row_kind == 2, &tree, row),
+        _ => None,
+    };
+    assert_eq!(range, rules.unwrap_or((0, 0)), "row range: library left, rules right");
+    *tally.results.entry("row range, 1: empty").or_default().entry(rules.is_none() as u64).or_default() += 1;
+}
+
+fn rates(discounts: &[u64]) {
+    for v in discounts {
+        let rate = rules::step_rate(*v);
+        assert_eq!(engine::step_rate(*v), rate, "step rate of {v}: library left, rules right");
+        assert!(rate.map_or(true, |r| (r < 0) == (*v > ONE)), "sign of the step rate of {v}");
+    }
+}
+
+// Demand 2, and the state prices' error bound
+
+fn laws_of_fit(case: &Case, fitted: &Fitted, tally: &mut Tally) {
+    let tree = case.fit.tree;
+    rates(&fitted.discounts);
+    let rows = Exact::new(tree, &fitted.discounts);
+    let exact = rows.state_prices();
+    for t in 1..=tree.steps {
+        let row = tree.row(&fitted.state_prices, t);
+        let total: u64 = row.iter().sum();
+        assert!(total.abs_diff(fitted.quotes[t - 1]) <= REPRICED_WITHIN, "quote of row {t} repriced as {total}");
+        let bound = engine::state_price_bound(&tree, &fitted.discounts, t).expect("a fitted tree's bound");
+        let mut short = Natural::zero();
+        for (price, exact) in row.iter().zip(&exact[t]) {
+            let held = rows.held(*price, t);
+            assert!(held <= *exact, "a state price of row {t} above the exact one");
+            short = short.plus(&exact.less(&held));
+        }
+        assert!(short <= rows.held(bound, t), "state prices of row {t} short by more than {bound}");
+        tally.exact("rows of state prices");
+    }
+    let every = (0..=tree.steps + 1).map(|t| engine::state_price_bound(&tree, &fitted.discounts, t));
+    for (t, bound) in every.enumerate() {
+        agree("state price bound", bound, tree.state_price_bound(&fitted.discounts, t), tally);
+    }
+}
+
+// Demand 3
+
+fn within(rows: &Exact, n: usize, priced: (u64, u64), exact: &Natural, what: &str) {
+    let (price, bound) = priced;
+    let distance = rows.held(price, n).distance(exact);
+    assert!(distance <= rows.held(bound, n), "{what}: {price} is further than {bound} from the exact price");
+}
+
+fn at_most_three_a_step(tree: &Tree, discounts: &[u64], bound: u64) {
+    let shown = &discounts[..tree.discounts_needed()];
+    assert!(shown.iter().any(|v| *v > ONE) || bound <= 3 * tree.steps as u64, "bound {bound} above three a step");
+}
+
+fn prices(case: &Case, discounts: &[u64], on: &'static str, tally: &mut Tally) {
+    let (tree, flows, contract) = (case.fit.tree, &case.flows, &case.contract);
+    let (bond_name, option_name) = if on == "on lent" { ("bond on lent", "option on lent") } else { ("bond on a fit", "option on a fit") };
+    let bond = agree(bond_name, engine::bond(&tree, discounts, flows), tree.bond(discounts, flows), tally);
+    let option = agree(option_name, engine::option(&tree, discounts, flows, contract), tree.option(discounts, flows, contract), tally);
+    agree("state price bound", engine::state_price_bound(&tree, discounts, case.row), tree.state_price_bound(discounts, case.row), tally);
+    let bound = tree.weighing_bound(discounts, case.row, &case.payoffs);
+    agree("weighing bound", engine::weighing_bound(&tree, discounts, case.row, &case.payoffs), bound, tally);
+    let Some(bond) = bond else { return };
+    let rows = Exact::new(tree, discounts);
+    within(&rows, tree.steps, bond, &rows.bond(flows), "bond");
+    at_most_three_a_step(&tree, discounts, bond.1);
+    tally.exact("bond prices");
+    let Some(option) = option else { return };
+    within(&rows, tree.steps, option, &rows.option(flows, contract), "option");
+    at_most_three_a_step(&tree, discounts, option.1);
+    tally.exact(["European call prices", "European put prices", "American call prices", "American put prices"][contract.kind as usize - 1]);
+}
+
+fn weighing(case: &Case, fitted: Option<&Fitted>, tally: &mut Tally) {
+    let (tree, row, payoffs) = (case.fit.tree, case.row, &case.payoffs);
+    agree("weighing", engine::weighing(&case.weighed, payoffs), rules::weighing(&case.weighed, payoffs), tally);
+    let Some(fitted) = fitted.filter(|_| row <= tree.steps) else { return };
+    let state_prices = tree.row(&fitted.state_prices, row);
+    let value = agree("weighing of a fit", engine::weighing(state_prices, payoffs), rules::weighing(state_prices, payoffs), tally);
+    let Some(value) = value else { return };
+    let bound = engine::weighing_bound(&tree, &fitted.discounts, row, payoffs).expect("a bound of what was weighed");
+    let rows = Exact::new(tree, &fitted.discounts);
+    let (exact, held) = (rows.payoffs(row, payoffs), rows.held(value, row));
+    assert!(held <= exact, "weighing: {value} is above the exact price");
+    assert!(exact.less(&held) <= rows.held(bound, row), "weighing: {value} is short by more than {bound}");
+    tally.exact("weighings");
+}

@@ -1,0 +1,206 @@
+// The library, as its C header declares it.
+use crate::rules::{Contract, Curve, FitInput, Outcome, Tree};
+use std::ptr;
+
+#[repr(C)]
+#[derive(Clone, Copy)]
+struct Answer {
+    number: u64,
+    value: u64,
+}
+
+#[repr(C)]
+#[derive(Clone, Copy)]
+struct Rate {
+    number: u64,
+    value: i64,
+}
+
+#[repr(C)]
+#[derive(Clone, Copy)]
+struct Price {
+    number: u64,
+    value: u64,
+    bound: u64,
+}
+
+#[repr(C)]
+#[derive(Clone, Copy)]
+struct Branches {
+    number: u64,
+    lowest: i64,
+    probabilities: [u64; 3],
+}
+
+#[repr(C)]
+#[derive(Clone, Copy)]
+struct RowRange {
+    start: usize,
+    count: usize,
+}
+
+#[repr(C)]
+#[derive(Clone, Copy)]
+struct Point {
+    row: u64,
+    figure: f64,
+}
+
+extern "C" {
+    fn mixegorta_half_width(reversion: u64, row: usize) -> Answer;
+    fn mixegorta_node_count(reversion: u64, row: usize) -> Answer;
+    fn mixegorta_row_start(reversion: u64, row: usize) -> Answer;
+    fn mixegorta_discounts_needed(steps: usize, reversion: u64) -> Answer;
+    fn mixegorta_state_prices_needed(steps: usize, reversion: u64) -> Answer;
+    fn mixegorta_branches(reversion: u64, row: usize, node: i64) -> Branches;
+    fn mixegorta_quote_discount(frequency: u64, kind: u8, point: Point) -> Answer;
+    fn mixegorta_curve_discounts(
+        frequency: u64, steps: usize, rows: *const u64, row_count: usize, kinds: *const u8, kind_count: usize,
+        figures: *const f64, figure_count: usize, discounts: *mut u64, discount_count: usize,
+    ) -> u64;
+    fn mixegorta_fit(
+        frequency: u64, steps: usize, reversion: u64, volatility: u64, rows: *const u64, row_count: usize,
+        kinds: *const u8, kind_count: usize, figures: *const f64, figure_count: usize, discounts: *mut u64,
+        discount_count: usize, state_prices: *mut u64, state_price_count: usize,
+    ) -> u64;
+    fn mixegorta_row_range(
+        discounts: *const u64, discount_count: usize, state_prices: *const u64, state_price_count: usize, kind: u64,
+        steps: usize, reversion: u64, row: usize,
+    ) -> RowRange;
+    fn mixegorta_step_rate(discount: u64) -> Rate;
+    fn mixegorta_state_price_error_bound(steps: usize, reversion: u64, discounts: *const u64, discount_count: usize, row: usize) -> Answer;
+    fn mixegorta_bond_price(
+        steps: usize, reversion: u64, discounts: *const u64, discount_count: usize, flows: *const u64, flow_count: usize,
+    ) -> Price;
+    fn mixegorta_option_price(
+        steps: usize, reversion: u64, discounts: *const u64, discount_count: usize, flows: *const u64, flow_count: usize,
+        kind: u64, expiry: usize, strike: u64,
+    ) -> Price;
+    fn mixegorta_value_by_state_prices(state_prices: *const u64, state_price_count: usize, payoffs: *const u64, payoff_count: usize) -> Answer;
+    fn mixegorta_valuation_error_bound(
+        steps: usize, reversion: u64, discounts: *const u64, discount_count: usize, row: usize, payoffs: *const u64, payoff_count: usize,
+    ) -> Answer;
+}
+
+/// An empty list is handed over as the null pointer.
+fn start<T>(list: &[T]) -> *const T {
+    if list.is_empty() { ptr::null() } else { list.as_ptr() }
+}
+
+fn start_of_lent<T>(memory: &mut [T]) -> *mut T {
+    if memory.is_empty() { ptr::null_mut() } else { memory.as_mut_ptr() }
+}
+
+/// A refusal must come with zeros.
+fn outcome<T: PartialEq + Default + std::fmt::Debug>(number: u64, value: T) -> Outcome<T> {
+    if number == 0 {
+        return Ok(value);
+    }
+    assert_eq!(value, T::default(), "refusal {number} with a value");
+    Err(number)
+}
+
+fn answered(answer: Answer) -> Outcome<u64> {
+    outcome(answer.number, answer.value)
+}
+
+fn priced(price: Price) -> Outcome<(u64, u64)> {
+    outcome(price.number, (price.value, price.bound))
+}
+
+pub fn half_width(reversion: u64, row: usize) -> Outcome<u64> {
+    answered(unsafe { mixegorta_half_width(reversion, row) })
+}
+
+pub fn node_count(reversion: u64, row: usize) -> Outcome<u64> {
+    answered(unsafe { mixegorta_node_count(reversion, row) })
+}
+
+pub fn row_start(reversion: u64, row: usize) -> Outcome<u64> {
+    answered(unsafe { mixegorta_row_start(reversion, row) })
+}
+
+pub fn discounts_needed(tree: &Tree) -> Outcome<u64> {
+    answered(unsafe { mixegorta_discounts_needed(tree.steps, tree.reversion) })
+}
+
+pub fn state_prices_needed(tree: &Tree) -> Outcome<u64> {
+    answered(unsafe { mixegorta_state_prices_needed(tree.steps, tree.reversion) })
+}
+
+/// The lowest target, and the probabilities up, middle, down.
+pub fn branches(reversion: u64, row: usize, node: i64) -> Outcome<(i64, [u64; 3])> {
+    let made = unsafe { mixegorta_branches(reversion, row, node) };
+    outcome(made.number, (made.lowest, made.probabilities))
+}
+
+pub fn lone_quote(frequency: u64, row: u64, kind: u8, figure: f64) -> Outcome<u64> {
+    answered(unsafe { mixegorta_quote_discount(frequency, kind, Point { row, figure }) })
+}
+
+pub fn convert(frequency: u64, steps: usize, curve: &Curve, memory: &mut [u64]) -> u64 {
+    let (rows, kinds, figures) = (&curve.rows, &curve.kinds, &curve.figures);
+    unsafe {
+        mixegorta_curve_discounts(
+            frequency, steps, start(rows), rows.len(), start(kinds), kinds.len(), start(figures), figures.len(),
+            start_of_lent(memory), memory.len(),
+        )
+    }
+}
+
+pub fn fit(input: &FitInput, discounts: &mut [u64], state_prices: &mut [u64]) -> u64 {
+    let (rows, kinds, figures) = (&input.curve.rows, &input.curve.kinds, &input.curve.figures);
+    unsafe {
+        mixegorta_fit(
+            input.frequency, input.tree.steps, input.tree.reversion, input.volatility, start(rows), rows.len(),
+            start(kinds), kinds.len(), start(figures), figures.len(), start_of_lent(discounts), discounts.len(),
+            start_of_lent(state_prices), state_prices.len(),
+        )
+    }
+}
+
+pub fn row_range(discounts: &[u64], state_prices: &[u64], kind: u64, tree: &Tree, row: usize) -> (usize, usize) {
+    let range = unsafe {
+        mixegorta_row_range(
+            start(discounts), discounts.len(), start(state_prices), state_prices.len(), kind, tree.steps, tree.reversion, row,
+        )
+    };
+    (range.start, range.count)
+}
+
+pub fn step_rate(discount: u64) -> Outcome<i64> {
+    let rate = unsafe { mixegorta_step_rate(discount) };
+    outcome(rate.number, rate.value)
+}
+
+pub fn state_price_bound(tree: &Tree, discounts: &[u64], row: usize) -> Outcome<u64> {
+    answered(unsafe { mixegorta_state_price_error_bound(tree.steps, tree.reversion, start(discounts), discounts.len(), row) })
+}
+
+pub fn bond(tree: &Tree, discounts: &[u64], flows: &[u64]) -> Outcome<(u64, u64)> {
+    priced(unsafe {
+        mixegorta_bond_price(tree.steps, tree.reversion, start(discounts), discounts.len(), start(flows), flows.len())
+    })
+}
+
+pub fn option(tree: &Tree, discounts: &[u64], flows: &[u64], c: &Contract) -> Outcome<(u64, u64)> {
+    priced(unsafe {
+        mixegorta_option_price(
+            tree.steps, tree.reversion, start(discounts), discounts.len(), start(flows), flows.len(), c.kind, c.expiry, c.strike,
+        )
+    })
+}
+
+pub fn weighing(state_prices: &[u64], payoffs: &[u64]) -> Outcome<u64> {
+    answered(unsafe {
+        mixegorta_value_by_state_prices(start(state_prices), state_prices.len(), start(payoffs), payoffs.len())
+    })
+}
+
+pub fn weighing_bound(tree: &Tree, discounts: &[u64], row: usize, payoffs: &[u64]) -> Outcome<u64> {
+    answered(unsafe {
+        mixegorta_valuation_error_bound(
+            tree.steps, tree.reversion, start(discounts), discounts.len(), row, start(payoffs), payoffs.len(),
+        )
+    })
+}

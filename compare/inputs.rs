@@ -1,0 +1,288 @@
+// Random inputs: curves and trees as a desk has them, and ones with something wrong.
+use crate::rules::{spacing, Contract, Curve, FitInput, Tree, DISCOUNT_LIMIT, FLOW_LIMIT, ONE, STRIKE_LIMIT, VALUE_LIMIT};
+
+pub struct Random(u64);
+
+impl Random {
+    pub fn new(seed: u64) -> Random {
+        Random(seed)
+    }
+
+    pub fn bits(&mut self) -> u64 {
+        self.0 = self.0.wrapping_add(0x9E37_79B9_7F4A_7C15);
+        let mut x = self.0;
+        x = (x ^ (x >> 30)).wrapping_mul(0xBF58_476D_1CE4_E5B9);
+        x = (x ^ (x >> 27)).wrapping_mul(0x94D0_49BB_1331_11EB);
+        x ^ (x >> 31)
+    }
+
+    /// From low to high, both within.
+    pub fn within(&mut self, low: u64, high: u64) -> u64 {
+        low + (self.bits() as u128 * (high - low + 1) as u128 >> 64) as u64
+    }
+
+    pub fn below(&mut self, limit: usize) -> usize {
+        self.within(0, limit as u64 - 1) as usize
+    }
+
+    pub fn real(&mut self, low: f64, high: f64) -> f64 {
+        low + (high - low) * (self.bits() >> 11) as f64 / (1u64 << 53) as f64
+    }
+
+    pub fn chance(&mut self, percent: u64) -> bool {
+        self.within(1, 100) <= percent
+    }
+
+    pub fn pick<T: Copy>(&mut self, from: &[T]) -> T {
+        from[self.below(from.len())]
+    }
+}
+
+#[derive(Clone, Debug)]
+pub struct Case {
+    pub shape: &'static str,
+    pub fit: FitInput,
+    pub lent: Vec<u64>,
+    pub flows: Vec<u64>,
+    pub contract: Contract,
+    pub row: usize,
+    pub node: i64,
+    pub row_kind: u64,
+    pub payoffs: Vec<u64>,
+    pub weighed: Vec<u64>,
+}
+
+fn steps(r: &mut Random) -> usize {
+    match r.below(100) {
+        0..=7 => 1,
+        8..=54 => r.within(2, 12) as usize,
+        55..=94 => r.within(13, 59) as usize,
+        _ => 60,
+    }
+}
+
+fn reversion(r: &mut Random) -> u64 {
+    match r.below(6) {
+        0 => 0,
+        1 => r.within(1, 100),
+        2 => r.within(100, 2_000),
+        3 => r.within(2_000, 6_000),
+        4 => r.pick(&[1, 83, 920, 1_000, 1_839, 1_840, 1_841, 5_999, 6_000]),
+        _ => r.within(0, 40),
+    }
+}
+
+/// A volatility that passes cause 8 in most cases.
+fn volatility(r: &mut Random, frequency: u64, tree: &Tree) -> u64 {
+    let width = tree.half_width(tree.steps - 1).max(1) as f64;
+    let greatest = 50_000.0 * ONE as f64 / (width * spacing(frequency, 50_000) as f64);
+    let share = match r.below(10) {
+        0 => return r.within(0, 3),
+        1 => return r.within(40_000, 50_000),
+        2 => 1.0,
+        3..=5 => 0.3,
+        _ => 0.1,
+    };
+    (r.real(0.0, share * greatest) as u64).min(50_000)
+}
+
+const SHAPES: [&str; 7] = ["flat", "steep", "shallow negative", "deep negative", "walk", "wild", "edges"];
+
+/// Discount factors of rows 1 to n.
+fn factors(r: &mut Random, shape: &str, frequency: u64, n: usize) -> Vec<f64> {
+    let f = frequency as f64;
+    let (first, last) = match shape {
+        "flat" => { let rate = r.real(0.0, 0.1); (rate, rate) }
+        "steep" => (r.real(-0.01, 0.02), r.real(0.05, 0.2)),
+        "shallow negative" => { let rate = r.real(-0.005, 0.0); (rate, rate + r.real(-0.001, 0.001)) }
+        "deep negative" => { let rate = r.real(-0.08, -0.005); (rate, rate + r.real(-0.02, 0.02)) }
+        _ => (0.0, 0.0),
+    };
+    let mut current = r.real(0.8, 1.05);
+    let mut one = |t: usize| match shape {
+        "walk" => { current = (current * r.real(0.93, 1.06)).clamp(0.11, 1.9); current }
+        "wild" => r.real(0.1, 2.0),
+        "edges" => r.pick(&[0.1, 2.0, 1.0, 0.5, 1.1, 1.1000000005]),
+        _ => {
+            let rate = first + (last - first) * t as f64 / n as f64;
+            f / (f + rate * t as f64).max(0.55 * f)
+        }
+    };
+    (1..=n).map(|t| one(t)).collect()
+}
+
+fn curve(r: &mut Random, shape: &str, frequency: u64, n: usize) -> Curve {
+    let quoting = r.below(3);
+    let coarse = r.chance(10);
+    let mut made = Curve { rows: (1..=n as u64).collect(), kinds: Vec::new(), figures: Vec::new() };
+    for (t, factor) in (1..).zip(factors(r, shape, frequency, n)) {
+        let as_rate = quoting == 1 || (quoting == 2 && r.chance(50));
+        let figure = if as_rate { (1.0 / factor - 1.0) * frequency as f64 / t as f64 } else { factor };
+        made.kinds.push(if as_rate { 6 } else { 5 });
+        made.figures.push(if coarse { (figure * 4_096.0).round() / 4_096.0 } else { figure });
+    }
+    made
+}
+
+fn lent(r: &mut Random, needed: usize) -> Vec<u64> {
+    let (low, high) = match r.below(7) {
+        0 => (ONE, ONE),
+        1 => (950_000_000, ONE),
+        2 => (ONE, DISCOUNT_LIMIT),
+        3 => (1, 1_000),
+        4 => (1, DISCOUNT_LIMIT),
+        5 => (DISCOUNT_LIMIT - 3, DISCOUNT_LIMIT),
+        _ => (900_000_000, 1_050_000_000),
+    };
+    let extra = if r.chance(30) { r.below(9) } else { 0 };
+    (0..needed + extra).map(|_| r.within(low, high)).collect()
+}
+
+fn flows(r: &mut Random, n: usize) -> Vec<u64> {
+    let most = match r.below(6) {
+        0 => 0,
+        1 => FLOW_LIMIT,
+        2 => (VALUE_LIMIT / n as u64).min(FLOW_LIMIT),
+        _ => 5 * ONE / n as u64 / 2,
+    };
+    let mut made: Vec<u64> = (0..n).map(|_| r.within(0, most.min(FLOW_LIMIT))).collect();
+    if r.chance(60) {
+        made[n - 1] = (made[n - 1] + ONE).min(FLOW_LIMIT);
+    }
+    made
+}
+
+fn payoffs(r: &mut Random, count: usize) -> Vec<u64> {
+    let most = r.pick(&[0, 1, 1_000, ONE, 4 * ONE, VALUE_LIMIT]);
+    if r.chance(15) {
+        let only = r.below(count);
+        return (0..count).map(|k| if k == only { most } else { 0 }).collect();
+    }
+    (0..count).map(|_| r.within(0, most)).collect()
+}
+
+/// A row of state prices to weigh, some with a sum at its limit.
+fn weighed(r: &mut Random, count: usize) -> Vec<u64> {
+    let share = 2_000_000_100 / count as u64;
+    let most = r.pick(&[share, 2 * share, share / 2, 3]);
+    let mut made: Vec<u64> = (0..count).map(|_| r.within(0, most)).collect();
+    let rest: u64 = made[1..].iter().sum();
+    if r.chance(30) && rest <= 2_000_000_100 {
+        made[0] = 2_000_000_100 - rest + r.within(0, 1);
+    }
+    made
+}
+
+pub fn case(r: &mut Random) -> Case {
+    let frequency = r.pick(&[1, 2, 4, 12]);
+    let tree = Tree { steps: steps(r), reversion: reversion(r) };
+    let shape = if r.chance(93) { r.pick(&SHAPES[..5]) } else { r.pick(&SHAPES[5..]) };
+    let row = r.below(tree.steps + 1);
+    let (needed, count) = (tree.discounts_needed(), tree.node_count(row));
+    let fit = FitInput {
+        frequency,
+        tree,
+        volatility: volatility(r, frequency, &tree),
+        curve: curve(r, shape, frequency, tree.steps),
+        discounts_length: needed + if r.chance(50) { 0 } else { r.below(40) },
+        state_prices_length: tree.state_prices_needed() + if r.chance(50) { 0 } else { r.below(40) },
+    };
+    let strike = r.pick(&[3 * ONE, STRIKE_LIMIT, 3 * ONE / 2, 3 * ONE / 2, 1]);
+    let contract = Contract { kind: r.within(1, 4), expiry: r.below(tree.steps + 1), strike: r.within(0, strike) };
+    let half = tree.half_width(row);
+    let mut made = Case {
+        shape,
+        fit,
+        lent: lent(r, needed),
+        flows: flows(r, tree.steps),
+        contract,
+        row,
+        node: r.within(0, 2 * half as u64) as i64 - half,
+        row_kind: r.within(1, 2),
+        payoffs: payoffs(r, count),
+        weighed: weighed(r, count),
+    };
+    if r.chance(40) {
+        for _ in 0..r.within(1, 3) {
+            damage(r, &mut made);
+        }
+    }
+    made
+}
+
+/// Makes a list longer, shorter, empty or two longer.
+fn resize<T: Copy>(r: &mut Random, list: &mut Vec<T>, filler: T) {
+    match r.below(4) {
+        0 => list.push(filler),
+        1 => list.clear(),
+        2 => list.extend([filler, filler]),
+        _ => { list.pop(); }
+    }
+}
+
+fn strange_figure(r: &mut Random) -> f64 {
+    match r.below(7) {
+        0 => r.pick(&[f64::NAN, -f64::NAN, f64::INFINITY, f64::NEG_INFINITY, 1e300, -1e300]),
+        1 => r.pick(&[10.0, -10.0, f64::from_bits(10f64.to_bits() + 1), -f64::from_bits(10f64.to_bits() + 1)]),
+        2 => r.pick(&[0.0, -0.0, 5e-324, -5e-324, 1e-300, 4.9e-10, 5e-10, -5e-10]),
+        3 => r.pick(&[0.1, 0.0999999995, 0.0999999994, 2.0, 2.0000000004, 2.0000000006, -1.0, -0.5, -0.25]),
+        4 => f64::from_bits(r.bits()),
+        5 => r.real(-10.5, 10.5),
+        _ => r.within(0, 4_000_000_000) as f64 / 2_048_000_000.0,
+    }
+}
+
+fn spoil<T>(r: &mut Random, list: &mut Vec<T>, made: T) {
+    if !list.is_empty() {
+        let place = r.below(list.len());
+        list[place] = made;
+    }
+}
+
+fn damage(r: &mut Random, case: &mut Case) {
+    let (huge, n) = (u64::MAX, case.fit.tree.steps);
+    match r.below(24) {
+        0 => case.fit.frequency = r.pick(&[0, 3, 5, 6, 11, 13, 255, huge, 1 << 32]),
+        1 => case.fit.tree.steps = r.pick(&[0, 61, 62, 255, 1 << 32, usize::MAX]),
+        2 => case.fit.tree.reversion = r.pick(&[6_001, 65_535, 1 << 32, huge]),
+        3 => case.fit.volatility = r.pick(&[50_001, 1 << 32, huge]),
+        4 => resize(r, &mut case.fit.curve.rows, n as u64 + 1),
+        5 => resize(r, &mut case.fit.curve.kinds, 5),
+        6 => resize(r, &mut case.fit.curve.figures, 0.5),
+        7 => { let row = r.pick(&[0, 1, 2, 60, 61, huge]); spoil(r, &mut case.fit.curve.rows, row) }
+        8 => { let kind = r.pick(&[0, 4, 5, 6, 7, 255]); spoil(r, &mut case.fit.curve.kinds, kind) }
+        9..=11 => { let figure = strange_figure(r); spoil(r, &mut case.fit.curve.figures, figure) }
+        12 => case.fit.discounts_length = case.fit.discounts_length.saturating_sub(r.within(1, 50) as usize),
+        13 => case.fit.state_prices_length = case.fit.state_prices_length.saturating_sub(r.within(1, 50) as usize),
+        14 => resize(r, &mut case.flows, ONE),
+        15 => { let flow = r.pick(&[FLOW_LIMIT, FLOW_LIMIT + 1, 1 << 32, huge]); spoil(r, &mut case.flows, flow) }
+        16 => case.contract.kind = r.pick(&[0, 5, 256, 257, huge]),
+        17 => case.contract.expiry = r.pick(&[n.wrapping_add(1), 61, 1 << 32, usize::MAX]),
+        18 => case.contract.strike = r.pick(&[STRIKE_LIMIT, STRIKE_LIMIT + 1, huge]),
+        19 => { let discount = r.pick(&[0, DISCOUNT_LIMIT + 1, ONE + 1, huge]); spoil(r, &mut case.lent, discount) }
+        20 => resize(r, &mut case.lent, ONE),
+        21 => case.row = r.pick(&[n.wrapping_add(1), n, 60, 61, usize::MAX]),
+        22 => spoil_weighing(r, case),
+        _ => strange_view(r, case),
+    }
+}
+
+fn spoil_weighing(r: &mut Random, case: &mut Case) {
+    match r.below(4) {
+        0 => resize(r, &mut case.payoffs, ONE),
+        1 => { let payoff = r.pick(&[VALUE_LIMIT, VALUE_LIMIT + 1, u64::MAX]); spoil(r, &mut case.payoffs, payoff) }
+        2 => { let price = r.pick(&[2_000_000_100, 2_000_000_101, u64::MAX]); spoil(r, &mut case.weighed, price) }
+        _ => {
+            let length = r.pick(&[121, 122, 123, 0]);
+            case.payoffs = vec![r.within(0, VALUE_LIMIT); length];
+            case.weighed = vec![r.within(0, 16_528_926); length];
+        }
+    }
+}
+
+fn strange_view(r: &mut Random, case: &mut Case) {
+    match r.below(2) {
+        0 => case.row_kind = r.pick(&[0, 3, 256, u64::MAX]),
+        _ => case.node = r.pick(&[case.node + 61, -61, 121, i64::MIN, i64::MAX]),
+    }
+}

@@ -1,0 +1,34 @@
+// Compares the library with document 01's rules and with the exact pricer on random inputs.
+mod checks;
+mod engine;
+mod exact;
+mod inputs;
+mod natural;
+mod rules;
+
+use checks::Tally;
+use std::panic;
+
+fn argument(place: usize, otherwise: u64) -> u64 {
+    match std::env::args().nth(place) {
+        Some(word) => word.parse().expect("a whole number"),
+        None => otherwise,
+    }
+}
+
+fn main() {
+    let (count, seed) = (argument(1, 20_000), argument(2, 1));
+    natural::check();
+    let mut tally = Tally::default();
+    for own in seed..seed + count {
+        let case = inputs::case(&mut inputs::Random::new(own));
+        let compared = panic::catch_unwind(panic::AssertUnwindSafe(|| checks::all(&case, &mut tally)));
+        if compared.is_err() {
+            eprintln!("input: {case:?}");
+            eprintln!("DIFFERENT. To see it again: compare/run 1 {own}");
+            std::process::exit(1);
+        }
+    }
+    println!("{tally}");
+    println!("{count} inputs from seed {seed}: every result equal, every bound kept");
+}

@@ -1,0 +1,402 @@
+// Document 01's rules in 128-bit numbers, written from the document. Amounts are billionths.
+
+pub const ONE: u64 = 1_000_000_000;
+pub const WHOLE: u64 = 600_000_000;
+pub const DISCOUNT_LIMIT: u64 = 1_100_000_000;
+pub const VALUE_LIMIT: u64 = 8 * ONE;
+pub const FLOW_LIMIT: u64 = 2 * ONE;
+pub const STRIKE_LIMIT: u64 = 4 * ONE;
+pub const STATE_PRICES_LIMIT: u128 = 2_000_000_100;
+
+pub type Outcome<T> = Result<T, u64>;
+
+/// The lowest number whose cause applies.
+pub fn lowest(causes: &[(u64, bool)]) -> Outcome<()> {
+    match causes.iter().filter(|c| c.1).map(|c| c.0).min() {
+        Some(number) => Err(number),
+        None => Ok(()),
+    }
+}
+
+fn up(numerator: u128, denominator: u128) -> u128 {
+    numerator / denominator + (numerator % denominator > 0) as u128
+}
+
+fn nearest(numerator: u128, denominator: u128) -> u128 {
+    (2 * numerator + denominator) / (2 * denominator)
+}
+
+// The tree
+
+#[derive(Clone, Copy, Debug)]
+pub struct Tree {
+    pub steps: usize,
+    pub reversion: u64,
+}
+
+pub fn steps_wrong(steps: usize) -> bool {
+    steps < 1 || steps > 60
+}
+
+pub fn reversion_wrong(reversion: u64) -> bool {
+    reversion > 6_000
+}
+
+impl Tree {
+    pub fn accepted(&self) -> bool {
+        !steps_wrong(self.steps) && !reversion_wrong(self.reversion)
+    }
+
+    fn highest(&self) -> Option<i64> {
+        match self.reversion {
+            0 => None,
+            b => Some(1_840 / b as i64 + 1),
+        }
+    }
+
+    pub fn half_width(&self, row: usize) -> i64 {
+        self.highest().map_or(row as i64, |top| top.min(row as i64))
+    }
+
+    pub fn node_count(&self, row: usize) -> usize {
+        2 * self.half_width(row) as usize + 1
+    }
+
+    pub fn start(&self, row: usize) -> usize {
+        (0..row).map(|i| self.node_count(i)).sum()
+    }
+
+    pub fn discounts_needed(&self) -> usize {
+        self.start(self.steps)
+    }
+
+    pub fn state_prices_needed(&self) -> usize {
+        self.start(self.steps + 1)
+    }
+
+    /// Target node and probability: up, middle, down.
+    pub fn branches(&self, node: i64) -> [(i64, u64); 3] {
+        let z = node * self.reversion as i64;
+        let square = 3 * z * z;
+        let (j, hundred) = (node, 100_000_000i64);
+        let signed = if Some(j) == self.highest() {
+            [(j, 7 * hundred + square - 90_000 * z), (j - 1, -2 * hundred - 2 * square + 120_000 * z), (j - 2, hundred + square - 30_000 * z)]
+        } else if Some(-j) == self.highest() {
+            [(j + 2, hundred + square + 30_000 * z), (j + 1, -2 * hundred - 2 * square - 120_000 * z), (j, 7 * hundred + square + 90_000 * z)]
+        } else {
+            [(j + 1, hundred + square - 30_000 * z), (j, 4 * hundred - 2 * square), (j - 1, hundred + square + 30_000 * z)]
+        };
+        let probabilities = signed.map(|(target, p)| (target, u64::try_from(p).expect("a probability below 0")));
+        assert_eq!(probabilities.iter().map(|b| b.1).sum::<u64>(), WHOLE);
+        probabilities
+    }
+
+    /// The discounts of a row as a part of a memory.
+    pub fn row<'a>(&self, memory: &'a [u64], row: usize) -> &'a [u64] {
+        &memory[self.start(row)..self.start(row + 1)]
+    }
+
+    pub fn greatest(&self, discounts: &[u64], row: usize) -> u128 {
+        self.row(discounts, row).iter().copied().max().unwrap() as u128
+    }
+
+    pub fn discounts_wrong(&self, discounts: &[u64]) -> bool {
+        let needed = &discounts[..self.discounts_needed()];
+        needed.iter().any(|v| *v < 1 || *v > DISCOUNT_LIMIT)
+    }
+}
+
+// Quotes
+
+/// The float's value times one, nearest: magnitude and sign. NaN, infinity and figures beyond ten give 7.
+pub fn figure(x: f64) -> Outcome<i128> {
+    let bits = x.to_bits();
+    let exponent = (bits >> 52) & 0x7FF;
+    let fraction = (bits & ((1 << 52) - 1)) as u128;
+    if exponent == 0x7FF || exponent >= 1_075 {
+        return Err(7);
+    }
+    let significand = if exponent == 0 { fraction } else { fraction + (1 << 52) };
+    let shift = if exponent == 0 { 1_074 } else { 1_075 - exponent };
+    if shift > 100 {
+        return Ok(0);
+    }
+    if significand > 10u128 << shift {
+        return Err(7);
+    }
+    let size = nearest(significand * ONE as u128, 1 << shift) as i128;
+    Ok(if bits >> 63 == 1 { -size } else { size })
+}
+
+pub fn frequency_wrong(frequency: u64) -> bool {
+    ![1, 2, 4, 12].contains(&frequency)
+}
+
+pub fn quote(frequency: u64, row: u64, kind: u8, x: f64) -> Outcome<u64> {
+    let figure = figure(x)?;
+    let (one, frequency) = (ONE as i128, frequency as i128);
+    let discount = match kind {
+        5 => figure,
+        6 => {
+            let divisor = frequency * one + row as i128 * figure;
+            lowest(&[(7, divisor <= 0)])?;
+            one * one * frequency / divisor
+        }
+        _ => return Err(7),
+    };
+    lowest(&[(7, discount < 100_000_000 || discount > 2_000_000_000)])?;
+    Ok(discount as u64)
+}
+
+pub fn lone_quote(frequency: u64, row: u64, kind: u8, x: f64) -> Outcome<u64> {
+    lowest(&[(2, frequency_wrong(frequency)), (6, row < 1 || row > 60)])?;
+    quote(frequency, row, kind, x)
+}
+
+#[derive(Clone, Debug)]
+pub struct Curve {
+    pub rows: Vec<u64>,
+    pub kinds: Vec<u8>,
+    pub figures: Vec<f64>,
+}
+
+impl Curve {
+    fn places_wrong(&self, steps: usize) -> bool {
+        let lengths = [self.rows.len(), self.kinds.len(), self.figures.len()];
+        lengths.iter().any(|l| *l != steps) || self.rows.iter().zip(1..).any(|(row, place)| *row != place)
+    }
+
+    fn quotes(&self, frequency: u64) -> Outcome<Vec<u64>> {
+        (0..self.rows.len()).map(|i| quote(frequency, self.rows[i], self.kinds[i], self.figures[i])).collect()
+    }
+}
+
+pub fn convert(frequency: u64, steps: usize, curve: &Curve, memory: usize) -> Outcome<Vec<u64>> {
+    lowest(&[(2, frequency_wrong(frequency)), (3, steps_wrong(steps)), (6, curve.places_wrong(steps) || memory < steps)])?;
+    curve.quotes(frequency)
+}
+
+// Spacing and fit
+
+pub fn spacing(frequency: u64, volatility: u64) -> u64 {
+    let (cube, square) = ((frequency as u128).pow(3), 3 * (1_000 * volatility as u128).pow(2));
+    let (mut low, mut high) = (0u128, 1u128 << 40);
+    while high - low > 1 {
+        let middle = (low + high) / 2;
+        if middle * middle * cube <= square {
+            low = middle;
+        } else {
+            high = middle;
+        }
+    }
+    low as u64
+}
+
+pub fn factor(node: i64, spacing: u64) -> u64 {
+    let y = node.unsigned_abs() as u128 * spacing as u128;
+    let (mut term, mut total) = (ONE as i128, ONE as i128);
+    for k in 1..=12 {
+        term = (term as u128 * y / (k as u128 * ONE as u128)) as i128;
+        total += if node >= 0 && k % 2 == 1 { -term } else { term };
+    }
+    total as u64
+}
+
+pub struct Fitted {
+    pub quotes: Vec<u64>,
+    pub discounts: Vec<u64>,
+    pub state_prices: Vec<u64>,
+}
+
+#[derive(Clone, Debug)]
+pub struct FitInput {
+    pub frequency: u64,
+    pub tree: Tree,
+    pub volatility: u64,
+    pub curve: Curve,
+    pub discounts_length: usize,
+    pub state_prices_length: usize,
+}
+
+impl FitInput {
+    fn memory_short(&self) -> bool {
+        self.tree.accepted() && (self.discounts_length < self.tree.discounts_needed() || self.state_prices_length < self.tree.state_prices_needed())
+    }
+
+    pub fn fit(&self) -> Outcome<Fitted> {
+        let steps = self.tree.steps;
+        lowest(&[
+            (2, frequency_wrong(self.frequency)),
+            (3, steps_wrong(steps)),
+            (4, reversion_wrong(self.tree.reversion)),
+            (5, self.volatility > 50_000),
+            (6, self.curve.places_wrong(steps) || self.memory_short()),
+        ])?;
+        let quotes = self.curve.quotes(self.frequency)?;
+        let spacing = spacing(self.frequency, self.volatility);
+        lowest(&[(8, self.tree.half_width(steps - 1) as u128 * spacing as u128 > ONE as u128)])?;
+        grow(&self.tree, spacing, quotes)
+    }
+}
+
+fn grow(tree: &Tree, spacing: u64, quotes: Vec<u64>) -> Outcome<Fitted> {
+    let (mut discounts, mut state_prices, mut row) = (Vec::new(), vec![ONE], vec![ONE]);
+    for i in 0..tree.steps {
+        let w = tree.half_width(i);
+        let factors: Vec<u128> = (-w..=w).map(|j| factor(j, spacing) as u128).collect();
+        let z = row.iter().zip(&factors).map(|(q, u)| *q as u128 * u).sum::<u128>() / ONE as u128;
+        let shown: Vec<u64> = factors.iter().map(|u| (quotes[i] as u128 * u / z) as u64).collect();
+        lowest(&[(9, shown.iter().any(|v| *v == 0 || *v > DISCOUNT_LIMIT))])?;
+        let next = tree.half_width(i + 1);
+        let mut later = vec![0u128; tree.node_count(i + 1)];
+        for j in -w..=w {
+            let place = (j + w) as usize;
+            let carried = row[place] as u128 * shown[place] as u128 / ONE as u128;
+            for (target, probability) in tree.branches(j) {
+                later[(target + next) as usize] += probability as u128 * carried;
+            }
+        }
+        row = later.iter().map(|sum| (sum / WHOLE as u128) as u64).collect();
+        discounts.extend(shown);
+        state_prices.extend(&row);
+    }
+    Ok(Fitted { quotes, discounts, state_prices })
+}
+
+pub fn step_rate(discount: u64) -> Outcome<i64> {
+    lowest(&[(9, discount < 1 || discount > DISCOUNT_LIMIT)])?;
+    let size = nearest(ONE.abs_diff(discount) as u128 * ONE as u128, discount as u128) as i64;
+    Ok(if discount > ONE { -size } else { size })
+}
+
+// Prices
+
+#[derive(Clone, Copy, Debug)]
+pub struct Contract {
+    pub kind: u64,
+    pub expiry: usize,
+    pub strike: u64,
+}
+
+impl Contract {
+    pub fn call(&self) -> bool {
+        self.kind == 1 || self.kind == 3
+    }
+
+    pub fn american(&self) -> bool {
+        self.kind == 3 || self.kind == 4
+    }
+
+    fn wrong(&self, steps: usize) -> bool {
+        !(1..=4).contains(&self.kind) || self.expiry > steps || self.strike > STRIKE_LIMIT
+    }
+
+    fn exercise(&self, bond: u64) -> u64 {
+        if self.call() {
+            bond.saturating_sub(self.strike)
+        } else {
+            self.strike.saturating_sub(bond)
+        }
+    }
+}
+
+fn limited(values: Vec<u64>) -> Outcome<Vec<u64>> {
+    lowest(&[(12, values.iter().any(|v| *v > VALUE_LIMIT))])?;
+    Ok(values)
+}
+
+impl Tree {
+    fn roll(&self, discounts: &[u64], row: usize, later: &[u64]) -> Vec<u64> {
+        let (w, next) = (self.half_width(row), self.half_width(row + 1));
+        let shown = self.row(discounts, row);
+        let rolled = |j: i64| {
+            let sum: u128 = self.branches(j).iter().map(|(t, p)| *p as u128 * later[(t + next) as usize] as u128).sum();
+            (sum / WHOLE as u128 * shown[(j + w) as usize] as u128 / ONE as u128) as u64
+        };
+        (-w..=w).map(rolled).collect()
+    }
+
+    fn bond_rows(&self, discounts: &[u64], flows: &[u64]) -> Outcome<Vec<Vec<u64>>> {
+        let mut rows = vec![limited(vec![flows[self.steps - 1]; self.node_count(self.steps)])?];
+        for i in (0..self.steps).rev() {
+            let flow = if i == 0 { 0 } else { flows[i - 1] };
+            let rolled = self.roll(discounts, i, rows.last().unwrap());
+            rows.push(limited(rolled.iter().map(|v| v + flow).collect())?);
+        }
+        rows.reverse();
+        Ok(rows)
+    }
+
+    fn price_bound(&self, discounts: &[u64]) -> u64 {
+        let step = |later: u128, row: usize| up(self.greatest(discounts, row) * later, ONE as u128) + 3;
+        (0..self.steps).rev().fold(0, step) as u64
+    }
+
+    fn lent_causes(&self, discounts: &[u64], wrong: bool) -> [(u64, bool); 4] {
+        let accepted = self.accepted();
+        let short = accepted && discounts.len() < self.discounts_needed();
+        let unfit = accepted && !short && self.discounts_wrong(discounts);
+        [(3, steps_wrong(self.steps)), (4, reversion_wrong(self.reversion)), (6, short || wrong), (9, unfit)]
+    }
+
+    /// Price and bound.
+    pub fn bond(&self, discounts: &[u64], flows: &[u64]) -> Outcome<(u64, u64)> {
+        let lent = self.lent_causes(discounts, flows.len() != self.steps);
+        lowest(&lent)?;
+        lowest(&[(10, flows.iter().any(|flow| *flow > FLOW_LIMIT))])?;
+        Ok((self.bond_rows(discounts, flows)?[0][0], self.price_bound(discounts)))
+    }
+
+    pub fn option(&self, discounts: &[u64], flows: &[u64], contract: &Contract) -> Outcome<(u64, u64)> {
+        lowest(&self.lent_causes(discounts, flows.len() != self.steps))?;
+        lowest(&[(10, flows.iter().any(|flow| *flow > FLOW_LIMIT)), (11, contract.wrong(self.steps))])?;
+        let bonds = self.bond_rows(discounts, flows)?;
+        let exercised = |i: usize| bonds[i].iter().map(|bond| contract.exercise(*bond)).collect::<Vec<u64>>();
+        let mut row = limited(exercised(contract.expiry))?;
+        for i in (0..contract.expiry).rev() {
+            row = self.roll(discounts, i, &row);
+            if contract.american() {
+                row = row.iter().zip(exercised(i)).map(|(rolled, now)| (*rolled).max(now)).collect();
+            }
+            row = limited(row)?;
+        }
+        Ok((row[0], self.price_bound(discounts)))
+    }
+
+    fn state_price_bound_of(&self, discounts: &[u64], row: usize) -> u128 {
+        let counts = |i: usize| (self.node_count(i) + self.node_count(i + 1)) as u128;
+        (0..row).fold(0, |former, i| up(self.greatest(discounts, i) * former, ONE as u128) + counts(i))
+    }
+
+    pub fn state_price_bound(&self, discounts: &[u64], row: usize) -> Outcome<u64> {
+        lowest(&self.lent_causes(discounts, row > self.steps))?;
+        Ok(self.state_price_bound_of(discounts, row) as u64)
+    }
+
+    pub fn weighing_bound(&self, discounts: &[u64], row: usize, payoffs: &[u64]) -> Outcome<u64> {
+        let wrong = self.accepted() && (row > self.steps || payoffs.len() != self.node_count(row));
+        lowest(&self.lent_causes(discounts, wrong))?;
+        let greatest = *payoffs.iter().max().unwrap();
+        lowest(&[(12, greatest > VALUE_LIMIT)])?;
+        Ok(up(greatest as u128 * self.state_price_bound_of(discounts, row), ONE as u128) as u64 + 1)
+    }
+}
+
+pub fn weighing(state_prices: &[u64], payoffs: &[u64]) -> Outcome<u64> {
+    let length = state_prices.len();
+    lowest(&[(6, length != payoffs.len() || length % 2 == 0 || length > 121)])?;
+    let total: u128 = state_prices.iter().map(|q| *q as u128).sum();
+    lowest(&[(12, total > STATE_PRICES_LIMIT || payoffs.iter().any(|x| *x > VALUE_LIMIT))])?;
+    let value = state_prices.iter().zip(payoffs).map(|(q, x)| *q as u128 * *x as u128).sum::<u128>() / ONE as u128;
+    lowest(&[(12, value > VALUE_LIMIT as u128)])?;
+    Ok(value as u64)
+}
+
+/// Where a row stands in its memory, or None: discounts have rows 0 to n − 1, state prices rows 0 to n.
+pub fn row_part(discounts: usize, state_prices: usize, of_state_prices: bool, tree: &Tree, row: usize) -> Option<(usize, usize)> {
+    if !tree.accepted() || discounts < tree.discounts_needed() || state_prices < tree.state_prices_needed() {
+        return None;
+    }
+    let last = if of_state_prices { tree.steps } else { tree.steps - 1 };
+    (row <= last).then(|| (tree.start(row), tree.node_count(row)))
+}
