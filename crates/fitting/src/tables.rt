@@ -118,7 +118,7 @@ fn fit_tables(
         (row (row-start reversion (suc (length (now (quotes .entry))))) (λ j. 0)) ++ drop (row-start reversion (suc (length (now (quotes .entry))))) (now (prices .entry)) ⌝ }
 {
     fill_factors(widest, spacing, factors);
-    lattice::down_probabilities(reversion, widest, downs);
+    branches::down_probabilities(reversion, widest, downs);
     fit_or_clear(
         reversion,
         quotes,

@@ -1,9 +1,9 @@
--- `lattice::branch` meets its contract.
+-- `branches::branch` meets its contract.
 -- Assumes nothing.
 use Prim.Native.Nat.{_≤_}
 use mathlib.Core.Path.{_≡_, refl, sym, ap, _∙_}
 use native.Mathlib.Omega.{arith}
-use Rattle.lattice.proofs.BranchLaws as laws
+use Rattle.branches.proofs.BranchLaws as laws
 use mir.Facts.{toZ-ofZ}
 use lib.IntN.{ℤ, pos, natAbs}
 use mathlib.Core.Bool.{true, false}
@@ -11,8 +11,8 @@ use lib.Signed.{ltZ}
 use Rattle.arithmetic.proofs.Signed.{not-negative}
 use native.Mathlib.Nat.{mul-le-mul}
 use borrow.Author.Needs.{needs}
-use Rattle.lattice.proofs.branch.Statement.{statement}
-use Rattle.lattice.proofs.branch.Tie as tie
+use Rattle.branches.proofs.branch.Statement.{statement}
+use Rattle.branches.proofs.branch.Tie as tie
 
 refused-branch-requires : tie.Need-refused-branch-requires
 refused-branch-requires c κs = search needs

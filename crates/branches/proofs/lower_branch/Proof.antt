@@ -1,13 +1,13 @@
--- `lattice::lower_branch` meets its contract.
+-- `branches::lower_branch` meets its contract.
 -- Assumes nothing.
 use mathlib.Core.Path.{_≡_, refl, sym, ap, _∙_}
 use native.Mathlib.Omega.{arith}
-use Rattle.lattice.proofs.BranchLaws as laws
+use Rattle.branches.proofs.BranchLaws as laws
 use mir.Facts.{toZ-ofZ}
 use lib.IntN.{ℤ, pos, natAbs}
 use borrow.Author.Needs.{needs}
-use Rattle.lattice.proofs.lower_branch.Statement.{statement}
-use Rattle.lattice.proofs.lower_branch.Tie as tie
+use Rattle.branches.proofs.lower_branch.Statement.{statement}
+use Rattle.branches.proofs.lower_branch.Tie as tie
 
 upper-requires : tie.Need-upper-requires
 upper-requires c κs = search needs

@@ -1,4 +1,4 @@
--- `lattice::magnitude` meets its contract.
+-- `branches::magnitude` meets its contract.
 -- Assumes nothing.
 use mathlib.Core.Path.{_≡_, refl, sym, _∙_, ap}
 use mathlib.Core.Bool.{true, false}
@@ -7,8 +7,8 @@ use lib.IntN.{ℤ, pos, natAbs}
 use lib.Signed.{ltZ}
 use mir.Facts.{toZ-ofZ}
 use Rattle.arithmetic.proofs.Signed.{negated, not-negative, fits-by-size}
-use Rattle.lattice.proofs.magnitude.Statement.{statement}
-use Rattle.lattice.proofs.magnitude.Tie as tie
+use Rattle.branches.proofs.magnitude.Statement.{statement}
+use Rattle.branches.proofs.magnitude.Tie as tie
 
 below : (c : tie.Then1) → ltZ (c .before .args .node) (pos 0) ≡ true
 below c = rw (toZ-ofZ (c .before .fits .node)) at (c .if1 .taken)

@@ -1,4 +1,4 @@
--- `lattice::fill_table` meets its contract.
+-- `branches::fill_table` meets its contract.
 -- Assumes nothing.
 use mathlib.Core.Path.{_≡_, refl, sym, ap, _∙_}
 use native.Mathlib.Omega.{arith}
@@ -6,10 +6,10 @@ use borrow.Author.Needs.{needs}
 use Rattle.arithmetic.proofs.RowLaws.{Filled, filled-start, filled-next, filled-all}
 use Prim.Native.Nat.{ℕ, _≤_, _-_}
 use lib.ListN.{length}
 use Rattle.lattice.specs.Branching.{down}
 use Rattle.lattice.specs.RateTree.{node-at}
-use Rattle.lattice.proofs.fill_table.Statement.{statement}
-use Rattle.lattice.proofs.fill_table.Tie as tie
+use Rattle.branches.proofs.fill_table.Statement.{statement}
+use Rattle.branches.proofs.fill_table.Tie as tie
 
 abbrev Inv-loop : tie.InvT-loop
 Inv-loop reversion half-width table₀ index₀ table index = (index ≤ length table₀) × Filled table₀ table (λ k. down reversion (node-at half-width k)) index

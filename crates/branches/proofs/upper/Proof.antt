@@ -1,15 +1,15 @@
--- `lattice::upper` meets its contract.
+-- `branches::upper` meets its contract.
 -- Assumes nothing.
 use mathlib.Core.Path.{refl, sym, ap, _∙_}
 use native.Mathlib.Omega.{arith}
 use Rattle.lattice.proofs.EntryLaws as entry
 use native.Mathlib.Nat.{mul-le-mul}
 use Prim.Native.Nat.{_*_, _≤_}
 use Rattle.lattice.proofs.Nodes.{top-range}
 use Rattle.lattice.proofs.Sizes.{within-by-product}
 use borrow.Author.Needs.{needs}
-use Rattle.lattice.proofs.upper.Statement.{statement}
-use Rattle.lattice.proofs.upper.Tie as tie
+use Rattle.branches.proofs.upper.Statement.{statement}
+use Rattle.branches.proofs.upper.Tie as tie
 
 edge : (c : tie.Then1) → (1841 ≤ c .before .args .distance * c .before .args .reversion) × (c .before .args .distance * c .before .args .reversion ≤ 7840)
 edge c = top-range _ _ (within-by-product _ _ (c .before .pre .2)) (c .if1 .taken) (c .before .pre .0)

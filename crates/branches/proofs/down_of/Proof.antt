@@ -1,11 +1,11 @@
--- `lattice::down_of` meets its contract.
+-- `branches::down_of` meets its contract.
 -- Assumes nothing.
 use mathlib.Core.Path.{_≡_, refl, sym, ap, _∙_}
 use native.Mathlib.Omega.{arith}
 use Rattle.lattice.proofs.TableLaws as laws
 use borrow.Author.Needs.{needs}
-use Rattle.lattice.proofs.down_of.Statement.{statement}
-use Rattle.lattice.proofs.down_of.Tie as tie
+use Rattle.branches.proofs.down_of.Statement.{statement}
+use Rattle.branches.proofs.down_of.Tie as tie
 
 sub-upper : tie.Need-sub-upper
 sub-upper c = search needs

@@ -1,13 +1,13 @@
--- `lattice::near` meets its contract.
+-- `branches::near` meets its contract.
 -- Assumes nothing.
 use mathlib.Core.Path.{refl, sym, ap, _∙_}
 use native.Mathlib.Omega.{arith}
 use Rattle.lattice.specs.Branching.{up-at, middle-at, down-at}
 use lib.IntN.{natAbs}
 use Rattle.lattice.proofs.Formulas as formulas
 use borrow.Author.Needs.{needs}
-use Rattle.lattice.proofs.near.Statement.{statement}
-use Rattle.lattice.proofs.near.Tie as tie
+use Rattle.branches.proofs.near.Statement.{statement}
+use Rattle.branches.proofs.near.Tie as tie
 
 mul-result : tie.Need-mul-result
 mul-result c = omega (arith, formulas.square-within (c .args .z) (c .pre .1))

@@ -1,12 +1,12 @@
--- `lattice::down_probabilities` meets its contract.
+-- `branches::down_probabilities` meets its contract.
 -- Assumes nothing.
 use mathlib.Core.Path.{_≡_, refl, sym, ap, _∙_}
 use native.Mathlib.Omega.{arith}
 use Rattle.lattice.proofs.TableLaws as laws
 use native.Mathlib.Nat.{mul-le-mul}
 use borrow.Author.Needs.{needs}
-use Rattle.lattice.proofs.down_probabilities.Statement.{statement}
-use Rattle.lattice.proofs.down_probabilities.Tie as tie
+use Rattle.branches.proofs.down_probabilities.Statement.{statement}
+use Rattle.branches.proofs.down_probabilities.Tie as tie
 
 returns : tie.Need-returns
 returns c = laws.table-steep _ _ _ (c .if1 .taken)

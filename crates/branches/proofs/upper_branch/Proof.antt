@@ -1,14 +1,14 @@
--- `lattice::upper_branch` meets its contract.
+-- `branches::upper_branch` meets its contract.
 -- Assumes nothing.
 use mathlib.Core.Path.{_≡_, refl, sym, ap, _∙_}
 use native.Mathlib.Omega.{arith}
-use Rattle.lattice.proofs.BranchLaws as laws
+use Rattle.branches.proofs.BranchLaws as laws
 use mir.Facts.{toZ-ofZ}
 use lib.IntN.{ℤ, pos, natAbs}
 use Prim.Native.Nat.{_≤_}
 use borrow.Author.Needs.{needs}
-use Rattle.lattice.proofs.upper_branch.Statement.{statement}
-use Rattle.lattice.proofs.upper_branch.Tie as tie
+use Rattle.branches.proofs.upper_branch.Statement.{statement}
+use Rattle.branches.proofs.upper_branch.Tie as tie
 
 size : (c : tie.Start) → natAbs (c .args .node) ≤ 60
 size c = rw (c .pre .1) (c .pre .0 .1)
