@@ -39,7 +39,7 @@ fn rate(value: u64, printed: u64)
 fn branch(node: i64, up: u64, middle: u64, down: u64)
     requires { ⌜ (up ≤ 1000) × (middle ≤ 1000) × (down ≤ 1000) ⌝ }
 {
-    let found = lattice::branch(1000, 2, node);
+    let found = branches::branch(1000, 2, node);
     let chances = found.probabilities;
     io::write_all(1, b"branch");
     compare(chances[0], 1000, up, 600_000_000, 1);

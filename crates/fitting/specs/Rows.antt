@@ -49,6 +49,14 @@ pub record Tables (b n : ℕ) (factors downs : List ℕ) : Type 0 where
   pub downs-long : length downs ≡ node-count b (n - 1)
   pub downs-hold : (k : ℕ) → k < node-count b (n - 1) → values downs k ≡ down b (node b (n - 1) k)
 
+-- what a fit from tables asks: quotes within their range, and room for the tree in both memories and for a row's amounts
+abbrev pub Ready : ℕ → List ℕ → List ℕ → List ℕ → List ℕ → List ℕ → List ℕ → Type 0
+Ready b quotes factors downs discounts prices amounts =
+    Tables b (length quotes) factors downs
+    × ((i : ℕ) → i < length quotes → 100000000 ≤ values quotes i) × ((i : ℕ) → i < length quotes → values quotes i ≤ 2000000000)
+    × (row-start b (length quotes) ≤ length discounts) × (row-start b (suc (length quotes)) ≤ length prices)
+    × (121 ≤ length amounts)
+
 -- where row i stands: in the memories, its node count and the next row's, and in the tables
 unfoldable pub row-shape : ℕ → ℕ → ℕ → RowShape
 row-shape b n i =

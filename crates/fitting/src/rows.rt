@@ -14,7 +14,7 @@ ghost use Rattle.lattice.specs.RateTree.{rate-tree};
 ghost use Rattle.fitting.specs.Rows.{
   RowReady,
   TreeRow,
-  Tables,
+  Ready,
   table-factor,
   row-shape,
 };
@@ -130,10 +130,7 @@ pub(crate) fn fit_rows(
     prices: &mut [u64],
     amounts: &mut [u64],
 ) -> bool
-    requires { ⌜ Tables reversion (length (now quotes)) (now factors) (now downs)
-        × ((i : ℕ) → i < length (now quotes) → 100000000 ≤ values (now quotes) i) × ((i : ℕ) → i < length (now quotes) → values (now quotes) i ≤ 2000000000)
-        × (row-start reversion (length (now quotes)) ≤ length (now discounts)) × (row-start reversion (suc (length (now quotes))) ≤ length (now prices))
-        × (121 ≤ length (now amounts)) ⌝ }
+    requires { ⌜ Ready reversion (now quotes) (now factors) (now downs) (now discounts) (now prices) (now amounts) ⌝ }
     ensures tested { λ r. ⌜ r ≡ table-accepted reversion (now (quotes .entry)) (now (factors .entry)) ⌝ }
     ensures fitted { λ r. ⌜ (r ≡ true →
         (now (discounts .exit) ≡ laid (rate-tree reversion) (table-discount reversion (now (quotes .entry)) (now (factors .entry))) (length (now (quotes .entry))) ++ drop (row-start reversion (length (now (quotes .entry)))) (now (discounts .entry)))

@@ -12,7 +12,7 @@ ghost use Rattle.tree.specs.Layout.{laid};
 ghost use Rattle.lattice.specs.Shape.{half-width, node-count, row-start};
 ghost use Rattle.lattice.specs.RateTree.{node-at, rate-tree};
 ghost use Rattle.factor.specs.Factor.{factor};
-ghost use Rattle.fitting.specs.Rows.{Tables};
+ghost use Rattle.fitting.specs.Rows.{Ready};
 ghost use Rattle.fitting.specs.Fit.{
   table-discount,
   table-price,
@@ -64,10 +64,7 @@ fn fit_or_clear(
     prices: &mut [u64],
     amounts: &mut [u64],
 ) -> bool
-    requires { ⌜ Tables reversion (length (now quotes)) (now factors) (now downs)
-        × ((i : ℕ) → i < length (now quotes) → 100000000 ≤ values (now quotes) i) × ((i : ℕ) → i < length (now quotes) → values (now quotes) i ≤ 2000000000)
-        × (row-start reversion (length (now quotes)) ≤ length (now discounts)) × (row-start reversion (suc (length (now quotes))) ≤ length (now prices))
-        × (121 ≤ length (now amounts)) ⌝ }
+    requires { ⌜ Ready reversion (now quotes) (now factors) (now downs) (now discounts) (now prices) (now amounts) ⌝ }
     ensures tested { λ r. ⌜ r ≡ table-accepted reversion (now (quotes .entry)) (now (factors .entry)) ⌝ }
     ensures discounted { λ r. ⌜ now (discounts .exit) ≡ cond r
         (laid (rate-tree reversion) (table-discount reversion (now (quotes .entry)) (now (factors .entry))) (length (now (quotes .entry))))
@@ -118,7 +115,7 @@ fn fit_tables(
         (row (row-start reversion (suc (length (now (quotes .entry))))) (λ j. 0)) ++ drop (row-start reversion (suc (length (now (quotes .entry))))) (now (prices .entry)) ⌝ }
 {
     fill_factors(widest, spacing, factors);
-    lattice::down_probabilities(reversion, widest, downs);
+    branches::down_probabilities(reversion, widest, downs);
     fit_or_clear(
         reversion,
         quotes,

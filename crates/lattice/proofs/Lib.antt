@@ -4,6 +4,5 @@ pub mod Nodes
 pub mod Differences
 pub mod RateTreeLaws
 pub mod EntryLaws
-pub mod BranchLaws
 pub mod TableLaws
 pub mod TreeEntries

@@ -5,66 +5,36 @@ use mathlib.Core.List.{List}
 use Prim.Native.Nat.{ℕ, _+_, _-_, _≤_, _<_, max}
 use native.Mathlib.Omega.{arith}
 use lib.ListN.{length, set}
-use borrow.Author.Tests.{lt-ltb, le-ltb, eq-eqb, ne-eqb}
 use Rattle.arithmetic.specs.Row.{values}
 use Rattle.arithmetic.specs.Sum.{greatest}
 use Rattle.arithmetic.proofs.SumLaws.{greatest-none, greatest-next}
 use Rattle.arithmetic.proofs.RowLaws.{Filled, filled-start, filled-next}
 use Rattle.tree.specs.Tree.{whole}
 use Rattle.pricing_laws.specs.Pricer.{exercise, held-or-exercised}
-use Rattle.pricing.specs.declared.rows.Branch.{Branch}
+use Rattle.row_branches.specs.declared.RowBranch.{RowBranch}
+use Rattle.row_branches.specs.RowBranches.{row-branch}
 use Rattle.pricing.specs.declared.values.Terms.{Terms}
 use Rattle.pricing.specs.Terms.{side}
-use Rattle.pricing.specs.Rows.{lowest, opposite, branch-at, branch-roll, rolled-row, option-values, Rollable, Limited, Later, Holds}
-
--- where a branch leads, by the tests that the code makes
-module _ (count next k : ℕ) where
-  pub lowest-grown : count < next → lowest count next k ≡ k
-  unfolding lowest
-  lowest-grown h = rw (lt-ltb count next h)
-
-  module _ (capped : next ≤ count) where
-    pub lowest-first : k ≡ 0 → lowest count next k ≡ 0
-    unfolding lowest
-    lowest-first h = rw (le-ltb count next capped, eq-eqb k 0 h)
-
-    module _ (some : k ≡ 0 → ⊥) where
-      pub lowest-last : k + 1 ≡ count → lowest count next k ≡ k - 2
-      unfolding lowest
-      lowest-last h = rw (le-ltb count next capped, ne-eqb k 0 some, eq-eqb (k + 1) count h)
-
-      pub lowest-inner : (k + 1 ≡ count → ⊥) → lowest count next k ≡ k - 1
-      unfolding lowest
-      lowest-inner h = rw (le-ltb count next capped, ne-eqb k 0 some, ne-eqb (k + 1) count h)
-
--- the branch that the code builds
-pub branch-built :
-    (downs : List ℕ) (next k low : ℕ) → low ≡ lowest (length downs) next k →
-    _≡_ {A = Branch} (record { low = low; down = values downs k; middle = 600000000 - (values downs k + opposite downs k); up = opposite downs k })
-    (branch-at downs next k)
-unfolding branch-at
-branch-built downs next k low e = rw e
+use Rattle.pricing.specs.Rows.{branch-roll, rolled-row, option-values, Rollable, Limited, Later, Holds}
 
 -- what the roll of a node asks of its branch
 module _ (downs discounts later : List ℕ) (next k : ℕ) (r : Rollable downs discounts next) (l : Later later next) (hk : k < length discounts)
-    (b : Branch) (e : b ≡ branch-at downs next k) where
-  low-is : b .low ≡ lowest (length downs) next k
-  unfolding branch-at
-  low-is = ap (λ (x : Branch). x .low) e
+    (b : RowBranch) (e : b ≡ row-branch downs next k) where
+  low-is : b .low ≡ row-branch downs next k .low
+  low-is = ap (λ (x : RowBranch). x .low) e
 
   pub branch-inside : b .low + 2 < length later
   branch-inside = omega (arith, low-is, r .inside k hk, l .room)
 
   pub branch-total : b .down + b .middle + b .up ≡ whole
-  unfolding branch-at
-  branch-total = rw e (omega (arith, r .total k hk))
+  branch-total = rw e (r .total k hk)
 
   pub branch-limited : Limited later (b .low + 3)
   branch-limited j h = l .limited j (omega (arith, low-is, r .inside k hk))
 
   pub branch-rolled : (x : ℕ) → x ≡ branch-roll b (values later) (values discounts k) → x ≡ rolled-row later downs discounts next k
   unfolding rolled-row
-  branch-rolled x h = h ∙ ap (λ (y : Branch). branch-roll y (values later) (values discounts k)) e
+  branch-rolled x h = h ∙ ap (λ (y : RowBranch). branch-roll y (values later) (values discounts k)) e
 
 -- The loop over a row: k nodes done, and the greatest of them.
 pub record Row-state (row₀ row : List ℕ) (f : ℕ → ℕ) (top k : ℕ) : Type 0 where

@@ -11,17 +11,19 @@ use Rattle.arithmetic.specs.Row.{row, values}
 use Rattle.arithmetic.specs.Sum.{greatest}
 use Rattle.arithmetic.proofs.SumLaws.{greatest-cong}
 use Rattle.arithmetic.specs.declared.Answer.{Answer}
-use Rattle.arithmetic.proofs.Numbers.{by-order, by-equal}
 use Rattle.arithmetic.proofs.RowLaws.{length-row, values-row}
 use Rattle.tree.specs.Tree.{whole, outgoing}
 use Rattle.lattice.specs.Shape.{half-width, node-count, row-start}
 use Rattle.lattice.specs.Branching.{up, middle, down}
 use Rattle.lattice.specs.RateTree.{node-at, node, low, rate-tree}
 use Rattle.lattice.specs.Entries.{about-row}
-use Rattle.lattice.proofs.Sizes.{half-within, half-grows, row-within, within-row, row-ends}
+use Rattle.lattice.proofs.Sizes.{half-within, row-within, within-row, row-ends}
 use Rattle.lattice.proofs.EntryLaws.{row-found}
-use Rattle.lattice.proofs.RateTreeLaws.{rate-tree-sound, low-within, low-growing, low-lowest, low-highest, low-inner, index-laws}
-use Rattle.lattice.proofs.TableLaws.{down-from-table, up-from-table}
+use Rattle.lattice.proofs.RateTreeLaws.{rate-tree-sound, low-within, index-laws}
+use Rattle.lattice.proofs.TableLaws.{down-from-table}
+use Rattle.row_branches.specs.declared.RowBranch.{RowBranch}
+use Rattle.row_branches.specs.RowBranches.{row-branch}
+use Rattle.row_branches.proofs.BranchLaws.{row-branch-is}
 use Rattle.pricing_laws.specs.Pricer.{exercise, held-or-exercised}
 use Rattle.pricing_laws.specs.TreePricer.{roll-rounding, node-roll, roll, greatest-discount}
 use Rattle.pricing.specs.declared.values.Terms.{Terms}
@@ -29,9 +31,8 @@ use Rattle.pricing.specs.Terms.{side}
 use Rattle.pricing_laws.proofs.PriceLaws.{roll-same}
 use Rattle.pricing.specs.declared.walk.RowShape.{RowShape}
 use Rattle.pricing.specs.Prices.{discount-at, flow-at}
-use Rattle.pricing.specs.Rows.{lowest, opposite, branch-at, branch-roll, rolled-row, bond-values, option-values, Rollable, Holds}
+use Rattle.pricing.specs.Rows.{branch-roll, rolled-row, bond-values, option-values, Rollable, Holds}
 use Rattle.pricing.specs.Trees.{Accepted, Accepted-flows, down-table, row-shape, rolled-at, bond-step, option-step}
-use Rattle.pricing.proofs.RowSteps.{lowest-grown, lowest-first, lowest-last, lowest-inner}
 
 -- what the lattice answers about a row of the tree
 pub answer-value : (b i x : ℕ) (a : Answer) → b ≤ 6000 → i ≤ 60 → a ≡ about-row b i x → a .value ≡ x
@@ -49,22 +50,6 @@ unfolding row-shape node-count
 shape-built n b i widest half next start ew eh en es =
     let z : i + 1 ≡ suc i = omega arith in
     rw (ew, eh, es, en, z)
-
--- where branches lead, by the node counts of the two rows
-pub lowest-is : (b i k : ℕ) → k < node-count b i → lowest (node-count b i) (node-count b (suc i)) k ≡ low b i k
-unfolding node-count
-lowest-is b i k h =
-    by-order (half-width b (suc i)) (half-width b i)
-    (λ c. let e : half-width b (suc i) ≡ half-width b i = omega (arith, half-grows b i) in capped e)
-    (λ g. lowest-grown _ _ k (omega arith) ∙ sym (low-growing b i k h g))
-  where
-    capped : half-width b (suc i) ≡ half-width b i → lowest (2 * half-width b i + 1) (2 * half-width b (suc i) + 1) k ≡ low b i k
-    capped e =
-        by-equal k 0
-        (λ z. lowest-first _ _ k (omega arith) z ∙ sym (low-lowest b i k h e z))
-        (λ nz. by-equal (k + 1) (2 * half-width b i + 1)
-        (λ l. lowest-last _ _ k (omega arith) nz l ∙ sym (low-highest b i k h e (omega arith)))
-        (λ nl. lowest-inner _ _ k (omega arith) nz nl ∙ sym (low-inner b i k h e (omega (arith, nz)) (omega (arith, nl)))))
 
 -- a part of a list
 pub part-value : (l : List ℕ) (start count k : ℕ) → k < count → values (take count (drop start l)) k ≡ values l (start + k)
@@ -100,19 +85,6 @@ module _ (n b i : ℕ) (hi : i < n) where
       ∙ ap₂ (λ (x y : ℕ). down b (node-at x y)) w z
       ∙ sym (down-from-table b i d k)
 
-  pub table-up : (k : ℕ) → k < node-count b i → opposite table-part k ≡ up b (node b i k)
-  unfolding down-table node-count
-  table-up k h =
-      let d = half-width b n - half-width b i in
-      let w : half-width b n ≡ half-width b i + d = omega (arith, half-later b i n (omega arith)) in
-      let l : length table-part - 1 - k ≡ 2 * half-width b i - k = omega (arith, table-part-length) in
-      let z : d + (2 * half-width b i - k) ≡ 2 * half-width b i - k + d = omega arith in
-      ap (values table-part) l
-      ∙ part-value (down-table n b) d (node-count b i) (2 * half-width b i - k) (omega arith)
-      ∙ values-row (node-count b n) (d + (2 * half-width b i - k)) (λ j. down b (node b n j)) (omega (arith, table-room))
-      ∙ ap₂ (λ (x y : ℕ). down b (node-at x y)) w z
-      ∙ sym (up-from-table b i d k (omega arith))
-
   module _ (discounts : List ℕ) (a : Accepted n b discounts) where
     pub discounts-fit : row-start b i + node-count b i ≤ length discounts
     discounts-fit = omega (arith, row-ends b i n hi, a .room)
@@ -135,16 +107,20 @@ module _ (n b i : ℕ) (hi : i < n) where
     total-is : (k : ℕ) → k < node-count b i → up b (node b i k) + middle b (node b i k) + down b (node b i k) ≡ whole
     total-is k h = index-laws b i k h (a .reverting) .total
 
+    branch-is : (k : ℕ) → k < node-count b i →
+        row-branch table-part (node-count b (suc i)) k
+        ≡ record { low = low b i k; down = down b (node b i k); middle = middle b (node b i k); up = up b (node b i k) }
+    branch-is k h = row-branch-is b i (a .reverting) table-part table-part-length table-down k h
+
     pub rollable : Rollable table-part discount-part (node-count b (suc i))
     rollable =
         record {
-          same = table-part-length ∙ sym discount-part-length;
           inside = λ k h.
               let h′ : k < node-count b i = rw discount-part-length at h in
-              rw table-part-length (rw (lowest-is b i k h′) (low-within b i k h′));
+              rw (branch-is k h′) (low-within b i k h′);
           total = λ k h.
               let h′ : k < node-count b i = rw discount-part-length at h in
-              omega (arith, table-down k h′, table-up k h′, total-is k h′);
+              rw (branch-is k h′) (omega (arith, total-is k h′));
           discounted = λ k h.
               let h′ : k < node-count b i = rw discount-part-length at h in
               omega (arith, discount-part-at k h′, discount-within k h′);
@@ -152,13 +128,8 @@ module _ (n b i : ℕ) (hi : i < n) where
 
     -- the row as the code rolls it is the tree's roll
     pub rolled-is : (later : List ℕ) (k : ℕ) → k < node-count b i → rolled-row later table-part discount-part (node-count b (suc i)) k ≡ rolled-at b discounts i later k
-    unfolding rolled-row rolled-at branch-at branch-roll roll node-roll outgoing rate-tree
-    rolled-is later k h =
-        let m : whole - (values table-part k + opposite table-part k) ≡ middle b (node b i k)
-        = omega (arith, table-down k h, table-up k h, total-is k h) in
-        let l : lowest (length table-part) (node-count b (suc i)) k ≡ low b i k
-        = ap (λ (x : ℕ). lowest x (node-count b (suc i)) k) table-part-length ∙ lowest-is b i k h in
-        rw (l, m, table-down k h, table-up k h, discount-part-at k h)
+    unfolding rolled-row rolled-at branch-roll roll node-roll outgoing rate-tree
+    rolled-is later k h = rw (branch-is k h, discount-part-at k h)
 
     -- a copy of the later row is rolled alike
     rolled-copy : (later row : List ℕ) → Holds later (node-count b (suc i)) (values row) → (k : ℕ) → k < node-count b i → rolled-at b discounts i later k ≡ rolled-at b discounts i row k

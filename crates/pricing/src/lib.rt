@@ -47,7 +47,7 @@ fn fill_table(steps: usize, reversion: u64, table: &mut [u64])
     ensures { λ _. ⌜ now (table .exit) ≡ down-table steps reversion ⌝ }
 {
     let widest = lattice::half_width(reversion, steps);
-    lattice::down_probabilities(reversion, widest.value as usize, table);
+    branches::down_probabilities(reversion, widest.value as usize, table);
 }
 
 // The bond of an accepted tree, in memory that is lent for the table, a row and the row after it.

@@ -1,6 +1,7 @@
 // One row of the tree, rolled back from the row after it.
 use crate::values;
 use crate::values::Terms;
+use row_branches::RowBranch;
 ghost use mathlib.Core.Path.{_≡_};
 ghost use Prim.Native.Nat.{ℕ, _+_, _-_, _*_, _<_, _≤_, max};
 ghost use lib.ListN.{length};
@@ -9,9 +10,6 @@ ghost use Rattle.pricing_laws.specs.Pricer.{exercise};
 ghost use Rattle.pricing.specs.Terms.{side};
 ghost use Rattle.arithmetic.specs.Sum.{greatest};
 ghost use Rattle.pricing.specs.Rows.{
-  lowest,
-  opposite,
-  branch-at,
   branch-roll,
   bond-values,
   option-values,
@@ -21,49 +19,8 @@ ghost use Rattle.pricing.specs.Rows.{
   Holds,
 };
 
-// The three nodes of the next row that a node leads to, from the lowest, and their probabilities over 600,000,000.
-struct Branch {
-    low: usize,
-    down: u64,
-    middle: u64,
-    up: u64,
-}
-
-// The lowest node of the next row that node k leads to: the row grows, or its edges branch inwards.
-fn lowest_target(count: usize, next: usize, k: usize) -> usize
-    requires { ⌜ (k < count) × (lowest count next k + 2 < next) ⌝ }
-    ensures { λ r. ⌜ r ≡ lowest count next k ⌝ }
-{
-    if count < next {
-        return k;
-    }
-    if k == 0 {
-        return 0;
-    }
-    if k + 1 == count {
-        return k - 2;
-    }
-    k - 1
-}
-
-// The branch of node k. Its up-probability is the down-probability of the node opposite.
-fn branch_of(downs: &[u64], next: usize, k: usize) -> Branch
-    requires { ⌜ (k < length (now downs)) × (lowest (length (now downs)) next k + 2 < next) × (values (now downs) k + opposite (now downs) k ≤ 600000000) ⌝ }
-    ensures { λ r. ⌜ r ≡ branch-at (now (downs .entry)) next k ⌝ }
-{
-    let low = lowest_target(downs.len(), next, k);
-    let down = downs[k];
-    let up = downs[downs.len() - 1 - k];
-    Branch {
-        low,
-        down,
-        middle: 600_000_000 - (down + up),
-        up,
-    }
-}
-
 // The roll of a node along its branch: divided by 600,000,000, down; then discounted, down.
-fn roll_node(branch: Branch, later: &[u64], discount: u64) -> u64
+fn roll_node(branch: RowBranch, later: &[u64], discount: u64) -> u64
     requires { ⌜ (branch .low + 2 < length (now later)) × (branch .down + branch .middle + branch .up ≡ 600000000) × Limited (now later) (branch .low + 3) × (discount ≤ 1100000000) ⌝ }
     ensures { λ r. ⌜ (r ≡ branch-roll branch (values (now (later .entry))) discount) × (r ≤ 8800000000) ⌝ }
 {
@@ -89,7 +46,7 @@ pub(crate) fn bond_row(
     let mut top: u64 = 0;
     let mut k: usize = 0;
     while k < discounts.len() {
-        let branch = branch_of(downs, next, k);
+        let branch = row_branches::row_branch(downs, next, k);
         let value = roll_node(branch, later, discounts[k]) + flow;
         row[k] = value;
         top = values::larger(top, value);
@@ -118,7 +75,7 @@ pub(crate) fn option_row(
     let mut top: u64 = 0;
     let mut k: usize = 0;
     while k < discounts.len() {
-        let branch = branch_of(downs, next, k);
+        let branch = row_branches::row_branch(downs, next, k);
         let discount = discounts[k];
         let value = roll_node(branch, bonds, discount) + flow;
         let right = values::held_value(terms, roll_node(branch, options, discount), value);

@@ -2,7 +2,7 @@
 -- Assumes nothing.
 use mathlib.Core.Path.{_≡_, refl, sym, ap, _∙_}
 use mathlib.Core.Bool.{Bool, true, false, cond}
-use mathlib.Core.List.{List, [], _∷_, _++_, append-assoc}
+use mathlib.Core.List.{List, [], _∷_, _++_, append-assoc, append-nil}
 use Prim.Native.Nat.{ℕ, zero, suc, _+_, _-_, _*_, _/_, _%_, _^_, _≤_, _<_}
 use native.Mathlib.Nat.{div-lt-iff-lt-mul, pow-suc, lt-trans, lt-of-le-of-lt, div-le-self}
 use native.Mathlib.Omega.{arith}
@@ -10,7 +10,7 @@ use borrow.Author.Tests.{lt-ltb, le-ltb, ltb-true, ltb-false}
 use lib.Dec.{ltb, lit<}
 use lib.IntN.{ℤ, pos, negsuc, natAbs}
 use lib.ListN.{length, length-append}
-use Rattle.text.specs.Decimal.{digit, naturalWithin, natural, digits, decimal, signOf, signedDecimal}
+use Rattle.text.specs.Decimal.{digit, naturalWithin, natural, digits, fraction, decimal, signOf, signedDecimal}
 
 -- ---- the last digit
 
@@ -49,14 +49,20 @@ unfolding natural naturalWithin
 natural-step zero h = let none : ⊥ = omega arith in absurd none
 natural-step (suc m) h = rw (le-ltb (suc m) 10 h, within m (suc m / 10) (suc m / 10) (omega arith) (omega arith))
 
-pub decimal-whole : (k n : ℕ) → k ≡ 0 → decimal k n ≡ natural n
-unfolding decimal
-decimal-whole k n e = rw e
+pub fraction-none : (k n : ℕ) → k ≡ 0 → fraction k n ≡ []
+unfolding fraction
+fraction-none k n e = rw e
 
-pub decimal-point : (k n : ℕ) → 0 < k → decimal k n ≡ natural (n / 10 ^ k) ++ (46 ∷ digits k n)
-unfolding decimal
-decimal-point zero n h = let none : ⊥ = omega arith in absurd none
-decimal-point (suc k) n h = refl
+pub fraction-point : (k n : ℕ) → 0 < k → fraction k n ≡ 46 ∷ digits k n
+unfolding fraction
+fraction-point zero n h = let none : ⊥ = omega arith in absurd none
+fraction-point (suc k) n h = refl
+
+-- whole part and fraction
+pub decimal-parts : (k n : ℕ) → decimal k n ≡ natural (n / 10 ^ k) ++ fraction k n
+unfolding decimal fraction
+decimal-parts zero n = let e : n / 1 ≡ n = omega arith in rw e (sym (append-nil (natural n)))
+decimal-parts (suc k) n = refl
 
 -- ---- lengths
 
@@ -100,8 +106,11 @@ pub field-room : (k n follower : ℕ) → n < 2 ^ 64 → length (decimal k n ++ 
 field-room k n follower h = omega (arith, length-followed (decimal k n) follower, decimal-room k n h)
 
 -- the parts of a number with decimals, of a field, and of a field with a sign
-pub point-length : (k n : ℕ) → 0 < k → length (decimal k n) ≡ length (natural (n / 10 ^ k)) + (1 + k)
-point-length k n h = rw (decimal-point k n h) (simp (length-append, length-digits k n) (omega arith))
+pub decimal-length : (k n : ℕ) → length (decimal k n) ≡ length (natural (n / 10 ^ k)) + length (fraction k n)
+decimal-length k n = rw (decimal-parts k n) (simp length-append)
+
+pub fraction-length : (k n : ℕ) → 0 < k → length (fraction k n) ≡ 1 + k
+fraction-length k n h = rw (fraction-point k n h) (omega (arith, length-digits k n))
 
 pub field-length : (k n follower : ℕ) → length (decimal k n ++ (follower ∷ [])) ≡ length (decimal k n) + 1
 field-length k n follower = length-followed (decimal k n) follower

@@ -1,8 +1,8 @@
 -- Laws of the lines: how long they are, and what a call leaves.
 -- Assumes nothing.
-use mathlib.Core.Path.{_≡_, refl, sym, ap, _∙_}
+use mathlib.Core.Path.{_≡_, refl, sym, ap, _∙_, subst}
 use mathlib.Core.Bool.{Bool, true, false, cond, not, _&&_}
-use mathlib.Core.List.{List, [], _∷_, _++_}
+use mathlib.Core.List.{List, [], _∷_, _++_, append-assoc}
 use Prim.Native.Nat.{ℕ, suc, _+_, _-_, _≤_, _<_, _^_}
 use native.Mathlib.Omega.{arith}
 use borrow.Author.Tests.{le-leb, lt-leb, leb-true}
@@ -11,7 +11,7 @@ use lib.IntN.{ℤ, natAbs}
 use lib.ListN.{length, length-append}
 use Rattle.text.specs.Decimal.{decimal, signedDecimal}
 use Rattle.text.specs.Put.{putBefore, Put}
-use Rattle.text.specs.Lines.{nodeLine, rowLine, priceLine, refusedLine, hasRoom, lineStart, withLine}
+use Rattle.text.specs.Lines.{space, newline, whole, amount, nodeLine, rowLine, priceLine, refusedLine, hasRoom, lineStart, withLine}
 use Rattle.text.proofs.DecimalLaws.{decimal-room, field-room, signed-room}
 use Rattle.text.proofs.PutLaws.{put-before, put-whole, length-put}
 
@@ -106,6 +106,14 @@ module _ (out : List ℕ) (end : ℕ) (line : List ℕ) where
       let r = room-there h p in
       let s′ : start ≡ end - length line = rw r at s in
       put-whole out after line end start (omega arith) p (rw r at a)
+
+-- the word and the first field of a line, put before the rest of it
+pub put-label : {out after later text : List ℕ} {end mid start : ℕ} (word field : List ℕ) → Put out end text mid after → Put after mid (word ++ field) start later → Put out end (word ++ (field ++ text)) start later
+put-label {out} {after} {later} {text} {end} {mid} {start} word field p q = subst (λ (l : List ℕ). Put out end l start later) (append-assoc word field text) (put-before p q)
+
+-- an amount and its bound are at most 53 bytes
+pub bounded-room : (value bound : ℕ) → value < 2 ^ 64 → bound < 2 ^ 64 → length ((amount value ++ space) ++ (whole bound ++ newline)) ≤ 53
+bounded-room value bound a b = let x = field-room 9 value 32 a in let y = field-room 0 bound 10 b in rw (length-append (amount value ++ space) (whole bound ++ newline)) (omega arith)
 
 -- the room that a text leaves before it
 pub room-left : {out text after : List ℕ} {end mid : ℕ} (most left : ℕ) → Put out end text mid after → most + left ≤ end → length text ≤ most → (left ≤ mid) × (mid ≤ length after)

@@ -24,6 +24,11 @@ unfoldable pub digits : ℕ → ℕ → List ℕ
 digits zero n = []
 digits (suc k) n = digits k (n / 10) ++ (digit (n % 10) ∷ [])
 
+-- the point and the k decimals of n over 10 ^ k; without decimals there is no point
+unfoldable pub fraction : ℕ → ℕ → List ℕ
+fraction zero n = []
+fraction (suc k) n = 46 ∷ digits (suc k) n
+
 -- n over 10 ^ k, with k decimals; without decimals there is no point
 unfoldable pub decimal : ℕ → ℕ → List ℕ
 decimal zero n = natural n

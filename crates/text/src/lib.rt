@@ -6,8 +6,12 @@ ghost use mathlib.Core.List.{List, [], _∷_, _++_};
 ghost use Prim.Native.Nat.{ℕ, _+_, _-_, _≤_, _<_};
 ghost use lib.ListN.{length};
 ghost use lib.IntN.{natAbs};
-ghost use Rattle.text.specs.Decimal.{natural, digits, decimal, signOf, signedDecimal};
+ghost use Rattle.text.specs.Decimal.{natural, fraction, decimal, signOf, signedDecimal};
 ghost use Rattle.text.specs.Lines.{
+  space,
+  newline,
+  whole,
+  amount,
   nodeLine,
   rowLine,
   priceLine,
@@ -32,15 +36,6 @@ fn has_room(size: usize, end: usize) -> bool
     end <= size
 }
 
-fn put_byte(out: &mut [u8], end: usize, byte: u8) -> usize
-    requires { ⌜ (0 < end) × (end ≤ length (now out)) ⌝ }
-    ensures { λ r. ⌜ Put (now (out .entry)) end (byte ∷ []) r (now (out .exit)) ⌝ }
-{
-    let start = end - 1;
-    out[start] = byte;
-    start
-}
-
 fn put_word(out: &mut [u8], end: usize, word: &[u8]) -> usize
     requires { ⌜ (length (now word) ≤ end) × (end ≤ length (now out)) ⌝ }
     ensures { λ r. ⌜ Put (now (out .entry)) end (now (word .entry)) r (now (out .exit)) ⌝ }
@@ -55,20 +50,25 @@ fn put_word(out: &mut [u8], end: usize, word: &[u8]) -> usize
     start
 }
 
-// The last `count` digits of a number.
-fn put_digits(out: &mut [u8], end: usize, number: u64, count: usize) -> usize
-    requires { ⌜ (count ≤ end) × (end ≤ length (now out)) ⌝ }
-    ensures { λ r. ⌜ Put (now (out .entry)) end (digits count number) r (now (out .exit)) ⌝ }
+// The point and the decimals of a number; nothing where it has none.
+fn put_fraction(out: &mut [u8], end: usize, number: u64, decimals: usize) -> usize
+    requires { ⌜ (length (fraction decimals number) ≤ end) × (end ≤ length (now out)) ⌝ }
+    ensures { λ r. ⌜ Put (now (out .entry)) end (fraction decimals number) r (now (out .exit)) ⌝ }
 {
+    if decimals == 0 {
+        return end;
+    }
     let mut rest = number;
     let mut start = end;
-    let mut left = count;
+    let mut left = decimals;
     while left > 0 {
         start -= 1;
         out[start] = 48 + (rest % 10) as u8;
         rest /= 10;
         left -= 1;
     }
+    start -= 1;
+    out[start] = b'.';
     start
 }
 
@@ -84,7 +84,9 @@ fn put_natural(out: &mut [u8], end: usize, number: u64) -> usize
         out[start] = 48 + (rest % 10) as u8;
         rest /= 10;
     }
-    put_byte(out, start, 48 + rest as u8)
+    start -= 1;
+    out[start] = 48 + rest as u8;
+    start
 }
 
 // A number over a power of ten, with as many decimals.
@@ -92,11 +94,7 @@ fn put_decimal(out: &mut [u8], end: usize, number: u64, decimals: usize) -> usiz
     requires { ⌜ (decimals < 19) × (length (decimal decimals number) ≤ end) × (end ≤ length (now out)) ⌝ }
     ensures { λ r. ⌜ Put (now (out .entry)) end (decimal decimals number) r (now (out .exit)) ⌝ }
 {
-    if decimals == 0 {
-        return put_natural(out, end, number);
-    }
-    let after = put_digits(out, end, number, decimals);
-    let point = put_byte(out, after, b'.');
+    let point = put_fraction(out, end, number, decimals);
     put_natural(out, point, number / arithmetic::power_of_ten(decimals))
 }
 
@@ -105,7 +103,8 @@ fn put_field(out: &mut [u8], end: usize, number: u64, decimals: usize, follower:
     requires { ⌜ (decimals < 19) × (length (decimal decimals number ++ (follower ∷ [])) ≤ end) × (end ≤ length (now out)) ⌝ }
     ensures { λ r. ⌜ Put (now (out .entry)) end (decimal decimals number ++ (follower ∷ [])) r (now (out .exit)) ⌝ }
 {
-    let after = put_byte(out, end, follower);
+    let after = end - 1;
+    out[after] = follower;
     put_decimal(out, after, number, decimals)
 }
 
@@ -129,7 +128,9 @@ fn put_sign(out: &mut [u8], end: usize, number: i64) -> usize
     ensures { λ r. ⌜ Put (now (out .entry)) end (signOf number) r (now (out .exit)) ⌝ }
 {
     if number < 0 {
-        return put_byte(out, end, b'-');
+        let start = end - 1;
+        out[start] = b'-';
+        return start;
     }
     end
 }
@@ -143,6 +144,24 @@ fn put_signed_field(out: &mut [u8], end: usize, number: i64, decimals: usize, fo
     put_sign(out, unsigned, number)
 }
 
+// A line's word and the whole number that follows it.
+fn put_label(out: &mut [u8], end: usize, word: &[u8], number: u64, follower: u8) -> usize
+    requires { ⌜ (length (now word) + 22 ≤ end) × (end ≤ length (now out)) ⌝ }
+    ensures { λ r. ⌜ Put (now (out .entry)) end (now (word .entry) ++ (whole number ++ (follower ∷ []))) r (now (out .exit)) ⌝ }
+{
+    let start = put_field(out, end, number, 0, follower);
+    put_word(out, start, word)
+}
+
+// An amount and its error bound, with which a line ends.
+fn put_bounded(out: &mut [u8], end: usize, value: u64, bound: u64) -> usize
+    requires { ⌜ (53 ≤ end) × (end ≤ length (now out)) ⌝ }
+    ensures { λ r. ⌜ Put (now (out .entry)) end ((amount value ++ space) ++ (whole bound ++ newline)) r (now (out .exit)) ⌝ }
+{
+    let start = put_field(out, end, bound, 0, b'\n');
+    put_field(out, start, value, 9, b' ')
+}
+
 // `node ROW NODE DISCOUNT RATE`: the rate is in billionths, and is put in percent.
 pub fn node_line(out: &mut [u8], end: usize, row: u64, node: i64, discount: u64, rate: i64) -> usize
     ensures { λ r. ⌜ r ≡ lineStart (now (out .entry)) end (nodeLine row node discount rate) ⌝ }
@@ -154,8 +173,7 @@ pub fn node_line(out: &mut [u8], end: usize, row: u64, node: i64, discount: u64,
     let rate_start = put_signed_field(out, end, rate, 7, b'\n');
     let discount_start = put_field(out, rate_start, discount, 9, b' ');
     let node_start = put_signed_field(out, discount_start, node, 0, b' ');
-    let row_start = put_field(out, node_start, row, 0, b' ');
-    put_word(out, row_start, b"node ")
+    put_label(out, node_start, b"node ", row, b' ')
 }
 
 // `row ROW QUOTE SUM ALLOWANCE`.
@@ -166,11 +184,9 @@ pub fn row_line(out: &mut [u8], end: usize, row: u64, quote: u64, total: u64, bo
     if !has_room(out.len(), end) {
         return end;
     }
-    let bound_start = put_field(out, end, bound, 0, b'\n');
-    let total_start = put_field(out, bound_start, total, 9, b' ');
+    let total_start = put_bounded(out, end, total, bound);
     let quote_start = put_field(out, total_start, quote, 9, b' ');
-    let row_start = put_field(out, quote_start, row, 0, b' ');
-    put_word(out, row_start, b"row ")
+    put_label(out, quote_start, b"row ", row, b' ')
 }
 
 // A word, a price and its error bound.
@@ -182,8 +198,7 @@ fn price_line(out: &mut [u8], end: usize, word: &[u8], price: u64, bound: u64) -
     if !has_room(out.len(), end) {
         return end;
     }
-    let bound_start = put_field(out, end, bound, 0, b'\n');
-    let price_start = put_field(out, bound_start, price, 9, b' ');
+    let price_start = put_bounded(out, end, price, bound);
     put_word(out, price_start, word)
 }
 
@@ -211,6 +226,5 @@ pub fn refused_line(out: &mut [u8], end: usize, number: u64) -> usize
     if !has_room(out.len(), end) {
         return end;
     }
-    let number_start = put_field(out, end, number, 0, b'\n');
-    put_word(out, number_start, b"refused ")
+    put_label(out, end, b"refused ", number, b'\n')
 }

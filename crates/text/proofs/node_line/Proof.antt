@@ -6,10 +6,10 @@ use native.Mathlib.Omega.{arith}
 use lib.ListN.{length}
 use mir.Facts.{toZ-ofZ}
 use borrow.Author.Needs.{needs}
-use Rattle.text.specs.Lines.{nodeLine}
+use Rattle.text.specs.Lines.{nodeWord, nodeLine}
 use Rattle.text.proofs.DecimalLaws.{field-room}
 use Rattle.text.proofs.Signs.{held-room}
-use Rattle.text.proofs.LineLaws.{room-given, room-missing, start-missing, line-missing, start-put, line-put, room-left}
+use Rattle.text.proofs.LineLaws.{room-given, room-missing, start-missing, line-missing, start-put, line-put, room-left, put-label}
 use Rattle.text.proofs.PutLaws.{put-before}
 use Rattle.text.proofs.node_line.Statement.{statement}
 use Rattle.text.proofs.node_line.Tie as tie
@@ -44,17 +44,11 @@ put-signed-field-requires-2 c κs = let r = discount-put (c .before .before .bef
 node-put : (c : tie.After-put-signed-field2) → (44 ≤ c .put-signed-field2 .result) × (c .put-signed-field2 .result ≤ length (c .put-signed-field2 .last .0))
 node-put c = let r = discount-put (c .before .before .before .before) in room-left 23 44 (c .put-signed-field2 .ensures) (omega arith) (held-room 0 32 (c .before .before .before .before .before .before .before .before .before .before .before .before .before .args .node) (c .before .before .before .before .before .before .before .before .before .before .before .before .before .fits .node))
 
-put-field-requires-2 : tie.Need-put-field-requires-2
-put-field-requires-2 c κs = let r = node-put (c .before .before .before) in (omega arith, omega (arith, field-room 0 (c .before .before .before .before .before .before .before .before .before .before .before .before .before .before .before .before .args .row) 32 (c .before .before .before .before .before .before .before .before .before .before .before .before .before .before .before .before .fits .row .fits)), r .1)
+slice-aggregate-put-label : tie.Need-slice-aggregate-put-label
+slice-aggregate-put-label c = search needs
 
-row-put : (c : tie.After-put-field2) → (22 ≤ c .put-field2 .result) × (c .put-field2 .result ≤ length (c .put-field2 .last .0))
-row-put c = let r = node-put (c .before .before .before .before) in room-left 22 22 (c .put-field2 .ensures) (omega arith) (field-room 0 (c .before .before .before .before .before .before .before .before .before .before .before .before .before .before .before .before .before .args .row) 32 (c .before .before .before .before .before .before .before .before .before .before .before .before .before .before .before .before .before .fits .row .fits))
-
-slice-aggregate-put-word : tie.Need-slice-aggregate-put-word
-slice-aggregate-put-word c = search needs
-
-put-word-requires : tie.Need-put-word-requires
-put-word-requires c κs = let r = row-put (c .before .before .before .before) in (omega arith, r .1)
+put-label-requires : tie.Need-put-label-requires
+put-label-requires c κs = let r = node-put (c .before .before .before .before) in (omega arith, r .1)
 
 same-length : tie.Need-same-length
 same-length c = search needs
@@ -62,9 +56,11 @@ same-length c = search needs
 returns-2 : tie.Need-returns-2
 unfolding nodeLine
 returns-2 c =
-    let s = c .before .before .before .before .before .before .before .before .before .before .before .before .before .before .before .before .before .before .before .before .before .before .before .before in
-    let h = room (c .before .before .before .before .before .before .before .before .before .before .before .before .before .before .before .before .before .before .before .before .before) .0 in
-    let put = put-before (put-before (put-before (put-before (rw (toZ-ofZ (s .fits .rate)) at (c .before .before .before .before .before .before .before .before .before .before .before .before .before .before .before .before .before .before .before .put-signed-field .ensures)) (c .before .before .before .before .before .before .before .before .before .before .before .before .before .before .before .put-field .ensures)) (rw (toZ-ofZ (s .fits .node)) at (c .before .before .before .before .before .before .before .before .before .before .before .put-signed-field2 .ensures))) (c .before .before .before .before .before .before .before .put-field2 .ensures)) (c .before .before .put-word .ensures) in
+    let s = c .before .before .before .before .before .before .before .before .before .before .before .before .before .before .before .before .before .before .before .before in
+    let h = room (c .before .before .before .before .before .before .before .before .before .before .before .before .before .before .before .before .before) .0 in
+    let rate = rw (toZ-ofZ (s .fits .rate)) at (c .before .before .before .before .before .before .before .before .before .before .before .before .before .before .before .put-signed-field .ensures) in
+    let node = rw (toZ-ofZ (s .fits .node)) at (c .before .before .before .before .before .before .before .put-signed-field2 .ensures) in
+    let put = put-label nodeWord _ (put-before (put-before rate (c .before .before .before .before .before .before .before .before .before .before .before .put-field .ensures)) node) (c .before .before .put-label .ensures) in
     (start-put (s .args .out .now) (s .args .end) _ h put, line-put (s .args .out .now) (s .args .end) _ h put)
 
 pub node-line-spec : {M : Type 1} → statement M
@@ -76,8 +72,7 @@ node-line-spec =
     put-signed-field-requires
     put-field-requires
     put-signed-field-requires-2
-    put-field-requires-2
-    slice-aggregate-put-word
-    put-word-requires
+    slice-aggregate-put-label
+    put-label-requires
     same-length
     returns-2)

@@ -6,8 +6,7 @@ use native.Mathlib.Omega.{arith}
 use lib.ListN.{length}
 use borrow.Author.Needs.{needs}
 use Rattle.text.specs.Lines.{priceLine}
-use Rattle.text.proofs.DecimalLaws.{field-room}
-use Rattle.text.proofs.LineLaws.{room-given, room-missing, start-missing, line-missing, start-put, line-put, room-left}
+use Rattle.text.proofs.LineLaws.{room-given, room-missing, start-missing, line-missing, start-put, line-put, room-left, bounded-room}
 use Rattle.text.proofs.PutLaws.{put-before}
 use Rattle.text.proofs.price_line.Statement.{statement}
 use Rattle.text.proofs.price_line.Tie as tie
@@ -24,20 +23,15 @@ returns c =
 room : (c : tie.Else1) → (128 ≤ c .before .before .before .before .args .end) × (c .before .before .before .before .args .end ≤ length (c .before .before .before .before .args .out .now))
 room c = room-given (length (c .before .before .before .before .args .out .now)) (c .before .before .before .before .args .end) (c .before .has-room .result) (c .before .has-room .ensures) (c .if1 .left)
 
-put-field-requires : tie.Need-put-field-requires
-put-field-requires c κs = let r = room (c .before) in (omega arith, omega (arith, field-room 0 (c .before .before .before .before .before .args .bound) 10 (c .before .before .before .before .before .fits .bound .fits)), r .1)
-
-bound-put : (c : tie.After-put-field) → (106 ≤ c .put-field .result) × (c .put-field .result ≤ length (c .put-field .last .0))
-bound-put c = let r = room (c .before .before) in room-left 22 106 (c .put-field .ensures) (omega arith) (field-room 0 (c .before .before .before .before .before .before .args .bound) 10 (c .before .before .before .before .before .before .fits .bound .fits))
-
-put-field-requires-2 : tie.Need-put-field-requires-2
-put-field-requires-2 c κs = let r = bound-put (c .before .before .before) in (omega arith, omega (arith, field-room 9 (c .before .before .before .before .before .before .before .before .before .args .price) 32 (c .before .before .before .before .before .before .before .before .before .fits .price .fits)), r .1)
-
-price-put : (c : tie.After-put-field2) → (75 ≤ c .put-field2 .result) × (c .put-field2 .result ≤ length (c .put-field2 .last .0))
-price-put c = let r = bound-put (c .before .before .before .before) in room-left 31 75 (c .put-field2 .ensures) (omega arith) (field-room 9 (c .before .before .before .before .before .before .before .before .before .before .args .price) 32 (c .before .before .before .before .before .before .before .before .before .before .fits .price .fits))
+put-bounded-requires : tie.Need-put-bounded-requires
+put-bounded-requires c κs = let r = room (c .before) in (omega arith, r .1)
 
 put-word-requires : tie.Need-put-word-requires
-put-word-requires c κs = let r = price-put (c .before .before .before) in (omega arith, r .1)
+put-word-requires c κs =
+    let r = room (c .before .before .before .before .before) in
+    let s = c .before .before .before .before .before .before .before .before .before in
+    let p = room-left 53 75 (c .before .before .before .put-bounded .ensures) (omega arith) (bounded-room (s .args .price) (s .args .bound) (s .fits .price .fits) (s .fits .bound .fits)) in
+    (omega arith, p .1)
 
 same-length : tie.Need-same-length
 same-length c = search needs
@@ -45,19 +39,10 @@ same-length c = search needs
 returns-2 : tie.Need-returns-2
 unfolding priceLine
 returns-2 c =
-    let s = c .before .before .before .before .before .before .before .before .before .before .before .before .before .before .before .before in
-    let h = room (c .before .before .before .before .before .before .before .before .before .before .before .before) .0 in
-    let put = put-before (put-before (c .before .before .before .before .before .before .before .before .before .before .put-field .ensures) (c .before .before .before .before .before .before .put-field2 .ensures)) (c .before .before .put-word .ensures) in
+    let s = c .before .before .before .before .before .before .before .before .before .before .before .before in
+    let h = room (c .before .before .before .before .before .before .before .before) .0 in
+    let put = put-before (c .before .before .before .before .before .before .put-bounded .ensures) (c .before .before .put-word .ensures) in
     (start-put (s .args .out .now) (s .args .end) _ h put, line-put (s .args .out .now) (s .args .end) _ h put)
 
 pub price-line-spec : {M : Type 1} → statement M
-price-line-spec =
-    tie.close
-    (tie.spec
-    has-room-requires
-    returns
-    put-field-requires
-    put-field-requires-2
-    put-word-requires
-    same-length
-    returns-2)
+price-line-spec = tie.close (tie.spec has-room-requires returns put-bounded-requires put-word-requires same-length returns-2)

@@ -1,7 +1,6 @@
 -- `text::put_natural` meets its contract. The invariant: the digits that are left, put before the place, give the whole.
 -- Assumes nothing.
-use mathlib.Core.Path.{_≡_, refl, sym, ap, _∙_}
-use mathlib.Core.List.{List, [], _∷_}
+use mathlib.Core.Path.{_≡_}
 use Prim.Native.Nat.{ℕ, _≤_, _+_, _-_, _/_, _%_}
 use native.Mathlib.Omega.{arith}
 use lib.ListN.{length, length-set}
@@ -9,7 +8,7 @@ use borrow.Author.Needs.{needs}
 use Rattle.text.specs.Decimal.{digit, natural}
 use Rattle.text.specs.Put.{putBefore}
 use Rattle.text.proofs.DecimalLaws.{natural-small, natural-step, length-natural-small, length-natural-step}
-use Rattle.text.proofs.PutLaws.{put-last, put-whole}
+use Rattle.text.proofs.PutLaws.{put-last, put-front}
 use Rattle.text.proofs.put_natural.Statement.{statement}
 use Rattle.text.proofs.put_natural.Tie as tie
 
@@ -49,29 +48,28 @@ loop-again c =
       put-last (l .out) (natural (l .rest / 10)) (natural (l .rest)) _ (l .start) (digit (l .rest % 10)) (natural-step (l .rest) (omega arith)) (omega arith) (omega arith) (l .inv .3),
     )
 
-cast-put-byte : tie.Need-cast-put-byte Inv-loop μ-loop
-cast-put-byte c = search needs
+sub-start-2 : tie.Need-sub-start-2 Inv-loop μ-loop
+sub-start-2 c = omega (arith, length-natural-small (c .before .loop .rest) (omega arith))
 
-add-put-byte : tie.Need-add-put-byte Inv-loop μ-loop
-add-put-byte c = search needs
+cast-out-2 : tie.Need-cast-out-2 Inv-loop μ-loop
+cast-out-2 c = search needs
 
-put-byte-requires : tie.Need-put-byte-requires Inv-loop μ-loop
-put-byte-requires c κs =
-    let l = c .before .before .loop in
-    let n = length-natural-small (l .rest) (omega arith) in
-    (omega arith, omega arith)
+add-out-2 : tie.Need-add-out-2 Inv-loop μ-loop
+add-out-2 c = search needs
+
+slice-write-out-2 : tie.Need-slice-write-out-2 Inv-loop μ-loop
+slice-write-out-2 c = omega (arith, length-natural-small (c .before .loop .rest) (omega arith))
 
 same-length : tie.Need-same-length Inv-loop μ-loop
-same-length c = search needs
+same-length c = simp length-set (search needs)
 
 returns : tie.Need-returns Inv-loop μ-loop
 returns c =
-    let b = c .before .before .put-byte in
-    let a = c .before .before .before .before .before .before .before .args in
-    let l = c .before .before .before .before .before .loop in
+    let s = c .before .before in
+    let l = c .before .loop in
     let n = length-natural-small (l .rest) (omega arith) in
-    put-whole (a .out .now) (b .last .0) (natural (a .number)) (a .end) (b .result) (omega (arith, b .ensures .place)) (c .before .before .before .before .before .before .before .pre .1)
-    (b .ensures .memory ∙ ap (λ (t : List ℕ). putBefore (l .out) (l .start) t) (sym (natural-small (l .rest) (omega arith))) ∙ l .inv .3)
+    put-front (l .out) (s .args .out .now) (natural (s .args .number)) (natural (l .rest)) (l .start) (digit (l .rest)) (s .args .end) (omega arith) (omega arith) (natural-small (l .rest) (omega arith))
+    (omega arith) (s .pre .1) (l .inv .3)
 
 pub put-natural-spec : {M : Type 1} → statement M
 put-natural-spec =
@@ -86,8 +84,9 @@ put-natural-spec =
     slice-write-out
     loop-less
     loop-again
-    cast-put-byte
-    add-put-byte
-    put-byte-requires
+    sub-start-2
+    cast-out-2
+    add-out-2
+    slice-write-out-2
     same-length
     returns)

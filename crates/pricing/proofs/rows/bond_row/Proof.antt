@@ -21,11 +21,8 @@ abbrev μ-loop : tie.MeasureT-loop
 loop-holds : tie.Need-loop-holds Inv-loop μ-loop
 loop-holds c = (omega arith, row-start _ _)
 
-branch-of-requires : tie.Need-branch-of-requires Inv-loop μ-loop
-branch-of-requires c κs =
-    let s = c .before .before .before .before .before .before in
-    let r = s .pre .0 in
-    (omega (arith, r .same), r .inside (c .before .loop .k) (omega arith), r .total (c .before .loop .k) (omega arith))
+row-branch-requires : tie.Need-row-branch-requires Inv-loop μ-loop
+row-branch-requires c κs = search needs
 
 mul-roll-node : tie.Need-mul-roll-node Inv-loop μ-loop
 mul-roll-node c = omega arith
@@ -36,7 +33,7 @@ shared-slice-read-roll-node c = omega arith
 roll-node-requires : tie.Need-roll-node-requires Inv-loop μ-loop
 roll-node-requires c κs =
     let s = c .before .before .before .before .before .before .before .before in
-    let e = c .before .branch-of .ensures in (
+    let e = c .before .row-branch .ensures in (
       branch-inside _ _ (now (s .args .later)) _ _ (s .pre .0) (s .pre .1) (omega arith) _ e,
       branch-total _ _ (now (s .args .later)) _ _ (s .pre .0) (s .pre .1) (omega arith) _ e,
       branch-limited _ _ (now (s .args .later)) _ _ (s .pre .0) (s .pre .1) (omega arith) _ e,
@@ -68,7 +65,7 @@ loop-again c =
       omega arith,
       row-next _ (l .row) _ (l .top) (l .k) _ _ (l .inv .1) (omega (arith, l .inv .1 .filled .same, s .pre .2))
           (ap (λ (x : ℕ). x + s .args .flow)
-          (branch-rolled _ _ _ _ _ (s .pre .0) (s .pre .1) (omega arith) _ (c .before .before .before .branch-of .ensures) _ (c .before .roll-node .ensures .0)))
+          (branch-rolled _ _ _ _ _ (s .pre .0) (s .pre .1) (omega arith) _ (c .before .before .before .row-branch .ensures) _ (c .before .roll-node .ensures .0)))
           (c .larger .ensures),
     )
 
@@ -85,7 +82,7 @@ bond-row-spec =
     Inv-loop
     μ-loop
     loop-holds
-    branch-of-requires
+    row-branch-requires
     mul-roll-node
     shared-slice-read-roll-node
     roll-node-requires

@@ -22,11 +22,8 @@ abbrev μ-loop : tie.MeasureT-loop
 loop-holds : tie.Need-loop-holds Inv-loop μ-loop
 loop-holds c = (omega arith, rows-start _ _ _ _)
 
-branch-of-requires : tie.Need-branch-of-requires Inv-loop μ-loop
-branch-of-requires c κs =
-    let s = c .before .before .before .before .before .before .before .before in
-    let r = s .pre .0 in
-    (omega (arith, r .same), r .inside (c .before .loop .k) (omega arith), r .total (c .before .loop .k) (omega arith))
+row-branch-requires : tie.Need-row-branch-requires Inv-loop μ-loop
+row-branch-requires c κs = search needs
 
 mul-discount : tie.Need-mul-discount Inv-loop μ-loop
 mul-discount c = omega arith
@@ -37,7 +34,7 @@ shared-slice-read-discount c = omega arith
 roll-node-requires : tie.Need-roll-node-requires Inv-loop μ-loop
 roll-node-requires c κs =
     let s = c .before .before .before .before .before .before .before .before .before .before in
-    let e = c .before .branch-of .ensures in (
+    let e = c .before .row-branch .ensures in (
       branch-inside _ _ (now (s .args .bonds)) _ _ (s .pre .0) (s .pre .1) (omega arith) _ e,
       branch-total _ _ (now (s .args .bonds)) _ _ (s .pre .0) (s .pre .1) (omega arith) _ e,
       branch-limited _ _ (now (s .args .bonds)) _ _ (s .pre .0) (s .pre .1) (omega arith) _ e,
@@ -50,7 +47,7 @@ add-value c = omega (arith, c .roll-node .ensures .1, c .before .before .before 
 roll-node-requires-2 : tie.Need-roll-node-requires-2 Inv-loop μ-loop
 roll-node-requires-2 c κs =
     let s = c .before .before .before .before .before .before .before .before .before .before .before in
-    let e = c .before .before .branch-of .ensures in (
+    let e = c .before .before .row-branch .ensures in (
       branch-inside _ _ (now (s .args .options)) _ _ (s .pre .0) (s .pre .2) (omega arith) _ e,
       branch-total _ _ (now (s .args .options)) _ _ (s .pre .0) (s .pre .2) (omega arith) _ e,
       branch-limited _ _ (now (s .args .options)) _ _ (s .pre .0) (s .pre .2) (omega arith) _ e,
@@ -89,8 +86,8 @@ loop-again c =
     let s = c .before .before .before .before .before .before .before .before .before .before .before .before .before .before .before in
     let l = c .before .before .before .before .before .before .before .before .loop in
     let b = ap (λ (x : ℕ). x + s .args .flow)
-    (branch-rolled _ _ _ _ _ (s .pre .0) (s .pre .1) (omega arith) _ (c .before .before .before .before .before .before .branch-of .ensures) _ (c .before .before .before .before .roll-node .ensures .0)) in
-    let o = branch-rolled _ _ _ _ _ (s .pre .0) (s .pre .2) (omega arith) _ (c .before .before .before .before .before .before .branch-of .ensures) _ (c .before .before .before .roll-node2 .ensures .0) in (
+    (branch-rolled _ _ _ _ _ (s .pre .0) (s .pre .1) (omega arith) _ (c .before .before .before .before .before .before .row-branch .ensures) _ (c .before .before .before .before .roll-node .ensures .0)) in
+    let o = branch-rolled _ _ _ _ _ (s .pre .0) (s .pre .2) (omega arith) _ (c .before .before .before .before .before .before .row-branch .ensures) _ (c .before .before .before .roll-node2 .ensures .0) in (
       omega arith,
       rows-next _ (l .bond) _ (l .option) _ _ (l .top) (l .k) _ _ _ _ (l .inv .1)
           (omega (arith, l .inv .1 .bond-filled .same, s .pre .3)) (omega (arith, l .inv .1 .option-filled .same, s .pre .4))
@@ -113,7 +110,7 @@ option-row-spec =
     Inv-loop
     μ-loop
     loop-holds
-    branch-of-requires
+    row-branch-requires
     mul-discount
     shared-slice-read-discount
     roll-node-requires

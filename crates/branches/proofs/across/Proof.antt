@@ -1,0 +1,25 @@
+-- `branches::across` meets its contract.
+-- Assumes nothing.
+use mathlib.Core.Path.{refl, sym, ap, _∙_}
+use native.Mathlib.Omega.{arith}
+use borrow.Author.Needs.{needs}
+use Rattle.lattice.specs.Branching.{up-at, middle-at, down-at}
+use lib.IntN.{natAbs}
+use Rattle.lattice.proofs.Formulas as formulas
+use Rattle.branches.proofs.across.Statement.{statement}
+use Rattle.branches.proofs.across.Tie as tie
+
+mul-result : tie.Need-mul-result
+mul-result c = omega (arith, formulas.square-within (c .args .z) (omega arith))
+
+mul-result-2 : tie.Need-mul-result-2
+mul-result-2 c = omega (arith, formulas.square-within (c .args .z) (omega arith))
+
+sub-result : tie.Need-sub-result
+sub-result c = omega (arith, formulas.across-whole (c .args .z) (c .pre))
+
+returns : tie.Need-returns
+returns c = sym (ap natAbs (formulas.upper-ordinary _ (c .pre) .middle-is))
+
+pub across-spec : {M : Type 1} → statement M
+across-spec = tie.close (tie.spec mul-result mul-result-2 sub-result returns)

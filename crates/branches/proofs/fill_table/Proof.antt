@@ -1,0 +1,61 @@
+-- `branches::fill_table` meets its contract.
+-- Assumes nothing.
+use mathlib.Core.Path.{_≡_, refl, sym, ap, _∙_}
+use native.Mathlib.Omega.{arith}
+use borrow.Author.Needs.{needs}
+use Rattle.arithmetic.proofs.RowLaws.{Filled, filled-start, filled-next, filled-all}
+use Prim.Native.Nat.{ℕ, _≤_, _-_}
+use lib.ListN.{length}
+use Rattle.lattice.specs.Branching.{down}
+use Rattle.lattice.specs.RateTree.{node-at}
+use Rattle.branches.proofs.fill_table.Statement.{statement}
+use Rattle.branches.proofs.fill_table.Tie as tie
+
+abbrev Inv-loop : tie.InvT-loop
+Inv-loop reversion half-width table₀ index₀ table index = (index ≤ length table₀) × Filled table₀ table (λ k. down reversion (node-at half-width k)) index
+
+abbrev μ-loop : tie.MeasureT-loop
+μ-loop reversion half-width table₀ index₀ table index = length table₀ - index
+
+loop-holds : tie.Need-loop-holds Inv-loop μ-loop
+loop-holds c = (search needs, filled-start _ _)
+
+down-of-requires : tie.Need-down-of-requires Inv-loop μ-loop
+down-of-requires c κs = (c .before .before .before .pre .0, c .before .before .before .pre .1, c .before .before .before .pre .2, omega (arith, c .before .before .before .pre .3, c .before .loop .inv .1 .same))
+
+mul-table : tie.Need-mul-table Inv-loop μ-loop
+mul-table c = search needs
+
+slice-write-table : tie.Need-slice-write-table Inv-loop μ-loop
+slice-write-table c = search needs
+
+add-index : tie.Need-add-index Inv-loop μ-loop
+add-index c = search needs
+
+loop-less : tie.Need-loop-less Inv-loop μ-loop
+loop-less c = omega (arith, c .before .before .loop .inv .1 .same)
+
+loop-again : tie.Need-loop-again Inv-loop μ-loop
+loop-again c = (omega (arith, c .before .before .loop .inv .1 .same), filled-next _ _ (λ k. down (c .before .before .before .before .args .reversion) (node-at (c .before .before .before .before .args .half-width) k)) _ _ (c .before .before .loop .inv .1) (search needs) (c .down-of .ensures))
+
+same-length : tie.Need-same-length Inv-loop μ-loop
+same-length c = c .before .loop .inv .1 .same
+
+returns : tie.Need-returns Inv-loop μ-loop
+returns c = filled-all _ _ (λ k. down (c .before .before .before .args .reversion) (node-at (c .before .before .before .args .half-width) k)) _ (c .before .loop .inv .1) (omega (arith, c .before .loop .inv .1 .same))
+
+pub fill-table-spec : {M : Type 1} → statement M
+fill-table-spec =
+    tie.close
+    (tie.spec
+    Inv-loop
+    μ-loop
+    loop-holds
+    down-of-requires
+    mul-table
+    slice-write-table
+    add-index
+    loop-less
+    loop-again
+    same-length
+    returns)

@@ -1,0 +1,99 @@
+-- `text::put_fraction` meets its contract. The invariant: the digits that are left, put before the place, give the whole.
+-- Assumes nothing.
+use mathlib.Core.Path.{_≡_, refl, sym, ap, _∙_}
+use mathlib.Core.List.{List, []}
+use Prim.Native.Nat.{ℕ, _≤_, _+_, _-_}
+use native.Mathlib.Omega.{arith}
+use lib.ListN.{length, length-set}
+use borrow.Author.Needs.{needs}
+use Rattle.text.specs.Decimal.{digits}
+use Rattle.text.specs.Put.{putBefore}
+use Rattle.text.proofs.DecimalLaws.{digits-step, digits-none, length-digits, fraction-none, fraction-point, fraction-length}
+use Rattle.text.proofs.PutLaws.{put-nothing, put-none, put-last, put-whole, put-then}
+use Rattle.text.proofs.put_fraction.Statement.{statement}
+use Rattle.text.proofs.put_fraction.Tie as tie
+
+abbrev Inv-loop : tie.InvT-loop
+Inv-loop out₀ end number count rest₀ start₀ left₀ out rest start left =
+    (left ≤ count) × (start + count ≡ end + left) × (length out ≡ length out₀)
+    × (putBefore out start (digits left rest) ≡ putBefore out₀ end (digits count number))
+
+abbrev μ-loop : tie.MeasureT-loop
+μ-loop out₀ end number count rest₀ start₀ left₀ out rest start left = left
+
+returns : tie.Need-returns Inv-loop μ-loop
+returns c = rw (fraction-none (c .before .args .decimals) (c .before .args .number) (c .if1 .taken)) (put-none (c .before .args .out .now) (c .before .args .end) (c .before .pre .1))
+
+loop-holds : tie.Need-loop-holds Inv-loop μ-loop
+loop-holds c = search needs
+
+room : (c : tie.Else1 Inv-loop μ-loop) → 1 + c .before .args .decimals ≤ c .before .args .end
+room c = omega (arith, fraction-length (c .before .args .decimals) (c .before .args .number) (omega arith), c .before .pre .0)
+
+sub-start : tie.Need-sub-start Inv-loop μ-loop
+sub-start c = omega (arith, room (c .before .before))
+
+cast-out : tie.Need-cast-out Inv-loop μ-loop
+cast-out c = search needs
+
+add-out : tie.Need-add-out Inv-loop μ-loop
+add-out c = search needs
+
+slice-write-out : tie.Need-slice-write-out Inv-loop μ-loop
+slice-write-out c = omega (arith, room (c .before .before))
+
+sub-left : tie.Need-sub-left Inv-loop μ-loop
+sub-left c = search needs
+
+loop-less : tie.Need-loop-less Inv-loop μ-loop
+loop-less c = search needs
+
+loop-again : tie.Need-loop-again Inv-loop μ-loop
+loop-again c =
+    let l = c .before .loop in
+    let r = room (c .before .before) in (
+      search needs,
+      omega arith,
+      simp length-set (search needs),
+      put-last (l .out) _ (digits (l .left) (l .rest)) _ (l .start) _ (digits-step (l .left) (l .rest) (omega arith)) (omega (arith, length-digits (l .left) (l .rest))) (omega arith) (l .inv .3),
+    )
+
+sub-start-2 : tie.Need-sub-start-2 Inv-loop μ-loop
+sub-start-2 c = omega (arith, room (c .before .before))
+
+slice-write-out-2 : tie.Need-slice-write-out-2 Inv-loop μ-loop
+slice-write-out-2 c = omega (arith, room (c .before .before))
+
+same-length : tie.Need-same-length Inv-loop μ-loop
+same-length c = simp length-set (search needs)
+
+returns-2 : tie.Need-returns-2 Inv-loop μ-loop
+returns-2 c =
+    let a = c .before .before .before .args in
+    let l = c .before .loop in
+    let r = room (c .before .before) in
+    rw (fraction-point (a .decimals) (a .number) (omega arith))
+    (put-then 46
+    (put-whole (a .out .now) (l .out) (digits (a .decimals) (a .number)) (a .end) (l .start) (omega (arith, length-digits (a .decimals) (a .number))) (c .before .before .before .pre .1)
+    (sym (put-nothing (l .out) (l .start)) ∙ ap (λ (t : List ℕ). putBefore (l .out) (l .start) t) (sym (digits-none (l .left) (l .rest) (omega arith))) ∙ l .inv .3))
+    (omega arith))
+
+pub put-fraction-spec : {M : Type 1} → statement M
+put-fraction-spec =
+    tie.close
+    (tie.spec
+    Inv-loop
+    μ-loop
+    returns
+    loop-holds
+    sub-start
+    cast-out
+    add-out
+    slice-write-out
+    sub-left
+    loop-less
+    loop-again
+    sub-start-2
+    slice-write-out-2
+    same-length
+    returns-2)

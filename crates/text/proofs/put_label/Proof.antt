@@ -1,0 +1,29 @@
+-- `text::put_label` meets its contract.
+-- Assumes nothing.
+use native.Mathlib.Omega.{arith}
+use borrow.Author.Needs.{needs}
+use Rattle.text.proofs.DecimalLaws.{field-room}
+use Rattle.text.proofs.LineLaws.{room-left}
+use Rattle.text.proofs.PutLaws.{put-before}
+use Rattle.text.proofs.put_label.Statement.{statement}
+use Rattle.text.proofs.put_label.Tie as tie
+
+put-field-requires : tie.Need-put-field-requires
+put-field-requires c κs =
+    let s = c .before .before .before in
+    (omega arith, omega (arith, field-room 0 (s .args .number) (s .args .follower) (s .fits .number .fits)), s .pre .1)
+
+put-word-requires : tie.Need-put-word-requires
+put-word-requires c κs =
+    let s = c .before .before .before .before .before .before .before in
+    let p = c .before .before .before .put-field .ensures in
+    (omega (arith, p .place, field-room 0 (s .args .number) (s .args .follower) (s .fits .number .fits)), omega (arith, p .place, p .within, p .same))
+
+same-length : tie.Need-same-length
+same-length c = search needs
+
+returns : tie.Need-returns
+returns c = put-before (c .before .before .before .before .before .before .put-field .ensures) (c .before .before .put-word .ensures)
+
+pub put-label-spec : {M : Type 1} → statement M
+put-label-spec = tie.close (tie.spec put-field-requires put-word-requires same-length returns)
