@@ -17,7 +17,9 @@ ghost use Rattle.row_view.specs.RowView.{range-by-number};
 ghost use Rattle.state_price_bound.specs.ErrorBound.{statePriceErrorBound};
 ghost use Rattle.pricing.specs.Prices.{bondPrice, optionPrice};
 ghost use Rattle.valuation.specs.Entries.{valueByStatePrices, valuationErrorBound};
+ghost use Rattle.job_sheet.specs.WholeJob.{sheetNumber, sheetText, answerOf, memoryOf};
 use arithmetic::Answer;
+use job_sheet::Written;
 use lattice::Branches;
 use pricing::Price;
 use quotes::Point;
@@ -65,7 +67,7 @@ pub extern "C" fn mixegorta_state_prices_needed(steps: usize, reversion: u64) ->
 pub extern "C" fn mixegorta_branches(reversion: u64, row: usize, node: i64) -> Branches
     ensures { λ r. ⌜ r ≡ branchAnswer reversion row node ⌝ }
 {
-    lattice::branch(reversion, row, node)
+    branches::branch(reversion, row, node)
 }
 
 // ---- level one: quotes, the fit, rows, rates
@@ -205,4 +207,15 @@ pub extern "C" fn mixegorta_valuation_error_bound(
     ensures { λ r. ⌜ r ≡ valuationErrorBound steps reversion (now (discounts .entry)) row (now (payoffs .entry)) ⌝ }
 {
     valuation::valuation_error_bound(steps, reversion, discounts, row, payoffs)
+}
+
+// ---- a whole job
+
+// The sheet stands at the end of `out`, which has at least 468,736 bytes.
+#[no_mangle]
+pub extern "C" fn mixegorta_sheet(job: &[u8], out: &mut [u8]) -> Written
+    ensures answer { λ r. ⌜ r ≡ answerOf (sheetNumber (now (job .entry)) (length (now (out .entry)))) (sheetText (now (job .entry))) ⌝ }
+    ensures memory { λ _. ⌜ now (out .exit) ≡ memoryOf (sheetNumber (now (job .entry)) (length (now (out .entry)))) (sheetText (now (job .entry))) (now (out .entry)) ⌝ }
+{
+    job_sheet::sheet(job, out)
 }

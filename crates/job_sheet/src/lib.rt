@@ -22,6 +22,7 @@ ghost use Rattle.job_sheet.specs.WholeJob.{
 use jobs::Job;
 
 // A sheet that stands at the end of the lent room and is so many bytes long; a refusal's number with a zero.
+#[repr(C)]
 pub struct Written {
     pub number: u64,
     pub size: usize,
