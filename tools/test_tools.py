@@ -145,6 +145,18 @@ class Jobs(unittest.TestCase):
                 ('strike 1', "unknown entry 'strike'")):
             self.refused(f'{START}\n# comment\n{line}\n', f':6: {message}')
 
+    def test_very_long_numbers(self):
+        long = '9' * 5_000
+        self.refused(f'steps {long}', f':1: steps {long} does not fit its field: 0 to 255')
+        self.refused(f'flow {long}', f':1: flow {long} does not fit its field: 0 to 4.294967295')
+        self.assertEqual(sheet_of(text_of(quotes=[f'rate {long}'])), b'refused 7\n')
+
+    def test_line_ends(self):
+        text = (ROOT / 'examples/one-step.txt').read_text()
+        for end in ('\n', '\r\n', '\r'):
+            self.assertEqual(run('job', text.replace('\n', end)).stdout, DOCUMENT_JOB)
+        self.assertEqual(run('job', text + '# a comment\u2028 goes on').stdout, DOCUMENT_JOB)
+
     def test_all_wrong_lines_are_named(self):
         self.refused('flow x\nfrequency 256\n', ":1: flow is a decimal amount such as 1.025, not 'x'",
                      ':2: frequency 256 does not fit its field: 0 to 255')
@@ -242,7 +254,7 @@ class Drawing(unittest.TestCase):
         self.assertEqual(run('draw', node + row + bond).returncode, 0)
         for text in ('', node, node + row, row + bond, node + bond, bond + node + row, node + node + row + bond, node + row + bond + bond,
                      node.replace('0 0', '0 1') + row + bond, node.replace('0 0', '1 0') + row + bond, node + row + bond + 'refused 1\n',
-                     'refused 1\nrefused 2\n', 'refused x\n', node + row + 'bond 1 3\n', b'\xff\n'):
+                     'refused 1\nrefused 2\n', 'refused x\n', 'refused ' + '1' * 5_000, node.replace(' 0.0', ' ' + '9' * 400 + '.0') + row + bond, node + row + 'bond 1 3\n', b'\xff\n'):
             made = run('draw', text)
             self.assertEqual((made.returncode, made.stdout), (2, b''), text)
             self.assertTrue(made.stderr.startswith(b'no sheet: '), made.stderr)
