@@ -2,3 +2,4 @@ pub mod Pieces
 pub mod PartLaws
 pub mod FittedLaws
 pub mod SheetLaws
+pub mod Accepted

@@ -80,7 +80,7 @@ pub room-enough : (room : ℕ) → sheetRoom ≤ room → 0 ≡ roomCause room
 unfolding roomCause
 room-enough room h = rw (le-ltb room 468736 h)
 
-room-known : (room : ℕ) → roomCause room ≡ 0 → sheetRoom ≤ room
+pub room-known : (room : ℕ) → roomCause room ≡ 0 → sheetRoom ≤ room
 room-known room z = by-order 468736 room (λ h. h) (λ h. absurd (apart (room-short room h ∙ z)))
   where
     apart : _≡_ {A = ℕ} 6 0 → ⊥
