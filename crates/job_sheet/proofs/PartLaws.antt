@@ -41,8 +41,13 @@ module _ (n b : ℕ) (discounts prices : List ℕ) (h : Stored n b discounts pri
   pub held : holds-tree discounts prices n b ≡ true
   unfolding holds-tree is-tree
   held =
-      rw (le-leb 1 n (h .some), le-leb n 60 (h .few), le-leb b 6000 (h .gentle), le-leb (discounts-needed n b) (length discounts) (omega (arith, h .discounts-size)),
-      le-leb (state-prices-needed n b) (length prices) (omega (arith, h .prices-size)))
+      rw (
+        le-leb 1 n (h .some),
+        le-leb n 60 (h .few),
+        le-leb b 6000 (h .gentle),
+        le-leb (discounts-needed n b) (length discounts) (omega (arith, h .discounts-size)),
+        le-leb (state-prices-needed n b) (length prices) (omega (arith, h .prices-size)),
+      )
 
   pub discounts-end : (i : ℕ) → i < n → row-start b i + node-count b i ≤ length discounts
   unfolding discounts-needed
@@ -123,8 +128,11 @@ module _ (n b : ℕ) (discounts prices : List ℕ) (h : Stored n b discounts pri
   nodes-length i l =
       let s = part-size b i discounts (discounts-end n b discounts prices h i l) in
       let c = count-within b i (omega (arith, h .few)) in
-      omega (arith, s,
-        row-length i (row-part b discounts i) (omega (arith, h .few)) (omega (arith, s, c)) (λ k below. part-below b i k (2 ^ 64) discounts small (omega (arith, s))))
+      omega (
+        arith,
+        s,
+        row-length i (row-part b discounts i) (omega (arith, h .few)) (omega (arith, s, c)) (λ k below. part-below b i k (2 ^ 64) discounts small (omega (arith, s))),
+      )
 
   pub nodes-fit : (i : ℕ) → i < n → 128 * row-start b i + length (nodesOfRow b discounts i) ≤ 128 * row-start b (suc i)
   nodes-fit i l = omega (arith, nodes-length i l, start-suc b i)
@@ -164,7 +172,7 @@ pub row-line-stands : (n b : ℕ) (quotes discounts prices : List ℕ) (i end ad
 unfolding lineOfRow
 row-line-stands n b quotes discounts prices i end added start out after bound es eb few q s h p e₁ e₂ =
     let same : rowLine (i + 1) (values quotes i) added (bound .value) ≡ rowLine (suc i) (values quotes i) (total (row-part b prices (suc i))) (statePriceErrorBound n b discounts (suc i) .value) =
-        rw (← es, ← eb, add-one i) in
+    rw (← es, ← eb, add-one i) in
     line-stands out end _ start after h p
     (row-room (suc i) (values quotes i) (total (row-part b prices (suc i))) (statePriceErrorBound n b discounts (suc i) .value) (omega arith) q (omega arith) (omega (arith, bound-small n b discounts (suc i))))
     (e₁ ∙ ap (λ (x : List ℕ). lineStart out end x) same) (e₂ ∙ ap (λ (x : List ℕ). withLine out end x) same)

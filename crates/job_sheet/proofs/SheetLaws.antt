@@ -285,7 +285,7 @@ module _ (bytes out : List ℕ) (answer : Written) (after : List ℕ) (made : Ma
     unfolding putBefore
     size-within same =
         let l : length after ≡ length (take (length out - length (sheetText bytes)) out) + (length (sheetText bytes) + length (drop (length out) out)) =
-            ap length text-put ∙ simp length-append in
+        ap length text-put ∙ simp length-append in
         omega (arith, l, same, text-size)
 
     pub sheet-start : length after ≡ length out → length after - answer .size ≡ printedStart bytes out

@@ -36,8 +36,8 @@ returns c =
     let long = laws.nodes-length (a .steps) (a .reversion) (a .discounts .now) (a .state-prices .now) stored (λ j. c .before .before .before .before .before .before .shared-slice-known .given j .fits) (a .row) (pre .0) in
     let part = row-part (a .reversion) (a .discounts .now) (a .row) in
     laws.row-stands (a .out .now) (a .end) (a .row) part _ _ (omega (arith, size, pre .2)) (pre .3) (omega (arith, size, long))
-      (subst (λ (d : List ℕ). c .before .before .node-lines .result ≡ rowStart (a .out .now) (a .end) (a .row) d) e (c .before .before .node-lines .ensures .0))
-      (subst (λ (d : List ℕ). c .before .before .node-lines .last .0 ≡ withRow (a .out .now) (a .end) (a .row) d) e (c .before .before .node-lines .ensures .1))
+    (subst (λ (d : List ℕ). c .before .before .node-lines .result ≡ rowStart (a .out .now) (a .end) (a .row) d) e (c .before .before .node-lines .ensures .0))
+    (subst (λ (d : List ℕ). c .before .before .node-lines .last .0 ≡ withRow (a .out .now) (a .end) (a .row) d) e (c .before .before .node-lines .ensures .1))
 
 pub put-nodes-spec : {M : Type 1} → statement M
 put-nodes-spec = tie.close (tie.spec row-view-requires node-lines-requires same-length returns)

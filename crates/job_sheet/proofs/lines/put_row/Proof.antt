@@ -50,8 +50,8 @@ returns c =
     let a = c .before .before .before .before .before .before .before .before .before .before .before .before .args in
     let pre = c .before .before .before .before .before .before .before .before .before .before .before .before .pre in
     laws.row-line-stands (a .steps) (a .reversion) (a .quotes .now) (a .discounts .now) (a .state-prices .now) (a .before) (a .end) (c .before .before .before .before .before .before .row-total .result) _ (a .out .now) _ (c .before .before .before .before .before .state-price-error-bound .result)
-      (c .before .before .before .before .before .before .row-total .ensures ∙ ap total (part-is (c .before .before .before .before .before .before .before))) (subst (λ (i : ℕ). c .before .before .before .before .before .state-price-error-bound .result ≡ statePriceErrorBound (a .steps) (a .reversion) (a .discounts .now) i) (add-one (a .before)) (c .before .before .before .before .before .state-price-error-bound .ensures))
-      (omega (arith, pre .0, pre .1 .few)) (c .before .before .before .before .before .before .before .before .before .before .shared-slice-known .given (a .before) .fits) (search needs) (pre .4) (pre .5) (c .before .before .row-line .ensures .0) (c .before .before .row-line .ensures .1)
+    (c .before .before .before .before .before .before .row-total .ensures ∙ ap total (part-is (c .before .before .before .before .before .before .before))) (subst (λ (i : ℕ). c .before .before .before .before .before .state-price-error-bound .result ≡ statePriceErrorBound (a .steps) (a .reversion) (a .discounts .now) i) (add-one (a .before)) (c .before .before .before .before .before .state-price-error-bound .ensures))
+    (omega (arith, pre .0, pre .1 .few)) (c .before .before .before .before .before .before .before .before .before .before .shared-slice-known .given (a .before) .fits) (search needs) (pre .4) (pre .5) (c .before .before .row-line .ensures .0) (c .before .before .row-line .ensures .1)
 
 pub put-row-spec : {M : Type 1} → statement M
 put-row-spec =
