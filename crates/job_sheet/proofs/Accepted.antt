@@ -1,21 +1,19 @@
 -- What an accepted job says: its bytes are a job's, its fit, its bond and its option are accepted, and so all that is promised of these holds of what the sheet shows.
 -- Assumes nothing.
-use mathlib.Core.Path.{_≡_, refl, sym, ap, _∙_}
-use mathlib.Core.Bool.{Bool, true, false, cond}
+use mathlib.Core.Path.{_≡_}
+use mathlib.Core.Bool.{true}
 use mathlib.Core.List.{List}
 use Prim.Native.Nat.{ℕ, _≤_}
-use native.Mathlib.Omega.{arith}
 use borrow.Author.Tests.{eq-eqb, ne-eqb}
 use lib.Ieee.{Float}
-use lib.ListN.{length}
 use Rattle.arithmetic.proofs.Numbers.{by-equal}
-use Rattle.fitting.specs.Entry.{lowest-cause, fitNumber, fit-discounts}
+use Rattle.fitting.specs.Entry.{fitNumber, fit-discounts}
 use Rattle.fitting.proofs.CauseLaws.{lowest-none}
 use Rattle.pricing.specs.Prices.{first-cause, bondPrice, optionPrice}
 use Rattle.jobs.specs.declared.Job.{Job}
 use Rattle.jobs.specs.declared.OptionRecord.{OptionRecord}
 use Rattle.jobs.specs.Reader.{readingOf}
-use Rattle.job_sheet.specs.WholeJob.{most-discounts, most-prices, sheetRoom, roomCause, jobRows, jobKinds, jobFigures, jobFlows, treeOption, treeNumber, pricedNumber, jobNumber, sheetNumber}
+use Rattle.job_sheet.specs.WholeJob.{most-discounts, most-prices, sheetRoom, jobRows, jobKinds, jobFigures, jobFlows, treeNumber, pricedNumber, jobNumber, sheetNumber}
 use Rattle.job_sheet.proofs.SheetLaws.{room-known}
 
 first-none : (cause later : ℕ) → first-cause cause later ≡ 0 → (cause ≡ 0) × (later ≡ 0)

@@ -1,15 +1,14 @@
 -- Laws of rows as parts of a memory that just holds its tree, and of the lines that a call puts.
 -- Assumes nothing.
 use mathlib.Core.Path.{_≡_, refl, sym, ap, _∙_, subst}
-use mathlib.Core.Bool.{Bool, true, false, cond, _&&_}
-use mathlib.Core.List.{List, [], _++_}
-use Prim.Native.Nat.{ℕ, zero, suc, _+_, _-_, _*_, _≤_, _<_, _^_}
+use mathlib.Core.Bool.{Bool, true, false}
+use mathlib.Core.List.{List, []}
+use Prim.Native.Nat.{ℕ, suc, _+_, _-_, _*_, _≤_, _<_, _^_}
 use denote.Ref.{RefT}
 use native.Mathlib.Omega.{arith}
 use native.Mathlib.Numerals.{add-one}
-use borrow.Author.Tests.{lt-ltb, le-leb, ne-eqb}
-use lib.Dec.{leb}
-use lib.ListN.{length, getD, take, drop, length-append, length-drop}
+use borrow.Author.Tests.{le-leb, ne-eqb}
+use lib.ListN.{length, getD, drop, length-append, length-drop}
 use lib.Seq.{length-take-le, getD-take, getD-drop}
 use Rattle.arithmetic.specs.Sum.{sum}
 use Rattle.arithmetic.specs.Row.{values}
@@ -18,11 +17,10 @@ use Rattle.lattice.specs.Shape.{node-count, row-start, discounts-needed, state-
 use native.Mathlib.Nat.{mul-le-mul}
 use Rattle.lattice.proofs.Sizes.{row-ends, start-most, start-suc, count-within}
 use Rattle.row_view.specs.declared.RowKind.{RowKind}
-use Rattle.row_view.specs.declared.RowKind.the-variants.{Discounts, StatePrices}
 use Rattle.row_view.specs.RowView.{is-tree, holds-tree, stores-row, memory-of, is-shown, view-start, view-count, PartOf}
 use Rattle.row_view.proofs.ViewLaws.{is-stored}
-use Rattle.text.specs.Put.{putBefore, Put}
-use Rattle.node_lines.specs.Rows.{nodeText, lines, rowText, hasRoomFor, rowStart, withRow}
+use Rattle.text.specs.Put.{Put}
+use Rattle.node_lines.specs.Rows.{nodeText, rowText, hasRoomFor, rowStart, withRow}
 use Rattle.node_lines.proofs.RowLaws.{lines-room, text-room}
 use Rattle.text.specs.Lines.{rowLine, priceLine, lineStart, withLine, bondWord, optionWord}
 use Rattle.text.proofs.LineLaws.{row-room, price-room, line-stands, line-before}

@@ -1,18 +1,17 @@
 -- Laws of a whole job.
 -- Assumes nothing.
 use mathlib.Core.Path.{_≡_, refl, sym, ap, _∙_, subst}
-use mathlib.Core.Bool.{Bool, true, false, cond, not, _&&_}
+use mathlib.Core.Bool.{Bool, true, false, cond, not}
 use mathlib.Core.List.{List, [], _∷_, _++_, map}
-use Prim.Native.Nat.{ℕ, zero, suc, _+_, _-_, _*_, _≤_, _<_, _^_}
+use Prim.Native.Nat.{ℕ, zero, suc, _+_, _-_, _≤_, _<_}
 use native.Mathlib.Omega.{arith}
 use native.Mathlib.Numerals.{add-one}
 use borrow.Author.Tests.{lt-ltb, le-ltb, eq-eqb, ne-eqb}
-use lib.Dec.{eqb, ltb}
 use lib.Ieee.{Float}
-use lib.ListN.{length, getD, take, drop, set, length-append, length-drop, length-take, length-set, length-map}
+use lib.ListN.{length, getD, take, drop, set, length-append, length-take, length-set, length-map}
 use lib.Seq.{getD-take}
-use Rattle.arithmetic.specs.Row.{row, values}
-use Rattle.arithmetic.proofs.RowLaws.{Filled, row-of, length-row, values-row}
+use Rattle.arithmetic.specs.Row.{row}
+use Rattle.arithmetic.proofs.RowLaws.{Filled, row-of}
 use Rattle.figure.specs.Figure.{patternFloat}
 use Rattle.text.specs.Put.{putBefore, Put}
 use Rattle.pricing.specs.declared.Price.{Price}

@@ -1,7 +1,7 @@
 -- A whole job (document 01, Job and sheet; When the engine declines): read, fit, bond and option, the lowest number of all, and the sheet.
 -- Assumes nothing.
 use Prim.Native.Nat.{ℕ, _+_, _-_}
-use mathlib.Core.Bool.{Bool, cond}
+use mathlib.Core.Bool.{cond}
 use mathlib.Core.List.{List, map}
 use lib.Dec.{eqb, ltb}
 use lib.Ieee.{Float}

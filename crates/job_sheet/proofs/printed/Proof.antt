@@ -1,8 +1,5 @@
 -- `job_sheet::printed` meets its contract.
 -- Assumes nothing.
-use mathlib.Core.Path.{_≡_, refl, sym, ap, _∙_, subst}
-use lib.ListN.{length, getD}
-use Prim.Native.Nat.{ℕ, suc, _+_, _-_, _*_, _≤_, _<_, _^_}
 use Rattle.job_sheet.proofs.SheetLaws as laws
 use borrow.Author.Needs.{needs}
 use Rattle.job_sheet.proofs.printed.Statement.{statement}
@@ -18,16 +15,27 @@ same-length : tie.Need-same-length
 same-length c = search needs
 
 returns : tie.Need-returns
-returns c = (laws.refusal-start (c .before .before .before .before .before .before .before .before .before .before .before .before .args .job .now) (c .before .before .before .before .before .before .before .before .before .before .before .before .args .out .now) (c .before .before .before .before .before .before .before .before .sheet .result) _ (c .before .before .before .before .before .before .before .before .sheet .ensures) (c .before .before .before .before .if1 .taken) _ (c .before .before .refused-line .ensures .0), (laws.refusal-within (c .before .before .before .before .before .before .before .before .before .before .before .before .args .job .now) (c .before .before .before .before .before .before .before .before .before .before .before .before .args .out .now) (c .before .before .before .before .before .before .before .before .sheet .result) _ (c .before .before .before .before .before .before .before .before .sheet .ensures) (c .before .before .before .before .if1 .taken) _ (c .before .before .refused-line .ensures .0), laws.refusal-memory (c .before .before .before .before .before .before .before .before .before .before .before .before .args .job .now) (c .before .before .before .before .before .before .before .before .before .before .before .before .args .out .now) (c .before .before .before .before .before .before .before .before .sheet .result) _ (c .before .before .before .before .before .before .before .before .sheet .ensures) (c .before .before .before .before .if1 .taken) _ (c .before .before .refused-line .ensures .1)))
+returns c =
+    let a = c .before .before .before .before .before .before .before .before .before .before .before .before .args in
+    let start = laws.refusal-start (a .job .now) (a .out .now) (c .before .before .before .before .before .before .before .before .sheet .result) _ (c .before .before .before .before .before .before .before .before .sheet .ensures) (c .before .before .before .before .if1 .taken) _ (c .before .before .refused-line .ensures .0) in
+    let within = laws.refusal-within (a .job .now) (a .out .now) (c .before .before .before .before .before .before .before .before .sheet .result) _ (c .before .before .before .before .before .before .before .before .sheet .ensures) (c .before .before .before .before .if1 .taken) _ (c .before .before .refused-line .ensures .0) in
+    let memory = laws.refusal-memory (a .job .now) (a .out .now) (c .before .before .before .before .before .before .before .before .sheet .result) _ (c .before .before .before .before .before .before .before .before .sheet .ensures) (c .before .before .before .before .if1 .taken) _ (c .before .before .refused-line .ensures .1) in
+    (start, (within, memory))
 
 sub-result : tie.Need-sub-result
-sub-result c = laws.size-within (c .before .before .before .before .before .before .before .before .before .args .job .now) (c .before .before .before .before .before .before .before .before .before .args .out .now) (c .before .before .before .before .before .sheet .result) _ (c .before .before .before .before .before .sheet .ensures) (c .before .if1 .left) (search needs)
+sub-result c =
+    let a = c .before .before .before .before .before .before .before .before .before .args in
+    laws.size-within (a .job .now) (a .out .now) (c .before .before .before .before .before .sheet .result) _ (c .before .before .before .before .before .sheet .ensures) (c .before .if1 .left) (search needs)
 
 same-length-2 : tie.Need-same-length-2
 same-length-2 c = search needs
 
 returns-2 : tie.Need-returns-2
-returns-2 c = (laws.sheet-start (c .before .before .before .before .before .before .before .before .before .args .job .now) (c .before .before .before .before .before .before .before .before .before .args .out .now) (c .before .before .before .before .before .sheet .result) _ (c .before .before .before .before .before .sheet .ensures) (c .before .if1 .left) (search needs), (search needs, laws.sheet-memory (c .before .before .before .before .before .before .before .before .before .args .job .now) (c .before .before .before .before .before .before .before .before .before .args .out .now) (c .before .before .before .before .before .sheet .result) _ (c .before .before .before .before .before .sheet .ensures) (c .before .if1 .left)))
+returns-2 c =
+    let a = c .before .before .before .before .before .before .before .before .before .args in
+    let start = laws.sheet-start (a .job .now) (a .out .now) (c .before .before .before .before .before .sheet .result) _ (c .before .before .before .before .before .sheet .ensures) (c .before .if1 .left) (search needs) in
+    let memory = laws.sheet-memory (a .job .now) (a .out .now) (c .before .before .before .before .before .sheet .result) _ (c .before .before .before .before .before .sheet .ensures) (c .before .if1 .left) in
+    (start, (search needs, memory))
 
 pub printed-spec : {M : Type 1} → statement M
 printed-spec =

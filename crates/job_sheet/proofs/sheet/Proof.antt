@@ -1,8 +1,5 @@
 -- `job_sheet::sheet` meets its contract.
 -- Assumes nothing.
-use mathlib.Core.Path.{_≡_, refl, sym, ap, _∙_, subst}
-use lib.ListN.{length, getD}
-use Prim.Native.Nat.{ℕ, suc, _+_, _-_, _*_, _≤_, _<_, _^_}
 use Rattle.job_sheet.proofs.SheetLaws as laws
 use borrow.Author.Needs.{needs}
 use Rattle.job_sheet.proofs.sheet.Statement.{statement}
@@ -12,7 +9,9 @@ read-requires : tie.Need-read-requires
 read-requires c κs = search needs
 
 returns : tie.Need-returns
-returns c = laws.read-refused (c .before .before .before .before .before .args .job .now) (c .before .before .before .before .before .args .out .now) (c .before .before .read .result) (c .before .before .read .ensures .0) (c .if1 .taken)
+returns c =
+    let a = c .before .before .before .before .before .args in
+    laws.read-refused (a .job .now) (a .out .now) (c .before .before .read .result) (c .before .before .read .ensures .0) (c .if1 .taken)
 
 sheet-of-job-requires : tie.Need-sheet-of-job-requires
 sheet-of-job-requires c κs = c .before .before .before .read .ensures .1 .sound
@@ -21,7 +20,9 @@ same-length : tie.Need-same-length
 same-length c = search needs
 
 returns-2 : tie.Need-returns-2
-returns-2 c = laws.read-made (c .before .before .before .before .before .before .before .before .before .args .job .now) (c .before .before .before .before .before .before .before .before .before .args .out .now) (c .before .before .before .before .before .before .read .result) (c .before .before .before .before .before .before .read .ensures .0) _ _ (c .before .before .before .before .if1 .left) (c .before .before .sheet-of-job .ensures)
+returns-2 c =
+    let a = c .before .before .before .before .before .before .before .before .before .args in
+    laws.read-made (a .job .now) (a .out .now) (c .before .before .before .before .before .before .read .result) (c .before .before .before .before .before .before .read .ensures .0) _ _ (c .before .before .before .before .if1 .left) (c .before .before .sheet-of-job .ensures)
 
 pub sheet-spec : {M : Type 1} → statement M
 sheet-spec =

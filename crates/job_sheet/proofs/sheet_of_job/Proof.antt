@@ -1,8 +1,8 @@
 -- `job_sheet::sheet_of_job` meets its contract.
 -- Assumes nothing.
-use mathlib.Core.Path.{_≡_, refl, sym, ap, _∙_, subst}
+use mathlib.Core.Path.{sym, ap, _∙_}
 use lib.ListN.{length, take}
-use Prim.Native.Nat.{ℕ, suc, _+_, _-_, _*_, _≤_, _<_, _^_}
+use Prim.Native.Nat.{ℕ, _+_}
 use Rattle.jobs.proofs.ReadLaws.{lent-length}
 use Rattle.arithmetic.proofs.RowLaws.{length-row}
 use Rattle.job_sheet.proofs.SheetLaws as laws
@@ -48,7 +48,10 @@ array-share-prefix-figures : tie.Need-array-share-prefix-figures
 array-share-prefix-figures c = omega (arith, c .before .before .before .before .before .before .before .before .before .before .before .before .before .before .before .pre .steps)
 
 slice-aggregate-sheet-of-quotes-3 : tie.Need-slice-aggregate-sheet-of-quotes-3
-slice-aggregate-sheet-of-quotes-3 c = sym (ap length (c .before .before .before .before .fill-figures .ensures) ∙ laws.floats-length (take (c .before .before .before .before .before .before .before .before .before .before .before .before .before .before .before .before .args .job .steps) (c .before .before .before .before .before .before .before .before .before .before .before .before .before .before .before .before .args .job .figures)) ∙ lent-length _ _ _ (c .before .before .before .before .before .before .before .before .before .before .before .before .before .before .before .before .pre .figures) (c .before .before .before .before .before .before .before .before .before .before .before .before .before .before .before .before .pre .steps))
+slice-aggregate-sheet-of-quotes-3 c =
+    let a = c .before .before .before .before .before .before .before .before .before .before .before .before .before .before .before .before .args in
+    let floats = laws.floats-length (take (a .job .steps) (a .job .figures)) in
+    sym (ap length (c .before .before .before .before .fill-figures .ensures) ∙ floats ∙ lent-length _ _ _ (c .before .before .before .before .before .before .before .before .before .before .before .before .before .before .before .before .pre .figures) (c .before .before .before .before .before .before .before .before .before .before .before .before .before .before .before .before .pre .steps))
 
 array-share-prefix-flows : tie.Need-array-share-prefix-flows
 array-share-prefix-flows c = omega (arith, c .before .before .before .before .before .before .before .before .before .before .before .before .before .before .before .before .pre .flows .size, c .before .before .before .before .before .before .before .before .before .before .before .before .before .before .before .before .pre .steps)

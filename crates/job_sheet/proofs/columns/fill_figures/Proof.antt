@@ -1,8 +1,8 @@
 -- `job_sheet::columns::fill_figures` meets its contract.
 -- Assumes nothing.
-use mathlib.Core.Path.{_≡_, refl, sym, ap, _∙_, subst}
-use Prim.Native.Nat.{ℕ, suc, _+_, _-_, _*_, _≤_, _<_, _^_}
-use lib.ListN.{length, getD}
+use mathlib.Core.Path.{_≡_, refl}
+use Prim.Native.Nat.{_-_, _≤_}
+use lib.ListN.{length}
 use Rattle.job_sheet.proofs.SheetLaws as laws
 use borrow.Author.Needs.{needs}
 use native.Mathlib.Omega.{arith}

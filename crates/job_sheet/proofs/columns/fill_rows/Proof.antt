@@ -1,9 +1,9 @@
 -- `job_sheet::columns::fill_rows` meets its contract.
 -- Assumes nothing.
-use mathlib.Core.Path.{_≡_, refl, sym, ap, _∙_, subst}
-use Prim.Native.Nat.{ℕ, suc, _+_, _-_, _*_, _≤_, _<_, _^_}
-use lib.ListN.{length, getD}
-use Rattle.arithmetic.proofs.RowLaws.{Filled, filled-start, filled-next, length-row}
+use mathlib.Core.Path.{_≡_, refl}
+use Prim.Native.Nat.{ℕ, _+_, _-_, _≤_}
+use lib.ListN.{length}
+use Rattle.arithmetic.proofs.RowLaws.{Filled, filled-start, filled-next}
 use Rattle.job_sheet.proofs.SheetLaws as laws
 use borrow.Author.Needs.{needs}
 use native.Mathlib.Omega.{arith}

@@ -1,12 +1,11 @@
 -- `job_sheet::lines::put_all_nodes` meets its contract.
 -- Assumes nothing.
-use mathlib.Core.Path.{_≡_, refl, sym, ap, _∙_, subst}
-use Prim.Native.Nat.{ℕ, suc, _+_, _-_, _*_, _≤_, _<_, _^_}
-use mathlib.Core.List.{List}
-use lib.ListN.{length, getD}
+use mathlib.Core.Path.{_≡_}
+use Prim.Native.Nat.{ℕ, suc, _+_, _-_, _*_, _≤_, _<_}
+use lib.ListN.{length}
 use Rattle.lattice.specs.Shape.{node-count, row-start, discounts-needed}
 use Rattle.lattice.proofs.Sizes.{start-suc}
-use Rattle.job_sheet.specs.TreeSheet.{nodesOfRow, nodeLines}
+use Rattle.job_sheet.specs.TreeSheet.{nodesOfRow}
 use Rattle.job_sheet.proofs.Pieces.{Progress, begun, gone, ended}
 use Rattle.job_sheet.proofs.PartLaws as laws
 use borrow.Author.Needs.{needs}

@@ -1,15 +1,11 @@
 -- `job_sheet::lines::put_nodes` meets its contract.
 -- Assumes nothing.
-use mathlib.Core.Path.{_≡_, refl, sym, ap, _∙_, subst}
-use Prim.Native.Nat.{ℕ, suc, _+_, _-_, _*_, _≤_, _<_, _^_}
+use mathlib.Core.Path.{_≡_, subst}
+use Prim.Native.Nat.{ℕ, _-_}
 use mathlib.Core.List.{List}
-use lib.ListN.{length, getD}
 use borrow.Author.Tests.{lt-ltb}
-use Rattle.lattice.specs.Shape.{node-count}
-use Rattle.lattice.proofs.Sizes.{count-within}
 use Rattle.row_view.specs.declared.RowKind.the-variants.{Discounts}
-use Rattle.text.specs.Put.{Put}
-use Rattle.node_lines.specs.Rows.{rowText, rowStart, withRow}
+use Rattle.node_lines.specs.Rows.{rowStart, withRow}
 use Rattle.job_sheet.specs.TreeSheet.{row-part}
 use Rattle.job_sheet.proofs.PartLaws as laws
 use borrow.Author.Needs.{needs}

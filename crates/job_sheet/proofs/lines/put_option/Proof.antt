@@ -1,10 +1,6 @@
 -- `job_sheet::lines::put_option` meets its contract.
 -- Assumes nothing.
-use mathlib.Core.Path.{_≡_, refl, sym, ap, _∙_, subst}
-use Prim.Native.Nat.{ℕ, suc, _+_, _-_, _*_, _≤_, _<_, _^_}
-use mathlib.Core.List.{List}
-use lib.ListN.{length, getD}
-use Rattle.job_sheet.specs.TreeSheet.{optionLines}
+use Prim.Native.Nat.{_-_}
 use Rattle.job_sheet.proofs.PartLaws as laws
 use borrow.Author.Needs.{needs}
 use Rattle.job_sheet.proofs.lines.put_option.Statement.{statement}

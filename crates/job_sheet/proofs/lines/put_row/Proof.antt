@@ -1,9 +1,7 @@
 -- `job_sheet::lines::put_row` meets its contract.
 -- Assumes nothing.
-use mathlib.Core.Path.{_≡_, refl, sym, ap, _∙_, subst}
-use Prim.Native.Nat.{ℕ, suc, _+_, _-_, _*_, _≤_, _<_, _^_}
-use mathlib.Core.List.{List}
-use lib.ListN.{length, getD}
+use mathlib.Core.Path.{_≡_, ap, _∙_, subst}
+use Prim.Native.Nat.{ℕ, suc, _+_, _-_}
 use borrow.Author.Tests.{le-leb}
 use Rattle.row_view.specs.declared.RowKind.the-variants.{StatePrices}
 use Rattle.job_sheet.specs.TreeSheet.{row-part, total}

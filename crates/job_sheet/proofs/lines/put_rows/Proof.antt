@@ -1,9 +1,7 @@
 -- `job_sheet::lines::put_rows` meets its contract.
 -- Assumes nothing.
-use mathlib.Core.Path.{_≡_, refl, sym, ap, _∙_, subst}
-use Prim.Native.Nat.{ℕ, suc, _+_, _-_, _*_, _≤_, _<_, _^_}
-use mathlib.Core.List.{List}
-use lib.ListN.{length, getD}
+use Prim.Native.Nat.{ℕ, suc, _+_, _-_, _*_, _≤_, _<_}
+use lib.ListN.{length}
 use Rattle.job_sheet.specs.TreeSheet.{lineOfRow}
 use Rattle.job_sheet.proofs.Pieces.{Progress, begun, gone, ended}
 use Rattle.job_sheet.proofs.PartLaws as laws

@@ -1,8 +1,8 @@
 -- `job_sheet::lines::row_total` meets its contract.
 -- Assumes nothing.
-use mathlib.Core.Path.{_≡_, refl, sym, ap, _∙_, subst}
-use Prim.Native.Nat.{ℕ, suc, _+_, _-_, _*_, _≤_, _<_, _^_}
-use lib.ListN.{length, getD}
+use mathlib.Core.Path.{_≡_}
+use Prim.Native.Nat.{_-_, _≤_}
+use lib.ListN.{length}
 use Rattle.arithmetic.specs.Sum as sums
 use Rattle.arithmetic.specs.Row.{values}
 use Rattle.job_sheet.proofs.PartLaws as laws

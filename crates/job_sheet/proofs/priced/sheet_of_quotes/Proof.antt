@@ -1,8 +1,6 @@
 -- `job_sheet::priced::sheet_of_quotes` meets its contract.
 -- Assumes nothing.
-use mathlib.Core.Path.{_≡_, refl, sym, ap, _∙_, subst}
-use lib.ListN.{length, getD}
-use Prim.Native.Nat.{ℕ, suc, _+_, _-_, _*_, _≤_, _<_, _^_}
+use mathlib.Core.Path.{_∙_}
 use Rattle.job_sheet.specs.WholeJob.{pricedText}
 use Rattle.job_sheet.proofs.SheetLaws as laws
 use Rattle.job_sheet.proofs.FittedLaws as fits
@@ -36,7 +34,9 @@ refused-requires c κs = search needs
 
 returns : tie.Need-returns
 returns c =
-    let made = laws.quotes-refused (c .before .before .before .before .before .before .before .before .before .before .before .before .before .before .before .before .args .frequency) (c .before .before .before .before .before .before .before .before .before .before .before .before .before .before .before .before .args .steps) (c .before .before .before .before .before .before .before .before .before .before .before .before .before .before .before .before .args .reversion) (c .before .before .before .before .before .before .before .before .before .before .before .before .before .before .before .before .args .volatility) (c .before .before .before .before .before .before .before .before .before .before .before .before .before .before .before .before .args .rows .now) (c .before .before .before .before .before .before .before .before .before .before .before .before .before .before .before .before .args .kinds .now) (c .before .before .before .before .before .before .before .before .before .before .before .before .before .before .before .before .args .figures .now) (c .before .before .before .before .before .before .before .before .before .before .before .before .before .before .before .before .args .flows .now) (c .before .before .before .before .before .before .before .before .before .before .before .before .before .before .before .before .args .option) (c .before .before .before .before .before .before .before .before .before .before .before .before .before .before .before .before .args .out .now) (c .before .before .before .before .before .before .fit .result) (c .before .before .before .room-cause .result) (c .before .before .lowest .result) (fits.number-is (c .before .before .before .before .before .before .before .before .before .before .before .before .before .before .before .before .args .frequency) (c .before .before .before .before .before .before .before .before .before .before .before .before .before .before .before .before .args .steps) (c .before .before .before .before .before .before .before .before .before .before .before .before .before .before .before .before .args .reversion) (c .before .before .before .before .before .before .before .before .before .before .before .before .before .before .before .before .args .volatility) (c .before .before .before .before .before .before .before .before .before .before .before .before .before .before .before .before .args .rows .now) (c .before .before .before .before .before .before .before .before .before .before .before .before .before .before .before .before .args .kinds .now) (c .before .before .before .before .before .before .before .before .before .before .before .before .before .before .before .before .args .figures .now) (c .before .before .before .before .before .before .before .before .before .before .discounts .result) (c .before .before .before .before .before .before .before .before .before .state-prices .result) (c .before .before .before .before .before .before .fit .result) (c .before .before .before .before .before .before .before .before .before .before .discounts .ensures) (c .before .before .before .before .before .before .before .before .before .state-prices .ensures) (c .before .before .before .before .before .before .fit .ensures .0)) (c .before .before .before .room-cause .ensures) (c .before .before .lowest .ensures) (pricedText (c .before .before .before .before .before .before .before .before .before .before .before .before .before .before .before .before .args .frequency) (c .before .before .before .before .before .before .before .before .before .before .before .before .before .before .before .before .args .steps) (c .before .before .before .before .before .before .before .before .before .before .before .before .before .before .before .before .args .reversion) (c .before .before .before .before .before .before .before .before .before .before .before .before .before .before .before .before .args .volatility) (c .before .before .before .before .before .before .before .before .before .before .before .before .before .before .before .before .args .rows .now) (c .before .before .before .before .before .before .before .before .before .before .before .before .before .before .before .before .args .kinds .now) (c .before .before .before .before .before .before .before .before .before .before .before .before .before .before .before .before .args .figures .now) (c .before .before .before .before .before .before .before .before .before .before .before .before .before .before .before .before .args .flows .now) (c .before .before .before .before .before .before .before .before .before .before .before .before .before .before .before .before .args .option)) (c .before .if1 .taken) in
+    let a = c .before .before .before .before .before .before .before .before .before .before .before .before .before .before .before .before .args in
+    let number = fits.number-is (a .frequency) (a .steps) (a .reversion) (a .volatility) (a .rows .now) (a .kinds .now) (a .figures .now) (c .before .before .before .before .before .before .before .before .before .before .discounts .result) (c .before .before .before .before .before .before .before .before .before .state-prices .result) (c .before .before .before .before .before .before .fit .result) (c .before .before .before .before .before .before .before .before .before .before .discounts .ensures) (c .before .before .before .before .before .before .before .before .before .state-prices .ensures) (c .before .before .before .before .before .before .fit .ensures .0) in
+    let made = laws.quotes-refused (a .frequency) (a .steps) (a .reversion) (a .volatility) (a .rows .now) (a .kinds .now) (a .figures .now) (a .flows .now) (a .option) (a .out .now) (c .before .before .before .before .before .before .fit .result) (c .before .before .before .room-cause .result) (c .before .before .lowest .result) number (c .before .before .before .room-cause .ensures) (c .before .before .lowest .ensures) (pricedText (a .frequency) (a .steps) (a .reversion) (a .volatility) (a .rows .now) (a .kinds .now) (a .figures .now) (a .flows .now) (a .option)) (c .before .if1 .taken) in
     (c .refused .ensures ∙ made .0, made .1)
 
 slice-aggregate-sheet-of-fit : tie.Need-slice-aggregate-sheet-of-fit
@@ -46,13 +46,22 @@ slice-aggregate-sheet-of-fit-2 : tie.Need-slice-aggregate-sheet-of-fit-2
 slice-aggregate-sheet-of-fit-2 c = search needs
 
 sheet-of-fit-requires : tie.Need-sheet-of-fit-requires
-sheet-of-fit-requires c κs = (fits.fitted (c .before .before .before .before .before .before .before .before .before .before .before .before .before .before .before .before .before .before .args .frequency) (c .before .before .before .before .before .before .before .before .before .before .before .before .before .before .before .before .before .before .args .steps) (c .before .before .before .before .before .before .before .before .before .before .before .before .before .before .before .before .before .before .args .reversion) (c .before .before .before .before .before .before .before .before .before .before .before .before .before .before .before .before .before .before .args .volatility) (c .before .before .before .before .before .before .before .before .before .before .before .before .before .before .before .before .before .before .args .rows .now) (c .before .before .before .before .before .before .before .before .before .before .before .before .before .before .before .before .before .before .args .kinds .now) (c .before .before .before .before .before .before .before .before .before .before .before .before .before .before .before .before .before .before .args .figures .now) (c .before .before .before .before .before .before .before .before .before .before .before .before .discounts .result) (c .before .before .before .before .before .before .before .before .before .before .before .state-prices .result) (c .before .before .before .before .before .before .before .before .fit .result) (c .before .before .before .before .before .before .before .before .before .before .before .before .discounts .ensures) (c .before .before .before .before .before .before .before .before .before .before .before .state-prices .ensures) (c .before .before .before .before .before .before .before .before .fit .ensures .0) _ _ (c .before .before .before .before .before .before .before .before .fit .ensures .1 .0) (c .before .before .before .before .before .before .before .before .fit .ensures .1 .1) (laws.fit-none (c .before .before .before .before .before .before .before .before .before .before .before .before .before .before .before .before .before .before .args .frequency) (c .before .before .before .before .before .before .before .before .before .before .before .before .before .before .before .before .before .before .args .steps) (c .before .before .before .before .before .before .before .before .before .before .before .before .before .before .before .before .before .before .args .reversion) (c .before .before .before .before .before .before .before .before .before .before .before .before .before .before .before .before .before .before .args .volatility) (c .before .before .before .before .before .before .before .before .before .before .before .before .before .before .before .before .before .before .args .rows .now) (c .before .before .before .before .before .before .before .before .before .before .before .before .before .before .before .before .before .before .args .kinds .now) (c .before .before .before .before .before .before .before .before .before .before .before .before .before .before .before .before .before .before .args .figures .now) (c .before .before .before .before .before .before .before .before .before .before .before .before .before .before .before .before .before .before .args .flows .now) (c .before .before .before .before .before .before .before .before .before .before .before .before .before .before .before .before .before .before .args .option) (c .before .before .before .before .before .before .before .before .before .before .before .before .before .before .before .before .before .before .args .out .now) (c .before .before .before .before .before .before .before .before .fit .result) (c .before .before .before .before .before .room-cause .result) (c .before .before .before .before .lowest .result) (fits.number-is (c .before .before .before .before .before .before .before .before .before .before .before .before .before .before .before .before .before .before .args .frequency) (c .before .before .before .before .before .before .before .before .before .before .before .before .before .before .before .before .before .before .args .steps) (c .before .before .before .before .before .before .before .before .before .before .before .before .before .before .before .before .before .before .args .reversion) (c .before .before .before .before .before .before .before .before .before .before .before .before .before .before .before .before .before .before .args .volatility) (c .before .before .before .before .before .before .before .before .before .before .before .before .before .before .before .before .before .before .args .rows .now) (c .before .before .before .before .before .before .before .before .before .before .before .before .before .before .before .before .before .before .args .kinds .now) (c .before .before .before .before .before .before .before .before .before .before .before .before .before .before .before .before .before .before .args .figures .now) (c .before .before .before .before .before .before .before .before .before .before .before .before .discounts .result) (c .before .before .before .before .before .before .before .before .before .before .before .state-prices .result) (c .before .before .before .before .before .before .before .before .fit .result) (c .before .before .before .before .before .before .before .before .before .before .before .before .discounts .ensures) (c .before .before .before .before .before .before .before .before .before .before .before .state-prices .ensures) (c .before .before .before .before .before .before .before .before .fit .ensures .0)) (c .before .before .before .before .before .room-cause .ensures) (c .before .before .before .before .lowest .ensures) (c .before .before .before .if1 .left)), laws.room-given (c .before .before .before .before .before .before .before .before .before .before .before .before .before .before .before .before .before .before .args .frequency) (c .before .before .before .before .before .before .before .before .before .before .before .before .before .before .before .before .before .before .args .steps) (c .before .before .before .before .before .before .before .before .before .before .before .before .before .before .before .before .before .before .args .reversion) (c .before .before .before .before .before .before .before .before .before .before .before .before .before .before .before .before .before .before .args .volatility) (c .before .before .before .before .before .before .before .before .before .before .before .before .before .before .before .before .before .before .args .rows .now) (c .before .before .before .before .before .before .before .before .before .before .before .before .before .before .before .before .before .before .args .kinds .now) (c .before .before .before .before .before .before .before .before .before .before .before .before .before .before .before .before .before .before .args .figures .now) (c .before .before .before .before .before .before .before .before .before .before .before .before .before .before .before .before .before .before .args .flows .now) (c .before .before .before .before .before .before .before .before .before .before .before .before .before .before .before .before .before .before .args .option) (c .before .before .before .before .before .before .before .before .before .before .before .before .before .before .before .before .before .before .args .out .now) (c .before .before .before .before .before .before .before .before .fit .result) (c .before .before .before .before .before .room-cause .result) (c .before .before .before .before .lowest .result) (fits.number-is (c .before .before .before .before .before .before .before .before .before .before .before .before .before .before .before .before .before .before .args .frequency) (c .before .before .before .before .before .before .before .before .before .before .before .before .before .before .before .before .before .before .args .steps) (c .before .before .before .before .before .before .before .before .before .before .before .before .before .before .before .before .before .before .args .reversion) (c .before .before .before .before .before .before .before .before .before .before .before .before .before .before .before .before .before .before .args .volatility) (c .before .before .before .before .before .before .before .before .before .before .before .before .before .before .before .before .before .before .args .rows .now) (c .before .before .before .before .before .before .before .before .before .before .before .before .before .before .before .before .before .before .args .kinds .now) (c .before .before .before .before .before .before .before .before .before .before .before .before .before .before .before .before .before .before .args .figures .now) (c .before .before .before .before .before .before .before .before .before .before .before .before .discounts .result) (c .before .before .before .before .before .before .before .before .before .before .before .state-prices .result) (c .before .before .before .before .before .before .before .before .fit .result) (c .before .before .before .before .before .before .before .before .before .before .before .before .discounts .ensures) (c .before .before .before .before .before .before .before .before .before .before .before .state-prices .ensures) (c .before .before .before .before .before .before .before .before .fit .ensures .0)) (c .before .before .before .before .before .room-cause .ensures) (c .before .before .before .before .lowest .ensures) (c .before .before .before .if1 .left), c .before .before .before .before .before .before .before .before .before .before .before .before .before .before .before .before .before .before .pre)
+sheet-of-fit-requires c κs =
+    let a = c .before .before .before .before .before .before .before .before .before .before .before .before .before .before .before .before .before .before .args in
+    let number = fits.number-is (a .frequency) (a .steps) (a .reversion) (a .volatility) (a .rows .now) (a .kinds .now) (a .figures .now) (c .before .before .before .before .before .before .before .before .before .before .before .before .discounts .result) (c .before .before .before .before .before .before .before .before .before .before .before .state-prices .result) (c .before .before .before .before .before .before .before .before .fit .result) (c .before .before .before .before .before .before .before .before .before .before .before .before .discounts .ensures) (c .before .before .before .before .before .before .before .before .before .before .before .state-prices .ensures) (c .before .before .before .before .before .before .before .before .fit .ensures .0) in
+    let accepted = laws.fit-none (a .frequency) (a .steps) (a .reversion) (a .volatility) (a .rows .now) (a .kinds .now) (a .figures .now) (a .flows .now) (a .option) (a .out .now) (c .before .before .before .before .before .before .before .before .fit .result) (c .before .before .before .before .before .room-cause .result) (c .before .before .before .before .lowest .result) number (c .before .before .before .before .before .room-cause .ensures) (c .before .before .before .before .lowest .ensures) (c .before .before .before .if1 .left) in
+    let room = laws.room-given (a .frequency) (a .steps) (a .reversion) (a .volatility) (a .rows .now) (a .kinds .now) (a .figures .now) (a .flows .now) (a .option) (a .out .now) (c .before .before .before .before .before .before .before .before .fit .result) (c .before .before .before .before .before .room-cause .result) (c .before .before .before .before .lowest .result) number (c .before .before .before .before .before .room-cause .ensures) (c .before .before .before .before .lowest .ensures) (c .before .before .before .if1 .left) in
+    let fitted = fits.fitted (a .frequency) (a .steps) (a .reversion) (a .volatility) (a .rows .now) (a .kinds .now) (a .figures .now) (c .before .before .before .before .before .before .before .before .before .before .before .before .discounts .result) (c .before .before .before .before .before .before .before .before .before .before .before .state-prices .result) (c .before .before .before .before .before .before .before .before .fit .result) (c .before .before .before .before .before .before .before .before .before .before .before .before .discounts .ensures) (c .before .before .before .before .before .before .before .before .before .before .before .state-prices .ensures) (c .before .before .before .before .before .before .before .before .fit .ensures .0) _ _ (c .before .before .before .before .before .before .before .before .fit .ensures .1 .0) (c .before .before .before .before .before .before .before .before .fit .ensures .1 .1) accepted in
+    (fitted, room, c .before .before .before .before .before .before .before .before .before .before .before .before .before .before .before .before .before .before .pre)
 
 same-length : tie.Need-same-length
 same-length c = search needs
 
 returns-2 : tie.Need-returns-2
-returns-2 c = laws.quotes-made (c .before .before .before .before .before .before .before .before .before .before .before .before .before .before .before .before .before .before .before .before .before .args .frequency) (c .before .before .before .before .before .before .before .before .before .before .before .before .before .before .before .before .before .before .before .before .before .args .steps) (c .before .before .before .before .before .before .before .before .before .before .before .before .before .before .before .before .before .before .before .before .before .args .reversion) (c .before .before .before .before .before .before .before .before .before .before .before .before .before .before .before .before .before .before .before .before .before .args .volatility) (c .before .before .before .before .before .before .before .before .before .before .before .before .before .before .before .before .before .before .before .before .before .args .rows .now) (c .before .before .before .before .before .before .before .before .before .before .before .before .before .before .before .before .before .before .before .before .before .args .kinds .now) (c .before .before .before .before .before .before .before .before .before .before .before .before .before .before .before .before .before .before .before .before .before .args .figures .now) (c .before .before .before .before .before .before .before .before .before .before .before .before .before .before .before .before .before .before .before .before .before .args .flows .now) (c .before .before .before .before .before .before .before .before .before .before .before .before .before .before .before .before .before .before .before .before .before .args .option) (c .before .before .before .before .before .before .before .before .before .before .before .before .before .before .before .before .before .before .before .before .before .args .out .now) (c .before .before .before .before .before .before .before .before .before .before .before .fit .result) (c .before .before .before .before .before .before .before .before .room-cause .result) (c .before .before .before .before .before .before .before .lowest .result) (fits.number-is (c .before .before .before .before .before .before .before .before .before .before .before .before .before .before .before .before .before .before .before .before .before .args .frequency) (c .before .before .before .before .before .before .before .before .before .before .before .before .before .before .before .before .before .before .before .before .before .args .steps) (c .before .before .before .before .before .before .before .before .before .before .before .before .before .before .before .before .before .before .before .before .before .args .reversion) (c .before .before .before .before .before .before .before .before .before .before .before .before .before .before .before .before .before .before .before .before .before .args .volatility) (c .before .before .before .before .before .before .before .before .before .before .before .before .before .before .before .before .before .before .before .before .before .args .rows .now) (c .before .before .before .before .before .before .before .before .before .before .before .before .before .before .before .before .before .before .before .before .before .args .kinds .now) (c .before .before .before .before .before .before .before .before .before .before .before .before .before .before .before .before .before .before .before .before .before .args .figures .now) (c .before .before .before .before .before .before .before .before .before .before .before .before .before .before .before .discounts .result) (c .before .before .before .before .before .before .before .before .before .before .before .before .before .before .state-prices .result) (c .before .before .before .before .before .before .before .before .before .before .before .fit .result) (c .before .before .before .before .before .before .before .before .before .before .before .before .before .before .before .discounts .ensures) (c .before .before .before .before .before .before .before .before .before .before .before .before .before .before .state-prices .ensures) (c .before .before .before .before .before .before .before .before .before .before .before .fit .ensures .0)) (c .before .before .before .before .before .before .before .before .room-cause .ensures) (c .before .before .before .before .before .before .before .lowest .ensures) _ _ _ (c .before .before .before .before .before .before .if1 .left) (c .before .before .sheet-of-fit .ensures)
+returns-2 c =
+    let a = c .before .before .before .before .before .before .before .before .before .before .before .before .before .before .before .before .before .before .before .before .before .args in
+    let number = fits.number-is (a .frequency) (a .steps) (a .reversion) (a .volatility) (a .rows .now) (a .kinds .now) (a .figures .now) (c .before .before .before .before .before .before .before .before .before .before .before .before .before .before .before .discounts .result) (c .before .before .before .before .before .before .before .before .before .before .before .before .before .before .state-prices .result) (c .before .before .before .before .before .before .before .before .before .before .before .fit .result) (c .before .before .before .before .before .before .before .before .before .before .before .before .before .before .before .discounts .ensures) (c .before .before .before .before .before .before .before .before .before .before .before .before .before .before .state-prices .ensures) (c .before .before .before .before .before .before .before .before .before .before .before .fit .ensures .0) in
+    laws.quotes-made (a .frequency) (a .steps) (a .reversion) (a .volatility) (a .rows .now) (a .kinds .now) (a .figures .now) (a .flows .now) (a .option) (a .out .now) (c .before .before .before .before .before .before .before .before .before .before .before .fit .result) (c .before .before .before .before .before .before .before .before .room-cause .result) (c .before .before .before .before .before .before .before .lowest .result) number (c .before .before .before .before .before .before .before .before .room-cause .ensures) (c .before .before .before .before .before .before .before .lowest .ensures) _ _ _ (c .before .before .before .before .before .before .if1 .left) (c .before .before .sheet-of-fit .ensures)
 
 pub sheet-of-quotes-spec : {M : Type 1} → statement M
 sheet-of-quotes-spec =

@@ -1,8 +1,6 @@
 -- `job_sheet::priced::sheet_of_tree` meets its contract.
 -- Assumes nothing.
-use mathlib.Core.Path.{_≡_, refl, sym, ap, _∙_, subst}
-use lib.ListN.{length, getD}
-use Prim.Native.Nat.{ℕ, suc, _+_, _-_, _*_, _≤_, _<_, _^_}
+use mathlib.Core.Path.{_∙_}
 use Rattle.job_sheet.specs.WholeJob.{treeText}
 use Rattle.job_sheet.proofs.SheetLaws as laws
 use borrow.Author.Needs.{needs}
@@ -24,7 +22,9 @@ refused-requires c κs = search needs
 
 returns : tie.Need-returns
 returns c =
-    let made = laws.refused-by _ (c .before .before .lowest .result) (treeText (c .before .before .before .before .before .before .before .before .before .before .args .steps) (c .before .before .before .before .before .before .before .before .before .before .args .reversion) (c .before .before .before .before .before .before .before .before .before .before .args .quotes .now) (c .before .before .before .before .before .before .before .before .before .before .args .discounts .now) (c .before .before .before .before .before .before .before .before .before .before .args .state-prices .now) (c .before .before .before .before .before .before .before .before .before .before .args .flows .now) (c .before .before .before .before .before .before .before .before .before .before .args .option)) (c .before .before .before .before .before .before .before .before .before .before .args .out .now) (laws.tree-number (c .before .before .before .before .before .before .before .before .before .before .args .steps) (c .before .before .before .before .before .before .before .before .before .before .args .reversion) (c .before .before .before .before .before .before .before .before .before .before .args .discounts .now) (c .before .before .before .before .before .before .before .before .before .before .args .flows .now) (c .before .before .before .before .before .before .before .before .before .before .args .option) (c .before .before .before .before .bond-price .result) (c .before .before .before .tree-option .result) (c .before .before .before .before .bond-price .ensures) (c .before .before .before .tree-option .ensures) (c .before .before .lowest .result) (c .before .before .lowest .ensures)) (c .before .if1 .taken) in
+    let a = c .before .before .before .before .before .before .before .before .before .before .args in
+    let text = treeText (a .steps) (a .reversion) (a .quotes .now) (a .discounts .now) (a .state-prices .now) (a .flows .now) (a .option) in
+    let made = laws.refused-by _ (c .before .before .lowest .result) text (a .out .now) (laws.tree-number (a .steps) (a .reversion) (a .discounts .now) (a .flows .now) (a .option) (c .before .before .before .before .bond-price .result) (c .before .before .before .tree-option .result) (c .before .before .before .before .bond-price .ensures) (c .before .before .before .tree-option .ensures) (c .before .before .lowest .result) (c .before .before .lowest .ensures)) (c .before .if1 .taken) in
     (c .refused .ensures ∙ made .0, made .1)
 
 put-sheet-requires : tie.Need-put-sheet-requires
@@ -37,7 +37,9 @@ same-length : tie.Need-same-length
 same-length c = search needs
 
 returns-2 : tie.Need-returns-2
-returns-2 c = laws.tree-put (c .before .before .before .before .before .before .before .before .before .before .before .before .before .args .steps) (c .before .before .before .before .before .before .before .before .before .before .before .before .before .args .reversion) (c .before .before .before .before .before .before .before .before .before .before .before .before .before .args .discounts .now) (c .before .before .before .before .before .before .before .before .before .before .before .before .before .args .flows .now) (c .before .before .before .before .before .before .before .before .before .before .before .before .before .args .option) (c .before .before .before .before .before .before .before .bond-price .result) (c .before .before .before .before .before .before .tree-option .result) (c .before .before .before .before .before .before .before .bond-price .ensures) (c .before .before .before .before .before .before .tree-option .ensures) (c .before .before .before .before .before .lowest .result) (c .before .before .before .before .before .lowest .ensures) (c .before .before .before .before .before .before .before .before .before .before .before .before .before .args .quotes .now) (c .before .before .before .before .before .before .before .before .before .before .before .before .before .args .state-prices .now) (c .before .before .before .before .before .before .before .before .before .before .before .before .before .args .out .now) _ _ (c .before .before .before .before .if1 .left) (c .before .before .put-sheet .ensures)
+returns-2 c =
+    let a = c .before .before .before .before .before .before .before .before .before .before .before .before .before .args in
+    laws.tree-put (a .steps) (a .reversion) (a .discounts .now) (a .flows .now) (a .option) (c .before .before .before .before .before .before .before .bond-price .result) (c .before .before .before .before .before .before .tree-option .result) (c .before .before .before .before .before .before .before .bond-price .ensures) (c .before .before .before .before .before .before .tree-option .ensures) (c .before .before .before .before .before .lowest .result) (c .before .before .before .before .before .lowest .ensures) (a .quotes .now) (a .state-prices .now) (a .out .now) _ _ (c .before .before .before .before .if1 .left) (c .before .before .put-sheet .ensures)
 
 pub sheet-of-tree-spec : {M : Type 1} → statement M
 sheet-of-tree-spec =
