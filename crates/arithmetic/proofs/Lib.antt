@@ -6,3 +6,5 @@ pub mod RoundingLaws
 pub mod PowerLaws
 pub mod Signed
 pub mod FrequencyLaws
+pub mod PlaceLaws
+pub mod CauseLaws

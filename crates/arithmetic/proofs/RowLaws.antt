@@ -1,12 +1,12 @@
 -- Laws of rows in memory and of tests of every index.
 -- Assumes nothing.
 use mathlib.Core.Path.{_≡_, refl, sym, _∙_, ap, subst}
-use mathlib.Core.Bool.{Bool, true, false, cond, _&&_}
+use mathlib.Core.Bool.{Bool, true, false, cond, _&&_, and-true, and-assoc}
 use mathlib.Core.List.{List, [], _∷_, _++_, append-assoc}
 use mathlib.Core.Logic.{_⊎_, inl, inr, ⊎-elim}
 use Prim.Native.Nat.{ℕ, zero, suc, _+_, _-_, _≤_, _<_}
 use native.Mathlib.Numerals.{add-one}
-use native.Mathlib.Nat.{not-suc-le-zero, le-of-suc-le-suc, eq-or-lt-of-le, lt-of-not-le, add-zero, le-refl}
+use native.Mathlib.Nat.{not-suc-le-zero, le-of-suc-le-suc, eq-or-lt-of-le, lt-of-not-le, add-zero, add-suc, le-refl}
 use native.Mathlib.Decide.{decLe}
 use native.Mathlib.Omega.{arith}
 use borrow.Author.Tests.{lt-ltb, le-ltb, ltb-true, ltb-false, eqb-true, eqb-false}
@@ -200,3 +200,10 @@ pub each-cong : (n : ℕ) (p r : ℕ → Bool) → ((k : ℕ) → k < n → p k 
 unfolding each
 each-cong zero p r h = refl
 each-cong (suc n) p r h = rw (each-cong n p r (λ k l. h k (omega arith)), h n (omega arith))
+
+-- a test of every index, split at an index
+pub each-split : (n m : ℕ) (test : ℕ → Bool) → each (n + m) test ≡ each n test && each m (λ k. test (n + k))
+unfolding each
+each-split n zero test = rw (add-zero n) (sym (and-true (each n test)))
+each-split n (suc m) test =
+    rw (add-suc n m, each-split n m test) (and-assoc (each n test) (each m (λ k. test (n + k))) (test (n + m)))

@@ -1,6 +1,8 @@
 -- An answer that can be a refusal (document 01, When the engine declines).
 -- Assumes nothing.
-use Prim.Native.Nat.{ℕ}
+use Prim.Native.Nat.{ℕ, min}
+use mathlib.Core.Bool.{cond}
+use lib.Dec.{eqb}
 use Rattle.arithmetic.specs.declared.Answer.{Answer}
 
 -- the number of a cause, with a zero
@@ -10,3 +12,7 @@ refused cause = record { number = cause; value = 0 }
 -- a result, with number 0
 abbrev pub answered : ℕ → Answer
 answered result = record { number = 0; value = result }
+
+-- the lowest of two causes; 0 stands for none
+unfoldable pub lowest-cause : ℕ → ℕ → ℕ
+lowest-cause a b = cond (eqb a 0) b (cond (eqb b 0) a (min a b))

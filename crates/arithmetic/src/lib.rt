@@ -1,8 +1,9 @@
-// Rounding, sums and rows that every layer shares, and the powers of ten.
+// Rounding, sums and rows that every layer shares, answers with their causes, and the powers of ten.
 ghost use mathlib.Core.Path.{_≡_};
 ghost use Prim.Native.Nat.{_<_, _^_};
 ghost use Rattle.arithmetic.specs.Power.{powerOfTen};
 ghost use Rattle.arithmetic.specs.Frequency.{listed};
+ghost use Rattle.arithmetic.specs.Answers.{lowest-cause};
 
 // An answer that can be a refusal: number 0 with the value, or the refusal's number with value 0.
 #[repr(C)]
@@ -66,4 +67,17 @@ pub fn is_listed(frequency: u64) -> bool
         return true;
     }
     frequency == 12
+}
+
+// The lowest of two causes; 0 stands for none.
+pub fn lowest_cause(a: u64, b: u64) -> u64
+    ensures { λ r. ⌜ r ≡ lowest-cause a b ⌝ }
+{
+    if a == 0 {
+        return b;
+    }
+    if b == 0 {
+        return a;
+    }
+    if a < b { a } else { b }
 }

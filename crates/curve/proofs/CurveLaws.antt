@@ -13,11 +13,11 @@ use lib.ListN.{length, getD}
 use lib.Ieee.{Float, nan}
 use Rattle.arithmetic.specs.declared.Answer.{Answer}
 use Rattle.arithmetic.specs.Row.{row, values, place, each}
-use Rattle.arithmetic.proofs.RowLaws.{length-row, values-row}
+use Rattle.arithmetic.proofs.RowLaws.{length-row, values-row, each-holds}
 use Rattle.arithmetic.specs.Frequency.{listed}
 use Rattle.quotes.proofs.QuoteLaws.{lone-told, lone-seventh, row-known}
 use Rattle.curve.specs.Curve.{stepsKnown, placeAt, inPlace, answerAt, convertsAt, discountAt, curveNumber, curveMemory}
-use Rattle.curve.proofs.PlaceLaws.{length-place, place-inside, place-after, each-holds}
+use Rattle.arithmetic.proofs.PlaceLaws.{length-place, place-inside, place-after}
 
 true≢false : true ≡ false → ⊥
 true≢false q = let z : _≡_ {A = ℕ} 0 1 = cc in omega arith

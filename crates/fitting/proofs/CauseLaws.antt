@@ -1,52 +1,24 @@
 -- Causes 2 to 8 by the tests that code makes.
 -- Assumes nothing.
 use mathlib.Core.Path.{_≡_, refl, sym, _∙_, ap}
-use mathlib.Core.Bool.{Bool, true, false, cond, _&&_}
-use Prim.Native.Nat.{ℕ, zero, suc, _+_, _-_, _*_, _≤_, _<_, min}
+use Prim.Native.Nat.{ℕ, suc, _-_, _*_, _≤_, _<_}
 use native.Mathlib.Nat.{mul-le-mul}
 use native.Mathlib.Omega.{arith}
-use lib.Dec.{eqb, leb, ltb}
 use borrow.Author.Tests.{eq-eqb, ne-eqb, lt-ltb, le-ltb, le-leb, lt-leb}
 use Rattle.arithmetic.specs.declared.Answer.{Answer}
 use Rattle.arithmetic.specs.Rounding.{one}
-use Rattle.arithmetic.proofs.Numbers.{by-equal, by-order}
+use Rattle.arithmetic.proofs.Numbers.{by-order}
 use Rattle.lattice.specs.Shape.{half-width, row-start, discounts-needed, state-prices-needed}
-use Rattle.lattice.specs.Entries.{about-row, about-tree, discountsNeeded, statePricesNeeded, halfWidth}
+use Rattle.lattice.specs.Entries.{discountsNeeded, statePricesNeeded, halfWidth}
 use Rattle.lattice.proofs.Sizes.{half-within}
 use Rattle.lattice.proofs.TreeEntries.{Accepted, tree-accepted, tree-value, row-value}
 use Rattle.spacing.specs.Spacing.{spacing, spacing-answer}
 use Rattle.arithmetic.proofs.FrequencyLaws.{listed-small}
 use Rattle.spacing.proofs.SpacingLaws as spacings
-use Rattle.fitting.specs.declared.causes.Plan.{Plan}
-use Rattle.fitting.specs.Entry.{lowest-cause, memory-cause, early-cause}
+use Rattle.arithmetic.specs.Answers.{lowest-cause}
+use Rattle.arithmetic.proofs.CauseLaws.{lowest-none}
+use Rattle.fitting.specs.Entry.{memory-cause, early-cause}
 use Rattle.fitting.specs.Plans.{Numbers, Planned}
-
-module _ (a b : ℕ) where
-  pub lowest-first : a ≡ 0 → b ≡ lowest-cause a b
-  unfolding lowest-cause
-  lowest-first e = rw (eq-eqb a 0 e)
-
-  module _ (na : a ≡ 0 → ⊥) where
-    pub lowest-second : b ≡ 0 → a ≡ lowest-cause a b
-    unfolding lowest-cause
-    lowest-second e = rw (ne-eqb a 0 na, eq-eqb b 0 e)
-
-    module _ (nb : b ≡ 0 → ⊥) where
-      pub lowest-less : a < b → a ≡ lowest-cause a b
-      unfolding lowest-cause
-      lowest-less h = rw (ne-eqb a 0 na, ne-eqb b 0 nb) (omega arith)
-
-      pub lowest-more : b ≤ a → b ≡ lowest-cause a b
-      unfolding lowest-cause
-      lowest-more h = rw (ne-eqb a 0 na, ne-eqb b 0 nb) (omega arith)
-
--- no lowest cause, no cause
-pub lowest-none : (a b : ℕ) → lowest-cause a b ≡ 0 → (a ≡ 0) × (b ≡ 0)
-lowest-none a b e =
-    by-equal a 0
-    (λ za. (za, lowest-first a b za ∙ e))
-    (λ na. by-equal b 0 (λ zb. absurd (na (lowest-second a b na zb ∙ e)))
-    (λ nb. by-order b a (λ h. absurd (nb (lowest-more a b na nb h ∙ e))) (λ h. absurd (na (lowest-less a b na nb h ∙ e)))))
 
 module _ (n b ds ps : ℕ) (needed all : Answer) (en : needed ≡ discountsNeeded n b) (ea : all ≡ statePricesNeeded n b) where
   pub memory-short : ds < needed .value → 6 ≡ memory-cause n b ds ps

@@ -2,21 +2,20 @@
 -- Assumes nothing.
 use mathlib.Core.Path.{_≡_, refl, sym, _∙_, ap}
 use mathlib.Core.Bool.{Bool, true, false, cond, not, _&&_}
-use mathlib.Core.List.{List, [], _∷_, _++_}
-use Prim.Native.Nat.{ℕ, zero, suc, _+_, _-_, _*_, _≤_, _<_, min}
+use mathlib.Core.List.{List, _++_}
+use Prim.Native.Nat.{ℕ, suc, _+_, _-_, _*_, _≤_, _<_, min}
 use native.Mathlib.Omega.{arith}
 use lib.Dec.{eqb, leb, ltb}
 use lib.Ieee.{Float}
 use lib.ListN.{length, take, drop}
 use lib.Seq.{take-at}
 use borrow.Author.Tests.{eq-eqb, ne-eqb}
-use Rattle.arithmetic.specs.declared.Answer.{Answer}
-use Rattle.arithmetic.specs.Answers.{refused, answered}
+use Rattle.arithmetic.specs.Answers.{refused, answered, lowest-cause}
 use Rattle.arithmetic.specs.Rounding.{one}
 use Rattle.arithmetic.specs.Row.{row, values, place, each}
 use Rattle.arithmetic.proofs.Numbers.{by-equal}
 use Rattle.arithmetic.proofs.RowLaws.{values-row, length-row}
-use Rattle.tree.specs.Layout.{laid, start}
+use Rattle.tree.specs.Layout.{laid}
 use Rattle.tree.proofs.LayoutLaws.{length-laid}
 use Rattle.lattice.specs.Shape.{half-width, row-start, discounts-needed}
 use Rattle.lattice.specs.RateTree.{rate-tree}
@@ -30,9 +29,8 @@ use Rattle.curve.proofs.CurveLaws.{curve-range, curve-stored}
 use Rattle.fitting.specs.declared.causes.Plan.{Plan}
 use Rattle.fitting.specs.Fit.{Fittable, curve-discount, curve-price, curve-accepted}
 use Rattle.fitting.specs.Entry
-use Rattle.fitting.specs.Entry.{quotes-of, lowest-cause, memory-cause, early-cause, late-cause, fitNumber, fit-memory, fit-discounts, fit-prices}
+use Rattle.fitting.specs.Entry.{quotes-of, memory-cause, early-cause, late-cause, fitNumber, fit-memory, fit-discounts, fit-prices}
 use Rattle.fitting.specs.Plans.{Planned}
-use Rattle.fitting.proofs.CauseLaws.{lowest-first, lowest-second}
 
 -- causes 2 to 7 are at most 7
 chain-small : (a b c d : Bool) → cond a 2 (cond b 3 (cond c 6 (cond d 7 0))) ≤ 7

@@ -1,13 +1,13 @@
 -- The fit of a tree to its quotes (document 01, Spacing and fit; When the engine declines): its number, and both memories afterwards.
 -- f steps a year, n steps, b reversion, s volatility; the quotes as rows, kinds and figures.
 -- Assumes nothing.
-use mathlib.Core.Bool.{Bool, cond, _&&_}
+use mathlib.Core.Bool.{cond, _&&_}
 use mathlib.Core.List.{List}
-use Prim.Native.Nat.{ℕ, suc, _-_, _*_, min}
+use Prim.Native.Nat.{ℕ, suc, _-_, _*_}
 use lib.Dec.{eqb, leb, ltb}
 use lib.Ieee.{Float}
 use lib.ListN.{length}
-use Rattle.arithmetic.specs.declared.Answer.{Answer}
+use Rattle.arithmetic.specs.Answers.{lowest-cause}
 use Rattle.arithmetic.specs.Rounding.{one}
 use Rattle.arithmetic.specs.Row.{row, place}
 use Rattle.tree.specs.Layout.{laid}
@@ -28,10 +28,6 @@ fit-discount f n b s kinds figures = curve-discount b (spacing f s) (quotes-of f
 
 abbrev pub fit-price : ℕ → ℕ → ℕ → ℕ → List ℕ → List Float → ℕ → ℕ → ℕ
 fit-price f n b s kinds figures = curve-price b (spacing f s) (quotes-of f n kinds figures)
-
--- the lowest of two causes; 0 stands for none
-unfoldable pub lowest-cause : ℕ → ℕ → ℕ
-lowest-cause a b = cond (eqb a 0) b (cond (eqb b 0) a (min a b))
 
 -- 6: tree memory too short
 unfoldable pub memory-cause : ℕ → ℕ → ℕ → ℕ → ℕ

@@ -4,7 +4,7 @@ ghost use mathlib.Core.Bool.{cond};
 ghost use Prim.Native.Nat.{ℕ, _-_, _*_, _≤_, _<_};
 ghost use lib.Dec.{eqb, leb, ltb};
 ghost use Rattle.lattice.specs.Entries.{discountsNeeded, statePricesNeeded};
-ghost use Rattle.fitting.specs.Entry.{lowest-cause, memory-cause};
+ghost use Rattle.fitting.specs.Entry.{memory-cause};
 ghost use Rattle.fitting.specs.Plans.{Planned};
 
 // What a fit needs to know of its numbers, or the number of a cause.
@@ -12,18 +12,6 @@ pub(crate) struct Plan {
     pub(crate) number: u64,
     pub(crate) spacing: u64,
     pub(crate) widest: usize,
-}
-
-fn lowest(a: u64, b: u64) -> u64
-    ensures { λ r. ⌜ r ≡ lowest-cause a b ⌝ }
-{
-    if a == 0 {
-        return b;
-    }
-    if b == 0 {
-        return a;
-    }
-    if a < b { a } else { b }
 }
 
 fn memory_of(steps: usize, reversion: u64, discounts: usize, prices: usize) -> u64
@@ -55,9 +43,9 @@ pub(crate) fn plan_of(
     let tree = lattice::discounts_needed(steps, reversion);
     let spaced = spacing::spacing(frequency, volatility);
     let memory = memory_of(steps, reversion, discounts, prices);
-    let early = lowest(
-        lowest(converted, tree.number),
-        lowest(spaced.number, memory),
+    let early = arithmetic::lowest_cause(
+        arithmetic::lowest_cause(converted, tree.number),
+        arithmetic::lowest_cause(spaced.number, memory),
     );
     if early != 0 {
         return Plan {

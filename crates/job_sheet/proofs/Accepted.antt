@@ -8,7 +8,7 @@ use borrow.Author.Tests.{eq-eqb, ne-eqb}
 use lib.Ieee.{Float}
 use Rattle.arithmetic.proofs.Numbers.{by-equal}
 use Rattle.fitting.specs.Entry.{fitNumber, fit-discounts}
-use Rattle.fitting.proofs.CauseLaws.{lowest-none}
+use Rattle.arithmetic.proofs.CauseLaws.{lowest-none}
 use Rattle.pricing.specs.Prices.{first-cause, bondPrice, optionPrice}
 use Rattle.jobs.specs.declared.Job.{Job}
 use Rattle.jobs.specs.declared.OptionRecord.{OptionRecord}

@@ -1,23 +1,20 @@
 -- What an accepted fit leaves for a sheet: quotes, discounts and state prices.
 -- Assumes nothing.
-use mathlib.Core.Path.{_≡_, sym, ap, _∙_, subst}
-use mathlib.Core.List.{List, [], _++_, append-assoc, append-nil}
-use Prim.Native.Nat.{ℕ, zero, suc, _+_, _-_, _<_}
-use native.Mathlib.Nat.{not-suc-le-zero}
+use mathlib.Core.Path.{_≡_, sym, ap, _∙_}
+use mathlib.Core.List.{List, [], append-nil}
+use Prim.Native.Nat.{ℕ, suc, _-_, _<_}
 use native.Mathlib.Omega.{arith}
 use borrow.Author.Tests.{eq-eqb}
 use lib.Ieee.{Float}
-use lib.ListN.{length, take, drop}
+use lib.ListN.{length, take}
 use lib.Seq.{take-at}
 use Rattle.arithmetic.specs.Sum.{sum}
 use Rattle.arithmetic.specs.Row.{row, values, place}
 use Rattle.arithmetic.specs.declared.Answer.{Answer}
-use Rattle.arithmetic.proofs.Numbers.{by-equal}
 use Rattle.arithmetic.proofs.RowLaws.{length-row, values-row}
 use Rattle.arithmetic.proofs.SumLaws.{sum-cong}
-use Rattle.tree.specs.Tree.{Tree}
 use Rattle.tree.specs.Layout.{laid, start}
-use Rattle.tree.proofs.LayoutLaws.{length-laid, laid-row}
+use Rattle.tree.proofs.LayoutLaws.{length-laid, laid-part}
 use Rattle.lattice.specs.Shape.{node-count, row-start, discounts-needed, state-prices-needed}
 use Rattle.lattice.specs.RateTree.{rate-tree}
 use Rattle.lattice.specs.Entries.{discountsNeeded, statePricesNeeded}
@@ -25,22 +22,13 @@ use Rattle.lattice.proofs.RateTreeLaws.{start-is}
 use Rattle.lattice.proofs.TreeEntries.{Accepted, tree-value}
 use Rattle.curve.specs.Curve.{discountAt, curveNumber, curveMemory}
 use Rattle.curve.proofs.CurveLaws.{curve-stored}
-use Rattle.curve.proofs.PlaceLaws.{length-place}
+use Rattle.arithmetic.proofs.PlaceLaws.{length-place}
 use Rattle.fitting.specs.Entry.{quotes-of, fitNumber, fit-memory, fit-discount, fit-price, fit-discounts, fit-prices}
 use Rattle.fitting.specs.Plans.{Numbers}
 use Rattle.fitting.proofs.Promised.{fit-numbers, fit-repriced}
 use Rattle.job_sheet.specs.TreeSheet.{row-part, total}
 use Rattle.job_sheet.specs.WholeJob.{most-discounts, most-prices}
 use Rattle.job_sheet.specs.Stored.{Stored, Summed, Fitted}
-
--- the part of the rows stored that is row i
-laid-part : (t : Tree) (f : ℕ → ℕ → ℕ) (n i : ℕ) (rest : List ℕ) → i < n → take (t .nodes i) (drop (start t i) (laid t f n ++ rest)) ≡ row (t .nodes i) (f i)
-unfolding laid
-laid-part t f zero i rest h = absurd (not-suc-le-zero h)
-laid-part t f (suc n) i rest h =
-    by-equal i n
-    (λ e. subst (λ (m : ℕ). take (t .nodes i) (drop (start t i) (laid t f (suc m) ++ rest)) ≡ row (t .nodes i) (f i)) e (laid-row t f i rest))
-    (λ ne. rw (append-assoc (laid t f n) (row (t .nodes n) (f n)) rest) (laid-part t f n i (row (t .nodes n) (f n) ++ rest) (omega (arith, ne))))
 
 stored-row : (b : ℕ) (f : ℕ → ℕ → ℕ) (n i : ℕ) → i < n → row-part b (laid (rate-tree b) f n) i ≡ row (node-count b i) (f i)
 unfolding row-part rate-tree row-start start

@@ -22,8 +22,9 @@ use Rattle.jobs.specs.declared.Job.{Job}
 use Rattle.jobs.specs.declared.Reading.{Reading}
 use Rattle.jobs.specs.Reader.{readingOf}
 use Rattle.text.specs.Lines.{refusedLine, hasRoom, lineStart, withLine}
-use Rattle.fitting.specs.Entry.{lowest-cause, quotes-of, fitNumber, fit-discounts, fit-prices}
-use Rattle.fitting.proofs.CauseLaws.{lowest-none}
+use Rattle.arithmetic.specs.Answers.{lowest-cause}
+use Rattle.fitting.specs.Entry.{quotes-of, fitNumber, fit-discounts, fit-prices}
+use Rattle.arithmetic.proofs.CauseLaws.{lowest-none}
 use Rattle.job_sheet.specs.declared.Written.{Written}
 use Rattle.job_sheet.specs.TreeSheet.{treeSheet}
 use Rattle.job_sheet.specs.WholeJob.{most-discounts, most-prices, sheetRoom, roomCause, jobRows, jobKinds, jobFigures, jobFlows, treeOption, treeNumber, treeText, pricedNumber, pricedText, jobNumber, jobText, sheetNumber, sheetText, refusedSheet, answerOf, memoryOf, printedStart, printedMemory}

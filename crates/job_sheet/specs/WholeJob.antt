@@ -8,7 +8,8 @@ use lib.Ieee.{Float}
 use lib.ListN.{length, take}
 use Rattle.arithmetic.specs.Row.{row}
 use Rattle.figure.specs.Figure.{patternFloat}
-use Rattle.fitting.specs.Entry.{lowest-cause, fitNumber, fit-discounts, fit-prices, quotes-of}
+use Rattle.arithmetic.specs.Answers.{lowest-cause}
+use Rattle.fitting.specs.Entry.{fitNumber, fit-discounts, fit-prices, quotes-of}
 use Rattle.pricing.specs.declared.Price.{Price}
 use Rattle.pricing.specs.Prices.{refusal, first-cause, bondPrice, optionPrice}
 use Rattle.jobs.specs.declared.OptionRecord.{OptionRecord}

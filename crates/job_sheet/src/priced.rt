@@ -2,7 +2,7 @@
 ghost use mathlib.Core.Path.{_≡_};
 ghost use Prim.Native.Nat.{_≤_};
 ghost use lib.ListN.{length};
-ghost use Rattle.fitting.specs.Entry.{lowest-cause, fit-discounts};
+ghost use Rattle.fitting.specs.Entry.{fit-discounts};
 ghost use Rattle.job_sheet.specs.WholeJob.{
   sheetRoom,
   roomCause,
@@ -29,18 +29,6 @@ fn refused(number: u64) -> Written
     ensures { λ r. ⌜ r ≡ refusedSheet number ⌝ }
 {
     Written { number, size: 0 }
-}
-
-fn lowest(a: u64, b: u64) -> u64
-    ensures { λ r. ⌜ r ≡ lowest-cause a b ⌝ }
-{
-    if a == 0 {
-        return b;
-    }
-    if b == 0 {
-        return a;
-    }
-    if a < b { a } else { b }
 }
 
 fn room_cause(room: usize) -> u64
@@ -99,7 +87,7 @@ fn sheet_of_tree<'a>(
 {
     let bond = pricing::bond_price(steps, reversion, discounts, flows);
     let optional = tree_option(steps, reversion, discounts, flows, option);
-    let number = lowest(bond.number, optional.number);
+    let number = arithmetic::lowest_cause(bond.number, optional.number);
     if number != 0 {
         return refused(number);
     }
@@ -186,7 +174,7 @@ pub(crate) fn sheet_of_quotes(
         &mut discounts,
         &mut state_prices,
     );
-    let cause = lowest(fitted, room_cause(out.len()));
+    let cause = arithmetic::lowest_cause(fitted, room_cause(out.len()));
     if cause != 0 {
         return refused(cause);
     }

@@ -1,34 +1,21 @@
 -- What an accepted fit leaves in both memories is the fit, unaltered: its discounts by row and node, and each row of its state prices.
 -- Assumes nothing.
-use mathlib.Core.Path.{_≡_, refl, ap, sym, _∙_, subst}
-use mathlib.Core.List.{List, _++_, append-assoc}
-use Prim.Native.Nat.{ℕ, zero, suc, _+_, _≤_, _<_}
-use native.Mathlib.Nat.{not-suc-le-zero}
+use mathlib.Core.Path.{_≡_, ap, _∙_}
+use mathlib.Core.List.{List}
+use Prim.Native.Nat.{ℕ, suc, _+_, _≤_, _<_}
 use native.Mathlib.Omega.{arith}
 use lib.Ieee.{Float}
 use lib.ListN.{length, take, drop, length-append}
 use lib.Seq.{getD-take, getD-drop}
-use Rattle.arithmetic.specs.Row.{row, values, place}
-use Rattle.arithmetic.proofs.Numbers.{by-equal}
+use Rattle.arithmetic.specs.Row.{values, place}
 use Rattle.arithmetic.proofs.RowLaws.{values-row, length-row}
-use Rattle.tree.specs.Tree.{Tree}
-use Rattle.tree.specs.Layout.{start, laid}
-use Rattle.tree.proofs.LayoutLaws.{laid-row, length-laid}
+use Rattle.tree.specs.Layout.{start}
+use Rattle.tree.proofs.LayoutLaws.{laid-part, length-laid}
 use Rattle.lattice.specs.Shape.{node-count, row-start}
 use Rattle.lattice.specs.RateTree.{rate-tree}
 use Rattle.lattice.proofs.RateTreeLaws.{start-is}
 use Rattle.fitting.specs.Entry.{fit-memory, fit-discount, fit-price, fit-discounts, fit-prices}
 use Rattle.promises.specs.Promises.{Unaltered}
-
--- the part of a memory that is row i, of n rows stored
-laid-part : (t : Tree) (f : ℕ → ℕ → ℕ) (n i : ℕ) (rest : List ℕ) → i < n →
-    take (t .nodes i) (drop (start t i) (laid t f n ++ rest)) ≡ row (t .nodes i) (f i)
-unfolding laid
-laid-part t f zero i rest h = absurd (not-suc-le-zero h)
-laid-part t f (suc n) i rest h =
-    by-equal i n
-    (λ e. subst (λ (m : ℕ). take (t .nodes i) (drop (start t i) (laid t f (suc m) ++ rest)) ≡ row (t .nodes i) (f i)) e (laid-row t f i rest))
-    (λ ne. rw (append-assoc (laid t f n) (row (t .nodes n) (f n)) rest) (laid-part t f n i (row (t .nodes n) (f n) ++ rest) (omega (arith, ne))))
 
 part-value : (memory : List ℕ) (s c k : ℕ) → k < c → values memory (s + k) ≡ values (take c (drop s memory)) k
 part-value memory s c k h = rw (getD-take, getD-drop)

@@ -18,7 +18,7 @@ use Rattle.arithmetic.specs.Answers.{refused, answered}
 use Rattle.arithmetic.specs.declared.Answer.{Answer}
 use Rattle.arithmetic.proofs.RoundingLaws.{up-monotone}
 use Rattle.arithmetic.proofs.SumLaws.{greatest-le, greatest-cong, greatest-next}
-use Rattle.arithmetic.proofs.RowLaws.{each-fails}
+use Rattle.arithmetic.proofs.RowLaws.{each-holds}
 use Rattle.tree.specs.Tree.{Tree}
 use Rattle.lattice.specs.Shape.{node-count, row-start, discounts-needed}
 use Rattle.lattice.specs.Entries.{about-tree}
@@ -51,14 +51,6 @@ discount-within v h = both (leb 1 v) (leb v 1100000000) refl refl h
     both true true p q h = (leb-true 1 v p, leb-true v 1100000000 q)
     both true false p q h = absurd (let z : _≡_ {A = ℕ} 0 1 = cc in omega arith)
     both false t p q h = absurd (let z : _≡_ {A = ℕ} 0 1 = cc in omega arith)
-
--- a test that holds of each number below n holds of one
-pub each-at : (n : ℕ) (test : ℕ → Bool) → each n test ≡ true → (k : ℕ) → k < n → test k ≡ true
-each-at n test h k l = go (test k) refl
-  where
-    go : (t : Bool) → test k ≡ t → test k ≡ true
-    go true e = e
-    go false e = absurd (let f = each-fails n k test l e in let z : _≡_ {A = ℕ} 0 1 = cc in omega arith)
 
 pub each-all : (i n : ℕ) (test : ℕ → Bool) → each i test ≡ true → i ≡ n → true ≡ each n test
 each-all i n test h e = sym h ∙ ap (λ (m : ℕ). each m test) e
@@ -116,7 +108,7 @@ module _ (n b : ℕ) (discounts : List ℕ) (i : ℕ) where
               let s = start-grow b i n present in (
                 (l .gentle, omega (arith, l .few), omega arith),
                 λ k h. discount-within (values discounts k)
-                    (each-at (row-start b n) (λ k. accepted-discount (values discounts k)) e k (omega arith)) .1,
+                    (each-holds (row-start b n) k (λ k. accepted-discount (values discounts k)) e (omega arith)) .1,
               )
 
 -- the test of the needed part, whose length code has worked out

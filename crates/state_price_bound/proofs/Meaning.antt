@@ -2,10 +2,10 @@
 -- node by node and fall short of them, in sum, by at most the bound.
 -- Assumes nothing.
 use mathlib.Core.Path.{_≡_, refl, sym, _∙_}
-use mathlib.Core.Bool.{Bool, true, false, cond, _&&_, _||_, and-true, and-assoc}
+use mathlib.Core.Bool.{Bool, true, false, cond, _||_}
 use mathlib.Core.List.{List}
-use Prim.Native.Nat.{ℕ, zero, suc, _+_, _-_, _*_, _^_, _≤_}
-use native.Mathlib.Nat.{add-zero, add-suc, pos-of-ne-zero}
+use Prim.Native.Nat.{ℕ, zero, suc, _-_, _*_, _^_, _≤_}
+use native.Mathlib.Nat.{pos-of-ne-zero}
 use native.Mathlib.Omega.{arith}
 use lib.Dec.{eqb, ltb}
 use lib.ListN.{length}
@@ -13,6 +13,7 @@ use borrow.Author.Tests.{eqb-true, eqb-false, ltb-false}
 use Rattle.arithmetic.specs.Sum.{sum}
 use Rattle.arithmetic.specs.Row.{each}
 use Rattle.arithmetic.specs.Answers.{refused, answered}
+use Rattle.arithmetic.proofs.RowLaws.{each-split}
 use Rattle.tree.specs.Tree.{unit}
 use Rattle.lattice.specs.Shape.{node-count, row-start, discounts-needed}
 use Rattle.lattice.specs.RateTree.{rate-tree}
@@ -24,13 +25,6 @@ use Rattle.fit_laws.proofs.Shortfall.{state-below, state-price-shortfall}
 use Rattle.state_price_bound.specs.ErrorBound.{stored, accepted-discounts, refusal, statePriceErrorBound}
 
 -- ---- the needed part is the rows 0 to n − 1
-
--- a test of every index, split at an index
-pub each-split : (n m : ℕ) (test : ℕ → Bool) → each (n + m) test ≡ each n test && each m (λ k. test (n + k))
-unfolding each
-each-split n zero test = rw (add-zero n) (sym (and-true (each n test)))
-each-split n (suc m) test =
-    rw (add-suc n m, each-split n m test) (and-assoc (each n test) (each m (λ k. test (n + k))) (test (n + m)))
 
 -- the discounts are accepted where those of each row are
 pub accepted-by-row : (n b : ℕ) (discounts : List ℕ) →

@@ -1,9 +1,9 @@
 -- Laws of rows stored row after row.
 -- Assumes nothing.
-use mathlib.Core.Path.{_≡_, refl, sym, _∙_, ap}
+use mathlib.Core.Path.{_≡_, refl, sym, _∙_, ap, subst}
 use mathlib.Core.List.{List, [], _∷_, _++_, append-assoc}
 use Prim.Native.Nat.{ℕ, zero, suc, _+_, _-_, _≤_, _<_}
-use native.Mathlib.Nat.{add-sub-of-le, le-refl}
+use native.Mathlib.Nat.{add-sub-of-le, le-refl, not-suc-le-zero}
 use native.Mathlib.Omega.{arith}
 use lib.ListN.{length, take, drop, length-append, length-drop}
 use lib.Seq.{take-at, drop-at, drop-drop}
@@ -13,6 +13,7 @@ use Rattle.tree.specs.Tree.{Tree}
 use Rattle.tree.specs.Layout.{start, laid}
 use Rattle.arithmetic.proofs.SumLaws.{sum-suc, sum-grow}
 use Rattle.arithmetic.proofs.RowLaws.{length-row, row-cong}
+use Rattle.arithmetic.proofs.Numbers.{by-equal}
 
 pub start-suc : (t : Tree) (i : ℕ) → start t (suc i) ≡ start t i + t .nodes i
 unfolding start
@@ -79,3 +80,12 @@ unfolding laid
 laid-cong t f g zero h = refl
 laid-cong t f g (suc i) h =
     rw (laid-cong t f g i (λ r k l m. h r k (omega arith) m), row-cong (t .nodes i) (f i) (g i) (λ k m. h i k (omega arith) m))
+
+-- the part of the rows stored that is row i
+pub laid-part : (t : Tree) (f : ℕ → ℕ → ℕ) (n i : ℕ) (rest : List ℕ) → i < n → take (t .nodes i) (drop (start t i) (laid t f n ++ rest)) ≡ row (t .nodes i) (f i)
+unfolding laid
+laid-part t f zero i rest h = absurd (not-suc-le-zero h)
+laid-part t f (suc n) i rest h =
+    by-equal i n
+    (λ e. subst (λ (m : ℕ). take (t .nodes i) (drop (start t i) (laid t f (suc m) ++ rest)) ≡ row (t .nodes i) (f i)) e (laid-row t f i rest))
+    (λ ne. rw (append-assoc (laid t f n) (row (t .nodes n) (f n)) rest) (laid-part t f n i (row (t .nodes n) (f n) ++ rest) (omega (arith, ne))))

@@ -8,7 +8,7 @@ use borrow.Author.Needs.{needs}
 use Rattle.arithmetic.specs.declared.Answer.{Answer}
 use Rattle.arithmetic.proofs.RowLaws.{Filled, filled-start, filled-next}
 use Rattle.curve.specs.Curve.{discountAt}
-use Rattle.curve.proofs.PlaceLaws.{filled-place}
+use Rattle.arithmetic.proofs.PlaceLaws.{filled-place}
 use Rattle.curve.proofs.store.Statement.{statement}
 use Rattle.curve.proofs.store.Tie as tie
 

@@ -14,8 +14,8 @@ bond-price-requires c κs = search needs
 tree-option-requires : tie.Need-tree-option-requires
 tree-option-requires c κs = c .before .before .before .before .before .before .pre .0 .3
 
-lowest-requires : tie.Need-lowest-requires
-lowest-requires c κs = search needs
+lowest-cause-requires : tie.Need-lowest-cause-requires
+lowest-cause-requires c κs = search needs
 
 refused-requires : tie.Need-refused-requires
 refused-requires c κs = search needs
@@ -24,7 +24,7 @@ returns : tie.Need-returns
 returns c =
     let a = c .before .before .before .before .before .before .before .before .before .before .args in
     let text = treeText (a .steps) (a .reversion) (a .quotes .now) (a .discounts .now) (a .state-prices .now) (a .flows .now) (a .option) in
-    let made = laws.refused-by _ (c .before .before .lowest .result) text (a .out .now) (laws.tree-number (a .steps) (a .reversion) (a .discounts .now) (a .flows .now) (a .option) (c .before .before .before .before .bond-price .result) (c .before .before .before .tree-option .result) (c .before .before .before .before .bond-price .ensures) (c .before .before .before .tree-option .ensures) (c .before .before .lowest .result) (c .before .before .lowest .ensures)) (c .before .if1 .taken) in
+    let made = laws.refused-by _ (c .before .before .lowest-cause .result) text (a .out .now) (laws.tree-number (a .steps) (a .reversion) (a .discounts .now) (a .flows .now) (a .option) (c .before .before .before .before .bond-price .result) (c .before .before .before .tree-option .result) (c .before .before .before .before .bond-price .ensures) (c .before .before .before .tree-option .ensures) (c .before .before .lowest-cause .result) (c .before .before .lowest-cause .ensures)) (c .before .if1 .taken) in
     (c .refused .ensures ∙ made .0, made .1)
 
 put-sheet-requires : tie.Need-put-sheet-requires
@@ -39,7 +39,7 @@ same-length c = search needs
 returns-2 : tie.Need-returns-2
 returns-2 c =
     let a = c .before .before .before .before .before .before .before .before .before .before .before .before .before .args in
-    laws.tree-put (a .steps) (a .reversion) (a .discounts .now) (a .flows .now) (a .option) (c .before .before .before .before .before .before .before .bond-price .result) (c .before .before .before .before .before .before .tree-option .result) (c .before .before .before .before .before .before .before .bond-price .ensures) (c .before .before .before .before .before .before .tree-option .ensures) (c .before .before .before .before .before .lowest .result) (c .before .before .before .before .before .lowest .ensures) (a .quotes .now) (a .state-prices .now) (a .out .now) _ _ (c .before .before .before .before .if1 .left) (c .before .before .put-sheet .ensures)
+    laws.tree-put (a .steps) (a .reversion) (a .discounts .now) (a .flows .now) (a .option) (c .before .before .before .before .before .before .before .bond-price .result) (c .before .before .before .before .before .before .tree-option .result) (c .before .before .before .before .before .before .before .bond-price .ensures) (c .before .before .before .before .before .before .tree-option .ensures) (c .before .before .before .before .before .lowest-cause .result) (c .before .before .before .before .before .lowest-cause .ensures) (a .quotes .now) (a .state-prices .now) (a .out .now) _ _ (c .before .before .before .before .if1 .left) (c .before .before .put-sheet .ensures)
 
 pub sheet-of-tree-spec : {M : Type 1} → statement M
 sheet-of-tree-spec =
@@ -47,7 +47,7 @@ sheet-of-tree-spec =
     (tie.spec
     bond-price-requires
     tree-option-requires
-    lowest-requires
+    lowest-cause-requires
     refused-requires
     returns
     put-sheet-requires

@@ -1,16 +1,15 @@
--- A list placed in a memory, and tests of every index: laws over any list and test.
+-- Laws of a list placed in a memory.
 -- Assumes nothing.
-use mathlib.Core.Path.{_≡_, refl, sym, ap, _∙_}
-use mathlib.Core.Bool.{Bool, true, false}
+use mathlib.Core.Path.{_≡_, sym, ap, _∙_}
 use mathlib.Core.List.{List}
 use Prim.Native.Nat.{ℕ, _+_, _-_, _≤_, _<_}
 use native.Mathlib.Nat.{zero-add}
 use native.Mathlib.Omega.{arith}
 use lib.ListN.{length, take, length-append, length-drop, List·getD-append}
 use lib.Seq.{length-take-le, getD-append-add, getD-drop, getD-take, ext-getD}
-use Rattle.arithmetic.specs.Row.{row, values, place, each}
+use Rattle.arithmetic.specs.Row.{row, values, place}
 use Rattle.arithmetic.proofs.Numbers.{by-order}
-use Rattle.arithmetic.proofs.RowLaws.{Filled, length-row, values-row, each-fails}
+use Rattle.arithmetic.proofs.RowLaws.{Filled, length-row, values-row}
 
 module _ (memory : List ℕ) (start : ℕ) (part : List ℕ) (fits : start + length part ≤ length memory) where
   front : length (take start memory) ≡ start
@@ -65,11 +64,3 @@ filled-place l₀ l f n s h =
 
     past : (k : ℕ) → n ≤ k → values l k ≡ values (place l₀ 0 (row n f)) k
     past k p = s .rest k p ∙ sym (place-after l₀ 0 (row n f) fits k (omega (arith, long)))
-
--- what holds of each number below n holds of one of them
-pub each-holds : (n k : ℕ) (p : ℕ → Bool) → each n p ≡ true → k < n → p k ≡ true
-each-holds n k p e h = by-value (p k) refl
-  where
-    by-value : (b : Bool) → p k ≡ b → b ≡ true
-    by-value true q = refl
-    by-value false q = sym (each-fails n k p h q) ∙ e

@@ -1,9 +1,8 @@
--- `fitting::causes/lowest` meets its contract.
+-- `arithmetic::lowest_cause` meets its contract.
 -- Assumes nothing.
-use borrow.Author.Needs.{needs}
-use Rattle.fitting.proofs.CauseLaws as laws
-use Rattle.fitting.proofs.causes.lowest.Statement.{statement}
-use Rattle.fitting.proofs.causes.lowest.Tie as tie
+use Rattle.arithmetic.proofs.CauseLaws as laws
+use Rattle.arithmetic.proofs.lowest_cause.Statement.{statement}
+use Rattle.arithmetic.proofs.lowest_cause.Tie as tie
 
 returns : tie.Need-returns
 returns c = laws.lowest-first _ _ (c .if1 .taken)
@@ -17,5 +16,5 @@ returns-3 c = laws.lowest-less _ _ (c .before .before .if1 .left) (c .before .if
 returns-4 : tie.Need-returns-4
 returns-4 c = laws.lowest-more _ _ (c .before .before .if1 .left) (c .before .if2 .left) (c .if3 .left)
 
-pub lowest-spec : {M : Type 1} → statement M
-lowest-spec = tie.close (tie.spec returns returns-2 returns-3 returns-4)
+pub lowest-cause-spec : {M : Type 1} → statement M
+lowest-cause-spec = tie.close (tie.spec returns returns-2 returns-3 returns-4)

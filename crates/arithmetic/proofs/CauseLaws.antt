@@ -1,0 +1,35 @@
+-- Laws of the lowest of two causes.
+-- Assumes nothing.
+use mathlib.Core.Path.{_≡_, _∙_}
+use Prim.Native.Nat.{ℕ, _≤_, _<_}
+use native.Mathlib.Omega.{arith}
+use borrow.Author.Tests.{eq-eqb, ne-eqb}
+use Rattle.arithmetic.specs.Answers.{lowest-cause}
+use Rattle.arithmetic.proofs.Numbers.{by-equal, by-order}
+
+module _ (a b : ℕ) where
+  pub lowest-first : a ≡ 0 → b ≡ lowest-cause a b
+  unfolding lowest-cause
+  lowest-first e = rw (eq-eqb a 0 e)
+
+  module _ (na : a ≡ 0 → ⊥) where
+    pub lowest-second : b ≡ 0 → a ≡ lowest-cause a b
+    unfolding lowest-cause
+    lowest-second e = rw (ne-eqb a 0 na, eq-eqb b 0 e)
+
+    module _ (nb : b ≡ 0 → ⊥) where
+      pub lowest-less : a < b → a ≡ lowest-cause a b
+      unfolding lowest-cause
+      lowest-less h = rw (ne-eqb a 0 na, ne-eqb b 0 nb) (omega arith)
+
+      pub lowest-more : b ≤ a → b ≡ lowest-cause a b
+      unfolding lowest-cause
+      lowest-more h = rw (ne-eqb a 0 na, ne-eqb b 0 nb) (omega arith)
+
+-- no lowest cause, no cause
+pub lowest-none : (a b : ℕ) → lowest-cause a b ≡ 0 → (a ≡ 0) × (b ≡ 0)
+lowest-none a b e =
+    by-equal a 0
+    (λ za. (za, lowest-first a b za ∙ e))
+    (λ na. by-equal b 0 (λ zb. absurd (na (lowest-second a b na zb ∙ e)))
+    (λ nb. by-order b a (λ h. absurd (nb (lowest-more a b na nb h ∙ e))) (λ h. absurd (na (lowest-less a b na nb h ∙ e)))))
