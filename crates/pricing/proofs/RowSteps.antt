@@ -1,6 +1,6 @@
 -- One row as the code rolls it: where branches lead, and the state of the loop over the row's nodes.
 -- Assumes nothing.
-use mathlib.Core.Path.{_≡_, refl, sym, ap, ap₂, _∙_}
+use mathlib.Core.Path.{_≡_, sym, ap, ap₂, _∙_}
 use mathlib.Core.List.{List}
 use Prim.Native.Nat.{ℕ, _+_, _-_, _≤_, _<_, max}
 use native.Mathlib.Omega.{arith}
@@ -8,14 +8,14 @@ use lib.ListN.{length, set}
 use borrow.Author.Tests.{lt-ltb, le-ltb, eq-eqb, ne-eqb}
 use Rattle.arithmetic.specs.Row.{values}
 use Rattle.arithmetic.specs.Sum.{greatest}
-use Rattle.arithmetic.proofs.SumLaws.{greatest-none, greatest-next, greatest-cong}
+use Rattle.arithmetic.proofs.SumLaws.{greatest-none, greatest-next}
 use Rattle.arithmetic.proofs.RowLaws.{Filled, filled-start, filled-next}
 use Rattle.tree.specs.Tree.{whole}
 use Rattle.pricing_laws.specs.Pricer.{exercise, held-or-exercised}
 use Rattle.pricing.specs.declared.rows.Branch.{Branch}
 use Rattle.pricing.specs.declared.values.Terms.{Terms}
 use Rattle.pricing.specs.Terms.{side}
-use Rattle.pricing.specs.Rows.{lowest, opposite, branch-at, branch-roll, rolled-row, bond-values, option-values, Rollable, Limited, Later, Holds}
+use Rattle.pricing.specs.Rows.{lowest, opposite, branch-at, branch-roll, rolled-row, option-values, Rollable, Limited, Later, Holds}
 
 -- where a branch leads, by the tests that the code makes
 module _ (count next k : ℕ) where
@@ -87,6 +87,37 @@ pub row-done :
     (row₀ row : List ℕ) (f : ℕ → ℕ) (top k n : ℕ) → Row-state row₀ row f top k → k ≡ n → Holds row n f × (top ≡ greatest n f)
 row-done row₀ row f top k n s e = (λ j h. s .filled .done j (omega arith), s .found ∙ ap (λ (m : ℕ). greatest m f) e)
 
+-- The loop over both rows.
+pub record Rows-state (bond₀ bond option₀ option : List ℕ) (f g : ℕ → ℕ) (top k : ℕ) : Type 0 where
+  pub bond-filled : Filled bond₀ bond f k
+  pub option-filled : Filled option₀ option g k
+  pub found : top ≡ greatest k (λ j. max (f j) (g j))
+
+pub rows-start : (bond option : List ℕ) (f g : ℕ → ℕ) → Rows-state bond bond option option f g 0 0
+rows-start bond option f g =
+    record { bond-filled = filled-start bond f; option-filled = filled-start option g; found = sym (greatest-none (λ j. max (f j) (g j))) }
+
+pub rows-next :
+    (bond₀ bond option₀ option : List ℕ) (f g : ℕ → ℕ) (top k x y z top′ : ℕ) → Rows-state bond₀ bond option₀ option f g top k →
+    k < length bond → k < length option → x ≡ f k → y ≡ g k → z ≡ max x y → top′ ≡ max top z →
+    Rows-state bond₀ (set bond k x) option₀ (set option k y) f g top′ (k + 1)
+rows-next bond₀ bond option₀ option f g top k x y z top′ s hb ho ex ey ez t =
+    record {
+      bond-filled = filled-next bond₀ bond f k x (s .bond-filled) hb ex;
+      option-filled = filled-next option₀ option g k y (s .option-filled) ho ey;
+      found =
+          t ∙ ap₂ max (s .found) (ez ∙ ap₂ max ex ey) ∙ sym (greatest-next k (λ j. max (f j) (g j)));
+    }
+
+pub rows-done :
+    (bond₀ bond option₀ option : List ℕ) (f g : ℕ → ℕ) (top k n : ℕ) → Rows-state bond₀ bond option₀ option f g top k → k ≡ n →
+    Holds bond n f × Holds option n g × (top ≡ greatest n (λ j. max (f j) (g j)))
+rows-done bond₀ bond option₀ option f g top k n s e = (
+  λ j h. s .bond-filled .done j (omega arith),
+  λ j h. s .option-filled .done j (omega arith),
+  s .found ∙ ap (λ (m : ℕ). greatest m (λ j. max (f j) (g j))) e,
+)
+
 -- the option's value from the bond's value and the option's roll, as the code has them
 pub option-from-roll :
     (terms : Terms) (bonds options downs discounts : List ℕ) (next flow k bond roll r : ℕ) →
@@ -95,48 +126,3 @@ pub option-from-roll :
     r ≡ option-values terms bonds options downs discounts next flow k
 option-from-roll terms bonds options downs discounts next flow k bond roll r eb eo er =
     er ∙ ap₂ (λ (x y : ℕ). held-or-exercised (terms .listed) x (exercise (side (terms .call)) (terms .strike) y)) eo eb
-
--- The loop over an option's row beside the bond's.
-pub record Held-state (bond option₀ option : List ℕ) (g : ℕ → ℕ) (top k : ℕ) : Type 0 where
-  pub filled : Filled option₀ option g k
-  pub found : top ≡ greatest k (λ j. max (values bond j) (g j))
-
-pub held-start : (bond option : List ℕ) (g : ℕ → ℕ) → Held-state bond option option g 0 0
-held-start bond option g = record { filled = filled-start option g; found = sym (greatest-none (λ j. max (values bond j) (g j))) }
-
-pub held-next :
-    (bond option₀ option : List ℕ) (g : ℕ → ℕ) (top k y z top′ : ℕ) → Held-state bond option₀ option g top k →
-    k < length option → y ≡ g k → z ≡ max (values bond k) y → top′ ≡ max top z → Held-state bond option₀ (set option k y) g top′ (k + 1)
-held-next bond option₀ option g top k y z top′ s h ey ez t =
-    record {
-      filled = filled-next option₀ option g k y (s .filled) h ey;
-      found =
-          t ∙ ap₂ max (s .found) (ez ∙ ap (max (values bond k)) ey) ∙ sym (greatest-next k (λ j. max (values bond j) (g j)));
-    }
-
-pub held-done :
-    (bond option₀ option : List ℕ) (g : ℕ → ℕ) (top k n : ℕ) → Held-state bond option₀ option g top k → k ≡ n →
-    Holds option n g × (top ≡ greatest n (λ j. max (values bond j) (g j)))
-held-done bond option₀ option g top k n s e =
-    (λ j h. s .filled .done j (omega arith), s .found ∙ ap (λ (m : ℕ). greatest m (λ j. max (values bond j) (g j))) e)
-
--- both rows from the bond's row, the option's rolled row and what is held of it
-pub rows-held :
-    (terms : Terms) (bonds options downs discounts : List ℕ) (next flow : ℕ) (bond rolled option : List ℕ) (top : ℕ) →
-    Holds bond (length discounts) (bond-values bonds downs discounts next flow) →
-    Holds rolled (length discounts) (bond-values options downs discounts next 0) →
-    Holds option (length discounts) (λ k. held-or-exercised (terms .listed) (values rolled k) (exercise (side (terms .call)) (terms .strike) (values bond k)))
-    × (top ≡ greatest (length discounts) (λ k. max (values bond k) (held-or-exercised (terms .listed) (values rolled k) (exercise (side (terms .call)) (terms .strike) (values bond k))))) →
-    Holds bond (length discounts) (bond-values bonds downs discounts next flow)
-    × Holds option (length discounts) (option-values terms bonds options downs discounts next flow)
-    × (top ≡ greatest (length discounts) (λ k. max (bond-values bonds downs discounts next flow k) (option-values terms bonds options downs discounts next flow k)))
-rows-held terms bonds options downs discounts next flow bond rolled option top hb ho h = (
-  hb,
-  λ k l. h .0 k l ∙ value k l,
-  h .1 ∙ greatest-cong (length discounts) _ _ (λ k l. ap₂ max (hb k l) (value k l)),
-)
-  where
-    value : (k : ℕ) → k < length discounts →
-        held-or-exercised (terms .listed) (values rolled k) (exercise (side (terms .call)) (terms .strike) (values bond k))
-        ≡ option-values terms bonds options downs discounts next flow k
-    value k l = option-from-roll terms bonds options downs discounts next flow k (values bond k) (values rolled k) _ (hb k l) (omega (arith, ho k l)) refl

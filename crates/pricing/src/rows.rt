@@ -5,7 +5,7 @@ ghost use mathlib.Core.Path.{_≡_};
 ghost use Prim.Native.Nat.{ℕ, _+_, _-_, _*_, _<_, _≤_, max};
 ghost use lib.ListN.{length};
 ghost use Rattle.arithmetic.specs.Row.{values};
-ghost use Rattle.pricing_laws.specs.Pricer.{exercise, held-or-exercised};
+ghost use Rattle.pricing_laws.specs.Pricer.{exercise};
 ghost use Rattle.pricing.specs.Terms.{side};
 ghost use Rattle.arithmetic.specs.Sum.{greatest};
 ghost use Rattle.pricing.specs.Rows.{
@@ -98,25 +98,7 @@ pub(crate) fn bond_row(
     top
 }
 
-// Rolled values of an option, exercised where the row is listed and that is worth more. Gives the greatest value of bond and option.
-fn hold_row(terms: Terms, bond: &[u64], count: usize, option: &mut [u64]) -> u64
-    requires { ⌜ (count ≤ length (now bond)) × (count ≤ length (now option)) ⌝ }
-    ensures { λ r. ⌜ Holds (now (option .exit)) count (λ k. held-or-exercised (terms .listed) (values (now (option .entry)) k) (exercise (side (terms .call)) (terms .strike) (values (now (bond .entry)) k)))
-        × (r ≡ greatest count (λ k. max (values (now (bond .entry)) k) (held-or-exercised (terms .listed) (values (now (option .entry)) k) (exercise (side (terms .call)) (terms .strike) (values (now (bond .entry)) k))))) ⌝ }
-{
-    let mut top: u64 = 0;
-    let mut k: usize = 0;
-    while k < count {
-        let value = bond[k];
-        let right = values::held_value(terms, option[k], value);
-        option[k] = right;
-        top = values::larger(top, values::larger(value, right));
-        k += 1;
-    }
-    top
-}
-
-// Rolls bond and option back by one row: each by the same loop, which costs less than one loop for both. Gives the greatest value of the two rows.
+// Rolls bond and option back by one row together, each node's branch worked out once for both. Gives the greatest value of the two rows.
 pub(crate) fn option_row(
     bonds: &[u64],
     options: &[u64],
@@ -133,9 +115,19 @@ pub(crate) fn option_row(
         × Holds (now (option .exit)) (length (now (discounts .entry))) (option-values terms (now (bonds .entry)) (now (options .entry)) (now (downs .entry)) (now (discounts .entry)) next flow)
         × (r ≡ greatest (length (now (discounts .entry))) (λ k. max (bond-values (now (bonds .entry)) (now (downs .entry)) (now (discounts .entry)) next flow k) (option-values terms (now (bonds .entry)) (now (options .entry)) (now (downs .entry)) (now (discounts .entry)) next flow k))) ⌝ }
 {
-    bond_row(bonds, downs, discounts, next, flow, bond);
-    bond_row(options, downs, discounts, next, 0, option);
-    hold_row(terms, bond, discounts.len(), option)
+    let mut top: u64 = 0;
+    let mut k: usize = 0;
+    while k < discounts.len() {
+        let branch = branch_of(downs, next, k);
+        let discount = discounts[k];
+        let value = roll_node(branch, bonds, discount) + flow;
+        let right = values::held_value(terms, roll_node(branch, options, discount), value);
+        bond[k] = value;
+        option[k] = right;
+        top = values::larger(top, values::larger(value, right));
+        k += 1;
+    }
+    top
 }
 
 // The exercise values of a row of the bond.

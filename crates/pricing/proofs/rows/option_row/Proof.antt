@@ -1,37 +1,134 @@
--- `pricing::rows::option_row` meets its contract: both rows are rolled, then the option's is held or exercised.
+-- `pricing::rows::option_row` meets its contract: the loop fills both rows from their lowest node.
 -- Assumes nothing.
-use Rattle.pricing.proofs.RowSteps.{rows-held}
+use mathlib.Core.Path.{ap}
+use Prim.Native.Nat.{ℕ, _+_, _-_, _≤_}
+use native.Mathlib.Omega.{arith}
+use lib.ListN.{length}
+use denote.Ref.{now}
+use Rattle.pricing.specs.Rows.{bond-values, option-values}
+use Rattle.pricing.proofs.RowSteps.{branch-inside, branch-total, branch-limited, branch-rolled, option-from-roll, Rows-state, rows-start, rows-next, rows-done}
 use borrow.Author.Needs.{needs}
 use Rattle.pricing.proofs.rows.option_row.Statement.{statement}
 use Rattle.pricing.proofs.rows.option_row.Tie as tie
 
-bond-row-requires : tie.Need-bond-row-requires
-bond-row-requires c κs = search needs
+abbrev Inv-loop : tie.InvT-loop
+Inv-loop bonds options downs discounts next flow terms bond₀ option₀ top₀ k₀ bond option top k =
+    (k ≤ length discounts)
+    × Rows-state bond₀ bond option₀ option (bond-values bonds downs discounts next flow) (option-values terms bonds options downs discounts next flow) top k
 
-bond-row-requires-2 : tie.Need-bond-row-requires-2
-bond-row-requires-2 c κs = search needs
+abbrev μ-loop : tie.MeasureT-loop
+μ-loop bonds options downs discounts next flow terms bond₀ option₀ top₀ k₀ bond option top k = length discounts - k
 
-hold-row-requires : tie.Need-hold-row-requires
-hold-row-requires c κs = search needs
+loop-holds : tie.Need-loop-holds Inv-loop μ-loop
+loop-holds c = (omega arith, rows-start _ _ _ _)
 
-same-length : tie.Need-same-length
-same-length c = search needs
+branch-of-requires : tie.Need-branch-of-requires Inv-loop μ-loop
+branch-of-requires c κs =
+    let s = c .before .before .before .before .before .before .before .before in
+    let r = s .pre .0 in
+    (omega (arith, r .same), r .inside (c .before .loop .k) (omega arith), r .total (c .before .loop .k) (omega arith))
 
-same-length-2 : tie.Need-same-length-2
-same-length-2 c = search needs
+mul-discount : tie.Need-mul-discount Inv-loop μ-loop
+mul-discount c = omega arith
 
-returns : tie.Need-returns
-returns c =
-    rows-held (c .before .before .before .before .before .before .before .before .before .before .before .before .before .before .before .before .before .before .before .args .terms) (c .before .before .before .before .before .before .before .before .before .before .before .before .before .before .before .before .before .before .before .args .bonds .now) (c .before .before .before .before .before .before .before .before .before .before .before .before .before .before .before .before .before .before .before .args .options .now) (c .before .before .before .before .before .before .before .before .before .before .before .before .before .before .before .before .before .before .before .args .downs .now) (c .before .before .before .before .before .before .before .before .before .before .before .before .before .before .before .before .before .before .before .args .discounts .now) (c .before .before .before .before .before .before .before .before .before .before .before .before .before .before .before .before .before .before .before .args .next) (c .before .before .before .before .before .before .before .before .before .before .before .before .before .before .before .before .before .before .before .args .flow) (c .before .before .before .before .before .before .before .before .before .before .before .bond-row .last .1 .1 .1 .1 .1 .0) (c .before .before .before .before .before .before .before .bond-row2 .last .1 .1 .1 .1 .1 .0) (c .before .before .hold-row .last .1 .1 .1 .0) _
-    (c .before .before .before .before .before .before .before .before .before .before .before .bond-row .ensures .0) (c .before .before .before .before .before .before .before .bond-row2 .ensures .0) (c .before .before .hold-row .ensures)
+shared-slice-read-discount : tie.Need-shared-slice-read-discount Inv-loop μ-loop
+shared-slice-read-discount c = omega arith
+
+roll-node-requires : tie.Need-roll-node-requires Inv-loop μ-loop
+roll-node-requires c κs =
+    let s = c .before .before .before .before .before .before .before .before .before .before in
+    let e = c .before .branch-of .ensures in (
+      branch-inside _ _ (now (s .args .bonds)) _ _ (s .pre .0) (s .pre .1) (omega arith) _ e,
+      branch-total _ _ (now (s .args .bonds)) _ _ (s .pre .0) (s .pre .1) (omega arith) _ e,
+      branch-limited _ _ (now (s .args .bonds)) _ _ (s .pre .0) (s .pre .1) (omega arith) _ e,
+      s .pre .0 .discounted (c .before .before .before .loop .k) (omega arith),
+    )
+
+add-value : tie.Need-add-value Inv-loop μ-loop
+add-value c = omega (arith, c .roll-node .ensures .1, c .before .before .before .before .before .before .before .before .before .before .before .pre .5)
+
+roll-node-requires-2 : tie.Need-roll-node-requires-2 Inv-loop μ-loop
+roll-node-requires-2 c κs =
+    let s = c .before .before .before .before .before .before .before .before .before .before .before in
+    let e = c .before .before .branch-of .ensures in (
+      branch-inside _ _ (now (s .args .options)) _ _ (s .pre .0) (s .pre .2) (omega arith) _ e,
+      branch-total _ _ (now (s .args .options)) _ _ (s .pre .0) (s .pre .2) (omega arith) _ e,
+      branch-limited _ _ (now (s .args .options)) _ _ (s .pre .0) (s .pre .2) (omega arith) _ e,
+      s .pre .0 .discounted (c .before .before .before .before .loop .k) (omega arith),
+    )
+
+held-value-requires : tie.Need-held-value-requires Inv-loop μ-loop
+held-value-requires c κs = search needs
+
+mul-bond : tie.Need-mul-bond Inv-loop μ-loop
+mul-bond c = omega (arith, c .before .before .before .before .before .before .loop .inv .1 .bond-filled .same, c .before .before .before .before .before .before .before .before .before .before .before .before .before .pre .3)
+
+slice-write-bond : tie.Need-slice-write-bond Inv-loop μ-loop
+slice-write-bond c = omega (arith, c .before .before .before .before .before .before .loop .inv .1 .bond-filled .same, c .before .before .before .before .before .before .before .before .before .before .before .before .before .pre .3)
+
+mul-option : tie.Need-mul-option Inv-loop μ-loop
+mul-option c = omega (arith, c .before .before .before .before .before .before .loop .inv .1 .option-filled .same, c .before .before .before .before .before .before .before .before .before .before .before .before .before .pre .4)
+
+slice-write-option : tie.Need-slice-write-option Inv-loop μ-loop
+slice-write-option c = omega (arith, c .before .before .before .before .before .before .loop .inv .1 .option-filled .same, c .before .before .before .before .before .before .before .before .before .before .before .before .before .pre .4)
+
+larger-requires : tie.Need-larger-requires Inv-loop μ-loop
+larger-requires c κs = search needs
+
+larger-requires-2 : tie.Need-larger-requires-2 Inv-loop μ-loop
+larger-requires-2 c κs = search needs
+
+add-k : tie.Need-add-k Inv-loop μ-loop
+add-k c = omega arith
+
+loop-less : tie.Need-loop-less Inv-loop μ-loop
+loop-less c = omega arith
+
+loop-again : tie.Need-loop-again Inv-loop μ-loop
+loop-again c =
+    let s = c .before .before .before .before .before .before .before .before .before .before .before .before .before .before .before in
+    let l = c .before .before .before .before .before .before .before .before .loop in
+    let b = ap (λ (x : ℕ). x + s .args .flow)
+    (branch-rolled _ _ _ _ _ (s .pre .0) (s .pre .1) (omega arith) _ (c .before .before .before .before .before .before .branch-of .ensures) _ (c .before .before .before .before .roll-node .ensures .0)) in
+    let o = branch-rolled _ _ _ _ _ (s .pre .0) (s .pre .2) (omega arith) _ (c .before .before .before .before .before .before .branch-of .ensures) _ (c .before .before .before .roll-node2 .ensures .0) in (
+      omega arith,
+      rows-next _ (l .bond) _ (l .option) _ _ (l .top) (l .k) _ _ _ _ (l .inv .1)
+          (omega (arith, l .inv .1 .bond-filled .same, s .pre .3)) (omega (arith, l .inv .1 .option-filled .same, s .pre .4))
+          b (option-from-roll (s .args .terms) _ _ _ _ _ _ _ _ _ _ b o (c .before .before .held-value .ensures)) (c .before .larger .ensures) (c .larger2 .ensures),
+    )
+
+same-length : tie.Need-same-length Inv-loop μ-loop
+same-length c = c .before .loop .inv .1 .bond-filled .same
+
+same-length-2 : tie.Need-same-length-2 Inv-loop μ-loop
+same-length-2 c = c .before .loop .inv .1 .option-filled .same
+
+returns : tie.Need-returns Inv-loop μ-loop
+returns c = rows-done _ _ _ _ _ _ _ _ _ (c .before .loop .inv .1) (omega arith)
 
 pub option-row-spec : {M : Type 1} → statement M
 option-row-spec =
     tie.close
     (tie.spec
-    bond-row-requires
-    bond-row-requires-2
-    hold-row-requires
+    Inv-loop
+    μ-loop
+    loop-holds
+    branch-of-requires
+    mul-discount
+    shared-slice-read-discount
+    roll-node-requires
+    add-value
+    roll-node-requires-2
+    held-value-requires
+    mul-bond
+    slice-write-bond
+    mul-option
+    slice-write-option
+    larger-requires
+    larger-requires-2
+    add-k
+    loop-less
+    loop-again
     same-length
     same-length-2
     returns)
