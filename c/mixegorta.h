@@ -20,6 +20,7 @@
  *
  * Refusals, the field `number` or a returned uint64_t; 0 means that nothing was refused:
  *
+ *    1  a job that is malformed or longer than 4,700 bytes
  *    2  frequency is not listed                     8  (half width of row n - 1) x spacing is above one
  *    3  steps outside 1 to 60                       9  a node discount is 0 or above 1,100,000,000
  *    4  reversion above 6,000                      10  a flow is above 2,000,000,000
@@ -52,6 +53,10 @@ extern "C" {
 #define MIXEGORTA_MAX_NODES 121
 #define MIXEGORTA_MAX_DISCOUNTS 3600
 #define MIXEGORTA_MAX_STATE_PRICES 3721
+
+/* The longest job, and room for the sheet of every job, in bytes. */
+#define MIXEGORTA_MAX_JOB 4700
+#define MIXEGORTA_SHEET_ROOM 468736
 
 /* The limits of arguments and values. */
 #define MIXEGORTA_MAX_REVERSION 6000
@@ -115,6 +120,12 @@ struct mixegorta_point {
 struct mixegorta_row_range {
     size_t start;
     size_t count;
+};
+
+/* A sheet: the last `size` bytes of the memory that was handed over for it. size is 0 where refused. */
+struct mixegorta_written {
+    uint64_t number;
+    size_t size;
 };
 
 /* ---- The shape of a tree. No memory is touched. */
@@ -199,6 +210,14 @@ struct mixegorta_answer mixegorta_value_by_state_prices(const uint64_t *state_pr
 struct mixegorta_answer mixegorta_valuation_error_bound(size_t steps, uint64_t reversion, const uint64_t *discounts,
                                                         size_t discounts_len, size_t row, const uint64_t *payoffs,
                                                         size_t payoffs_len);
+
+/* ---- A whole job: its bytes in, its sheet out. */
+
+/* The sheet of a job: its tree, its bond and its option as lines of ASCII, each ended by a newline; docs/MANUAL.md gives both formats.
+ * out: at least 468,736 bytes, whatever the job. 0: the sheet is the last `size` bytes of out, from out + out_len - size on, without a
+ * zero byte behind it; the bytes before it are as they were. Refusals leave out as it was: 1 the job's form, 2 to 5 and 7 to 9 its fit,
+ * 6 out too short, 10 a flow, 11 kind, expiry or strike, 12 a value on the way. */
+struct mixegorta_written mixegorta_sheet(const uint8_t *job, size_t job_len, uint8_t *out, size_t out_len);
 
 #ifdef __cplusplus
 }

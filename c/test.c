@@ -4,6 +4,7 @@
 #include <math.h>
 #include <stdbool.h>
 #include <stdio.h>
+#include <string.h>
 
 #define ONE MIXEGORTA_ONE
 
@@ -401,6 +402,95 @@ static void bounds(void) {
     CHECK(refused(mixegorta_state_price_error_bound(2, 0, flat, 4, 0), 9));
 }
 
+/* The job that the scope prints whole; without its option, its last nine bytes, it is still a job. */
+static const uint8_t example_job[] = {1, 0, 1, 1, 2, 0, 1, 1, 3, 0, 2, 0, 0, 4, 0, 4, 0, 0, 0, 0,
+                                      5, 0, 8, 0x3F, 0xF0, 0x0A, 0x3D, 0x70, 0xA3, 0xD7, 0x0A,
+                                      7, 0, 4, 0x3B, 0x9A, 0xCA, 0x00, 8, 0, 6, 4, 1, 0x3C, 0x33, 0x60, 0x80};
+enum { JOB = sizeof example_job, OPTION = 9 };
+static const char example_sheet[] = "node 0 0 1.002500000 -0.2493766\n"
+                                    "row 1 1.002500000 1.002499999 4\n"
+                                    "bond 1.002500000 3\n"
+                                    "option 0.010025000 3\n";
+static const size_t option_line = sizeof "option 0.010025000 3\n" - 1;
+
+static uint8_t out[MIXEGORTA_SHEET_ROOM + SPARE];
+
+static uint8_t out_pattern(size_t i) { return (uint8_t)(0xA5 ^ i % 251); }
+
+/* The sheet of a job, drawn in the first room bytes of out. */
+static struct mixegorta_written sheet(const uint8_t *job, size_t size, size_t room) {
+    for (size_t i = 0; i < sizeof out; i++) out[i] = out_pattern(i);
+    return mixegorta_sheet(job, size, out, room);
+}
+
+static bool out_kept(size_t start, size_t end) {
+    for (size_t i = start; i < end; i++)
+        if (out[i] != out_pattern(i)) return false;
+    return true;
+}
+
+static bool unprinted(struct mixegorta_written w, uint64_t number) {
+    return w.number == number && w.size == 0 && out_kept(0, sizeof out);
+}
+
+/* Whether the first size bytes of the example's sheet stand at the end of the room, and all else is as it was. */
+static bool printed(struct mixegorta_written w, size_t size, size_t room) {
+    return w.number == 0 && w.size == size && memcmp(out + room - size, example_sheet, size) == 0 && out_kept(0, room - size) &&
+           out_kept(room, sizeof out);
+}
+
+static void sheets(void) {
+    const size_t room = MIXEGORTA_SHEET_ROOM, size = sizeof example_sheet - 1;
+    CHECK(printed(sheet(example_job, JOB, room), size, room));
+    CHECK(printed(sheet(example_job, JOB, room + 3), size, room + 3));
+    CHECK(printed(sheet(example_job, JOB - OPTION, room), size - option_line, room));
+    CHECK(unprinted(sheet(example_job, JOB, room - 1), 6));
+    CHECK(unprinted(sheet(example_job, JOB, size), 6));
+    CHECK(unprinted(sheet(example_job, JOB, 0), 6));
+    CHECK(mixegorta_sheet(example_job, JOB, NULL, 0).number == 6);
+}
+
+/* A job cut short anywhere, longer than any job, with a byte more, or of rubbish. */
+static void malformed_jobs(void) {
+    const size_t room = MIXEGORTA_SHEET_ROOM;
+    uint8_t job[MIXEGORTA_MAX_JOB + 1] = {0};
+    CHECK(unprinted(sheet(NULL, 0, room), 1));
+    for (size_t size = 0; size < JOB; size++)
+        if (size != JOB - OPTION) CHECK(unprinted(sheet(example_job, size, room), 1));
+    memcpy(job, example_job, JOB);
+    CHECK(unprinted(sheet(job, JOB + 1, room), 1));
+    CHECK(unprinted(sheet(job, MIXEGORTA_MAX_JOB, room), 1));
+    CHECK(unprinted(sheet(job, MIXEGORTA_MAX_JOB + 1, room), 1));
+    for (size_t i = 0; i < sizeof job; i++) job[i] = (uint8_t)(i * 167 + 13);
+    CHECK(unprinted(sheet(job, JOB, room), 1));
+    CHECK(unprinted(sheet(job, sizeof job, room), 1));
+    CHECK(unprinted(sheet(job, JOB, 0), 1));
+}
+
+/* The example job with its bytes from a place on replaced. */
+static struct mixegorta_written altered(size_t place, const char *bytes, size_t count, size_t room) {
+    uint8_t job[JOB];
+    memcpy(job, example_job, JOB);
+    memcpy(job + place, bytes, count);
+    return sheet(job, JOB, room);
+}
+
+static void refused_jobs(void) {
+    const size_t room = MIXEGORTA_SHEET_ROOM;
+    const uint8_t no_steps[] = {1, 0, 1, 1, 2, 0, 1, 0, 3, 0, 2, 0, 0, 4, 0, 4, 0, 0, 0, 0};
+    CHECK(unprinted(altered(3, "\3", 1, room), 2));
+    CHECK(unprinted(altered(3, "\3", 1, 0), 2)); /* the lowest number, with too little room too */
+    CHECK(unprinted(sheet(no_steps, sizeof no_steps, room), 3));
+    CHECK(unprinted(altered(11, "\x17\x71", 2, room), 4));
+    CHECK(unprinted(altered(16, "\0\0\xC3\x51", 4, room), 5));
+    CHECK(unprinted(altered(23, "\x7F\xF8", 2, room), 7)); /* not a number */
+    CHECK(unprinted(altered(23, "\x7F\xF8", 2, room - 1), 6));
+    CHECK(unprinted(altered(23, "\x3F\xF3\x33\x33\x33\x33\x33\x33", 8, room), 9)); /* 1.2 */
+    CHECK(unprinted(altered(34, "\x77\x35\x94\x01", 4, room), 10));
+    CHECK(unprinted(altered(41, "\5", 1, room), 11));
+    CHECK(unprinted(altered(42, "\2", 1, room), 11));
+}
+
 int main(void) {
     shapes();
     branches();
@@ -416,6 +506,9 @@ int main(void) {
     value_limits();
     values();
     bounds();
+    sheets();
+    malformed_jobs();
+    refused_jobs();
     printf("C: %u checks, %u failed\n", checks, failures);
     return failures != 0;
 }

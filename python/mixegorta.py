@@ -2,7 +2,7 @@
 
 Amounts are whole billionths: ONE is 1,000,000,000. Any whole numbers may be passed: a call gives its full answer or raises Refused
 with the engine's number (c/mixegorta.h lists them). A number beyond the 64 bits of its parameter raises OverflowError. Slices are
-any sequence of whole numbers; array('Q') is lent without a copy, and what the engine writes goes to array('Q') only.
+any sequence of whole numbers; array('Q') is lent without a copy, and what the engine writes goes to array('Q'), a sheet to array('B').
 
 The shared object is found by the environment variable MIXEGORTA_LIBRARY, else at ../target/libmixegorta.so beside this folder.
 """
@@ -18,6 +18,8 @@ MAX_STEPS = 60
 MAX_NODES = 121
 MAX_DISCOUNTS = 3_600
 MAX_STATE_PRICES = 3_721
+MAX_JOB = 4_700
+SHEET_ROOM = 468_736
 
 DISCOUNT_FACTOR, YEARLY_RATE = 5, 6
 DISCOUNTS, STATE_PRICES = 1, 2
@@ -28,6 +30,7 @@ Branches = namedtuple("Branches", "lowest up middle down")
 Price = namedtuple("Price", "value bound")
 
 CAUSES = {
+    1: "the job is malformed or longer than 4,700 bytes",
     2: "the steps a year are not 1, 2, 4 or 12",
     3: "the steps are outside 1 to 60",
     4: "the reversion is above 6,000",
@@ -81,6 +84,10 @@ class CRowRange(ctypes.Structure):
     _fields_ = [("start", SIZE), ("count", SIZE)]
 
 
+class CWritten(ctypes.Structure):
+    _fields_ = [("number", U64), ("size", SIZE)]
+
+
 _QUOTES = [U64S, SIZE, U8S, SIZE, F64S, SIZE]
 
 DECLARATIONS = {
@@ -100,6 +107,7 @@ DECLARATIONS = {
     "option_price": (CPrice, [SIZE, U64, U64S, SIZE, U64S, SIZE, U64, SIZE, U64]),
     "value_by_state_prices": (CAnswer, [U64S, SIZE, U64S, SIZE]),
     "valuation_error_bound": (CAnswer, [SIZE, U64, U64S, SIZE, SIZE, U64S, SIZE]),
+    "sheet": (CWritten, [U8S, SIZE, U8S, SIZE]),
 }
 
 
@@ -135,10 +143,10 @@ def _lent(code, values):
     return _slice(kept), len(kept)
 
 
-def _memory(values):
+def _memory(values, code="Q"):
     """A slice that the engine may write, and its count."""
-    if not isinstance(values, array) or values.typecode != "Q":
-        raise TypeError("memory for the engine to write is an array('Q')")
+    if not isinstance(values, array) or values.typecode != code:
+        raise TypeError(f"memory for the engine to write is an array({code!r})")
     return _slice(values), len(values)
 
 
@@ -299,3 +307,20 @@ class Tree:
         """What payoffs on a row are worth: never above the exact price, and at most the bound below it."""
         value = value_by_state_prices(self.row(STATE_PRICES, row) or (), payoffs)
         return Price(value, valuation_error_bound(self.steps, self.reversion, self.discounts, row, payoffs))
+
+
+# ---- a whole job
+
+def sheet_into(job, out):
+    """Draws the sheet of a job, bytes, at the end of out, an array('B') of at least SHEET_ROOM; gives the sheet's size. A refusal leaves
+    out as it was."""
+    written = _library.mixegorta_sheet(*_lent("B", bytes(memoryview(job))), *_memory(out, "B"))
+    _accepted(written.number)
+    return written.size
+
+
+def sheet(job):
+    """The sheet of a job, bytes, as its lines, each ended by a newline."""
+    out = array("B", bytes(SHEET_ROOM))
+    size = sheet_into(job, out)
+    return out[len(out) - size:].tobytes().decode("ascii")

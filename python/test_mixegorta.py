@@ -13,6 +13,8 @@ import mixegorta as m
 from mixegorta import ONE, Branches, Point, Price
 
 PATTERN = 0xA5A5A5A5A5A5A5A5
+EXAMPLE = bytes.fromhex("01000101 02000101 0300020000 04000400000000 0500083FF00A3D70A3D70A 0700043B9ACA00 08000604013C336080")
+SHEET = "node 0 0 1.002500000 -0.2493766\nrow 1 1.002500000 1.002499999 4\nbond 1.002500000 3\noption 0.010025000 3\n"
 
 
 def falling(part, steps):
@@ -131,6 +133,44 @@ class Test(unittest.TestCase):
         self.assertEqual(m.valuation_error_bound(2, 0, flat, 2, [0, 0, 2 * ONE, 0, 0]), 2 * 12 + 1)
         self.assertEqual(m.row_range(flat, [ONE] * 9, m.STATE_PRICES, 2, 0, 2), range(4, 9))
         self.assertIsNone(m.row_range(flat, [ONE] * 8, m.DISCOUNTS, 2, 0, 1))
+
+    def test_sheet(self):
+        self.assertEqual(m.sheet(EXAMPLE), SHEET)
+        self.assertEqual(m.sheet(bytearray(EXAMPLE[:-9])), "".join(SHEET.splitlines(True)[:3]))
+        for job in (b"", EXAMPLE[:-1], EXAMPLE + b"\0", EXAMPLE.ljust(m.MAX_JOB + 1, b"\0"), bytes(range(256))):
+            self.refused(1, m.sheet, job)
+        for job in ("text", 47, None):
+            with self.assertRaises(TypeError):
+                m.sheet(job)
+
+    def test_room_of_a_sheet(self):
+        out = array("B", [0xA5]) * (m.SHEET_ROOM + 2)
+        size = m.sheet_into(EXAMPLE, out)
+        self.assertEqual(out.tobytes(), b"\xA5" * (len(out) - size) + SHEET.encode())
+        short = array("B", [0xA5]) * (m.SHEET_ROOM - 1)
+        self.refused(6, m.sheet_into, EXAMPLE, short)
+        self.refused(1, m.sheet_into, b"", short)
+        self.assertEqual(short.tobytes(), b"\xA5" * len(short))
+        with self.assertRaises(TypeError):
+            m.sheet_into(EXAMPLE, array("Q", [0]))
+
+    def test_sheets_of_the_listed_jobs(self):
+        """The jobs of the crate sheet_cases, of every refusal, and their sheets, which the reference worked out."""
+        cases = os.path.join(HERE, "..", "crates", "sheet_cases")
+        with open(os.path.join(cases, "stdin"), "rb") as file:
+            jobs = file.read()
+        printed, numbers, at = [], set(), 0
+        while at < len(jobs):
+            size = int.from_bytes(jobs[at:at + 2], "big")
+            try:
+                printed.append(m.sheet(jobs[at + 2:at + 2 + size]))
+            except m.Refused as refusal:
+                printed.append(f"refused {refusal.number}\n")
+                numbers.add(refusal.number)
+            at += 2 + size
+        with open(os.path.join(cases, "stdout"), encoding="ascii") as file:
+            self.assertEqual("".join(printed), file.read())
+        self.assertEqual(numbers, {1, 2, 3, 4, 5, 7, 8, 9, 10, 11, 12})  # no job gives 6: its rows are in place
 
     def test_numbers_that_do_not_fit(self):
         for call in ((m.step_rate, -1), (m.step_rate, 2**64), (m.branches, 0, 1, 2**63), (m.bond_price, 1, 0, [-1], [0]),

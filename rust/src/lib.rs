@@ -39,12 +39,17 @@ pub const MAX_NODES: usize = 121;
 pub const MAX_DISCOUNTS: usize = 3_600;
 /// The largest number of state prices of a tree.
 pub const MAX_STATE_PRICES: usize = 3_721;
+/// The longest job in bytes.
+pub const MAX_JOB: usize = 4_700;
+/// Room for the sheet of every job in bytes.
+pub const SHEET_ROOM: usize = 468_736;
 
 /// Why a call was refused: the engine's number, as `c/mixegorta.h` lists them. Lowest number first where several apply.
 #[derive(Clone, Copy, Debug, PartialEq, Eq, PartialOrd, Ord, Hash)]
 pub struct Refusal(u64);
 
 impl Refusal {
+    pub const JOB: Refusal = Refusal(1);
     pub const FREQUENCY: Refusal = Refusal(2);
     pub const STEPS: Refusal = Refusal(3);
     pub const REVERSION: Refusal = Refusal(4);
@@ -64,6 +69,7 @@ impl Refusal {
 
     fn cause(self) -> &'static str {
         match self.0 {
+            1 => "the job is malformed or longer than 4,700 bytes",
             2 => "the steps a year are not 1, 2, 4 or 12",
             3 => "the steps are outside 1 to 60",
             4 => "the reversion is above 6,000",
@@ -453,4 +459,20 @@ pub fn valuation_error_bound(
             payoffs.len(),
         )
     })
+}
+
+/// Draws the sheet of a job at the end of `out`, which has at least [`SHEET_ROOM`] bytes, and shows it as the part of `out` that it is.
+/// A refusal leaves `out` as it was.
+pub fn sheet_into<'a>(job: &[u8], out: &'a mut [u8]) -> Result<&'a [u8], Refusal> {
+    let written =
+        unsafe { raw::mixegorta_sheet(job.as_ptr(), job.len(), out.as_mut_ptr(), out.len()) };
+    accepted(written.number, ())?;
+    Ok(&out[out.len() - written.size..])
+}
+
+/// The sheet of a job: lines of ASCII, each ended by a newline.
+pub fn sheet(job: &[u8]) -> Result<String, Refusal> {
+    let mut out = vec![0; SHEET_ROOM];
+    let lines = sheet_into(job, &mut out)?;
+    Ok(String::from_utf8_lossy(lines).into_owned())
 }

@@ -38,6 +38,12 @@ pub struct RowRange {
     pub count: usize,
 }
 
+#[repr(C)]
+pub struct Written {
+    pub number: u64,
+    pub size: usize,
+}
+
 extern "C" {
     pub fn mixegorta_half_width(reversion: u64, row: usize) -> Answer;
     pub fn mixegorta_node_count(reversion: u64, row: usize) -> Answer;
@@ -126,4 +132,6 @@ extern "C" {
         payoffs: *const u64,
         payoffs_len: usize,
     ) -> Answer;
+    pub fn mixegorta_sheet(job: *const u8, job_len: usize, out: *mut u8, out_len: usize)
+        -> Written;
 }

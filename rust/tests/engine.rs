@@ -286,6 +286,60 @@ fn prices_on_lent_discounts() {
     );
 }
 
+/// The job that the scope prints whole: one yearly step, a discount factor of 1.0025, an American put.
+const EXAMPLE: [u8; 47] = [
+    1, 0, 1, 1, 2, 0, 1, 1, 3, 0, 2, 0, 0, 4, 0, 4, 0, 0, 0, 0, 5, 0, 8, 0x3F, 0xF0, 0x0A, 0x3D,
+    0x70, 0xA3, 0xD7, 0x0A, 7, 0, 4, 0x3B, 0x9A, 0xCA, 0x00, 8, 0, 6, 4, 1, 0x3C, 0x33, 0x60, 0x80,
+];
+const WITHOUT_OPTION: usize = EXAMPLE.len() - 9;
+const SHEET: &str = "node 0 0 1.002500000 -0.2493766
+row 1 1.002500000 1.002499999 4
+bond 1.002500000 3
+option 0.010025000 3
+";
+
+#[test]
+fn sheets_of_jobs() {
+    assert_eq!(sheet(&EXAMPLE).as_deref(), Ok(SHEET));
+    let bond_alone = SHEET.split_inclusive('\n').take(3).collect::<String>();
+    assert_eq!(sheet(&EXAMPLE[..WITHOUT_OPTION]), Ok(bond_alone));
+    for size in (0..EXAMPLE.len()).filter(|&size| size != WITHOUT_OPTION) {
+        assert_eq!(sheet(&EXAMPLE[..size]), Err(Refusal::JOB), "{size} bytes");
+    }
+    let mut long = EXAMPLE.to_vec();
+    long.resize(MAX_JOB + 1, 0);
+    assert_eq!(sheet(&long), Err(Refusal::JOB));
+    assert_eq!(sheet(b"node 0 0 1.002500000"), Err(Refusal::JOB));
+    let with = |place: usize, byte: u8| {
+        let mut job = EXAMPLE;
+        job[place] = byte;
+        sheet(&job).unwrap_err()
+    };
+    assert_eq!(with(3, 3), Refusal::FREQUENCY);
+    assert_eq!(with(11, 0xFF), Refusal::REVERSION);
+    assert_eq!(with(16, 1), Refusal::VOLATILITY);
+    assert_eq!(with(23, 0x7F), Refusal::QUOTE);
+    assert_eq!(with(34, 0xFF), Refusal::FLOW);
+    assert_eq!(with(42, 2), Refusal::OPTION);
+}
+
+#[test]
+fn room_of_a_sheet() {
+    let mut out = vec![0xA5; SHEET_ROOM + 2];
+    assert_eq!(sheet_into(&EXAMPLE, &mut out), Ok(SHEET.as_bytes()));
+    let start = out.len() - SHEET.len();
+    assert_eq!(&out[start..], SHEET.as_bytes());
+    assert!(out[..start].iter().all(|&byte| byte == 0xA5));
+    let mut short = vec![0xA5; SHEET_ROOM - 1];
+    assert_eq!(
+        sheet_into(&EXAMPLE, &mut short),
+        Err(Refusal::LENGTH_OR_ROW)
+    );
+    assert_eq!(sheet_into(&[], &mut short), Err(Refusal::JOB));
+    assert!(short.iter().all(|&byte| byte == 0xA5));
+    assert_eq!(sheet_into(&EXAMPLE, &mut []), Err(Refusal::LENGTH_OR_ROW));
+}
+
 #[test]
 fn a_refusal_says_its_number() {
     let refusal = step_rate(0).unwrap_err();
