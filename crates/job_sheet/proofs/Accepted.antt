@@ -13,7 +13,8 @@ use Rattle.pricing.specs.Prices.{first-cause, bondPrice, optionPrice}
 use Rattle.jobs.specs.declared.Job.{Job}
 use Rattle.jobs.specs.declared.OptionRecord.{OptionRecord}
 use Rattle.jobs.specs.Reader.{readingOf}
-use Rattle.job_sheet.specs.WholeJob.{most-discounts, most-prices, sheetRoom, jobRows, jobKinds, jobFigures, jobFlows, treeNumber, pricedNumber, jobNumber, sheetNumber}
+use Rattle.sheet_room.specs.Room.{sheetRoom}
+use Rattle.job_sheet.specs.WholeJob.{most-discounts, most-prices, jobRows, jobKinds, jobFigures, jobFlows, treeNumber, pricedNumber, jobNumber, sheetNumber}
 use Rattle.job_sheet.proofs.SheetLaws.{room-known}
 
 first-none : (cause later : ℕ) → first-cause cause later ≡ 0 → (cause ≡ 0) × (later ≡ 0)

@@ -27,7 +27,8 @@ use Rattle.fitting.specs.Entry.{quotes-of, fitNumber, fit-discounts, fit-prices
 use Rattle.arithmetic.proofs.CauseLaws.{lowest-none}
 use Rattle.job_sheet.specs.declared.Written.{Written}
 use Rattle.job_sheet.specs.TreeSheet.{treeSheet}
-use Rattle.job_sheet.specs.WholeJob.{most-discounts, most-prices, sheetRoom, roomCause, jobRows, jobKinds, jobFigures, jobFlows, treeOption, treeNumber, treeText, pricedNumber, pricedText, jobNumber, jobText, sheetNumber, sheetText, refusedSheet, answerOf, memoryOf, printedStart, printedMemory}
+use Rattle.sheet_room.specs.Room.{sheetRoom}
+use Rattle.job_sheet.specs.WholeJob.{most-discounts, most-prices, roomCause, jobRows, jobKinds, jobFigures, jobFlows, treeOption, treeNumber, treeText, pricedNumber, pricedText, jobNumber, jobText, sheetNumber, sheetText, refusedSheet, answerOf, memoryOf, printedStart, printedMemory}
 
 -- ---- rows 1 to n
 

@@ -16,6 +16,7 @@ use Rattle.jobs.specs.declared.OptionRecord.{OptionRecord}
 use Rattle.jobs.specs.declared.Job.{Job}
 use Rattle.jobs.specs.Reader.{readingOf}
 use Rattle.text.specs.Lines.{refusedLine, lineStart, withLine}
+use Rattle.sheet_room.specs.Room.{sheetRoom}
 use Rattle.text.specs.Put.{putBefore}
 use Rattle.job_sheet.specs.TreeSheet.{treeSheet}
 use Rattle.job_sheet.specs.declared.Written.{Written}
@@ -26,10 +27,6 @@ most-discounts = 3600
 
 abbrev pub most-prices : ℕ
 most-prices = 3721
-
--- room for the longest sheet: 3,600 nodes, 60 rows and two prices, 128 bytes a line
-abbrev pub sheetRoom : ℕ
-sheetRoom = 468736
 
 -- what a job hands to the fit and to pricing: rows 1 to n, kinds, figures by their patterns, flows
 module _ (job : Job) where

@@ -6,10 +6,9 @@ mod priced;
 
 ghost use mathlib.Core.Path.{_≡_};
 ghost use Prim.Native.Nat.{_≤_};
-ghost use lib.ListN.{length, replicate};
+ghost use lib.ListN.{length};
 ghost use Rattle.jobs.specs.Grammar.{Sound};
 ghost use Rattle.job_sheet.specs.WholeJob.{
-  sheetRoom,
   jobNumber,
   jobText,
   sheetNumber,
@@ -83,12 +82,4 @@ pub fn printed(job: &[u8], out: &mut [u8]) -> usize
         return text::refused_line(out, room, written.number);
     }
     room - written.size
-}
-
-// Room for every sheet.
-pub fn sheet_room() -> [u8; 468736]
-    ensures zeros { λ r. ⌜ r ≡ replicate sheetRoom 0 ⌝ }
-    ensures size { λ r. ⌜ length r ≡ sheetRoom ⌝ }
-{
-    [0; 468736]
 }

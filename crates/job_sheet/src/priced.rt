@@ -3,8 +3,8 @@ ghost use mathlib.Core.Path.{_≡_};
 ghost use Prim.Native.Nat.{_≤_};
 ghost use lib.ListN.{length};
 ghost use Rattle.fitting.specs.Entry.{fit-discounts};
+ghost use Rattle.sheet_room.specs.Room.{sheetRoom};
 ghost use Rattle.job_sheet.specs.WholeJob.{
-  sheetRoom,
   roomCause,
   treeOption,
   treeNumber,

@@ -2,7 +2,7 @@
 fn main() {
     let mut input = io::large_buffer();
     let count = io::read_full(0, &mut input);
-    let mut room = job_sheet::sheet_room();
+    let mut room = sheet_room::sheet_room();
     let start = job_sheet::printed(&input[..count], &mut room);
     io::write_all(1, &room[start..]);
 }

@@ -40,6 +40,6 @@ fn write_all(input: &[u8], room: &mut [u8])
 fn main() {
     let mut input = io::large_buffer();
     let count = io::read_full(0, &mut input);
-    let mut room = job_sheet::sheet_room();
+    let mut room = sheet_room::sheet_room();
     write_all(&input[..count], &mut room);
 }

@@ -1,10 +1,10 @@
--- `job_sheet::sheet_room` meets its contract.
+-- `sheet_room::sheet_room` meets its contract.
 -- Assumes nothing.
 use mathlib.Core.Path.{refl}
 use lib.ListN.{length-replicate}
 use Prim.Native.Nat.{ℕ}
-use Rattle.job_sheet.proofs.sheet_room.Statement.{statement}
-use Rattle.job_sheet.proofs.sheet_room.Tie as tie
+use Rattle.sheet_room.proofs.sheet_room.Statement.{statement}
+use Rattle.sheet_room.proofs.sheet_room.Tie as tie
 
 returns : tie.Need-returns
 returns c = (refl, length-replicate {A = ℕ} 468736 0)
