@@ -10,14 +10,19 @@ using namespace QuantLib;
 
 namespace {
 
-class CouponBond : public DiscretizedAsset {
+// Both assets start from zero at their last row and are adjusted there.
+class Asset : public DiscretizedAsset {
   public:
-    CouponBond(const double *flows, double step) : flows_(flows), step_(step) {}
     void reset(Size size) override {
         values_ = Array(size, 0.0);
         adjustValues();
     }
     std::vector<Time> mandatoryTimes() const override { return {}; }
+};
+
+class CouponBond : public Asset {
+  public:
+    CouponBond(const double *flows, double step) : flows_(flows), step_(step) {}
 
   protected:
     void postAdjustValuesImpl() override {
@@ -31,14 +36,9 @@ class CouponBond : public DiscretizedAsset {
     double step_;
 };
 
-class AmericanCall : public DiscretizedAsset {
+class AmericanCall : public Asset {
   public:
     AmericanCall(ext::shared_ptr<CouponBond> bond, double strike) : bond_(std::move(bond)), strike_(strike) {}
-    void reset(Size size) override {
-        values_ = Array(size, 0.0);
-        adjustValues();
-    }
-    std::vector<Time> mandatoryTimes() const override { return {}; }
 
   protected:
     void postAdjustValuesImpl() override {
