@@ -17,10 +17,11 @@ use Rattle.lattice.proofs.RateTreeLaws.{rate-tree-sound}
 use Rattle.pricing_laws.proofs.Accuracy.{Within}
 use Rattle.pricing_laws.proofs.PriceLaws.{Discounts-at-most, bond-accurate, bond-never-above, kind-accurate, error-bound-a-step}
 use Rattle.pricing.specs.declared.Price.{Price}
-use Rattle.pricing.specs.Prices.{discount-at, flow-at, bond-at, option-at, bound-of, bond-peak, option-peak, tree-cause, option-cause, limit-cause, first-cause, priced, bondPrice, optionPrice}
+use Rattle.pricing.specs.Prices.{discount-at, flow-at, bond-at, option-at, bound-of, bond-peak, option-peak, limit-cause, first-cause, priced, bondPrice, optionPrice}
+use Rattle.price_causes.specs.Causes.{tree-cause, option-cause}
 use Rattle.pricing.specs.Exact.{exact-bond, exact-option}
-use Rattle.pricing.specs.Trees.{Accepted}
-use Rattle.pricing.proofs.CheckLaws.{accepted, option-accepted}
+use Rattle.price_causes.specs.Causes.{Accepted}
+use Rattle.price_causes.proofs.CheckLaws.{accepted, option-accepted}
 use Rattle.pricing.proofs.TreeRows.{discount-within}
 
 -- an answer with number 0 has the price, and no cause

@@ -17,7 +17,8 @@ use Rattle.lattice.proofs.Sizes.{count-positive, count-within}
 use Rattle.pricing_laws.specs.Peak.{value-limit, peak, greatest-value}
 use Rattle.pricing_laws.proofs.Peaks.{peak-grows}
 use Rattle.pricing.specs.declared.Price.{Price}
-use Rattle.pricing.specs.Prices.{bond-at, option-at, bound-of, bond-peak, option-peak, tree-cause, option-cause, limit-cause, first-cause, priced, bondPrice, optionPrice}
+use Rattle.pricing.specs.Prices.{bond-at, option-at, bound-of, bond-peak, option-peak, limit-cause, first-cause, priced, bondPrice, optionPrice}
+use Rattle.price_causes.specs.Causes.{tree-cause, option-cause}
 use Rattle.pricing.specs.Trees.{down-table, Bond-rolled, Option-rolled}
 use Rattle.pricing.proofs.TreeRows.{answer-value}
 use Rattle.pricing.proofs.WalkStates.{limit-over, limit-kept}

@@ -13,8 +13,8 @@ use Rattle.tree.specs.Tree.{whole}
 use Rattle.pricing_laws.specs.Pricer.{exercise, held-or-exercised}
 use Rattle.row_branches.specs.declared.RowBranch.{RowBranch}
 use Rattle.row_branches.specs.RowBranches.{row-branch}
-use Rattle.pricing.specs.declared.values.Terms.{Terms}
-use Rattle.pricing.specs.Terms.{side}
+use Rattle.exercise.specs.declared.Terms.{Terms}
+use Rattle.exercise.specs.Terms.{side}
 use Rattle.pricing.specs.Rows.{branch-roll, rolled-row, option-values, Rollable, Limited, Later, Holds}
 
 -- what the roll of a node asks of its branch

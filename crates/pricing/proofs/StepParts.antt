@@ -14,11 +14,12 @@ use Rattle.lattice.specs.Shape.{half-width, node-count, row-start}
 use Rattle.lattice.specs.RateTree.{rate-tree}
 use Rattle.lattice.proofs.Sizes.{count-within}
 use Rattle.pricing_laws.specs.TreePricer.{greatest-discount}
-use Rattle.pricing.specs.declared.values.Terms.{Terms}
+use Rattle.exercise.specs.declared.Terms.{Terms}
 use Rattle.pricing.specs.declared.walk.RowShape.{RowShape}
 use Rattle.pricing.specs.Prices.{discount-at, flow-at}
 use Rattle.pricing.specs.Rows.{bond-values, option-values, Rollable, Later, Holds}
-use Rattle.pricing.specs.Trees.{Accepted, down-table, row-shape, bond-step, option-step}
+use Rattle.pricing.specs.Trees.{down-table, row-shape, bond-step, option-step}
+use Rattle.price_causes.specs.Causes.{Accepted}
 use Rattle.pricing.proofs.TreeRows.{table-fits, table-part, discounts-fit, discount-part, discount-part-length, discount-within, rollable, bond-row-is, option-row-is, greatest-discount-is}
 
 module _ (n b i : ℕ) (discounts : List ℕ) (a : Accepted n b discounts) (hi : i < n) (s : RowShape) (es : s ≡ row-shape n b i) where

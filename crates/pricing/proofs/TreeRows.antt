@@ -26,13 +26,14 @@ use Rattle.row_branches.specs.RowBranches.{row-branch}
 use Rattle.row_branches.proofs.BranchLaws.{row-branch-is}
 use Rattle.pricing_laws.specs.Pricer.{exercise, held-or-exercised}
 use Rattle.pricing_laws.specs.TreePricer.{roll-rounding, node-roll, roll, greatest-discount}
-use Rattle.pricing.specs.declared.values.Terms.{Terms}
-use Rattle.pricing.specs.Terms.{side}
+use Rattle.exercise.specs.declared.Terms.{Terms}
+use Rattle.exercise.specs.Terms.{side}
 use Rattle.pricing_laws.proofs.PriceLaws.{roll-same}
 use Rattle.pricing.specs.declared.walk.RowShape.{RowShape}
 use Rattle.pricing.specs.Prices.{discount-at, flow-at}
 use Rattle.pricing.specs.Rows.{branch-roll, rolled-row, bond-values, option-values, Rollable, Holds}
-use Rattle.pricing.specs.Trees.{Accepted, Accepted-flows, down-table, row-shape, rolled-at, bond-step, option-step}
+use Rattle.pricing.specs.Trees.{down-table, row-shape, rolled-at, bond-step, option-step}
+use Rattle.price_causes.specs.Causes.{Accepted, Accepted-flows}
 
 -- what the lattice answers about a row of the tree
 pub answer-value : (b i x : ℕ) (a : Answer) → b ≤ 6000 → i ≤ 60 → a ≡ about-row b i x → a .value ≡ x

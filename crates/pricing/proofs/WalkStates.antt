@@ -26,11 +26,12 @@ use Rattle.pricing_laws.proofs.Peaks.{peak-grows}
 use Rattle.pricing_laws.proofs.PriceLaws.{On, row-greatest, roll-local, error-bound-small}
 use Rattle.pricing_laws.proofs.Recurrences.{error-bound-last, error-bound-before, schedule-last}
 use Rattle.pricing_laws.proofs.Backward as back
-use Rattle.pricing.specs.declared.values.Terms.{Terms}
+use Rattle.exercise.specs.declared.Terms.{Terms}
 use Rattle.pricing.specs.Prices.{discount-at, flow-at, bond-at, option-at, bound-of, limit-cause, bond-peak, option-peak}
 use Rattle.pricing.specs.Rows.{Later, Holds}
-use Rattle.pricing.specs.Terms.{side, terms-of}
-use Rattle.pricing.specs.Trees.{Accepted, Accepted-flows, rolled-at, bond-step, option-step, Bond-rolled, Option-rolled}
+use Rattle.exercise.specs.Terms.{side, terms-of}
+use Rattle.pricing.specs.Trees.{rolled-at, bond-step, option-step, Bond-rolled, Option-rolled}
+use Rattle.price_causes.specs.Causes.{Accepted, Accepted-flows}
 use Rattle.pricing.proofs.TreeRows.{discount-within, flow-within}
 
 pub limit-over : (x : ℕ) → value-limit < x → limit-cause x ≡ 12

@@ -10,10 +10,11 @@ use Rattle.arithmetic.specs.Sum.{greatest}
 use Rattle.arithmetic.proofs.SumLaws.{greatest-cong}
 use Rattle.lattice.specs.Shape.{node-count}
 use Rattle.pricing_laws.specs.Peak.{value-limit}
-use Rattle.pricing.specs.declared.values.Terms.{Terms}
+use Rattle.exercise.specs.declared.Terms.{Terms}
 use Rattle.pricing.specs.Rows.{Later, Holds}
-use Rattle.pricing.specs.Terms.{terms-of}
-use Rattle.pricing.specs.Trees.{Accepted, Accepted-flows, bond-step, option-step, Bond-rolled, Option-rolled}
+use Rattle.exercise.specs.Terms.{terms-of}
+use Rattle.pricing.specs.Trees.{bond-step, option-step, Bond-rolled, Option-rolled}
+use Rattle.price_causes.specs.Causes.{Accepted, Accepted-flows}
 use Rattle.pricing.proofs.WalkStates.{Bonds, Options, bonds-inside, bonds-later, bonds-over, bonds-next, bond-refused, options-later, both-over, both-next}
 
 module _ (n b : ℕ) (discounts flows : List ℕ) (a : Accepted n b discounts) (f : Accepted-flows n flows)

@@ -12,6 +12,7 @@ use Rattle.pricing_laws.specs.Pricer.{bond, option}
 use Rattle.pricing_laws.specs.Schedule.{side-of, schedule-of}
 use Rattle.pricing_laws.specs.TreePricer.{engine, price-error-bound}
 use Rattle.pricing_laws.specs.Peak.{value-limit, peak, greatest-value}
+use Rattle.price_causes.specs.Causes.{tree-cause, option-cause}
 use Rattle.pricing.specs.declared.Price.{Price}
 
 -- the discount of node k of row i, the rows standing one after the other, lowest node first
@@ -34,25 +35,6 @@ option-at n b discounts flows kind expiry strike =
 -- the price allowance of row 0
 unfoldable pub bound-of : ℕ → ℕ → List ℕ → ℕ
 bound-of n b discounts = price-error-bound (rate-tree b) (discount-at b discounts) n 0
-
--- the number at an index is from low to high
-abbrev pub between : ℕ → ℕ → (ℕ → ℕ) → ℕ → Bool
-between low high f k = leb low (f k) && leb (f k) high
-
--- 3, 4, 6, 9, 10 about a tree, its lent discounts and its flows, lowest number first; 0 where there is none
-unfoldable pub tree-cause : ℕ → ℕ → List ℕ → List ℕ → ℕ
-tree-cause n b discounts flows =
-    cond (eqb n 0 || ltb 60 n) 3
-    (cond (ltb 6000 b) 4
-    (cond (eqb (length flows) n && leb (discounts-needed n b) (length discounts))
-    (cond (each (discounts-needed n b) (between 1 1100000000 (values discounts)))
-    (cond (each n (between 0 2000000000 (values flows))) 0 10)
-    9)
-    6))
-
--- 11: kind, expiry or strike outside its limit
-unfoldable pub option-cause : ℕ → ℕ → ℕ → ℕ → ℕ
-option-cause n kind expiry strike = cond (leb 1 kind && leb kind 4 && leb expiry n && leb strike 4000000000) 0 11
 
 -- 12: a value above 8 × one
 unfoldable pub limit-cause : ℕ → ℕ

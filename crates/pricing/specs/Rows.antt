@@ -11,8 +11,8 @@ use Rattle.pricing_laws.specs.Pricer.{exercise, held-or-exercised}
 use Rattle.pricing_laws.specs.TreePricer.{roll-rounding}
 use Rattle.row_branches.specs.declared.RowBranch.{RowBranch}
 use Rattle.row_branches.specs.RowBranches.{row-branch}
-use Rattle.pricing.specs.declared.values.Terms.{Terms}
-use Rattle.pricing.specs.Terms.{side}
+use Rattle.exercise.specs.declared.Terms.{Terms}
+use Rattle.exercise.specs.Terms.{side}
 
 -- the roll of a node along its branch
 unfoldable pub branch-roll : RowBranch → (ℕ → ℕ) → ℕ → ℕ

@@ -12,22 +12,10 @@ use Rattle.pricing_laws.specs.Pricer.{exercise, held-or-exercised}
 use Rattle.pricing_laws.specs.Peak.{peak, greatest-value}
 use Rattle.pricing_laws.specs.TreePricer.{roll-rounding, roll}
 use Rattle.pricing.specs.declared.walk.RowShape.{RowShape}
-use Rattle.pricing.specs.declared.values.Terms.{Terms}
+use Rattle.exercise.specs.declared.Terms.{Terms}
 use Rattle.pricing.specs.Prices.{discount-at, flow-at, bond-at, option-at, bond-peak, option-peak, limit-cause}
 use Rattle.pricing.specs.Rows.{Holds}
-use Rattle.pricing.specs.Terms.{side}
-
--- a tree and its discounts, and its flows, after the causes 3 to 10 were tested
-pub record Accepted (n b : ℕ) (discounts : List ℕ) : Type 0 where
-  pub some : 0 < n
-  pub few : n ≤ 60
-  pub reverting : b ≤ 6000
-  pub room : row-start b n ≤ length discounts
-  pub discounted : (k : ℕ) → k < row-start b n → values discounts k ≤ 1100000000
-
-pub record Accepted-flows (n : ℕ) (flows : List ℕ) : Type 0 where
-  pub count : length flows ≡ n
-  pub flowing : (k : ℕ) → k < n → values flows k ≤ 2000000000
+use Rattle.exercise.specs.Terms.{side}
 
 -- the down-probabilities of all nodes of row n
 unfoldable pub down-table : ℕ → ℕ → List ℕ

@@ -1,27 +1,15 @@
 // Bond and option prices on a rate tree whose node discounts the caller lends. Discounts stand row after row, lowest node first, rows 0 to
 // steps - 1; flows stand for rows 1 to steps. Nothing lent is changed.
-mod causes;
 mod rows;
-mod values;
 mod walk;
 
 ghost use mathlib.Core.Path.{_≡_};
 ghost use Prim.Native.Nat.{ℕ, _≤_, max};
 ghost use lib.ListN.{length};
 ghost use Rattle.lattice.specs.Shape.{node-count};
-ghost use Rattle.pricing.specs.Prices.{
-  bond-at,
-  option-at,
-  bound-of,
-  bond-peak,
-  option-peak,
-  limit-cause,
-  refusal,
-  priced,
-  bondPrice,
-  optionPrice,
-};
-ghost use Rattle.pricing.specs.Trees.{Accepted, Accepted-flows, down-table};
+ghost use Rattle.pricing.specs.Prices.{bond-at, option-at, bound-of, bond-peak, option-peak, limit-cause, refusal, priced, bondPrice, optionPrice};
+ghost use Rattle.pricing.specs.Trees.{down-table};
+ghost use Rattle.price_causes.specs.Causes.{Accepted, Accepted-flows};
 
 // A price in billionths with its error bound; a refusal's number with zeros.
 #[repr(C)]
@@ -142,7 +130,7 @@ fn accepted_bond(steps: usize, reversion: u64, discounts: &[u64], flows: &[u64])
 pub fn bond_price(steps: usize, reversion: u64, discounts: &[u64], flows: &[u64]) -> Price
     ensures { λ r. ⌜ r ≡ bondPrice steps reversion (now (discounts .entry)) (now (flows .entry)) ⌝ }
 {
-    let cause = causes::tree_cause(steps, reversion, discounts, flows);
+    let cause = price_causes::tree_cause(steps, reversion, discounts, flows);
     if cause != 0 {
         return refused(cause);
     }
@@ -196,11 +184,11 @@ pub fn option_price(
 ) -> Price
     ensures { λ r. ⌜ r ≡ optionPrice steps reversion (now (discounts .entry)) (now (flows .entry)) kind expiry strike ⌝ }
 {
-    let cause = causes::tree_cause(steps, reversion, discounts, flows);
+    let cause = price_causes::tree_cause(steps, reversion, discounts, flows);
     if cause != 0 {
         return refused(cause);
     }
-    let other = causes::option_cause(steps, kind, expiry, strike);
+    let other = price_causes::option_cause(steps, kind, expiry, strike);
     if other != 0 {
         return refused(other);
     }

@@ -1,13 +1,12 @@
 // One row of the tree, rolled back from the row after it.
-use crate::values;
-use crate::values::Terms;
+use exercise::Terms;
 use row_branches::RowBranch;
 ghost use mathlib.Core.Path.{_≡_};
 ghost use Prim.Native.Nat.{ℕ, _+_, _-_, _*_, _<_, _≤_, max};
 ghost use lib.ListN.{length};
 ghost use Rattle.arithmetic.specs.Row.{values};
 ghost use Rattle.pricing_laws.specs.Pricer.{exercise};
-ghost use Rattle.pricing.specs.Terms.{side};
+ghost use Rattle.exercise.specs.Terms.{side};
 ghost use Rattle.arithmetic.specs.Sum.{greatest};
 ghost use Rattle.pricing.specs.Rows.{
   branch-roll,
@@ -49,7 +48,7 @@ pub(crate) fn bond_row(
         let branch = row_branches::row_branch(downs, next, k);
         let value = roll_node(branch, later, discounts[k]) + flow;
         row[k] = value;
-        top = values::larger(top, value);
+        top = exercise::larger(top, value);
         k += 1;
     }
     top
@@ -78,10 +77,10 @@ pub(crate) fn option_row(
         let branch = row_branches::row_branch(downs, next, k);
         let discount = discounts[k];
         let value = roll_node(branch, bonds, discount) + flow;
-        let right = values::held_value(terms, roll_node(branch, options, discount), value);
+        let right = exercise::held_value(terms, roll_node(branch, options, discount), value);
         bond[k] = value;
         option[k] = right;
-        top = values::larger(top, values::larger(value, right));
+        top = exercise::larger(top, exercise::larger(value, right));
         k += 1;
     }
     top
@@ -94,7 +93,7 @@ pub(crate) fn exercise_row(terms: Terms, bond: &[u64], count: usize, option: &mu
 {
     let mut k: usize = 0;
     while k < count {
-        option[k] = values::exercise_value(terms, bond[k]);
+        option[k] = exercise::exercise_value(terms, bond[k]);
         k += 1;
     }
 }

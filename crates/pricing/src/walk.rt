@@ -1,8 +1,6 @@
 // The way back through the tree, row by row.
-use crate::causes;
 use crate::rows;
-use crate::values;
-use crate::values::Terms;
+use exercise::Terms;
 ghost use mathlib.Core.Path.{_≡_};
 ghost use Prim.Native.Nat.{ℕ, _+_, _-_, _*_, _<_, _≤_, max};
 ghost use lib.ListN.{length, take, drop};
@@ -14,7 +12,8 @@ ghost use Rattle.lattice.specs.RateTree.{rate-tree};
 ghost use Rattle.pricing_laws.specs.TreePricer.{greatest-discount, roll-loss};
 ghost use Rattle.pricing.specs.Prices.{discount-at, flow-at, bound-of};
 ghost use Rattle.pricing.specs.Rows.{Later, Holds};
-ghost use Rattle.pricing.specs.Trees.{Accepted, Accepted-flows, down-table, row-shape, bond-step, option-step, Bond-rolled, Option-rolled};
+ghost use Rattle.pricing.specs.Trees.{down-table, row-shape, bond-step, option-step, Bond-rolled, Option-rolled};
+ghost use Rattle.price_causes.specs.Causes.{Accepted, Accepted-flows};
 
 // The nodes of the widest row.
 const MOST_NODES: usize = 121;
@@ -134,7 +133,7 @@ fn bound_step(steps: usize, reversion: u64, row: usize, discounts: &[u64], later
     ensures { λ r. ⌜ r ≡ up (greatest-discount (rate-tree reversion) (discount-at reversion (now (discounts .entry))) row * later) 1000000000 + roll-loss ⌝ }
 {
     let shape = row_shape(steps, reversion, row);
-    let greatest = causes::greatest_of(part(discounts, shape.start, shape.count));
+    let greatest = price_causes::greatest_of(part(discounts, shape.start, shape.count));
     (greatest * later + 999_999_999) / 1_000_000_000 + 3
 }
 
@@ -196,7 +195,7 @@ fn roll_option(
     requires { ⌜ Accepted steps reversion (now discounts) × Accepted-flows steps (now flows) × (expiry ≤ steps) × (strike ≤ 4000000000) × (now downs ≡ down-table steps reversion) × Bond-rolled steps reversion (now discounts) (now flows) expiry 0 (now bond) × (121 ≤ length (now bond)) × (121 ≤ length (now option)) × (121 ≤ length (now bonds)) × (121 ≤ length (now options)) ⌝ }
     ensures { λ r. ⌜ Option-rolled steps reversion (now (discounts .entry)) (now (flows .entry)) kind expiry strike r (now (option .exit)) ⌝ }
 {
-    let terms = values::terms_of(kind, strike);
+    let terms = exercise::terms_of(kind, strike);
     rows::exercise_row(terms, bond, MOST_NODES, option);
     let mut row = expiry;
     while 0 < row {

@@ -1,7 +1,7 @@
 -- `pricing::bond_price` meets its contract.
 -- Assumes nothing.
 use mathlib.Core.Path.{sym, _∙_}
-use Rattle.pricing.proofs.CheckLaws.{accepted}
+use Rattle.price_causes.proofs.CheckLaws.{accepted}
 use Rattle.pricing.proofs.EntryLaws.{bond-cause-price, bond-price-is}
 use borrow.Author.Needs.{needs}
 use Rattle.pricing.proofs.bond_price.Statement.{statement}

@@ -1,7 +1,7 @@
 -- `pricing::option_price` meets its contract.
 -- Assumes nothing.
 use mathlib.Core.Path.{sym, _∙_}
-use Rattle.pricing.proofs.CheckLaws.{accepted, option-accepted}
+use Rattle.price_causes.proofs.CheckLaws.{accepted, option-accepted}
 use Rattle.pricing.proofs.EntryLaws.{option-tree-price, option-cause-price, option-price-is}
 use borrow.Author.Needs.{needs}
 use Rattle.pricing.proofs.option_price.Statement.{statement}

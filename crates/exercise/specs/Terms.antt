@@ -1,0 +1,15 @@
+-- The kinds of option as the code holds them.
+-- Assumes nothing.
+use mathlib.Core.Bool.{Bool, true, false, _||_}
+use Prim.Native.Nat.{ℕ}
+use lib.Dec.{eqb, ltb}
+use Rattle.pricing_laws.specs.Pricer.{Side, call, put}
+use Rattle.exercise.specs.declared.Terms.{Terms}
+
+abbrev pub side : Bool → Side
+side true = call
+side false = put
+
+-- kinds 1 and 3 are calls; 3 and 4 may be exercised before expiry
+unfoldable pub terms-of : ℕ → ℕ → Terms
+terms-of kind strike = record { call = eqb kind 1 || eqb kind 3; listed = ltb 2 kind; strike = strike }
