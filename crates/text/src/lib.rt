@@ -6,8 +6,8 @@ ghost use mathlib.Core.List.{List, [], _∷_, _++_};
 ghost use Prim.Native.Nat.{ℕ, _+_, _-_, _≤_, _<_};
 ghost use lib.ListN.{length};
 ghost use lib.IntN.{natAbs};
-ghost use Rattle.text.specs.Decimal.{natural, fraction, decimal, signOf, signedDecimal};
-ghost use Rattle.text.specs.Lines.{
+ghost use Rattle.text_laws.specs.Decimal.{natural, fraction, decimal, signOf, signedDecimal};
+ghost use Rattle.text_laws.specs.Lines.{
   space,
   newline,
   whole,
@@ -22,7 +22,7 @@ ghost use Rattle.text.specs.Lines.{
   lineStart,
   withLine,
 };
-ghost use Rattle.text.specs.Put.{Put};
+ghost use Rattle.text_laws.specs.Put.{Put};
 
 // No line is longer.
 const LONGEST_LINE: usize = 128;

@@ -9,7 +9,7 @@ use lib.Signed.{ltZ}
 use mir.Facts.{toZ-ofZ}
 use borrow.Author.Needs.{needs}
 use Rattle.arithmetic.proofs.Signed.{negated-fits, negated-back, is-whole}
-use Rattle.text.proofs.Signs.{size-most, size-lowest, size-other}
+use Rattle.text_laws.proofs.Signs.{size-most, size-lowest, size-other}
 use Rattle.text.proofs.magnitude.Statement.{statement}
 use Rattle.text.proofs.magnitude.Tie as tie
 

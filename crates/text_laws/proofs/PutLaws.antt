@@ -6,7 +6,7 @@ use Prim.Native.Nat.{ℕ, zero, suc, _+_, _-_, _≤_, _<_}
 use native.Mathlib.Omega.{arith}
 use lib.ListN.{length, drop, take, set, getD, length-append, length-drop, length-set, take-append-drop}
 use lib.Seq.{set-split, drop-at, length-take-le, take-append-le, take-take, take-suc, drop-length}
-use Rattle.text.specs.Put.{putBefore, Put}
+use Rattle.text_laws.specs.Put.{putBefore, Put}
 
 -- putting nothing changes nothing
 pub put-nothing : (out : List ℕ) (end : ℕ) → putBefore out end [] ≡ out

@@ -9,11 +9,11 @@ use borrow.Author.Tests.{le-leb, lt-leb, leb-true}
 use lib.Dec.{leb}
 use lib.IntN.{ℤ, natAbs}
 use lib.ListN.{length, length-append}
-use Rattle.text.specs.Decimal.{decimal, signedDecimal}
-use Rattle.text.specs.Put.{putBefore, Put}
-use Rattle.text.specs.Lines.{space, newline, whole, amount, nodeLine, rowLine, priceLine, refusedLine, hasRoom, lineStart, withLine}
-use Rattle.text.proofs.DecimalLaws.{decimal-room, field-room, signed-room}
-use Rattle.text.proofs.PutLaws.{put-before, put-whole, length-put}
+use Rattle.text_laws.specs.Decimal.{decimal, signedDecimal}
+use Rattle.text_laws.specs.Put.{putBefore, Put}
+use Rattle.text_laws.specs.Lines.{space, newline, whole, amount, nodeLine, rowLine, priceLine, refusedLine, hasRoom, lineStart, withLine}
+use Rattle.text_laws.proofs.DecimalLaws.{decimal-room, field-room, signed-room}
+use Rattle.text_laws.proofs.PutLaws.{put-before, put-whole, length-put}
 
 -- ---- no line is longer than 128 bytes
 

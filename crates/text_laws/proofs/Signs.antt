@@ -12,8 +12,8 @@ use borrow.Author.Tests.{ltb-true, ltb-false}
 use mir.Syntax.{w64}
 use mir.Val.{SFits, toZ, ofZ}
 use mir.Facts.{toZ-ofZ}
-use Rattle.text.specs.Decimal.{signOf, signedDecimal}
-use Rattle.text.proofs.DecimalLaws.{signed-room}
+use Rattle.text_laws.specs.Decimal.{signOf, signedDecimal}
+use Rattle.text_laws.proofs.DecimalLaws.{signed-room}
 
 below-zero : (n : ℕ) → n < 0 → ⊥
 below-zero n h = omega arith

@@ -5,8 +5,8 @@ use mathlib.Core.List.{List, [], _∷_}
 use lib.IntN.{pos, negsuc}
 use Rattle.arithmetic.specs.Rounding.{nearest}
 use Rattle.step_rate.specs.StepRate.{rateAnswer}
-use Rattle.text.specs.Decimal.{natural, naturalWithin, digits, decimal, signedDecimal}
-use Rattle.text.specs.Lines.{percent, nodeLine, rowLine, priceLine, bondLine, optionLine, refusedLine}
+use Rattle.text_laws.specs.Decimal.{natural, naturalWithin, digits, decimal, signedDecimal}
+use Rattle.text_laws.specs.Lines.{percent, nodeLine, rowLine, priceLine, bondLine, optionLine, refusedLine}
 
 -- `node 0 0 1.002500000 -0.2493766`
 pub node-figure : nodeLine 0 (pos 0) 1002500000 (rateAnswer 1002500000 .value) ≡ 110 ∷ 111 ∷ 100 ∷ 101 ∷ 32 ∷ 48 ∷ 32 ∷ 48 ∷ 32 ∷ 49 ∷ 46 ∷ 48 ∷ 48 ∷ 50 ∷ 53 ∷ 48 ∷ 48 ∷ 48 ∷ 48 ∷ 48 ∷ 32 ∷ 45 ∷ 48 ∷ 46 ∷ 50 ∷ 52 ∷ 57 ∷ 51 ∷ 55 ∷ 54 ∷ 54 ∷ 10 ∷ []

@@ -6,8 +6,8 @@ use mathlib.Core.List.{List, [], _∷_, _++_}
 use lib.Dec.{leb}
 use lib.IntN.{ℤ}
 use lib.ListN.{length}
-use Rattle.text.specs.Decimal.{decimal, signedDecimal}
-use Rattle.text.specs.Put.{putBefore}
+use Rattle.text_laws.specs.Decimal.{decimal, signedDecimal}
+use Rattle.text_laws.specs.Put.{putBefore}
 
 -- a space and a line's end
 abbrev pub space : List ℕ
