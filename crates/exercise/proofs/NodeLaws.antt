@@ -5,7 +5,7 @@ use mathlib.Core.Bool.{Bool, true, false, _||_}
 use Prim.Native.Nat.{ℕ, _+_, _-_, _*_, _/_, _≤_, max}
 use native.Mathlib.Nat.{mul-le-mul, mul-le-mul-left}
 use native.Mathlib.Omega.{arith}
-use lib.Dec.{eqb, ltb}
+use lib.Dec.{eqb}
 use borrow.Author.Tests.{eq-eqb, ne-eqb}
 use Rattle.pricing_laws.specs.Pricer.{exercise, held-or-exercised}
 use Rattle.exercise.specs.declared.Terms.{Terms}
@@ -44,7 +44,7 @@ unlisted-value true roll now e = let z : _≡_ {A = ℕ} 0 1 = cc in absurd (ome
 
 -- the terms of a kind
 pub terms-built : (kind strike : ℕ) (t : Bool) → t ≡ (eqb kind 1 || eqb kind 3) →
-    _≡_ {A = Terms} (record { call = t; listed = ltb 2 kind; strike = strike }) (terms-of kind strike)
+    _≡_ {A = Terms} (record { call = t; strike = strike }) (terms-of kind strike)
 unfolding terms-of
 terms-built kind strike t e = rw e
 
