@@ -3,7 +3,7 @@
 use Prim.Native.Nat.{ℕ, zero, suc, _+_}
 use mathlib.Core.Bool.{Bool, true, cond, _&&_}
 use mathlib.Core.List.{List, [], _∷_, _++_}
-use lib.Dec.{ltb}
+use lib.Dec.{leb, ltb}
 use lib.ListN.{getD, take, drop, length}
 
 -- the list f 0, .., f (n - 1)
@@ -23,6 +23,10 @@ place memory start part = take start memory ++ (part ++ drop (start + length par
 unfoldable pub each : ℕ → (ℕ → Bool) → Bool
 each zero test = true
 each (suc n) test = each n test && test n
+
+-- the number at an index is from low to high
+abbrev pub between : ℕ → ℕ → (ℕ → ℕ) → ℕ → Bool
+between low high f k = leb low (f k) && leb (f k) high
 
 -- the first n values of f, and those of g after them
 unfoldable pub overlay : ℕ → (ℕ → ℕ) → (ℕ → ℕ) → ℕ → ℕ

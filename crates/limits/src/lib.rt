@@ -1,0 +1,50 @@
+// The limits of steps, reversions, discounts and values, tested in one place.
+ghost use mathlib.Core.Path.{_≡_};
+ghost use Rattle.limits.specs.Limits.{is-steps, is-reversion, is-discount, shape-cause, limit-cause};
+
+// Whether the steps are 1 to 60.
+pub fn is_steps(steps: usize) -> bool
+    ensures { λ r. ⌜ r ≡ is-steps steps ⌝ }
+{
+    if steps < 1 {
+        return false;
+    }
+    steps <= 60
+}
+
+// Whether the reversion is at most 6,000.
+pub fn is_reversion(reversion: u64) -> bool
+    ensures { λ r. ⌜ r ≡ is-reversion reversion ⌝ }
+{
+    reversion <= 6_000
+}
+
+// Whether a number is a node discount, 1 to 1,100,000,000.
+pub fn is_discount(discount: u64) -> bool
+    ensures { λ r. ⌜ r ≡ is-discount discount ⌝ }
+{
+    if discount < 1 {
+        return false;
+    }
+    discount <= 1_100_000_000
+}
+
+// The cause about the numbers of a tree: 3, 4, or 0 where there is none.
+pub fn shape_cause(steps: usize, reversion: u64) -> u64
+    ensures { λ r. ⌜ r ≡ shape-cause steps reversion ⌝ }
+{
+    if !is_steps(steps) {
+        return 3;
+    }
+    if !is_reversion(reversion) {
+        return 4;
+    }
+    0
+}
+
+// The cause about a value: 12 where it is above 8, or 0.
+pub fn limit_cause(value: u64) -> u64
+    ensures { λ r. ⌜ r ≡ limit-cause value ⌝ }
+{
+    if 8_000_000_000 < value { 12 } else { 0 }
+}
