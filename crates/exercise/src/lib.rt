@@ -1,7 +1,7 @@
 // The value of one node of an option, and the rows on which each kind may be exercised.
 ghost use mathlib.Core.Path.{_≡_};
 ghost use mathlib.Core.Bool.{Bool, true, false};
-ghost use Prim.Native.Nat.{ℕ, _-_, max};
+ghost use Prim.Native.Nat.{ℕ, _-_};
 ghost use Rattle.pricing_laws.specs.Pricer.{exercise, held-or-exercised};
 ghost use Rattle.exercise.specs.Terms.{side, terms-of, marks-of};
 
@@ -53,14 +53,7 @@ pub fn held_value(terms: Terms, listed: bool, roll: u64, bond: u64) -> u64
     ensures { λ r. ⌜ r ≡ held-or-exercised listed roll (exercise (side (terms .call)) (terms .strike) bond) ⌝ }
 {
     if listed {
-        return larger(roll, exercise_value(terms, bond));
+        return arithmetic::larger(roll, exercise_value(terms, bond));
     }
     roll
-}
-
-// The larger of two numbers.
-pub fn larger(x: u64, y: u64) -> u64
-    ensures { λ r. ⌜ r ≡ max x y ⌝ }
-{
-    if x < y { y } else { x }
 }

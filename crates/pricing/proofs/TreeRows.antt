@@ -1,6 +1,7 @@
 -- The rows of an accepted tree, as parts of the lent discounts and of the table of down-probabilities.
 -- Assumes nothing.
 use mathlib.Core.Path.{_≡_, refl, sym, ap, ap₂, _∙_}
+use mathlib.Core.Bool.{Bool}
 use mathlib.Core.List.{List}
 use Prim.Native.Nat.{ℕ, zero, suc, _+_, _-_, _*_, _≤_, _<_, max}
 use native.Mathlib.Nat.{le-refl}
@@ -24,14 +25,11 @@ use Rattle.lattice.proofs.TableLaws.{down-from-table}
 use Rattle.row_branches.specs.declared.RowBranch.{RowBranch}
 use Rattle.row_branches.specs.RowBranches.{row-branch}
 use Rattle.row_branches.proofs.BranchLaws.{row-branch-is}
-use Rattle.pricing_laws.specs.Pricer.{exercise, held-or-exercised}
+use Rattle.pricing_laws.specs.Pricer.{Side, exercise, held-or-exercised}
 use Rattle.pricing_laws.specs.TreePricer.{roll-rounding, node-roll, roll, greatest-discount}
-use Rattle.exercise.specs.declared.Terms.{Terms}
-use Rattle.exercise.specs.Terms.{side}
-use Rattle.pricing_laws.proofs.PriceLaws.{roll-same}
 use Rattle.pricing.specs.declared.walk.RowShape.{RowShape}
 use Rattle.pricing.specs.Prices.{discount-at, flow-at}
-use Rattle.pricing.specs.Rows.{branch-roll, rolled-row, bond-values, option-values, Rollable, Holds}
+use Rattle.pricing.specs.Rows.{branch-roll, rolled-row, bond-values, option-values, Rollable, Filled-row, Filled-rows}
 use Rattle.pricing.specs.Trees.{down-table, row-shape, rolled-at, bond-step, option-step}
 use Rattle.price_causes.specs.Causes.{Accepted, Accepted-flows}
 
@@ -132,57 +130,43 @@ module _ (n b i : ℕ) (hi : i < n) where
     unfolding rolled-row rolled-at branch-roll roll node-roll outgoing rate-tree
     rolled-is later k h = rw (branch-is k h, discount-part-at k h)
 
-    -- a copy of the later row is rolled alike
-    rolled-copy : (later row : List ℕ) → Holds later (node-count b (suc i)) (values row) → (k : ℕ) → k < node-count b i → rolled-at b discounts i later k ≡ rolled-at b discounts i row k
-    unfolding rolled-at rate-tree
-    rolled-copy later row h k l =
-        roll-same (rate-tree b) (rate-tree-sound b (a .reverting)) (discount-at b discounts) roll-rounding i (values later) (values row)
-        h k l
-
     -- a row of the bond, and of the option beside it, as the code gives them
     module _ (flows : List ℕ) (flow : ℕ) (ef : flow ≡ flow-at flows i) where
-      bond-value-is :
-          (later row : List ℕ) → Holds later (node-count b (suc i)) (values row) → (k : ℕ) → k < node-count b i →
-          bond-values later table-part discount-part (node-count b (suc i)) flow k ≡ bond-step b discounts flows i row k
-      bond-value-is later row c k l = ap₂ (λ (x y : ℕ). x + y) (rolled-is later k l ∙ rolled-copy later row c k l) ef
+      abbrev code-bond : List ℕ → ℕ → ℕ
+      code-bond later = bond-values later table-part discount-part (node-count b (suc i)) flow
+
+      bond-value-is : (later : List ℕ) (k : ℕ) → k < node-count b i → code-bond later k ≡ bond-step b discounts flows i later k
+      bond-value-is later k l = ap₂ (λ (x y : ℕ). x + y) (rolled-is later k l) ef
 
       pub bond-row-is :
-          (later row : List ℕ) (top : ℕ) (after : List ℕ) → Holds later (node-count b (suc i)) (values row) →
-          Holds after (length discount-part) (bond-values later table-part discount-part (node-count b (suc i)) flow)
-          × (top ≡ greatest (length discount-part) (bond-values later table-part discount-part (node-count b (suc i)) flow)) →
-          Holds after (node-count b i) (bond-step b discounts flows i row) × (top ≡ greatest (node-count b i) (bond-step b discounts flows i row))
-      bond-row-is later row top after c (h, t) = (
-        λ k l. h k (rw discount-part-length l) ∙ bond-value-is later row c k l,
-        t ∙ rw discount-part-length (greatest-cong (node-count b i) _ _ (bond-value-is later row c)),
-      )
+          (later after : List ℕ) (top : ℕ) → Filled-row after (length discount-part) (code-bond later) top →
+          Filled-row after (node-count b i) (bond-step b discounts flows i later) top
+      bond-row-is later after top s =
+          record {
+            held = λ k l. s .held k (rw discount-part-length l) ∙ bond-value-is later k l;
+            found = s .found ∙ rw discount-part-length (greatest-cong (node-count b i) _ _ (bond-value-is later));
+          }
 
-      option-value-is :
-          (terms : Terms) (bonds options bond option : List ℕ) → Holds bonds (node-count b (suc i)) (values bond) → Holds options (node-count b (suc i)) (values option) →
-          (k : ℕ) → k < node-count b i →
-          option-values terms bonds options table-part discount-part (node-count b (suc i)) flow k
-          ≡ option-step terms b discounts flows i bond option k
-      option-value-is terms bonds options bond option cb co k l =
-          ap₂ (λ (x y : ℕ). held-or-exercised (terms .listed) x (exercise (side (terms .call)) (terms .strike) y))
-          (rolled-is options k l ∙ rolled-copy options option co k l) (bond-value-is bonds bond cb k l)
+      module _ (side : Side) (strike : ℕ) (listed : Bool) (bonds options : List ℕ) where
+        abbrev code-option : ℕ → ℕ
+        code-option = option-values side strike listed bonds options table-part discount-part (node-count b (suc i)) flow
 
-      pub option-row-is :
-          (terms : Terms) (bonds options bond option : List ℕ) (top : ℕ) (bond′ option′ : List ℕ) →
-          Holds bonds (node-count b (suc i)) (values bond) → Holds options (node-count b (suc i)) (values option) →
-          Holds bond′ (length discount-part) (bond-values bonds table-part discount-part (node-count b (suc i)) flow)
-          × Holds option′ (length discount-part) (option-values terms bonds options table-part discount-part (node-count b (suc i)) flow)
-          × (top ≡ greatest (length discount-part)
-          (λ k. max (bond-values bonds table-part discount-part (node-count b (suc i)) flow k)
-          (option-values terms bonds options table-part discount-part (node-count b (suc i)) flow k))) →
-          Holds bond′ (node-count b i) (bond-step b discounts flows i bond)
-          × Holds option′ (node-count b i) (option-step terms b discounts flows i bond option)
-          × (top ≡ greatest (node-count b i) (λ k. max (bond-step b discounts flows i bond k) (option-step terms b discounts flows i bond option k)))
-      option-row-is terms bonds options bond option top bond′ option′ cb co (h, g, t) = (
-        λ k l. h k (rw discount-part-length l) ∙ bond-value-is bonds bond cb k l,
-        λ k l. g k (rw discount-part-length l) ∙ option-value-is terms bonds options bond option cb co k l,
-        t ∙ rw discount-part-length
-            (greatest-cong (node-count b i) _ _
-            (λ k l. ap₂ max (bond-value-is bonds bond cb k l) (option-value-is terms bonds options bond option cb co k l))),
-      )
+        option-value-is : (k : ℕ) → k < node-count b i → code-option k ≡ option-step side strike listed b discounts flows i bonds options k
+        option-value-is k l =
+            ap₂ (λ (x y : ℕ). held-or-exercised listed x (exercise side strike y)) (rolled-is options k l) (bond-value-is bonds k l)
+
+        pub option-row-is :
+            (bond option : List ℕ) (top : ℕ) → Filled-rows bond option (length discount-part) (code-bond bonds) code-option top →
+            Filled-rows bond option (node-count b i) (bond-step b discounts flows i bonds)
+            (option-step side strike listed b discounts flows i bonds options) top
+        option-row-is bond option top s =
+            record {
+              bond-held = λ k l. s .bond-held k (rw discount-part-length l) ∙ bond-value-is bonds k l;
+              option-held = λ k l. s .option-held k (rw discount-part-length l) ∙ option-value-is k l;
+              found =
+                  s .found
+                  ∙ rw discount-part-length (greatest-cong (node-count b i) _ _ (λ k l. ap₂ max (bond-value-is bonds k l) (option-value-is k l)));
+            }
 
     -- the greatest discount of the row
     pub greatest-discount-is : (g : ℕ) → g ≡ greatest (length discount-part) (values discount-part) → g ≡ greatest-discount (rate-tree b) (discount-at b discounts) i

@@ -12,11 +12,11 @@ use Rattle.pricing.proofs.rows.bond_row.Statement.{statement}
 use Rattle.pricing.proofs.rows.bond_row.Tie as tie
 
 abbrev Inv-loop : tie.InvT-loop
-Inv-loop later downs discounts next flow row₀ top₀ k₀ row top k =
+Inv-loop row₀ later downs discounts next flow top₀ k₀ row top k =
     (k ≤ length discounts) × Row-state row₀ row (bond-values later downs discounts next flow) top k
 
 abbrev μ-loop : tie.MeasureT-loop
-μ-loop later downs discounts next flow row₀ top₀ k₀ row top k = length discounts - k
+μ-loop row₀ later downs discounts next flow top₀ k₀ row top k = length discounts - k
 
 loop-holds : tie.Need-loop-holds Inv-loop μ-loop
 loop-holds c = (omega arith, row-start _ _)

@@ -5,6 +5,7 @@ use Prim.Native.Nat.{ℕ, _+_, _-_, _≤_}
 use native.Mathlib.Omega.{arith}
 use lib.ListN.{length}
 use denote.Ref.{now}
+use Rattle.exercise.specs.Terms.{side}
 use Rattle.pricing.specs.Rows.{bond-values, option-values}
 use Rattle.pricing.proofs.RowSteps.{branch-inside, branch-total, branch-limited, branch-rolled, option-from-roll, Rows-state, rows-start, rows-next, rows-done}
 use borrow.Author.Needs.{needs}
@@ -12,12 +13,12 @@ use Rattle.pricing.proofs.rows.option_row.Statement.{statement}
 use Rattle.pricing.proofs.rows.option_row.Tie as tie
 
 abbrev Inv-loop : tie.InvT-loop
-Inv-loop bonds options downs discounts next flow terms bond₀ option₀ top₀ k₀ bond option top k =
+Inv-loop bond₀ option₀ bonds options downs discounts next flow terms listed top₀ k₀ bond option top k =
     (k ≤ length discounts)
-    × Rows-state bond₀ bond option₀ option (bond-values bonds downs discounts next flow) (option-values terms bonds options downs discounts next flow) top k
+    × Rows-state bond₀ bond option₀ option (bond-values bonds downs discounts next flow) (option-values (side (terms .call)) (terms .strike) listed bonds options downs discounts next flow) top k
 
 abbrev μ-loop : tie.MeasureT-loop
-μ-loop bonds options downs discounts next flow terms bond₀ option₀ top₀ k₀ bond option top k = length discounts - k
+μ-loop bond₀ option₀ bonds options downs discounts next flow terms listed top₀ k₀ bond option top k = length discounts - k
 
 loop-holds : tie.Need-loop-holds Inv-loop μ-loop
 loop-holds c = (omega arith, rows-start _ _ _ _)
@@ -91,7 +92,7 @@ loop-again c =
       omega arith,
       rows-next _ (l .bond) _ (l .option) _ _ (l .top) (l .k) _ _ _ _ (l .inv .1)
           (omega (arith, l .inv .1 .bond-filled .same, s .pre .3)) (omega (arith, l .inv .1 .option-filled .same, s .pre .4))
-          b (option-from-roll (s .args .terms) _ _ _ _ _ _ _ _ _ _ b o (c .before .before .held-value .ensures)) (c .before .larger .ensures) (c .larger2 .ensures),
+          b (option-from-roll (side (s .args .terms .call)) (s .args .terms .strike) (s .args .listed) _ _ _ _ _ _ _ _ _ _ b o (c .before .before .held-value .ensures)) (c .before .larger .ensures) (c .larger2 .ensures),
     )
 
 same-length : tie.Need-same-length Inv-loop μ-loop
