@@ -1,7 +1,7 @@
 -- The answers of the lattice's entries: 4 for a reversion above 6,000, 3 for steps outside 1 to 60, 6 for a row or node that is not in the tree.
 -- Assumes nothing.
 use Prim.Native.Nat.{ℕ, _+_, _*_}
-use mathlib.Core.Bool.{Bool, cond, _||_, _&&_}
+use mathlib.Core.Bool.{Bool, cond, _&&_}
 use mathlib.Core.List.{List, [], _∷_}
 use lib.Dec.{eqb, leb, ltb}
 use lib.IntN.{ℤ, pos, natAbs}
@@ -9,6 +9,7 @@ use lib.ListN.{length}
 use Rattle.arithmetic.specs.Row.{row}
 use Rattle.arithmetic.specs.declared.Answer.{Answer}
 use Rattle.arithmetic.specs.Answers.{refused, answered}
+use Rattle.limits.specs.Limits.{most-steps, most-reversion, shape-cause}
 use Rattle.lattice.specs.Shape.{half-width, node-count, row-start, discounts-needed, state-prices-needed}
 use Rattle.lattice.specs.Branching.{branching, lowest-of, probabilities, down}
 use Rattle.lattice.specs.RateTree.{node-at}
@@ -16,7 +17,7 @@ use Rattle.lattice.specs.declared.Branches.{Branches}
 
 -- a number about row i of a tree of reversion b; rows run from 0 to 60
 unfoldable pub about-row : ℕ → ℕ → ℕ → Answer
-about-row b i result = cond (ltb 6000 b) (refused 4) (cond (ltb 60 i) (refused 6) (answered result))
+about-row b i result = cond (ltb most-reversion b) (refused 4) (cond (ltb most-steps i) (refused 6) (answered result))
 
 abbrev pub halfWidth : ℕ → ℕ → Answer
 halfWidth b i = about-row b i (half-width b i)
@@ -29,7 +30,7 @@ rowStart b i = about-row b i (row-start b i)
 
 -- a number about the tree of n steps and reversion b
 unfoldable pub about-tree : ℕ → ℕ → ℕ → Answer
-about-tree n b result = cond (eqb n 0 || ltb 60 n) (refused 3) (cond (ltb 6000 b) (refused 4) (answered result))
+about-tree n b result = cond (eqb (shape-cause n b) 0) (answered result) (refused (shape-cause n b))
 
 abbrev pub discountsNeeded : ℕ → ℕ → Answer
 discountsNeeded n b = about-tree n b (discounts-needed n b)
@@ -46,17 +47,17 @@ branchOf b j = record { number = 0; lowest = lowest-of (branching b j) j; probab
 -- the branch of node j of row i; no branch leaves row 60
 unfoldable pub branchAnswer : ℕ → ℕ → ℤ → Branches
 branchAnswer b i j =
-    cond (ltb 6000 b) (refusedBranch 4)
-    (cond (ltb 59 i) (refusedBranch 6)
+    cond (ltb most-reversion b) (refusedBranch 4)
+    (cond (leb most-steps i) (refusedBranch 6)
     (cond (leb (natAbs j) (half-width b i)) (branchOf b j) (refusedBranch 6)))
 
 -- a half width that some row of some tree has: at most 60 and at most J
 unfoldable pub is-half-width : ℕ → ℕ → Bool
-is-half-width b w = leb w (half-width b 60)
+is-half-width b w = leb w (half-width b most-steps)
 
 -- the down-probabilities of nodes −w to w in a lent table of 2 w + 1 numbers: 4, then 6 for the half width or the length
 unfoldable pub tableNumber : ℕ → ℕ → ℕ → ℕ
-tableNumber b w size = cond (ltb 6000 b) 4 (cond (is-half-width b w && eqb size (2 * w + 1)) 0 6)
+tableNumber b w size = cond (ltb most-reversion b) 4 (cond (is-half-width b w && eqb size (2 * w + 1)) 0 6)
 
 unfoldable pub tableOf : ℕ → ℕ → List ℕ → List ℕ
 tableOf b w table = cond (eqb (tableNumber b w (length table)) 0) (row (2 * w + 1) (λ k. down b (node-at w k))) table

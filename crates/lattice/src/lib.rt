@@ -44,19 +44,23 @@ fn row_start_of(reversion: u64, row: usize) -> usize
 fn clipped(row: usize) -> usize
     ensures { λ r. ⌜ r ≡ min row 60 ⌝ }
 {
-    if row < 60 { row } else { 60 }
+    if row < limits::MOST_STEPS {
+        row
+    } else {
+        limits::MOST_STEPS
+    }
 }
 
 fn about_row(reversion: u64, row: usize, result: usize) -> Answer
     ensures { λ r. ⌜ r ≡ about-row reversion row result ⌝ }
 {
-    if 6000 < reversion {
+    if limits::MOST_REVERSION < reversion {
         return Answer {
             number: 4,
             value: 0,
         };
     }
-    if 60 < row {
+    if limits::MOST_STEPS < row {
         return Answer {
             number: 6,
             value: 0,
@@ -71,23 +75,9 @@ fn about_row(reversion: u64, row: usize, result: usize) -> Answer
 fn about_tree(steps: usize, reversion: u64, result: usize) -> Answer
     ensures { λ r. ⌜ r ≡ about-tree steps reversion result ⌝ }
 {
-    if steps == 0 {
-        return Answer {
-            number: 3,
-            value: 0,
-        };
-    }
-    if 60 < steps {
-        return Answer {
-            number: 3,
-            value: 0,
-        };
-    }
-    if 6000 < reversion {
-        return Answer {
-            number: 4,
-            value: 0,
-        };
+    let number = limits::shape_cause(steps, reversion);
+    if number != 0 {
+        return Answer { number, value: 0 };
     }
     Answer {
         number: 0,
