@@ -1,7 +1,7 @@
 -- The answers of the lattice's entries: 4 for a reversion above 6,000, 3 for steps outside 1 to 60, 6 for a row or node that is not in the tree.
 -- Assumes nothing.
-use Prim.Native.Nat.{ℕ, _+_, _*_}
-use mathlib.Core.Bool.{Bool, cond, _&&_}
+use Prim.Native.Nat.{ℕ, suc, _+_, _-_, _*_}
+use mathlib.Core.Bool.{Bool, cond, _||_, _&&_}
 use mathlib.Core.List.{List, [], _∷_}
 use lib.Dec.{eqb, leb, ltb}
 use lib.IntN.{ℤ, pos, natAbs}
@@ -14,6 +14,7 @@ use Rattle.lattice.specs.Shape.{half-width, node-count, row-start, disco
 use Rattle.lattice.specs.Branching.{branching, lowest-of, probabilities, down}
 use Rattle.lattice.specs.RateTree.{node-at}
 use Rattle.lattice.specs.declared.Branches.{Branches}
+use Rattle.lattice.specs.declared.RowShape.{RowShape}
 
 -- a number about row i of a tree of reversion b; rows run from 0 to 60
 unfoldable pub about-row : ℕ → ℕ → ℕ → Answer
@@ -37,6 +38,23 @@ discountsNeeded n b = about-tree n b (discounts-needed n b)
 
 abbrev pub statePricesNeeded : ℕ → ℕ → Answer
 statePricesNeeded n b = about-tree n b (state-prices-needed n b)
+
+-- where row i starts in a table of row w's nodes, each row's middle node above the other's
+abbrev pub table-offset : ℕ → ℕ → ℕ → ℕ
+table-offset b w i = half-width b w - half-width b i
+
+abbrev pub refused-shape : ℕ → RowShape
+refused-shape cause = record { number = cause; start = 0; count = 0; next = 0; offset = 0 }
+
+abbrev pub shape-of : ℕ → ℕ → ℕ → RowShape
+shape-of b w i =
+    record { number = 0; start = row-start b i; count = node-count b i; next = node-count b (suc i); offset = table-offset b w i }
+
+-- where row i stands, with tables of row w: 4, then 6 where w is no row, i is past it, or no row follows i
+unfoldable pub rowShape : ℕ → ℕ → ℕ → RowShape
+rowShape b w i =
+    cond (ltb most-reversion b) (refused-shape 4)
+    (cond (ltb most-steps w || ltb w i || leb most-steps i) (refused-shape 6) (shape-of b w i))
 
 abbrev pub refusedBranch : ℕ → Branches
 refusedBranch cause = record { number = cause; lowest = pos 0; probabilities = 0 ∷ 0 ∷ 0 ∷ [] }
