@@ -9,3 +9,4 @@ pub mod FrequencyLaws
 pub mod PlaceLaws
 pub mod CauseLaws
 pub mod BetweenLaws
+pub mod PartLaws

@@ -6,3 +6,4 @@ pub mod RateTreeLaws
 pub mod EntryLaws
 pub mod TableLaws
 pub mod TreeEntries
+pub mod ShapeLaws

@@ -2,6 +2,14 @@
 ghost use mathlib.Core.Path.{_≡_};
 ghost use Rattle.limits.specs.Limits.{is-steps, is-reversion, is-discount, shape-cause, limit-cause};
 
+pub const MOST_STEPS: usize = 60;
+
+pub const MOST_REVERSION: u64 = 6_000;
+
+pub const MOST_DISCOUNT: u64 = 1_100_000_000;
+
+pub const VALUE_LIMIT: u64 = 8_000_000_000;
+
 // Whether the steps are 1 to 60.
 pub fn is_steps(steps: usize) -> bool
     ensures { λ r. ⌜ r ≡ is-steps steps ⌝ }
@@ -9,14 +17,14 @@ pub fn is_steps(steps: usize) -> bool
     if steps < 1 {
         return false;
     }
-    steps <= 60
+    steps <= MOST_STEPS
 }
 
 // Whether the reversion is at most 6,000.
 pub fn is_reversion(reversion: u64) -> bool
     ensures { λ r. ⌜ r ≡ is-reversion reversion ⌝ }
 {
-    reversion <= 6_000
+    reversion <= MOST_REVERSION
 }
 
 // Whether a number is a node discount, 1 to 1,100,000,000.
@@ -26,7 +34,7 @@ pub fn is_discount(discount: u64) -> bool
     if discount < 1 {
         return false;
     }
-    discount <= 1_100_000_000
+    discount <= MOST_DISCOUNT
 }
 
 // The cause about the numbers of a tree: 3, 4, or 0 where there is none.
@@ -46,5 +54,5 @@ pub fn shape_cause(steps: usize, reversion: u64) -> u64
 pub fn limit_cause(value: u64) -> u64
     ensures { λ r. ⌜ r ≡ limit-cause value ⌝ }
 {
-    if 8_000_000_000 < value { 12 } else { 0 }
+    if VALUE_LIMIT < value { 12 } else { 0 }
 }
