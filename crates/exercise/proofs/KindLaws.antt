@@ -6,7 +6,7 @@ use mathlib.Core.List.{List}
 use Prim.Native.Nat.{ℕ, suc, _≤_, _<_}
 use native.Mathlib.Omega.{arith}
 use lib.Dec.{eqb, leb, ltb}
-use lib.ListN.{replicate, getD-replicate}
+use lib.ListN.{length, replicate, getD-replicate, length-replicate}
 use borrow.Author.Tests.{lt-ltb, le-ltb, lt-leb, le-leb}
 use Rattle.arithmetic.specs.Row.{values}
 use Rattle.arithmetic.proofs.Numbers.{by-order}
@@ -46,3 +46,11 @@ kind-alike kind expiry h =
       last = sym (schedule-last kind expiry);
       listed = λ i l. ap (λ (x : ℕ). eqb x 1) (mark-is kind i (omega arith)) ∙ listed-is kind expiry i;
     }
+
+-- there is a mark for each row of every tree
+pub marks-room : (kind expiry : ℕ) (marks : List ℕ) → marks ≡ marks-of kind → expiry ≤ 60 → expiry ≤ length marks
+unfolding marks-of
+marks-room kind expiry marks e h = omega (arith, ap length e ∙ length-replicate {A = ℕ} 61 (cond (ltb kind 3) 0 1))
+
+pub strike-within : (kind strike most : ℕ) (terms : Terms) → terms ≡ terms-of kind strike → strike ≤ most → terms .strike ≤ most
+strike-within kind strike most terms e h = omega (arith, ap (λ (t : Terms). t .strike) e ∙ strike-is kind strike)

@@ -4,3 +4,5 @@ pub mod TreeRows
 pub mod StepParts
 pub mod WalkStates
 pub mod WalkTurns
+pub mod EntryLaws
+pub mod Accuracy

@@ -3,78 +3,78 @@
 use mathlib.Core.Path.{_≡_, sym, ap, ap₂, _∙_}
 use mathlib.Core.Bool.{Bool}
 use mathlib.Core.List.{List}
-use Prim.Native.Nat.{ℕ, suc, _+_, _-_, _≤_, _<_}
+use Prim.Native.Nat.{ℕ, suc, _+_, _≤_, _<_}
 use native.Mathlib.Omega.{arith}
 use lib.ListN.{length, take, drop}
-use Rattle.lattice.specs.Shape.{half-width, node-count, row-start}
+use Rattle.lattice.specs.declared.RowShape.{RowShape}
+use Rattle.lattice.specs.Shape.{node-count, row-start}
+use Rattle.lattice.specs.Entries.{table-offset, shape-of, rowShape}
 use Rattle.lattice.proofs.Sizes.{count-within}
+use Rattle.lattice.proofs.ShapeLaws as shapes
+use Rattle.lent_tree.specs.LentTree.{Accepted}
 use Rattle.pricing_laws.specs.Pricer.{Side}
-use Rattle.pricing.specs.declared.walk.RowShape.{RowShape}
 use Rattle.pricing.specs.Prices.{flow-at}
 use Rattle.pricing.specs.Rows.{bond-values, option-values, Rollable, Limited, Later, Filled-row, Filled-rows}
-use Rattle.pricing.specs.Trees.{down-table, row-shape, bond-step, option-step}
-use Rattle.price_causes.specs.Causes.{Accepted}
-use Rattle.pricing.proofs.TreeRows.{table-fits, table-part, discounts-fit, discount-part, discount-part-length, rollable, bond-row-is, option-row-is}
+use Rattle.pricing.specs.Trees.{down-table, bond-step, option-step}
+use Rattle.pricing.proofs.TreeRows as rows
 
-module _ (n b i : ℕ) (discounts : List ℕ) (a : Accepted n b discounts) (hi : i < n) (s : RowShape) (es : s ≡ row-shape n b i) where
+module _ (n b i : ℕ) (discounts : List ℕ) (a : Accepted n b discounts) (hi : i < n) (s : RowShape) (es : s ≡ rowShape b n i) where
+  shape : s ≡ shape-of b n i
+  shape = es ∙ sym (shapes.shape-found b n i (a .reverting) (a .few) (omega arith) (omega (arith, a .few)))
+
   count-is : s .count ≡ node-count b i
-  unfolding row-shape
-  count-is = ap (λ (x : RowShape). x .count) es
+  count-is = ap (λ (x : RowShape). x .count) shape
 
   start-is : s .start ≡ row-start b i
-  unfolding row-shape
-  start-is = ap (λ (x : RowShape). x .start) es
+  start-is = ap (λ (x : RowShape). x .start) shape
 
-  offset-is : s .offset ≡ half-width b n - half-width b i
-  unfolding row-shape
-  offset-is = ap (λ (x : RowShape). x .offset) es
+  offset-is : s .offset ≡ table-offset b n i
+  offset-is = ap (λ (x : RowShape). x .offset) shape
 
   next-is : s .next ≡ node-count b (suc i)
-  unfolding row-shape
-  next-is = ap (λ (x : RowShape). x .next) es
+  next-is = ap (λ (x : RowShape). x .next) shape
 
   pub discount-room : s .start + s .count ≤ length discounts
-  discount-room = rw (start-is, count-is) (discounts-fit n b i hi discounts a)
+  discount-room = rw (start-is, count-is) (rows.discounts-fit n b i hi discounts a)
 
-  -- the next row is no wider than the widest
-  next-most : s .next ≤ 121
-  next-most = omega (arith, next-is, count-within b (suc i) (omega (arith, a .few)))
-
-  -- a later row that may be rolled back
+  -- a later row that may be rolled back: the next row is no wider than the widest
   pub later-next : (later : List ℕ) → length later ≡ 121 → Limited later (node-count b (i + 1)) → Later later (s .next)
   later-next later room l =
       let z : node-count b (i + 1) ≡ s .next = ap (node-count b) (omega arith) ∙ sym next-is in
-      record { room = omega (arith, next-most); limited = λ k h. l k (omega arith) }
+      record { room = omega (arith, next-is, count-within b (suc i) (omega (arith, a .few))); limited = λ k h. l k (omega arith) }
 
   module _ (part : List ℕ) (ep : part ≡ take (s .count) (drop (s .start) discounts)) where
-    part-is : part ≡ discount-part n b i hi discounts a
+    part-is : part ≡ rows.discount-part n b i hi discounts a
     part-is = ep ∙ ap₂ (λ (x y : ℕ). take x (drop y discounts)) count-is start-is
 
     pub part-within : length part ≤ 121
-    part-within = omega (arith, ap length part-is, discount-part-length n b i hi discounts a, count-within b i (omega (arith, a .few)))
+    part-within = omega (arith, ap length part-is, rows.discount-part-length n b i hi discounts a, count-within b i (omega (arith, a .few)))
 
-    module _ (downs : List ℕ) (et : downs ≡ down-table n b) where
-      module _ (table : List ℕ) (ed : table ≡ take (s .count) (drop (s .offset) downs)) where
-        table-is : table ≡ table-part n b i hi
-        table-is = ed ∙ ap₂ (λ (x y : ℕ). take x (drop y downs)) count-is offset-is ∙ ap (λ (l : List ℕ). take (node-count b i) (drop (half-width b n - half-width b i) l)) et
+    module _ (downs : List ℕ) (et : downs ≡ down-table n b) (table : List ℕ) (ed : table ≡ take (s .count) (drop (s .offset) downs)) where
+      table-is : table ≡ rows.table-part n b i hi discounts a
+      table-is =
+          ed
+          ∙ ap₂ (λ (x y : ℕ). take x (drop y downs)) count-is offset-is
+          ∙ ap (λ (l : List ℕ). take (node-count b i) (drop (table-offset b n i) l)) et
 
-        pub part-rollable : Rollable table part (s .next)
-        part-rollable = rw (table-is, part-is, next-is) (rollable n b i hi discounts a)
+      pub part-rollable : Rollable table part (s .next)
+      part-rollable = rw (table-is, part-is, next-is) (rows.rollable n b i hi discounts a)
 
-        module _ (flows : List ℕ) (flow : ℕ) (ef : flow ≡ flow-at flows i) where
-          pub part-bond :
-              (later after : List ℕ) (top : ℕ) → Filled-row after (length part) (bond-values later table part (s .next) flow) top →
-              Filled-row after (node-count b i) (bond-step b discounts flows i later) top
-          part-bond later after top h = bond-row-is n b i hi discounts a flows flow ef later after top (rw (table-is, part-is, next-is) at h)
+      module _ (flows : List ℕ) (flow : ℕ) (ef : flow ≡ flow-at flows i) where
+        pub part-bond :
+            (later after : List ℕ) (top : ℕ) → Filled-row after (length part) (bond-values later table part (s .next) flow) top →
+            Filled-row after (node-count b i) (bond-step b discounts flows i later) top
+        part-bond later after top h = rows.bond-row-is n b i hi discounts a flows flow ef later after top (rw (table-is, part-is, next-is) at h)
 
-          pub part-option :
-              (side : Side) (strike : ℕ) (listed : Bool) (bonds options bond option : List ℕ) (top : ℕ) →
-              Filled-rows bond option (length part) (bond-values bonds table part (s .next) flow)
-              (option-values side strike listed bonds options table part (s .next) flow) top →
-              Filled-rows bond option (node-count b i) (bond-step b discounts flows i bonds)
-              (option-step side strike listed b discounts flows i bonds options) top
-          part-option side strike listed bonds options bond option top h =
-              option-row-is n b i hi discounts a flows flow ef side strike listed bonds options bond option top (rw (table-is, part-is, next-is) at h)
+        pub part-option :
+            (side : Side) (strike : ℕ) (listed : Bool) (bonds options bond option : List ℕ) (top : ℕ) →
+            Filled-rows bond option (length part) (bond-values bonds table part (s .next) flow)
+            (option-values side strike listed bonds options table part (s .next) flow) top →
+            Filled-rows bond option (node-count b i) (bond-step b discounts flows i bonds)
+            (option-step side strike listed b discounts flows i bonds options) top
+        part-option side strike listed bonds options bond option top h =
+            rows.option-row-is n b i hi discounts a flows flow ef side strike listed bonds options bond option top
+            (rw (table-is, part-is, next-is) at h)
 
   pub table-room : (downs : List ℕ) → downs ≡ down-table n b → s .offset + s .count ≤ length downs
-  table-room downs e = rw (e, offset-is, count-is) (table-fits n b i hi)
+  table-room downs e = rw (e, offset-is, count-is, rows.table-size n b) (shapes.table-room b n i (omega arith))

@@ -22,10 +22,12 @@ use Rattle.pricing_laws.specs.Peak.{peak, greatest-value}
 use Rattle.pricing_laws.proofs.Peaks.{peak-grows}
 use Rattle.pricing_laws.proofs.PriceLaws.{On, row-greatest, roll-local}
 use Rattle.pricing_laws.proofs.Backward as back
-use Rattle.pricing.specs.Prices.{discount-at, flow-at, bond-at, bond-peak, option-at, option-peak, option-limit}
+use Rattle.price_bound.specs.PriceBound.{discount-at}
+use Rattle.pricing.specs.Prices.{flow-at, bond-at, bond-peak, option-at, option-peak, option-limit}
 use Rattle.pricing.specs.Rows.{Limited, Holds, Filled-rows}
 use Rattle.pricing.specs.Trees.{rolled-at, bond-step, option-step, Bond-rolled, Both-rolled}
-use Rattle.price_causes.specs.Causes.{Accepted, Accepted-flows}
+use Rattle.lent_tree.specs.LentTree.{Accepted}
+use Rattle.price_causes.specs.Causes.{Accepted-flows}
 use Rattle.pricing.proofs.TreeRows.{flow-within}
 
 -- the greatest of two rows together

@@ -11,7 +11,8 @@ use Rattle.arithmetic.proofs.SumLaws.{greatest-cong}
 use Rattle.limits.specs.Limits.{value-limit}
 use Rattle.lattice.specs.Shape.{node-count}
 use Rattle.pricing_laws.specs.Pricer.{Side, Schedule}
-use Rattle.price_causes.specs.Causes.{Accepted, Accepted-flows}
+use Rattle.lent_tree.specs.LentTree.{Accepted}
+use Rattle.price_causes.specs.Causes.{Accepted-flows}
 use Rattle.pricing.specs.Rows.{Limited, Filled-row, Filled-rows}
 use Rattle.pricing.specs.Trees.{Ready, bond-step, option-step, Bond-rolled, Both-rolled}
 use Rattle.pricing.proofs.WalkStates as walk

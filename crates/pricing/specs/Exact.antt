@@ -8,7 +8,8 @@ use Rattle.lattice.specs.RateTree.{rate-tree}
 use Rattle.pricing_laws.specs.Pricer.{bond, option, payoff-value}
 use Rattle.pricing_laws.specs.Schedule.{side-of, schedule-of}
 use Rattle.pricing_laws.specs.TreePricer.{exact}
-use Rattle.pricing.specs.Prices.{discount-at, flow-at}
+use Rattle.price_bound.specs.PriceBound.{discount-at}
+use Rattle.pricing.specs.Prices.{flow-at}
 
 unfoldable pub exact-bond : ℕ → ℕ → List ℕ → List ℕ → ℕ
 exact-bond n b discounts flows = bond (exact (rate-tree b) (discount-at b discounts)) (flow-at flows) n 0 0

@@ -5,29 +5,27 @@ use mathlib.Core.Bool.{cond}
 use mathlib.Core.List.{List}
 use lib.Dec.{eqb}
 use Rattle.arithmetic.specs.Row.{values}
+use Rattle.arithmetic.specs.Answers.{lowest-cause}
 use Rattle.limits.specs.Limits.{limit-cause}
-use Rattle.lattice.specs.Shape.{row-start}
 use Rattle.lattice.specs.RateTree.{rate-tree}
 use Rattle.pricing_laws.specs.Pricer.{Side, Schedule, bond, option}
 use Rattle.pricing_laws.specs.Schedule.{side-of, schedule-of}
-use Rattle.pricing_laws.specs.TreePricer.{engine, price-error-bound}
+use Rattle.pricing_laws.specs.TreePricer.{engine}
 use Rattle.pricing_laws.specs.Peak.{peak, greatest-value}
-use Rattle.price_causes.specs.Causes.{tree-cause, option-cause}
+use Rattle.lent_tree.specs.LentTree.{discounts-cause}
+use Rattle.price_bound.specs.PriceBound.{discount-at, bound-of}
+use Rattle.price_causes.specs.Causes.{flows-cause, option-cause}
 use Rattle.pricing.specs.declared.Price.{Price}
 use Rattle.pricing.specs.declared.BondAndOption.{BondAndOption}
-
--- the discount of node k of row i, the rows standing one after the other, lowest node first
-unfoldable pub discount-at : ℕ → List ℕ → ℕ → ℕ → ℕ
-discount-at b discounts i k = values discounts (row-start b i + k)
 
 -- flows stand for rows 1 to n; row 0 has none
 unfoldable pub flow-at : List ℕ → ℕ → ℕ
 flow-at flows zero = 0
 flow-at flows (suc t) = values flows t
 
--- the price allowance of row 0
-unfoldable pub bound-of : ℕ → ℕ → List ℕ → ℕ
-bound-of n b discounts = price-error-bound (rate-tree b) (discount-at b discounts) n 0
+-- 3, 4, 6, 9, 10 about a tree, its lent discounts and its flows, lowest number first; 0 where there is none
+unfoldable pub tree-cause : ℕ → ℕ → List ℕ → List ℕ → ℕ
+tree-cause n b discounts flows = lowest-cause (discounts-cause n b discounts) (flows-cause n flows)
 
 -- the first of two causes
 unfoldable pub first-cause : ℕ → ℕ → ℕ

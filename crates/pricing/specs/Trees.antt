@@ -3,18 +3,19 @@
 use mathlib.Core.Path.{_≡_}
 use mathlib.Core.Bool.{Bool}
 use mathlib.Core.List.{List}
-use Prim.Native.Nat.{ℕ, suc, _+_, _-_, _≤_, max}
+use Prim.Native.Nat.{ℕ, _+_}
 use Rattle.arithmetic.specs.Row.{row, values}
 use Rattle.limits.specs.Limits.{limit-cause}
-use Rattle.lattice.specs.Shape.{half-width, node-count, row-start}
+use Rattle.lattice.specs.Shape.{node-count}
 use Rattle.lattice.specs.Branching.{down}
 use Rattle.lattice.specs.RateTree.{node, rate-tree}
 use Rattle.pricing_laws.specs.Pricer.{Side, Schedule, exercise, held-or-exercised}
 use Rattle.pricing_laws.specs.Peak.{peak, greatest-value}
 use Rattle.pricing_laws.specs.TreePricer.{roll-rounding, roll}
-use Rattle.price_causes.specs.Causes.{Accepted, Accepted-flows}
-use Rattle.pricing.specs.declared.walk.RowShape.{RowShape}
-use Rattle.pricing.specs.Prices.{discount-at, flow-at, bond-at, bond-peak, option-at, option-limit}
+use Rattle.lent_tree.specs.LentTree.{Accepted}
+use Rattle.price_bound.specs.PriceBound.{discount-at}
+use Rattle.price_causes.specs.Causes.{Accepted-flows}
+use Rattle.pricing.specs.Prices.{flow-at, bond-at, bond-peak, option-at, option-limit}
 use Rattle.pricing.specs.Rows.{Holds}
 
 -- the down-probabilities of all nodes of row n
@@ -26,11 +27,6 @@ pub record Ready (n b : ℕ) (downs discounts flows : List ℕ) : Type 0 where
   pub tree : Accepted n b discounts
   pub paid : Accepted-flows n flows
   pub table : downs ≡ down-table n b
-
--- where row i stands in the discounts and in the table, its node count and the next row's
-unfoldable pub row-shape : ℕ → ℕ → ℕ → RowShape
-row-shape n b i =
-    record { start = row-start b i; count = node-count b i; next = node-count b (suc i); offset = half-width b n - half-width b i }
 
 -- a row rolled back from the values of the next one
 unfoldable pub rolled-at : ℕ → List ℕ → ℕ → List ℕ → ℕ → ℕ

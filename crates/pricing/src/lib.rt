@@ -3,6 +3,28 @@
 mod rows;
 mod walk;
 
+use exercise::Terms;
+ghost use mathlib.Core.Path.{_≡_};
+ghost use Prim.Native.Nat.{ℕ, _≤_};
+ghost use lib.ListN.{length, take};
+ghost use Rattle.limits.specs.Limits.{limit-cause};
+ghost use Rattle.lattice.specs.Shape.{node-count};
+ghost use Rattle.pricing_laws.specs.Schedule.{marked};
+ghost use Rattle.exercise.specs.Terms.{side};
+ghost use Rattle.lent_tree.specs.LentTree.{Accepted};
+ghost use Rattle.price_causes.specs.Causes.{Accepted-flows};
+ghost use Rattle.pricing.specs.Prices.{
+  refusal,
+  priced,
+  bond-at,
+  bond-peak,
+  option-at,
+  option-limit,
+  bondPrice,
+  optionPrice,
+  bondAndOption,
+};
+ghost use Rattle.pricing.specs.Trees.{down-table};
 
 // A price in billionths with its error bound; a refusal's number with zeros.
 #[repr(C)]
@@ -19,3 +41,182 @@ pub struct BondAndOption {
     pub option: Price,
 }
 
+fn refused(number: u64) -> Price
+    ensures { λ r. ⌜ r ≡ refusal number ⌝ }
+{
+    Price {
+        number,
+        value: 0,
+        bound: 0,
+    }
+}
+
+// The table of down-probabilities, worked out once for all rows.
+fn table_of(steps: usize, reversion: u64) -> [u64; 121]
+    requires { ⌜ (steps ≤ 60) × (reversion ≤ 6000) ⌝ }
+    ensures { λ r. ⌜ take (node-count reversion steps) r ≡ down-table steps reversion ⌝ }
+{
+    let widest = lattice::half_width(reversion, steps).value as usize;
+    let nodes = 2 * widest + 1;
+    let mut table = rows::empty_row();
+    branches::down_probabilities(reversion, widest, &mut table[..nodes]);
+    table
+}
+
+// The bond of an accepted tree, with the error bound that is handed in.
+fn accepted_bond(
+    steps: usize,
+    reversion: u64,
+    discounts: &[u64],
+    flows: &[u64],
+    bound: u64,
+) -> Price
+    requires { ⌜ Accepted steps reversion (now discounts) × Accepted-flows steps (now flows) ⌝ }
+    ensures { λ r. ⌜ r ≡ priced (limit-cause (bond-peak steps reversion (now (discounts .entry)) (now (flows .entry))))
+        (bond-at steps reversion (now (discounts .entry)) (now (flows .entry)) 0 0) bound ⌝ }
+{
+    let nodes = lattice::node_count(reversion, steps).value as usize;
+    let table = table_of(steps, reversion);
+    let mut bond = rows::empty_row();
+    let number = walk::roll_bond(
+        steps,
+        reversion,
+        0,
+        &table[..nodes],
+        discounts,
+        flows,
+        &mut bond,
+    );
+    if number != 0 {
+        return refused(number);
+    }
+    Price {
+        number: 0,
+        value: bond[0],
+        bound,
+    }
+}
+
+// Bond and option of an accepted tree, rolled together. Where a value of either is above the limit, the bond is priced alone.
+fn accepted_both(
+    steps: usize,
+    reversion: u64,
+    discounts: &[u64],
+    flows: &[u64],
+    terms: Terms,
+    last: usize,
+    marks: &[u8],
+    bound: u64,
+) -> BondAndOption
+    requires { ⌜ Accepted steps reversion (now discounts) × Accepted-flows steps (now flows) × (last ≤ steps) × (last ≤ length (now marks))
+        × (terms .strike ≤ 4000000000) ⌝ }
+    ensures bond { λ r. ⌜ r .bond ≡ priced (limit-cause (bond-peak steps reversion (now (discounts .entry)) (now (flows .entry))))
+        (bond-at steps reversion (now (discounts .entry)) (now (flows .entry)) 0 0) bound ⌝ }
+    ensures option { λ r. ⌜ r .option ≡ priced
+        (option-limit steps reversion (now (discounts .entry)) (now (flows .entry)) (side (terms .call)) (terms .strike) (marked last (now (marks .entry))))
+        (option-at steps reversion (now (discounts .entry)) (now (flows .entry)) (side (terms .call)) (terms .strike) (marked last (now (marks .entry))) 0 0)
+        bound ⌝ }
+{
+    let nodes = lattice::node_count(reversion, steps).value as usize;
+    let table = table_of(steps, reversion);
+    let mut bond = rows::empty_row();
+    let mut option = rows::empty_row();
+    let number = walk::roll_both(
+        steps,
+        reversion,
+        terms,
+        last,
+        marks,
+        &table[..nodes],
+        discounts,
+        flows,
+        &mut bond,
+        &mut option,
+    );
+    if number != 0 {
+        return BondAndOption {
+            bond: accepted_bond(steps, reversion, discounts, flows, bound),
+            option: refused(number),
+        };
+    }
+    BondAndOption {
+        bond: Price {
+            number: 0,
+            value: bond[0],
+            bound,
+        },
+        option: Price {
+            number: 0,
+            value: option[0],
+            bound,
+        },
+    }
+}
+
+// The price at row 0 of the bond with these flows, and its error bound.
+pub fn bond_price(steps: usize, reversion: u64, discounts: &[u64], flows: &[u64]) -> Price
+    ensures { λ r. ⌜ r ≡ bondPrice steps reversion (now (discounts .entry)) (now (flows .entry)) ⌝ }
+{
+    let bound = price_bound::price_error_bound(steps, reversion, discounts);
+    let cause = arithmetic::lowest_cause(bound.number, price_causes::flows_cause(steps, flows));
+    if cause != 0 {
+        return refused(cause);
+    }
+    accepted_bond(steps, reversion, discounts, flows, bound.value)
+}
+
+// The prices at row 0 of the bond and of an option on it, in one roll; each as the entry for it alone answers.
+pub fn bond_and_option(
+    steps: usize,
+    reversion: u64,
+    discounts: &[u64],
+    flows: &[u64],
+    kind: u64,
+    expiry: usize,
+    strike: u64,
+) -> BondAndOption
+    ensures { λ r. ⌜ r ≡ bondAndOption steps reversion (now (discounts .entry)) (now (flows .entry)) kind expiry strike ⌝ }
+{
+    let bound = price_bound::price_error_bound(steps, reversion, discounts);
+    let cause = arithmetic::lowest_cause(bound.number, price_causes::flows_cause(steps, flows));
+    if cause != 0 {
+        return BondAndOption {
+            bond: refused(cause),
+            option: refused(cause),
+        };
+    }
+    let other = price_causes::option_cause(steps, kind, expiry, strike);
+    if other != 0 {
+        return BondAndOption {
+            bond: accepted_bond(steps, reversion, discounts, flows, bound.value),
+            option: refused(other),
+        };
+    }
+    let marks = exercise::marks_of(kind);
+    accepted_both(
+        steps,
+        reversion,
+        discounts,
+        flows,
+        exercise::terms_of(kind, strike),
+        expiry,
+        &marks,
+        bound.value,
+    )
+}
+
+// The price at row 0 of an option on that bond, and its error bound. Kinds 1 European call, 2 European put, 3 American call, 4 American put.
+pub fn option_price(
+    steps: usize,
+    reversion: u64,
+    discounts: &[u64],
+    flows: &[u64],
+    kind: u64,
+    expiry: usize,
+    strike: u64,
+) -> Price
+    ensures { λ r. ⌜ r ≡ optionPrice steps reversion (now (discounts .entry)) (now (flows .entry)) kind expiry strike ⌝ }
+{
+    let both = bond_and_option(steps, reversion, discounts, flows, kind, expiry, strike);
+    both.option
+}

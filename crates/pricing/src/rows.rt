@@ -87,7 +87,7 @@ pub(crate) fn option_row(
     ensures { λ r. ⌜ Filled-rows (now (bond .exit)) (now (option .exit)) (length (now (discounts .entry)))
         (bond-values (now (bonds .entry)) (now (downs .entry)) (now (discounts .entry)) next flow)
         (option-values (side (terms .call)) (terms .strike) listed
-            (now (bonds .entry)) (now (options .entry)) (now (downs .entry)) (now (discounts .entry)) next flow) r ⌝ }
+        (now (bonds .entry)) (now (options .entry)) (now (downs .entry)) (now (discounts .entry)) next flow) r ⌝ }
 {
     let mut top: u64 = 0;
     let mut k: usize = 0;
@@ -95,7 +95,12 @@ pub(crate) fn option_row(
         let branch = row_branches::row_branch(downs, next, k);
         let discount = discounts[k];
         let value = roll_node(branch, bonds, discount) + flow;
-        let right = exercise::held_value(terms, listed, roll_node(branch, options, discount), value);
+        let right = exercise::held_value(
+            terms,
+            listed,
+            roll_node(branch, options, discount),
+            value,
+        );
         bond[k] = value;
         option[k] = right;
         top = arithmetic::larger(top, arithmetic::larger(value, right));

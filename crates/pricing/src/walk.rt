@@ -10,34 +10,7 @@ ghost use Rattle.pricing_laws.specs.Schedule.{marked};
 ghost use Rattle.exercise.specs.Terms.{side};
 ghost use Rattle.pricing.specs.Prices.{flow-at};
 ghost use Rattle.pricing.specs.Rows.{Limited, Filled-row, Filled-rows};
-ghost use Rattle.pricing.specs.Trees.{Ready, row-shape, bond-step, option-step, Bond-rolled, Both-rolled};
-
-// No value may be above 8 × one.
-const VALUE_LIMIT: u64 = 8_000_000_000;
-
-// Where a row stands in the discounts and in the table of down-probabilities, its node count and the next row's.
-struct RowShape {
-    start: usize,
-    count: usize,
-    next: usize,
-    offset: usize,
-}
-
-fn row_shape(steps: usize, reversion: u64, row: usize) -> RowShape
-    requires { ⌜ (row < steps) × (steps ≤ 60) × (reversion ≤ 6000) ⌝ }
-    ensures { λ r. ⌜ r ≡ row-shape steps reversion row ⌝ }
-{
-    let widest = lattice::half_width(reversion, steps);
-    let half = lattice::half_width(reversion, row);
-    let next = lattice::node_count(reversion, row + 1);
-    let start = lattice::row_start(reversion, row);
-    RowShape {
-        start: start.value as usize,
-        count: 2 * half.value as usize + 1,
-        next: next.value as usize,
-        offset: (widest.value - half.value) as usize,
-    }
-}
+ghost use Rattle.pricing.specs.Trees.{Ready, bond-step, option-step, Bond-rolled, Both-rolled};
 
 // The flow of a row; row 0 has none.
 fn flow_of(flows: &[u64], row: usize) -> u64
@@ -74,7 +47,7 @@ fn bond_step(
     ensures { λ r. ⌜ Filled-row (now (bond .exit)) (node-count reversion row)
         (bond-step reversion (now (discounts .entry)) (now (flows .entry)) row (now (bond .entry))) r ⌝ }
 {
-    let shape = row_shape(steps, reversion, row);
+    let shape = lattice::row_shape(reversion, steps, row);
     let later = *bond;
     rows::bond_row(
         bond,
@@ -104,9 +77,9 @@ fn option_step(
     ensures { λ r. ⌜ Filled-rows (now (bond .exit)) (now (option .exit)) (node-count reversion row)
         (bond-step reversion (now (discounts .entry)) (now (flows .entry)) row (now (bond .entry)))
         (option-step (side (terms .call)) (terms .strike) listed reversion
-            (now (discounts .entry)) (now (flows .entry)) row (now (bond .entry)) (now (option .entry))) r ⌝ }
+        (now (discounts .entry)) (now (flows .entry)) row (now (bond .entry)) (now (option .entry))) r ⌝ }
 {
-    let shape = row_shape(steps, reversion, row);
+    let shape = lattice::row_shape(reversion, steps, row);
     let bonds = *bond;
     let options = *option;
     rows::option_row(
@@ -141,7 +114,7 @@ pub(crate) fn roll_bond(
     while last < row {
         row -= 1;
         let top = bond_step(steps, reversion, row, downs, discounts, flows, bond);
-        if VALUE_LIMIT < top {
+        if limits::VALUE_LIMIT < top {
             return 12;
         }
     }
@@ -172,9 +145,18 @@ fn roll_option(
         row -= 1;
         let listed = marks[row] == 1;
         let top = option_step(
-            steps, reversion, row, downs, discounts, flows, terms, listed, bond, option,
+            steps,
+            reversion,
+            row,
+            downs,
+            discounts,
+            flows,
+            terms,
+            listed,
+            bond,
+            option,
         );
-        if VALUE_LIMIT < top {
+        if limits::VALUE_LIMIT < top {
             return 12;
         }
     }
@@ -204,6 +186,15 @@ pub(crate) fn roll_both(
         return number;
     }
     roll_option(
-        steps, reversion, terms, last, marks, downs, discounts, flows, bond, option,
+        steps,
+        reversion,
+        terms,
+        last,
+        marks,
+        downs,
+        discounts,
+        flows,
+        bond,
+        option,
     )
 }

@@ -26,7 +26,7 @@ use Rattle.fit_laws.proofs.WholeFit.{fitted-is-state}
 use Rattle.fitting.specs.Fit.{node-factor, quoted}
 use Rattle.fitting.specs.Entry.{quotes-of, fitNumber, fit-discount, fit-price}
 use Rattle.fitting.proofs.Promised.{fit-sound, fit-numbers, fit-accepted}
-use Rattle.pricing.specs.Prices.{discount-at}
+use Rattle.price_bound.specs.PriceBound.{discount-at}
 use Rattle.pricing.specs.Exact.{exact-payoff}
 use Rattle.state_price_bound.specs.ErrorBound.{greatest-of, stored, accepted-discounts}
 use Rattle.state_price_bound.proofs.Meaning.{accepted-by-row}

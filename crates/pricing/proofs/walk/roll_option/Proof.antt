@@ -72,8 +72,8 @@ loop-again c =
     let s = c .before .before .before .before .before .before .before .before .before .before .before .before .before .before .before in
     let l = c .before .before .before .before .before .before .loop in
     let n =
-        turn-both-next _ _ _ _ _ (s .pre .0) _ _ _ (s .pre .1) (l .row) (l .bond) (l .option) (c .before .before .before .before .before .loop-test .taken) (l .inv .1) (l .inv .2)
-        _ refl _ _ _ (c .before .option-step .ensures) (c .if1 .left) in
+    turn-both-next _ _ _ _ _ (s .pre .0) _ _ _ (s .pre .1) (l .row) (l .bond) (l .option) (c .before .before .before .before .before .loop-test .taken) (l .inv .1) (l .inv .2)
+    _ refl _ _ _ (c .before .option-step .ensures) (c .if1 .left) in
     (omega (arith, l .inv .0), n .0, n .1)
 
 returns-2 : tie.Need-returns-2 Inv-loop μ-loop
