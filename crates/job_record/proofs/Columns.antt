@@ -23,7 +23,9 @@ unfolding overlay
 overlay-after n k f g h = rw (le-ltb k n h)
 
 -- a list that holds n entries and zeros after them
-pub padded-of : (l : List ℕ) (n : ℕ) (f : ℕ → ℕ) → length l ≡ mostSteps → ((k : ℕ) → k < n → values l k ≡ f k) → ((k : ℕ) → n ≤ k → values l k ≡ 0) → l ≡ padded n f
+pub padded-of :
+    (l : List ℕ) (n : ℕ) (f : ℕ → ℕ) → length l ≡ mostSteps → ((k : ℕ) → k < n → values l k ≡ f k) → ((k : ℕ) → n ≤ k → values l k ≡ 0)
+    → l ≡ padded n f
 unfolding padded
 padded-of l n f e done rest =
     row-of l mostSteps (overlay n f (λ k. 0)) e

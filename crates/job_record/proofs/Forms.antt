@@ -69,22 +69,27 @@ module _ (s : List ℕ) (from : ℕ) (tags : Tags) (width : ℕ) where
   unfolding fieldsFrom
   fields-none = each-none (λ i. fieldAt s (afterFields from width i) tags width)
 
-  pub fields-more :
-      (i : ℕ) → fieldsFrom s from tags width i ≡ true → fieldAt s (afterFields from width i) tags width ≡ true
-      → fieldsFrom s from tags width (i + 1) ≡ true
-  unfolding fieldsFrom
-  fields-more i = each-more i (λ j. fieldAt s (afterFields from width j) tags width)
+  -- place is the i-th field's, as the code has it
+  module _ (i place : ℕ) (here : place ≡ afterFields from width i) where
+    pub fields-more :
+        fieldsFrom s from tags width i ≡ true → fieldAt s place tags width ≡ true → fieldsFrom s from tags width (i + 1) ≡ true
+    unfolding fieldsFrom
+    fields-more before one = each-more i (λ j. fieldAt s (afterFields from width j) tags width) before (rw here at one)
+
+    pub fields-fails :
+        (count : ℕ) → i < count → fieldAt s place tags width ≡ false → fieldsFrom s from tags width count ≡ false
+    unfolding fieldsFrom
+    fields-fails count below none =
+        each-fails count i (λ j. fieldAt s (afterFields from width j) tags width) below (rw here at none)
 
   module _ (count : ℕ) where
-    pub fields-fails : (i : ℕ) → i < count → fieldAt s (afterFields from width i) tags width ≡ false → fieldsFrom s from tags width count ≡ false
-    unfolding fieldsFrom
-    fields-fails i = each-fails count i (λ j. fieldAt s (afterFields from width j) tags width)
-
-    pub fields-each : fieldsFrom s from tags width count ≡ true → (i : ℕ) → i < count → fieldAt s (afterFields from width i) tags width ≡ true
+    pub fields-each :
+        fieldsFrom s from tags width count ≡ true → (i : ℕ) → i < count → fieldAt s (afterFields from width i) tags width ≡ true
     unfolding fieldsFrom
     fields-each h i = each-holds count i (λ j. fieldAt s (afterFields from width j) tags width) h
 
-    pub each-fields : ((i : ℕ) → i < count → fieldAt s (afterFields from width i) tags width ≡ true) → fieldsFrom s from tags width count ≡ true
+    pub each-fields :
+        ((i : ℕ) → i < count → fieldAt s (afterFields from width i) tags width ≡ true) → fieldsFrom s from tags width count ≡ true
     unfolding fieldsFrom
     each-fields h = all-each count (λ j. fieldAt s (afterFields from width j) tags width) h
 
@@ -177,14 +182,16 @@ module _ (s : List ℕ) (quotes n : ℕ) where
   unfolding bodyFormed
   refuse-quotes bad = rw bad
 
-  module _ (good : fieldsFrom s quotes AnyKind 8 n ≡ true) where
-    pub refuse-flows : fieldsFrom s (flowsAt quotes n) (Only 7) 4 n ≡ false → false ≡ bodyFormed s quotes n
+  -- flows and rest are the places after the quotes and after the flows, as the code has them
+  module _ (good : fieldsFrom s quotes AnyKind 8 n ≡ true) (flows : ℕ) (here : flows ≡ flowsAt quotes n) where
+    pub refuse-flows : fieldsFrom s flows (Only 7) 4 n ≡ false → false ≡ bodyFormed s quotes n
     unfolding bodyFormed
-    refuse-flows bad = rw (good, bad)
+    refuse-flows bad = rw (good, rw here at bad)
 
-    pub formed-by-rest : fieldsFrom s (flowsAt quotes n) (Only 7) 4 n ≡ true → restFormed s (restAt quotes n) ≡ bodyFormed s quotes n
+    pub formed-by-rest :
+        fieldsFrom s flows (Only 7) 4 n ≡ true → (rest : ℕ) → rest ≡ afterFields flows 4 n → restFormed s rest ≡ bodyFormed s quotes n
     unfolding bodyFormed
-    formed-by-rest flows = rw (good, flows)
+    formed-by-rest formed rest there = rw (good, rw here at formed, there, here)
 
 module _ (s : List ℕ) where
   pub refuse-long : mostBytes < length s → false ≡ wellFormed s

@@ -62,7 +62,8 @@ at-number s o zero v fits h = omega arith
 at-number s o (suc k) v fits h =
     let high : v / 256 < 256 ^ k = div-lt-iff-lt-mul {k = 256} (omega arith) .1 (rw pow-suc at fits) in
     let upper : numberAt s o k ≡ v / 256 = at-number s o k (v / 256) high (at-first s o (digits k (v / 256)) (v % 256 ∷ []) h) in
-    let lower : getD s (o + k) 0 ≡ v % 256 = at-byte s (o + k) (v % 256) [] (rw (digits-length k (v / 256)) at (at-second s o (digits k (v / 256)) (v % 256 ∷ []) h)) in
+    let last : At s (o + k) (v % 256 ∷ []) = rw (digits-length k (v / 256)) at (at-second s o (digits k (v / 256)) (v % 256 ∷ []) h) in
+    let lower : getD s (o + k) 0 ≡ v % 256 = at-byte s (o + k) (v % 256) [] last in
     rw (upper, lower) (div-add-mod' v 256)
 
 -- a field that was written
@@ -104,7 +105,9 @@ at-joined-by s o f width n size i (yes same) before below h =
     rw same (rw (joined-size f width n size) at (at-second s o (joined n f) (f n) h))
 at-joined-by s o f width n size i (no other) before below h = before (lt-of-le-ne (le-of-suc-le-suc below) other)
 
-pub at-joined : (s : List ℕ) (o : ℕ) (f : ℕ → List ℕ) (width n : ℕ) → ((i : ℕ) → length (f i) ≡ width) → At s o (joined n f) → (i : ℕ) → i < n → At s (o + width * i) (f i)
+pub at-joined :
+    (s : List ℕ) (o : ℕ) (f : ℕ → List ℕ) (width n : ℕ) → ((i : ℕ) → length (f i) ≡ width) → At s o (joined n f) → (i : ℕ) → i < n
+    → At s (o + width * i) (f i)
 unfolding joined
 at-joined s o f width zero size h i below = absurd (not-suc-le-zero below)
 at-joined s o f width (suc n) size h i below =

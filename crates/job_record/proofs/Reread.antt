@@ -108,7 +108,8 @@ module _ (s : List ℕ) (o : ℕ) (option : OptionRecord) (h : At s o (field 8 (
   rest-present : restFormed s o ≡ true
   unfolding restFormed
   rest-present =
-      let formed : fieldAt s o (Only 8) (length (optionData option)) ≡ true = at-field s o 8 (optionData option) h (Only 8) refl (rw (option-width option) (omega arith)) in
+      let small : length (optionData option) < 65536 = rw (option-width option) (omega arith) in
+      let formed = at-field s o 8 (optionData option) h (Only 8) refl small in
       rw (ne-eqb (length s) o more) (both (rw (option-width option) at formed) (eq-eqb _ _ ends))
 
   at-kind : At s (kindAt o) (optionData option)

@@ -2,13 +2,13 @@
 -- Assumes nothing.
 use borrow.Author.Needs.{needs}
 use mathlib.Core.Path.{_≡_, ap, _∙_}
-use Prim.Native.Nat.{ℕ, _+_, _-_, _≤_}
+use Prim.Native.Nat.{ℕ, _-_, _≤_}
 use native.Mathlib.Omega.{arith}
 use lib.ListN.{replicate}
 use denote.Ref.{now}
 use Rattle.arithmetic.proofs.RowLaws.{Filled, filled-start, filled-next}
 use Rattle.job_record.specs.Bytes.{numberAt}
-use Rattle.job_record.specs.Form.{mostSteps, dataAt, afterField, afterFields}
+use Rattle.job_record.specs.Form.{mostSteps, dataAt}
 use Rattle.job_record.specs.Reader.{dataOf}
 use Rattle.job_record.proofs.Columns.{filled-padded, field-within}
 use Rattle.jobs.proofs.data_from.Statement.{statement}
@@ -31,7 +31,8 @@ add-number c = search needs
 
 number-requires : tie.Need-number-requires Inv-loop μ-loop
 number-requires c κs =
-    omega (arith, c .after-fields .ensures .0, field-within (c .before .before .before .before .args .from) (c .before .before .before .before .args .width) (c .before .before .loop .i) (c .before .before .before .before .args .count) (omega arith))
+    let start = c .before .before .before .before .args in
+    omega (arith, c .after-fields .ensures .0, field-within (start .from) (start .width) (c .before .before .loop .i) (start .count) (omega arith))
 
 mul-numbers : tie.Need-mul-numbers Inv-loop μ-loop
 mul-numbers c = search needs
@@ -46,12 +47,10 @@ loop-less : tie.Need-loop-less Inv-loop μ-loop
 loop-less c = search needs
 
 loop-again : tie.Need-loop-again Inv-loop μ-loop
-loop-again c = (
-  omega arith,
-  filled-next _ _ _ _ _ (c .before .before .before .loop .inv .1) (search needs)
-      (c .number .ensures .0
-      ∙ ap (λ (place : ℕ). numberAt (now (c .before .before .before .before .before .args .bytes)) (dataAt place) (c .before .before .before .before .before .args .width)) (c .before .after-fields .ensures .0)),
-)
+loop-again c =
+    let start = c .before .before .before .before .before .args in
+    let read = ap (λ (place : ℕ). numberAt (now (start .bytes)) (dataAt place) (start .width)) (c .before .after-fields .ensures .0) in
+    (omega arith, filled-next _ _ _ _ _ (c .before .before .before .loop .inv .1) (search needs) (c .number .ensures .0 ∙ read))
 
 returns : tie.Need-returns Inv-loop μ-loop
 returns c =

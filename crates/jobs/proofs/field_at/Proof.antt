@@ -35,7 +35,9 @@ number-requires c κs = search needs
 
 returns-3 : tie.Need-returns-3
 unfolding fieldAt
-returns-3 c = simp (le-leb _ _ (c .before .before .before .before .if1 .left), passed (c .before .before .has-tag .ensures) (c .before .if2 .left), c .number .ensures .0)
+returns-3 c =
+    let tagged = passed (c .before .before .has-tag .ensures) (c .before .if2 .left) in
+    simp (le-leb _ _ (c .before .before .before .before .if1 .left), tagged, c .number .ensures .0)
 
 pub field-at-spec : {M : Type 1} → statement M
 field-at-spec =

@@ -1,13 +1,12 @@
 -- `jobs::job_of` meets its contract.
 -- Assumes nothing.
 use borrow.Author.Needs.{needs}
-use mathlib.Core.Bool.{true}
-use mathlib.Core.Path.{_≡_, ap, _∙_}
-use Prim.Native.Nat.{ℕ, _≤_}
+use mathlib.Core.Path.{_≡_}
+use Prim.Native.Nat.{_≤_}
 use native.Mathlib.Omega.{arith}
 use lib.ListN.{length}
 use denote.Ref.{now}
-use Rattle.job_record.specs.Form.{quotesAt, flowsAt, restAt, restFormed}
+use Rattle.job_record.specs.Form.{mostSteps, quotesAt, restAt}
 use Rattle.job_record.specs.Reader.{jobOf}
 use Rattle.job_record.proofs.Forms.{well-body, well-length, body-rest}
 use Rattle.jobs.proofs.job_of.Statement.{statement}
@@ -20,7 +19,7 @@ number-requires : tie.Need-number-requires
 number-requires c κs = omega (arith, well-length _ (c .before .pre))
 
 -- the number of steps as it was read, and the place after the flows
-known : (c : tie.After-number) → (c .number .result ≤ 255) × (restAt quotesAt (c .number .result) ≤ length (now (c .before .before .args .bytes)))
+known : (c : tie.After-number) → (c .number .result ≤ mostSteps) × (restAt quotesAt (c .number .result) ≤ length (now (c .before .before .args .bytes)))
 known c = (omega (arith, c .number .ensures .1), rw (c .number .ensures .0) (well-length _ (c .before .before .pre)))
 
 after-fields-requires : tie.Need-after-fields-requires
@@ -44,7 +43,8 @@ rest-place c = rw (c .before .before .before .before .after-fields .ensures .0) 
 
 option-at-requires : tie.Need-option-at-requires
 option-at-requires c κs =
-    (c .after-fields2 .ensures .1, rw (rest-place c, c .before .before .before .before .before .number .ensures .0) (body-rest _ quotesAt _ (well-body _ (c .before .before .before .before .before .before .before .pre))))
+    let formed = body-rest _ quotesAt _ (well-body _ (c .before .before .before .before .before .before .before .pre)) in
+    (c .after-fields2 .ensures .1, rw (rest-place c, c .before .before .before .before .before .number .ensures .0) formed)
 
 add-number-2 : tie.Need-add-number-2
 add-number-2 c = search needs

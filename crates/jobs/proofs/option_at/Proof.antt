@@ -40,7 +40,8 @@ number-requires-3 c κs = omega (arith, ends (c .before .before))
 
 returns-2 : tie.Need-returns-2
 unfolding optionAt
-returns-2 c = simp (ne-eqb _ _ (c .before .before .before .if1 .left), c .before .before .number .ensures .0, c .before .number2 .ensures .0, c .number3 .ensures .0)
+returns-2 c =
+    simp (ne-eqb _ _ (c .before .before .before .if1 .left), c .before .before .number .ensures .0, c .before .number2 .ensures .0, c .number3 .ensures .0)
 
 pub option-at-spec : {M : Type 1} → statement M
 option-at-spec =

@@ -1,13 +1,13 @@
 -- `jobs::tags_from` meets its contract.
 -- Assumes nothing.
 use borrow.Author.Needs.{needs}
-use mathlib.Core.Path.{_≡_, refl, ap}
-use Prim.Native.Nat.{ℕ, _+_, _-_, _≤_}
+use mathlib.Core.Path.{_≡_, ap}
+use Prim.Native.Nat.{ℕ, _-_, _≤_}
 use native.Mathlib.Omega.{arith}
 use lib.ListN.{replicate, getD}
 use denote.Ref.{now}
 use Rattle.arithmetic.proofs.RowLaws.{Filled, filled-start, filled-next}
-use Rattle.job_record.specs.Form.{mostSteps, afterFields}
+use Rattle.job_record.specs.Form.{mostSteps}
 use Rattle.job_record.specs.Reader.{tagOf}
 use Rattle.job_record.proofs.Columns.{filled-padded, field-within}
 use Rattle.jobs.proofs.tags_from.Statement.{statement}
@@ -27,7 +27,9 @@ after-fields-requires c κs = search needs
 
 shared-slice-read-tags : tie.Need-shared-slice-read-tags Inv-loop μ-loop
 shared-slice-read-tags c =
-    omega (arith, c .before .after-fields .ensures .0, field-within (c .before .before .before .before .before .args .from) (c .before .before .before .before .before .args .width) (c .before .before .before .loop .i) (c .before .before .before .before .before .args .count) (omega arith))
+    let start = c .before .before .before .before .before .args in
+    let i = c .before .before .before .loop .i in
+    omega (arith, c .before .after-fields .ensures .0, field-within (start .from) (start .width) i (start .count) (omega arith))
 
 array-write-tags : tie.Need-array-write-tags Inv-loop μ-loop
 array-write-tags c = search needs
@@ -39,10 +41,9 @@ loop-less : tie.Need-loop-less Inv-loop μ-loop
 loop-less c = search needs
 
 loop-again : tie.Need-loop-again Inv-loop μ-loop
-loop-again c = (
-  omega arith,
-  filled-next _ _ _ _ _ (c .before .before .before .loop .inv .1) (search needs) (ap (λ (place : ℕ). getD (now (c .before .before .before .before .before .args .bytes)) place 0) (c .before .after-fields .ensures .0)),
-)
+loop-again c =
+    let read = ap (λ (place : ℕ). getD (now (c .before .before .before .before .before .args .bytes)) place 0) (c .before .after-fields .ensures .0) in
+    (omega arith, filled-next _ _ _ _ _ (c .before .before .before .loop .inv .1) (search needs) read)
 
 returns : tie.Need-returns Inv-loop μ-loop
 returns c =

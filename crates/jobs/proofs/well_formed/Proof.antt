@@ -28,8 +28,8 @@ body-formed-requires c κs = omega (arith, c .number .ensures .1)
 
 returns-3 : tie.Need-returns-3
 returns-3 c =
-    c .body-formed .ensures
-    ∙ formed-by-body _ (c .before .before .before .before .if1 .left) (passed (c .before .before .before .head-formed .ensures) (c .before .before .if2 .left)) (c .before .number .result) (c .before .number .ensures .0)
+    let head = passed (c .before .before .before .head-formed .ensures) (c .before .before .if2 .left) in
+    c .body-formed .ensures ∙ formed-by-body _ (c .before .before .before .before .if1 .left) head _ (c .before .number .ensures .0)
 
 pub well-formed-spec : {M : Type 1} → statement M
 well-formed-spec =
