@@ -18,16 +18,20 @@ mostBytes = 4700
 abbrev pub mostSteps : ℕ
 mostSteps = 255
 
--- where a field's data begin, after one byte of tag and two of length
+-- one byte of tag and two of length
+abbrev pub fieldHead : ℕ
+fieldHead = 3
+
+-- where a field's data begin
 abbrev pub dataAt : ℕ → ℕ
-dataAt at = at + 3
+dataAt at = at + fieldHead
 
 -- the place after a field, and after count fields of one width
 abbrev pub afterField : ℕ → ℕ → ℕ
 afterField at width = dataAt at + width
 
 abbrev pub afterFields : ℕ → ℕ → ℕ → ℕ
-afterFields from width count = from + (width + 3) * count
+afterFields from width count = from + (width + fieldHead) * count
 
 -- no field is looked for beyond this place
 abbrev pub farthest : ℕ

@@ -3,7 +3,7 @@
 // As many steps as one byte can say: the places that a record has for quotes and for flows.
 pub const MOST_STEPS: usize = 255;
 
-// What the tag of a field may be.
+// What the tag of a field may be: any kind of quote, or one tag alone.
 pub enum Tags {
     AnyKind,
     Only(u8),
