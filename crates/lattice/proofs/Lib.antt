@@ -7,3 +7,4 @@ pub mod EntryLaws
 pub mod TableLaws
 pub mod TreeEntries
 pub mod ShapeLaws
+pub mod LaidLaws

@@ -2,6 +2,7 @@
 use arithmetic::Answer;
 ghost use mathlib.Core.Path.{_≡_};
 ghost use Prim.Native.Nat.{ℕ, _≤_, _<_, min};
+ghost use Rattle.limits.specs.Limits.{most-steps};
 ghost use Rattle.lattice.specs.Shape.{half-width, row-start};
 ghost use Rattle.lattice.specs.Entries.{
   about-row,
@@ -54,7 +55,7 @@ fn row_start_of(reversion: u64, row: usize) -> usize
 
 // A row or a number of steps for which every size fits.
 fn clipped(row: usize) -> usize
-    ensures { λ r. ⌜ r ≡ min row 60 ⌝ }
+    ensures { λ r. ⌜ r ≡ min row most-steps ⌝ }
 {
     if row < limits::MOST_STEPS {
         row
@@ -153,7 +154,7 @@ fn refused_shape(number: u64) -> RowShape
 }
 
 fn shape_of(reversion: u64, widest: usize, row: usize) -> RowShape
-    requires { ⌜ (row < 60) × (row ≤ widest) ⌝ }
+    requires { ⌜ (row < most-steps) × (row ≤ widest) ⌝ }
     ensures { λ r. ⌜ r ≡ shape-of reversion widest row ⌝ }
 {
     let half = half_width_of(reversion, row);
@@ -167,7 +168,7 @@ fn shape_of(reversion: u64, widest: usize, row: usize) -> RowShape
     }
 }
 
-// Where a row stands, in tables of row `widest` too; no row after row 60 has a shape, and none has one that is wider than the tables.
+// Where a row stands, in tables of row `widest` too. Row 60 has no next row, and a row past `widest` no place in the tables.
 pub fn row_shape(reversion: u64, widest: usize, row: usize) -> RowShape
     ensures { λ r. ⌜ r ≡ rowShape reversion widest row ⌝ }
 {

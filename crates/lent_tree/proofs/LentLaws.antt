@@ -3,7 +3,7 @@
 use mathlib.Core.Path.{_≡_, refl, sym, ap, _∙_}
 use mathlib.Core.Bool.{Bool, true, false, cond}
 use mathlib.Core.List.{List}
-use Prim.Native.Nat.{ℕ, suc, _≤_, _<_}
+use Prim.Native.Nat.{ℕ, zero, suc, _≤_, _<_}
 use native.Mathlib.Omega.{arith}
 use lib.Dec.{eqb, leb}
 use lib.ListN.{length, take}
@@ -11,14 +11,15 @@ use lib.Seq.{length-take-le, getD-take}
 use borrow.Author.Tests.{le-leb, lt-leb, leb-true, ne-eqb, eqb-true}
 use Rattle.arithmetic.specs.Row.{values, each, between}
 use Rattle.arithmetic.specs.declared.Answer.{Answer}
-use Rattle.arithmetic.proofs.RowLaws.{each-holds, each-cong}
+use Rattle.arithmetic.proofs.RowLaws.{each-holds, each-cong, each-split}
 use Rattle.arithmetic.proofs.BetweenLaws.{between-least, between-most}
-use Rattle.limits.specs.Limits.{most-discount, shape-cause}
+use Rattle.limits.specs.Limits.{most-discount, is-discount, shape-cause}
 use Rattle.limits.proofs.LimitLaws.{shape-accepted}
-use Rattle.lattice.specs.Shape.{row-start, discounts-needed}
+use Rattle.lattice.specs.Shape.{node-count, row-start, discounts-needed}
 use Rattle.lattice.specs.Entries.{about-tree}
+use Rattle.lattice.proofs.Sizes.{start-first, start-suc}
 use Rattle.lattice.proofs.EntryLaws.{tree-number, tree-result}
-use Rattle.lent_tree.specs.LentTree.{accepted-discounts, discounts-cause, Accepted}
+use Rattle.lent_tree.specs.LentTree.{stored, accepted-discounts, discounts-cause, Accepted}
 
 -- a test of the first x numbers, made on that part
 each-part : (low high x : ℕ) (l : List ℕ) → x ≤ length l →
@@ -95,3 +96,17 @@ module _ (n b : ℕ) (discounts : List ℕ) (none : discounts-cause n b discount
         positive = λ k h. between-least 1 most-discount (values discounts) k (each-holds (row-start b n) k _ accepted-all h);
         discounted = λ k h. between-most 1 most-discount (values discounts) k (each-holds (row-start b n) k _ accepted-all h);
       }
+
+-- the needed part is the rows 0 to n − 1: the discounts are accepted where those of each row are
+pub accepted-by-row : (n b : ℕ) (discounts : List ℕ) →
+    accepted-discounts n b discounts ≡ each n (λ i. each (node-count b i) (λ k. is-discount (stored b discounts i k)))
+unfolding accepted-discounts discounts-needed each stored
+accepted-by-row zero b discounts = rw (start-first b)
+accepted-by-row (suc n) b discounts =
+    rw (start-suc b n, each-split (row-start b n) (node-count b n), accepted-by-row n b discounts)
+
+-- numbers within their limits, room, and accepted discounts: no cause
+pub lent-accepted : (n b : ℕ) (discounts : List ℕ) → shape-cause n b ≡ 0 → discounts-needed n b ≤ length discounts →
+    accepted-discounts n b discounts ≡ true → discounts-cause n b discounts ≡ 0
+unfolding discounts-cause
+lent-accepted n b discounts shape room all = rw (shape, le-leb (discounts-needed n b) (length discounts) room, all)

@@ -1,6 +1,6 @@
 -- A tree whose discounts are lent (document 01, When the engine declines): the causes about its numbers and its discounts.
 -- Assumes nothing.
-use Prim.Native.Nat.{ℕ, _≤_, _<_}
+use Prim.Native.Nat.{ℕ, _+_, _≤_, _<_}
 use mathlib.Core.Bool.{Bool, cond}
 use mathlib.Core.List.{List}
 use lib.Dec.{eqb, leb}
@@ -8,6 +8,10 @@ use lib.ListN.{length}
 use Rattle.arithmetic.specs.Row.{values, each, between}
 use Rattle.limits.specs.Limits.{most-steps, most-reversion, most-discount, shape-cause}
 use Rattle.lattice.specs.Shape.{row-start, discounts-needed}
+
+-- what a memory that stores row after row, lowest node first, holds for row i, by node
+unfoldable pub stored : ℕ → List ℕ → ℕ → ℕ → ℕ
+stored b memory i = λ k. values memory (row-start b i + k)
 
 -- every node discount of the needed part, rows 0 to n − 1, is 1 to 1,100,000,000
 unfoldable pub accepted-discounts : ℕ → ℕ → List ℕ → Bool

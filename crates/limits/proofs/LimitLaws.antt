@@ -9,7 +9,7 @@ use borrow.Author.Tests.{le-leb, lt-leb, lt-ltb, le-ltb, leb-true, ltb-true, ltb
 use Rattle.arithmetic.specs.Row.{values, between}
 use Rattle.arithmetic.proofs.Numbers.{by-order}
 use Rattle.arithmetic.proofs.BetweenLaws.{and-left, and-right, between-holds, between-below, between-above}
-use Rattle.limits.specs.Limits.{most-steps, most-reversion, value-limit, is-steps, is-reversion, shape-cause, limit-cause}
+use Rattle.limits.specs.Limits.{most-steps, most-reversion, most-discount, value-limit, is-steps, is-reversion, is-discount, shape-cause, limit-cause}
 
 -- a test that starts from 1
 module _ (most n : ℕ) where
@@ -72,6 +72,14 @@ module _ (n b : ℕ) where
       let c = cause-none (is-steps n) (is-reversion b) e in
       let s = from-one most-steps n (c .0) in
       (s .0, s .1, leb-true b most-reversion (c .1))
+
+-- a node discount and its limits
+module _ (v : ℕ) (e : is-discount v ≡ true) where
+  pub discount-least : 1 ≤ v
+  discount-least = from-one most-discount v e .0
+
+  pub discount-most : v ≤ most-discount
+  discount-most = from-one most-discount v e .1
 
 -- a value and its limit
 module _ (v : ℕ) where

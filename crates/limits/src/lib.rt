@@ -10,6 +10,8 @@ pub const MOST_DISCOUNT: u64 = 1_100_000_000;
 
 pub const VALUE_LIMIT: u64 = 8_000_000_000;
 
+pub const MOST_NODES: usize = 121;
+
 // Whether the steps are 1 to 60.
 pub fn is_steps(steps: usize) -> bool
     ensures { λ r. ⌜ r ≡ is-steps steps ⌝ }
