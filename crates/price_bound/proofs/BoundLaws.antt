@@ -22,43 +22,43 @@ use Rattle.lattice.specs.declared.RowShape.{RowShape}
 use Rattle.lattice.specs.Entries.{shape-of, rowShape}
 use Rattle.lattice.proofs.Sizes.{row-ends}
 use Rattle.lattice.proofs.ShapeLaws.{shape-found}
-use Rattle.lent_tree.specs.LentTree.{Accepted, discounts-cause}
+use Rattle.lent_tree.specs.LentTree.{stored, Accepted, discounts-cause}
 use Rattle.pricing_laws.specs.TreePricer.{roll-loss, greatest-discount, price-error-bound}
 use Rattle.pricing_laws.proofs.PriceLaws.{error-bound-small}
 use Rattle.pricing_laws.proofs.Recurrences.{error-bound-last, error-bound-before}
-use Rattle.price_bound.specs.PriceBound.{discount-at, bound-of, priceErrorBound}
+use Rattle.price_bound.specs.PriceBound.{bound-of, priceErrorBound}
 
 pub discount-within :
-    (n b i : ℕ) → i < n → (discounts : List ℕ) → Accepted n b discounts → (k : ℕ) → k < node-count b i → discount-at b discounts i k ≤ 1100000000
-unfolding discount-at
+    (n b i : ℕ) → i < n → (discounts : List ℕ) → Accepted n b discounts → (k : ℕ) → k < node-count b i → stored b discounts i k ≤ 1100000000
+unfolding stored
 discount-within n b i hi discounts a k h = a .discounted (row-start b i + k) (omega (arith, row-ends b i n hi))
 
 -- the error bound of the rows done
 abbrev pub bound-row : ℕ → ℕ → List ℕ → ℕ → ℕ
-bound-row n b discounts = price-error-bound (rate-tree b) (discount-at b discounts) n
+bound-row n b discounts = price-error-bound (rate-tree b) (stored b discounts) n
 
 module _ (n b : ℕ) (discounts : List ℕ) (a : Accepted n b discounts) where
   abbrev bound-at : ℕ → ℕ
   bound-at = bound-row n b discounts
 
   pub bound-first : bound-at n ≡ 0
-  bound-first = error-bound-last roll-loss (greatest-discount (rate-tree b) (discount-at b discounts)) n
+  bound-first = error-bound-last roll-loss (greatest-discount (rate-tree b) (stored b discounts)) n
 
   pub bound-next :
       (r bound next : ℕ) → 0 < r → r ≤ n → bound ≡ bound-at r →
-      next ≡ up (greatest-discount (rate-tree b) (discount-at b discounts) (r - 1) * bound) 1000000000 + roll-loss → next ≡ bound-at (r - 1)
+      next ≡ up (greatest-discount (rate-tree b) (stored b discounts) (r - 1) * bound) 1000000000 + roll-loss → next ≡ bound-at (r - 1)
   bound-next r bound next some h e g =
       let z : r ≡ suc (r - 1) = omega arith in
       g
-      ∙ ap (λ (x : ℕ). up (greatest-discount (rate-tree b) (discount-at b discounts) (r - 1) * x) 1000000000 + roll-loss) (e ∙ ap bound-at z)
-      ∙ sym (error-bound-before roll-loss (greatest-discount (rate-tree b) (discount-at b discounts)) n (r - 1) (omega arith))
+      ∙ ap (λ (x : ℕ). up (greatest-discount (rate-tree b) (stored b discounts) (r - 1) * x) 1000000000 + roll-loss) (e ∙ ap bound-at z)
+      ∙ sym (error-bound-before roll-loss (greatest-discount (rate-tree b) (stored b discounts)) n (r - 1) (omega arith))
 
   pub bound-small : (r bound : ℕ) → r ≤ n → bound ≡ bound-at r → bound ≤ 1000000
   unfolding rate-tree
   bound-small r bound h e =
       omega (
         arith,
-        error-bound-small (rate-tree b) (discount-at b discounts) n (λ i k hi hk. discount-within n b i hi discounts a k hk) (a .few) r h,
+        error-bound-small (rate-tree b) (stored b discounts) n (λ i k hi hk. discount-within n b i hi discounts a k hk) (a .few) r h,
       )
 
   pub bound-done : (r bound : ℕ) → r ≡ 0 → bound ≡ bound-at r → bound ≡ bound-of n b discounts
@@ -68,11 +68,11 @@ module _ (n b : ℕ) (discounts : List ℕ) (a : Accepted n b discounts) where
 -- one row, from its part of the discounts
 module _ (n b i : ℕ) (discounts : List ℕ) (a : Accepted n b discounts) (hi : i < n) where
   abbrev row-greatest : ℕ
-  row-greatest = greatest-discount (rate-tree b) (discount-at b discounts) i
+  row-greatest = greatest-discount (rate-tree b) (stored b discounts) i
 
   greatest-most : row-greatest ≤ 1100000000
   unfolding greatest-discount rate-tree
-  greatest-most = greatest-le (node-count b i) (discount-at b discounts i) 1100000000 (discount-within n b i hi discounts a)
+  greatest-most = greatest-le (node-count b i) (stored b discounts i) 1100000000 (discount-within n b i hi discounts a)
 
   module _ (s : RowShape) (es : s ≡ rowShape b n i) where
     shape : s ≡ shape-of b n i
@@ -90,7 +90,7 @@ module _ (n b i : ℕ) (discounts : List ℕ) (a : Accepted n b discounts) (hi :
     pub greatest-part :
         (g : ℕ) (part : List ℕ) → part ≡ take (s .start + s .count - s .start) (drop (s .start) discounts) →
         g ≡ greatest (length part) (values part) → g ≡ row-greatest
-    unfolding greatest-discount rate-tree discount-at
+    unfolding greatest-discount rate-tree stored
     greatest-part g part ep e =
         let p : part ≡ take (node-count b i) (drop (row-start b i) discounts)
         = ep ∙ part-is discounts (s .start) (s .count) ∙ ap₂ (λ (x y : ℕ). take x (drop y discounts)) count-is start-is in

@@ -1,24 +1,18 @@
 -- The price allowance of a tree whose discounts are lent (document 01, Prices): refusals 3, 4, 6, 9, lowest number first.
 -- Assumes nothing.
-use Prim.Native.Nat.{ℕ, _+_}
+use Prim.Native.Nat.{ℕ}
 use mathlib.Core.Bool.{cond}
 use mathlib.Core.List.{List}
 use lib.Dec.{eqb}
-use Rattle.arithmetic.specs.Row.{values}
 use Rattle.arithmetic.specs.declared.Answer.{Answer}
 use Rattle.arithmetic.specs.Answers.{refused, answered}
-use Rattle.lattice.specs.Shape.{row-start}
 use Rattle.lattice.specs.RateTree.{rate-tree}
-use Rattle.lent_tree.specs.LentTree.{discounts-cause}
+use Rattle.lent_tree.specs.LentTree.{stored, discounts-cause}
 use Rattle.pricing_laws.specs.TreePricer.{price-error-bound}
-
--- the discount of node k of row i, the rows standing one after the other, lowest node first
-unfoldable pub discount-at : ℕ → List ℕ → ℕ → ℕ → ℕ
-discount-at b discounts i k = values discounts (row-start b i + k)
 
 -- the price allowance of row 0
 unfoldable pub bound-of : ℕ → ℕ → List ℕ → ℕ
-bound-of n b discounts = price-error-bound (rate-tree b) (discount-at b discounts) n 0
+bound-of n b discounts = price-error-bound (rate-tree b) (stored b discounts) n 0
 
 unfoldable pub priceErrorBound : ℕ → ℕ → List ℕ → Answer
 priceErrorBound n b discounts =

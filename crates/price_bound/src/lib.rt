@@ -4,14 +4,14 @@ ghost use mathlib.Core.Path.{_≡_};
 ghost use Prim.Native.Nat.{ℕ, _*_, _+_, _<_, _≤_};
 ghost use Rattle.arithmetic.specs.Rounding.{up};
 ghost use Rattle.lattice.specs.RateTree.{rate-tree};
-ghost use Rattle.lent_tree.specs.LentTree.{Accepted};
+ghost use Rattle.lent_tree.specs.LentTree.{stored, Accepted};
 ghost use Rattle.pricing_laws.specs.TreePricer.{greatest-discount, roll-loss};
-ghost use Rattle.price_bound.specs.PriceBound.{discount-at, bound-of, priceErrorBound};
+ghost use Rattle.price_bound.specs.PriceBound.{bound-of, priceErrorBound};
 
 // The error bound of a row from the later one.
 fn bound_step(steps: usize, reversion: u64, row: usize, discounts: &[u64], later: u64) -> u64
     requires { ⌜ Accepted steps reversion (now discounts) × (row < steps) × (later ≤ 1000000) ⌝ }
-    ensures { λ r. ⌜ r ≡ up (greatest-discount (rate-tree reversion) (discount-at reversion (now (discounts .entry))) row * later) 1000000000
+    ensures { λ r. ⌜ r ≡ up (greatest-discount (rate-tree reversion) (stored reversion (now (discounts .entry))) row * later) 1000000000
         + roll-loss ⌝ }
 {
     let shape = lattice::row_shape(reversion, steps, row);

@@ -15,11 +15,11 @@ use Rattle.lattice.specs.RateTree.{rate-tree}
 use Rattle.lattice.proofs.Sizes.{row-ends}
 use Rattle.lattice.proofs.RateTreeLaws.{rate-tree-sound}
 use Rattle.limits.specs.Limits.{limit-cause}
-use Rattle.lent_tree.specs.LentTree.{Accepted, discounts-cause}
+use Rattle.lent_tree.specs.LentTree.{stored, Accepted, discounts-cause}
 use Rattle.lent_tree.proofs.LentLaws.{accepted}
 use Rattle.arithmetic.proofs.CauseLaws.{lowest-none}
 use Rattle.pricing_laws.specs.Schedule.{side-of, schedule-of}
-use Rattle.price_bound.specs.PriceBound.{discount-at, bound-of}
+use Rattle.price_bound.specs.PriceBound.{bound-of}
 use Rattle.price_bound.proofs.BoundLaws.{discount-within}
 use Rattle.price_causes.specs.Causes.{flows-cause, option-cause}
 use Rattle.price_causes.proofs.CheckLaws.{option-accepted}
@@ -60,15 +60,15 @@ unfolding tree-cause
 tree-lent n b discounts flows z = accepted n b discounts (lowest-none (discounts-cause n b discounts) (flows-cause n flows) z .0)
 
 low-discounts : (n b : ℕ) (discounts : List ℕ) → ((k : ℕ) → k < discounts-needed n b → values discounts k ≤ one) →
-    Discounts-at-most one (rate-tree b) (discount-at b discounts) n
-unfolding rate-tree discount-at discounts-needed
+    Discounts-at-most one (rate-tree b) (stored b discounts) n
+unfolding rate-tree stored discounts-needed
 low-discounts n b discounts low i k hi hk = low (row-start b i + k) (omega (arith, row-ends b i n hi))
 
 module _ (n b : ℕ) (discounts flows : List ℕ) where
   abbrev the-limit : ℕ → ℕ → ℕ → ℕ
   the-limit kind expiry strike = option-limit n b discounts flows (side-of kind) strike (schedule-of kind expiry)
 
-  within-limit : Accepted n b discounts → Discounts-at-most 1100000000 (rate-tree b) (discount-at b discounts) n
+  within-limit : Accepted n b discounts → Discounts-at-most 1100000000 (rate-tree b) (stored b discounts) n
   unfolding rate-tree
   within-limit a i k hi hk = discount-within n b i hi discounts a k hk
 
@@ -86,18 +86,18 @@ module _ (n b : ℕ) (discounts flows : List ℕ) where
     unfolding bond-at bound-of exact-bond
     bond-within-bound =
         rw (bond-given .value, bond-given .bound)
-        (bond-accurate (rate-tree b) (rate-tree-sound b (bond-tree .reverting)) (discount-at b discounts) n (within-limit bond-tree) (flow-at flows))
+        (bond-accurate (rate-tree b) (rate-tree-sound b (bond-tree .reverting)) (stored b discounts) n (within-limit bond-tree) (flow-at flows))
 
     pub bond-at-most-exact : bondPrice n b discounts flows .value * unit ^ n ≤ exact-bond n b discounts flows
     unfolding bond-at exact-bond
     bond-at-most-exact =
         rw (bond-given .value)
-        (bond-never-above (rate-tree b) (rate-tree-sound b (bond-tree .reverting)) (discount-at b discounts) n (within-limit bond-tree) (flow-at flows))
+        (bond-never-above (rate-tree b) (rate-tree-sound b (bond-tree .reverting)) (stored b discounts) n (within-limit bond-tree) (flow-at flows))
 
     -- where no discount is above one, the bound is at most 3 a step
     pub bond-bound-a-step : ((k : ℕ) → k < discounts-needed n b → values discounts k ≤ one) → bondPrice n b discounts flows .bound ≤ 3 * n
     unfolding bound-of
-    bond-bound-a-step low = rw (bond-given .bound) (error-bound-a-step (rate-tree b) (discount-at b discounts) n (low-discounts n b discounts low))
+    bond-bound-a-step low = rw (bond-given .bound) (error-bound-a-step (rate-tree b) (stored b discounts) n (low-discounts n b discounts low))
 
   module _ (kind expiry strike : ℕ) (h : optionPrice n b discounts flows kind expiry strike .number ≡ 0) where
     option-given :
@@ -122,10 +122,10 @@ module _ (n b : ℕ) (discounts flows : List ℕ) where
     unfolding option-at bound-of exact-option
     option-within-bound =
         rw (option-given .value, option-given .bound)
-        (kind-accurate (rate-tree b) (rate-tree-sound b (option-tree .reverting)) (discount-at b discounts) n (within-limit option-tree) (flow-at flows)
+        (kind-accurate (rate-tree b) (rate-tree-sound b (option-tree .reverting)) (stored b discounts) n (within-limit option-tree) (flow-at flows)
         kind expiry strike (option-accepted n kind expiry strike (first-none _ _ (causes .1) .0) .0))
 
     pub option-bound-a-step :
         ((k : ℕ) → k < discounts-needed n b → values discounts k ≤ one) → optionPrice n b discounts flows kind expiry strike .bound ≤ 3 * n
     unfolding bound-of
-    option-bound-a-step low = rw (option-given .bound) (error-bound-a-step (rate-tree b) (discount-at b discounts) n (low-discounts n b discounts low))
+    option-bound-a-step low = rw (option-given .bound) (error-bound-a-step (rate-tree b) (stored b discounts) n (low-discounts n b discounts low))

@@ -19,7 +19,7 @@ use Rattle.lattice.specs.Entries.{about-row, tableOf}
 use Rattle.lattice.proofs.EntryLaws.{row-found}
 use Rattle.lattice.proofs.Sizes.{count-positive, count-within}
 use Rattle.lattice.proofs.TableLaws as tables
-use Rattle.lent_tree.specs.LentTree.{Accepted, discounts-cause}
+use Rattle.lent_tree.specs.LentTree.{stored, Accepted, discounts-cause}
 use Rattle.lent_tree.proofs.LentLaws.{accepted}
 use Rattle.pricing_laws.specs.Pricer.{Side, Schedule}
 use Rattle.pricing_laws.specs.Schedule.{side-of, schedule-of, marked}
@@ -29,7 +29,7 @@ use Rattle.pricing_laws.proofs.Schedules.{Alike, option-alike}
 use Rattle.exercise.specs.declared.Terms.{Terms}
 use Rattle.exercise.specs.Terms.{side, terms-of, marks-of}
 use Rattle.exercise.proofs.KindLaws.{side-is, strike-is, kind-alike}
-use Rattle.price_bound.specs.PriceBound.{discount-at, bound-of, priceErrorBound}
+use Rattle.price_bound.specs.PriceBound.{bound-of, priceErrorBound}
 use Rattle.price_bound.proofs.BoundLaws.{bound-number, bound-value}
 use Rattle.price_causes.specs.Causes.{Accepted-flows, flows-cause, option-cause}
 use Rattle.price_causes.proofs.CheckLaws.{flows-accepted}
@@ -165,7 +165,7 @@ module _ (n b : ℕ) (discounts flows : List ℕ) where
     same-values : option-at n b discounts flows side strike rows ≡ option-at n b discounts flows side strike other
     unfolding option-at
     same-values =
-        fun-ext (λ i. option-alike (engine (rate-tree b) (discount-at b discounts)) (flow-at flows) n side strike rows other same i)
+        fun-ext (λ i. option-alike (engine (rate-tree b) (stored b discounts)) (flow-at flows) n side strike rows other same i)
 
     same-peak : option-peak n b discounts flows side strike rows ≡ option-peak n b discounts flows side strike other
     unfolding option-peak

@@ -17,13 +17,12 @@ use Rattle.lattice.specs.Branching.{up, middle, down}
 use Rattle.lattice.specs.RateTree.{node, low, rate-tree}
 use Rattle.lattice.proofs.Sizes.{row-ends}
 use Rattle.lattice.proofs.RateTreeLaws.{low-within, index-laws}
-use Rattle.lent_tree.specs.LentTree.{Accepted}
+use Rattle.lent_tree.specs.LentTree.{stored, Accepted}
 use Rattle.row_branches.specs.declared.RowBranch.{RowBranch}
 use Rattle.row_branches.specs.RowBranches.{row-branch}
 use Rattle.row_branches.proofs.TableParts as tables
 use Rattle.pricing_laws.specs.Pricer.{Side, exercise, held-or-exercised}
 use Rattle.pricing_laws.specs.TreePricer.{roll-rounding, node-roll, roll}
-use Rattle.price_bound.specs.PriceBound.{discount-at}
 use Rattle.price_bound.proofs.BoundLaws.{discount-within}
 use Rattle.price_causes.specs.Causes.{Accepted-flows}
 use Rattle.pricing.specs.Prices.{flow-at}
@@ -53,8 +52,8 @@ module _ (n b i : ℕ) (hi : i < n) (discounts : List ℕ) (a : Accepted n b dis
   pub discount-part-length : length discount-part ≡ node-count b i
   discount-part-length = part-length discounts _ _ discounts-fit
 
-  discount-part-at : (k : ℕ) → k < node-count b i → values discount-part k ≡ discount-at b discounts i k
-  unfolding discount-at
+  discount-part-at : (k : ℕ) → k < node-count b i → values discount-part k ≡ stored b discounts i k
+  unfolding stored
   discount-part-at k h = part-value discounts (row-start b i) (node-count b i) k h
 
   total-is : (k : ℕ) → k < node-count b i → up b (node b i k) + middle b (node b i k) + down b (node b i k) ≡ whole

@@ -22,11 +22,10 @@ use Rattle.pricing_laws.specs.Peak.{peak, greatest-value}
 use Rattle.pricing_laws.proofs.Peaks.{peak-grows}
 use Rattle.pricing_laws.proofs.PriceLaws.{On, row-greatest, roll-local}
 use Rattle.pricing_laws.proofs.Backward as back
-use Rattle.price_bound.specs.PriceBound.{discount-at}
 use Rattle.pricing.specs.Prices.{flow-at, bond-at, bond-peak, option-at, option-peak, option-limit}
 use Rattle.pricing.specs.Rows.{Limited, Holds, Filled-rows}
 use Rattle.pricing.specs.Trees.{rolled-at, bond-step, option-step, Bond-rolled, Both-rolled}
-use Rattle.lent_tree.specs.LentTree.{Accepted}
+use Rattle.lent_tree.specs.LentTree.{stored, Accepted}
 use Rattle.price_causes.specs.Causes.{Accepted-flows}
 use Rattle.pricing.proofs.TreeRows.{flow-within}
 
@@ -43,7 +42,7 @@ top b i v = greatest (rate-tree b .nodes i) v
 -- the bond at row i stands in a list
 pub Bonds : ℕ → ℕ → List ℕ → List ℕ → ℕ → List ℕ → Type 0
 Bonds n b discounts flows i l =
-    back.Bond-state n (On (rate-tree b)) (top b) (roll (rate-tree b) (discount-at b discounts) roll-rounding) (flow-at flows) i (values l)
+    back.Bond-state n (On (rate-tree b)) (top b) (roll (rate-tree b) (stored b discounts) roll-rounding) (flow-at flows) i (values l)
 
 pub bonds-inside : (n b : ℕ) (discounts flows : List ℕ) (i : ℕ) (l : List ℕ) → Bonds n b discounts flows i l → i ≤ n
 unfolding Bonds
@@ -52,18 +51,18 @@ bonds-inside n b discounts flows i l s = s .in-tree
 -- the option at row i stands in a list
 pub Options : ℕ → ℕ → List ℕ → List ℕ → Side → ℕ → Schedule → ℕ → List ℕ → Type 0
 Options n b discounts flows side strike rows i l =
-    back.Option-state n (On (rate-tree b)) (top b) (roll (rate-tree b) (discount-at b discounts) roll-rounding) (flow-at flows)
+    back.Option-state n (On (rate-tree b)) (top b) (roll (rate-tree b) (stored b discounts) roll-rounding) (flow-at flows)
     side strike rows i (values l)
 
 module _ (n b : ℕ) (discounts flows : List ℕ) (a : Accepted n b discounts) (f : Accepted-flows n flows) where
   abbrev the-roll : ℕ → (ℕ → ℕ) → ℕ → ℕ
-  the-roll = roll (rate-tree b) (discount-at b discounts) roll-rounding
+  the-roll = roll (rate-tree b) (stored b discounts) roll-rounding
 
   great : back.Greatest (On (rate-tree b)) (top b)
   great = row-greatest (rate-tree b)
 
   local : back.Local (On (rate-tree b)) the-roll
-  local = roll-local (rate-tree b) (rate-tree-sound b (a .reverting)) (discount-at b discounts) roll-rounding
+  local = roll-local (rate-tree b) (rate-tree-sound b (a .reverting)) (stored b discounts) roll-rounding
 
   narrow : (i k : ℕ) → i ≤ n → k < node-count b i → k < 121
   narrow i k h l = omega (arith, count-within b i (omega (arith, a .few)))

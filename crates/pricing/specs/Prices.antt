@@ -12,8 +12,8 @@ use Rattle.pricing_laws.specs.Pricer.{Side, Schedule, bond, option}
 use Rattle.pricing_laws.specs.Schedule.{side-of, schedule-of}
 use Rattle.pricing_laws.specs.TreePricer.{engine}
 use Rattle.pricing_laws.specs.Peak.{peak, greatest-value}
-use Rattle.lent_tree.specs.LentTree.{discounts-cause}
-use Rattle.price_bound.specs.PriceBound.{discount-at, bound-of}
+use Rattle.lent_tree.specs.LentTree.{stored, discounts-cause}
+use Rattle.price_bound.specs.PriceBound.{bound-of}
 use Rattle.price_causes.specs.Causes.{flows-cause, option-cause}
 use Rattle.pricing.specs.declared.Price.{Price}
 use Rattle.pricing.specs.declared.BondAndOption.{BondAndOption}
@@ -43,7 +43,7 @@ priced number price bound = cond (eqb number 0) (record { number = 0; value = pr
 
 -- the engine's bond at node k of row i
 unfoldable pub bond-at : ℕ → ℕ → List ℕ → List ℕ → ℕ → ℕ → ℕ
-bond-at n b discounts flows = bond (engine (rate-tree b) (discount-at b discounts)) (flow-at flows) n
+bond-at n b discounts flows = bond (engine (rate-tree b) (stored b discounts)) (flow-at flows) n
 
 -- the greatest bond value of rows 0 to n
 unfoldable pub bond-peak : ℕ → ℕ → List ℕ → List ℕ → ℕ
@@ -59,7 +59,7 @@ bondPrice n b discounts flows =
 module _ (n b : ℕ) (discounts flows : List ℕ) (side : Side) (strike : ℕ) (rows : Schedule) where
   -- the engine's option at node k of row i
   unfoldable pub option-at : ℕ → ℕ → ℕ
-  option-at = option (engine (rate-tree b) (discount-at b discounts)) (flow-at flows) n side strike rows
+  option-at = option (engine (rate-tree b) (stored b discounts)) (flow-at flows) n side strike rows
 
   -- the greatest option value of rows 0 to expiry
   unfoldable pub option-peak : ℕ

@@ -12,8 +12,7 @@ use Rattle.lattice.specs.RateTree.{node, rate-tree}
 use Rattle.pricing_laws.specs.Pricer.{Side, Schedule, exercise, held-or-exercised}
 use Rattle.pricing_laws.specs.Peak.{peak, greatest-value}
 use Rattle.pricing_laws.specs.TreePricer.{roll-rounding, roll}
-use Rattle.lent_tree.specs.LentTree.{Accepted}
-use Rattle.price_bound.specs.PriceBound.{discount-at}
+use Rattle.lent_tree.specs.LentTree.{stored, Accepted}
 use Rattle.price_causes.specs.Causes.{Accepted-flows}
 use Rattle.pricing.specs.Prices.{flow-at, bond-at, bond-peak, option-at, option-limit}
 use Rattle.pricing.specs.Rows.{Holds}
@@ -30,7 +29,7 @@ pub record Ready (n b : ℕ) (downs discounts flows : List ℕ) : Type 0 where
 
 -- a row rolled back from the values of the next one
 unfoldable pub rolled-at : ℕ → List ℕ → ℕ → List ℕ → ℕ → ℕ
-rolled-at b discounts i later = roll (rate-tree b) (discount-at b discounts) roll-rounding i (values later)
+rolled-at b discounts i later = roll (rate-tree b) (stored b discounts) roll-rounding i (values later)
 
 -- row i of the bond and of the option, from the later rows
 abbrev pub bond-step : ℕ → List ℕ → List ℕ → ℕ → List ℕ → ℕ → ℕ

@@ -6,8 +6,8 @@ use native.Mathlib.Omega.{arith}
 use lib.ListN.{length}
 use denote.Ref.{now}
 use Rattle.lattice.specs.RateTree.{rate-tree}
+use Rattle.lent_tree.specs.LentTree.{stored}
 use Rattle.pricing_laws.specs.TreePricer.{greatest-discount}
-use Rattle.price_bound.specs.PriceBound.{discount-at}
 use Rattle.price_bound.proofs.BoundLaws.{part-room, greatest-part, bound-fits, bound-up}
 use borrow.Author.Needs.{needs}
 use Rattle.price_bound.proofs.bound_step.Statement.{statement}
@@ -23,7 +23,7 @@ room c = part-room _ _ _ _ (c .before .before .before .pre .0) (c .before .befor
 -- what was found is the row's greatest discount, and its product with the later bound fits
 found : (c : tie.After-greatest-of) →
     c .greatest-of .result
-    ≡ greatest-discount (rate-tree (c .before .before .before .before .before .args .reversion)) (discount-at (c .before .before .before .before .before .args .reversion) (now (c .before .before .before .before .before .args .discounts))) (c .before .before .before .before .before .args .row)
+    ≡ greatest-discount (rate-tree (c .before .before .before .before .before .args .reversion)) (stored (c .before .before .before .before .before .args .reversion) (now (c .before .before .before .before .before .args .discounts))) (c .before .before .before .before .before .args .row)
 found c = greatest-part _ _ _ _ (c .before .before .before .before .before .pre .0) (c .before .before .before .before .before .pre .1) _ (c .before .before .before .row-shape .ensures) _ _ refl (c .greatest-of .ensures)
 
 fits : (c : tie.After-greatest-of) → c .greatest-of .result * c .before .before .before .before .before .args .later ≤ 1100000000000000
