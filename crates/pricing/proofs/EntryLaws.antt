@@ -1,14 +1,16 @@
 -- The entries' answers by what the code found.
 -- Assumes nothing.
 use mathlib.Core.Path.{_≡_, refl, sym, ap, ap₂, fun-ext, _∙_}
+use mathlib.Core.Bool.{Bool, true, false, cond}
 use mathlib.Core.List.{List, _++_}
 use Prim.Native.Nat.{ℕ, _+_, _*_, _≤_, max}
 use native.Mathlib.Omega.{arith}
 use lib.ListN.{length, take, drop, length-take}
 use lib.Seq.{take-append-seam}
-use borrow.Author.Tests.{eq-eqb, ne-eqb}
+use lib.Dec.{eqb}
+use borrow.Author.Tests.{eq-eqb, ne-eqb, eqb-true}
 use Rattle.arithmetic.specs.Row.{values}
-use Rattle.arithmetic.specs.Answers.{lowest-cause}
+use Rattle.arithmetic.specs.Answers.{refused, answered, lowest-cause}
 use Rattle.arithmetic.specs.declared.Answer.{Answer}
 use Rattle.arithmetic.proofs.CauseLaws.{lowest-none}
 use Rattle.limits.specs.Limits.{limit-cause}
@@ -30,13 +32,14 @@ use Rattle.exercise.specs.declared.Terms.{Terms}
 use Rattle.exercise.specs.Terms.{side, terms-of, marks-of}
 use Rattle.exercise.proofs.KindLaws.{side-is, strike-is, kind-alike}
 use Rattle.price_bound.specs.PriceBound.{bound-of, priceErrorBound}
-use Rattle.price_bound.proofs.BoundLaws.{bound-number, bound-value}
+use Rattle.price_bound.proofs.BoundLaws.{bound-number}
 use Rattle.price_causes.specs.Causes.{Accepted-flows, flows-cause, option-cause}
 use Rattle.price_causes.proofs.CheckLaws.{flows-accepted}
 use Rattle.pricing.specs.declared.Price.{Price}
 use Rattle.pricing.specs.declared.BondAndOption.{BondAndOption}
-use Rattle.pricing.specs.Prices.{flow-at, bond-at, bond-peak, option-at, option-peak, option-limit, tree-cause, first-cause, refusal, priced, bondPrice, optionPrice}
-use Rattle.pricing.specs.Trees.{down-table, Bond-rolled, Both-rolled}
+use Rattle.pricing.specs.Prices.{flow-at, tree-cause, first-cause, refusal, priced}
+use Rattle.pricing.specs.Prices.{bond-at, bond-peak, bondPrice, option-at, option-peak, option-limit, optionPrice}
+use Rattle.pricing.specs.Trees.{down-table, tree-bound, Bond-rolled, Both-rolled}
 use Rattle.pricing.proofs.TreeRows.{table-size}
 
 -- what the lattice answers about row n
@@ -94,26 +97,51 @@ passed-first : (cause later v e : ℕ) → cause ≡ 0 → priced later v e ≡ 
 unfolding first-cause
 passed-first cause later v e z = rw (eq-eqb cause 0 z)
 
--- the causes about a tree and its flows, as the code works them out
+-- the error bound of a tree and its flows, as the code works it out
 module _ (n b : ℕ) (discounts flows : List ℕ) (a : Answer) (f c : ℕ) (ea : a ≡ priceErrorBound n b discounts) (ef : f ≡ flows-cause n flows)
     (ec : c ≡ lowest-cause (a .number) f) where
-  pub tree-cause-is : c ≡ tree-cause n b discounts flows
+  cause-is : c ≡ tree-cause n b discounts flows
   unfolding tree-cause
-  tree-cause-is = ec ∙ ap₂ lowest-cause (ap (λ (x : Answer). x .number) ea ∙ bound-number n b discounts) ef
+  cause-is = ec ∙ ap₂ lowest-cause (ap (λ (x : Answer). x .number) ea ∙ bound-number n b discounts) ef
 
-  module _ (z : c ≡ 0) where
-    none : (discounts-cause n b discounts ≡ 0) × (flows-cause n flows ≡ 0)
+  pub tree-refused : (c ≡ 0 → ⊥) → refused c ≡ tree-bound n b discounts flows
+  unfolding tree-bound
+  tree-refused z = rw (← cause-is, ne-eqb c 0 z)
+
+  pub tree-passed : c ≡ 0 → a ≡ tree-bound n b discounts flows
+  unfolding tree-bound priceErrorBound tree-cause
+  tree-passed z =
+      let none = lowest-none (discounts-cause n b discounts) (flows-cause n flows) (sym cause-is ∙ z) in
+      ea ∙ rw (eq-eqb (discounts-cause n b discounts) 0 (none .0), ← cause-is, z)
+
+-- what it says
+module _ (n b : ℕ) (discounts flows : List ℕ) (a : Answer) (ea : a ≡ tree-bound n b discounts flows) where
+  pub tree-number : a .number ≡ tree-cause n b discounts flows
+  unfolding tree-bound
+  tree-number = ap (λ (x : Answer). x .number) ea ∙ go (eqb (tree-cause n b discounts flows) 0) refl
+    where
+      go : (t : Bool) → eqb (tree-cause n b discounts flows) 0 ≡ t →
+          cond t (answered (bound-of n b discounts)) (refused (tree-cause n b discounts flows)) .number ≡ tree-cause n b discounts flows
+      go true e = sym (eqb-true (tree-cause n b discounts flows) 0 e)
+      go false e = refl
+
+  module _ (z : a .number ≡ 0) where
+    pub tree-none : tree-cause n b discounts flows ≡ 0
+    tree-none = sym tree-number ∙ z
+
+    causes : (discounts-cause n b discounts ≡ 0) × (flows-cause n flows ≡ 0)
     unfolding tree-cause
-    none = lowest-none (discounts-cause n b discounts) (flows-cause n flows) (sym tree-cause-is ∙ z)
+    causes = lowest-none (discounts-cause n b discounts) (flows-cause n flows) tree-none
 
     pub tree-accepted : Accepted n b discounts
-    tree-accepted = accepted n b discounts (none .0)
+    tree-accepted = accepted n b discounts (causes .0)
 
     pub paid-accepted : Accepted-flows n flows
-    paid-accepted = flows-accepted n flows (none .1)
+    paid-accepted = flows-accepted n flows (causes .1)
 
     pub bound-is : a .value ≡ bound-of n b discounts
-    bound-is = ap (λ (x : Answer). x .value) ea ∙ bound-value n b discounts (none .0)
+    unfolding tree-bound
+    bound-is = ap (λ (x : Answer). x .value) ea ∙ rw (eq-eqb (tree-cause n b discounts flows) 0 tree-none)
 
 module _ (n b : ℕ) (discounts flows : List ℕ) where
   -- the bond of an accepted tree, with an error bound e

@@ -1,10 +1,13 @@
 -- What the code holds of a tree that was accepted.
 -- Assumes nothing.
 use mathlib.Core.Path.{_≡_}
-use mathlib.Core.Bool.{Bool}
+use mathlib.Core.Bool.{Bool, cond}
 use mathlib.Core.List.{List}
 use Prim.Native.Nat.{ℕ, _+_}
+use lib.Dec.{eqb}
 use Rattle.arithmetic.specs.Row.{row, values}
+use Rattle.arithmetic.specs.declared.Answer.{Answer}
+use Rattle.arithmetic.specs.Answers.{refused, answered}
 use Rattle.limits.specs.Limits.{limit-cause}
 use Rattle.lattice.specs.Shape.{node-count}
 use Rattle.lattice.specs.Branching.{down}
@@ -13,13 +16,19 @@ use Rattle.pricing_laws.specs.Pricer.{Side, Schedule, exercise, held-or-exercis
 use Rattle.pricing_laws.specs.Peak.{peak, greatest-value}
 use Rattle.pricing_laws.specs.TreePricer.{roll-rounding, roll}
 use Rattle.lent_tree.specs.LentTree.{stored, Accepted}
+use Rattle.price_bound.specs.PriceBound.{bound-of}
 use Rattle.price_causes.specs.Causes.{Accepted-flows}
-use Rattle.pricing.specs.Prices.{flow-at, bond-at, bond-peak, option-at, option-limit}
+use Rattle.pricing.specs.Prices.{flow-at, tree-cause, bond-at, bond-peak, option-at, option-limit}
 use Rattle.pricing.specs.Rows.{Holds}
 
 -- the down-probabilities of all nodes of row n
 unfoldable pub down-table : ℕ → ℕ → List ℕ
 down-table n b = row (node-count b n) (λ k. down b (node b n k))
+
+-- the error bound of a tree and its flows, or the first cause about them
+unfoldable pub tree-bound : ℕ → ℕ → List ℕ → List ℕ → Answer
+tree-bound n b discounts flows =
+    cond (eqb (tree-cause n b discounts flows) 0) (answered (bound-of n b discounts)) (refused (tree-cause n b discounts flows))
 
 -- an accepted tree with its flows and its table of down-probabilities
 pub record Ready (n b : ℕ) (downs discounts flows : List ℕ) : Type 0 where

@@ -3,6 +3,7 @@
 mod rows;
 mod walk;
 
+use arithmetic::Answer;
 use exercise::Terms;
 ghost use mathlib.Core.Path.{_≡_};
 ghost use Prim.Native.Nat.{ℕ, _≤_};
@@ -24,7 +25,7 @@ ghost use Rattle.pricing.specs.Prices.{
   optionPrice,
   bondAndOption,
 };
-ghost use Rattle.pricing.specs.Trees.{down-table};
+ghost use Rattle.pricing.specs.Trees.{down-table, tree-bound};
 
 // A price in billionths with its error bound; a refusal's number with zeros.
 #[repr(C)]
@@ -153,14 +154,28 @@ fn accepted_both(
     }
 }
 
-// The price at row 0 of the bond with these flows, and its error bound.
-pub fn bond_price(steps: usize, reversion: u64, discounts: &[u64], flows: &[u64]) -> Price
-    ensures { λ r. ⌜ r ≡ bondPrice steps reversion (now (discounts .entry)) (now (flows .entry)) ⌝ }
+// The error bound of a tree and its flows, or the first cause about them.
+fn tree_bound(steps: usize, reversion: u64, discounts: &[u64], flows: &[u64]) -> Answer
+    ensures { λ r. ⌜ r ≡ tree-bound steps reversion (now (discounts .entry)) (now (flows .entry)) ⌝ }
 {
     let bound = price_bound::price_error_bound(steps, reversion, discounts);
     let cause = arithmetic::lowest_cause(bound.number, price_causes::flows_cause(steps, flows));
     if cause != 0 {
-        return refused(cause);
+        return Answer {
+            number: cause,
+            value: 0,
+        };
+    }
+    bound
+}
+
+// The price at row 0 of the bond with these flows, and its error bound.
+pub fn bond_price(steps: usize, reversion: u64, discounts: &[u64], flows: &[u64]) -> Price
+    ensures { λ r. ⌜ r ≡ bondPrice steps reversion (now (discounts .entry)) (now (flows .entry)) ⌝ }
+{
+    let bound = tree_bound(steps, reversion, discounts, flows);
+    if bound.number != 0 {
+        return refused(bound.number);
     }
     accepted_bond(steps, reversion, discounts, flows, bound.value)
 }
@@ -177,19 +192,18 @@ pub fn bond_and_option(
 ) -> BondAndOption
     ensures { λ r. ⌜ r ≡ bondAndOption steps reversion (now (discounts .entry)) (now (flows .entry)) kind expiry strike ⌝ }
 {
-    let bound = price_bound::price_error_bound(steps, reversion, discounts);
-    let cause = arithmetic::lowest_cause(bound.number, price_causes::flows_cause(steps, flows));
-    if cause != 0 {
+    let bound = tree_bound(steps, reversion, discounts, flows);
+    if bound.number != 0 {
         return BondAndOption {
-            bond: refused(cause),
-            option: refused(cause),
+            bond: refused(bound.number),
+            option: refused(bound.number),
         };
     }
-    let other = price_causes::option_cause(steps, kind, expiry, strike);
-    if other != 0 {
+    let cause = price_causes::option_cause(steps, kind, expiry, strike);
+    if cause != 0 {
         return BondAndOption {
             bond: accepted_bond(steps, reversion, discounts, flows, bound.value),
-            option: refused(other),
+            option: refused(cause),
         };
     }
     let marks = exercise::marks_of(kind);
