@@ -94,7 +94,8 @@ module _ (n b i : ℕ) (discounts : List ℕ) (a : Accepted n b discounts) (hi :
     greatest-part g part ep e =
         let p : part ≡ take (node-count b i) (drop (row-start b i) discounts)
         = ep ∙ part-is discounts (s .start) (s .count) ∙ ap₂ (λ (x y : ℕ). take x (drop y discounts)) count-is start-is in
-        let l : length part ≡ node-count b i = ap length p ∙ part-length discounts (row-start b i) (node-count b i) (omega (arith, row-ends b i n hi, a .room)) in
+        let l : length part ≡ node-count b i
+        = ap length p ∙ part-length discounts (row-start b i) (node-count b i) (omega (arith, row-ends b i n hi, a .room)) in
         e
         ∙ ap (λ (m : ℕ). greatest m (values part)) l
         ∙ greatest-cong (node-count b i) _ _

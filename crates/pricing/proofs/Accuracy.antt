@@ -104,7 +104,8 @@ module _ (n b : ℕ) (discounts flows : List ℕ) where
         Given
         (first-cause (tree-cause n b discounts flows)
         (first-cause (option-cause n kind expiry strike) (the-limit kind expiry strike)))
-        (option-at n b discounts flows (side-of kind) strike (schedule-of kind expiry) 0 0) (bound-of n b discounts) (optionPrice n b discounts flows kind expiry strike)
+        (option-at n b discounts flows (side-of kind) strike (schedule-of kind expiry) 0 0) (bound-of n b discounts)
+        (optionPrice n b discounts flows kind expiry strike)
     unfolding optionPrice
     option-given = given _ _ _ h
 

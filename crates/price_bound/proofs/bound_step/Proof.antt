@@ -16,18 +16,27 @@ use Rattle.price_bound.proofs.bound_step.Tie as tie
 row-shape-requires : tie.Need-row-shape-requires
 row-shape-requires c κs = search needs
 
+-- the row's greatest discount, by what the function was handed
+abbrev row-greatest : tie.Start → ℕ
+row-greatest s = greatest-discount (rate-tree (s .args .reversion)) (stored (s .args .reversion) (now (s .args .discounts))) (s .args .row)
+
 -- the row's part is within the discounts
-room : (c : tie.After-struct-known) → c .before .row-shape .result .start + c .before .row-shape .result .count ≤ length (now (c .before .before .before .args .discounts))
-room c = part-room _ _ _ _ (c .before .before .before .pre .0) (c .before .before .before .pre .1) _ (c .before .row-shape .ensures)
+room : (c : tie.After-struct-known) →
+    c .before .row-shape .result .start + c .before .row-shape .result .count ≤ length (now (c .before .before .before .args .discounts))
+room c =
+    let s = c .before .before .before in
+    part-room _ _ _ _ (s .pre .0) (s .pre .1) _ (c .before .row-shape .ensures)
 
 -- what was found is the row's greatest discount, and its product with the later bound fits
-found : (c : tie.After-greatest-of) →
-    c .greatest-of .result
-    ≡ greatest-discount (rate-tree (c .before .before .before .before .before .args .reversion)) (stored (c .before .before .before .before .before .args .reversion) (now (c .before .before .before .before .before .args .discounts))) (c .before .before .before .before .before .args .row)
-found c = greatest-part _ _ _ _ (c .before .before .before .before .before .pre .0) (c .before .before .before .before .before .pre .1) _ (c .before .before .before .row-shape .ensures) _ _ refl (c .greatest-of .ensures)
+found : (c : tie.After-greatest-of) → c .greatest-of .result ≡ row-greatest (c .before .before .before .before .before)
+found c =
+    let s = c .before .before .before .before .before in
+    greatest-part _ _ _ _ (s .pre .0) (s .pre .1) _ (c .before .before .before .row-shape .ensures) _ _ refl (c .greatest-of .ensures)
 
 fits : (c : tie.After-greatest-of) → c .greatest-of .result * c .before .before .before .before .before .args .later ≤ 1100000000000000
-fits c = bound-fits _ _ _ _ (c .before .before .before .before .before .pre .0) (c .before .before .before .before .before .pre .1) _ _ (found c) (c .before .before .before .before .before .pre .2)
+fits c =
+    let s = c .before .before .before .before .before in
+    bound-fits _ _ _ _ (s .pre .0) (s .pre .1) _ _ (found c) (s .pre .2)
 
 add-end : tie.Need-add-end
 add-end c = omega (arith, room c)

@@ -20,15 +20,21 @@ sub-row : tie.Need-sub-row Inv-loop μ-loop
 sub-row c = omega arith
 
 bound-step-requires : tie.Need-bound-step-requires Inv-loop μ-loop
-bound-step-requires c κs = let l = c .before .loop in (c .before .before .before .pre, omega arith, bound-small _ _ _ (c .before .before .before .pre) _ _ (l .inv .0) (l .inv .1))
+bound-step-requires c κs =
+    let s = c .before .before .before in
+    let loop = c .before .loop in
+    let l = loop in (s .pre, omega arith, bound-small _ _ _ (s .pre) _ _ (l .inv .0) (l .inv .1))
 
 loop-less : tie.Need-loop-less Inv-loop μ-loop
 loop-less c = omega arith
 
 loop-again : tie.Need-loop-again Inv-loop μ-loop
 loop-again c =
-    let l = c .before .before .loop in
-    (omega arith, bound-next _ _ _ (c .before .before .before .before .pre) (l .row) (l .bound) _ (c .before .loop-test .taken) (l .inv .0) (l .inv .1) (c .bound-step .ensures))
+    let s = c .before .before .before .before in
+    let loop = c .before .before .loop in
+    let loop-test = c .before .loop-test in
+    let l = loop in
+    (omega arith, bound-next _ _ _ (s .pre) (l .row) (l .bound) _ (loop-test .taken) (l .inv .0) (l .inv .1) (c .bound-step .ensures))
 
 returns : tie.Need-returns Inv-loop μ-loop
 returns c = let l = c .before .loop in bound-done _ _ _ (c .before .before .before .pre) (l .row) (l .bound) (omega arith) (l .inv .1)

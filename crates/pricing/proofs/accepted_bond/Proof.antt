@@ -30,11 +30,14 @@ slice-aggregate-roll-bond c =
 
 roll-bond-requires : tie.Need-roll-bond-requires
 roll-bond-requires c κs =
-    let s = c .before .before .before .before .before .before .before in (
+    let p6 = c .before .before .before .before .before .before in
+    let node-count = c .before .before .before .before .node-count in
+    let table-of = c .before .before .before .table-of in
+    let s = p6 .before in (
       record {
         tree = s .pre .0;
         paid = s .pre .1;
-        table = prefix-is _ _ (s .pre .0 .few) (s .pre .0 .reverting) _ _ (c .before .before .before .before .node-count .ensures) (c .before .before .before .table-of .ensures);
+        table = prefix-is _ _ (s .pre .0 .few) (s .pre .0 .reverting) _ _ (node-count .ensures) (table-of .ensures);
       },
       omega arith,
     )

@@ -20,23 +20,32 @@ empty-row-requires-2 c κs = search needs
 
 array-share-prefix-table : tie.Need-array-share-prefix-table
 array-share-prefix-table c =
-    let s = c .before .before .before .before .before .before .before in
-    prefix-room _ _ (s .pre .0 .few) (s .pre .0 .reverting) _ _ (c .before .before .before .node-count .ensures) (c .before .before .table-of .ensures)
+    let p6 = c .before .before .before .before .before .before in
+    let node-count = c .before .before .before .node-count in
+    let table-of = c .before .before .table-of in
+    let s = p6 .before in
+    prefix-room _ _ (s .pre .0 .few) (s .pre .0 .reverting) _ _ (node-count .ensures) (table-of .ensures)
 
 slice-aggregate-roll-both : tie.Need-slice-aggregate-roll-both
 slice-aggregate-roll-both c =
-    let s = c .before .before .before .before .before .before .before .before in
+    let p7 = c .before .before .before .before .before .before .before in
+    let node-count = c .before .before .before .before .node-count in
+    let table-of = c .before .before .before .table-of in
+    let s = p7 .before in
     let few = s .pre .0 .few in
     let low = s .pre .0 .reverting in
-    prefix-length _ _ (prefix-room _ _ few low _ _ (c .before .before .before .before .node-count .ensures) (c .before .before .before .table-of .ensures))
+    prefix-length _ _ (prefix-room _ _ few low _ _ (node-count .ensures) (table-of .ensures))
 
 roll-both-requires : tie.Need-roll-both-requires
 roll-both-requires c κs =
-    let s = c .before .before .before .before .before .before .before .before .before .before in (
+    let p9 = c .before .before .before .before .before .before .before .before .before in
+    let node-count = c .before .before .before .before .before .before .node-count in
+    let table-of = c .before .before .before .before .before .table-of in
+    let s = p9 .before in (
       record {
         tree = s .pre .0;
         paid = s .pre .1;
-        table = prefix-is _ _ (s .pre .0 .few) (s .pre .0 .reverting) _ _ (c .before .before .before .before .before .before .node-count .ensures) (c .before .before .before .before .before .table-of .ensures);
+        table = prefix-is _ _ (s .pre .0 .few) (s .pre .0 .reverting) _ _ (node-count .ensures) (table-of .ensures);
       },
       s .pre .2,
       s .pre .3,

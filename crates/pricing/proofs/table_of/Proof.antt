@@ -25,15 +25,22 @@ array-borrow-prefix-table c =
 
 slice-aggregate-down-probabilities : tie.Need-slice-aggregate-down-probabilities
 slice-aggregate-down-probabilities c =
+    let s = c .before .before .before in
+    let half-width = c .before .before .half-width in
+    let empty-row = c .before .empty-row in
     simp length-take
-    (omega (arith, widest-fits _ _ (c .before .before .before .pre .0) (c .before .before .before .pre .1) _ (c .before .before .half-width .ensures), c .before .empty-row .ensures))
+    (omega (arith, widest-fits _ _ (s .pre .0) (s .pre .1) _ (half-width .ensures), empty-row .ensures))
 
 down-probabilities-requires : tie.Need-down-probabilities-requires
 down-probabilities-requires c κs = search needs
 
 returns : tie.Need-returns
 returns c =
-    table-filled _ _ (c .before .before .before .before .before .pre .0) (c .before .before .before .before .before .pre .1) _ _ _ (c .before .before .before .empty-row .ensures) (c .before .before .before .before .half-width .ensures) (c .before .down-probabilities .ensures .1)
+    let s = c .before .before .before .before .before in
+    let half-width = c .before .before .before .before .half-width in
+    let empty-row = c .before .before .before .empty-row in
+    let down-probabilities = c .before .down-probabilities in
+    table-filled _ _ (s .pre .0) (s .pre .1) _ _ _ (empty-row .ensures) (half-width .ensures) (down-probabilities .ensures .1)
 
 pub table-of-spec : {M : Type 1} → statement M
 table-of-spec =

@@ -19,7 +19,10 @@ part-requires c κs =
     table-room _ _ _ _ (s .pre .0 .tree) (s .pre .1) _ (c .before .before .before .row-shape .ensures) _ (s .pre .0 .table)
 
 part-requires-2 : tie.Need-part-requires-2
-part-requires-2 c κs = let s = c .before .before .before .before .before .before .before .before in discount-room _ _ _ _ (s .pre .0 .tree) (s .pre .1) _ (c .before .before .before .before .row-shape .ensures)
+part-requires-2 c κs =
+    let p7 = c .before .before .before .before .before .before .before in
+    let row-shape = c .before .before .before .before .row-shape in
+    let s = p7 .before in discount-room _ _ _ _ (s .pre .0 .tree) (s .pre .1) _ (row-shape .ensures)
 
 flow-of-requires : tie.Need-flow-of-requires
 flow-of-requires c κs = search needs
@@ -38,9 +41,14 @@ bond-row-requires c κs =
 
 returns : tie.Need-returns
 returns c =
-    let s = c .before .before .before .before .before .before .before .before .before .before .before in
-    part-bond _ _ _ _ (s .pre .0 .tree) (s .pre .1) _ (c .before .before .before .before .before .before .before .row-shape .ensures) _ (c .before .before .part2 .ensures) _ (s .pre .0 .table) _ (c .before .before .before .part .ensures)
-    _ _ (c .before .flow-of .ensures) _ _ _ (c .bond-row .ensures)
+    let p10 = c .before .before .before .before .before .before .before .before .before .before in
+    let row-shape = c .before .before .before .before .before .before .before .row-shape in
+    let part = c .before .before .before .part in
+    let part2 = c .before .before .part2 in
+    let flow-of = c .before .flow-of in
+    let s = p10 .before in
+    part-bond _ _ _ _ (s .pre .0 .tree) (s .pre .1) _ (row-shape .ensures) _ (part2 .ensures) _ (s .pre .0 .table) _ (part .ensures)
+    _ _ (flow-of .ensures) _ _ _ (c .bond-row .ensures)
 
 pub bond-step-spec : {M : Type 1} → statement M
 bond-step-spec =

@@ -43,26 +43,36 @@ bond-step-requires c κs =
 
 returns : tie.Need-returns Inv-loop μ-loop
 returns c =
-    let s = c .before .before .before .before .before .before .before .before .before .before .before in
-    let l = c .before .before .before .before .loop in
-    turn-over _ _ _ _ _ (s .pre .0) (l .row) (l .bond) (omega (arith, c .before .before .before .loop-test .taken)) (l .inv .1) _ _ (c .before .bond-step .ensures) (s .args .last)
-    (c .before .before .before .loop-test .taken) (c .if1 .taken)
+    let p10 = c .before .before .before .before .before .before .before .before .before .before in
+    let loop = c .before .before .before .before .loop in
+    let loop-test = c .before .before .before .loop-test in
+    let bond-step = c .before .bond-step in
+    let s = p10 .before in
+    let l = loop in
+    turn-over _ _ _ _ _ (s .pre .0) (l .row) (l .bond) (omega (arith, loop-test .taken)) (l .inv .1) _ _ (bond-step .ensures) (s .args .last)
+    (loop-test .taken) (c .if1 .taken)
 
 loop-less : tie.Need-loop-less Inv-loop μ-loop
 loop-less c = omega (arith, c .before .before .before .loop-test .taken)
 
 loop-again : tie.Need-loop-again Inv-loop μ-loop
 loop-again c =
-    let s = c .before .before .before .before .before .before .before .before .before .before .before in
-    let l = c .before .before .before .before .loop in (
-      omega (arith, c .before .before .before .loop-test .taken),
-      turn-next _ _ _ _ _ (s .pre .0) (l .row) (l .bond) (omega (arith, c .before .before .before .loop-test .taken)) (l .inv .1) _ _ (c .before .bond-step .ensures) (c .if1 .left),
+    let p10 = c .before .before .before .before .before .before .before .before .before .before in
+    let loop = c .before .before .before .before .loop in
+    let loop-test = c .before .before .before .loop-test in
+    let bond-step = c .before .bond-step in
+    let s = p10 .before in
+    let l = loop in (
+      omega (arith, loop-test .taken),
+      turn-next _ _ _ _ _ (s .pre .0) (l .row) (l .bond) (omega (arith, loop-test .taken)) (l .inv .1) _ _ (bond-step .ensures) (c .if1 .left),
     )
 
 returns-2 : tie.Need-returns-2 Inv-loop μ-loop
 returns-2 c =
-    let s = c .before .before .before .before .before .before .before .before in
-    let l = c .before .loop in
+    let p7 = c .before .before .before .before .before .before .before in
+    let loop = c .before .loop in
+    let s = p7 .before in
+    let l = loop in
     bond-rolled _ _ _ _ (s .pre .0 .tree) (s .pre .0 .paid) (s .args .last) (l .row) (l .bond) (omega (arith, l .inv .0, c .loop-test .left)) (l .inv .1)
 
 pub roll-bond-spec : {M : Type 1} → statement M

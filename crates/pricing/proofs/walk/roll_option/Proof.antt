@@ -41,7 +41,11 @@ sub-row : tie.Need-sub-row Inv-loop μ-loop
 sub-row c = omega arith
 
 shared-slice-read-listed : tie.Need-shared-slice-read-listed Inv-loop μ-loop
-shared-slice-read-listed c = omega (arith, c .before .before .before .before .before .before .before .before .before .before .before .pre .2, c .before .before .loop .inv .0, c .before .loop-test .taken)
+shared-slice-read-listed c =
+    let s = c .before .before .before .before .before .before .before .before .before .before .before in
+    let loop = c .before .before .loop in
+    let loop-test = c .before .loop-test in
+    omega (arith, s .pre .2, loop .inv .0, loop-test .taken)
 
 option-step-requires : tie.Need-option-step-requires Inv-loop μ-loop
 unfolding marked
@@ -58,10 +62,14 @@ option-step-requires c κs =
 returns : tie.Need-returns Inv-loop μ-loop
 unfolding marked
 returns c =
-    let s = c .before .before .before .before .before .before .before .before .before .before .before .before .before .before .before in
-    let l = c .before .before .before .before .before .before .loop in
-    turn-both-over _ _ _ _ _ (s .pre .0) _ _ _ (s .pre .1) (l .row) (l .bond) (l .option) (c .before .before .before .before .before .loop-test .taken) (l .inv .1) (l .inv .2)
-    _ refl _ _ _ (c .before .option-step .ensures) (c .if1 .taken)
+    let p14 = c .before .before .before .before .before .before .before .before .before .before .before .before .before .before in
+    let loop = c .before .before .before .before .before .before .loop in
+    let loop-test = c .before .before .before .before .before .loop-test in
+    let option-step = c .before .option-step in
+    let s = p14 .before in
+    let l = loop in
+    turn-both-over _ _ _ _ _ (s .pre .0) _ _ _ (s .pre .1) (l .row) (l .bond) (l .option) (loop-test .taken) (l .inv .1) (l .inv .2)
+    _ refl _ _ _ (option-step .ensures) (c .if1 .taken)
 
 loop-less : tie.Need-loop-less Inv-loop μ-loop
 loop-less c = omega (arith, c .before .before .before .before .before .loop-test .taken)
@@ -69,11 +77,15 @@ loop-less c = omega (arith, c .before .before .before .before .before .loop-test
 loop-again : tie.Need-loop-again Inv-loop μ-loop
 unfolding marked
 loop-again c =
-    let s = c .before .before .before .before .before .before .before .before .before .before .before .before .before .before .before in
-    let l = c .before .before .before .before .before .before .loop in
+    let p14 = c .before .before .before .before .before .before .before .before .before .before .before .before .before .before in
+    let loop = c .before .before .before .before .before .before .loop in
+    let loop-test = c .before .before .before .before .before .loop-test in
+    let option-step = c .before .option-step in
+    let s = p14 .before in
+    let l = loop in
     let n =
-    turn-both-next _ _ _ _ _ (s .pre .0) _ _ _ (s .pre .1) (l .row) (l .bond) (l .option) (c .before .before .before .before .before .loop-test .taken) (l .inv .1) (l .inv .2)
-    _ refl _ _ _ (c .before .option-step .ensures) (c .if1 .left) in
+    turn-both-next _ _ _ _ _ (s .pre .0) _ _ _ (s .pre .1) (l .row) (l .bond) (l .option) (loop-test .taken) (l .inv .1) (l .inv .2)
+    _ refl _ _ _ (option-step .ensures) (c .if1 .left) in
     (omega (arith, l .inv .0), n .0, n .1)
 
 returns-2 : tie.Need-returns-2 Inv-loop μ-loop
