@@ -1,4 +1,5 @@
 pub mod Sizes
+pub mod Destinations
 pub mod Formulas
 pub mod Nodes
 pub mod Differences
