@@ -4,6 +4,7 @@ pub mod Formulas
 pub mod Nodes
 pub mod Differences
 pub mod RateTreeLaws
+pub mod Landing
 pub mod EntryLaws
 pub mod TableLaws
 pub mod TreeEntries
