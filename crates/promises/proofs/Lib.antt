@@ -1,3 +1,4 @@
+pub mod StatePricesKept
 pub mod TreeKept
 pub mod PayoffsKept
 pub mod FitStored

@@ -2,52 +2,95 @@
 -- answer that an entry's contract gives, where its number is 0. m is 600,000,000 × one; the exact pricer's values are held times powers of m.
 -- Assumes nothing.
 use mathlib.Core.Path.{_≡_}
-use mathlib.Core.List.{List}
-use Prim.Native.Nat.{ℕ, suc, _+_, _*_, _^_, _≤_, _<_}
+use mathlib.Core.List.{List, [], _∷_}
+use Prim.Native.Nat.{ℕ, suc, _+_, _-_, _*_, _^_, _≤_, _<_}
 use lib.Dec.{ltb}
 use lib.Ieee.{Float}
-use lib.IntN.{ℤ, pos, negℤ, natAbs, _*ℤ_}
+use lib.IntN.{ℤ, pos, negℤ, natAbs, _+ℤ_, _*ℤ_}
 use lib.ListN.{length, take, drop}
 use lib.Signed.{ltZ}
 use Rattle.arithmetic.specs.Rounding.{one}
 use Rattle.arithmetic.specs.Sum.{sum}
 use Rattle.arithmetic.specs.Row.{values}
 use Rattle.tree.specs.Tree.{unit}
-use Rattle.lattice.specs.Shape.{node-count, row-start, discounts-needed}
-use Rattle.lattice.specs.Branching.{branching, z-of, up-at, middle-at, down-at, up, middle, down, change, square}
+use Rattle.lattice.specs.Shape.{half-width, node-count, row-start, discounts-needed}
+use Rattle.lattice.specs.Branching.{branching, z-of, up-at, middle-at, down-at, up, middle, down, change-to, squared, square-to}
+use Rattle.lattice.specs.RateTree.{rate-tree}
+use Rattle.lattice.specs.declared.Branches.{Branches}
 use Rattle.lattice.specs.Entries.{branchAnswer}
+use Rattle.lent_tree.specs.LentTree.{stored}
+use Rattle.spacing.specs.Spacing.{spacing-answer}
+use Rattle.factor.specs.Series.{scale}
+use Rattle.factor.specs.Factor.{exact-factor, node-answer}
 use Rattle.step_rate.specs.StepRate.{rateAnswer}
 use Rattle.curve.specs.Curve.{discountAt}
 use Rattle.fitting.specs.Entry.{fitNumber, fit-discount, fit-price, fit-memory, fit-discounts, fit-prices}
+use Rattle.fit_laws.specs.StatePrices.{exact-state-price}
+use Rattle.state_price_bound.specs.ErrorBound.{statePriceErrorBound}
 use Rattle.pricing.specs.Prices.{bondPrice, optionPrice}
 use Rattle.pricing.specs.Exact.{exact-bond, exact-option, exact-payoff}
 use Rattle.valuation.specs.Entries.{valueByStatePrices, valuationErrorBound}
 
--- ---- branching, rates and fit
+-- ---- branching, spacing, factors, rates and fit
 
--- the probabilities of node j: the paper's formulas, none below 0, with exact sum, mean −z / 10,000 and variance 1/3
-pub record Probabilities (b : ℕ) (j : ℤ) : Type 0 where
+-- the branch of node j of row i: the paper's formulas, none below 0, as one group with exact sum; to three neighbouring nodes of the next row;
+-- and over those very nodes the mean −z / 10,000 and the variance 1/3
+pub record Branched (b i : ℕ) (j : ℤ) (a : Branches) : Type 0 where
   pub up-whole : up-at (branching b j) (z-of b j) ≡ pos (up b j)
   pub middle-whole : middle-at (branching b j) (z-of b j) ≡ pos (middle b j)
   pub down-whole : down-at (branching b j) (z-of b j) ≡ pos (down b j)
+  pub group : a .probabilities ≡ up b j ∷ middle b j ∷ down b j ∷ []
   pub total : up b j + middle b j + down b j ≡ 600000000
-  pub mean : pos 10000 *ℤ change b j ≡ negℤ (pos 600000000 *ℤ z-of b j)
-  pub variance : 3 * (600000000 * square b j) ≡ 600000000 * 600000000 + 3 * (natAbs (change b j) * natAbs (change b j))
+  pub lands : (m : ℕ) → m ≤ 2 → natAbs (a .lowest +ℤ pos m) ≤ half-width b (suc i)
+  pub mean : pos 10000 *ℤ change-to j (a .lowest) (up b j) (middle b j) (down b j) ≡ negℤ (pos 600000000 *ℤ z-of b j)
+  pub variance :
+      3 * (600000000 * square-to j (a .lowest) (up b j) (middle b j) (down b j))
+      ≡ 600000000 * 600000000 + 3 * squared (change-to j (a .lowest) (up b j) (middle b j) (down b j))
+
+-- a value within e of an exact one, which is held times M
+pub record Near (M e value exact : ℕ) : Type 0 where
+  pub above : M * value ≤ exact + M * e
+  pub below : exact ≤ M * (value + e)
+
+-- rows stand one after the other, without a gap: each starts where the one before it ends
+pub record Tiled (b : ℕ) : Type 0 where
+  pub first : row-start b 0 ≡ 0
+  pub next : (i : ℕ) → row-start b (suc i) ≡ row-start b i + node-count b i
+
+-- h is the greatest whole number with h² × f³ ≤ 3 × (1,000 s)²
+pub record Spaced (f s h : ℕ) : Type 0 where
+  pub passes : h * h * (f * f * f) ≤ 3 * (1000 * s * (1000 * s))
+  pub greatest : (g : ℕ) → g * g * (f * f * f) ≤ 3 * (1000 * s * (1000 * s)) → g ≤ h
 
 -- a quote and the sum of its row's state prices are at most 300 billionths apart
 pub record Repriced (quote total : ℕ) : Type 0 where
   pub below : quote ≤ total + 300
   pub above : total ≤ quote + 300
 
+-- fitted state prices of row i: at most the exact ones, which are held times m^i, and short of them in sum by at most the allowance
+pub record State-priced (b i : ℕ) (fitted exact : ℕ → ℕ) (allowance : ℕ) : Type 0 where
+  pub below : (k : ℕ) → k < node-count b i → unit ^ i * fitted k ≤ exact k
+  pub short : sum (node-count b i) (λ k. exact k - unit ^ i * fitted k) ≤ unit ^ i * allowance
+
 -- f steps a year, n steps, reversion b, volatility s; quotes as rows, kinds and figures; the lengths of both memories
 pub record Tree-promises : Type 0 where
-  pub probabilities-exact : (b i : ℕ) (j : ℤ) → branchAnswer b i j .number ≡ 0 → Probabilities b j
+  pub branches-exact : (b i : ℕ) (j : ℤ) → branchAnswer b i j .number ≡ 0 → Branched b i j (branchAnswer b i j)
+  pub rows-tiled : (b : ℕ) → Tiled b
+  pub spacing-greatest : (f s : ℕ) → spacing-answer f s .number ≡ 0 → Spaced f s (spacing-answer f s .value)
+  -- U(j) is within 14 of the same series in exact fractions, held times 12! × one^11
+  pub factors-near : (j : ℤ) (h : ℕ) → node-answer j h .number ≡ 0 → Near scale 14 (node-answer j h .value) (exact-factor j h)
   -- a step rate is negative exactly where the discount is above one, positive exactly where it is below
   pub sign-of-rates : (v : ℕ) → rateAnswer v .number ≡ 0 →
       (ltZ (rateAnswer v .value) (pos 0) ≡ ltb one v) × (ltZ (pos 0) (rateAnswer v .value) ≡ ltb v one)
   pub quotes-repriced : (f n b s : ℕ) (rows kinds : List ℕ) (figures : List Float) (room-discounts room-prices : ℕ) →
       fitNumber f n b s rows kinds figures room-discounts room-prices ≡ 0 → (i : ℕ) → i < n →
       Repriced (discountAt f kinds figures i) (sum (node-count b (suc i)) (fit-price f n b s kinds figures (suc i)))
+  -- against the exact state prices of the same fit's node discounts, with the allowance that the entry gives for these
+  pub state-prices-near : (f n b s : ℕ) (rows kinds : List ℕ) (figures : List Float) (room-discounts room-prices : ℕ) →
+      fitNumber f n b s rows kinds figures room-discounts room-prices ≡ 0 → (i : ℕ) → i ≤ n →
+      (statePriceErrorBound n b (fit-discounts f n b s kinds figures) i .number ≡ 0)
+      × State-priced b i (fit-price f n b s kinds figures i) (exact-state-price (rate-tree b) (stored b (fit-discounts f n b s kinds figures)) i)
+      (statePriceErrorBound n b (fit-discounts f n b s kinds figures) i .value)
 
 -- ---- prices
 
