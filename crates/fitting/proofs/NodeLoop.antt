@@ -93,7 +93,8 @@ module _ (quote z : ℕ) (prices factors downs d₀ s₀ : List ℕ) (ready : St
             spread =
                 sums-next (row-transition downs (length s₀)) (length prices) (length s₀) (values prices) (ratio quote factors z)
                 (ready .inside) (ready .total) (ready .most) k hk (g .good) this s s′ (values prices k * ratio quote factors z k / one) refl (g .spread)
-                (e ∙ ap (λ (m : ℕ). row (length s) (λ j. values s j + chance (row-transition downs m) k j * (values prices k * ratio quote factors z k / one))) sums-length);
+                (e ∙ ap (λ (m : ℕ). row (length s) (λ j. values s j + chance (row-transition downs m) k j
+                * (values prices k * ratio quote factors z k / one))) sums-length);
             good = each-more k (λ i. is-discount (ratio quote factors z i)) (g .good) this;
           }
 

@@ -74,10 +74,12 @@ module _ (at next quote : ℕ) (factors downs discounts prices sums : List ℕ)
   -- the memories as the row's own step leaves them
   module _ (r : Bool) (d′ : List ℕ)
       (er : r ≡ each (length (take (at + length factors - at) (drop at prices)))
-      (λ k. is-discount (discount (length (take (at + length factors - at) (drop at prices))) (values (take (at + length factors - at) (drop at prices))) (values factors) quote k)))
+      (λ k. is-discount (discount (length (take (at + length factors - at) (drop at prices)))
+      (values (take (at + length factors - at) (drop at prices))) (values factors) quote k)))
       (ld : length d′ ≡ length (take (at + length factors - at) (drop at discounts)))
       (ed : r ≡ true → d′ ≡ row (length (take (at + length factors - at) (drop at prices)))
-      (discount (length (take (at + length factors - at) (drop at prices))) (values (take (at + length factors - at) (drop at prices))) (values factors) quote)) where
+      (discount (length (take (at + length factors - at) (drop at prices)))
+      (values (take (at + length factors - at) (drop at prices))) (values factors) quote)) where
     pub row-tested : r ≡ each (length factors) (λ k. is-discount
         (discount (length factors) (values (take (length factors) (drop at prices))) (values factors) quote k))
     row-tested = er ∙ rw (lent-length, part-is prices at (length factors))
@@ -95,9 +97,11 @@ module _ (at next quote : ℕ) (factors downs discounts prices sums : List ℕ)
         ∙ place-past discounts d′ at (length factors) (ld ∙ lent-discounts) (omega (arith, ready .room-discounts))
 
   module _ (s′ : List ℕ)
-      (es : s′ ≡ row (length (take next sums)) (incoming (row-transition downs (length (take next sums))) (length (take (at + length factors - at) (drop at prices)))
+      (es : s′ ≡ row (length (take next sums)) (incoming (row-transition downs (length (take next sums)))
+      (length (take (at + length factors - at) (drop at prices)))
       (carried (values (take (at + length factors - at) (drop at prices)))
-      (discount (length (take (at + length factors - at) (drop at prices))) (values (take (at + length factors - at) (drop at prices))) (values factors) quote)))) where
+      (discount (length (take (at + length factors - at) (drop at prices)))
+      (values (take (at + length factors - at) (drop at prices))) (values factors) quote)))) where
     sums-known : s′ ≡ row next (incoming (row-transition downs next) (length factors) (carried (values (take (length factors) (drop at prices)))
         (discount (length factors) (values (take (length factors) (drop at prices))) (values factors) quote)))
     sums-known = es ∙ rw (front-length, lent-length, part-is prices at (length factors))
@@ -114,14 +118,16 @@ module _ (at next quote : ℕ) (factors downs discounts prices sums : List ℕ)
     next-length : length (take (at + length factors + next - (at + length factors)) (drop (at + length factors) prices)) ≡ next
     next-length = lent-part-length prices (at + length factors) next (ready .room-prices)
 
-    pub divide-asks : length (take next (s′ ++ drop next sums)) ≡ length (take (at + length factors + next - (at + length factors)) (drop (at + length factors) prices))
+    pub divide-asks : length (take next (s′ ++ drop next sums))
+        ≡ length (take (at + length factors + next - (at + length factors)) (drop (at + length factors) prices))
     divide-asks = front-again ∙ sym next-length
 
     pub row-stepped : (p′ : List ℕ) →
         p′ ≡ row (length (take (at + length factors + next - (at + length factors)) (drop (at + length factors) prices)))
         (λ j. values (take next (s′ ++ drop next sums)) j / 600000000) →
         replaced (at + length factors) (at + length factors + next - (at + length factors)) prices p′
-        ≡ place prices (at + length factors) (row next (next-price (row-transition downs next) (length factors) (values (take (length factors) (drop at prices)))
+        ≡ place prices (at + length factors) (row next (next-price (row-transition downs next) (length factors)
+        (values (take (length factors) (drop at prices)))
         (discount (length factors) (values (take (length factors) (drop at prices))) (values factors) quote)))
     unfolding next-price
     row-stepped p′ ep =

@@ -136,7 +136,8 @@ pub(crate) fn step_row(
         (discount (length (now (prices .entry))) (values (now (prices .entry))) (values (now (factors .entry))) quote)) ⌝ }
     ensures spreads { λ r. ⌜ (r ≡ true → now (sums .exit) ≡ row (length (now (sums .entry)))
         (incoming (row-transition (now (downs .entry)) (length (now (sums .entry)))) (length (now (prices .entry)))
-        (carried (values (now (prices .entry))) (discount (length (now (prices .entry))) (values (now (prices .entry))) (values (now (factors .entry))) quote)))) ⌝ }
+        (carried (values (now (prices .entry)))
+        (discount (length (now (prices .entry))) (values (now (prices .entry))) (values (now (factors .entry))) quote)))) ⌝ }
 {
     let z = normaliser_of(prices, factors);
     clear(sums);

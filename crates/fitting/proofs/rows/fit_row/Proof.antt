@@ -44,14 +44,12 @@ slice-relend-prefix-step-row c = search needs
 slice-aggregate-step-row : tie.Need-slice-aggregate-step-row
 slice-aggregate-step-row c =
     let s = c .before .before .before .before .before .before .before .before .before in
-    sym (laws.front-length (s .args .at) (s .args .next) (s .args .quote) (s .args .factors .now) (s .args .downs .now) (s .args .discounts .now) (s .args .prices .now)
-    (s .args .sums .now) (s .pre))
+    sym (laws.front-length _ _ _ _ _ _ _ _ (s .pre))
 
 step-row-requires : tie.Need-step-row-requires
 step-row-requires c κs =
     let s = c .before .before .before .before .before .before .before .before .before in
-    laws.row-asks (s .args .at) (s .args .next) (s .args .quote) (s .args .factors .now) (s .args .downs .now) (s .args .discounts .now) (s .args .prices .now)
-    (s .args .sums .now) (s .pre)
+    laws.row-asks _ _ _ _ _ _ _ _ (s .pre)
 
 same-length : tie.Need-same-length
 same-length c = search needs
@@ -67,15 +65,11 @@ returns c =
     let s = c .before .before .before .before .before .before .before .before .before .before .before .before .before .before .before in
     let step = c .before .before .before .before .before .step-row in
     let refused = not-true _ (c .if1 .taken) in (
-      sym refused ∙ laws.row-tested (s .args .at) (s .args .next) (s .args .quote) (s .args .factors .now) (s .args .downs .now) (s .args .discounts .now) (s .args .prices .now)
-          (s .args .sums .now) (s .pre)
-          _ _ (step .ensures .0) (step .kept .1 .1 .1 .1 .0) (step .ensures .1 .0),
+      sym refused ∙ laws.row-tested _ _ _ _ _ _ _ _ (s .pre) _ _ (step .ensures .0) (step .kept .1 .1 .1 .1 .0) (step .ensures .1 .0),
       (
         (
           λ e. never e,
-          laws.row-kept (s .args .at) (s .args .next) (s .args .quote) (s .args .factors .now) (s .args .downs .now) (s .args .discounts .now) (s .args .prices .now)
-              (s .args .sums .now) (s .pre)
-              _ _ (step .ensures .0) (step .kept .1 .1 .1 .1 .0) (step .ensures .1 .0),
+          laws.row-kept _ _ _ _ _ _ _ _ (s .pre) _ _ (step .ensures .0) (step .kept .1 .1 .1 .1 .0) (step .ensures .1 .0),
         ),
         refl,
       ),
@@ -87,9 +81,8 @@ slice-reshare-prefix-divide c = search needs
 slice-aggregate-divide : tie.Need-slice-aggregate-divide
 slice-aggregate-divide c =
     let s = c .before .before .before .before .before .before .before .before .before .before .before .before .before .before .before .before in
-    sym (laws.front-again (s .args .at) (s .args .next) (s .args .quote) (s .args .factors .now) (s .args .downs .now) (s .args .discounts .now) (s .args .prices .now)
-    (s .args .sums .now) (s .pre)
-    _ (c .before .before .before .before .before .before .step-row .ensures .1 .1 (not-false _ (c .before .if1 .left))))
+    let spreads = c .before .before .before .before .before .before .step-row .ensures .1 .1 in
+    sym (laws.front-again _ _ _ _ _ _ _ _ (s .pre) _ (spreads (not-false _ (c .before .if1 .left))))
 
 mul-divide : tie.Need-mul-divide
 mul-divide c = search needs
@@ -106,9 +99,8 @@ part-divide-end c = search needs
 divide-requires : tie.Need-divide-requires
 divide-requires c κs =
     let s = c .before .before .before .before .before .before .before .before .before .before .before .before .before .before .before .before .before in
-    laws.divide-asks (s .args .at) (s .args .next) (s .args .quote) (s .args .factors .now) (s .args .downs .now) (s .args .discounts .now) (s .args .prices .now)
-    (s .args .sums .now) (s .pre)
-    _ (c .before .before .before .before .before .before .before .step-row .ensures .1 .1 (not-false _ (c .before .before .if1 .left)))
+    let spreads = c .before .before .before .before .before .before .before .step-row .ensures .1 .1 in
+    laws.divide-asks _ _ _ _ _ _ _ _ (s .pre) _ (spreads (not-false _ (c .before .before .if1 .left)))
 
 same-length-4 : tie.Need-same-length-4
 same-length-4 c = search needs
@@ -121,24 +113,17 @@ same-length-6 c = search needs
 
 returns-2 : tie.Need-returns-2
 returns-2 c =
-    let s = c .before .before .before .before .before .before .before .before .before .before .before .before .before .before .before .before .before .before .before .before in
-    let step = c .before .before .before .before .before .before .before .before .before .before .step-row in
+    let stepped = c .before .before .before .before .before .before .before .before .before .before in
+    let s = stepped .before .before .before .before .before .before .before .before .before .before in
+    let step = stepped .step-row in
     let accepted = not-false _ (c .before .before .before .before .before .if1 .left) in (
-      sym accepted ∙ laws.row-tested (s .args .at) (s .args .next) (s .args .quote) (s .args .factors .now) (s .args .downs .now) (s .args .discounts .now) (s .args .prices .now)
-          (s .args .sums .now) (s .pre)
-          _ _ (step .ensures .0) (step .kept .1 .1 .1 .1 .0) (step .ensures .1 .0),
+      sym accepted ∙ laws.row-tested _ _ _ _ _ _ _ _ (s .pre) _ _ (step .ensures .0) (step .kept .1 .1 .1 .1 .0) (step .ensures .1 .0),
       (
         (
-          λ _. laws.row-filled (s .args .at) (s .args .next) (s .args .quote) (s .args .factors .now) (s .args .downs .now) (s .args .discounts .now) (s .args .prices .now)
-              (s .args .sums .now) (s .pre)
-              _ _ (step .ensures .0) (step .kept .1 .1 .1 .1 .0) (step .ensures .1 .0) accepted,
-          laws.row-kept (s .args .at) (s .args .next) (s .args .quote) (s .args .factors .now) (s .args .downs .now) (s .args .discounts .now) (s .args .prices .now)
-              (s .args .sums .now) (s .pre)
-              _ _ (step .ensures .0) (step .kept .1 .1 .1 .1 .0) (step .ensures .1 .0),
+          λ _. laws.row-filled _ _ _ _ _ _ _ _ (s .pre) _ _ (step .ensures .0) (step .kept .1 .1 .1 .1 .0) (step .ensures .1 .0) accepted,
+          laws.row-kept _ _ _ _ _ _ _ _ (s .pre) _ _ (step .ensures .0) (step .kept .1 .1 .1 .1 .0) (step .ensures .1 .0),
         ),
-        laws.row-stepped (s .args .at) (s .args .next) (s .args .quote) (s .args .factors .now) (s .args .downs .now) (s .args .discounts .now) (s .args .prices .now)
-            (s .args .sums .now) (s .pre)
-            _ (step .ensures .1 .1 accepted) _ (c .before .before .divide .ensures),
+        laws.row-stepped _ _ _ _ _ _ _ _ (s .pre) _ (step .ensures .1 .1 accepted) _ (c .before .before .divide .ensures),
       ),
     )
 

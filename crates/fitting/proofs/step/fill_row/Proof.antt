@@ -2,7 +2,7 @@
 -- Assumes nothing.
 use mathlib.Core.Path.{_≡_, sym, _∙_}
 use mathlib.Core.Bool.{true}
-use Prim.Native.Nat.{_-_}
+use Prim.Native.Nat.{ℕ, _-_}
 use native.Mathlib.Omega.{arith}
 use lib.ListN.{length}
 use borrow.Author.Needs.{needs}
@@ -23,13 +23,20 @@ abbrev μ-loop : tie.MeasureT-loop
 abbrev start : tie.In-loop Inv-loop μ-loop → tie.Start Inv-loop μ-loop
 start c = c .before .before .before .before .before .before .before
 
+abbrev looped : tie.Else1 Inv-loop μ-loop → tie.In-loop Inv-loop μ-loop
+looped c = c .before .before .before
+
+abbrev quotient : tie.Else1 Inv-loop μ-loop → ℕ
+quotient c =
+    let s = start (looped c) in
+    laws.ratio (s .args .quote) (s .args .factors .now) (s .args .z) (looped c .before .loop .k)
+
 -- the discount of this node is accepted
-accepted : (c : tie.Else1 Inv-loop μ-loop) →
-    is-discount (laws.ratio (start (c .before .before .before) .args .quote) (start (c .before .before .before) .args .factors .now) (start (c .before .before .before) .args .z) (c .before .before .before .before .loop .k)) ≡ true
+accepted : (c : tie.Else1 Inv-loop μ-loop) → is-discount (quotient c) ≡ true
 accepted c = sym (c .before .is-discount .ensures) ∙ not-false _ (c .if1 .left)
 
 loop-holds : tie.Need-loop-holds Inv-loop μ-loop
-loop-holds c = let s = c .before .before .before .before .before in laws.stepping-start (s .args .quote) (s .args .z) (s .args .prices .now) (s .args .factors .now) (s .args .downs .now) (s .args .discounts .now) (s .args .sums .now) (s .pre .2)
+loop-holds c = let s = c .before .before .before .before .before in laws.stepping-start _ _ _ _ _ _ _ (s .pre .2)
 
 mul-discount : tie.Need-mul-discount Inv-loop μ-loop
 mul-discount c = search needs
@@ -37,16 +44,14 @@ mul-discount c = search needs
 shared-slice-read-discount : tie.Need-shared-slice-read-discount Inv-loop μ-loop
 shared-slice-read-discount c =
     let s = start (c .before) in
-    laws.factor-there (s .args .quote) (s .args .z) (s .args .prices .now) (s .args .factors .now) (s .args .downs .now) (s .args .discounts .now) (s .args .sums .now)
-    (s .pre .0) _ _ _ (c .before .before .loop .inv) (omega arith)
+    laws.factor-there _ _ _ _ _ _ _ (s .pre .0) _ _ _ (c .before .before .loop .inv) (omega arith)
 
 mul-discount-2 : tie.Need-mul-discount-2 Inv-loop μ-loop
 mul-discount-2 c =
     let s = start (c .before) in
     omega (
       arith,
-      laws.quoted-fits (s .args .quote) (s .args .z) (s .args .prices .now) (s .args .factors .now) (s .args .downs .now) (s .args .discounts .now) (s .args .sums .now)
-          (s .pre .0) _ _ _ (c .before .before .loop .inv) (omega arith),
+      laws.quoted-fits _ _ _ _ _ _ _ (s .pre .0) _ _ _ (c .before .before .loop .inv) (omega arith),
     )
 
 div-discount : tie.Need-div-discount Inv-loop μ-loop
@@ -61,14 +66,13 @@ same-length c = c .before .before .before .before .loop .inv .filled .same
 same-length-2 : tie.Need-same-length-2 Inv-loop μ-loop
 same-length-2 c =
     let s = start (c .before .before .before) in
-    laws.sums-length (s .args .quote) (s .args .z) (s .args .prices .now) (s .args .factors .now) (s .args .downs .now) (s .args .discounts .now) (s .args .sums .now)
-    (s .pre .0) _ _ _ (c .before .before .before .before .loop .inv)
+    laws.sums-length _ _ _ _ _ _ _ (s .pre .0) _ _ _ (c .before .before .before .before .loop .inv)
 
 returns : tie.Need-returns Inv-loop μ-loop
 returns c =
     let s = start (c .before .before .before) in (
-      laws.stepping-fails (s .args .quote) (s .args .z) (s .args .prices .now) (s .args .factors .now) (s .args .downs .now) (s .args .discounts .now) (s .args .sums .now)
-          (s .pre .0) _ _ _ (c .before .before .before .before .loop .inv) (omega arith) (sym (c .before .is-discount .ensures) ∙ not-true _ (c .if1 .taken)),
+      laws.stepping-fails _ _ _ _ _ _ _ (s .pre .0) _ _ _ (c .before .before .before .before .loop .inv) (omega arith)
+          (sym (c .before .is-discount .ensures) ∙ not-true _ (c .if1 .taken)),
       (λ e. never e, λ e. never e),
     )
 
@@ -80,8 +84,7 @@ slice-write-discounts c =
     let s = start (c .before .before .before) in
     omega (
       arith,
-      laws.discounts-length (s .args .quote) (s .args .z) (s .args .prices .now) (s .args .factors .now) (s .args .downs .now) (s .args .discounts .now) (s .args .sums .now)
-          (s .pre .0) _ _ _ (c .before .before .before .before .loop .inv),
+      laws.discounts-length _ _ _ _ _ _ _ (s .pre .0) _ _ _ (c .before .before .before .before .loop .inv),
     )
 
 mul-spread-node : tie.Need-mul-spread-node Inv-loop μ-loop
@@ -95,15 +98,13 @@ mul-spread-node-2 c =
     let s = start (c .before .before .before .before) in
     omega (
       arith,
-      laws.product-fits (s .args .quote) (s .args .z) (s .args .prices .now) (s .args .factors .now) (s .args .downs .now) (s .args .discounts .now) (s .args .sums .now)
-          (s .pre .0) _ _ _ (c .before .before .before .before .before .loop .inv) (omega arith) (accepted (c .before)),
+      laws.product-fits _ _ _ _ _ _ _ (s .pre .0) _ _ _ (c .before .before .before .before .before .loop .inv) (omega arith) (accepted (c .before)),
     )
 
 spread-node-requires : tie.Need-spread-node-requires Inv-loop μ-loop
 spread-node-requires c κs =
     let s = start (c .before .before .before .before .before) in
-    laws.spread-asks (s .args .quote) (s .args .z) (s .args .prices .now) (s .args .factors .now) (s .args .downs .now) (s .args .discounts .now) (s .args .sums .now)
-    (s .pre .0) _ _ _ (c .before .before .before .before .before .before .loop .inv) (omega arith) (accepted (c .before .before))
+    laws.spread-asks _ _ _ _ _ _ _ (s .pre .0) _ _ _ (c .before .before .before .before .before .before .loop .inv) (omega arith) (accepted (c .before .before))
 
 add-k : tie.Need-add-k Inv-loop μ-loop
 add-k c = search needs
@@ -113,9 +114,10 @@ loop-less c = search needs
 
 loop-again : tie.Need-loop-again Inv-loop μ-loop
 loop-again c =
-    let s = start (c .before .before .before .before .before .before .before .before) in
-    laws.stepping-next (s .args .quote) (s .args .z) (s .args .prices .now) (s .args .factors .now) (s .args .downs .now) (s .args .discounts .now) (s .args .sums .now)
-    (s .pre .0) _ _ _ (c .before .before .before .before .before .before .before .before .before .loop .inv) (omega arith) (accepted (c .before .before .before .before .before)) _ (c .before .before .spread-node .ensures)
+    let place = c .before .before .before .before .before in
+    let s = start (looped place) in
+    laws.stepping-next _ _ _ _ _ _ _ (s .pre .0) _ _ _ (looped place .before .loop .inv) (omega arith) (accepted place)
+    _ (c .before .before .spread-node .ensures)
 
 same-length-3 : tie.Need-same-length-3 Inv-loop μ-loop
 same-length-3 c = c .before .loop .inv .filled .same
@@ -123,21 +125,17 @@ same-length-3 c = c .before .loop .inv .filled .same
 same-length-4 : tie.Need-same-length-4 Inv-loop μ-loop
 same-length-4 c =
     let s = c .before .before .before .before .before .before .before in
-    laws.sums-length (s .args .quote) (s .args .z) (s .args .prices .now) (s .args .factors .now) (s .args .downs .now) (s .args .discounts .now) (s .args .sums .now)
-    (s .pre .0) _ _ _ (c .before .loop .inv)
+    laws.sums-length _ _ _ _ _ _ _ (s .pre .0) _ _ _ (c .before .loop .inv)
 
 returns-2 : tie.Need-returns-2 Inv-loop μ-loop
 returns-2 c =
     let s = c .before .before .before .before .before .before .before in
     let g = c .before .loop .inv in
     let e : c .before .loop .k ≡ length (s .args .prices .now) = omega (arith, g .within) in (
-      laws.stepping-good (s .args .quote) (s .args .z) (s .args .prices .now) (s .args .factors .now) (s .args .downs .now) (s .args .discounts .now) (s .args .sums .now)
-          (s .pre .0) _ _ _ g e,
+      laws.stepping-good _ _ _ _ _ _ _ (s .pre .0) _ _ _ g e,
       (
-        λ _. laws.stepping-filled (s .args .quote) (s .args .z) (s .args .prices .now) (s .args .factors .now) (s .args .downs .now) (s .args .discounts .now) (s .args .sums .now)
-            (s .pre .0) _ _ _ g e,
-        λ _. laws.stepping-spread (s .args .quote) (s .args .z) (s .args .prices .now) (s .args .factors .now) (s .args .downs .now) (s .args .discounts .now) (s .args .sums .now)
-            (s .pre .0) _ _ _ g e,
+        λ _. laws.stepping-filled _ _ _ _ _ _ _ (s .pre .0) _ _ _ g e,
+        λ _. laws.stepping-spread _ _ _ _ _ _ _ (s .pre .0) _ _ _ g e,
       ),
     )
 

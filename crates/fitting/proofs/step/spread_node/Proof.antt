@@ -20,7 +20,8 @@ same-length c = search needs
 returns : tie.Need-returns
 returns c =
     let s = c .before .before .before .before .before .before .before in
-    spread-once (s .args .downs .now) (s .args .index) (s .args .amount) (s .args .sums .now) _ _ (c .before .before .before .before .row-branch .ensures) (c .before .before .scatter .ensures)
+    spread-once (s .args .downs .now) (s .args .index) (s .args .amount) (s .args .sums .now) _ _
+    (c .before .before .before .before .row-branch .ensures) (c .before .before .scatter .ensures)
 
 pub spread-node-spec : {M : Type 1} → statement M
 spread-node-spec = tie.close (tie.spec row-branch-requires scatter-requires same-length returns)

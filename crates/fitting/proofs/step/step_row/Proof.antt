@@ -33,6 +33,7 @@ returns : tie.Need-returns
 returns c =
     let s = c .before .before .before .before .before .before .before .before .before .before .before .before .before .before .before .before .before in
     let filled = c .before .before .before .before .fill-row .ensures in
+    let cleared = c .before .before .before .before .before .before .before .before .before .clear .ensures in
     let z = c .before .before .before .before .before .before .before .before .before .before .before .normaliser-of .ensures in (
       laws.discounts-tested (length (s .args .prices .now)) _ (s .args .quote) (values (s .args .prices .now)) (values (s .args .factors .now)) z
           _ (filled .0),
@@ -40,7 +41,7 @@ returns c =
         λ t. laws.discounts-row (length (s .args .prices .now)) _ (s .args .quote) (values (s .args .prices .now)) (values (s .args .factors .now)) z
             _ (filled .1 .0 t),
         λ t. laws.sums-row (length (s .args .prices .now)) _ (s .args .quote) (values (s .args .prices .now)) (values (s .args .factors .now)) z
-            (s .args .downs .now) (s .args .sums .now) _ _ (c .before .before .before .before .before .before .before .before .before .clear .ensures) (filled .1 .1 t),
+            (s .args .downs .now) (s .args .sums .now) _ _ cleared (filled .1 .1 t),
       ),
     )
 
