@@ -346,8 +346,8 @@ struct plain_prices plain_bond_and_option(size_t n, uint64_t b, const uint64_t *
             exercise_row(right, 2 * w + 1, bonds[!at], options[!at]);
         bound = next_bound(discounts + start, 2 * w + 1, bound);
     }
-    const struct plain_price bond = {0, bonds[at][0], bound}, option = {0, options[at][0], bound};
-    return (struct plain_prices){bond, other ? refused(other) : option};
+    const struct plain_price bond = {0, bonds[at][0], bound};
+    return (struct plain_prices){bond, other ? refused(other) : (struct plain_price){0, options[at][0], bound}};
 }
 
 struct plain_price plain_option(size_t n, uint64_t b, const uint64_t *discounts, const uint64_t *flows, uint64_t kind,
