@@ -19,12 +19,12 @@ use Rattle.lattice.proofs.Sizes.{row-ends, start-most, start-suc, count-within}
 use Rattle.row_view.specs.declared.RowKind.{RowKind}
 use Rattle.row_view.specs.RowView.{is-tree, holds-tree, stores-row, memory-of, is-shown, view-start, view-count, PartOf}
 use Rattle.row_view.proofs.ViewLaws.{is-stored}
-use Rattle.text.specs.Put.{Put}
+use Rattle.text_laws.specs.Put.{Put}
 use Rattle.node_lines.specs.Rows.{nodeText, rowText, hasRoomFor, rowStart, withRow}
 use Rattle.node_lines.proofs.RowLaws.{lines-room, text-room}
-use Rattle.text.specs.Lines.{rowLine, priceLine, lineStart, withLine, bondWord, optionWord}
-use Rattle.text.proofs.LineLaws.{row-room, price-room, line-stands, line-before}
-use Rattle.text.proofs.PutLaws.{put-none, put-before, put-whole}
+use Rattle.text_laws.specs.Lines.{rowLine, priceLine, lineStart, withLine, bondWord, optionWord}
+use Rattle.text_laws.proofs.LineLaws.{row-room, price-room, line-stands, line-before}
+use Rattle.text_laws.proofs.PutLaws.{put-none, put-before, put-whole}
 use Rattle.pricing.specs.declared.Price.{Price}
 use Rattle.arithmetic.specs.declared.Answer.{Answer}
 use Rattle.arithmetic.proofs.Numbers.{by-equal}

@@ -13,7 +13,7 @@ use lib.Seq.{getD-take}
 use Rattle.arithmetic.specs.Row.{row}
 use Rattle.arithmetic.proofs.RowLaws.{Filled, row-of}
 use Rattle.figure.specs.Figure.{patternFloat}
-use Rattle.text.specs.Put.{putBefore, Put}
+use Rattle.text_laws.specs.Put.{putBefore, Put}
 use Rattle.pricing.specs.declared.Price.{Price}
 use Rattle.pricing.specs.Prices.{refusal, first-cause, bondPrice, optionPrice}
 use Rattle.arithmetic.proofs.Numbers.{by-equal, by-order}
@@ -21,7 +21,7 @@ use Rattle.jobs.specs.declared.OptionRecord.{OptionRecord}
 use Rattle.jobs.specs.declared.Job.{Job}
 use Rattle.jobs.specs.declared.Reading.{Reading}
 use Rattle.jobs.specs.Reader.{readingOf}
-use Rattle.text.specs.Lines.{refusedLine, hasRoom, lineStart, withLine}
+use Rattle.text_laws.specs.Lines.{refusedLine, hasRoom, lineStart, withLine}
 use Rattle.arithmetic.specs.Answers.{lowest-cause}
 use Rattle.fitting.specs.Entry.{quotes-of, fitNumber, fit-discounts, fit-prices}
 use Rattle.arithmetic.proofs.CauseLaws.{lowest-none}

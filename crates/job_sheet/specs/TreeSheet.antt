@@ -10,7 +10,7 @@ use Rattle.arithmetic.specs.Row.{values}
 use Rattle.lattice.specs.Shape.{node-count, row-start}
 use Rattle.state_price_bound.specs.ErrorBound.{statePriceErrorBound}
 use Rattle.pricing.specs.declared.Price.{Price}
-use Rattle.text.specs.Lines.{rowLine, bondLine, optionLine}
+use Rattle.text_laws.specs.Lines.{rowLine, bondLine, optionLine}
 use Rattle.node_lines.specs.Rows.{lines, rowText}
 
 -- the part of a memory that contains row i

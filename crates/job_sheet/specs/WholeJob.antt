@@ -15,9 +15,9 @@ use Rattle.pricing.specs.Prices.{refusal, first-cause, bondPrice, optionPrice}
 use Rattle.jobs.specs.declared.OptionRecord.{OptionRecord}
 use Rattle.jobs.specs.declared.Job.{Job}
 use Rattle.jobs.specs.Reader.{readingOf}
-use Rattle.text.specs.Lines.{refusedLine, lineStart, withLine}
+use Rattle.text_laws.specs.Lines.{refusedLine, lineStart, withLine}
 use Rattle.sheet_room.specs.Room.{sheetRoom}
-use Rattle.text.specs.Put.{putBefore}
+use Rattle.text_laws.specs.Put.{putBefore}
 use Rattle.job_sheet.specs.TreeSheet.{treeSheet}
 use Rattle.job_sheet.specs.declared.Written.{Written}
 

@@ -4,7 +4,7 @@ ghost use mathlib.Core.Bool.{Bool};
 ghost use Prim.Native.Nat.{ℕ, suc, _+_, _*_, _≤_, _<_};
 ghost use lib.ListN.{length};
 ghost use Rattle.lattice.specs.Shape.{node-count, discounts-needed};
-ghost use Rattle.text.specs.Put.{Put};
+ghost use Rattle.text_laws.specs.Put.{Put};
 ghost use Rattle.job_sheet.specs.TreeSheet.{
   row-part,
   total,
