@@ -3,9 +3,9 @@
 ghost use Prim.Native.Nat.{_+_, _≤_, _<_};
 ghost use mathlib.Core.Path.{_≡_};
 ghost use lib.ListN.{length};
-ghost use Rattle.jobs.specs.Grammar.{Sound};
-use jobs::Job;
-use jobs::OptionRecord;
+ghost use Rattle.job_record.specs.Grammar.{Sound};
+use job_record::Job;
+use job_record::OptionRecord;
 
 fn write(text: &[u8]) {
     io::write_all(1, text);
@@ -55,7 +55,7 @@ fn show_rows(kinds: &[u8], figures: &[u64], flows: &[u64])
 }
 
 fn show_option(option: OptionRecord) {
-    if option.present {
+    if option.tag != 0 {
         write(b"option");
         write_number(option.kind);
         write_number(option.expiry);

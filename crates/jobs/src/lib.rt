@@ -3,36 +3,13 @@ ghost use mathlib.Core.Path.{_≡_};
 ghost use mathlib.Core.Bool.{true};
 ghost use Prim.Native.Nat.{_+_, _*_, _^_, _≤_, _<_};
 ghost use lib.ListN.{length};
-ghost use Rattle.jobs.specs.Bytes.{numberAt};
-ghost use Rattle.jobs.specs.Form.{fieldAt, eitherAt, fieldsFrom, headFormed, restFormed, wellFormed};
-ghost use Rattle.jobs.specs.Reader.{padded, tagOf, dataOf, optionAt, jobOf, noJob, readingOf};
-ghost use Rattle.jobs.specs.Grammar.{ReadsAs};
-
-// The option of a job; zeros where it has none.
-pub struct OptionRecord {
-    pub present: bool,
-    pub kind: u64,
-    pub expiry: u64,
-    pub strike: u64,
-}
-
-// A job: its quotes and flows stand in the first `steps` places, zeros after them. A figure is the pattern of a float, NaN or not.
-pub struct Job {
-    pub frequency: u64,
-    pub steps: usize,
-    pub reversion: u64,
-    pub volatility: u64,
-    pub kinds: [u8; 255],
-    pub figures: [u64; 255],
-    pub flows: [u64; 255],
-    pub option: OptionRecord,
-}
-
-// Number 0 with the job, or refusal 1 with zeros.
-pub struct Reading {
-    pub number: u64,
-    pub job: Job,
-}
+ghost use Rattle.job_record.specs.Bytes.{numberAt};
+ghost use Rattle.job_record.specs.Form.{fieldAt, eitherAt, fieldsFrom, headFormed, restFormed, wellFormed};
+ghost use Rattle.job_record.specs.Reader.{padded, tagOf, dataOf, optionAt, jobOf, noJob, readingOf};
+ghost use Rattle.job_record.specs.Grammar.{ReadsAs};
+use job_record::Job;
+use job_record::OptionRecord;
+use job_record::Reading;
 
 fn wide(x: u8) -> u64
     ensures { λ r. ⌜ r ≡ x ⌝ }
@@ -178,14 +155,14 @@ fn option_at(bytes: &[u8], at: usize) -> OptionRecord
 {
     if bytes.len() == at {
         return OptionRecord {
-            present: false,
+            tag: 0,
             kind: 0,
             expiry: 0,
             strike: 0,
         };
     }
     OptionRecord {
-        present: true,
+        tag: 8,
         kind: number(bytes, at + 3, 1),
         expiry: number(bytes, at + 4, 1),
         strike: number(bytes, at + 5, 4),
@@ -225,7 +202,7 @@ fn no_job() -> Job
         figures: [0u64; 255],
         flows: [0u64; 255],
         option: OptionRecord {
-            present: false,
+            tag: 0,
             kind: 0,
             expiry: 0,
             strike: 0,

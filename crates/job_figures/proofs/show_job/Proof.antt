@@ -2,7 +2,7 @@
 -- Assumes nothing.
 use native.Mathlib.Omega.{arith}
 use mathlib.Core.Path.{sym, _∙_}
-use Rattle.jobs.proofs.ReadLaws.{lent-length}
+use Rattle.job_record.proofs.ReadLaws.{lent-length}
 use borrow.Author.Needs.{needs}
 use Rattle.job_figures.proofs.show_job.Statement.{statement}
 use Rattle.job_figures.proofs.show_job.Tie as tie

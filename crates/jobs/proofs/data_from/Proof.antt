@@ -6,8 +6,8 @@ use Prim.Native.Nat.{_+_, _*_, _-_, _≤_}
 use native.Mathlib.Omega.{arith}
 use lib.ListN.{replicate}
 use Rattle.arithmetic.proofs.RowLaws.{Filled, filled-start, filled-next}
-use Rattle.jobs.specs.Reader.{dataOf}
-use Rattle.jobs.proofs.Columns.{filled-padded, field-within}
+use Rattle.job_record.specs.Reader.{dataOf}
+use Rattle.job_record.proofs.Columns.{filled-padded, field-within}
 use Rattle.jobs.proofs.data_from.Statement.{statement}
 use Rattle.jobs.proofs.data_from.Tie as tie
 

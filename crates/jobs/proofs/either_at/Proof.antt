@@ -2,7 +2,7 @@
 -- Assumes nothing.
 use borrow.Author.Needs.{needs}
 use mathlib.Core.Path.{sym, _∙_}
-use Rattle.jobs.specs.Form.{eitherAt}
+use Rattle.job_record.specs.Form.{eitherAt}
 use Rattle.jobs.proofs.either_at.Statement.{statement}
 use Rattle.jobs.proofs.either_at.Tie as tie
 

@@ -1,7 +1,7 @@
 -- `jobs::field_at` meets its contract.
 -- Assumes nothing.
 use borrow.Author.Tests.{lt-leb, le-leb, eq-eqb, ne-eqb}
-use Rattle.jobs.specs.Form.{fieldAt}
+use Rattle.job_record.specs.Form.{fieldAt}
 use borrow.Author.Needs.{needs}
 use Rattle.jobs.proofs.field_at.Statement.{statement}
 use Rattle.jobs.proofs.field_at.Tie as tie

@@ -6,9 +6,9 @@ use mathlib.Core.Path.{_≡_, sym}
 use Prim.Native.Nat.{_+_, _*_, _-_, _≤_}
 use native.Mathlib.Nat.{mul-le-mul}
 use native.Mathlib.Omega.{arith}
-use Rattle.jobs.specs.Form.{fieldsFrom}
-use Rattle.jobs.proofs.Answers.{passed, failed}
-use Rattle.jobs.proofs.Forms.{fields-none, fields-more, fields-fails}
+use Rattle.job_record.specs.Form.{fieldsFrom}
+use Rattle.job_record.proofs.Answers.{passed, failed}
+use Rattle.job_record.proofs.Forms.{fields-none, fields-more, fields-fails}
 use Rattle.jobs.proofs.fields_from.Statement.{statement}
 use Rattle.jobs.proofs.fields_from.Tie as tie
 

@@ -1,8 +1,8 @@
 -- `jobs::job_of` meets its contract.
 -- Assumes nothing.
 use native.Mathlib.Omega.{arith}
-use Rattle.jobs.specs.Reader.{jobOf}
-use Rattle.jobs.proofs.Forms.{well-length, well-rest}
+use Rattle.job_record.specs.Reader.{jobOf}
+use Rattle.job_record.proofs.Forms.{well-length, well-rest}
 use borrow.Author.Needs.{needs}
 use Rattle.jobs.proofs.job_of.Statement.{statement}
 use Rattle.jobs.proofs.job_of.Tie as tie

@@ -5,8 +5,8 @@ use native.Mathlib.Omega.{arith}
 use mathlib.Core.Path.{_≡_, sym}
 use Prim.Native.Nat.{ℕ, _+_, _*_, _-_, _^_, _≤_, _<_}
 use denote.Ref.{now}
-use Rattle.jobs.specs.Bytes.{numberAt}
-use Rattle.jobs.proofs.Numbers.{number-nothing, number-more, number-bound, byte-more}
+use Rattle.job_record.specs.Bytes.{numberAt}
+use Rattle.job_record.proofs.Numbers.{number-nothing, number-more, number-bound, byte-more}
 use Rattle.jobs.proofs.number.Statement.{statement}
 use Rattle.jobs.proofs.number.Tie as tie
 

@@ -7,8 +7,8 @@ use Prim.Native.Nat.{_+_}
 use native.Mathlib.Omega.{arith}
 use lib.ListN.{length}
 use denote.Ref.{now}
-use Rattle.jobs.specs.Reader.{optionAt}
-use Rattle.jobs.proofs.Forms.{rest-length}
+use Rattle.job_record.specs.Reader.{optionAt}
+use Rattle.job_record.proofs.Forms.{rest-length}
 use Rattle.jobs.proofs.option_at.Statement.{statement}
 use Rattle.jobs.proofs.option_at.Tie as tie
 

@@ -1,8 +1,8 @@
 -- `jobs::rest_formed` meets its contract.
 -- Assumes nothing.
 use borrow.Author.Tests.{eq-eqb, ne-eqb}
-use Rattle.jobs.specs.Form.{restFormed}
-use Rattle.jobs.proofs.Answers.{passed, failed}
+use Rattle.job_record.specs.Form.{restFormed}
+use Rattle.job_record.proofs.Answers.{passed, failed}
 use borrow.Author.Needs.{needs}
 use Rattle.jobs.proofs.rest_formed.Statement.{statement}
 use Rattle.jobs.proofs.rest_formed.Tie as tie

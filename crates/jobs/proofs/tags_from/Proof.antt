@@ -6,8 +6,8 @@ use Prim.Native.Nat.{_-_, _≤_}
 use native.Mathlib.Omega.{arith}
 use lib.ListN.{replicate}
 use Rattle.arithmetic.proofs.RowLaws.{Filled, filled-start, filled-next}
-use Rattle.jobs.specs.Reader.{tagOf}
-use Rattle.jobs.proofs.Columns.{filled-padded}
+use Rattle.job_record.specs.Reader.{tagOf}
+use Rattle.job_record.proofs.Columns.{filled-padded}
 use Rattle.jobs.proofs.tags_from.Statement.{statement}
 use Rattle.jobs.proofs.tags_from.Tie as tie
 

@@ -2,8 +2,8 @@
 -- Assumes nothing.
 use mathlib.Core.Path.{_∙_}
 use native.Mathlib.Omega.{arith}
-use Rattle.jobs.proofs.Answers.{passed, failed}
-use Rattle.jobs.proofs.Forms.{head-whole, refuse-long, refuse-head, refuse-quotes, refuse-flows, formed-by-rest}
+use Rattle.job_record.proofs.Answers.{passed, failed}
+use Rattle.job_record.proofs.Forms.{head-whole, refuse-long, refuse-head, refuse-quotes, refuse-flows, formed-by-rest}
 use borrow.Author.Needs.{needs}
 use Rattle.jobs.proofs.well_formed.Statement.{statement}
 use Rattle.jobs.proofs.well_formed.Tie as tie

@@ -11,15 +11,16 @@ use lib.Seq.{getD-take}
 use Rattle.arithmetic.specs.Row.{row, values}
 use Rattle.arithmetic.proofs.Numbers.{by-equal}
 use Rattle.arithmetic.proofs.RowLaws.{row-of, zeros}
-use Rattle.jobs.specs.Bytes.{Bytes}
-use Rattle.jobs.specs.Form.{wellFormed}
-use Rattle.jobs.specs.Reader.{jobOf, noJob, accepted, malformed, readingOf}
-use Rattle.jobs.specs.Grammar.{encode, Column, Sound, Encodes, ReadsAs}
-use Rattle.jobs.specs.declared.Job.{Job}
-use Rattle.jobs.specs.declared.Reading.{Reading}
-use Rattle.jobs.proofs.Forms.{well-short}
-use Rattle.jobs.proofs.Written.{written, read-sound}
-use Rattle.jobs.proofs.Reread.{encode-formed, encode-read}
+use Rattle.job_record.specs.Bytes.{Bytes}
+use Rattle.job_record.specs.Form.{wellFormed}
+use Rattle.job_record.specs.Reader.{jobOf, noJob, accepted, malformed, readingOf}
+use Rattle.job_record.specs.Grammar.{encode, Column, OptionSound, Sound, Encodes, ReadsAs}
+use Rattle.job_record.specs.declared.OptionRecord.{OptionRecord}
+use Rattle.job_record.specs.declared.Job.{Job}
+use Rattle.job_record.specs.declared.Reading.{Reading}
+use Rattle.job_record.proofs.Forms.{well-short}
+use Rattle.job_record.proofs.Written.{written, read-sound}
+use Rattle.job_record.proofs.Reread.{encode-formed, encode-read}
 
 -- number 1 with a record
 abbrev refusal : Job → Reading
@@ -141,3 +142,8 @@ module _ (l : List ℕ) (n bound : ℕ) (column : Column l n bound) (few : n < 2
 
   pub lent-row : take n l ≡ row n (values l)
   lent-row = row-of (take n l) n (values l) lent-length (λ k below. rw getD-take)
+
+-- an option's tag: none, or 8
+pub option-tag : (option : OptionRecord) → OptionSound option → (option .tag ≡ 0 → ⊥) → option .tag ≡ 8
+option-tag option sound other =
+    by-equal (option .tag) 8 (λ same. same) (λ no. absurd (other (ap (λ (o : OptionRecord). o .tag) (sound .absent no))))

@@ -10,8 +10,8 @@ use lib.ListN.{length, replicate, length-replicate, List·getD-eq-default}
 use Rattle.arithmetic.specs.Row.{values, overlay}
 use Rattle.arithmetic.proofs.Numbers.{by-order}
 use Rattle.arithmetic.proofs.RowLaws.{length-row, values-row, row-of, Filled, zeros}
-use Rattle.jobs.specs.Reader.{padded}
-use Rattle.jobs.specs.Grammar.{Column}
+use Rattle.job_record.specs.Reader.{padded}
+use Rattle.job_record.specs.Grammar.{Column}
 
 overlay-before : (n k : ℕ) (f g : ℕ → ℕ) → k < n → overlay n f g k ≡ f k
 unfolding overlay

@@ -9,11 +9,11 @@ use mathlib.Core.Path.{_≡_, refl, sym, ap, _∙_}
 use lib.ListN.{length, getD, take, drop, take-append-drop, length-drop}
 use lib.Seq.{take-add, drop-drop, take-suc, drop-cons, getD-drop, length-take-le}
 use lib.Arith.{digits-div, digits-mod}
-use Rattle.jobs.specs.Bytes.{Bytes, numberAt, digits}
-use Rattle.jobs.specs.Form.{fieldAt, eitherAt}
-use Rattle.jobs.specs.Grammar.{field, joined, isKind}
-use Rattle.jobs.proofs.Answers.{by-either}
-use Rattle.jobs.proofs.Forms.{field-whole, field-tag, field-length}
+use Rattle.job_record.specs.Bytes.{Bytes, numberAt, digits}
+use Rattle.job_record.specs.Form.{fieldAt, eitherAt}
+use Rattle.job_record.specs.Grammar.{field, joined, isKind}
+use Rattle.job_record.proofs.Answers.{by-either}
+use Rattle.job_record.proofs.Forms.{field-whole, field-tag, field-length}
 
 -- two parts, one after the other
 pub join : (a b o : ℕ) (s : List ℕ) → take a (drop o s) ++ take b (drop (o + a) s) ≡ take (a + b) (drop o s)

@@ -7,11 +7,11 @@ use mathlib.Core.Path.{_≡_}
 use lib.ListN.{length}
 use lib.Dec.{eqb}
 use Rattle.arithmetic.specs.Row.{values}
-use Rattle.jobs.specs.Bytes.{digits}
-use Rattle.jobs.specs.Reader.{noOption, accepted, malformed}
-use Rattle.jobs.specs.declared.OptionRecord.{OptionRecord}
-use Rattle.jobs.specs.declared.Job.{Job}
-use Rattle.jobs.specs.declared.Reading.{Reading}
+use Rattle.job_record.specs.Bytes.{digits}
+use Rattle.job_record.specs.Reader.{noOption, accepted, malformed}
+use Rattle.job_record.specs.declared.OptionRecord.{OptionRecord}
+use Rattle.job_record.specs.declared.Job.{Job}
+use Rattle.job_record.specs.declared.Reading.{Reading}
 
 -- job field: one-byte tag, two-byte length, data
 unfoldable pub field : ℕ → List ℕ → List ℕ
@@ -30,10 +30,13 @@ quoteField job i = field (values (job .kinds) i) (digits 8 (values (job .figures
 abbrev pub flowField : Job → ℕ → List ℕ
 flowField job i = field 7 (digits 4 (values (job .flows) i))
 
--- an option: 08 (kind 1, expiry 1, strike 4)
+-- kind 1, expiry 1, strike 4
+abbrev pub optionData : OptionRecord → List ℕ
+optionData option = digits 1 (option .kind) ++ (digits 1 (option .expiry) ++ digits 4 (option .strike))
+
+-- an option: 08
 unfoldable pub optionField : OptionRecord → List ℕ
-optionField option =
-    cond (option .present) (field 8 (digits 1 (option .kind) ++ (digits 1 (option .expiry) ++ digits 4 (option .strike)))) []
+optionField option = cond (eqb (option .tag) 8) (field 8 (optionData option)) []
 
 -- in this order: f, n, b, s; n quotes; n flows; at most one option
 unfoldable pub encode : Job → List ℕ
@@ -59,7 +62,7 @@ pub record OptionSound (option : OptionRecord) : Type 0 where
   pub kind : option .kind < 256 ^ 1
   pub expiry : option .expiry < 256 ^ 1
   pub strike : option .strike < 256 ^ 4
-  pub absent : option .present ≡ false → option ≡ noOption
+  pub absent : (option .tag ≡ 8 → ⊥) → option ≡ noOption
 
 -- what every job's record meets: each number fits its field, each quote has a kind, nothing stands where the job says nothing
 pub record Sound (job : Job) : Type 0 where

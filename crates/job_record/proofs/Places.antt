@@ -11,10 +11,10 @@ use borrow.Author.Tests.{le-leb, eq-eqb}
 use lib.ListN.{length, getD, length-append}
 use lib.Seq.{getD-at}
 use lib.Arith.{lt-of-le-ne}
-use Rattle.jobs.specs.Bytes.{numberAt, digits}
-use Rattle.jobs.specs.Form.{fieldAt}
-use Rattle.jobs.specs.Grammar.{field, joined}
-use Rattle.jobs.proofs.Answers.{both}
+use Rattle.job_record.specs.Bytes.{numberAt, digits}
+use Rattle.job_record.specs.Form.{fieldAt}
+use Rattle.job_record.specs.Grammar.{field, joined}
+use Rattle.job_record.proofs.Answers.{both}
 
 -- the list l stands in s from place o on
 pub record At (s : List ℕ) (o : ℕ) (l : List ℕ) : Type 0 where

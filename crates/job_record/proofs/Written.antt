@@ -9,15 +9,15 @@ use borrow.Author.Tests.{eq-eqb, ne-eqb}
 use lib.ListN.{length, take, drop, length-drop, drop-of-length-le}
 use lib.Seq.{take-all}
 use Rattle.arithmetic.proofs.Numbers.{by-equal}
-use Rattle.jobs.specs.Bytes.{Bytes, numberAt, digits}
-use Rattle.jobs.specs.Form.{fieldAt, eitherAt, headFormed, restFormed, wellFormed, stepsOf}
-use Rattle.jobs.specs.Reader.{tagOf, dataOf, optionAt, jobOf}
-use Rattle.jobs.specs.Grammar.{field, joined, quoteField, flowField, optionField, encode, OptionSound, Sound}
-use Rattle.jobs.proofs.Answers.{first}
-use Rattle.jobs.proofs.Numbers.{number-bound}
-use Rattle.jobs.proofs.Forms.{fields-each, head-1, head-2, head-3, head-4, rest-option, rest-length, well-head, well-quotes, well-flows, well-rest, steps-few}
-use Rattle.jobs.proofs.Columns.{padded-at, padded-column}
-use Rattle.jobs.proofs.Pieces.{join, join-rest, digits-piece, field-piece, number-field, joined-piece, either-field, same-field, either-kind}
+use Rattle.job_record.specs.Bytes.{Bytes, numberAt, digits}
+use Rattle.job_record.specs.Form.{fieldAt, eitherAt, headFormed, restFormed, wellFormed, stepsOf}
+use Rattle.job_record.specs.Reader.{tagOf, dataOf, optionAt, jobOf}
+use Rattle.job_record.specs.Grammar.{field, joined, quoteField, flowField, optionField, encode, OptionSound, Sound}
+use Rattle.job_record.proofs.Answers.{first}
+use Rattle.job_record.proofs.Numbers.{number-bound}
+use Rattle.job_record.proofs.Forms.{fields-each, head-1, head-2, head-3, head-4, rest-option, rest-length, well-head, well-quotes, well-flows, well-rest, steps-few}
+use Rattle.job_record.proofs.Columns.{padded-at, padded-column}
+use Rattle.job_record.proofs.Pieces.{join, join-rest, digits-piece, field-piece, number-field, joined-piece, either-field, same-field, either-kind}
 
 module _ (s : List ℕ) (b : Bytes s) where
   -- the option, or nothing
@@ -45,7 +45,7 @@ module _ (s : List ℕ) (b : Bytes s) where
       by-equal (length s) o (λ same. rw (eq-eqb _ _ same) (record { kind = omega arith; expiry = omega arith; strike = omega arith; absent = λ e. refl }))
       (λ other.
       rw (ne-eqb _ _ other)
-      (record { kind = number-bound s b (o + 3) 1; expiry = number-bound s b (o + 4) 1; strike = number-bound s b (o + 5) 4; absent = λ e. cc }))
+      (record { kind = number-bound s b (o + 3) 1; expiry = number-bound s b (o + 4) 1; strike = number-bound s b (o + 5) 4; absent = λ e. absurd (e refl) }))
 
   module _ (h : wellFormed s ≡ true) where
     quote-at : (i : ℕ) → i < stepsOf s → eitherAt s (20 + 11 * i) 5 6 8 ≡ true

@@ -5,13 +5,13 @@ use mathlib.Core.List.{List, [], _++_}
 use mathlib.Core.Path.{_≡_, refl, sym}
 use lib.ListN.{length}
 use Rattle.arithmetic.specs.Row.{row, overlay, each}
-use Rattle.jobs.specs.Bytes.{digits, numberAt}
-use Rattle.jobs.specs.Form.{fieldAt, eitherAt, fieldsFrom, headFormed, restFormed, wellFormed}
-use Rattle.jobs.specs.Reader.{padded, optionAt, jobOf, accepted, malformed, readingOf}
-use Rattle.jobs.specs.Grammar.{field, joined, optionField, encode}
-use Rattle.jobs.specs.Example.{exampleHead, exampleQuote, exampleFlow, exampleOption, example, exampleJob}
-use Rattle.jobs.proofs.Forms.{refuse-long}
-use Rattle.jobs.proofs.ReadLaws.{reading-bad}
+use Rattle.job_record.specs.Bytes.{digits, numberAt}
+use Rattle.job_record.specs.Form.{fieldAt, eitherAt, fieldsFrom, headFormed, restFormed, wellFormed}
+use Rattle.job_record.specs.Reader.{padded, optionAt, jobOf, accepted, malformed, readingOf}
+use Rattle.job_record.specs.Grammar.{field, joined, optionField, encode}
+use Rattle.job_record.specs.Example.{exampleHead, exampleQuote, exampleFlow, exampleOption, example, exampleJob}
+use Rattle.job_record.proofs.Forms.{refuse-long}
+use Rattle.job_record.proofs.ReadLaws.{reading-bad}
 
 pub example-read : readingOf example ≡ accepted exampleJob
 unfolding numberAt fieldAt eitherAt fieldsFrom headFormed restFormed wellFormed padded optionAt jobOf readingOf row overlay each

@@ -4,7 +4,7 @@ use Prim.Native.Nat.{ℕ}
 use mathlib.Core.List.{List, [], _∷_, _++_}
 use mathlib.Core.Bool.{true}
 use lib.ListN.{replicate}
-use Rattle.jobs.specs.declared.Job.{Job}
+use Rattle.job_record.specs.declared.Job.{Job}
 
 -- 01000101 02000101 0300020000 04000400000000
 abbrev pub exampleHead : List ℕ
@@ -36,5 +36,5 @@ exampleJob =
       kinds = 5 ∷ replicate 254 0;
       figures = 4607193677799085834 ∷ replicate 254 0;
       flows = 1000000000 ∷ replicate 254 0;
-      option = record { present = true; kind = 4; expiry = 1; strike = 1010000000 };
+      option = record { tag = 8; kind = 4; expiry = 1; strike = 1010000000 };
     }

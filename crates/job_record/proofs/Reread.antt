@@ -5,20 +5,20 @@ use native.Mathlib.Omega.{arith}
 use mathlib.Core.Bool.{Bool, true, false, cond}
 use mathlib.Core.List.{List, [], _++_}
 use mathlib.Core.Path.{_≡_, refl, sym, ap, _∙_}
-use borrow.Author.Tests.{le-leb, eq-eqb, ne-eqb, eqb-true}
+use borrow.Author.Tests.{le-leb, eq-eqb, ne-eqb, eqb-true, eqb-false}
 use lib.ListN.{length, getD, length-append}
 use lib.Dec.{eqb}
 use Rattle.arithmetic.specs.Row.{values}
-use Rattle.jobs.specs.Bytes.{numberAt, digits}
-use Rattle.jobs.specs.Form.{fieldAt, eitherAt, headFormed, restFormed, wellFormed, stepsOf}
-use Rattle.jobs.specs.Reader.{padded, tagOf, dataOf, noOption, optionAt, jobOf}
-use Rattle.jobs.specs.Grammar.{field, joined, quoteField, flowField, optionField, encode, isKind, OptionSound, Sound}
-use Rattle.jobs.specs.declared.OptionRecord.{OptionRecord}
-use Rattle.jobs.specs.declared.Job.{Job}
-use Rattle.jobs.proofs.Answers.{both, by-either, either-first, either-second}
-use Rattle.jobs.proofs.Forms.{each-fields}
-use Rattle.jobs.proofs.Columns.{column-padded}
-use Rattle.jobs.proofs.Places.{At, at-all, at-first, at-second, at-number, at-body, at-field, at-byte, field-front, at-joined, digits-length, field-size, joined-size}
+use Rattle.job_record.specs.Bytes.{numberAt, digits}
+use Rattle.job_record.specs.Form.{fieldAt, eitherAt, headFormed, restFormed, wellFormed, stepsOf}
+use Rattle.job_record.specs.Reader.{padded, tagOf, dataOf, noOption, optionAt, jobOf}
+use Rattle.job_record.specs.Grammar.{field, joined, quoteField, flowField, optionData, optionField, encode, isKind, OptionSound, Sound}
+use Rattle.job_record.specs.declared.OptionRecord.{OptionRecord}
+use Rattle.job_record.specs.declared.Job.{Job}
+use Rattle.job_record.proofs.Answers.{both, by-either, either-first, either-second}
+use Rattle.job_record.proofs.Forms.{each-fields}
+use Rattle.job_record.proofs.Columns.{column-padded}
+use Rattle.job_record.proofs.Places.{At, at-all, at-first, at-second, at-number, at-body, at-field, at-byte, field-front, at-joined, digits-length, field-size, joined-size}
 
 -- a field whose data are one number
 module _ (s : List ℕ) (o tag k v : ℕ) (h : At s o (field tag (digits k v))) where
@@ -46,10 +46,6 @@ same-formed : (s : List ℕ) (o tag k : ℕ) → fieldAt s o tag k ≡ true → 
 unfolding eitherAt
 same-formed s o tag k h = either-first (fieldAt s o tag k) h
 
--- kind, expiry and strike, in this order
-abbrev optionData : OptionRecord → List ℕ
-optionData option = digits 1 (option .kind) ++ (digits 1 (option .expiry) ++ digits 4 (option .strike))
-
 six : (option : OptionRecord) → length (optionData option) ≡ 6
 six option = simp (length-append, digits-length)
 
@@ -67,7 +63,7 @@ module _ (s : List ℕ) (o : ℕ) (option : OptionRecord) (h : At s o (field 8 (
       rw (ne-eqb (length s) o more)
       (both (rw (six option) at (at-field s o 8 (optionData option) h (rw (six option) (omega arith)))) (eq-eqb _ _ ends))
 
-  option-present : OptionSound option → optionAt s o ≡ record { present = true; kind = option .kind; expiry = option .expiry; strike = option .strike }
+  option-present : OptionSound option → optionAt s o ≡ record { tag = 8; kind = option .kind; expiry = option .expiry; strike = option .strike }
   unfolding optionAt
   option-present r =
       let p₁ : o + 3 + 1 ≡ o + 4 = omega arith in
@@ -91,29 +87,29 @@ module _ (s : List ℕ) (o : ℕ) (e : length s ≡ o + 0) where
   option-none = rw (eq-eqb (length s) o (omega arith))
 
 module _ (s : List ℕ) (o : ℕ) (option : OptionRecord) (h : At s o (optionField option)) (e : length s ≡ o + length (optionField option)) where
-  rest-by : (t : Bool) → option .present ≡ t → restFormed s o ≡ true
+  rest-by : (t : Bool) → eqb (option .tag) 8 ≡ t → restFormed s o ≡ true
   unfolding optionField
   rest-by true p = rest-present s o option (rw p at h) (rw p at e)
   rest-by false p = rest-absent s o (rw p at e)
 
   rest-written : restFormed s o ≡ true
-  rest-written = rest-by (option .present) refl
+  rest-written = rest-by (eqb (option .tag) 8) refl
 
-  option-by : (t : Bool) → option .present ≡ t → OptionSound option → optionAt s o ≡ option
+  option-by : (t : Bool) → eqb (option .tag) 8 ≡ t → OptionSound option → optionAt s o ≡ option
   unfolding optionField
-  option-by true p r = option-present s o option (rw p at h) (rw p at e) r ∙ rw (← p)
-  option-by false p r = option-none s o (rw p at e) ∙ sym (r .absent p)
+  option-by true p r = option-present s o option (rw p at h) (rw p at e) r ∙ rw (eqb-true (option .tag) 8 p)
+  option-by false p r = option-none s o (rw p at e) ∙ sym (r .absent (eqb-false (option .tag) 8 p))
 
   option-read : OptionSound option → optionAt s o ≡ option
-  option-read = option-by (option .present) refl
+  option-read = option-by (eqb (option .tag) 8) refl
 
 option-short : (option : OptionRecord) → length (optionField option) ≤ 9
 unfolding optionField
-option-short option = go (option .present) refl
+option-short option = go (eqb (option .tag) 8)
   where
-    go : (t : Bool) → option .present ≡ t → length (cond t (field 8 (optionData option)) []) ≤ 9
-    go true p = simp (field-size, six) (omega arith)
-    go false p = omega arith
+    go : (t : Bool) → length (cond t (field 8 (optionData option)) []) ≤ 9
+    go true = simp (field-size, six) (omega arith)
+    go false = omega arith
 
 module _ (job : Job) where
   -- f, n, b and s

@@ -6,7 +6,7 @@ use mathlib.Core.Bool.{Bool, _&&_, _||_}
 use lib.ListN.{length, getD}
 use lib.Dec.{leb, eqb}
 use Rattle.arithmetic.specs.Row.{each}
-use Rattle.jobs.specs.Bytes.{numberAt}
+use Rattle.job_record.specs.Bytes.{numberAt}
 
 -- a whole field stands at a place: one-byte tag, two-byte length, data
 unfoldable pub fieldAt : List ℕ → ℕ → ℕ → ℕ → Bool

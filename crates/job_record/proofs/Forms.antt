@@ -12,10 +12,10 @@ use lib.Dec.{eqb, leb}
 use Rattle.arithmetic.specs.Row.{each}
 use Rattle.arithmetic.proofs.Numbers.{by-equal}
 use Rattle.arithmetic.proofs.RowLaws.{each-none, each-more, each-fails, each-holds}
-use Rattle.jobs.specs.Bytes.{Bytes, numberAt}
-use Rattle.jobs.specs.Form.{fieldAt, eitherAt, fieldsFrom, headFormed, restFormed, wellFormed, stepsOf}
-use Rattle.jobs.proofs.Answers.{first, second}
-use Rattle.jobs.proofs.Numbers.{number-bound}
+use Rattle.job_record.specs.Bytes.{Bytes, numberAt}
+use Rattle.job_record.specs.Form.{fieldAt, eitherAt, fieldsFrom, headFormed, restFormed, wellFormed, stepsOf}
+use Rattle.job_record.proofs.Answers.{first, second}
+use Rattle.job_record.proofs.Numbers.{number-bound}
 
 -- a field that stands at a place is there whole
 pub field-whole : (s : List ℕ) (o tag k : ℕ) → fieldAt s o tag k ≡ true → o + 3 + k ≤ length s

@@ -6,11 +6,11 @@ use mathlib.Core.Bool.{true, false, cond}
 use lib.ListN.{length, getD, replicate}
 use lib.Dec.{eqb}
 use Rattle.arithmetic.specs.Row.{row, overlay}
-use Rattle.jobs.specs.Bytes.{numberAt}
-use Rattle.jobs.specs.Form.{stepsOf, wellFormed}
-use Rattle.jobs.specs.declared.OptionRecord.{OptionRecord}
-use Rattle.jobs.specs.declared.Job.{Job}
-use Rattle.jobs.specs.declared.Reading.{Reading}
+use Rattle.job_record.specs.Bytes.{numberAt}
+use Rattle.job_record.specs.Form.{stepsOf, wellFormed}
+use Rattle.job_record.specs.declared.OptionRecord.{OptionRecord}
+use Rattle.job_record.specs.declared.Job.{Job}
+use Rattle.job_record.specs.declared.Reading.{Reading}
 
 -- f 0, .., f (n - 1) in the 255 places of a record, zeros after them
 unfoldable pub padded : ℕ → (ℕ → ℕ) → List ℕ
@@ -25,13 +25,13 @@ dataOf s from width i = numberAt s (from + (width + 3) * i + 3) width
 
 -- no option: zeros
 abbrev pub noOption : OptionRecord
-noOption = record { present = false; kind = 0; expiry = 0; strike = 0 }
+noOption = record { tag = 0; kind = 0; expiry = 0; strike = 0 }
 
 -- the option whose field stands at a place, if the bytes do not end there
 unfoldable pub optionAt : List ℕ → ℕ → OptionRecord
 optionAt s at =
     cond (eqb (length s) at) noOption
-    (record { present = true; kind = numberAt s (at + 3) 1; expiry = numberAt s (at + 4) 1; strike = numberAt s (at + 5) 4 })
+    (record { tag = 8; kind = numberAt s (at + 3) 1; expiry = numberAt s (at + 4) 1; strike = numberAt s (at + 5) 4 })
 
 unfoldable pub jobOf : List ℕ → Job
 jobOf s =

@@ -1,0 +1,27 @@
+// A job as a record, with the definitions and laws of its form, its grammar and its reading.
+
+// The option of a job: tag 8, or 0 and zeros where the job has none.
+pub struct OptionRecord {
+    pub tag: u64,
+    pub kind: u64,
+    pub expiry: u64,
+    pub strike: u64,
+}
+
+// A job: its quotes and flows stand in the first `steps` places, zeros after them. A figure is the pattern of a float, NaN or not.
+pub struct Job {
+    pub frequency: u64,
+    pub steps: usize,
+    pub reversion: u64,
+    pub volatility: u64,
+    pub kinds: [u8; 255],
+    pub figures: [u64; 255],
+    pub flows: [u64; 255],
+    pub option: OptionRecord,
+}
+
+// Number 0 with the job, or refusal 1 with zeros.
+pub struct Reading {
+    pub number: u64,
+    pub job: Job,
+}
