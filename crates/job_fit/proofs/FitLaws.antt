@@ -1,26 +1,29 @@
 -- Laws of a record's quotes and fit.
 -- Assumes nothing.
-use mathlib.Core.Path.{_≡_, refl, sym, ap, _∙_, subst}
-use mathlib.Core.Bool.{cond}
-use mathlib.Core.List.{List, map}
+use mathlib.Core.Path.{_≡_, sym, ap, _∙_}
+use mathlib.Core.List.{List}
 use Prim.Native.Nat.{ℕ, suc, _≤_, _<_}
 use native.Mathlib.Omega.{arith}
 use borrow.Author.Tests.{lt-ltb, le-ltb, eq-eqb, ne-eqb}
 use lib.Ieee.{Float}
-use lib.ListN.{length, take, length-take, length-map}
+use lib.ListN.{length, take, length-take}
+use lib.Seq.{take-at}
 use Rattle.arithmetic.specs.Row.{row, place}
 use Rattle.arithmetic.proofs.Numbers.{by-order}
 use Rattle.arithmetic.proofs.RowLaws.{length-row}
-use Rattle.figure.specs.Figure.{patternFloat}
+use Rattle.tree.proofs.LayoutLaws.{length-laid}
+use Rattle.lattice.specs.Shape.{discounts-needed, state-prices-needed}
+use Rattle.lattice.specs.RateTree.{rate-tree}
+use Rattle.lattice.proofs.RateTreeLaws.{start-is}
+use Rattle.lattice.proofs.TreeEntries.{Accepted}
 use Rattle.curve.specs.Curve.{discountAt, curveNumber, curveMemory}
 use Rattle.fitting.specs.Entry.{fitNumber, fit-memory, fit-discounts, fit-prices}
+use Rattle.fitting.specs.Plans.{Numbers}
+use Rattle.fitting.proofs.Promised.{fit-numbers}
 use Rattle.job_record.specs.declared.Job.{Job}
 use Rattle.job_fit.specs.RecordFit.{jobRows, jobKinds, jobFigures, jobQuotes, jobDiscounts, jobStatePrices, recordQuotes, recordFit, memoryAfter}
 
 -- ---- the parts of columns that are lent
-
-pub lent-rows : (l : List ℕ) (n : ℕ) (f : ℕ → ℕ) → take n l ≡ row n f → n ≡ length (take n l)
-lent-rows l n f e = sym (ap length e ∙ length-row n f)
 
 pub lent-column : {A : Type 0} (l : List A) (n : ℕ) → n ≤ length l → n ≡ length (take n l)
 lent-column l n h = simp length-take (omega arith)
@@ -119,3 +122,48 @@ module _ (job : Job) where
         fit-memory (lentFit (length d) (length p)) old memory ≡ fit-memory (recordFit job (length d) (length p)) new memory =
         λ old new memory el. rw (n, el) in
         (e ∙ n, (ed ∙ same _ _ d discounts-are, ep ∙ same _ _ p prices-are))
+
+-- ---- what a record's fit is where nothing is refused
+
+pub front-placed : (memory part : List ℕ) (k : ℕ) → length part ≡ k → take k (place memory 0 part) ≡ part
+unfolding place
+front-placed memory part k e = take-at part _ k e
+
+pub fit-placed : (number : ℕ) (part memory : List ℕ) → number ≡ 0 → fit-memory number part memory ≡ place memory 0 part
+unfolding fit-memory
+fit-placed number part memory z = rw (eq-eqb number 0 z)
+
+module _ (job : Job) where
+  pub quotes-length : length (jobQuotes job) ≡ job .steps
+  unfolding jobQuotes
+  quotes-length = length-row (job .steps) (discountAt (job .frequency) (jobKinds job) (jobFigures job))
+
+  pub discounts-length : length (jobDiscounts job) ≡ discounts-needed (job .steps) (job .reversion)
+  unfolding jobDiscounts discounts-needed
+  discounts-length = length-laid (rate-tree (job .reversion)) _ (job .steps) ∙ start-is (job .reversion) (job .steps)
+
+  pub prices-length : length (jobStatePrices job) ≡ state-prices-needed (job .steps) (job .reversion)
+  unfolding jobStatePrices state-prices-needed
+  prices-length = length-laid (rate-tree (job .reversion)) _ (suc (job .steps)) ∙ start-is (job .reversion) (suc (job .steps))
+
+  module _ (ds ps : ℕ) (z : recordFit job ds ps ≡ 0) where
+    pub steps-few : job .steps ≤ 255
+    steps-few = by-order (job .steps) 255 (λ h. h) (λ h. absurd (apart (fit-many job h ds ps ∙ z)))
+      where
+        apart : _≡_ {A = ℕ} 1 0 → ⊥
+        apart e = omega arith
+
+    pub fit-none : fitNumber (job .frequency) (job .steps) (job .reversion) (job .volatility) (jobRows job) (jobKinds job) (jobFigures job) ds ps ≡ 0
+    unfolding recordFit
+    fit-none = rw (le-ltb 255 (job .steps) steps-few) at z
+
+    pub numbers : Numbers (job .frequency) (job .steps) (job .reversion) (job .volatility)
+        (curveNumber (job .frequency) (job .steps) (jobRows job) (jobKinds job) (jobFigures job) 60) ds ps
+    numbers = fit-numbers _ _ _ _ _ _ _ ds ps fit-none
+
+    pub accepted : Accepted (job .steps) (job .reversion)
+    accepted = record { some = numbers .some; few = numbers .few; gentle = numbers .reverting }
+
+    pub quotes-none : recordQuotes job 60 ≡ 0
+    unfolding recordQuotes
+    quotes-none = rw (le-ltb 255 (job .steps) steps-few) (numbers .quotes)

@@ -46,7 +46,7 @@ loop-again c =
     let l = c .before .before .before .loop in
     let float = c .of-pattern in
     let next = laws.figured-next (a .patterns .now) (a .figures .now) (l .figures) (l .index) (float .result) (l .inv .2)
-        (omega arith) (omega arith) (float .ensures) in
+    (omega arith) (omega arith) (float .ensures) in
     (omega arith, next .same, next)
 
 same-length : tie.Need-same-length Inv-loop μ-loop
