@@ -1,5 +1,1 @@
-pub mod Pieces
-pub mod PartLaws
-pub mod FittedLaws
-pub mod SheetLaws
-pub mod Accepted
+pub mod AnswerLaws

@@ -1,3 +1,1 @@
-pub mod TreeSheet
-pub mod WholeJob
-pub mod Stored
+pub mod Answers

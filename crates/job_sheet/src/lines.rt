@@ -5,7 +5,7 @@ ghost use Prim.Native.Nat.{ℕ, suc, _+_, _*_, _≤_, _<_};
 ghost use lib.ListN.{length};
 ghost use Rattle.lattice.specs.Shape.{node-count, discounts-needed};
 ghost use Rattle.text_laws.specs.Put.{Put};
-ghost use Rattle.job_sheet.specs.TreeSheet.{
+ghost use Rattle.sheet_laws.specs.TreeSheet.{
   row-part,
   total,
   nodesOfRow,
@@ -16,7 +16,7 @@ ghost use Rattle.job_sheet.specs.TreeSheet.{
   priceLines,
   treeSheet,
 };
-ghost use Rattle.job_sheet.specs.Stored.{Stored, Summed};
+ghost use Rattle.sheet_laws.specs.Stored.{Stored, Summed};
 use pricing::Price;
 use row_view::RowKind;
 

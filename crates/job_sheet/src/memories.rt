@@ -19,15 +19,3 @@ pub(crate) fn quotes() -> [u64; 60]
 {
     [0; 60]
 }
-
-pub(crate) fn rows() -> [u64; 255]
-    ensures { λ r. ⌜ length r ≡ 255 ⌝ }
-{
-    [0; 255]
-}
-
-pub(crate) fn figures() -> [f64; 255]
-    ensures { λ r. ⌜ length r ≡ 255 ⌝ }
-{
-    [0.0; 255]
-}

@@ -5,9 +5,9 @@ use Prim.Native.Nat.{ℕ, suc, _+_, _-_, _*_, _≤_, _<_}
 use lib.ListN.{length}
 use Rattle.lattice.specs.Shape.{node-count, row-start, discounts-needed}
 use Rattle.lattice.proofs.Sizes.{start-suc}
-use Rattle.job_sheet.specs.TreeSheet.{nodesOfRow}
-use Rattle.job_sheet.proofs.Pieces.{Progress, begun, gone, ended}
-use Rattle.job_sheet.proofs.PartLaws as laws
+use Rattle.sheet_laws.specs.TreeSheet.{nodesOfRow}
+use Rattle.sheet_laws.proofs.Pieces.{Progress, begun, gone, ended}
+use Rattle.sheet_laws.proofs.PartLaws as laws
 use borrow.Author.Needs.{needs}
 use native.Mathlib.Omega.{arith}
 use Rattle.job_sheet.proofs.lines.put_all_nodes.Statement.{statement}

@@ -6,8 +6,8 @@ use mathlib.Core.List.{List}
 use borrow.Author.Tests.{lt-ltb}
 use Rattle.row_view.specs.declared.RowKind.the-variants.{Discounts}
 use Rattle.node_lines.specs.Rows.{rowStart, withRow}
-use Rattle.job_sheet.specs.TreeSheet.{row-part}
-use Rattle.job_sheet.proofs.PartLaws as laws
+use Rattle.sheet_laws.specs.TreeSheet.{row-part}
+use Rattle.sheet_laws.proofs.PartLaws as laws
 use borrow.Author.Needs.{needs}
 use native.Mathlib.Omega.{arith}
 use Rattle.job_sheet.proofs.lines.put_nodes.Statement.{statement}

@@ -1,7 +1,7 @@
 -- `job_sheet::lines::put_prices` meets its contract.
 -- Assumes nothing.
 use Prim.Native.Nat.{_-_}
-use Rattle.job_sheet.proofs.PartLaws as laws
+use Rattle.sheet_laws.proofs.PartLaws as laws
 use borrow.Author.Needs.{needs}
 use native.Mathlib.Omega.{arith}
 use Rattle.job_sheet.proofs.lines.put_prices.Statement.{statement}

@@ -4,10 +4,10 @@ use mathlib.Core.Path.{_≡_, ap, _∙_, subst}
 use Prim.Native.Nat.{ℕ, suc, _+_, _-_}
 use borrow.Author.Tests.{le-leb}
 use Rattle.row_view.specs.declared.RowKind.the-variants.{StatePrices}
-use Rattle.job_sheet.specs.TreeSheet.{row-part, total}
+use Rattle.sheet_laws.specs.TreeSheet.{row-part, total}
 use native.Mathlib.Numerals.{add-one}
 use Rattle.state_price_bound.specs.ErrorBound.{statePriceErrorBound}
-use Rattle.job_sheet.proofs.PartLaws as laws
+use Rattle.sheet_laws.proofs.PartLaws as laws
 use borrow.Author.Needs.{needs}
 use native.Mathlib.Omega.{arith}
 use Rattle.job_sheet.proofs.lines.put_row.Statement.{statement}

@@ -2,9 +2,9 @@
 -- Assumes nothing.
 use Prim.Native.Nat.{ℕ, suc, _+_, _-_, _*_, _≤_, _<_}
 use lib.ListN.{length}
-use Rattle.job_sheet.specs.TreeSheet.{lineOfRow}
-use Rattle.job_sheet.proofs.Pieces.{Progress, begun, gone, ended}
-use Rattle.job_sheet.proofs.PartLaws as laws
+use Rattle.sheet_laws.specs.TreeSheet.{lineOfRow}
+use Rattle.sheet_laws.proofs.Pieces.{Progress, begun, gone, ended}
+use Rattle.sheet_laws.proofs.PartLaws as laws
 use borrow.Author.Needs.{needs}
 use native.Mathlib.Omega.{arith}
 use Rattle.job_sheet.proofs.lines.put_rows.Statement.{statement}

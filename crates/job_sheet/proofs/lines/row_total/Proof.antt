@@ -5,7 +5,7 @@ use Prim.Native.Nat.{_-_, _≤_}
 use lib.ListN.{length}
 use Rattle.arithmetic.specs.Sum as sums
 use Rattle.arithmetic.specs.Row.{values}
-use Rattle.job_sheet.proofs.PartLaws as laws
+use Rattle.sheet_laws.proofs.PartLaws as laws
 use borrow.Author.Needs.{needs}
 use native.Mathlib.Omega.{arith}
 use Rattle.job_sheet.proofs.lines.row_total.Statement.{statement}

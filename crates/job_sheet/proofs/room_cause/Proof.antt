@@ -1,8 +1,8 @@
--- `job_sheet::priced::room_cause` meets its contract.
+-- `job_sheet::room_cause` meets its contract.
 -- Assumes nothing.
-use Rattle.job_sheet.proofs.SheetLaws as laws
-use Rattle.job_sheet.proofs.priced.room_cause.Statement.{statement}
-use Rattle.job_sheet.proofs.priced.room_cause.Tie as tie
+use Rattle.sheet_laws.proofs.SheetLaws as laws
+use Rattle.job_sheet.proofs.room_cause.Statement.{statement}
+use Rattle.job_sheet.proofs.room_cause.Tie as tie
 
 returns : tie.Need-returns
 returns c = laws.room-short (c .before .args .room) (c .if1 .taken)

@@ -31,9 +31,9 @@ use Rattle.arithmetic.proofs.Numbers.{by-equal}
 use Rattle.state_price_bound.specs.ErrorBound.{statePriceErrorBound, refusal}
 use Rattle.state_price_bound.proofs.BoundLaws.{row-needs, bound-within}
 use Rattle.state_price_bound.proofs.Meaning.{not-refused, answer-value}
-use Rattle.job_sheet.specs.TreeSheet.{row-part, total, nodesOfRow, nodeLines, lineOfRow, rowLines, optionLines, priceLines, treeSheet}
-use Rattle.job_sheet.specs.Stored.{Stored, Summed}
-use Rattle.job_sheet.proofs.Pieces.{lines-fit}
+use Rattle.sheet_laws.specs.TreeSheet.{row-part, total, nodesOfRow, nodeLines, lineOfRow, rowLines, optionLines, priceLines, treeSheet}
+use Rattle.sheet_laws.specs.Stored.{Stored, Summed}
+use Rattle.sheet_laws.proofs.Pieces.{lines-fit}
 
 module _ (n b : ℕ) (discounts prices : List ℕ) (h : Stored n b discounts prices) where
   pub held : holds-tree discounts prices n b ≡ true

@@ -1,0 +1,5 @@
+pub mod Pieces
+pub mod PartLaws
+pub mod FittedLaws
+pub mod SheetLaws
+pub mod Accepted

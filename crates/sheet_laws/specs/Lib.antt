@@ -1,0 +1,3 @@
+pub mod TreeSheet
+pub mod WholeJob
+pub mod Stored
