@@ -16,7 +16,8 @@ use Rattle.arithmetic.specs.Row.{row, values, place, each}
 use Rattle.arithmetic.proofs.RowLaws.{length-row, values-row, each-holds}
 use Rattle.arithmetic.specs.Frequency.{listed}
 use Rattle.quotes.proofs.QuoteLaws.{lone-told, lone-seventh, row-known}
-use Rattle.curve.specs.Curve.{stepsKnown, placeAt, inPlace, answerAt, convertsAt, discountAt, curveNumber, curveMemory}
+use Rattle.limits.specs.Limits.{is-steps}
+use Rattle.curve.specs.Curve.{placeAt, inPlace, answerAt, convertsAt, discountAt, curveNumber, curveMemory}
 use Rattle.arithmetic.proofs.PlaceLaws.{length-place, place-inside, place-after}
 
 true≢false : true ≡ false → ⊥
@@ -115,16 +116,16 @@ module _ (f n : ℕ) (rows kinds : List ℕ) (figures : List Float) (room : ℕ)
 
   module _ (a : listed f ≡ true) where
     pub number-low : n < 1 → curveNumber f n rows kinds figures room ≡ 3
-    unfolding curveNumber stepsKnown
+    unfolding curveNumber
     number-low h = rw (a, lt-leb 1 n h)
 
     pub number-high : 1 ≤ n → 60 < n → curveNumber f n rows kinds figures room ≡ 3
-    unfolding curveNumber stepsKnown
+    unfolding curveNumber
     number-high l h = rw (a, le-leb 1 n l, lt-leb n 60 h)
 
     module _ (l : 1 ≤ n) (h : n ≤ 60) where
       pub number-place : inPlace n rows kinds figures room ≡ false → curveNumber f n rows kinds figures room ≡ 6
-      unfolding curveNumber stepsKnown
+      unfolding curveNumber
       number-place p = rw (a, le-leb 1 n l, le-leb n 60 h, p)
 
       module _ (p : inPlace n rows kinds figures room ≡ true) where
@@ -132,18 +133,18 @@ module _ (f n : ℕ) (rows kinds : List ℕ) (figures : List Float) (room : ℕ)
         all = ap (λ (m : ℕ). each m (convertsAt f kinds figures)) (sym (placed-kinds n rows kinds figures room p))
 
         pub number-quotes : each (length kinds) (convertsAt f kinds figures) ≡ false → curveNumber f n rows kinds figures room ≡ 7
-        unfolding curveNumber stepsKnown
+        unfolding curveNumber
         number-quotes g = rw (a, le-leb 1 n l, le-leb n 60 h, p, all, g)
 
         pub number-accepted : each (length kinds) (convertsAt f kinds figures) ≡ true → curveNumber f n rows kinds figures room ≡ 0
-        unfolding curveNumber stepsKnown
+        unfolding curveNumber
         number-accepted g = rw (a, le-leb 1 n l, le-leb n 60 h, p, all, g)
 
   -- number 0 says all of it
   pub accepted : curveNumber f n rows kinds figures room ≡ 0 → Accepted f n rows kinds figures room
-  unfolding curveNumber stepsKnown inPlace
+  unfolding curveNumber inPlace
   accepted h =
-      let parts = number-none (listed f) (stepsKnown n) (inPlace n rows kinds figures room) (each n (convertsAt f kinds figures)) h in
+      let parts = number-none (listed f) (is-steps n) (inPlace n rows kinds figures room) (each n (convertsAt f kinds figures)) h in
       let steps = both (leb 1 n) (leb n 60) (parts .1) in
       let places = five (eqb (length rows) n) (eqb (length kinds) n) (eqb (length figures) n) (leb n room) (each n (placeAt rows)) (parts .2) in
       record {

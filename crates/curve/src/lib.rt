@@ -85,7 +85,7 @@ fn cause(
     if steps < 1 {
         return 3;
     }
-    if steps > 60 {
+    if steps > limits::MOST_STEPS {
         return 3;
     }
     if !is_in_place(steps, rows, kinds, figures, room) {

@@ -7,3 +7,4 @@ pub mod TableFit
 pub mod CauseLaws
 pub mod FitEntry
 pub mod Promised
+pub mod FittedTree

@@ -21,14 +21,15 @@ use Rattle.lattice.specs.Shape.{half-width, node-count, row-start}
 use Rattle.lattice.specs.RateTree.{rate-tree}
 use Rattle.lattice.proofs.Sizes.{half-within, count-positive}
 use Rattle.lattice.proofs.RateTreeLaws.{rate-tree-sound}
-use Rattle.fit_laws.specs.Step.{discount, next-price, accepted-discount}
+use Rattle.limits.specs.Limits.{is-discount}
+use Rattle.fit_laws.specs.Step.{discount, next-price}
 use Rattle.fit_laws.specs.StatePrices.{fitted-price, fitted-discount, accepted-row}
 use Rattle.fit_laws.proofs.StepLaws.{discount-cong, next-cong}
 use Rattle.fit_laws.proofs.Repricing.{Fittable}
 use Rattle.fit_laws.proofs.WholeFit.{Curve, fittable}
-use Rattle.fitting.specs.Rows.{Factors, Tables, TreeRow, table-factor, table-offset}
+use Rattle.fitting.specs.Rows.{Factors, Tables, TreeRow, table-factor}
 use Rattle.fitting.specs.Fit.{quoted, table-discount, table-price, table-accepted}
-use Rattle.fitting.proofs.TreeRows.{table-room}
+use Rattle.lattice.proofs.ShapeLaws.{table-room}
 
 -- what the caller ensures: quotes l, tables u and d, the memories d₀ and p₀, a row of working memory
 pub record Known (b : ℕ) (l u downs d₀ p₀ a : List ℕ) : Type 0 where
@@ -66,11 +67,11 @@ root-start b = refl
 module _ (b : ℕ) (l u downs d₀ p₀ a : List ℕ) (k : Known b l u downs d₀ p₀ a) where
   factor-least : (i j : ℕ) → i < length l → j < node-count b i → 360000000 ≤ table-factor b (length l) u i j
   unfolding table-factor
-  factor-least i j h g = k .tables .bounded .least _ (omega (arith, table-room b (length l) i h))
+  factor-least i j h g = k .tables .bounded .least _ (omega (arith, table-room b (length l - 1) i (omega arith)))
 
   factor-most : (i j : ℕ) → i < length l → j < node-count b i → table-factor b (length l) u i j ≤ 2720000000
   unfolding table-factor
-  factor-most i j h g = k .tables .bounded .most _ (omega (arith, table-room b (length l) i h))
+  factor-most i j h g = k .tables .bounded .most _ (omega (arith, table-room b (length l - 1) i (omega arith)))
 
   count-most : (i : ℕ) → node-count b i ≤ 2 * i + 1
   unfolding node-count
@@ -165,7 +166,7 @@ module _ (b : ℕ) (l u downs d₀ p₀ a : List ℕ) (k : Known b l u downs d�
       (λ c h. discount-cong (node-count b i) (values l i) _ (table-price b l u i) (table-factor b (length l) u i) part-value c) j
 
   module _ (d′ p′ : List ℕ) (r : Bool)
-      (er : r ≡ each (node-count b i) (λ j. accepted-discount
+      (er : r ≡ each (node-count b i) (λ j. is-discount
       (discount (node-count b i) (values (take (node-count b i) (drop (row-start b i) p))) (table-factor b (length l) u i) (values l i) j)))
       (ed : d′ ≡ place d (row-start b i) (row (node-count b i)
       (discount (node-count b i) (values (take (node-count b i) (drop (row-start b i) p))) (table-factor b (length l) u i) (values l i))))
@@ -174,7 +175,7 @@ module _ (b : ℕ) (l u downs d₀ p₀ a : List ℕ) (k : Known b l u downs d�
       (discount (node-count b i) (values (take (node-count b i) (drop (row-start b i) p))) (table-factor b (length l) u i) (values l i))))) p) where
     row-tested : r ≡ accepted-row (rate-tree b) (table-discount b l u) i
     unfolding accepted-row rate-tree
-    row-tested = er ∙ each-cong (node-count b i) _ _ (λ j _. ap accepted-discount (discount-is j))
+    row-tested = er ∙ each-cong (node-count b i) _ _ (λ j _. ap is-discount (discount-is j))
 
     row-filled : d′ ≡ laid (rate-tree b) (table-discount b l u) (suc i) ++ drop (start (rate-tree b) (suc i)) d₀
     unfolding rate-tree start row-start

@@ -10,12 +10,14 @@ use lib.ListN.{length, take, drop, length-drop}
 use lib.Seq.{take-at, length-take-le, drop-drop}
 use Rattle.arithmetic.specs.Sum.{sum}
 use Rattle.arithmetic.specs.Row.{row, values, place, each}
+use Rattle.arithmetic.proofs.PartLaws.{part-is, part-length}
 use Rattle.arithmetic.proofs.RowLaws.{row-cong, values-row, length-row, each-holds}
 use Rattle.tree.specs.Tree.{incoming, whole, Inside, Total}
 use Rattle.tree.proofs.StepLaws.{incoming-cong}
 use Rattle.row_branches.specs.RowBranches.{row-transition}
-use Rattle.fit_laws.specs.Step.{discount, carried, next-price, accepted-discount}
-use Rattle.fit_laws.proofs.AcceptedLaws.{accepted-most}
+use Rattle.limits.specs.Limits.{is-discount}
+use Rattle.fit_laws.specs.Step.{discount, carried, next-price}
+use Rattle.limits.proofs.LimitLaws.{discount-most}
 use Rattle.fitting.specs.Rows.{Factors, RowReady}
 use Rattle.fitting.proofs.RowStep.{amounts-sum}
 
@@ -29,12 +31,9 @@ replaced-place a n xs ys e =
     ap (λ (k : ℕ). take a xs ++ (ys ++ drop k (drop a xs))) (add-sub-cancel-left a n)
     ∙ ap (λ (l : List ℕ). take a xs ++ (ys ++ l)) (drop-drop n a xs ∙ ap (λ (k : ℕ). drop (a + k) xs) (sym e))
 
--- the part of n places from place a on, as lending has it
-pub part-is : (a n : ℕ) (l : List ℕ) → take (a + n - a) (drop a l) ≡ take n (drop a l)
-part-is a n l = ap (λ (k : ℕ). take k (drop a l)) (add-sub-cancel-left a n)
-
-pub part-length : (a n : ℕ) (l : List ℕ) → a + n ≤ length l → length (take (a + n - a) (drop a l)) ≡ n
-part-length a n l h = ap length (part-is a n l) ∙ length-take-le n (drop a l) (rw (length-drop a l) (omega arith))
+-- a part's length, as lending has it
+pub lent-part-length : (l : List ℕ) (a n : ℕ) → a + n ≤ length l → length (take (a + n - a) (drop a l)) ≡ n
+lent-part-length l a n h = ap length (part-is l a n) ∙ part-length l a n h
 
 module _ (at next quote : ℕ) (factors downs discounts prices amounts : List ℕ)
     (ready : RowReady at next quote factors downs discounts prices amounts) where
@@ -49,7 +48,7 @@ module _ (at next quote : ℕ) (factors downs discounts prices amounts : List �
   lent = take (at + length factors - at) (drop at prices)
 
   pub lent-length : length (take (at + length factors - at) (drop at prices)) ≡ length factors
-  lent-length = part-length at (length factors) prices (omega (arith, ready .room-prices))
+  lent-length = lent-part-length prices at (length factors) (omega (arith, ready .room-prices))
 
   pub front-length : length (take (length factors) amounts) ≡ length factors
   front-length = length-take-le (length factors) amounts (ready .room-amounts)
@@ -62,21 +61,21 @@ module _ (at next quote : ℕ) (factors downs discounts prices amounts : List �
       × (sum (length (take (at + length factors - at) (drop at prices))) (values (take (at + length factors - at) (drop at prices))) ≤ 2000000300)
       × (quote ≤ 2000000000)
   row-asks =
-      rw (lent-length, part-is at (length factors) prices)
-      (ready .bounded, part-length at (length factors) discounts (ready .room-discounts), front-length, ready .least, ready .most, ready .quote-most)
+      rw (lent-length, part-is prices at (length factors))
+      (ready .bounded, lent-part-length discounts at (length factors) (ready .room-discounts), front-length, ready .least, ready .most, ready .quote-most)
 
   -- the memories as the row's own step leaves them
   module _ (r : Bool) (d′ : List ℕ)
-      (er : r ≡ each (length (take (at + length factors - at) (drop at prices))) (λ k. accepted-discount
+      (er : r ≡ each (length (take (at + length factors - at) (drop at prices))) (λ k. is-discount
       (discount (length (take (at + length factors - at) (drop at prices))) (values (take (at + length factors - at) (drop at prices))) (values factors) quote k)))
       (ed : d′ ≡ row (length (take (at + length factors - at) (drop at prices)))
       (discount (length (take (at + length factors - at) (drop at prices))) (values (take (at + length factors - at) (drop at prices))) (values factors) quote)) where
-    pub row-tested : r ≡ each (length factors) (λ k. accepted-discount
+    pub row-tested : r ≡ each (length factors) (λ k. is-discount
         (discount (length factors) (values (take (length factors) (drop at prices))) (values factors) quote k))
-    row-tested = er ∙ rw (lent-length, part-is at (length factors) prices)
+    row-tested = er ∙ rw (lent-length, part-is prices at (length factors))
 
     row-known : d′ ≡ row (length factors) (discount (length factors) (values (take (length factors) (drop at prices))) (values factors) quote)
-    row-known = ed ∙ rw (lent-length, part-is at (length factors) prices)
+    row-known = ed ∙ rw (lent-length, part-is prices at (length factors))
 
     pub row-filled : replaced at (at + length factors - at) discounts d′
         ≡ place discounts at (row (length factors) (discount (length factors) (values (take (length factors) (drop at prices))) (values factors) quote))
@@ -90,7 +89,7 @@ module _ (at next quote : ℕ) (factors downs discounts prices amounts : List �
         (discount (length (take (at + length factors - at) (drop at prices))) (values (take (at + length factors - at) (drop at prices))) (values factors) quote))) where
       amounts-known : a′ ≡ row (length factors) (carried (values (take (length factors) (drop at prices)))
           (discount (length factors) (values (take (length factors) (drop at prices))) (values factors) quote))
-      amounts-known = ea ∙ rw (lent-length, part-is at (length factors) prices)
+      amounts-known = ea ∙ rw (lent-length, part-is prices at (length factors))
 
       amounts-length : length a′ ≡ length factors
       amounts-length = ap length amounts-known ∙ length-row (length factors) _
@@ -102,13 +101,13 @@ module _ (at next quote : ℕ) (factors downs discounts prices amounts : List �
       front-again = ap length front-is ∙ amounts-length
 
       next-length : length (take (at + length factors + next - (at + length factors)) (drop (at + length factors) prices)) ≡ next
-      next-length = part-length (at + length factors) next prices (ready .room-prices)
+      next-length = lent-part-length prices (at + length factors) next (ready .room-prices)
 
       discounts-most : (k : ℕ) → k < length factors → discount (length factors) (values (take (length factors) (drop at prices))) (values factors) quote k ≤ 1100000000
       discounts-most k h =
-          accepted-most _
+          discount-most _
           (each-holds (length factors) k
-          (λ k. accepted-discount (discount (length factors) (values (take (length factors) (drop at prices))) (values factors) quote k))
+          (λ k. is-discount (discount (length factors) (values (take (length factors) (drop at prices))) (values factors) quote k))
           (sym row-tested ∙ t) h)
 
       pub next-asks :

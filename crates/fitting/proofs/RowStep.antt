@@ -13,9 +13,10 @@ use Rattle.arithmetic.proofs.SumLaws.{sum-cong, sum-weigh-ge}
 use Rattle.arithmetic.proofs.RowLaws.{row-cong, values-row, length-row, each-holds, each-cong}
 use Rattle.tree.specs.Tree.{incoming, whole}
 use Rattle.row_branches.specs.RowBranches.{row-transition}
-use Rattle.fit_laws.specs.Step.{normaliser, discount, carried, accepted-discount}
+use Rattle.limits.specs.Limits.{is-discount}
+use Rattle.fit_laws.specs.Step.{normaliser, discount, carried}
 use Rattle.fit_laws.proofs.StepLaws.{normaliser-ge}
-use Rattle.fit_laws.proofs.AcceptedLaws.{accepted-most}
+use Rattle.limits.proofs.LimitLaws.{discount-most}
 use Rattle.fitting.specs.Rows.{Factors}
 use Rattle.fitting.proofs.StepRows.{carried-sum}
 
@@ -28,17 +29,17 @@ module _ (n m z p : ℕ) (q u : ℕ → ℕ) (ez : z ≡ normaliser n q u) (em :
   unfolding discount
   discounts-row l e = e ∙ rw (em, ez)
 
-  pub discounts-tested : (r : Bool) → r ≡ each m (λ k. accepted-discount (p * u k / z)) → r ≡ each n (λ k. accepted-discount (discount n q u p k))
+  pub discounts-tested : (r : Bool) → r ≡ each m (λ k. is-discount (p * u k / z)) → r ≡ each n (λ k. is-discount (discount n q u p k))
   unfolding discount
   discounts-tested r e = e ∙ rw (em, ez)
 
 -- accepted discounts are at most 1.1
-pub discounts-most : (n : ℕ) (v : ℕ → ℕ) (l : List ℕ) → each n (λ k. accepted-discount (v k)) ≡ true → l ≡ row n v →
+pub discounts-most : (n : ℕ) (v : ℕ → ℕ) (l : List ℕ) → each n (λ k. is-discount (v k)) ≡ true → l ≡ row n v →
     (k : ℕ) → k < length l → values l k ≤ 1100000000
 discounts-most n v l t e k h =
     let w : length l ≡ n = ap length e ∙ length-row n v in
     let h′ : k < n = omega arith in
-    rw (ap (λ (x : List ℕ). values x k) e ∙ values-row n k v h′) (accepted-most (v k) (each-holds n k (λ k. accepted-discount (v k)) t h′))
+    rw (ap (λ (x : List ℕ). values x k) e ∙ values-row n k v h′) (discount-most (v k) (each-holds n k (λ k. is-discount (v k)) t h′))
 
 pub carried-row : (n m : ℕ) (q v : ℕ → ℕ) (d l : List ℕ) → m ≡ n → d ≡ row n v → l ≡ row m (carried q (values d)) → l ≡ row n (carried q v)
 unfolding carried

@@ -7,7 +7,8 @@ ghost use Rattle.arithmetic.specs.Sum.{sum, only};
 ghost use Rattle.arithmetic.specs.Row.{row, values, each};
 ghost use Rattle.tree.specs.Tree.{Inside, Total, incoming};
 ghost use Rattle.row_branches.specs.RowBranches.{row-branch, row-transition};
-ghost use Rattle.fit_laws.specs.Step.{normaliser, discount, carried, accepted-discount};
+ghost use Rattle.limits.specs.Limits.{most-discount, is-discount};
+ghost use Rattle.fit_laws.specs.Step.{normaliser, discount, carried};
 ghost use Rattle.fitting.specs.Rows.{Factors};
 
 const ONE: u64 = 1_000_000_000;
@@ -26,15 +27,6 @@ pub(crate) fn normaliser_of(prices: &[u64], factors: &[u64]) -> u64
     total / ONE
 }
 
-fn is_accepted(discount: u64) -> bool
-    ensures { λ r. ⌜ r ≡ accepted-discount discount ⌝ }
-{
-    if discount < 1 {
-        return false;
-    }
-    discount <= 1_100_000_000
-}
-
 fn both(a: bool, b: bool) -> bool
     ensures { λ r. ⌜ r ≡ (a && b) ⌝ }
 {
@@ -44,7 +36,7 @@ fn both(a: bool, b: bool) -> bool
 // The discounts of a row, and whether all are accepted.
 pub(crate) fn fill_discounts(factors: &[u64], quote: u64, z: u64, discounts: &mut [u64]) -> bool
     requires { ⌜ Factors (now factors) (length (now discounts)) × (quote ≤ 2000000000) × (0 < z) ⌝ }
-    ensures tested { λ r. ⌜ r ≡ each (length (now (discounts .entry))) (λ k. accepted-discount (quote * values (now (factors .entry)) k / z)) ⌝ }
+    ensures tested { λ r. ⌜ r ≡ each (length (now (discounts .entry))) (λ k. is-discount (quote * values (now (factors .entry)) k / z)) ⌝ }
     ensures filled { λ _. ⌜ now (discounts .exit) ≡ row (length (now (discounts .entry))) (λ k. quote * values (now (factors .entry)) k / z) ⌝ }
 {
     let mut good = true;
@@ -52,7 +44,7 @@ pub(crate) fn fill_discounts(factors: &[u64], quote: u64, z: u64, discounts: &mu
     while k < discounts.len() {
         let discount = quote * factors[k] / z;
         discounts[k] = discount;
-        good = both(good, is_accepted(discount));
+        good = both(good, limits::is_discount(discount));
         k += 1;
     }
     good
@@ -62,7 +54,7 @@ pub(crate) fn fill_discounts(factors: &[u64], quote: u64, z: u64, discounts: &mu
 pub(crate) fn carry(prices: &[u64], discounts: &[u64], amounts: &mut [u64])
     requires { ⌜ (length (now prices) ≡ length (now amounts)) × (length (now discounts) ≡ length (now amounts))
         × (sum (length (now prices)) (values (now prices)) ≤ 2000000300)
-        × ((k : ℕ) → k < length (now discounts) → values (now discounts) k ≤ 1100000000) ⌝ }
+        × ((k : ℕ) → k < length (now discounts) → values (now discounts) k ≤ most-discount) ⌝ }
     ensures { λ _. ⌜ now (amounts .exit) ≡ row (length (now (amounts .entry))) (carried (values (now (prices .entry))) (values (now (discounts .entry)))) ⌝ }
 {
     let mut k: usize = 0;
@@ -145,7 +137,7 @@ pub(crate) fn step_row(
 ) -> bool
     requires { ⌜ Factors (now factors) (length (now prices)) × (length (now discounts) ≡ length (now prices)) × (length (now amounts) ≡ length (now prices))
         × (99999700 ≤ sum (length (now prices)) (values (now prices))) × (sum (length (now prices)) (values (now prices)) ≤ 2000000300) × (quote ≤ 2000000000) ⌝ }
-    ensures tested { λ r. ⌜ r ≡ each (length (now (prices .entry))) (λ k. accepted-discount
+    ensures tested { λ r. ⌜ r ≡ each (length (now (prices .entry))) (λ k. is-discount
         (discount (length (now (prices .entry))) (values (now (prices .entry))) (values (now (factors .entry))) quote k)) ⌝ }
     ensures filled { λ _. ⌜ now (discounts .exit) ≡ row (length (now (prices .entry)))
         (discount (length (now (prices .entry))) (values (now (prices .entry))) (values (now (factors .entry))) quote) ⌝ }

@@ -8,6 +8,7 @@ ghost use Prim.Native.Nat.{ℕ, suc, _+_, _-_, _*_, _≤_, _<_};
 ghost use lib.ListN.{length, drop};
 ghost use Rattle.arithmetic.specs.Rounding.{one};
 ghost use Rattle.arithmetic.specs.Row.{row, values};
+ghost use Rattle.limits.specs.Limits.{most-steps, most-nodes};
 ghost use Rattle.tree.specs.Layout.{laid};
 ghost use Rattle.lattice.specs.Shape.{half-width, node-count, row-start};
 ghost use Rattle.lattice.specs.RateTree.{node-at, rate-tree};
@@ -25,7 +26,7 @@ ghost use Rattle.fitting.specs.Fit.{
 
 // The factor of the node at an index of a row of this half width.
 fn factor_at(widest: usize, spacing: u64, index: usize) -> u64
-    requires { ⌜ (widest ≤ 60) × (widest * spacing ≤ one) × (index ≤ 2 * widest) ⌝ }
+    requires { ⌜ (widest ≤ most-steps) × (widest * spacing ≤ one) × (index ≤ 2 * widest) ⌝ }
     ensures { λ r. ⌜ r ≡ factor (node-at widest index) spacing ⌝ }
 {
     if index < widest {
@@ -37,7 +38,7 @@ fn factor_at(widest: usize, spacing: u64, index: usize) -> u64
 }
 
 fn fill_factors(widest: usize, spacing: u64, factors: &mut [u64])
-    requires { ⌜ (widest ≤ 60) × (widest * spacing ≤ one) × (length (now factors) ≡ 2 * widest + 1) ⌝ }
+    requires { ⌜ (widest ≤ most-steps) × (widest * spacing ≤ one) × (length (now factors) ≡ 2 * widest + 1) ⌝ }
     ensures { λ _. ⌜ now (factors .exit) ≡ row (length (now (factors .entry))) (λ k. factor (node-at widest k) spacing) ⌝ }
 {
     let mut k: usize = 0;
@@ -105,7 +106,7 @@ fn fit_tables(
     amounts: &mut [u64],
 ) -> bool
     requires { ⌜ Fittable reversion spacing widest (now quotes) (length (now discounts)) (length (now prices))
-        × (length (now factors) ≡ 2 * widest + 1) × (length (now downs) ≡ 2 * widest + 1) × (121 ≤ length (now amounts)) ⌝ }
+        × (length (now factors) ≡ 2 * widest + 1) × (length (now downs) ≡ 2 * widest + 1) × (most-nodes ≤ length (now amounts)) ⌝ }
     ensures tested { λ r. ⌜ r ≡ curve-accepted reversion spacing (now (quotes .entry)) ⌝ }
     ensures discounted { λ r. ⌜ now (discounts .exit) ≡ cond r
         (laid (rate-tree reversion) (curve-discount reversion spacing (now (quotes .entry))) (length (now (quotes .entry))))

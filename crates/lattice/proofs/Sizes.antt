@@ -2,7 +2,7 @@
 -- Assumes nothing.
 use mathlib.Core.Path.{_≡_, refl, sym, ap, _∙_}
 use Prim.Native.Nat.{ℕ, zero, suc, _+_, _-_, _*_, _/_, _%_, _≤_, _<_, min}
-use native.Mathlib.Nat.{mul-suc, suc-mul, mul-le-mul, mul-le-mul-right, add-mul, one-mul, div-add-mod', mod-lt, div-le-self, pos-of-ne-zero, mul-zero}
+use native.Mathlib.Nat.{mul-suc, suc-mul, mul-le-mul, mul-le-mul-right, add-mul, one-mul, div-add-mod', mod-lt, div-le-self, pos-of-ne-zero, mul-zero, le-refl}
 use native.Mathlib.Numerals.{add-one}
 use native.Mathlib.Omega.{arith}
 use borrow.Author.Tests.{eq-eqb, ne-eqb}
@@ -82,6 +82,11 @@ half-grows b i =
     by-equal b 0
     (λ z. omega (arith, half-flat b i z, half-flat b (suc i) z))
     (λ nz. omega (arith, half-capped b i nz, half-capped b (suc i) nz))
+
+-- later rows are no narrower
+pub half-later : (b i n : ℕ) → i ≤ n → half-width b i ≤ half-width b n
+half-later b i n h =
+    row-within b n (half-width b i) (omega (arith, half-within b i)) (within-row b i (half-width b i) (le-refl (half-width b i)))
 
 -- a row as wide as the next is as wide as rows get
 pub half-full : (b i : ℕ) → half-width b (suc i) ≡ half-width b i → (b ≡ 0 → ⊥) × (half-width b i ≡ highest-node b)

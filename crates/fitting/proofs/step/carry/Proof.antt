@@ -8,7 +8,7 @@ use lib.ListN.{length}
 use Rattle.arithmetic.proofs.RowLaws.{Filled, filled-start, filled-next, filled-all, each-none, each-more, each-fails}
 use Rattle.arithmetic.specs.Row.{row, values, each}
 use Rattle.fitting.proofs.StepRows as laws
-use Rattle.fit_laws.specs.Step.{normaliser, carried, accepted-discount}
+use Rattle.fit_laws.specs.Step.{normaliser, carried}
 use Rattle.fitting.proofs.step.carry.Statement.{statement}
 use Rattle.fitting.proofs.step.carry.Tie as tie
 

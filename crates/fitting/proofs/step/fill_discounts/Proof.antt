@@ -8,19 +8,20 @@ use lib.ListN.{length}
 use Rattle.arithmetic.proofs.RowLaws.{Filled, filled-start, filled-next, filled-all, each-none, each-more, each-fails}
 use Rattle.arithmetic.specs.Row.{row, values, each}
 use Rattle.fitting.proofs.StepRows as laws
-use Rattle.fit_laws.specs.Step.{normaliser, carried, accepted-discount}
+use Rattle.limits.specs.Limits.{is-discount}
+use Rattle.fit_laws.specs.Step.{normaliser, carried}
 use mathlib.Core.Bool.{Bool, true, false, _&&_}
 use Rattle.fitting.proofs.step.fill_discounts.Statement.{statement}
 use Rattle.fitting.proofs.step.fill_discounts.Tie as tie
 
 abbrev Inv-loop : tie.InvT-loop
-Inv-loop factors quote z discounts₀ good₀ k₀ discounts good k = (k ≤ length discounts₀) × Filled discounts₀ discounts (λ i. quote * values factors i / z) k × (good ≡ each k (λ i. accepted-discount (quote * values factors i / z)))
+Inv-loop factors quote z discounts₀ good₀ k₀ discounts good k = (k ≤ length discounts₀) × Filled discounts₀ discounts (λ i. quote * values factors i / z) k × (good ≡ each k (λ i. is-discount (quote * values factors i / z)))
 
 abbrev μ-loop : tie.MeasureT-loop
 μ-loop factors quote z discounts₀ good₀ k₀ discounts good k = length discounts₀ - k
 
 loop-holds : tie.Need-loop-holds Inv-loop μ-loop
-loop-holds c = (search needs, filled-start _ (λ i. c .before .before .args .quote * values (c .before .before .args .factors .now) i / c .before .before .args .z), sym (each-none (λ i. accepted-discount (c .before .before .args .quote * values (c .before .before .args .factors .now) i / c .before .before .args .z))))
+loop-holds c = (search needs, filled-start _ (λ i. c .before .before .args .quote * values (c .before .before .args .factors .now) i / c .before .before .args .z), sym (each-none (λ i. is-discount (c .before .before .args .quote * values (c .before .before .args .factors .now) i / c .before .before .args .z))))
 
 mul-discount : tie.Need-mul-discount Inv-loop μ-loop
 mul-discount c = search needs
@@ -40,8 +41,8 @@ mul-discounts c = search needs
 slice-write-discounts : tie.Need-slice-write-discounts Inv-loop μ-loop
 slice-write-discounts c = search needs
 
-is-accepted-requires : tie.Need-is-accepted-requires Inv-loop μ-loop
-is-accepted-requires c κs = search needs
+is-discount-requires : tie.Need-is-discount-requires Inv-loop μ-loop
+is-discount-requires c κs = search needs
 
 both-requires : tie.Need-both-requires Inv-loop μ-loop
 both-requires c κs = search needs
@@ -56,7 +57,7 @@ loop-again : tie.Need-loop-again Inv-loop μ-loop
 loop-again c = (
   omega (arith, c .before .before .before .before .loop .inv .1 .same),
   filled-next _ _ (λ i. c .before .before .before .before .before .before .before .args .quote * values (c .before .before .before .before .before .before .before .args .factors .now) i / c .before .before .before .before .before .before .before .args .z) _ _ (c .before .before .before .before .loop .inv .1) (search needs) refl,
-  c .both .ensures ∙ laws.each-joined _ (λ i. accepted-discount (c .before .before .before .before .before .before .before .args .quote * values (c .before .before .before .before .before .before .before .args .factors .now) i / c .before .before .before .before .before .before .before .args .z)) _ _ (c .before .before .before .before .loop .inv .2) (c .before .is-accepted .ensures),
+  c .both .ensures ∙ laws.each-joined _ (λ i. is-discount (c .before .before .before .before .before .before .before .args .quote * values (c .before .before .before .before .before .before .before .args .factors .now) i / c .before .before .before .before .before .before .before .args .z)) _ _ (c .before .before .before .before .loop .inv .2) (c .before .is-discount .ensures),
 )
 
 same-length : tie.Need-same-length Inv-loop μ-loop
@@ -65,7 +66,7 @@ same-length c = c .before .loop .inv .1 .same
 returns : tie.Need-returns Inv-loop μ-loop
 returns c =
     let e : c .before .loop .k ≡ length (c .before .before .before .before .args .discounts .now) = omega (arith, c .before .loop .inv .1 .same) in (
-      c .before .loop .inv .2 ∙ ap (λ (n : ℕ). each n (λ i. accepted-discount (c .before .before .before .before .args .quote * values (c .before .before .before .before .args .factors .now) i / c .before .before .before .before .args .z))) e,
+      c .before .loop .inv .2 ∙ ap (λ (n : ℕ). each n (λ i. is-discount (c .before .before .before .before .args .quote * values (c .before .before .before .before .args .factors .now) i / c .before .before .before .before .args .z))) e,
       filled-all _ _ (λ i. c .before .before .before .before .args .quote * values (c .before .before .before .before .args .factors .now) i / c .before .before .before .before .args .z) _ (c .before .loop .inv .1) e,
     )
 
@@ -82,7 +83,7 @@ fill-discounts-spec =
     div-discount
     mul-discounts
     slice-write-discounts
-    is-accepted-requires
+    is-discount-requires
     both-requires
     add-k
     loop-less

@@ -8,7 +8,7 @@ use lib.ListN.{length}
 use Rattle.arithmetic.specs.Row.{row, values, each}
 use Rattle.arithmetic.specs.Sum.{sum, only}
 use Rattle.fitting.proofs.StepRows as laws
-use Rattle.fit_laws.specs.Step.{normaliser, carried, accepted-discount}
+use Rattle.fit_laws.specs.Step.{normaliser, carried}
 use Rattle.fitting.proofs.step.normaliser_of.Statement.{statement}
 use Rattle.fitting.proofs.step.normaliser_of.Tie as tie
 

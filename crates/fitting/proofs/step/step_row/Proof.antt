@@ -8,7 +8,7 @@ use lib.ListN.{length}
 use Rattle.arithmetic.specs.Row.{row, values, each}
 use Rattle.arithmetic.specs.Sum.{sum, only}
 use Rattle.fitting.proofs.RowStep as laws
-use Rattle.fit_laws.specs.Step.{normaliser, discount, carried, accepted-discount}
+use Rattle.fit_laws.specs.Step.{normaliser, discount, carried}
 use borrow.Author.Tests.{not-true, not-false}
 use mathlib.Core.Bool.{Bool, true, false}
 use Rattle.fitting.specs.Rows.{Factors}
