@@ -2,24 +2,13 @@
 -- Assumes nothing.
 use mathlib.Core.Path.{_≡_, refl, _∙_}
 use mathlib.Core.Bool.{Bool, true, false, _||_}
-use Prim.Native.Nat.{ℕ, _+_, _-_, _*_, _/_, _≤_, max}
-use native.Mathlib.Nat.{mul-le-mul, mul-le-mul-left}
+use Prim.Native.Nat.{ℕ, _-_, max}
 use native.Mathlib.Omega.{arith}
-use lib.Dec.{eqb, ltb}
+use lib.Dec.{eqb}
 use borrow.Author.Tests.{eq-eqb, ne-eqb}
 use Rattle.pricing_laws.specs.Pricer.{exercise, held-or-exercised}
 use Rattle.exercise.specs.declared.Terms.{Terms}
 use Rattle.exercise.specs.Terms.{side, terms-of}
-
--- three probabilities and values up to 8 × one: the sum fits 64 bits, and so does its quotient times a discount
-module _ (p q r x y z d : ℕ) (h : p + q + r ≡ 600000000) (hx : x ≤ 8000000000) (hy : y ≤ 8000000000) (hz : z ≤ 8000000000) (hd : d ≤ 1100000000) where
-  pub sum-fits : p * x + q * y + r * z ≤ 4800000000000000000
-  sum-fits = omega (arith, mul-le-mul-left p hx, mul-le-mul-left q hy, mul-le-mul-left r hz)
-
-  pub product-fits : (p * x + q * y + r * z) / 600000000 * d ≤ 8800000000000000000
-  product-fits =
-      let quotient : (p * x + q * y + r * z) / 600000000 ≤ 8000000000 = omega (arith, sum-fits) in
-      mul-le-mul quotient hd
 
 -- the exercise value and the option's value, by the tests that the code makes
 pub call-value : (b : Bool) (strike bond r : ℕ) → b ≡ true → r ≡ bond - strike → r ≡ exercise (side b) strike bond
@@ -44,7 +33,7 @@ unlisted-value true roll now e = let z : _≡_ {A = ℕ} 0 1 = cc in absurd (ome
 
 -- the terms of a kind
 pub terms-built : (kind strike : ℕ) (t : Bool) → t ≡ (eqb kind 1 || eqb kind 3) →
-    _≡_ {A = Terms} (record { call = t; listed = ltb 2 kind; strike = strike }) (terms-of kind strike)
+    _≡_ {A = Terms} (record { call = t; strike = strike }) (terms-of kind strike)
 unfolding terms-of
 terms-built kind strike t e = rw e
 

@@ -1,14 +1,13 @@
-// The value of one node.
+// The value of one node of an option, and the rows on which each kind may be exercised.
 ghost use mathlib.Core.Path.{_≡_};
 ghost use mathlib.Core.Bool.{Bool, true, false};
-ghost use Prim.Native.Nat.{ℕ, _-_, max};
+ghost use Prim.Native.Nat.{ℕ, _-_};
 ghost use Rattle.pricing_laws.specs.Pricer.{exercise, held-or-exercised};
-ghost use Rattle.exercise.specs.Terms.{side, terms-of};
+ghost use Rattle.exercise.specs.Terms.{side, terms-of, marks-of};
 
-// An option's side and strike, and whether rows before expiry are listed for exercise.
+// An option's side and strike.
 pub struct Terms {
     pub call: bool,
-    pub listed: bool,
     pub strike: u64,
 }
 
@@ -18,9 +17,18 @@ pub fn terms_of(kind: u64, strike: u64) -> Terms
 {
     Terms {
         call: kind == 1 || kind == 3,
-        listed: 2 < kind,
         strike,
     }
+}
+
+// A mark for each row, 1 where a kind may be exercised on it before expiry.
+pub fn marks_of(kind: u64) -> [u8; 61]
+    ensures { λ r. ⌜ r ≡ marks-of kind ⌝ }
+{
+    if kind < 3 {
+        return [0; 61];
+    }
+    [1; 61]
 }
 
 // The difference, or 0 where it would be below 0.
@@ -41,18 +49,11 @@ pub fn exercise_value(terms: Terms, bond: u64) -> u64
 }
 
 // Before expiry: the larger of roll and exercise on a row that is listed, the roll on any other.
-pub fn held_value(terms: Terms, roll: u64, bond: u64) -> u64
-    ensures { λ r. ⌜ r ≡ held-or-exercised (terms .listed) roll (exercise (side (terms .call)) (terms .strike) bond) ⌝ }
+pub fn held_value(terms: Terms, listed: bool, roll: u64, bond: u64) -> u64
+    ensures { λ r. ⌜ r ≡ held-or-exercised listed roll (exercise (side (terms .call)) (terms .strike) bond) ⌝ }
 {
-    if terms.listed {
-        return larger(roll, exercise_value(terms, bond));
+    if listed {
+        return arithmetic::larger(roll, exercise_value(terms, bond));
     }
     roll
-}
-
-// The larger of two numbers.
-pub fn larger(x: u64, y: u64) -> u64
-    ensures { λ r. ⌜ r ≡ max x y ⌝ }
-{
-    if x < y { y } else { x }
 }

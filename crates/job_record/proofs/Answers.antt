@@ -1,6 +1,6 @@
 -- From what a call that tests says of its answer, and the branch on it, to the tested fact; and the parts of a test.
 -- Assumes nothing.
-use mathlib.Core.Bool.{Bool, true, false, not, _&&_, _||_}
+use mathlib.Core.Bool.{Bool, true, false, not, _&&_}
 use mathlib.Core.Path.{_≡_, refl, sym, _∙_}
 use borrow.Author.Tests.{not-true, not-false}
 
@@ -23,15 +23,3 @@ second false h = cc
 -- and back
 pub both : {a b : Bool} → a ≡ true → b ≡ true → (a && b) ≡ true
 both {a} {b} p q = rw (p, q)
-
--- one of two tests holds: by cases
-pub by-either : (a b : Bool) {X : Type 0} → (a || b) ≡ true → (a ≡ true → X) → (b ≡ true → X) → X
-by-either true b h f g = f refl
-by-either false b h f g = g h
-
-pub either-first : {a : Bool} (b : Bool) → a ≡ true → (a || b) ≡ true
-either-first b p = rw p
-
-pub either-second : (a : Bool) {b : Bool} → b ≡ true → (a || b) ≡ true
-either-second true p = refl
-either-second false p = p

@@ -8,7 +8,7 @@ use mathlib.Core.List.{List}
 use mathlib.Core.Path.{_≡_, refl}
 use lib.ListN.{getD}
 use lib.Arith.{digits-lt}
-use Rattle.job_record.specs.Bytes.{Bytes, numberAt}
+use Rattle.job_record.specs.Bytes.{Bytes, mostWidth, numberAt}
 
 pub number-nothing : (s : List ℕ) (o : ℕ) → numberAt s o 0 ≡ 0
 unfolding numberAt
@@ -24,6 +24,6 @@ unfolding numberAt
 number-bound s h o zero = omega arith
 number-bound s h o (suc k) = rw pow-suc (digits-lt (number-bound s h o k) (h (o + k)))
 
--- one byte more than k, with k below 8, fits 64 bits
-pub byte-more : (k v b : ℕ) → k < 8 → v < 256 ^ k → b < 256 → v * 256 + b < 2 ^ 64
+-- one byte more than k fits 64 bits
+pub byte-more : (k v b : ℕ) → k < mostWidth → v < 256 ^ k → b < 256 → v * 256 + b < 2 ^ 64
 byte-more k v b hk hv hb = lt-of-lt-of-le (rw (← pow-suc) at (digits-lt hv hb)) (pow-le-pow-right {n = 256} (omega arith) hk)

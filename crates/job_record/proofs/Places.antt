@@ -12,8 +12,9 @@ use lib.ListN.{length, getD, length-append}
 use lib.Seq.{getD-at}
 use lib.Arith.{lt-of-le-ne}
 use Rattle.job_record.specs.Bytes.{numberAt, digits}
-use Rattle.job_record.specs.Form.{fieldAt}
+use Rattle.job_record.specs.Form.{dataAt, hasTag, fieldAt}
 use Rattle.job_record.specs.Grammar.{field, joined}
+use Rattle.job_record.specs.declared.Tags.{Tags}
 use Rattle.job_record.proofs.Answers.{both}
 
 -- the list l stands in s from place o on
@@ -61,7 +62,8 @@ at-number s o zero v fits h = omega arith
 at-number s o (suc k) v fits h =
     let high : v / 256 < 256 ^ k = div-lt-iff-lt-mul {k = 256} (omega arith) .1 (rw pow-suc at fits) in
     let upper : numberAt s o k ≡ v / 256 = at-number s o k (v / 256) high (at-first s o (digits k (v / 256)) (v % 256 ∷ []) h) in
-    let lower : getD s (o + k) 0 ≡ v % 256 = at-byte s (o + k) (v % 256) [] (rw (digits-length k (v / 256)) at (at-second s o (digits k (v / 256)) (v % 256 ∷ []) h)) in
+    let last : At s (o + k) (v % 256 ∷ []) = rw (digits-length k (v / 256)) at (at-second s o (digits k (v / 256)) (v % 256 ∷ []) h) in
+    let lower : getD s (o + k) 0 ≡ v % 256 = at-byte s (o + k) (v % 256) [] last in
     rw (upper, lower) (div-add-mod' v 256)
 
 -- a field that was written
@@ -73,23 +75,22 @@ module _ (s : List ℕ) (o tag : ℕ) (body : List ℕ) (h : At s o (field tag b
   counted : At s (o + 1) (digits 2 (length body) ++ body)
   counted = at-second s o (tag ∷ []) (digits 2 (length body) ++ body) parts
 
-  pub at-body : At s (o + 3) body
+  pub at-body : At s (dataAt o) body
   at-body =
       let place : o + 1 + 2 ≡ o + 3 = omega arith in
       rw place at (rw (digits-length 2 (length body)) at (at-second s (o + 1) (digits 2 (length body)) body counted))
 
-  pub at-field : length body < 65536 → fieldAt s o tag (length body) ≡ true
+  pub at-tag : getD s o 0 ≡ tag
+  at-tag = at-byte s o tag (digits 2 (length body) ++ body) parts
+
+  pub at-field : (tags : Tags) → hasTag tags tag ≡ true → length body < 65536 → fieldAt s o tags (length body) ≡ true
   unfolding fieldAt
-  at-field small =
+  at-field tags has small =
       both (le-leb _ _ (at-within s (o + 3) body at-body))
-      (both (eq-eqb _ _ (at-byte s o tag (digits 2 (length body) ++ body) parts))
+      (both (ap (hasTag tags) at-tag ∙ has)
       (eq-eqb _ _ (at-number s (o + 1) 2 (length body) small (at-first s (o + 1) (digits 2 (length body)) body counted))))
 
-pub field-front : (s : List ℕ) (o tag : ℕ) (body : List ℕ) → At s o (field tag body) → At s o (tag ∷ (digits 2 (length body) ++ body))
-unfolding field
-field-front s o tag body h = h
-
-pub field-size : (tag : ℕ) (body : List ℕ) → length (field tag body) ≡ 3 + length body
+pub field-size : (tag : ℕ) (body : List ℕ) → length (field tag body) ≡ length body + 3
 unfolding field
 field-size tag body = simp (length-append, digits-length) (omega arith)
 
@@ -104,7 +105,9 @@ at-joined-by s o f width n size i (yes same) before below h =
     rw same (rw (joined-size f width n size) at (at-second s o (joined n f) (f n) h))
 at-joined-by s o f width n size i (no other) before below h = before (lt-of-le-ne (le-of-suc-le-suc below) other)
 
-pub at-joined : (s : List ℕ) (o : ℕ) (f : ℕ → List ℕ) (width n : ℕ) → ((i : ℕ) → length (f i) ≡ width) → At s o (joined n f) → (i : ℕ) → i < n → At s (o + width * i) (f i)
+pub at-joined :
+    (s : List ℕ) (o : ℕ) (f : ℕ → List ℕ) (width n : ℕ) → ((i : ℕ) → length (f i) ≡ width) → At s o (joined n f) → (i : ℕ) → i < n
+    → At s (o + width * i) (f i)
 unfolding joined
 at-joined s o f width zero size h i below = absurd (not-suc-le-zero below)
 at-joined s o f width (suc n) size h i below =

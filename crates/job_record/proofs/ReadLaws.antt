@@ -12,7 +12,7 @@ use Rattle.arithmetic.specs.Row.{row, values}
 use Rattle.arithmetic.proofs.Numbers.{by-equal}
 use Rattle.arithmetic.proofs.RowLaws.{row-of, zeros}
 use Rattle.job_record.specs.Bytes.{Bytes}
-use Rattle.job_record.specs.Form.{wellFormed}
+use Rattle.job_record.specs.Form.{mostSteps, wellFormed}
 use Rattle.job_record.specs.Reader.{jobOf, noJob, accepted, malformed, readingOf}
 use Rattle.job_record.specs.Grammar.{encode, Column, OptionSound, Sound, Encodes, ReadsAs}
 use Rattle.job_record.specs.declared.OptionRecord.{OptionRecord}
@@ -69,9 +69,9 @@ pub read-encodes : (s : List ℕ) → Bytes s → wellFormed s ≡ true → Enco
 read-encodes s b h = record { sound = read-sound s b h; fields = written s b h; short = well-short s h }
 
 -- zeros are a sound record
-zeros-column : (bound : ℕ) → 0 < bound → Column (replicate 255 0) 0 bound
+zeros-column : (bound : ℕ) → 0 < bound → Column (replicate mostSteps 0) 0 bound
 zeros-column bound positive =
-    record { size = length-replicate {A = ℕ} 255 0; below = λ k. rw (zeros 255 k) positive; after = λ k past. zeros 255 k }
+    record { size = length-replicate {A = ℕ} mostSteps 0; below = λ k. rw (zeros mostSteps k) positive; after = λ k past. zeros mostSteps k }
 
 zeros-sound : Sound noJob
 unfolding noJob

@@ -10,49 +10,97 @@ use lib.ListN.{length, getD, length-append}
 use lib.Dec.{eqb}
 use Rattle.arithmetic.specs.Row.{values}
 use Rattle.job_record.specs.Bytes.{numberAt, digits}
-use Rattle.job_record.specs.Form.{fieldAt, eitherAt, headFormed, restFormed, wellFormed, stepsOf}
+use Rattle.job_record.specs.Form.{
+  mostBytes,
+  dataAt,
+  afterField,
+  afterFields,
+  hasTag,
+  fieldAt,
+  fieldsFrom,
+  frequencyAt,
+  stepsAt,
+  reversionAt,
+  volatilityAt,
+  quotesAt,
+  flowsAt,
+  restAt,
+  kindAt,
+  expiryAt,
+  strikeAt,
+  optionWidth,
+  headFormed,
+  restFormed,
+  bodyFormed,
+  stepsOf,
+  wellFormed,
+}
 use Rattle.job_record.specs.Reader.{padded, tagOf, dataOf, noOption, optionAt, jobOf}
-use Rattle.job_record.specs.Grammar.{field, joined, quoteField, flowField, optionData, optionField, encode, isKind, OptionSound, Sound}
+use Rattle.job_record.specs.Grammar.{field, joined, quoteField, flowField, optionData, optionField, encode, OptionSound, Sound}
+use Rattle.job_record.specs.declared.Tags.{Tags}
+use Rattle.job_record.specs.declared.Tags.the-variants.{AnyKind, Only}
 use Rattle.job_record.specs.declared.OptionRecord.{OptionRecord}
 use Rattle.job_record.specs.declared.Job.{Job}
-use Rattle.job_record.proofs.Answers.{both, by-either, either-first, either-second}
+use Rattle.job_record.proofs.Answers.{both}
 use Rattle.job_record.proofs.Forms.{each-fields}
 use Rattle.job_record.proofs.Columns.{column-padded}
-use Rattle.job_record.proofs.Places.{At, at-all, at-first, at-second, at-number, at-body, at-field, at-byte, field-front, at-joined, digits-length, field-size, joined-size}
+use Rattle.job_record.proofs.Places.{
+  At,
+  at-all,
+  at-first,
+  at-second,
+  at-number,
+  at-body,
+  at-tag,
+  at-field,
+  at-joined,
+  digits-length,
+  field-size,
+  joined-size,
+}
 
 -- a field whose data are one number
 module _ (s : List ℕ) (o tag k v : ℕ) (h : At s o (field tag (digits k v))) where
-  pub number-formed : k < 65536 → fieldAt s o tag k ≡ true
-  number-formed small = rw (digits-length k v) at (at-field s o tag (digits k v) h (rw (digits-length k v) small))
+  number-formed : (tags : Tags) → hasTag tags tag ≡ true → k < 65536 → fieldAt s o tags k ≡ true
+  number-formed tags has small = rw (digits-length k v) at (at-field s o tag (digits k v) h tags has (rw (digits-length k v) small))
 
-  pub number-read : v < 256 ^ k → numberAt s (o + 3) k ≡ v
-  number-read fits = at-number s (o + 3) k v fits (at-body s o tag (digits k v) h)
+  only-formed : k < 65536 → fieldAt s o (Only tag) k ≡ true
+  only-formed = number-formed (Only tag) (eq-eqb tag tag refl)
 
-  pub tag-read : getD s o 0 ≡ tag
-  tag-read = at-byte s o tag _ (field-front s o tag (digits k v) h)
+  number-read : v < 256 ^ k → numberAt s (dataAt o) k ≡ v
+  number-read fits = at-number s (dataAt o) k v fits (at-body s o tag (digits k v) h)
 
-pub number-size : (tag k v : ℕ) → length (field tag (digits k v)) ≡ 3 + k
-number-size tag k v = field-size tag (digits k v) ∙ ap (λ (n : ℕ). 3 + n) (digits-length k v)
+number-size : (tag k v : ℕ) → length (field tag (digits k v)) ≡ k + 3
+number-size tag k v = field-size tag (digits k v) ∙ ap (λ (n : ℕ). n + 3) (digits-length k v)
 
--- a quote's field, and a field whose two tags are one
-kind-formed : (s : List ℕ) (o tag k : ℕ) → isKind tag ≡ true → fieldAt s o tag k ≡ true → eitherAt s o 5 6 k ≡ true
-unfolding isKind eitherAt
-kind-formed s o tag k kind h =
-    by-either (eqb tag 5) (eqb tag 6) kind
-    (λ p. either-first (fieldAt s o 6 k) (rw (eqb-true tag 5 p) at h))
-    (λ q. either-second (fieldAt s o 5 k) (rw (eqb-true tag 6 q) at h))
+-- n such fields of one width, one after the other
+fields-size : (tag number : ℕ → ℕ) (width n : ℕ) → length (joined n (λ i. field (tag i) (digits width (number i)))) ≡ (width + 3) * n
+fields-size tag number width n =
+    joined-size (λ i. field (tag i) (digits width (number i))) (width + 3) n (λ i. number-size (tag i) width (number i))
 
-same-formed : (s : List ℕ) (o tag k : ℕ) → fieldAt s o tag k ≡ true → eitherAt s o tag tag k ≡ true
-unfolding eitherAt
-same-formed s o tag k h = either-first (fieldAt s o tag k) h
+module _ (s : List ℕ) (from : ℕ) (tag number : ℕ → ℕ) (width n : ℕ) (h : At s from (joined n (λ i. field (tag i) (digits width (number i))))) where
+  one-at : (i : ℕ) → i < n → At s (afterFields from width i) (field (tag i) (digits width (number i)))
+  one-at =
+      at-joined s from (λ i. field (tag i) (digits width (number i))) (width + 3) n (λ i. number-size (tag i) width (number i)) h
 
-six : (option : OptionRecord) → length (optionData option) ≡ 6
-six option = simp (length-append, digits-length)
+  fields-formed : (tags : Tags) → width < 65536 → ((i : ℕ) → i < n → hasTag tags (tag i) ≡ true) → fieldsFrom s from tags width n ≡ true
+  fields-formed tags small has =
+      each-fields s from tags width n
+      (λ i below. number-formed s (afterFields from width i) (tag i) width (number i) (one-at i below) tags (has i below) small)
+
+  tags-read : (i : ℕ) → i < n → tagOf s from width i ≡ tag i
+  tags-read i below = at-tag s (afterFields from width i) (tag i) (digits width (number i)) (one-at i below)
+
+  numbers-read : ((i : ℕ) → number i < 256 ^ width) → (i : ℕ) → i < n → dataOf s from width i ≡ number i
+  numbers-read fits i below = number-read s (afterFields from width i) (tag i) width (number i) (one-at i below) (fits i)
+
+option-width : (option : OptionRecord) → length (optionData option) ≡ optionWidth
+option-width option = simp (length-append, digits-length)
 
 -- an option that is there, where it ends the list
 module _ (s : List ℕ) (o : ℕ) (option : OptionRecord) (h : At s o (field 8 (optionData option))) (e : length s ≡ o + length (field 8 (optionData option))) where
-  ends : length s ≡ o + 9
-  ends = e ∙ ap (λ (n : ℕ). o + n) (field-size 8 (optionData option) ∙ ap (λ (n : ℕ). 3 + n) (six option))
+  ends : length s ≡ afterField o optionWidth
+  ends = omega (arith, e, field-size 8 (optionData option), option-width option)
 
   more : length s ≡ o → ⊥
   more same = omega (arith, ends)
@@ -60,21 +108,28 @@ module _ (s : List ℕ) (o : ℕ) (option : OptionRecord) (h : At s o (field 8 (
   rest-present : restFormed s o ≡ true
   unfolding restFormed
   rest-present =
-      rw (ne-eqb (length s) o more)
-      (both (rw (six option) at (at-field s o 8 (optionData option) h (rw (six option) (omega arith)))) (eq-eqb _ _ ends))
+      let small : length (optionData option) < 65536 = rw (option-width option) (omega arith) in
+      let formed = at-field s o 8 (optionData option) h (Only 8) refl small in
+      rw (ne-eqb (length s) o more) (both (rw (option-width option) at formed) (eq-eqb _ _ ends))
+
+  at-kind : At s (kindAt o) (optionData option)
+  at-kind = at-body s o 8 (optionData option) h
+
+  at-expiry : At s (expiryAt o) (digits 1 (option .expiry) ++ digits 4 (option .strike))
+  at-expiry = rw (digits-length 1 (option .kind)) at (at-second s (kindAt o) (digits 1 (option .kind)) _ at-kind)
+
+  at-strike : At s (strikeAt o) (digits 4 (option .strike))
+  at-strike = rw (digits-length 1 (option .expiry)) at (at-second s (expiryAt o) (digits 1 (option .expiry)) _ at-expiry)
 
   option-present : OptionSound option → optionAt s o ≡ record { tag = 8; kind = option .kind; expiry = option .expiry; strike = option .strike }
   unfolding optionAt
   option-present r =
-      let p₁ : o + 3 + 1 ≡ o + 4 = omega arith in
-      let p₂ : o + 4 + 1 ≡ o + 5 = omega arith in
-      let at₁ : At s (o + 3) (optionData option) = at-body s o 8 _ h in
-      let at₂ : At s (o + 4) (digits 1 (option .expiry) ++ digits 4 (option .strike)) = rw p₁ at (rw (digits-length 1 (option .kind)) at (at-second s (o + 3) (digits 1 (option .kind)) _ at₁)) in
-      let at₃ : At s (o + 5) (digits 4 (option .strike)) = rw p₂ at (rw (digits-length 1 (option .expiry)) at (at-second s (o + 4) (digits 1 (option .expiry)) _ at₂)) in
-      let e₁ : numberAt s (o + 3) 1 ≡ option .kind = at-number s (o + 3) 1 (option .kind) (r .kind) (at-first s (o + 3) (digits 1 (option .kind)) _ at₁) in
-      let e₂ : numberAt s (o + 4) 1 ≡ option .expiry = at-number s (o + 4) 1 (option .expiry) (r .expiry) (at-first s (o + 4) (digits 1 (option .expiry)) _ at₂) in
-      let e₃ : numberAt s (o + 5) 4 ≡ option .strike = at-number s (o + 5) 4 (option .strike) (r .strike) at₃ in
-      rw (ne-eqb (length s) o more, e₁, e₂, e₃)
+      rw (
+        ne-eqb (length s) o more,
+        at-number s (kindAt o) 1 (option .kind) (r .kind) (at-first s (kindAt o) (digits 1 (option .kind)) _ at-kind),
+        at-number s (expiryAt o) 1 (option .expiry) (r .expiry) (at-first s (expiryAt o) (digits 1 (option .expiry)) _ at-expiry),
+        at-number s (strikeAt o) 4 (option .strike) (r .strike) at-strike,
+      )
 
 -- an option that is not there
 module _ (s : List ℕ) (o : ℕ) (e : length s ≡ o + 0) where
@@ -103,13 +158,81 @@ module _ (s : List ℕ) (o : ℕ) (option : OptionRecord) (h : At s o (optionFie
   option-read : OptionSound option → optionAt s o ≡ option
   option-read = option-by (eqb (option .tag) 8) refl
 
-option-short : (option : OptionRecord) → length (optionField option) ≤ 9
+option-short : (option : OptionRecord) → length (optionField option) ≤ afterField 0 optionWidth
 unfolding optionField
 option-short option = go (eqb (option .tag) 8)
   where
-    go : (t : Bool) → length (cond t (field 8 (optionData option)) []) ≤ 9
-    go true = simp (field-size, six) (omega arith)
+    go : (t : Bool) → length (cond t (field 8 (optionData option)) []) ≤ afterField 0 optionWidth
+    go true = simp (field-size, option-width) (omega arith)
     go false = omega arith
+
+-- the quotes, the flows and the option of a record
+abbrev quotesOf : Job → List ℕ
+quotesOf job = joined (job .steps) (quoteField job)
+
+abbrev flowsOf : Job → List ℕ
+flowsOf job = joined (job .steps) (flowField job)
+
+abbrev bodyOf : Job → List ℕ
+bodyOf job = quotesOf job ++ (flowsOf job ++ optionField (job .option))
+
+quotes-size : (job : Job) → length (quotesOf job) ≡ (8 + 3) * job .steps
+quotes-size job = fields-size (values (job .kinds)) (values (job .figures)) 8 (job .steps)
+
+flows-size : (job : Job) → length (flowsOf job) ≡ (4 + 3) * job .steps
+flows-size job = fields-size (λ i. 7) (values (job .flows)) 4 (job .steps)
+
+-- where they end the list: from any place on
+module _ (s : List ℕ) (from : ℕ) (job : Job) (h : At s from (bodyOf job)) (e : length s ≡ from + length (bodyOf job)) where
+  at-quotes : At s from (quotesOf job)
+  at-quotes = at-first s from (quotesOf job) _ h
+
+  after-quotes : At s (flowsAt from (job .steps)) (flowsOf job ++ optionField (job .option))
+  after-quotes = rw (quotes-size job) at (at-second s from (quotesOf job) _ h)
+
+  at-flows : At s (flowsAt from (job .steps)) (flowsOf job)
+  at-flows = at-first s (flowsAt from (job .steps)) (flowsOf job) _ after-quotes
+
+  at-rest : At s (restAt from (job .steps)) (optionField (job .option))
+  at-rest = rw (flows-size job) at (at-second s (flowsAt from (job .steps)) (flowsOf job) _ after-quotes)
+
+  rest-size : length s ≡ restAt from (job .steps) + length (optionField (job .option))
+  rest-size =
+      omega (
+        arith,
+        e,
+        length-append (quotesOf job) (flowsOf job ++ optionField (job .option)),
+        length-append (flowsOf job) (optionField (job .option)),
+        quotes-size job,
+        flows-size job,
+      )
+
+  module _ (r : Sound job) where
+    body-written : bodyFormed s from (job .steps) ≡ true
+    unfolding bodyFormed
+    body-written =
+        both (fields-formed s from (values (job .kinds)) (values (job .figures)) 8 (job .steps) at-quotes AnyKind (omega arith) (r .kind))
+        (both
+        (fields-formed s (flowsAt from (job .steps)) (λ i. 7) (values (job .flows)) 4 (job .steps) at-flows (Only 7) (omega arith) (λ i below. refl))
+        (rest-written s (restAt from (job .steps)) (job .option) at-rest rest-size))
+
+    kinds-read : padded (job .steps) (tagOf s from 8) ≡ job .kinds
+    kinds-read =
+        column-padded (job .kinds) (job .steps) _ (tagOf s from 8) (r .kinds)
+        (tags-read s from (values (job .kinds)) (values (job .figures)) 8 (job .steps) at-quotes)
+
+    figures-read : padded (job .steps) (dataOf s from 8) ≡ job .figures
+    figures-read =
+        column-padded (job .figures) (job .steps) _ (dataOf s from 8) (r .figures)
+        (numbers-read s from (values (job .kinds)) (values (job .figures)) 8 (job .steps) at-quotes (r .figures .below))
+
+    flows-read : padded (job .steps) (dataOf s (flowsAt from (job .steps)) 4) ≡ job .flows
+    flows-read =
+        column-padded (job .flows) (job .steps) _ (dataOf s (flowsAt from (job .steps)) 4) (r .flows)
+        (numbers-read s (flowsAt from (job .steps)) (λ i. 7) (values (job .flows)) 4 (job .steps) at-flows (r .flows .below))
+
+    rest-read : optionAt s (restAt from (job .steps)) ≡ job .option
+    rest-read = option-read s (restAt from (job .steps)) (job .option) at-rest rest-size (r .option)
 
 module _ (job : Job) where
   -- f, n, b and s
@@ -125,155 +248,93 @@ module _ (job : Job) where
   field₄ : List ℕ
   field₄ = field 4 (digits 4 (job .volatility))
 
-  quotes : List ℕ
-  quotes = joined (job .steps) (quoteField job)
-
-  flows : List ℕ
-  flows = joined (job .steps) (flowField job)
-
-  at-1 : At (encode job) 0 (field₁ ++ (field₂ ++ (field₃ ++ (field₄ ++ (quotes ++ (flows ++ optionField (job .option)))))))
-  unfolding encode field₁ field₂ field₃ field₄ quotes flows
-  at-1 = at-all (encode job)
-
-  size-1 : length field₁ ≡ 4
+  size₁ : length field₁ ≡ 1 + 3
   unfolding field₁
-  size-1 = number-size 1 1 (job .frequency)
+  size₁ = number-size 1 1 (job .frequency)
 
-  size-2 : length field₂ ≡ 4
+  size₂ : length field₂ ≡ 1 + 3
   unfolding field₂
-  size-2 = number-size 2 1 (job .steps)
+  size₂ = number-size 2 1 (job .steps)
 
-  size-3 : length field₃ ≡ 5
+  size₃ : length field₃ ≡ 2 + 3
   unfolding field₃
-  size-3 = number-size 3 2 (job .reversion)
+  size₃ = number-size 3 2 (job .reversion)
 
-  size-4 : length field₄ ≡ 7
+  size₄ : length field₄ ≡ 4 + 3
   unfolding field₄
-  size-4 = number-size 4 4 (job .volatility)
+  size₄ = number-size 4 4 (job .volatility)
 
-  at-2 : At (encode job) 4 (field₂ ++ (field₃ ++ (field₄ ++ (quotes ++ (flows ++ optionField (job .option))))))
-  at-2 = rw size-1 at (at-second (encode job) 0 field₁ _ at-1)
+  at-frequency : At (encode job) frequencyAt (field₁ ++ (field₂ ++ (field₃ ++ (field₄ ++ bodyOf job))))
+  unfolding encode field₁ field₂ field₃ field₄
+  at-frequency = at-all (encode job)
 
-  at-3 : At (encode job) 8 (field₃ ++ (field₄ ++ (quotes ++ (flows ++ optionField (job .option)))))
-  at-3 = rw size-2 at (at-second (encode job) 4 field₂ _ at-2)
+  at-steps : At (encode job) stepsAt (field₂ ++ (field₃ ++ (field₄ ++ bodyOf job)))
+  at-steps = rw size₁ at (at-second (encode job) frequencyAt field₁ _ at-frequency)
 
-  at-4 : At (encode job) 13 (field₄ ++ (quotes ++ (flows ++ optionField (job .option))))
-  at-4 = rw size-3 at (at-second (encode job) 8 field₃ _ at-3)
+  at-reversion : At (encode job) reversionAt (field₃ ++ (field₄ ++ bodyOf job))
+  at-reversion = rw size₂ at (at-second (encode job) stepsAt field₂ _ at-steps)
 
-  at-quotes : At (encode job) 20 (quotes ++ (flows ++ optionField (job .option)))
-  at-quotes = rw size-4 at (at-second (encode job) 13 field₄ _ at-4)
+  at-volatility : At (encode job) volatilityAt (field₄ ++ bodyOf job)
+  at-volatility = rw size₃ at (at-second (encode job) reversionAt field₃ _ at-reversion)
 
-  quotes-size : length quotes ≡ 11 * job .steps
-  unfolding quotes
-  quotes-size = joined-size (quoteField job) 11 (job .steps) (λ i. number-size (values (job .kinds) i) 8 (values (job .figures) i))
+  at-body-of : At (encode job) quotesAt (bodyOf job)
+  at-body-of = rw size₄ at (at-second (encode job) volatilityAt field₄ _ at-volatility)
 
-  flows-size : length flows ≡ 7 * job .steps
-  unfolding flows
-  flows-size = joined-size (flowField job) 7 (job .steps) (λ i. number-size 7 4 (values (job .flows) i))
-
-  at-flows : At (encode job) (20 + 11 * job .steps) (flows ++ optionField (job .option))
-  at-flows = rw quotes-size at (at-second (encode job) 20 quotes _ at-quotes)
-
-  at-option : At (encode job) (20 + 18 * job .steps) (optionField (job .option))
-  at-option =
-      let place : 20 + 11 * job .steps + 7 * job .steps ≡ 20 + 18 * job .steps = omega arith in
-      rw place at (rw flows-size at (at-second (encode job) (20 + 11 * job .steps) flows _ at-flows))
-
-  pub encode-size : length (encode job) ≡ 20 + 18 * job .steps + length (optionField (job .option))
-  unfolding encode quotes flows
-  encode-size = simp (length-append, number-size) (omega (arith, quotes-size, flows-size))
-
-  -- one quote, one flow
-  at-quote : (i : ℕ) → i < job .steps → At (encode job) (20 + 11 * i) (quoteField job i)
-  unfolding quotes
-  at-quote =
-      at-joined (encode job) 20 (quoteField job) 11 (job .steps) (λ i. number-size (values (job .kinds) i) 8 (values (job .figures) i))
-      (at-first (encode job) 20 (joined (job .steps) (quoteField job)) _ at-quotes)
-
-  at-flow : (i : ℕ) → i < job .steps → At (encode job) (20 + 11 * job .steps + 7 * i) (flowField job i)
-  unfolding flows
-  at-flow =
-      at-joined (encode job) (20 + 11 * job .steps) (flowField job) 7 (job .steps) (λ i. number-size 7 4 (values (job .flows) i))
-      (at-first (encode job) (20 + 11 * job .steps) (joined (job .steps) (flowField job)) _ at-flows)
+  encode-size : length (encode job) ≡ quotesAt + length (bodyOf job)
+  unfolding encode
+  encode-size = simp (length-append, number-size) (omega arith)
 
   -- the four fields of the head
-  head-at-1 : At (encode job) 0 (field 1 (digits 1 (job .frequency)))
+  frequency-field : At (encode job) frequencyAt (field 1 (digits 1 (job .frequency)))
   unfolding field₁
-  head-at-1 = at-first (encode job) 0 _ _ at-1
+  frequency-field = at-first (encode job) frequencyAt _ _ at-frequency
 
-  head-at-2 : At (encode job) 4 (field 2 (digits 1 (job .steps)))
+  steps-field : At (encode job) stepsAt (field 2 (digits 1 (job .steps)))
   unfolding field₂
-  head-at-2 = at-first (encode job) 4 _ _ at-2
+  steps-field = at-first (encode job) stepsAt _ _ at-steps
 
-  head-at-3 : At (encode job) 8 (field 3 (digits 2 (job .reversion)))
+  reversion-field : At (encode job) reversionAt (field 3 (digits 2 (job .reversion)))
   unfolding field₃
-  head-at-3 = at-first (encode job) 8 _ _ at-3
+  reversion-field = at-first (encode job) reversionAt _ _ at-reversion
 
-  head-at-4 : At (encode job) 13 (field 4 (digits 4 (job .volatility)))
+  volatility-field : At (encode job) volatilityAt (field 4 (digits 4 (job .volatility)))
   unfolding field₄
-  head-at-4 = at-first (encode job) 13 _ _ at-4
+  volatility-field = at-first (encode job) volatilityAt _ _ at-volatility
+
+  head-written : headFormed (encode job) ≡ true
+  unfolding headFormed
+  head-written =
+      both (only-formed (encode job) frequencyAt 1 1 (job .frequency) frequency-field (omega arith))
+      (both (only-formed (encode job) stepsAt 2 1 (job .steps) steps-field (omega arith))
+      (both (only-formed (encode job) reversionAt 3 2 (job .reversion) reversion-field (omega arith))
+      (only-formed (encode job) volatilityAt 4 4 (job .volatility) volatility-field (omega arith))))
 
   module _ (r : Sound job) where
     steps-read : stepsOf (encode job) ≡ job .steps
-    steps-read = number-read (encode job) 4 2 1 (job .steps) head-at-2 (r .steps)
+    steps-read = number-read (encode job) stepsAt 2 1 (job .steps) steps-field (r .steps)
 
-    quote-formed : (i : ℕ) → i < job .steps → eitherAt (encode job) (20 + 11 * i) 5 6 8 ≡ true
-    quote-formed i below =
-        kind-formed (encode job) (20 + 11 * i) (values (job .kinds) i) 8 (r .kind i below)
-        (number-formed (encode job) (20 + 11 * i) (values (job .kinds) i) 8 (values (job .figures) i) (at-quote i below) (omega arith))
-
-    flow-formed : (i : ℕ) → i < job .steps → eitherAt (encode job) (20 + 11 * job .steps + 7 * i) 7 7 4 ≡ true
-    flow-formed i below =
-        same-formed (encode job) (20 + 11 * job .steps + 7 * i) 7 4
-        (number-formed (encode job) (20 + 11 * job .steps + 7 * i) 7 4 (values (job .flows) i) (at-flow i below) (omega arith))
-
-    head-written : headFormed (encode job) ≡ true
-    unfolding headFormed
-    head-written =
-        both (number-formed (encode job) 0 1 1 (job .frequency) head-at-1 (omega arith))
-        (both (number-formed (encode job) 4 2 1 (job .steps) head-at-2 (omega arith))
-        (both (number-formed (encode job) 8 3 2 (job .reversion) head-at-3 (omega arith))
-        (number-formed (encode job) 13 4 4 (job .volatility) head-at-4 (omega arith))))
-
-    -- no record passes the limit of 4,700 bytes: 255 steps and an option make 4,619
-    pub encode-short : length (encode job) ≤ 4619
-    encode-short = omega (arith, encode-size, option-short (job .option), r .steps)
+    -- no record passes the limit: 255 steps and an option make 4,619 bytes
+    pub encode-short : length (encode job) ≤ mostBytes
+    encode-short =
+        omega (arith, rest-size (encode job) quotesAt job at-body-of encode-size, option-short (job .option), r .steps)
 
     pub encode-formed : wellFormed (encode job) ≡ true
     unfolding wellFormed
     encode-formed =
         rw steps-read
-        (both (le-leb (length (encode job)) 4700 (omega (arith, encode-short)))
-        (both head-written
-        (both (each-fields (encode job) 20 5 6 8 (job .steps) quote-formed)
-        (both (each-fields (encode job) (20 + 11 * job .steps) 7 7 4 (job .steps) flow-formed)
-        (rest-written (encode job) (20 + 18 * job .steps) (job .option) at-option encode-size)))))
-
-    kinds-read : padded (job .steps) (tagOf (encode job) 20 8) ≡ job .kinds
-    kinds-read =
-        column-padded (job .kinds) (job .steps) _ (tagOf (encode job) 20 8) (r .kinds)
-        (λ i below. tag-read (encode job) (20 + 11 * i) (values (job .kinds) i) 8 (values (job .figures) i) (at-quote i below))
-
-    figures-read : padded (job .steps) (dataOf (encode job) 20 8) ≡ job .figures
-    figures-read =
-        column-padded (job .figures) (job .steps) _ (dataOf (encode job) 20 8) (r .figures)
-        (λ i below. number-read (encode job) (20 + 11 * i) (values (job .kinds) i) 8 (values (job .figures) i) (at-quote i below) (r .figures .below i))
-
-    flows-read : padded (job .steps) (dataOf (encode job) (20 + 11 * job .steps) 4) ≡ job .flows
-    flows-read =
-        column-padded (job .flows) (job .steps) _ (dataOf (encode job) (20 + 11 * job .steps) 4) (r .flows)
-        (λ i below. number-read (encode job) (20 + 11 * job .steps + 7 * i) 7 4 (values (job .flows) i) (at-flow i below) (r .flows .below i))
+        (both (le-leb (length (encode job)) mostBytes encode-short)
+        (both head-written (body-written (encode job) quotesAt job at-body-of encode-size r)))
 
     pub encode-read : jobOf (encode job) ≡ job
     unfolding jobOf
     encode-read =
         rw (
-          number-read (encode job) 0 1 1 (job .frequency) head-at-1 (r .frequency),
+          number-read (encode job) frequencyAt 1 1 (job .frequency) frequency-field (r .frequency),
           steps-read,
-          number-read (encode job) 8 3 2 (job .reversion) head-at-3 (r .reversion),
-          number-read (encode job) 13 4 4 (job .volatility) head-at-4 (r .volatility),
-          kinds-read,
-          figures-read,
-          flows-read,
-          option-read (encode job) (20 + 18 * job .steps) (job .option) at-option encode-size (r .option),
+          number-read (encode job) reversionAt 3 2 (job .reversion) reversion-field (r .reversion),
+          number-read (encode job) volatilityAt 4 4 (job .volatility) volatility-field (r .volatility),
+          kinds-read (encode job) quotesAt job at-body-of encode-size r,
+          figures-read (encode job) quotesAt job at-body-of encode-size r,
+          flows-read (encode job) quotesAt job at-body-of encode-size r,
+          rest-read (encode job) quotesAt job at-body-of encode-size r,
         )

@@ -8,6 +8,10 @@ use lib.ListN.{getD}
 abbrev pub Bytes : List ℕ → Type 0
 Bytes s = (i : ℕ) → getD s i 0 < 256
 
+-- a number of so many bytes fits 64 bits
+abbrev pub mostWidth : ℕ
+mostWidth = 8
+
 -- a number in width bytes
 unfoldable pub digits : ℕ → ℕ → List ℕ
 digits zero v = []

@@ -2,12 +2,13 @@
 -- Assumes nothing.
 use Prim.Native.Nat.{ℕ, zero, suc, _^_, _≤_, _<_}
 use mathlib.Core.List.{List, [], _∷_, _++_}
-use mathlib.Core.Bool.{Bool, true, false, cond, _||_}
+use mathlib.Core.Bool.{true, cond}
 use mathlib.Core.Path.{_≡_}
 use lib.ListN.{length}
 use lib.Dec.{eqb}
 use Rattle.arithmetic.specs.Row.{values}
 use Rattle.job_record.specs.Bytes.{digits}
+use Rattle.job_record.specs.Form.{mostBytes, mostSteps, isKind}
 use Rattle.job_record.specs.Reader.{noOption, accepted, malformed}
 use Rattle.job_record.specs.declared.OptionRecord.{OptionRecord}
 use Rattle.job_record.specs.declared.Job.{Job}
@@ -47,13 +48,9 @@ encode job =
     ++ (field 4 (digits 4 (job .volatility))
     ++ (joined (job .steps) (quoteField job) ++ (joined (job .steps) (flowField job) ++ optionField (job .option))))))
 
--- the kinds of quotes: 5 a discount factor, 6 a simple yearly rate
-unfoldable pub isKind : ℕ → Bool
-isKind tag = eqb tag 5 || eqb tag 6
-
 -- a column of a record holds its n entries, each below a bound, and zeros after them
 pub record Column (l : List ℕ) (n bound : ℕ) : Type 0 where
-  pub size : length l ≡ 255
+  pub size : length l ≡ mostSteps
   pub below : (k : ℕ) → values l k < bound
   pub after : (k : ℕ) → n ≤ k → values l k ≡ 0
 
@@ -80,7 +77,7 @@ pub record Sound (job : Job) : Type 0 where
 pub record Encodes (s : List ℕ) (job : Job) : Type 0 where
   pub sound : Sound job
   pub fields : encode job ≡ s
-  pub short : length s ≤ 4700
+  pub short : length s ≤ mostBytes
 
 -- reading by the grammar: the bytes of a record give that record, what is accepted is the bytes of the record given,
 -- and everything else is refused with 1. The record is a sound one either way: zeros are

@@ -1,5 +1,14 @@
 // A job as a record, with the definitions and laws of its form, its grammar and its reading.
 
+// As many steps as one byte can say: the places that a record has for quotes and for flows.
+pub const MOST_STEPS: usize = 255;
+
+// What the tag of a field may be: any kind of quote, or one tag alone.
+pub enum Tags {
+    AnyKind,
+    Only(u8),
+}
+
 // The option of a job: tag 8, or 0 and zeros where the job has none.
 pub struct OptionRecord {
     pub tag: u64,
@@ -14,9 +23,9 @@ pub struct Job {
     pub steps: usize,
     pub reversion: u64,
     pub volatility: u64,
-    pub kinds: [u8; 255],
-    pub figures: [u64; 255],
-    pub flows: [u64; 255],
+    pub kinds: [u8; MOST_STEPS],
+    pub figures: [u64; MOST_STEPS],
+    pub flows: [u64; MOST_STEPS],
     pub option: OptionRecord,
 }
 

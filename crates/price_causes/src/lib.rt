@@ -1,80 +1,15 @@
-// Causes of refusal.
+// Causes of refusal about a bond's flows and about an option.
 ghost use mathlib.Core.Path.{_≡_};
-ghost use Prim.Native.Nat.{ℕ, _≤_};
-ghost use lib.ListN.{length};
-ghost use Rattle.arithmetic.specs.Row.{values, each};
-ghost use Rattle.arithmetic.specs.Sum.{greatest};
-ghost use Rattle.price_causes.specs.Causes.{between, tree-cause, option-cause};
+ghost use Rattle.price_causes.specs.Causes.{flows-cause, option-cause};
 
-// Whether each of the first count numbers is from low to high.
-fn all_between(low: u64, high: u64, xs: &[u64], count: usize) -> bool
-    requires { ⌜ count ≤ length (now xs) ⌝ }
-    ensures { λ r. ⌜ r ≡ each count (between low high (values (now (xs .entry)))) ⌝ }
+// The cause about flows: 6 where they are not as many as the steps, then 10 for one above its limit; 0 where there is none.
+pub fn flows_cause(steps: usize, flows: &[u64]) -> u64
+    ensures { λ r. ⌜ r ≡ flows-cause steps (now (flows .entry)) ⌝ }
 {
-    let mut k: usize = 0;
-    while k < count {
-        let x = xs[k];
-        if x < low {
-            return false;
-        }
-        if high < x {
-            return false;
-        }
-        k += 1;
-    }
-    true
-}
-
-// The next place with a number above the greatest so far; the length where there is none.
-fn next_above(xs: &[u64], best: u64, from: usize) -> usize
-    requires { ⌜ (from ≤ length (now xs)) × (best ≡ greatest from (values (now xs))) ⌝ }
-    ensures { λ r. ⌜ (from ≤ r) × (r ≤ length (now (xs .entry))) × (best ≡ greatest r (values (now (xs .entry)))) ⌝ }
-{
-    let mut k: usize = from;
-    while k < xs.len() {
-        if best < xs[k] {
-            return k;
-        }
-        k += 1;
-    }
-    k
-}
-
-// The greatest of a row, 0 where it is empty. A search between the few places where it grows costs less than a choice at each.
-pub fn greatest_of(xs: &[u64]) -> u64
-    ensures { λ r. ⌜ r ≡ greatest (length (now (xs .entry))) (values (now (xs .entry))) ⌝ }
-{
-    let mut best: u64 = 0;
-    let mut k: usize = 0;
-    while k < xs.len() {
-        let x = xs[k];
-        if best < x {
-            best = x;
-        }
-        k = next_above(xs, best, k + 1);
-    }
-    best
-}
-
-// The first cause about a tree, its lent discounts and its flows; 0 where there is none. Each cause is tried everywhere before the next.
-pub fn tree_cause(steps: usize, reversion: u64, discounts: &[u64], flows: &[u64]) -> u64
-    ensures { λ r. ⌜ r ≡ tree-cause steps reversion (now (discounts .entry)) (now (flows .entry)) ⌝ }
-{
-    let needed = lattice::discounts_needed(steps, reversion);
-    if needed.number != 0 {
-        return needed.number;
-    }
     if flows.len() != steps {
         return 6;
     }
-    let size = needed.value as usize;
-    if discounts.len() < size {
-        return 6;
-    }
-    if !all_between(1, 1_100_000_000, discounts, size) {
-        return 9;
-    }
-    if !all_between(0, 2_000_000_000, flows, steps) {
+    if !arithmetic::all_between(0, 2_000_000_000, flows) {
         return 10;
     }
     0

@@ -1,3 +1,4 @@
+pub mod NodeLaws
 pub mod RowSteps
 pub mod TreeRows
 pub mod StepParts

@@ -15,7 +15,10 @@ larger-requires c κs = search needs
 
 returns : tie.Need-returns
 returns c =
-    listed-value _ _ _ _ (c .before .before .if1 .taken) (c .larger .ensures ∙ ap (λ (x : ℕ). max (c .before .before .before .args .roll) x) (c .before .exercise-value .ensures))
+    let s = c .before .before .before in
+    let if1 = c .before .before .if1 in
+    let exercise-value = c .before .exercise-value in
+    listed-value _ _ _ _ (if1 .taken) (c .larger .ensures ∙ ap (λ (x : ℕ). max (s .args .roll) x) (exercise-value .ensures))
 
 returns-2 : tie.Need-returns-2
 returns-2 c = unlisted-value _ _ _ (c .if1 .left)

@@ -7,7 +7,7 @@ use denote.Ref.{now}
 use Rattle.arithmetic.specs.Rounding.{down}
 use Rattle.arithmetic.specs.Row.{values}
 use Rattle.pricing.specs.Rows.{branch-roll}
-use Rattle.exercise.proofs.NodeLaws.{sum-fits, product-fits}
+use Rattle.pricing.proofs.NodeLaws.{sum-fits, product-fits}
 use borrow.Author.Needs.{needs}
 use Rattle.pricing.proofs.rows.roll_node.Statement.{statement}
 use Rattle.pricing.proofs.rows.roll_node.Tie as tie
