@@ -2,23 +2,20 @@
 -- Assumes nothing.
 use mathlib.Core.Path.{_≡_, sym, ap, _∙_}
 use mathlib.Core.List.{List}
-use Prim.Native.Nat.{ℕ, suc, _≤_, _<_}
+use Prim.Native.Nat.{ℕ, _≤_, _<_}
 use native.Mathlib.Omega.{arith}
 use borrow.Author.Tests.{lt-ltb, le-ltb, eq-eqb, ne-eqb}
 use lib.Ieee.{Float}
 use lib.ListN.{length, take, length-take}
-use lib.Seq.{take-at}
 use Rattle.arithmetic.specs.Row.{row, place}
 use Rattle.arithmetic.proofs.Numbers.{by-order}
 use Rattle.arithmetic.proofs.RowLaws.{length-row}
-use Rattle.tree.proofs.LayoutLaws.{length-laid}
 use Rattle.lattice.specs.Shape.{discounts-needed, state-prices-needed}
-use Rattle.lattice.specs.RateTree.{rate-tree}
-use Rattle.lattice.proofs.RateTreeLaws.{start-is}
 use Rattle.lattice.proofs.TreeEntries.{Accepted}
 use Rattle.curve.specs.Curve.{discountAt, curveNumber, curveMemory}
 use Rattle.fitting.specs.Entry.{fitNumber, fit-memory, fit-discounts, fit-prices}
 use Rattle.fitting.specs.Plans.{Numbers}
+use Rattle.fitting.proofs.FittedTree.{fit-discounts-length, fit-prices-length}
 use Rattle.fitting.proofs.Promised.{fit-numbers}
 use Rattle.job_record.specs.declared.Job.{Job}
 use Rattle.job_fit.specs.RecordFit.{jobRows, jobKinds, jobFigures, jobQuotes, jobDiscounts, jobStatePrices, recordQuotes, recordFit, memoryAfter}
@@ -125,26 +122,18 @@ module _ (job : Job) where
 
 -- ---- what a record's fit is where nothing is refused
 
-pub front-placed : (memory part : List ℕ) (k : ℕ) → length part ≡ k → take k (place memory 0 part) ≡ part
-unfolding place
-front-placed memory part k e = take-at part _ k e
-
-pub fit-placed : (number : ℕ) (part memory : List ℕ) → number ≡ 0 → fit-memory number part memory ≡ place memory 0 part
-unfolding fit-memory
-fit-placed number part memory z = rw (eq-eqb number 0 z)
-
 module _ (job : Job) where
   pub quotes-length : length (jobQuotes job) ≡ job .steps
   unfolding jobQuotes
   quotes-length = length-row (job .steps) (discountAt (job .frequency) (jobKinds job) (jobFigures job))
 
   pub discounts-length : length (jobDiscounts job) ≡ discounts-needed (job .steps) (job .reversion)
-  unfolding jobDiscounts discounts-needed
-  discounts-length = length-laid (rate-tree (job .reversion)) _ (job .steps) ∙ start-is (job .reversion) (job .steps)
+  unfolding jobDiscounts
+  discounts-length = fit-discounts-length _ _ _ _ (jobKinds job) (jobFigures job)
 
   pub prices-length : length (jobStatePrices job) ≡ state-prices-needed (job .steps) (job .reversion)
-  unfolding jobStatePrices state-prices-needed
-  prices-length = length-laid (rate-tree (job .reversion)) _ (suc (job .steps)) ∙ start-is (job .reversion) (suc (job .steps))
+  unfolding jobStatePrices
+  prices-length = fit-prices-length _ _ _ _ (jobKinds job) (jobFigures job)
 
   module _ (ds ps : ℕ) (z : recordFit job ds ps ≡ 0) where
     pub steps-few : job .steps ≤ 255

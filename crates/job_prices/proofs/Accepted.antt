@@ -3,21 +3,20 @@
 use mathlib.Core.Path.{_≡_, refl, sym, _∙_}
 use mathlib.Core.Bool.{Bool, true, false}
 use mathlib.Core.List.{List}
-use Prim.Native.Nat.{ℕ, _≤_, max}
+use Prim.Native.Nat.{ℕ}
 use native.Mathlib.Omega.{arith}
-use borrow.Author.Tests.{eq-eqb, ne-eqb, lt-ltb, le-ltb}
+use borrow.Author.Tests.{eq-eqb, ne-eqb}
 use Rattle.arithmetic.proofs.CauseLaws.{lowest-none}
-use Rattle.arithmetic.proofs.Numbers.{by-equal, by-order}
+use Rattle.arithmetic.proofs.Numbers.{by-equal}
+use Rattle.limits.specs.Limits.{most-discounts, most-state-prices}
+use Rattle.limits.proofs.LimitLaws.{limit-kept, limit-accepted}
 use Rattle.fitting.specs.Entry.{memory-cause}
-use Rattle.pricing_laws.specs.Peak.{value-limit}
-use Rattle.price_causes.specs.Causes.{tree-cause, option-cause}
-use Rattle.pricing.specs.declared.Price.{Price}
-use Rattle.pricing.specs.Prices.{first-cause, limit-cause, bond-peak, option-peak, priced, bondPrice, optionPrice}
+use Rattle.pricing.specs.Prices.{first-cause, bond-peak, option-limit, priced, bondPrice, optionPrice}
 use Rattle.job_record.specs.declared.Job.{Job}
 use Rattle.job_record.specs.declared.OptionRecord.{OptionRecord}
 use Rattle.job_record.specs.Reader.{readingOf}
 use Rattle.job_fit.specs.RecordFit.{jobFlows, jobDiscounts, recordFit}
-use Rattle.job_prices.specs.JobPrices.{most-discounts, most-prices, hasOption, treeNumber, jobBond, recordNumber, bytesNumber}
+use Rattle.job_prices.specs.JobPrices.{hasOption, treeNumber, jobBond, recordNumber, bytesNumber}
 
 pub first-none : (cause later : ℕ) → first-cause cause later ≡ 0 → (cause ≡ 0) × (later ≡ 0)
 unfolding first-cause
@@ -35,25 +34,14 @@ unfolding priced
 priced-number number price bound =
     by-equal number 0 (λ z. rw (eq-eqb number 0 z) (sym z)) (λ nz. rw (ne-eqb number 0 nz))
 
-limit-known : (value : ℕ) → limit-cause value ≡ 0 → value ≤ value-limit
-unfolding limit-cause
-limit-known value z = by-order value value-limit (λ h. h) (λ h. absurd (apart (rw (lt-ltb value-limit value h) at z)))
-  where
-    apart : _≡_ {A = ℕ} 12 0 → ⊥
-    apart e = omega arith
-
-limit-within : (value : ℕ) → value ≤ value-limit → limit-cause value ≡ 0
-unfolding limit-cause
-limit-within value h = rw (le-ltb value-limit value h)
-
 -- an option that is priced has a bond that is
 pub option-judges : (n b : ℕ) (discounts flows : List ℕ) (kind expiry strike : ℕ) →
     optionPrice n b discounts flows kind expiry strike .number ≡ 0 → bondPrice n b discounts flows .number ≡ 0
-unfolding optionPrice bondPrice
+unfolding optionPrice bondPrice option-limit
 option-judges n b discounts flows kind expiry strike z =
     let option = first-none _ _ (sym (priced-number _ _ _) ∙ z) in
-    let late = limit-known _ (first-none _ _ (option .1) .1) in
-    priced-number _ _ _ ∙ first-both _ _ (option .0) (limit-within (bond-peak n b discounts flows) (omega arith))
+    let late = limit-accepted _ (first-none _ _ (option .1) .1) in
+    priced-number _ _ _ ∙ first-both _ _ (option .0) (sym (limit-kept (bond-peak n b discounts flows) (omega arith)))
 
 module _ (n b : ℕ) (discounts flows : List ℕ) (option : OptionRecord) (z : treeNumber n b discounts flows option ≡ 0) where
   pub tree-option : hasOption option ≡ true → optionPrice n b discounts flows (option .kind) (option .expiry) (option .strike) .number ≡ 0
@@ -70,7 +58,7 @@ module _ (n b : ℕ) (discounts flows : List ℕ) (option : OptionRecord) (z : t
 
 -- each part of a record that is priced without a cause, in lent memories of so many numbers
 pub record AcceptedRecord (job : Job) (discounts prices : ℕ) : Type 0 where
-  pub fit : recordFit job most-discounts most-prices ≡ 0
+  pub fit : recordFit job most-discounts most-state-prices ≡ 0
   pub room : memory-cause (job .steps) (job .reversion) discounts prices ≡ 0
   pub bond : jobBond job .number ≡ 0
   pub option-priced : hasOption (job .option) ≡ true →

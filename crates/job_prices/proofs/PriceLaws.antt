@@ -12,15 +12,18 @@ use Rattle.arithmetic.specs.Row.{row, values, place}
 use Rattle.arithmetic.specs.declared.Answer.{Answer}
 use Rattle.arithmetic.proofs.CauseLaws.{lowest-none}
 use Rattle.arithmetic.proofs.Numbers.{by-equal, by-order}
-use Rattle.arithmetic.proofs.PlaceLaws.{filled-place, length-place}
+use Rattle.arithmetic.proofs.PlaceLaws.{filled-place, length-place, place-front}
 use Rattle.arithmetic.proofs.RowLaws.{Filled, row-of}
+use Rattle.limits.specs.Limits.{most-discounts, most-state-prices}
 use Rattle.lattice.specs.Shape.{discounts-needed, state-prices-needed}
 use Rattle.lattice.specs.Entries.{discountsNeeded, statePricesNeeded}
 use Rattle.lattice.proofs.TreeEntries.{tree-value}
 use Rattle.fitting.specs.Entry.{memory-cause, fit-memory}
 use Rattle.fitting.proofs.CauseLaws.{memory-short, memory-lacks}
+use Rattle.fitting.proofs.FittedTree.{fit-placed}
 use Rattle.pricing.specs.declared.Price.{Price}
-use Rattle.pricing.specs.Prices.{refusal, first-cause, bondPrice, optionPrice}
+use Rattle.pricing.specs.declared.BondAndOption.{BondAndOption}
+use Rattle.pricing.specs.Prices.{refusal, first-cause, bondPrice, bondAndOption}
 use Rattle.job_record.specs.declared.OptionRecord.{OptionRecord}
 use Rattle.job_record.specs.declared.Job.{Job}
 use Rattle.job_record.specs.declared.Reading.{Reading}
@@ -28,7 +31,7 @@ use Rattle.job_record.specs.Reader.{readingOf}
 use Rattle.job_fit.specs.RecordFit.{jobFlows, jobDiscounts, jobStatePrices, recordFit, memoryAfter}
 use Rattle.job_fit.proofs.FitLaws as fits
 use Rattle.job_prices.specs.declared.JobPrices.{JobPrices}
-use Rattle.job_prices.specs.JobPrices.{most-discounts, most-prices, treeNumber, refusedPrices, pricesOf, treePrices}
+use Rattle.job_prices.specs.JobPrices.{treeNumber, refusedPrices, pricesOf, treePrices}
 use Rattle.job_prices.specs.JobPrices.{recordNumber, recordPrices, bytesNumber, bytesPrices}
 
 pub all-placed : (l₀ l part : List ℕ) (i : ℕ) → Filled l₀ l (values part) i → i ≡ length part → length part ≤ length l₀ → l ≡ place l₀ 0 part
@@ -55,16 +58,17 @@ module _ (number : ℕ) (bond : Price) (present : Bool) (option : Price) where
 
 -- ---- the prices of a tree
 
-module _ (n b : ℕ) (discounts flows : List ℕ) (option : OptionRecord) (bond : Price) (eb : bond ≡ bondPrice n b discounts flows) where
-  pub without-option : (r : JobPrices) → option .tag ≡ 0 → r ≡ pricesOf (bond .number) bond false (refusal 0) → r ≡ treePrices n b discounts flows option
+module _ (n b : ℕ) (discounts flows : List ℕ) (option : OptionRecord) (r : JobPrices) where
+  pub without-option : (bond : Price) → option .tag ≡ 0 → bond ≡ bondPrice n b discounts flows →
+      r ≡ pricesOf (bond .number) bond false (refusal 0) → r ≡ treePrices n b discounts flows option
   unfolding treePrices treeNumber
-  without-option r z e = e ∙ rw (eb, eq-eqb (option .tag) 0 z)
+  without-option bond z eb e = e ∙ rw (eb, eq-eqb (option .tag) 0 z)
 
-  pub with-option : (r : JobPrices) (optional : Price) → (option .tag ≡ 0 → ⊥) →
-      optional ≡ optionPrice n b discounts flows (option .kind) (option .expiry) (option .strike) →
-      r ≡ pricesOf (optional .number) bond true optional → r ≡ treePrices n b discounts flows option
+  pub with-option : (both : BondAndOption) → (option .tag ≡ 0 → ⊥) →
+      both ≡ bondAndOption n b discounts flows (option .kind) (option .expiry) (option .strike) →
+      r ≡ pricesOf (both .option .number) (both .bond) true (both .option) → r ≡ treePrices n b discounts flows option
   unfolding treePrices treeNumber
-  with-option r optional nz eo e = e ∙ rw (eb, eo, ne-eqb (option .tag) 0 nz)
+  with-option both nz eb e = e ∙ rw (eb, ne-eqb (option .tag) 0 nz)
 
 -- ---- what a call leaves
 
@@ -119,13 +123,13 @@ abbrev pub Record : Job → List ℕ → List ℕ → JobPrices → List ℕ →
 Record job d p =
     Left (recordNumber job (length d) (length p)) (recordPrices job (length d) (length p)) (jobDiscounts job) (jobStatePrices job) d p
 
-module _ (job : Job) (d₀ p₀ d p : List ℕ) (fitted : ℕ) (ld : length d₀ ≡ most-discounts) (lp : length p₀ ≡ most-prices)
+module _ (job : Job) (d₀ p₀ d p : List ℕ) (fitted : ℕ) (ld : length d₀ ≡ most-discounts) (lp : length p₀ ≡ most-state-prices)
     (fit : fits.Fitted job d₀ p₀ fitted d p) (lent-d lent-p : List ℕ) (memory cause : ℕ)
     (em : memory ≡ memory-cause (job .steps) (job .reversion) (length lent-d) (length lent-p)) (ec : cause ≡ lowest-cause fitted memory) where
-  fitted-is : fitted ≡ recordFit job most-discounts most-prices
+  fitted-is : fitted ≡ recordFit job most-discounts most-state-prices
   fitted-is = fit .0 ∙ rw (ld, lp)
 
-  cause-is : cause ≡ lowest-cause (recordFit job most-discounts most-prices)
+  cause-is : cause ≡ lowest-cause (recordFit job most-discounts most-state-prices)
       (memory-cause (job .steps) (job .reversion) (length lent-d) (length lent-p))
   cause-is = ec ∙ rw (fitted-is, em)
 
@@ -150,14 +154,14 @@ module _ (job : Job) (d₀ p₀ d p : List ℕ) (fitted : ℕ) (ld : length d₀
     fit-none : fitted ≡ 0
     fit-none = lowest-none fitted memory (sym ec ∙ z) .0
 
-    record-none : recordFit job most-discounts most-prices ≡ 0
+    record-none : recordFit job most-discounts most-state-prices ≡ 0
     record-none = sym fitted-is ∙ fit-none
 
     d-is : d ≡ place d₀ 0 (jobDiscounts job)
-    d-is = fit .1 .0 ∙ fits.fit-placed _ (jobDiscounts job) d₀ (sym (fit .0) ∙ fit-none)
+    d-is = fit .1 .0 ∙ fit-placed _ (jobDiscounts job) d₀ (sym (fit .0) ∙ fit-none)
 
     p-is : p ≡ place p₀ 0 (jobStatePrices job)
-    p-is = fit .1 .1 ∙ fits.fit-placed _ (jobStatePrices job) p₀ (sym (fit .0) ∙ fit-none)
+    p-is = fit .1 .1 ∙ fit-placed _ (jobStatePrices job) p₀ (sym (fit .0) ∙ fit-none)
 
     pub held : (needed all : Answer) → needed ≡ discountsNeeded (job .steps) (job .reversion) → all ≡ statePricesNeeded (job .steps) (job .reversion) →
         Held job (needed .value) (all .value) d p lent-d lent-p
@@ -174,8 +178,8 @@ module _ (job : Job) (d₀ p₀ d p : List ℕ) (fitted : ℕ) (ld : length d₀
         let long-p = ap length p-is ∙ length-place p₀ 0 (jobStatePrices job) (omega (arith, pl, pn, known .room-prices, lp)) in
         record {
           few = fits.steps-few job _ _ record-none;
-          discounts-are = ap (take (needed .value)) d-is ∙ fits.front-placed d₀ (jobDiscounts job) (needed .value) dl;
-          prices-are = ap (take (all .value)) p-is ∙ fits.front-placed p₀ (jobStatePrices job) (all .value) pl;
+          discounts-are = ap (take (needed .value)) d-is ∙ place-front d₀ (jobDiscounts job) (needed .value) dl;
+          prices-are = ap (take (all .value)) p-is ∙ place-front p₀ (jobStatePrices job) (all .value) pl;
           discounts-size = dl;
           prices-size = pl;
           discounts-end = omega (arith, long-d, ld, dn, known .room-discounts);

@@ -5,6 +5,7 @@ use mathlib.Core.Bool.{Bool, false, cond, not}
 use mathlib.Core.List.{List}
 use lib.Dec.{eqb}
 use Rattle.arithmetic.specs.Answers.{lowest-cause}
+use Rattle.limits.specs.Limits.{most-discounts, most-state-prices}
 use Rattle.fitting.specs.Entry.{memory-cause}
 use Rattle.pricing.specs.declared.Price.{Price}
 use Rattle.pricing.specs.Prices.{refusal, first-cause, bondPrice, optionPrice}
@@ -13,13 +14,6 @@ use Rattle.job_record.specs.declared.Job.{Job}
 use Rattle.job_record.specs.Reader.{readingOf}
 use Rattle.job_fit.specs.RecordFit.{jobFlows, jobDiscounts, recordFit}
 use Rattle.job_prices.specs.declared.JobPrices.{JobPrices}
-
--- the largest tree has 3,600 discounts and 3,721 state prices
-abbrev pub most-discounts : ℕ
-most-discounts = 3600
-
-abbrev pub most-prices : ℕ
-most-prices = 3721
 
 -- tag 0 stands for no option
 abbrev pub hasOption : OptionRecord → Bool
@@ -53,7 +47,7 @@ module _ (job : Job) where
   unfoldable pub recordNumber : ℕ → ℕ → ℕ
   recordNumber discounts prices =
       first-cause
-      (lowest-cause (recordFit job most-discounts most-prices) (memory-cause (job .steps) (job .reversion) discounts prices))
+      (lowest-cause (recordFit job most-discounts most-state-prices) (memory-cause (job .steps) (job .reversion) discounts prices))
       (treeNumber (job .steps) (job .reversion) (jobDiscounts job) (jobFlows job) (job .option))
 
   abbrev pub jobBond : Price

@@ -50,11 +50,11 @@ pub(crate) fn tree_prices(
 ) -> JobPrices
     ensures { λ r. ⌜ r ≡ treePrices steps reversion (now (discounts .entry)) (now (flows .entry)) option ⌝ }
 {
-    let bond = pricing::bond_price(steps, reversion, discounts, flows);
     if option.tag == 0 {
+        let bond = pricing::bond_price(steps, reversion, discounts, flows);
         return prices_of(bond.number, bond, false, no_price());
     }
-    let optional = pricing::option_price(
+    let both = pricing::bond_and_option(
         steps,
         reversion,
         discounts,
@@ -63,5 +63,5 @@ pub(crate) fn tree_prices(
         option.expiry as usize,
         option.strike,
     );
-    prices_of(optional.number, bond, true, optional)
+    prices_of(both.option.number, both.bond, true, both.option)
 }

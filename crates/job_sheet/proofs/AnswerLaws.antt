@@ -29,7 +29,8 @@ module _ (number : ℕ) (text : List ℕ) where
   answer-put k z e = rw (eq-eqb number 0 z, e)
 
   -- the number of a refusal, as the code found it
-  pub refused-by : (found : ℕ) (out : List ℕ) (answer : Written) → answer ≡ refusedSheet found → found ≡ number → (found ≡ 0 → ⊥) → Made number text out answer out
+  pub refused-by : (found : ℕ) (out : List ℕ) (answer : Written) → answer ≡ refusedSheet found → found ≡ number → (found ≡ 0 → ⊥) → Made number text out
+      answer out
   refused-by found out answer ea e nz =
       let some : number ≡ 0 → ⊥ = λ z. nz (e ∙ z) in
       (ea ∙ ap refusedSheet e ∙ answer-refused some, memory-refused number text out some)

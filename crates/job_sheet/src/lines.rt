@@ -43,7 +43,8 @@ fn put_nodes<'a>(
     state_prices: &'a [u64],
     row: usize,
 ) -> usize
-    requires { ⌜ (row < steps) × Stored steps reversion (now discounts) (now «state_prices») × (128 * node-count reversion row ≤ end) × (end ≤ length (now out)) ⌝ }
+    requires { ⌜ (row < steps) × Stored steps reversion (now discounts) (now «state_prices») × (128 * node-count reversion row ≤ end) ×
+        (end ≤ length (now out)) ⌝ }
     ensures { λ r. ⌜ Put (now (out .entry)) end (nodesOfRow reversion (now (discounts .entry)) row) r (now (out .exit)) ⌝ }
 {
     let part = row_view::row_view(
@@ -89,8 +90,10 @@ fn put_row<'a>(
     state_prices: &'a [u64],
     before: usize,
 ) -> usize
-    requires { ⌜ (before < steps) × Stored steps reversion (now discounts) (now «state_prices») × (length (now quotes) ≡ steps) × (total (row-part reversion (now «state_prices») (suc before)) ≤ 2000000100) × (128 ≤ end) × (end ≤ length (now out)) ⌝ }
-    ensures { λ r. ⌜ Put (now (out .entry)) end (lineOfRow steps reversion (now (quotes .entry)) (now (discounts .entry)) (now («state_prices» .entry)) before) r (now (out .exit)) ⌝ }
+    requires { ⌜ (before < steps) × Stored steps reversion (now discounts) (now «state_prices») × (length (now quotes) ≡ steps) ×
+        (total (row-part reversion (now «state_prices») (suc before)) ≤ 2000000100) × (128 ≤ end) × (end ≤ length (now out)) ⌝ }
+    ensures { λ r. ⌜ Put (now (out .entry)) end (lineOfRow steps reversion (now (quotes .entry)) (now (discounts .entry)) (now («state_prices» .entry))
+        before) r (now (out .exit)) ⌝ }
 {
     let row = before + 1;
     let part = row_view::row_view(
@@ -116,9 +119,11 @@ fn put_rows<'a>(
     discounts: &'a [u64],
     state_prices: &'a [u64],
 ) -> usize
-    requires { ⌜ Stored steps reversion (now discounts) (now «state_prices») × (length (now quotes) ≡ steps) × (128 * steps ≤ end) × (end ≤ length (now out)) ⌝ }
+    requires { ⌜ Stored steps reversion (now discounts) (now «state_prices») × (length (now quotes) ≡ steps) × (128 * steps ≤ end) × (end ≤ length (now out))
+        ⌝ }
     requires { ⌜ Summed steps reversion (now «state_prices») ⌝ }
-    ensures { λ r. ⌜ Put (now (out .entry)) end (rowLines steps reversion (now (quotes .entry)) (now (discounts .entry)) (now («state_prices» .entry))) r (now (out .exit)) ⌝ }
+    ensures { λ r. ⌜ Put (now (out .entry)) end (rowLines steps reversion (now (quotes .entry)) (now (discounts .entry)) (now («state_prices» .entry))) r
+        (now (out .exit)) ⌝ }
 {
     let mut start = end;
     let mut left = steps;
@@ -171,7 +176,8 @@ pub(crate) fn put_sheet<'a>(
 ) -> usize
     requires { ⌜ Stored steps reversion (now discounts) (now «state_prices») × (length (now quotes) ≡ steps) × (468736 ≤ length (now out)) ⌝ }
     requires { ⌜ Summed steps reversion (now «state_prices») ⌝ }
-    ensures { λ r. ⌜ Put (now (out .entry)) (length (now (out .entry))) (treeSheet steps reversion (now (quotes .entry)) (now (discounts .entry)) (now («state_prices» .entry)) bond present option) r (now (out .exit)) ⌝ }
+    ensures { λ r. ⌜ Put (now (out .entry)) (length (now (out .entry)))
+        (treeSheet steps reversion (now (quotes .entry)) (now (discounts .entry)) (now («state_prices» .entry)) bond present option) r (now (out .exit)) ⌝ }
 {
     let end = out.len();
     let prices_start = put_prices(out, end, bond, present, option);

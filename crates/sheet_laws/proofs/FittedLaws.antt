@@ -6,16 +6,15 @@ use Prim.Native.Nat.{ℕ, suc, _≤_, _<_}
 use native.Mathlib.Omega.{arith}
 use lib.ListN.{length, take, length-take}
 use Rattle.arithmetic.specs.Sum.{sum}
-use Rattle.arithmetic.specs.Row.{row, values, place}
 use Rattle.arithmetic.specs.declared.Answer.{Answer}
-use Rattle.arithmetic.proofs.PlaceLaws.{length-place}
-use Rattle.arithmetic.proofs.RowLaws.{length-row, values-row}
-use Rattle.arithmetic.proofs.SumLaws.{sum-cong}
-use Rattle.tree.specs.Layout.{laid, start}
-use Rattle.tree.proofs.LayoutLaws.{laid-part}
-use Rattle.lattice.specs.Shape.{node-count, row-start, discounts-needed, state-prices-needed}
+use Rattle.arithmetic.proofs.PlaceLaws.{length-place, place-front}
+use Rattle.arithmetic.proofs.RowLaws.{sum-row}
+use Rattle.limits.specs.Limits.{most-discounts, most-state-prices}
+use Rattle.tree.specs.Layout.{laid}
+use Rattle.lattice.specs.Shape.{node-count, discounts-needed, state-prices-needed}
 use Rattle.lattice.specs.RateTree.{rate-tree}
 use Rattle.lattice.specs.Entries.{discountsNeeded, statePricesNeeded}
+use Rattle.lattice.proofs.LaidLaws.{laid-part}
 use Rattle.lattice.proofs.TreeEntries.{Accepted, tree-value}
 use Rattle.fitting.specs.Entry.{fit-price}
 use Rattle.fitting.proofs.Promised.{fit-repriced}
@@ -23,33 +22,30 @@ use Rattle.job_record.specs.declared.Job.{Job}
 use Rattle.job_fit.specs.RecordFit.{jobKinds, jobFigures, jobQuotes, jobDiscounts, jobStatePrices, recordQuotes, recordFit, memoryAfter}
 use Rattle.job_fit.proofs.FitLaws as fits
 use Rattle.job_prices.specs.declared.JobPrices.{JobPrices}
-use Rattle.job_prices.specs.JobPrices.{most-discounts, most-prices, recordNumber, recordPrices}
+use Rattle.job_prices.specs.JobPrices.{recordNumber, recordPrices}
 use Rattle.job_prices.proofs.Accepted.{record-accepted}
 use Rattle.sheet_laws.specs.TreeSheet.{row-part, total}
 use Rattle.sheet_laws.specs.Stored.{Stored, Summed, Fitted}
 
-stored-row : (b : ℕ) (f : ℕ → ℕ → ℕ) (n i : ℕ) → i < n → row-part b (laid (rate-tree b) f n) i ≡ row (node-count b i) (f i)
-unfolding row-part rate-tree row-start start
-stored-row b f n i h = rw (append-nil (laid (rate-tree b) f n)) at (laid-part (rate-tree b) f n i [] h)
-
-total-row : (n : ℕ) (f : ℕ → ℕ) → total (row n f) ≡ sum n f
-unfolding total
-total-row n f =
-    ap (λ (k : ℕ). sum k (values (row n f))) (length-row n f) ∙ sum-cong n (values (row n f)) f (λ k h. values-row n k f h)
+total-row : (b : ℕ) (f : ℕ → ℕ → ℕ) (n i : ℕ) → i < n → total (row-part b (laid (rate-tree b) f n) i) ≡ sum (node-count b i) (f i)
+unfolding total row-part
+total-row b f n i h =
+    let part = rw (append-nil (laid (rate-tree b) f n)) at (laid-part b f n i h []) in
+    rw part (sum-row (node-count b i) (f i))
 
 -- ---- the fit in memories of the largest tree
 
-module _ (job : Job) (d₀ p₀ : List ℕ) (ld : length d₀ ≡ most-discounts) (lp : length p₀ ≡ most-prices) where
+module _ (job : Job) (d₀ p₀ : List ℕ) (ld : length d₀ ≡ most-discounts) (lp : length p₀ ≡ most-state-prices) where
   abbrev lentNumber : ℕ
   lentNumber = recordNumber job (length d₀) (length p₀)
 
-  number-is : lentNumber ≡ recordNumber job most-discounts most-prices
+  number-is : lentNumber ≡ recordNumber job most-discounts most-state-prices
   number-is = rw (ld, lp)
 
-  pub prices-largest : (prices : JobPrices) → prices ≡ recordPrices job (length d₀) (length p₀) → prices ≡ recordPrices job most-discounts most-prices
+  pub prices-largest : (prices : JobPrices) → prices ≡ recordPrices job (length d₀) (length p₀) → prices ≡ recordPrices job most-discounts most-state-prices
   prices-largest prices e = e ∙ rw (ld, lp)
 
-  pub fitted : (d p : List ℕ) → recordNumber job most-discounts most-prices ≡ 0 →
+  pub fitted : (d p : List ℕ) → recordNumber job most-discounts most-state-prices ≡ 0 →
       d ≡ memoryAfter lentNumber (jobDiscounts job) d₀ → p ≡ memoryAfter lentNumber (jobStatePrices job) p₀ → Fitted job d p
   unfolding discounts-needed state-prices-needed
   fitted d p none ed ep =
@@ -64,8 +60,8 @@ module _ (job : Job) (d₀ p₀ : List ℕ) (ld : length d₀ ≡ most-discounts
         accepted = fit;
         discounts-room = ap length dp ∙ length-place d₀ 0 (jobDiscounts job) (omega (arith, dl, known .room-discounts, ld)) ∙ ld;
         prices-room = ap length pp ∙ length-place p₀ 0 (jobStatePrices job) (omega (arith, pl, known .room-prices, lp)) ∙ lp;
-        discounts-front = ap (take (discounts-needed (job .steps) (job .reversion))) dp ∙ fits.front-placed d₀ (jobDiscounts job) _ dl;
-        prices-front = ap (take (state-prices-needed (job .steps) (job .reversion))) pp ∙ fits.front-placed p₀ (jobStatePrices job) _ pl;
+        discounts-front = ap (take (discounts-needed (job .steps) (job .reversion))) dp ∙ place-front d₀ (jobDiscounts job) _ dl;
+        prices-front = ap (take (state-prices-needed (job .steps) (job .reversion))) pp ∙ place-front p₀ (jobStatePrices job) _ pl;
       }
 
 -- ---- what a caller takes of it
@@ -80,7 +76,7 @@ module _ (job : Job) (d p : List ℕ) (h : Fitted job d p) where
     quotes-are =
         let none = ap (recordQuotes job) lq ∙ fits.quotes-none job _ _ (h .accepted) in
         ap (take (job .steps)) (eq ∙ fits.memory-placed _ (jobQuotes job) q₀ none)
-        ∙ fits.front-placed q₀ (jobQuotes job) (job .steps) (fits.quotes-length job)
+        ∙ place-front q₀ (jobQuotes job) (job .steps) (fits.quotes-length job)
 
     pub quotes-count : job .steps ≡ length (take (job .steps) q)
     quotes-count = sym (ap length quotes-are ∙ fits.quotes-length job)
@@ -129,9 +125,5 @@ module _ (job : Job) (d p : List ℕ) (h : Fitted job d p) where
     unfolding jobStatePrices
     summed i l =
         let price = fit-price (job .frequency) (job .steps) (job .reversion) (job .volatility) (jobKinds job) (jobFigures job) in
-        rw (
-          prices-are,
-          stored-row (job .reversion) price (suc (job .steps)) (suc i) (omega arith),
-          total-row (node-count (job .reversion) (suc i)) (price (suc i)),
-        )
-        (fit-repriced _ _ _ _ _ _ _ most-discounts most-prices (fits.fit-none job _ _ (h .accepted)) i l .2)
+        rw (prices-are, total-row (job .reversion) price (suc (job .steps)) (suc i) (omega arith))
+        (fit-repriced _ _ _ _ _ _ _ most-discounts most-state-prices (fits.fit-none job _ _ (h .accepted)) i l .2)

@@ -7,11 +7,11 @@ use Prim.Native.Nat.{ℕ, suc, _+_, _-_, _*_, _≤_, _<_, _^_}
 use denote.Ref.{RefT}
 use native.Mathlib.Omega.{arith}
 use native.Mathlib.Numerals.{add-one}
-use borrow.Author.Tests.{le-leb, ne-eqb}
-use lib.ListN.{length, getD, drop, length-append, length-drop}
-use lib.Seq.{length-take-le, getD-take, getD-drop}
+use borrow.Author.Tests.{le-leb}
+use lib.ListN.{length, getD, length-append}
 use Rattle.arithmetic.specs.Sum.{sum}
 use Rattle.arithmetic.specs.Row.{values}
+use Rattle.arithmetic.proofs.PartLaws.{part-length, part-value}
 use Rattle.arithmetic.proofs.SumLaws.{sum-next, sum-grow}
 use Rattle.lattice.specs.Shape.{node-count, row-start, discounts-needed, state-prices-needed}
 use native.Mathlib.Nat.{mul-le-mul}
@@ -27,10 +27,8 @@ use Rattle.text_laws.proofs.LineLaws.{row-room, price-room, line-stands, line-b
 use Rattle.text_laws.proofs.PutLaws.{put-none, put-before, put-whole}
 use Rattle.pricing.specs.declared.Price.{Price}
 use Rattle.arithmetic.specs.declared.Answer.{Answer}
-use Rattle.arithmetic.proofs.Numbers.{by-equal}
-use Rattle.state_price_bound.specs.ErrorBound.{statePriceErrorBound, refusal}
-use Rattle.state_price_bound.proofs.BoundLaws.{row-needs, bound-within}
-use Rattle.state_price_bound.proofs.Meaning.{not-refused, answer-value}
+use Rattle.state_price_bound.specs.ErrorBound.{statePriceErrorBound}
+use Rattle.state_price_bound.proofs.BoundLaws.{bound-most}
 use Rattle.sheet_laws.specs.TreeSheet.{row-part, total, nodesOfRow, nodeLines, lineOfRow, rowLines, optionLines, priceLines, treeSheet}
 use Rattle.sheet_laws.specs.Stored.{Stored, Summed}
 use Rattle.sheet_laws.proofs.Pieces.{lines-fit}
@@ -63,23 +61,27 @@ module _ (n b : ℕ) (discounts prices : List ℕ) (h : Stored n b discounts pri
 
 pub part-size : (b i : ℕ) (memory : List ℕ) → row-start b i + node-count b i ≤ length memory → length (row-part b memory i) ≡ node-count b i
 unfolding row-part
-part-size b i memory h = length-take-le (node-count b i) (drop (row-start b i) memory) (simp length-drop (omega arith))
+part-size b i memory h = part-length memory (row-start b i) (node-count b i) h
 
-pub part-below : (b i k bound : ℕ) (memory : List ℕ) → ((j : ℕ) → getD memory j 0 < bound) → k < node-count b i → getD (row-part b memory i) k 0 < bound
+pub part-below : (b i k bound : ℕ) (memory : List ℕ) → ((j : ℕ) → getD memory j 0 < bound) → k < node-count b i →
+    getD (row-part b memory i) k 0 < bound
 unfolding row-part
-part-below b i k bound memory each h = rw (getD-take, getD-drop) (each (row-start b i + k))
+part-below b i k bound memory each h = rw (part-value memory (row-start b i) (node-count b i) k h) (each (row-start b i + k))
 
 module _ (discounts prices : RefT (List ℕ)) (kind : RowKind) (n b i : ℕ) (part : RefT (List ℕ)) where
-  shown-by : is-shown (discounts .now) (prices .now) kind n b i ≡ true →
-      PartOf (memory-of discounts prices kind) (view-start (discounts .now) (prices .now) kind n b i) (view-count (discounts .now) (prices .now) kind n b i) part
-      → part .now ≡ row-part b (memory-of discounts prices kind .now) i
+  -- the part that the view shows
+  abbrev Shown : Type 0
+  Shown =
+      PartOf (memory-of discounts prices kind) (view-start (discounts .now) (prices .now) kind n b i)
+      (view-count (discounts .now) (prices .now) kind n b i) part
+
+  shown-by : is-shown (discounts .now) (prices .now) kind n b i ≡ true → Shown → part .now ≡ row-part b (memory-of discounts prices kind .now) i
   unfolding row-part view-start view-count
   shown-by s p = rw s at (p .contents)
 
   -- the row that the view shows is the part of its memory
-  pub shown : Stored n b (discounts .now) (prices .now) → stores-row kind n i ≡ true →
-      PartOf (memory-of discounts prices kind) (view-start (discounts .now) (prices .now) kind n b i) (view-count (discounts .now) (prices .now) kind n b i) part
-      → part .now ≡ row-part b (memory-of discounts prices kind .now) i
+  pub shown : Stored n b (discounts .now) (prices .now) → stores-row kind n i ≡ true → Shown →
+      part .now ≡ row-part b (memory-of discounts prices kind .now) i
   shown h s p = shown-by (is-stored (discounts .now) (prices .now) kind n b i (held n b _ _ h) s) p
 
 -- ---- the lines of a row, put by a call
@@ -126,53 +128,35 @@ module _ (n b : ℕ) (discounts prices : List ℕ) (h : Stored n b discounts pri
   nodes-length i l =
       let s = part-size b i discounts (discounts-end n b discounts prices h i l) in
       let c = count-within b i (omega (arith, h .few)) in
-      omega (
-        arith,
-        s,
-        row-length i (row-part b discounts i) (omega (arith, h .few)) (omega (arith, s, c)) (λ k below. part-below b i k (2 ^ 64) discounts small (omega (arith, s))),
-      )
+      let long = row-length i (row-part b discounts i) (omega (arith, h .few)) (omega (arith, s, c))
+      (λ k below. part-below b i k (2 ^ 64) discounts small (omega (arith, s))) in
+      omega (arith, s, long)
 
   pub nodes-fit : (i : ℕ) → i < n → 128 * row-start b i + length (nodesOfRow b discounts i) ≤ 128 * row-start b (suc i)
   nodes-fit i l = omega (arith, nodes-length i l, start-suc b i)
-
-none : (n b : ℕ) (discounts : List ℕ) (i : ℕ) → (refusal n b discounts i ≡ 0 → ⊥) → statePriceErrorBound n b discounts i .value ≡ 0
-unfolding statePriceErrorBound
-none n b discounts i nz = rw (ne-eqb (refusal n b discounts i) 0 nz)
-
--- the error bound of a row is small, and 0 where the row is refused
-bound-small : (n b : ℕ) (discounts : List ℕ) (i : ℕ) → statePriceErrorBound n b discounts i .value ≤ 1000000
-bound-small n b discounts i = by-equal (refusal n b discounts i) 0 (λ z. found z) (λ nz. missing nz)
-  where
-    found : refusal n b discounts i ≡ 0 → statePriceErrorBound n b discounts i .value ≤ 1000000
-    found z =
-        let l = not-refused n b discounts i z in
-        let needs = row-needs n b discounts i (l .tree) (discounts-needed n b) refl (l .room) (l .present) (l .fine) in
-        rw (answer-value n b discounts i z) (bound-within b discounts i (omega (arith, needs .0 .1)) (needs .1) i (omega arith))
-
-    missing : (refusal n b discounts i ≡ 0 → ⊥) → statePriceErrorBound n b discounts i .value ≤ 1000000
-    missing nz = omega (arith, none n b discounts i nz)
 
 module _ (n b : ℕ) (quotes discounts prices : List ℕ) (few : n ≤ 60) (small : (j : ℕ) → getD quotes j 0 < 2 ^ 64) (summed : Summed n b prices) where
   pub line-length : (i : ℕ) → i < n → length (lineOfRow n b quotes discounts prices i) ≤ 128
   unfolding lineOfRow
   line-length i l =
       row-room (suc i) (values quotes i) (total (row-part b prices (suc i))) (statePriceErrorBound n b discounts (suc i) .value) (omega arith) (small i)
-      (omega (arith, summed i l)) (omega (arith, bound-small n b discounts (suc i)))
+      (omega (arith, summed i l)) (omega (arith, bound-most n b discounts (suc i)))
 
   pub rows-fit : (i : ℕ) → i < n → 128 * i + length (lineOfRow n b quotes discounts prices i) ≤ 128 * suc i
   rows-fit i l = omega (arith, line-length i l)
 
 -- the line that the code puts is the row's
 pub row-line-stands : (n b : ℕ) (quotes discounts prices : List ℕ) (i end added start : ℕ) (out after : List ℕ) (bound : Answer) →
-    added ≡ total (row-part b prices (suc i)) → bound ≡ statePriceErrorBound n b discounts (suc i) → i < 60 → getD quotes i 0 < 2 ^ 64 → added < 2 ^ 64 → 128 ≤ end → end ≤ length out
-    → start ≡ lineStart out end (rowLine (i + 1) (values quotes i) added (bound .value)) → after ≡ withLine out end (rowLine (i + 1) (values quotes i) added (bound .value))
-    → Put out end (lineOfRow n b quotes discounts prices i) start after
+    added ≡ total (row-part b prices (suc i)) → bound ≡ statePriceErrorBound n b discounts (suc i) → i < 60 → getD quotes i 0 < 2 ^ 64 → added < 2 ^ 64 →
+    128 ≤ end → end ≤ length out → start ≡ lineStart out end (rowLine (i + 1) (values quotes i) added (bound .value)) →
+    after ≡ withLine out end (rowLine (i + 1) (values quotes i) added (bound .value)) → Put out end (lineOfRow n b quotes discounts prices i) start after
 unfolding lineOfRow
 row-line-stands n b quotes discounts prices i end added start out after bound es eb few q s h p e₁ e₂ =
-    let same : rowLine (i + 1) (values quotes i) added (bound .value) ≡ rowLine (suc i) (values quotes i) (total (row-part b prices (suc i))) (statePriceErrorBound n b discounts (suc i) .value) =
-    rw (← es, ← eb, add-one i) in
+    let sum = total (row-part b prices (suc i)) in
+    let allowed = statePriceErrorBound n b discounts (suc i) .value in
+    let same : rowLine (i + 1) (values quotes i) added (bound .value) ≡ rowLine (suc i) (values quotes i) sum allowed = rw (← es, ← eb, add-one i) in
     line-stands out end _ start after h p
-    (row-room (suc i) (values quotes i) (total (row-part b prices (suc i))) (statePriceErrorBound n b discounts (suc i) .value) (omega arith) q (omega arith) (omega (arith, bound-small n b discounts (suc i))))
+    (row-room (suc i) (values quotes i) sum allowed (omega arith) q (omega arith) (omega (arith, bound-most n b discounts (suc i))))
     (e₁ ∙ ap (λ (x : List ℕ). lineStart out end x) same) (e₂ ∙ ap (λ (x : List ℕ). withLine out end x) same)
 
 -- ---- the lines of the prices
@@ -185,21 +169,25 @@ option-length : (present : Bool) (option : Price) → Fits option → length (op
 option-length true option f = price-room optionWord (option .value) (option .bound) (omega arith) (f .0) (f .1)
 option-length false option f = omega arith
 
-pub option-stands : (out after : List ℕ) (end start : ℕ) (present : Bool) (option : Price) → present ≡ true → Fits option → 128 ≤ end → end ≤ length out
-    → start ≡ lineStart out end (optionLines true option) → after ≡ withLine out end (optionLines true option) → Put out end (optionLines present option) start after
+pub option-stands : (out after : List ℕ) (end start : ℕ) (present : Bool) (option : Price) → present ≡ true → Fits option → 128 ≤ end → end ≤ length out →
+    start ≡ lineStart out end (optionLines true option) → after ≡ withLine out end (optionLines true option) →
+    Put out end (optionLines present option) start after
 option-stands out after end start present option e f h p s a =
     subst (λ (t : Bool). Put out end (optionLines t option) start after) (sym e)
     (line-stands out end _ start after h p (option-length true option f) s a)
 
-pub option-none : (out : List ℕ) (end : ℕ) (present : Bool) (option : Price) → present ≡ false → end ≤ length out → Put out end (optionLines present option) end out
+pub option-none : (out : List ℕ) (end : ℕ) (present : Bool) (option : Price) → present ≡ false → end ≤ length out →
+    Put out end (optionLines present option) end out
 option-none out end present option e p = subst (λ (t : Bool). Put out end (optionLines t option) end out) (sym e) (put-none out end p)
 
-pub option-room : {out after : List ℕ} {end mid : ℕ} (present : Bool) (option : Price) → Fits option → 256 ≤ end → Put out end (optionLines present option) mid after → (128 ≤ mid) × (mid ≤ length after)
+pub option-room : {out after : List ℕ} {end mid : ℕ} (present : Bool) (option : Price) → Fits option → 256 ≤ end →
+    Put out end (optionLines present option) mid after → (128 ≤ mid) × (mid ≤ length after)
 option-room present option f h p = (omega (arith, option-length present option f, p .place), omega (arith, p .place, p .within, p .same))
 
-pub prices-stand : {out₀ out : List ℕ} {end mid : ℕ} (after : List ℕ) (start : ℕ) (bond : Price) (present : Bool) (option : Price) → Fits bond → Fits option → 256 ≤ end
-    → Put out₀ end (optionLines present option) mid out → start ≡ lineStart out mid (priceLine bondWord (bond .value) (bond .bound))
-    → after ≡ withLine out mid (priceLine bondWord (bond .value) (bond .bound)) → Put out₀ end (priceLines bond present option) start after
+pub prices-stand : {out₀ out : List ℕ} {end mid : ℕ} (after : List ℕ) (start : ℕ) (bond : Price) (present : Bool) (option : Price) →
+    Fits bond → Fits option → 256 ≤ end →
+    Put out₀ end (optionLines present option) mid out → start ≡ lineStart out mid (priceLine bondWord (bond .value) (bond .bound)) →
+    after ≡ withLine out mid (priceLine bondWord (bond .value) (bond .bound)) → Put out₀ end (priceLines bond present option) start after
 unfolding priceLines
 prices-stand after start bond present option fb fo h p s a =
     line-before _ start after p (option-room present option fo h p .0) (price-room bondWord (bond .value) (bond .bound) (omega arith) (fb .0) (fb .1)) s a
@@ -213,7 +201,8 @@ prices-length bond present option fb fo =
 
 module _ (n b : ℕ) (quotes discounts prices : List ℕ) (bond : Price) (present : Bool) (option : Price) where
   rows-length : n ≤ 60 → ((j : ℕ) → getD quotes j 0 < 2 ^ 64) → Summed n b prices → length (rowLines n b quotes discounts prices) ≤ 128 * n
-  rows-length few small summed = lines-fit (lineOfRow n b quotes discounts prices) (λ (i : ℕ). 128 * i) n (rows-fit n b quotes discounts prices few small summed) [] 0 n (omega arith)
+  rows-length few small summed =
+      lines-fit (lineOfRow n b quotes discounts prices) (λ (i : ℕ). 128 * i) n (rows-fit n b quotes discounts prices few small summed) [] 0 n (omega arith)
 
   module _ {out priced : List ℕ} {end p₁ : ℕ} (h : Stored n b discounts prices) (fb : Fits bond) (fo : Fits option) (long : 468736 ≤ end)
       (p : Put out end (priceLines bond present option) p₁ priced) where

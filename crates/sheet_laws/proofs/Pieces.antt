@@ -43,7 +43,8 @@ module _ (line : ℕ → List ℕ) (room : ℕ → ℕ) (n : ℕ) (fits : (i : �
         memory = line-less line out after _ start left mid h (omega (arith, lines-fit left (p .upto), p .enough)) put (p .memory);
       }
 
-  pub ended : {out : List ℕ} {start left : ℕ} → Progress line room out₀ end n out start left → left ≡ 0 → end ≤ length out₀ → Put out₀ end (lines line n) start out
+  pub ended : {out : List ℕ} {start left : ℕ} → Progress line room out₀ end n out start left → left ≡ 0 → end ≤ length out₀ →
+      Put out₀ end (lines line n) start out
   ended {out} {start} {left} p z h =
       let e = lines-none line left z in
       let none : length (lines line left) ≡ 0 = ap length e in

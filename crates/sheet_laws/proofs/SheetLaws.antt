@@ -10,14 +10,14 @@ use lib.ListN.{length, take, drop, length-append}
 use Rattle.arithmetic.specs.Answers.{lowest-cause}
 use Rattle.arithmetic.proofs.CauseLaws.{lowest-none}
 use Rattle.arithmetic.proofs.Numbers.{by-order}
-use Rattle.pricing.specs.declared.Price.{Price}
+use Rattle.limits.specs.Limits.{most-discounts, most-state-prices}
 use Rattle.pricing.specs.Prices.{first-cause}
 use Rattle.job_record.specs.declared.Job.{Job}
 use Rattle.job_record.specs.declared.Reading.{Reading}
 use Rattle.job_record.specs.Reader.{readingOf}
 use Rattle.job_fit.specs.RecordFit.{jobQuotes, jobDiscounts, jobStatePrices}
 use Rattle.job_prices.specs.declared.JobPrices.{JobPrices}
-use Rattle.job_prices.specs.JobPrices.{most-discounts, most-prices, hasOption, jobBond, jobOption, pricesOf, recordNumber, recordPrices}
+use Rattle.job_prices.specs.JobPrices.{hasOption, jobBond, jobOption, pricesOf, recordNumber, recordPrices}
 use Rattle.job_prices.proofs.PriceLaws.{prices-given, prices-number}
 use Rattle.text_laws.specs.Put.{putBefore, Put}
 use Rattle.text_laws.specs.Lines.{refusedLine, hasRoom, lineStart, withLine}
@@ -47,8 +47,8 @@ cond-below false k m = omega arith
 
 -- ---- the number of a record's sheet
 
-module _ (job : Job) (prices : JobPrices) (ep : prices ≡ recordPrices job most-discounts most-prices) where
-  pub prices-number-is : prices .number ≡ recordNumber job most-discounts most-prices
+module _ (job : Job) (prices : JobPrices) (ep : prices ≡ recordPrices job most-discounts most-state-prices) where
+  pub prices-number-is : prices .number ≡ recordNumber job most-discounts most-state-prices
   unfolding recordPrices
   prices-number-is = ap (λ (p : JobPrices). p .number) ep ∙ prices-number _ _ _ _
 

@@ -6,11 +6,12 @@ use mathlib.Core.List.{List}
 use lib.Dec.{eqb, ltb}
 use lib.ListN.{length}
 use Rattle.arithmetic.specs.Answers.{lowest-cause}
+use Rattle.limits.specs.Limits.{most-discounts, most-state-prices}
 use Rattle.pricing.specs.Prices.{first-cause}
 use Rattle.job_record.specs.declared.Job.{Job}
 use Rattle.job_record.specs.Reader.{readingOf}
 use Rattle.job_fit.specs.RecordFit.{jobQuotes, jobDiscounts, jobStatePrices}
-use Rattle.job_prices.specs.JobPrices.{most-discounts, most-prices, hasOption, jobBond, jobOption, recordNumber}
+use Rattle.job_prices.specs.JobPrices.{hasOption, jobBond, jobOption, recordNumber}
 use Rattle.text_laws.specs.Lines.{refusedLine, lineStart, withLine}
 use Rattle.text_laws.specs.Put.{putBefore}
 use Rattle.sheet_room.specs.Room.{sheetRoom}
@@ -23,7 +24,7 @@ roomCause room = cond (ltb room sheetRoom) 6 0
 module _ (job : Job) where
   -- the lower of the number of the job's prices and of 6 for the room
   unfoldable pub jobNumber : ℕ → ℕ
-  jobNumber room = lowest-cause (recordNumber job most-discounts most-prices) (roomCause room)
+  jobNumber room = lowest-cause (recordNumber job most-discounts most-state-prices) (roomCause room)
 
   unfoldable pub jobText : List ℕ
   jobText =

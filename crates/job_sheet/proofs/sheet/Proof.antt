@@ -29,9 +29,13 @@ same-length c = search needs
 
 returns-2 : tie.Need-returns-2
 returns-2 c =
-    let a = c .before .before .before .before .before .before .before .before .before .args in
+    let s = c .before .before .before .before .before .before .before .before .before in
     let read = c .before .before .before .before .before .before .read in
-    answers.read-made (a .job .now) (a .out .now) (read .result) _ _ (read .ensures .0) (c .before .before .before .before .if1 .left) (c .before .before .sheet-of-record .ensures)
+    let if1 = c .before .before .before .before .if1 in
+    let sheet-of-record = c .before .before .sheet-of-record in
+    let a = s .args in
+    let read = read in
+    answers.read-made (a .job .now) (a .out .now) (read .result) _ _ (read .ensures .0) (if1 .left) (sheet-of-record .ensures)
 
 pub sheet-spec : {M : Type 1} → statement M
 sheet-spec = tie.close (tie.spec read-requires refused-requires returns sheet-of-record-requires same-length returns-2)

@@ -35,13 +35,20 @@ refused-requires c κs = search needs
 
 returns : tie.Need-returns
 returns c =
-    let a = c .before .before .before .before .before .before .before .before .before .before .before .before .args in
-    let own-d = c .before .before .before .before .before .before .before .before .before .before .discounts in
-    let own-p = c .before .before .before .before .before .before .before .before .before .state-prices in
-    let prices = c .before .before .before .before .before .before .prices-of-record in
+    let s = c .before .before .before .before .before .before .before .before .before .before .before .before in
+    let discounts = c .before .before .before .before .before .before .before .before .before .before .discounts in
+    let state-prices = c .before .before .before .before .before .before .before .before .before .state-prices in
+    let prices-of-record = c .before .before .before .before .before .before .prices-of-record in
+    let room-cause = c .before .before .before .room-cause in
+    let lowest-cause = c .before .before .lowest-cause in
+    let if1 = c .before .if1 in
+    let a = s .args in
+    let own-d = discounts in
+    let own-p = state-prices in
+    let prices = prices-of-record in
     let largest = fits.prices-largest (a .job) (own-d .result) (own-p .result) (own-d .ensures) (own-p .ensures) (prices .result) (prices .ensures .0) in
-    let number = laws.cause-is (a .job) (prices .result) largest (a .out .now) _ _ (c .before .before .before .room-cause .ensures) (c .before .before .lowest-cause .ensures) in
-    answers.refused-by _ _ _ (a .out .now) _ (c .refused .ensures) number (c .before .if1 .taken)
+    let number = laws.cause-is (a .job) (prices .result) largest (a .out .now) _ _ (room-cause .ensures) (lowest-cause .ensures) in
+    answers.refused-by _ _ _ (a .out .now) _ (c .refused .ensures) number (if1 .taken)
 
 slice-aggregate-draw : tie.Need-slice-aggregate-draw
 slice-aggregate-draw c = search needs
@@ -51,18 +58,29 @@ slice-aggregate-draw-2 c = search needs
 
 draw-requires : tie.Need-draw-requires
 draw-requires c κs =
-    let a = c .before .before .before .before .before .before .before .before .before .before .before .before .before .before .args in
-    let own-d = c .before .before .before .before .before .before .before .before .before .before .before .before .discounts in
-    let own-p = c .before .before .before .before .before .before .before .before .before .before .before .state-prices in
-    let prices = c .before .before .before .before .before .before .before .before .prices-of-record in
-    let room = c .before .before .before .before .before .room-cause .ensures in
-    let cause = c .before .before .before .before .lowest-cause .ensures in
-    let accepted = c .before .before .before .if1 .left in
+    let s = c .before .before .before .before .before .before .before .before .before .before .before .before .before .before in
+    let discounts = c .before .before .before .before .before .before .before .before .before .before .before .before .discounts in
+    let state-prices = c .before .before .before .before .before .before .before .before .before .before .before .state-prices in
+    let prices-of-record = c .before .before .before .before .before .before .before .before .prices-of-record in
+    let room-cause = c .before .before .before .before .before .room-cause in
+    let lowest-cause = c .before .before .before .before .lowest-cause in
+    let if1 = c .before .before .before .if1 in
+    let a = s .args in
+    let own-d = discounts in
+    let own-p = state-prices in
+    let prices = prices-of-record in
+    let room = room-cause .ensures in
+    let cause = lowest-cause .ensures in
+    let accepted = if1 .left in
     let largest = fits.prices-largest (a .job) (own-d .result) (own-p .result) (own-d .ensures) (own-p .ensures) (prices .result) (prices .ensures .0) in
     let priced = laws.priced-none (a .job) (prices .result) largest (a .out .now) _ _ room cause accepted in
     let none = sym (laws.prices-number-is (a .job) (prices .result) largest) ∙ priced in
-    let fitted = fits.fitted (a .job) (own-d .result) (own-p .result) (own-d .ensures) (own-p .ensures) _ _ none (prices .ensures .1 .0) (prices .ensures .1 .1) in
-    ((fitted, laws.room-given (a .job) (prices .result) largest (a .out .now) _ _ room cause accepted), laws.prices-known (a .job) (prices .result) largest priced)
+    let fitted = fits.fitted (a .job) (own-d .result) (own-p .result) (own-d .ensures) (own-p .ensures) _ _ none (prices .ensures .1 .0)
+    (prices .ensures .1 .1) in (
+      (fitted, laws.room-given (a .job) (prices .result) largest (a .out .now) _ _ room cause accepted),
+      laws.prices-known (a .job) (prices .result) largest
+          priced,
+    )
 
 sub-t23 : tie.Need-sub-t23
 sub-t23 c = omega (arith, c .before .before .draw .ensures .place)
@@ -72,13 +90,21 @@ same-length c = search needs
 
 returns-2 : tie.Need-returns-2
 returns-2 c =
-    let a = c .before .before .before .before .before .before .before .before .before .before .before .before .before .before .before .before .before .args in
-    let own-d = c .before .before .before .before .before .before .before .before .before .before .before .before .before .before .before .discounts in
-    let own-p = c .before .before .before .before .before .before .before .before .before .before .before .before .before .before .state-prices in
-    let prices = c .before .before .before .before .before .before .before .before .before .before .before .prices-of-record in
+    let s = c .before .before .before .before .before .before .before .before .before .before .before .before .before .before .before .before .before in
+    let discounts = c .before .before .before .before .before .before .before .before .before .before .before .before .before .before .before .discounts in
+    let state-prices = c .before .before .before .before .before .before .before .before .before .before .before .before .before .before .state-prices in
+    let prices-of-record = c .before .before .before .before .before .before .before .before .before .before .before .prices-of-record in
+    let room-cause = c .before .before .before .before .before .before .before .before .room-cause in
+    let lowest-cause = c .before .before .before .before .before .before .before .lowest-cause in
+    let if1 = c .before .before .before .before .before .before .if1 in
+    let draw = c .before .before .draw in
+    let a = s .args in
+    let own-d = discounts in
+    let own-p = state-prices in
+    let prices = prices-of-record in
     let largest = fits.prices-largest (a .job) (own-d .result) (own-p .result) (own-d .ensures) (own-p .ensures) (prices .result) (prices .ensures .0) in
-    let number = laws.cause-is (a .job) (prices .result) largest (a .out .now) _ _ (c .before .before .before .before .before .before .before .before .room-cause .ensures) (c .before .before .before .before .before .before .before .lowest-cause .ensures) in
-    answers.sheet-put _ _ (a .out .now) _ _ (sym number ∙ c .before .before .before .before .before .before .if1 .left) (c .before .before .draw .ensures)
+    let number = laws.cause-is (a .job) (prices .result) largest (a .out .now) _ _ (room-cause .ensures) (lowest-cause .ensures) in
+    answers.sheet-put _ _ (a .out .now) _ _ (sym number ∙ if1 .left) (draw .ensures)
 
 pub sheet-of-record-spec : {M : Type 1} → statement M
 sheet-of-record-spec =

@@ -21,27 +21,26 @@ prices-of-requires c κs = search needs
 returns : tie.Need-returns
 returns c =
     let a = c .before .before .before .before .before .before .before .args in
-    let bond = c .before .before .before .before .bond-price in
+    let bond = c .before .before .bond-price in
     let none = ap (λ (p : Price). pricesOf (bond .result .number) (bond .result) false p) (c .before .no-price .ensures) in
-    laws.without-option (a .steps) (a .reversion) (a .discounts .now) (a .flows .now) (a .option) (bond .result) (bond .ensures) _
-    (c .before .before .if1 .taken)
+    laws.without-option (a .steps) (a .reversion) (a .discounts .now) (a .flows .now) (a .option) _ (bond .result) (c .before .before .before .if1 .taken)
+    (bond .ensures)
     (c .prices-of .ensures ∙ none)
 
-option-price-requires : tie.Need-option-price-requires
-option-price-requires c κs = search needs
+bond-and-option-requires : tie.Need-bond-and-option-requires
+bond-and-option-requires c κs = search needs
 
 prices-of-requires-2 : tie.Need-prices-of-requires-2
 prices-of-requires-2 c κs = search needs
 
 returns-2 : tie.Need-returns-2
 returns-2 c =
-    let a = c .before .before .before .before .before .before .before .args in
-    let bond = c .before .before .before .before .bond-price in
-    let option = c .before .option-price in
-    laws.with-option (a .steps) (a .reversion) (a .discounts .now) (a .flows .now) (a .option) (bond .result) (bond .ensures) _ (option .result)
-    (c .before .before .if1 .left) (option .ensures) (c .prices-of2 .ensures)
+    let a = c .before .before .before .before .before .before .args in
+    let both = c .before .bond-and-option in
+    laws.with-option (a .steps) (a .reversion) (a .discounts .now) (a .flows .now) (a .option) _ (both .result) (c .before .before .if1 .left) (both .ensures)
+    (c .prices-of2 .ensures)
 
 pub tree-prices-spec : {M : Type 1} → statement M
 tree-prices-spec =
     tie.close
-    (tie.spec bond-price-requires no-price-requires prices-of-requires returns option-price-requires prices-of-requires-2 returns-2)
+    (tie.spec bond-price-requires no-price-requires prices-of-requires returns bond-and-option-requires prices-of-requires-2 returns-2)

@@ -13,10 +13,17 @@ same-length : tie.Need-same-length
 same-length c = search needs
 
 returns : tie.Need-returns
-returns c = laws.option-stands (c .before .before .before .before .before .before .args .out .now) _ (c .before .before .before .before .before .before .args .end) _ (c .before .before .before .before .before .before .args .present) (c .before .before .before .before .before .before .args .option) (c .before .before .before .before .if1 .taken) (search needs, search needs) (c .before .before .before .before .before .before .pre .0) (c .before .before .before .before .before .before .pre .1) (c .before .before .option-line .ensures .0) (c .before .before .option-line .ensures .1)
+returns c =
+    let s = c .before .before .before .before .before .before in
+    let if1 = c .before .before .before .before .if1 in
+    let option-line = c .before .before .option-line in
+    laws.option-stands (s .args .out .now) _ (s .args .end) _ (s .args .present) (s .args .option) (if1 .taken) (search needs, search needs) (s .pre .0)
+    (s .pre .1) (option-line .ensures .0) (option-line .ensures .1)
 
 returns-2 : tie.Need-returns-2
-returns-2 c = laws.option-none (c .before .before .args .out .now) (c .before .before .args .end) (c .before .before .args .present) (c .before .before .args .option) (c .if1 .left) (c .before .before .pre .1)
+returns-2 c =
+    let s = c .before .before in
+    laws.option-none (s .args .out .now) (s .args .end) (s .args .present) (s .args .option) (c .if1 .left) (s .pre .1)
 
 pub put-option-spec : {M : Type 1} → statement M
 put-option-spec = tie.close (tie.spec option-line-requires same-length returns returns-2)

@@ -17,7 +17,12 @@ same-length : tie.Need-same-length
 same-length c = search needs
 
 returns : tie.Need-returns
-returns c = laws.prices-stand _ _ (c .before .before .before .before .before .before .before .before .before .args .bond) (c .before .before .before .before .before .before .before .before .before .args .present) (c .before .before .before .before .before .before .before .before .before .args .option) (search needs, search needs) (search needs, search needs) (c .before .before .before .before .before .before .before .before .before .pre .0) (c .before .before .before .before .before .before .put-option .ensures) (c .before .before .bond-line .ensures .0) (c .before .before .bond-line .ensures .1)
+returns c =
+    let s = c .before .before .before .before .before .before .before .before .before in
+    let put-option = c .before .before .before .before .before .before .put-option in
+    let bond-line = c .before .before .bond-line in
+    laws.prices-stand _ _ (s .args .bond) (s .args .present) (s .args .option) (search needs, search needs) (search needs, search needs) (s .pre .0)
+    (put-option .ensures) (bond-line .ensures .0) (bond-line .ensures .1)
 
 pub put-prices-spec : {M : Type 1} → statement M
 put-prices-spec = tie.close (tie.spec put-option-requires bond-line-requires same-length returns)

@@ -13,11 +13,14 @@ use native.Mathlib.Omega.{arith}
 use Rattle.job_sheet.proofs.lines.put_row.Statement.{statement}
 use Rattle.job_sheet.proofs.lines.put_row.Tie as tie
 
-part-is : (c : tie.After-row-view) → c .row-view .result .now ≡ row-part (c .before .before .before .before .before .args .reversion) (c .before .before .before .before .before .args .state-prices .now) (suc (c .before .before .before .before .before .args .before))
+part-is : (c : tie.After-row-view) → c .row-view .result .now ≡ row-part (c .before .before .before .before .before .args .reversion)
+    (c .before .before .before .before .before .args .state-prices .now) (suc (c .before .before .before .before .before .args .before))
 part-is c =
-    let a = c .before .before .before .before .before .args in
+    let s = c .before .before .before .before .before in
+    let a = s .args in
     rw (← add-one (a .before))
-    (laws.shown (a .discounts) (a .state-prices) StatePrices (a .steps) (a .reversion) (a .before + 1) (c .row-view .result) (c .before .before .before .before .before .pre .1) (le-leb (a .before + 1) (a .steps) (omega (arith, c .before .before .before .before .before .pre .0))) (c .row-view .ensures))
+    (laws.shown (a .discounts) (a .state-prices) StatePrices (a .steps) (a .reversion) (a .before + 1) (c .row-view .result) (s .pre .1)
+    (le-leb (a .before + 1) (a .steps) (omega (arith, s .pre .0))) (c .row-view .ensures))
 
 add-row : tie.Need-add-row
 add-row c = search needs
@@ -45,11 +48,21 @@ same-length c = search needs
 
 returns : tie.Need-returns
 returns c =
-    let a = c .before .before .before .before .before .before .before .before .before .before .before .before .args in
-    let pre = c .before .before .before .before .before .before .before .before .before .before .before .before .pre in
-    laws.row-line-stands (a .steps) (a .reversion) (a .quotes .now) (a .discounts .now) (a .state-prices .now) (a .before) (a .end) (c .before .before .before .before .before .before .row-total .result) _ (a .out .now) _ (c .before .before .before .before .before .state-price-error-bound .result)
-    (c .before .before .before .before .before .before .row-total .ensures ∙ ap total (part-is (c .before .before .before .before .before .before .before))) (subst (λ (i : ℕ). c .before .before .before .before .before .state-price-error-bound .result ≡ statePriceErrorBound (a .steps) (a .reversion) (a .discounts .now) i) (add-one (a .before)) (c .before .before .before .before .before .state-price-error-bound .ensures))
-    (omega (arith, pre .0, pre .1 .few)) (c .before .before .before .before .before .before .before .before .before .before .shared-slice-known .given (a .before) .fits) (search needs) (pre .4) (pre .5) (c .before .before .row-line .ensures .0) (c .before .before .row-line .ensures .1)
+    let s = c .before .before .before .before .before .before .before .before .before .before .before .before in
+    let shared-slice-known = c .before .before .before .before .before .before .before .before .before .before .shared-slice-known in
+    let row-total = c .before .before .before .before .before .before .row-total in
+    let p6 = c .before .before .before .before .before .before in
+    let state-price-error-bound = c .before .before .before .before .before .state-price-error-bound in
+    let row-line = c .before .before .row-line in
+    let a = s .args in
+    let pre = s .pre in
+    laws.row-line-stands (a .steps) (a .reversion) (a .quotes .now) (a .discounts .now) (a .state-prices .now) (a .before) (a .end) (row-total .result) _
+    (a .out .now) _ (state-price-error-bound .result)
+    (row-total .ensures ∙ ap total (part-is (p6 .before))) (subst
+    (λ (i : ℕ). state-price-error-bound .result ≡ statePriceErrorBound (a .steps) (a .reversion) (a .discounts .now) i) (add-one (a .before))
+    (state-price-error-bound .ensures))
+    (omega (arith, pre .0, pre .1 .few)) (shared-slice-known .given (a .before) .fits) (search needs) (pre .4) (pre .5) (row-line .ensures .0)
+    (row-line .ensures .1)
 
 pub put-row-spec : {M : Type 1} → statement M
 put-row-spec =

@@ -17,33 +17,63 @@ Inv-loop out₀ end steps reversion quotes discounts state-prices start₀ left�
 abbrev μ-loop : tie.MeasureT-loop
 μ-loop out₀ end steps reversion quotes discounts state-prices start₀ left₀ out start left = left
 
-fits : (c : tie.After-shared-slice-known3 Inv-loop μ-loop) (i : ℕ) → i < c .before .before .before .before .args .steps → 128 * i + length (lineOfRow (c .before .before .before .before .args .steps) (c .before .before .before .before .args .reversion) (c .before .before .before .before .args .quotes .now) (c .before .before .before .before .args .discounts .now) (c .before .before .before .before .args .state-prices .now) i) ≤ 128 * suc i
-fits c = laws.rows-fit (c .before .before .before .before .args .steps) (c .before .before .before .before .args .reversion) (c .before .before .before .before .args .quotes .now) (c .before .before .before .before .args .discounts .now) (c .before .before .before .before .args .state-prices .now) (c .before .before .before .before .pre .0 .0 .few) (λ j. c .before .before .shared-slice-known .given j .fits) (c .before .before .before .before .pre .1)
+fits : (c : tie.After-shared-slice-known3 Inv-loop μ-loop) (i : ℕ) → i < c .before .before .before .before .args .steps → 128 * i + length
+    (lineOfRow (c .before .before .before .before .args .steps) (c .before .before .before .before .args .reversion)
+    (c .before .before .before .before .args .quotes .now) (c .before .before .before .before .args .discounts .now)
+    (c .before .before .before .before .args .state-prices .now) i) ≤ 128 * suc i
+fits c =
+    let s = c .before .before .before .before in
+    let shared-slice-known = c .before .before .shared-slice-known in
+    laws.rows-fit (s .args .steps) (s .args .reversion) (s .args .quotes .now) (s .args .discounts .now) (s .args .state-prices .now) (s .pre .0 .0 .few)
+    (λ j. shared-slice-known .given j .fits) (s .pre .1)
 
 loop-holds : tie.Need-loop-holds Inv-loop μ-loop
-loop-holds c = (let a = c .before .before .before .before .args in begun (lineOfRow (a .steps) (a .reversion) (a .quotes .now) (a .discounts .now) (a .state-prices .now)) (λ (i : ℕ). 128 * i) (a .steps) (fits c) (a .out .now) (a .end) (c .before .before .before .before .pre .0 .2))
+loop-holds c =
+    let s = c .before .before .before .before in
+    (let a = s .args in begun (lineOfRow (a .steps) (a .reversion) (a .quotes .now) (a .discounts .now) (a .state-prices .now)) (λ (i : ℕ). 128 * i)
+    (a .steps) (fits c) (a .out .now) (a .end) (s .pre .0 .2))
 
 sub-left : tie.Need-sub-left Inv-loop μ-loop
 sub-left c = search needs
 
 put-row-requires : tie.Need-put-row-requires Inv-loop μ-loop
 put-row-requires c κs =
-    let l = c .before .before .loop in
+    let s = c .before .before .before .before .before .before .before in
+    let loop = c .before .before .loop in
+    let l = loop in
     let p = l .inv in
-    let pre = c .before .before .before .before .before .before .before .pre in
-    (omega (arith, p .upto), pre .0 .0, pre .0 .1, pre .1 (l .left - 1) (omega (arith, p .upto)), omega (arith, p .enough), omega (arith, p .below, p .same, pre .0 .3))
+    let pre = s .pre in (
+      omega (arith, p .upto),
+      pre .0 .0,
+      pre .0 .1,
+      pre .1 (l .left - 1) (omega (arith, p .upto)),
+      omega (arith, p .enough),
+      omega
+          (arith, p .below, p .same, pre .0 .3),
+    )
 
 loop-less : tie.Need-loop-less Inv-loop μ-loop
 loop-less c = search needs
 
 loop-again : tie.Need-loop-again Inv-loop μ-loop
-loop-again c = (let a = c .before .before .before .before .before .before .before .before .before .before .args in gone (lineOfRow (a .steps) (a .reversion) (a .quotes .now) (a .discounts .now) (a .state-prices .now)) (λ (i : ℕ). 128 * i) (a .steps) (fits (c .before .before .before .before .before .before)) (a .out .now) (a .end) (c .before .before .before .before .before .loop .inv) (omega arith) (c .before .before .put-row .ensures))
+loop-again c =
+    let s = c .before .before .before .before .before .before .before .before .before .before in
+    let p5 = c .before .before .before .before .before in
+    let loop = c .before .before .before .before .before .loop in
+    let put-row = c .before .before .put-row in
+    (let a = s .args in gone (lineOfRow (a .steps) (a .reversion) (a .quotes .now) (a .discounts .now) (a .state-prices .now)) (λ (i : ℕ). 128 * i)
+    (a .steps) (fits (p5 .before)) (a .out .now) (a .end) (loop .inv) (omega arith) (put-row .ensures))
 
 same-length : tie.Need-same-length Inv-loop μ-loop
 same-length c = (c .before .loop .inv .same)
 
 returns : tie.Need-returns Inv-loop μ-loop
-returns c = (let a = c .before .before .before .before .before .before .args in ended (lineOfRow (a .steps) (a .reversion) (a .quotes .now) (a .discounts .now) (a .state-prices .now)) (λ (i : ℕ). 128 * i) (a .steps) (fits (c .before .before)) (a .out .now) (a .end) (c .before .loop .inv) (omega arith) (c .before .before .before .before .before .before .pre .0 .3))
+returns c =
+    let s = c .before .before .before .before .before .before in
+    let p1 = c .before in
+    let loop = c .before .loop in
+    (let a = s .args in ended (lineOfRow (a .steps) (a .reversion) (a .quotes .now) (a .discounts .now) (a .state-prices .now)) (λ (i : ℕ). 128 * i)
+    (a .steps) (fits (p1 .before)) (a .out .now) (a .end) (loop .inv) (omega arith) (s .pre .0 .3))
 
 pub put-rows-spec : {M : Type 1} → statement M
 put-rows-spec =

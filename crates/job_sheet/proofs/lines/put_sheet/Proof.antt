@@ -7,28 +7,46 @@ use native.Mathlib.Omega.{arith}
 use Rattle.job_sheet.proofs.lines.put_sheet.Statement.{statement}
 use Rattle.job_sheet.proofs.lines.put_sheet.Tie as tie
 
+-- each number of both prices fits a word
+fitting : (s : tie.Start) → laws.Fits (s .args .bond) × laws.Fits (s .args .option)
+fitting s = ((search needs, search needs), (search needs, search needs))
+
 put-prices-requires : tie.Need-put-prices-requires
 put-prices-requires c κs = (omega (arith, c .before .before .before .before .before .pre .0 .2), omega arith)
 
 put-rows-requires : tie.Need-put-rows-requires
 put-rows-requires c κs =
-    let a = c .before .before .before .before .before .before .before .before .before .args in
-    let room = laws.rows-room (a .steps) (a .reversion) (a .quotes .now) (a .discounts .now) (a .state-prices .now) (a .bond) (a .present) (a .option) (c .before .before .before .before .before .before .before .before .before .pre .0 .0) (search needs, search needs) (search needs, search needs) (c .before .before .before .before .before .before .before .before .before .pre .0 .2) (c .before .before .before .put-prices .ensures) in
-    ((c .before .before .before .before .before .before .before .before .before .pre .0 .0, c .before .before .before .before .before .before .before .before .before .pre .0 .1, room .0, room .1), c .before .before .before .before .before .before .before .before .before .pre .1)
+    let s = c .before .before .before .before .before .before .before .before .before in
+    let put-prices = c .before .before .before .put-prices in
+    let a = s .args in
+    let room = laws.rows-room (a .steps) (a .reversion) (a .quotes .now) (a .discounts .now) (a .state-prices .now) (a .bond) (a .present) (a .option)
+    (s .pre .0 .0) (fitting s .0) (fitting s .1) (s .pre .0 .2) (put-prices .ensures) in
+    ((s .pre .0 .0, s .pre .0 .1, room .0, room .1), s .pre .1)
 
 put-all-nodes-requires : tie.Need-put-all-nodes-requires
 put-all-nodes-requires c κs =
-    let a = c .before .before .before .before .before .before .before .before .before .before .before .before .before .args in
-    let room = laws.nodes-room (a .steps) (a .reversion) (a .quotes .now) (a .discounts .now) (a .state-prices .now) (a .bond) (a .present) (a .option) (c .before .before .before .before .before .before .before .before .before .before .before .before .before .pre .0 .0) (search needs, search needs) (search needs, search needs) (c .before .before .before .before .before .before .before .before .before .before .before .before .before .pre .0 .2) (c .before .before .before .before .before .before .before .put-prices .ensures) (c .before .before .before .put-rows .ensures) (λ j. c .before .before .before .before .before .before .before .before .before .before .before .shared-slice-known .given j .fits) (c .before .before .before .before .before .before .before .before .before .before .before .before .before .pre .1) in
-    (c .before .before .before .before .before .before .before .before .before .before .before .before .before .pre .0 .0, room .0, room .1)
+    let s = c .before .before .before .before .before .before .before .before .before .before .before .before .before in
+    let shared-slice-known = c .before .before .before .before .before .before .before .before .before .before .before .shared-slice-known in
+    let put-prices = c .before .before .before .before .before .before .before .put-prices in
+    let put-rows = c .before .before .before .put-rows in
+    let a = s .args in
+    let room = laws.nodes-room (a .steps) (a .reversion) (a .quotes .now) (a .discounts .now) (a .state-prices .now) (a .bond) (a .present) (a .option)
+    (s .pre .0 .0) (fitting s .0) (fitting s .1) (s .pre .0 .2) (put-prices .ensures) (put-rows .ensures)
+    (λ j. shared-slice-known .given j .fits) (s .pre .1) in
+    (s .pre .0 .0, room .0, room .1)
 
 same-length : tie.Need-same-length
 same-length c = search needs
 
 returns : tie.Need-returns
 returns c =
-    let a = c .before .before .before .before .before .before .before .before .before .before .before .before .before .before .before .before .args in
-    laws.sheet-stands (a .steps) (a .reversion) (a .quotes .now) (a .discounts .now) (a .state-prices .now) (a .bond) (a .present) (a .option) (c .before .before .before .before .before .before .before .before .before .before .put-prices .ensures) (c .before .before .before .before .before .before .put-rows .ensures) (c .before .before .put-all-nodes .ensures)
+    let s = c .before .before .before .before .before .before .before .before .before .before .before .before .before .before .before .before in
+    let put-prices = c .before .before .before .before .before .before .before .before .before .before .put-prices in
+    let put-rows = c .before .before .before .before .before .before .put-rows in
+    let put-all-nodes = c .before .before .put-all-nodes in
+    let a = s .args in
+    laws.sheet-stands (a .steps) (a .reversion) (a .quotes .now) (a .discounts .now) (a .state-prices .now) (a .bond) (a .present) (a .option)
+    (put-prices .ensures) (put-rows .ensures) (put-all-nodes .ensures)
 
 pub put-sheet-spec : {M : Type 1} → statement M
 put-sheet-spec =

@@ -28,7 +28,10 @@ shared-slice-read-sum : tie.Need-shared-slice-read-sum Inv-loop μ-loop
 shared-slice-read-sum c = search needs
 
 add-sum : tie.Need-add-sum Inv-loop μ-loop
-add-sum c = omega (arith, laws.sum-within (c .before .before .before .args .row .now) (c .before .before .loop .index) (c .before .before .loop .sum) (c .before .before .loop .inv .1) (omega arith))
+add-sum c =
+    let s = c .before .before .before in
+    let loop = c .before .before .loop in
+    omega (arith, laws.sum-within (s .args .row .now) (loop .index) (loop .sum) (loop .inv .1) (omega arith))
 
 add-index : tie.Need-add-index Inv-loop μ-loop
 add-index c = search needs
@@ -37,7 +40,10 @@ loop-less : tie.Need-loop-less Inv-loop μ-loop
 loop-less c = search needs
 
 loop-again : tie.Need-loop-again Inv-loop μ-loop
-loop-again c = (search needs, laws.sum-more (c .before .before .before .args .row .now) (c .before .before .loop .index) (c .before .before .loop .sum) (c .before .before .loop .inv .1))
+loop-again c =
+    let s = c .before .before .before in
+    let loop = c .before .before .loop in
+    (search needs, laws.sum-more (s .args .row .now) (loop .index) (loop .sum) (loop .inv .1))
 
 returns : tie.Need-returns Inv-loop μ-loop
 returns c = laws.sum-done (c .before .before .args .row .now) (c .before .loop .index) (c .before .loop .sum) (c .before .loop .inv .1) (omega arith)
