@@ -9,19 +9,19 @@ use Rattle.job_sheet.proofs.draw.Statement.{statement}
 use Rattle.job_sheet.proofs.draw.Tie as tie
 
 quotes-requires : tie.Need-quotes-requires
-quotes-requires c κs = search needs
+quotes-requires c κs = tt
 
 slice-aggregate-quotes-of-record : tie.Need-slice-aggregate-quotes-of-record
 slice-aggregate-quotes-of-record c = search needs
 
 quotes-of-record-requires : tie.Need-quotes-of-record-requires
-quotes-of-record-requires c κs = search needs
+quotes-of-record-requires c κs = tt
 
 discounts-needed-requires : tie.Need-discounts-needed-requires
-discounts-needed-requires c κs = search needs
+discounts-needed-requires c κs = tt
 
 state-prices-needed-requires : tie.Need-state-prices-needed-requires
-state-prices-needed-requires c κs = search needs
+state-prices-needed-requires c κs = tt
 
 array-share-prefix-quotes : tie.Need-array-share-prefix-quotes
 array-share-prefix-quotes c =

@@ -8,10 +8,10 @@ use Rattle.job_sheet.proofs.sheet.Statement.{statement}
 use Rattle.job_sheet.proofs.sheet.Tie as tie
 
 read-requires : tie.Need-read-requires
-read-requires c κs = search needs
+read-requires c κs = tt
 
 refused-requires : tie.Need-refused-requires
-refused-requires c κs = search needs
+refused-requires c κs = tt
 
 returns : tie.Need-returns
 returns c =
@@ -22,7 +22,7 @@ returns c =
     answers.refused-by _ _ _ (a .out .now) _ (c .refused .ensures) number refusing
 
 sheet-of-record-requires : tie.Need-sheet-of-record-requires
-sheet-of-record-requires c κs = search needs
+sheet-of-record-requires c κs = tt
 
 same-length : tie.Need-same-length
 same-length c = search needs

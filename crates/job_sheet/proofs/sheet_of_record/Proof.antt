@@ -10,10 +10,10 @@ use Rattle.job_sheet.proofs.sheet_of_record.Statement.{statement}
 use Rattle.job_sheet.proofs.sheet_of_record.Tie as tie
 
 discounts-requires : tie.Need-discounts-requires
-discounts-requires c κs = search needs
+discounts-requires c κs = tt
 
 state-prices-requires : tie.Need-state-prices-requires
-state-prices-requires c κs = search needs
+state-prices-requires c κs = tt
 
 slice-aggregate-prices-of-record : tie.Need-slice-aggregate-prices-of-record
 slice-aggregate-prices-of-record c = search needs
@@ -22,16 +22,16 @@ slice-aggregate-prices-of-record-2 : tie.Need-slice-aggregate-prices-of-record-2
 slice-aggregate-prices-of-record-2 c = search needs
 
 prices-of-record-requires : tie.Need-prices-of-record-requires
-prices-of-record-requires c κs = search needs
+prices-of-record-requires c κs = tt
 
 room-cause-requires : tie.Need-room-cause-requires
-room-cause-requires c κs = search needs
+room-cause-requires c κs = tt
 
 lowest-cause-requires : tie.Need-lowest-cause-requires
-lowest-cause-requires c κs = search needs
+lowest-cause-requires c κs = tt
 
 refused-requires : tie.Need-refused-requires
-refused-requires c κs = search needs
+refused-requires c κs = tt
 
 returns : tie.Need-returns
 returns c =
