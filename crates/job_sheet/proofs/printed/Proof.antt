@@ -2,7 +2,7 @@
 -- Assumes nothing.
 use borrow.Author.Needs.{needs}
 use Rattle.sheet_laws.proofs.SheetLaws as laws
-use Rattle.job_sheet.proofs.AnswerLaws as answers
+use Rattle.record_sheet.proofs.AnswerLaws as answers
 use Rattle.job_sheet.proofs.printed.Statement.{statement}
 use Rattle.job_sheet.proofs.printed.Tie as tie
 

@@ -1,25 +1,23 @@
 -- `job_sheet::sheet` meets its contract.
 -- Assumes nothing.
+use mathlib.Core.Path.{refl}
 use lib.ListN.{length}
 use borrow.Author.Needs.{needs}
 use Rattle.sheet_laws.proofs.SheetLaws as laws
-use Rattle.job_sheet.proofs.AnswerLaws as answers
+use Rattle.record_sheet.proofs.AnswerLaws as answers
 use Rattle.job_sheet.proofs.sheet.Statement.{statement}
 use Rattle.job_sheet.proofs.sheet.Tie as tie
 
 read-requires : tie.Need-read-requires
 read-requires c κs = tt
 
-refused-requires : tie.Need-refused-requires
-refused-requires c κs = tt
-
 returns : tie.Need-returns
 returns c =
-    let a = c .before .before .before .before .before .before .args in
-    let read = c .before .before .before .read in
-    let refusing = c .before .if1 .taken in
+    let a = c .before .before .before .before .before .args in
+    let read = c .before .before .read in
+    let refusing = c .if1 .taken in
     let number = laws.number-refused (a .job .now) (length (a .out .now)) (read .result) (read .ensures .0) refusing in
-    answers.refused-by _ _ _ (a .out .now) _ (c .refused .ensures) number refusing
+    answers.refused-by _ _ _ (a .out .now) _ refl number refusing
 
 sheet-of-record-requires : tie.Need-sheet-of-record-requires
 sheet-of-record-requires c κs = tt
@@ -38,4 +36,4 @@ returns-2 c =
     answers.read-made (a .job .now) (a .out .now) (read .result) _ _ (read .ensures .0) (if1 .left) (sheet-of-record .ensures)
 
 pub sheet-spec : {M : Type 1} → statement M
-sheet-spec = tie.close (tie.spec read-requires refused-requires returns sheet-of-record-requires same-length returns-2)
+sheet-spec = tie.close (tie.spec read-requires returns sheet-of-record-requires same-length returns-2)

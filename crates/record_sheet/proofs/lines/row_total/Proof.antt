@@ -1,4 +1,4 @@
--- `job_sheet::lines::row_total` meets its contract.
+-- `record_sheet::lines::row_total` meets its contract.
 -- Assumes nothing.
 use mathlib.Core.Path.{_≡_}
 use Prim.Native.Nat.{_-_, _≤_}
@@ -8,8 +8,8 @@ use Rattle.arithmetic.specs.Row.{values}
 use Rattle.sheet_laws.proofs.PartLaws as laws
 use borrow.Author.Needs.{needs}
 use native.Mathlib.Omega.{arith}
-use Rattle.job_sheet.proofs.lines.row_total.Statement.{statement}
-use Rattle.job_sheet.proofs.lines.row_total.Tie as tie
+use Rattle.record_sheet.proofs.lines.row_total.Statement.{statement}
+use Rattle.record_sheet.proofs.lines.row_total.Tie as tie
 
 abbrev Inv-loop : tie.InvT-loop
 Inv-loop row sum₀ index₀ sum index =

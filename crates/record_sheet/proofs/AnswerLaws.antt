@@ -12,8 +12,8 @@ use Rattle.job_record.specs.Reader.{readingOf}
 use Rattle.text_laws.specs.Put.{Put}
 use Rattle.sheet_laws.specs.WholeJob.{jobNumber, jobText, sheetNumber, sheetText, memoryOf}
 use Rattle.sheet_laws.proofs.SheetLaws.{memory-refused, memory-put, number-refused, number-accepted}
-use Rattle.job_sheet.specs.declared.Written.{Written}
-use Rattle.job_sheet.specs.Answers.{refusedSheet, answerOf}
+use Rattle.record_sheet.specs.declared.Written.{Written}
+use Rattle.record_sheet.specs.Answers.{refusedSheet, answerOf}
 
 -- a sheet or a refusal, and the room afterwards
 abbrev pub Made : ℕ → List ℕ → List ℕ → Written → List ℕ → Type 0

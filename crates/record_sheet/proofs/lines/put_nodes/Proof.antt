@@ -1,4 +1,4 @@
--- `job_sheet::lines::put_nodes` meets its contract.
+-- `record_sheet::lines::put_nodes` meets its contract.
 -- Assumes nothing.
 use mathlib.Core.Path.{_≡_, subst}
 use Prim.Native.Nat.{ℕ, _-_}
@@ -10,8 +10,8 @@ use Rattle.sheet_laws.specs.TreeSheet.{row-part}
 use Rattle.sheet_laws.proofs.PartLaws as laws
 use borrow.Author.Needs.{needs}
 use native.Mathlib.Omega.{arith}
-use Rattle.job_sheet.proofs.lines.put_nodes.Statement.{statement}
-use Rattle.job_sheet.proofs.lines.put_nodes.Tie as tie
+use Rattle.record_sheet.proofs.lines.put_nodes.Statement.{statement}
+use Rattle.record_sheet.proofs.lines.put_nodes.Tie as tie
 
 row-view-requires : tie.Need-row-view-requires
 row-view-requires c κs = search needs

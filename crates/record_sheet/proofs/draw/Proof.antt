@@ -1,12 +1,12 @@
--- `job_sheet::draw` meets its contract.
+-- `record_sheet::draw` meets its contract.
 -- Assumes nothing.
 use mathlib.Core.Path.{sym}
 use native.Mathlib.Omega.{arith}
 use borrow.Author.Needs.{needs}
 use Rattle.sheet_laws.proofs.FittedLaws as fits
 use Rattle.sheet_laws.proofs.SheetLaws as laws
-use Rattle.job_sheet.proofs.draw.Statement.{statement}
-use Rattle.job_sheet.proofs.draw.Tie as tie
+use Rattle.record_sheet.proofs.draw.Statement.{statement}
+use Rattle.record_sheet.proofs.draw.Tie as tie
 
 quotes-requires : tie.Need-quotes-requires
 quotes-requires c κs = tt

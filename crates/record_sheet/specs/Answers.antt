@@ -5,7 +5,7 @@ use mathlib.Core.Bool.{cond}
 use mathlib.Core.List.{List}
 use lib.Dec.{eqb}
 use lib.ListN.{length}
-use Rattle.job_sheet.specs.declared.Written.{Written}
+use Rattle.record_sheet.specs.declared.Written.{Written}
 
 abbrev pub refusedSheet : ℕ → Written
 refusedSheet number = record { number = number; size = 0 }

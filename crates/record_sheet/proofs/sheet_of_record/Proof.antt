@@ -1,13 +1,13 @@
--- `job_sheet::sheet_of_record` meets its contract.
+-- `record_sheet::sheet_of_record` meets its contract.
 -- Assumes nothing.
 use mathlib.Core.Path.{sym, _∙_}
 use native.Mathlib.Omega.{arith}
 use borrow.Author.Needs.{needs}
 use Rattle.sheet_laws.proofs.FittedLaws as fits
 use Rattle.sheet_laws.proofs.SheetLaws as laws
-use Rattle.job_sheet.proofs.AnswerLaws as answers
-use Rattle.job_sheet.proofs.sheet_of_record.Statement.{statement}
-use Rattle.job_sheet.proofs.sheet_of_record.Tie as tie
+use Rattle.record_sheet.proofs.AnswerLaws as answers
+use Rattle.record_sheet.proofs.sheet_of_record.Statement.{statement}
+use Rattle.record_sheet.proofs.sheet_of_record.Tie as tie
 
 discounts-requires : tie.Need-discounts-requires
 discounts-requires c κs = tt

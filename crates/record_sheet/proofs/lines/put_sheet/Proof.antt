@@ -1,11 +1,11 @@
--- `job_sheet::lines::put_sheet` meets its contract.
+-- `record_sheet::lines::put_sheet` meets its contract.
 -- Assumes nothing.
 use Prim.Native.Nat.{_-_}
 use Rattle.sheet_laws.proofs.PartLaws as laws
 use borrow.Author.Needs.{needs}
 use native.Mathlib.Omega.{arith}
-use Rattle.job_sheet.proofs.lines.put_sheet.Statement.{statement}
-use Rattle.job_sheet.proofs.lines.put_sheet.Tie as tie
+use Rattle.record_sheet.proofs.lines.put_sheet.Statement.{statement}
+use Rattle.record_sheet.proofs.lines.put_sheet.Tie as tie
 
 -- each number of both prices fits a word
 fitting : (s : tie.Start) → laws.Fits (s .args .bond) × laws.Fits (s .args .option)

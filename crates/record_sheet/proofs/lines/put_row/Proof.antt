@@ -1,4 +1,4 @@
--- `job_sheet::lines::put_row` meets its contract.
+-- `record_sheet::lines::put_row` meets its contract.
 -- Assumes nothing.
 use mathlib.Core.Path.{_≡_, ap, _∙_, subst}
 use Prim.Native.Nat.{ℕ, suc, _+_, _-_}
@@ -10,8 +10,8 @@ use Rattle.state_price_bound.specs.ErrorBound.{statePriceErrorBound}
 use Rattle.sheet_laws.proofs.PartLaws as laws
 use borrow.Author.Needs.{needs}
 use native.Mathlib.Omega.{arith}
-use Rattle.job_sheet.proofs.lines.put_row.Statement.{statement}
-use Rattle.job_sheet.proofs.lines.put_row.Tie as tie
+use Rattle.record_sheet.proofs.lines.put_row.Statement.{statement}
+use Rattle.record_sheet.proofs.lines.put_row.Tie as tie
 
 part-is : (c : tie.After-row-view) → c .row-view .result .now ≡ row-part (c .before .before .before .before .before .args .reversion)
     (c .before .before .before .before .before .args .state-prices .now) (suc (c .before .before .before .before .before .args .before))

@@ -1,11 +1,11 @@
--- `job_sheet::lines::put_prices` meets its contract.
+-- `record_sheet::lines::put_prices` meets its contract.
 -- Assumes nothing.
 use Prim.Native.Nat.{_-_}
 use Rattle.sheet_laws.proofs.PartLaws as laws
 use borrow.Author.Needs.{needs}
 use native.Mathlib.Omega.{arith}
-use Rattle.job_sheet.proofs.lines.put_prices.Statement.{statement}
-use Rattle.job_sheet.proofs.lines.put_prices.Tie as tie
+use Rattle.record_sheet.proofs.lines.put_prices.Statement.{statement}
+use Rattle.record_sheet.proofs.lines.put_prices.Tie as tie
 
 put-option-requires : tie.Need-put-option-requires
 put-option-requires c κs = (omega (arith, c .before .before .pre .0), c .before .before .pre .1)

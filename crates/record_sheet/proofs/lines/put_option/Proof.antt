@@ -1,10 +1,10 @@
--- `job_sheet::lines::put_option` meets its contract.
+-- `record_sheet::lines::put_option` meets its contract.
 -- Assumes nothing.
 use Prim.Native.Nat.{_-_}
 use Rattle.sheet_laws.proofs.PartLaws as laws
 use borrow.Author.Needs.{needs}
-use Rattle.job_sheet.proofs.lines.put_option.Statement.{statement}
-use Rattle.job_sheet.proofs.lines.put_option.Tie as tie
+use Rattle.record_sheet.proofs.lines.put_option.Statement.{statement}
+use Rattle.record_sheet.proofs.lines.put_option.Tie as tie
 
 option-line-requires : tie.Need-option-line-requires
 option-line-requires c κs = search needs

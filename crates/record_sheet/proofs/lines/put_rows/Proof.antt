@@ -1,4 +1,4 @@
--- `job_sheet::lines::put_rows` meets its contract.
+-- `record_sheet::lines::put_rows` meets its contract.
 -- Assumes nothing.
 use Prim.Native.Nat.{ℕ, suc, _+_, _-_, _*_, _≤_, _<_}
 use lib.ListN.{length}
@@ -7,8 +7,8 @@ use Rattle.sheet_laws.proofs.Pieces.{Progress, begun, gone, ended}
 use Rattle.sheet_laws.proofs.PartLaws as laws
 use borrow.Author.Needs.{needs}
 use native.Mathlib.Omega.{arith}
-use Rattle.job_sheet.proofs.lines.put_rows.Statement.{statement}
-use Rattle.job_sheet.proofs.lines.put_rows.Tie as tie
+use Rattle.record_sheet.proofs.lines.put_rows.Statement.{statement}
+use Rattle.record_sheet.proofs.lines.put_rows.Tie as tie
 
 abbrev Inv-loop : tie.InvT-loop
 Inv-loop out₀ end steps reversion quotes discounts state-prices start₀ left₀ out start left =
