@@ -10,7 +10,7 @@ ghost use Rattle.sheet_laws.specs.WholeJob.{
   printedMemory,
 };
 ghost use Rattle.record_sheet.specs.Answers.{answerOf};
-use record_sheet::Written;
+pub use record_sheet::Written;
 
 // The sheet of a job, at the end of the lent room: 468,736 bytes are enough for every job, and fewer are refused with 6. 1 a job that is
 // malformed; then the lowest of the causes of its fit, its bond and its option. A refusal leaves the room as it was.
