@@ -11,19 +11,13 @@ use Rattle.arithmetic.proofs.Numbers.{by-equal}
 use Rattle.limits.specs.Limits.{most-discounts, most-state-prices}
 use Rattle.limits.proofs.LimitLaws.{limit-kept, limit-accepted}
 use Rattle.fitting.specs.Entry.{memory-cause}
+use Rattle.pricing.proofs.Accuracy.{first-none}
 use Rattle.pricing.specs.Prices.{first-cause, bond-peak, option-limit, priced, bondPrice, optionPrice}
 use Rattle.job_record.specs.declared.Job.{Job}
 use Rattle.job_record.specs.declared.OptionRecord.{OptionRecord}
 use Rattle.job_record.specs.Reader.{readingOf}
 use Rattle.job_fit.specs.RecordFit.{jobFlows, jobDiscounts, recordFit}
 use Rattle.job_prices.specs.JobPrices.{hasOption, treeNumber, jobBond, recordNumber, bytesNumber}
-
-pub first-none : (cause later : ℕ) → first-cause cause later ≡ 0 → (cause ≡ 0) × (later ≡ 0)
-unfolding first-cause
-first-none cause later z =
-    by-equal cause 0
-    (λ e. (e, rw (eq-eqb cause 0 e) at z))
-    (λ nz. absurd (nz (rw (ne-eqb cause 0 nz) at z)))
 
 first-both : (cause later : ℕ) → cause ≡ 0 → later ≡ 0 → first-cause cause later ≡ 0
 unfolding first-cause

@@ -18,6 +18,7 @@ use Rattle.limits.specs.Limits.{most-discounts, most-state-prices}
 use Rattle.lattice.specs.Shape.{discounts-needed, state-prices-needed}
 use Rattle.lattice.specs.Entries.{discountsNeeded, statePricesNeeded}
 use Rattle.lattice.proofs.TreeEntries.{tree-value}
+use Rattle.fitting.proofs.CauseLaws.{memory-none}
 use Rattle.fitting.specs.Entry.{memory-cause, fit-memory}
 use Rattle.fitting.proofs.CauseLaws.{memory-short, memory-lacks}
 use Rattle.fitting.proofs.FittedTree.{fit-placed}
@@ -92,17 +93,6 @@ module _ (n b : ℕ) (discounts flows : List ℕ) (option : OptionRecord) (r : J
   tree-number = ap (λ (p : JobPrices). p .number) e ∙ prices-number _ _ _ _
 
 -- ---- the prices of a record
-
--- the memories hold the tree
-memory-none : (n b ds ps : ℕ) → memory-cause n b ds ps ≡ 0 → (discountsNeeded n b .value ≤ ds) × (statePricesNeeded n b .value ≤ ps)
-memory-none n b ds ps e =
-    by-order (discountsNeeded n b .value) ds
-    (λ h. by-order (statePricesNeeded n b .value) ps (λ g. (h, g))
-    (λ g. absurd (apart (memory-lacks n b ds ps (discountsNeeded n b) (statePricesNeeded n b) refl refl h g ∙ e))))
-    (λ h. absurd (apart (memory-short n b ds ps (discountsNeeded n b) (statePricesNeeded n b) refl refl h ∙ e)))
-  where
-    apart : _≡_ {A = ℕ} 6 0 → ⊥
-    apart z = omega arith
 
 -- an accepted fit: so many numbers at the start of two memories are its tree, the lent memories hold it, and what is left to test is the tree
 pub record Held (job : Job) (needed all : ℕ) (d p lent-d lent-p : List ℕ) : Type 0 where
