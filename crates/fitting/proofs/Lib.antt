@@ -1,4 +1,5 @@
 pub mod StepRows
+pub mod NodeLoop
 pub mod RowStep
 pub mod RowParts
 pub mod TreeRows

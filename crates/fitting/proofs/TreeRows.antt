@@ -54,7 +54,7 @@ next-same n t s q v w el ed em eu ev j =
 abbrev pub part : ℕ → ℕ → ℕ → List ℕ → List ℕ
 part b n i l = take (table-offset b (n - 1) i + node-count b i - table-offset b (n - 1) i) (drop (table-offset b (n - 1) i) l)
 
-module _ (b n i quote : ℕ) (factors downs discounts prices amounts : List ℕ) (r : TreeRow b n i quote factors downs discounts prices amounts) where
+module _ (b n i quote : ℕ) (factors downs discounts prices sums : List ℕ) (r : TreeRow b n i quote factors downs discounts prices sums) where
   inside : i ≤ n - 1
   inside = omega (arith, r .in-tree)
 
@@ -103,7 +103,7 @@ module _ (b n i quote : ℕ) (factors downs discounts prices amounts : List ℕ)
   unfolding rate-tree
   tree-total k h = rate-tree-sound b (r .tables .reverting) .total i k h
 
-  pub row-ready : RowReady (row-start b i) (node-count b (suc i)) quote (part b n i factors) (part b n i downs) discounts prices amounts
+  pub row-ready : RowReady (row-start b i) (node-count b (suc i)) quote (part b n i factors) (part b n i downs) discounts prices sums
   row-ready =
       record {
         bounded = record {
@@ -118,7 +118,7 @@ module _ (b n i quote : ℕ) (factors downs discounts prices amounts : List ℕ)
         total = λ k h. rw (downs-are k (rw factors-length at h), middles k (rw factors-length at h), ups k (rw factors-length at h)) (tree-total k (rw factors-length at h));
         room-discounts = rw factors-length (omega (arith, row-ends b i n (r .in-tree), r .room-discounts));
         room-prices = rw factors-length (omega (arith, start-suc b i, row-ends b (suc i) (suc n) (omega (arith, r .in-tree)), r .room-prices));
-        room-amounts = rw factors-length (omega (arith, count-within b i (omega (arith, r .in-tree, r .tables .few)), r .room-amounts));
+        room-sums = omega (arith, count-within b (suc i) (omega (arith, r .in-tree, r .tables .few)), r .room-sums);
         least = rw factors-length (r .least);
         most = rw factors-length (r .most);
         quote-most = r .quote-most;
@@ -147,6 +147,11 @@ module _ (b n i quote : ℕ) (factors downs discounts prices amounts : List ℕ)
       (discount (node-count b i) (values (take (node-count b i) (drop (row-start b i) prices))) (table-factor b n factors i) quote))
   tree-filled d′ e = e ∙ rw factors-length (ap (place discounts (row-start b i)) (row-cong (node-count b i) _ _ discount-is))
 
+  pub tree-kept : (d′ : List ℕ) →
+      drop (row-start b i + length (part b n i factors)) d′ ≡ drop (row-start b i + length (part b n i factors)) discounts →
+      drop (row-start b (suc i)) d′ ≡ drop (row-start b (suc i)) discounts
+  tree-kept d′ e = rw (start-suc b i) (rw factors-length at e)
+
   pub tree-stepped : (x : Bool) (p′ : List ℕ) →
       p′ ≡ cond x (place prices (row-start b i + length (part b n i factors)) (row (node-count b (suc i))
       (next-price (row-transition (part b n i downs) (node-count b (suc i))) (length (part b n i factors)) (values (take (length (part b n i factors)) (drop (row-start b i) prices)))
@@ -163,24 +168,29 @@ module _ (b n i quote : ℕ) (factors downs discounts prices amounts : List ℕ)
 abbrev pub shaped : RowShape → List ℕ → List ℕ
 shaped s l = take (s .offset + s .count - s .offset) (drop (s .offset) l)
 
-module _ (b n i quote : ℕ) (factors downs discounts prices amounts : List ℕ) (r : TreeRow b n i quote factors downs discounts prices amounts)
+module _ (b n i quote : ℕ) (factors downs discounts prices sums : List ℕ) (r : TreeRow b n i quote factors downs discounts prices sums)
     (s : RowShape) (es : s ≡ shape-of b (n - 1) i) where
-  pub shaped-ready : RowReady (s .start) (s .next) quote (shaped s factors) (shaped s downs) discounts prices amounts
-  shaped-ready = rw es (row-ready b n i quote factors downs discounts prices amounts r)
+  pub shaped-ready : RowReady (s .start) (s .next) quote (shaped s factors) (shaped s downs) discounts prices sums
+  shaped-ready = rw es (row-ready b n i quote factors downs discounts prices sums r)
 
   pub shaped-tested : (x : Bool) →
       x ≡ each (length (shaped s factors)) (λ k. is-discount
       (discount (length (shaped s factors)) (values (take (length (shaped s factors)) (drop (s .start) prices))) (values (shaped s factors)) quote k)) →
       x ≡ each (node-count b i) (λ k. is-discount
       (discount (node-count b i) (values (take (node-count b i) (drop (row-start b i) prices))) (table-factor b n factors i) quote k))
-  shaped-tested x h = tree-tested b n i quote factors downs discounts prices amounts r x (rw es at h)
+  shaped-tested x h = tree-tested b n i quote factors downs discounts prices sums r x (rw es at h)
 
   pub shaped-filled : (d′ : List ℕ) →
       d′ ≡ place discounts (s .start) (row (length (shaped s factors))
       (discount (length (shaped s factors)) (values (take (length (shaped s factors)) (drop (s .start) prices))) (values (shaped s factors)) quote)) →
       d′ ≡ place discounts (row-start b i) (row (node-count b i)
       (discount (node-count b i) (values (take (node-count b i) (drop (row-start b i) prices))) (table-factor b n factors i) quote))
-  shaped-filled d′ h = tree-filled b n i quote factors downs discounts prices amounts r d′ (rw es at h)
+  shaped-filled d′ h = tree-filled b n i quote factors downs discounts prices sums r d′ (rw es at h)
+
+  pub shaped-kept : (d′ : List ℕ) →
+      drop (s .start + length (shaped s factors)) d′ ≡ drop (s .start + length (shaped s factors)) discounts →
+      drop (row-start b (suc i)) d′ ≡ drop (row-start b (suc i)) discounts
+  shaped-kept d′ h = tree-kept b n i quote factors downs discounts prices sums r d′ (rw es at h)
 
   pub shaped-stepped : (x : Bool) (p′ : List ℕ) →
       p′ ≡ cond x (place prices (s .start + length (shaped s factors)) (row (s .next)
@@ -189,4 +199,4 @@ module _ (b n i quote : ℕ) (factors downs discounts prices amounts : List ℕ)
       p′ ≡ cond x (place prices (row-start b (suc i)) (row (node-count b (suc i))
       (next-price (rate-tree b .step i) (node-count b i) (values (take (node-count b i) (drop (row-start b i) prices)))
       (discount (node-count b i) (values (take (node-count b i) (drop (row-start b i) prices))) (table-factor b n factors i) quote)))) prices
-  shaped-stepped x p′ h = tree-stepped b n i quote factors downs discounts prices amounts r x p′ (rw es at h)
+  shaped-stepped x p′ h = tree-stepped b n i quote factors downs discounts prices sums r x p′ (rw es at h)

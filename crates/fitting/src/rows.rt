@@ -30,13 +30,14 @@ fn fit_row(
     downs: &[u64],
     discounts: &mut [u64],
     prices: &mut [u64],
-    amounts: &mut [u64],
+    sums: &mut [u64],
 ) -> bool
-    requires { ⌜ RowReady at next quote (now factors) (now downs) (now discounts) (now prices) (now amounts) ⌝ }
+    requires { ⌜ RowReady at next quote (now factors) (now downs) (now discounts) (now prices) (now sums) ⌝ }
     ensures tested { λ r. ⌜ r ≡ each (length (now (factors .entry))) (λ k. is-discount
         (discount (length (now (factors .entry))) (values (take (length (now (factors .entry))) (drop at (now (prices .entry))))) (values (now (factors .entry))) quote k)) ⌝ }
-    ensures filled { λ _. ⌜ now (discounts .exit) ≡ place (now (discounts .entry)) at (row (length (now (factors .entry)))
-        (discount (length (now (factors .entry))) (values (take (length (now (factors .entry))) (drop at (now (prices .entry))))) (values (now (factors .entry))) quote)) ⌝ }
+    ensures filled { λ r. ⌜ (r ≡ true → now (discounts .exit) ≡ place (now (discounts .entry)) at (row (length (now (factors .entry)))
+        (discount (length (now (factors .entry))) (values (take (length (now (factors .entry))) (drop at (now (prices .entry))))) (values (now (factors .entry))) quote)))
+        × (drop (at + length (now (factors .entry))) (now (discounts .exit)) ≡ drop (at + length (now (factors .entry))) (now (discounts .entry))) ⌝ }
     ensures stepped { λ r. ⌜ now (prices .exit) ≡ cond r (place (now (prices .entry)) (at + length (now (factors .entry))) (row next
         (next-price (row-transition (now (downs .entry)) next) (length (now (factors .entry))) (values (take (length (now (factors .entry))) (drop at (now (prices .entry)))))
         (discount (length (now (factors .entry))) (values (take (length (now (factors .entry))) (drop at (now (prices .entry))))) (values (now (factors .entry))) quote))))
@@ -48,13 +49,14 @@ fn fit_row(
     if !step::step_row(
         &prices[at..end],
         factors,
+        downs,
         quote,
         &mut discounts[at..end],
-        &mut amounts[..count],
+        &mut sums[..next],
     ) {
         return false;
     }
-    step::next_row(&amounts[..count], downs, &mut prices[end..last]);
+    step::divide(&sums[..next], &mut prices[end..last]);
     true
 }
 
@@ -68,13 +70,14 @@ fn tree_row(
     downs: &[u64],
     discounts: &mut [u64],
     prices: &mut [u64],
-    amounts: &mut [u64],
+    sums: &mut [u64],
 ) -> bool
-    requires { ⌜ TreeRow reversion steps row quote (now factors) (now downs) (now discounts) (now prices) (now amounts) ⌝ }
+    requires { ⌜ TreeRow reversion steps row quote (now factors) (now downs) (now discounts) (now prices) (now sums) ⌝ }
     ensures tested { λ r. ⌜ r ≡ each (node-count reversion row) (λ k. is-discount
         (discount (node-count reversion row) (values (take (node-count reversion row) (drop (row-start reversion row) (now (prices .entry))))) (table-factor reversion steps (now (factors .entry)) row) quote k)) ⌝ }
-    ensures filled { λ _. ⌜ now (discounts .exit) ≡ place (now (discounts .entry)) (row-start reversion row) (Row.row (node-count reversion row)
-        (discount (node-count reversion row) (values (take (node-count reversion row) (drop (row-start reversion row) (now (prices .entry))))) (table-factor reversion steps (now (factors .entry)) row) quote)) ⌝ }
+    ensures filled { λ r. ⌜ (r ≡ true → now (discounts .exit) ≡ place (now (discounts .entry)) (row-start reversion row) (Row.row (node-count reversion row)
+        (discount (node-count reversion row) (values (take (node-count reversion row) (drop (row-start reversion row) (now (prices .entry))))) (table-factor reversion steps (now (factors .entry)) row) quote)))
+        × (drop (row-start reversion (suc row)) (now (discounts .exit)) ≡ drop (row-start reversion (suc row)) (now (discounts .entry))) ⌝ }
     ensures stepped { λ r. ⌜ now (prices .exit) ≡ cond r (place (now (prices .entry)) (row-start reversion (suc row)) (Row.row (node-count reversion (suc row))
         (next-price (rate-tree reversion .step row) (node-count reversion row) (values (take (node-count reversion row) (drop (row-start reversion row) (now (prices .entry)))))
         (discount (node-count reversion row) (values (take (node-count reversion row) (drop (row-start reversion row) (now (prices .entry))))) (table-factor reversion steps (now (factors .entry)) row) quote))))
@@ -92,7 +95,7 @@ fn tree_row(
         &downs[offset..end],
         discounts,
         prices,
-        amounts,
+        sums,
     )
 }
 
@@ -104,9 +107,9 @@ pub(crate) fn fit_rows(
     downs: &[u64],
     discounts: &mut [u64],
     prices: &mut [u64],
-    amounts: &mut [u64],
+    sums: &mut [u64],
 ) -> bool
-    requires { ⌜ Ready reversion (now quotes) (now factors) (now downs) (now discounts) (now prices) (now amounts) ⌝ }
+    requires { ⌜ Ready reversion (now quotes) (now factors) (now downs) (now discounts) (now prices) (now sums) ⌝ }
     ensures tested { λ r. ⌜ r ≡ table-accepted reversion (now (quotes .entry)) (now (factors .entry)) ⌝ }
     ensures fitted { λ r. ⌜ (r ≡ true →
         (now (discounts .exit) ≡ laid (rate-tree reversion) (table-discount reversion (now (quotes .entry)) (now (factors .entry))) (length (now (quotes .entry))) ++ drop (row-start reversion (length (now (quotes .entry)))) (now (discounts .entry)))
@@ -127,7 +130,7 @@ pub(crate) fn fit_rows(
             downs,
             discounts,
             prices,
-            amounts,
+            sums,
         ) {
             return false;
         }

@@ -9,6 +9,7 @@ use borrow.Author.Tests.{eq-eqb, ne-eqb}
 use Rattle.arithmetic.specs.Sum.{sum}
 use Rattle.arithmetic.proofs.SumLaws.{sum-suc, sum-next, sum-grow}
 use Rattle.arithmetic.proofs.Numbers.{by-equal, by-order}
+use Rattle.limits.specs.Limits.{most-steps, most-discounts, most-state-prices}
 use Rattle.lattice.specs.Shape.{highest-node, half-width, node-count, row-start, discounts-needed, state-prices-needed}
 
 pub highest-above : (b : ℕ) → 0 < b → 1840 < highest-node b * b
@@ -160,3 +161,12 @@ start-most b (suc i) = simp (mul-suc, suc-mul) (omega (arith, start-most b i, ha
 
 pub start-within : (b i : ℕ) → i ≤ 61 → row-start b i ≤ 3721
 start-within b i h = omega (arith, start-most b i, mul-le-mul h h)
+
+-- the memories of the widest tree
+pub discounts-most : (n b : ℕ) → n ≤ most-steps → discounts-needed n b ≤ most-discounts
+unfolding discounts-needed
+discounts-most n b h = omega (arith, start-most b n, mul-le-mul h h)
+
+pub state-prices-most : (n b : ℕ) → n ≤ most-steps → state-prices-needed n b ≤ most-state-prices
+unfolding state-prices-needed
+state-prices-most n b h = start-within b (suc n) (omega arith)

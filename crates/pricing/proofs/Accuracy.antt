@@ -46,7 +46,7 @@ given cause v e h = go (eqb cause 0) refl h
     go false q z = absurd (eqb-false cause 0 q z)
 
 -- neither cause was found
-first-none : (c later : ℕ) → first-cause c later ≡ 0 → (c ≡ 0) × (later ≡ 0)
+pub first-none : (c later : ℕ) → first-cause c later ≡ 0 → (c ≡ 0) × (later ≡ 0)
 unfolding first-cause
 first-none c later h = go (eqb c 0) refl h
   where

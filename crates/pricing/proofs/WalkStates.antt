@@ -227,9 +227,9 @@ module _ (n b : ℕ) (discounts flows : List ℕ) (a : Accepted n b discounts) (
             rw e at (peak-grows w (rows .last) 0 (r - 1) (omega (arith, before-last))),
           )
 
-      pub both-over : value-limit < found → Both-rolled n b discounts flows side strike rows 12 bond option
+      pub both-over : (x y : List ℕ) → value-limit < found → Both-rolled n b discounts flows side strike rows 12 x y
       unfolding option-limit
-      both-over o =
+      both-over x y o =
           record {
             cause =
                 limit-above _

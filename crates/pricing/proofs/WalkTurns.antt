@@ -30,9 +30,9 @@ module _ (n b : ℕ) (downs discounts flows : List ℕ) (ready : Ready n b downs
     found : top ≡ greatest (node-count b (r - 1)) (values after)
     found = h .found ∙ greatest-cong (node-count b (r - 1)) _ _ (λ k l. sym (h .held k l))
 
-    pub turn-over : (last : ℕ) → last < r → value-limit < top → Bond-rolled n b discounts flows last 12 after
-    turn-over last hl o =
-        walk.bond-refused n b discounts flows (ready .tree) (ready .paid) last r after hl (walk.bonds-inside n b discounts flows r row s)
+    pub turn-over : (last : ℕ) (l : List ℕ) → last < r → value-limit < top → Bond-rolled n b discounts flows last 12 l
+    turn-over last l hl o =
+        walk.bond-refused n b discounts flows (ready .tree) (ready .paid) last r l hl (walk.bonds-inside n b discounts flows r row s)
         (walk.bonds-over n b discounts flows (ready .tree) (ready .paid) r row some s after (h .held) top found o)
 
     pub turn-next : top ≤ value-limit → Bonds n b discounts flows (r - 1) after
@@ -50,9 +50,9 @@ module _ (n b : ℕ) (downs discounts flows : List ℕ) (ready : Ready n b downs
   module _ (listed : Bool) (el : listed ≡ rows .listed (r - 1)) (bond′ option′ : List ℕ) (top : ℕ)
       (h : Filled-rows bond′ option′ (node-count b (r - 1)) (bond-step b discounts flows (r - 1) bond)
       (option-step side strike listed b discounts flows (r - 1) bond option) top) where
-    pub turn-both-over : value-limit < top → Both-rolled n b discounts flows side strike rows 12 bond′ option′
-    turn-both-over o =
-        walk.both-over n b discounts flows (ready .tree) (ready .paid) side strike rows hl r bond option some sb so listed el bond′ option′ top h o
+    pub turn-both-over : (x y : List ℕ) → value-limit < top → Both-rolled n b discounts flows side strike rows 12 x y
+    turn-both-over x y o =
+        walk.both-over n b discounts flows (ready .tree) (ready .paid) side strike rows hl r bond option some sb so listed el bond′ option′ top h x y o
 
     pub turn-both-next : top ≤ value-limit → Bonds n b discounts flows (r - 1) bond′ × Options n b discounts flows side strike rows (r - 1) option′
     turn-both-next o =

@@ -40,18 +40,18 @@ fn bond_step(
     downs: &[u64],
     discounts: &[u64],
     flows: &[u64],
+    later: &[u64; 121],
     bond: &mut [u64; 121],
 ) -> u64
     requires { ⌜ Ready steps reversion (now downs) (now discounts) (now flows) × (row < steps)
-        × Limited (now bond) (node-count reversion (row + 1)) ⌝ }
+        × Limited (now later) (node-count reversion (row + 1)) ⌝ }
     ensures { λ r. ⌜ Filled-row (now (bond .exit)) (node-count reversion row)
-        (bond-step reversion (now (discounts .entry)) (now (flows .entry)) row (now (bond .entry))) r ⌝ }
+        (bond-step reversion (now (discounts .entry)) (now (flows .entry)) row (now (later .entry))) r ⌝ }
 {
     let shape = lattice::row_shape(reversion, steps, row);
-    let later = *bond;
     rows::bond_row(
         bond,
-        &later,
+        later,
         part(downs, shape.offset, shape.count),
         part(discounts, shape.start, shape.count),
         shape.next,
@@ -69,24 +69,24 @@ fn option_step(
     flows: &[u64],
     terms: Terms,
     listed: bool,
+    bonds: &[u64; 121],
+    options: &[u64; 121],
     bond: &mut [u64; 121],
     option: &mut [u64; 121],
 ) -> u64
     requires { ⌜ Ready steps reversion (now downs) (now discounts) (now flows) × (row < steps)
-        × Limited (now bond) (node-count reversion (row + 1)) × Limited (now option) (node-count reversion (row + 1)) ⌝ }
+        × Limited (now bonds) (node-count reversion (row + 1)) × Limited (now options) (node-count reversion (row + 1)) ⌝ }
     ensures { λ r. ⌜ Filled-rows (now (bond .exit)) (now (option .exit)) (node-count reversion row)
-        (bond-step reversion (now (discounts .entry)) (now (flows .entry)) row (now (bond .entry)))
+        (bond-step reversion (now (discounts .entry)) (now (flows .entry)) row (now (bonds .entry)))
         (option-step (side (terms .call)) (terms .strike) listed reversion
-        (now (discounts .entry)) (now (flows .entry)) row (now (bond .entry)) (now (option .entry))) r ⌝ }
+        (now (discounts .entry)) (now (flows .entry)) row (now (bonds .entry)) (now (options .entry))) r ⌝ }
 {
     let shape = lattice::row_shape(reversion, steps, row);
-    let bonds = *bond;
-    let options = *option;
     rows::option_row(
         bond,
         option,
-        &bonds,
-        &options,
+        bonds,
+        options,
         part(downs, shape.offset, shape.count),
         part(discounts, shape.start, shape.count),
         shape.next,
@@ -96,7 +96,7 @@ fn option_step(
     )
 }
 
-// The bond from row n back to row `last`. 12 where a value on the way is above 8 × one.
+// The bond from row n back to row `last`, two rows a turn, so that no row is copied on the way. 12 where a value is above 8 × one.
 pub(crate) fn roll_bond(
     steps: usize,
     reversion: u64,
@@ -110,18 +110,37 @@ pub(crate) fn roll_bond(
     ensures { λ r. ⌜ Bond-rolled steps reversion (now (discounts .entry)) (now (flows .entry)) last r (now (bond .exit)) ⌝ }
 {
     rows::fill_row(flow_of(flows, steps), bond);
+    let mut other = rows::empty_row();
     let mut row = steps;
     while last < row {
         row -= 1;
-        let top = bond_step(steps, reversion, row, downs, discounts, flows, bond);
-        if limits::VALUE_LIMIT < top {
+        let first = bond_step(
+            steps,
+            reversion,
+            row,
+            downs,
+            discounts,
+            flows,
+            bond,
+            &mut other,
+        );
+        if limits::VALUE_LIMIT < first {
+            return 12;
+        }
+        if row == last {
+            *bond = other;
+            return 0;
+        }
+        row -= 1;
+        let second = bond_step(steps, reversion, row, downs, discounts, flows, &other, bond);
+        if limits::VALUE_LIMIT < second {
             return 12;
         }
     }
     0
 }
 
-// The option from its last row back to row 0, and the bond with it. 12 where a value on the way is above 8 × one.
+// The option from its last row back to row 0, and the bond with it, two rows a turn. 12 where a value on the way is above 8 × one.
 fn roll_option(
     steps: usize,
     reversion: u64,
@@ -140,11 +159,12 @@ fn roll_option(
         (marked last (now (marks .entry))) r (now (bond .exit)) (now (option .exit)) ⌝ }
 {
     rows::exercise_row(terms, bond, option);
+    let mut bonds = rows::empty_row();
+    let mut options = rows::empty_row();
     let mut row = last;
     while 0 < row {
         row -= 1;
-        let listed = marks[row] == 1;
-        let top = option_step(
+        let first = option_step(
             steps,
             reversion,
             row,
@@ -152,11 +172,36 @@ fn roll_option(
             discounts,
             flows,
             terms,
-            listed,
+            marks[row] == 1,
+            bond,
+            option,
+            &mut bonds,
+            &mut options,
+        );
+        if limits::VALUE_LIMIT < first {
+            return 12;
+        }
+        if row == 0 {
+            *bond = bonds;
+            *option = options;
+            return 0;
+        }
+        row -= 1;
+        let second = option_step(
+            steps,
+            reversion,
+            row,
+            downs,
+            discounts,
+            flows,
+            terms,
+            marks[row] == 1,
+            &bonds,
+            &options,
             bond,
             option,
         );
-        if limits::VALUE_LIMIT < top {
+        if limits::VALUE_LIMIT < second {
             return 12;
         }
     }

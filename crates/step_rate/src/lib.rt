@@ -26,13 +26,7 @@ fn ratio(gap: u64, discount: u64) -> u64
 pub fn of_discount(discount: u64) -> Rate
     ensures { λ r. ⌜ r ≡ rateAnswer discount ⌝ }
 {
-    if discount == 0 {
-        return Rate {
-            number: 9,
-            value: 0,
-        };
-    }
-    if discount > limits::MOST_DISCOUNT {
+    if !limits::is_discount(discount) {
         return Rate {
             number: 9,
             value: 0,

@@ -12,6 +12,7 @@ use borrow.Author.Tests.{ltb-true, ltb-false}
 use mir.Syntax.{w64}
 use mir.Val.{SFits, toZ, ofZ}
 use mir.Facts.{toZ-ofZ}
+use Rattle.arithmetic.proofs.Signed.{size-most}
 use Rattle.text_laws.specs.Decimal.{signOf, signedDecimal}
 use Rattle.text_laws.proofs.DecimalLaws.{signed-room}
 
@@ -25,19 +26,6 @@ sign-negative (negsuc a) h = refl
 pub sign-none : (z : ℤ) → ltZ z (pos 0) ≡ false → signOf z ≡ []
 sign-none (pos n) h = refl
 sign-none (negsuc a) h = cc
-
--- what an `i64` holds is at most 2^63 in size, which only its lowest number is
-pub size-most : (z : ℤ) → SFits w64 z → natAbs z ≤ 2 ^ 63
-size-most (pos n) f = omega (arith, f .sfits)
-size-most (negsuc n) f = omega (arith, f .sfits)
-
-pub size-lowest : (z : ℤ) → SFits w64 z → ltZ z (negsuc 9223372036854775806) ≡ true → 9223372036854775808 ≡ natAbs z
-size-lowest (pos n) f h = cc
-size-lowest (negsuc n) f h = omega (arith, f .sfits, ltb-true 9223372036854775806 n h)
-
-pub size-other : (z : ℤ) → SFits w64 z → ltZ z (negsuc 9223372036854775806) ≡ false → natAbs z < 2 ^ 63
-size-other (pos n) f h = f .sfits
-size-other (negsuc n) f h = omega (arith, ltb-false 9223372036854775806 n h)
 
 -- the field of a number that is read back from its bits
 pub held-room : (k follower : ℕ) (z : ℤ) → SFits w64 z → length (signedDecimal k (toZ w64 (ofZ w64 z)) ++ (follower ∷ [])) ≤ 23 + k

@@ -68,7 +68,8 @@ returns-5 : tie.Need-returns-5
 returns-5 c =
     let m = c .before .before .before .before in
     (rw (toZ-ofZ (start m .fits .node)) at (c .lower-branch .ensures))
-    ∙ sym (laws.answer-found _ _ _ (m .before .before .if1 .left) (m .before .if2 .left) _ (size m) (c .before .before .before .if3 .left) (c .before .before .if4 .left))
+    ∙ sym (laws.answer-found _ _ _ (m .before .before .if1 .left) (m .before .if2 .left) _ (size m)
+    (c .before .before .before .if3 .left) (c .before .before .if4 .left))
 
 upper-branch-requires : tie.Need-upper-branch-requires
 upper-branch-requires c κs =
@@ -81,7 +82,8 @@ returns-6 : tie.Need-returns-6
 returns-6 c =
     let m = c .before .before .before .before in
     (rw (toZ-ofZ (start m .fits .node)) at (c .upper-branch .ensures))
-    ∙ sym (laws.answer-found _ _ _ (m .before .before .if1 .left) (m .before .if2 .left) _ (size m) (c .before .before .before .if3 .left) (c .before .before .if4 .left))
+    ∙ sym (laws.answer-found _ _ _ (m .before .before .if1 .left) (m .before .if2 .left) _ (size m)
+    (c .before .before .before .if3 .left) (c .before .before .if4 .left))
 
 pub branch-spec : {M : Type 1} → statement M
 branch-spec =

@@ -30,7 +30,8 @@ returns : tie.Need-returns
 returns c =
     let l = c .before .before in
     let s = start l in
-    laws.refused-number _ _ _ _ (s .args .payoffs .now) _ _ (l .before .before .before .before .state-price-error-bound .ensures) (l .before .before .before .node-count .ensures)
+    laws.refused-number _ _ _ _ (s .args .payoffs .now)
+    _ _ (l .before .before .before .before .state-price-error-bound .ensures) (l .before .before .before .node-count .ensures)
     _ (l .before .before .greatest-of .ensures) _ (l .before .payoffs-cause .ensures) _ (l .lowest-cause .ensures)
     (c .before .if1 .taken) _ (c .refused .ensures)
 
@@ -38,7 +39,8 @@ bound-of-value-requires : tie.Need-bound-of-value-requires
 bound-of-value-requires c κs =
     let l = c .before in
     let s = start l in
-    laws.none-sizes _ _ _ _ (s .args .payoffs .now) _ _ (l .before .before .before .before .state-price-error-bound .ensures) (l .before .before .before .node-count .ensures)
+    laws.none-sizes _ _ _ _ (s .args .payoffs .now)
+    _ _ (l .before .before .before .before .state-price-error-bound .ensures) (l .before .before .before .node-count .ensures)
     _ (l .before .before .greatest-of .ensures) _ (l .before .payoffs-cause .ensures) _ (l .lowest-cause .ensures)
     (c .if1 .left)
 
@@ -46,7 +48,8 @@ returns-2 : tie.Need-returns-2
 returns-2 c =
     let l = c .before .before in
     let s = start l in
-    laws.bound-found _ _ _ _ (s .args .payoffs .now) _ _ (l .before .before .before .before .state-price-error-bound .ensures) (l .before .before .before .node-count .ensures)
+    laws.bound-found _ _ _ _ (s .args .payoffs .now)
+    _ _ (l .before .before .before .before .state-price-error-bound .ensures) (l .before .before .before .node-count .ensures)
     _ (l .before .before .greatest-of .ensures) _ (l .before .payoffs-cause .ensures) _ (l .lowest-cause .ensures)
     (c .before .if1 .left) _ (c .bound-of-value .ensures)
 

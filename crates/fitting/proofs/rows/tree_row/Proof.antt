@@ -63,7 +63,7 @@ fit-row-requires c κs =
     let shaped = c .before .before .before .before .before .before in
     let s = start shaped in
     laws.shaped-ready (s .args .reversion) (s .args .steps) (s .args .row) (s .args .quote)
-    (s .args .factors .now) (s .args .downs .now) (s .args .discounts .now) (s .args .prices .now) (s .args .amounts .now) (s .pre)
+    (s .args .factors .now) (s .args .downs .now) (s .args .discounts .now) (s .args .prices .now) (s .args .sums .now) (s .pre)
     (shaped .row-shape .result) (known shaped)
 
 same-length : tie.Need-same-length
@@ -81,14 +81,19 @@ returns c =
     let shaped = fitted .before .before .before .before .before .before .before in
     let s = start shaped in (
       laws.shaped-tested (s .args .reversion) (s .args .steps) (s .args .row) (s .args .quote)
-          (s .args .factors .now) (s .args .downs .now) (s .args .discounts .now) (s .args .prices .now) (s .args .amounts .now) (s .pre)
+          (s .args .factors .now) (s .args .downs .now) (s .args .discounts .now) (s .args .prices .now) (s .args .sums .now) (s .pre)
           (shaped .row-shape .result) (known shaped) _ (fitted .fit-row .ensures .0),
       (
-        laws.shaped-filled (s .args .reversion) (s .args .steps) (s .args .row) (s .args .quote)
-            (s .args .factors .now) (s .args .downs .now) (s .args .discounts .now) (s .args .prices .now) (s .args .amounts .now) (s .pre)
-            (shaped .row-shape .result) (known shaped) _ (fitted .fit-row .ensures .1 .0),
+        (
+          λ t. laws.shaped-filled (s .args .reversion) (s .args .steps) (s .args .row) (s .args .quote)
+              (s .args .factors .now) (s .args .downs .now) (s .args .discounts .now) (s .args .prices .now) (s .args .sums .now) (s .pre)
+              (shaped .row-shape .result) (known shaped) _ (fitted .fit-row .ensures .1 .0 .0 t),
+          laws.shaped-kept (s .args .reversion) (s .args .steps) (s .args .row) (s .args .quote)
+              (s .args .factors .now) (s .args .downs .now) (s .args .discounts .now) (s .args .prices .now) (s .args .sums .now) (s .pre)
+              (shaped .row-shape .result) (known shaped) _ (fitted .fit-row .ensures .1 .0 .1),
+        ),
         laws.shaped-stepped (s .args .reversion) (s .args .steps) (s .args .row) (s .args .quote)
-            (s .args .factors .now) (s .args .downs .now) (s .args .discounts .now) (s .args .prices .now) (s .args .amounts .now) (s .pre)
+            (s .args .factors .now) (s .args .downs .now) (s .args .discounts .now) (s .args .prices .now) (s .args .sums .now) (s .pre)
             (shaped .row-shape .result) (known shaped) (fitted .fit-row .result) _ (fitted .fit-row .ensures .1 .1),
       ),
     )
