@@ -27,7 +27,7 @@ use Rattle.job_prices.proofs.Accepted.{record-accepted}
 use Rattle.sheet_laws.specs.TreeSheet.{row-part, total}
 use Rattle.sheet_laws.specs.Stored.{Stored, Summed, Fitted}
 
-total-row : (b : ℕ) (f : ℕ → ℕ → ℕ) (n i : ℕ) → i < n → total (row-part b (laid (rate-tree b) f n) i) ≡ sum (node-count b i) (f i)
+pub total-row : (b : ℕ) (f : ℕ → ℕ → ℕ) (n i : ℕ) → i < n → total (row-part b (laid (rate-tree b) f n) i) ≡ sum (node-count b i) (f i)
 unfolding total row-part
 total-row b f n i h =
     let part = rw (append-nil (laid (rate-tree b) f n)) at (laid-part b f n i h []) in
