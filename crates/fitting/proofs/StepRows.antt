@@ -16,6 +16,7 @@ use Rattle.tree.specs.Tree.{Transition, Inside, Total, chance, incoming, whole}
 use Rattle.tree.proofs.StepLaws.{incoming-next, incoming-none, incoming-total, chance-times}
 use Rattle.row_branches.specs.declared.RowBranch.{RowBranch}
 use Rattle.row_branches.specs.RowBranches.{branch-up, branch-middle, branch-down, branch-total, row-branch, row-transition}
+use Rattle.row_branches.proofs.BranchLaws.{backwards}
 use Rattle.limits.specs.Limits.{is-discount}
 use Rattle.limits.proofs.LimitLaws.{discount-most}
 use Rattle.fit_laws.specs.Step.{carried}
@@ -111,9 +112,6 @@ unfolding row-transition
 spread-once downs k x l l′ b e e′ =
     e′ ∙ rw e (row-cong (length l) _ _ (λ j _. ap (λ (y : ℕ). values l j + y)
     (backwards _ _ _ ∙ chance-times (row-transition downs (length l)) k j x)))
-  where
-    backwards : (up middle down : ℕ) → up + middle + down ≡ down + middle + up
-    backwards up middle down = omega arith
 
 -- A row's nodes, one after the other: discounts v so far accepted, state prices q of at most 2,000,000,300 in sum.
 module _ (t : Transition) (n m : ℕ) (q v : ℕ → ℕ) (inside : Inside t n m) (total : Total t n) (hs : sum n q ≤ 2000000300)

@@ -21,6 +21,7 @@ use Rattle.lattice.proofs.RateTreeLaws.{low-within, index-laws}
 use Rattle.lent_tree.specs.LentTree.{stored, Accepted}
 use Rattle.row_branches.specs.declared.RowBranch.{RowBranch}
 use Rattle.row_branches.specs.RowBranches.{row-branch}
+use Rattle.row_branches.proofs.BranchLaws.{backwards}
 use Rattle.row_branches.proofs.TableParts as tables
 use Rattle.pricing_laws.specs.Pricer.{Side, exercise, held-or-exercised}
 use Rattle.pricing_laws.specs.TreePricer.{roll-rounding, node-roll, roll}
@@ -87,9 +88,6 @@ module _ (n b i : ℕ) (hi : i < n) (discounts : List ℕ) (a : Accepted n b dis
   rolled-is later k h =
       rw (branch-is k h, discount-part-at k h)
       (ap (λ (x : ℕ). roll-rounding (roll-rounding x whole * stored b discounts i k) one) (backwards _ _ _))
-    where
-      backwards : (x y z : ℕ) → x + y + z ≡ z + y + x
-      backwards x y z = omega arith
 
   -- a row of the bond, and of the option beside it, as the code gives them
   module _ (flows : List ℕ) (flow : ℕ) (ef : flow ≡ flow-at flows i) where

@@ -19,6 +19,10 @@ use Rattle.lattice.proofs.RateTreeLaws.{low-growing, low-lowest, low-highest, l
 use Rattle.row_branches.specs.declared.RowBranch.{RowBranch}
 use Rattle.row_branches.specs.RowBranches.{lowest, opposite, noBranch, row-branch, branch-up, branch-middle, branch-down, row-transition}
 
+-- a branch sums up, middle, down; a transition sums from the lowest node on
+pub backwards : (up middle down : ℕ) → up + middle + down ≡ down + middle + up
+backwards up middle down = omega arith
+
 module _ (count next k : ℕ) where
   pub lowest-grown : count < next → k ≡ lowest count next k
   unfolding lowest
