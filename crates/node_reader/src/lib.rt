@@ -8,20 +8,24 @@ pub struct NodeReader<'a> {
     pub next: usize,
 }
 
-pub enum Node {
-    // The node's discount.
-    Discount(u64),
-    // No node is left.
-    End,
+// Number 0 and the node's discount, or 6 with a zero where there is no node.
+pub struct Node {
+    pub number: u64,
+    pub discount: u64,
 }
 
 fn node_at(discounts: &[u64], next: usize) -> Node
     ensures { λ r. ⌜ r ≡ nodeAt (now (discounts .entry)) next ⌝ }
 {
-    if next < discounts.len() {
-        Node::Discount(discounts[next])
-    } else {
-        Node::End
+    if discounts.len() <= next {
+        return Node {
+            number: 6,
+            discount: 0,
+        };
+    }
+    Node {
+        number: 0,
+        discount: discounts[next],
     }
 }
 

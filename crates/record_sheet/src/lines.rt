@@ -55,7 +55,8 @@ fn put_nodes<'a>(
         reversion,
         row,
     );
-    node_lines::node_lines(out, end, row as u64, part)
+    let lines = node_lines::node_lines(out, end, row as u64, part);
+    lines.start
 }
 
 // The node lines of all rows. The last row's come first, so that the lines stand in order.
@@ -106,7 +107,8 @@ fn put_row<'a>(
     );
     let sum = row_total(part);
     let bound = state_price_bound::state_price_error_bound(steps, reversion, discounts, row);
-    text::row_line(out, end, row as u64, quotes[before], sum, bound.value)
+    let line = text::row_line(out, end, row as u64, quotes[before], sum, bound.value);
+    line.start
 }
 
 // The lines of rows 1 to n, the last first.
@@ -149,7 +151,8 @@ fn put_prices(out: &mut [u8], end: usize, bond: Price, present: bool, option: Pr
     ensures { λ r. ⌜ Put (now (out .entry)) end (priceLines bond present option) r (now (out .exit)) ⌝ }
 {
     let below = put_option(out, end, present, option);
-    text::bond_line(out, below, bond.value, bond.bound)
+    let line = text::bond_line(out, below, bond.value, bond.bound);
+    line.start
 }
 
 fn put_option(out: &mut [u8], end: usize, present: bool, option: Price) -> usize
@@ -157,7 +160,8 @@ fn put_option(out: &mut [u8], end: usize, present: bool, option: Price) -> usize
     ensures { λ r. ⌜ Put (now (out .entry)) end (optionLines present option) r (now (out .exit)) ⌝ }
 {
     if present {
-        return text::option_line(out, end, option.value, option.bound);
+        let line = text::option_line(out, end, option.value, option.bound);
+        return line.start;
     }
     end
 }

@@ -8,7 +8,7 @@ use denote.Ref.{RefT}
 use native.Mathlib.Omega.{arith}
 use native.Mathlib.Numerals.{add-one}
 use borrow.Author.Tests.{le-leb}
-use lib.ListN.{length, getD, length-append}
+use lib.ListN.{length, getD, take, drop, length-append}
 use Rattle.arithmetic.specs.Sum.{sum}
 use Rattle.arithmetic.specs.Row.{values}
 use Rattle.arithmetic.proofs.PartLaws.{part-length, part-value}
@@ -19,12 +19,13 @@ use Rattle.lattice.proofs.Sizes.{row-ends, start-most, start-suc, count-within}
 use Rattle.row_view.specs.declared.RowKind.{RowKind}
 use Rattle.row_view.specs.RowView.{is-tree, holds-tree, stores-row, memory-of, is-shown, view-start, view-count, PartOf}
 use Rattle.row_view.proofs.ViewLaws.{is-stored}
+use Rattle.text_laws.specs.declared.Placed.{Placed}
 use Rattle.text_laws.specs.Put.{Put}
-use Rattle.node_lines.specs.Rows.{nodeText, rowText, hasRoomFor, rowStart, withRow}
-use Rattle.node_lines.proofs.RowLaws.{lines-room, text-room}
-use Rattle.text_laws.specs.Lines.{rowLine, priceLine, lineStart, withLine, bondWord, optionWord}
+use Rattle.node_lines.specs.Rows.{nodeText, rowText, acceptedDiscounts, rowNumber}
+use Rattle.node_lines.proofs.RowLaws.{lines-room, text-room, part-accepted, row-is, row-number-none}
+use Rattle.text_laws.specs.Lines.{rowLine, priceLine, lineNumber, bondWord, optionWord}
 use Rattle.text_laws.proofs.LineLaws.{row-room, price-room, line-stands, line-before}
-use Rattle.text_laws.proofs.PutLaws.{put-none, put-before, put-whole}
+use Rattle.text_laws.proofs.PutLaws.{put-none, put-before, Answered, answered-put}
 use Rattle.pricing.specs.declared.Price.{Price}
 use Rattle.arithmetic.specs.declared.Answer.{Answer}
 use Rattle.state_price_bound.specs.ErrorBound.{statePriceErrorBound}
@@ -86,18 +87,17 @@ module _ (discounts prices : RefT (List ℕ)) (kind : RowKind) (n b i : ℕ) (pa
 
 -- ---- the lines of a row, put by a call
 
-module _ (out : List ℕ) (end row : ℕ) (discounts : List ℕ) (start : ℕ) (after : List ℕ) where
-  room-there : 128 * length discounts ≤ end → end ≤ length out → hasRoomFor (length discounts) (length out) end ≡ true
-  unfolding hasRoomFor
-  room-there h p = rw (le-leb (128 * length discounts) end h, le-leb end (length out) p)
-
-  pub row-stands : 128 * length discounts ≤ end → end ≤ length out → length (rowText row discounts) ≤ 128 * length discounts →
-      start ≡ rowStart out end row discounts → after ≡ withRow out end row discounts → Put out end (rowText row discounts) start after
-  unfolding rowStart withRow
-  row-stands h p l s a =
-      let r = room-there h p in
-      let e : start ≡ end - length (rowText row discounts) = rw r at s in
-      put-whole out after (rowText row discounts) end start (omega arith) p (rw r at a)
+pub row-stands : (out : List ℕ) (end b i : ℕ) (memory : List ℕ) {answer : Placed} {after : List ℕ} → i < 60 → acceptedDiscounts memory ≡ true →
+    row-start b i + node-count b i ≤ length memory → 128 * node-count b i ≤ end → end ≤ length out →
+    length (nodesOfRow b memory i) ≤ 128 * node-count b i →
+    Answered (rowNumber (length out) end i (row-part b memory i)) out end (nodesOfRow b memory i) answer after →
+    Put out end (nodesOfRow b memory i) (answer .start) after
+unfolding row-part
+row-stands out end b i memory few accepted within h p l a =
+    let size = part-length memory (row-start b i) (node-count b i) within in
+    let z = row-number-none (length out) end i (take (node-count b i) (drop (row-start b i) memory)) (rw size (row-is b i few)) (omega (arith, size)) p
+    (part-accepted memory (row-start b i) (node-count b i) accepted within) in
+    answered-put _ out end _ a z (omega arith) p
 
 pub row-length : (row : ℕ) (discounts : List ℕ) → row < 2 ^ 64 → length discounts < 2 ^ 63 → ((k : ℕ) → k < length discounts → getD discounts k 0 < 2 ^ 64) →
     length (rowText row discounts) ≤ 128 * length discounts
@@ -146,18 +146,19 @@ module _ (n b : ℕ) (quotes discounts prices : List ℕ) (few : n ≤ 60) (smal
   rows-fit i l = omega (arith, line-length i l)
 
 -- the line that the code puts is the row's
-pub row-line-stands : (n b : ℕ) (quotes discounts prices : List ℕ) (i end added start : ℕ) (out after : List ℕ) (bound : Answer) →
+pub row-line-stands : (n b : ℕ) (quotes discounts prices : List ℕ) (i end added : ℕ) (out after : List ℕ) (bound : Answer) {answer : Placed} →
     added ≡ total (row-part b prices (suc i)) → bound ≡ statePriceErrorBound n b discounts (suc i) → i < 60 → getD quotes i 0 < 2 ^ 64 → added < 2 ^ 64 →
-    128 ≤ end → end ≤ length out → start ≡ lineStart out end (rowLine (i + 1) (values quotes i) added (bound .value)) →
-    after ≡ withLine out end (rowLine (i + 1) (values quotes i) added (bound .value)) → Put out end (lineOfRow n b quotes discounts prices i) start after
+    128 ≤ end → end ≤ length out →
+    Answered (lineNumber (length out) end) out end (rowLine (i + 1) (values quotes i) added (bound .value)) answer after →
+    Put out end (lineOfRow n b quotes discounts prices i) (answer .start) after
 unfolding lineOfRow
-row-line-stands n b quotes discounts prices i end added start out after bound es eb few q s h p e₁ e₂ =
+row-line-stands n b quotes discounts prices i end added out after bound {answer} es eb few q s h p a =
     let sum = total (row-part b prices (suc i)) in
     let allowed = statePriceErrorBound n b discounts (suc i) .value in
     let same : rowLine (i + 1) (values quotes i) added (bound .value) ≡ rowLine (suc i) (values quotes i) sum allowed = rw (← es, ← eb, add-one i) in
-    line-stands out end _ start after h p
+    line-stands out end _ h p
     (row-room (suc i) (values quotes i) sum allowed (omega arith) q (omega arith) (omega (arith, bound-most n b discounts (suc i))))
-    (e₁ ∙ ap (λ (x : List ℕ). lineStart out end x) same) (e₂ ∙ ap (λ (x : List ℕ). withLine out end x) same)
+    (subst (λ (x : List ℕ). Answered (lineNumber (length out) end) out end x answer after) same a)
 
 -- ---- the lines of the prices
 
@@ -169,12 +170,12 @@ option-length : (present : Bool) (option : Price) → Fits option → length (op
 option-length true option f = price-room optionWord (option .value) (option .bound) (omega arith) (f .0) (f .1)
 option-length false option f = omega arith
 
-pub option-stands : (out after : List ℕ) (end start : ℕ) (present : Bool) (option : Price) → present ≡ true → Fits option → 128 ≤ end → end ≤ length out →
-    start ≡ lineStart out end (optionLines true option) → after ≡ withLine out end (optionLines true option) →
-    Put out end (optionLines present option) start after
-option-stands out after end start present option e f h p s a =
-    subst (λ (t : Bool). Put out end (optionLines t option) start after) (sym e)
-    (line-stands out end _ start after h p (option-length true option f) s a)
+pub option-stands : (out after : List ℕ) (end : ℕ) (present : Bool) (option : Price) {answer : Placed} → present ≡ true → Fits option → 128 ≤ end →
+    end ≤ length out → Answered (lineNumber (length out) end) out end (optionLines true option) answer after →
+    Put out end (optionLines present option) (answer .start) after
+option-stands out after end present option {answer} e f h p a =
+    subst (λ (t : Bool). Put out end (optionLines t option) (answer .start) after) (sym e)
+    (line-stands out end _ h p (option-length true option f) a)
 
 pub option-none : (out : List ℕ) (end : ℕ) (present : Bool) (option : Price) → present ≡ false → end ≤ length out →
     Put out end (optionLines present option) end out
@@ -184,13 +185,13 @@ pub option-room : {out after : List ℕ} {end mid : ℕ} (present : Bool) (optio
     Put out end (optionLines present option) mid after → (128 ≤ mid) × (mid ≤ length after)
 option-room present option f h p = (omega (arith, option-length present option f, p .place), omega (arith, p .place, p .within, p .same))
 
-pub prices-stand : {out₀ out : List ℕ} {end mid : ℕ} (after : List ℕ) (start : ℕ) (bond : Price) (present : Bool) (option : Price) →
-    Fits bond → Fits option → 256 ≤ end →
-    Put out₀ end (optionLines present option) mid out → start ≡ lineStart out mid (priceLine bondWord (bond .value) (bond .bound)) →
-    after ≡ withLine out mid (priceLine bondWord (bond .value) (bond .bound)) → Put out₀ end (priceLines bond present option) start after
+pub prices-stand : {out₀ out : List ℕ} {end mid : ℕ} (after : List ℕ) (bond : Price) (present : Bool) (option : Price) {answer : Placed} →
+    Fits bond → Fits option → 256 ≤ end → Put out₀ end (optionLines present option) mid out →
+    Answered (lineNumber (length out) mid) out mid (priceLine bondWord (bond .value) (bond .bound)) answer after →
+    Put out₀ end (priceLines bond present option) (answer .start) after
 unfolding priceLines
-prices-stand after start bond present option fb fo h p s a =
-    line-before _ start after p (option-room present option fo h p .0) (price-room bondWord (bond .value) (bond .bound) (omega arith) (fb .0) (fb .1)) s a
+prices-stand after bond present option fb fo h p a =
+    line-before _ p (option-room present option fo h p .0) (price-room bondWord (bond .value) (bond .bound) (omega arith) (fb .0) (fb .1)) a
 
 pub prices-length : (bond : Price) (present : Bool) (option : Price) → Fits bond → Fits option → length (priceLines bond present option) ≤ 256
 unfolding priceLines

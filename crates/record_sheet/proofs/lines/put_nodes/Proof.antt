@@ -1,12 +1,13 @@
 -- `record_sheet::lines::put_nodes` meets its contract.
 -- Assumes nothing.
 use mathlib.Core.Path.{_≡_, subst}
-use Prim.Native.Nat.{ℕ, _-_}
+use Prim.Native.Nat.{ℕ}
+use lib.ListN.{length}
 use mathlib.Core.List.{List}
 use borrow.Author.Tests.{lt-ltb}
 use Rattle.row_view.specs.declared.RowKind.the-variants.{Discounts}
-use Rattle.node_lines.specs.Rows.{rowStart, withRow}
-use Rattle.sheet_laws.specs.TreeSheet.{row-part}
+use Rattle.text_laws.proofs.PutLaws.{Answered}
+use Rattle.node_lines.specs.Rows.{rowText, rowNumber}
 use Rattle.sheet_laws.proofs.PartLaws as laws
 use borrow.Author.Needs.{needs}
 use native.Mathlib.Omega.{arith}
@@ -33,14 +34,13 @@ returns c =
     let stored = pre .1 in
     let e = laws.shown (a .discounts) (a .state-prices) Discounts (a .steps) (a .reversion) (a .row) (row-view .result) stored
     (lt-ltb (a .row) (a .steps) (pre .0)) (row-view .ensures) in
-    let size = laws.part-size (a .reversion) (a .row) (a .discounts .now)
-    (laws.discounts-end (a .steps) (a .reversion) (a .discounts .now) (a .state-prices .now) stored (a .row) (pre .0)) in
+    let within = laws.discounts-end (a .steps) (a .reversion) (a .discounts .now) (a .state-prices .now) stored (a .row) (pre .0) in
     let long = laws.nodes-length (a .steps) (a .reversion) (a .discounts .now) (a .state-prices .now) stored (λ j. shared-slice-known .given j .fits)
     (a .row) (pre .0) in
-    let part = row-part (a .reversion) (a .discounts .now) (a .row) in
-    laws.row-stands (a .out .now) (a .end) (a .row) part _ _ (omega (arith, size, pre .2)) (pre .3) (omega (arith, size, long))
-    (subst (λ (d : List ℕ). node-lines .result ≡ rowStart (a .out .now) (a .end) (a .row) d) e (node-lines .ensures .0))
-    (subst (λ (d : List ℕ). node-lines .last .0 ≡ withRow (a .out .now) (a .end) (a .row) d) e (node-lines .ensures .1))
+    let out = a .out .now in
+    laws.row-stands out (a .end) (a .reversion) (a .row) (a .discounts .now) (omega (arith, pre .0, stored .few)) (stored .discounted) within (pre .2) (pre .3)
+    long (subst (λ (d : List ℕ). Answered (rowNumber (length out) (a .end) (a .row) d) out (a .end) (rowText (a .row) d) (node-lines .result)
+    (node-lines .last .0)) e (node-lines .ensures))
 
 pub put-nodes-spec : {M : Type 1} → statement M
 put-nodes-spec = tie.close (tie.spec row-view-requires node-lines-requires same-length returns)
