@@ -30,7 +30,7 @@ use Rattle.job_record.specs.Reader.{readingOf}
 use Rattle.job_fit.specs.RecordFit.{jobRows, jobKinds, jobFigures, jobQuotes, jobDiscounts, jobStatePrices}
 use Rattle.job_prices.specs.JobPrices.{hasOption, jobOption}
 use Rattle.text_laws.specs.Decimal.{signOf}
-use Rattle.text_laws.specs.Lines.{nodeLine}
+use Rattle.text_laws.specs.Lines.{nodeLine, lineOfNode}
 use Rattle.text_laws.proofs.Signs.{sign-negative, sign-none}
 use Rattle.node_lines.specs.Rows.{nodeText}
 use Rattle.sheet_laws.specs.TreeSheet.{row-part, total, treeSheet}
@@ -70,7 +70,7 @@ module _ (n b : ℕ) (discounts : List ℕ) (a : Accepted n b discounts) (i k : 
   discount-shown = part-value discounts (row-start b i) (node-count b i) k hk
 
   node-shown : rateAnswer (stored b discounts i k) .number ≡ 0 → Node-shown b discounts i k
-  unfolding nodeText
+  unfolding nodeText lineOfNode
   node-shown z =
       record {
         line = ap₂ (λ (j : ℤ) (v : ℕ). nodeLine i j v (rateAnswer v .value)) place-shown discount-shown;
