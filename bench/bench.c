@@ -26,9 +26,10 @@ struct work {
 struct result {
     uint64_t number, discounts[MOST_DISCOUNTS], prices[MOST_PRICES];
     struct plain_price bond, option;
+    struct plain_prices both;
 };
 
-enum part { FIT = 1, BOND = 2, OPTION = 4, WHOLE_JOB = 7 };
+enum part { FIT = 1, BOND = 2, OPTION = 4, BOTH = 8, WHOLE_JOB = FIT | BOTH, ALL = 15 };
 
 static struct plain_price of_library(struct mixegorta_price p)
 {
@@ -45,6 +46,12 @@ static void by_library(const struct work *w, struct result *r, int parts)
         r->bond = of_library(mixegorta_bond_price(w->n, w->b, r->discounts, MOST_DISCOUNTS, w->flows, w->n));
     if (parts & OPTION)
         r->option = of_library(mixegorta_option_price(w->n, w->b, r->discounts, MOST_DISCOUNTS, w->flows, w->n, w->kind, w->expiry, w->strike));
+    if (parts & BOTH) {
+        const struct mixegorta_bond_and_option both =
+            mixegorta_bond_and_option(w->n, w->b, r->discounts, MOST_DISCOUNTS, w->flows, w->n, w->kind, w->expiry, w->strike);
+        r->both.bond = of_library(both.bond);
+        r->both.option = of_library(both.option);
+    }
 }
 
 static void by_plain_c(const struct work *w, struct result *r, int parts)
@@ -55,6 +62,8 @@ static void by_plain_c(const struct work *w, struct result *r, int parts)
         r->bond = plain_bond(w->n, w->b, r->discounts, w->flows);
     if (parts & OPTION)
         r->option = plain_option(w->n, w->b, r->discounts, w->flows, w->kind, w->expiry, w->strike);
+    if (parts & BOTH)
+        r->both = plain_bond_and_option(w->n, w->b, r->discounts, w->flows, w->kind, w->expiry, w->strike);
 }
 
 static double uniform(void)
@@ -77,37 +86,57 @@ static struct work work_of(size_t n, uint64_t b, double level, double slope)
     return w;
 }
 
+static int same_price(const struct plain_price *x, const struct plain_price *y)
+{
+    return x->number == y->number && x->value == y->value && x->bound == y->bound;
+}
+
+/* All that two workers write and answer, and both prices at once against each alone. */
 static void must_be_equal(const struct work *w, const struct result *x, const struct result *y)
 {
-    if (memcmp(x, y, sizeof *x) == 0)
+    if (memcmp(x, y, sizeof *x) == 0 && same_price(&x->bond, &x->both.bond) && same_price(&x->option, &x->both.option))
         return;
-    fprintf(stderr, "DIFFERENT at n = %zu, b = %llu: number %llu and %llu, bond %llu and %llu, option %llu and %llu\n", w->n,
-            (unsigned long long)w->b, (unsigned long long)x->number, (unsigned long long)y->number, (unsigned long long)x->bond.value,
-            (unsigned long long)y->bond.value, (unsigned long long)x->option.value, (unsigned long long)y->option.value);
+    fprintf(stderr, "DIFFERENT at n = %zu, b = %llu\n", w->n, (unsigned long long)w->b);
+    for (const struct result *r = x; r; r = r == x ? y : NULL)
+        fprintf(stderr, "fit %llu, bond %llu %llu, option %llu %llu, both %llu %llu, %llu %llu\n", (unsigned long long)r->number,
+                (unsigned long long)r->bond.number, (unsigned long long)r->bond.value, (unsigned long long)r->option.number,
+                (unsigned long long)r->option.value, (unsigned long long)r->both.bond.number, (unsigned long long)r->both.bond.value,
+                (unsigned long long)r->both.option.number, (unsigned long long)r->both.option.value);
     exit(1);
+}
+
+/* Any curve, and a bond and an option of which some are refused. */
+static struct work any_work(int i)
+{
+    static const uint64_t reversions[] = {0, 1, 31, 83, 500, 1000, 1840, 1841, 6000}, frequencies[] = {12, 4, 2, 1};
+    struct work w = work_of(1 + (size_t)(uniform() * 60), reversions[i % 9], uniform() * 0.1 - 0.02, uniform() * 0.002 - 0.0005);
+    w.f = frequencies[i % 4];
+    w.kind = i % 50 ? 1 + (uint64_t)(i / 4 % 4) : 5;
+    w.s = (uint64_t)(uniform() * 40000);
+    w.expiry = (size_t)(uniform() * (double)(w.n + 1));
+    w.strike = (uint64_t)(uniform() * (i % 5 ? 2e9 : 4.1e9));
+    for (size_t t = 0; i % 7 == 0 && t < w.n; t++)
+        w.flows[t] = (uint64_t)(uniform() * (i % 3 ? 8e9 / (double)w.n : 2.01e9));
+    return w;
 }
 
 /* Both on many curves, accepted and refused: all that they write and answer must be equal. */
 static void compare_results(void)
 {
     static struct result x, y;
-    static const uint64_t reversions[] = {0, 1, 31, 83, 500, 1000, 1840, 1841, 6000}, frequencies[] = {12, 4, 2, 1};
-    int accepted = 0;
+    int fits = 0, bonds = 0, options = 0;
     for (int i = 0; i < CURVES; i++) {
-        struct work w = work_of(1 + (size_t)(uniform() * 60), reversions[i % 9], uniform() * 0.1 - 0.02, uniform() * 0.002 - 0.0005);
-        w.f = frequencies[i % 4];
-        w.kind = 1 + (uint64_t)(i / 4 % 4);
-        w.s = (uint64_t)(uniform() * 40000);
-        w.expiry = (size_t)(uniform() * (double)(w.n + 1));
-        w.strike = (uint64_t)(uniform() * 2e9);
+        const struct work w = any_work(i);
         memset(&x, 0, sizeof x);
         memset(&y, 0, sizeof y);
-        by_library(&w, &x, WHOLE_JOB);
-        by_plain_c(&w, &y, WHOLE_JOB);
+        by_library(&w, &x, ALL);
+        by_plain_c(&w, &y, ALL);
         must_be_equal(&w, &x, &y);
-        accepted += x.number == 0;
+        fits += x.number == 0;
+        bonds += x.bond.number == 0;
+        options += x.option.number == 0;
     }
-    printf("results of library and plain C equal on %d curves, %d of them accepted\n\n", CURVES, accepted);
+    printf("results of library and plain C equal on %d curves; accepted: %d fits, %d bonds, %d options\n\n", CURVES, fits, bonds, options);
 }
 
 static double now(void)
@@ -150,8 +179,8 @@ static struct timing side_by_side(worker a, worker b, const struct work *w, int 
     static double first[MOST_TURNS], second[MOST_TURNS], ratio[MOST_TURNS];
     memset(&x, 0, sizeof x);
     memset(&y, 0, sizeof y);
-    a(w, &x, WHOLE_JOB);
-    b(w, &y, WHOLE_JOB);
+    a(w, &x, ALL);
+    b(w, &y, ALL);
     for (int i = 0; i < turns; i++) {
         first[i] = microseconds(a, w, &x, parts, repeats);
         second[i] = microseconds(b, w, &y, parts, repeats);
@@ -163,18 +192,25 @@ static struct timing side_by_side(worker a, worker b, const struct work *w, int 
     return out;
 }
 
+static void line_against_plain_c(uint64_t b, const char *name, int parts, int turns)
+{
+    const struct work w = work_of(60, b, 0.02, 0.0003);
+    const struct timing t = side_by_side(by_library, by_plain_c, &w, parts, turns, 20);
+    printf("b = %-5llu %-22s %8.1f us    %8.1f us     %6.2f\n", (unsigned long long)b, name, t.first, t.second, t.ratio);
+}
+
 static void against_plain_c(int turns)
 {
-    static const uint64_t reversions[] = {0, 83, 1000};
+    static const uint64_t reversions[] = {0, 31, 83, 500, 1000, 1840, 6000}, shown[] = {0, 83, 1000};
     static const struct { const char *name; int parts; } rows[] = {
-        {"fit, bond and option", WHOLE_JOB}, {"fit", FIT}, {"bond", BOND}, {"American option", OPTION}};
+        {"fit", FIT}, {"bond and option", BOTH}, {"bond", BOND}, {"American option", OPTION}};
     printf("n = 60                            library        plain C      ratio\n");
+    for (int i = 0; i < 7; i++)
+        line_against_plain_c(reversions[i], "fit, bond and option", WHOLE_JOB, turns);
+    printf("\nn = 60, its parts                 library        plain C      ratio\n");
     for (int i = 0; i < 3; i++)
-        for (int k = 0; k < 4; k++) {
-            const struct work w = work_of(60, reversions[i], 0.02, 0.0003);
-            const struct timing t = side_by_side(by_library, by_plain_c, &w, rows[k].parts, turns, 20);
-            printf("b = %-5llu %-22s %8.1f us    %8.1f us     %6.2f\n", (unsigned long long)w.b, rows[k].name, t.first, t.second, t.ratio);
-        }
+        for (int k = 0; k < 4; k++)
+            line_against_plain_c(shown[i], rows[k].name, rows[k].parts, turns);
 }
 
 #define SIZES 4
@@ -215,8 +251,8 @@ static void by_quantlib(const struct work *w, struct result *r, int parts)
     for (size_t t = 0; t < w->n; t++)
         flows[t] = (double)w->flows[t] / ONE;
     const double option = quantlib_prices(w->n, step, reversion, (double)w->s / 1e6, flows, w->expiry, (double)w->strike / ONE, &bond);
-    r->bond.value = (uint64_t)llround(bond * ONE);
-    r->option.value = (uint64_t)llround(option * ONE);
+    r->both.bond.value = (uint64_t)llround(bond * ONE);
+    r->both.option.value = (uint64_t)llround(option * ONE);
 }
 
 static void against_quantlib(int turns)
@@ -234,7 +270,7 @@ static void against_quantlib(int turns)
         by_library(&w, &x, WHOLE_JOB);
         by_quantlib(&w, &y, WHOLE_JOB);
         printf("b = %-5llu %22s %8.1f us    %8.1f us     %8.1f         %.9f %.9f; %.9f %.9f\n", (unsigned long long)w.b, "", t.second,
-               t.first, t.ratio, x.bond.value / 1e9, x.option.value / 1e9, y.bond.value / 1e9, y.option.value / 1e9);
+               t.first, t.ratio, x.both.bond.value / 1e9, x.both.option.value / 1e9, y.both.bond.value / 1e9, y.both.option.value / 1e9);
     }
 }
 #else

@@ -188,19 +188,29 @@ uint64_t plain_fit(uint64_t f, size_t n, uint64_t b, uint64_t s, const uint64_t 
     return 0;
 }
 
-/* A row rolled back in place: values[k] is read at the node's branches and written at the node. */
-static uint64_t roll(size_t w, size_t next, const struct branch *p, const uint64_t *discounts, const uint64_t *later, uint64_t flow,
+/* The lowest of the three nodes to which node k of a row leads. */
+static size_t lowest(size_t w, size_t next, size_t k)
+{
+    if (next > w)
+        return k;
+    return k == 0 ? 0 : k == 2 * w ? k - 2 : k - 1;
+}
+
+static uint64_t rolled(const struct branch *p, const uint64_t *later, uint64_t discount)
+{
+    return (p->down * later[0] + p->middle * later[1] + p->up * later[2]) / WHOLE * discount / ONE;
+}
+
+enum { BOND_ABOVE = 1, OPTION_ABOVE = 2 };
+
+/* A row of the bond from the row after it; what of it is above the limit. */
+static int roll_bond(size_t w, size_t next, const struct branch *p, const uint64_t *discounts, const uint64_t *later, uint64_t flow,
                      uint64_t *values)
 {
-    const size_t count = 2 * w + 1;
-    uint64_t above = 0;
-    for (size_t k = 0; k < count; k++) {
-        size_t low = k;
-        if (next == w)
-            low = k == 0 ? 0 : k == count - 1 ? k - 2 : k - 1;
-        const uint64_t sum = p[k].down * later[low] + p[k].middle * later[low + 1] + p[k].up * later[low + 2];
-        values[k] = sum / WHOLE * discounts[k] / ONE + flow;
-        above |= values[k] > VALUE_LIMIT;
+    int above = 0;
+    for (size_t k = 0; k <= 2 * w; k++) {
+        values[k] = rolled(&p[k], later + lowest(w, next, k), discounts[k]) + flow;
+        above |= values[k] > VALUE_LIMIT ? BOND_ABOVE : 0;
     }
     return above;
 }
@@ -251,67 +261,97 @@ struct plain_price plain_bond(size_t n, uint64_t b, const uint64_t *discounts, c
         return refused(number);
     const size_t widest = half_width(b, n - 1);
     branches(p, b, widest);
-    uint64_t *later = rows[0], *now = rows[1];
+    int at = 0;
     for (size_t k = 0; k <= 2 * half_width(b, n); k++)
-        later[k] = flows[n - 1];
-    for (size_t i = n; i-- > 0;) {
+        rows[at][k] = flows[n - 1];
+    for (size_t i = n; i-- > 0; at = !at) {
         const size_t w = half_width(b, i), next = half_width(b, i + 1);
         start -= 2 * w + 1;
-        if (roll(w, next, p + (widest - w), discounts + start, later, i ? flows[i - 1] : 0, now))
+        if (roll_bond(w, next, p + (widest - w), discounts + start, rows[at], i ? flows[i - 1] : 0, rows[!at]))
             return refused(12);
         out.bound = next_bound(discounts + start, 2 * w + 1, out.bound);
-        uint64_t *swap = later;
-        later = now;
-        now = swap;
     }
-    out.value = later[0];
+    out.value = rows[at][0];
     return out;
 }
 
-static uint64_t exercise(int call, uint64_t bond, uint64_t strike)
+struct right {
+    int call, american;
+    uint64_t strike;
+};
+
+static uint64_t exercise(struct right right, uint64_t bond)
 {
-    if (call)
-        return bond > strike ? bond - strike : 0;
-    return strike > bond ? strike - bond : 0;
+    if (right.call)
+        return bond > right.strike ? bond - right.strike : 0;
+    return right.strike > bond ? right.strike - bond : 0;
 }
 
-struct plain_price plain_option(size_t n, uint64_t b, const uint64_t *discounts, const uint64_t *flows, uint64_t kind,
-                                size_t expiry, uint64_t strike)
+static void exercise_row(struct right right, size_t count, const uint64_t *bond, uint64_t *option)
 {
-    uint64_t bonds[2][MOST_NODES], options[2][MOST_NODES];
+    for (size_t k = 0; k < count; k++)
+        option[k] = exercise(right, bond[k]);
+}
+
+/* A row of bond and option from the rows after it. */
+static int roll_both(size_t w, size_t next, const struct branch *p, const uint64_t *discounts, const uint64_t *bonds,
+                     const uint64_t *options, uint64_t flow, struct right right, uint64_t *bond, uint64_t *option)
+{
+    int above = 0;
+    for (size_t k = 0; k <= 2 * w; k++) {
+        const size_t low = lowest(w, next, k);
+        const uint64_t value = rolled(&p[k], bonds + low, discounts[k]) + flow, kept = rolled(&p[k], options + low, discounts[k]);
+        const uint64_t now = right.american ? exercise(right, value) : 0;
+        bond[k] = value;
+        option[k] = kept > now ? kept : now;
+        above |= (value > VALUE_LIMIT ? BOND_ABOVE : 0) | (option[k] > VALUE_LIMIT ? OPTION_ABOVE : 0);
+    }
+    return above;
+}
+
+/* One roll. An option that is refused is rolled no further; its bond goes on. */
+struct plain_prices plain_bond_and_option(size_t n, uint64_t b, const uint64_t *discounts, const uint64_t *flows, uint64_t kind,
+                                          size_t expiry, uint64_t strike)
+{
+    uint64_t bonds[2][MOST_NODES], options[2][MOST_NODES], bound = 0;
     struct branch p[MOST_NODES];
     size_t start;
-    struct plain_price out = none;
     const uint64_t number = rows_refused(n, b, discounts, flows, &start);
     if (number)
-        return refused(number);
-    if (kind < 1 || kind > 4 || expiry > n || strike > STRIKE_LIMIT)
-        return refused(11);
-    const int call = kind == 1 || kind == 3, american = kind >= 3;
+        return (struct plain_prices){refused(number), refused(number)};
+    const int listed = kind >= 1 && kind <= 4 && expiry <= n && strike <= STRIKE_LIMIT;
+    uint64_t other = listed ? 0 : 11;
+    const struct right right = {kind == 1 || kind == 3, kind >= 3, strike};
     const size_t widest = half_width(b, n - 1), last = 2 * half_width(b, n) + 1;
     branches(p, b, widest);
     int at = 0;
     for (size_t k = 0; k < last; k++)
         bonds[at][k] = flows[n - 1];
     if (expiry == n)
-        for (size_t k = 0; k < last; k++)
-            options[at][k] = exercise(call, flows[n - 1], strike);
+        exercise_row(right, last, bonds[at], options[at]);
     for (size_t i = n; i-- > 0; at = !at) {
-        const size_t w = half_width(b, i), next = half_width(b, i + 1), from = widest - w, count = 2 * w + 1;
-        uint64_t *bond = bonds[!at], *option = options[!at], above = 0;
-        start -= count;
-        above |= roll(w, next, p + from, discounts + start, bonds[at], i ? flows[i - 1] : 0, bond);
-        if (i < expiry)
-            above |= roll(w, next, p + from, discounts + start, options[at], 0, option);
-        if (i == expiry || (i < expiry && american))
-            for (size_t k = 0; k < count; k++) {
-                const uint64_t now = exercise(call, bond[k], strike);
-                option[k] = i < expiry && option[k] > now ? option[k] : now;
-            }
-        if (above)
-            return refused(12);
-        out.bound = next_bound(discounts + start, count, out.bound);
+        const size_t w = half_width(b, i), next = half_width(b, i + 1), from = widest - w;
+        const uint64_t flow = i ? flows[i - 1] : 0;
+        int above;
+        start -= 2 * w + 1;
+        if (i < expiry && !other)
+            above = roll_both(w, next, p + from, discounts + start, bonds[at], options[at], flow, right, bonds[!at], options[!at]);
+        else
+            above = roll_bond(w, next, p + from, discounts + start, bonds[at], flow, bonds[!at]);
+        if (above && !other)
+            other = 12;
+        if (above & BOND_ABOVE)
+            return (struct plain_prices){refused(12), refused(other)};
+        if (i == expiry)
+            exercise_row(right, 2 * w + 1, bonds[!at], options[!at]);
+        bound = next_bound(discounts + start, 2 * w + 1, bound);
     }
-    out.value = options[at][0];
-    return out;
+    const struct plain_price bond = {0, bonds[at][0], bound};
+    return (struct plain_prices){bond, other ? refused(other) : (struct plain_price){0, options[at][0], bound}};
+}
+
+struct plain_price plain_option(size_t n, uint64_t b, const uint64_t *discounts, const uint64_t *flows, uint64_t kind,
+                                size_t expiry, uint64_t strike)
+{
+    return plain_bond_and_option(n, b, discounts, flows, kind, expiry, strike).option;
 }

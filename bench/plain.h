@@ -8,10 +8,16 @@ struct plain_price {
     uint64_t number, value, bound;
 };
 
+struct plain_prices {
+    struct plain_price bond, option;
+};
+
 uint64_t plain_fit(uint64_t f, size_t n, uint64_t b, uint64_t s, const uint64_t *rows, const uint8_t *kinds,
                    const double *figures, uint64_t *discounts, uint64_t *state_prices);
 struct plain_price plain_bond(size_t n, uint64_t b, const uint64_t *discounts, const uint64_t *flows);
 struct plain_price plain_option(size_t n, uint64_t b, const uint64_t *discounts, const uint64_t *flows, uint64_t kind,
                                 size_t expiry, uint64_t strike);
+struct plain_prices plain_bond_and_option(size_t n, uint64_t b, const uint64_t *discounts, const uint64_t *flows, uint64_t kind,
+                                          size_t expiry, uint64_t strike);
 
 #endif

@@ -102,6 +102,12 @@ struct mixegorta_price {
     uint64_t bound;
 };
 
+/* A bond and an option on it, each with its own number. */
+struct mixegorta_bond_and_option {
+    struct mixegorta_price bond;
+    struct mixegorta_price option;
+};
+
 /* Where a node leads: to node `lowest` of the next row and the two nodes above it. probabilities[0] is up, to lowest + 2; [1] is
  * middle, to lowest + 1; [2] is down, to lowest. They sum to 600,000,000. All are 0 where refused. */
 struct mixegorta_branches {
@@ -198,6 +204,12 @@ struct mixegorta_price mixegorta_bond_price(size_t steps, uint64_t reversion, co
 struct mixegorta_price mixegorta_option_price(size_t steps, uint64_t reversion, const uint64_t *discounts,
                                               size_t discounts_len, const uint64_t *flows, size_t flows_len, uint64_t kind,
                                               size_t expiry, uint64_t strike);
+
+/* Bond and option in one roll: `bond` is what mixegorta_bond_price answers and `option` what mixegorta_option_price answers, so
+ * where the option alone is refused the bond has its price. */
+struct mixegorta_bond_and_option mixegorta_bond_and_option(size_t steps, uint64_t reversion, const uint64_t *discounts,
+                                                           size_t discounts_len, const uint64_t *flows, size_t flows_len,
+                                                           uint64_t kind, size_t expiry, uint64_t strike);
 
 /* What payoffs on a row are worth by the row's state prices. Both counts are equal, odd and at most 121. payoffs: each 0 to
  * 8,000,000,000; state prices: their sum at most 2,000,000,100. Refusals: 6 the counts, 12 payoffs, sum or value. */

@@ -29,6 +29,10 @@ static bool priced(struct mixegorta_price p, uint64_t value, uint64_t bound) {
 
 static bool unpriced(struct mixegorta_price p, uint64_t number) { return p.number == number && p.value == 0 && p.bound == 0; }
 
+static bool same_price(struct mixegorta_price a, struct mixegorta_price b) {
+    return a.number == b.number && a.value == b.value && a.bound == b.bound;
+}
+
 static bool ranged(struct mixegorta_row_range r, size_t start, size_t count) { return r.start == start && r.count == count; }
 
 static bool branched(struct mixegorta_branches b, int64_t lowest, uint64_t up, uint64_t middle, uint64_t down) {
@@ -209,6 +213,8 @@ static void example(void) {
     CHECK(answered(mixegorta_state_price_error_bound(1, 0, discounts, 1, 1), 4));
     CHECK(priced(mixegorta_bond_price(1, 0, discounts, 1, flow, 1), 1002500000, 3));
     CHECK(priced(mixegorta_option_price(1, 0, discounts, 1, flow, 1, MIXEGORTA_AMERICAN_PUT, 1, 1010000000), 10025000, 3));
+    struct mixegorta_bond_and_option both = mixegorta_bond_and_option(1, 0, discounts, 1, flow, 1, MIXEGORTA_AMERICAN_PUT, 1, 1010000000);
+    CHECK(priced(both.bond, 1002500000, 3) && priced(both.option, 10025000, 3));
     CHECK(answered(mixegorta_value_by_state_prices(prices + 1, 3, payoffs, 3), 1002499999));
     CHECK(answered(mixegorta_valuation_error_bound(1, 0, discounts, 1, 1, payoffs, 3), 5));
 }
@@ -353,14 +359,48 @@ static void price_refusals(void) {
     CHECK(unpriced(mixegorta_bond_price(2, 0, flat, 4, flows, 2), 9));
 }
 
+/* Both prices at once: each is what its own entry answers. */
+static bool each_its_own(size_t steps, const uint64_t *lent, size_t lent_len, const uint64_t *flows, size_t flows_len, uint64_t kind,
+                         size_t expiry, uint64_t strike, uint64_t bond, uint64_t option) {
+    struct mixegorta_bond_and_option both =
+        mixegorta_bond_and_option(steps, 0, lent, lent_len, flows, flows_len, kind, expiry, strike);
+    return both.bond.number == bond && both.option.number == option &&
+           same_price(both.bond, mixegorta_bond_price(steps, 0, lent, lent_len, flows, flows_len)) &&
+           same_price(both.option, mixegorta_option_price(steps, 0, lent, lent_len, flows, flows_len, kind, expiry, strike));
+}
+
+static void bond_and_option(void) {
+    uint64_t flat[9], flows[3] = {0, ONE, MIXEGORTA_MAX_FLOW};
+    for (size_t i = 0; i < 9; i++) flat[i] = ONE;
+    for (uint64_t kind = 1; kind <= 4; kind++)
+        for (size_t expiry = 0; expiry <= 3; expiry++) CHECK(each_its_own(3, flat, 9, flows, 3, kind, expiry, ONE, 0, 0));
+    CHECK(each_its_own(3, flat, 9, flows, 3, 5, 1, ONE, 0, 11));
+    CHECK(each_its_own(3, flat, 9, flows, 3, 1, 4, ONE, 0, 11));
+    CHECK(each_its_own(3, flat, 9, flows, 3, 1, 1, MIXEGORTA_MAX_STRIKE + 1, 0, 11));
+    CHECK(each_its_own(61, flat, 9, flows, 3, 5, 1, ONE, 3, 3));
+    CHECK(each_its_own(3, flat, 8, flows, 3, 5, 1, ONE, 6, 6));
+    CHECK(each_its_own(3, flat, 9, flows, 2, 1, 1, ONE, 6, 6));
+    CHECK(each_its_own(3, NULL, 0, NULL, 0, 1, 1, ONE, 6, 6));
+    flows[0] = MIXEGORTA_MAX_FLOW + 1;
+    CHECK(each_its_own(3, flat, 9, flows, 3, 5, 1, ONE, 10, 10));
+    flat[8] = 0;
+    CHECK(each_its_own(3, flat, 9, flows, 3, 5, 1, ONE, 9, 9));
+}
+
 static void value_limits(void) {
     uint64_t flat[25], flows[5];
     for (size_t i = 0; i < 25; i++) flat[i] = ONE;
     for (size_t i = 0; i < 5; i++) flows[i] = MIXEGORTA_MAX_FLOW;
     CHECK(unpriced(mixegorta_bond_price(5, 0, flat, 25, flows, 5), 12));
     CHECK(unpriced(mixegorta_option_price(5, 0, flat, 25, flows, 5, 1, 5, 0), 12));
+    CHECK(each_its_own(5, flat, 25, flows, 5, 1, 5, 0, 12, 12));
+    CHECK(each_its_own(5, flat, 25, flows, 5, 5, 5, 0, 12, 11));
     flows[0] = 0;
     CHECK(priced(mixegorta_bond_price(5, 0, flat, 25, flows, 5), MIXEGORTA_MAX_VALUE, 15));
+    uint64_t high[64], nothing[8] = {0}; /* a strike of 4 grows above 8 in eight steps */
+    for (size_t i = 0; i < 64; i++) high[i] = MIXEGORTA_MAX_NODE_DISCOUNT;
+    CHECK(each_its_own(8, high, 64, nothing, 8, MIXEGORTA_EUROPEAN_PUT, 8, MIXEGORTA_MAX_STRIKE, 0, 12));
+    CHECK(each_its_own(8, high, 64, nothing, 8, MIXEGORTA_EUROPEAN_PUT, 7, MIXEGORTA_MAX_STRIKE, 0, 0));
 }
 
 static void values(void) {
@@ -503,6 +543,7 @@ int main(void) {
     limits();
     repricing();
     price_refusals();
+    bond_and_option();
     value_limits();
     values();
     bounds();

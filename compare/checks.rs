@@ -207,8 +207,12 @@ fn at_most_three_a_step(tree: &Tree, discounts: &[u64], bound: u64) {
 fn prices(case: &Case, discounts: &[u64], on: &'static str, tally: &mut Tally) {
     let (tree, flows, contract) = (case.fit.tree, &case.flows, &case.contract);
     let (bond_name, option_name) = if on == "on lent" { ("bond on lent", "option on lent") } else { ("bond on a fit", "option on a fit") };
-    let bond = agree(bond_name, engine::bond(&tree, discounts, flows), tree.bond(discounts, flows), tally);
-    let option = agree(option_name, engine::option(&tree, discounts, flows, contract), tree.option(discounts, flows, contract), tally);
+    let (bond_rules, option_rules) = (tree.bond(discounts, flows), tree.option(discounts, flows, contract));
+    let both = engine::bond_and_option(&tree, discounts, flows, contract);
+    assert_eq!(both, (bond_rules, option_rules), "bond and option: library left, rules right");
+    tally.result(if both.0.is_ok() { "both, bond priced" } else { "both, bond refused" }, &both.1);
+    let bond = agree(bond_name, engine::bond(&tree, discounts, flows), bond_rules, tally);
+    let option = agree(option_name, engine::option(&tree, discounts, flows, contract), option_rules, tally);
     agree("state price bound", engine::state_price_bound(&tree, discounts, case.row), tree.state_price_bound(discounts, case.row), tally);
     let bound = tree.weighing_bound(discounts, case.row, &case.payoffs);
     agree("weighing bound", engine::weighing_bound(&tree, discounts, case.row, &case.payoffs), bound, tally);

@@ -26,6 +26,13 @@ struct Price {
 
 #[repr(C)]
 #[derive(Clone, Copy)]
+struct BondAndOption {
+    bond: Price,
+    option: Price,
+}
+
+#[repr(C)]
+#[derive(Clone, Copy)]
 struct Branches {
     number: u64,
     lowest: i64,
@@ -76,6 +83,10 @@ extern "C" {
         steps: usize, reversion: u64, discounts: *const u64, discount_count: usize, flows: *const u64, flow_count: usize,
         kind: u64, expiry: usize, strike: u64,
     ) -> Price;
+    fn mixegorta_bond_and_option(
+        steps: usize, reversion: u64, discounts: *const u64, discount_count: usize, flows: *const u64, flow_count: usize,
+        kind: u64, expiry: usize, strike: u64,
+    ) -> BondAndOption;
     fn mixegorta_value_by_state_prices(state_prices: *const u64, state_price_count: usize, payoffs: *const u64, payoff_count: usize) -> Answer;
     fn mixegorta_valuation_error_bound(
         steps: usize, reversion: u64, discounts: *const u64, discount_count: usize, row: usize, payoffs: *const u64, payoff_count: usize,
@@ -189,6 +200,16 @@ pub fn option(tree: &Tree, discounts: &[u64], flows: &[u64], c: &Contract) -> Ou
             tree.steps, tree.reversion, start(discounts), discounts.len(), start(flows), flows.len(), c.kind, c.expiry, c.strike,
         )
     })
+}
+
+/// The bond's outcome and the option's, from one call.
+pub fn bond_and_option(tree: &Tree, discounts: &[u64], flows: &[u64], c: &Contract) -> (Outcome<(u64, u64)>, Outcome<(u64, u64)>) {
+    let both = unsafe {
+        mixegorta_bond_and_option(
+            tree.steps, tree.reversion, start(discounts), discounts.len(), start(flows), flows.len(), c.kind, c.expiry, c.strike,
+        )
+    };
+    (priced(both.bond), priced(both.option))
 }
 
 pub fn weighing(state_prices: &[u64], payoffs: &[u64]) -> Outcome<u64> {

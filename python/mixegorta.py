@@ -28,6 +28,7 @@ EUROPEAN_CALL, EUROPEAN_PUT, AMERICAN_CALL, AMERICAN_PUT = 1, 2, 3, 4
 Point = namedtuple("Point", "row kind figure")
 Branches = namedtuple("Branches", "lowest up middle down")
 Price = namedtuple("Price", "value bound")
+BondAndOption = namedtuple("BondAndOption", "bond option")
 
 CAUSES = {
     1: "the job is malformed or longer than 4,700 bytes",
@@ -72,6 +73,10 @@ class CPrice(ctypes.Structure):
     _fields_ = [("number", U64), ("value", U64), ("bound", U64)]
 
 
+class CBondAndOption(ctypes.Structure):
+    _fields_ = [("bond", CPrice), ("option", CPrice)]
+
+
 class CBranches(ctypes.Structure):
     _fields_ = [("number", U64), ("lowest", I64), ("probabilities", U64 * 3)]
 
@@ -105,6 +110,7 @@ DECLARATIONS = {
     "state_price_error_bound": (CAnswer, [SIZE, U64, U64S, SIZE, SIZE]),
     "bond_price": (CPrice, [SIZE, U64, U64S, SIZE, U64S, SIZE]),
     "option_price": (CPrice, [SIZE, U64, U64S, SIZE, U64S, SIZE, U64, SIZE, U64]),
+    "bond_and_option": (CBondAndOption, [SIZE, U64, U64S, SIZE, U64S, SIZE, U64, SIZE, U64]),
     "value_by_state_prices": (CAnswer, [U64S, SIZE, U64S, SIZE]),
     "valuation_error_bound": (CAnswer, [SIZE, U64, U64S, SIZE, SIZE, U64S, SIZE]),
     "sheet": (CWritten, [U8S, SIZE, U8S, SIZE]),
@@ -174,6 +180,11 @@ def _value(answer):
 def _price(price):
     _accepted(price.number)
     return Price(price.value, price.bound)
+
+
+def _price_or_refusal(price):
+    """The Price, or the Refused that its own call would raise."""
+    return Price(price.value, price.bound) if price.number == 0 else Refused(price.number)
 
 
 # ---- the shape of a tree
@@ -266,6 +277,14 @@ def option_price(steps, reversion, discounts, flows, kind, expiry, strike):
                                                   _u64(kind), _u64(expiry), _u64(strike)))
 
 
+def bond_and_option(steps, reversion, discounts, flows, kind, expiry, strike):
+    """Bond and option in one roll, as BondAndOption(bond, option). Nothing is raised for a refusal: each of the two is a Price, or the
+    Refused that its own function would raise."""
+    both = _library.mixegorta_bond_and_option(_u64(steps), _u64(reversion), *_lent("Q", discounts), *_lent("Q", flows),
+                                              _u64(kind), _u64(expiry), _u64(strike))
+    return BondAndOption(_price_or_refusal(both.bond), _price_or_refusal(both.option))
+
+
 def value_by_state_prices(state_prices, payoffs):
     """What payoffs on a row are worth by the row's state prices."""
     return _value(_library.mixegorta_value_by_state_prices(*_lent("Q", state_prices), *_lent("Q", payoffs)))
@@ -302,6 +321,10 @@ class Tree:
 
     def option_price(self, flows, kind, expiry, strike):
         return option_price(self.steps, self.reversion, self.discounts, flows, kind, expiry, strike)
+
+    def bond_and_option(self, flows, kind, expiry, strike):
+        """Bond and option in one roll; each is a Price, or the Refused that its own function would raise."""
+        return bond_and_option(self.steps, self.reversion, self.discounts, flows, kind, expiry, strike)
 
     def value(self, row, payoffs):
         """What payoffs on a row are worth: never above the exact price, and at most the bound below it."""

@@ -27,14 +27,22 @@ class Test(unittest.TestCase):
             function(*arguments)
         self.assertEqual(caught.exception.number, number)
 
+    def alone(self, function, *arguments):
+        """What one function answers, a refusal as its number."""
+        try:
+            return function(*arguments)
+        except m.Refused as refusal:
+            return refusal.number
+
     def test_declarations_are_those_of_the_archive(self):
         functions, structs = declarations.exported()
         numbers = {"u8": m.U8, "u64": m.U64, "i64": m.I64, "usize": m.SIZE, "f64": m.F64, "[u64; 3]": m.U64 * 3}
-        for name, fields in structs.items():
-            self.assertEqual(getattr(m, "C" + name)._fields_, [(field, numbers[kind]) for field, kind in fields], name)
 
         def result(kind):
             return numbers.get(kind) or getattr(m, "C" + kind)
+
+        for name, fields in structs.items():
+            self.assertEqual(result(name)._fields_, [(field, result(kind)) for field, kind in fields], name)
 
         def parameters(kind):
             if kind.startswith("&"):
@@ -90,6 +98,8 @@ class Test(unittest.TestCase):
         self.assertEqual(tree.state_price_error_bound(1), 4)
         self.assertEqual(tree.bond_price([ONE]), Price(1_002_500_000, 3))
         self.assertEqual(tree.option_price([ONE], m.AMERICAN_PUT, 1, 1_010_000_000), Price(10_025_000, 3))
+        both = tree.bond_and_option([ONE], m.AMERICAN_PUT, 1, 1_010_000_000)
+        self.assertEqual(both, (Price(1_002_500_000, 3), Price(10_025_000, 3)))
         self.assertEqual(tree.value(1, [ONE] * 3), Price(1_002_499_999, 5))
         self.refused(6, tree.value, 2, [ONE] * 3)
 
@@ -133,6 +143,23 @@ class Test(unittest.TestCase):
         self.assertEqual(m.valuation_error_bound(2, 0, flat, 2, [0, 0, 2 * ONE, 0, 0]), 2 * 12 + 1)
         self.assertEqual(m.row_range(flat, [ONE] * 9, m.STATE_PRICES, 2, 0, 2), range(4, 9))
         self.assertIsNone(m.row_range(flat, [ONE] * 8, m.DISCOUNTS, 2, 0, 1))
+
+    def test_bond_and_option(self):
+        def both(*arguments):
+            prices = m.bond_and_option(*arguments)
+            alone = self.alone(m.bond_price, *arguments[:4]), self.alone(m.option_price, *arguments)
+            self.assertEqual(tuple(getattr(price, "number", price) for price in prices), alone)
+            return alone
+
+        flat, flows, call = [ONE] * 4, [0, ONE], (m.EUROPEAN_CALL, 1, 900_000_000)
+        self.assertEqual(both(2, 0, flat, flows, *call), (Price(ONE, 6), Price(100_000_000, 6)))
+        self.assertEqual(both(2, 0, flat, flows, 5, 1, ONE), (Price(ONE, 6), 11))
+        self.assertEqual(both(8, 0, [1_100_000_000] * 64, [0] * 8, m.EUROPEAN_PUT, 8, 4 * ONE), (Price(0, 40), 12))
+        self.assertEqual(both(2, 0, flat[1:], flows, *call), (6, 6))
+        self.assertEqual(both(5, 0, [ONE] * 25, [2 * ONE] * 5, *call), (12, 12))
+        self.assertEqual(both(5, 0, [ONE] * 25, [2 * ONE] * 5, 5, 1, ONE), (12, 11))
+        refusal = m.bond_and_option(2, 0, flat, flows, 5, 1, ONE).option
+        self.assertIsInstance(refusal, m.Refused)
 
     def test_sheet(self):
         self.assertEqual(m.sheet(EXAMPLE), SHEET)

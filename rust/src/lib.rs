@@ -195,6 +195,13 @@ pub struct Price {
     pub bound: u64,
 }
 
+/// A bond and an option on it, each priced or refused by itself.
+#[derive(Clone, Copy, Debug, PartialEq, Eq)]
+pub struct BondAndOption {
+    pub bond: Result<Price, Refusal>,
+    pub option: Result<Price, Refusal>,
+}
+
 /// Where a node leads: to `lowest` and the two nodes above it, with probabilities over [`PROBABILITY_ONE`].
 #[derive(Clone, Copy, Debug, PartialEq, Eq)]
 pub struct Branches {
@@ -426,6 +433,33 @@ pub fn option_price(
             terms.strike,
         )
     })
+}
+
+/// Bond and option in one roll: what [`bond_price`] and [`option_price`] answer.
+pub fn bond_and_option(
+    steps: usize,
+    reversion: u64,
+    discounts: &[u64],
+    flows: &[u64],
+    terms: OptionTerms,
+) -> BondAndOption {
+    let both = unsafe {
+        raw::mixegorta_bond_and_option(
+            steps,
+            reversion,
+            discounts.as_ptr(),
+            discounts.len(),
+            flows.as_ptr(),
+            flows.len(),
+            terms.kind as u64,
+            terms.expiry,
+            terms.strike,
+        )
+    };
+    BondAndOption {
+        bond: priced(both.bond),
+        option: priced(both.option),
+    }
 }
 
 /// What payoffs on a row are worth by the row's state prices.

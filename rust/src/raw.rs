@@ -20,6 +20,12 @@ pub struct Price {
 }
 
 #[repr(C)]
+pub struct BondAndOption {
+    pub bond: Price,
+    pub option: Price,
+}
+
+#[repr(C)]
 pub struct Branches {
     pub number: u64,
     pub lowest: i64,
@@ -117,6 +123,17 @@ extern "C" {
         expiry: usize,
         strike: u64,
     ) -> Price;
+    pub fn mixegorta_bond_and_option(
+        steps: usize,
+        reversion: u64,
+        discounts: *const u64,
+        discounts_len: usize,
+        flows: *const u64,
+        flows_len: usize,
+        kind: u64,
+        expiry: usize,
+        strike: u64,
+    ) -> BondAndOption;
     pub fn mixegorta_value_by_state_prices(
         state_prices: *const u64,
         state_prices_len: usize,

@@ -1,6 +1,6 @@
 //! A fitted tree with memories of its own.
 
-use crate::{Branches, Curve, OptionTerms, Price, Refusal, RowKind};
+use crate::{BondAndOption, Branches, Curve, OptionTerms, Price, Refusal, RowKind};
 
 /// A tree that was fitted to a curve and not refused.
 #[derive(Clone, Debug, PartialEq, Eq)]
@@ -89,6 +89,11 @@ impl Tree {
     /// The price of an option on that bond.
     pub fn option_price(&self, flows: &[u64], terms: OptionTerms) -> Result<Price, Refusal> {
         crate::option_price(self.steps, self.reversion, &self.discounts, flows, terms)
+    }
+
+    /// Bond and option in one roll, each priced or refused by itself.
+    pub fn bond_and_option(&self, flows: &[u64], terms: OptionTerms) -> BondAndOption {
+        crate::bond_and_option(self.steps, self.reversion, &self.discounts, flows, terms)
     }
 
     /// What payoffs on a row are worth: never above the exact price, and at most the bound below it.

@@ -143,6 +143,9 @@ fn printed_example() {
             bound: 3
         })
     );
+    let both = tree.bond_and_option(&[ONE], put);
+    assert_eq!(both.bond, tree.bond_price(&[ONE]));
+    assert_eq!(both.option, tree.option_price(&[ONE], put));
     assert_eq!(
         tree.value(1, &[ONE; 3]),
         Ok(Price {
@@ -284,6 +287,43 @@ fn prices_on_lent_discounts() {
         row_view(&flat, &[ONE; 8], RowKind::Discounts, 2, 0, 1),
         None
     );
+}
+
+#[test]
+fn bond_and_option_at_once() {
+    let flat = [ONE; 4];
+    let call = OptionTerms {
+        kind: OptionKind::EuropeanCall,
+        expiry: 1,
+        strike: 900_000_000,
+    };
+    let price = |value| Price { value, bound: 6 };
+    let both = |discounts: &[u64], terms| {
+        let both = bond_and_option(2, 0, discounts, &[0, ONE], terms);
+        assert_eq!(both.bond, bond_price(2, 0, discounts, &[0, ONE]));
+        assert_eq!(both.option, option_price(2, 0, discounts, &[0, ONE], terms));
+        (both.bond, both.option)
+    };
+    assert_eq!(both(&flat, call), (Ok(price(ONE)), Ok(price(100_000_000))));
+    let late = OptionTerms { expiry: 3, ..call };
+    assert_eq!(both(&flat, late), (Ok(price(ONE)), Err(Refusal::OPTION)));
+    let short = Err(Refusal::LENGTH_OR_ROW);
+    assert_eq!(both(&flat[1..], call), (short, short));
+    assert_eq!(both(&[], late), (short, short));
+    let unfit = Err(Refusal::DISCOUNT);
+    assert_eq!(both(&[0; 4], late), (unfit, unfit));
+}
+
+#[test]
+fn an_option_above_the_limit_leaves_the_bond() {
+    let put = OptionTerms {
+        kind: OptionKind::EuropeanPut,
+        expiry: 8,
+        strike: 4 * ONE,
+    };
+    let both = bond_and_option(8, 0, &[1_100_000_000; 64], &[0; 8], put);
+    assert_eq!(both.bond.map(|bond| bond.value), Ok(0));
+    assert_eq!(both.option, Err(Refusal::VALUE));
 }
 
 /// The job that the scope prints whole: one yearly step, a discount factor of 1.0025, an American put.

@@ -8,3 +8,5 @@ pub mod Signed
 pub mod FrequencyLaws
 pub mod PlaceLaws
 pub mod CauseLaws
+pub mod BetweenLaws
+pub mod PartLaws

@@ -6,7 +6,7 @@ use Prim.Native.Nat.{ℕ, _+_, _-_, _≤_, _<_}
 use native.Mathlib.Nat.{zero-add}
 use native.Mathlib.Omega.{arith}
 use lib.ListN.{length, take, length-append, length-drop, List·getD-append}
-use lib.Seq.{length-take-le, getD-append-add, getD-drop, getD-take, ext-getD}
+use lib.Seq.{take-at, length-take-le, getD-append-add, getD-drop, getD-take, ext-getD}
 use Rattle.arithmetic.specs.Row.{row, values, place}
 use Rattle.arithmetic.proofs.Numbers.{by-order}
 use Rattle.arithmetic.proofs.RowLaws.{Filled, length-row, values-row}
@@ -64,3 +64,8 @@ filled-place l₀ l f n s h =
 
     past : (k : ℕ) → n ≤ k → values l k ≡ values (place l₀ 0 (row n f)) k
     past k p = s .rest k p ∙ sym (place-after l₀ 0 (row n f) fits k (omega (arith, long)))
+
+-- a list placed at the start of a memory is the memory's first part
+pub place-front : (memory part : List ℕ) (n : ℕ) → length part ≡ n → take n (place memory 0 part) ≡ part
+unfolding place
+place-front memory part n e = take-at part _ n e

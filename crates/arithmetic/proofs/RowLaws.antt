@@ -13,9 +13,9 @@ use borrow.Author.Tests.{lt-ltb, le-ltb, ltb-true, ltb-false, eqb-true, eqb-fals
 use lib.Dec.{ltb, eqb}
 use lib.ListN.{length, getD, set, length-set, replicate}
 use lib.Seq.{ext-getD, getD-set-same, getD-set-other}
-use Rattle.arithmetic.specs.Sum.{only}
+use Rattle.arithmetic.specs.Sum.{sum, only}
 use Rattle.arithmetic.specs.Row.{row, values, each, overlay}
-use Rattle.arithmetic.proofs.SumLaws.{only-same, only-other}
+use Rattle.arithmetic.proofs.SumLaws.{sum-cong, only-same, only-other}
 
 pub length-row : (n : ℕ) (f : ℕ → ℕ) → length (row n f) ≡ n
 unfolding row
@@ -207,3 +207,7 @@ unfolding each
 each-split n zero test = rw (add-zero n) (sym (and-true (each n test)))
 each-split n (suc m) test =
     rw (add-suc n m, each-split n m test) (and-assoc (each n test) (each m (λ k. test (n + k))) (test (n + m)))
+
+-- the sum of a row's values
+pub sum-row : (n : ℕ) (f : ℕ → ℕ) → sum (length (row n f)) (values (row n f)) ≡ sum n f
+sum-row n f = ap (λ (k : ℕ). sum k (values (row n f))) (length-row n f) ∙ sum-cong n (values (row n f)) f (λ k h. values-row n k f h)

@@ -70,6 +70,19 @@ pub negated : (z : ℤ) → ltZ z (pos 0) ≡ true → pos 0 -ℤ z ≡ pos (nat
 negated (pos n) h = absurd (below-zero n (ltb-true n 0 h))
 negated (negsuc n) h = +ℤ-idl (pos (suc n))
 
+-- what an `i64` holds is at most 2^63 in size, which only its lowest number is
+pub size-most : (z : ℤ) → SFits w64 z → natAbs z ≤ 2 ^ 63
+size-most (pos n) f = omega (arith, f .sfits)
+size-most (negsuc n) f = omega (arith, f .sfits)
+
+pub size-lowest : (z : ℤ) → SFits w64 z → ltZ z (negsuc 9223372036854775806) ≡ true → 9223372036854775808 ≡ natAbs z
+size-lowest (pos n) f h = cc
+size-lowest (negsuc n) f h = omega (arith, f .sfits, ltb-true 9223372036854775806 n h)
+
+pub size-other : (z : ℤ) → SFits w64 z → ltZ z (negsuc 9223372036854775806) ≡ false → natAbs z < 2 ^ 63
+size-other (pos n) f h = f .sfits
+size-other (negsuc n) f h = omega (arith, ltb-false 9223372036854775806 n h)
+
 -- `z` is the number of which the code holds the bits
 module _ (z : ℤ) (h : natAbs z < 2 ^ 63) (f : SFits w64 z) where
   pub back : toZ w64 (ofZ w64 z) ≡ z

@@ -3,8 +3,9 @@
 use Prim.Native.Nat.{ℕ, zero, suc, _+_}
 use mathlib.Core.Bool.{Bool, true, cond, _&&_}
 use mathlib.Core.List.{List, [], _∷_, _++_}
-use lib.Dec.{ltb}
+use lib.Dec.{leb, ltb}
 use lib.ListN.{getD, take, drop, length}
+use Rattle.arithmetic.specs.Sum.{greatest}
 
 -- the list f 0, .., f (n - 1)
 unfoldable pub row : ℕ → (ℕ → ℕ) → List ℕ
@@ -15,6 +16,10 @@ row (suc n) f = f 0 ∷ row n (λ k. f (suc k))
 abbrev pub values : List ℕ → ℕ → ℕ
 values l k = getD l k 0
 
+-- the greatest of a list; 0 where it is empty
+abbrev pub greatest-of : List ℕ → ℕ
+greatest-of l = greatest (length l) (values l)
+
 -- a memory in which a list stands from an index on, everything else as it was
 unfoldable pub place : List ℕ → ℕ → List ℕ → List ℕ
 place memory start part = take start memory ++ (part ++ drop (start + length part) memory)
@@ -23,6 +28,10 @@ place memory start part = take start memory ++ (part ++ drop (start + length par
 unfoldable pub each : ℕ → (ℕ → Bool) → Bool
 each zero test = true
 each (suc n) test = each n test && test n
+
+-- the number at an index is from low to high
+abbrev pub between : ℕ → ℕ → (ℕ → ℕ) → ℕ → Bool
+between low high f k = leb low (f k) && leb (f k) high
 
 -- the first n values of f, and those of g after them
 unfoldable pub overlay : ℕ → (ℕ → ℕ) → (ℕ → ℕ) → ℕ → ℕ

@@ -3,17 +3,18 @@
 use mathlib.Core.Path.{_≡_, refl, sym, ap, _∙_}
 use mathlib.Core.Bool.{Bool, true, false, cond}
 use mathlib.Core.List.{List, [], _∷_}
-use Prim.Native.Nat.{ℕ, zero, suc, _+_, _-_, _*_, _^_, _≤_, _<_}
+use Prim.Native.Nat.{ℕ, zero, suc, _+_, _-_, _*_, _≤_, _<_}
 use native.Mathlib.Omega.{arith}
 use lib.Dec.{ltb, leb}
 use lib.ListN.{getD}
-use borrow.Author.Tests.{lt-ltb, le-ltb, le-leb, lt-leb, ltb-true, ltb-false}
+use borrow.Author.Tests.{lt-ltb, le-ltb, le-leb, lt-leb, ltb-true}
 use lib.IntN.{ℤ, pos, negsuc, negℤ, natAbs, _-ℤ_}
 use lib.Signed.{ltZ}
 use mir.Syntax.{w64}
 use mir.Val.{SFits}
 use Rattle.arithmetic.proofs.Numbers.{by-order}
 use Rattle.arithmetic.proofs.Signed.{abs-negative, abs-sum, fits-by-size}
+use Rattle.limits.specs.Limits.{most-steps, most-reversion}
 use Rattle.lattice.specs.Shape.{half-width}
 use Rattle.lattice.specs.Branching.{branching, lowest-of, up, middle, down, probabilities}
 use Rattle.lattice.specs.Entries.{refusedBranch, branchOf, branchAnswer}
@@ -24,18 +25,6 @@ use Rattle.lattice.proofs.Nodes.{ordinary-node, top-node, branching-mirrored, u
 -- a node's neighbours are small
 pub less-fits : (j : ℤ) (c : ℕ) → natAbs j ≤ 60 → c ≤ 2 → SFits w64 (j -ℤ pos c)
 less-fits j c h l = fits-by-size (j -ℤ pos c) (omega (arith, abs-sum j (negℤ (pos c)), abs-negative c))
-
--- a node of so small a number has a magnitude that fits
-pub far : (j : ℤ) → ltZ j (negsuc 59) ≡ true → 60 < natAbs j
-far (pos n) h = let e : _≡_ {A = ℕ} 0 1 = cc in absurd (different e)
-  where
-    different : _≡_ {A = ℕ} 0 1 → ⊥
-    different e = omega arith
-far (negsuc n) h = omega (arith, ltb-true 59 n h)
-
-pub sized : (j : ℤ) → SFits w64 j → ltZ j (negsuc 59) ≡ false → natAbs j < 2 ^ 63
-sized (pos n) f h = f .sfits
-sized (negsuc n) f h = omega (arith, ltb-false 59 n h)
 
 -- the upper side
 module _ (b d : ℕ) where
@@ -87,22 +76,19 @@ lower-inner b d (negsuc c) p s l e h = rw (e, ← s) (inner-image b c (rw s h))
 -- ---- the entry's answer
 
 module _ (b i : ℕ) (j : ℤ) where
-  pub answer-steep : 6000 < b → branchAnswer b i j ≡ refusedBranch 4
+  pub answer-steep : most-reversion < b → branchAnswer b i j ≡ refusedBranch 4
   unfolding branchAnswer
-  answer-steep h = rw (lt-ltb 6000 b h)
+  answer-steep h = rw (lt-ltb most-reversion b h)
 
-  module _ (hb : b ≤ 6000) where
-    pub answer-past : 59 < i → branchAnswer b i j ≡ refusedBranch 6
+  module _ (hb : b ≤ most-reversion) where
+    pub answer-past : most-steps ≤ i → branchAnswer b i j ≡ refusedBranch 6
     unfolding branchAnswer
-    answer-past h = rw (le-ltb 6000 b hb, lt-ltb 59 i h)
+    answer-past h = rw (le-ltb most-reversion b hb, le-leb most-steps i h)
 
-    module _ (hi : i ≤ 59) where
+    module _ (hi : i < most-steps) where
       outside : half-width b i < natAbs j → branchAnswer b i j ≡ refusedBranch 6
       unfolding branchAnswer
-      outside h = rw (le-ltb 6000 b hb, le-ltb 59 i hi, lt-leb (natAbs j) (half-width b i) h)
-
-      pub answer-below : ltZ j (negsuc 59) ≡ true → branchAnswer b i j ≡ refusedBranch 6
-      answer-below h = outside (omega (arith, far j h, half-within b i))
+      outside h = rw (le-ltb most-reversion b hb, lt-leb most-steps i hi, lt-leb (natAbs j) (half-width b i) h)
 
       pub answer-wide : (d : ℕ) → d ≡ natAbs j → i < d → branchAnswer b i j ≡ refusedBranch 6
       answer-wide d e h = outside (omega (arith, half-within b i))
@@ -118,4 +104,4 @@ module _ (b i : ℕ) (j : ℤ) where
       unfolding branchAnswer
       answer-found d e h w =
           let l : natAbs j ≤ half-width b i = rw e at (row-within b i d h (within-by-product b d w)) in
-          rw (le-ltb 6000 b hb, le-ltb 59 i hi, le-leb (natAbs j) (half-width b i) l)
+          rw (le-ltb most-reversion b hb, lt-leb most-steps i hi, le-leb (natAbs j) (half-width b i) l)

@@ -1,12 +1,13 @@
 // The branch of a node: where it leads and how likely; and the table of down-probabilities that serves every row.
 use lattice::Branches;
 ghost use mathlib.Core.Path.{_≡_};
-ghost use Prim.Native.Nat.{ℕ, _+_, _*_, _<_, _≤_, _^_};
+ghost use Prim.Native.Nat.{ℕ, _+_, _*_, _≤_};
 ghost use mathlib.Core.Bool.{true};
 ghost use lib.IntN.{pos, natAbs};
 ghost use lib.Signed.{ltZ};
 ghost use lib.ListN.{length};
 ghost use Rattle.arithmetic.specs.Row.{row};
+ghost use Rattle.limits.specs.Limits.{most-steps, most-reversion};
 ghost use Rattle.lattice.specs.Branching.{
   ordinary,
   top,
@@ -57,7 +58,7 @@ fn near(z: u64) -> u64
 
 // Up, middle and down of the node so far above the middle. Whether it is J shows in z: no division.
 fn upper(reversion: u64, distance: u64) -> [u64; 3]
-    requires { ⌜ (reversion ≤ 6000) × (distance ≤ 60) × (distance * reversion ≤ 1840 + reversion) ⌝ }
+    requires { ⌜ (reversion ≤ most-reversion) × (distance ≤ most-steps) × (distance * reversion ≤ 1840 + reversion) ⌝ }
     ensures { λ r. ⌜ r ≡ probabilities reversion (pos distance) ⌝ }
 {
     let z = distance * reversion;
@@ -65,18 +66,6 @@ fn upper(reversion: u64, distance: u64) -> [u64; 3]
         return [stay(z), near(z), outer(z)];
     }
     [outer(z), across(z), inner(z)]
-}
-
-// |j|.
-fn magnitude(node: i64) -> u64
-    requires { ⌜ natAbs node < 2 ^ 63 ⌝ }
-    ensures { λ r. ⌜ r ≡ natAbs node ⌝ }
-{
-    if node < 0 {
-        let size = 0 - node;
-        return size as u64;
-    }
-    node as u64
 }
 
 fn refused_branch(number: u64) -> Branches
@@ -91,7 +80,7 @@ fn refused_branch(number: u64) -> Branches
 
 // The branch of a node below the middle: the mirror image of the node so far above it.
 fn lower_branch(reversion: u64, node: i64, distance: u64) -> Branches
-    requires { ⌜ (reversion ≤ 6000) × (distance ≤ 60) × (distance * reversion ≤ 1840 + reversion) ⌝ }
+    requires { ⌜ (reversion ≤ most-reversion) × (distance ≤ most-steps) × (distance * reversion ≤ 1840 + reversion) ⌝ }
     requires { ⌜ (natAbs node ≡ distance) × (ltZ node (pos 0) ≡ true) ⌝ }
     ensures { λ r. ⌜ r ≡ branchOf reversion node ⌝ }
 {
@@ -110,7 +99,7 @@ fn lower_branch(reversion: u64, node: i64, distance: u64) -> Branches
 }
 
 fn upper_branch(reversion: u64, node: i64, distance: u64) -> Branches
-    requires { ⌜ (reversion ≤ 6000) × (distance ≤ 60) × (distance * reversion ≤ 1840 + reversion) ⌝ }
+    requires { ⌜ (reversion ≤ most-reversion) × (distance ≤ most-steps) × (distance * reversion ≤ 1840 + reversion) ⌝ }
     requires { ⌜ node ≡ pos distance ⌝ }
     ensures { λ r. ⌜ r ≡ branchOf reversion node ⌝ }
 {
@@ -131,16 +120,13 @@ fn upper_branch(reversion: u64, node: i64, distance: u64) -> Branches
 pub fn branch(reversion: u64, row: usize, node: i64) -> Branches
     ensures { λ r. ⌜ r ≡ branchAnswer reversion row node ⌝ }
 {
-    if 6000 < reversion {
+    if limits::MOST_REVERSION < reversion {
         return refused_branch(4);
     }
-    if 59 < row {
+    if limits::MOST_STEPS <= row {
         return refused_branch(6);
     }
-    if node < -60 {
-        return refused_branch(6);
-    }
-    let distance = magnitude(node);
+    let distance = arithmetic::magnitude(node);
     if (row as u64) < distance {
         return refused_branch(6);
     }
@@ -155,7 +141,7 @@ pub fn branch(reversion: u64, row: usize, node: i64) -> Branches
 
 // The down-probability of the node at an index of a row of this half width.
 fn down_of(reversion: u64, half_width: usize, index: usize) -> u64
-    requires { ⌜ (reversion ≤ 6000) × («half_width» ≤ 60) × («half_width» * reversion ≤ 1840 + reversion) × (index ≤ 2 * «half_width») ⌝ }
+    requires { ⌜ (reversion ≤ most-reversion) × («half_width» ≤ most-steps) × («half_width» * reversion ≤ 1840 + reversion) × (index ≤ 2 * «half_width») ⌝ }
     ensures { λ r. ⌜ r ≡ down reversion (node-at «half_width» index) ⌝ }
 {
     if index < half_width {
@@ -167,7 +153,7 @@ fn down_of(reversion: u64, half_width: usize, index: usize) -> u64
 }
 
 fn fill_table(reversion: u64, half_width: usize, table: &mut [u64])
-    requires { ⌜ (reversion ≤ 6000) × («half_width» ≤ 60) × («half_width» * reversion ≤ 1840 + reversion) × (length (now table) ≡ 2 * «half_width» + 1) ⌝ }
+    requires { ⌜ (reversion ≤ most-reversion) × («half_width» ≤ most-steps) × («half_width» * reversion ≤ 1840 + reversion) × (length (now table) ≡ 2 * «half_width» + 1) ⌝ }
     ensures { λ _. ⌜ now (table .exit) ≡ row (length (now (table .entry))) (λ k. down reversion (node-at «half_width» k)) ⌝ }
 {
     let mut index = 0;
@@ -183,10 +169,10 @@ pub fn down_probabilities(reversion: u64, half_width: usize, table: &mut [u64]) 
     ensures number { λ r. ⌜ r ≡ tableNumber reversion «half_width» (length (now (table .entry))) ⌝ }
     ensures memory { λ _. ⌜ now (table .exit) ≡ tableOf reversion «half_width» (now (table .entry)) ⌝ }
 {
-    if 6000 < reversion {
+    if limits::MOST_REVERSION < reversion {
         return 4;
     }
-    if 60 < half_width {
+    if limits::MOST_STEPS < half_width {
         return 6;
     }
     if 1840 + reversion < (half_width as u64) * reversion {

@@ -15,12 +15,14 @@ ghost use Rattle.step_rate.specs.StepRate.{rateAnswer};
 ghost use Rattle.fitting.specs.Entry.{fitNumber, fit-memory, fit-discounts, fit-prices};
 ghost use Rattle.row_view.specs.RowView.{range-by-number};
 ghost use Rattle.state_price_bound.specs.ErrorBound.{statePriceErrorBound};
-ghost use Rattle.pricing.specs.Prices.{bondPrice, optionPrice};
+ghost use Rattle.pricing.specs.Prices.{bondPrice, optionPrice, bondAndOption};
 ghost use Rattle.valuation.specs.Entries.{valueByStatePrices, valuationErrorBound};
-ghost use Rattle.job_sheet.specs.WholeJob.{sheetNumber, sheetText, answerOf, memoryOf};
+ghost use Rattle.sheet_laws.specs.WholeJob.{sheetNumber, sheetText, memoryOf};
+ghost use Rattle.record_sheet.specs.Answers.{answerOf};
 use arithmetic::Answer;
 use job_sheet::Written;
 use lattice::Branches;
+use pricing::BondAndOption;
 use pricing::Price;
 use quotes::Point;
 use row_view::RowRange;
@@ -187,6 +189,21 @@ pub extern "C" fn mixegorta_option_price(
     ensures { λ r. ⌜ r ≡ optionPrice steps reversion (now (discounts .entry)) (now (flows .entry)) kind expiry strike ⌝ }
 {
     pricing::option_price(steps, reversion, discounts, flows, kind, expiry, strike)
+}
+
+#[no_mangle]
+pub extern "C" fn mixegorta_bond_and_option(
+    steps: usize,
+    reversion: u64,
+    discounts: &[u64],
+    flows: &[u64],
+    kind: u64,
+    expiry: usize,
+    strike: u64,
+) -> BondAndOption
+    ensures { λ r. ⌜ r ≡ bondAndOption steps reversion (now (discounts .entry)) (now (flows .entry)) kind expiry strike ⌝ }
+{
+    pricing::bond_and_option(steps, reversion, discounts, flows, kind, expiry, strike)
 }
 
 #[no_mangle]

@@ -16,7 +16,9 @@ use Rattle.arithmetic.specs.Row.{row, values, place, each}
 use Rattle.arithmetic.proofs.RowLaws.{length-row, values-row, each-holds}
 use Rattle.arithmetic.specs.Frequency.{listed}
 use Rattle.quotes.proofs.QuoteLaws.{lone-told, lone-seventh, row-known}
-use Rattle.curve.specs.Curve.{stepsKnown, placeAt, inPlace, answerAt, convertsAt, discountAt, curveNumber, curveMemory}
+use Rattle.limits.specs.Limits.{most-steps, is-steps}
+use Rattle.limits.proofs.LimitLaws.{from-one}
+use Rattle.curve.specs.Curve.{placeAt, inPlace, answerAt, convertsAt, discountAt, curveNumber, curveMemory}
 use Rattle.arithmetic.proofs.PlaceLaws.{length-place, place-inside, place-after}
 
 true≢false : true ≡ false → ⊥
@@ -100,7 +102,7 @@ number-none true true true true h = (refl, refl, refl, refl)
 pub record Accepted (f n : ℕ) (rows kinds : List ℕ) (figures : List Float) (room : ℕ) : Type 0 where
   pub frequency : listed f ≡ true
   pub least : 1 ≤ n
-  pub most : n ≤ 60
+  pub most : n ≤ most-steps
   pub rows-long : length rows ≡ n
   pub kinds-long : length kinds ≡ n
   pub figures-long : length figures ≡ n
@@ -114,42 +116,38 @@ module _ (f n : ℕ) (rows kinds : List ℕ) (figures : List Float) (room : ℕ)
   number-frequency h = rw h
 
   module _ (a : listed f ≡ true) where
-    pub number-low : n < 1 → curveNumber f n rows kinds figures room ≡ 3
-    unfolding curveNumber stepsKnown
-    number-low h = rw (a, lt-leb 1 n h)
+    pub number-steps : is-steps n ≡ false → curveNumber f n rows kinds figures room ≡ 3
+    unfolding curveNumber
+    number-steps h = rw (a, h)
 
-    pub number-high : 1 ≤ n → 60 < n → curveNumber f n rows kinds figures room ≡ 3
-    unfolding curveNumber stepsKnown
-    number-high l h = rw (a, le-leb 1 n l, lt-leb n 60 h)
-
-    module _ (l : 1 ≤ n) (h : n ≤ 60) where
+    module _ (h : is-steps n ≡ true) where
       pub number-place : inPlace n rows kinds figures room ≡ false → curveNumber f n rows kinds figures room ≡ 6
-      unfolding curveNumber stepsKnown
-      number-place p = rw (a, le-leb 1 n l, le-leb n 60 h, p)
+      unfolding curveNumber
+      number-place p = rw (a, h, p)
 
       module _ (p : inPlace n rows kinds figures room ≡ true) where
         all : each n (convertsAt f kinds figures) ≡ each (length kinds) (convertsAt f kinds figures)
         all = ap (λ (m : ℕ). each m (convertsAt f kinds figures)) (sym (placed-kinds n rows kinds figures room p))
 
         pub number-quotes : each (length kinds) (convertsAt f kinds figures) ≡ false → curveNumber f n rows kinds figures room ≡ 7
-        unfolding curveNumber stepsKnown
-        number-quotes g = rw (a, le-leb 1 n l, le-leb n 60 h, p, all, g)
+        unfolding curveNumber
+        number-quotes g = rw (a, h, p, all, g)
 
         pub number-accepted : each (length kinds) (convertsAt f kinds figures) ≡ true → curveNumber f n rows kinds figures room ≡ 0
-        unfolding curveNumber stepsKnown
-        number-accepted g = rw (a, le-leb 1 n l, le-leb n 60 h, p, all, g)
+        unfolding curveNumber
+        number-accepted g = rw (a, h, p, all, g)
 
   -- number 0 says all of it
   pub accepted : curveNumber f n rows kinds figures room ≡ 0 → Accepted f n rows kinds figures room
-  unfolding curveNumber stepsKnown inPlace
+  unfolding curveNumber inPlace
   accepted h =
-      let parts = number-none (listed f) (stepsKnown n) (inPlace n rows kinds figures room) (each n (convertsAt f kinds figures)) h in
-      let steps = both (leb 1 n) (leb n 60) (parts .1) in
+      let parts = number-none (listed f) (is-steps n) (inPlace n rows kinds figures room) (each n (convertsAt f kinds figures)) h in
+      let steps = from-one most-steps n (parts .1) in
       let places = five (eqb (length rows) n) (eqb (length kinds) n) (eqb (length figures) n) (leb n room) (each n (placeAt rows)) (parts .2) in
       record {
         frequency = parts .0;
-        least = leb-true 1 n (steps .0);
-        most = leb-true n 60 (steps .1);
+        least = steps .0;
+        most = steps .1;
         rows-long = eqb-true (length rows) n (places .0);
         kinds-long = eqb-true (length kinds) n (places .1);
         figures-long = eqb-true (length figures) n (places .2);

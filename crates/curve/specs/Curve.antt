@@ -9,11 +9,8 @@ use lib.Ieee.{Float, nan}
 use Rattle.arithmetic.specs.declared.Answer.{Answer}
 use Rattle.arithmetic.specs.Row.{row, values, place, each}
 use Rattle.arithmetic.specs.Frequency.{listed}
+use Rattle.limits.specs.Limits.{is-steps}
 use Rattle.quotes.specs.Quotes.{loneAnswer}
-
--- n, steps: 1 to 60
-unfoldable pub stepsKnown : ℕ → Bool
-stepsKnown n = leb 1 n && leb n 60
 
 -- the point's row is its place
 abbrev pub placeAt : List ℕ → ℕ → Bool
@@ -39,10 +36,10 @@ discountAt f kinds figures k = answerAt f kinds figures k .value
 
 -- the number of the refusal, the lowest first, or 0; the memory has room for so many discounts
 unfoldable pub curveNumber : ℕ → ℕ → List ℕ → List ℕ → List Float → ℕ → ℕ
-unfolding stepsKnown inPlace answerAt each
+unfolding inPlace answerAt each
 curveNumber f n rows kinds figures room =
     cond (not (listed f)) 2
-    (cond (not (stepsKnown n)) 3
+    (cond (not (is-steps n)) 3
     (cond (not (inPlace n rows kinds figures room)) 6
     (cond (not (each n (convertsAt f kinds figures))) 7 0)))
 

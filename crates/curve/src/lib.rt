@@ -82,10 +82,7 @@ fn cause(
     if !arithmetic::is_listed(frequency) {
         return 2;
     }
-    if steps < 1 {
-        return 3;
-    }
-    if steps > 60 {
+    if !limits::is_steps(steps) {
         return 3;
     }
     if !is_in_place(steps, rows, kinds, figures, room) {

@@ -8,7 +8,7 @@ use Rattle.factor.proofs.Figures as factors
 use Rattle.figure.proofs.Figures as floats
 use Rattle.quotes.proofs.Figures as quotes
 use Rattle.step_rate.proofs.Figures as rates
-use Rattle.text.proofs.Figures as text
+use Rattle.text_laws.proofs.Figures as text
 use Rattle.figures.specs.Figures.{Figures}
 
 pub figures : Figures

@@ -16,7 +16,7 @@ use Rattle.factor.specs.Factor.{factor}
 use Rattle.figure.specs.Figure.{figureOf, accepted}
 use Rattle.quotes.specs.Quotes.{loneAnswer}
 use Rattle.step_rate.specs.StepRate as step-rate
-use Rattle.text.specs.Lines.{percent}
+use Rattle.text_laws.specs.Lines.{percent}
 
 pub record Figures : Type 0 where
   -- J: b = 1,840, 1,841, 1,000

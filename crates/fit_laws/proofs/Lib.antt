@@ -2,4 +2,3 @@ pub mod StepLaws
 pub mod Repricing
 pub mod Shortfall
 pub mod WholeFit
-pub mod AcceptedLaws

@@ -6,8 +6,9 @@ use mathlib.Core.Bool.{Bool}
 use Rattle.arithmetic.specs.Rounding.{one, up}
 use Rattle.arithmetic.specs.Sum.{greatest}
 use Rattle.arithmetic.specs.Row.{each}
+use Rattle.limits.specs.Limits.{is-discount}
 use Rattle.tree.specs.Tree.{Tree, incoming}
-use Rattle.fit_laws.specs.Step.{discount, next-price, accepted-discount}
+use Rattle.fit_laws.specs.Step.{discount, next-price}
 
 -- the state prices that the fit gives: row 0 has one
 unfoldable pub fitted-price : Tree → (ℕ → ℕ → ℕ) → (ℕ → ℕ) → ℕ → ℕ → ℕ
@@ -22,7 +23,7 @@ fitted-discount t u p i = discount (t .nodes i) (fitted-price t u p i) (u i) (p 
 
 -- whether every node discount of row i is accepted
 unfoldable pub accepted-row : Tree → (ℕ → ℕ → ℕ) → ℕ → Bool
-accepted-row t v i = each (t .nodes i) (λ k. accepted-discount (v i k))
+accepted-row t v i = each (t .nodes i) (λ k. is-discount (v i k))
 
 -- the state prices that follow from node discounts, whoever stored them
 unfoldable pub state-price : Tree → (ℕ → ℕ → ℕ) → ℕ → ℕ → ℕ

@@ -1,8 +1,6 @@
 -- One step of the fit (document 01, Spacing and fit), over a row of n nodes: state prices q, factors u, the quote p of the next row, discounts v.
 -- Assumes nothing.
 use Prim.Native.Nat.{ℕ, _*_, _/_}
-use mathlib.Core.Bool.{Bool, _&&_}
-use lib.Dec.{leb}
 use Rattle.arithmetic.specs.Rounding.{one}
 use Rattle.arithmetic.specs.Sum.{sum}
 use Rattle.tree.specs.Tree.{Transition, whole, incoming}
@@ -22,7 +20,3 @@ carried q v k = q k * v k / one
 -- the next row's state price: the sum over incoming branches of probability × carried amount, divided once, down
 unfoldable pub next-price : Transition → ℕ → (ℕ → ℕ) → (ℕ → ℕ) → ℕ → ℕ
 next-price t n q v j = incoming t n (carried q v) j / whole
-
--- an accepted node discount: 1 to 1,100,000,000
-unfoldable pub accepted-discount : ℕ → Bool
-accepted-discount v = leb 1 v && leb v 1100000000

@@ -35,7 +35,7 @@ module _ (n b ds ps : ℕ) (needed all : Answer) (en : needed ≡ discountsNeede
     memory-enough g = rw (← en, ← ea, le-leb (needed .value) ds h, le-leb (all .value) ps g)
 
 -- the memories hold the tree
-memory-none : (n b ds ps : ℕ) → memory-cause n b ds ps ≡ 0 → (discountsNeeded n b .value ≤ ds) × (statePricesNeeded n b .value ≤ ps)
+pub memory-none : (n b ds ps : ℕ) → memory-cause n b ds ps ≡ 0 → (discountsNeeded n b .value ≤ ds) × (statePricesNeeded n b .value ≤ ps)
 memory-none n b ds ps e =
     by-order (discountsNeeded n b .value) ds
     (λ h. by-order (statePricesNeeded n b .value) ps (λ g. (h, g))

@@ -24,7 +24,8 @@ use Rattle.lattice.proofs.RateTreeLaws.{start-is}
 use Rattle.lattice.proofs.TreeEntries.{by-tree}
 use Rattle.spacing.specs.Spacing.{spacing, spacing-answer}
 use Rattle.arithmetic.specs.Frequency.{listed}
-use Rattle.curve.specs.Curve.{discountAt, convertsAt, stepsKnown, inPlace, curveNumber, curveMemory}
+use Rattle.limits.specs.Limits.{is-steps}
+use Rattle.curve.specs.Curve.{discountAt, convertsAt, inPlace, curveNumber, curveMemory}
 use Rattle.curve.proofs.CurveLaws.{curve-range, curve-stored}
 use Rattle.fitting.specs.declared.causes.Plan.{Plan}
 use Rattle.fitting.specs.Fit.{Fittable, curve-discount, curve-price, curve-accepted}
@@ -43,7 +44,7 @@ chain-small false false false false = omega arith
 curve-small : (f n : ℕ) (rows kinds : List ℕ) (figures : List Float) (room : ℕ) → curveNumber f n rows kinds figures room ≤ 7
 unfolding curveNumber
 curve-small f n rows kinds figures room =
-    chain-small (not (listed f)) (not (stepsKnown n)) (not (inPlace n rows kinds figures room)) (not (each n (convertsAt f kinds figures)))
+    chain-small (not (listed f)) (not (is-steps n)) (not (inPlace n rows kinds figures room)) (not (each n (convertsAt f kinds figures)))
 
 tree-small : (n b : ℕ) → discountsNeeded n b .number ≤ 7
 tree-small n b =

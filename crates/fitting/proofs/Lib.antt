@@ -1,4 +1,5 @@
 pub mod StepRows
+pub mod NodeLoop
 pub mod RowStep
 pub mod RowParts
 pub mod TreeRows
@@ -7,3 +8,4 @@ pub mod TableFit
 pub mod CauseLaws
 pub mod FitEntry
 pub mod Promised
+pub mod FittedTree

@@ -4,11 +4,11 @@ use mathlib.Core.Path.{_≡_, refl, sym, _∙_, ap}
 use mathlib.Core.Bool.{Bool, true, false, cond}
 use mathlib.Core.List.{List, [], _∷_, _++_}
 use Prim.Native.Nat.{ℕ, zero, suc, _+_, _-_, _*_, _≤_, _<_}
-use native.Mathlib.Nat.{le-refl}
+use native.Mathlib.Nat.{le-refl, add-sub-of-le}
 use native.Mathlib.Numerals.{add-one}
 use native.Mathlib.Omega.{arith}
 use lib.ListN.{length, take, drop, set, length-set}
-use lib.Seq.{set-split, drop-set-lt}
+use lib.Seq.{set-split, drop-set-lt, drop-drop}
 use Rattle.arithmetic.specs.Rounding.{one}
 use Rattle.arithmetic.specs.Sum.{sum}
 use Rattle.arithmetic.specs.Row.{row, values, place, each}
@@ -20,15 +20,17 @@ use Rattle.tree.proofs.LayoutLaws.{start-suc, start-grow, length-laid, laid-row
 use Rattle.lattice.specs.Shape.{half-width, node-count, row-start}
 use Rattle.lattice.specs.RateTree.{rate-tree}
 use Rattle.lattice.proofs.Sizes.{half-within, count-positive}
+use Rattle.lattice.proofs.Sizes as sizes
 use Rattle.lattice.proofs.RateTreeLaws.{rate-tree-sound}
-use Rattle.fit_laws.specs.Step.{discount, next-price, accepted-discount}
+use Rattle.limits.specs.Limits.{is-discount}
+use Rattle.fit_laws.specs.Step.{discount, next-price}
 use Rattle.fit_laws.specs.StatePrices.{fitted-price, fitted-discount, accepted-row}
 use Rattle.fit_laws.proofs.StepLaws.{discount-cong, next-cong}
 use Rattle.fit_laws.proofs.Repricing.{Fittable}
 use Rattle.fit_laws.proofs.WholeFit.{Curve, fittable}
-use Rattle.fitting.specs.Rows.{Factors, Tables, TreeRow, table-factor, table-offset}
+use Rattle.fitting.specs.Rows.{Factors, Tables, TreeRow, table-factor}
 use Rattle.fitting.specs.Fit.{quoted, table-discount, table-price, table-accepted}
-use Rattle.fitting.proofs.TreeRows.{table-room}
+use Rattle.lattice.proofs.ShapeLaws.{table-room}
 
 -- what the caller ensures: quotes l, tables u and d, the memories d₀ and p₀, a row of working memory
 pub record Known (b : ℕ) (l u downs d₀ p₀ a : List ℕ) : Type 0 where
@@ -37,13 +39,19 @@ pub record Known (b : ℕ) (l u downs d₀ p₀ a : List ℕ) : Type 0 where
   pub high : (i : ℕ) → i < length l → values l i ≤ 2000000000
   pub room-discounts : row-start b (length l) ≤ length d₀
   pub room-prices : row-start b (suc (length l)) ≤ length p₀
-  pub room-amounts : 121 ≤ length a
+  pub room-sums : 121 ≤ length a
 
 -- what holds after i rows
 pub record Progress (b : ℕ) (l u d₀ p₀ d p : List ℕ) (i : ℕ) : Type 0 where
   pub discounts : d ≡ laid (rate-tree b) (table-discount b l u) i ++ drop (start (rate-tree b) i) d₀
   pub prices : p ≡ laid (rate-tree b) (table-price b l u) (suc i) ++ drop (start (rate-tree b) (suc i)) p₀
   pub accepted : each i (accepted-row (rate-tree b) (table-discount b l u)) ≡ true
+
+-- lists that agree past a place agree past every later one
+drop-later : (a c : ℕ) (x y : List ℕ) → a ≤ c → drop a x ≡ drop a y → drop c x ≡ drop c y
+drop-later a c x y h e =
+    let s : a + (c - a) ≡ c = add-sub-of-le h in
+    rw (← s) (sym (drop-drop (c - a) a x) ∙ ap (drop (c - a)) e ∙ drop-drop (c - a) a y)
 
 start-is : (b i : ℕ) → start (rate-tree b) i ≡ row-start b i
 unfolding start row-start rate-tree
@@ -66,11 +74,11 @@ root-start b = refl
 module _ (b : ℕ) (l u downs d₀ p₀ a : List ℕ) (k : Known b l u downs d₀ p₀ a) where
   factor-least : (i j : ℕ) → i < length l → j < node-count b i → 360000000 ≤ table-factor b (length l) u i j
   unfolding table-factor
-  factor-least i j h g = k .tables .bounded .least _ (omega (arith, table-room b (length l) i h))
+  factor-least i j h g = k .tables .bounded .least _ (omega (arith, table-room b (length l - 1) i (omega arith)))
 
   factor-most : (i j : ℕ) → i < length l → j < node-count b i → table-factor b (length l) u i j ≤ 2720000000
   unfolding table-factor
-  factor-most i j h g = k .tables .bounded .most _ (omega (arith, table-room b (length l) i h))
+  factor-most i j h g = k .tables .bounded .most _ (omega (arith, table-room b (length l - 1) i (omega arith)))
 
   count-most : (i : ℕ) → node-count b i ≤ 2 * i + 1
   unfolding node-count
@@ -142,7 +150,7 @@ module _ (b : ℕ) (l u downs d₀ p₀ a : List ℕ) (k : Known b l u downs d�
         in-tree = hi;
         room-discounts = rw discounts-length (k .room-discounts);
         room-prices = rw prices-length (k .room-prices);
-        room-amounts = rw ha (k .room-amounts);
+        room-sums = rw ha (k .room-sums);
         least = rw part-sum (ready b l u downs d₀ p₀ a k i hi .sum-low);
         most = rw part-sum (ready b l u downs d₀ p₀ a k i hi .sum-high);
         quote-most = k .high i hi;
@@ -165,21 +173,22 @@ module _ (b : ℕ) (l u downs d₀ p₀ a : List ℕ) (k : Known b l u downs d�
       (λ c h. discount-cong (node-count b i) (values l i) _ (table-price b l u i) (table-factor b (length l) u i) part-value c) j
 
   module _ (d′ p′ : List ℕ) (r : Bool)
-      (er : r ≡ each (node-count b i) (λ j. accepted-discount
+      (er : r ≡ each (node-count b i) (λ j. is-discount
       (discount (node-count b i) (values (take (node-count b i) (drop (row-start b i) p))) (table-factor b (length l) u i) (values l i) j)))
-      (ed : d′ ≡ place d (row-start b i) (row (node-count b i)
+      (ed : (r ≡ true → d′ ≡ place d (row-start b i) (row (node-count b i)
       (discount (node-count b i) (values (take (node-count b i) (drop (row-start b i) p))) (table-factor b (length l) u i) (values l i))))
+      × (drop (row-start b (suc i)) d′ ≡ drop (row-start b (suc i)) d))
       (ep : p′ ≡ cond r (place p (row-start b (suc i)) (row (node-count b (suc i))
       (next-price (rate-tree b .step i) (node-count b i) (values (take (node-count b i) (drop (row-start b i) p)))
       (discount (node-count b i) (values (take (node-count b i) (drop (row-start b i) p))) (table-factor b (length l) u i) (values l i))))) p) where
     row-tested : r ≡ accepted-row (rate-tree b) (table-discount b l u) i
     unfolding accepted-row rate-tree
-    row-tested = er ∙ each-cong (node-count b i) _ _ (λ j _. ap accepted-discount (discount-is j))
+    row-tested = er ∙ each-cong (node-count b i) _ _ (λ j _. ap is-discount (discount-is j))
 
-    row-filled : d′ ≡ laid (rate-tree b) (table-discount b l u) (suc i) ++ drop (start (rate-tree b) (suc i)) d₀
+    row-filled : r ≡ true → d′ ≡ laid (rate-tree b) (table-discount b l u) (suc i) ++ drop (start (rate-tree b) (suc i)) d₀
     unfolding rate-tree start row-start
-    row-filled =
-        ed ∙ ap (place d (row-start b i)) (row-cong (node-count b i) _ _ (λ j _. discount-is j))
+    row-filled e =
+        ed .0 e ∙ ap (place d (row-start b i)) (row-cong (node-count b i) _ _ (λ j _. discount-is j))
         ∙ laid-next (rate-tree b) (table-discount b l u) i d d₀ (g .discounts)
 
     row-stepped : r ≡ true → p′ ≡ laid (rate-tree b) (table-price b l u) (suc (suc i)) ++ drop (start (rate-tree b) (suc (suc i))) p₀
@@ -202,7 +211,7 @@ module _ (b : ℕ) (l u downs d₀ p₀ a : List ℕ) (k : Known b l u downs d�
     progressed e =
         rw (add-one i)
         (record {
-          discounts = row-filled;
+          discounts = row-filled e;
           prices = row-stepped e;
           accepted = rw (add-one i) at (each-more i (accepted-row (rate-tree b) (table-discount b l u)) (g .accepted) (sym row-tested ∙ e));
         })
@@ -216,7 +225,8 @@ module _ (b : ℕ) (l u downs d₀ p₀ a : List ℕ) (k : Known b l u downs d�
     unfolding table-accepted start row-start rate-tree
     refused e = (
       sym (each-fails (length l) i (accepted-row (rate-tree b) (table-discount b l u)) hi (sym row-tested ∙ e)),
-      laid-past (rate-tree b) (table-discount b l u) (suc i) (length l) d′ d₀ hi row-filled,
+      drop-later (row-start b (suc i)) (row-start b (length l)) d′ d (sizes.start-grow b (suc i) (length l) hi) (ed .1)
+          ∙ laid-past (rate-tree b) (table-discount b l u) i (length l) d d₀ (omega arith) (g .discounts),
       laid-past (rate-tree b) (table-price b l u) (suc i) (suc (length l)) p′ p₀ (omega arith) (row-kept e ∙ g .prices),
     )
 
@@ -254,7 +264,7 @@ pub known-plain :
     × (row-start b (length l) ≤ length d) × (row-start b (suc (length l)) ≤ length p) × (121 ≤ length a) →
     Known b l u downs d p a
 known-plain b l u downs d p a h =
-    record { tables = h .0; low = h .1; high = h .2; room-discounts = h .3; room-prices = h .4; room-amounts = h .5 }
+    record { tables = h .0; low = h .1; high = h .2; room-discounts = h .3; room-prices = h .4; room-sums = h .5 }
 
 pub known-of :
     (b : ℕ) (l u downs d p a : List ℕ) →

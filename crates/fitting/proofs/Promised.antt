@@ -19,7 +19,7 @@ use Rattle.arithmetic.proofs.RowLaws.{values-row, length-row}
 use Rattle.tree.specs.Tree.{Tree, Sound, unit}
 use Rattle.lattice.specs.Shape.{half-width, node-count}
 use Rattle.lattice.specs.RateTree.{node, rate-tree}
-use Rattle.lattice.proofs.Sizes.{half-within}
+use Rattle.lattice.proofs.Sizes.{half-within, half-later}
 use Rattle.lattice.proofs.RateTreeLaws.{rate-tree-sound, in-row}
 use Rattle.spacing.specs.Spacing.{spacing}
 use Rattle.factor.proofs.FactorLaws.{factor-bounds}
@@ -32,7 +32,6 @@ use Rattle.fitting.specs.Fit.{quoted, curve-accepted, curve-discount, cu
 use Rattle.fitting.specs.Entry.{quotes-of, early-cause, late-cause, fitNumber, fit-discount, fit-price}
 use Rattle.fitting.specs.Plans.{Numbers}
 use Rattle.fitting.proofs.CauseLaws.{numbers-of}
-use Rattle.fitting.proofs.TreeRows.{half-later}
 
 late-parts : (w a : Bool) → _≡_ {A = ℕ} (cond w 8 (cond a 0 9)) 0 → (w ≡ false) × (a ≡ true)
 late-parts true a e = absurd (none e)

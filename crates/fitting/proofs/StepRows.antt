@@ -1,22 +1,23 @@
 -- The loops of one step: what each holds after k nodes, and that it stays small.
 -- Assumes nothing.
 use mathlib.Core.Path.{_≡_, refl, sym, _∙_, ap}
-use mathlib.Core.Bool.{Bool, true, false, cond, _&&_}
-use native.Mathlib.Numerals.{add-one}
+use mathlib.Core.Bool.{Bool, true, false, cond}
 use mathlib.Core.List.{List}
 use Prim.Native.Nat.{ℕ, zero, suc, _+_, _*_, _/_, _≤_, _<_}
-use native.Mathlib.Nat.{mul-le-mul, mul-le-mul-left}
+use native.Mathlib.Nat.{mul-le-mul, le-refl}
 use native.Mathlib.Omega.{arith}
 use lib.ListN.{length}
 use Rattle.arithmetic.specs.Rounding.{one}
 use Rattle.arithmetic.specs.Sum.{sum, only}
 use Rattle.arithmetic.specs.Row.{row, values, each}
 use Rattle.arithmetic.proofs.SumLaws.{sum-next, sum-grow, sum-weigh-le, sum-term}
-use Rattle.arithmetic.proofs.RowLaws.{row-cong, values-row, length-row}
+use Rattle.arithmetic.proofs.RowLaws.{row-cong, values-row, length-row, each-holds}
 use Rattle.tree.specs.Tree.{Transition, Inside, Total, chance, incoming, whole}
 use Rattle.tree.proofs.StepLaws.{incoming-next, incoming-none, incoming-total, chance-times}
 use Rattle.row_branches.specs.declared.RowBranch.{RowBranch}
 use Rattle.row_branches.specs.RowBranches.{row-branch, row-transition}
+use Rattle.limits.specs.Limits.{is-discount}
+use Rattle.limits.proofs.LimitLaws.{discount-most}
 use Rattle.fit_laws.specs.Step.{carried}
 use Rattle.fit_laws.proofs.StepLaws.{carried-le}
 use Rattle.fitting.specs.Rows.{Factors}
@@ -36,9 +37,6 @@ quoted-small p x hp hx = mul-le-mul hp hx
 
 -- the carried amounts of state prices of at most 2,000,000,300 in sum, at discounts of at most 1.1
 module _ (n : ℕ) (q v : ℕ → ℕ) (hs : sum n q ≤ 2000000300) (hv : (k : ℕ) → k < n → v k ≤ 1100000000) where
-  pub discounted-small : (k : ℕ) → k < n → q k * v k ≤ 2200000330000000000
-  discounted-small k h = omega (arith, hs, sum-weigh-le n 1100000000 q v hv, sum-term n k (λ i. q i * v i) h)
-
   pub carried-sum : sum n (carried q v) ≤ 2200000330
   carried-sum = omega (arith, carried-le n q v, sum-weigh-le n 1100000000 q v hv)
 
@@ -48,9 +46,6 @@ product-small p x hp hx = mul-le-mul hp hx
 
 -- the next row after k nodes stays small, and takes in one node more
 module _ (t : Transition) (n m : ℕ) (c : ℕ → ℕ) (inside : Inside t n m) (total : Total t n) (hs : sum n c ≤ 2200000330) where
-  pub amount-small : (k : ℕ) → k < n → c k ≤ 2200000330
-  amount-small k h = omega (arith, sum-term n k c h)
-
   pub incoming-small : (k j : ℕ) → k ≤ n → j < m → incoming t k c j ≤ 1400000000000000000
   incoming-small k j h i =
       omega (
@@ -66,44 +61,56 @@ module _ (t : Transition) (n m : ℕ) (c : ℕ → ℕ) (inside : Inside t n m) 
       let i′ : j < m = omega arith in
       rw (ap (λ (x : List ℕ). values x j) e ∙ values-row m j _ i′) (incoming-small k j h i′)
 
-as-transition : (downs : List ℕ) (next k x j : ℕ) →
-    only (row-branch downs next k .low) j (row-branch downs next k .down * x)
-    + only (row-branch downs next k .low + 1) j (row-branch downs next k .middle * x)
-    + only (row-branch downs next k .low + 2) j (row-branch downs next k .up * x)
-    ≡ chance (row-transition downs next) k j * x
+-- a branch's three additions as one of what it hands on
+pub spread-once :
+    (downs : List ℕ) (k x : ℕ) (l l′ : List ℕ) (b : RowBranch) → b ≡ row-branch downs (length l) k →
+    l′ ≡ row (length l) (λ j. values l j + (only (b .low) j (b .down * x) + only (b .low + 1) j (b .middle * x) + only (b .low + 2) j (b .up * x))) →
+    l′ ≡ row (length l) (λ j. values l j + chance (row-transition downs (length l)) k j * x)
 unfolding row-transition
-as-transition downs next k x j = chance-times (row-transition downs next) k j x
+spread-once downs k x l l′ b e e′ =
+    e′ ∙ rw e (row-cong (length l) _ _ (λ j _. ap (λ (y : ℕ). values l j + y) (chance-times (row-transition downs (length l)) k j x)))
 
--- what a branch adds at node j
-abbrev pub added : RowBranch → ℕ → ℕ → ℕ
-added b x j = only (b .low) j (b .down * x) + only (b .low + 1) j (b .middle * x) + only (b .low + 2) j (b .up * x)
+-- A row's nodes, one after the other: discounts v so far accepted, state prices q of at most 2,000,000,300 in sum.
+module _ (t : Transition) (n m : ℕ) (q v : ℕ → ℕ) (inside : Inside t n m) (total : Total t n) (hs : sum n q ≤ 2000000300)
+    (k : ℕ) (hk : k < n) (good : each k (λ i. is-discount (v i)) ≡ true) where
+  accepted-most : (i : ℕ) → i < k → v i ≤ 1100000000
+  accepted-most i h = discount-most (v i) (each-holds k i (λ i. is-discount (v i)) good h)
 
-pub spread-next :
-    (downs : List ℕ) (next m k : ℕ) (c : ℕ → ℕ) (l l′ : List ℕ) (b : RowBranch) →
-    b ≡ row-branch downs next k → l ≡ row m (incoming (row-transition downs next) k c) →
-    l′ ≡ row (length l) (λ j. values l j + added b (c k) j) → l′ ≡ row m (incoming (row-transition downs next) (k + 1) c)
-spread-next downs next m k c l l′ b eb e e′ =
-    e′
-    ∙ (ap (λ (n : ℕ). row n (λ j. values l j + added b (c k) j)) (ap length e ∙ length-row m _)
-    ∙ row-cong m _ _ (λ j h. one-more j h))
-  where
-    one-more : (j : ℕ) → j < m → values l j + added b (c k) j ≡ incoming (row-transition downs next) (k + 1) c j
-    one-more j h =
-        ap (λ (y : ℕ). y + added b (c k) j) (ap (λ (a : List ℕ). values a j) e ∙ values-row m j _ h)
-        ∙ ap (λ (y : ℕ). incoming (row-transition downs next) k c j + y)
-        (ap (λ (r : RowBranch). added r (c k) j) eb ∙ as-transition downs next k (c k) j)
-        ∙ sym (incoming-next (row-transition downs next) k c j)
+  carried-so-far : sum k (carried q v) ≤ 2200000330
+  carried-so-far = carried-sum k q v (omega (arith, sum-grow n k q (omega arith))) accepted-most
 
--- the probabilities of one branch
-pub branch-total : (downs : List ℕ) (next n k : ℕ) (b : RowBranch) → Total (row-transition downs next) n → k < n → b ≡ row-branch downs next k →
-    b .down + b .middle + b .up ≡ whole
+  pub sums-small : (l : List ℕ) → l ≡ row m (incoming t k (carried q v)) → (j : ℕ) → j < length l → values l j ≤ 1400000000000000000
+  sums-small l e =
+      row-small t k m (carried q v) (λ i h. inside i (omega arith)) (λ i h. total i (omega arith)) carried-so-far k l (le-refl k) e
+
+  module _ (this : is-discount (v k) ≡ true) where
+    pub product-most : q k * v k ≤ 2200000330000000000
+    product-most =
+        let price = sum-term n k q hk in
+        mul-le-mul {n₁ = q k} {m₁ = v k} {n₂ = 2000000300} {m₂ = 1100000000} (omega arith) (discount-most (v k) this)
+
+    pub amount-most : q k * v k / one ≤ 2200000330
+    amount-most = omega (arith, product-most)
+
+    pub sums-next : (l l′ : List ℕ) (a : ℕ) → a ≡ carried q v k → l ≡ row m (incoming t k (carried q v)) →
+        l′ ≡ row (length l) (λ j. values l j + chance t k j * a) → l′ ≡ row m (incoming t (k + 1) (carried q v))
+    sums-next l l′ a ea e e′ =
+        e′
+        ∙ (ap (λ (x : ℕ). row x (λ j. values l j + chance t k j * a)) (ap length e ∙ length-row m _)
+        ∙ row-cong m _ _ (λ j h. one-more j h))
+      where
+        one-more : (j : ℕ) → j < m → values l j + chance t k j * a ≡ incoming t (k + 1) (carried q v) j
+        one-more j h =
+            ap (λ (y : ℕ). y + chance t k j * a) (ap (λ (x : List ℕ). values x j) e ∙ values-row m j _ h)
+            ∙ ap (λ (x : ℕ). incoming t k (carried q v) j + chance t k j * x) ea
+            ∙ sym (incoming-next t k (carried q v) j)
+
+-- what a branch asks of the next row
+pub node-asks : (downs : List ℕ) (next n k : ℕ) → Inside (row-transition downs next) n next → Total (row-transition downs next) n → k < n →
+    (row-branch downs next k .low + 2 < next)
+    × (row-branch downs next k .down + row-branch downs next k .middle + row-branch downs next k .up ≤ 600000000)
 unfolding row-transition
-branch-total downs next n k b total h e = rw e (total k h)
-
-pub branch-inside : (downs : List ℕ) (next n m k : ℕ) (b : RowBranch) → Inside (row-transition downs next) n m → k < n → b ≡ row-branch downs next k →
-    b .low + 2 < m
-unfolding row-transition
-branch-inside downs next n m k b inside h e = rw e (inside k h)
+node-asks downs next n k inside total h = (inside k h, omega (arith, total k h))
 
 -- a test that failed did not pass
 pub never : {X : Type 0} → false ≡ true → X
@@ -111,7 +118,3 @@ never e = absurd (different (ap (λ (t : Bool). cond t 1 0) e))
   where
     different : _≡_ {A = ℕ} 0 1 → ⊥
     different z = omega arith
-
-pub each-joined : (k : ℕ) (p : ℕ → Bool) (a b : Bool) → a ≡ each k p → b ≡ p k → (a && b) ≡ each (k + 1) p
-unfolding each
-each-joined k p a b ea eb = rw (add-one k, ea, eb)

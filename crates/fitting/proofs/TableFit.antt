@@ -26,12 +26,13 @@ use Rattle.lattice.proofs.RateTreeLaws.{same-node}
 use Rattle.lattice.proofs.TableLaws.{table-fits}
 use Rattle.factor.specs.Factor.{factor, side-factor, side-answer}
 use Rattle.factor.proofs.FactorLaws.{index-below, index-above, side-accepted, nearer-within, factor-bounds}
-use Rattle.fit_laws.specs.Step.{accepted-discount}
+use Rattle.limits.specs.Limits.{is-discount}
 use Rattle.fit_laws.specs.StatePrices.{fitted-price, fitted-discount, accepted-row}
 use Rattle.fit_laws.proofs.WholeFit.{price-by, fitted-discount-by}
-use Rattle.fitting.specs.Rows.{Factors, Tables, table-factor, table-offset}
+use Rattle.fitting.specs.Rows.{Factors, Tables, table-factor}
 use Rattle.fitting.specs.Fit.{quoted, table-discount, table-price, table-accepted, curve-discount, curve-price, curve-accepted, node-factor, Fittable}
-use Rattle.fitting.proofs.TreeRows.{table-room, offset-is}
+use Rattle.lattice.specs.Entries.{table-offset}
+use Rattle.lattice.proofs.ShapeLaws.{table-room, offset-is}
 
 -- the factor's entry on either side of the middle
 module _ (w k h : ℕ) (a : Answer) (within : w * h ≤ one) where
@@ -88,12 +89,12 @@ module _ (b h w : ℕ) (q : List ℕ) (ds ps : ℕ) (f : Fittable b h w q ds ps)
   factor-by : (i k : ℕ) → i < length q → k < node-count b i → table-factor b (length q) factors i k ≡ node-factor b h i k
   unfolding table-factor
   factor-by i k l m =
-      let g : table-offset b (length q) i + k < node-count b (length q - 1) = omega (arith, table-room b (length q) i l) in
-      let e : table-offset b (length q) i + k ≡ k + table-offset b (length q) i = omega arith in
-      factors-value (table-offset b (length q) i + k) g
+      let g : table-offset b (length q - 1) i + k < node-count b (length q - 1) = omega (arith, table-room b (length q - 1) i (omega arith)) in
+      let e : table-offset b (length q - 1) i + k ≡ k + table-offset b (length q - 1) i = omega arith in
+      factors-value (table-offset b (length q - 1) i + k) g
       ∙ ap (λ (x : ℕ). factor (node-at w x) h) e
-      ∙ ap (λ (x : ℕ). factor (node-at x (k + table-offset b (length q) i)) h) (f .widest ∙ sym (offset-is b (length q) i l))
-      ∙ ap (λ (j : ℤ). factor j h) (same-node (half-width b i) k (table-offset b (length q) i))
+      ∙ ap (λ (x : ℕ). factor (node-at x (k + table-offset b (length q - 1) i)) h) (f .widest ∙ sym (offset-is b (length q - 1) i (omega arith)))
+      ∙ ap (λ (j : ℤ). factor j h) (same-node (half-width b i) k (table-offset b (length q - 1) i))
 
   same : (i k : ℕ) → i < length q → k < rate-tree b .nodes i → table-factor b (length q) factors i k ≡ node-factor b h i k
   unfolding rate-tree
@@ -103,7 +104,7 @@ module _ (b h w : ℕ) (q : List ℕ) (ds ps : ℕ) (f : Fittable b h w q ds ps)
   unfolding table-accepted curve-accepted accepted-row
   accepted-same =
       each-cong (length q) _ _ (λ i l. each-cong (rate-tree b .nodes i) _ _
-      (λ k m. ap accepted-discount (fitted-discount-by (rate-tree b) _ (node-factor b h) (quoted q) (length q) same i l k m)))
+      (λ k m. ap is-discount (fitted-discount-by (rate-tree b) _ (node-factor b h) (quoted q) (length q) same i l k m)))
 
   pub discounts-same : laid (rate-tree b) (table-discount b q factors) (length q) ≡ laid (rate-tree b) (curve-discount b h q) (length q)
   discounts-same = laid-cong (rate-tree b) _ _ (length q) (λ i k l m. fitted-discount-by (rate-tree b) _ (node-factor b h) (quoted q) (length q) same i l k m)

@@ -4,48 +4,35 @@ use mathlib.Core.Path.{_≡_, refl, sym, _∙_, ap}
 use mathlib.Core.Bool.{Bool, true, false, cond}
 use mathlib.Core.List.{List}
 use Prim.Native.Nat.{ℕ, zero, suc, _+_, _-_, _*_, _/_, _≤_, _<_}
-use native.Mathlib.Nat.{le-refl}
 use native.Mathlib.Omega.{arith}
 use lib.ListN.{length, take, drop}
-use lib.Seq.{getD-take, getD-drop}
-use Rattle.arithmetic.specs.Answers.{answered}
-use Rattle.arithmetic.specs.declared.Answer.{Answer}
 use Rattle.arithmetic.specs.Rounding.{one}
 use Rattle.arithmetic.specs.Sum.{sum, only}
 use Rattle.arithmetic.specs.Row.{row, values, place, each}
 use Rattle.arithmetic.proofs.SumLaws.{sum-cong}
+use Rattle.arithmetic.proofs.PartLaws.{part-is}
 use Rattle.arithmetic.proofs.RowLaws.{row-cong, each-cong}
 use Rattle.tree.specs.Tree.{Transition, Tree, Inside, Total, chance, incoming, whole}
-use Rattle.lattice.specs.Shape.{half-width, node-count, row-start}
-use Rattle.lattice.specs.Branching.{down}
-use Rattle.lattice.specs.RateTree.{node, node-at, rate-tree}
-use Rattle.lattice.specs.Entries.{about-row}
-use Rattle.lattice.proofs.Sizes.{half-within, row-within, within-row, row-ends, start-suc, count-within}
-use Rattle.lattice.proofs.EntryLaws.{row-found}
-use Rattle.lattice.proofs.RateTreeLaws.{rate-tree-sound, same-node}
+use Rattle.lattice.specs.Shape.{node-count, row-start}
+use Rattle.lattice.specs.RateTree.{rate-tree}
+use Rattle.lattice.specs.Entries.{table-offset, shape-of, rowShape}
+use Rattle.lattice.proofs.Sizes.{row-ends, start-suc, count-within}
+use Rattle.lattice.proofs.ShapeLaws.{shape-found, shape-fits}
+use Rattle.lattice.proofs.RateTreeLaws.{rate-tree-sound}
 use Rattle.row_branches.specs.RowBranches.{row-transition}
-use Rattle.row_branches.proofs.BranchLaws.{low-is, down-is, middle-is, up-is}
-use Rattle.fit_laws.specs.Step.{normaliser, discount, carried, next-price, accepted-discount}
-use Rattle.fitting.specs.declared.rows.RowShape.{RowShape}
-use Rattle.fitting.specs.Rows.{Factors, RowReady, Tables, TreeRow, table-offset, table-factor, row-shape}
-use Rattle.fitting.proofs.RowParts.{part-is, part-length}
+use Rattle.row_branches.proofs.TableParts.{table-part, part-within, table-part-length, table-part-value, part-low, part-down, part-middle, part-up}
+use Rattle.limits.specs.Limits.{is-discount}
+use Rattle.fit_laws.specs.Step.{normaliser, discount, carried, next-price}
+use Rattle.lattice.specs.declared.RowShape.{RowShape}
+use Rattle.fitting.specs.Rows.{Factors, RowReady, Tables, TreeRow, table-factor}
 
--- what the lattice answers about a row of the tree
-pub row-value : (b i x : ℕ) (a : Answer) → b ≤ 6000 → i ≤ 60 → a ≡ about-row b i x → a .value ≡ x
-row-value b i x a hb hi e = ap (λ (y : Answer). y .value) (e ∙ row-found b i x hb hi)
+-- the shape that code holds of a row of the tree
+module _ (b n i : ℕ) (s : RowShape) (hb : b ≤ 6000) (few : n ≤ 60) (h : i < n) (e : s ≡ rowShape b (n - 1) i) where
+  pub shape-known : s ≡ shape-of b (n - 1) i
+  shape-known = e ∙ sym (shape-found b (n - 1) i hb (omega arith) (omega arith) (omega arith))
 
--- later rows are no narrower
-pub half-later : (b i n : ℕ) → i ≤ n → half-width b i ≤ half-width b n
-half-later b i n h =
-    row-within b n (half-width b i) (omega (arith, half-within b i)) (within-row b i (half-width b i) (le-refl (half-width b i)))
-
-pub shape-built :
-    (b n i widest half next start : ℕ) → widest ≡ half-width b (n - 1) → half ≡ half-width b i → next ≡ node-count b (i + 1) → start ≡ row-start b i →
-    _≡_ {A = RowShape} (record { start = start; count = 2 * half + 1; next = next; offset = widest - half }) (row-shape b n i)
-unfolding row-shape node-count table-offset
-shape-built b n i widest half next start ew eh en es =
-    let z : i + 1 ≡ suc i = omega arith in
-    rw (ew, eh, es, en, z)
+  pub shape-room : (s .offset + s .count ≤ node-count b (n - 1)) × (node-count b (n - 1) ≤ 121)
+  shape-room = shape-fits b (n - 1) i (omega arith) (omega arith) s shape-known
 
 -- a discount goes by the factors of the row's own nodes
 pub discount-same : (n p : ℕ) (q u w : ℕ → ℕ) → ((k : ℕ) → k < n → u k ≡ w k) → (k : ℕ) → k < n → discount n q u p k ≡ discount n q w p k
@@ -63,68 +50,50 @@ unfolding next-price incoming chance carried
 next-same n t s q v w el ed em eu ev j =
     ap (λ (x : ℕ). x / whole) (sum-cong n _ _ (λ k h. rw (el k h, ed k h, em k h, eu k h, ev k h)))
 
-module _ (b n i : ℕ) (h : i < n) where
-  pub offset-is : half-width b i + table-offset b n i ≡ half-width b (n - 1)
-  unfolding table-offset
-  offset-is = omega (arith, half-later b i (n - 1) (omega arith))
-
-  -- the row's part of a table
-  pub table-room : table-offset b n i + node-count b i ≤ node-count b (n - 1)
-  unfolding node-count
-  table-room = omega (arith, offset-is)
-
-  module _ (l : List ℕ) (size : length l ≡ node-count b (n - 1)) where
-    pub table-length : length (take (table-offset b n i + node-count b i - table-offset b n i) (drop (table-offset b n i) l)) ≡ node-count b i
-    table-length = part-length (table-offset b n i) (node-count b i) l (omega (arith, table-room))
-
-    pub table-value : (k : ℕ) → k < node-count b i →
-        values (take (table-offset b n i + node-count b i - table-offset b n i) (drop (table-offset b n i) l)) k ≡ values l (table-offset b n i + k)
-    table-value k g = ap (λ (x : List ℕ). values x k) (part-is (table-offset b n i) (node-count b i) l) ∙ rw (getD-take, getD-drop)
-
--- a table's part for row i
+-- a table's part for row i, as lending has it
 abbrev pub part : ℕ → ℕ → ℕ → List ℕ → List ℕ
-part b n i l = take (table-offset b n i + node-count b i - table-offset b n i) (drop (table-offset b n i) l)
+part b n i l = take (table-offset b (n - 1) i + node-count b i - table-offset b (n - 1) i) (drop (table-offset b (n - 1) i) l)
 
-module _ (b n i quote : ℕ) (factors downs discounts prices amounts : List ℕ) (r : TreeRow b n i quote factors downs discounts prices amounts) where
-  long : length factors ≡ node-count b (n - 1)
-  long = r .tables .bounded .same
+module _ (b n i quote : ℕ) (factors downs discounts prices sums : List ℕ) (r : TreeRow b n i quote factors downs discounts prices sums) where
+  inside : i ≤ n - 1
+  inside = omega (arith, r .in-tree)
+
+  lent : (l : List ℕ) → part b n i l ≡ table-part b (n - 1) i l
+  lent l = part-is l (table-offset b (n - 1) i) (node-count b i)
 
   pub factors-length : length (part b n i factors) ≡ node-count b i
-  factors-length = table-length b n i (r .in-tree) factors long
+  factors-length = ap length (lent factors) ∙ table-part-length b (n - 1) i inside factors (r .tables .bounded .same)
 
   downs-length : length (part b n i downs) ≡ node-count b i
-  downs-length = table-length b n i (r .in-tree) downs (r .tables .downs-long)
+  downs-length = ap length (lent downs) ∙ table-part-length b (n - 1) i inside downs (r .tables .downs-long)
 
-  inside-table : (k : ℕ) → k < node-count b i → table-offset b n i + k < node-count b (n - 1)
-  inside-table k h = omega (arith, table-room b n i (r .in-tree))
+  factor-value : (k : ℕ) → k < node-count b i → values (part b n i factors) k ≡ values factors (table-offset b (n - 1) i + k)
+  factor-value k h =
+      ap (λ (l : List ℕ). values l k) (lent factors) ∙ table-part-value b (n - 1) i inside factors (r .tables .bounded .same) k h
 
   pub factor-is : (k : ℕ) → k < node-count b i → values (part b n i factors) k ≡ table-factor b n factors i k
   unfolding table-factor
-  factor-is k h = table-value b n i (r .in-tree) factors long k h
-
-  down-holds : (k : ℕ) → k < node-count b i → values (part b n i downs) k ≡ down b (node b i k)
-  down-holds k h =
-      let e : table-offset b n i + k ≡ k + table-offset b n i = omega arith in
-      table-value b n i (r .in-tree) downs (r .tables .downs-long) k h
-      ∙ r .tables .downs-hold (table-offset b n i + k) (inside-table k h)
-      ∙ ap (λ (x : ℕ). down b (node-at (half-width b (n - 1)) x)) e
-      ∙ ap (λ (x : ℕ). down b (node-at x (k + table-offset b n i))) (sym (offset-is b n i (r .in-tree)))
-      ∙ ap (down b) (same-node (half-width b i) k (table-offset b n i))
-
-  t : Transition
-  t = row-transition (part b n i downs) (node-count b (suc i))
+  factor-is k h = factor-value k h
 
   lows : (k : ℕ) → k < node-count b i → row-transition (part b n i downs) (node-count b (suc i)) .low k ≡ rate-tree b .step i .low k
-  lows = low-is b i (r .tables .reverting) (part b n i downs) downs-length down-holds
+  lows k h =
+      ap (λ (l : List ℕ). row-transition l (node-count b (suc i)) .low k) (lent downs)
+      ∙ part-low b (n - 1) i inside downs (r .tables .downs-long) (r .tables .downs-hold) (r .tables .reverting) k h
 
   downs-are : (k : ℕ) → k < node-count b i → row-transition (part b n i downs) (node-count b (suc i)) .down k ≡ rate-tree b .step i .down k
-  downs-are = down-is b i (r .tables .reverting) (part b n i downs) downs-length down-holds
+  downs-are k h =
+      ap (λ (l : List ℕ). row-transition l (node-count b (suc i)) .down k) (lent downs)
+      ∙ part-down b (n - 1) i inside downs (r .tables .downs-long) (r .tables .downs-hold) (r .tables .reverting) k h
 
   middles : (k : ℕ) → k < node-count b i → row-transition (part b n i downs) (node-count b (suc i)) .middle k ≡ rate-tree b .step i .middle k
-  middles = middle-is b i (r .tables .reverting) (part b n i downs) downs-length down-holds
+  middles k h =
+      ap (λ (l : List ℕ). row-transition l (node-count b (suc i)) .middle k) (lent downs)
+      ∙ part-middle b (n - 1) i inside downs (r .tables .downs-long) (r .tables .downs-hold) (r .tables .reverting) k h
 
   ups : (k : ℕ) → k < node-count b i → row-transition (part b n i downs) (node-count b (suc i)) .up k ≡ rate-tree b .step i .up k
-  ups = up-is b i (r .tables .reverting) (part b n i downs) downs-length down-holds
+  ups k h =
+      ap (λ (l : List ℕ). row-transition l (node-count b (suc i)) .up k) (lent downs)
+      ∙ part-up b (n - 1) i inside downs (r .tables .downs-long) (r .tables .downs-hold) (r .tables .reverting) k h
 
   tree-inside : (k : ℕ) → k < node-count b i → rate-tree b .step i .low k + 2 < node-count b (suc i)
   unfolding rate-tree
@@ -134,22 +103,22 @@ module _ (b n i quote : ℕ) (factors downs discounts prices amounts : List ℕ)
   unfolding rate-tree
   tree-total k h = rate-tree-sound b (r .tables .reverting) .total i k h
 
-  pub row-ready : RowReady (row-start b i) (node-count b (suc i)) quote (part b n i factors) (part b n i downs) discounts prices amounts
+  pub row-ready : RowReady (row-start b i) (node-count b (suc i)) quote (part b n i factors) (part b n i downs) discounts prices sums
   row-ready =
       record {
         bounded = record {
           same = refl;
-          least = λ k h. rw (table-value b n i (r .in-tree) factors long k (rw factors-length at h))
-              (r .tables .bounded .least _ (inside-table k (rw factors-length at h)));
-          most = λ k h. rw (table-value b n i (r .in-tree) factors long k (rw factors-length at h))
-              (r .tables .bounded .most _ (inside-table k (rw factors-length at h)));
+          least = λ k h. rw (factor-value k (rw factors-length at h))
+              (r .tables .bounded .least _ (part-within b (n - 1) i inside k (rw factors-length at h)));
+          most = λ k h. rw (factor-value k (rw factors-length at h))
+              (r .tables .bounded .most _ (part-within b (n - 1) i inside k (rw factors-length at h)));
         };
         same = downs-length ∙ sym factors-length;
         inside = λ k h. rw (lows k (rw factors-length at h)) (tree-inside k (rw factors-length at h));
         total = λ k h. rw (downs-are k (rw factors-length at h), middles k (rw factors-length at h), ups k (rw factors-length at h)) (tree-total k (rw factors-length at h));
         room-discounts = rw factors-length (omega (arith, row-ends b i n (r .in-tree), r .room-discounts));
         room-prices = rw factors-length (omega (arith, start-suc b i, row-ends b (suc i) (suc n) (omega (arith, r .in-tree)), r .room-prices));
-        room-amounts = rw factors-length (omega (arith, count-within b i (omega (arith, r .in-tree, r .tables .few)), r .room-amounts));
+        room-sums = omega (arith, count-within b (suc i) (omega (arith, r .in-tree, r .tables .few)), r .room-sums);
         least = rw factors-length (r .least);
         most = rw factors-length (r .most);
         quote-most = r .quote-most;
@@ -165,11 +134,11 @@ module _ (b n i quote : ℕ) (factors downs discounts prices amounts : List ℕ)
   discount-is = discount-same (node-count b i) quote _ (values (part b n i factors)) (table-factor b n factors i) factor-is
 
   pub tree-tested : (x : Bool) →
-      x ≡ each (length (part b n i factors)) (λ k. accepted-discount
+      x ≡ each (length (part b n i factors)) (λ k. is-discount
       (discount (length (part b n i factors)) (values (take (length (part b n i factors)) (drop (row-start b i) prices))) (values (part b n i factors)) quote k)) →
-      x ≡ each (node-count b i) (λ k. accepted-discount
+      x ≡ each (node-count b i) (λ k. is-discount
       (discount (node-count b i) (values (take (node-count b i) (drop (row-start b i) prices))) (table-factor b n factors i) quote k))
-  tree-tested x e = e ∙ rw factors-length (each-cong (node-count b i) _ _ (λ k h. ap accepted-discount (discount-is k h)))
+  tree-tested x e = e ∙ rw factors-length (each-cong (node-count b i) _ _ (λ k h. ap is-discount (discount-is k h)))
 
   pub tree-filled : (d′ : List ℕ) →
       d′ ≡ place discounts (row-start b i) (row (length (part b n i factors))
@@ -177,6 +146,11 @@ module _ (b n i quote : ℕ) (factors downs discounts prices amounts : List ℕ)
       d′ ≡ place discounts (row-start b i) (row (node-count b i)
       (discount (node-count b i) (values (take (node-count b i) (drop (row-start b i) prices))) (table-factor b n factors i) quote))
   tree-filled d′ e = e ∙ rw factors-length (ap (place discounts (row-start b i)) (row-cong (node-count b i) _ _ discount-is))
+
+  pub tree-kept : (d′ : List ℕ) →
+      drop (row-start b i + length (part b n i factors)) d′ ≡ drop (row-start b i + length (part b n i factors)) discounts →
+      drop (row-start b (suc i)) d′ ≡ drop (row-start b (suc i)) discounts
+  tree-kept d′ e = rw (start-suc b i) (rw factors-length at e)
 
   pub tree-stepped : (x : Bool) (p′ : List ℕ) →
       p′ ≡ cond x (place prices (row-start b i + length (part b n i factors)) (row (node-count b (suc i))
@@ -194,32 +168,29 @@ module _ (b n i quote : ℕ) (factors downs discounts prices amounts : List ℕ)
 abbrev pub shaped : RowShape → List ℕ → List ℕ
 shaped s l = take (s .offset + s .count - s .offset) (drop (s .offset) l)
 
-pub shape-fits : (b n i : ℕ) (s : RowShape) → s ≡ row-shape b n i → i < n → n ≤ 60 →
-    (s .offset + s .count ≤ node-count b (n - 1)) × (node-count b (n - 1) ≤ 121)
-unfolding row-shape
-shape-fits b n i s e h few = rw e (table-room b n i h, count-within b (n - 1) (omega arith))
-
-module _ (b n i quote : ℕ) (factors downs discounts prices amounts : List ℕ) (r : TreeRow b n i quote factors downs discounts prices amounts)
-    (s : RowShape) (es : s ≡ row-shape b n i) where
-  pub shaped-ready : RowReady (s .start) (s .next) quote (shaped s factors) (shaped s downs) discounts prices amounts
-  unfolding row-shape
-  shaped-ready = rw es (row-ready b n i quote factors downs discounts prices amounts r)
+module _ (b n i quote : ℕ) (factors downs discounts prices sums : List ℕ) (r : TreeRow b n i quote factors downs discounts prices sums)
+    (s : RowShape) (es : s ≡ shape-of b (n - 1) i) where
+  pub shaped-ready : RowReady (s .start) (s .next) quote (shaped s factors) (shaped s downs) discounts prices sums
+  shaped-ready = rw es (row-ready b n i quote factors downs discounts prices sums r)
 
   pub shaped-tested : (x : Bool) →
-      x ≡ each (length (shaped s factors)) (λ k. accepted-discount
+      x ≡ each (length (shaped s factors)) (λ k. is-discount
       (discount (length (shaped s factors)) (values (take (length (shaped s factors)) (drop (s .start) prices))) (values (shaped s factors)) quote k)) →
-      x ≡ each (node-count b i) (λ k. accepted-discount
+      x ≡ each (node-count b i) (λ k. is-discount
       (discount (node-count b i) (values (take (node-count b i) (drop (row-start b i) prices))) (table-factor b n factors i) quote k))
-  unfolding row-shape
-  shaped-tested x h = tree-tested b n i quote factors downs discounts prices amounts r x (rw es at h)
+  shaped-tested x h = tree-tested b n i quote factors downs discounts prices sums r x (rw es at h)
 
   pub shaped-filled : (d′ : List ℕ) →
       d′ ≡ place discounts (s .start) (row (length (shaped s factors))
       (discount (length (shaped s factors)) (values (take (length (shaped s factors)) (drop (s .start) prices))) (values (shaped s factors)) quote)) →
       d′ ≡ place discounts (row-start b i) (row (node-count b i)
       (discount (node-count b i) (values (take (node-count b i) (drop (row-start b i) prices))) (table-factor b n factors i) quote))
-  unfolding row-shape
-  shaped-filled d′ h = tree-filled b n i quote factors downs discounts prices amounts r d′ (rw es at h)
+  shaped-filled d′ h = tree-filled b n i quote factors downs discounts prices sums r d′ (rw es at h)
+
+  pub shaped-kept : (d′ : List ℕ) →
+      drop (s .start + length (shaped s factors)) d′ ≡ drop (s .start + length (shaped s factors)) discounts →
+      drop (row-start b (suc i)) d′ ≡ drop (row-start b (suc i)) discounts
+  shaped-kept d′ h = tree-kept b n i quote factors downs discounts prices sums r d′ (rw es at h)
 
   pub shaped-stepped : (x : Bool) (p′ : List ℕ) →
       p′ ≡ cond x (place prices (s .start + length (shaped s factors)) (row (s .next)
@@ -228,5 +199,4 @@ module _ (b n i quote : ℕ) (factors downs discounts prices amounts : List ℕ)
       p′ ≡ cond x (place prices (row-start b (suc i)) (row (node-count b (suc i))
       (next-price (rate-tree b .step i) (node-count b i) (values (take (node-count b i) (drop (row-start b i) prices)))
       (discount (node-count b i) (values (take (node-count b i) (drop (row-start b i) prices))) (table-factor b n factors i) quote)))) prices
-  unfolding row-shape
-  shaped-stepped x p′ h = tree-stepped b n i quote factors downs discounts prices amounts r x p′ (rw es at h)
+  shaped-stepped x p′ h = tree-stepped b n i quote factors downs discounts prices sums r x p′ (rw es at h)

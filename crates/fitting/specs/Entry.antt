@@ -10,6 +10,7 @@ use lib.ListN.{length}
 use Rattle.arithmetic.specs.Answers.{lowest-cause}
 use Rattle.arithmetic.specs.Rounding.{one}
 use Rattle.arithmetic.specs.Row.{row, place}
+use Rattle.limits.specs.Limits.{most-steps}
 use Rattle.tree.specs.Layout.{laid}
 use Rattle.lattice.specs.Shape.{half-width}
 use Rattle.lattice.specs.RateTree.{rate-tree}
@@ -46,9 +47,9 @@ late-cause n b h quotes = cond (ltb one (half-width b (n - 1) * h)) 8 (cond (cur
 -- the number of the fit
 unfoldable pub fitNumber : ℕ → ℕ → ℕ → ℕ → List ℕ → List ℕ → List Float → ℕ → ℕ → ℕ
 fitNumber f n b s rows kinds figures discounts prices =
-    cond (eqb (early-cause (curveNumber f n rows kinds figures 60) f n b s discounts prices) 0)
+    cond (eqb (early-cause (curveNumber f n rows kinds figures most-steps) f n b s discounts prices) 0)
     (late-cause n b (spacing f s) (quotes-of f n kinds figures))
-    (early-cause (curveNumber f n rows kinds figures 60) f n b s discounts prices)
+    (early-cause (curveNumber f n rows kinds figures most-steps) f n b s discounts prices)
 
 -- a memory afterwards: the rows at its start; zeros in their place on 9; as it was on any other refusal. Nothing past them changes.
 unfoldable pub fit-memory : ℕ → List ℕ → List ℕ → List ℕ

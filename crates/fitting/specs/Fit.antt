@@ -7,6 +7,7 @@ use Prim.Native.Nat.{ℕ, zero, suc, _-_, _*_, _≤_, _<_}
 use lib.ListN.{length}
 use Rattle.arithmetic.specs.Row.{values, each}
 use Rattle.arithmetic.specs.Rounding.{one}
+use Rattle.limits.specs.Limits.{most-steps, most-reversion}
 use Rattle.lattice.specs.Shape.{half-width, row-start}
 use Rattle.lattice.specs.RateTree.{node, rate-tree}
 use Rattle.factor.specs.Factor.{factor}
@@ -45,8 +46,8 @@ curve-accepted b h quotes = each (length quotes) (accepted-row (rate-tree b) (cu
 -- what the code asks once causes 2 to 8 were tested
 pub record Fittable (b h w : ℕ) (quotes : List ℕ) (discounts prices : ℕ) : Type 0 where
   pub some : 0 < length quotes
-  pub few : length quotes ≤ 60
-  pub reverting : b ≤ 6000
+  pub few : length quotes ≤ most-steps
+  pub reverting : b ≤ most-reversion
   pub widest : w ≡ half-width b (length quotes - 1)
   pub narrow : w * h ≤ one
   pub least : (i : ℕ) → i < length quotes → 100000000 ≤ values quotes i

@@ -5,6 +5,7 @@ use mathlib.Core.Bool.{cond}
 use Prim.Native.Nat.{ℕ, suc, _-_, _*_, _≤_, _<_}
 use lib.Dec.{eqb, ltb}
 use Rattle.arithmetic.specs.Rounding.{one}
+use Rattle.limits.specs.Limits.{most-steps, most-reversion}
 use Rattle.lattice.specs.Shape.{half-width, row-start}
 use Rattle.spacing.specs.Spacing.{spacing}
 use Rattle.fitting.specs.declared.causes.Plan.{Plan}
@@ -14,8 +15,8 @@ use Rattle.fitting.specs.Entry.{early-cause}
 pub record Numbers (f n b s converted discounts prices : ℕ) : Type 0 where
   pub quotes : converted ≡ 0
   pub some : 0 < n
-  pub few : n ≤ 60
-  pub reverting : b ≤ 6000
+  pub few : n ≤ most-steps
+  pub reverting : b ≤ most-reversion
   pub room-discounts : row-start b n ≤ discounts
   pub room-prices : row-start b (suc n) ≤ prices
 

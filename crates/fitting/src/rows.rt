@@ -8,7 +8,8 @@ ghost use lib.ListN.{length, take, drop};
 ghost use Rattle.arithmetic.specs.Row;
 ghost use Rattle.arithmetic.specs.Row.{row, values, place, each};
 ghost use Rattle.row_branches.specs.RowBranches.{row-transition};
-ghost use Rattle.fit_laws.specs.Step.{discount, next-price, accepted-discount};
+ghost use Rattle.limits.specs.Limits.{is-discount};
+ghost use Rattle.fit_laws.specs.Step.{discount, next-price};
 ghost use Rattle.lattice.specs.Shape.{node-count, row-start};
 ghost use Rattle.lattice.specs.RateTree.{rate-tree};
 ghost use Rattle.fitting.specs.Rows.{
@@ -16,7 +17,6 @@ ghost use Rattle.fitting.specs.Rows.{
   TreeRow,
   Ready,
   table-factor,
-  row-shape,
 };
 ghost use Rattle.tree.specs.Layout.{laid};
 ghost use Rattle.fitting.specs.Fit.{table-discount, table-price, table-accepted};
@@ -30,13 +30,14 @@ fn fit_row(
     downs: &[u64],
     discounts: &mut [u64],
     prices: &mut [u64],
-    amounts: &mut [u64],
+    sums: &mut [u64],
 ) -> bool
-    requires { ⌜ RowReady at next quote (now factors) (now downs) (now discounts) (now prices) (now amounts) ⌝ }
-    ensures tested { λ r. ⌜ r ≡ each (length (now (factors .entry))) (λ k. accepted-discount
+    requires { ⌜ RowReady at next quote (now factors) (now downs) (now discounts) (now prices) (now sums) ⌝ }
+    ensures tested { λ r. ⌜ r ≡ each (length (now (factors .entry))) (λ k. is-discount
         (discount (length (now (factors .entry))) (values (take (length (now (factors .entry))) (drop at (now (prices .entry))))) (values (now (factors .entry))) quote k)) ⌝ }
-    ensures filled { λ _. ⌜ now (discounts .exit) ≡ place (now (discounts .entry)) at (row (length (now (factors .entry)))
-        (discount (length (now (factors .entry))) (values (take (length (now (factors .entry))) (drop at (now (prices .entry))))) (values (now (factors .entry))) quote)) ⌝ }
+    ensures filled { λ r. ⌜ (r ≡ true → now (discounts .exit) ≡ place (now (discounts .entry)) at (row (length (now (factors .entry)))
+        (discount (length (now (factors .entry))) (values (take (length (now (factors .entry))) (drop at (now (prices .entry))))) (values (now (factors .entry))) quote)))
+        × (drop (at + length (now (factors .entry))) (now (discounts .exit)) ≡ drop (at + length (now (factors .entry))) (now (discounts .entry))) ⌝ }
     ensures stepped { λ r. ⌜ now (prices .exit) ≡ cond r (place (now (prices .entry)) (at + length (now (factors .entry))) (row next
         (next-price (row-transition (now (downs .entry)) next) (length (now (factors .entry))) (values (take (length (now (factors .entry))) (drop at (now (prices .entry)))))
         (discount (length (now (factors .entry))) (values (take (length (now (factors .entry))) (drop at (now (prices .entry))))) (values (now (factors .entry))) quote))))
@@ -48,38 +49,15 @@ fn fit_row(
     if !step::step_row(
         &prices[at..end],
         factors,
+        downs,
         quote,
         &mut discounts[at..end],
-        &mut amounts[..count],
+        &mut sums[..next],
     ) {
         return false;
     }
-    step::next_row(&amounts[..count], downs, &mut prices[end..last]);
+    step::divide(&sums[..next], &mut prices[end..last]);
     true
-}
-
-// Where a row stands: in the memories, its node count and the next row's, and in the tables of the widest row.
-pub(crate) struct RowShape {
-    start: usize,
-    count: usize,
-    next: usize,
-    offset: usize,
-}
-
-fn shape_of(reversion: u64, steps: usize, row: usize) -> RowShape
-    requires { ⌜ (reversion ≤ 6000) × (steps ≤ 60) × (row < steps) ⌝ }
-    ensures { λ r. ⌜ r ≡ row-shape reversion steps row ⌝ }
-{
-    let widest = lattice::half_width(reversion, steps - 1);
-    let half = lattice::half_width(reversion, row);
-    let next = lattice::node_count(reversion, row + 1);
-    let start = lattice::row_start(reversion, row);
-    RowShape {
-        start: start.value as usize,
-        count: 2 * half.value as usize + 1,
-        next: next.value as usize,
-        offset: (widest.value - half.value) as usize,
-    }
 }
 
 // Row `row` of the tree of so many steps.
@@ -92,19 +70,20 @@ fn tree_row(
     downs: &[u64],
     discounts: &mut [u64],
     prices: &mut [u64],
-    amounts: &mut [u64],
+    sums: &mut [u64],
 ) -> bool
-    requires { ⌜ TreeRow reversion steps row quote (now factors) (now downs) (now discounts) (now prices) (now amounts) ⌝ }
-    ensures tested { λ r. ⌜ r ≡ each (node-count reversion row) (λ k. accepted-discount
+    requires { ⌜ TreeRow reversion steps row quote (now factors) (now downs) (now discounts) (now prices) (now sums) ⌝ }
+    ensures tested { λ r. ⌜ r ≡ each (node-count reversion row) (λ k. is-discount
         (discount (node-count reversion row) (values (take (node-count reversion row) (drop (row-start reversion row) (now (prices .entry))))) (table-factor reversion steps (now (factors .entry)) row) quote k)) ⌝ }
-    ensures filled { λ _. ⌜ now (discounts .exit) ≡ place (now (discounts .entry)) (row-start reversion row) (Row.row (node-count reversion row)
-        (discount (node-count reversion row) (values (take (node-count reversion row) (drop (row-start reversion row) (now (prices .entry))))) (table-factor reversion steps (now (factors .entry)) row) quote)) ⌝ }
+    ensures filled { λ r. ⌜ (r ≡ true → now (discounts .exit) ≡ place (now (discounts .entry)) (row-start reversion row) (Row.row (node-count reversion row)
+        (discount (node-count reversion row) (values (take (node-count reversion row) (drop (row-start reversion row) (now (prices .entry))))) (table-factor reversion steps (now (factors .entry)) row) quote)))
+        × (drop (row-start reversion (suc row)) (now (discounts .exit)) ≡ drop (row-start reversion (suc row)) (now (discounts .entry))) ⌝ }
     ensures stepped { λ r. ⌜ now (prices .exit) ≡ cond r (place (now (prices .entry)) (row-start reversion (suc row)) (Row.row (node-count reversion (suc row))
         (next-price (rate-tree reversion .step row) (node-count reversion row) (values (take (node-count reversion row) (drop (row-start reversion row) (now (prices .entry)))))
         (discount (node-count reversion row) (values (take (node-count reversion row) (drop (row-start reversion row) (now (prices .entry))))) (table-factor reversion steps (now (factors .entry)) row) quote))))
         (now (prices .entry)) ⌝ }
 {
-    let shape = shape_of(reversion, steps, row);
+    let shape = lattice::row_shape(reversion, steps - 1, row);
     let start = shape.start;
     let offset = shape.offset;
     let end = offset + shape.count;
@@ -116,7 +95,7 @@ fn tree_row(
         &downs[offset..end],
         discounts,
         prices,
-        amounts,
+        sums,
     )
 }
 
@@ -128,9 +107,9 @@ pub(crate) fn fit_rows(
     downs: &[u64],
     discounts: &mut [u64],
     prices: &mut [u64],
-    amounts: &mut [u64],
+    sums: &mut [u64],
 ) -> bool
-    requires { ⌜ Ready reversion (now quotes) (now factors) (now downs) (now discounts) (now prices) (now amounts) ⌝ }
+    requires { ⌜ Ready reversion (now quotes) (now factors) (now downs) (now discounts) (now prices) (now sums) ⌝ }
     ensures tested { λ r. ⌜ r ≡ table-accepted reversion (now (quotes .entry)) (now (factors .entry)) ⌝ }
     ensures fitted { λ r. ⌜ (r ≡ true →
         (now (discounts .exit) ≡ laid (rate-tree reversion) (table-discount reversion (now (quotes .entry)) (now (factors .entry))) (length (now (quotes .entry))) ++ drop (row-start reversion (length (now (quotes .entry)))) (now (discounts .entry)))
@@ -151,7 +130,7 @@ pub(crate) fn fit_rows(
             downs,
             discounts,
             prices,
-            amounts,
+            sums,
         ) {
             return false;
         }

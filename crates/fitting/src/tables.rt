@@ -8,6 +8,7 @@ ghost use Prim.Native.Nat.{ℕ, suc, _+_, _-_, _*_, _≤_, _<_};
 ghost use lib.ListN.{length, drop};
 ghost use Rattle.arithmetic.specs.Rounding.{one};
 ghost use Rattle.arithmetic.specs.Row.{row, values};
+ghost use Rattle.limits.specs.Limits.{most-steps, most-nodes};
 ghost use Rattle.tree.specs.Layout.{laid};
 ghost use Rattle.lattice.specs.Shape.{half-width, node-count, row-start};
 ghost use Rattle.lattice.specs.RateTree.{node-at, rate-tree};
@@ -25,7 +26,7 @@ ghost use Rattle.fitting.specs.Fit.{
 
 // The factor of the node at an index of a row of this half width.
 fn factor_at(widest: usize, spacing: u64, index: usize) -> u64
-    requires { ⌜ (widest ≤ 60) × (widest * spacing ≤ one) × (index ≤ 2 * widest) ⌝ }
+    requires { ⌜ (widest ≤ most-steps) × (widest * spacing ≤ one) × (index ≤ 2 * widest) ⌝ }
     ensures { λ r. ⌜ r ≡ factor (node-at widest index) spacing ⌝ }
 {
     if index < widest {
@@ -37,7 +38,7 @@ fn factor_at(widest: usize, spacing: u64, index: usize) -> u64
 }
 
 fn fill_factors(widest: usize, spacing: u64, factors: &mut [u64])
-    requires { ⌜ (widest ≤ 60) × (widest * spacing ≤ one) × (length (now factors) ≡ 2 * widest + 1) ⌝ }
+    requires { ⌜ (widest ≤ most-steps) × (widest * spacing ≤ one) × (length (now factors) ≡ 2 * widest + 1) ⌝ }
     ensures { λ _. ⌜ now (factors .exit) ≡ row (length (now (factors .entry))) (λ k. factor (node-at widest k) spacing) ⌝ }
 {
     let mut k: usize = 0;
@@ -62,9 +63,9 @@ fn fit_or_clear(
     downs: &[u64],
     discounts: &mut [u64],
     prices: &mut [u64],
-    amounts: &mut [u64],
+    sums: &mut [u64],
 ) -> bool
-    requires { ⌜ Ready reversion (now quotes) (now factors) (now downs) (now discounts) (now prices) (now amounts) ⌝ }
+    requires { ⌜ Ready reversion (now quotes) (now factors) (now downs) (now discounts) (now prices) (now sums) ⌝ }
     ensures tested { λ r. ⌜ r ≡ table-accepted reversion (now (quotes .entry)) (now (factors .entry)) ⌝ }
     ensures discounted { λ r. ⌜ now (discounts .exit) ≡ cond r
         (laid (rate-tree reversion) (table-discount reversion (now (quotes .entry)) (now (factors .entry))) (length (now (quotes .entry))))
@@ -76,15 +77,7 @@ fn fit_or_clear(
     let steps = quotes.len();
     let needed = lattice::discounts_needed(steps, reversion);
     let all = lattice::state_prices_needed(steps, reversion);
-    if rows::fit_rows(
-        reversion,
-        quotes,
-        factors,
-        downs,
-        discounts,
-        prices,
-        amounts,
-    ) {
+    if rows::fit_rows(reversion, quotes, factors, downs, discounts, prices, sums) {
         return true;
     }
     clear_front(discounts, needed.value as usize);
@@ -102,10 +95,10 @@ fn fit_tables(
     downs: &mut [u64],
     discounts: &mut [u64],
     prices: &mut [u64],
-    amounts: &mut [u64],
+    sums: &mut [u64],
 ) -> bool
     requires { ⌜ Fittable reversion spacing widest (now quotes) (length (now discounts)) (length (now prices))
-        × (length (now factors) ≡ 2 * widest + 1) × (length (now downs) ≡ 2 * widest + 1) × (121 ≤ length (now amounts)) ⌝ }
+        × (length (now factors) ≡ 2 * widest + 1) × (length (now downs) ≡ 2 * widest + 1) × (most-nodes ≤ length (now sums)) ⌝ }
     ensures tested { λ r. ⌜ r ≡ curve-accepted reversion spacing (now (quotes .entry)) ⌝ }
     ensures discounted { λ r. ⌜ now (discounts .exit) ≡ cond r
         (laid (rate-tree reversion) (curve-discount reversion spacing (now (quotes .entry))) (length (now (quotes .entry))))
@@ -116,15 +109,7 @@ fn fit_tables(
 {
     fill_factors(widest, spacing, factors);
     branches::down_probabilities(reversion, widest, downs);
-    fit_or_clear(
-        reversion,
-        quotes,
-        factors,
-        downs,
-        discounts,
-        prices,
-        amounts,
-    )
+    fit_or_clear(reversion, quotes, factors, downs, discounts, prices, sums)
 }
 
 // The fit of converted quotes once causes 2 to 8 were tested: 0 or 9.
@@ -148,7 +133,7 @@ pub(crate) fn fit_quotes(
     let count = 2 * widest + 1;
     let mut factors = [0u64; 121];
     let mut downs = [0u64; 121];
-    let mut amounts = [0u64; 121];
+    let mut sums = [0u64; 121];
     if fit_tables(
         reversion,
         spacing,
@@ -158,7 +143,7 @@ pub(crate) fn fit_quotes(
         &mut downs[..count],
         discounts,
         prices,
-        &mut amounts,
+        &mut sums,
     ) {
         0
     } else {

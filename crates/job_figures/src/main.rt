@@ -1,11 +1,10 @@
 // Reads jobs from standard input, each after its length in two bytes, and writes what the reader gives. vectors.py makes the input, and
 // works the output out apart, field after field.
-ghost use Prim.Native.Nat.{_+_, _≤_, _<_};
 ghost use mathlib.Core.Path.{_≡_};
 ghost use lib.ListN.{length};
-ghost use Rattle.jobs.specs.Grammar.{Sound};
-use jobs::Job;
-use jobs::OptionRecord;
+ghost use Rattle.job_record.specs.Grammar.{Sound};
+use job_record::Job;
+use job_record::OptionRecord;
 
 fn write(text: &[u8]) {
     io::write_all(1, text);
@@ -18,12 +17,6 @@ fn write_number(value: u64) {
 
 fn wide(x: u8) -> u64 {
     x as u64
-}
-
-fn size(high: u8, low: u8) -> usize
-    ensures { λ r. ⌜ r < 65536 ⌝ }
-{
-    high as usize * 256 + low as usize
 }
 
 fn show_head(number: u64, frequency: u64, steps: u64, reversion: u64, volatility: u64) {
@@ -55,7 +48,7 @@ fn show_rows(kinds: &[u8], figures: &[u64], flows: &[u64])
 }
 
 fn show_option(option: OptionRecord) {
-    if option.present {
+    if option.tag != 0 {
         write(b"option");
         write_number(option.kind);
         write_number(option.expiry);
@@ -87,31 +80,26 @@ fn show(bytes: &[u8]) {
     show_job(reading.number, reading.job);
 }
 
-// Shows the job at a place and gives the place after it. A job that is cut short ends the input.
-fn show_next(input: &[u8], at: usize) -> usize
-    requires { ⌜ (at + 2 ≤ length (now input)) × (length (now input) ≤ 65536) ⌝ }
-    ensures { λ r. ⌜ (at < r) × (r ≤ length (now (input .entry))) ⌝ }
-{
-    let from = at + 2;
-    let end = from + size(input[at], input[at + 1]);
-    if input.len() < end {
-        return input.len();
+// Shows the next job, and says whether there was one.
+fn show_next(buffer: &mut [u8]) -> bool {
+    let frame = frames::next_frame(buffer);
+    if frame.found {
+        show(&buffer[..frame.size]);
     }
-    show(&input[from..end]);
-    end
+    frame.found
 }
 
-fn show_all(input: &[u8])
-    requires { ⌜ length (now input) ≤ 65536 ⌝ }
-{
-    let mut at = 0usize;
-    while at + 2 <= input.len() {
-        at = show_next(input, at);
+fn show_all(buffer: &mut [u8]) {
+    let mut left = frames::MOST_FRAMES;
+    while 0 < left {
+        if !show_next(buffer) {
+            return;
+        }
+        left -= 1;
     }
 }
 
 fn main() {
-    let mut input = io::large_buffer();
-    let count = io::read_full(0, &mut input);
-    show_all(&input[..count]);
+    let mut buffer = io::large_buffer();
+    show_all(&mut buffer);
 }

@@ -3,36 +3,34 @@ ghost use mathlib.Core.Path.{_≡_};
 ghost use mathlib.Core.Bool.{true};
 ghost use Prim.Native.Nat.{_+_, _*_, _^_, _≤_, _<_};
 ghost use lib.ListN.{length};
-ghost use Rattle.jobs.specs.Bytes.{numberAt};
-ghost use Rattle.jobs.specs.Form.{fieldAt, eitherAt, fieldsFrom, headFormed, restFormed, wellFormed};
-ghost use Rattle.jobs.specs.Reader.{padded, tagOf, dataOf, optionAt, jobOf, noJob, readingOf};
-ghost use Rattle.jobs.specs.Grammar.{ReadsAs};
+ghost use Rattle.job_record.specs.Bytes.{mostWidth, numberAt};
+ghost use Rattle.job_record.specs.Form.{mostBytes, mostSteps, afterFields, farthest, restAt, isKind, hasTag};
+ghost use Rattle.job_record.specs.Form.{fieldAt, fieldsFrom, headFormed, restFormed, bodyFormed, wellFormed};
+ghost use Rattle.job_record.specs.Reader.{padded, tagOf, dataOf, optionAt, jobOf, noJob, readingOf};
+ghost use Rattle.job_record.specs.Grammar.{ReadsAs};
+use job_record::Job;
+use job_record::OptionRecord;
+use job_record::Reading;
+use job_record::Tags;
 
-// The option of a job; zeros where it has none.
-pub struct OptionRecord {
-    pub present: bool,
-    pub kind: u64,
-    pub expiry: u64,
-    pub strike: u64,
-}
+const MOST_BYTES: usize = 4700;
 
-// A job: its quotes and flows stand in the first `steps` places, zeros after them. A figure is the pattern of a float, NaN or not.
-pub struct Job {
-    pub frequency: u64,
-    pub steps: usize,
-    pub reversion: u64,
-    pub volatility: u64,
-    pub kinds: [u8; 255],
-    pub figures: [u64; 255],
-    pub flows: [u64; 255],
-    pub option: OptionRecord,
-}
+// The bytes of tag and length before a field's data.
+const FIELD_HEAD: usize = 3;
 
-// Number 0 with the job, or refusal 1 with zeros.
-pub struct Reading {
-    pub number: u64,
-    pub job: Job,
-}
+const FREQUENCY_AT: usize = 0;
+
+// Each field stands where the one before it ends.
+const STEPS_AT: usize = FREQUENCY_AT + FIELD_HEAD + 1;
+
+const REVERSION_AT: usize = STEPS_AT + FIELD_HEAD + 1;
+
+const VOLATILITY_AT: usize = REVERSION_AT + FIELD_HEAD + 2;
+
+const QUOTES_AT: usize = VOLATILITY_AT + FIELD_HEAD + 4;
+
+// Kind, expiry and strike.
+const OPTION_WIDTH: usize = 1 + 1 + 4;
 
 fn wide(x: u8) -> u64
     ensures { λ r. ⌜ r ≡ x ⌝ }
@@ -42,7 +40,7 @@ fn wide(x: u8) -> u64
 
 // The number in `width` bytes from a place on, high byte first.
 fn number(bytes: &[u8], at: usize, width: usize) -> u64
-    requires { ⌜ (width ≤ 8) × (at + width ≤ length (now bytes)) ⌝ }
+    requires { ⌜ (width ≤ mostWidth) × (at + width ≤ length (now bytes)) ⌝ }
     ensures { λ r. ⌜ (r ≡ numberAt (now (bytes .entry)) at width) × (r < 256 ^ width) ⌝ }
 {
     let mut value: u64 = 0;
@@ -54,39 +52,55 @@ fn number(bytes: &[u8], at: usize, width: usize) -> u64
     value
 }
 
-// Whether a whole field stands at a place: its tag, its length and as many bytes of data.
-fn field_at(bytes: &[u8], at: usize, tag: u8, width: usize) -> bool
-    requires { ⌜ (at ≤ 65536) × (width ≤ 8) ⌝ }
-    ensures { λ r. ⌜ r ≡ fieldAt (now (bytes .entry)) at tag width ⌝ }
+// The place after `count` fields of one width that stand from a place on.
+fn after_fields(from: usize, width: usize, count: usize) -> usize
+    requires { ⌜ (from ≤ mostBytes) × (width ≤ mostWidth) × (count ≤ mostSteps) ⌝ }
+    ensures { λ r. ⌜ (r ≡ afterFields from width count) × (r ≤ farthest) ⌝ }
 {
-    if bytes.len() < at + 3 + width {
+    from + (width + FIELD_HEAD) * count
+}
+
+fn is_kind(tag: u8) -> bool
+    ensures { λ r. ⌜ r ≡ isKind tag ⌝ }
+{
+    if tag == 5 {
+        return true;
+    }
+    tag == 6
+}
+
+// Whether a tag is among those asked for.
+fn has_tag(tags: Tags, tag: u8) -> bool
+    ensures { λ r. ⌜ r ≡ hasTag tags tag ⌝ }
+{
+    match tags {
+        Tags::AnyKind => is_kind(tag),
+        Tags::Only(wanted) => tag == wanted,
+    }
+}
+
+// Whether a whole field stands at a place: its tag, its length and as many bytes of data.
+fn field_at(bytes: &[u8], at: usize, tags: Tags, width: usize) -> bool
+    requires { ⌜ (at ≤ farthest) × (width ≤ mostWidth) ⌝ }
+    ensures { λ r. ⌜ r ≡ fieldAt (now (bytes .entry)) at tags width ⌝ }
+{
+    if bytes.len() < at + FIELD_HEAD + width {
         return false;
     }
-    if bytes[at] != tag {
+    if !has_tag(tags, bytes[at]) {
         return false;
     }
     number(bytes, at + 1, 2) == width as u64
 }
 
-// Whether a field with one of two tags stands at a place.
-fn either_at(bytes: &[u8], at: usize, tag: u8, other: u8, width: usize) -> bool
-    requires { ⌜ (at ≤ 65536) × (width ≤ 8) ⌝ }
-    ensures { λ r. ⌜ r ≡ eitherAt (now (bytes .entry)) at tag other width ⌝ }
-{
-    if field_at(bytes, at, tag, width) {
-        return true;
-    }
-    field_at(bytes, at, other, width)
-}
-
 // Whether `count` such fields stand one after the other from a place on.
-fn fields_from(bytes: &[u8], from: usize, tag: u8, other: u8, width: usize, count: usize) -> bool
-    requires { ⌜ (from ≤ 4096) × (width ≤ 8) × (count ≤ 255) ⌝ }
-    ensures { λ r. ⌜ r ≡ fieldsFrom (now (bytes .entry)) from tag other width count ⌝ }
+fn fields_from(bytes: &[u8], from: usize, tags: Tags, width: usize, count: usize) -> bool
+    requires { ⌜ (from ≤ mostBytes) × (width ≤ mostWidth) × (count ≤ mostSteps) ⌝ }
+    ensures { λ r. ⌜ r ≡ fieldsFrom (now (bytes .entry)) from tags width count ⌝ }
 {
     let mut i: usize = 0;
     while i < count {
-        if !either_at(bytes, from + (width + 3) * i, tag, other, width) {
+        if !field_at(bytes, after_fields(from, width, i), tags, width) {
             return false;
         }
         i += 1;
@@ -97,75 +111,83 @@ fn fields_from(bytes: &[u8], from: usize, tag: u8, other: u8, width: usize, coun
 fn head_formed(bytes: &[u8]) -> bool
     ensures { λ r. ⌜ r ≡ headFormed (now (bytes .entry)) ⌝ }
 {
-    if !field_at(bytes, 0, 1, 1) {
+    if !field_at(bytes, FREQUENCY_AT, Tags::Only(1), 1) {
         return false;
     }
-    if !field_at(bytes, 4, 2, 1) {
+    if !field_at(bytes, STEPS_AT, Tags::Only(2), 1) {
         return false;
     }
-    if !field_at(bytes, 8, 3, 2) {
+    if !field_at(bytes, REVERSION_AT, Tags::Only(3), 2) {
         return false;
     }
-    field_at(bytes, 13, 4, 4)
+    field_at(bytes, VOLATILITY_AT, Tags::Only(4), 4)
 }
 
 // Whether nothing, or one option and nothing after it, stands from a place on.
 fn rest_formed(bytes: &[u8], at: usize) -> bool
-    requires { ⌜ at ≤ 65536 ⌝ }
+    requires { ⌜ at ≤ farthest ⌝ }
     ensures { λ r. ⌜ r ≡ restFormed (now (bytes .entry)) at ⌝ }
 {
     if bytes.len() == at {
         return true;
     }
-    if !field_at(bytes, at, 8, 6) {
+    if !field_at(bytes, at, Tags::Only(8), OPTION_WIDTH) {
         return false;
     }
-    bytes.len() == at + 9
+    bytes.len() == at + FIELD_HEAD + OPTION_WIDTH
 }
 
-// Every field's place is known once n is: a quote takes 11 bytes, a flow 7.
+// Whether as many quotes and flows as there are steps, and at most one option, stand from a place on.
+fn body_formed(bytes: &[u8], quotes: usize, steps: usize) -> bool
+    requires { ⌜ (steps ≤ mostSteps) × (restAt quotes steps ≤ mostBytes) ⌝ }
+    ensures { λ r. ⌜ r ≡ bodyFormed (now (bytes .entry)) quotes steps ⌝ }
+{
+    if !fields_from(bytes, quotes, Tags::AnyKind, 8, steps) {
+        return false;
+    }
+    let flows = after_fields(quotes, 8, steps);
+    if !fields_from(bytes, flows, Tags::Only(7), 4, steps) {
+        return false;
+    }
+    rest_formed(bytes, after_fields(flows, 4, steps))
+}
+
 fn well_formed(bytes: &[u8]) -> bool
     ensures { λ r. ⌜ r ≡ wellFormed (now (bytes .entry)) ⌝ }
 {
-    if 4700 < bytes.len() {
+    if MOST_BYTES < bytes.len() {
         return false;
     }
     if !head_formed(bytes) {
         return false;
     }
-    let steps = number(bytes, 7, 1) as usize;
-    if !fields_from(bytes, 20, 5, 6, 8, steps) {
-        return false;
-    }
-    if !fields_from(bytes, 20 + 11 * steps, 7, 7, 4, steps) {
-        return false;
-    }
-    rest_formed(bytes, 20 + 18 * steps)
+    let steps = number(bytes, STEPS_AT + FIELD_HEAD, 1) as usize;
+    body_formed(bytes, QUOTES_AT, steps)
 }
 
-// The tags of `count` quotes from a place on.
-fn tags_from(bytes: &[u8], from: usize, count: usize) -> [u8; 255]
-    requires { ⌜ (count ≤ 255) × (from + 11 * count ≤ length (now bytes)) ⌝ }
-    ensures { λ r. ⌜ r ≡ padded count (tagOf (now (bytes .entry)) from 8) ⌝ }
+// The tags of `count` fields of one width from a place on.
+fn tags_from(bytes: &[u8], from: usize, width: usize, count: usize) -> [u8; job_record::MOST_STEPS]
+    requires { ⌜ (from ≤ mostBytes) × (width ≤ mostWidth) × (count ≤ mostSteps) × (afterFields from width count ≤ length (now bytes)) ⌝ }
+    ensures { λ r. ⌜ r ≡ padded count (tagOf (now (bytes .entry)) from width) ⌝ }
 {
-    let mut tags = [0u8; 255];
+    let mut tags = [0u8; job_record::MOST_STEPS];
     let mut i: usize = 0;
     while i < count {
-        tags[i] = bytes[from + 11 * i];
+        tags[i] = bytes[after_fields(from, width, i)];
         i += 1;
     }
     tags
 }
 
 // The data of `count` fields of one width from a place on.
-fn data_from(bytes: &[u8], from: usize, width: usize, count: usize) -> [u64; 255]
-    requires { ⌜ (count ≤ 255) × (width ≤ 8) × (from + (width + 3) * count ≤ length (now bytes)) ⌝ }
+fn data_from(bytes: &[u8], from: usize, width: usize, count: usize) -> [u64; job_record::MOST_STEPS]
+    requires { ⌜ (from ≤ mostBytes) × (width ≤ mostWidth) × (count ≤ mostSteps) × (afterFields from width count ≤ length (now bytes)) ⌝ }
     ensures { λ r. ⌜ r ≡ padded count (dataOf (now (bytes .entry)) from width) ⌝ }
 {
-    let mut numbers = [0u64; 255];
+    let mut numbers = [0u64; job_record::MOST_STEPS];
     let mut i: usize = 0;
     while i < count {
-        numbers[i] = number(bytes, from + (width + 3) * i + 3, width);
+        numbers[i] = number(bytes, after_fields(from, width, i) + FIELD_HEAD, width);
         i += 1;
     }
     numbers
@@ -173,22 +195,24 @@ fn data_from(bytes: &[u8], from: usize, width: usize, count: usize) -> [u64; 255
 
 // The option of a well-formed job, whose other fields end at a place.
 fn option_at(bytes: &[u8], at: usize) -> OptionRecord
-    requires { ⌜ (at ≤ 65536) × (restFormed (now bytes) at ≡ true) ⌝ }
+    requires { ⌜ (at ≤ farthest) × (restFormed (now bytes) at ≡ true) ⌝ }
     ensures { λ r. ⌜ r ≡ optionAt (now (bytes .entry)) at ⌝ }
 {
     if bytes.len() == at {
         return OptionRecord {
-            present: false,
+            tag: 0,
             kind: 0,
             expiry: 0,
             strike: 0,
         };
     }
+    let kind_at = at + FIELD_HEAD;
+    let expiry_at = kind_at + 1;
     OptionRecord {
-        present: true,
-        kind: number(bytes, at + 3, 1),
-        expiry: number(bytes, at + 4, 1),
-        strike: number(bytes, at + 5, 4),
+        tag: 8,
+        kind: number(bytes, kind_at, 1),
+        expiry: number(bytes, expiry_at, 1),
+        strike: number(bytes, expiry_at + 1, 4),
     }
 }
 
@@ -196,16 +220,17 @@ fn job_of(bytes: &[u8]) -> Job
     requires { ⌜ wellFormed (now bytes) ≡ true ⌝ }
     ensures { λ r. ⌜ r ≡ jobOf (now (bytes .entry)) ⌝ }
 {
-    let steps = number(bytes, 7, 1) as usize;
-    let kinds = tags_from(bytes, 20, steps);
-    let figures = data_from(bytes, 20, 8, steps);
-    let flows = data_from(bytes, 20 + 11 * steps, 4, steps);
-    let option = option_at(bytes, 20 + 18 * steps);
+    let steps = number(bytes, STEPS_AT + FIELD_HEAD, 1) as usize;
+    let flows_at = after_fields(QUOTES_AT, 8, steps);
+    let kinds = tags_from(bytes, QUOTES_AT, 8, steps);
+    let figures = data_from(bytes, QUOTES_AT, 8, steps);
+    let flows = data_from(bytes, flows_at, 4, steps);
+    let option = option_at(bytes, after_fields(flows_at, 4, steps));
     Job {
-        frequency: number(bytes, 3, 1),
+        frequency: number(bytes, FREQUENCY_AT + FIELD_HEAD, 1),
         steps,
-        reversion: number(bytes, 11, 2),
-        volatility: number(bytes, 16, 4),
+        reversion: number(bytes, REVERSION_AT + FIELD_HEAD, 2),
+        volatility: number(bytes, VOLATILITY_AT + FIELD_HEAD, 4),
         kinds,
         figures,
         flows,
@@ -221,11 +246,11 @@ fn no_job() -> Job
         steps: 0,
         reversion: 0,
         volatility: 0,
-        kinds: [0u8; 255],
-        figures: [0u64; 255],
-        flows: [0u64; 255],
+        kinds: [0u8; job_record::MOST_STEPS],
+        figures: [0u64; job_record::MOST_STEPS],
+        flows: [0u64; job_record::MOST_STEPS],
         option: OptionRecord {
-            present: false,
+            tag: 0,
             kind: 0,
             expiry: 0,
             strike: 0,

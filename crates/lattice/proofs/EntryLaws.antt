@@ -4,14 +4,16 @@ use mathlib.Core.Path.{_≡_, refl, sym, ap, _∙_}
 use mathlib.Core.Bool.{Bool, true, false, cond}
 use mathlib.Core.List.{List, [], _∷_}
 use Prim.Native.Nat.{ℕ, zero, suc, _+_, _-_, _*_, _/_, _≤_, _<_, min}
-use native.Mathlib.Nat.{mul-le-mul}
+use native.Mathlib.Nat.{mul-le-mul, pos-of-ne-zero}
 use native.Mathlib.Omega.{arith}
 use lib.Dec.{eqb, ltb, leb}
-use borrow.Author.Tests.{eq-eqb, ne-eqb, lt-ltb, le-ltb, le-leb, lt-leb}
+use borrow.Author.Tests.{eq-eqb, ne-eqb, lt-ltb, le-ltb, le-leb, lt-leb, eqb-true}
 use lib.IntN.{ℤ, pos, negsuc, natAbs}
 use Rattle.arithmetic.specs.Answers.{refused, answered}
 use Rattle.arithmetic.specs.declared.Answer.{Answer}
 use Rattle.arithmetic.proofs.Numbers.{by-order, by-equal}
+use Rattle.limits.specs.Limits.{shape-cause}
+use Rattle.limits.proofs.LimitLaws.{shape-empty, shape-long, shape-steep, shape-found}
 use Rattle.lattice.specs.Shape.{highest-node, half-width, row-start}
 use Rattle.lattice.specs.Branching.{ordinary, top, branching, z-of, up-at, middle-at, down-at, up, middle, down, probabilities}
 use Rattle.lattice.specs.Entries.{about-row, about-tree}
@@ -45,24 +47,40 @@ pub row-answer : (b i : ℕ) (f : ℕ → ℕ) (y x : ℕ) → y ≡ min i 60 �
 row-answer b i f y x ey ex = ap (about-row b i) (ex ∙ ap f ey) ∙ row-clipped b i f
 
 module _ (n b result : ℕ) where
-  pub tree-empty : n ≡ 0 → about-tree n b result ≡ refused 3
+  pub tree-refused : (x : ℕ) → x ≡ shape-cause n b → (x ≡ 0 → ⊥) → about-tree n b result ≡ refused x
   unfolding about-tree
-  tree-empty h = rw (eq-eqb n 0 h)
+  tree-refused x e nz = rw (← e, ne-eqb x 0 nz)
+
+  pub tree-answered : shape-cause n b ≡ 0 → about-tree n b result ≡ answered result
+  unfolding about-tree
+  tree-answered e = rw e
+
+  -- an answer's number is the cause, and without one its value is the number itself
+  pub tree-number : (a : Answer) → a ≡ about-tree n b result → a .number ≡ shape-cause n b
+  unfolding about-tree
+  tree-number a e = ap (λ (r : Answer). r .number) e ∙ go (eqb (shape-cause n b) 0) refl
+    where
+      go : (t : Bool) → eqb (shape-cause n b) 0 ≡ t → cond t (answered result) (refused (shape-cause n b)) .number ≡ shape-cause n b
+      go true q = sym (eqb-true (shape-cause n b) 0 q)
+      go false q = refl
+
+  pub tree-result : (a : Answer) → a ≡ about-tree n b result → shape-cause n b ≡ 0 → a .value ≡ result
+  tree-result a e z = ap (λ (r : Answer). r .value) (e ∙ tree-answered z)
+
+  pub tree-empty : n ≡ 0 → about-tree n b result ≡ refused 3
+  tree-empty h = tree-refused 3 (sym (shape-empty n b h)) (λ z. omega arith)
 
   module _ (some : n ≡ 0 → ⊥) where
     pub tree-long : 60 < n → about-tree n b result ≡ refused 3
-    unfolding about-tree
-    tree-long h = rw (ne-eqb n 0 some, lt-ltb 60 n h)
+    tree-long h = tree-refused 3 (sym (shape-long n b h)) (λ z. omega arith)
 
     module _ (few : n ≤ 60) where
       pub tree-steep : 6000 < b → about-tree n b result ≡ refused 4
-      unfolding about-tree
-      tree-steep h = rw (ne-eqb n 0 some, le-ltb 60 n few, lt-ltb 6000 b h)
+      tree-steep h = tree-refused 4 (sym (shape-steep n b (pos-of-ne-zero some) few h)) (λ z. omega arith)
 
       -- accepted: the number itself
       pub tree-found : b ≤ 6000 → about-tree n b result ≡ answered result
-      unfolding about-tree
-      tree-found h = rw (ne-eqb n 0 some, le-ltb 60 n few, le-ltb 6000 b h)
+      tree-found h = tree-answered (shape-found n b (pos-of-ne-zero some) few h)
 
 pub tree-clipped : (n b : ℕ) (f : ℕ → ℕ) → about-tree n b (f (min n 60)) ≡ about-tree n b (f n)
 tree-clipped n b f =

@@ -6,3 +6,5 @@ pub mod RateTreeLaws
 pub mod EntryLaws
 pub mod TableLaws
 pub mod TreeEntries
+pub mod ShapeLaws
+pub mod LaidLaws

@@ -2,13 +2,14 @@
 -- Assumes nothing.
 use mathlib.Core.Path.{_≡_, refl, sym, ap, _∙_}
 use Prim.Native.Nat.{ℕ, zero, suc, _+_, _-_, _*_, _/_, _%_, _≤_, _<_, min}
-use native.Mathlib.Nat.{mul-suc, suc-mul, mul-le-mul, mul-le-mul-right, add-mul, one-mul, div-add-mod', mod-lt, div-le-self, pos-of-ne-zero, mul-zero}
+use native.Mathlib.Nat.{mul-suc, suc-mul, mul-le-mul, mul-le-mul-right, add-mul, one-mul, div-add-mod', mod-lt, div-le-self, pos-of-ne-zero, mul-zero, le-refl}
 use native.Mathlib.Numerals.{add-one}
 use native.Mathlib.Omega.{arith}
 use borrow.Author.Tests.{eq-eqb, ne-eqb}
 use Rattle.arithmetic.specs.Sum.{sum}
 use Rattle.arithmetic.proofs.SumLaws.{sum-suc, sum-next, sum-grow}
 use Rattle.arithmetic.proofs.Numbers.{by-equal, by-order}
+use Rattle.limits.specs.Limits.{most-steps, most-discounts, most-state-prices}
 use Rattle.lattice.specs.Shape.{highest-node, half-width, node-count, row-start, discounts-needed, state-prices-needed}
 
 pub highest-above : (b : ℕ) → 0 < b → 1840 < highest-node b * b
@@ -83,6 +84,11 @@ half-grows b i =
     (λ z. omega (arith, half-flat b i z, half-flat b (suc i) z))
     (λ nz. omega (arith, half-capped b i nz, half-capped b (suc i) nz))
 
+-- later rows are no narrower
+pub half-later : (b i n : ℕ) → i ≤ n → half-width b i ≤ half-width b n
+half-later b i n h =
+    row-within b n (half-width b i) (omega (arith, half-within b i)) (within-row b i (half-width b i) (le-refl (half-width b i)))
+
 -- a row as wide as the next is as wide as rows get
 pub half-full : (b i : ℕ) → half-width b (suc i) ≡ half-width b i → (b ≡ 0 → ⊥) × (half-width b i ≡ highest-node b)
 half-full b i e = (not-flat, omega (arith, half-capped b i not-flat, half-capped b (suc i) not-flat))
@@ -155,3 +161,12 @@ start-most b (suc i) = simp (mul-suc, suc-mul) (omega (arith, start-most b i, ha
 
 pub start-within : (b i : ℕ) → i ≤ 61 → row-start b i ≤ 3721
 start-within b i h = omega (arith, start-most b i, mul-le-mul h h)
+
+-- the memories of the widest tree
+pub discounts-most : (n b : ℕ) → n ≤ most-steps → discounts-needed n b ≤ most-discounts
+unfolding discounts-needed
+discounts-most n b h = omega (arith, start-most b n, mul-le-mul h h)
+
+pub state-prices-most : (n b : ℕ) → n ≤ most-steps → state-prices-needed n b ≤ most-state-prices
+unfolding state-prices-needed
+state-prices-most n b h = start-within b (suc n) (omega arith)

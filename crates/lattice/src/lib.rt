@@ -1,7 +1,8 @@
 // The shape of the rate tree: widths of rows and where rows start.
 use arithmetic::Answer;
 ghost use mathlib.Core.Path.{_≡_};
-ghost use Prim.Native.Nat.{ℕ, _≤_, min};
+ghost use Prim.Native.Nat.{ℕ, _≤_, _<_, min};
+ghost use Rattle.limits.specs.Limits.{most-steps};
 ghost use Rattle.lattice.specs.Shape.{half-width, row-start};
 ghost use Rattle.lattice.specs.Entries.{
   about-row,
@@ -11,6 +12,9 @@ ghost use Rattle.lattice.specs.Entries.{
   rowStart,
   discountsNeeded,
   statePricesNeeded,
+  refused-shape,
+  shape-of,
+  rowShape,
 };
 
 // Where a node leads: to `lowest` and the two nodes above it, with probabilities up, middle, down over 600,000,000.
@@ -19,6 +23,15 @@ pub struct Branches {
     pub number: u64,
     pub lowest: i64,
     pub probabilities: [u64; 3],
+}
+
+// Where a row stands: in a memory that stores row after row, its node count and the next row's, and in a table of a row as wide.
+pub struct RowShape {
+    pub number: u64,
+    pub start: usize,
+    pub count: usize,
+    pub next: usize,
+    pub offset: usize,
 }
 
 fn half_width_of(reversion: u64, row: usize) -> usize
@@ -42,21 +55,25 @@ fn row_start_of(reversion: u64, row: usize) -> usize
 
 // A row or a number of steps for which every size fits.
 fn clipped(row: usize) -> usize
-    ensures { λ r. ⌜ r ≡ min row 60 ⌝ }
+    ensures { λ r. ⌜ r ≡ min row most-steps ⌝ }
 {
-    if row < 60 { row } else { 60 }
+    if row < limits::MOST_STEPS {
+        row
+    } else {
+        limits::MOST_STEPS
+    }
 }
 
 fn about_row(reversion: u64, row: usize, result: usize) -> Answer
     ensures { λ r. ⌜ r ≡ about-row reversion row result ⌝ }
 {
-    if 6000 < reversion {
+    if limits::MOST_REVERSION < reversion {
         return Answer {
             number: 4,
             value: 0,
         };
     }
-    if 60 < row {
+    if limits::MOST_STEPS < row {
         return Answer {
             number: 6,
             value: 0,
@@ -71,23 +88,9 @@ fn about_row(reversion: u64, row: usize, result: usize) -> Answer
 fn about_tree(steps: usize, reversion: u64, result: usize) -> Answer
     ensures { λ r. ⌜ r ≡ about-tree steps reversion result ⌝ }
 {
-    if steps == 0 {
-        return Answer {
-            number: 3,
-            value: 0,
-        };
-    }
-    if 60 < steps {
-        return Answer {
-            number: 3,
-            value: 0,
-        };
-    }
-    if 6000 < reversion {
-        return Answer {
-            number: 4,
-            value: 0,
-        };
+    let number = limits::shape_cause(steps, reversion);
+    if number != 0 {
+        return Answer { number, value: 0 };
     }
     Answer {
         number: 0,
@@ -136,4 +139,50 @@ pub fn state_prices_needed(steps: usize, reversion: u64) -> Answer
         reversion,
         row_start_of(reversion, clipped(steps) + 1),
     )
+}
+
+fn refused_shape(number: u64) -> RowShape
+    ensures { λ r. ⌜ r ≡ refused-shape number ⌝ }
+{
+    RowShape {
+        number,
+        start: 0,
+        count: 0,
+        next: 0,
+        offset: 0,
+    }
+}
+
+fn shape_of(reversion: u64, widest: usize, row: usize) -> RowShape
+    requires { ⌜ (row < most-steps) × (row ≤ widest) ⌝ }
+    ensures { λ r. ⌜ r ≡ shape-of reversion widest row ⌝ }
+{
+    let half = half_width_of(reversion, row);
+    let next = half_width_of(reversion, row + 1);
+    RowShape {
+        number: 0,
+        start: row_start_of(reversion, row),
+        count: 2 * half + 1,
+        next: 2 * next + 1,
+        offset: half_width_of(reversion, widest) - half,
+    }
+}
+
+// Where a row stands, in tables of row `widest` too. Row 60 has no next row, and a row past `widest` no place in the tables.
+pub fn row_shape(reversion: u64, widest: usize, row: usize) -> RowShape
+    ensures { λ r. ⌜ r ≡ rowShape reversion widest row ⌝ }
+{
+    if limits::MOST_REVERSION < reversion {
+        return refused_shape(4);
+    }
+    if limits::MOST_STEPS < widest {
+        return refused_shape(6);
+    }
+    if widest < row {
+        return refused_shape(6);
+    }
+    if limits::MOST_STEPS <= row {
+        return refused_shape(6);
+    }
+    shape_of(reversion, widest, row)
 }

@@ -21,10 +21,10 @@ use Rattle.node_reader.specs.declared.Node.the-variants.{Discount, End}
 use Rattle.node_reader.specs.Reading.{nodeAt}
 use Rattle.step_rate.specs.StepRate.{rateAnswer}
 use Rattle.step_rate.proofs.RateLaws.{value-bound}
-use Rattle.text.specs.Put.{putBefore, Put}
-use Rattle.text.specs.Lines.{nodeLine, lineStart, withLine}
-use Rattle.text.proofs.LineLaws.{node-room, line-stands}
-use Rattle.text.proofs.PutLaws.{put-joined, put-before}
+use Rattle.text_laws.specs.Put.{putBefore, Put}
+use Rattle.text_laws.specs.Lines.{nodeLine, lineStart, withLine}
+use Rattle.text_laws.proofs.LineLaws.{node-room, line-stands}
+use Rattle.text_laws.proofs.PutLaws.{put-joined, put-before}
 use Rattle.node_lines.specs.Rows.{nodeText, lines, rowText, hasRoomFor, rowStart, withRow}
 
 pub lines-none : (line : ℕ → List ℕ) (n : ℕ) → n ≡ 0 → lines line n ≡ []

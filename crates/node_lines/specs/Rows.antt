@@ -7,8 +7,8 @@ use lib.Dec.{leb}
 use lib.ListN.{length, getD}
 use Rattle.lattice.specs.RateTree.{node-at}
 use Rattle.step_rate.specs.StepRate.{rateAnswer}
-use Rattle.text.specs.Put.{putBefore}
-use Rattle.text.specs.Lines.{nodeLine}
+use Rattle.text_laws.specs.Put.{putBefore}
+use Rattle.text_laws.specs.Lines.{nodeLine}
 
 -- the line of the node at an index; the row's half width follows from its node count, 2 w + 1
 unfoldable pub nodeText : ℕ → List ℕ → ℕ → List ℕ

@@ -2,7 +2,7 @@
 ghost use mathlib.Core.Path.{_≡_};
 ghost use Prim.Native.Nat.{_*_, _≤_, _<_};
 ghost use lib.ListN.{length};
-ghost use Rattle.text.specs.Put.{Put};
+ghost use Rattle.text_laws.specs.Put.{Put};
 ghost use Rattle.node_lines.specs.Rows.{nodeText, rowText, hasRoomFor, rowStart, withRow};
 use node_reader::Node;
 

@@ -1,5 +1,4 @@
 pub mod NodeLaws
-pub mod CheckLaws
 pub mod RowSteps
 pub mod TreeRows
 pub mod StepParts

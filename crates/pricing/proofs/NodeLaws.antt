@@ -1,15 +1,9 @@
--- The value of one node, as the code computes it.
+-- The roll of one node fits 64 bits.
 -- Assumes nothing.
-use mathlib.Core.Path.{_≡_, refl, _∙_}
-use mathlib.Core.Bool.{Bool, true, false, _||_}
-use Prim.Native.Nat.{ℕ, _+_, _-_, _*_, _/_, _≤_, max}
+use mathlib.Core.Path.{_≡_}
+use Prim.Native.Nat.{ℕ, _+_, _*_, _/_, _≤_}
 use native.Mathlib.Nat.{mul-le-mul, mul-le-mul-left}
 use native.Mathlib.Omega.{arith}
-use lib.Dec.{eqb, ltb}
-use borrow.Author.Tests.{eq-eqb, ne-eqb}
-use Rattle.pricing_laws.specs.Pricer.{exercise, held-or-exercised}
-use Rattle.pricing.specs.declared.values.Terms.{Terms}
-use Rattle.pricing.specs.Terms.{side, terms-of}
 
 -- three probabilities and values up to 8 × one: the sum fits 64 bits, and so does its quotient times a discount
 module _ (p q r x y z d : ℕ) (h : p + q + r ≡ 600000000) (hx : x ≤ 8000000000) (hy : y ≤ 8000000000) (hz : z ≤ 8000000000) (hd : d ≤ 1100000000) where
@@ -20,36 +14,3 @@ module _ (p q r x y z d : ℕ) (h : p + q + r ≡ 600000000) (hx : x ≤ 8000000
   product-fits =
       let quotient : (p * x + q * y + r * z) / 600000000 ≤ 8000000000 = omega (arith, sum-fits) in
       mul-le-mul quotient hd
-
--- the exercise value and the option's value, by the tests that the code makes
-pub call-value : (b : Bool) (strike bond r : ℕ) → b ≡ true → r ≡ bond - strike → r ≡ exercise (side b) strike bond
-unfolding exercise
-call-value true strike bond r e h = h
-call-value false strike bond r e h = let z : _≡_ {A = ℕ} 0 1 = cc in absurd (omega arith)
-
-pub put-value : (b : Bool) (strike bond r : ℕ) → b ≡ false → r ≡ strike - bond → r ≡ exercise (side b) strike bond
-unfolding exercise
-put-value false strike bond r e h = h
-put-value true strike bond r e h = let z : _≡_ {A = ℕ} 0 1 = cc in absurd (omega arith)
-
-pub listed-value : (b : Bool) (roll now r : ℕ) → b ≡ true → r ≡ max roll now → r ≡ held-or-exercised b roll now
-unfolding held-or-exercised
-listed-value true roll now r e h = h
-listed-value false roll now r e h = let z : _≡_ {A = ℕ} 0 1 = cc in absurd (omega arith)
-
-pub unlisted-value : (b : Bool) (roll now : ℕ) → b ≡ false → roll ≡ held-or-exercised b roll now
-unfolding held-or-exercised
-unlisted-value false roll now e = refl
-unlisted-value true roll now e = let z : _≡_ {A = ℕ} 0 1 = cc in absurd (omega arith)
-
--- the terms of a kind
-pub terms-built : (kind strike : ℕ) (t : Bool) → t ≡ (eqb kind 1 || eqb kind 3) →
-    _≡_ {A = Terms} (record { call = t; listed = ltb 2 kind; strike = strike }) (terms-of kind strike)
-unfolding terms-of
-terms-built kind strike t e = rw e
-
-pub call-by-first : (kind : ℕ) (t : Bool) → kind ≡ 1 → t ≡ eqb kind 1 → t ≡ (eqb kind 1 || eqb kind 3)
-call-by-first kind t h e = e ∙ rw (eq-eqb kind 1 h)
-
-pub call-by-second : (kind : ℕ) (t : Bool) → (kind ≡ 1 → ⊥) → t ≡ eqb kind 3 → t ≡ (eqb kind 1 || eqb kind 3)
-call-by-second kind t h e = rw (ne-eqb kind 1 h) e

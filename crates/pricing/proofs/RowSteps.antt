@@ -1,6 +1,7 @@
 -- One row as the code rolls it: where branches lead, and the state of the loop over the row's nodes.
 -- Assumes nothing.
 use mathlib.Core.Path.{_≡_, sym, ap, ap₂, _∙_}
+use mathlib.Core.Bool.{Bool}
 use mathlib.Core.List.{List}
 use Prim.Native.Nat.{ℕ, _+_, _-_, _≤_, _<_, max}
 use native.Mathlib.Omega.{arith}
@@ -10,12 +11,10 @@ use Rattle.arithmetic.specs.Sum.{greatest}
 use Rattle.arithmetic.proofs.SumLaws.{greatest-none, greatest-next}
 use Rattle.arithmetic.proofs.RowLaws.{Filled, filled-start, filled-next}
 use Rattle.tree.specs.Tree.{whole}
-use Rattle.pricing_laws.specs.Pricer.{exercise, held-or-exercised}
+use Rattle.pricing_laws.specs.Pricer.{Side, exercise, held-or-exercised}
 use Rattle.row_branches.specs.declared.RowBranch.{RowBranch}
 use Rattle.row_branches.specs.RowBranches.{row-branch}
-use Rattle.pricing.specs.declared.values.Terms.{Terms}
-use Rattle.pricing.specs.Terms.{side}
-use Rattle.pricing.specs.Rows.{branch-roll, rolled-row, option-values, Rollable, Limited, Later, Holds}
+use Rattle.pricing.specs.Rows.{branch-roll, rolled-row, option-values, Rollable, Limited, Later, Filled-row, Filled-rows}
 
 -- what the roll of a node asks of its branch
 module _ (downs discounts later : List ℕ) (next k : ℕ) (r : Rollable downs discounts next) (l : Later later next) (hk : k < length discounts)
@@ -54,8 +53,9 @@ row-next row₀ row f top k x top′ s h e t =
     }
 
 pub row-done :
-    (row₀ row : List ℕ) (f : ℕ → ℕ) (top k n : ℕ) → Row-state row₀ row f top k → k ≡ n → Holds row n f × (top ≡ greatest n f)
-row-done row₀ row f top k n s e = (λ j h. s .filled .done j (omega arith), s .found ∙ ap (λ (m : ℕ). greatest m f) e)
+    (row₀ row : List ℕ) (f : ℕ → ℕ) (top k n : ℕ) → Row-state row₀ row f top k → k ≡ n → Filled-row row n f top
+row-done row₀ row f top k n s e =
+    record { held = λ j h. s .filled .done j (omega arith); found = s .found ∙ ap (λ (m : ℕ). greatest m f) e }
 
 -- The loop over both rows.
 pub record Rows-state (bond₀ bond option₀ option : List ℕ) (f g : ℕ → ℕ) (top k : ℕ) : Type 0 where
@@ -81,18 +81,19 @@ rows-next bond₀ bond option₀ option f g top k x y z top′ s hb ho ex ey ez 
 
 pub rows-done :
     (bond₀ bond option₀ option : List ℕ) (f g : ℕ → ℕ) (top k n : ℕ) → Rows-state bond₀ bond option₀ option f g top k → k ≡ n →
-    Holds bond n f × Holds option n g × (top ≡ greatest n (λ j. max (f j) (g j)))
-rows-done bond₀ bond option₀ option f g top k n s e = (
-  λ j h. s .bond-filled .done j (omega arith),
-  λ j h. s .option-filled .done j (omega arith),
-  s .found ∙ ap (λ (m : ℕ). greatest m (λ j. max (f j) (g j))) e,
-)
+    Filled-rows bond option n f g top
+rows-done bond₀ bond option₀ option f g top k n s e =
+    record {
+      bond-held = λ j h. s .bond-filled .done j (omega arith);
+      option-held = λ j h. s .option-filled .done j (omega arith);
+      found = s .found ∙ ap (λ (m : ℕ). greatest m (λ j. max (f j) (g j))) e;
+    }
 
 -- the option's value from the bond's value and the option's roll, as the code has them
 pub option-from-roll :
-    (terms : Terms) (bonds options downs discounts : List ℕ) (next flow k bond roll r : ℕ) →
+    (side : Side) (strike : ℕ) (listed : Bool) (bonds options downs discounts : List ℕ) (next flow k bond roll r : ℕ) →
     bond ≡ rolled-row bonds downs discounts next k + flow → roll ≡ rolled-row options downs discounts next k →
-    r ≡ held-or-exercised (terms .listed) roll (exercise (side (terms .call)) (terms .strike) bond) →
-    r ≡ option-values terms bonds options downs discounts next flow k
-option-from-roll terms bonds options downs discounts next flow k bond roll r eb eo er =
-    er ∙ ap₂ (λ (x y : ℕ). held-or-exercised (terms .listed) x (exercise (side (terms .call)) (terms .strike) y)) eo eb
+    r ≡ held-or-exercised listed roll (exercise side strike bond) →
+    r ≡ option-values side strike listed bonds options downs discounts next flow k
+option-from-roll side strike listed bonds options downs discounts next flow k bond roll r eb eo er =
+    er ∙ ap₂ (λ (x y : ℕ). held-or-exercised listed x (exercise side strike y)) eo eb

@@ -1,192 +1,127 @@
 -- The rows of an accepted tree, as parts of the lent discounts and of the table of down-probabilities.
 -- Assumes nothing.
-use mathlib.Core.Path.{_≡_, refl, sym, ap, ap₂, _∙_}
+use mathlib.Core.Path.{_≡_, refl, ap, ap₂, _∙_}
+use mathlib.Core.Bool.{Bool}
 use mathlib.Core.List.{List}
-use Prim.Native.Nat.{ℕ, zero, suc, _+_, _-_, _*_, _≤_, _<_, max}
-use native.Mathlib.Nat.{le-refl}
+use Prim.Native.Nat.{ℕ, zero, suc, _+_, _-_, _≤_, _<_, max}
 use native.Mathlib.Omega.{arith}
-use lib.ListN.{length, take, drop, length-take, length-drop}
-use lib.Seq.{getD-take, getD-drop}
+use lib.ListN.{length, take, drop}
 use Rattle.arithmetic.specs.Row.{row, values}
 use Rattle.arithmetic.specs.Sum.{greatest}
 use Rattle.arithmetic.proofs.SumLaws.{greatest-cong}
-use Rattle.arithmetic.specs.declared.Answer.{Answer}
 use Rattle.arithmetic.proofs.RowLaws.{length-row, values-row}
+use Rattle.arithmetic.proofs.PartLaws.{part-value, part-length}
 use Rattle.tree.specs.Tree.{whole, outgoing}
-use Rattle.lattice.specs.Shape.{half-width, node-count, row-start}
+use Rattle.lattice.specs.Shape.{node-count, row-start}
 use Rattle.lattice.specs.Branching.{up, middle, down}
-use Rattle.lattice.specs.RateTree.{node-at, node, low, rate-tree}
-use Rattle.lattice.specs.Entries.{about-row}
-use Rattle.lattice.proofs.Sizes.{half-within, row-within, within-row, row-ends}
-use Rattle.lattice.proofs.EntryLaws.{row-found}
-use Rattle.lattice.proofs.RateTreeLaws.{rate-tree-sound, low-within, index-laws}
-use Rattle.lattice.proofs.TableLaws.{down-from-table}
+use Rattle.lattice.specs.RateTree.{node, low, rate-tree}
+use Rattle.lattice.proofs.Sizes.{row-ends}
+use Rattle.lattice.proofs.RateTreeLaws.{low-within, index-laws}
+use Rattle.lent_tree.specs.LentTree.{stored, Accepted}
 use Rattle.row_branches.specs.declared.RowBranch.{RowBranch}
 use Rattle.row_branches.specs.RowBranches.{row-branch}
-use Rattle.row_branches.proofs.BranchLaws.{row-branch-is}
-use Rattle.pricing_laws.specs.Pricer.{exercise, held-or-exercised}
-use Rattle.pricing_laws.specs.TreePricer.{roll-rounding, node-roll, roll, greatest-discount}
-use Rattle.pricing.specs.declared.values.Terms.{Terms}
-use Rattle.pricing.specs.Terms.{side}
-use Rattle.pricing_laws.proofs.PriceLaws.{roll-same}
-use Rattle.pricing.specs.declared.walk.RowShape.{RowShape}
-use Rattle.pricing.specs.Prices.{discount-at, flow-at}
-use Rattle.pricing.specs.Rows.{branch-roll, rolled-row, bond-values, option-values, Rollable, Holds}
-use Rattle.pricing.specs.Trees.{Accepted, Accepted-flows, down-table, row-shape, rolled-at, bond-step, option-step}
+use Rattle.row_branches.proofs.TableParts as tables
+use Rattle.pricing_laws.specs.Pricer.{Side, exercise, held-or-exercised}
+use Rattle.pricing_laws.specs.TreePricer.{roll-rounding, node-roll, roll}
+use Rattle.price_bound.proofs.BoundLaws.{discount-within}
+use Rattle.price_causes.specs.Causes.{Accepted-flows}
+use Rattle.pricing.specs.Prices.{flow-at}
+use Rattle.pricing.specs.Rows.{branch-roll, rolled-row, bond-values, option-values, Rollable, Filled-row, Filled-rows}
+use Rattle.pricing.specs.Trees.{down-table, rolled-at, bond-step, option-step}
 
--- what the lattice answers about a row of the tree
-pub answer-value : (b i x : ℕ) (a : Answer) → b ≤ 6000 → i ≤ 60 → a ≡ about-row b i x → a .value ≡ x
-answer-value b i x a hb hi e = ap (λ (y : Answer). y .value) (e ∙ row-found b i x hb hi)
+pub table-size : (n b : ℕ) → length (down-table n b) ≡ node-count b n
+unfolding down-table
+table-size n b = length-row (node-count b n) (λ k. down b (node b n k))
 
--- later rows are no narrower
-pub half-later : (b i n : ℕ) → i ≤ n → half-width b i ≤ half-width b n
-half-later b i n h =
-    row-within b n (half-width b i) (omega (arith, half-within b i)) (within-row b i (half-width b i) (le-refl (half-width b i)))
+table-holds : (n b k : ℕ) → k < node-count b n → values (down-table n b) k ≡ down b (node b n k)
+unfolding down-table
+table-holds n b k h = values-row (node-count b n) k (λ j. down b (node b n j)) h
 
-pub shape-built :
-    (n b i widest half next start : ℕ) → widest ≡ half-width b n → half ≡ half-width b i → next ≡ node-count b (i + 1) → start ≡ row-start b i →
-    _≡_ {A = RowShape} (record { start = start; count = 2 * half + 1; next = next; offset = widest - half }) (row-shape n b i)
-unfolding row-shape node-count
-shape-built n b i widest half next start ew eh en es =
-    let z : i + 1 ≡ suc i = omega arith in
-    rw (ew, eh, es, en, z)
-
--- a part of a list
-pub part-value : (l : List ℕ) (start count k : ℕ) → k < count → values (take count (drop start l)) k ≡ values l (start + k)
-part-value l start count k h = rw (getD-take, getD-drop)
-
-pub part-length : (l : List ℕ) (start count : ℕ) → start + count ≤ length l → length (take count (drop start l)) ≡ count
-part-length l start count h = simp (length-take, length-drop) (omega arith)
-
-module _ (n b i : ℕ) (hi : i < n) where
-  table-room : half-width b n - half-width b i + node-count b i ≤ node-count b n
-  unfolding node-count
-  table-room = omega (arith, half-later b i n (omega arith))
-
-  pub table-fits : half-width b n - half-width b i + node-count b i ≤ length (down-table n b)
-  unfolding down-table
-  table-fits = rw length-row table-room
-
+module _ (n b i : ℕ) (hi : i < n) (discounts : List ℕ) (a : Accepted n b discounts) where
   -- row i's part of the table
   abbrev pub table-part : List ℕ
-  table-part = take (node-count b i) (drop (half-width b n - half-width b i) (down-table n b))
+  table-part = tables.table-part b n i (down-table n b)
 
-  pub table-part-length : length table-part ≡ node-count b i
-  table-part-length = part-length (down-table n b) _ _ table-fits
+  pub discounts-fit : row-start b i + node-count b i ≤ length discounts
+  discounts-fit = omega (arith, row-ends b i n hi, a .room)
 
-  pub table-down : (k : ℕ) → k < node-count b i → values table-part k ≡ down b (node b i k)
-  unfolding down-table
-  table-down k h =
-      let d = half-width b n - half-width b i in
-      let w : half-width b n ≡ half-width b i + d = omega (arith, half-later b i n (omega arith)) in
-      let z : d + k ≡ k + d = omega arith in
-      part-value (down-table n b) d (node-count b i) k h
-      ∙ values-row (node-count b n) (d + k) (λ j. down b (node b n j)) (omega (arith, table-room))
-      ∙ ap₂ (λ (x y : ℕ). down b (node-at x y)) w z
-      ∙ sym (down-from-table b i d k)
+  -- row i's part of the discounts
+  abbrev pub discount-part : List ℕ
+  discount-part = take (node-count b i) (drop (row-start b i) discounts)
 
-  module _ (discounts : List ℕ) (a : Accepted n b discounts) where
-    pub discounts-fit : row-start b i + node-count b i ≤ length discounts
-    discounts-fit = omega (arith, row-ends b i n hi, a .room)
+  pub discount-part-length : length discount-part ≡ node-count b i
+  discount-part-length = part-length discounts _ _ discounts-fit
 
-    -- row i's part of the discounts
-    abbrev pub discount-part : List ℕ
-    discount-part = take (node-count b i) (drop (row-start b i) discounts)
+  discount-part-at : (k : ℕ) → k < node-count b i → values discount-part k ≡ stored b discounts i k
+  unfolding stored
+  discount-part-at k h = part-value discounts (row-start b i) (node-count b i) k h
 
-    pub discount-part-length : length discount-part ≡ node-count b i
-    discount-part-length = part-length discounts _ _ discounts-fit
+  total-is : (k : ℕ) → k < node-count b i → up b (node b i k) + middle b (node b i k) + down b (node b i k) ≡ whole
+  total-is k h = index-laws b i k h (a .reverting) .total
 
-    pub discount-part-at : (k : ℕ) → k < node-count b i → values discount-part k ≡ discount-at b discounts i k
-    unfolding discount-at
-    discount-part-at k h = part-value discounts (row-start b i) (node-count b i) k h
+  branch-is : (k : ℕ) → k < node-count b i →
+      row-branch table-part (node-count b (suc i)) k
+      ≡ record { low = low b i k; down = down b (node b i k); middle = middle b (node b i k); up = up b (node b i k) }
+  branch-is k h = tables.part-branch b n i (omega arith) (down-table n b) (table-size n b) (table-holds n b) (a .reverting) k h
 
-    pub discount-within : (k : ℕ) → k < node-count b i → discount-at b discounts i k ≤ 1100000000
-    unfolding discount-at
-    discount-within k h = a .discounted (row-start b i + k) (omega (arith, row-ends b i n hi))
+  pub rollable : Rollable table-part discount-part (node-count b (suc i))
+  rollable =
+      record {
+        inside = λ k h.
+            let h′ : k < node-count b i = rw discount-part-length at h in
+            rw (branch-is k h′) (low-within b i k h′);
+        total = λ k h.
+            let h′ : k < node-count b i = rw discount-part-length at h in
+            rw (branch-is k h′) (omega (arith, total-is k h′));
+        discounted = λ k h.
+            let h′ : k < node-count b i = rw discount-part-length at h in
+            omega (arith, discount-part-at k h′, discount-within n b i hi discounts a k h′);
+      }
 
-    total-is : (k : ℕ) → k < node-count b i → up b (node b i k) + middle b (node b i k) + down b (node b i k) ≡ whole
-    total-is k h = index-laws b i k h (a .reverting) .total
+  -- the row as the code rolls it is the tree's roll
+  rolled-is :
+      (later : List ℕ) (k : ℕ) → k < node-count b i →
+      rolled-row later table-part discount-part (node-count b (suc i)) k ≡ rolled-at b discounts i later k
+  unfolding rolled-row rolled-at branch-roll roll node-roll outgoing rate-tree
+  rolled-is later k h = rw (branch-is k h, discount-part-at k h)
 
-    branch-is : (k : ℕ) → k < node-count b i →
-        row-branch table-part (node-count b (suc i)) k
-        ≡ record { low = low b i k; down = down b (node b i k); middle = middle b (node b i k); up = up b (node b i k) }
-    branch-is k h = row-branch-is b i (a .reverting) table-part table-part-length table-down k h
+  -- a row of the bond, and of the option beside it, as the code gives them
+  module _ (flows : List ℕ) (flow : ℕ) (ef : flow ≡ flow-at flows i) where
+    abbrev code-bond : List ℕ → ℕ → ℕ
+    code-bond later = bond-values later table-part discount-part (node-count b (suc i)) flow
 
-    pub rollable : Rollable table-part discount-part (node-count b (suc i))
-    rollable =
+    bond-value-is : (later : List ℕ) (k : ℕ) → k < node-count b i → code-bond later k ≡ bond-step b discounts flows i later k
+    bond-value-is later k l = ap₂ (λ (x y : ℕ). x + y) (rolled-is later k l) ef
+
+    pub bond-row-is :
+        (later after : List ℕ) (top : ℕ) → Filled-row after (length discount-part) (code-bond later) top →
+        Filled-row after (node-count b i) (bond-step b discounts flows i later) top
+    bond-row-is later after top s =
         record {
-          inside = λ k h.
-              let h′ : k < node-count b i = rw discount-part-length at h in
-              rw (branch-is k h′) (low-within b i k h′);
-          total = λ k h.
-              let h′ : k < node-count b i = rw discount-part-length at h in
-              rw (branch-is k h′) (omega (arith, total-is k h′));
-          discounted = λ k h.
-              let h′ : k < node-count b i = rw discount-part-length at h in
-              omega (arith, discount-part-at k h′, discount-within k h′);
+          held = λ k l. s .held k (rw discount-part-length l) ∙ bond-value-is later k l;
+          found = s .found ∙ rw discount-part-length (greatest-cong (node-count b i) _ _ (bond-value-is later));
         }
 
-    -- the row as the code rolls it is the tree's roll
-    pub rolled-is : (later : List ℕ) (k : ℕ) → k < node-count b i → rolled-row later table-part discount-part (node-count b (suc i)) k ≡ rolled-at b discounts i later k
-    unfolding rolled-row rolled-at branch-roll roll node-roll outgoing rate-tree
-    rolled-is later k h = rw (branch-is k h, discount-part-at k h)
+    module _ (side : Side) (strike : ℕ) (listed : Bool) (bonds options : List ℕ) where
+      abbrev code-option : ℕ → ℕ
+      code-option = option-values side strike listed bonds options table-part discount-part (node-count b (suc i)) flow
 
-    -- a copy of the later row is rolled alike
-    rolled-copy : (later row : List ℕ) → Holds later (node-count b (suc i)) (values row) → (k : ℕ) → k < node-count b i → rolled-at b discounts i later k ≡ rolled-at b discounts i row k
-    unfolding rolled-at rate-tree
-    rolled-copy later row h k l =
-        roll-same (rate-tree b) (rate-tree-sound b (a .reverting)) (discount-at b discounts) roll-rounding i (values later) (values row)
-        h k l
-
-    -- a row of the bond, and of the option beside it, as the code gives them
-    module _ (flows : List ℕ) (flow : ℕ) (ef : flow ≡ flow-at flows i) where
-      bond-value-is :
-          (later row : List ℕ) → Holds later (node-count b (suc i)) (values row) → (k : ℕ) → k < node-count b i →
-          bond-values later table-part discount-part (node-count b (suc i)) flow k ≡ bond-step b discounts flows i row k
-      bond-value-is later row c k l = ap₂ (λ (x y : ℕ). x + y) (rolled-is later k l ∙ rolled-copy later row c k l) ef
-
-      pub bond-row-is :
-          (later row : List ℕ) (top : ℕ) (after : List ℕ) → Holds later (node-count b (suc i)) (values row) →
-          Holds after (length discount-part) (bond-values later table-part discount-part (node-count b (suc i)) flow)
-          × (top ≡ greatest (length discount-part) (bond-values later table-part discount-part (node-count b (suc i)) flow)) →
-          Holds after (node-count b i) (bond-step b discounts flows i row) × (top ≡ greatest (node-count b i) (bond-step b discounts flows i row))
-      bond-row-is later row top after c (h, t) = (
-        λ k l. h k (rw discount-part-length l) ∙ bond-value-is later row c k l,
-        t ∙ rw discount-part-length (greatest-cong (node-count b i) _ _ (bond-value-is later row c)),
-      )
-
-      option-value-is :
-          (terms : Terms) (bonds options bond option : List ℕ) → Holds bonds (node-count b (suc i)) (values bond) → Holds options (node-count b (suc i)) (values option) →
-          (k : ℕ) → k < node-count b i →
-          option-values terms bonds options table-part discount-part (node-count b (suc i)) flow k
-          ≡ option-step terms b discounts flows i bond option k
-      option-value-is terms bonds options bond option cb co k l =
-          ap₂ (λ (x y : ℕ). held-or-exercised (terms .listed) x (exercise (side (terms .call)) (terms .strike) y))
-          (rolled-is options k l ∙ rolled-copy options option co k l) (bond-value-is bonds bond cb k l)
+      option-value-is : (k : ℕ) → k < node-count b i → code-option k ≡ option-step side strike listed b discounts flows i bonds options k
+      option-value-is k l =
+          ap₂ (λ (x y : ℕ). held-or-exercised listed x (exercise side strike y)) (rolled-is options k l) (bond-value-is bonds k l)
 
       pub option-row-is :
-          (terms : Terms) (bonds options bond option : List ℕ) (top : ℕ) (bond′ option′ : List ℕ) →
-          Holds bonds (node-count b (suc i)) (values bond) → Holds options (node-count b (suc i)) (values option) →
-          Holds bond′ (length discount-part) (bond-values bonds table-part discount-part (node-count b (suc i)) flow)
-          × Holds option′ (length discount-part) (option-values terms bonds options table-part discount-part (node-count b (suc i)) flow)
-          × (top ≡ greatest (length discount-part)
-          (λ k. max (bond-values bonds table-part discount-part (node-count b (suc i)) flow k)
-          (option-values terms bonds options table-part discount-part (node-count b (suc i)) flow k))) →
-          Holds bond′ (node-count b i) (bond-step b discounts flows i bond)
-          × Holds option′ (node-count b i) (option-step terms b discounts flows i bond option)
-          × (top ≡ greatest (node-count b i) (λ k. max (bond-step b discounts flows i bond k) (option-step terms b discounts flows i bond option k)))
-      option-row-is terms bonds options bond option top bond′ option′ cb co (h, g, t) = (
-        λ k l. h k (rw discount-part-length l) ∙ bond-value-is bonds bond cb k l,
-        λ k l. g k (rw discount-part-length l) ∙ option-value-is terms bonds options bond option cb co k l,
-        t ∙ rw discount-part-length
-            (greatest-cong (node-count b i) _ _
-            (λ k l. ap₂ max (bond-value-is bonds bond cb k l) (option-value-is terms bonds options bond option cb co k l))),
-      )
-
-    -- the greatest discount of the row
-    pub greatest-discount-is : (g : ℕ) → g ≡ greatest (length discount-part) (values discount-part) → g ≡ greatest-discount (rate-tree b) (discount-at b discounts) i
-    unfolding greatest-discount rate-tree
-    greatest-discount-is g e = e ∙ rw discount-part-length (greatest-cong (node-count b i) _ _ discount-part-at)
+          (bond option : List ℕ) (top : ℕ) → Filled-rows bond option (length discount-part) (code-bond bonds) code-option top →
+          Filled-rows bond option (node-count b i) (bond-step b discounts flows i bonds)
+          (option-step side strike listed b discounts flows i bonds options) top
+      option-row-is bond option top s =
+          record {
+            bond-held = λ k l. s .bond-held k (rw discount-part-length l) ∙ bond-value-is bonds k l;
+            option-held = λ k l. s .option-held k (rw discount-part-length l) ∙ option-value-is k l;
+            found =
+                s .found
+                ∙ rw discount-part-length (greatest-cong (node-count b i) _ _ (λ k l. ap₂ max (bond-value-is bonds k l) (option-value-is k l)));
+          }
 
 -- the flow of a row
 pub flow-none : (flows : List ℕ) (i : ℕ) → i ≡ 0 → flow-at flows i ≡ 0

@@ -1,52 +1,33 @@
 -- The walk back through an accepted tree: what the code holds at each row.
 -- Assumes nothing.
 use mathlib.Core.Path.{_≡_, refl, sym, ap, ap₂, _∙_, subst}
-use mathlib.Core.Bool.{Bool, true, false, cond, _||_}
+use mathlib.Core.Bool.{Bool}
 use mathlib.Core.List.{List}
-use Prim.Native.Nat.{ℕ, zero, suc, _+_, _-_, _*_, _≤_, _<_, max}
+use Prim.Native.Nat.{ℕ, zero, suc, _+_, _-_, _≤_, _<_, max}
 use native.Mathlib.Nat.{le-refl}
 use native.Mathlib.Omega.{arith}
-use lib.Dec.{eqb, leb}
-use lib.ListN.{length}
-use borrow.Author.Tests.{lt-ltb, le-ltb}
-use Rattle.arithmetic.specs.Rounding.{up}
 use Rattle.arithmetic.specs.Row.{values}
 use Rattle.arithmetic.specs.Sum.{greatest}
 use Rattle.arithmetic.proofs.Numbers.{by-order}
 use Rattle.arithmetic.proofs.SumLaws.{greatest-cong}
+use Rattle.limits.specs.Limits.{value-limit}
+use Rattle.limits.proofs.LimitLaws.{limit-above, limit-kept, limit-accepted}
 use Rattle.lattice.specs.Shape.{node-count}
 use Rattle.lattice.specs.RateTree.{rate-tree}
 use Rattle.lattice.proofs.Sizes.{count-within, count-positive}
 use Rattle.lattice.proofs.RateTreeLaws.{rate-tree-sound}
-use Rattle.pricing_laws.specs.Pricer.{rounded, bond, option, Side, Schedule, exercise, held-or-exercised}
-use Rattle.pricing_laws.specs.Schedule.{side-of, schedule-of, european, american}
-use Rattle.pricing_laws.specs.TreePricer.{roll-rounding, roll-loss, roll, greatest-discount, price-error-bound}
-use Rattle.pricing_laws.specs.Peak.{value-limit, peak, greatest-value}
+use Rattle.pricing_laws.specs.Pricer.{rounded, bond, Side, Schedule, exercise, held-or-exercised}
+use Rattle.pricing_laws.specs.TreePricer.{roll-rounding, roll}
+use Rattle.pricing_laws.specs.Peak.{peak, greatest-value}
 use Rattle.pricing_laws.proofs.Peaks.{peak-grows}
-use Rattle.pricing_laws.proofs.PriceLaws.{On, row-greatest, roll-local, error-bound-small}
-use Rattle.pricing_laws.proofs.Recurrences.{error-bound-last, error-bound-before, schedule-last}
+use Rattle.pricing_laws.proofs.PriceLaws.{On, row-greatest, roll-local}
 use Rattle.pricing_laws.proofs.Backward as back
-use Rattle.pricing.specs.declared.values.Terms.{Terms}
-use Rattle.pricing.specs.Prices.{discount-at, flow-at, bond-at, option-at, bound-of, limit-cause, bond-peak, option-peak}
-use Rattle.pricing.specs.Rows.{Later, Holds}
-use Rattle.pricing.specs.Terms.{side, terms-of}
-use Rattle.pricing.specs.Trees.{Accepted, Accepted-flows, rolled-at, bond-step, option-step, Bond-rolled, Option-rolled}
-use Rattle.pricing.proofs.TreeRows.{discount-within, flow-within}
-
-pub limit-over : (x : ℕ) → value-limit < x → limit-cause x ≡ 12
-unfolding limit-cause
-limit-over x h = rw (lt-ltb value-limit x h)
-
-pub limit-kept : (x : ℕ) → x ≤ value-limit → limit-cause x ≡ 0
-unfolding limit-cause
-limit-kept x h = rw (le-ltb value-limit x h)
-
-limit-passed : (x : ℕ) → limit-cause x ≡ 0 → x ≤ value-limit
-unfolding limit-cause
-limit-passed x e = by-order x value-limit (λ h. h) (λ h. absurd (none (sym (limit-over x h) ∙ e)))
-  where
-    none : _≡_ {A = ℕ} 12 0 → ⊥
-    none z = omega arith
+use Rattle.pricing.specs.Prices.{flow-at, bond-at, bond-peak, option-at, option-peak, option-limit}
+use Rattle.pricing.specs.Rows.{Limited, Holds, Filled-rows}
+use Rattle.pricing.specs.Trees.{rolled-at, bond-step, option-step, Bond-rolled, Both-rolled}
+use Rattle.lent_tree.specs.LentTree.{stored, Accepted}
+use Rattle.price_causes.specs.Causes.{Accepted-flows}
+use Rattle.pricing.proofs.TreeRows.{flow-within}
 
 -- the greatest of two rows together
 greatest-max : (n : ℕ) (f g : ℕ → ℕ) → greatest n (λ k. max (f k) (g k)) ≡ max (greatest n f) (greatest n g)
@@ -61,27 +42,27 @@ top b i v = greatest (rate-tree b .nodes i) v
 -- the bond at row i stands in a list
 pub Bonds : ℕ → ℕ → List ℕ → List ℕ → ℕ → List ℕ → Type 0
 Bonds n b discounts flows i l =
-    back.Bond-state n (On (rate-tree b)) (top b) (roll (rate-tree b) (discount-at b discounts) roll-rounding) (flow-at flows) i (values l)
+    back.Bond-state n (On (rate-tree b)) (top b) (roll (rate-tree b) (stored b discounts) roll-rounding) (flow-at flows) i (values l)
 
 pub bonds-inside : (n b : ℕ) (discounts flows : List ℕ) (i : ℕ) (l : List ℕ) → Bonds n b discounts flows i l → i ≤ n
 unfolding Bonds
 bonds-inside n b discounts flows i l s = s .in-tree
 
 -- the option at row i stands in a list
-pub Options : ℕ → ℕ → List ℕ → List ℕ → ℕ → ℕ → ℕ → ℕ → List ℕ → Type 0
-Options n b discounts flows kind expiry strike i l =
-    back.Option-state n (On (rate-tree b)) (top b) (roll (rate-tree b) (discount-at b discounts) roll-rounding) (flow-at flows)
-    (side-of kind) strike (schedule-of kind expiry) i (values l)
+pub Options : ℕ → ℕ → List ℕ → List ℕ → Side → ℕ → Schedule → ℕ → List ℕ → Type 0
+Options n b discounts flows side strike rows i l =
+    back.Option-state n (On (rate-tree b)) (top b) (roll (rate-tree b) (stored b discounts) roll-rounding) (flow-at flows)
+    side strike rows i (values l)
 
 module _ (n b : ℕ) (discounts flows : List ℕ) (a : Accepted n b discounts) (f : Accepted-flows n flows) where
   abbrev the-roll : ℕ → (ℕ → ℕ) → ℕ → ℕ
-  the-roll = roll (rate-tree b) (discount-at b discounts) roll-rounding
+  the-roll = roll (rate-tree b) (stored b discounts) roll-rounding
 
   great : back.Greatest (On (rate-tree b)) (top b)
   great = row-greatest (rate-tree b)
 
   local : back.Local (On (rate-tree b)) the-roll
-  local = roll-local (rate-tree b) (rate-tree-sound b (a .reverting)) (discount-at b discounts) roll-rounding
+  local = roll-local (rate-tree b) (rate-tree-sound b (a .reverting)) (stored b discounts) roll-rounding
 
   narrow : (i k : ℕ) → i ≤ n → k < node-count b i → k < 121
   narrow i k h l = omega (arith, count-within b i (omega (arith, a .few)))
@@ -93,13 +74,9 @@ module _ (n b : ℕ) (discounts flows : List ℕ) (a : Accepted n b discounts) (
       back.bond-first n (On (rate-tree b)) (top b) great the-roll local (flow-at flows) (values l)
       (omega (arith, flow-within n flows f n (le-refl n))) (λ k hk. h k (narrow n k (le-refl n) hk))
 
-  pub bonds-later : (i : ℕ) (later : List ℕ) → 121 ≤ length later → Bonds n b discounts flows i later → Later later (node-count b i)
+  pub bonds-limited : (i : ℕ) (later : List ℕ) → Bonds n b discounts flows i later → Limited later (node-count b i)
   unfolding Bonds rate-tree
-  bonds-later i later room s =
-      record {
-        room = omega (arith, count-within b i (omega (arith, s .in-tree, a .few)));
-        limited = back.bond-limit n (On (rate-tree b)) (top b) great the-roll local (flow-at flows) i (values later) s;
-      }
+  bonds-limited i later s = back.bond-limit n (On (rate-tree b)) (top b) great the-roll local (flow-at flows) i (values later) s
 
   -- one row back
   module _ (r : ℕ) (later : List ℕ) (some : 0 < r) (s : Bonds n b discounts flows r later) (l : List ℕ)
@@ -136,14 +113,14 @@ module _ (n b : ℕ) (discounts flows : List ℕ) (a : Accepted n b discounts) (
     bond-refused r l h hr o =
         let e : last + (r - 1 - last) ≡ r - 1 = omega arith in
         let g = rw e at (peak-grows (greatest-value (rate-tree b) (bond-at n b discounts flows)) n last (r - 1 - last) (omega arith)) in
-        record { cause = sym (limit-over _ (omega (arith, g))); held = λ z. absurd (none z) }
+        record { cause = limit-above _ (omega (arith, g)); held = λ z. absurd (none z) }
       where
         none : _≡_ {A = ℕ} 12 0 → ⊥
         none z = omega arith
 
     row-rolled : (l : List ℕ) → Bonds n b discounts flows last l → Bond-rolled n b discounts flows last 0 l
     unfolding Bonds rate-tree greatest-value bond-at
-    row-rolled l s = record { cause = sym (limit-kept _ (s .within-limit)); held = λ z. s .held }
+    row-rolled l s = record { cause = limit-kept _ (s .within-limit); held = λ z. s .held }
 
     pub bond-rolled : (r : ℕ) (l : List ℕ) → r ≡ last → Bonds n b discounts flows r l → Bond-rolled n b discounts flows last 0 l
     bond-rolled r l e s = row-rolled l (subst (λ (x : ℕ). Bonds n b discounts flows x l) e s)
@@ -151,208 +128,162 @@ module _ (n b : ℕ) (discounts flows : List ℕ) (a : Accepted n b discounts) (
     -- and back from its answer
     pub bonds-from : (l : List ℕ) → last ≤ n → Bond-rolled n b discounts flows last 0 l → Bonds n b discounts flows last l
     unfolding Bonds rate-tree greatest-value bond-at
-    bonds-from l h s = record { in-tree = h; held = s .held refl; within-limit = limit-passed _ (sym (s .cause)) }
+    bonds-from l h s = record { in-tree = h; held = s .held refl; within-limit = limit-accepted _ (sym (s .cause)) }
 
   -- the option beside the bond
-  module _ (kind expiry strike : ℕ) (terms : Terms) (et : terms ≡ terms-of kind strike) where
-    side-is : side (terms .call) ≡ side-of kind
-    unfolding side-of terms-of
-    side-is = rw et (go (eqb kind 1 || eqb kind 3))
+  module _ (side : Side) (strike : ℕ) (rows : Schedule) (hl : rows .last ≤ n) where
+    abbrev Right : ℕ → List ℕ → Type 0
+    Right = Options n b discounts flows side strike rows
+
+    -- exercise values of a limited bond and strike are limited
+    exercise-limited : (s : Side) (k v : ℕ) → k ≤ 4000000000 → v ≤ value-limit → exercise s k v ≤ value-limit
+    unfolding exercise
+    exercise-limited Side.call k v hk hv = omega arith
+    exercise-limited Side.put k v hk hv = omega arith
+
+    -- on the last row: the exercise values
+    pub options-first :
+        (bonds l : List ℕ) → strike ≤ 4000000000 → Bonds n b discounts flows (rows .last) bonds →
+        Holds l 121 (λ k. exercise side strike (values bonds k)) → Right (rows .last) l
+    unfolding Bonds Options rate-tree
+    options-first bonds l hs s h =
+        back.option-first n (On (rate-tree b)) (top b) great the-roll local (flow-at flows) side strike rows (values bonds) (values l) s value-is
+        (λ k hk. rw (value-is k hk) (exercise-limited side strike (values bonds k) hs
+        (back.bond-limit n (On (rate-tree b)) (top b) great the-roll local (flow-at flows) (rows .last) (values bonds) s k hk)))
       where
-        go : (t : Bool) → side t ≡ cond t Side.call Side.put
-        go true = refl
-        go false = refl
+        value-is : (k : ℕ) → k < node-count b (rows .last) → values l k ≡ exercise side strike (values bonds k)
+        value-is k hk = h k (narrow (rows .last) k hl hk)
 
-    strike-is : terms .strike ≡ strike
-    unfolding terms-of
-    strike-is = ap (λ (t : Terms). t .strike) et
+    pub options-limited : (i : ℕ) (later : List ℕ) → Right i later → Limited later (node-count b i)
+    unfolding Options rate-tree
+    options-limited i later s =
+        back.option-limit n (On (rate-tree b)) (top b) great the-roll local (flow-at flows) side strike rows i (values later) s
 
-    listed-is : (i : ℕ) → terms .listed ≡ schedule-of kind expiry .listed i
-    unfolding schedule-of terms-of american european
-    listed-is i = rw et (go (leb 3 kind))
-      where
-        go : (t : Bool) → t ≡ cond t (american expiry) (european expiry) .listed i
-        go true = refl
-        go false = refl
+    -- one row back, bond and option together
+    module _ (r : ℕ) (bonds options : List ℕ) (some : 0 < r) (sb : Bonds n b discounts flows r bonds) (so : Right r options)
+        (listed : Bool) (el : listed ≡ rows .listed (r - 1)) (bond option : List ℕ) (found : ℕ)
+        (filled : Filled-rows bond option (node-count b (r - 1)) (bond-step b discounts flows (r - 1) bonds)
+        (option-step side strike listed b discounts flows (r - 1) bonds options) found) where
+      options-before : Right (suc (r - 1)) options
+      options-before = let e : r ≡ suc (r - 1) = omega arith in subst (λ (x : ℕ). Right x options) e so
 
-    module _ (he : expiry ≤ n) where
-      abbrev the-rows : Schedule
-      the-rows = schedule-of kind expiry
+      before-last : r - 1 < rows .last
+      unfolding Options
+      before-last = omega (arith, so .before-last)
 
-      at-last : (l : List ℕ) → Options n b discounts flows kind expiry strike (the-rows .last) l → Options n b discounts flows kind expiry strike expiry l
-      at-last l s = subst (λ (x : ℕ). Options n b discounts flows kind expiry strike x l) (schedule-last kind expiry) s
+      option-value-is :
+          (k : ℕ) → k < node-count b (r - 1) →
+          values option k ≡ held-or-exercised (rows .listed (r - 1)) (rolled-at b discounts (r - 1) options k) (exercise side strike (values bond k))
+      option-value-is k h =
+          filled .option-held k h
+          ∙ ap₂ (λ (t : Bool) (x : ℕ). held-or-exercised t (rolled-at b discounts (r - 1) options k) (exercise side strike x))
+          el (sym (filled .bond-held k h))
 
-      -- exercise values of a limited bond and strike are limited
-      exercise-limited : (s : Side) (k v : ℕ) → k ≤ 4000000000 → v ≤ value-limit → exercise s k v ≤ value-limit
-      unfolding exercise
-      exercise-limited Side.call k v hk hv = omega arith
-      exercise-limited Side.put k v hk hv = omega arith
+      bond-found : ℕ
+      bond-found = greatest (node-count b (r - 1)) (values bond)
 
-      -- at expiry: the exercise values
-      pub options-first :
-          (bonds l : List ℕ) → strike ≤ 4000000000 → Bonds n b discounts flows expiry bonds →
-          Holds l 121 (λ k. exercise (side (terms .call)) (terms .strike) (values bonds k)) →
-          Options n b discounts flows kind expiry strike expiry l
-      unfolding Bonds Options rate-tree
-      options-first bonds l hs s h =
-          at-last l
-          (back.option-first n (On (rate-tree b)) (top b) great the-roll local (flow-at flows) (side-of kind) strike the-rows (values bonds) (values l)
-          last-bonds value-is
-          (λ k hk. rw (value-is k hk) (exercise-limited (side-of kind) strike (values bonds k) hs
-          (back.bond-limit n (On (rate-tree b)) (top b) great the-roll local (flow-at flows) (the-rows .last) (values bonds) last-bonds k hk))))
-        where
-          last-bonds : back.Bond-state n (On (rate-tree b)) (top b) the-roll (flow-at flows) (the-rows .last) (values bonds)
-          last-bonds = subst (λ (x : ℕ). Bonds n b discounts flows x bonds) (sym (schedule-last kind expiry)) s
+      option-found : ℕ
+      option-found = greatest (node-count b (r - 1)) (values option)
 
-          value-is : (k : ℕ) → k < node-count b (the-rows .last) → values l k ≡ exercise (side-of kind) strike (values bonds k)
-          value-is k hk =
-              h k (narrow (the-rows .last) k (omega (arith, schedule-last kind expiry)) hk)
-              ∙ ap₂ (λ (x : Side) (y : ℕ). exercise x y (values bonds k)) side-is strike-is
+      found-is : found ≡ max bond-found option-found
+      unfolding bond-found option-found
+      found-is =
+          filled .found
+          ∙ greatest-cong (node-count b (r - 1)) _ (λ k. max (values bond k) (values option k))
+          (λ k h. ap₂ max (sym (filled .bond-held k h)) (sym (filled .option-held k h)))
+          ∙ greatest-max (node-count b (r - 1)) (values bond) (values option)
 
-      pub options-later :
-          (i : ℕ) (later : List ℕ) → 121 ≤ length later → Options n b discounts flows kind expiry strike i later → Later later (node-count b i)
-      unfolding Options rate-tree
-      options-later i later room s =
-          record {
-            room = omega (arith, count-within b i (omega (arith, s .before-last, schedule-last kind expiry, a .few)));
-            limited =
-                back.option-limit n (On (rate-tree b)) (top b) great the-roll local (flow-at flows) (side-of kind) strike the-rows i (values later) s;
-          }
-
-      -- one row back, bond and option together
-      module _ (r : ℕ) (bonds options : List ℕ) (some : 0 < r) (sb : Bonds n b discounts flows r bonds)
-          (so : Options n b discounts flows kind expiry strike r options) (bond option : List ℕ)
-          (hb : Holds bond (node-count b (r - 1)) (bond-step b discounts flows (r - 1) bonds))
-          (ho : Holds option (node-count b (r - 1)) (option-step terms b discounts flows (r - 1) bonds options))
-          (found : ℕ)
-          (ef : found ≡ greatest (node-count b (r - 1))
-          (λ k. max (bond-step b discounts flows (r - 1) bonds k)
-          (option-step terms b discounts flows (r - 1) bonds options k))) where
-        options-before : Options n b discounts flows kind expiry strike (suc (r - 1)) options
-        options-before =
-            let e : r ≡ suc (r - 1) = omega arith in subst (λ (x : ℕ). Options n b discounts flows kind expiry strike x options) e so
-
-        before-expiry : r - 1 < the-rows .last
-        unfolding Options
-        before-expiry = omega (arith, so .before-last)
-
-        option-value-is :
-            (k : ℕ) → k < node-count b (r - 1) →
-            values option k ≡ held-or-exercised (the-rows .listed (r - 1)) (rolled-at b discounts (r - 1) options k) (exercise (side-of kind) strike (values bond k))
-        option-value-is k h =
-            ho k h
-            ∙ ap (λ (t : Bool). held-or-exercised t (rolled-at b discounts (r - 1) options k)
-            (exercise (side (terms .call)) (terms .strike) (bond-step b discounts flows (r - 1) bonds k)))
-            (listed-is (r - 1))
-            ∙ ap (held-or-exercised (the-rows .listed (r - 1)) (rolled-at b discounts (r - 1) options k))
-            (ap₂ (λ (x : Side) (y : ℕ). exercise x y (bond-step b discounts flows (r - 1) bonds k)) side-is strike-is
-            ∙ ap (exercise (side-of kind) strike) (sym (hb k h)))
-
-        bond-found : ℕ
-        bond-found = greatest (node-count b (r - 1)) (values bond)
-
-        option-found : ℕ
-        option-found = greatest (node-count b (r - 1)) (values option)
-
-        found-is : found ≡ max bond-found option-found
-        unfolding bond-found option-found
-        found-is =
-            ef
-            ∙ greatest-cong (node-count b (r - 1)) _ (λ k. max (values bond k) (values option k)) (λ k h. ap₂ max (sym (hb k h)) (sym (ho k h)))
-            ∙ greatest-max (node-count b (r - 1)) (values bond) (values option)
-
-        pub both-next : found ≤ value-limit → Bonds n b discounts flows (r - 1) bond × Options n b discounts flows kind expiry strike (r - 1) option
-        unfolding Options rate-tree rolled-at bond-found option-found
-        both-next o = (
-          bonds-next r bonds some sb bond hb bond-found refl (omega (arith, found-is)),
-          back.option-step n (On (rate-tree b)) (top b) great the-roll local (flow-at flows) (side-of kind) strike the-rows (r - 1) (values options)
-              before-expiry options-before (values bond) (bonds-held r bonds some sb bond hb) (values option) option-value-is option-found refl
-              (omega (arith, found-is)),
-        )
-
-        -- a value above the limit is one of the bond or one of the option
-        over-bond : value-limit < bond-found → value-limit < bond-peak n b discounts flows
-        unfolding bond-found bond-peak
-        over-bond h =
-            let e : 0 + (r - 1) ≡ r - 1 = omega arith in
-            let w = greatest-value (rate-tree b) (bond-at n b discounts flows) in
-            omega (arith, bonds-over r bonds some sb bond hb bond-found refl h, rw e at (peak-grows w n 0 (r - 1) (omega (arith, inside r bonds some sb bond hb))))
-
-        over-option : value-limit < option-found → value-limit < option-peak n b discounts flows kind expiry strike
-        unfolding Options rate-tree rolled-at greatest-value option-at option-peak option-found
-        over-option h =
-            let e : 0 + (r - 1) ≡ r - 1 = omega arith in
-            let w = greatest-value (rate-tree b) (option-at n b discounts flows kind expiry strike) in
-            let o = back.option-over n (On (rate-tree b)) (top b) great the-roll local (flow-at flows) (side-of kind) strike the-rows (r - 1) (values options)
-            before-expiry options-before (values bond) (bonds-held r bonds some sb bond hb) (values option) option-value-is option-found refl h in
-            omega (
-              arith,
-              subst (λ (x : ℕ). value-limit < peak w x (r - 1)) (schedule-last kind expiry) o,
-              rw e at (peak-grows w expiry 0 (r - 1) (omega (arith, before-expiry, schedule-last kind expiry))),
-            )
-
-        pub both-over : (l : List ℕ) → value-limit < found → Option-rolled n b discounts flows kind expiry strike 12 l
-        both-over l o =
-            record {
-              cause =
-                  sym (limit-over _
-                  (by-order bond-found value-limit
-                  (λ h. let g : value-limit < option-found = omega (arith, found-is) in omega (arith, over-option g))
-                  (λ h. omega (arith, over-bond h))));
-              held = λ z. absurd (none z);
-            }
-          where
-            none : _≡_ {A = ℕ} 12 0 → ⊥
-            none z = omega arith
-
-      -- at row 0
-      at-root :
-          (bonds l : List ℕ) → Bonds n b discounts flows 0 bonds → Options n b discounts flows kind expiry strike 0 l →
-          Option-rolled n b discounts flows kind expiry strike 0 l
-      unfolding Bonds Options rate-tree greatest-value bond-at option-at bond-peak option-peak
-      at-root bonds l s o =
-          let w = greatest-value (rate-tree b) (option-at n b discounts flows kind expiry strike) in
-          let p = subst (λ (x : ℕ). peak w x 0 ≤ value-limit) (schedule-last kind expiry) (o .within-limit) in
-          record {
-            cause = sym (limit-kept _ (omega (arith, s .within-limit, p)));
-            held = λ z. o .held 0 (count-positive b 0);
-          }
-
-      pub option-rolled :
-          (r : ℕ) (bonds l : List ℕ) → r ≡ 0 → Bonds n b discounts flows r bonds → Options n b discounts flows kind expiry strike r l →
-          Option-rolled n b discounts flows kind expiry strike 0 l
-      option-rolled r bonds l e s o =
-          at-root bonds l (subst (λ (x : ℕ). Bonds n b discounts flows x bonds) e s)
-          (subst (λ (x : ℕ). Options n b discounts flows kind expiry strike x l) e o)
-
--- the error bound of the rows done
-abbrev pub bound-row : ℕ → ℕ → List ℕ → ℕ → ℕ
-bound-row n b discounts = price-error-bound (rate-tree b) (discount-at b discounts) n
-
-module _ (n b : ℕ) (discounts : List ℕ) (a : Accepted n b discounts) where
-  abbrev bound-at : ℕ → ℕ
-  bound-at = bound-row n b discounts
-
-  pub bound-first : bound-at n ≡ 0
-  bound-first = error-bound-last roll-loss (greatest-discount (rate-tree b) (discount-at b discounts)) n
-
-  pub bound-next :
-      (r bound next : ℕ) → 0 < r → r ≤ n → bound ≡ bound-at r →
-      next ≡ up (greatest-discount (rate-tree b) (discount-at b discounts) (r - 1) * bound) 1000000000 + roll-loss → next ≡ bound-at (r - 1)
-  bound-next r bound next some h e g =
-      let z : r ≡ suc (r - 1) = omega arith in
-      g
-      ∙ ap (λ (x : ℕ). up (greatest-discount (rate-tree b) (discount-at b discounts) (r - 1) * x) 1000000000 + roll-loss) (e ∙ ap bound-at z)
-      ∙ sym (error-bound-before roll-loss (greatest-discount (rate-tree b) (discount-at b discounts)) n (r - 1) (omega arith))
-
-  pub bound-small : (r bound : ℕ) → r ≤ n → bound ≡ bound-at r → bound ≤ 1000000
-  unfolding rate-tree
-  bound-small r bound h e =
-      omega (
-        arith,
-        error-bound-small (rate-tree b) (discount-at b discounts) n (λ i k hi hk. discount-within n b i hi discounts a k hk) (a .few) r h,
+      pub both-next : found ≤ value-limit → Bonds n b discounts flows (r - 1) bond × Right (r - 1) option
+      unfolding Options rate-tree rolled-at bond-found option-found
+      both-next o = (
+        bonds-next r bonds some sb bond (filled .bond-held) bond-found refl (omega (arith, found-is)),
+        back.option-step n (On (rate-tree b)) (top b) great the-roll local (flow-at flows) side strike rows (r - 1) (values options)
+            before-last options-before (values bond) (bonds-held r bonds some sb bond (filled .bond-held)) (values option) option-value-is
+            option-found refl (omega (arith, found-is)),
       )
 
-  pub bound-done : (r bound : ℕ) → r ≡ 0 → bound ≡ bound-at r → bound ≡ bound-of n b discounts
-  unfolding bound-of
-  bound-done r bound e h = h ∙ ap bound-at e
+      -- a value above the limit is one of the bond or one of the option
+      over-bond : value-limit < bond-found → value-limit < bond-peak n b discounts flows
+      unfolding bond-found bond-peak
+      over-bond h =
+          let e : 0 + (r - 1) ≡ r - 1 = omega arith in
+          let w = greatest-value (rate-tree b) (bond-at n b discounts flows) in
+          omega (
+            arith,
+            bonds-over r bonds some sb bond (filled .bond-held) bond-found refl h,
+            rw e at (peak-grows w n 0 (r - 1) (omega (arith, inside r bonds some sb bond (filled .bond-held)))),
+          )
+
+      over-option : value-limit < option-found → value-limit < option-peak n b discounts flows side strike rows
+      unfolding Options rate-tree rolled-at greatest-value option-at option-peak option-found
+      over-option h =
+          let e : 0 + (r - 1) ≡ r - 1 = omega arith in
+          let w = greatest-value (rate-tree b) (option-at n b discounts flows side strike rows) in
+          omega (
+            arith,
+            back.option-over n (On (rate-tree b)) (top b) great the-roll local (flow-at flows) side strike rows (r - 1) (values options)
+                before-last options-before (values bond) (bonds-held r bonds some sb bond (filled .bond-held)) (values option) option-value-is
+                option-found refl h,
+            rw e at (peak-grows w (rows .last) 0 (r - 1) (omega (arith, before-last))),
+          )
+
+      pub both-over : (x y : List ℕ) → value-limit < found → Both-rolled n b discounts flows side strike rows 12 x y
+      unfolding option-limit
+      both-over x y o =
+          record {
+            cause =
+                limit-above _
+                (by-order bond-found value-limit
+                (λ h. let g : value-limit < option-found = omega (arith, found-is) in omega (arith, over-option g))
+                (λ h. omega (arith, over-bond h)));
+            bond-held = λ z. absurd (none z);
+            option-held = λ z. absurd (none z);
+          }
+        where
+          none : _≡_ {A = ℕ} 12 0 → ⊥
+          none z = omega arith
+
+    -- at row 0
+    at-root : (bonds l : List ℕ) → Bonds n b discounts flows 0 bonds → Right 0 l → Both-rolled n b discounts flows side strike rows 0 bonds l
+    unfolding Bonds Options rate-tree greatest-value bond-at option-at bond-peak option-peak option-limit
+    at-root bonds l s o =
+        record {
+          cause = limit-kept _ (omega (arith, s .within-limit, o .within-limit));
+          bond-held = λ z. s .held 0 (count-positive b 0);
+          option-held = λ z. o .held 0 (count-positive b 0);
+        }
+
+    pub both-rolled :
+        (r : ℕ) (bonds l : List ℕ) → r ≡ 0 → Bonds n b discounts flows r bonds → Right r l → Both-rolled n b discounts flows side strike rows 0 bonds l
+    both-rolled r bonds l e s o =
+        at-root bonds l (subst (λ (x : ℕ). Bonds n b discounts flows x bonds) e s) (subst (λ (x : ℕ). Right x l) e o)
+
+    -- the bond passes the limit before the option's last row is reached
+    pub late-refused :
+        (number : ℕ) (bonds l option : List ℕ) → Bond-rolled n b discounts flows (rows .last) number bonds → (number ≡ 0 → ⊥) →
+        Both-rolled n b discounts flows side strike rows number l option
+    unfolding bond-peak option-limit
+    late-refused number bonds l option s z =
+        record {
+          cause =
+              by-order late value-limit
+              (λ low. absurd (z (s .cause ∙ sym (limit-kept late low))))
+              (λ high. s .cause ∙ sym (limit-above late high) ∙ limit-above _ (omega (arith, grown)));
+          bond-held = λ e. absurd (z e);
+          option-held = λ e. absurd (z e);
+        }
+      where
+        tops : ℕ → ℕ
+        tops = greatest-value (rate-tree b) (bond-at n b discounts flows)
+
+        late : ℕ
+        late = peak tops n (rows .last)
+
+        grown : late ≤ peak tops n 0
+        grown = let e : 0 + rows .last ≡ rows .last = omega arith in rw e at (peak-grows tops n 0 (rows .last) (omega arith))
+
+-- a walk that was not refused
+pub rolled-through :
+    (n b : ℕ) (discounts flows : List ℕ) (i number : ℕ) (l : List ℕ) → number ≡ 0 → Bond-rolled n b discounts flows i number l →
+    Bond-rolled n b discounts flows i 0 l
+rolled-through n b discounts flows i number l z s = subst (λ (x : ℕ). Bond-rolled n b discounts flows i x l) z s

@@ -1,70 +1,31 @@
 -- The answers of the pricing entries (document 01, Prices and When the engine declines). n steps, reversion b, discounts and flows as lent.
 -- Assumes nothing.
 use Prim.Native.Nat.{ℕ, zero, suc, _+_, max}
-use mathlib.Core.Bool.{Bool, cond, _&&_, _||_}
+use mathlib.Core.Bool.{cond}
 use mathlib.Core.List.{List}
-use lib.Dec.{eqb, leb, ltb}
-use lib.ListN.{length}
-use Rattle.arithmetic.specs.Row.{values, each}
-use Rattle.lattice.specs.Shape.{row-start, discounts-needed}
+use lib.Dec.{eqb}
+use Rattle.arithmetic.specs.Row.{values}
+use Rattle.arithmetic.specs.Answers.{lowest-cause}
+use Rattle.limits.specs.Limits.{limit-cause}
 use Rattle.lattice.specs.RateTree.{rate-tree}
-use Rattle.pricing_laws.specs.Pricer.{bond, option}
+use Rattle.pricing_laws.specs.Pricer.{Side, Schedule, bond, option}
 use Rattle.pricing_laws.specs.Schedule.{side-of, schedule-of}
-use Rattle.pricing_laws.specs.TreePricer.{engine, price-error-bound}
-use Rattle.pricing_laws.specs.Peak.{value-limit, peak, greatest-value}
+use Rattle.pricing_laws.specs.TreePricer.{engine}
+use Rattle.pricing_laws.specs.Peak.{peak, greatest-value}
+use Rattle.lent_tree.specs.LentTree.{stored, discounts-cause}
+use Rattle.price_bound.specs.PriceBound.{bound-of}
+use Rattle.price_causes.specs.Causes.{flows-cause, option-cause}
 use Rattle.pricing.specs.declared.Price.{Price}
-
--- the discount of node k of row i, the rows standing one after the other, lowest node first
-unfoldable pub discount-at : ℕ → List ℕ → ℕ → ℕ → ℕ
-discount-at b discounts i k = values discounts (row-start b i + k)
+use Rattle.pricing.specs.declared.BondAndOption.{BondAndOption}
 
 -- flows stand for rows 1 to n; row 0 has none
 unfoldable pub flow-at : List ℕ → ℕ → ℕ
 flow-at flows zero = 0
 flow-at flows (suc t) = values flows t
 
--- the engine's bond and option at node k of row i
-unfoldable pub bond-at : ℕ → ℕ → List ℕ → List ℕ → ℕ → ℕ → ℕ
-bond-at n b discounts flows = bond (engine (rate-tree b) (discount-at b discounts)) (flow-at flows) n
-
-unfoldable pub option-at : ℕ → ℕ → List ℕ → List ℕ → ℕ → ℕ → ℕ → ℕ → ℕ → ℕ
-option-at n b discounts flows kind expiry strike =
-    option (engine (rate-tree b) (discount-at b discounts)) (flow-at flows) n (side-of kind) strike (schedule-of kind expiry)
-
--- the price allowance of row 0
-unfoldable pub bound-of : ℕ → ℕ → List ℕ → ℕ
-bound-of n b discounts = price-error-bound (rate-tree b) (discount-at b discounts) n 0
-
--- the number at an index is from low to high
-abbrev pub between : ℕ → ℕ → (ℕ → ℕ) → ℕ → Bool
-between low high f k = leb low (f k) && leb (f k) high
-
 -- 3, 4, 6, 9, 10 about a tree, its lent discounts and its flows, lowest number first; 0 where there is none
 unfoldable pub tree-cause : ℕ → ℕ → List ℕ → List ℕ → ℕ
-tree-cause n b discounts flows =
-    cond (eqb n 0 || ltb 60 n) 3
-    (cond (ltb 6000 b) 4
-    (cond (eqb (length flows) n && leb (discounts-needed n b) (length discounts))
-    (cond (each (discounts-needed n b) (between 1 1100000000 (values discounts)))
-    (cond (each n (between 0 2000000000 (values flows))) 0 10)
-    9)
-    6))
-
--- 11: kind, expiry or strike outside its limit
-unfoldable pub option-cause : ℕ → ℕ → ℕ → ℕ → ℕ
-option-cause n kind expiry strike = cond (leb 1 kind && leb kind 4 && leb expiry n && leb strike 4000000000) 0 11
-
--- 12: a value above 8 × one
-unfoldable pub limit-cause : ℕ → ℕ
-limit-cause value = cond (ltb value-limit value) 12 0
-
--- the greatest bond value of rows 0 to n, and the greatest option value of rows 0 to expiry
-unfoldable pub bond-peak : ℕ → ℕ → List ℕ → List ℕ → ℕ
-bond-peak n b discounts flows = peak (greatest-value (rate-tree b) (bond-at n b discounts flows)) n 0
-
-unfoldable pub option-peak : ℕ → ℕ → List ℕ → List ℕ → ℕ → ℕ → ℕ → ℕ
-option-peak n b discounts flows kind expiry strike =
-    peak (greatest-value (rate-tree b) (option-at n b discounts flows kind expiry strike)) expiry 0
+tree-cause n b discounts flows = lowest-cause (discounts-cause n b discounts) (flows-cause n flows)
 
 -- the first of two causes
 unfoldable pub first-cause : ℕ → ℕ → ℕ
@@ -78,15 +39,46 @@ refusal number = record { number = number; value = 0; bound = 0 }
 unfoldable pub priced : ℕ → ℕ → ℕ → Price
 priced number price bound = cond (eqb number 0) (record { number = 0; value = price; bound = bound }) (refusal number)
 
+-- ---- the bond
+
+-- the engine's bond at node k of row i
+unfoldable pub bond-at : ℕ → ℕ → List ℕ → List ℕ → ℕ → ℕ → ℕ
+bond-at n b discounts flows = bond (engine (rate-tree b) (stored b discounts)) (flow-at flows) n
+
+-- the greatest bond value of rows 0 to n
+unfoldable pub bond-peak : ℕ → ℕ → List ℕ → List ℕ → ℕ
+bond-peak n b discounts flows = peak (greatest-value (rate-tree b) (bond-at n b discounts flows)) n 0
+
 unfoldable pub bondPrice : ℕ → ℕ → List ℕ → List ℕ → Price
 bondPrice n b discounts flows =
     priced (first-cause (tree-cause n b discounts flows) (limit-cause (bond-peak n b discounts flows)))
     (bond-at n b discounts flows 0 0) (bound-of n b discounts)
 
+-- ---- an option, by its side, its strike and the rows on which it may be exercised
+
+module _ (n b : ℕ) (discounts flows : List ℕ) (side : Side) (strike : ℕ) (rows : Schedule) where
+  -- the engine's option at node k of row i
+  unfoldable pub option-at : ℕ → ℕ → ℕ
+  option-at = option (engine (rate-tree b) (stored b discounts)) (flow-at flows) n side strike rows
+
+  -- the greatest option value of rows 0 to expiry
+  unfoldable pub option-peak : ℕ
+  option-peak = peak (greatest-value (rate-tree b) option-at) (rows .last) 0
+
+  -- 12: a value of bond or option above 8 × one
+  unfoldable pub option-limit : ℕ
+  option-limit = limit-cause (max (bond-peak n b discounts flows) option-peak)
+
+-- the four kinds
 unfoldable pub optionPrice : ℕ → ℕ → List ℕ → List ℕ → ℕ → ℕ → ℕ → Price
 optionPrice n b discounts flows kind expiry strike =
     priced
     (first-cause (tree-cause n b discounts flows)
     (first-cause (option-cause n kind expiry strike)
-    (limit-cause (max (bond-peak n b discounts flows) (option-peak n b discounts flows kind expiry strike)))))
-    (option-at n b discounts flows kind expiry strike 0 0) (bound-of n b discounts)
+    (option-limit n b discounts flows (side-of kind) strike (schedule-of kind expiry))))
+    (option-at n b discounts flows (side-of kind) strike (schedule-of kind expiry) 0 0) (bound-of n b discounts)
+
+-- both, each as its own entry answers
+abbrev pub bondAndOption : ℕ → ℕ → List ℕ → List ℕ → ℕ → ℕ → ℕ → BondAndOption
+bondAndOption n b discounts flows kind expiry strike =
+    record { bond = bondPrice n b discounts flows; option = optionPrice n b discounts flows kind expiry strike }

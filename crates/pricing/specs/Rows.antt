@@ -1,18 +1,18 @@
 -- One row, as the code holds it: the later row, the row's discounts, and the row's part of the table of down-probabilities.
 -- Assumes nothing.
 use mathlib.Core.Path.{_≡_}
+use mathlib.Core.Bool.{Bool}
 use mathlib.Core.List.{List}
-use Prim.Native.Nat.{ℕ, _+_, _*_, _≤_, _<_}
+use Prim.Native.Nat.{ℕ, _+_, _*_, _≤_, _<_, max}
 use lib.ListN.{length}
 use Rattle.arithmetic.specs.Rounding.{one}
 use Rattle.arithmetic.specs.Row.{values}
+use Rattle.arithmetic.specs.Sum.{greatest}
 use Rattle.tree.specs.Tree.{whole}
-use Rattle.pricing_laws.specs.Pricer.{exercise, held-or-exercised}
+use Rattle.pricing_laws.specs.Pricer.{Side, exercise, held-or-exercised}
 use Rattle.pricing_laws.specs.TreePricer.{roll-rounding}
 use Rattle.row_branches.specs.declared.RowBranch.{RowBranch}
 use Rattle.row_branches.specs.RowBranches.{row-branch}
-use Rattle.pricing.specs.declared.values.Terms.{Terms}
-use Rattle.pricing.specs.Terms.{side}
 
 -- the roll of a node along its branch
 unfoldable pub branch-roll : RowBranch → (ℕ → ℕ) → ℕ → ℕ
@@ -29,15 +29,16 @@ abbrev pub bond-values : List ℕ → List ℕ → List ℕ → ℕ → ℕ → 
 bond-values later downs discounts next flow k = rolled-row later downs discounts next k + flow
 
 -- a row of the option, from the later rows of bond and option
-abbrev pub option-values : Terms → List ℕ → List ℕ → List ℕ → List ℕ → ℕ → ℕ → ℕ → ℕ
-option-values terms bonds options downs discounts next flow k =
-    held-or-exercised (terms .listed) (rolled-row options downs discounts next k)
-    (exercise (side (terms .call)) (terms .strike) (bond-values bonds downs discounts next flow k))
+abbrev pub option-values : Side → ℕ → Bool → List ℕ → List ℕ → List ℕ → List ℕ → ℕ → ℕ → ℕ → ℕ
+option-values side strike listed bonds options downs discounts next flow k =
+    held-or-exercised listed (rolled-row options downs discounts next k) (exercise side strike (bond-values bonds downs discounts next flow k))
 
 -- What the code asks of a row.
 pub record Rollable (downs discounts : List ℕ) (next : ℕ) : Type 0 where
   pub inside : (k : ℕ) → k < length discounts → row-branch downs next k .low + 2 < next
-  pub total : (k : ℕ) → k < length discounts → row-branch downs next k .down + row-branch downs next k .middle + row-branch downs next k .up ≡ whole
+  pub total :
+      (k : ℕ) → k < length discounts →
+      row-branch downs next k .down + row-branch downs next k .middle + row-branch downs next k .up ≡ whole
   pub discounted : (k : ℕ) → k < length discounts → values discounts k ≤ 1100000000
 
 -- the first values of a list are at most the limit
@@ -52,3 +53,13 @@ pub record Later (l : List ℕ) (count : ℕ) : Type 0 where
 -- the first values of a list are those of a row
 abbrev pub Holds : List ℕ → ℕ → (ℕ → ℕ) → Type 0
 Holds l count f = (k : ℕ) → k < count → values l k ≡ f k
+
+-- What the code leaves: a row of the bond and its greatest value; the rows of bond and option and the greatest value of both.
+pub record Filled-row (row : List ℕ) (count : ℕ) (f : ℕ → ℕ) (top : ℕ) : Type 0 where
+  pub held : Holds row count f
+  pub found : top ≡ greatest count f
+
+pub record Filled-rows (bond option : List ℕ) (count : ℕ) (f g : ℕ → ℕ) (top : ℕ) : Type 0 where
+  pub bond-held : Holds bond count f
+  pub option-held : Holds option count g
+  pub found : top ≡ greatest count (λ k. max (f k) (g k))

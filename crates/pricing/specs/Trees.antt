@@ -1,62 +1,60 @@
 -- What the code holds of a tree that was accepted.
 -- Assumes nothing.
 use mathlib.Core.Path.{_≡_}
+use mathlib.Core.Bool.{Bool, cond}
 use mathlib.Core.List.{List}
-use Prim.Native.Nat.{ℕ, suc, _+_, _-_, _≤_, _<_, max}
-use lib.ListN.{length}
+use Prim.Native.Nat.{ℕ, _+_}
+use lib.Dec.{eqb}
 use Rattle.arithmetic.specs.Row.{row, values}
-use Rattle.lattice.specs.Shape.{half-width, node-count, row-start}
+use Rattle.arithmetic.specs.declared.Answer.{Answer}
+use Rattle.arithmetic.specs.Answers.{refused, answered}
+use Rattle.limits.specs.Limits.{limit-cause}
+use Rattle.lattice.specs.Shape.{node-count}
 use Rattle.lattice.specs.Branching.{down}
 use Rattle.lattice.specs.RateTree.{node, rate-tree}
-use Rattle.pricing_laws.specs.Pricer.{exercise, held-or-exercised}
+use Rattle.pricing_laws.specs.Pricer.{Side, Schedule, exercise, held-or-exercised}
 use Rattle.pricing_laws.specs.Peak.{peak, greatest-value}
 use Rattle.pricing_laws.specs.TreePricer.{roll-rounding, roll}
-use Rattle.pricing.specs.declared.walk.RowShape.{RowShape}
-use Rattle.pricing.specs.declared.values.Terms.{Terms}
-use Rattle.pricing.specs.Prices.{discount-at, flow-at, bond-at, option-at, bond-peak, option-peak, limit-cause}
+use Rattle.lent_tree.specs.LentTree.{stored, Accepted}
+use Rattle.price_bound.specs.PriceBound.{bound-of}
+use Rattle.price_causes.specs.Causes.{Accepted-flows}
+use Rattle.pricing.specs.Prices.{flow-at, tree-cause, bond-at, bond-peak, option-at, option-limit}
 use Rattle.pricing.specs.Rows.{Holds}
-use Rattle.pricing.specs.Terms.{side}
-
--- a tree and its discounts, and its flows, after the causes 3 to 10 were tested
-pub record Accepted (n b : ℕ) (discounts : List ℕ) : Type 0 where
-  pub some : 0 < n
-  pub few : n ≤ 60
-  pub reverting : b ≤ 6000
-  pub room : row-start b n ≤ length discounts
-  pub discounted : (k : ℕ) → k < row-start b n → values discounts k ≤ 1100000000
-
-pub record Accepted-flows (n : ℕ) (flows : List ℕ) : Type 0 where
-  pub count : length flows ≡ n
-  pub flowing : (k : ℕ) → k < n → values flows k ≤ 2000000000
 
 -- the down-probabilities of all nodes of row n
 unfoldable pub down-table : ℕ → ℕ → List ℕ
 down-table n b = row (node-count b n) (λ k. down b (node b n k))
 
--- where row i stands in the discounts and in the table, its node count and the next row's
-unfoldable pub row-shape : ℕ → ℕ → ℕ → RowShape
-row-shape n b i =
-    record { start = row-start b i; count = node-count b i; next = node-count b (suc i); offset = half-width b n - half-width b i }
+-- the error bound of a tree and its flows, or the first cause about them
+unfoldable pub tree-bound : ℕ → ℕ → List ℕ → List ℕ → Answer
+tree-bound n b discounts flows =
+    cond (eqb (tree-cause n b discounts flows) 0) (answered (bound-of n b discounts)) (refused (tree-cause n b discounts flows))
+
+-- an accepted tree with its flows and its table of down-probabilities
+pub record Ready (n b : ℕ) (downs discounts flows : List ℕ) : Type 0 where
+  pub tree : Accepted n b discounts
+  pub paid : Accepted-flows n flows
+  pub table : downs ≡ down-table n b
 
 -- a row rolled back from the values of the next one
 unfoldable pub rolled-at : ℕ → List ℕ → ℕ → List ℕ → ℕ → ℕ
-rolled-at b discounts i later = roll (rate-tree b) (discount-at b discounts) roll-rounding i (values later)
+rolled-at b discounts i later = roll (rate-tree b) (stored b discounts) roll-rounding i (values later)
 
 -- row i of the bond and of the option, from the later rows
 abbrev pub bond-step : ℕ → List ℕ → List ℕ → ℕ → List ℕ → ℕ → ℕ
 bond-step b discounts flows i later k = rolled-at b discounts i later k + flow-at flows i
 
-abbrev pub option-step : Terms → ℕ → List ℕ → List ℕ → ℕ → List ℕ → List ℕ → ℕ → ℕ
-option-step terms b discounts flows i bonds options k =
-    held-or-exercised (terms .listed) (rolled-at b discounts i options k)
-    (exercise (side (terms .call)) (terms .strike) (bond-step b discounts flows i bonds k))
+abbrev pub option-step : Side → ℕ → Bool → ℕ → List ℕ → List ℕ → ℕ → List ℕ → List ℕ → ℕ → ℕ
+option-step side strike listed b discounts flows i bonds options k =
+    held-or-exercised listed (rolled-at b discounts i options k) (exercise side strike (bond-step b discounts flows i bonds k))
 
 -- the bond rolled back to row i: 12 where a value on the way is above the limit, else the row
 pub record Bond-rolled (n b : ℕ) (discounts flows : List ℕ) (i : ℕ) (number : ℕ) (row : List ℕ) : Type 0 where
   pub cause : number ≡ limit-cause (peak (greatest-value (rate-tree b) (bond-at n b discounts flows)) n i)
   pub held : number ≡ 0 → Holds row (node-count b i) (bond-at n b discounts flows i)
 
--- the option rolled back to row 0: 12 where a value of bond or option on the way is above the limit, else the row
-pub record Option-rolled (n b : ℕ) (discounts flows : List ℕ) (kind expiry strike : ℕ) (number : ℕ) (row : List ℕ) : Type 0 where
-  pub cause : number ≡ limit-cause (max (bond-peak n b discounts flows) (option-peak n b discounts flows kind expiry strike))
-  pub held : number ≡ 0 → values row 0 ≡ option-at n b discounts flows kind expiry strike 0 0
+-- bond and option rolled back to row 0: 12 where a value of either on the way is above the limit, else their values there
+pub record Both-rolled (n b : ℕ) (discounts flows : List ℕ) (side : Side) (strike : ℕ) (rows : Schedule) (number : ℕ) (bond option : List ℕ) : Type 0 where
+  pub cause : number ≡ option-limit n b discounts flows side strike rows
+  pub bond-held : number ≡ 0 → values bond 0 ≡ bond-at n b discounts flows 0 0
+  pub option-held : number ≡ 0 → values option 0 ≡ option-at n b discounts flows side strike rows 0 0

@@ -1,27 +1,31 @@
 // Bond and option prices on a rate tree whose node discounts the caller lends. Discounts stand row after row, lowest node first, rows 0 to
 // steps - 1; flows stand for rows 1 to steps. Nothing lent is changed.
-mod causes;
 mod rows;
-mod values;
 mod walk;
 
+use arithmetic::Answer;
+use exercise::Terms;
 ghost use mathlib.Core.Path.{_≡_};
-ghost use Prim.Native.Nat.{ℕ, _≤_, max};
-ghost use lib.ListN.{length};
+ghost use Prim.Native.Nat.{ℕ, _≤_};
+ghost use lib.ListN.{length, take};
+ghost use Rattle.limits.specs.Limits.{limit-cause};
 ghost use Rattle.lattice.specs.Shape.{node-count};
+ghost use Rattle.pricing_laws.specs.Schedule.{marked};
+ghost use Rattle.exercise.specs.Terms.{side};
+ghost use Rattle.lent_tree.specs.LentTree.{Accepted};
+ghost use Rattle.price_causes.specs.Causes.{Accepted-flows};
 ghost use Rattle.pricing.specs.Prices.{
-  bond-at,
-  option-at,
-  bound-of,
-  bond-peak,
-  option-peak,
-  limit-cause,
   refusal,
   priced,
+  bond-at,
+  bond-peak,
+  option-at,
+  option-limit,
   bondPrice,
   optionPrice,
+  bondAndOption,
 };
-ghost use Rattle.pricing.specs.Trees.{Accepted, Accepted-flows, down-table};
+ghost use Rattle.pricing.specs.Trees.{down-table, tree-bound};
 
 // A price in billionths with its error bound; a refusal's number with zeros.
 #[repr(C)]
@@ -29,6 +33,13 @@ pub struct Price {
     pub number: u64,
     pub value: u64,
     pub bound: u64,
+}
+
+// A bond and an option on it.
+#[repr(C)]
+pub struct BondAndOption {
+    pub bond: Price,
+    pub option: Price,
 }
 
 fn refused(number: u64) -> Price
@@ -42,115 +53,135 @@ fn refused(number: u64) -> Price
 }
 
 // The table of down-probabilities, worked out once for all rows.
-fn fill_table(steps: usize, reversion: u64, table: &mut [u64])
-    requires { ⌜ (steps ≤ 60) × (reversion ≤ 6000) × (length (now table) ≡ node-count reversion steps) ⌝ }
-    ensures { λ _. ⌜ now (table .exit) ≡ down-table steps reversion ⌝ }
+fn table_of(steps: usize, reversion: u64) -> [u64; 121]
+    requires { ⌜ (steps ≤ 60) × (reversion ≤ 6000) ⌝ }
+    ensures { λ r. ⌜ take (node-count reversion steps) r ≡ down-table steps reversion ⌝ }
 {
-    let widest = lattice::half_width(reversion, steps);
-    branches::down_probabilities(reversion, widest.value as usize, table);
+    let widest = lattice::half_width(reversion, steps).value as usize;
+    let nodes = 2 * widest + 1;
+    let mut table = rows::empty_row();
+    branches::down_probabilities(reversion, widest, &mut table[..nodes]);
+    table
 }
 
-// The bond of an accepted tree, in memory that is lent for the table, a row and the row after it.
-fn priced_bond(
+// The bond of an accepted tree, with the error bound that is handed in.
+fn accepted_bond(
     steps: usize,
     reversion: u64,
     discounts: &[u64],
     flows: &[u64],
-    table: &mut [u64],
-    bond: &mut [u64],
-    later: &mut [u64],
+    bound: u64,
 ) -> Price
-    requires { ⌜ Accepted steps reversion (now discounts) × Accepted-flows steps (now flows) × (length (now table) ≡ node-count reversion steps) × (121 ≤ length (now bond)) × (121 ≤ length (now later)) ⌝ }
-    ensures { λ r. ⌜ r ≡ priced (limit-cause (bond-peak steps reversion (now (discounts .entry)) (now (flows .entry)))) (bond-at steps reversion (now (discounts .entry)) (now (flows .entry)) 0 0) (bound-of steps reversion (now (discounts .entry))) ⌝ }
+    requires { ⌜ Accepted steps reversion (now discounts) × Accepted-flows steps (now flows) ⌝ }
+    ensures { λ r. ⌜ r ≡ priced (limit-cause (bond-peak steps reversion (now (discounts .entry)) (now (flows .entry))))
+        (bond-at steps reversion (now (discounts .entry)) (now (flows .entry)) 0 0) bound ⌝ }
 {
-    fill_table(steps, reversion, table);
-    let number = walk::roll_bond(steps, reversion, 0, table, discounts, flows, bond, later);
-    if number != 0 {
-        return refused(number);
-    }
-    Price {
-        number: 0,
-        value: bond[0],
-        bound: walk::error_bound(steps, reversion, discounts),
-    }
-}
-
-// The option of an accepted tree, in memory that is lent for the table, two rows and the rows after them.
-fn priced_option(
-    steps: usize,
-    reversion: u64,
-    discounts: &[u64],
-    flows: &[u64],
-    kind: u64,
-    expiry: usize,
-    strike: u64,
-    table: &mut [u64],
-    bond: &mut [u64],
-    option: &mut [u64],
-    bonds: &mut [u64],
-    options: &mut [u64],
-) -> Price
-    requires { ⌜ Accepted steps reversion (now discounts) × Accepted-flows steps (now flows) × (expiry ≤ steps) × (strike ≤ 4000000000) × (length (now table) ≡ node-count reversion steps) × (121 ≤ length (now bond)) × (121 ≤ length (now option)) × (121 ≤ length (now bonds)) × (121 ≤ length (now options)) ⌝ }
-    ensures { λ r. ⌜ r ≡ priced (limit-cause (max (bond-peak steps reversion (now (discounts .entry)) (now (flows .entry))) (option-peak steps reversion (now (discounts .entry)) (now (flows .entry)) kind expiry strike))) (option-at steps reversion (now (discounts .entry)) (now (flows .entry)) kind expiry strike 0 0) (bound-of steps reversion (now (discounts .entry))) ⌝ }
-{
-    fill_table(steps, reversion, table);
-    let number = walk::roll_both(
+    let nodes = lattice::node_count(reversion, steps).value as usize;
+    let table = table_of(steps, reversion);
+    let mut bond = rows::empty_row();
+    let number = walk::roll_bond(
         steps,
         reversion,
-        kind,
-        expiry,
-        strike,
-        table,
+        0,
+        &table[..nodes],
         discounts,
         flows,
-        bond,
-        option,
-        bonds,
-        options,
+        &mut bond,
     );
     if number != 0 {
         return refused(number);
     }
     Price {
         number: 0,
-        value: option[0],
-        bound: walk::error_bound(steps, reversion, discounts),
+        value: bond[0],
+        bound,
     }
 }
 
-// The bond of an accepted tree, with its own memory.
-fn accepted_bond(steps: usize, reversion: u64, discounts: &[u64], flows: &[u64]) -> Price
-    requires { ⌜ Accepted steps reversion (now discounts) × Accepted-flows steps (now flows) ⌝ }
-    ensures { λ r. ⌜ r ≡ priced (limit-cause (bond-peak steps reversion (now (discounts .entry)) (now (flows .entry)))) (bond-at steps reversion (now (discounts .entry)) (now (flows .entry)) 0 0) (bound-of steps reversion (now (discounts .entry))) ⌝ }
+// Bond and option of an accepted tree, rolled together. Where a value of either is above the limit, the bond is priced alone.
+fn accepted_both(
+    steps: usize,
+    reversion: u64,
+    discounts: &[u64],
+    flows: &[u64],
+    terms: Terms,
+    last: usize,
+    marks: &[u8],
+    bound: u64,
+) -> BondAndOption
+    requires { ⌜ Accepted steps reversion (now discounts) × Accepted-flows steps (now flows) × (last ≤ steps) × (last ≤ length (now marks))
+        × (terms .strike ≤ 4000000000) ⌝ }
+    ensures bond { λ r. ⌜ r .bond ≡ priced (limit-cause (bond-peak steps reversion (now (discounts .entry)) (now (flows .entry))))
+        (bond-at steps reversion (now (discounts .entry)) (now (flows .entry)) 0 0) bound ⌝ }
+    ensures option { λ r. ⌜ r .option ≡ priced
+        (option-limit steps reversion (now (discounts .entry)) (now (flows .entry)) (side (terms .call)) (terms .strike) (marked last (now (marks .entry))))
+        (option-at steps reversion (now (discounts .entry)) (now (flows .entry)) (side (terms .call)) (terms .strike) (marked last (now (marks .entry))) 0 0)
+        bound ⌝ }
 {
     let nodes = lattice::node_count(reversion, steps).value as usize;
-    let mut table = [0u64; 121];
-    let mut bond = [0u64; 121];
-    let mut later = [0u64; 121];
-    priced_bond(
+    let table = table_of(steps, reversion);
+    let mut bond = rows::empty_row();
+    let mut option = rows::empty_row();
+    let number = walk::roll_both(
         steps,
         reversion,
+        terms,
+        last,
+        marks,
+        &table[..nodes],
         discounts,
         flows,
-        &mut table[..nodes],
         &mut bond,
-        &mut later,
-    )
+        &mut option,
+    );
+    if number != 0 {
+        return BondAndOption {
+            bond: accepted_bond(steps, reversion, discounts, flows, bound),
+            option: refused(number),
+        };
+    }
+    BondAndOption {
+        bond: Price {
+            number: 0,
+            value: bond[0],
+            bound,
+        },
+        option: Price {
+            number: 0,
+            value: option[0],
+            bound,
+        },
+    }
+}
+
+// The error bound of a tree and its flows, or the first cause about them.
+fn tree_bound(steps: usize, reversion: u64, discounts: &[u64], flows: &[u64]) -> Answer
+    ensures { λ r. ⌜ r ≡ tree-bound steps reversion (now (discounts .entry)) (now (flows .entry)) ⌝ }
+{
+    let bound = price_bound::price_error_bound(steps, reversion, discounts);
+    let cause = arithmetic::lowest_cause(bound.number, price_causes::flows_cause(steps, flows));
+    if cause != 0 {
+        return Answer {
+            number: cause,
+            value: 0,
+        };
+    }
+    bound
 }
 
 // The price at row 0 of the bond with these flows, and its error bound.
 pub fn bond_price(steps: usize, reversion: u64, discounts: &[u64], flows: &[u64]) -> Price
     ensures { λ r. ⌜ r ≡ bondPrice steps reversion (now (discounts .entry)) (now (flows .entry)) ⌝ }
 {
-    let cause = causes::tree_cause(steps, reversion, discounts, flows);
-    if cause != 0 {
-        return refused(cause);
+    let bound = tree_bound(steps, reversion, discounts, flows);
+    if bound.number != 0 {
+        return refused(bound.number);
     }
-    accepted_bond(steps, reversion, discounts, flows)
+    accepted_bond(steps, reversion, discounts, flows, bound.value)
 }
 
-// The option of an accepted tree, with its own memory.
-fn accepted_option(
+// The prices at row 0 of the bond and of an option on it, in one roll; each as the entry for it alone answers.
+pub fn bond_and_option(
     steps: usize,
     reversion: u64,
     discounts: &[u64],
@@ -158,29 +189,33 @@ fn accepted_option(
     kind: u64,
     expiry: usize,
     strike: u64,
-) -> Price
-    requires { ⌜ Accepted steps reversion (now discounts) × Accepted-flows steps (now flows) × (expiry ≤ steps) × (strike ≤ 4000000000) ⌝ }
-    ensures { λ r. ⌜ r ≡ priced (limit-cause (max (bond-peak steps reversion (now (discounts .entry)) (now (flows .entry))) (option-peak steps reversion (now (discounts .entry)) (now (flows .entry)) kind expiry strike))) (option-at steps reversion (now (discounts .entry)) (now (flows .entry)) kind expiry strike 0 0) (bound-of steps reversion (now (discounts .entry))) ⌝ }
+) -> BondAndOption
+    ensures { λ r. ⌜ r ≡ bondAndOption steps reversion (now (discounts .entry)) (now (flows .entry)) kind expiry strike ⌝ }
 {
-    let nodes = lattice::node_count(reversion, steps).value as usize;
-    let mut table = [0u64; 121];
-    let mut bond = [0u64; 121];
-    let mut option = [0u64; 121];
-    let mut bonds = [0u64; 121];
-    let mut options = [0u64; 121];
-    priced_option(
+    let bound = tree_bound(steps, reversion, discounts, flows);
+    if bound.number != 0 {
+        return BondAndOption {
+            bond: refused(bound.number),
+            option: refused(bound.number),
+        };
+    }
+    let cause = price_causes::option_cause(steps, kind, expiry, strike);
+    if cause != 0 {
+        return BondAndOption {
+            bond: accepted_bond(steps, reversion, discounts, flows, bound.value),
+            option: refused(cause),
+        };
+    }
+    let marks = exercise::marks_of(kind);
+    accepted_both(
         steps,
         reversion,
         discounts,
         flows,
-        kind,
+        exercise::terms_of(kind, strike),
         expiry,
-        strike,
-        &mut table[..nodes],
-        &mut bond,
-        &mut option,
-        &mut bonds,
-        &mut options,
+        &marks,
+        bound.value,
     )
 }
 
@@ -196,13 +231,6 @@ pub fn option_price(
 ) -> Price
     ensures { λ r. ⌜ r ≡ optionPrice steps reversion (now (discounts .entry)) (now (flows .entry)) kind expiry strike ⌝ }
 {
-    let cause = causes::tree_cause(steps, reversion, discounts, flows);
-    if cause != 0 {
-        return refused(cause);
-    }
-    let other = causes::option_cause(steps, kind, expiry, strike);
-    if other != 0 {
-        return refused(other);
-    }
-    accepted_option(steps, reversion, discounts, flows, kind, expiry, strike)
+    let both = bond_and_option(steps, reversion, discounts, flows, kind, expiry, strike);
+    both.option
 }

@@ -1,14 +1,13 @@
 // One row of the tree, rolled back from the row after it.
-use crate::values;
-use crate::values::Terms;
+use exercise::Terms;
 use row_branches::RowBranch;
 ghost use mathlib.Core.Path.{_≡_};
+ghost use mathlib.Core.Bool.{Bool};
 ghost use Prim.Native.Nat.{ℕ, _+_, _-_, _*_, _<_, _≤_, max};
 ghost use lib.ListN.{length};
 ghost use Rattle.arithmetic.specs.Row.{values};
 ghost use Rattle.pricing_laws.specs.Pricer.{exercise};
-ghost use Rattle.pricing.specs.Terms.{side};
-ghost use Rattle.arithmetic.specs.Sum.{greatest};
+ghost use Rattle.exercise.specs.Terms.{side};
 ghost use Rattle.pricing.specs.Rows.{
   branch-roll,
   bond-values,
@@ -17,11 +16,24 @@ ghost use Rattle.pricing.specs.Rows.{
   Limited,
   Later,
   Holds,
+  Filled-row,
+  Filled-rows,
 };
+
+// The nodes of the widest row.
+const MOST_NODES: usize = 121;
+
+// A row's memory.
+pub(crate) fn empty_row() -> [u64; 121]
+    ensures { λ r. ⌜ length r ≡ 121 ⌝ }
+{
+    [0; MOST_NODES]
+}
 
 // The roll of a node along its branch: divided by 600,000,000, down; then discounted, down.
 fn roll_node(branch: RowBranch, later: &[u64], discount: u64) -> u64
-    requires { ⌜ (branch .low + 2 < length (now later)) × (branch .down + branch .middle + branch .up ≡ 600000000) × Limited (now later) (branch .low + 3) × (discount ≤ 1100000000) ⌝ }
+    requires { ⌜ (branch .low + 2 < length (now later)) × (branch .down + branch .middle + branch .up ≡ 600000000)
+        × Limited (now later) (branch .low + 3) × (discount ≤ 1100000000) ⌝ }
     ensures { λ r. ⌜ (r ≡ branch-roll branch (values (now (later .entry))) discount) × (r ≤ 8800000000) ⌝ }
 {
     let low = branch.low;
@@ -33,15 +45,17 @@ fn roll_node(branch: RowBranch, later: &[u64], discount: u64) -> u64
 
 // Rolls the bond back by one row and adds the row's flow. Gives the greatest value of the row.
 pub(crate) fn bond_row(
+    row: &mut [u64],
     later: &[u64],
     downs: &[u64],
     discounts: &[u64],
     next: usize,
     flow: u64,
-    row: &mut [u64],
 ) -> u64
-    requires { ⌜ Rollable (now downs) (now discounts) next × Later (now later) next × (length (now discounts) ≤ length (now row)) × (flow ≤ 2000000000) ⌝ }
-    ensures { λ r. ⌜ Holds (now (row .exit)) (length (now (discounts .entry))) (bond-values (now (later .entry)) (now (downs .entry)) (now (discounts .entry)) next flow) × (r ≡ greatest (length (now (discounts .entry))) (bond-values (now (later .entry)) (now (downs .entry)) (now (discounts .entry)) next flow)) ⌝ }
+    requires { ⌜ Rollable (now downs) (now discounts) next × Later (now later) next
+        × (length (now discounts) ≤ length (now row)) × (flow ≤ 2000000000) ⌝ }
+    ensures { λ r. ⌜ Filled-row (now (row .exit)) (length (now (discounts .entry)))
+        (bond-values (now (later .entry)) (now (downs .entry)) (now (discounts .entry)) next flow) r ⌝ }
 {
     let mut top: u64 = 0;
     let mut k: usize = 0;
@@ -49,7 +63,7 @@ pub(crate) fn bond_row(
         let branch = row_branches::row_branch(downs, next, k);
         let value = roll_node(branch, later, discounts[k]) + flow;
         row[k] = value;
-        top = values::larger(top, value);
+        top = arithmetic::larger(top, value);
         k += 1;
     }
     top
@@ -57,6 +71,8 @@ pub(crate) fn bond_row(
 
 // Rolls bond and option back by one row together, each node's branch worked out once for both. Gives the greatest value of the two rows.
 pub(crate) fn option_row(
+    bond: &mut [u64],
+    option: &mut [u64],
     bonds: &[u64],
     options: &[u64],
     downs: &[u64],
@@ -64,13 +80,14 @@ pub(crate) fn option_row(
     next: usize,
     flow: u64,
     terms: Terms,
-    bond: &mut [u64],
-    option: &mut [u64],
+    listed: bool,
 ) -> u64
-    requires { ⌜ Rollable (now downs) (now discounts) next × Later (now bonds) next × Later (now options) next × (length (now discounts) ≤ length (now bond)) × (length (now discounts) ≤ length (now option)) × (flow ≤ 2000000000) ⌝ }
-    ensures { λ r. ⌜ Holds (now (bond .exit)) (length (now (discounts .entry))) (bond-values (now (bonds .entry)) (now (downs .entry)) (now (discounts .entry)) next flow)
-        × Holds (now (option .exit)) (length (now (discounts .entry))) (option-values terms (now (bonds .entry)) (now (options .entry)) (now (downs .entry)) (now (discounts .entry)) next flow)
-        × (r ≡ greatest (length (now (discounts .entry))) (λ k. max (bond-values (now (bonds .entry)) (now (downs .entry)) (now (discounts .entry)) next flow k) (option-values terms (now (bonds .entry)) (now (options .entry)) (now (downs .entry)) (now (discounts .entry)) next flow k))) ⌝ }
+    requires { ⌜ Rollable (now downs) (now discounts) next × Later (now bonds) next × Later (now options) next
+        × (length (now discounts) ≤ length (now bond)) × (length (now discounts) ≤ length (now option)) × (flow ≤ 2000000000) ⌝ }
+    ensures { λ r. ⌜ Filled-rows (now (bond .exit)) (now (option .exit)) (length (now (discounts .entry)))
+        (bond-values (now (bonds .entry)) (now (downs .entry)) (now (discounts .entry)) next flow)
+        (option-values (side (terms .call)) (terms .strike) listed
+        (now (bonds .entry)) (now (options .entry)) (now (downs .entry)) (now (discounts .entry)) next flow) r ⌝ }
 {
     let mut top: u64 = 0;
     let mut k: usize = 0;
@@ -78,47 +95,40 @@ pub(crate) fn option_row(
         let branch = row_branches::row_branch(downs, next, k);
         let discount = discounts[k];
         let value = roll_node(branch, bonds, discount) + flow;
-        let right = values::held_value(terms, roll_node(branch, options, discount), value);
+        let right = exercise::held_value(
+            terms,
+            listed,
+            roll_node(branch, options, discount),
+            value,
+        );
         bond[k] = value;
         option[k] = right;
-        top = values::larger(top, values::larger(value, right));
+        top = arithmetic::larger(top, arithmetic::larger(value, right));
         k += 1;
     }
     top
 }
 
 // The exercise values of a row of the bond.
-pub(crate) fn exercise_row(terms: Terms, bond: &[u64], count: usize, option: &mut [u64])
-    requires { ⌜ (count ≤ length (now bond)) × (count ≤ length (now option)) ⌝ }
-    ensures { λ _. ⌜ Holds (now (option .exit)) count (λ k. exercise (side (terms .call)) (terms .strike) (values (now (bond .entry)) k)) ⌝ }
+pub(crate) fn exercise_row(terms: Terms, bond: &[u64], option: &mut [u64])
+    requires { ⌜ length (now option) ≡ length (now bond) ⌝ }
+    ensures { λ _. ⌜ Holds (now (option .exit)) (length (now (option .entry)))
+        (λ k. exercise (side (terms .call)) (terms .strike) (values (now (bond .entry)) k)) ⌝ }
 {
     let mut k: usize = 0;
-    while k < count {
-        option[k] = values::exercise_value(terms, bond[k]);
+    while k < option.len() {
+        option[k] = exercise::exercise_value(terms, bond[k]);
         k += 1;
     }
 }
 
-// One value on each of the first nodes of a row.
-pub(crate) fn fill_row(value: u64, count: usize, row: &mut [u64])
-    requires { ⌜ count ≤ length (now row) ⌝ }
-    ensures { λ _. ⌜ Holds (now (row .exit)) count (λ k. value) ⌝ }
+// One value on each node of a row.
+pub(crate) fn fill_row(value: u64, row: &mut [u64])
+    ensures { λ _. ⌜ Holds (now (row .exit)) (length (now (row .entry))) (λ k. value) ⌝ }
 {
     let mut k: usize = 0;
-    while k < count {
+    while k < row.len() {
         row[k] = value;
-        k += 1;
-    }
-}
-
-// A copy of the first values of a row.
-pub(crate) fn copy_row(row: &[u64], count: usize, later: &mut [u64])
-    requires { ⌜ (count ≤ length (now row)) × (count ≤ length (now later)) ⌝ }
-    ensures { λ _. ⌜ Holds (now (later .exit)) count (values (now (row .entry))) ⌝ }
-{
-    let mut k: usize = 0;
-    while k < count {
-        later[k] = row[k];
         k += 1;
     }
 }

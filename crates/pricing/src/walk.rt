@@ -1,50 +1,16 @@
 // The way back through the tree, row by row.
-use crate::causes;
 use crate::rows;
-use crate::values;
-use crate::values::Terms;
+use exercise::Terms;
 ghost use mathlib.Core.Path.{_≡_};
+ghost use mathlib.Core.Bool.{Bool};
 ghost use Prim.Native.Nat.{ℕ, _+_, _-_, _*_, _<_, _≤_, max};
 ghost use lib.ListN.{length, take, drop};
-ghost use Rattle.arithmetic.specs.Row.{values};
-ghost use Rattle.arithmetic.specs.Rounding.{up};
-ghost use Rattle.arithmetic.specs.Sum.{greatest};
-ghost use Rattle.lattice.specs.Shape.{node-count, row-start};
-ghost use Rattle.lattice.specs.RateTree.{rate-tree};
-ghost use Rattle.pricing_laws.specs.TreePricer.{greatest-discount, roll-loss};
-ghost use Rattle.pricing.specs.Prices.{discount-at, flow-at, bound-of};
-ghost use Rattle.pricing.specs.Rows.{Later, Holds};
-ghost use Rattle.pricing.specs.Trees.{Accepted, Accepted-flows, down-table, row-shape, bond-step, option-step, Bond-rolled, Option-rolled};
-
-// The nodes of the widest row.
-const MOST_NODES: usize = 121;
-
-// No value may be above 8 × one.
-const VALUE_LIMIT: u64 = 8_000_000_000;
-
-// Where a row stands in the discounts and in the table of down-probabilities, its node count and the next row's.
-struct RowShape {
-    start: usize,
-    count: usize,
-    next: usize,
-    offset: usize,
-}
-
-fn row_shape(steps: usize, reversion: u64, row: usize) -> RowShape
-    requires { ⌜ (row < steps) × (steps ≤ 60) × (reversion ≤ 6000) ⌝ }
-    ensures { λ r. ⌜ r ≡ row-shape steps reversion row ⌝ }
-{
-    let widest = lattice::half_width(reversion, steps);
-    let half = lattice::half_width(reversion, row);
-    let next = lattice::node_count(reversion, row + 1);
-    let start = lattice::row_start(reversion, row);
-    RowShape {
-        start: start.value as usize,
-        count: 2 * half.value as usize + 1,
-        next: next.value as usize,
-        offset: (widest.value - half.value) as usize,
-    }
-}
+ghost use Rattle.lattice.specs.Shape.{node-count};
+ghost use Rattle.pricing_laws.specs.Schedule.{marked};
+ghost use Rattle.exercise.specs.Terms.{side};
+ghost use Rattle.pricing.specs.Prices.{flow-at};
+ghost use Rattle.pricing.specs.Rows.{Limited, Filled-row, Filled-rows};
+ghost use Rattle.pricing.specs.Trees.{Ready, bond-step, option-step, Bond-rolled, Both-rolled};
 
 // The flow of a row; row 0 has none.
 fn flow_of(flows: &[u64], row: usize) -> u64
@@ -66,7 +32,7 @@ fn part(memory: &[u64], start: usize, count: usize) -> &[u64]
     &memory[start..end]
 }
 
-// The bond one row back, with the row's flow; the row after it is copied to `later` first. Gives the row's greatest value.
+// The bond one row back, with the row's flow. Gives the row's greatest value.
 fn bond_step(
     steps: usize,
     reversion: u64,
@@ -74,26 +40,26 @@ fn bond_step(
     downs: &[u64],
     discounts: &[u64],
     flows: &[u64],
-    bond: &mut [u64],
-    later: &mut [u64],
+    later: &[u64; 121],
+    bond: &mut [u64; 121],
 ) -> u64
-    requires { ⌜ Accepted steps reversion (now discounts) × Accepted-flows steps (now flows) × (row < steps) × (now downs ≡ down-table steps reversion) × Later (now bond) (node-count reversion (row + 1)) × (121 ≤ length (now bond)) × (121 ≤ length (now later)) ⌝ }
-    ensures { λ r. ⌜ Holds (now (bond .exit)) (node-count reversion row) (bond-step reversion (now (discounts .entry)) (now (flows .entry)) row (now (bond .entry)))
-        × (r ≡ greatest (node-count reversion row) (bond-step reversion (now (discounts .entry)) (now (flows .entry)) row (now (bond .entry)))) ⌝ }
+    requires { ⌜ Ready steps reversion (now downs) (now discounts) (now flows) × (row < steps)
+        × Limited (now later) (node-count reversion (row + 1)) ⌝ }
+    ensures { λ r. ⌜ Filled-row (now (bond .exit)) (node-count reversion row)
+        (bond-step reversion (now (discounts .entry)) (now (flows .entry)) row (now (later .entry))) r ⌝ }
 {
-    let shape = row_shape(steps, reversion, row);
-    rows::copy_row(bond, shape.next, later);
+    let shape = lattice::row_shape(reversion, steps, row);
     rows::bond_row(
+        bond,
         later,
         part(downs, shape.offset, shape.count),
         part(discounts, shape.start, shape.count),
         shape.next,
         flow_of(flows, row),
-        bond,
     )
 }
 
-// Bond and option one row back; the rows after it are copied to `bonds` and `options` first. Gives the greatest value of both.
+// Bond and option one row back. Gives the greatest value of both.
 fn option_step(
     steps: usize,
     reversion: u64,
@@ -102,20 +68,23 @@ fn option_step(
     discounts: &[u64],
     flows: &[u64],
     terms: Terms,
-    bond: &mut [u64],
-    option: &mut [u64],
-    bonds: &mut [u64],
-    options: &mut [u64],
+    listed: bool,
+    bonds: &[u64; 121],
+    options: &[u64; 121],
+    bond: &mut [u64; 121],
+    option: &mut [u64; 121],
 ) -> u64
-    requires { ⌜ Accepted steps reversion (now discounts) × Accepted-flows steps (now flows) × (row < steps) × (now downs ≡ down-table steps reversion) × Later (now bond) (node-count reversion (row + 1)) × Later (now option) (node-count reversion (row + 1)) × (121 ≤ length (now bond)) × (121 ≤ length (now option)) × (121 ≤ length (now bonds)) × (121 ≤ length (now options)) ⌝ }
-    ensures { λ r. ⌜ Holds (now (bond .exit)) (node-count reversion row) (bond-step reversion (now (discounts .entry)) (now (flows .entry)) row (now (bond .entry)))
-        × Holds (now (option .exit)) (node-count reversion row) (option-step terms reversion (now (discounts .entry)) (now (flows .entry)) row (now (bond .entry)) (now (option .entry)))
-        × (r ≡ greatest (node-count reversion row) (λ k. max (bond-step reversion (now (discounts .entry)) (now (flows .entry)) row (now (bond .entry)) k) (option-step terms reversion (now (discounts .entry)) (now (flows .entry)) row (now (bond .entry)) (now (option .entry)) k))) ⌝ }
+    requires { ⌜ Ready steps reversion (now downs) (now discounts) (now flows) × (row < steps)
+        × Limited (now bonds) (node-count reversion (row + 1)) × Limited (now options) (node-count reversion (row + 1)) ⌝ }
+    ensures { λ r. ⌜ Filled-rows (now (bond .exit)) (now (option .exit)) (node-count reversion row)
+        (bond-step reversion (now (discounts .entry)) (now (flows .entry)) row (now (bonds .entry)))
+        (option-step (side (terms .call)) (terms .strike) listed reversion
+        (now (discounts .entry)) (now (flows .entry)) row (now (bonds .entry)) (now (options .entry))) r ⌝ }
 {
-    let shape = row_shape(steps, reversion, row);
-    rows::copy_row(bond, shape.next, bonds);
-    rows::copy_row(option, shape.next, options);
+    let shape = lattice::row_shape(reversion, steps, row);
     rows::option_row(
+        bond,
+        option,
         bonds,
         options,
         part(downs, shape.offset, shape.count),
@@ -123,36 +92,11 @@ fn option_step(
         shape.next,
         flow_of(flows, row),
         terms,
-        bond,
-        option,
+        listed,
     )
 }
 
-// The error bound of a row from the later one.
-fn bound_step(steps: usize, reversion: u64, row: usize, discounts: &[u64], later: u64) -> u64
-    requires { ⌜ Accepted steps reversion (now discounts) × (row < steps) × (later ≤ 1000000) ⌝ }
-    ensures { λ r. ⌜ r ≡ up (greatest-discount (rate-tree reversion) (discount-at reversion (now (discounts .entry))) row * later) 1000000000 + roll-loss ⌝ }
-{
-    let shape = row_shape(steps, reversion, row);
-    let greatest = causes::greatest_of(part(discounts, shape.start, shape.count));
-    (greatest * later + 999_999_999) / 1_000_000_000 + 3
-}
-
-// The error bound of prices.
-pub(crate) fn error_bound(steps: usize, reversion: u64, discounts: &[u64]) -> u64
-    requires { ⌜ Accepted steps reversion (now discounts) ⌝ }
-    ensures { λ r. ⌜ r ≡ bound-of steps reversion (now (discounts .entry)) ⌝ }
-{
-    let mut bound: u64 = 0;
-    let mut row = steps;
-    while 0 < row {
-        row -= 1;
-        bound = bound_step(steps, reversion, row, discounts, bound);
-    }
-    bound
-}
-
-// The bond from row n back to row `last`. 12 where a value on the way is above 8 × one.
+// The bond from row n back to row `last`, two rows a turn, so that no row is copied on the way. 12 where a value is above 8 × one.
 pub(crate) fn roll_bond(
     steps: usize,
     reversion: u64,
@@ -160,48 +104,67 @@ pub(crate) fn roll_bond(
     downs: &[u64],
     discounts: &[u64],
     flows: &[u64],
-    bond: &mut [u64],
-    later: &mut [u64],
+    bond: &mut [u64; 121],
 ) -> u64
-    requires { ⌜ Accepted steps reversion (now discounts) × Accepted-flows steps (now flows) × (last ≤ steps) × (now downs ≡ down-table steps reversion) × (121 ≤ length (now bond)) × (121 ≤ length (now later)) ⌝ }
+    requires { ⌜ Ready steps reversion (now downs) (now discounts) (now flows) × (last ≤ steps) ⌝ }
     ensures { λ r. ⌜ Bond-rolled steps reversion (now (discounts .entry)) (now (flows .entry)) last r (now (bond .exit)) ⌝ }
 {
-    rows::fill_row(flow_of(flows, steps), MOST_NODES, bond);
+    rows::fill_row(flow_of(flows, steps), bond);
+    let mut other = rows::empty_row();
     let mut row = steps;
     while last < row {
         row -= 1;
-        let top = bond_step(steps, reversion, row, downs, discounts, flows, bond, later);
-        if VALUE_LIMIT < top {
+        let first = bond_step(
+            steps,
+            reversion,
+            row,
+            downs,
+            discounts,
+            flows,
+            bond,
+            &mut other,
+        );
+        if limits::VALUE_LIMIT < first {
+            return 12;
+        }
+        if row == last {
+            *bond = other;
+            return 0;
+        }
+        row -= 1;
+        let second = bond_step(steps, reversion, row, downs, discounts, flows, &other, bond);
+        if limits::VALUE_LIMIT < second {
             return 12;
         }
     }
     0
 }
 
-// The option from its expiry back to row 0, and the bond with it. 12 where a value on the way is above 8 × one.
+// The option from its last row back to row 0, and the bond with it, two rows a turn. 12 where a value on the way is above 8 × one.
 fn roll_option(
     steps: usize,
     reversion: u64,
-    kind: u64,
-    expiry: usize,
-    strike: u64,
+    terms: Terms,
+    last: usize,
+    marks: &[u8],
     downs: &[u64],
     discounts: &[u64],
     flows: &[u64],
-    bond: &mut [u64],
-    option: &mut [u64],
-    bonds: &mut [u64],
-    options: &mut [u64],
+    bond: &mut [u64; 121],
+    option: &mut [u64; 121],
 ) -> u64
-    requires { ⌜ Accepted steps reversion (now discounts) × Accepted-flows steps (now flows) × (expiry ≤ steps) × (strike ≤ 4000000000) × (now downs ≡ down-table steps reversion) × Bond-rolled steps reversion (now discounts) (now flows) expiry 0 (now bond) × (121 ≤ length (now bond)) × (121 ≤ length (now option)) × (121 ≤ length (now bonds)) × (121 ≤ length (now options)) ⌝ }
-    ensures { λ r. ⌜ Option-rolled steps reversion (now (discounts .entry)) (now (flows .entry)) kind expiry strike r (now (option .exit)) ⌝ }
+    requires { ⌜ Ready steps reversion (now downs) (now discounts) (now flows) × (last ≤ steps) × (last ≤ length (now marks))
+        × (terms .strike ≤ 4000000000) × Bond-rolled steps reversion (now discounts) (now flows) last 0 (now bond) ⌝ }
+    ensures { λ r. ⌜ Both-rolled steps reversion (now (discounts .entry)) (now (flows .entry)) (side (terms .call)) (terms .strike)
+        (marked last (now (marks .entry))) r (now (bond .exit)) (now (option .exit)) ⌝ }
 {
-    let terms = values::terms_of(kind, strike);
-    rows::exercise_row(terms, bond, MOST_NODES, option);
-    let mut row = expiry;
+    rows::exercise_row(terms, bond, option);
+    let mut bonds = rows::empty_row();
+    let mut options = rows::empty_row();
+    let mut row = last;
     while 0 < row {
         row -= 1;
-        let top = option_step(
+        let first = option_step(
             steps,
             reversion,
             row,
@@ -209,61 +172,74 @@ fn roll_option(
             discounts,
             flows,
             terms,
+            marks[row] == 1,
             bond,
             option,
-            bonds,
-            options,
+            &mut bonds,
+            &mut options,
         );
-        if VALUE_LIMIT < top {
+        if limits::VALUE_LIMIT < first {
+            return 12;
+        }
+        if row == 0 {
+            *bond = bonds;
+            *option = options;
+            return 0;
+        }
+        row -= 1;
+        let second = option_step(
+            steps,
+            reversion,
+            row,
+            downs,
+            discounts,
+            flows,
+            terms,
+            marks[row] == 1,
+            &bonds,
+            &options,
+            bond,
+            option,
+        );
+        if limits::VALUE_LIMIT < second {
             return 12;
         }
     }
     0
 }
 
-// The bond back to the option's expiry, then both together: one pass over the tree.
+// The bond back to the option's last row, then both together: one pass over the tree.
 pub(crate) fn roll_both(
     steps: usize,
     reversion: u64,
-    kind: u64,
-    expiry: usize,
-    strike: u64,
+    terms: Terms,
+    last: usize,
+    marks: &[u8],
     downs: &[u64],
     discounts: &[u64],
     flows: &[u64],
-    bond: &mut [u64],
-    option: &mut [u64],
-    bonds: &mut [u64],
-    options: &mut [u64],
+    bond: &mut [u64; 121],
+    option: &mut [u64; 121],
 ) -> u64
-    requires { ⌜ Accepted steps reversion (now discounts) × Accepted-flows steps (now flows) × (expiry ≤ steps) × (strike ≤ 4000000000) × (now downs ≡ down-table steps reversion) × (121 ≤ length (now bond)) × (121 ≤ length (now option)) × (121 ≤ length (now bonds)) × (121 ≤ length (now options)) ⌝ }
-    ensures { λ r. ⌜ Option-rolled steps reversion (now (discounts .entry)) (now (flows .entry)) kind expiry strike r (now (option .exit)) ⌝ }
+    requires { ⌜ Ready steps reversion (now downs) (now discounts) (now flows) × (last ≤ steps) × (last ≤ length (now marks))
+        × (terms .strike ≤ 4000000000) ⌝ }
+    ensures { λ r. ⌜ Both-rolled steps reversion (now (discounts .entry)) (now (flows .entry)) (side (terms .call)) (terms .strike)
+        (marked last (now (marks .entry))) r (now (bond .exit)) (now (option .exit)) ⌝ }
 {
-    let number = roll_bond(
-        steps,
-        reversion,
-        expiry,
-        downs,
-        discounts,
-        flows,
-        bond,
-        bonds,
-    );
+    let number = roll_bond(steps, reversion, last, downs, discounts, flows, bond);
     if number != 0 {
         return number;
     }
     roll_option(
         steps,
         reversion,
-        kind,
-        expiry,
-        strike,
+        terms,
+        last,
+        marks,
         downs,
         discounts,
         flows,
         bond,
         option,
-        bonds,
-        options,
     )
 }

@@ -6,7 +6,8 @@ use Prim.Native.Nat.{ℕ, suc, _+_, _-_, _≤_, _<_}
 use native.Mathlib.Nat.{le-refl}
 use native.Mathlib.Omega.{arith}
 use Rattle.pricing_laws.specs.Pricer.{rounded, bond, Side, exercise, exercise-row, Schedule, held-or-exercised, option}
-use Rattle.pricing_laws.specs.Peak.{value-limit, peak}
+use Rattle.limits.specs.Limits.{value-limit}
+use Rattle.pricing_laws.specs.Peak.{peak}
 use Rattle.pricing_laws.proofs.Peaks.{peak-last, peak-before, row-in-peak}
 use Rattle.pricing_laws.proofs.Recurrences.{bond-last, bond-before, option-last, option-before}
 

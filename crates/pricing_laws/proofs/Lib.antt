@@ -4,3 +4,4 @@ pub mod Recurrences
 pub mod PriceLaws
 pub mod Peaks
 pub mod Backward
+pub mod Schedules

@@ -4,10 +4,6 @@ use Prim.Native.Nat.{ℕ, zero, suc, _-_, max}
 use Rattle.arithmetic.specs.Sum.{greatest}
 use Rattle.tree.specs.Tree.{Tree}
 
--- 8 × one: no value may be above it
-abbrev pub value-limit : ℕ
-value-limit = 8000000000
-
 -- the greatest of top i, .., top (i + s)
 unfoldable pub peak-from : (ℕ → ℕ) → ℕ → ℕ → ℕ
 peak-from top zero i = top i

@@ -2,7 +2,9 @@
 -- Assumes nothing.
 use Prim.Native.Nat.{ℕ}
 use mathlib.Core.Bool.{true, false, cond, _||_}
+use mathlib.Core.List.{List}
 use lib.Dec.{eqb, leb}
+use Rattle.arithmetic.specs.Row.{values}
 use Rattle.pricing_laws.specs.Pricer.{Side, call, put, Schedule}
 
 -- expiry alone
@@ -19,3 +21,7 @@ side-of kind = cond (eqb kind 1 || eqb kind 3) call put
 
 unfoldable pub schedule-of : ℕ → ℕ → Schedule
 schedule-of kind expiry = cond (leb 3 kind) (american expiry) (european expiry)
+
+-- the rows that marks name: row i where mark i is 1
+unfoldable pub marked : ℕ → List ℕ → Schedule
+marked last marks = record { last = last; listed = λ i. eqb (values marks i) 1 }

@@ -8,31 +8,31 @@ use native.Mathlib.Omega.{arith}
 use lib.Dec.{eqb, leb, ltb}
 use lib.Ieee.{Float}
 use lib.ListN.{length}
-use borrow.Author.Tests.{eqb-false, eqb-true, eq-eqb, ne-eqb, le-ltb}
+use borrow.Author.Tests.{eqb-false, eqb-true, ltb-false}
 use Rattle.arithmetic.specs.Rounding.{one}
 use Rattle.arithmetic.specs.Sum.{sum}
 use Rattle.arithmetic.specs.Row.{values}
 use Rattle.arithmetic.specs.Answers.{refused, answered}
 use Rattle.arithmetic.proofs.SumLaws.{sum-cong}
-use Rattle.arithmetic.proofs.RowLaws.{each-cong}
 use Rattle.tree.specs.Tree.{Tree, unit}
 use Rattle.lattice.specs.Shape.{node-count, row-start, discounts-needed}
 use Rattle.lattice.specs.RateTree.{rate-tree}
 use Rattle.spacing.specs.Spacing.{spacing}
-use Rattle.fit_laws.specs.StatePrices.{state-price, accepted-row}
-use Rattle.fit_laws.specs.Step.{accepted-discount}
+use Rattle.fit_laws.specs.StatePrices.{state-price}
 use Rattle.fit_laws.proofs.StepLaws.{next-cong}
 use Rattle.fit_laws.proofs.WholeFit.{fitted-is-state}
 use Rattle.fitting.specs.Fit.{node-factor, quoted}
 use Rattle.fitting.specs.Entry.{quotes-of, fitNumber, fit-discount, fit-price}
-use Rattle.fitting.proofs.Promised.{fit-sound, fit-numbers, fit-accepted}
-use Rattle.pricing.specs.Prices.{discount-at}
+use Rattle.fitting.proofs.Promised.{fit-sound}
+use Rattle.fitting.proofs.FittedTree.{fit-lent}
 use Rattle.pricing.specs.Exact.{exact-payoff}
-use Rattle.state_price_bound.specs.ErrorBound.{greatest-of, stored, accepted-discounts}
-use Rattle.state_price_bound.proofs.Meaning.{accepted-by-row}
+use Rattle.arithmetic.specs.Row.{greatest-of}
+use Rattle.lent_tree.specs.LentTree.{stored}
 use Rattle.valuation_laws.specs.Valuation.{value-by-state-prices, valuation-error-bound, exact-price}
 use Rattle.valuation_laws.proofs.ValuationLaws.{value-below, value-short}
-use Rattle.valuation.specs.Entries.{value-limit, sum-limit, sum-of, value-of, fit-a-row, valueByStatePrices, valuation-refusal, valuationErrorBound}
+use Rattle.limits.specs.Limits.{value-limit}
+use Rattle.valuation.specs.Entries.{sum-limit, sum-of, value-of, fit-a-row, valueByStatePrices, valuation-refusal, valuationErrorBound}
+use Rattle.valuation.proofs.EntryLaws as entry
 use Rattle.promises.specs.Promises.{Short-of, Unaltered}
 
 -- state prices go by the discounts of the tree's own nodes
@@ -78,7 +78,7 @@ value-by n m p q payoff e h =
 
 exact-same : (b : ℕ) (discounts : List ℕ) (r : ℕ) (payoffs : List ℕ) →
     exact-price (rate-tree b) (stored b discounts) r (values payoffs) ≡ exact-payoff b discounts r payoffs
-unfolding exact-price exact-payoff discount-at stored
+unfolding exact-price exact-payoff
 exact-same b discounts r payoffs = refl
 
 turned : (e a M x : ℕ) → M * e ≤ x → x ≤ M * (e + a) → Short-of a M e x
@@ -111,23 +111,13 @@ payoffs-known prices payoffs z =
 -- the discounts of an accepted fit are an accepted tree, so the error bound of its rows is given
 module _ (f n b s : ℕ) (rows kinds : List ℕ) (figures : List Float) (ds ps : ℕ) (z : fitNumber f n b s rows kinds figures ds ps ≡ 0)
     (discounts : List ℕ) (r : ℕ) (prices payoffs : List ℕ) (h : r ≤ n) (kept : Unaltered f n b s kinds figures discounts r prices) where
-  discounts-accepted : accepted-discounts n b discounts ≡ true
-  unfolding accepted-row stored rate-tree
-  discounts-accepted =
-      accepted-by-row n b discounts
-      ∙ each-cong n _ _ (λ i hi. each-cong (node-count b i) _ _ (λ k hk. ap accepted-discount (kept .discounts-kept i k hi hk)))
-      ∙ fit-accepted f n b s rows kinds figures ds ps z
-
   bound-accepted : valueByStatePrices prices payoffs .number ≡ 0 → valuationErrorBound n b discounts r payoffs .number ≡ 0
-  unfolding valuationErrorBound valuation-refusal discounts-needed
+  unfolding discounts-needed stored
   bound-accepted zv =
-      let m = fit-numbers f n b s rows kinds figures ds ps z in
       let q = payoffs-known prices payoffs zv in
-      let e : length payoffs ≡ node-count b r = sym (q .0) ∙ kept .row-length in
-      rw (ne-eqb n 0 (some (m .some)), le-ltb 60 n (m .few), le-ltb 6000 b (m .reverting), le-ltb (length discounts) (row-start b n) (kept .discounts-long), le-ltb n r h, eq-eqb (length payoffs) (node-count b r) e, discounts-accepted, q .1)
-    where
-      some : 0 < n → n ≡ 0 → ⊥
-      some p x = omega arith
+      entry.bound-given n b discounts r payoffs
+      (fit-lent f n b s kinds figures rows ds ps z discounts (kept .discounts-long) (λ i k hi hk. kept .discounts-kept i k hi hk)) h
+      (sym (q .0) ∙ kept .row-length) (ltb-false value-limit (greatest-of payoffs) (q .1))
 
 payoffs-within : (f n b s : ℕ) (rows kinds : List ℕ) (figures : List Float) (ds ps : ℕ) →
     fitNumber f n b s rows kinds figures ds ps ≡ 0 →

@@ -1,1 +1,2 @@
 pub mod BranchLaws
+pub mod TableParts

@@ -12,6 +12,7 @@ use lib.Seq.{length-take-le, getD-take, getD-drop}
 use borrow.Author.Tests.{ltb-true, leb-true, lt-ltb, le-leb, lt-leb, eq-eqb, ne-eqb}
 use Rattle.arithmetic.specs.Row.{values}
 use Rattle.arithmetic.specs.declared.Answer.{Answer}
+use Rattle.arithmetic.proofs.BetweenLaws.{and-left, and-right}
 use Rattle.lattice.specs.Shape.{node-count, row-start, discounts-needed, state-prices-needed}
 use Rattle.lattice.specs.Entries.{about-tree}
 use Rattle.lattice.proofs.Sizes.{row-ends, count-positive}
@@ -20,14 +21,6 @@ use Rattle.row_view.specs.declared.RowKind.the-variants.{Discounts, Stat
 use Rattle.row_view.specs.declared.RowRange.{RowRange}
 use Rattle.row_view.specs.RowView.{is-tree, holds-tree, stores-row, memory-of, is-shown, view-start, view-count, range-of-row, no-range, range-by-number, PartOf}
 use Rattle.lattice.proofs.TreeEntries.{Accepted, by-tree}
-
-and-left : (x y : Bool) → x && y ≡ true → x ≡ true
-and-left true y h = refl
-and-left false y h = h
-
-and-right : (x y : Bool) → x && y ≡ true → y ≡ true
-and-right true y h = h
-and-right false y h = cc
 
 -- ---- whether both memories hold the tree, by the tests that code makes
 

@@ -7,6 +7,7 @@ use mathlib.Core.Path.{_≡_}
 use denote.Ref.{RefT}
 use lib.Dec.{eqb, leb, ltb}
 use lib.ListN.{length, take, drop}
+use Rattle.limits.specs.Limits.{is-steps, is-reversion}
 use Rattle.lattice.specs.Shape.{node-count, row-start, discounts-needed, state-prices-needed}
 use Rattle.row_view.specs.declared.RowKind.{RowKind}
 use Rattle.row_view.specs.declared.RowKind.the-variants.{Discounts, StatePrices}
@@ -14,7 +15,7 @@ use Rattle.row_view.specs.declared.RowRange.{RowRange}
 
 -- n is 1 to 60, b at most 6,000
 unfoldable pub is-tree : ℕ → ℕ → Bool
-is-tree n b = leb 1 n && leb n 60 && leb b 6000
+is-tree n b = is-steps n && is-reversion b
 
 -- both memories are long enough for the tree, whichever is shown
 unfoldable pub holds-tree : List ℕ → List ℕ → ℕ → ℕ → Bool

@@ -1,140 +1,89 @@
 -- The state-price error bound by the tests and steps that code makes, and how large it gets.
 -- Assumes nothing.
 use mathlib.Core.Path.{_≡_, refl, sym, ap, _∙_}
-use mathlib.Core.Bool.{Bool, true, false, cond, _&&_, _||_, and-false}
 use mathlib.Core.List.{List}
 use Prim.Native.Nat.{ℕ, zero, suc, _+_, _-_, _*_, _≤_, _<_}
 use native.Mathlib.Nat.{mul-le-mul, le-refl, zero-add, suc-add}
 use native.Mathlib.Numerals.{add-one}
 use native.Mathlib.Omega.{arith}
-use lib.Dec.{leb, ltb, lit≤}
+use lib.Dec.{lit≤}
 use lib.ListN.{length, take, drop, length-drop}
 use lib.Seq.{length-take-le, getD-take, getD-drop}
-use borrow.Author.Tests.{eq-eqb, ne-eqb, lt-ltb, le-ltb, le-leb, lt-leb, leb-true}
+use borrow.Author.Tests.{ne-eqb, lt-ltb, le-ltb}
 use Rattle.arithmetic.specs.Rounding.{one, up}
 use Rattle.arithmetic.specs.Sum.{greatest}
-use Rattle.arithmetic.specs.Row.{values, each}
-use Rattle.arithmetic.specs.Answers.{refused, answered}
-use Rattle.arithmetic.specs.declared.Answer.{Answer}
+use Rattle.arithmetic.specs.Row.{values, greatest-of}
+use Rattle.arithmetic.specs.Answers.{refused, answered, lowest-cause}
+use Rattle.arithmetic.proofs.Numbers.{by-order, by-equal}
+use Rattle.arithmetic.proofs.CauseLaws.{lowest-none}
 use Rattle.arithmetic.proofs.RoundingLaws.{up-monotone}
-use Rattle.arithmetic.proofs.SumLaws.{greatest-le, greatest-cong, greatest-next}
-use Rattle.arithmetic.proofs.RowLaws.{each-holds}
+use Rattle.arithmetic.proofs.SumLaws.{greatest-le, greatest-cong}
 use Rattle.tree.specs.Tree.{Tree}
-use Rattle.lattice.specs.Shape.{node-count, row-start, discounts-needed}
-use Rattle.lattice.specs.Entries.{about-tree}
+use Rattle.lattice.specs.Shape.{node-count, row-start}
 use Rattle.lattice.specs.RateTree.{rate-tree}
 use Rattle.lattice.proofs.Sizes.{start-first, start-next, start-grow, row-ends, half-root, count-within}
-use Rattle.lattice.proofs.TreeEntries.{Accepted, by-tree}
-use Rattle.fit_laws.specs.Step.{accepted-discount}
+use Rattle.lent_tree.specs.LentTree.{stored, discounts-cause, Accepted}
+use Rattle.lent_tree.proofs.LentLaws.{accepted}
 use Rattle.fit_laws.specs.StatePrices.{state-price-bound}
-use Rattle.state_price_bound.specs.ErrorBound.{greatest-of, stored, accepted-discounts, refusal, statePriceErrorBound}
-
--- ---- tests
-
-pub discount-none : (v : ℕ) → v ≡ 0 → accepted-discount v ≡ false
-unfolding accepted-discount
-discount-none v e = rw (lt-leb 1 v (omega arith))
-
-pub discount-high : (v : ℕ) → 1100000000 < v → accepted-discount v ≡ false
-unfolding accepted-discount
-discount-high v h = simp (lt-leb v 1100000000 h, and-false)
-
-pub discount-fine : (v : ℕ) → (v ≡ 0 → ⊥) → v ≤ 1100000000 → accepted-discount v ≡ true
-unfolding accepted-discount
-discount-fine v nz h = rw (le-leb 1 v (omega (arith, nz)), le-leb v 1100000000 h)
-
-pub discount-within : (v : ℕ) → accepted-discount v ≡ true → (1 ≤ v) × (v ≤ 1100000000)
-unfolding accepted-discount
-discount-within v h = both (leb 1 v) (leb v 1100000000) refl refl h
-  where
-    both : (s t : Bool) → leb 1 v ≡ s → leb v 1100000000 ≡ t → s && t ≡ true → (1 ≤ v) × (v ≤ 1100000000)
-    both true true p q h = (leb-true 1 v p, leb-true v 1100000000 q)
-    both true false p q h = absurd (let z : _≡_ {A = ℕ} 0 1 = cc in omega arith)
-    both false t p q h = absurd (let z : _≡_ {A = ℕ} 0 1 = cc in omega arith)
-
-pub each-all : (i n : ℕ) (test : ℕ → Bool) → each i test ≡ true → i ≡ n → true ≡ each n test
-each-all i n test h e = sym h ∙ ap (λ (m : ℕ). each m test) e
+use Rattle.state_price_bound.specs.ErrorBound.{row-cause, refusal, statePriceErrorBound}
 
 -- ---- refusals
 
+pub row-past : (n i : ℕ) → n < i → 6 ≡ row-cause n i
+unfolding row-cause
+row-past n i h = rw (lt-ltb n i h)
+
+pub row-there : (n i : ℕ) → i ≤ n → 0 ≡ row-cause n i
+unfolding row-cause
+row-there n i h = rw (le-ltb n i h)
+
+row-present : (n i : ℕ) → row-cause n i ≡ 0 → i ≤ n
+row-present n i e = by-order i n (λ h. h) (λ h. absurd (none (row-past n i h ∙ e)))
+  where
+    none : _≡_ {A = ℕ} 6 0 → ⊥
+    none z = omega arith
+
+-- the tree is accepted and has the row
+pub record Lent (n b : ℕ) (discounts : List ℕ) (i : ℕ) : Type 0 where
+  pub tree : Accepted n b discounts
+  pub present : i ≤ n
+
 module _ (n b : ℕ) (discounts : List ℕ) (i : ℕ) where
-  refused-by : (x : ℕ) → refusal n b discounts i ≡ suc x → refused (suc x) ≡ statePriceErrorBound n b discounts i
-  unfolding statePriceErrorBound
-  refused-by x e = rw (e, ne-eqb (suc x) 0 (λ z. omega arith))
-
-  pub refused-tree : (x : ℕ) (a : Answer) → a ≡ about-tree n b x → (a .number ≡ 0 → ⊥) → a ≡ statePriceErrorBound n b discounts i
+  pub refusal-is : (x d r : ℕ) → d ≡ discounts-cause n b discounts → r ≡ row-cause n i → x ≡ lowest-cause d r → x ≡ refusal n b discounts i
   unfolding refusal
-  refused-tree x a e nz =
-      e ∙ by-tree n b x (λ r. (r .number ≡ 0 → ⊥) → r ≡ statePriceErrorBound n b discounts i)
-      (λ z k. refused-by 2 (rw (eq-eqb n 0 z)))
-      (λ h k. refused-by 2 (rw (ne-eqb n 0 (λ z. omega arith), lt-ltb 60 n h)))
-      (λ p h s k. refused-by 3 (rw (ne-eqb n 0 (λ z. omega arith), le-ltb 60 n h, lt-ltb 6000 b s)))
-      (λ l k. absurd (k refl))
-      (λ z. nz (ap (λ (r : Answer). r .number) e ∙ z))
+  refusal-is x d r ed er e = e ∙ rw (ed, er)
 
-  module _ (l : Accepted n b) where
-    within : refusal n b discounts i
-        ≡ cond (ltb (length discounts) (discounts-needed n b) || ltb n i) 6 (cond (accepted-discounts n b discounts) 0 9)
-    unfolding refusal
-    within = rw (ne-eqb n 0 (λ z. omega (arith, l .some)), le-ltb 60 n (l .few), le-ltb 6000 b (l .gentle))
+  pub not-refused : refusal n b discounts i ≡ 0 → Lent n b discounts i
+  unfolding refusal
+  not-refused e =
+      let z = lowest-none (discounts-cause n b discounts) (row-cause n i) e in
+      record { tree = accepted n b discounts (z .0); present = row-present n i (z .1) }
 
-    module _ (x : ℕ) (needs : x ≡ discounts-needed n b) where
-      pub refused-short : length discounts < x → refused 6 ≡ statePriceErrorBound n b discounts i
-      refused-short h = refused-by 5 (within ∙ rw (lt-ltb (length discounts) (discounts-needed n b) (omega arith)))
+  module _ (x : ℕ) (ex : x ≡ refusal n b discounts i) where
+    pub bound-refused : (x ≡ 0 → ⊥) → refused x ≡ statePriceErrorBound n b discounts i
+    unfolding statePriceErrorBound
+    bound-refused nz = rw (← ex, ne-eqb x 0 nz)
 
-      module _ (room : x ≤ length discounts) where
-        pub refused-row : n < i → refused 6 ≡ statePriceErrorBound n b discounts i
-        refused-row h =
-            refused-by 5 (within ∙ rw (le-ltb (length discounts) (discounts-needed n b) (omega arith), lt-ltb n i h))
+    module _ (z : x ≡ 0) where
+      pub bound-answered : (y : ℕ) → y ≡ state-price-bound (rate-tree b) (stored b discounts) i → answered y ≡ statePriceErrorBound n b discounts i
+      unfolding statePriceErrorBound
+      bound-answered y f = let none = sym ex ∙ z in rw (none, f)
 
-        module _ (present : i ≤ n) where
-          judged : refusal n b discounts i ≡ cond (accepted-discounts n b discounts) 0 9
-          judged = within ∙ rw (le-ltb (length discounts) (discounts-needed n b) (omega arith), le-ltb n i present)
-
-          pub refused-discount : accepted-discounts n b discounts ≡ false → refused 9 ≡ statePriceErrorBound n b discounts i
-          refused-discount e = refused-by 8 (judged ∙ rw e)
-
-          pub bound-answered : accepted-discounts n b discounts ≡ true → (y : ℕ) →
-              y ≡ state-price-bound (rate-tree b) (stored b discounts) i → answered y ≡ statePriceErrorBound n b discounts i
-          unfolding statePriceErrorBound
-          bound-answered e y f = let z = judged ∙ ap (λ (t : Bool). cond t 0 9) e in rw (z, f)
-
-          -- what the loop over rows asks of an accepted tree
-          pub row-needs : accepted-discounts n b discounts ≡ true →
-              ((b ≤ 6000) × (i ≤ 60) × (row-start b i ≤ length discounts))
-              × ((k : ℕ) → k < row-start b i → values discounts k ≤ 1100000000)
-          unfolding accepted-discounts discounts-needed
-          row-needs e =
-              let s = start-grow b i n present in (
-                (l .gentle, omega (arith, l .few), omega arith),
-                λ k h. discount-within (values discounts k)
-                    (each-holds (row-start b n) k (λ k. accepted-discount (values discounts k)) e (omega arith)) .1,
-              )
-
--- the test of the needed part, whose length code has worked out
-pub discounts-judged : (n b : ℕ) (discounts : List ℕ) (x : ℕ) (r : Bool) → x ≡ discounts-needed n b →
-    r ≡ each x (λ k. accepted-discount (values discounts k)) → r ≡ accepted-discounts n b discounts
-unfolding accepted-discounts
-discounts-judged n b discounts x r e f = f ∙ ap (λ (m : ℕ). each m (λ k. accepted-discount (values discounts k))) e
+      -- what the loop over rows asks of an accepted tree
+      pub row-needs : ((b ≤ 6000) × (i ≤ 60) × (row-start b i ≤ length discounts))
+          × ((k : ℕ) → k < row-start b i → values discounts k ≤ 1100000000)
+      row-needs =
+          let l = not-refused (sym ex ∙ z) in
+          let s = start-grow b i n (l .present) in (
+            (l .tree .reverting, omega (arith, l .tree .few, l .present), omega (arith, l .tree .room)),
+            λ k h. l .tree .discounted k (omega arith),
+          )
 
 -- ---- the greatest value
-
--- the greatest so far, with one value more
-module _ (row : List ℕ) (i g : ℕ) (so-far : g ≡ greatest i (λ k. values row k)) where
-  pub greatest-raised : g < values row i → values row i ≡ greatest (i + 1) (λ k. values row k)
-  greatest-raised h = omega (arith, greatest-next i (λ k. values row k))
-
-  pub greatest-kept : values row i ≤ g → g ≡ greatest (i + 1) (λ k. values row k)
-  greatest-kept h = omega (arith, greatest-next i (λ k. values row k))
-
-pub greatest-done : (row : List ℕ) (i g : ℕ) → g ≡ greatest i (λ k. values row k) → i ≡ length row → g ≡ greatest-of row
-unfolding greatest-of
-greatest-done row i g e h = e ∙ ap (λ (n : ℕ). greatest n (λ k. values row k)) h
 
 -- the part of a memory between a start and an end that code has computed
 greatest-part : (memory : List ℕ) (start count : ℕ) → start + count ≤ length memory →
     greatest-of (take (start + count - start) (drop start memory)) ≡ greatest count (λ k. values memory (start + k))
-unfolding greatest-of
 greatest-part memory start count h =
     rw (same, length-take-le count (drop start memory) room)
     (greatest-cong count _ _ (λ k l. rw (getD-take, getD-drop)))
@@ -247,3 +196,11 @@ module _ (b : ℕ) (discounts : List ℕ) (i bound start nodes : ℕ) (r : Reach
           counts = en;
           bounds = rw (add-one i) (ey ∙ rw (reached-greatest, r .bounds, r .counts, en, add-one i));
         }
+
+-- so the bound that is answered is at most a million
+pub bound-most : (n b : ℕ) (discounts : List ℕ) (i : ℕ) → statePriceErrorBound n b discounts i .value ≤ 1000000
+unfolding statePriceErrorBound
+bound-most n b discounts i = by-equal (refusal n b discounts i) 0 (λ z. rw z (within z)) (λ nz. rw (ne-eqb (refusal n b discounts i) 0 nz) (omega arith))
+  where
+    within : refusal n b discounts i ≡ 0 → state-price-bound (rate-tree b) (stored b discounts) i ≤ 1000000
+    within z = let needs = row-needs n b discounts i (refusal n b discounts i) refl z in bound-within b discounts i (needs .0 .1) (needs .1) i (le-refl i)

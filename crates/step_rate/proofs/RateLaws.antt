@@ -16,8 +16,10 @@ use Rattle.arithmetic.specs.Rounding.{one, nearest, nearest-signed}
 use Rattle.arithmetic.proofs.Numbers.{by-order}
 use Rattle.arithmetic.proofs.RoundingLaws.{nearest-rounds, nearest-le}
 use Rattle.arithmetic.proofs.Signed.{abs-negative, fits-by-size}
+use Rattle.limits.specs.Limits.{is-discount}
+use Rattle.limits.proofs.LimitLaws.{discount-least, discount-most}
 use Rattle.step_rate.specs.declared.Rate.{Rate}
-use Rattle.step_rate.specs.StepRate.{stepRate, discountKnown, refused, answered, rateAnswer}
+use Rattle.step_rate.specs.StepRate.{stepRate, refused, answered, rateAnswer}
 
 -- ---- differences with a sign
 
@@ -100,16 +102,20 @@ module _ (v : ℕ) (h : 0 < v) where
 
 module _ (v : ℕ) where
   pub answer-zero : v ≡ 0 → rateAnswer v ≡ refused
-  unfolding rateAnswer discountKnown
+  unfolding rateAnswer
   answer-zero e = rw (lt-leb 1 v (omega arith))
 
   pub answer-high : 1100000000 < v → rateAnswer v ≡ refused
-  unfolding rateAnswer discountKnown
+  unfolding rateAnswer
   answer-high l = rw (le-leb 1 v (omega arith), lt-leb v 1100000000 l)
+
+  pub answer-refused : is-discount v ≡ false → rateAnswer v ≡ refused
+  unfolding rateAnswer
+  answer-refused e = rw e
 
   -- an accepted discount has number 0 and its step rate
   pub answer-known : 0 < v → v ≤ 1100000000 → rateAnswer v ≡ answered (stepRate v)
-  unfolding rateAnswer discountKnown
+  unfolding rateAnswer
   answer-known h l = rw (le-leb 1 v h, le-leb v 1100000000 l)
 
   -- an accepted answer is negative exactly where the discount is above one, positive exactly where it is below
@@ -118,22 +124,14 @@ module _ (v : ℕ) where
       (ltZ (rateAnswer v .value) (pos 0) ≡ ltb one v) × (ltZ (pos 0) (rateAnswer v .value) ≡ ltb v one)
   answer-sign h l = rw (answer-known h l) (rate-negative v h, rate-positive v h)
 
-known-bounds : (v : ℕ) → discountKnown v ≡ true → (0 < v) × (v ≤ 1100000000)
-unfolding discountKnown
-known-bounds v h = by-low (leb 1 v) refl h
-  where
-    by-low : (b : Bool) → leb 1 v ≡ b → (b && leb v 1100000000) ≡ true → (0 < v) × (v ≤ 1100000000)
-    by-low true e g = (leb-true 1 v e, leb-true v 1100000000 g)
-    by-low false e g = let z : _≡_ {A = ℕ} 0 1 = cc in let none : ⊥ = omega arith in absurd none
-
 -- the value of any answer is at most one × one in size, and is the same when read back from its bits
 module _ (v : ℕ) (r : Rate) (e : r ≡ rateAnswer v) where
   pub value-bound : natAbs (r .value) ≤ one * one
   unfolding rateAnswer
-  value-bound = subst (λ (q : Rate). natAbs (q .value) ≤ one * one) (sym e) (by-known (discountKnown v) refl)
+  value-bound = subst (λ (q : Rate). natAbs (q .value) ≤ one * one) (sym e) (by-known (is-discount v) refl)
     where
-      by-known : (b : Bool) → discountKnown v ≡ b → natAbs (cond (not b) refused (answered (stepRate v)) .value) ≤ one * one
-      by-known true h = rate-size v (known-bounds v h .0) (omega (arith, known-bounds v h .1))
+      by-known : (b : Bool) → is-discount v ≡ b → natAbs (cond (not b) refused (answered (stepRate v)) .value) ≤ one * one
+      by-known true h = rate-size v (discount-least v h) (omega (arith, discount-most v h))
       by-known false h = omega arith
 
   pub value-back : toZ w64 (ofZ w64 (r .value)) ≡ r .value

@@ -1,20 +1,16 @@
 -- The step rate of a discount (document 01, Spacing and fit).
 -- Assumes nothing.
 use Prim.Native.Nat.{ℕ}
-use mathlib.Core.Bool.{Bool, cond, not, _&&_}
-use lib.Dec.{leb}
+use mathlib.Core.Bool.{cond, not}
 use lib.IntN.{ℤ, pos, _-ℤ_, _*ℤ_}
 use Rattle.arithmetic.specs.Rounding.{one, nearest-signed}
+use Rattle.limits.specs.Limits.{is-discount}
 use Rattle.step_rate.specs.declared.Rate.{Rate}
 
 -- (one - v) × one / v, nearest
 unfoldable pub stepRate : ℕ → ℤ
 unfolding nearest-signed
 stepRate v = nearest-signed ((pos one -ℤ pos v) *ℤ pos one) v
-
--- a node discount: 1 to 1,100,000,000
-unfoldable pub discountKnown : ℕ → Bool
-discountKnown v = leb 1 v && leb v 1100000000
 
 -- refusal 9 with zero
 abbrev pub refused : Rate
@@ -25,5 +21,5 @@ answered z = record { number = 0; value = z }
 
 -- the answer to a discount
 unfoldable pub rateAnswer : ℕ → Rate
-unfolding discountKnown stepRate
-rateAnswer v = cond (not (discountKnown v)) refused (answered (stepRate v))
+unfolding stepRate
+rateAnswer v = cond (not (is-discount v)) refused (answered (stepRate v))

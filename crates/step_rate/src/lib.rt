@@ -2,6 +2,7 @@
 ghost use mathlib.Core.Path.{_≡_};
 ghost use Prim.Native.Nat.{_*_, _≤_};
 ghost use Rattle.arithmetic.specs.Rounding.{one, nearest};
+ghost use Rattle.limits.specs.Limits.{most-discount};
 ghost use Rattle.step_rate.specs.StepRate.{rateAnswer};
 
 const ONE: u64 = 1_000_000_000;
@@ -15,7 +16,7 @@ pub struct Rate {
 
 // gap × one / discount, to the nearest.
 fn ratio(gap: u64, discount: u64) -> u64
-    requires { ⌜ (1 ≤ discount) × (discount ≤ 1100000000) × (gap ≤ one) ⌝ }
+    requires { ⌜ (1 ≤ discount) × (discount ≤ most-discount) × (gap ≤ one) ⌝ }
     ensures { λ r. ⌜ r ≡ nearest (gap * one) discount ⌝ }
 {
     (2 * (gap * ONE) + discount) / (2 * discount)
@@ -25,13 +26,7 @@ fn ratio(gap: u64, discount: u64) -> u64
 pub fn of_discount(discount: u64) -> Rate
     ensures { λ r. ⌜ r ≡ rateAnswer discount ⌝ }
 {
-    if discount == 0 {
-        return Rate {
-            number: 9,
-            value: 0,
-        };
-    }
-    if discount > 1_100_000_000 {
+    if !limits::is_discount(discount) {
         return Rate {
             number: 9,
             value: 0,

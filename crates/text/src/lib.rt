@@ -6,8 +6,8 @@ ghost use mathlib.Core.List.{List, [], _∷_, _++_};
 ghost use Prim.Native.Nat.{ℕ, _+_, _-_, _≤_, _<_};
 ghost use lib.ListN.{length};
 ghost use lib.IntN.{natAbs};
-ghost use Rattle.text.specs.Decimal.{natural, fraction, decimal, signOf, signedDecimal};
-ghost use Rattle.text.specs.Lines.{
+ghost use Rattle.text_laws.specs.Decimal.{natural, fraction, decimal, signOf, signedDecimal};
+ghost use Rattle.text_laws.specs.Lines.{
   space,
   newline,
   whole,
@@ -22,7 +22,7 @@ ghost use Rattle.text.specs.Lines.{
   lineStart,
   withLine,
 };
-ghost use Rattle.text.specs.Put.{Put};
+ghost use Rattle.text_laws.specs.Put.{Put};
 
 // No line is longer.
 const LONGEST_LINE: usize = 128;
@@ -108,20 +108,6 @@ fn put_field(out: &mut [u8], end: usize, number: u64, decimals: usize, follower:
     put_decimal(out, after, number, decimals)
 }
 
-fn magnitude(number: i64) -> u64
-    ensures { λ r. ⌜ r ≡ natAbs number ⌝ }
-{
-    // The one number whose negation an i64 does not hold.
-    if number < -9_223_372_036_854_775_807 {
-        return 9_223_372_036_854_775_808;
-    }
-    if number < 0 {
-        let size = 0 - number;
-        return size as u64;
-    }
-    number as u64
-}
-
 // A minus where the number is negative.
 fn put_sign(out: &mut [u8], end: usize, number: i64) -> usize
     requires { ⌜ (length (signOf number) ≤ end) × (end ≤ length (now out)) ⌝ }
@@ -140,7 +126,7 @@ fn put_signed_field(out: &mut [u8], end: usize, number: i64, decimals: usize, fo
     requires { ⌜ (decimals < 19) × (length (signedDecimal decimals number ++ (follower ∷ [])) ≤ end) × (end ≤ length (now out)) ⌝ }
     ensures { λ r. ⌜ Put (now (out .entry)) end (signedDecimal decimals number ++ (follower ∷ [])) r (now (out .exit)) ⌝ }
 {
-    let unsigned = put_field(out, end, magnitude(number), decimals, follower);
+    let unsigned = put_field(out, end, arithmetic::magnitude(number), decimals, follower);
     put_sign(out, unsigned, number)
 }
 

@@ -12,7 +12,8 @@ use Rattle.arithmetic.specs.Row.{row, values, place}
 use Rattle.tree.specs.Tree.{Tree}
 use Rattle.tree.specs.Layout.{start, laid}
 use Rattle.arithmetic.proofs.SumLaws.{sum-suc, sum-grow}
-use Rattle.arithmetic.proofs.RowLaws.{length-row, row-cong}
+use Rattle.arithmetic.proofs.RowLaws.{length-row, values-row, row-cong}
+use Rattle.arithmetic.proofs.PartLaws.{part-value}
 use Rattle.arithmetic.proofs.Numbers.{by-equal}
 
 pub start-suc : (t : Tree) (i : ℕ) → start t (suc i) ≡ start t i + t .nodes i
@@ -89,3 +90,10 @@ laid-part t f (suc n) i rest h =
     by-equal i n
     (λ e. subst (λ (m : ℕ). take (t .nodes i) (drop (start t i) (laid t f (suc m) ++ rest)) ≡ row (t .nodes i) (f i)) e (laid-row t f i rest))
     (λ ne. rw (append-assoc (laid t f n) (row (t .nodes n) (f n)) rest) (laid-part t f n i (row (t .nodes n) (f n) ++ rest) (omega (arith, ne))))
+
+-- what the rows stored hold at a node
+pub laid-value : (t : Tree) (f : ℕ → ℕ → ℕ) (n i k : ℕ) (rest : List ℕ) → i < n → k < t .nodes i → values (laid t f n ++ rest) (start t i + k) ≡ f i k
+laid-value t f n i k rest h l =
+    sym (part-value (laid t f n ++ rest) (start t i) (t .nodes i) k l)
+    ∙ ap (λ (x : List ℕ). values x k) (laid-part t f n i rest h)
+    ∙ values-row (t .nodes i) k (f i) l

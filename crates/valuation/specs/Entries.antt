@@ -1,22 +1,20 @@
 -- The answers of valuation by state prices (document 01, Prices: weighing; When the engine declines), lowest number first.
 -- Assumes nothing.
-use Prim.Native.Nat.{ℕ, suc, _*_, _%_}
-use mathlib.Core.Bool.{Bool, cond, not, _&&_, _||_}
+use Prim.Native.Nat.{ℕ, _*_, _%_}
+use mathlib.Core.Bool.{Bool, cond, not, _&&_}
 use mathlib.Core.List.{List}
 use lib.Dec.{eqb, leb, ltb}
 use lib.ListN.{length}
 use Rattle.arithmetic.specs.Sum.{sum}
-use Rattle.arithmetic.specs.Row.{values}
+use Rattle.arithmetic.specs.Row.{values, greatest-of}
 use Rattle.arithmetic.specs.declared.Answer.{Answer}
-use Rattle.arithmetic.specs.Answers.{refused, answered}
-use Rattle.lattice.specs.Shape.{node-count, discounts-needed}
+use Rattle.arithmetic.specs.Answers.{refused, answered, lowest-cause}
+use Rattle.limits.specs.Limits.{most-nodes, value-limit, limit-cause}
 use Rattle.lattice.specs.RateTree.{rate-tree}
-use Rattle.state_price_bound.specs.ErrorBound.{greatest-of, stored, accepted-discounts}
+use Rattle.lattice.specs.Entries.{nodeCount}
+use Rattle.lent_tree.specs.LentTree.{stored}
+use Rattle.state_price_bound.specs.ErrorBound.{refusal}
 use Rattle.valuation_laws.specs.Valuation.{value-by-state-prices, valuation-error-bound}
-
--- 8 × one: no payoff and no result may be above it
-abbrev pub value-limit : ℕ
-value-limit = 8000000000
 
 -- state prices may not sum above it
 abbrev pub sum-limit : ℕ
@@ -35,7 +33,7 @@ value-of prices payoffs = value-by-state-prices (length prices) (values prices) 
 
 -- the two lengths are equal, odd and at most 121
 unfoldable pub fit-a-row : List ℕ → List ℕ → Bool
-fit-a-row prices payoffs = eqb (length prices) (length payoffs) && not (eqb (length prices % 2) 0) && leb (length prices) 121
+fit-a-row prices payoffs = eqb (length prices) (length payoffs) && not (eqb (length prices % 2) 0) && leb (length prices) most-nodes
 
 -- weighing
 unfoldable pub valueByStatePrices : List ℕ → List ℕ → Answer
@@ -46,14 +44,14 @@ valueByStatePrices prices payoffs =
     (cond (ltb value-limit (value-of prices payoffs)) (refused 12)
     (answered (value-of prices payoffs)))))
 
+-- 6 where there are not as many payoffs as the row has nodes, 12 where the greatest payoff is above the limit
+unfoldable pub payoffs-cause : ℕ → ℕ → ℕ → ℕ
+payoffs-cause count nodes greatest = lowest-cause (cond (eqb count nodes) 0 6) (limit-cause greatest)
+
 -- the number of the refusal of payoffs on row i of a tree whose discounts are lent; 0 where there is none
 unfoldable pub valuation-refusal : ℕ → ℕ → List ℕ → ℕ → List ℕ → ℕ
 valuation-refusal n b discounts i payoffs =
-    cond (eqb n 0 || ltb 60 n) 3
-    (cond (ltb 6000 b) 4
-    (cond (ltb (length discounts) (discounts-needed n b) || ltb n i || not (eqb (length payoffs) (node-count b i))) 6
-    (cond (accepted-discounts n b discounts)
-    (cond (ltb value-limit (greatest-of payoffs)) 12 0) 9)))
+    lowest-cause (refusal n b discounts i) (payoffs-cause (length payoffs) (nodeCount b i .value) (greatest-of payoffs))
 
 -- the weighing allowance of row i
 unfoldable pub valuationErrorBound : ℕ → ℕ → List ℕ → ℕ → List ℕ → Answer
@@ -61,8 +59,3 @@ valuationErrorBound n b discounts i payoffs =
     cond (eqb (valuation-refusal n b discounts i payoffs) 0)
     (answered (valuation-error-bound (rate-tree b) (stored b discounts) i (values payoffs)))
     (refused (valuation-refusal n b discounts i payoffs))
-
--- the same number from the refusal of the row alone, whether the payoffs' length is the row's, and whether a payoff is too high
-unfoldable pub with-payoffs : ℕ → Bool → Bool → ℕ
-with-payoffs number fitting high =
-    cond (eqb number 0) (cond fitting (cond high 12 0) 6) (cond (eqb number 9) (cond fitting 9 6) number)

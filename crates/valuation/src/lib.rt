@@ -6,23 +6,19 @@ ghost use Prim.Native.Nat.{ℕ, _≤_};
 ghost use lib.Dec.{ltb};
 ghost use lib.ListN.{length};
 ghost use Rattle.arithmetic.specs.Sum.{sum};
-ghost use Rattle.arithmetic.specs.Row.{values};
-ghost use Rattle.state_price_bound.specs.ErrorBound.{greatest-of};
+ghost use Rattle.arithmetic.specs.Row.{values, greatest-of};
+ghost use Rattle.limits.specs.Limits.{value-limit};
 ghost use Rattle.valuation_laws.specs.Valuation.{valuation-bound};
 ghost use Rattle.valuation.specs.Entries.{
   sum-limit,
-  value-limit,
   sum-of,
   sum-of-products,
-  with-payoffs,
+  payoffs-cause,
   valueByStatePrices,
   valuationErrorBound,
 };
 
 const ONE: u64 = 1_000_000_000;
-
-// No value may be above 8.
-const VALUE_LIMIT: u64 = 8_000_000_000;
 
 fn refused(number: u64) -> Answer
     ensures { λ r. ⌜ r ≡ record { number = number; value = 0 } ⌝ }
@@ -70,42 +66,31 @@ pub fn value_by_state_prices(prices: &[u64], payoffs: &[u64]) -> Answer
     if prices.len() % 2 == 0 {
         return refused(6);
     }
-    if 121 < prices.len() {
+    if limits::MOST_NODES < prices.len() {
         return refused(6);
     }
-    if VALUE_LIMIT < state_price_bound::greatest_value(payoffs) {
+    if limits::VALUE_LIMIT < arithmetic::greatest_of(payoffs) {
         return refused(12);
     }
     if sums_above_limit(prices) {
         return refused(12);
     }
     let value = sum_of_products(prices, payoffs) / ONE;
-    if VALUE_LIMIT < value {
+    if limits::VALUE_LIMIT < value {
         return refused(12);
     }
     Answer { number: 0, value }
 }
 
-// The refusal of a tree or row, 0 where there is none, joined with the causes about payoffs: lowest number first.
-fn with_payoffs(number: u64, fitting: bool, greatest: u64) -> u64
-    ensures { λ r. ⌜ r ≡ with-payoffs number fitting (ltb value-limit greatest) ⌝ }
+// The causes about payoffs: their number, then their size.
+fn payoffs_cause(count: usize, nodes: u64, greatest: u64) -> u64
+    ensures { λ r. ⌜ r ≡ payoffs-cause count nodes greatest ⌝ }
 {
-    if number == 0 {
-        if !fitting {
-            return 6;
-        }
-        if VALUE_LIMIT < greatest {
-            return 12;
-        }
-        return 0;
+    let high = limits::limit_cause(greatest);
+    if count as u64 != nodes {
+        return arithmetic::lowest_cause(6, high);
     }
-    if number == 9 {
-        if fitting {
-            return 9;
-        }
-        return 6;
-    }
-    number
+    high
 }
 
 fn bound_of_value(greatest: u64, bound: u64) -> u64
@@ -127,9 +112,11 @@ pub fn valuation_error_bound(
 {
     let bound = state_price_bound::state_price_error_bound(steps, reversion, discounts, row);
     let nodes = lattice::node_count(reversion, row);
-    let greatest = state_price_bound::greatest_value(payoffs);
-    let fitting = payoffs.len() as u64 == nodes.value;
-    let number = with_payoffs(bound.number, fitting, greatest);
+    let greatest = arithmetic::greatest_of(payoffs);
+    let number = arithmetic::lowest_cause(
+        bound.number,
+        payoffs_cause(payoffs.len(), nodes.value, greatest),
+    );
     if number != 0 {
         return refused(number);
     }

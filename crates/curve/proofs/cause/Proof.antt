@@ -4,8 +4,9 @@ use mathlib.Core.Path.{_≡_, sym, _∙_}
 use mathlib.Core.Bool.{true}
 use borrow.Author.Tests.{not-true, not-false}
 use Rattle.arithmetic.specs.Frequency.{listed}
+use Rattle.limits.specs.Limits.{is-steps}
 use Rattle.curve.specs.Curve.{inPlace}
-use Rattle.curve.proofs.CurveLaws.{placed-kinds, placed-figures, number-frequency, number-low, number-high, number-place, number-quotes, number-accepted}
+use Rattle.curve.proofs.CurveLaws.{placed-kinds, placed-figures, number-frequency, number-steps, number-place, number-quotes, number-accepted}
 use borrow.Author.Needs.{needs}
 use Rattle.curve.proofs.cause.Statement.{statement}
 use Rattle.curve.proofs.cause.Tie as tie
@@ -20,29 +21,31 @@ returns c =
 known : (c : tie.Else1) → listed (c .before .before .before .before .before .args .frequency) ≡ true
 known c = sym (c .before .is-listed .ensures) ∙ not-false (c .before .is-listed .result) (c .if1 .left)
 
-returns-2 : tie.Need-returns-2
-returns-2 c = sym (number-low _ _ _ _ _ _ (known (c .before)) (c .if2 .taken))
+is-steps-requires : tie.Need-is-steps-requires
+is-steps-requires c κs = search needs
 
-returns-3 : tie.Need-returns-3
-returns-3 c = sym (number-high _ _ _ _ _ _ (known (c .before .before)) (c .before .if2 .left) (c .if3 .taken))
+returns-2 : tie.Need-returns-2
+returns-2 c = sym (number-steps _ _ _ _ _ _ (known (c .before .before)) (sym (c .before .is-steps .ensures) ∙ not-true _ (c .if2 .taken)))
+
+few : (c : tie.Else2) → is-steps (c .before .before .before .before .before .before .before .args .steps) ≡ true
+few c = sym (c .before .is-steps .ensures) ∙ not-false _ (c .if2 .left)
 
 is-in-place-requires : tie.Need-is-in-place-requires
 is-in-place-requires c κs = search needs
 
-returns-4 : tie.Need-returns-4
-returns-4 c =
+returns-3 : tie.Need-returns-3
+returns-3 c =
     let p = c .before in
     let s = p .before in
-    sym (number-place _ _ _ _ _ _ (known (s .before .before)) (s .before .if2 .left) (s .if3 .left)
-    (sym (p .is-in-place .ensures) ∙ not-true (p .is-in-place .result) (c .if4 .taken)))
+    sym (number-place _ _ _ _ _ _ (known (s .before .before)) (few s) (sym (p .is-in-place .ensures) ∙ not-true (p .is-in-place .result) (c .if3 .taken)))
 
-abbrev start : tie.Else4 → tie.Start
+abbrev start : tie.Else3 → tie.Start
 start c = c .before .before .before .before .before .before .before .before .before
 
 placed :
-    (c : tie.Else4) →
+    (c : tie.Else3) →
     inPlace (start c .args .steps) (start c .args .rows .now) (start c .args .kinds .now) (start c .args .figures .now) (start c .args .room) ≡ true
-placed c = sym (c .before .is-in-place .ensures) ∙ not-false (c .before .is-in-place .result) (c .if4 .left)
+placed c = sym (c .before .is-in-place .ensures) ∙ not-false (c .before .is-in-place .result) (c .if3 .left)
 
 all-convert-requires : tie.Need-all-convert-requires
 all-convert-requires c κs =
@@ -50,19 +53,19 @@ all-convert-requires c κs =
     placed-figures (a .steps) (a .rows .now) (a .kinds .now) (a .figures .now) (a .room) (placed c)
     ∙ sym (placed-kinds (a .steps) (a .rows .now) (a .kinds .now) (a .figures .now) (a .room) (placed c))
 
+returns-4 : tie.Need-returns-4
+returns-4 c =
+    let q = c .before in
+    let s = q .before .before .before in
+    sym (number-quotes _ _ _ _ _ _ (known (s .before .before)) (few s) (placed (q .before))
+    (sym (q .all-convert .ensures) ∙ not-true (q .all-convert .result) (c .if4 .taken)))
+
 returns-5 : tie.Need-returns-5
 returns-5 c =
     let q = c .before in
     let s = q .before .before .before in
-    sym (number-quotes _ _ _ _ _ _ (known (s .before .before)) (s .before .if2 .left) (s .if3 .left) (placed (q .before))
-    (sym (q .all-convert .ensures) ∙ not-true (q .all-convert .result) (c .if5 .taken)))
-
-returns-6 : tie.Need-returns-6
-returns-6 c =
-    let q = c .before in
-    let s = q .before .before .before in
-    sym (number-accepted _ _ _ _ _ _ (known (s .before .before)) (s .before .if2 .left) (s .if3 .left) (placed (q .before))
-    (sym (q .all-convert .ensures) ∙ not-false (q .all-convert .result) (c .if5 .left)))
+    sym (number-accepted _ _ _ _ _ _ (known (s .before .before)) (few s) (placed (q .before))
+    (sym (q .all-convert .ensures) ∙ not-false (q .all-convert .result) (c .if4 .left)))
 
 pub cause-spec : {M : Type 1} → statement M
 cause-spec =
@@ -70,10 +73,10 @@ cause-spec =
     (tie.spec
     is-listed-requires
     returns
+    is-steps-requires
     returns-2
-    returns-3
     is-in-place-requires
-    returns-4
+    returns-3
     all-convert-requires
-    returns-5
-    returns-6)
+    returns-4
+    returns-5)

@@ -19,16 +19,24 @@ plan-of-requires : tie.Need-plan-of-requires
 plan-of-requires c κs = search needs
 
 returns : tie.Need-returns
-returns c = laws.fit-refused (c .before .before .before .before .before .before .before .before .before .before .before .args .frequency) (c .before .before .before .before .before .before .before .before .before .before .before .args .steps) (c .before .before .before .before .before .before .before .before .before .before .before .args .reversion) (c .before .before .before .before .before .before .before .before .before .before .before .args .volatility) (c .before .before .before .before .before .before .before .before .before .before .before .args .rows .now) (c .before .before .before .before .before .before .before .before .before .before .before .args .kinds .now) (c .before .before .before .before .before .before .before .before .before .before .before .args .figures .now) (c .before .before .before .before .before .before .before .before .before .before .before .args .discounts .now) (c .before .before .before .before .before .before .before .before .before .before .before .args .prices .now) (c .before .before .plan-of .result) (c .before .before .before .before .convert .result) (c .before .before .before .before .convert .ensures .0) (c .before .before .plan-of .ensures) (c .if1 .taken)
+returns c =
+    let s = c .before .before .before .before .before .before .before .before .before .before .before in
+    laws.fit-refused (s .args .frequency) (s .args .steps) (s .args .reversion) (s .args .volatility) (s .args .rows .now) (s .args .kinds .now) (s .args .figures .now) (s .args .discounts .now) (s .args .prices .now) (c .before .before .plan-of .result) (c .before .before .before .before .convert .result) (c .before .before .before .before .convert .ensures .0) (c .before .before .plan-of .ensures) (c .if1 .taken)
 
 array-share-prefix-quotes : tie.Need-array-share-prefix-quotes
-array-share-prefix-quotes c = let h = laws.steps-few (c .before .before .before .before .before .before .before .before .before .before .before .args .frequency) (c .before .before .before .before .before .before .before .before .before .before .before .args .steps) (c .before .before .before .before .before .before .before .before .before .before .before .args .reversion) (c .before .before .before .before .before .before .before .before .before .before .before .args .volatility) (c .before .before .before .before .before .before .before .before .before .before .before .args .rows .now) (c .before .before .before .before .before .before .before .before .before .before .before .args .kinds .now) (c .before .before .before .before .before .before .before .before .before .before .before .args .figures .now) (c .before .before .before .before .before .before .before .before .before .before .before .args .discounts .now) (c .before .before .before .before .before .before .before .before .before .before .before .args .prices .now) (c .before .before .plan-of .result) (c .before .before .before .before .convert .result) (c .before .before .before .before .convert .ensures .0) (c .before .before .plan-of .ensures) (c .if1 .left) _ _ refl (c .before .before .before .before .convert .ensures .1) in omega arith
+array-share-prefix-quotes c =
+    let s = c .before .before .before .before .before .before .before .before .before .before .before in
+    let h = laws.steps-few (s .args .frequency) (s .args .steps) (s .args .reversion) (s .args .volatility) (s .args .rows .now) (s .args .kinds .now) (s .args .figures .now) (s .args .discounts .now) (s .args .prices .now) (c .before .before .plan-of .result) (c .before .before .before .before .convert .result) (c .before .before .before .before .convert .ensures .0) (c .before .before .plan-of .ensures) (c .if1 .left) _ _ refl (c .before .before .before .before .convert .ensures .1) in omega arith
 
 slice-aggregate-fit-quotes : tie.Need-slice-aggregate-fit-quotes
-slice-aggregate-fit-quotes c = sym (laws.quotes-length (c .before .before .before .before .before .before .before .before .before .before .before .before .args .frequency) (c .before .before .before .before .before .before .before .before .before .before .before .before .args .steps) (c .before .before .before .before .before .before .before .before .before .before .before .before .args .reversion) (c .before .before .before .before .before .before .before .before .before .before .before .before .args .volatility) (c .before .before .before .before .before .before .before .before .before .before .before .before .args .rows .now) (c .before .before .before .before .before .before .before .before .before .before .before .before .args .kinds .now) (c .before .before .before .before .before .before .before .before .before .before .before .before .args .figures .now) (c .before .before .before .before .before .before .before .before .before .before .before .before .args .discounts .now) (c .before .before .before .before .before .before .before .before .before .before .before .before .args .prices .now) (c .before .before .before .plan-of .result) (c .before .before .before .before .before .convert .result) (c .before .before .before .before .before .convert .ensures .0) (c .before .before .before .plan-of .ensures) (c .before .if1 .left) _ _ refl (c .before .before .before .before .before .convert .ensures .1))
+slice-aggregate-fit-quotes c =
+    let s = c .before .before .before .before .before .before .before .before .before .before .before .before in
+    sym (laws.quotes-length (s .args .frequency) (s .args .steps) (s .args .reversion) (s .args .volatility) (s .args .rows .now) (s .args .kinds .now) (s .args .figures .now) (s .args .discounts .now) (s .args .prices .now) (c .before .before .before .plan-of .result) (c .before .before .before .before .before .convert .result) (c .before .before .before .before .before .convert .ensures .0) (c .before .before .before .plan-of .ensures) (c .before .if1 .left) _ _ refl (c .before .before .before .before .before .convert .ensures .1))
 
 fit-quotes-requires : tie.Need-fit-quotes-requires
-fit-quotes-requires c κs = laws.fittable (c .before .before .before .before .before .before .before .before .before .before .before .before .before .before .args .frequency) (c .before .before .before .before .before .before .before .before .before .before .before .before .before .before .args .steps) (c .before .before .before .before .before .before .before .before .before .before .before .before .before .before .args .reversion) (c .before .before .before .before .before .before .before .before .before .before .before .before .before .before .args .volatility) (c .before .before .before .before .before .before .before .before .before .before .before .before .before .before .args .rows .now) (c .before .before .before .before .before .before .before .before .before .before .before .before .before .before .args .kinds .now) (c .before .before .before .before .before .before .before .before .before .before .before .before .before .before .args .figures .now) (c .before .before .before .before .before .before .before .before .before .before .before .before .before .before .args .discounts .now) (c .before .before .before .before .before .before .before .before .before .before .before .before .before .before .args .prices .now) (c .before .before .before .before .before .plan-of .result) (c .before .before .before .before .before .before .before .convert .result) (c .before .before .before .before .before .before .before .convert .ensures .0) (c .before .before .before .before .before .plan-of .ensures) (c .before .before .before .if1 .left) _ _ refl (c .before .before .before .before .before .before .before .convert .ensures .1)
+fit-quotes-requires c κs =
+    let s = c .before .before .before .before .before .before .before .before .before .before .before .before .before .before in
+    laws.fittable (s .args .frequency) (s .args .steps) (s .args .reversion) (s .args .volatility) (s .args .rows .now) (s .args .kinds .now) (s .args .figures .now) (s .args .discounts .now) (s .args .prices .now) (c .before .before .before .before .before .plan-of .result) (c .before .before .before .before .before .before .before .convert .result) (c .before .before .before .before .before .before .before .convert .ensures .0) (c .before .before .before .before .before .plan-of .ensures) (c .before .before .before .if1 .left) _ _ refl (c .before .before .before .before .before .before .before .convert .ensures .1)
 
 same-length : tie.Need-same-length
 same-length c = search needs
@@ -37,7 +45,9 @@ same-length-2 : tie.Need-same-length-2
 same-length-2 c = search needs
 
 returns-2 : tie.Need-returns-2
-returns-2 c = laws.fit-made (c .before .before .before .before .before .before .before .before .before .before .before .before .before .before .before .before .before .before .before .args .frequency) (c .before .before .before .before .before .before .before .before .before .before .before .before .before .before .before .before .before .before .before .args .steps) (c .before .before .before .before .before .before .before .before .before .before .before .before .before .before .before .before .before .before .before .args .reversion) (c .before .before .before .before .before .before .before .before .before .before .before .before .before .before .before .before .before .before .before .args .volatility) (c .before .before .before .before .before .before .before .before .before .before .before .before .before .before .before .before .before .before .before .args .rows .now) (c .before .before .before .before .before .before .before .before .before .before .before .before .before .before .before .before .before .before .before .args .kinds .now) (c .before .before .before .before .before .before .before .before .before .before .before .before .before .before .before .before .before .before .before .args .figures .now) (c .before .before .before .before .before .before .before .before .before .before .before .before .before .before .before .before .before .before .before .args .discounts .now) (c .before .before .before .before .before .before .before .before .before .before .before .before .before .before .before .before .before .before .before .args .prices .now) (c .before .before .before .before .before .before .before .before .before .before .plan-of .result) (c .before .before .before .before .before .before .before .before .before .before .before .before .convert .result) (c .before .before .before .before .before .before .before .before .before .before .before .before .convert .ensures .0) (c .before .before .before .before .before .before .before .before .before .before .plan-of .ensures) (c .before .before .before .before .before .before .before .before .if1 .left) _ _ refl (c .before .before .before .before .before .before .before .before .before .before .before .before .convert .ensures .1) _ _ _ (c .before .before .before .before .fit-quotes .ensures .0) (c .before .before .before .before .fit-quotes .ensures .1 .0) (c .before .before .before .before .fit-quotes .ensures .1 .1)
+returns-2 c =
+    let s = c .before .before .before .before .before .before .before .before .before .before .before .before .before .before .before .before .before .before .before in
+    laws.fit-made (s .args .frequency) (s .args .steps) (s .args .reversion) (s .args .volatility) (s .args .rows .now) (s .args .kinds .now) (s .args .figures .now) (s .args .discounts .now) (s .args .prices .now) (c .before .before .before .before .before .before .before .before .before .before .plan-of .result) (c .before .before .before .before .before .before .before .before .before .before .before .before .convert .result) (c .before .before .before .before .before .before .before .before .before .before .before .before .convert .ensures .0) (c .before .before .before .before .before .before .before .before .before .before .plan-of .ensures) (c .before .before .before .before .before .before .before .before .if1 .left) _ _ refl (c .before .before .before .before .before .before .before .before .before .before .before .before .convert .ensures .1) _ _ _ (c .before .before .before .before .fit-quotes .ensures .0) (c .before .before .before .before .fit-quotes .ensures .1 .0) (c .before .before .before .before .fit-quotes .ensures .1 .1)
 
 pub fit-spec : {M : Type 1} → statement M
 fit-spec =

@@ -1,15 +1,16 @@
 -- `job_sheet::printed` meets its contract.
 -- Assumes nothing.
-use Rattle.job_sheet.proofs.SheetLaws as laws
 use borrow.Author.Needs.{needs}
+use Rattle.sheet_laws.proofs.SheetLaws as laws
+use Rattle.record_sheet.proofs.AnswerLaws as answers
 use Rattle.job_sheet.proofs.printed.Statement.{statement}
 use Rattle.job_sheet.proofs.printed.Tie as tie
 
 sheet-requires : tie.Need-sheet-requires
-sheet-requires c κs = search needs
+sheet-requires c κs = tt
 
 refused-line-requires : tie.Need-refused-line-requires
-refused-line-requires c κs = search needs
+refused-line-requires c κs = tt
 
 same-length : tie.Need-same-length
 same-length c = search needs
@@ -17,15 +18,23 @@ same-length c = search needs
 returns : tie.Need-returns
 returns c =
     let a = c .before .before .before .before .before .before .before .before .before .before .before .before .args in
-    let start = laws.refusal-start (a .job .now) (a .out .now) (c .before .before .before .before .before .before .before .before .sheet .result) _ (c .before .before .before .before .before .before .before .before .sheet .ensures) (c .before .before .before .before .if1 .taken) _ (c .before .before .refused-line .ensures .0) in
-    let within = laws.refusal-within (a .job .now) (a .out .now) (c .before .before .before .before .before .before .before .before .sheet .result) _ (c .before .before .before .before .before .before .before .before .sheet .ensures) (c .before .before .before .before .if1 .taken) _ (c .before .before .refused-line .ensures .0) in
-    let memory = laws.refusal-memory (a .job .now) (a .out .now) (c .before .before .before .before .before .before .before .before .sheet .result) _ (c .before .before .before .before .before .before .before .before .sheet .ensures) (c .before .before .before .before .if1 .taken) _ (c .before .before .refused-line .ensures .1) in
+    let made = c .before .before .before .before .before .before .before .before .sheet in
+    let line = c .before .before .refused-line .ensures in
+    let refusing = c .before .before .before .before .if1 .taken in
+    let number = answers.answer-number _ _ (made .result) (made .ensures .0) in
+    let size = answers.answer-size _ _ (made .result) (made .ensures .0) in
+    let start = laws.refusal-start (a .job .now) (a .out .now) _ _ _ number size (made .ensures .1) refusing _ (line .0) in
+    let within = laws.refusal-within (a .job .now) (a .out .now) _ _ _ number size (made .ensures .1) refusing _ (line .0) in
+    let memory = laws.refusal-memory (a .job .now) (a .out .now) _ _ _ number size (made .ensures .1) refusing _ (line .1) in
     (start, (within, memory))
 
 sub-result : tie.Need-sub-result
 sub-result c =
     let a = c .before .before .before .before .before .before .before .before .before .args in
-    laws.size-within (a .job .now) (a .out .now) (c .before .before .before .before .before .sheet .result) _ (c .before .before .before .before .before .sheet .ensures) (c .before .if1 .left) (search needs)
+    let made = c .before .before .before .before .before .sheet in
+    let number = answers.answer-number _ _ (made .result) (made .ensures .0) in
+    let size = answers.answer-size _ _ (made .result) (made .ensures .0) in
+    laws.size-within (a .job .now) (a .out .now) _ _ _ number size (made .ensures .1) (c .before .if1 .left) (search needs)
 
 same-length-2 : tie.Need-same-length-2
 same-length-2 c = search needs
@@ -33,18 +42,11 @@ same-length-2 c = search needs
 returns-2 : tie.Need-returns-2
 returns-2 c =
     let a = c .before .before .before .before .before .before .before .before .before .args in
-    let start = laws.sheet-start (a .job .now) (a .out .now) (c .before .before .before .before .before .sheet .result) _ (c .before .before .before .before .before .sheet .ensures) (c .before .if1 .left) (search needs) in
-    let memory = laws.sheet-memory (a .job .now) (a .out .now) (c .before .before .before .before .before .sheet .result) _ (c .before .before .before .before .before .sheet .ensures) (c .before .if1 .left) in
-    (start, (search needs, memory))
+    let made = c .before .before .before .before .before .sheet in
+    let number = answers.answer-number _ _ (made .result) (made .ensures .0) in
+    let size = answers.answer-size _ _ (made .result) (made .ensures .0) in
+    let start = laws.sheet-start (a .job .now) (a .out .now) _ _ _ number size (made .ensures .1) (c .before .if1 .left) (search needs) in
+    (start, (search needs, laws.sheet-memory (a .job .now) (a .out .now) _ _ _ number size (made .ensures .1) (c .before .if1 .left)))
 
 pub printed-spec : {M : Type 1} → statement M
-printed-spec =
-    tie.close
-    (tie.spec
-    sheet-requires
-    refused-line-requires
-    same-length
-    returns
-    sub-result
-    same-length-2
-    returns-2)
+printed-spec = tie.close (tie.spec sheet-requires refused-line-requires same-length returns sub-result same-length-2 returns-2)

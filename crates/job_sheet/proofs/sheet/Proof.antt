@@ -1,35 +1,39 @@
 -- `job_sheet::sheet` meets its contract.
 -- Assumes nothing.
-use Rattle.job_sheet.proofs.SheetLaws as laws
+use mathlib.Core.Path.{refl}
+use lib.ListN.{length}
 use borrow.Author.Needs.{needs}
+use Rattle.sheet_laws.proofs.SheetLaws as laws
+use Rattle.record_sheet.proofs.AnswerLaws as answers
 use Rattle.job_sheet.proofs.sheet.Statement.{statement}
 use Rattle.job_sheet.proofs.sheet.Tie as tie
 
 read-requires : tie.Need-read-requires
-read-requires c κs = search needs
+read-requires c κs = tt
 
 returns : tie.Need-returns
 returns c =
     let a = c .before .before .before .before .before .args in
-    laws.read-refused (a .job .now) (a .out .now) (c .before .before .read .result) (c .before .before .read .ensures .0) (c .if1 .taken)
+    let read = c .before .before .read in
+    let refusing = c .if1 .taken in
+    let number = laws.number-refused (a .job .now) (length (a .out .now)) (read .result) (read .ensures .0) refusing in
+    answers.refused-by _ _ _ (a .out .now) _ refl number refusing
 
-sheet-of-job-requires : tie.Need-sheet-of-job-requires
-sheet-of-job-requires c κs = c .before .before .before .read .ensures .1 .sound
+sheet-of-record-requires : tie.Need-sheet-of-record-requires
+sheet-of-record-requires c κs = tt
 
 same-length : tie.Need-same-length
 same-length c = search needs
 
 returns-2 : tie.Need-returns-2
 returns-2 c =
-    let a = c .before .before .before .before .before .before .before .before .before .args in
-    laws.read-made (a .job .now) (a .out .now) (c .before .before .before .before .before .before .read .result) (c .before .before .before .before .before .before .read .ensures .0) _ _ (c .before .before .before .before .if1 .left) (c .before .before .sheet-of-job .ensures)
+    let s = c .before .before .before .before .before .before .before .before .before in
+    let read = c .before .before .before .before .before .before .read in
+    let if1 = c .before .before .before .before .if1 in
+    let sheet-of-record = c .before .before .sheet-of-record in
+    let a = s .args in
+    let read = read in
+    answers.read-made (a .job .now) (a .out .now) (read .result) _ _ (read .ensures .0) (if1 .left) (sheet-of-record .ensures)
 
 pub sheet-spec : {M : Type 1} → statement M
-sheet-spec =
-    tie.close
-    (tie.spec
-    read-requires
-    returns
-    sheet-of-job-requires
-    same-length
-    returns-2)
+sheet-spec = tie.close (tie.spec read-requires returns sheet-of-record-requires same-length returns-2)

@@ -1,18 +1,21 @@
 -- `jobs::data_from` meets its contract.
 -- Assumes nothing.
 use borrow.Author.Needs.{needs}
-use mathlib.Core.Path.{_≡_}
-use Prim.Native.Nat.{_+_, _*_, _-_, _≤_}
+use mathlib.Core.Path.{_≡_, ap, _∙_}
+use Prim.Native.Nat.{ℕ, _-_, _≤_}
 use native.Mathlib.Omega.{arith}
 use lib.ListN.{replicate}
+use denote.Ref.{now}
 use Rattle.arithmetic.proofs.RowLaws.{Filled, filled-start, filled-next}
-use Rattle.jobs.specs.Reader.{dataOf}
-use Rattle.jobs.proofs.Columns.{filled-padded, field-within}
+use Rattle.job_record.specs.Bytes.{numberAt}
+use Rattle.job_record.specs.Form.{mostSteps, dataAt}
+use Rattle.job_record.specs.Reader.{dataOf}
+use Rattle.job_record.proofs.Columns.{filled-padded, field-within}
 use Rattle.jobs.proofs.data_from.Statement.{statement}
 use Rattle.jobs.proofs.data_from.Tie as tie
 
 abbrev Inv-loop : tie.InvT-loop
-Inv-loop bytes from width count numbers₀ i₀ numbers i = (i ≤ count) × Filled (replicate 255 0) numbers (dataOf bytes from width) i
+Inv-loop bytes from width count numbers₀ i₀ numbers i = (i ≤ count) × Filled (replicate mostSteps 0) numbers (dataOf bytes from width) i
 
 abbrev μ-loop : tie.MeasureT-loop
 μ-loop bytes from width count numbers₀ i₀ numbers i = count - i
@@ -20,24 +23,16 @@ abbrev μ-loop : tie.MeasureT-loop
 loop-holds : tie.Need-loop-holds Inv-loop μ-loop
 loop-holds c = (omega arith, filled-start _ _)
 
--- the field stands within all of them
-within : (c : tie.In-loop Inv-loop μ-loop) → (c .before .before .before .args .width + 3) * c .before .loop .i + (c .before .before .before .args .width + 3) ≤ (c .before .before .before .args .width + 3) * c .before .before .before .args .count
-within c = field-within (c .before .before .before .args .width) (c .before .loop .i) (c .before .before .before .args .count) (omega arith)
+after-fields-requires : tie.Need-after-fields-requires Inv-loop μ-loop
+after-fields-requires c κs = search needs
 
 add-number : tie.Need-add-number Inv-loop μ-loop
 add-number c = search needs
 
-mul-number : tie.Need-mul-number Inv-loop μ-loop
-mul-number c = omega (arith, within c)
-
-add-number-2 : tie.Need-add-number-2 Inv-loop μ-loop
-add-number-2 c = omega (arith, within c)
-
-add-number-3 : tie.Need-add-number-3 Inv-loop μ-loop
-add-number-3 c = omega (arith, within c)
-
 number-requires : tie.Need-number-requires Inv-loop μ-loop
-number-requires c κs = omega (arith, within c)
+number-requires c κs =
+    let start = c .before .before .before .before .args in
+    omega (arith, c .after-fields .ensures .0, field-within (start .from) (start .width) (c .before .before .loop .i) (start .count) (omega arith))
 
 mul-numbers : tie.Need-mul-numbers Inv-loop μ-loop
 mul-numbers c = search needs
@@ -52,7 +47,10 @@ loop-less : tie.Need-loop-less Inv-loop μ-loop
 loop-less c = search needs
 
 loop-again : tie.Need-loop-again Inv-loop μ-loop
-loop-again c = (omega arith, filled-next _ _ _ _ _ (c .before .before .loop .inv .1) (search needs) (c .number .ensures .0))
+loop-again c =
+    let start = c .before .before .before .before .before .args in
+    let read = ap (λ (place : ℕ). numberAt (now (start .bytes)) (dataAt place) (start .width)) (c .before .after-fields .ensures .0) in
+    (omega arith, filled-next _ _ _ _ _ (c .before .before .before .loop .inv .1) (search needs) (c .number .ensures .0 ∙ read))
 
 returns : tie.Need-returns Inv-loop μ-loop
 returns c =
@@ -66,10 +64,8 @@ data-from-spec =
     Inv-loop
     μ-loop
     loop-holds
+    after-fields-requires
     add-number
-    mul-number
-    add-number-2
-    add-number-3
     number-requires
     mul-numbers
     array-write-numbers

@@ -3,42 +3,34 @@
 use borrow.Author.Needs.{needs}
 use mathlib.Core.Bool.{true}
 use mathlib.Core.Path.{_≡_, sym}
-use Prim.Native.Nat.{_+_, _*_, _-_, _≤_}
-use native.Mathlib.Nat.{mul-le-mul}
+use Prim.Native.Nat.{_-_, _≤_}
 use native.Mathlib.Omega.{arith}
-use Rattle.jobs.specs.Form.{fieldsFrom}
-use Rattle.jobs.proofs.Answers.{passed, failed}
-use Rattle.jobs.proofs.Forms.{fields-none, fields-more, fields-fails}
+use Rattle.job_record.specs.Form.{fieldsFrom}
+use Rattle.job_record.proofs.Answers.{passed, failed}
+use Rattle.job_record.proofs.Forms.{fields-none, fields-more, fields-fails}
 use Rattle.jobs.proofs.fields_from.Statement.{statement}
 use Rattle.jobs.proofs.fields_from.Tie as tie
 
 abbrev Inv-loop : tie.InvT-loop
-Inv-loop bytes from tag other width count i₀ i = (i ≤ count) × (fieldsFrom bytes from tag other width i ≡ true)
+Inv-loop bytes from tags width count i₀ i = (i ≤ count) × (fieldsFrom bytes from tags width i ≡ true)
 
 abbrev μ-loop : tie.MeasureT-loop
-μ-loop bytes from tag other width count i₀ i = count - i
+μ-loop bytes from tags width count i₀ i = count - i
 
 loop-holds : tie.Need-loop-holds Inv-loop μ-loop
-loop-holds c = (omega arith, fields-none _ _ _ _ _)
+loop-holds c = (omega arith, fields-none _ _ _ _)
 
--- where the field stands
-near : (c : tie.In-loop Inv-loop μ-loop) → (c .before .before .before .args .width + 3) * c .before .loop .i ≤ 11 * 255
-near c = mul-le-mul {n₁ = c .before .before .before .args .width + 3} {m₁ = c .before .loop .i} {n₂ = 11} {m₂ = 255} (omega arith) (omega arith)
+after-fields-requires : tie.Need-after-fields-requires Inv-loop μ-loop
+after-fields-requires c κs = search needs
 
-add-either-at : tie.Need-add-either-at Inv-loop μ-loop
-add-either-at c = search needs
-
-mul-either-at : tie.Need-mul-either-at Inv-loop μ-loop
-mul-either-at c = omega (arith, near c)
-
-add-either-at-2 : tie.Need-add-either-at-2 Inv-loop μ-loop
-add-either-at-2 c = omega (arith, near c)
-
-either-at-requires : tie.Need-either-at-requires Inv-loop μ-loop
-either-at-requires c κs = omega (arith, near c)
+field-at-requires : tie.Need-field-at-requires Inv-loop μ-loop
+field-at-requires c κs = search needs
 
 returns : tie.Need-returns Inv-loop μ-loop
-returns c = sym (fields-fails _ _ _ _ _ _ (c .before .before .before .loop .i) (omega arith) (failed (c .before .either-at .ensures) (c .if1 .taken)))
+returns c =
+    sym
+    (fields-fails _ _ _ _ _ _ (c .before .before .after-fields .ensures .0) _ (omega arith)
+    (failed (c .before .field-at .ensures) (c .if1 .taken)))
 
 add-i : tie.Need-add-i Inv-loop μ-loop
 add-i c = search needs
@@ -47,7 +39,10 @@ loop-less : tie.Need-loop-less Inv-loop μ-loop
 loop-less c = search needs
 
 loop-again : tie.Need-loop-again Inv-loop μ-loop
-loop-again c = (omega arith, fields-more _ _ _ _ _ (c .before .before .before .loop .i) (c .before .before .before .loop .inv .1) (passed (c .before .either-at .ensures) (c .if1 .left)))
+loop-again c =
+    let known = c .before .before .before .before .loop .inv in
+    let one = passed (c .before .field-at .ensures) (c .if1 .left) in
+    (omega arith, fields-more _ _ _ _ _ _ (c .before .before .after-fields .ensures .0) (known .1) one)
 
 returns-2 : tie.Need-returns-2 Inv-loop μ-loop
 returns-2 c =
@@ -61,10 +56,8 @@ fields-from-spec =
     Inv-loop
     μ-loop
     loop-holds
-    add-either-at
-    mul-either-at
-    add-either-at-2
-    either-at-requires
+    after-fields-requires
+    field-at-requires
     returns
     add-i
     loop-less

@@ -1,7 +1,7 @@
 -- `jobs::head_formed` meets its contract.
 -- Assumes nothing.
-use Rattle.jobs.specs.Form.{headFormed}
-use Rattle.jobs.proofs.Answers.{passed, failed}
+use Rattle.job_record.specs.Form.{headFormed}
+use Rattle.job_record.proofs.Answers.{passed, failed}
 use borrow.Author.Needs.{needs}
 use Rattle.jobs.proofs.head_formed.Statement.{statement}
 use Rattle.jobs.proofs.head_formed.Tie as tie

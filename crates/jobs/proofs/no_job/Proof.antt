@@ -1,7 +1,7 @@
 -- `jobs::no_job` meets its contract.
 -- Assumes nothing.
 use mathlib.Core.Path.{refl}
-use Rattle.jobs.specs.Reader.{noJob}
+use Rattle.job_record.specs.Reader.{noJob}
 use Rattle.jobs.proofs.no_job.Statement.{statement}
 use Rattle.jobs.proofs.no_job.Tie as tie
 

@@ -5,8 +5,8 @@ use native.Mathlib.Omega.{arith}
 use mathlib.Core.Path.{_≡_, sym}
 use Prim.Native.Nat.{ℕ, _+_, _*_, _-_, _^_, _≤_, _<_}
 use denote.Ref.{now}
-use Rattle.jobs.specs.Bytes.{numberAt}
-use Rattle.jobs.proofs.Numbers.{number-nothing, number-more, number-bound, byte-more}
+use Rattle.job_record.specs.Bytes.{numberAt}
+use Rattle.job_record.proofs.Numbers.{number-nothing, number-more, number-bound, byte-more}
 use Rattle.jobs.proofs.number.Statement.{statement}
 use Rattle.jobs.proofs.number.Tie as tie
 
@@ -39,7 +39,9 @@ wide-requires : tie.Need-wide-requires Inv-loop μ-loop
 wide-requires c κs = search needs
 
 add-value : tie.Need-add-value Inv-loop μ-loop
-add-value c = omega (arith, small (c .before .before) (c .wide .result) (omega (arith, c .before .shared-slice-known2 .given (c .before .before .before .before .before .args .at + c .before .before .before .loop .i))))
+add-value c =
+    let byte = c .before .shared-slice-known2 .given (c .before .before .before .before .before .args .at + c .before .before .before .loop .i) in
+    omega (arith, small (c .before .before) (c .wide .result) (omega (arith, byte)))
 
 add-i : tie.Need-add-i Inv-loop μ-loop
 add-i c = search needs
@@ -53,10 +55,9 @@ loop-again c =
 
 returns : tie.Need-returns Inv-loop μ-loop
 returns c =
-    let end : c .before .loop .i ≡ c .before .before .before .args .width = omega arith in
-    let same : c .before .loop .value ≡ numberAt (now (c .before .before .before .args .bytes)) (c .before .before .before .args .at) (c .before .before .before .args .width) =
-    rw end at (c .before .loop .inv .1)
-    in
+    let start = c .before .before .before .args in
+    let end : c .before .loop .i ≡ start .width = omega arith in
+    let same : c .before .loop .value ≡ numberAt (now (start .bytes)) (start .at) (start .width) = rw end at (c .before .loop .inv .1) in
     let known = c .before .before .shared-slice-known .given in
     (same, rw same (number-bound _ (λ i. omega (arith, known i)) _ _))
 

@@ -1,8 +1,8 @@
 -- `jobs::read` meets its contract.
 -- Assumes nothing.
 use native.Mathlib.Omega.{arith}
-use Rattle.jobs.proofs.Answers.{passed, failed}
-use Rattle.jobs.proofs.ReadLaws.{read-well, read-bad}
+use Rattle.job_record.proofs.Answers.{passed, failed}
+use Rattle.job_record.proofs.ReadLaws.{read-well, read-bad}
 use borrow.Author.Needs.{needs}
 use Rattle.jobs.proofs.read.Statement.{statement}
 use Rattle.jobs.proofs.read.Tie as tie

@@ -1,8 +1,8 @@
 -- `jobs::rest_formed` meets its contract.
 -- Assumes nothing.
 use borrow.Author.Tests.{eq-eqb, ne-eqb}
-use Rattle.jobs.specs.Form.{restFormed}
-use Rattle.jobs.proofs.Answers.{passed, failed}
+use Rattle.job_record.specs.Form.{restFormed}
+use Rattle.job_record.proofs.Answers.{passed, failed}
 use borrow.Author.Needs.{needs}
 use Rattle.jobs.proofs.rest_formed.Statement.{statement}
 use Rattle.jobs.proofs.rest_formed.Tie as tie
@@ -21,9 +21,12 @@ returns-2 c = simp (ne-eqb _ _ (c .before .before .if1 .left), failed (c .before
 add-result : tie.Need-add-result
 add-result c = search needs
 
+add-result-2 : tie.Need-add-result-2
+add-result-2 c = search needs
+
 returns-3 : tie.Need-returns-3
 unfolding restFormed
 returns-3 c = simp (ne-eqb _ _ (c .before .before .if1 .left), passed (c .before .field-at .ensures) (c .if2 .left))
 
 pub rest-formed-spec : {M : Type 1} → statement M
-rest-formed-spec = tie.close (tie.spec returns field-at-requires returns-2 add-result returns-3)
+rest-formed-spec = tie.close (tie.spec returns field-at-requires returns-2 add-result add-result-2 returns-3)

@@ -1,33 +1,35 @@
 -- `jobs::tags_from` meets its contract.
 -- Assumes nothing.
 use borrow.Author.Needs.{needs}
-use mathlib.Core.Path.{_≡_, refl}
-use Prim.Native.Nat.{_-_, _≤_}
+use mathlib.Core.Path.{_≡_, ap}
+use Prim.Native.Nat.{ℕ, _-_, _≤_}
 use native.Mathlib.Omega.{arith}
-use lib.ListN.{replicate}
+use lib.ListN.{replicate, getD}
+use denote.Ref.{now}
 use Rattle.arithmetic.proofs.RowLaws.{Filled, filled-start, filled-next}
-use Rattle.jobs.specs.Reader.{tagOf}
-use Rattle.jobs.proofs.Columns.{filled-padded}
+use Rattle.job_record.specs.Form.{mostSteps}
+use Rattle.job_record.specs.Reader.{tagOf}
+use Rattle.job_record.proofs.Columns.{filled-padded, field-within}
 use Rattle.jobs.proofs.tags_from.Statement.{statement}
 use Rattle.jobs.proofs.tags_from.Tie as tie
 
 abbrev Inv-loop : tie.InvT-loop
-Inv-loop bytes from count tags₀ i₀ tags i = (i ≤ count) × Filled (replicate 255 0) tags (tagOf bytes from 8) i
+Inv-loop bytes from width count tags₀ i₀ tags i = (i ≤ count) × Filled (replicate mostSteps 0) tags (tagOf bytes from width) i
 
 abbrev μ-loop : tie.MeasureT-loop
-μ-loop bytes from count tags₀ i₀ tags i = count - i
+μ-loop bytes from width count tags₀ i₀ tags i = count - i
 
 loop-holds : tie.Need-loop-holds Inv-loop μ-loop
 loop-holds c = (omega arith, filled-start _ _)
 
-mul-tags : tie.Need-mul-tags Inv-loop μ-loop
-mul-tags c = search needs
-
-add-tags : tie.Need-add-tags Inv-loop μ-loop
-add-tags c = search needs
+after-fields-requires : tie.Need-after-fields-requires Inv-loop μ-loop
+after-fields-requires c κs = search needs
 
 shared-slice-read-tags : tie.Need-shared-slice-read-tags Inv-loop μ-loop
-shared-slice-read-tags c = search needs
+shared-slice-read-tags c =
+    let start = c .before .before .before .before .before .args in
+    let i = c .before .before .before .loop .i in
+    omega (arith, c .before .after-fields .ensures .0, field-within (start .from) (start .width) i (start .count) (omega arith))
 
 array-write-tags : tie.Need-array-write-tags Inv-loop μ-loop
 array-write-tags c = search needs
@@ -39,11 +41,13 @@ loop-less : tie.Need-loop-less Inv-loop μ-loop
 loop-less c = search needs
 
 loop-again : tie.Need-loop-again Inv-loop μ-loop
-loop-again c = (omega arith, filled-next _ _ _ _ _ (c .before .before .loop .inv .1) (search needs) refl)
+loop-again c =
+    let read = ap (λ (place : ℕ). getD (now (c .before .before .before .before .before .args .bytes)) place 0) (c .before .after-fields .ensures .0) in
+    (omega arith, filled-next _ _ _ _ _ (c .before .before .before .loop .inv .1) (search needs) read)
 
 returns : tie.Need-returns Inv-loop μ-loop
 returns c =
-    let end : c .before .loop .i ≡ c .before .before .args .count = omega arith in
+    let end : c .before .loop .i ≡ c .before .before .before .args .count = omega arith in
     filled-padded _ _ _ (rw end at (c .before .loop .inv .1))
 
 pub tags-from-spec : {M : Type 1} → statement M
@@ -53,8 +57,7 @@ tags-from-spec =
     Inv-loop
     μ-loop
     loop-holds
-    mul-tags
-    add-tags
+    after-fields-requires
     shared-slice-read-tags
     array-write-tags
     add-i

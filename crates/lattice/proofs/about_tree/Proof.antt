@@ -1,21 +1,19 @@
 -- `lattice::about_tree` meets its contract.
 -- Assumes nothing.
-use mathlib.Core.Path.{refl, sym, ap, _∙_}
-use Rattle.lattice.proofs.EntryLaws as entry
+use mathlib.Core.Path.{sym, _∙_}
+use borrow.Author.Needs.{needs}
+use Rattle.lattice.proofs.EntryLaws.{tree-refused, tree-answered}
 use Rattle.lattice.proofs.about_tree.Statement.{statement}
 use Rattle.lattice.proofs.about_tree.Tie as tie
 
+shape-cause-requires : tie.Need-shape-cause-requires
+shape-cause-requires c κs = search needs
+
 returns : tie.Need-returns
-returns c = sym (entry.tree-empty _ _ _ (c .if1 .taken))
+returns c = sym (tree-refused _ _ _ _ (c .before .shape-cause .ensures) (c .if1 .taken))
 
 returns-2 : tie.Need-returns-2
-returns-2 c = sym (entry.tree-long _ _ _ (c .before .if1 .left) (c .if2 .taken))
-
-returns-3 : tie.Need-returns-3
-returns-3 c = sym (entry.tree-steep _ _ _ (c .before .before .if1 .left) (c .before .if2 .left) (c .if3 .taken))
-
-returns-4 : tie.Need-returns-4
-returns-4 c = sym (entry.tree-found _ _ _ (c .before .before .if1 .left) (c .before .if2 .left) (c .if3 .left))
+returns-2 c = sym (tree-answered _ _ _ (sym (c .before .shape-cause .ensures) ∙ c .if1 .left))
 
 pub about-tree-spec : {M : Type 1} → statement M
-about-tree-spec = tie.close (tie.spec returns returns-2 returns-3 returns-4)
+about-tree-spec = tie.close (tie.spec shape-cause-requires returns returns-2)

@@ -6,8 +6,8 @@ use Prim.Native.Nat.{ℕ, _≤_, _<_, _+_, _-_, _*_}
 use native.Mathlib.Omega.{arith}
 use lib.ListN.{length}
 use borrow.Author.Needs.{needs}
-use Rattle.text.specs.Put.{putBefore}
-use Rattle.text.proofs.PutLaws.{put-nothing, put-whole}
+use Rattle.text_laws.specs.Put.{putBefore}
+use Rattle.text_laws.proofs.PutLaws.{put-nothing, put-whole}
 use Rattle.node_lines.specs.Rows.{nodeText, lines, rowText}
 use Rattle.node_lines.proofs.RowLaws.{lines-none, lines-room, text-room, line-less, length-less}
 use Rattle.node_lines.proofs.put_nodes.Statement.{statement}

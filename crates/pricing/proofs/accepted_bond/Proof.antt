@@ -1,7 +1,8 @@
 -- `pricing::accepted_bond` meets its contract.
 -- Assumes nothing.
-use mathlib.Core.Path.{sym, _∙_}
-use Rattle.pricing.proofs.EntryLaws.{nodes-are, prefix-length}
+use mathlib.Core.Path.{_∙_}
+use native.Mathlib.Omega.{arith}
+use Rattle.pricing.proofs.EntryLaws.{prefix-room, prefix-is, prefix-length, bond-refused, bond-given}
 use borrow.Author.Needs.{needs}
 use Rattle.pricing.proofs.accepted_bond.Statement.{statement}
 use Rattle.pricing.proofs.accepted_bond.Tie as tie
@@ -9,35 +10,61 @@ use Rattle.pricing.proofs.accepted_bond.Tie as tie
 node-count-requires : tie.Need-node-count-requires
 node-count-requires c κs = search needs
 
-array-borrow-prefix-table : tie.Need-array-borrow-prefix-table
-array-borrow-prefix-table c = nodes-are _ _ _ (c .before .before .before .pre .0 .few) (c .before .before .before .pre .0 .reverting) (c .node-count .ensures) .1
+table-of-requires : tie.Need-table-of-requires
+table-of-requires c κs = search needs
 
-slice-aggregate-priced-bond : tie.Need-slice-aggregate-priced-bond
-slice-aggregate-priced-bond c = sym (prefix-length _ _ (nodes-are _ _ _ (c .before .before .before .before .pre .0 .few) (c .before .before .before .before .pre .0 .reverting) (c .before .node-count .ensures) .1))
+empty-row-requires : tie.Need-empty-row-requires
+empty-row-requires c κs = search needs
 
-slice-aggregate-priced-bond-2 : tie.Need-slice-aggregate-priced-bond-2
-slice-aggregate-priced-bond-2 c = search needs
+array-share-prefix-table : tie.Need-array-share-prefix-table
+array-share-prefix-table c =
+    let s = c .before .before .before .before .before in
+    prefix-room _ _ (s .pre .0 .few) (s .pre .0 .reverting) _ _ (c .before .before .node-count .ensures) (c .before .table-of .ensures)
 
-slice-aggregate-priced-bond-3 : tie.Need-slice-aggregate-priced-bond-3
-slice-aggregate-priced-bond-3 c = search needs
-
-priced-bond-requires : tie.Need-priced-bond-requires
-priced-bond-requires c κs =
+slice-aggregate-roll-bond : tie.Need-slice-aggregate-roll-bond
+slice-aggregate-roll-bond c =
     let s = c .before .before .before .before .before .before in
-    let n = nodes-are _ _ _ (c .before .before .before .before .before .before .pre .0 .few) (c .before .before .before .before .before .before .pre .0 .reverting) (c .before .before .before .node-count .ensures) in
-    (s .pre .0, s .pre .1, prefix-length _ _ (n .1) ∙ n .0, search needs, search needs)
+    let few = s .pre .0 .few in
+    let low = s .pre .0 .reverting in
+    prefix-length _ _ (prefix-room _ _ few low _ _ (c .before .before .before .node-count .ensures) (c .before .before .table-of .ensures))
+
+roll-bond-requires : tie.Need-roll-bond-requires
+roll-bond-requires c κs =
+    let p6 = c .before .before .before .before .before .before in
+    let node-count = c .before .before .before .before .node-count in
+    let table-of = c .before .before .before .table-of in
+    let s = p6 .before in (
+      record {
+        tree = s .pre .0;
+        paid = s .pre .1;
+        table = prefix-is _ _ (s .pre .0 .few) (s .pre .0 .reverting) _ _ (node-count .ensures) (table-of .ensures);
+      },
+      omega arith,
+    )
+
+refused-requires : tie.Need-refused-requires
+refused-requires c κs = search needs
 
 returns : tie.Need-returns
-returns c = search needs
+returns c = c .refused .ensures ∙ bond-refused _ _ _ _ _ _ _ (c .before .before .roll-bond .ensures) (c .before .if1 .taken)
+
+array-read-t18 : tie.Need-array-read-t18
+array-read-t18 c = search needs
+
+returns-2 : tie.Need-returns-2
+returns-2 c = bond-given _ _ _ _ _ _ _ (c .before .roll-bond .ensures) (c .if1 .left)
 
 pub accepted-bond-spec : {M : Type 1} → statement M
 accepted-bond-spec =
     tie.close
     (tie.spec
     node-count-requires
-    array-borrow-prefix-table
-    slice-aggregate-priced-bond
-    slice-aggregate-priced-bond-2
-    slice-aggregate-priced-bond-3
-    priced-bond-requires
-    returns)
+    table-of-requires
+    empty-row-requires
+    array-share-prefix-table
+    slice-aggregate-roll-bond
+    roll-bond-requires
+    refused-requires
+    returns
+    array-read-t18
+    returns-2)

@@ -28,20 +28,20 @@ room c = laws.reached-room _ _ _ _ _ _ (c .before .loop .inv .1) _ (omega arith)
 add-end : tie.Need-add-end Inv-loop μ-loop
 add-end c = omega (arith, room c)
 
-mul-greatest-value : tie.Need-mul-greatest-value Inv-loop μ-loop
-mul-greatest-value c = omega (arith, c .before .loop .inv .1 .starts, start-within (c .before .before .before .args .reversion) (c .before .loop .index) (omega arith))
+mul-greatest-of : tie.Need-mul-greatest-of Inv-loop μ-loop
+mul-greatest-of c = omega (arith, c .before .loop .inv .1 .starts, start-within (c .before .before .before .args .reversion) (c .before .loop .index) (omega arith))
 
-sub-greatest-value : tie.Need-sub-greatest-value Inv-loop μ-loop
-sub-greatest-value c = search needs
+sub-greatest-of : tie.Need-sub-greatest-of Inv-loop μ-loop
+sub-greatest-of c = search needs
 
-part-greatest-value-start : tie.Need-part-greatest-value-start Inv-loop μ-loop
-part-greatest-value-start c = search needs
+part-greatest-of-start : tie.Need-part-greatest-of-start Inv-loop μ-loop
+part-greatest-of-start c = search needs
 
-part-greatest-value-end : tie.Need-part-greatest-value-end Inv-loop μ-loop
-part-greatest-value-end c = omega (arith, room c)
+part-greatest-of-end : tie.Need-part-greatest-of-end Inv-loop μ-loop
+part-greatest-of-end c = omega (arith, room c)
 
-greatest-value-requires : tie.Need-greatest-value-requires Inv-loop μ-loop
-greatest-value-requires c κs = search needs
+greatest-of-requires : tie.Need-greatest-of-requires Inv-loop μ-loop
+greatest-of-requires c κs = search needs
 
 add-node-count : tie.Need-add-node-count Inv-loop μ-loop
 add-node-count c = search needs
@@ -54,7 +54,7 @@ counts c = row-value _ _ _ _ (c .node-count .ensures) (omega arith) (omega arith
 
 next-bound-requires : tie.Need-next-bound-requires Inv-loop μ-loop
 next-bound-requires c κs =
-    laws.reached-sizes _ _ _ _ _ _ (c .before .before .before .before .loop .inv .1) _ (room (c .before .before .before)) (c .before .greatest-value .ensures) _ (counts c)
+    laws.reached-sizes _ _ _ _ _ _ (c .before .before .before .before .loop .inv .1) _ (room (c .before .before .before)) (c .before .greatest-of .ensures) _ (counts c)
     _ (omega arith) (c .before .before .before .before .before .before .pre .1) (omega arith)
 
 add-index : tie.Need-add-index Inv-loop μ-loop
@@ -66,7 +66,7 @@ loop-less c = search needs
 loop-again : tie.Need-loop-again Inv-loop μ-loop
 loop-again c = (
   search needs,
-  laws.reached-next _ _ _ _ _ _ (c .before .before .before .before .before .loop .inv .1) _ (room (c .before .before .before .before)) (c .before .before .greatest-value .ensures) _ (counts (c .before))
+  laws.reached-next _ _ _ _ _ _ (c .before .before .before .before .before .loop .inv .1) _ (room (c .before .before .before .before)) (c .before .before .greatest-of .ensures) _ (counts (c .before))
       _ (c .next-bound .ensures),
 )
 
@@ -81,11 +81,11 @@ bound-of-row-spec =
     μ-loop
     loop-holds
     add-end
-    mul-greatest-value
-    sub-greatest-value
-    part-greatest-value-start
-    part-greatest-value-end
-    greatest-value-requires
+    mul-greatest-of
+    sub-greatest-of
+    part-greatest-of-start
+    part-greatest-of-end
+    greatest-of-requires
     add-node-count
     node-count-requires
     next-bound-requires

@@ -2,7 +2,7 @@
 -- Assumes nothing.
 use mathlib.Core.Path.{sym}
 use native.Mathlib.Omega.{arith}
-use Rattle.text.proofs.LineLaws.{room-short, room-test}
+use Rattle.text_laws.proofs.LineLaws.{room-short, room-test}
 use Rattle.text.proofs.has_room.Statement.{statement}
 use Rattle.text.proofs.has_room.Tie as tie
 

@@ -6,11 +6,11 @@ use native.Mathlib.Omega.{arith}
 use lib.ListN.{length}
 use mir.Facts.{toZ-ofZ}
 use borrow.Author.Needs.{needs}
-use Rattle.text.specs.Lines.{nodeWord, nodeLine}
-use Rattle.text.proofs.DecimalLaws.{field-room}
-use Rattle.text.proofs.Signs.{held-room}
-use Rattle.text.proofs.LineLaws.{room-given, room-missing, start-missing, line-missing, start-put, line-put, room-left, put-label}
-use Rattle.text.proofs.PutLaws.{put-before}
+use Rattle.text_laws.specs.Lines.{nodeWord, nodeLine}
+use Rattle.text_laws.proofs.DecimalLaws.{field-room}
+use Rattle.text_laws.proofs.Signs.{held-room}
+use Rattle.text_laws.proofs.LineLaws.{room-given, room-missing, start-missing, line-missing, start-put, line-put, room-left, put-label}
+use Rattle.text_laws.proofs.PutLaws.{put-before}
 use Rattle.text.proofs.node_line.Statement.{statement}
 use Rattle.text.proofs.node_line.Tie as tie
 

@@ -5,9 +5,9 @@ use Prim.Native.Nat.{_≤_}
 use native.Mathlib.Omega.{arith}
 use lib.ListN.{length}
 use borrow.Author.Needs.{needs}
-use Rattle.text.specs.Lines.{priceLine}
-use Rattle.text.proofs.LineLaws.{room-given, room-missing, start-missing, line-missing, start-put, line-put, room-left, bounded-room}
-use Rattle.text.proofs.PutLaws.{put-before}
+use Rattle.text_laws.specs.Lines.{priceLine}
+use Rattle.text_laws.proofs.LineLaws.{room-given, room-missing, start-missing, line-missing, start-put, line-put, room-left, bounded-room}
+use Rattle.text_laws.proofs.PutLaws.{put-before}
 use Rattle.text.proofs.price_line.Statement.{statement}
 use Rattle.text.proofs.price_line.Tie as tie
 

@@ -2,8 +2,8 @@
 -- Assumes nothing.
 use native.Mathlib.Omega.{arith}
 use borrow.Author.Needs.{needs}
-use Rattle.text.proofs.DecimalLaws.{field-room}
-use Rattle.text.proofs.PutLaws.{put-before}
+use Rattle.text_laws.proofs.DecimalLaws.{field-room}
+use Rattle.text_laws.proofs.PutLaws.{put-before}
 use Rattle.text.proofs.put_bounded.Statement.{statement}
 use Rattle.text.proofs.put_bounded.Tie as tie
 

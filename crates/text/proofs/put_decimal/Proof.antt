@@ -5,8 +5,8 @@ use Prim.Native.Nat.{ℕ, _<_, _^_}
 use native.Mathlib.Omega.{arith}
 use borrow.Author.Needs.{needs}
 use Rattle.arithmetic.proofs.PowerLaws.{power-listed}
-use Rattle.text.proofs.DecimalLaws.{decimal-parts, decimal-length, ten-pos}
-use Rattle.text.proofs.PutLaws.{put-before}
+use Rattle.text_laws.proofs.DecimalLaws.{decimal-parts, decimal-length, ten-pos}
+use Rattle.text_laws.proofs.PutLaws.{put-before}
 use Rattle.text.proofs.put_decimal.Statement.{statement}
 use Rattle.text.proofs.put_decimal.Tie as tie
 

@@ -3,8 +3,8 @@
 use native.Mathlib.Omega.{arith}
 use Prim.Native.Nat.{_<_}
 use borrow.Author.Needs.{needs}
-use Rattle.text.proofs.DecimalLaws.{field-length}
-use Rattle.text.proofs.PutLaws.{put-one, put-before}
+use Rattle.text_laws.proofs.DecimalLaws.{field-length}
+use Rattle.text_laws.proofs.PutLaws.{put-one, put-before}
 use Rattle.text.proofs.put_field.Statement.{statement}
 use Rattle.text.proofs.put_field.Tie as tie
 

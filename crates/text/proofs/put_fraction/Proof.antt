@@ -6,10 +6,10 @@ use Prim.Native.Nat.{ℕ, _≤_, _+_, _-_}
 use native.Mathlib.Omega.{arith}
 use lib.ListN.{length, length-set}
 use borrow.Author.Needs.{needs}
-use Rattle.text.specs.Decimal.{digits}
-use Rattle.text.specs.Put.{putBefore}
-use Rattle.text.proofs.DecimalLaws.{digits-step, digits-none, length-digits, fraction-none, fraction-point, fraction-length}
-use Rattle.text.proofs.PutLaws.{put-nothing, put-none, put-last, put-whole, put-then}
+use Rattle.text_laws.specs.Decimal.{digits}
+use Rattle.text_laws.specs.Put.{putBefore}
+use Rattle.text_laws.proofs.DecimalLaws.{digits-step, digits-none, length-digits, fraction-none, fraction-point, fraction-length}
+use Rattle.text_laws.proofs.PutLaws.{put-nothing, put-none, put-last, put-whole, put-then}
 use Rattle.text.proofs.put_fraction.Statement.{statement}
 use Rattle.text.proofs.put_fraction.Tie as tie
 

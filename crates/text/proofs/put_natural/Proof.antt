@@ -5,10 +5,10 @@ use Prim.Native.Nat.{ℕ, _≤_, _+_, _-_, _/_, _%_}
 use native.Mathlib.Omega.{arith}
 use lib.ListN.{length, length-set}
 use borrow.Author.Needs.{needs}
-use Rattle.text.specs.Decimal.{digit, natural}
-use Rattle.text.specs.Put.{putBefore}
-use Rattle.text.proofs.DecimalLaws.{natural-small, natural-step, length-natural-small, length-natural-step}
-use Rattle.text.proofs.PutLaws.{put-last, put-front}
+use Rattle.text_laws.specs.Decimal.{digit, natural}
+use Rattle.text_laws.specs.Put.{putBefore}
+use Rattle.text_laws.proofs.DecimalLaws.{natural-small, natural-step, length-natural-small, length-natural-step}
+use Rattle.text_laws.proofs.PutLaws.{put-last, put-front}
 use Rattle.text.proofs.put_natural.Statement.{statement}
 use Rattle.text.proofs.put_natural.Tie as tie
 

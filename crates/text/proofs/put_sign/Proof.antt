@@ -10,9 +10,9 @@ use lib.ListN.{length}
 use lib.Signed.{ltZ}
 use mir.Facts.{toZ-ofZ}
 use borrow.Author.Needs.{needs}
-use Rattle.text.specs.Decimal.{signOf}
-use Rattle.text.proofs.PutLaws.{put-none, put-one}
-use Rattle.text.proofs.Signs.{sign-negative, sign-none}
+use Rattle.text_laws.specs.Decimal.{signOf}
+use Rattle.text_laws.proofs.PutLaws.{put-none, put-one}
+use Rattle.text_laws.proofs.Signs.{sign-negative, sign-none}
 use Rattle.text.proofs.put_sign.Statement.{statement}
 use Rattle.text.proofs.put_sign.Tie as tie
 

@@ -5,8 +5,8 @@ use native.Mathlib.Omega.{arith}
 use lib.IntN.{natAbs}
 use mir.Facts.{toZ-ofZ}
 use borrow.Author.Needs.{needs}
-use Rattle.text.proofs.DecimalLaws.{signed-length, signed-parts}
-use Rattle.text.proofs.PutLaws.{put-before}
+use Rattle.text_laws.proofs.DecimalLaws.{signed-length, signed-parts}
+use Rattle.text_laws.proofs.PutLaws.{put-before}
 use Rattle.text.proofs.put_signed_field.Statement.{statement}
 use Rattle.text.proofs.put_signed_field.Tie as tie
 

@@ -7,8 +7,8 @@ use native.Mathlib.Omega.{arith}
 use lib.ListN.{length, getD, take, set, length-set}
 use lib.Seq.{take-length, take-suc, length-take-le}
 use borrow.Author.Needs.{needs}
-use Rattle.text.specs.Put.{putBefore}
-use Rattle.text.proofs.PutLaws.{put-nothing, put-last, put-whole}
+use Rattle.text_laws.specs.Put.{putBefore}
+use Rattle.text_laws.proofs.PutLaws.{put-nothing, put-last, put-whole}
 use Rattle.text.proofs.put_word.Statement.{statement}
 use Rattle.text.proofs.put_word.Tie as tie
 

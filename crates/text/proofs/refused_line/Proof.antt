@@ -5,8 +5,8 @@ use Prim.Native.Nat.{_≤_}
 use native.Mathlib.Omega.{arith}
 use lib.ListN.{length}
 use borrow.Author.Needs.{needs}
-use Rattle.text.specs.Lines.{refusedLine}
-use Rattle.text.proofs.LineLaws.{room-given, room-missing, start-missing, line-missing, start-put, line-put}
+use Rattle.text_laws.specs.Lines.{refusedLine}
+use Rattle.text_laws.proofs.LineLaws.{room-given, room-missing, start-missing, line-missing, start-put, line-put}
 use Rattle.text.proofs.refused_line.Statement.{statement}
 use Rattle.text.proofs.refused_line.Tie as tie
 

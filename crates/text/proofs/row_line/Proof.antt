@@ -5,10 +5,10 @@ use Prim.Native.Nat.{_≤_}
 use native.Mathlib.Omega.{arith}
 use lib.ListN.{length}
 use borrow.Author.Needs.{needs}
-use Rattle.text.specs.Lines.{rowWord, rowLine}
-use Rattle.text.proofs.DecimalLaws.{field-room}
-use Rattle.text.proofs.LineLaws.{room-given, room-missing, start-missing, line-missing, start-put, line-put, room-left, bounded-room, put-label}
-use Rattle.text.proofs.PutLaws.{put-before}
+use Rattle.text_laws.specs.Lines.{rowWord, rowLine}
+use Rattle.text_laws.proofs.DecimalLaws.{field-room}
+use Rattle.text_laws.proofs.LineLaws.{room-given, room-missing, start-missing, line-missing, start-put, line-put, room-left, bounded-room, put-label}
+use Rattle.text_laws.proofs.PutLaws.{put-before}
 use Rattle.text.proofs.row_line.Statement.{statement}
 use Rattle.text.proofs.row_line.Tie as tie
 

@@ -37,7 +37,8 @@ small : (c : tie.After-shared-slice-known2 Inv-loop μ-loop) →
     * values (c .before .before .before .before .args .payoffs .now) (c .before .before .before .loop .index)
     ≤ 16000000800000000000
 small c =
-    laws.product-small _ _ (c .before .before .before .before .pre .0) (c .before .before .before .before .pre .1) (c .before .before .before .before .pre .2)
+    let s = c .before .before .before .before in
+    laws.product-small (s .args .prices .now) (s .args .payoffs .now) (s .pre .0) (s .pre .1) (s .pre .2)
     _ _ (omega arith) (c .before .before .before .loop .inv .1 .sums)
 
 mul-total-3 : tie.Need-mul-total-3 Inv-loop μ-loop

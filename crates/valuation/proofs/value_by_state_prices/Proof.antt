@@ -1,9 +1,16 @@
 -- `valuation::value_by_state_prices` meets its contract.
 -- Assumes nothing.
 use borrow.Author.Needs.{needs}
+use Prim.Native.Nat.{_≤_}
+use Rattle.arithmetic.specs.Row.{greatest-of}
+use Rattle.limits.specs.Limits.{value-limit}
 use Rattle.valuation.proofs.EntryLaws as laws
 use Rattle.valuation.proofs.value_by_state_prices.Statement.{statement}
 use Rattle.valuation.proofs.value_by_state_prices.Tie as tie
+
+low : (c : tie.After-greatest-of) → c .greatest-of .result ≤ value-limit →
+    greatest-of (c .before .before .before .before .before .before .args .payoffs .now) ≤ value-limit
+low c h = laws.low-payoffs (c .before .before .before .before .before .before .args .payoffs .now) _ (c .greatest-of .ensures) h
 
 refused-requires : tie.Need-refused-requires
 refused-requires c κs = search needs
@@ -23,14 +30,14 @@ refused-requires-3 c κs = search needs
 returns-3 : tie.Need-returns-3
 returns-3 c = laws.too-long _ _ _ (c .refused3 .ensures) (c .before .if3 .taken)
 
-greatest-value-requires : tie.Need-greatest-value-requires
-greatest-value-requires c κs = search needs
+greatest-of-requires : tie.Need-greatest-of-requires
+greatest-of-requires c κs = search needs
 
 refused-requires-4 : tie.Need-refused-requires-4
 refused-requires-4 c κs = search needs
 
 returns-4 : tie.Need-returns-4
-returns-4 c = laws.high-payoff _ _ (c .before .before .before .before .before .if1 .left) (c .before .before .before .before .if2 .left) (c .before .before .before .if3 .left) _ _ (c .refused4 .ensures) (c .before .before .greatest-value .ensures) (c .before .if4 .taken)
+returns-4 c = laws.high-payoff _ _ (c .before .before .before .before .before .if1 .left) (c .before .before .before .before .if2 .left) (c .before .before .before .if3 .left) _ _ (c .refused4 .ensures) (c .before .before .greatest-of .ensures) (c .before .if4 .taken)
 
 sums-above-limit-requires : tie.Need-sums-above-limit-requires
 sums-above-limit-requires c κs = search needs
@@ -40,14 +47,14 @@ refused-requires-5 c κs = search needs
 
 returns-5 : tie.Need-returns-5
 returns-5 c =
-    laws.high-sum _ _ (c .before .before .before .before .before .before .before .if1 .left) (c .before .before .before .before .before .before .if2 .left) (c .before .before .before .before .before .if3 .left) (laws.low-payoffs _ _ (c .before .before .before .before .greatest-value .ensures) (c .before .before .before .if4 .left))
+    laws.high-sum _ _ (c .before .before .before .before .before .before .before .if1 .left) (c .before .before .before .before .before .before .if2 .left) (c .before .before .before .before .before .if3 .left) (low (c .before .before .before .before) (c .before .before .before .if4 .left))
     _ _ (c .refused5 .ensures) (c .before .before .sums-above-limit .ensures) (c .before .if5 .taken)
 
 sum-of-products-requires : tie.Need-sum-of-products-requires
 sum-of-products-requires c κs = (
   c .before .before .before .before .before .before .if1 .left,
   laws.low-sum _ _ (c .before .sums-above-limit .ensures) (c .if5 .left),
-  laws.low-payoffs _ _ (c .before .before .before .greatest-value .ensures) (c .before .before .if4 .left),
+  low (c .before .before .before) (c .before .before .if4 .left),
 )
 
 refused-requires-6 : tie.Need-refused-requires-6
@@ -55,12 +62,12 @@ refused-requires-6 c κs = search needs
 
 returns-6 : tie.Need-returns-6
 returns-6 c =
-    laws.high-value _ _ (c .before .before .before .before .before .before .before .before .before .if1 .left) (c .before .before .before .before .before .before .before .before .if2 .left) (c .before .before .before .before .before .before .before .if3 .left) (laws.low-payoffs _ _ (c .before .before .before .before .before .before .greatest-value .ensures) (c .before .before .before .before .before .if4 .left))
+    laws.high-value _ _ (c .before .before .before .before .before .before .before .before .before .if1 .left) (c .before .before .before .before .before .before .before .before .if2 .left) (c .before .before .before .before .before .before .before .if3 .left) (low (c .before .before .before .before .before .before) (c .before .before .before .before .before .if4 .left))
     _ (c .before .before .before .before .sums-above-limit .ensures) (c .before .before .before .if5 .left) _ (c .before .before .sum-of-products .ensures) _ (c .refused6 .ensures) (c .before .if6 .taken)
 
 returns-7 : tie.Need-returns-7
 returns-7 c =
-    laws.value-found _ _ (c .before .before .before .before .before .before .before .before .if1 .left) (c .before .before .before .before .before .before .before .if2 .left) (c .before .before .before .before .before .before .if3 .left) (laws.low-payoffs _ _ (c .before .before .before .before .before .greatest-value .ensures) (c .before .before .before .before .if4 .left))
+    laws.value-found _ _ (c .before .before .before .before .before .before .before .before .if1 .left) (c .before .before .before .before .before .before .before .if2 .left) (c .before .before .before .before .before .before .if3 .left) (low (c .before .before .before .before .before) (c .before .before .before .before .if4 .left))
     _ (c .before .before .before .sums-above-limit .ensures) (c .before .before .if5 .left) _ (c .before .sum-of-products .ensures) (c .if6 .left)
 
 pub value-by-state-prices-spec : {M : Type 1} → statement M
@@ -73,7 +80,7 @@ value-by-state-prices-spec =
     returns-2
     refused-requires-3
     returns-3
-    greatest-value-requires
+    greatest-of-requires
     refused-requires-4
     returns-4
     sums-above-limit-requires

@@ -25,22 +25,32 @@ lowest-cause-requires-3 : tie.Need-lowest-cause-requires-3
 lowest-cause-requires-3 c κs = search needs
 
 returns : tie.Need-returns
-returns c = laws.plan-early (c .before .before .before .before .before .before .before .args .frequency) (c .before .before .before .before .before .before .before .args .steps) (c .before .before .before .before .before .before .before .args .reversion) (c .before .before .before .before .before .before .before .args .volatility) (c .before .before .before .before .before .before .before .args .converted) (c .before .before .before .before .before .before .before .args .discounts) (c .before .before .before .before .before .before .before .args .prices) _ _ _ _ _ _ (c .before .before .before .before .before .before .discounts-needed .ensures) (c .before .before .before .before .before .spacing .ensures) (c .before .before .before .before .memory-of .ensures) (c .before .before .before .lowest-cause .ensures) (c .before .before .lowest-cause2 .ensures) (c .before .lowest-cause3 .ensures) (c .if1 .taken)
+returns c =
+    let s = c .before .before .before .before .before .before .before in
+    laws.plan-early (s .args .frequency) (s .args .steps) (s .args .reversion) (s .args .volatility) (s .args .converted) (s .args .discounts) (s .args .prices) _ _ _ _ _ _ (c .before .before .before .before .before .before .discounts-needed .ensures) (c .before .before .before .before .before .spacing .ensures) (c .before .before .before .before .memory-of .ensures) (c .before .before .before .lowest-cause .ensures) (c .before .before .lowest-cause2 .ensures) (c .before .lowest-cause3 .ensures) (c .if1 .taken)
 
 sub-half-width : tie.Need-sub-half-width
-sub-half-width c = omega (arith, laws.steps-some (c .before .before .before .before .before .before .before .args .frequency) (c .before .before .before .before .before .before .before .args .steps) (c .before .before .before .before .before .before .before .args .reversion) (c .before .before .before .before .before .before .before .args .volatility) (c .before .before .before .before .before .before .before .args .converted) (c .before .before .before .before .before .before .before .args .discounts) (c .before .before .before .before .before .before .before .args .prices) _ _ _ _ _ _ (c .before .before .before .before .before .before .discounts-needed .ensures) (c .before .before .before .before .before .spacing .ensures) (c .before .before .before .before .memory-of .ensures) (c .before .before .before .lowest-cause .ensures) (c .before .before .lowest-cause2 .ensures) (c .before .lowest-cause3 .ensures) (c .if1 .left))
+sub-half-width c =
+    let s = c .before .before .before .before .before .before .before in
+    omega (arith, laws.steps-some (s .args .frequency) (s .args .steps) (s .args .reversion) (s .args .volatility) (s .args .converted) (s .args .discounts) (s .args .prices) _ _ _ _ _ _ (c .before .before .before .before .before .before .discounts-needed .ensures) (c .before .before .before .before .before .spacing .ensures) (c .before .before .before .before .memory-of .ensures) (c .before .before .before .lowest-cause .ensures) (c .before .before .lowest-cause2 .ensures) (c .before .lowest-cause3 .ensures) (c .if1 .left))
 
 half-width-requires : tie.Need-half-width-requires
 half-width-requires c κs = search needs
 
 mul-if2 : tie.Need-mul-if2
-mul-if2 c = omega (arith, laws.product-fits (c .before .before .before .before .before .before .before .before .before .before .args .frequency) (c .before .before .before .before .before .before .before .before .before .before .args .steps) (c .before .before .before .before .before .before .before .before .before .before .args .reversion) (c .before .before .before .before .before .before .before .before .before .before .args .volatility) (c .before .before .before .before .before .before .before .before .before .before .args .converted) (c .before .before .before .before .before .before .before .before .before .before .args .discounts) (c .before .before .before .before .before .before .before .before .before .before .args .prices) _ _ _ _ _ _ (c .before .before .before .before .before .before .before .before .before .discounts-needed .ensures) (c .before .before .before .before .before .before .before .before .spacing .ensures) (c .before .before .before .before .before .before .before .memory-of .ensures) (c .before .before .before .before .before .before .lowest-cause .ensures) (c .before .before .before .before .before .lowest-cause2 .ensures) (c .before .before .before .before .lowest-cause3 .ensures) (c .before .before .before .if1 .left) _ (c .before .before .half-width .ensures))
+mul-if2 c =
+    let s = c .before .before .before .before .before .before .before .before .before .before in
+    omega (arith, laws.product-fits (s .args .frequency) (s .args .steps) (s .args .reversion) (s .args .volatility) (s .args .converted) (s .args .discounts) (s .args .prices) _ _ _ _ _ _ (c .before .before .before .before .before .before .before .before .before .discounts-needed .ensures) (c .before .before .before .before .before .before .before .before .spacing .ensures) (c .before .before .before .before .before .before .before .memory-of .ensures) (c .before .before .before .before .before .before .lowest-cause .ensures) (c .before .before .before .before .before .lowest-cause2 .ensures) (c .before .before .before .before .lowest-cause3 .ensures) (c .before .before .before .if1 .left) _ (c .before .before .half-width .ensures))
 
 returns-2 : tie.Need-returns-2
-returns-2 c = laws.plan-wide (c .before .before .before .before .before .before .before .before .before .before .before .args .frequency) (c .before .before .before .before .before .before .before .before .before .before .before .args .steps) (c .before .before .before .before .before .before .before .before .before .before .before .args .reversion) (c .before .before .before .before .before .before .before .before .before .before .before .args .volatility) (c .before .before .before .before .before .before .before .before .before .before .before .args .converted) (c .before .before .before .before .before .before .before .before .before .before .before .args .discounts) (c .before .before .before .before .before .before .before .before .before .before .before .args .prices) _ _ _ _ _ _ (c .before .before .before .before .before .before .before .before .before .before .discounts-needed .ensures) (c .before .before .before .before .before .before .before .before .before .spacing .ensures) (c .before .before .before .before .before .before .before .before .memory-of .ensures) (c .before .before .before .before .before .before .before .lowest-cause .ensures) (c .before .before .before .before .before .before .lowest-cause2 .ensures) (c .before .before .before .before .before .lowest-cause3 .ensures) (c .before .before .before .before .if1 .left) _ (c .before .before .before .half-width .ensures) (c .if2 .taken)
+returns-2 c =
+    let s = c .before .before .before .before .before .before .before .before .before .before .before in
+    laws.plan-wide (s .args .frequency) (s .args .steps) (s .args .reversion) (s .args .volatility) (s .args .converted) (s .args .discounts) (s .args .prices) _ _ _ _ _ _ (c .before .before .before .before .before .before .before .before .before .before .discounts-needed .ensures) (c .before .before .before .before .before .before .before .before .before .spacing .ensures) (c .before .before .before .before .before .before .before .before .memory-of .ensures) (c .before .before .before .before .before .before .before .lowest-cause .ensures) (c .before .before .before .before .before .before .lowest-cause2 .ensures) (c .before .before .before .before .before .lowest-cause3 .ensures) (c .before .before .before .before .if1 .left) _ (c .before .before .before .half-width .ensures) (c .if2 .taken)
 
 returns-3 : tie.Need-returns-3
-returns-3 c = laws.plan-made (c .before .before .before .before .before .before .before .before .before .before .before .args .frequency) (c .before .before .before .before .before .before .before .before .before .before .before .args .steps) (c .before .before .before .before .before .before .before .before .before .before .before .args .reversion) (c .before .before .before .before .before .before .before .before .before .before .before .args .volatility) (c .before .before .before .before .before .before .before .before .before .before .before .args .converted) (c .before .before .before .before .before .before .before .before .before .before .before .args .discounts) (c .before .before .before .before .before .before .before .before .before .before .before .args .prices) _ _ _ _ _ _ (c .before .before .before .before .before .before .before .before .before .before .discounts-needed .ensures) (c .before .before .before .before .before .before .before .before .before .spacing .ensures) (c .before .before .before .before .before .before .before .before .memory-of .ensures) (c .before .before .before .before .before .before .before .lowest-cause .ensures) (c .before .before .before .before .before .before .lowest-cause2 .ensures) (c .before .before .before .before .before .lowest-cause3 .ensures) (c .before .before .before .before .if1 .left) _ (c .before .before .before .half-width .ensures) (c .if2 .left)
+returns-3 c =
+    let s = c .before .before .before .before .before .before .before .before .before .before .before in
+    laws.plan-made (s .args .frequency) (s .args .steps) (s .args .reversion) (s .args .volatility) (s .args .converted) (s .args .discounts) (s .args .prices) _ _ _ _ _ _ (c .before .before .before .before .before .before .before .before .before .before .discounts-needed .ensures) (c .before .before .before .before .before .before .before .before .before .spacing .ensures) (c .before .before .before .before .before .before .before .before .memory-of .ensures) (c .before .before .before .before .before .before .before .lowest-cause .ensures) (c .before .before .before .before .before .before .lowest-cause2 .ensures) (c .before .before .before .before .before .lowest-cause3 .ensures) (c .before .before .before .before .if1 .left) _ (c .before .before .before .half-width .ensures) (c .if2 .left)
 
 pub plan-of-spec : {M : Type 1} → statement M
 plan-of-spec =

@@ -1,13 +1,10 @@
 -- `fitting::rows/fit_row` meets its contract.
 -- Assumes nothing.
-use mathlib.Core.Path.{_≡_, refl, sym, ap, _∙_}
-use native.Mathlib.Omega.{arith}
-use Prim.Native.Nat.{ℕ, _+_, _-_, _*_, _/_, _≤_, _<_}
-use lib.ListN.{length}
-use Rattle.arithmetic.specs.Row.{row, values, each}
-use Rattle.fitting.proofs.RowParts as laws
-use borrow.Author.Tests.{not-true, not-false}
+use mathlib.Core.Path.{_≡_, refl, sym, _∙_}
 use borrow.Author.Needs.{needs}
+use borrow.Author.Tests.{not-true, not-false}
+use Rattle.fitting.proofs.StepRows.{never}
+use Rattle.fitting.proofs.RowParts as laws
 use Rattle.fitting.proofs.rows.fit_row.Statement.{statement}
 use Rattle.fitting.proofs.rows.fit_row.Tie as tie
 
@@ -45,10 +42,14 @@ slice-relend-prefix-step-row : tie.Need-slice-relend-prefix-step-row
 slice-relend-prefix-step-row c = search needs
 
 slice-aggregate-step-row : tie.Need-slice-aggregate-step-row
-slice-aggregate-step-row c = sym (laws.front-length (c .before .before .before .before .before .before .before .before .before .args .at) (c .before .before .before .before .before .before .before .before .before .args .next) (c .before .before .before .before .before .before .before .before .before .args .quote) (c .before .before .before .before .before .before .before .before .before .args .factors .now) (c .before .before .before .before .before .before .before .before .before .args .downs .now) (c .before .before .before .before .before .before .before .before .before .args .discounts .now) (c .before .before .before .before .before .before .before .before .before .args .prices .now) (c .before .before .before .before .before .before .before .before .before .args .amounts .now) (c .before .before .before .before .before .before .before .before .before .pre))
+slice-aggregate-step-row c =
+    let s = c .before .before .before .before .before .before .before .before .before in
+    sym (laws.front-length _ _ _ _ _ _ _ _ (s .pre))
 
 step-row-requires : tie.Need-step-row-requires
-step-row-requires c κs = laws.row-asks (c .before .before .before .before .before .before .before .before .before .args .at) (c .before .before .before .before .before .before .before .before .before .args .next) (c .before .before .before .before .before .before .before .before .before .args .quote) (c .before .before .before .before .before .before .before .before .before .args .factors .now) (c .before .before .before .before .before .before .before .before .before .args .downs .now) (c .before .before .before .before .before .before .before .before .before .args .discounts .now) (c .before .before .before .before .before .before .before .before .before .args .prices .now) (c .before .before .before .before .before .before .before .before .before .args .amounts .now) (c .before .before .before .before .before .before .before .before .before .pre)
+step-row-requires c κs =
+    let s = c .before .before .before .before .before .before .before .before .before in
+    laws.row-asks _ _ _ _ _ _ _ _ (s .pre)
 
 same-length : tie.Need-same-length
 same-length c = search needs
@@ -60,31 +61,46 @@ same-length-3 : tie.Need-same-length-3
 same-length-3 c = search needs
 
 returns : tie.Need-returns
-returns c = (
-  sym (not-true _ (c .if1 .taken)) ∙ laws.row-tested (c .before .before .before .before .before .before .before .before .before .before .before .before .before .before .before .args .at) (c .before .before .before .before .before .before .before .before .before .before .before .before .before .before .before .args .next) (c .before .before .before .before .before .before .before .before .before .before .before .before .before .before .before .args .quote) (c .before .before .before .before .before .before .before .before .before .before .before .before .before .before .before .args .factors .now) (c .before .before .before .before .before .before .before .before .before .before .before .before .before .before .before .args .downs .now) (c .before .before .before .before .before .before .before .before .before .before .before .before .before .before .before .args .discounts .now) (c .before .before .before .before .before .before .before .before .before .before .before .before .before .before .before .args .prices .now) (c .before .before .before .before .before .before .before .before .before .before .before .before .before .before .before .args .amounts .now) (c .before .before .before .before .before .before .before .before .before .before .before .before .before .before .before .pre) _ _ (c .before .before .before .before .before .step-row .ensures .0) (c .before .before .before .before .before .step-row .ensures .1 .0),
-  (laws.row-filled (c .before .before .before .before .before .before .before .before .before .before .before .before .before .before .before .args .at) (c .before .before .before .before .before .before .before .before .before .before .before .before .before .before .before .args .next) (c .before .before .before .before .before .before .before .before .before .before .before .before .before .before .before .args .quote) (c .before .before .before .before .before .before .before .before .before .before .before .before .before .before .before .args .factors .now) (c .before .before .before .before .before .before .before .before .before .before .before .before .before .before .before .args .downs .now) (c .before .before .before .before .before .before .before .before .before .before .before .before .before .before .before .args .discounts .now) (c .before .before .before .before .before .before .before .before .before .before .before .before .before .before .before .args .prices .now) (c .before .before .before .before .before .before .before .before .before .before .before .before .before .before .before .args .amounts .now) (c .before .before .before .before .before .before .before .before .before .before .before .before .before .before .before .pre) _ _ (c .before .before .before .before .before .step-row .ensures .0) (c .before .before .before .before .before .step-row .ensures .1 .0), refl),
-)
+returns c =
+    let s = c .before .before .before .before .before .before .before .before .before .before .before .before .before .before .before in
+    let step = c .before .before .before .before .before .step-row in
+    let refused = not-true _ (c .if1 .taken) in (
+      sym refused ∙ laws.row-tested _ _ _ _ _ _ _ _ (s .pre) _ _ (step .ensures .0) (step .kept .1 .1 .1 .1 .0) (step .ensures .1 .0),
+      (
+        (
+          λ e. never e,
+          laws.row-kept _ _ _ _ _ _ _ _ (s .pre) _ _ (step .ensures .0) (step .kept .1 .1 .1 .1 .0) (step .ensures .1 .0),
+        ),
+        refl,
+      ),
+    )
 
-slice-reshare-prefix-next-row : tie.Need-slice-reshare-prefix-next-row
-slice-reshare-prefix-next-row c = search needs
+slice-reshare-prefix-divide : tie.Need-slice-reshare-prefix-divide
+slice-reshare-prefix-divide c = search needs
 
-slice-aggregate-next-row : tie.Need-slice-aggregate-next-row
-slice-aggregate-next-row c = sym (laws.front-again (c .before .before .before .before .before .before .before .before .before .before .before .before .before .before .before .before .args .at) (c .before .before .before .before .before .before .before .before .before .before .before .before .before .before .before .before .args .next) (c .before .before .before .before .before .before .before .before .before .before .before .before .before .before .before .before .args .quote) (c .before .before .before .before .before .before .before .before .before .before .before .before .before .before .before .before .args .factors .now) (c .before .before .before .before .before .before .before .before .before .before .before .before .before .before .before .before .args .downs .now) (c .before .before .before .before .before .before .before .before .before .before .before .before .before .before .before .before .args .discounts .now) (c .before .before .before .before .before .before .before .before .before .before .before .before .before .before .before .before .args .prices .now) (c .before .before .before .before .before .before .before .before .before .before .before .before .before .before .before .before .args .amounts .now) (c .before .before .before .before .before .before .before .before .before .before .before .before .before .before .before .before .pre) _ _ (c .before .before .before .before .before .before .step-row .ensures .0) (c .before .before .before .before .before .before .step-row .ensures .1 .0) (not-false _ (c .before .if1 .left)) _ ((c .before .before .before .before .before .before .step-row .ensures .1 .1) (not-false _ (c .before .if1 .left))))
+slice-aggregate-divide : tie.Need-slice-aggregate-divide
+slice-aggregate-divide c =
+    let s = c .before .before .before .before .before .before .before .before .before .before .before .before .before .before .before .before in
+    let spreads = c .before .before .before .before .before .before .step-row .ensures .1 .1 in
+    sym (laws.front-again _ _ _ _ _ _ _ _ (s .pre) _ (spreads (not-false _ (c .before .if1 .left))))
 
-mul-next-row : tie.Need-mul-next-row
-mul-next-row c = search needs
+mul-divide : tie.Need-mul-divide
+mul-divide c = search needs
 
-sub-next-row : tie.Need-sub-next-row
-sub-next-row c = search needs
+sub-divide : tie.Need-sub-divide
+sub-divide c = search needs
 
-part-next-row-start : tie.Need-part-next-row-start
-part-next-row-start c = search needs
+part-divide-start : tie.Need-part-divide-start
+part-divide-start c = search needs
 
-part-next-row-end : tie.Need-part-next-row-end
-part-next-row-end c = search needs
+part-divide-end : tie.Need-part-divide-end
+part-divide-end c = search needs
 
-next-row-requires : tie.Need-next-row-requires
-next-row-requires c κs = laws.next-asks (c .before .before .before .before .before .before .before .before .before .before .before .before .before .before .before .before .before .args .at) (c .before .before .before .before .before .before .before .before .before .before .before .before .before .before .before .before .before .args .next) (c .before .before .before .before .before .before .before .before .before .before .before .before .before .before .before .before .before .args .quote) (c .before .before .before .before .before .before .before .before .before .before .before .before .before .before .before .before .before .args .factors .now) (c .before .before .before .before .before .before .before .before .before .before .before .before .before .before .before .before .before .args .downs .now) (c .before .before .before .before .before .before .before .before .before .before .before .before .before .before .before .before .before .args .discounts .now) (c .before .before .before .before .before .before .before .before .before .before .before .before .before .before .before .before .before .args .prices .now) (c .before .before .before .before .before .before .before .before .before .before .before .before .before .before .before .before .before .args .amounts .now) (c .before .before .before .before .before .before .before .before .before .before .before .before .before .before .before .before .before .pre) _ _ (c .before .before .before .before .before .before .before .step-row .ensures .0) (c .before .before .before .before .before .before .before .step-row .ensures .1 .0) (not-false _ (c .before .before .if1 .left)) _ ((c .before .before .before .before .before .before .before .step-row .ensures .1 .1) (not-false _ (c .before .before .if1 .left)))
+divide-requires : tie.Need-divide-requires
+divide-requires c κs =
+    let s = c .before .before .before .before .before .before .before .before .before .before .before .before .before .before .before .before .before in
+    let spreads = c .before .before .before .before .before .before .before .step-row .ensures .1 .1 in
+    laws.divide-asks _ _ _ _ _ _ _ _ (s .pre) _ (spreads (not-false _ (c .before .before .if1 .left)))
 
 same-length-4 : tie.Need-same-length-4
 same-length-4 c = search needs
@@ -96,10 +112,20 @@ same-length-6 : tie.Need-same-length-6
 same-length-6 c = search needs
 
 returns-2 : tie.Need-returns-2
-returns-2 c = (
-  sym (not-false _ (c .before .before .before .before .before .if1 .left)) ∙ laws.row-tested (c .before .before .before .before .before .before .before .before .before .before .before .before .before .before .before .before .before .before .before .before .args .at) (c .before .before .before .before .before .before .before .before .before .before .before .before .before .before .before .before .before .before .before .before .args .next) (c .before .before .before .before .before .before .before .before .before .before .before .before .before .before .before .before .before .before .before .before .args .quote) (c .before .before .before .before .before .before .before .before .before .before .before .before .before .before .before .before .before .before .before .before .args .factors .now) (c .before .before .before .before .before .before .before .before .before .before .before .before .before .before .before .before .before .before .before .before .args .downs .now) (c .before .before .before .before .before .before .before .before .before .before .before .before .before .before .before .before .before .before .before .before .args .discounts .now) (c .before .before .before .before .before .before .before .before .before .before .before .before .before .before .before .before .before .before .before .before .args .prices .now) (c .before .before .before .before .before .before .before .before .before .before .before .before .before .before .before .before .before .before .before .before .args .amounts .now) (c .before .before .before .before .before .before .before .before .before .before .before .before .before .before .before .before .before .before .before .before .pre) _ _ (c .before .before .before .before .before .before .before .before .before .before .step-row .ensures .0) (c .before .before .before .before .before .before .before .before .before .before .step-row .ensures .1 .0),
-  (laws.row-filled (c .before .before .before .before .before .before .before .before .before .before .before .before .before .before .before .before .before .before .before .before .args .at) (c .before .before .before .before .before .before .before .before .before .before .before .before .before .before .before .before .before .before .before .before .args .next) (c .before .before .before .before .before .before .before .before .before .before .before .before .before .before .before .before .before .before .before .before .args .quote) (c .before .before .before .before .before .before .before .before .before .before .before .before .before .before .before .before .before .before .before .before .args .factors .now) (c .before .before .before .before .before .before .before .before .before .before .before .before .before .before .before .before .before .before .before .before .args .downs .now) (c .before .before .before .before .before .before .before .before .before .before .before .before .before .before .before .before .before .before .before .before .args .discounts .now) (c .before .before .before .before .before .before .before .before .before .before .before .before .before .before .before .before .before .before .before .before .args .prices .now) (c .before .before .before .before .before .before .before .before .before .before .before .before .before .before .before .before .before .before .before .before .args .amounts .now) (c .before .before .before .before .before .before .before .before .before .before .before .before .before .before .before .before .before .before .before .before .pre) _ _ (c .before .before .before .before .before .before .before .before .before .before .step-row .ensures .0) (c .before .before .before .before .before .before .before .before .before .before .step-row .ensures .1 .0), laws.row-stepped (c .before .before .before .before .before .before .before .before .before .before .before .before .before .before .before .before .before .before .before .before .args .at) (c .before .before .before .before .before .before .before .before .before .before .before .before .before .before .before .before .before .before .before .before .args .next) (c .before .before .before .before .before .before .before .before .before .before .before .before .before .before .before .before .before .before .before .before .args .quote) (c .before .before .before .before .before .before .before .before .before .before .before .before .before .before .before .before .before .before .before .before .args .factors .now) (c .before .before .before .before .before .before .before .before .before .before .before .before .before .before .before .before .before .before .before .before .args .downs .now) (c .before .before .before .before .before .before .before .before .before .before .before .before .before .before .before .before .before .before .before .before .args .discounts .now) (c .before .before .before .before .before .before .before .before .before .before .before .before .before .before .before .before .before .before .before .before .args .prices .now) (c .before .before .before .before .before .before .before .before .before .before .before .before .before .before .before .before .before .before .before .before .args .amounts .now) (c .before .before .before .before .before .before .before .before .before .before .before .before .before .before .before .before .before .before .before .before .pre) _ _ (c .before .before .before .before .before .before .before .before .before .before .step-row .ensures .0) (c .before .before .before .before .before .before .before .before .before .before .step-row .ensures .1 .0) (not-false _ (c .before .before .before .before .before .if1 .left)) _ ((c .before .before .before .before .before .before .before .before .before .before .step-row .ensures .1 .1) (not-false _ (c .before .before .before .before .before .if1 .left))) _ (c .before .before .next-row .ensures)),
-)
+returns-2 c =
+    let stepped = c .before .before .before .before .before .before .before .before .before .before in
+    let s = stepped .before .before .before .before .before .before .before .before .before .before in
+    let step = stepped .step-row in
+    let accepted = not-false _ (c .before .before .before .before .before .if1 .left) in (
+      sym accepted ∙ laws.row-tested _ _ _ _ _ _ _ _ (s .pre) _ _ (step .ensures .0) (step .kept .1 .1 .1 .1 .0) (step .ensures .1 .0),
+      (
+        (
+          λ _. laws.row-filled _ _ _ _ _ _ _ _ (s .pre) _ _ (step .ensures .0) (step .kept .1 .1 .1 .1 .0) (step .ensures .1 .0) accepted,
+          laws.row-kept _ _ _ _ _ _ _ _ (s .pre) _ _ (step .ensures .0) (step .kept .1 .1 .1 .1 .0) (step .ensures .1 .0),
+        ),
+        laws.row-stepped _ _ _ _ _ _ _ _ (s .pre) _ (step .ensures .1 .1 accepted) _ (c .before .before .divide .ensures),
+      ),
+    )
 
 pub fit-row-spec : {M : Type 1} → statement M
 fit-row-spec =
@@ -122,13 +148,13 @@ fit-row-spec =
     same-length-2
     same-length-3
     returns
-    slice-reshare-prefix-next-row
-    slice-aggregate-next-row
-    mul-next-row
-    sub-next-row
-    part-next-row-start
-    part-next-row-end
-    next-row-requires
+    slice-reshare-prefix-divide
+    slice-aggregate-divide
+    mul-divide
+    sub-divide
+    part-divide-start
+    part-divide-end
+    divide-requires
     same-length-4
     same-length-5
     same-length-6

@@ -1,23 +1,41 @@
 -- `fitting::rows/tree_row` meets its contract.
 -- Assumes nothing.
-use mathlib.Core.Path.{_≡_, refl, sym, ap, _∙_}
+use mathlib.Core.Path.{_≡_}
+use Prim.Native.Nat.{_+_, _-_, _≤_}
 use native.Mathlib.Omega.{arith}
-use Prim.Native.Nat.{ℕ, _+_, _-_, _*_, _/_, _≤_, _<_}
-use lib.ListN.{length}
-use Rattle.arithmetic.specs.Row.{row, values, each}
-use Rattle.fitting.proofs.TreeRows as laws
 use borrow.Author.Needs.{needs}
+use Rattle.lattice.specs.Shape.{node-count}
+use Rattle.lattice.specs.Entries.{shape-of}
+use Rattle.fitting.proofs.TreeRows as laws
 use Rattle.fitting.proofs.rows.tree_row.Statement.{statement}
 use Rattle.fitting.proofs.rows.tree_row.Tie as tie
 
-shape-of-requires : tie.Need-shape-of-requires
-shape-of-requires c κs = (c .before .before .before .before .before .pre .tables .reverting, c .before .before .before .before .before .pre .tables .few, c .before .before .before .before .before .pre .in-tree)
+abbrev start : tie.After-row-shape → tie.Start
+start c = c .before .before .before .before .before .before
+
+known : (c : tie.After-row-shape) → c .row-shape .result ≡ shape-of (start c .args .reversion) (start c .args .steps - 1) (start c .args .row)
+known c =
+    let s = start c in
+    laws.shape-known _ _ _ _ (s .pre .tables .reverting) (s .pre .tables .few) (s .pre .in-tree) (c .row-shape .ensures)
+
+room : (c : tie.After-row-shape) →
+    (c .row-shape .result .offset + c .row-shape .result .count ≤ node-count (start c .args .reversion) (start c .args .steps - 1))
+    × (node-count (start c .args .reversion) (start c .args .steps - 1) ≤ 121)
+room c =
+    let s = start c in
+    laws.shape-room _ _ _ _ (s .pre .tables .reverting) (s .pre .tables .few) (s .pre .in-tree) (c .row-shape .ensures)
+
+sub-row-shape : tie.Need-sub-row-shape
+sub-row-shape c = omega (arith, c .before .before .before .before .before .pre .in-tree)
+
+row-shape-requires : tie.Need-row-shape-requires
+row-shape-requires c κs = search needs
 
 add-end : tie.Need-add-end
-add-end c = omega (arith, laws.shape-fits (c .before .before .before .before .before .before .before .args .reversion) (c .before .before .before .before .before .before .before .args .steps) (c .before .before .before .before .before .before .before .args .row) (c .before .shape-of .result) (c .before .shape-of .ensures) (c .before .before .before .before .before .before .before .pre .in-tree) (c .before .before .before .before .before .before .before .pre .tables .few), c .before .before .before .before .before .before .before .pre .tables .bounded .same, c .before .before .before .before .before .before .before .pre .tables .downs-long)
+add-end c = omega (arith, room (c .before))
 
 mul-fit-row : tie.Need-mul-fit-row
-mul-fit-row c = omega (arith, laws.shape-fits (c .before .before .before .before .before .before .before .args .reversion) (c .before .before .before .before .before .before .before .args .steps) (c .before .before .before .before .before .before .before .args .row) (c .before .shape-of .result) (c .before .shape-of .ensures) (c .before .before .before .before .before .before .before .pre .in-tree) (c .before .before .before .before .before .before .before .pre .tables .few), c .before .before .before .before .before .before .before .pre .tables .bounded .same, c .before .before .before .before .before .before .before .pre .tables .downs-long)
+mul-fit-row c = omega (arith, room (c .before))
 
 sub-fit-row : tie.Need-sub-fit-row
 sub-fit-row c = search needs
@@ -26,10 +44,10 @@ part-fit-row-start : tie.Need-part-fit-row-start
 part-fit-row-start c = search needs
 
 part-fit-row-end : tie.Need-part-fit-row-end
-part-fit-row-end c = omega (arith, laws.shape-fits (c .before .before .before .before .before .before .before .args .reversion) (c .before .before .before .before .before .before .before .args .steps) (c .before .before .before .before .before .before .before .args .row) (c .before .shape-of .result) (c .before .shape-of .ensures) (c .before .before .before .before .before .before .before .pre .in-tree) (c .before .before .before .before .before .before .before .pre .tables .few), c .before .before .before .before .before .before .before .pre .tables .bounded .same, c .before .before .before .before .before .before .before .pre .tables .downs-long)
+part-fit-row-end c = omega (arith, room (c .before), c .before .before .before .before .before .before .before .pre .tables .bounded .same)
 
 mul-fit-row-2 : tie.Need-mul-fit-row-2
-mul-fit-row-2 c = omega (arith, laws.shape-fits (c .before .before .before .before .before .before .before .before .args .reversion) (c .before .before .before .before .before .before .before .before .args .steps) (c .before .before .before .before .before .before .before .before .args .row) (c .before .before .shape-of .result) (c .before .before .shape-of .ensures) (c .before .before .before .before .before .before .before .before .pre .in-tree) (c .before .before .before .before .before .before .before .before .pre .tables .few), c .before .before .before .before .before .before .before .before .pre .tables .bounded .same, c .before .before .before .before .before .before .before .before .pre .tables .downs-long)
+mul-fit-row-2 c = omega (arith, room (c .before .before))
 
 sub-fit-row-2 : tie.Need-sub-fit-row-2
 sub-fit-row-2 c = search needs
@@ -38,10 +56,15 @@ part-fit-row-start-2 : tie.Need-part-fit-row-start-2
 part-fit-row-start-2 c = search needs
 
 part-fit-row-end-2 : tie.Need-part-fit-row-end-2
-part-fit-row-end-2 c = omega (arith, laws.shape-fits (c .before .before .before .before .before .before .before .before .args .reversion) (c .before .before .before .before .before .before .before .before .args .steps) (c .before .before .before .before .before .before .before .before .args .row) (c .before .before .shape-of .result) (c .before .before .shape-of .ensures) (c .before .before .before .before .before .before .before .before .pre .in-tree) (c .before .before .before .before .before .before .before .before .pre .tables .few), c .before .before .before .before .before .before .before .before .pre .tables .bounded .same, c .before .before .before .before .before .before .before .before .pre .tables .downs-long)
+part-fit-row-end-2 c = omega (arith, room (c .before .before), c .before .before .before .before .before .before .before .before .pre .tables .downs-long)
 
 fit-row-requires : tie.Need-fit-row-requires
-fit-row-requires c κs = laws.shaped-ready (c .before .before .before .before .before .before .before .before .before .before .before .before .args .reversion) (c .before .before .before .before .before .before .before .before .before .before .before .before .args .steps) (c .before .before .before .before .before .before .before .before .before .before .before .before .args .row) (c .before .before .before .before .before .before .before .before .before .before .before .before .args .quote) (c .before .before .before .before .before .before .before .before .before .before .before .before .args .factors .now) (c .before .before .before .before .before .before .before .before .before .before .before .before .args .downs .now) (c .before .before .before .before .before .before .before .before .before .before .before .before .args .discounts .now) (c .before .before .before .before .before .before .before .before .before .before .before .before .args .prices .now) (c .before .before .before .before .before .before .before .before .before .before .before .before .args .amounts .now) (c .before .before .before .before .before .before .before .before .before .before .before .before .pre) (c .before .before .before .before .before .before .shape-of .result) (c .before .before .before .before .before .before .shape-of .ensures)
+fit-row-requires c κs =
+    let shaped = c .before .before .before .before .before .before in
+    let s = start shaped in
+    laws.shaped-ready (s .args .reversion) (s .args .steps) (s .args .row) (s .args .quote)
+    (s .args .factors .now) (s .args .downs .now) (s .args .discounts .now) (s .args .prices .now) (s .args .sums .now) (s .pre)
+    (shaped .row-shape .result) (known shaped)
 
 same-length : tie.Need-same-length
 same-length c = search needs
@@ -53,19 +76,34 @@ same-length-3 : tie.Need-same-length-3
 same-length-3 c = search needs
 
 returns : tie.Need-returns
-returns c = (
-  laws.shaped-tested (c .before .before .before .before .before .before .before .before .before .before .before .before .before .before .before .before .before .before .before .args .reversion) (c .before .before .before .before .before .before .before .before .before .before .before .before .before .before .before .before .before .before .before .args .steps) (c .before .before .before .before .before .before .before .before .before .before .before .before .before .before .before .before .before .before .before .args .row) (c .before .before .before .before .before .before .before .before .before .before .before .before .before .before .before .before .before .before .before .args .quote) (c .before .before .before .before .before .before .before .before .before .before .before .before .before .before .before .before .before .before .before .args .factors .now) (c .before .before .before .before .before .before .before .before .before .before .before .before .before .before .before .before .before .before .before .args .downs .now) (c .before .before .before .before .before .before .before .before .before .before .before .before .before .before .before .before .before .before .before .args .discounts .now) (c .before .before .before .before .before .before .before .before .before .before .before .before .before .before .before .before .before .before .before .args .prices .now) (c .before .before .before .before .before .before .before .before .before .before .before .before .before .before .before .before .before .before .before .args .amounts .now) (c .before .before .before .before .before .before .before .before .before .before .before .before .before .before .before .before .before .before .before .pre) (c .before .before .before .before .before .before .before .before .before .before .before .before .before .shape-of .result) (c .before .before .before .before .before .before .before .before .before .before .before .before .before .shape-of .ensures) _ (c .before .before .before .before .before .before .fit-row .ensures .0),
-  (
-    laws.shaped-filled (c .before .before .before .before .before .before .before .before .before .before .before .before .before .before .before .before .before .before .before .args .reversion) (c .before .before .before .before .before .before .before .before .before .before .before .before .before .before .before .before .before .before .before .args .steps) (c .before .before .before .before .before .before .before .before .before .before .before .before .before .before .before .before .before .before .before .args .row) (c .before .before .before .before .before .before .before .before .before .before .before .before .before .before .before .before .before .before .before .args .quote) (c .before .before .before .before .before .before .before .before .before .before .before .before .before .before .before .before .before .before .before .args .factors .now) (c .before .before .before .before .before .before .before .before .before .before .before .before .before .before .before .before .before .before .before .args .downs .now) (c .before .before .before .before .before .before .before .before .before .before .before .before .before .before .before .before .before .before .before .args .discounts .now) (c .before .before .before .before .before .before .before .before .before .before .before .before .before .before .before .before .before .before .before .args .prices .now) (c .before .before .before .before .before .before .before .before .before .before .before .before .before .before .before .before .before .before .before .args .amounts .now) (c .before .before .before .before .before .before .before .before .before .before .before .before .before .before .before .before .before .before .before .pre) (c .before .before .before .before .before .before .before .before .before .before .before .before .before .shape-of .result) (c .before .before .before .before .before .before .before .before .before .before .before .before .before .shape-of .ensures) _ (c .before .before .before .before .before .before .fit-row .ensures .1 .0),
-    laws.shaped-stepped (c .before .before .before .before .before .before .before .before .before .before .before .before .before .before .before .before .before .before .before .args .reversion) (c .before .before .before .before .before .before .before .before .before .before .before .before .before .before .before .before .before .before .before .args .steps) (c .before .before .before .before .before .before .before .before .before .before .before .before .before .before .before .before .before .before .before .args .row) (c .before .before .before .before .before .before .before .before .before .before .before .before .before .before .before .before .before .before .before .args .quote) (c .before .before .before .before .before .before .before .before .before .before .before .before .before .before .before .before .before .before .before .args .factors .now) (c .before .before .before .before .before .before .before .before .before .before .before .before .before .before .before .before .before .before .before .args .downs .now) (c .before .before .before .before .before .before .before .before .before .before .before .before .before .before .before .before .before .before .before .args .discounts .now) (c .before .before .before .before .before .before .before .before .before .before .before .before .before .before .before .before .before .before .before .args .prices .now) (c .before .before .before .before .before .before .before .before .before .before .before .before .before .before .before .before .before .before .before .args .amounts .now) (c .before .before .before .before .before .before .before .before .before .before .before .before .before .before .before .before .before .before .before .pre) (c .before .before .before .before .before .before .before .before .before .before .before .before .before .shape-of .result) (c .before .before .before .before .before .before .before .before .before .before .before .before .before .shape-of .ensures) (c .before .before .before .before .before .before .fit-row .result) _ (c .before .before .before .before .before .before .fit-row .ensures .1 .1),
-  ),
-)
+returns c =
+    let fitted = c .before .before .before .before .before .before in
+    let shaped = fitted .before .before .before .before .before .before .before in
+    let s = start shaped in (
+      laws.shaped-tested (s .args .reversion) (s .args .steps) (s .args .row) (s .args .quote)
+          (s .args .factors .now) (s .args .downs .now) (s .args .discounts .now) (s .args .prices .now) (s .args .sums .now) (s .pre)
+          (shaped .row-shape .result) (known shaped) _ (fitted .fit-row .ensures .0),
+      (
+        (
+          λ t. laws.shaped-filled (s .args .reversion) (s .args .steps) (s .args .row) (s .args .quote)
+              (s .args .factors .now) (s .args .downs .now) (s .args .discounts .now) (s .args .prices .now) (s .args .sums .now) (s .pre)
+              (shaped .row-shape .result) (known shaped) _ (fitted .fit-row .ensures .1 .0 .0 t),
+          laws.shaped-kept (s .args .reversion) (s .args .steps) (s .args .row) (s .args .quote)
+              (s .args .factors .now) (s .args .downs .now) (s .args .discounts .now) (s .args .prices .now) (s .args .sums .now) (s .pre)
+              (shaped .row-shape .result) (known shaped) _ (fitted .fit-row .ensures .1 .0 .1),
+        ),
+        laws.shaped-stepped (s .args .reversion) (s .args .steps) (s .args .row) (s .args .quote)
+            (s .args .factors .now) (s .args .downs .now) (s .args .discounts .now) (s .args .prices .now) (s .args .sums .now) (s .pre)
+            (shaped .row-shape .result) (known shaped) (fitted .fit-row .result) _ (fitted .fit-row .ensures .1 .1),
+      ),
+    )
 
 pub tree-row-spec : {M : Type 1} → statement M
 tree-row-spec =
     tie.close
     (tie.spec
-    shape-of-requires
+    sub-row-shape
+    row-shape-requires
     add-end
     mul-fit-row
     sub-fit-row

@@ -1,30 +1,29 @@
 -- `fitting::step/divide` meets its contract.
 -- Assumes nothing.
-use mathlib.Core.Path.{_≡_, refl, sym, ap, _∙_}
+use mathlib.Core.Path.{refl}
+use Prim.Native.Nat.{_-_, _/_, _≤_}
 use native.Mathlib.Omega.{arith}
-use borrow.Author.Needs.{needs}
-use Prim.Native.Nat.{ℕ, _+_, _-_, _*_, _/_, _≤_, _<_}
 use lib.ListN.{length}
-use Rattle.arithmetic.proofs.RowLaws.{Filled, filled-start, filled-next, filled-all, each-none, each-more, each-fails}
-use Rattle.arithmetic.specs.Row.{row, values, each}
-use native.Mathlib.Nat.{le-refl}
+use borrow.Author.Needs.{needs}
+use Rattle.arithmetic.specs.Row.{values}
+use Rattle.arithmetic.proofs.RowLaws.{Filled, filled-start, filled-next, filled-all}
 use Rattle.fitting.proofs.step.divide.Statement.{statement}
 use Rattle.fitting.proofs.step.divide.Tie as tie
 
 abbrev Inv-loop : tie.InvT-loop
-Inv-loop next₀ k₀ next k = (k ≤ length next₀) × Filled next₀ next (λ j. values next₀ j / 600000000) k
+Inv-loop sums next₀ k₀ next k = (k ≤ length next₀) × Filled next₀ next (λ j. values sums j / 600000000) k
 
 abbrev μ-loop : tie.MeasureT-loop
-μ-loop next₀ k₀ next k = length next₀ - k
+μ-loop sums next₀ k₀ next k = length next₀ - k
 
 loop-holds : tie.Need-loop-holds Inv-loop μ-loop
-loop-holds c = (search needs, filled-start _ (λ j. values (c .args .next .now) j / 600000000))
+loop-holds c = (search needs, filled-start _ (λ j. values (c .args .sums .now) j / 600000000))
 
 mul-next : tie.Need-mul-next Inv-loop μ-loop
 mul-next c = search needs
 
-slice-read-next : tie.Need-slice-read-next Inv-loop μ-loop
-slice-read-next c = search needs
+shared-slice-read-next : tie.Need-shared-slice-read-next Inv-loop μ-loop
+shared-slice-read-next c = omega (arith, c .before .before .before .pre, c .before .before .loop .inv .1 .same)
 
 mul-next-2 : tie.Need-mul-next-2 Inv-loop μ-loop
 mul-next-2 c = search needs
@@ -39,17 +38,18 @@ loop-less : tie.Need-loop-less Inv-loop μ-loop
 loop-less c = omega (arith, c .before .before .loop .inv .1 .same)
 
 loop-again : tie.Need-loop-again Inv-loop μ-loop
-loop-again c = (
-  omega (arith, c .before .before .loop .inv .1 .same),
-  filled-next _ _ (λ j. values (c .before .before .before .args .next .now) j / 600000000) _ _ (c .before .before .loop .inv .1) (search needs)
-      (ap (λ (x : ℕ). x / 600000000) (c .before .before .loop .inv .1 .rest _ (le-refl _))),
-)
+loop-again c =
+    let s = c .before .before .before in
+    let l = c .before .before .loop in
+    (omega (arith, l .inv .1 .same), filled-next _ _ (λ j. values (s .args .sums .now) j / 600000000) _ _ (l .inv .1) (search needs) refl)
 
 same-length : tie.Need-same-length Inv-loop μ-loop
 same-length c = c .before .loop .inv .1 .same
 
 returns : tie.Need-returns Inv-loop μ-loop
-returns c = filled-all _ _ (λ j. values (c .before .before .args .next .now) j / 600000000) _ (c .before .loop .inv .1) (omega (arith, c .before .loop .inv .1 .same))
+returns c =
+    let s = c .before .before in
+    filled-all _ _ (λ j. values (s .args .sums .now) j / 600000000) _ (c .before .loop .inv .1) (omega (arith, c .before .loop .inv .1 .same))
 
 pub divide-spec : {M : Type 1} → statement M
 divide-spec =
@@ -59,7 +59,7 @@ divide-spec =
     μ-loop
     loop-holds
     mul-next
-    slice-read-next
+    shared-slice-read-next
     mul-next-2
     slice-write-next
     add-k

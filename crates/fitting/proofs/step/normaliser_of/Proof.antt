@@ -8,7 +8,7 @@ use lib.ListN.{length}
 use Rattle.arithmetic.specs.Row.{row, values, each}
 use Rattle.arithmetic.specs.Sum.{sum, only}
 use Rattle.fitting.proofs.StepRows as laws
-use Rattle.fit_laws.specs.Step.{normaliser, carried, accepted-discount}
+use Rattle.fit_laws.specs.Step.{normaliser, carried}
 use Rattle.fitting.proofs.step.normaliser_of.Statement.{statement}
 use Rattle.fitting.proofs.step.normaliser_of.Tie as tie
 
@@ -35,10 +35,14 @@ shared-slice-read-total-2 : tie.Need-shared-slice-read-total-2 Inv-loop μ-loop
 shared-slice-read-total-2 c = omega (arith, c .before .before .before .before .pre .0 .same)
 
 mul-total-3 : tie.Need-mul-total-3 Inv-loop μ-loop
-mul-total-3 c = omega (arith, laws.weighed-small _ _ _ (values (c .before .before .before .before .args .prices .now)) (values (c .before .before .before .before .args .factors .now)) (search needs) (c .before .before .before .before .pre .0 .most) (c .before .before .before .before .pre .1) (c .before .before .before .loop .inv .1))
+mul-total-3 c =
+    let s = c .before .before .before .before in
+    omega (arith, laws.weighed-small _ _ _ (values (s .args .prices .now)) (values (s .args .factors .now)) (search needs) (s .pre .0 .most) (s .pre .1) (c .before .before .before .loop .inv .1))
 
 add-total : tie.Need-add-total Inv-loop μ-loop
-add-total c = omega (arith, laws.weighed-small _ _ _ (values (c .before .before .before .before .args .prices .now)) (values (c .before .before .before .before .args .factors .now)) (search needs) (c .before .before .before .before .pre .0 .most) (c .before .before .before .before .pre .1) (c .before .before .before .loop .inv .1))
+add-total c =
+    let s = c .before .before .before .before in
+    omega (arith, laws.weighed-small _ _ _ (values (s .args .prices .now)) (values (s .args .factors .now)) (search needs) (s .pre .0 .most) (s .pre .1) (c .before .before .before .loop .inv .1))
 
 add-k : tie.Need-add-k Inv-loop μ-loop
 add-k c = search needs
@@ -47,13 +51,16 @@ loop-less : tie.Need-loop-less Inv-loop μ-loop
 loop-less c = search needs
 
 loop-again : tie.Need-loop-again Inv-loop μ-loop
-loop-again c = (omega arith, laws.weighed-next _ _ _ (values (c .before .before .before .before .args .prices .now)) (values (c .before .before .before .before .args .factors .now)) (search needs) (c .before .before .before .before .pre .0 .most) (c .before .before .before .before .pre .1) (c .before .before .before .loop .inv .1))
+loop-again c =
+    let s = c .before .before .before .before in
+    (omega arith, laws.weighed-next _ _ _ (values (s .args .prices .now)) (values (s .args .factors .now)) (search needs) (s .pre .0 .most) (s .pre .1) (c .before .before .before .loop .inv .1))
 
 returns : tie.Need-returns Inv-loop μ-loop
 unfolding normaliser
 returns c =
-    let e : c .before .loop .k ≡ length (c .before .before .args .prices .now) = omega arith in
-    ap (λ (x : ℕ). x / 1000000000) (c .before .loop .inv .1 ∙ ap (λ (n : ℕ). sum n (λ i. values (c .before .before .args .prices .now) i * values (c .before .before .args .factors .now) i)) e)
+    let s = c .before .before in
+    let e : c .before .loop .k ≡ length (s .args .prices .now) = omega arith in
+    ap (λ (x : ℕ). x / 1000000000) (c .before .loop .inv .1 ∙ ap (λ (n : ℕ). sum n (λ i. values (s .args .prices .now) i * values (s .args .factors .now) i)) e)
 
 pub normaliser-of-spec : {M : Type 1} → statement M
 normaliser-of-spec =

@@ -21,7 +21,9 @@ loop-holds : tie.Need-loop-holds Inv-loop μ-loop
 loop-holds c = (search needs, filled-start _ _)
 
 factor-at-requires : tie.Need-factor-at-requires Inv-loop μ-loop
-factor-at-requires c κs = (c .before .before .before .pre .0, c .before .before .before .pre .1, omega (arith, c .before .before .before .pre .2, c .before .loop .inv .1 .same))
+factor-at-requires c κs =
+    let s = c .before .before .before in
+    (s .pre .0, s .pre .1, omega (arith, s .pre .2, c .before .loop .inv .1 .same))
 
 mul-factors : tie.Need-mul-factors Inv-loop μ-loop
 mul-factors c = search needs
@@ -36,13 +38,17 @@ loop-less : tie.Need-loop-less Inv-loop μ-loop
 loop-less c = omega (arith, c .before .before .loop .inv .1 .same)
 
 loop-again : tie.Need-loop-again Inv-loop μ-loop
-loop-again c = (omega (arith, c .before .before .loop .inv .1 .same), filled-next _ _ (λ k. factor (node-at (c .before .before .before .before .args .widest) k) (c .before .before .before .before .args .spacing)) _ _ (c .before .before .loop .inv .1) (search needs) (c .factor-at .ensures))
+loop-again c =
+    let s = c .before .before .before .before in
+    (omega (arith, c .before .before .loop .inv .1 .same), filled-next _ _ (λ k. factor (node-at (s .args .widest) k) (s .args .spacing)) _ _ (c .before .before .loop .inv .1) (search needs) (c .factor-at .ensures))
 
 same-length : tie.Need-same-length Inv-loop μ-loop
 same-length c = c .before .loop .inv .1 .same
 
 returns : tie.Need-returns Inv-loop μ-loop
-returns c = filled-all _ _ (λ k. factor (node-at (c .before .before .before .args .widest) k) (c .before .before .before .args .spacing)) _ (c .before .loop .inv .1) (omega (arith, c .before .loop .inv .1 .same))
+returns c =
+    let s = c .before .before .before in
+    filled-all _ _ (λ k. factor (node-at (s .args .widest) k) (s .args .spacing)) _ (c .before .loop .inv .1) (omega (arith, c .before .loop .inv .1 .same))
 
 pub fill-factors-spec : {M : Type 1} → statement M
 fill-factors-spec =

@@ -33,10 +33,14 @@ returns c =
     (sym (c .if1 .taken) ∙ c .before .before .before .before .before .before .before .fit-rows .ensures .0, (w .0, w .1))
 
 clear-front-requires : tie.Need-clear-front-requires
-clear-front-requires c κs = let k : length (c .before .before .before .before .before .before .before .before .fit-rows .last .1 .1 .1 .1 .0) ≡ length (c .before .before .before .before .before .before .before .before .before .before .before .before .before .before .before .before .before .before .before .before .args .discounts .now) = search needs in omega (arith, laws.needed-discounts (c .before .before .before .before .before .before .before .before .before .before .before .before .before .before .before .before .before .before .before .before .args .reversion) (length (c .before .before .before .before .before .before .before .before .before .before .before .before .before .before .before .before .before .before .before .before .args .quotes .now)) _ (c .before .before .before .before .before .before .before .before .before .before .before .before .before .before .before .before .before .before .before .before .pre .0 .some) (c .before .before .before .before .before .before .before .before .before .before .before .before .before .before .before .before .before .before .before .before .pre .0 .few) (c .before .before .before .before .before .before .before .before .before .before .before .before .before .before .before .before .before .before .before .before .pre .0 .reverting) (c .before .before .before .before .before .before .before .before .before .before .before .before .before .discounts-needed .ensures), c .before .before .before .before .before .before .before .before .before .before .before .before .before .before .before .before .before .before .before .before .pre .3, k)
+clear-front-requires c κs =
+    let s = c .before .before .before .before .before .before .before .before .before .before .before .before .before .before .before .before .before .before .before .before in
+    let k : length (c .before .before .before .before .before .before .before .before .fit-rows .last .1 .1 .1 .1 .0) ≡ length (s .args .discounts .now) = search needs in omega (arith, laws.needed-discounts (s .args .reversion) (length (s .args .quotes .now)) _ (s .pre .0 .some) (s .pre .0 .few) (s .pre .0 .reverting) (c .before .before .before .before .before .before .before .before .before .before .before .before .before .discounts-needed .ensures), s .pre .3, k)
 
 clear-front-requires-2 : tie.Need-clear-front-requires-2
-clear-front-requires-2 c κs = let k : length (c .before .before .before .before .before .before .before .before .before .before .before .before .fit-rows .last .1 .1 .1 .1 .1 .0) ≡ length (c .before .before .before .before .before .before .before .before .before .before .before .before .before .before .before .before .before .before .before .before .before .before .before .before .args .prices .now) = search needs in omega (arith, laws.needed-prices (c .before .before .before .before .before .before .before .before .before .before .before .before .before .before .before .before .before .before .before .before .before .before .before .before .args .reversion) (length (c .before .before .before .before .before .before .before .before .before .before .before .before .before .before .before .before .before .before .before .before .before .before .before .before .args .quotes .now)) _ (c .before .before .before .before .before .before .before .before .before .before .before .before .before .before .before .before .before .before .before .before .before .before .before .before .pre .0 .some) (c .before .before .before .before .before .before .before .before .before .before .before .before .before .before .before .before .before .before .before .before .before .before .before .before .pre .0 .few) (c .before .before .before .before .before .before .before .before .before .before .before .before .before .before .before .before .before .before .before .before .before .before .before .before .pre .0 .reverting) (c .before .before .before .before .before .before .before .before .before .before .before .before .before .before .before .before .state-prices-needed .ensures), c .before .before .before .before .before .before .before .before .before .before .before .before .before .before .before .before .before .before .before .before .before .before .before .before .pre .4, k)
+clear-front-requires-2 c κs =
+    let s = c .before .before .before .before .before .before .before .before .before .before .before .before .before .before .before .before .before .before .before .before .before .before .before .before in
+    let k : length (c .before .before .before .before .before .before .before .before .before .before .before .before .fit-rows .last .1 .1 .1 .1 .1 .0) ≡ length (s .args .prices .now) = search needs in omega (arith, laws.needed-prices (s .args .reversion) (length (s .args .quotes .now)) _ (s .pre .0 .some) (s .pre .0 .few) (s .pre .0 .reverting) (c .before .before .before .before .before .before .before .before .before .before .before .before .before .before .before .before .state-prices-needed .ensures), s .pre .4, k)
 
 same-length-4 : tie.Need-same-length-4
 same-length-4 c = search needs
@@ -48,13 +52,14 @@ same-length-6 : tie.Need-same-length-6
 same-length-6 c = search needs
 
 returns-2 : tie.Need-returns-2
-returns-2 c = (
-  sym (c .before .before .before .before .before .before .before .before .if1 .left) ∙ c .before .before .before .before .before .before .before .before .before .before .before .before .before .before .before .fit-rows .ensures .0,
-  (
-    laws.wiped _ _ _ _ _ (laws.needed-discounts (c .before .before .before .before .before .before .before .before .before .before .before .before .before .before .before .before .before .before .before .before .before .before .before .before .before .before .before .args .reversion) (length (c .before .before .before .before .before .before .before .before .before .before .before .before .before .before .before .before .before .before .before .before .before .before .before .before .before .before .before .args .quotes .now)) _ (c .before .before .before .before .before .before .before .before .before .before .before .before .before .before .before .before .before .before .before .before .before .before .before .before .before .before .before .pre .0 .some) (c .before .before .before .before .before .before .before .before .before .before .before .before .before .before .before .before .before .before .before .before .before .before .before .before .before .before .before .pre .0 .few) (c .before .before .before .before .before .before .before .before .before .before .before .before .before .before .before .before .before .before .before .before .before .before .before .before .before .before .before .pre .0 .reverting) (c .before .before .before .before .before .before .before .before .before .before .before .before .before .before .before .before .before .before .before .before .discounts-needed .ensures)) (c .before .before .before .before .before .before .clear-front .ensures) (c .before .before .before .before .before .before .before .before .before .before .before .before .before .before .before .fit-rows .ensures .1 .1 .0),
-    laws.wiped _ _ _ _ _ (laws.needed-prices (c .before .before .before .before .before .before .before .before .before .before .before .before .before .before .before .before .before .before .before .before .before .before .before .before .before .before .before .args .reversion) (length (c .before .before .before .before .before .before .before .before .before .before .before .before .before .before .before .before .before .before .before .before .before .before .before .before .before .before .before .args .quotes .now)) _ (c .before .before .before .before .before .before .before .before .before .before .before .before .before .before .before .before .before .before .before .before .before .before .before .before .before .before .before .pre .0 .some) (c .before .before .before .before .before .before .before .before .before .before .before .before .before .before .before .before .before .before .before .before .before .before .before .before .before .before .before .pre .0 .few) (c .before .before .before .before .before .before .before .before .before .before .before .before .before .before .before .before .before .before .before .before .before .before .before .before .before .before .before .pre .0 .reverting) (c .before .before .before .before .before .before .before .before .before .before .before .before .before .before .before .before .before .before .before .state-prices-needed .ensures)) (c .before .before .clear-front2 .ensures) (c .before .before .before .before .before .before .before .before .before .before .before .before .before .before .before .fit-rows .ensures .1 .1 .1),
-  ),
-)
+returns-2 c =
+    let s = c .before .before .before .before .before .before .before .before .before .before .before .before .before .before .before .before .before .before .before .before .before .before .before .before .before .before .before in (
+      sym (c .before .before .before .before .before .before .before .before .if1 .left) ∙ c .before .before .before .before .before .before .before .before .before .before .before .before .before .before .before .fit-rows .ensures .0,
+      (
+        laws.wiped _ _ _ _ _ (laws.needed-discounts (s .args .reversion) (length (s .args .quotes .now)) _ (s .pre .0 .some) (s .pre .0 .few) (s .pre .0 .reverting) (c .before .before .before .before .before .before .before .before .before .before .before .before .before .before .before .before .before .before .before .before .discounts-needed .ensures)) (c .before .before .before .before .before .before .clear-front .ensures) (c .before .before .before .before .before .before .before .before .before .before .before .before .before .before .before .fit-rows .ensures .1 .1 .0),
+        laws.wiped _ _ _ _ _ (laws.needed-prices (s .args .reversion) (length (s .args .quotes .now)) _ (s .pre .0 .some) (s .pre .0 .few) (s .pre .0 .reverting) (c .before .before .before .before .before .before .before .before .before .before .before .before .before .before .before .before .before .before .before .state-prices-needed .ensures)) (c .before .before .clear-front2 .ensures) (c .before .before .before .before .before .before .before .before .before .before .before .before .before .before .before .fit-rows .ensures .1 .1 .1),
+      ),
+    )
 
 pub fit-or-clear-spec : {M : Type 1} → statement M
 fit-or-clear-spec =

@@ -11,28 +11,42 @@ use Rattle.fitting.proofs.tables.fit_quotes.Statement.{statement}
 use Rattle.fitting.proofs.tables.fit_quotes.Tie as tie
 
 mul-count : tie.Need-mul-count
-mul-count c = omega (arith, c .before .before .before .pre .widest, c .before .before .before .pre .few, half-within (c .before .before .before .args .reversion) (length (c .before .before .before .args .quotes .now) - 1))
+mul-count c =
+    let s = c .before .before .before in
+    omega (arith, s .pre .widest, s .pre .few, half-within (s .args .reversion) (length (s .args .quotes .now) - 1))
 
 add-count : tie.Need-add-count
-add-count c = omega (arith, c .before .before .before .pre .widest, c .before .before .before .pre .few, half-within (c .before .before .before .args .reversion) (length (c .before .before .before .args .quotes .now) - 1))
+add-count c =
+    let s = c .before .before .before in
+    omega (arith, s .pre .widest, s .pre .few, half-within (s .args .reversion) (length (s .args .quotes .now) - 1))
 
 array-borrow-prefix-factors : tie.Need-array-borrow-prefix-factors
-array-borrow-prefix-factors c = omega (arith, c .before .before .before .pre .widest, c .before .before .before .pre .few, half-within (c .before .before .before .args .reversion) (length (c .before .before .before .args .quotes .now) - 1))
+array-borrow-prefix-factors c =
+    let s = c .before .before .before in
+    omega (arith, s .pre .widest, s .pre .few, half-within (s .args .reversion) (length (s .args .quotes .now) - 1))
 
 slice-aggregate-fit-tables : tie.Need-slice-aggregate-fit-tables
-slice-aggregate-fit-tables c = simp length-take (omega (arith, c .before .before .before .before .pre .widest, c .before .before .before .before .pre .few, half-within (c .before .before .before .before .args .reversion) (length (c .before .before .before .before .args .quotes .now) - 1)))
+slice-aggregate-fit-tables c =
+    let s = c .before .before .before .before in
+    simp length-take (omega (arith, s .pre .widest, s .pre .few, half-within (s .args .reversion) (length (s .args .quotes .now) - 1)))
 
 array-borrow-prefix-downs : tie.Need-array-borrow-prefix-downs
-array-borrow-prefix-downs c = omega (arith, c .before .before .before .before .pre .widest, c .before .before .before .before .pre .few, half-within (c .before .before .before .before .args .reversion) (length (c .before .before .before .before .args .quotes .now) - 1))
+array-borrow-prefix-downs c =
+    let s = c .before .before .before .before in
+    omega (arith, s .pre .widest, s .pre .few, half-within (s .args .reversion) (length (s .args .quotes .now) - 1))
 
 slice-aggregate-fit-tables-2 : tie.Need-slice-aggregate-fit-tables-2
-slice-aggregate-fit-tables-2 c = simp length-take (omega (arith, c .before .before .before .before .before .pre .widest, c .before .before .before .before .before .pre .few, half-within (c .before .before .before .before .before .args .reversion) (length (c .before .before .before .before .before .args .quotes .now) - 1)))
+slice-aggregate-fit-tables-2 c =
+    let s = c .before .before .before .before .before in
+    simp length-take (omega (arith, s .pre .widest, s .pre .few, half-within (s .args .reversion) (length (s .args .quotes .now) - 1)))
 
 slice-aggregate-fit-tables-3 : tie.Need-slice-aggregate-fit-tables-3
 slice-aggregate-fit-tables-3 c = search needs
 
 fit-tables-requires : tie.Need-fit-tables-requires
-fit-tables-requires c κs = (c .before .before .before .before .before .before .before .before .pre, simp length-take (omega (arith, c .before .before .before .before .before .before .before .before .pre .widest, c .before .before .before .before .before .before .before .before .pre .few, half-within (c .before .before .before .before .before .before .before .before .args .reversion) (length (c .before .before .before .before .before .before .before .before .args .quotes .now) - 1))), simp length-take (omega (arith, c .before .before .before .before .before .before .before .before .pre .widest, c .before .before .before .before .before .before .before .before .pre .few, half-within (c .before .before .before .before .before .before .before .before .args .reversion) (length (c .before .before .before .before .before .before .before .before .args .quotes .now) - 1))), omega arith)
+fit-tables-requires c κs =
+    let s = c .before .before .before .before .before .before .before .before in
+    (s .pre, simp length-take (omega (arith, s .pre .widest, s .pre .few, half-within (s .args .reversion) (length (s .args .quotes .now) - 1))), simp length-take (omega (arith, s .pre .widest, s .pre .few, half-within (s .args .reversion) (length (s .args .quotes .now) - 1))), omega arith)
 
 same-length : tie.Need-same-length
 same-length c = search needs

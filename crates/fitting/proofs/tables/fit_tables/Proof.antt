@@ -14,20 +14,23 @@ use Rattle.fitting.proofs.tables.fit_tables.Statement.{statement}
 use Rattle.fitting.proofs.tables.fit_tables.Tie as tie
 
 fill-factors-requires : tie.Need-fill-factors-requires
-fill-factors-requires c κs = (omega (arith, c .before .before .before .before .before .before .before .pre .0 .widest, c .before .before .before .before .before .before .before .pre .0 .few, half-within (c .before .before .before .before .before .before .before .args .reversion) (length (c .before .before .before .before .before .before .before .args .quotes .now) - 1)), c .before .before .before .before .before .before .before .pre .0 .narrow, c .before .before .before .before .before .before .before .pre .1)
+fill-factors-requires c κs =
+    let s = c .before .before .before .before .before .before .before in
+    (omega (arith, s .pre .0 .widest, s .pre .0 .few, half-within (s .args .reversion) (length (s .args .quotes .now) - 1)), s .pre .0 .narrow, s .pre .1)
 
 down-probabilities-requires : tie.Need-down-probabilities-requires
 down-probabilities-requires c κs = search needs
 
 fit-or-clear-requires : tie.Need-fit-or-clear-requires
-fit-or-clear-requires c κs = (
-  laws.tables-of (c .before .before .before .before .before .before .before .before .before .before .before .before .before .before .before .before .before .before .before .args .reversion) (c .before .before .before .before .before .before .before .before .before .before .before .before .before .before .before .before .before .before .before .args .spacing) (c .before .before .before .before .before .before .before .before .before .before .before .before .before .before .before .before .before .before .before .args .widest) (c .before .before .before .before .before .before .before .before .before .before .before .before .before .before .before .before .before .before .before .args .quotes .now) (length (c .before .before .before .before .before .before .before .before .before .before .before .before .before .before .before .before .before .before .before .args .discounts .now)) (length (c .before .before .before .before .before .before .before .before .before .before .before .before .before .before .before .before .before .before .before .args .prices .now)) (c .before .before .before .before .before .before .before .before .before .before .before .before .before .before .before .before .before .before .before .pre .0) _ (c .before .before .before .before .before .before .before .before .before .before .before .fill-factors .ensures ∙ ap (λ (n : ℕ). row n (λ k. factor (node-at (c .before .before .before .before .before .before .before .before .before .before .before .before .before .before .before .before .before .before .before .args .widest) k) (c .before .before .before .before .before .before .before .before .before .before .before .before .before .before .before .before .before .before .before .args .spacing))) (c .before .before .before .before .before .before .before .before .before .before .before .before .before .before .before .before .before .before .before .pre .1)) (c .before .before .before .before .before .before .before .before .before .before .before .before .before .before .before .before .before .before .before .args .downs .now) _ (c .before .before .before .before .before .before .before .before .before .before .before .before .before .before .before .before .before .before .before .pre .2) (c .before .before .before .before .before .before .before .down-probabilities .ensures .1),
-  c .before .before .before .before .before .before .before .before .before .before .before .before .before .before .before .before .before .before .before .pre .0 .least,
-  c .before .before .before .before .before .before .before .before .before .before .before .before .before .before .before .before .before .before .before .pre .0 .most,
-  c .before .before .before .before .before .before .before .before .before .before .before .before .before .before .before .before .before .before .before .pre .0 .room-discounts,
-  c .before .before .before .before .before .before .before .before .before .before .before .before .before .before .before .before .before .before .before .pre .0 .room-prices,
-  c .before .before .before .before .before .before .before .before .before .before .before .before .before .before .before .before .before .before .before .pre .3,
-)
+fit-or-clear-requires c κs =
+    let s = c .before .before .before .before .before .before .before .before .before .before .before .before .before .before .before .before .before .before .before in (
+      laws.tables-of (s .args .reversion) (s .args .spacing) (s .args .widest) (s .args .quotes .now) (length (s .args .discounts .now)) (length (s .args .prices .now)) (s .pre .0) _ (c .before .before .before .before .before .before .before .before .before .before .before .fill-factors .ensures ∙ ap (λ (n : ℕ). row n (λ k. factor (node-at (s .args .widest) k) (s .args .spacing))) (s .pre .1)) (s .args .downs .now) _ (s .pre .2) (c .before .before .before .before .before .before .before .down-probabilities .ensures .1),
+      s .pre .0 .least,
+      s .pre .0 .most,
+      s .pre .0 .room-discounts,
+      s .pre .0 .room-prices,
+      s .pre .3,
+    )
 
 same-length : tie.Need-same-length
 same-length c = search needs
@@ -45,7 +48,9 @@ same-length-5 : tie.Need-same-length-5
 same-length-5 c = search needs
 
 returns : tie.Need-returns
-returns c = laws.answer-same (c .before .before .before .before .before .before .before .before .before .before .before .before .before .before .before .before .before .before .before .before .before .before .before .before .before .before .args .reversion) (c .before .before .before .before .before .before .before .before .before .before .before .before .before .before .before .before .before .before .before .before .before .before .before .before .before .before .args .spacing) (c .before .before .before .before .before .before .before .before .before .before .before .before .before .before .before .before .before .before .before .before .before .before .before .before .before .before .args .widest) (c .before .before .before .before .before .before .before .before .before .before .before .before .before .before .before .before .before .before .before .before .before .before .before .before .before .before .args .quotes .now) (length (c .before .before .before .before .before .before .before .before .before .before .before .before .before .before .before .before .before .before .before .before .before .before .before .before .before .before .args .discounts .now)) (length (c .before .before .before .before .before .before .before .before .before .before .before .before .before .before .before .before .before .before .before .before .before .before .before .before .before .before .args .prices .now)) (c .before .before .before .before .before .before .before .before .before .before .before .before .before .before .before .before .before .before .before .before .before .before .before .before .before .before .pre .0) _ (c .before .before .before .before .before .before .before .before .before .before .before .before .before .before .before .before .before .before .fill-factors .ensures ∙ ap (λ (n : ℕ). row n (λ k. factor (node-at (c .before .before .before .before .before .before .before .before .before .before .before .before .before .before .before .before .before .before .before .before .before .before .before .before .before .before .args .widest) k) (c .before .before .before .before .before .before .before .before .before .before .before .before .before .before .before .before .before .before .before .before .before .before .before .before .before .before .args .spacing))) (c .before .before .before .before .before .before .before .before .before .before .before .before .before .before .before .before .before .before .before .before .before .before .before .before .before .before .pre .1)) (c .before .before .before .before .before .before .fit-or-clear .result) _ _ _ _ (c .before .before .before .before .before .before .fit-or-clear .ensures .0) (c .before .before .before .before .before .before .fit-or-clear .ensures .1 .0) (c .before .before .before .before .before .before .fit-or-clear .ensures .1 .1)
+returns c =
+    let s = c .before .before .before .before .before .before .before .before .before .before .before .before .before .before .before .before .before .before .before .before .before .before .before .before .before .before in
+    laws.answer-same (s .args .reversion) (s .args .spacing) (s .args .widest) (s .args .quotes .now) (length (s .args .discounts .now)) (length (s .args .prices .now)) (s .pre .0) _ (c .before .before .before .before .before .before .before .before .before .before .before .before .before .before .before .before .before .before .fill-factors .ensures ∙ ap (λ (n : ℕ). row n (λ k. factor (node-at (s .args .widest) k) (s .args .spacing))) (s .pre .1)) (c .before .before .before .before .before .before .fit-or-clear .result) _ _ _ _ (c .before .before .before .before .before .before .fit-or-clear .ensures .0) (c .before .before .before .before .before .before .fit-or-clear .ensures .1 .0) (c .before .before .before .before .before .before .fit-or-clear .ensures .1 .1)
 
 pub fit-tables-spec : {M : Type 1} → statement M
 fit-tables-spec =

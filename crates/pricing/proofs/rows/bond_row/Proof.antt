@@ -12,11 +12,11 @@ use Rattle.pricing.proofs.rows.bond_row.Statement.{statement}
 use Rattle.pricing.proofs.rows.bond_row.Tie as tie
 
 abbrev Inv-loop : tie.InvT-loop
-Inv-loop later downs discounts next flow row₀ top₀ k₀ row top k =
+Inv-loop row₀ later downs discounts next flow top₀ k₀ row top k =
     (k ≤ length discounts) × Row-state row₀ row (bond-values later downs discounts next flow) top k
 
 abbrev μ-loop : tie.MeasureT-loop
-μ-loop later downs discounts next flow row₀ top₀ k₀ row top k = length discounts - k
+μ-loop row₀ later downs discounts next flow top₀ k₀ row top k = length discounts - k
 
 loop-holds : tie.Need-loop-holds Inv-loop μ-loop
 loop-holds c = (omega arith, row-start _ _)
@@ -44,10 +44,16 @@ add-value : tie.Need-add-value Inv-loop μ-loop
 add-value c = omega (arith, c .roll-node .ensures .1, c .before .before .before .before .before .before .before .before .before .pre .3)
 
 mul-row : tie.Need-mul-row Inv-loop μ-loop
-mul-row c = omega (arith, c .before .before .before .before .loop .inv .1 .filled .same, c .before .before .before .before .before .before .before .before .before .pre .2)
+mul-row c =
+    let s = c .before .before .before .before .before .before .before .before .before in
+    let loop = c .before .before .before .before .loop in
+    omega (arith, loop .inv .1 .filled .same, s .pre .2)
 
 slice-write-row : tie.Need-slice-write-row Inv-loop μ-loop
-slice-write-row c = omega (arith, c .before .before .before .before .loop .inv .1 .filled .same, c .before .before .before .before .before .before .before .before .before .pre .2)
+slice-write-row c =
+    let s = c .before .before .before .before .before .before .before .before .before in
+    let loop = c .before .before .before .before .loop in
+    omega (arith, loop .inv .1 .filled .same, s .pre .2)
 
 larger-requires : tie.Need-larger-requires Inv-loop μ-loop
 larger-requires c κs = search needs
@@ -60,12 +66,16 @@ loop-less c = omega arith
 
 loop-again : tie.Need-loop-again Inv-loop μ-loop
 loop-again c =
-    let s = c .before .before .before .before .before .before .before .before .before .before in
-    let l = c .before .before .before .before .before .loop in (
+    let p9 = c .before .before .before .before .before .before .before .before .before in
+    let loop = c .before .before .before .before .before .loop in
+    let row-branch = c .before .before .before .row-branch in
+    let roll-node = c .before .roll-node in
+    let s = p9 .before in
+    let l = loop in (
       omega arith,
       row-next _ (l .row) _ (l .top) (l .k) _ _ (l .inv .1) (omega (arith, l .inv .1 .filled .same, s .pre .2))
           (ap (λ (x : ℕ). x + s .args .flow)
-          (branch-rolled _ _ _ _ _ (s .pre .0) (s .pre .1) (omega arith) _ (c .before .before .before .row-branch .ensures) _ (c .before .roll-node .ensures .0)))
+          (branch-rolled _ _ _ _ _ (s .pre .0) (s .pre .1) (omega arith) _ (row-branch .ensures) _ (roll-node .ensures .0)))
           (c .larger .ensures),
     )
 

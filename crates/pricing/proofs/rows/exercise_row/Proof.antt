@@ -2,53 +2,56 @@
 -- Assumes nothing.
 use Prim.Native.Nat.{ℕ, _-_, _≤_}
 use native.Mathlib.Omega.{arith}
+use lib.ListN.{length}
 use Rattle.arithmetic.specs.Row.{values}
 use Rattle.arithmetic.proofs.RowLaws.{Filled, filled-start, filled-next}
 use Rattle.pricing_laws.specs.Pricer.{exercise}
-use Rattle.pricing.specs.Terms.{side}
+use Rattle.exercise.specs.Terms.{side}
 use borrow.Author.Needs.{needs}
 use Rattle.pricing.proofs.rows.exercise_row.Statement.{statement}
 use Rattle.pricing.proofs.rows.exercise_row.Tie as tie
 
 abbrev Inv-loop : tie.InvT-loop
-Inv-loop terms bond count option₀ k₀ option k =
-    (k ≤ count) × Filled option₀ option (λ (j : ℕ). exercise (side (terms .call)) (terms .strike) (values bond j)) k
+Inv-loop terms bond option₀ k₀ option k =
+    (k ≤ length option₀) × Filled option₀ option (λ (j : ℕ). exercise (side (terms .call)) (terms .strike) (values bond j)) k
 
 abbrev μ-loop : tie.MeasureT-loop
-μ-loop terms bond count option₀ k₀ option k = count - k
+μ-loop terms bond option₀ k₀ option k = length option₀ - k
 
 loop-holds : tie.Need-loop-holds Inv-loop μ-loop
 loop-holds c = (omega arith, filled-start _ _)
 
 mul-exercise-value : tie.Need-mul-exercise-value Inv-loop μ-loop
-mul-exercise-value c = omega arith
+mul-exercise-value c = search needs
 
 shared-slice-read-exercise-value : tie.Need-shared-slice-read-exercise-value Inv-loop μ-loop
-shared-slice-read-exercise-value c = omega arith
+shared-slice-read-exercise-value c = omega (arith, c .before .before .loop .inv .1 .same, c .before .before .before .before .before .pre)
 
 exercise-value-requires : tie.Need-exercise-value-requires Inv-loop μ-loop
 exercise-value-requires c κs = search needs
 
 mul-option : tie.Need-mul-option Inv-loop μ-loop
-mul-option c = omega (arith, c .before .before .before .loop .inv .1 .same)
+mul-option c = search needs
 
 slice-write-option : tie.Need-slice-write-option Inv-loop μ-loop
-slice-write-option c = omega (arith, c .before .before .before .loop .inv .1 .same)
+slice-write-option c = omega arith
 
 add-k : tie.Need-add-k Inv-loop μ-loop
 add-k c = omega arith
 
 loop-less : tie.Need-loop-less Inv-loop μ-loop
-loop-less c = omega arith
+loop-less c = omega (arith, c .before .before .before .loop .inv .1 .same)
 
 loop-again : tie.Need-loop-again Inv-loop μ-loop
-loop-again c = (omega arith, filled-next _ _ _ _ _ (c .before .before .before .loop .inv .1) (omega (arith, c .before .before .before .loop .inv .1 .same)) (c .exercise-value .ensures))
+loop-again c =
+    let l = c .before .before .before .loop in
+    (omega (arith, l .inv .1 .same), filled-next _ _ _ _ _ (l .inv .1) (omega arith) (c .exercise-value .ensures))
 
 same-length : tie.Need-same-length Inv-loop μ-loop
 same-length c = c .before .loop .inv .1 .same
 
 returns : tie.Need-returns Inv-loop μ-loop
-returns c = λ j h. c .before .loop .inv .1 .done j (omega arith)
+returns c = λ j h. c .before .loop .inv .1 .done j (omega (arith, c .before .loop .inv .1 .same))
 
 pub exercise-row-spec : {M : Type 1} → statement M
 exercise-row-spec =

@@ -5,19 +5,22 @@ use Prim.Native.Nat.{ℕ, _+_, _-_, _≤_}
 use native.Mathlib.Omega.{arith}
 use lib.ListN.{length}
 use denote.Ref.{now}
+use Rattle.exercise.specs.Terms.{side}
 use Rattle.pricing.specs.Rows.{bond-values, option-values}
-use Rattle.pricing.proofs.RowSteps.{branch-inside, branch-total, branch-limited, branch-rolled, option-from-roll, Rows-state, rows-start, rows-next, rows-done}
+use Rattle.pricing.proofs.RowSteps.{branch-inside, branch-total, branch-limited, branch-rolled, option-from-roll}
+use Rattle.pricing.proofs.RowSteps.{Rows-state, rows-start, rows-next, rows-done}
 use borrow.Author.Needs.{needs}
 use Rattle.pricing.proofs.rows.option_row.Statement.{statement}
 use Rattle.pricing.proofs.rows.option_row.Tie as tie
 
 abbrev Inv-loop : tie.InvT-loop
-Inv-loop bonds options downs discounts next flow terms bond₀ option₀ top₀ k₀ bond option top k =
+Inv-loop bond₀ option₀ bonds options downs discounts next flow terms listed top₀ k₀ bond option top k =
     (k ≤ length discounts)
-    × Rows-state bond₀ bond option₀ option (bond-values bonds downs discounts next flow) (option-values terms bonds options downs discounts next flow) top k
+    × Rows-state bond₀ bond option₀ option (bond-values bonds downs discounts next flow)
+    (option-values (side (terms .call)) (terms .strike) listed bonds options downs discounts next flow) top k
 
 abbrev μ-loop : tie.MeasureT-loop
-μ-loop bonds options downs discounts next flow terms bond₀ option₀ top₀ k₀ bond option top k = length discounts - k
+μ-loop bond₀ option₀ bonds options downs discounts next flow terms listed top₀ k₀ bond option top k = length discounts - k
 
 loop-holds : tie.Need-loop-holds Inv-loop μ-loop
 loop-holds c = (omega arith, rows-start _ _ _ _)
@@ -42,7 +45,9 @@ roll-node-requires c κs =
     )
 
 add-value : tie.Need-add-value Inv-loop μ-loop
-add-value c = omega (arith, c .roll-node .ensures .1, c .before .before .before .before .before .before .before .before .before .before .before .pre .5)
+add-value c =
+    let flow = c .before .before .before .before .before .before .before .before .before .before .before .pre .5 in
+    omega (arith, c .roll-node .ensures .1)
 
 roll-node-requires-2 : tie.Need-roll-node-requires-2 Inv-loop μ-loop
 roll-node-requires-2 c κs =
@@ -58,16 +63,28 @@ held-value-requires : tie.Need-held-value-requires Inv-loop μ-loop
 held-value-requires c κs = search needs
 
 mul-bond : tie.Need-mul-bond Inv-loop μ-loop
-mul-bond c = omega (arith, c .before .before .before .before .before .before .loop .inv .1 .bond-filled .same, c .before .before .before .before .before .before .before .before .before .before .before .before .before .pre .3)
+mul-bond c =
+    let held = c .before .before .before .before .before .before .loop .inv .1 .bond-filled .same in
+    let room = c .before .before .before .before .before .before .before .before .before .before .before .before .before .pre .3 in
+    omega arith
 
 slice-write-bond : tie.Need-slice-write-bond Inv-loop μ-loop
-slice-write-bond c = omega (arith, c .before .before .before .before .before .before .loop .inv .1 .bond-filled .same, c .before .before .before .before .before .before .before .before .before .before .before .before .before .pre .3)
+slice-write-bond c =
+    let held = c .before .before .before .before .before .before .loop .inv .1 .bond-filled .same in
+    let room = c .before .before .before .before .before .before .before .before .before .before .before .before .before .pre .3 in
+    omega arith
 
 mul-option : tie.Need-mul-option Inv-loop μ-loop
-mul-option c = omega (arith, c .before .before .before .before .before .before .loop .inv .1 .option-filled .same, c .before .before .before .before .before .before .before .before .before .before .before .before .before .pre .4)
+mul-option c =
+    let held = c .before .before .before .before .before .before .loop .inv .1 .option-filled .same in
+    let room = c .before .before .before .before .before .before .before .before .before .before .before .before .before .pre .4 in
+    omega arith
 
 slice-write-option : tie.Need-slice-write-option Inv-loop μ-loop
-slice-write-option c = omega (arith, c .before .before .before .before .before .before .loop .inv .1 .option-filled .same, c .before .before .before .before .before .before .before .before .before .before .before .before .before .pre .4)
+slice-write-option c =
+    let held = c .before .before .before .before .before .before .loop .inv .1 .option-filled .same in
+    let room = c .before .before .before .before .before .before .before .before .before .before .before .before .before .pre .4 in
+    omega arith
 
 larger-requires : tie.Need-larger-requires Inv-loop μ-loop
 larger-requires c κs = search needs
@@ -85,13 +102,16 @@ loop-again : tie.Need-loop-again Inv-loop μ-loop
 loop-again c =
     let s = c .before .before .before .before .before .before .before .before .before .before .before .before .before .before .before in
     let l = c .before .before .before .before .before .before .before .before .loop in
+    let e = c .before .before .before .before .before .before .row-branch .ensures in
     let b = ap (λ (x : ℕ). x + s .args .flow)
-    (branch-rolled _ _ _ _ _ (s .pre .0) (s .pre .1) (omega arith) _ (c .before .before .before .before .before .before .row-branch .ensures) _ (c .before .before .before .before .roll-node .ensures .0)) in
-    let o = branch-rolled _ _ _ _ _ (s .pre .0) (s .pre .2) (omega arith) _ (c .before .before .before .before .before .before .row-branch .ensures) _ (c .before .before .before .roll-node2 .ensures .0) in (
+    (branch-rolled _ _ _ _ _ (s .pre .0) (s .pre .1) (omega arith) _ e _ (c .before .before .before .before .roll-node .ensures .0)) in
+    let o = branch-rolled _ _ _ _ _ (s .pre .0) (s .pre .2) (omega arith) _ e _ (c .before .before .before .roll-node2 .ensures .0) in (
       omega arith,
       rows-next _ (l .bond) _ (l .option) _ _ (l .top) (l .k) _ _ _ _ (l .inv .1)
-          (omega (arith, l .inv .1 .bond-filled .same, s .pre .3)) (omega (arith, l .inv .1 .option-filled .same, s .pre .4))
-          b (option-from-roll (s .args .terms) _ _ _ _ _ _ _ _ _ _ b o (c .before .before .held-value .ensures)) (c .before .larger .ensures) (c .larger2 .ensures),
+          (omega (arith, l .inv .1 .bond-filled .same, s .pre .3)) (omega (arith, l .inv .1 .option-filled .same, s .pre .4)) b
+          (option-from-roll (side (s .args .terms .call)) (s .args .terms .strike) (s .args .listed) _ _ _ _ _ _ _ _ _ _ b o
+          (c .before .before .held-value .ensures))
+          (c .before .larger .ensures) (c .larger2 .ensures),
     )
 
 same-length : tie.Need-same-length Inv-loop μ-loop

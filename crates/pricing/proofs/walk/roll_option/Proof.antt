@@ -1,109 +1,181 @@
--- `pricing::walk::roll_option` meets its contract: bond and option stand at the row that the loop has reached.
+-- `pricing::walk::roll_option` meets its contract: bond and option stand at the row that the loop has reached, two rows a turn.
 -- Assumes nothing.
 use mathlib.Core.Path.{_≡_, refl}
-use Prim.Native.Nat.{_-_}
+use Prim.Native.Nat.{_-_, _≤_, _<_}
 use native.Mathlib.Omega.{arith}
-use lib.ListN.{length}
-use Rattle.pricing.proofs.WalkStates.{Bonds, Options, bonds-inside, bonds-from, options-first, option-rolled}
-use Rattle.pricing.proofs.WalkTurns.{turn-later, turn-options-later, turn-both-over, turn-both-next}
+use denote.Ref.{now}
+use Rattle.pricing_laws.specs.Schedule.{marked}
+use Rattle.exercise.specs.Terms.{side}
+use Rattle.pricing.proofs.WalkStates.{Bonds, Options, bonds-from, options-first, both-rolled}
+use Rattle.pricing.proofs.WalkTurns.{turn-limited, turn-inside, turn-options-limited, turn-both-over, turn-both-next}
 use borrow.Author.Needs.{needs}
 use Rattle.pricing.proofs.walk.roll_option.Statement.{statement}
 use Rattle.pricing.proofs.walk.roll_option.Tie as tie
 
 abbrev Inv-loop : tie.InvT-loop
-Inv-loop steps reversion kind expiry strike downs discounts flows bond₀ option₀ bonds₀ options₀ terms row₀ bond option bonds options row =
-    (length bond ≡ length bond₀)
-    × (length option ≡ length option₀)
-    × (length bonds ≡ length bonds₀)
-    × (length options ≡ length options₀)
+Inv-loop steps reversion terms last marks downs discounts flows bond₀ option₀ bonds₀ options₀ row₀ bond option bonds options row =
+    (row ≤ last)
     × Bonds steps reversion discounts flows row bond
-    × Options steps reversion discounts flows kind expiry strike row option
+    × Options steps reversion discounts flows (side (terms .call)) (terms .strike) (marked last marks) row option
 
 abbrev μ-loop : tie.MeasureT-loop
-μ-loop steps reversion kind expiry strike downs discounts flows bond₀ option₀ bonds₀ options₀ terms row₀ bond option bonds options row = row
-
-terms-of-requires : tie.Need-terms-of-requires Inv-loop μ-loop
-terms-of-requires c κs = search needs
+μ-loop steps reversion terms last marks downs discounts flows bond₀ option₀ bonds₀ options₀ row₀ bond option bonds options row = row
 
 exercise-row-requires : tie.Need-exercise-row-requires Inv-loop μ-loop
-exercise-row-requires c κs = (c .before .before .before .before .before .before .before .before .before .before .pre .6, c .before .before .before .before .before .before .before .before .before .before .pre .7)
+exercise-row-requires c κs = search needs
+
+empty-row-requires : tie.Need-empty-row-requires Inv-loop μ-loop
+empty-row-requires c κs = search needs
+
+empty-row-requires-2 : tie.Need-empty-row-requires-2 Inv-loop μ-loop
+empty-row-requires-2 c κs = search needs
 
 loop-holds : tie.Need-loop-holds Inv-loop μ-loop
+unfolding marked
 loop-holds c =
-    let s = c .before .before .before .before .before .before .before .before .before .before .before .before .before in
-    let b = bonds-from _ _ _ _ (s .pre .0) (s .pre .1) (s .args .expiry) _ (s .pre .2) (s .pre .5) in (
-      refl,
-      refl,
-      refl,
-      refl,
-      b,
-      options-first _ _ _ _ (s .pre .0) (s .pre .1) (s .args .kind) (s .args .expiry) (s .args .strike) _ (c .before .before .before .before .before .terms-of .ensures) (s .pre .2) _ _ (s .pre .3) b (c .before .before .exercise-row .ensures),
+    let s = c .before .before .before .before .before .before .before .before .before .before in
+    let exercise-row = c .before .before .exercise-row in
+    let held = bonds-from _ _ _ _ (s .pre .0 .tree) (s .pre .0 .paid) (s .args .last) _ (s .pre .1) (s .pre .4) in (
+      omega arith,
+      held,
+      options-first _ _ _ _ (s .pre .0 .tree) (s .pre .0 .paid) _ _ (marked (s .args .last) (now (s .args .marks)))
+          (s .pre .1) _ (exercise-row .last .1 .1 .0) (s .pre .3) held (λ k h. exercise-row .ensures k (omega arith)),
     )
 
 sub-row : tie.Need-sub-row Inv-loop μ-loop
 sub-row c = omega arith
 
+shared-slice-read-option-step : tie.Need-shared-slice-read-option-step Inv-loop μ-loop
+shared-slice-read-option-step c =
+    let s = c .before .before .before .before .before .before .before .before .before .before .before .before .before in
+    let l = c .before .before .loop in
+    let loop-test = c .before .loop-test in
+    omega (arith, s .pre .2, l .inv .0, loop-test .taken)
+
 option-step-requires : tie.Need-option-step-requires Inv-loop μ-loop
+unfolding marked
 option-step-requires c κs =
-    let s = c .before .before .before .before .before .before .before .before .before .before .before .before .before .before .before .before .before .before .before in
-    let l = c .before .before .before .before .before .loop in
-    let i = bonds-inside _ _ _ _ _ _ (l .inv .4) in (
+    let s = c .before .before .before .before .before .before .before .before .before .before .before .before .before .before .before .before .before in
+    let l = c .before .before .before .before .before .before .loop in
+    let loop-test = c .before .before .before .before .before .loop-test in
+    let some = loop-test .taken in (
       s .pre .0,
-      s .pre .1,
-      omega (arith, i),
-      s .pre .4,
-      turn-later _ _ _ _ (s .pre .0) (s .pre .1) (l .row) (l .bond) (c .before .before .before .before .loop-test .taken) (l .inv .4) (search needs),
-      turn-options-later _ _ _ _ (s .pre .0) (s .pre .1) (s .args .kind) (s .args .expiry) (s .args .strike) _ (c .before .before .before .before .before .before .before .before .before .before .before .terms-of .ensures) (s .pre .2) (l .row) (l .bond) (l .option) (c .before .before .before .before .loop-test .taken) (l .inv .4) (l .inv .5) (search needs),
-      search needs,
-      search needs,
-      search needs,
-      search needs,
+      turn-inside _ _ _ _ _ (s .pre .0) (l .row) (l .bond) some (l .inv .1),
+      turn-limited _ _ _ _ _ (s .pre .0) (l .row) (l .bond) some (l .inv .1),
+      turn-options-limited _ _ _ _ _ (s .pre .0) _ _ _ (s .pre .1) (l .row) (l .bond) (l .option) some (l .inv .1) (l .inv .2),
     )
 
-same-length : tie.Need-same-length Inv-loop μ-loop
-same-length c = search needs
-
-same-length-2 : tie.Need-same-length-2 Inv-loop μ-loop
-same-length-2 c = search needs
-
-same-length-3 : tie.Need-same-length-3 Inv-loop μ-loop
-same-length-3 c = search needs
-
-same-length-4 : tie.Need-same-length-4 Inv-loop μ-loop
-same-length-4 c = search needs
-
 returns : tie.Need-returns Inv-loop μ-loop
+unfolding marked
 returns c =
-    let s = c .before .before .before .before .before .before .before .before .before .before .before .before .before .before .before .before .before .before .before .before .before .before .before .before .before .before .before .before .before in
-    let l = c .before .before .before .before .before .before .before .before .before .before .before .before .before .before .before .loop in
-    turn-both-over _ _ _ _ (s .pre .0) (s .pre .1) (s .args .kind) (s .args .expiry) (s .args .strike) _ (c .before .before .before .before .before .before .before .before .before .before .before .before .before .before .before .before .before .before .before .before .before .terms-of .ensures) (s .pre .2) (l .row) (l .bond) (l .option) (c .before .before .before .before .before .before .before .before .before .before .before .before .before .before .loop-test .taken) (l .inv .4) (l .inv .5) _ (c .before .before .before .before .before .before .before .before .before .option-step .last .1 .1 .1 .1 .1 .1 .1 .0) (c .before .before .before .before .before .before .before .before .before .option-step .last .1 .1 .1 .1 .1 .1 .1 .1 .0) (c .before .before .before .before .before .before .before .before .before .option-step .ensures) (c .if1 .taken)
-
-loop-less : tie.Need-loop-less Inv-loop μ-loop
-loop-less c = omega (arith, c .before .before .before .before .before .before .before .before .before .before .before .before .before .before .loop-test .taken)
-
-loop-again : tie.Need-loop-again Inv-loop μ-loop
-loop-again c =
-    let s = c .before .before .before .before .before .before .before .before .before .before .before .before .before .before .before .before .before .before .before .before .before .before .before .before .before .before .before .before .before in
-    let l = c .before .before .before .before .before .before .before .before .before .before .before .before .before .before .before .loop in
-    let n = turn-both-next _ _ _ _ (s .pre .0) (s .pre .1) (s .args .kind) (s .args .expiry) (s .args .strike) _ (c .before .before .before .before .before .before .before .before .before .before .before .before .before .before .before .before .before .before .before .before .before .terms-of .ensures) (s .pre .2) (l .row) (l .bond) (l .option) (c .before .before .before .before .before .before .before .before .before .before .before .before .before .before .loop-test .taken) (l .inv .4) (l .inv .5) _ (c .before .before .before .before .before .before .before .before .before .option-step .last .1 .1 .1 .1 .1 .1 .1 .0) (c .before .before .before .before .before .before .before .before .before .option-step .last .1 .1 .1 .1 .1 .1 .1 .1 .0) (c .before .before .before .before .before .before .before .before .before .option-step .ensures) (c .if1 .left) in
-    (search needs, search needs, search needs, search needs, n .0, n .1)
-
-same-length-5 : tie.Need-same-length-5 Inv-loop μ-loop
-same-length-5 c = search needs
-
-same-length-6 : tie.Need-same-length-6 Inv-loop μ-loop
-same-length-6 c = search needs
-
-same-length-7 : tie.Need-same-length-7 Inv-loop μ-loop
-same-length-7 c = search needs
-
-same-length-8 : tie.Need-same-length-8 Inv-loop μ-loop
-same-length-8 c = search needs
+    let s = c .before .before .before .before .before .before .before .before .before .before .before .before .before .before .before .before .before .before .before in
+    let l = c .before .before .before .before .before .before .before .before .loop in
+    let loop-test = c .before .before .before .before .before .before .before .loop-test in
+    let option-step = c .before .option-step in
+    let if1 = c .if1 in
+    let some = loop-test .taken in
+    turn-both-over _ _ _ _ _ (s .pre .0) _ _ _ (s .pre .1) (l .row) (l .bond) (l .option) some (l .inv .1) (l .inv .2)
+    _ refl _ _ _ (option-step .ensures) _ _ (if1 .taken)
 
 returns-2 : tie.Need-returns-2 Inv-loop μ-loop
+unfolding marked
 returns-2 c =
-    let s = c .before .before .before .before .before .before .before .before .before .before .before .before .before .before .before in
-    option-rolled _ _ _ _ (s .pre .0) (s .pre .1) (s .args .kind) (s .args .expiry) (s .args .strike) _ (c .before .before .before .before .before .before .before .terms-of .ensures) (s .pre .2) (c .before .loop .row) (c .before .loop .bond) (c .before .loop .option) (omega arith) (c .before .loop .inv .4) (c .before .loop .inv .5)
+    let s = c .before .before .before .before .before .before .before .before .before .before .before .before .before .before .before .before .before .before .before .before in
+    let l = c .before .before .before .before .before .before .before .before .before .loop in
+    let loop-test = c .before .before .before .before .before .before .before .before .loop-test in
+    let option-step = c .before .before .option-step in
+    let if1 = c .before .if1 in
+    let if2 = c .if2 in
+    let some = loop-test .taken in
+    let first =
+    turn-both-next _ _ _ _ _ (s .pre .0) _ _ _ (s .pre .1) (l .row) (l .bond) (l .option) some (l .inv .1) (l .inv .2)
+    _ refl _ _ _ (option-step .ensures) (if1 .left) in
+    both-rolled _ _ _ _ (s .pre .0 .tree) (s .pre .0 .paid) _ _ _ (s .pre .1) _ _ _ (if2 .taken) (first .0) (first .1)
+
+sub-row-2 : tie.Need-sub-row-2 Inv-loop μ-loop
+sub-row-2 c =
+    let loop-test = c .before .before .before .before .before .before .before .before .loop-test in
+    let if2 = c .if2 in
+    omega (arith, loop-test .taken, if2 .left)
+
+shared-slice-read-option-step-2 : tie.Need-shared-slice-read-option-step-2 Inv-loop μ-loop
+shared-slice-read-option-step-2 c =
+    let s = c .before .before .before .before .before .before .before .before .before .before .before .before .before .before .before .before .before .before .before .before .before in
+    let l = c .before .before .before .before .before .before .before .before .before .before .loop in
+    let loop-test = c .before .before .before .before .before .before .before .before .before .loop-test in
+    let if2 = c .before .if2 in
+    omega (arith, s .pre .2, l .inv .0, loop-test .taken, if2 .left)
+
+option-step-requires-2 : tie.Need-option-step-requires-2 Inv-loop μ-loop
+unfolding marked
+option-step-requires-2 c κs =
+    let s = c .before .before .before .before .before .before .before .before .before .before .before .before .before .before .before .before .before .before .before .before .before .before .before .before .before in
+    let l = c .before .before .before .before .before .before .before .before .before .before .before .before .before .before .loop in
+    let loop-test = c .before .before .before .before .before .before .before .before .before .before .before .before .before .loop-test in
+    let option-step = c .before .before .before .before .before .before .before .option-step in
+    let if1 = c .before .before .before .before .before .before .if1 in
+    let if2 = c .before .before .before .before .before .if2 in
+    let some = loop-test .taken in
+    let first =
+    turn-both-next _ _ _ _ _ (s .pre .0) _ _ _ (s .pre .1) (l .row) (l .bond) (l .option) some (l .inv .1) (l .inv .2)
+    _ refl _ _ _ (option-step .ensures) (if1 .left) in
+    let again : 0 < l .row - 1 = omega (arith, loop-test .taken, if2 .left) in (
+      s .pre .0,
+      turn-inside _ _ _ _ _ (s .pre .0) _ _ again (first .0),
+      turn-limited _ _ _ _ _ (s .pre .0) _ _ again (first .0),
+      turn-options-limited _ _ _ _ _ (s .pre .0) _ _ _ (s .pre .1) _ _ _ again (first .0) (first .1),
+    )
+
+returns-3 : tie.Need-returns-3 Inv-loop μ-loop
+unfolding marked
+returns-3 c =
+    let s = c .before .before .before .before .before .before .before .before .before .before .before .before .before .before .before .before .before .before .before .before .before .before .before .before .before .before .before in
+    let l = c .before .before .before .before .before .before .before .before .before .before .before .before .before .before .before .before .loop in
+    let loop-test = c .before .before .before .before .before .before .before .before .before .before .before .before .before .before .before .loop-test in
+    let option-step = c .before .before .before .before .before .before .before .before .before .option-step in
+    let if1 = c .before .before .before .before .before .before .before .before .if1 in
+    let if2 = c .before .before .before .before .before .before .before .if2 in
+    let option-step2 = c .before .option-step2 in
+    let if3 = c .if3 in
+    let some = loop-test .taken in
+    let first =
+    turn-both-next _ _ _ _ _ (s .pre .0) _ _ _ (s .pre .1) (l .row) (l .bond) (l .option) some (l .inv .1) (l .inv .2)
+    _ refl _ _ _ (option-step .ensures) (if1 .left) in
+    let again : 0 < l .row - 1 = omega (arith, loop-test .taken, if2 .left) in
+    turn-both-over _ _ _ _ _ (s .pre .0) _ _ _ (s .pre .1) _ _ _ again (first .0) (first .1) _ refl _ _ _ (option-step2 .ensures) _ _ (if3 .taken)
+
+loop-less : tie.Need-loop-less Inv-loop μ-loop
+loop-less c =
+    let loop-test = c .before .before .before .before .before .before .before .before .before .before .before .before .before .before .before .loop-test in
+    omega (arith, loop-test .taken)
+
+loop-again : tie.Need-loop-again Inv-loop μ-loop
+unfolding marked
+loop-again c =
+    let s = c .before .before .before .before .before .before .before .before .before .before .before .before .before .before .before .before .before .before .before .before .before .before .before .before .before .before .before in
+    let l = c .before .before .before .before .before .before .before .before .before .before .before .before .before .before .before .before .loop in
+    let loop-test = c .before .before .before .before .before .before .before .before .before .before .before .before .before .before .before .loop-test in
+    let option-step = c .before .before .before .before .before .before .before .before .before .option-step in
+    let if1 = c .before .before .before .before .before .before .before .before .if1 in
+    let if2 = c .before .before .before .before .before .before .before .if2 in
+    let option-step2 = c .before .option-step2 in
+    let if3 = c .if3 in
+    let some = loop-test .taken in
+    let first =
+    turn-both-next _ _ _ _ _ (s .pre .0) _ _ _ (s .pre .1) (l .row) (l .bond) (l .option) some (l .inv .1) (l .inv .2)
+    _ refl _ _ _ (option-step .ensures) (if1 .left) in
+    let again : 0 < l .row - 1 = omega (arith, loop-test .taken, if2 .left) in
+    let second = turn-both-next _ _ _ _ _ (s .pre .0) _ _ _ (s .pre .1) _ _ _ again (first .0) (first .1) _ refl _ _ _ (option-step2 .ensures) (if3 .left) in
+    (omega (arith, l .inv .0), second .0, second .1)
+
+returns-4 : tie.Need-returns-4 Inv-loop μ-loop
+unfolding marked
+returns-4 c =
+    let s = c .before .before .before .before .before .before .before .before .before .before .before .before in
+    let l = c .before .loop in
+    let loop-test = c .loop-test in
+    both-rolled _ _ _ _ (s .pre .0 .tree) (s .pre .0 .paid) _ _ _ (s .pre .1) (l .row) (l .bond) (l .option)
+    (omega (arith, loop-test .left)) (l .inv .1) (l .inv .2)
 
 pub roll-option-spec : {M : Type 1} → statement M
 roll-option-spec =
@@ -111,20 +183,19 @@ roll-option-spec =
     (tie.spec
     Inv-loop
     μ-loop
-    terms-of-requires
     exercise-row-requires
+    empty-row-requires
+    empty-row-requires-2
     loop-holds
     sub-row
+    shared-slice-read-option-step
     option-step-requires
-    same-length
-    same-length-2
-    same-length-3
-    same-length-4
     returns
+    returns-2
+    sub-row-2
+    shared-slice-read-option-step-2
+    option-step-requires-2
+    returns-3
     loop-less
     loop-again
-    same-length-5
-    same-length-6
-    same-length-7
-    same-length-8
-    returns-2)
+    returns-4)

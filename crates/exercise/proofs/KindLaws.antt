@@ -1,0 +1,56 @@
+-- The kinds of option: the code's terms and marks are document 01's side and schedule.
+-- Assumes nothing.
+use mathlib.Core.Path.{_≡_, refl, sym, ap, _∙_}
+use mathlib.Core.Bool.{Bool, true, false, cond, _||_}
+use mathlib.Core.List.{List}
+use Prim.Native.Nat.{ℕ, suc, _≤_, _<_}
+use native.Mathlib.Omega.{arith}
+use lib.Dec.{eqb, leb, ltb}
+use lib.ListN.{length, replicate, getD-replicate, length-replicate}
+use borrow.Author.Tests.{lt-ltb, le-ltb, lt-leb, le-leb}
+use Rattle.arithmetic.specs.Row.{values}
+use Rattle.arithmetic.proofs.Numbers.{by-order}
+use Rattle.pricing_laws.specs.Pricer.{Side, call, put, Schedule}
+use Rattle.pricing_laws.specs.Schedule.{side-of, schedule-of, european, american, marked}
+use Rattle.pricing_laws.proofs.Recurrences.{schedule-last}
+use Rattle.pricing_laws.proofs.Schedules.{Alike}
+use Rattle.exercise.specs.declared.Terms.{Terms}
+use Rattle.exercise.specs.Terms.{side, terms-of, marks-of}
+
+pub side-is : (kind strike : ℕ) → side (terms-of kind strike .call) ≡ side-of kind
+unfolding side-of terms-of
+side-is kind strike = go (eqb kind 1 || eqb kind 3)
+  where
+    go : (t : Bool) → side t ≡ cond t call put
+    go true = refl
+    go false = refl
+
+pub strike-is : (kind strike : ℕ) → terms-of kind strike .strike ≡ strike
+unfolding terms-of
+strike-is kind strike = refl
+
+-- each mark
+mark-is : (kind i : ℕ) → i < 61 → values (marks-of kind) i ≡ cond (ltb kind 3) 0 1
+unfolding marks-of
+mark-is kind i h = getD-replicate 61 i (cond (ltb kind 3) 0 1) 0 h
+
+listed-is : (kind expiry i : ℕ) → eqb (cond (ltb kind 3) 0 1) 1 ≡ schedule-of kind expiry .listed i
+unfolding schedule-of european american
+listed-is kind expiry i = by-order 3 kind (λ h. rw (le-ltb kind 3 h, le-leb 3 kind h)) (λ h. rw (lt-ltb kind 3 h, lt-leb 3 kind h))
+
+-- the marks of a kind name the rows of its schedule
+pub kind-alike : (kind expiry : ℕ) → expiry ≤ 60 → Alike (marked expiry (marks-of kind)) (schedule-of kind expiry)
+unfolding marked
+kind-alike kind expiry h =
+    record {
+      last = sym (schedule-last kind expiry);
+      listed = λ i l. ap (λ (x : ℕ). eqb x 1) (mark-is kind i (omega arith)) ∙ listed-is kind expiry i;
+    }
+
+-- there is a mark for each row of every tree
+pub marks-room : (kind expiry : ℕ) (marks : List ℕ) → marks ≡ marks-of kind → expiry ≤ 60 → expiry ≤ length marks
+unfolding marks-of
+marks-room kind expiry marks e h = omega (arith, ap length e ∙ length-replicate {A = ℕ} 61 (cond (ltb kind 3) 0 1))
+
+pub strike-within : (kind strike most : ℕ) (terms : Terms) → terms ≡ terms-of kind strike → strike ≤ most → terms .strike ≤ most
+strike-within kind strike most terms e h = omega (arith, ap (λ (t : Terms). t .strike) e ∙ strike-is kind strike)

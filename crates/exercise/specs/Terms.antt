@@ -1,0 +1,21 @@
+-- The kinds of option as the code holds them.
+-- Assumes nothing.
+use mathlib.Core.Bool.{Bool, true, false, cond, _||_}
+use mathlib.Core.List.{List}
+use Prim.Native.Nat.{ℕ}
+use lib.Dec.{eqb, ltb}
+use lib.ListN.{replicate}
+use Rattle.pricing_laws.specs.Pricer.{Side, call, put}
+use Rattle.exercise.specs.declared.Terms.{Terms}
+
+abbrev pub side : Bool → Side
+side true = call
+side false = put
+
+-- kinds 1 and 3 are calls
+unfoldable pub terms-of : ℕ → ℕ → Terms
+terms-of kind strike = record { call = eqb kind 1 || eqb kind 3; strike = strike }
+
+-- rows 0 to 60; kinds 3 and 4 may be exercised before expiry on each
+unfoldable pub marks-of : ℕ → List ℕ
+marks-of kind = replicate 61 (cond (ltb kind 3) 0 1)

@@ -1,0 +1,59 @@
+// The value of one node of an option, and the rows on which each kind may be exercised.
+ghost use mathlib.Core.Path.{_≡_};
+ghost use mathlib.Core.Bool.{Bool, true, false};
+ghost use Prim.Native.Nat.{ℕ, _-_};
+ghost use Rattle.pricing_laws.specs.Pricer.{exercise, held-or-exercised};
+ghost use Rattle.exercise.specs.Terms.{side, terms-of, marks-of};
+
+// An option's side and strike.
+pub struct Terms {
+    pub call: bool,
+    pub strike: u64,
+}
+
+// The terms of a kind: 1 European call, 2 European put, 3 American call, 4 American put.
+pub fn terms_of(kind: u64, strike: u64) -> Terms
+    ensures { λ r. ⌜ r ≡ terms-of kind strike ⌝ }
+{
+    Terms {
+        call: kind == 1 || kind == 3,
+        strike,
+    }
+}
+
+// A mark for each row, 1 where a kind may be exercised on it before expiry.
+pub fn marks_of(kind: u64) -> [u8; 61]
+    ensures { λ r. ⌜ r ≡ marks-of kind ⌝ }
+{
+    if kind < 3 {
+        return [0; 61];
+    }
+    [1; 61]
+}
+
+// The difference, or 0 where it would be below 0.
+fn excess(x: u64, y: u64) -> u64
+    ensures { λ r. ⌜ r ≡ x - y ⌝ }
+{
+    if y < x { x - y } else { 0 }
+}
+
+// Bond less strike for a call, strike less bond for a put, at least 0.
+pub fn exercise_value(terms: Terms, bond: u64) -> u64
+    ensures { λ r. ⌜ r ≡ exercise (side (terms .call)) (terms .strike) bond ⌝ }
+{
+    if terms.call {
+        return excess(bond, terms.strike);
+    }
+    excess(terms.strike, bond)
+}
+
+// Before expiry: the larger of roll and exercise on a row that is listed, the roll on any other.
+pub fn held_value(terms: Terms, listed: bool, roll: u64, bond: u64) -> u64
+    ensures { λ r. ⌜ r ≡ held-or-exercised listed roll (exercise (side (terms .call)) (terms .strike) bond) ⌝ }
+{
+    if listed {
+        return arithmetic::larger(roll, exercise_value(terms, bond));
+    }
+    roll
+}

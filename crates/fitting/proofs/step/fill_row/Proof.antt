@@ -1,0 +1,168 @@
+-- `fitting::step/fill_row` meets its contract.
+-- Assumes nothing.
+use mathlib.Core.Path.{_≡_, sym, _∙_}
+use mathlib.Core.Bool.{true}
+use Prim.Native.Nat.{ℕ, _-_}
+use native.Mathlib.Omega.{arith}
+use lib.ListN.{length}
+use borrow.Author.Needs.{needs}
+use borrow.Author.Tests.{not-true, not-false}
+use Rattle.limits.specs.Limits.{is-discount}
+use Rattle.fitting.proofs.StepRows.{never}
+use Rattle.fitting.proofs.NodeLoop as laws
+use Rattle.fitting.proofs.step.fill_row.Statement.{statement}
+use Rattle.fitting.proofs.step.fill_row.Tie as tie
+
+abbrev Inv-loop : tie.InvT-loop
+Inv-loop prices factors downs quote z discounts₀ sums₀ k₀ discounts sums k =
+    laws.Stepping quote z prices factors downs discounts₀ sums₀ discounts sums k
+
+abbrev μ-loop : tie.MeasureT-loop
+μ-loop prices factors downs quote z discounts₀ sums₀ k₀ discounts sums k = length prices - k
+
+abbrev start : tie.In-loop Inv-loop μ-loop → tie.Start Inv-loop μ-loop
+start c = c .before .before .before .before .before .before .before
+
+abbrev looped : tie.Else1 Inv-loop μ-loop → tie.In-loop Inv-loop μ-loop
+looped c = c .before .before .before
+
+abbrev quotient : tie.Else1 Inv-loop μ-loop → ℕ
+quotient c =
+    let s = start (looped c) in
+    laws.ratio (s .args .quote) (s .args .factors .now) (s .args .z) (looped c .before .loop .k)
+
+-- the discount of this node is accepted
+accepted : (c : tie.Else1 Inv-loop μ-loop) → is-discount (quotient c) ≡ true
+accepted c = sym (c .before .is-discount .ensures) ∙ not-false _ (c .if1 .left)
+
+loop-holds : tie.Need-loop-holds Inv-loop μ-loop
+loop-holds c = let s = c .before .before .before .before .before in laws.stepping-start _ _ _ _ _ _ _ (s .pre .2)
+
+mul-discount : tie.Need-mul-discount Inv-loop μ-loop
+mul-discount c = search needs
+
+shared-slice-read-discount : tie.Need-shared-slice-read-discount Inv-loop μ-loop
+shared-slice-read-discount c =
+    let s = start (c .before) in
+    laws.factor-there _ _ _ _ _ _ _ (s .pre .0) _ _ _ (c .before .before .loop .inv) (omega arith)
+
+mul-discount-2 : tie.Need-mul-discount-2 Inv-loop μ-loop
+mul-discount-2 c =
+    let s = start (c .before) in
+    omega (
+      arith,
+      laws.quoted-fits _ _ _ _ _ _ _ (s .pre .0) _ _ _ (c .before .before .loop .inv) (omega arith),
+    )
+
+div-discount : tie.Need-div-discount Inv-loop μ-loop
+div-discount c = omega (arith, start (c .before) .pre .1)
+
+is-discount-requires : tie.Need-is-discount-requires Inv-loop μ-loop
+is-discount-requires c κs = search needs
+
+same-length : tie.Need-same-length Inv-loop μ-loop
+same-length c = c .before .before .before .before .loop .inv .filled .same
+
+same-length-2 : tie.Need-same-length-2 Inv-loop μ-loop
+same-length-2 c =
+    let s = start (c .before .before .before) in
+    laws.sums-length _ _ _ _ _ _ _ (s .pre .0) _ _ _ (c .before .before .before .before .loop .inv)
+
+returns : tie.Need-returns Inv-loop μ-loop
+returns c =
+    let s = start (c .before .before .before) in (
+      laws.stepping-fails _ _ _ _ _ _ _ (s .pre .0) _ _ _ (c .before .before .before .before .loop .inv) (omega arith)
+          (sym (c .before .is-discount .ensures) ∙ not-true _ (c .if1 .taken)),
+      (λ e. never e, λ e. never e),
+    )
+
+mul-discounts : tie.Need-mul-discounts Inv-loop μ-loop
+mul-discounts c = search needs
+
+slice-write-discounts : tie.Need-slice-write-discounts Inv-loop μ-loop
+slice-write-discounts c =
+    let s = start (c .before .before .before) in
+    omega (
+      arith,
+      laws.discounts-length _ _ _ _ _ _ _ (s .pre .0) _ _ _ (c .before .before .before .before .loop .inv),
+    )
+
+mul-spread-node : tie.Need-mul-spread-node Inv-loop μ-loop
+mul-spread-node c = search needs
+
+shared-slice-read-spread-node : tie.Need-shared-slice-read-spread-node Inv-loop μ-loop
+shared-slice-read-spread-node c = search needs
+
+mul-spread-node-2 : tie.Need-mul-spread-node-2 Inv-loop μ-loop
+mul-spread-node-2 c =
+    let s = start (c .before .before .before .before) in
+    omega (
+      arith,
+      laws.product-fits _ _ _ _ _ _ _ (s .pre .0) _ _ _ (c .before .before .before .before .before .loop .inv) (omega arith) (accepted (c .before)),
+    )
+
+spread-node-requires : tie.Need-spread-node-requires Inv-loop μ-loop
+spread-node-requires c κs =
+    let s = start (c .before .before .before .before .before) in
+    laws.spread-asks _ _ _ _ _ _ _ (s .pre .0) _ _ _ (c .before .before .before .before .before .before .loop .inv) (omega arith) (accepted (c .before .before))
+
+add-k : tie.Need-add-k Inv-loop μ-loop
+add-k c = search needs
+
+loop-less : tie.Need-loop-less Inv-loop μ-loop
+loop-less c = search needs
+
+loop-again : tie.Need-loop-again Inv-loop μ-loop
+loop-again c =
+    let place = c .before .before .before .before .before in
+    let s = start (looped place) in
+    laws.stepping-next _ _ _ _ _ _ _ (s .pre .0) _ _ _ (looped place .before .loop .inv) (omega arith) (accepted place)
+    _ (c .before .before .spread-node .ensures)
+
+same-length-3 : tie.Need-same-length-3 Inv-loop μ-loop
+same-length-3 c = c .before .loop .inv .filled .same
+
+same-length-4 : tie.Need-same-length-4 Inv-loop μ-loop
+same-length-4 c =
+    let s = c .before .before .before .before .before .before .before in
+    laws.sums-length _ _ _ _ _ _ _ (s .pre .0) _ _ _ (c .before .loop .inv)
+
+returns-2 : tie.Need-returns-2 Inv-loop μ-loop
+returns-2 c =
+    let s = c .before .before .before .before .before .before .before in
+    let g = c .before .loop .inv in
+    let e : c .before .loop .k ≡ length (s .args .prices .now) = omega (arith, g .within) in (
+      laws.stepping-good _ _ _ _ _ _ _ (s .pre .0) _ _ _ g e,
+      (
+        λ _. laws.stepping-filled _ _ _ _ _ _ _ (s .pre .0) _ _ _ g e,
+        λ _. laws.stepping-spread _ _ _ _ _ _ _ (s .pre .0) _ _ _ g e,
+      ),
+    )
+
+pub fill-row-spec : {M : Type 1} → statement M
+fill-row-spec =
+    tie.close
+    (tie.spec
+    Inv-loop
+    μ-loop
+    loop-holds
+    mul-discount
+    shared-slice-read-discount
+    mul-discount-2
+    div-discount
+    is-discount-requires
+    same-length
+    same-length-2
+    returns
+    mul-discounts
+    slice-write-discounts
+    mul-spread-node
+    shared-slice-read-spread-node
+    mul-spread-node-2
+    spread-node-requires
+    add-k
+    loop-less
+    loop-again
+    same-length-3
+    same-length-4
+    returns-2)

@@ -1,0 +1,27 @@
+-- `fitting::step/spread_node` meets its contract.
+-- Assumes nothing.
+use borrow.Author.Needs.{needs}
+use Rattle.fitting.proofs.StepRows.{spread-once}
+use Rattle.fitting.proofs.step.spread_node.Statement.{statement}
+use Rattle.fitting.proofs.step.spread_node.Tie as tie
+
+row-branch-requires : tie.Need-row-branch-requires
+row-branch-requires c κs = search needs
+
+scatter-requires : tie.Need-scatter-requires
+scatter-requires c κs =
+    let s = c .before .before .before .before in
+    let e = c .before .row-branch .ensures in
+    (rw e (s .pre .0), rw e (s .pre .1), s .pre .2, s .pre .3)
+
+same-length : tie.Need-same-length
+same-length c = search needs
+
+returns : tie.Need-returns
+returns c =
+    let s = c .before .before .before .before .before .before .before in
+    spread-once (s .args .downs .now) (s .args .index) (s .args .amount) (s .args .sums .now) _ _
+    (c .before .before .before .before .row-branch .ensures) (c .before .before .scatter .ensures)
+
+pub spread-node-spec : {M : Type 1} → statement M
+spread-node-spec = tie.close (tie.spec row-branch-requires scatter-requires same-length returns)

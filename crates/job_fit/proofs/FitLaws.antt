@@ -1,0 +1,158 @@
+-- Laws of a record's quotes and fit.
+-- Assumes nothing.
+use mathlib.Core.Path.{_≡_, sym, ap, _∙_}
+use mathlib.Core.List.{List}
+use Prim.Native.Nat.{ℕ, _≤_, _<_}
+use native.Mathlib.Omega.{arith}
+use borrow.Author.Tests.{lt-ltb, le-ltb, eq-eqb, ne-eqb}
+use lib.Ieee.{Float}
+use lib.ListN.{length, take, length-take}
+use Rattle.arithmetic.specs.Row.{row, place}
+use Rattle.arithmetic.proofs.Numbers.{by-order}
+use Rattle.arithmetic.proofs.RowLaws.{length-row}
+use Rattle.lattice.specs.Shape.{discounts-needed, state-prices-needed}
+use Rattle.lattice.proofs.TreeEntries.{Accepted}
+use Rattle.curve.specs.Curve.{discountAt, curveNumber, curveMemory}
+use Rattle.fitting.specs.Entry.{fitNumber, fit-memory, fit-discounts, fit-prices}
+use Rattle.fitting.specs.Plans.{Numbers}
+use Rattle.fitting.proofs.FittedTree.{fit-discounts-length, fit-prices-length}
+use Rattle.fitting.proofs.Promised.{fit-numbers}
+use Rattle.job_record.specs.declared.Job.{Job}
+use Rattle.job_fit.specs.RecordFit.{jobRows, jobKinds, jobFigures, jobQuotes, jobDiscounts, jobStatePrices, recordQuotes, recordFit, memoryAfter}
+
+-- ---- the parts of columns that are lent
+
+pub lent-column : {A : Type 0} (l : List A) (n : ℕ) → n ≤ length l → n ≡ length (take n l)
+lent-column l n h = simp length-take (omega arith)
+
+-- ---- a memory with a part at its start
+
+pub memory-placed : (number : ℕ) (part memory : List ℕ) → number ≡ 0 → memoryAfter number part memory ≡ place memory 0 part
+unfolding memoryAfter
+memory-placed number part memory z = rw (eq-eqb number 0 z)
+
+pub memory-kept : (number : ℕ) (part memory : List ℕ) → (number ≡ 0 → ⊥) → memory ≡ memoryAfter number part memory
+unfolding memoryAfter
+memory-kept number part memory nz = rw (ne-eqb number 0 nz)
+
+-- ---- the number and the memories of a record
+
+module _ (job : Job) where
+  -- what converting the quotes gives, and what the fit gives
+  abbrev pub Quoted : List ℕ → ℕ → List ℕ → Type 0
+  Quoted memory r after =
+      (r ≡ recordQuotes job (length memory)) × (after ≡ memoryAfter (recordQuotes job (length memory)) (jobQuotes job) memory)
+
+  abbrev pub Fitted : List ℕ → List ℕ → ℕ → List ℕ → List ℕ → Type 0
+  Fitted d p r after-d after-p =
+      (r ≡ recordFit job (length d) (length p))
+      × ((after-d ≡ fit-memory (recordFit job (length d) (length p)) (jobDiscounts job) d)
+      × (after-p ≡ fit-memory (recordFit job (length d) (length p)) (jobStatePrices job) p))
+
+  module _ (many : 255 < job .steps) where
+    quotes-many : (room : ℕ) → 1 ≡ recordQuotes job room
+    unfolding recordQuotes
+    quotes-many room = rw (lt-ltb 255 (job .steps) many)
+
+    fit-many : (ds ps : ℕ) → 1 ≡ recordFit job ds ps
+    unfolding recordFit
+    fit-many ds ps = rw (lt-ltb 255 (job .steps) many)
+
+    one-kept : (number : ℕ) (part memory : List ℕ) → 1 ≡ number → memory ≡ fit-memory number part memory
+    unfolding fit-memory
+    one-kept number part memory e = rw (← e)
+
+    pub quotes-refused : (memory : List ℕ) → Quoted memory 1 memory
+    quotes-refused memory =
+        let e = quotes-many (length memory) in
+        (e, memory-kept _ (jobQuotes job) memory (λ z. one-some (e ∙ z)))
+      where
+        one-some : _≡_ {A = ℕ} 1 0 → ⊥
+        one-some z = omega arith
+
+    pub fit-refused : (d p : List ℕ) → Fitted d p 1 d p
+    fit-refused d p =
+        let e = fit-many (length d) (length p) in
+        (e, (one-kept _ (jobDiscounts job) d e, one-kept _ (jobStatePrices job) p e))
+
+  module _ (few : job .steps ≤ 255) (rows : List ℕ) (figures : List Float) (er : rows ≡ jobRows job) (ef : figures ≡ jobFigures job) where
+    abbrev lentQuotes : ℕ → ℕ
+    lentQuotes = curveNumber (job .frequency) (job .steps) rows (jobKinds job) figures
+
+    abbrev lentFit : ℕ → ℕ → ℕ
+    lentFit = fitNumber (job .frequency) (job .steps) (job .reversion) (job .volatility) rows (jobKinds job) figures
+
+    quotes-number : (room : ℕ) → lentQuotes room ≡ recordQuotes job room
+    unfolding recordQuotes
+    quotes-number room = rw (er, ef, le-ltb 255 (job .steps) few)
+
+    quotes-memory : (memory : List ℕ) → curveMemory (job .frequency) (job .steps) rows (jobKinds job) figures memory
+        ≡ memoryAfter (recordQuotes job (length memory)) (jobQuotes job) memory
+    unfolding recordQuotes memoryAfter curveMemory jobQuotes
+    quotes-memory memory = rw (er, ef, le-ltb 255 (job .steps) few)
+
+    pub quotes-made : (memory after : List ℕ) (r : ℕ) → r ≡ lentQuotes (length memory) →
+        after ≡ curveMemory (job .frequency) (job .steps) rows (jobKinds job) figures memory → Quoted memory r after
+    quotes-made memory after r e a = (e ∙ quotes-number (length memory), a ∙ quotes-memory memory)
+
+    fit-number : (ds ps : ℕ) → lentFit ds ps ≡ recordFit job ds ps
+    unfolding recordFit
+    fit-number ds ps = rw (er, ef, le-ltb 255 (job .steps) few)
+
+    discounts-are : fit-discounts (job .frequency) (job .steps) (job .reversion) (job .volatility) (jobKinds job) figures ≡ jobDiscounts job
+    unfolding jobDiscounts
+    discounts-are = rw ef
+
+    prices-are : fit-prices (job .frequency) (job .steps) (job .reversion) (job .volatility) (jobKinds job) figures ≡ jobStatePrices job
+    unfolding jobStatePrices
+    prices-are = rw ef
+
+    pub fit-made : (d p after-d after-p : List ℕ) (r : ℕ) → r ≡ lentFit (length d) (length p) →
+        after-d ≡ fit-memory (lentFit (length d) (length p))
+        (fit-discounts (job .frequency) (job .steps) (job .reversion) (job .volatility) (jobKinds job) figures) d →
+        after-p ≡ fit-memory (lentFit (length d) (length p))
+        (fit-prices (job .frequency) (job .steps) (job .reversion) (job .volatility) (jobKinds job) figures) p →
+        Fitted d p r after-d after-p
+    fit-made d p after-d after-p r e ed ep =
+        let n = fit-number (length d) (length p) in
+        let same : (old new memory : List ℕ) → old ≡ new →
+        fit-memory (lentFit (length d) (length p)) old memory ≡ fit-memory (recordFit job (length d) (length p)) new memory =
+        λ old new memory el. rw (n, el) in
+        (e ∙ n, (ed ∙ same _ _ d discounts-are, ep ∙ same _ _ p prices-are))
+
+-- ---- what a record's fit is where nothing is refused
+
+module _ (job : Job) where
+  pub quotes-length : length (jobQuotes job) ≡ job .steps
+  unfolding jobQuotes
+  quotes-length = length-row (job .steps) (discountAt (job .frequency) (jobKinds job) (jobFigures job))
+
+  pub discounts-length : length (jobDiscounts job) ≡ discounts-needed (job .steps) (job .reversion)
+  unfolding jobDiscounts
+  discounts-length = fit-discounts-length _ _ _ _ (jobKinds job) (jobFigures job)
+
+  pub prices-length : length (jobStatePrices job) ≡ state-prices-needed (job .steps) (job .reversion)
+  unfolding jobStatePrices
+  prices-length = fit-prices-length _ _ _ _ (jobKinds job) (jobFigures job)
+
+  module _ (ds ps : ℕ) (z : recordFit job ds ps ≡ 0) where
+    pub steps-few : job .steps ≤ 255
+    steps-few = by-order (job .steps) 255 (λ h. h) (λ h. absurd (apart (fit-many job h ds ps ∙ z)))
+      where
+        apart : _≡_ {A = ℕ} 1 0 → ⊥
+        apart e = omega arith
+
+    pub fit-none : fitNumber (job .frequency) (job .steps) (job .reversion) (job .volatility) (jobRows job) (jobKinds job) (jobFigures job) ds ps ≡ 0
+    unfolding recordFit
+    fit-none = rw (le-ltb 255 (job .steps) steps-few) at z
+
+    pub numbers : Numbers (job .frequency) (job .steps) (job .reversion) (job .volatility)
+        (curveNumber (job .frequency) (job .steps) (jobRows job) (jobKinds job) (jobFigures job) 60) ds ps
+    numbers = fit-numbers _ _ _ _ _ _ _ ds ps fit-none
+
+    pub accepted : Accepted (job .steps) (job .reversion)
+    accepted = record { some = numbers .some; few = numbers .few; gentle = numbers .reverting }
+
+    pub quotes-none : recordQuotes job 60 ≡ 0
+    unfolding recordQuotes
+    quotes-none = rw (le-ltb 255 (job .steps) steps-few) (numbers .quotes)

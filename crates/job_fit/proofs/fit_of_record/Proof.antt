@@ -1,0 +1,84 @@
+-- `job_fit::fit_of_record` meets its contract.
+-- Assumes nothing.
+use mathlib.Core.Path.{_≡_, sym, ap, _∙_}
+use Prim.Native.Nat.{_≤_}
+use native.Mathlib.Omega.{arith}
+use lib.ListN.{length}
+use borrow.Author.Needs.{needs}
+use Rattle.job_fit.proofs.FitLaws as laws
+use Rattle.job_fit.proofs.fit_of_record.Statement.{statement}
+use Rattle.job_fit.proofs.fit_of_record.Tie as tie
+
+kinds-size : (s : tie.Start) → length (s .args .job .kinds) ≡ 255
+kinds-size s = search needs
+
+returns : tie.Need-returns
+returns c =
+    let s = c .before .before .before in
+    laws.fit-refused (s .args .job) (c .if1 .taken) (s .args .discounts .now) (s .args .state-prices .now)
+
+rows-of-requires : tie.Need-rows-of-requires
+rows-of-requires c κs = search needs
+
+figures-of-requires : tie.Need-figures-of-requires
+figures-of-requires c κs = search needs
+
+array-share-prefix-rows : tie.Need-array-share-prefix-rows
+array-share-prefix-rows c = search needs
+
+slice-aggregate-fit : tie.Need-slice-aggregate-fit
+slice-aggregate-fit c =
+    let s = c .before .before .before .before .before .before .before .before in
+    laws.lent-column (c .before .before .rows-of .result) (s .args .job .steps) (search needs)
+
+array-share-prefix-kinds : tie.Need-array-share-prefix-kinds
+array-share-prefix-kinds c = omega (arith, kinds-size (c .before .before .before .before .before .before .before .before))
+
+slice-aggregate-fit-2 : tie.Need-slice-aggregate-fit-2
+slice-aggregate-fit-2 c =
+    let s = c .before .before .before .before .before .before .before .before .before in
+    laws.lent-column (s .args .job .kinds) (s .args .job .steps) (omega (arith, kinds-size s))
+
+array-share-prefix-figures : tie.Need-array-share-prefix-figures
+array-share-prefix-figures c = search needs
+
+slice-aggregate-fit-3 : tie.Need-slice-aggregate-fit-3
+slice-aggregate-fit-3 c =
+    let s = c .before .before .before .before .before .before .before .before .before .before in
+    laws.lent-column (c .before .before .before .figures-of .result) (s .args .job .steps) (search needs)
+
+fit-requires : tie.Need-fit-requires
+fit-requires c κs = search needs
+
+same-length : tie.Need-same-length
+same-length c = search needs
+
+same-length-2 : tie.Need-same-length-2
+same-length-2 c = search needs
+
+returns-2 : tie.Need-returns-2
+returns-2 c =
+    let s = c .before .before .before .before .before .before .before .before .before .before .before .before .before .before .before .before .before in
+    let rows = c .before .before .before .before .before .before .before .before .before .before .before .rows-of .ensures .1 in
+    let figures = c .before .before .before .before .before .before .before .before .before .before .figures-of .ensures .1 in
+    let fit = c .before .before .before .before .fit .ensures in
+    laws.fit-made (s .args .job) (omega arith) _ _ rows figures (s .args .discounts .now) (s .args .state-prices .now) _ _ _
+    (fit .0) (fit .1 .0) (fit .1 .1)
+
+pub fit-of-record-spec : {M : Type 1} → statement M
+fit-of-record-spec =
+    tie.close
+    (tie.spec
+    returns
+    rows-of-requires
+    figures-of-requires
+    array-share-prefix-rows
+    slice-aggregate-fit
+    array-share-prefix-kinds
+    slice-aggregate-fit-2
+    array-share-prefix-figures
+    slice-aggregate-fit-3
+    fit-requires
+    same-length
+    same-length-2
+    returns-2)

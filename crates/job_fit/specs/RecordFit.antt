@@ -1,0 +1,52 @@
+-- A job's record as quotes and fit take it (document 01, Job and sheet; Spacing and fit; When the engine declines).
+-- Assumes nothing.
+use Prim.Native.Nat.{ℕ, _+_}
+use mathlib.Core.Bool.{cond}
+use mathlib.Core.List.{List, map}
+use lib.Dec.{eqb, ltb}
+use lib.Ieee.{Float}
+use lib.ListN.{take}
+use Rattle.arithmetic.specs.Row.{row, place}
+use Rattle.figure.specs.Figure.{patternFloat}
+use Rattle.curve.specs.Curve.{curveNumber}
+use Rattle.fitting.specs.Entry.{fitNumber, fit-discounts, fit-prices, quotes-of}
+use Rattle.job_record.specs.declared.Job.{Job}
+
+module _ (job : Job) where
+  -- rows 1 to n, kinds, figures by their patterns, flows
+  abbrev pub jobRows : List ℕ
+  jobRows = row (job .steps) (λ k. k + 1)
+
+  abbrev pub jobKinds : List ℕ
+  jobKinds = take (job .steps) (job .kinds)
+
+  abbrev pub jobFigures : List Float
+  jobFigures = map patternFloat (take (job .steps) (job .figures))
+
+  abbrev pub jobFlows : List ℕ
+  jobFlows = take (job .steps) (job .flows)
+
+  -- the quotes of rows 1 to n, and the tree fitted to them: discounts of rows 0 to n − 1, state prices of rows 0 to n
+  unfoldable pub jobQuotes : List ℕ
+  jobQuotes = quotes-of (job .frequency) (job .steps) jobKinds jobFigures
+
+  unfoldable pub jobDiscounts : List ℕ
+  jobDiscounts = fit-discounts (job .frequency) (job .steps) (job .reversion) (job .volatility) jobKinds jobFigures
+
+  unfoldable pub jobStatePrices : List ℕ
+  jobStatePrices = fit-prices (job .frequency) (job .steps) (job .reversion) (job .volatility) jobKinds jobFigures
+
+  -- 1: no job's bytes give more than 255 steps; then the causes of the conversion into a memory of so many numbers
+  unfoldable pub recordQuotes : ℕ → ℕ
+  recordQuotes room =
+      cond (ltb 255 (job .steps)) 1 (curveNumber (job .frequency) (job .steps) jobRows jobKinds jobFigures room)
+
+  -- 1, then causes 2 to 9, in memories of so many numbers
+  unfoldable pub recordFit : ℕ → ℕ → ℕ
+  recordFit discounts prices =
+      cond (ltb 255 (job .steps)) 1
+      (fitNumber (job .frequency) (job .steps) (job .reversion) (job .volatility) jobRows jobKinds jobFigures discounts prices)
+
+-- a memory afterwards: the part at its start and the rest as it was, or all as it was on a refusal
+unfoldable pub memoryAfter : ℕ → List ℕ → List ℕ → List ℕ
+memoryAfter number part memory = cond (eqb number 0) (place memory 0 part) memory

@@ -1,0 +1,71 @@
+-- What prices without a refusal say: the fit, the bond and the option are accepted, and so all that is promised of these holds of them.
+-- Assumes nothing.
+use mathlib.Core.Path.{_≡_, refl, sym, _∙_}
+use mathlib.Core.Bool.{Bool, true, false}
+use mathlib.Core.List.{List}
+use Prim.Native.Nat.{ℕ}
+use native.Mathlib.Omega.{arith}
+use borrow.Author.Tests.{eq-eqb, ne-eqb}
+use Rattle.arithmetic.proofs.CauseLaws.{lowest-none}
+use Rattle.arithmetic.proofs.Numbers.{by-equal}
+use Rattle.limits.specs.Limits.{most-discounts, most-state-prices}
+use Rattle.limits.proofs.LimitLaws.{limit-kept, limit-accepted}
+use Rattle.fitting.specs.Entry.{memory-cause}
+use Rattle.pricing.proofs.Accuracy.{first-none}
+use Rattle.pricing.specs.Prices.{first-cause, bond-peak, option-limit, priced, bondPrice, optionPrice}
+use Rattle.job_record.specs.declared.Job.{Job}
+use Rattle.job_record.specs.declared.OptionRecord.{OptionRecord}
+use Rattle.job_record.specs.Reader.{readingOf}
+use Rattle.job_fit.specs.RecordFit.{jobFlows, jobDiscounts, recordFit}
+use Rattle.job_prices.specs.JobPrices.{hasOption, treeNumber, jobBond, recordNumber, bytesNumber}
+
+first-both : (cause later : ℕ) → cause ≡ 0 → later ≡ 0 → first-cause cause later ≡ 0
+unfolding first-cause
+first-both cause later z l = rw (eq-eqb cause 0 z) l
+
+priced-number : (number price bound : ℕ) → priced number price bound .number ≡ number
+unfolding priced
+priced-number number price bound =
+    by-equal number 0 (λ z. rw (eq-eqb number 0 z) (sym z)) (λ nz. rw (ne-eqb number 0 nz))
+
+-- an option that is priced has a bond that is
+pub option-judges : (n b : ℕ) (discounts flows : List ℕ) (kind expiry strike : ℕ) →
+    optionPrice n b discounts flows kind expiry strike .number ≡ 0 → bondPrice n b discounts flows .number ≡ 0
+unfolding optionPrice bondPrice option-limit
+option-judges n b discounts flows kind expiry strike z =
+    let option = first-none _ _ (sym (priced-number _ _ _) ∙ z) in
+    let late = limit-accepted _ (first-none _ _ (option .1) .1) in
+    priced-number _ _ _ ∙ first-both _ _ (option .0) (sym (limit-kept (bond-peak n b discounts flows) (omega arith)))
+
+module _ (n b : ℕ) (discounts flows : List ℕ) (option : OptionRecord) (z : treeNumber n b discounts flows option ≡ 0) where
+  pub tree-option : hasOption option ≡ true → optionPrice n b discounts flows (option .kind) (option .expiry) (option .strike) .number ≡ 0
+  unfolding treeNumber
+  tree-option e = rw e at z
+
+  pub tree-bond : bondPrice n b discounts flows .number ≡ 0
+  unfolding treeNumber
+  tree-bond = by (hasOption option) refl
+    where
+      by : (t : Bool) → hasOption option ≡ t → bondPrice n b discounts flows .number ≡ 0
+      by true e = option-judges n b discounts flows _ _ _ (tree-option e)
+      by false e = rw e at z
+
+-- each part of a record that is priced without a cause, in lent memories of so many numbers
+pub record AcceptedRecord (job : Job) (discounts prices : ℕ) : Type 0 where
+  pub fit : recordFit job most-discounts most-state-prices ≡ 0
+  pub room : memory-cause (job .steps) (job .reversion) discounts prices ≡ 0
+  pub bond : jobBond job .number ≡ 0
+  pub option-priced : hasOption (job .option) ≡ true →
+      optionPrice (job .steps) (job .reversion) (jobDiscounts job) (jobFlows job) (job .option .kind) (job .option .expiry) (job .option .strike) .number ≡ 0
+
+pub record-accepted : (job : Job) (discounts prices : ℕ) → recordNumber job discounts prices ≡ 0 → AcceptedRecord job discounts prices
+unfolding recordNumber
+record-accepted job discounts prices z =
+    let parts = first-none _ _ z in
+    let early = lowest-none _ _ (parts .0) in
+    record { fit = early .0; room = early .1; bond = tree-bond _ _ _ _ (job .option) (parts .1); option-priced = tree-option _ _ _ _ (job .option) (parts .1) }
+
+pub bytes-accepted : (bytes : List ℕ) (discounts prices : ℕ) → bytesNumber bytes discounts prices ≡ 0 →
+    (readingOf bytes .number ≡ 0) × AcceptedRecord (readingOf bytes .job) discounts prices
+unfolding bytesNumber
+bytes-accepted bytes discounts prices z = let parts = first-none _ _ z in (parts .0, record-accepted _ discounts prices (parts .1))

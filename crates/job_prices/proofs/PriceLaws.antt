@@ -1,0 +1,234 @@
+-- Laws of a job's prices.
+-- Assumes nothing.
+use mathlib.Core.Path.{_≡_, refl, sym, ap, _∙_, subst}
+use mathlib.Core.Bool.{Bool, true, false}
+use mathlib.Core.List.{List}
+use Prim.Native.Nat.{ℕ, _≤_, _<_, max}
+use native.Mathlib.Omega.{arith}
+use borrow.Author.Tests.{eq-eqb, ne-eqb, lt-ltb, ltb-false}
+use lib.ListN.{length, take}
+use Rattle.arithmetic.specs.Answers.{lowest-cause}
+use Rattle.arithmetic.specs.Row.{row, values, place}
+use Rattle.arithmetic.specs.declared.Answer.{Answer}
+use Rattle.arithmetic.proofs.CauseLaws.{lowest-none}
+use Rattle.arithmetic.proofs.Numbers.{by-equal, by-order}
+use Rattle.arithmetic.proofs.PlaceLaws.{filled-place, length-place, place-front}
+use Rattle.arithmetic.proofs.RowLaws.{Filled, row-of}
+use Rattle.limits.specs.Limits.{most-discounts, most-state-prices}
+use Rattle.lattice.specs.Shape.{discounts-needed, state-prices-needed}
+use Rattle.lattice.specs.Entries.{discountsNeeded, statePricesNeeded}
+use Rattle.lattice.proofs.TreeEntries.{tree-value}
+use Rattle.fitting.proofs.CauseLaws.{memory-none}
+use Rattle.fitting.specs.Entry.{memory-cause, fit-memory}
+use Rattle.fitting.proofs.CauseLaws.{memory-short, memory-lacks}
+use Rattle.fitting.proofs.FittedTree.{fit-placed}
+use Rattle.pricing.specs.declared.Price.{Price}
+use Rattle.pricing.specs.declared.BondAndOption.{BondAndOption}
+use Rattle.pricing.specs.Prices.{refusal, first-cause, bondPrice, bondAndOption}
+use Rattle.job_record.specs.declared.OptionRecord.{OptionRecord}
+use Rattle.job_record.specs.declared.Job.{Job}
+use Rattle.job_record.specs.declared.Reading.{Reading}
+use Rattle.job_record.specs.Reader.{readingOf}
+use Rattle.job_fit.specs.RecordFit.{jobFlows, jobDiscounts, jobStatePrices, recordFit, memoryAfter}
+use Rattle.job_fit.proofs.FitLaws as fits
+use Rattle.job_prices.specs.declared.JobPrices.{JobPrices}
+use Rattle.job_prices.specs.JobPrices.{treeNumber, refusedPrices, pricesOf, treePrices}
+use Rattle.job_prices.specs.JobPrices.{recordNumber, recordPrices, bytesNumber, bytesPrices}
+
+pub all-placed : (l₀ l part : List ℕ) (i : ℕ) → Filled l₀ l (values part) i → i ≡ length part → length part ≤ length l₀ → l ≡ place l₀ 0 part
+all-placed l₀ l part i filled e fits =
+    filled-place l₀ l (values part) (length part) (subst (λ (k : ℕ). Filled l₀ l (values part) k) e filled) fits
+    ∙ ap (λ (p : List ℕ). place l₀ 0 p) (sym (row-of part (length part) (values part) refl (λ k h. refl)))
+
+-- ---- an answer
+
+module _ (number : ℕ) (bond : Price) (present : Bool) (option : Price) where
+  pub prices-refused : (number ≡ 0 → ⊥) → refusedPrices number ≡ pricesOf number bond present option
+  unfolding pricesOf
+  prices-refused nz = rw (ne-eqb number 0 nz)
+
+  pub prices-given : number ≡ 0 → record { number = 0; bond = bond; «has_option» = present; option = option } ≡ pricesOf number bond present option
+  unfolding pricesOf
+  prices-given z = rw (eq-eqb number 0 z)
+
+  pub prices-number : pricesOf number bond present option .number ≡ number
+  prices-number =
+      by-equal number 0
+      (λ z. ap (λ (p : JobPrices). p .number) (sym (prices-given z)) ∙ sym z)
+      (λ nz. ap (λ (p : JobPrices). p .number) (sym (prices-refused nz)))
+
+-- ---- the prices of a tree
+
+module _ (n b : ℕ) (discounts flows : List ℕ) (option : OptionRecord) (r : JobPrices) where
+  pub without-option : (bond : Price) → option .tag ≡ 0 → bond ≡ bondPrice n b discounts flows →
+      r ≡ pricesOf (bond .number) bond false (refusal 0) → r ≡ treePrices n b discounts flows option
+  unfolding treePrices treeNumber
+  without-option bond z eb e = e ∙ rw (eb, eq-eqb (option .tag) 0 z)
+
+  pub with-option : (both : BondAndOption) → (option .tag ≡ 0 → ⊥) →
+      both ≡ bondAndOption n b discounts flows (option .kind) (option .expiry) (option .strike) →
+      r ≡ pricesOf (both .option .number) (both .bond) true (both .option) → r ≡ treePrices n b discounts flows option
+  unfolding treePrices treeNumber
+  with-option both nz eb e = e ∙ rw (eb, ne-eqb (option .tag) 0 nz)
+
+-- ---- what a call leaves
+
+-- the answer and both memories
+abbrev pub Left : ℕ → JobPrices → List ℕ → List ℕ → List ℕ → List ℕ → JobPrices → List ℕ → List ℕ → Type 0
+Left number prices part₁ part₂ d p r after-d after-p =
+    (r ≡ prices) × ((after-d ≡ memoryAfter number part₁ d) × (after-p ≡ memoryAfter number part₂ p))
+
+module _ (number : ℕ) (prices : JobPrices) (part₁ part₂ d p : List ℕ) (r : JobPrices) (e : r ≡ prices) where
+  pub left-refused : (number ≡ 0 → ⊥) → Left number prices part₁ part₂ d p r d p
+  left-refused nz = (e, (fits.memory-kept number part₁ d nz, fits.memory-kept number part₂ p nz))
+
+  pub left-placed : (after-d after-p : List ℕ) → number ≡ 0 → after-d ≡ place d 0 part₁ → after-p ≡ place p 0 part₂ →
+      Left number prices part₁ part₂ d p r after-d after-p
+  left-placed after-d after-p z ed ep =
+      (e, (ed ∙ sym (fits.memory-placed number part₁ d z), ep ∙ sym (fits.memory-placed number part₂ p z)))
+
+module _ (n b : ℕ) (discounts flows : List ℕ) (option : OptionRecord) (r : JobPrices) (e : r ≡ treePrices n b discounts flows option) where
+  pub tree-number : r .number ≡ treeNumber n b discounts flows option
+  unfolding treePrices
+  tree-number = ap (λ (p : JobPrices). p .number) e ∙ prices-number _ _ _ _
+
+-- ---- the prices of a record
+
+-- an accepted fit: so many numbers at the start of two memories are its tree, the lent memories hold it, and what is left to test is the tree
+pub record Held (job : Job) (needed all : ℕ) (d p lent-d lent-p : List ℕ) : Type 0 where
+  pub few : job .steps ≤ 255
+  pub discounts-are : take needed d ≡ jobDiscounts job
+  pub prices-are : take all p ≡ jobStatePrices job
+  pub discounts-size : length (jobDiscounts job) ≡ needed
+  pub prices-size : length (jobStatePrices job) ≡ all
+  pub discounts-end : needed ≤ length d
+  pub prices-end : all ≤ length p
+  pub discounts-room : needed ≤ length lent-d
+  pub prices-room : all ≤ length lent-p
+  pub number : treeNumber (job .steps) (job .reversion) (jobDiscounts job) (jobFlows job) (job .option) ≡ recordNumber job (length lent-d) (length lent-p)
+  pub prices : treePrices (job .steps) (job .reversion) (jobDiscounts job) (jobFlows job) (job .option) ≡ recordPrices job (length lent-d) (length lent-p)
+
+-- what the prices of a record leave
+abbrev pub Record : Job → List ℕ → List ℕ → JobPrices → List ℕ → List ℕ → Type 0
+Record job d p =
+    Left (recordNumber job (length d) (length p)) (recordPrices job (length d) (length p)) (jobDiscounts job) (jobStatePrices job) d p
+
+module _ (job : Job) (d₀ p₀ d p : List ℕ) (fitted : ℕ) (ld : length d₀ ≡ most-discounts) (lp : length p₀ ≡ most-state-prices)
+    (fit : fits.Fitted job d₀ p₀ fitted d p) (lent-d lent-p : List ℕ) (memory cause : ℕ)
+    (em : memory ≡ memory-cause (job .steps) (job .reversion) (length lent-d) (length lent-p)) (ec : cause ≡ lowest-cause fitted memory) where
+  fitted-is : fitted ≡ recordFit job most-discounts most-state-prices
+  fitted-is = fit .0 ∙ rw (ld, lp)
+
+  cause-is : cause ≡ lowest-cause (recordFit job most-discounts most-state-prices)
+      (memory-cause (job .steps) (job .reversion) (length lent-d) (length lent-p))
+  cause-is = ec ∙ rw (fitted-is, em)
+
+  cause-found : (cause ≡ 0 → ⊥) → cause ≡ recordNumber job (length lent-d) (length lent-p)
+  unfolding recordNumber first-cause
+  cause-found nz = rw (← cause-is, ne-eqb cause 0 nz)
+
+  cause-given : (nz : cause ≡ 0 → ⊥) → refusedPrices cause ≡ recordPrices job (length lent-d) (length lent-p)
+  unfolding recordPrices
+  cause-given nz =
+      ap refusedPrices (cause-found nz) ∙ prices-refused _ _ _ _ (λ z. nz (cause-found nz ∙ z))
+
+  pub record-refused : (r : JobPrices) → r ≡ refusedPrices cause → (cause ≡ 0 → ⊥) → Record job lent-d lent-p r lent-d lent-p
+  record-refused r e nz =
+      left-refused _ _ (jobDiscounts job) (jobStatePrices job) lent-d lent-p r (e ∙ cause-given nz) (λ z. nz (cause-found nz ∙ z))
+
+  module _ (z : cause ≡ 0) where
+    number-is : treeNumber (job .steps) (job .reversion) (jobDiscounts job) (jobFlows job) (job .option) ≡ recordNumber job (length lent-d) (length lent-p)
+    unfolding recordNumber first-cause
+    number-is = rw (← cause-is, eq-eqb cause 0 z)
+
+    fit-none : fitted ≡ 0
+    fit-none = lowest-none fitted memory (sym ec ∙ z) .0
+
+    record-none : recordFit job most-discounts most-state-prices ≡ 0
+    record-none = sym fitted-is ∙ fit-none
+
+    d-is : d ≡ place d₀ 0 (jobDiscounts job)
+    d-is = fit .1 .0 ∙ fit-placed _ (jobDiscounts job) d₀ (sym (fit .0) ∙ fit-none)
+
+    p-is : p ≡ place p₀ 0 (jobStatePrices job)
+    p-is = fit .1 .1 ∙ fit-placed _ (jobStatePrices job) p₀ (sym (fit .0) ∙ fit-none)
+
+    pub held : (needed all : Answer) → needed ≡ discountsNeeded (job .steps) (job .reversion) → all ≡ statePricesNeeded (job .steps) (job .reversion) →
+        Held job (needed .value) (all .value) d p lent-d lent-p
+    unfolding treePrices recordPrices discounts-needed state-prices-needed
+    held needed all en ea =
+        let ok = fits.accepted job _ _ record-none in
+        let known = fits.numbers job _ _ record-none in
+        let enough = memory-none _ _ _ _ (sym em ∙ lowest-none fitted memory (sym ec ∙ z) .1) in
+        let dn = tree-value _ _ _ needed en ok in
+        let pn = tree-value _ _ _ all ea ok in
+        let dl = fits.discounts-length job ∙ sym dn in
+        let pl = fits.prices-length job ∙ sym pn in
+        let long-d = ap length d-is ∙ length-place d₀ 0 (jobDiscounts job) (omega (arith, dl, dn, known .room-discounts, ld)) in
+        let long-p = ap length p-is ∙ length-place p₀ 0 (jobStatePrices job) (omega (arith, pl, pn, known .room-prices, lp)) in
+        record {
+          few = fits.steps-few job _ _ record-none;
+          discounts-are = ap (take (needed .value)) d-is ∙ place-front d₀ (jobDiscounts job) (needed .value) dl;
+          prices-are = ap (take (all .value)) p-is ∙ place-front p₀ (jobStatePrices job) (all .value) pl;
+          discounts-size = dl;
+          prices-size = pl;
+          discounts-end = omega (arith, long-d, ld, dn, known .room-discounts);
+          prices-end = omega (arith, long-p, lp, pn, known .room-prices);
+          discounts-room = rw (← en) at (enough .0);
+          prices-room = rw (← ea) at (enough .1);
+          number = number-is;
+          prices = rw number-is;
+        }
+
+module _ (job : Job) (needed all : ℕ) (d p lent-d lent-p : List ℕ) (h : Held job needed all d p lent-d lent-p) where
+  pub discounts-count : needed ≡ length (take needed d)
+  discounts-count = sym (h .discounts-size) ∙ ap length (sym (h .discounts-are))
+
+  pub prices-count : all ≡ length (take all p)
+  prices-count = sym (h .prices-size) ∙ ap length (sym (h .prices-are))
+
+  pub tree-fits : (job .steps ≤ 255) × (length (take needed d) ≤ length lent-d) × (length (take all p) ≤ length lent-p)
+  tree-fits = (h .few, omega (arith, discounts-count, h .discounts-room), omega (arith, prices-count, h .prices-room))
+
+  pub record-made : (r : JobPrices) (after-d after-p : List ℕ) →
+      Left (treeNumber (job .steps) (job .reversion) (take needed d) (jobFlows job) (job .option))
+      (treePrices (job .steps) (job .reversion) (take needed d) (jobFlows job) (job .option)) (take needed d) (take all p) lent-d lent-p r after-d after-p →
+      Record job lent-d lent-p r after-d after-p
+  record-made r after-d after-p made = rw (← h .number, ← h .prices, ← h .discounts-are, ← h .prices-are) made
+
+-- ---- the prices of a job's bytes
+
+-- what the prices of a job's bytes leave
+abbrev pub Bytes : List ℕ → List ℕ → List ℕ → JobPrices → List ℕ → List ℕ → Type 0
+Bytes bytes d p =
+    Left (bytesNumber bytes (length d) (length p)) (bytesPrices bytes (length d) (length p))
+    (jobDiscounts (readingOf bytes .job)) (jobStatePrices (readingOf bytes .job)) d p
+
+module _ (bytes d p : List ℕ) (q : Reading) (e : q ≡ readingOf bytes) where
+  number-read : q .number ≡ readingOf bytes .number
+  number-read = ap (λ (q : Reading). q .number) e
+
+  module _ (nz : q .number ≡ 0 → ⊥) where
+    read-found : q .number ≡ bytesNumber bytes (length d) (length p)
+    unfolding bytesNumber first-cause
+    read-found = rw (← number-read, ne-eqb (q .number) 0 nz)
+
+    read-given : refusedPrices (q .number) ≡ bytesPrices bytes (length d) (length p)
+    unfolding bytesPrices
+    read-given = ap refusedPrices read-found ∙ prices-refused _ _ _ _ (λ z. nz (read-found ∙ z))
+
+    pub bytes-refused : (r : JobPrices) → r ≡ refusedPrices (q .number) → Bytes bytes d p r d p
+    bytes-refused r er = left-refused _ _ _ _ d p r (er ∙ read-given) (λ z. nz (read-found ∙ z))
+
+  module _ (z : q .number ≡ 0) where
+    bytes-number : recordNumber (readingOf bytes .job) (length d) (length p) ≡ bytesNumber bytes (length d) (length p)
+    unfolding bytesNumber first-cause
+    bytes-number = rw (← number-read, eq-eqb (q .number) 0 z)
+
+    bytes-prices : recordPrices (readingOf bytes .job) (length d) (length p) ≡ bytesPrices bytes (length d) (length p)
+    unfolding bytesPrices recordPrices
+    bytes-prices = rw bytes-number
+
+    pub bytes-made : (r : JobPrices) (after-d after-p : List ℕ) → Record (q .job) d p r after-d after-p → Bytes bytes d p r after-d after-p
+    bytes-made r after-d after-p made =
+        rw (← bytes-number, ← bytes-prices) (subst (λ (x : Reading). Record (x .job) d p r after-d after-p) e made)

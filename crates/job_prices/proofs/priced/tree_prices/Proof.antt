@@ -1,0 +1,46 @@
+-- `job_prices::priced::tree_prices` meets its contract.
+-- Assumes nothing.
+use mathlib.Core.Path.{_∙_, ap}
+use mathlib.Core.Bool.{false}
+use Rattle.pricing.specs.declared.Price.{Price}
+use Rattle.job_prices.specs.JobPrices.{pricesOf}
+use borrow.Author.Needs.{needs}
+use Rattle.job_prices.proofs.PriceLaws as laws
+use Rattle.job_prices.proofs.priced.tree_prices.Statement.{statement}
+use Rattle.job_prices.proofs.priced.tree_prices.Tie as tie
+
+bond-price-requires : tie.Need-bond-price-requires
+bond-price-requires c κs = search needs
+
+no-price-requires : tie.Need-no-price-requires
+no-price-requires c κs = search needs
+
+prices-of-requires : tie.Need-prices-of-requires
+prices-of-requires c κs = search needs
+
+returns : tie.Need-returns
+returns c =
+    let a = c .before .before .before .before .before .before .before .args in
+    let bond = c .before .before .bond-price in
+    let none = ap (λ (p : Price). pricesOf (bond .result .number) (bond .result) false p) (c .before .no-price .ensures) in
+    laws.without-option (a .steps) (a .reversion) (a .discounts .now) (a .flows .now) (a .option) _ (bond .result) (c .before .before .before .if1 .taken)
+    (bond .ensures)
+    (c .prices-of .ensures ∙ none)
+
+bond-and-option-requires : tie.Need-bond-and-option-requires
+bond-and-option-requires c κs = search needs
+
+prices-of-requires-2 : tie.Need-prices-of-requires-2
+prices-of-requires-2 c κs = search needs
+
+returns-2 : tie.Need-returns-2
+returns-2 c =
+    let a = c .before .before .before .before .before .before .args in
+    let both = c .before .bond-and-option in
+    laws.with-option (a .steps) (a .reversion) (a .discounts .now) (a .flows .now) (a .option) _ (both .result) (c .before .before .if1 .left) (both .ensures)
+    (c .prices-of2 .ensures)
+
+pub tree-prices-spec : {M : Type 1} → statement M
+tree-prices-spec =
+    tie.close
+    (tie.spec bond-price-requires no-price-requires prices-of-requires returns bond-and-option-requires prices-of-requires-2 returns-2)

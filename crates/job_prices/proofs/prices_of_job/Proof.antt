@@ -1,0 +1,41 @@
+-- `job_prices::prices_of_job` meets its contract.
+-- Assumes nothing.
+use borrow.Author.Needs.{needs}
+use Rattle.job_prices.proofs.PriceLaws as laws
+use Rattle.job_prices.proofs.prices_of_job.Statement.{statement}
+use Rattle.job_prices.proofs.prices_of_job.Tie as tie
+
+read-requires : tie.Need-read-requires
+read-requires c κs = search needs
+
+refused-requires : tie.Need-refused-requires
+refused-requires c κs = search needs
+
+returns : tie.Need-returns
+returns c =
+    let a = c .before .before .before .before .before .before .before .args in
+    let read = c .before .before .before .read in
+    laws.bytes-refused (a .job .now) (a .discounts .now) (a .state-prices .now) (read .result) (read .ensures .0) (c .before .if1 .taken) _
+    (c .refused .ensures)
+
+prices-of-record-requires : tie.Need-prices-of-record-requires
+prices-of-record-requires c κs = search needs
+
+same-length : tie.Need-same-length
+same-length c = search needs
+
+same-length-2 : tie.Need-same-length-2
+same-length-2 c = search needs
+
+returns-2 : tie.Need-returns-2
+returns-2 c =
+    let a = c .before .before .before .before .before .before .before .before .before .before .before .before .before .args in
+    let read = c .before .before .before .before .before .before .before .before .before .read in
+    laws.bytes-made (a .job .now) (a .discounts .now) (a .state-prices .now) (read .result) (read .ensures .0)
+    (c .before .before .before .before .before .before .before .if1 .left) _ _ _
+    (c .before .before .before .before .prices-of-record .ensures)
+
+pub prices-of-job-spec : {M : Type 1} → statement M
+prices-of-job-spec =
+    tie.close
+    (tie.spec read-requires refused-requires returns prices-of-record-requires same-length same-length-2 returns-2)

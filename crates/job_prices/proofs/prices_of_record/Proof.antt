@@ -1,0 +1,113 @@
+-- `job_prices::prices_of_record` meets its contract.
+-- Assumes nothing.
+use native.Mathlib.Omega.{arith}
+use borrow.Author.Needs.{needs}
+use Rattle.job_prices.proofs.PriceLaws as laws
+use Rattle.job_prices.proofs.prices_of_record.Statement.{statement}
+use Rattle.job_prices.proofs.prices_of_record.Tie as tie
+
+discounts-requires : tie.Need-discounts-requires
+discounts-requires c κs = search needs
+
+state-prices-requires : tie.Need-state-prices-requires
+state-prices-requires c κs = search needs
+
+slice-aggregate-fit-of-record : tie.Need-slice-aggregate-fit-of-record
+slice-aggregate-fit-of-record c = search needs
+
+slice-aggregate-fit-of-record-2 : tie.Need-slice-aggregate-fit-of-record-2
+slice-aggregate-fit-of-record-2 c = search needs
+
+fit-of-record-requires : tie.Need-fit-of-record-requires
+fit-of-record-requires c κs = search needs
+
+memory-cause-requires : tie.Need-memory-cause-requires
+memory-cause-requires c κs = search needs
+
+lowest-cause-requires : tie.Need-lowest-cause-requires
+lowest-cause-requires c κs = search needs
+
+refused-requires : tie.Need-refused-requires
+refused-requires c κs = search needs
+
+returns : tie.Need-returns
+returns c =
+    let a = c .before .before .before .before .before .before .before .before .before .before .before .before .before .args in
+    let fit = c .before .before .before .before .before .before .fit-of-record in
+    let own-d = c .before .before .before .before .before .before .before .before .before .before .discounts in
+    let own-p = c .before .before .before .before .before .before .before .before .before .state-prices in
+    laws.record-refused (a .job) (own-d .result) (own-p .result) _ _ (fit .result) (own-d .ensures) (own-p .ensures) (fit .ensures)
+    (a .discounts .now) (a .state-prices .now) _ _ (c .before .before .before .memory-cause .ensures) (c .before .before .lowest-cause .ensures) _
+    (c .refused .ensures) (c .before .if1 .taken)
+
+discounts-needed-requires : tie.Need-discounts-needed-requires
+discounts-needed-requires c κs = search needs
+
+state-prices-needed-requires : tie.Need-state-prices-needed-requires
+state-prices-needed-requires c κs = search needs
+
+held : (c : tie.After-state-prices-needed) →
+    let a = c .before .before .before .before .before .before .before .before .before .before .before .before .before .before .args in
+    let fit = c .before .before .before .before .before .before .before .fit-of-record .last in
+    laws.Held (a .job) (c .before .discounts-needed .result .value) (c .state-prices-needed .result .value) (fit .1 .0) (fit .1 .1 .0)
+    (a .discounts .now) (a .state-prices .now)
+held c =
+    let a = c .before .before .before .before .before .before .before .before .before .before .before .before .before .before .args in
+    let fit = c .before .before .before .before .before .before .before .fit-of-record in
+    let own-d = c .before .before .before .before .before .before .before .before .before .before .before .discounts in
+    let own-p = c .before .before .before .before .before .before .before .before .before .before .state-prices in
+    let memory = c .before .before .before .before .memory-cause .ensures in
+    let cause = c .before .before .before .lowest-cause .ensures in
+    laws.held (a .job) (own-d .result) (own-p .result) _ _ (fit .result) (own-d .ensures) (own-p .ensures) (fit .ensures)
+    (a .discounts .now) (a .state-prices .now) _ _ memory cause (c .before .before .if1 .left)
+    (c .before .discounts-needed .result) (c .state-prices-needed .result) (c .before .discounts-needed .ensures) (c .state-prices-needed .ensures)
+
+array-share-prefix-fitted-discounts : tie.Need-array-share-prefix-fitted-discounts
+array-share-prefix-fitted-discounts c = held c .discounts-end
+
+slice-aggregate-prices-of-tree : tie.Need-slice-aggregate-prices-of-tree
+slice-aggregate-prices-of-tree c = laws.discounts-count _ _ _ _ _ _ _ (held (c .before))
+
+array-share-prefix-fitted-prices : tie.Need-array-share-prefix-fitted-prices
+array-share-prefix-fitted-prices c = held (c .before) .prices-end
+
+slice-aggregate-prices-of-tree-2 : tie.Need-slice-aggregate-prices-of-tree-2
+slice-aggregate-prices-of-tree-2 c = laws.prices-count _ _ _ _ _ _ _ (held (c .before .before))
+
+prices-of-tree-requires : tie.Need-prices-of-tree-requires
+prices-of-tree-requires c κs = laws.tree-fits _ _ _ _ _ _ _ (held (c .before .before .before .before))
+
+same-length : tie.Need-same-length
+same-length c = search needs
+
+same-length-2 : tie.Need-same-length-2
+same-length-2 c = search needs
+
+returns-2 : tie.Need-returns-2
+returns-2 c =
+    laws.record-made _ _ _ _ _ _ _ (held (c .before .before .before .before .before .before .before .before .before)) _ _ _
+    (c .before .before .before .before .prices-of-tree .ensures)
+
+pub prices-of-record-spec : {M : Type 1} → statement M
+prices-of-record-spec =
+    tie.close
+    (tie.spec
+    discounts-requires
+    state-prices-requires
+    slice-aggregate-fit-of-record
+    slice-aggregate-fit-of-record-2
+    fit-of-record-requires
+    memory-cause-requires
+    lowest-cause-requires
+    refused-requires
+    returns
+    discounts-needed-requires
+    state-prices-needed-requires
+    array-share-prefix-fitted-discounts
+    slice-aggregate-prices-of-tree
+    array-share-prefix-fitted-prices
+    slice-aggregate-prices-of-tree-2
+    prices-of-tree-requires
+    same-length
+    same-length-2
+    returns-2)

@@ -1,0 +1,68 @@
+-- The prices of a job (document 01, Prices; When the engine declines): fit, bond and option, the lowest number of all, and the lent tree memories.
+-- Assumes nothing.
+use Prim.Native.Nat.{ℕ}
+use mathlib.Core.Bool.{Bool, false, cond, not}
+use mathlib.Core.List.{List}
+use lib.Dec.{eqb}
+use Rattle.arithmetic.specs.Answers.{lowest-cause}
+use Rattle.limits.specs.Limits.{most-discounts, most-state-prices}
+use Rattle.fitting.specs.Entry.{memory-cause}
+use Rattle.pricing.specs.declared.Price.{Price}
+use Rattle.pricing.specs.Prices.{refusal, first-cause, bondPrice, optionPrice}
+use Rattle.job_record.specs.declared.OptionRecord.{OptionRecord}
+use Rattle.job_record.specs.declared.Job.{Job}
+use Rattle.job_record.specs.Reader.{readingOf}
+use Rattle.job_fit.specs.RecordFit.{jobFlows, jobDiscounts, recordFit}
+use Rattle.job_prices.specs.declared.JobPrices.{JobPrices}
+
+-- tag 0 stands for no option
+abbrev pub hasOption : OptionRecord → Bool
+hasOption option = not (eqb (option .tag) 0)
+
+-- the option of a tree whose discounts are lent; zeros for none
+abbrev pub treeOption : ℕ → ℕ → List ℕ → List ℕ → OptionRecord → Price
+treeOption n b discounts flows option =
+    cond (hasOption option) (optionPrice n b discounts flows (option .kind) (option .expiry) (option .strike)) (refusal 0)
+
+-- causes 10 to 12: the number of the option, which judges all that the bond's does; of the bond where there is none
+unfoldable pub treeNumber : ℕ → ℕ → List ℕ → List ℕ → OptionRecord → ℕ
+treeNumber n b discounts flows option =
+    cond (hasOption option) (treeOption n b discounts flows option .number) (bondPrice n b discounts flows .number)
+
+-- a refusal's number with zeros
+abbrev pub refusedPrices : ℕ → JobPrices
+refusedPrices number = record { number = number; bond = refusal 0; «has_option» = false; option = refusal 0 }
+
+-- all prices, or a refusal
+unfoldable pub pricesOf : ℕ → Price → Bool → Price → JobPrices
+pricesOf number bond present option =
+    cond (eqb number 0) (record { number = 0; bond = bond; «has_option» = present; option = option }) (refusedPrices number)
+
+unfoldable pub treePrices : ℕ → ℕ → List ℕ → List ℕ → OptionRecord → JobPrices
+treePrices n b discounts flows option =
+    pricesOf (treeNumber n b discounts flows option) (bondPrice n b discounts flows) (hasOption option) (treeOption n b discounts flows option)
+
+module _ (job : Job) where
+  -- 1, then the lowest of causes 2 to 9 and of 6 for lent memories of so many numbers, then causes 10 to 12
+  unfoldable pub recordNumber : ℕ → ℕ → ℕ
+  recordNumber discounts prices =
+      first-cause
+      (lowest-cause (recordFit job most-discounts most-state-prices) (memory-cause (job .steps) (job .reversion) discounts prices))
+      (treeNumber (job .steps) (job .reversion) (jobDiscounts job) (jobFlows job) (job .option))
+
+  abbrev pub jobBond : Price
+  jobBond = bondPrice (job .steps) (job .reversion) (jobDiscounts job) (jobFlows job)
+
+  abbrev pub jobOption : Price
+  jobOption = treeOption (job .steps) (job .reversion) (jobDiscounts job) (jobFlows job) (job .option)
+
+  unfoldable pub recordPrices : ℕ → ℕ → JobPrices
+  recordPrices discounts prices = pricesOf (recordNumber discounts prices) jobBond (hasOption (job .option)) jobOption
+
+-- of a job's bytes: 1 first
+unfoldable pub bytesNumber : List ℕ → ℕ → ℕ → ℕ
+bytesNumber bytes discounts prices = first-cause (readingOf bytes .number) (recordNumber (readingOf bytes .job) discounts prices)
+
+unfoldable pub bytesPrices : List ℕ → ℕ → ℕ → JobPrices
+bytesPrices bytes discounts prices =
+    pricesOf (bytesNumber bytes discounts prices) (jobBond (readingOf bytes .job)) (hasOption (readingOf bytes .job .option)) (jobOption (readingOf bytes .job))

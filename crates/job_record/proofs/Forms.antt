@@ -1,0 +1,209 @@
+-- What the tests of a job's form say of its bytes.
+-- Assumes nothing.
+use Prim.Native.Nat.{ℕ, zero, suc, _+_, _≤_, _<_}
+use native.Mathlib.Numerals.{add-one}
+use native.Mathlib.Omega.{arith}
+use mathlib.Core.Bool.{Bool, true, false, _&&_}
+use mathlib.Core.List.{List}
+use mathlib.Core.Path.{_≡_}
+use borrow.Author.Tests.{leb-true, eqb-true, ne-eqb, lt-leb, le-leb}
+use lib.ListN.{length, getD}
+use lib.Dec.{eqb, leb}
+use Rattle.arithmetic.specs.Row.{each}
+use Rattle.arithmetic.proofs.Numbers.{by-equal}
+use Rattle.arithmetic.proofs.RowLaws.{each-none, each-more, each-fails, each-holds}
+use Rattle.job_record.specs.Bytes.{Bytes, numberAt}
+use Rattle.job_record.specs.Form.{
+  mostBytes,
+  mostSteps,
+  dataAt,
+  afterField,
+  afterFields,
+  hasTag,
+  fieldAt,
+  fieldsFrom,
+  frequencyAt,
+  stepsAt,
+  reversionAt,
+  volatilityAt,
+  quotesAt,
+  flowsAt,
+  restAt,
+  optionWidth,
+  headFormed,
+  restFormed,
+  bodyFormed,
+  stepsOf,
+  wellFormed,
+}
+use Rattle.job_record.specs.declared.Tags.{Tags}
+use Rattle.job_record.specs.declared.Tags.the-variants.{AnyKind, Only}
+use Rattle.job_record.proofs.Answers.{first, second}
+use Rattle.job_record.proofs.Numbers.{number-bound}
+
+-- a field that stands at a place is there whole
+module _ (s : List ℕ) (o : ℕ) (tags : Tags) (k : ℕ) (h : fieldAt s o tags k ≡ true) where
+  pub field-whole : afterField o k ≤ length s
+  unfolding fieldAt
+  field-whole = leb-true _ _ (first (leb (afterField o k) (length s)) _ h)
+
+  pub field-has : hasTag tags (getD s o 0) ≡ true
+  unfolding fieldAt
+  field-has = first (hasTag tags (getD s o 0)) _ (second (leb (afterField o k) (length s)) h)
+
+  pub field-length : numberAt s (o + 1) 2 ≡ k
+  unfolding fieldAt
+  field-length = eqb-true _ _ (second (hasTag tags (getD s o 0)) (second (leb (afterField o k) (length s)) h))
+
+pub field-tag : (s : List ℕ) (o tag k : ℕ) → fieldAt s o (Only tag) k ≡ true → getD s o 0 ≡ tag
+field-tag s o tag k h = eqb-true _ _ (field-has s o (Only tag) k h)
+
+-- a test that holds of each number below n
+all-each : (n : ℕ) (p : ℕ → Bool) → ((k : ℕ) → k < n → p k ≡ true) → each n p ≡ true
+all-each zero p h = each-none p
+all-each (suc n) p h = rw (← add-one n) (each-more n p (all-each n p (λ k l. h k (omega arith))) (h n (omega arith)))
+
+-- several fields: none, one more, one that is not there, and each of them
+module _ (s : List ℕ) (from : ℕ) (tags : Tags) (width : ℕ) where
+  pub fields-none : fieldsFrom s from tags width 0 ≡ true
+  unfolding fieldsFrom
+  fields-none = each-none (λ i. fieldAt s (afterFields from width i) tags width)
+
+  -- place is the i-th field's, as the code has it
+  module _ (i place : ℕ) (here : place ≡ afterFields from width i) where
+    pub fields-more :
+        fieldsFrom s from tags width i ≡ true → fieldAt s place tags width ≡ true → fieldsFrom s from tags width (i + 1) ≡ true
+    unfolding fieldsFrom
+    fields-more before one = each-more i (λ j. fieldAt s (afterFields from width j) tags width) before (rw here at one)
+
+    pub fields-fails :
+        (count : ℕ) → i < count → fieldAt s place tags width ≡ false → fieldsFrom s from tags width count ≡ false
+    unfolding fieldsFrom
+    fields-fails count below none =
+        each-fails count i (λ j. fieldAt s (afterFields from width j) tags width) below (rw here at none)
+
+  module _ (count : ℕ) where
+    pub fields-each :
+        fieldsFrom s from tags width count ≡ true → (i : ℕ) → i < count → fieldAt s (afterFields from width i) tags width ≡ true
+    unfolding fieldsFrom
+    fields-each h i = each-holds count i (λ j. fieldAt s (afterFields from width j) tags width) h
+
+    pub each-fields :
+        ((i : ℕ) → i < count → fieldAt s (afterFields from width i) tags width ≡ true) → fieldsFrom s from tags width count ≡ true
+    unfolding fieldsFrom
+    each-fields h = all-each count (λ j. fieldAt s (afterFields from width j) tags width) h
+
+-- the fields of the head
+module _ (s : List ℕ) (h : headFormed s ≡ true) where
+  pub head-frequency : fieldAt s frequencyAt (Only 1) 1 ≡ true
+  unfolding headFormed
+  head-frequency = first (fieldAt s frequencyAt (Only 1) 1) _ h
+
+  after-frequency : (fieldAt s stepsAt (Only 2) 1 && (fieldAt s reversionAt (Only 3) 2 && fieldAt s volatilityAt (Only 4) 4)) ≡ true
+  unfolding headFormed
+  after-frequency = second (fieldAt s frequencyAt (Only 1) 1) h
+
+  pub head-steps : fieldAt s stepsAt (Only 2) 1 ≡ true
+  head-steps = first (fieldAt s stepsAt (Only 2) 1) _ after-frequency
+
+  after-steps : (fieldAt s reversionAt (Only 3) 2 && fieldAt s volatilityAt (Only 4) 4) ≡ true
+  after-steps = second (fieldAt s stepsAt (Only 2) 1) after-frequency
+
+  pub head-reversion : fieldAt s reversionAt (Only 3) 2 ≡ true
+  head-reversion = first (fieldAt s reversionAt (Only 3) 2) _ after-steps
+
+  pub head-volatility : fieldAt s volatilityAt (Only 4) 4 ≡ true
+  head-volatility = second (fieldAt s reversionAt (Only 3) 2) after-steps
+
+  pub head-whole : quotesAt ≤ length s
+  head-whole = field-whole s volatilityAt (Only 4) 4 head-volatility
+
+-- where there is an option, it ends the job
+module _ (s : List ℕ) (o : ℕ) (h : restFormed s o ≡ true) where
+  module _ (other : length s ≡ o → ⊥) where
+    rest-parts : (fieldAt s o (Only 8) optionWidth && eqb (length s) (afterField o optionWidth)) ≡ true
+    unfolding restFormed
+    rest-parts = rw (ne-eqb _ _ other) at h
+
+    pub rest-option : fieldAt s o (Only 8) optionWidth ≡ true
+    rest-option = first (fieldAt s o (Only 8) optionWidth) _ rest-parts
+
+    pub rest-length : length s ≡ afterField o optionWidth
+    rest-length = eqb-true _ _ (second (fieldAt s o (Only 8) optionWidth) rest-parts)
+
+  pub rest-from : o ≤ length s
+  rest-from = by-equal (length s) o (λ same. omega arith) (λ other. omega (arith, rest-length other))
+
+-- the quotes, the flows and what follows these
+module _ (s : List ℕ) (quotes n : ℕ) (h : bodyFormed s quotes n ≡ true) where
+  pub body-quotes : fieldsFrom s quotes AnyKind 8 n ≡ true
+  unfolding bodyFormed
+  body-quotes = first (fieldsFrom s quotes AnyKind 8 n) _ h
+
+  after-quotes : (fieldsFrom s (flowsAt quotes n) (Only 7) 4 n && restFormed s (restAt quotes n)) ≡ true
+  unfolding bodyFormed
+  after-quotes = second (fieldsFrom s quotes AnyKind 8 n) h
+
+  pub body-flows : fieldsFrom s (flowsAt quotes n) (Only 7) 4 n ≡ true
+  body-flows = first (fieldsFrom s (flowsAt quotes n) (Only 7) 4 n) _ after-quotes
+
+  pub body-rest : restFormed s (restAt quotes n) ≡ true
+  body-rest = second (fieldsFrom s (flowsAt quotes n) (Only 7) 4 n) after-quotes
+
+  -- the fields that are not the option
+  pub body-length : restAt quotes n ≤ length s
+  body-length = rest-from s (restAt quotes n) body-rest
+
+module _ (s : List ℕ) (h : wellFormed s ≡ true) where
+  pub well-short : length s ≤ mostBytes
+  unfolding wellFormed
+  well-short = leb-true _ _ (first (leb (length s) mostBytes) _ h)
+
+  after-length : (headFormed s && bodyFormed s quotesAt (stepsOf s)) ≡ true
+  unfolding wellFormed
+  after-length = second (leb (length s) mostBytes) h
+
+  pub well-head : headFormed s ≡ true
+  well-head = first (headFormed s) _ after-length
+
+  pub well-body : bodyFormed s quotesAt (stepsOf s) ≡ true
+  well-body = second (headFormed s) after-length
+
+  pub well-length : restAt quotesAt (stepsOf s) ≤ length s
+  well-length = body-length s quotesAt (stepsOf s) well-body
+
+-- a job of bytes has at most 255 steps
+pub steps-few : (s : List ℕ) → Bytes s → stepsOf s ≤ mostSteps
+steps-few s b = omega (arith, number-bound s b (dataAt stepsAt) 1)
+
+-- the answer, by the test that fails first
+module _ (s : List ℕ) (quotes n : ℕ) where
+  pub refuse-quotes : fieldsFrom s quotes AnyKind 8 n ≡ false → false ≡ bodyFormed s quotes n
+  unfolding bodyFormed
+  refuse-quotes bad = rw bad
+
+  -- flows and rest are the places after the quotes and after the flows, as the code has them
+  module _ (good : fieldsFrom s quotes AnyKind 8 n ≡ true) (flows : ℕ) (here : flows ≡ flowsAt quotes n) where
+    pub refuse-flows : fieldsFrom s flows (Only 7) 4 n ≡ false → false ≡ bodyFormed s quotes n
+    unfolding bodyFormed
+    refuse-flows bad = rw (good, rw here at bad)
+
+    pub formed-by-rest :
+        fieldsFrom s flows (Only 7) 4 n ≡ true → (rest : ℕ) → rest ≡ afterFields flows 4 n → restFormed s rest ≡ bodyFormed s quotes n
+    unfolding bodyFormed
+    formed-by-rest formed rest there = rw (good, rw here at formed, there, here)
+
+module _ (s : List ℕ) where
+  pub refuse-long : mostBytes < length s → false ≡ wellFormed s
+  unfolding wellFormed
+  refuse-long long = rw (lt-leb (length s) mostBytes long)
+
+  module _ (short : length s ≤ mostBytes) where
+    pub refuse-head : headFormed s ≡ false → false ≡ wellFormed s
+    unfolding wellFormed
+    refuse-head bad = rw (le-leb (length s) mostBytes short, bad)
+
+    -- n is the number of steps as it was read
+    pub formed-by-body : headFormed s ≡ true → (n : ℕ) → n ≡ stepsOf s → bodyFormed s quotesAt n ≡ wellFormed s
+    unfolding wellFormed
+    formed-by-body head n read = rw (← read) (rw (le-leb (length s) mostBytes short, head))

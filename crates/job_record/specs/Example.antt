@@ -1,0 +1,49 @@
+-- The job that document 01 prints (Job and sheet).
+-- Assumes nothing.
+use Prim.Native.Nat.{ℕ, _-_}
+use mathlib.Core.List.{List, [], _∷_, _++_}
+use lib.ListN.{replicate}
+use Rattle.job_record.specs.Form.{mostSteps}
+use Rattle.job_record.specs.declared.Job.{Job}
+
+-- 01000101 02000101 0300020000 04000400000000
+abbrev pub exampleHead : List ℕ
+exampleHead = 1 ∷ 0 ∷ 1 ∷ 1 ∷ 2 ∷ 0 ∷ 1 ∷ 1 ∷ 3 ∷ 0 ∷ 2 ∷ 0 ∷ 0 ∷ 4 ∷ 0 ∷ 4 ∷ 0 ∷ 0 ∷ 0 ∷ 0 ∷ []
+
+-- 0500083FF00A3D70A3D70A, or the same with another tag
+abbrev pub quoteOf : ℕ → List ℕ
+quoteOf tag = tag ∷ 0 ∷ 8 ∷ 63 ∷ 240 ∷ 10 ∷ 61 ∷ 112 ∷ 163 ∷ 215 ∷ 10 ∷ []
+
+abbrev pub exampleQuote : List ℕ
+exampleQuote = quoteOf 5
+
+-- 0700043B9ACA00
+abbrev pub exampleFlow : List ℕ
+exampleFlow = 7 ∷ 0 ∷ 4 ∷ 59 ∷ 154 ∷ 202 ∷ 0 ∷ []
+
+-- 08000604013C336080
+abbrev pub exampleOption : List ℕ
+exampleOption = 8 ∷ 0 ∷ 6 ∷ 4 ∷ 1 ∷ 60 ∷ 51 ∷ 96 ∷ 128 ∷ []
+
+abbrev pub jobWith : List ℕ → List ℕ
+jobWith quote = exampleHead ++ (quote ++ (exampleFlow ++ exampleOption))
+
+abbrev pub example : List ℕ
+example = jobWith exampleQuote
+
+-- yearly steps, one of them, no reversion, no volatility; the float of 1.0025 under a tag; one; an American put at 1.01, to row 1
+abbrev pub recordWith : ℕ → Job
+recordWith tag =
+    record {
+      frequency = 1;
+      steps = 1;
+      reversion = 0;
+      volatility = 0;
+      kinds = tag ∷ replicate (mostSteps - 1) 0;
+      figures = 4607193677799085834 ∷ replicate (mostSteps - 1) 0;
+      flows = 1000000000 ∷ replicate (mostSteps - 1) 0;
+      option = record { tag = 8; kind = 4; expiry = 1; strike = 1010000000 };
+    }
+
+abbrev pub exampleJob : Job
+exampleJob = recordWith 5

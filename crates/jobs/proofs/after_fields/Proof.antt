@@ -1,0 +1,30 @@
+-- `jobs::after_fields` meets its contract.
+-- Assumes nothing.
+use borrow.Author.Needs.{needs}
+use Prim.Native.Nat.{_+_, _*_, _≤_}
+use native.Mathlib.Nat.{mul-le-mul}
+use native.Mathlib.Omega.{arith}
+use mathlib.Core.Path.{refl}
+use Rattle.job_record.specs.Bytes.{mostWidth}
+use Rattle.job_record.specs.Form.{mostSteps}
+use Rattle.jobs.proofs.after_fields.Statement.{statement}
+use Rattle.jobs.proofs.after_fields.Tie as tie
+
+-- the fields take no more bytes than the most and widest
+near : (c : tie.Start) → (c .args .width + 3) * c .args .count ≤ (mostWidth + 3) * mostSteps
+near c = mul-le-mul {n₁ = c .args .width + 3} {m₁ = c .args .count} {n₂ = mostWidth + 3} {m₂ = mostSteps} (omega arith) (omega arith)
+
+add-result : tie.Need-add-result
+add-result c = search needs
+
+mul-result : tie.Need-mul-result
+mul-result c = omega (arith, near c)
+
+add-result-2 : tie.Need-add-result-2
+add-result-2 c = omega (arith, near c)
+
+returns : tie.Need-returns
+returns c = (refl, omega (arith, near c))
+
+pub after-fields-spec : {M : Type 1} → statement M
+after-fields-spec = tie.close (tie.spec add-result mul-result add-result-2 returns)

@@ -1,0 +1,46 @@
+-- `lent_tree::discounts_cause` meets its contract.
+-- Assumes nothing.
+use native.Mathlib.Omega.{arith}
+use lib.ListN.{length-take}
+use borrow.Author.Needs.{needs}
+use borrow.Author.Tests.{not-true, not-false}
+use Rattle.lent_tree.proofs.LentLaws.{numbers-refused, room-refused, discount-refused, lent-passed}
+use Rattle.lent_tree.proofs.discounts_cause.Statement.{statement}
+use Rattle.lent_tree.proofs.discounts_cause.Tie as tie
+
+discounts-needed-requires : tie.Need-discounts-needed-requires
+discounts-needed-requires c κs = search needs
+
+returns : tie.Need-returns
+returns c = numbers-refused _ _ _ _ (c .before .before .discounts-needed .ensures) (c .if1 .taken)
+
+returns-2 : tie.Need-returns-2
+returns-2 c = room-refused _ _ _ _ (c .before .before .before .discounts-needed .ensures) (c .before .if1 .left) (c .if2 .taken)
+
+slice-aggregate-all-between : tie.Need-slice-aggregate-all-between
+slice-aggregate-all-between c = simp length-take (omega arith)
+
+all-between-requires : tie.Need-all-between-requires
+all-between-requires c κs = search needs
+
+returns-3 : tie.Need-returns-3
+returns-3 c =
+    discount-refused _ _ _ _ (c .before .before .before .before .before .before .discounts-needed .ensures) (c .before .before .before .before .if1 .left)
+    (c .before .before .before .if2 .left) _ (c .before .all-between .ensures) (not-true _ (c .if3 .taken))
+
+returns-4 : tie.Need-returns-4
+returns-4 c =
+    lent-passed _ _ _ _ (c .before .before .before .before .before .before .discounts-needed .ensures) (c .before .before .before .before .if1 .left)
+    (c .before .before .before .if2 .left) _ (c .before .all-between .ensures) (not-false _ (c .if3 .left))
+
+pub discounts-cause-spec : {M : Type 1} → statement M
+discounts-cause-spec =
+    tie.close
+    (tie.spec
+    discounts-needed-requires
+    returns
+    returns-2
+    slice-aggregate-all-between
+    all-between-requires
+    returns-3
+    returns-4)

@@ -1,0 +1,21 @@
+// A tree whose discounts are lent.
+ghost use mathlib.Core.Path.{_≡_};
+ghost use Rattle.lent_tree.specs.LentTree.{discounts-cause};
+
+// The first cause about a tree's numbers and its lent discounts; 0 where there is none.
+pub fn discounts_cause(steps: usize, reversion: u64, discounts: &[u64]) -> u64
+    ensures { λ r. ⌜ r ≡ discounts-cause steps reversion (now (discounts .entry)) ⌝ }
+{
+    let needed = lattice::discounts_needed(steps, reversion);
+    if needed.number != 0 {
+        return needed.number;
+    }
+    let size = needed.value as usize;
+    if discounts.len() < size {
+        return 6;
+    }
+    if !arithmetic::all_between(1, limits::MOST_DISCOUNT, &discounts[..size]) {
+        return 9;
+    }
+    0
+}

@@ -1,0 +1,98 @@
+-- What the tests of limits say.
+-- Assumes nothing.
+use mathlib.Core.Path.{_≡_, refl, sym, ap, _∙_}
+use mathlib.Core.Bool.{Bool, true, false, cond, not, _&&_}
+use Prim.Native.Nat.{ℕ, suc, _≤_, _<_}
+use native.Mathlib.Omega.{arith}
+use lib.Dec.{leb, ltb}
+use borrow.Author.Tests.{le-leb, lt-leb, lt-ltb, le-ltb, leb-true, ltb-true, ltb-false}
+use Rattle.arithmetic.specs.Row.{values, between}
+use Rattle.arithmetic.proofs.Numbers.{by-order}
+use Rattle.arithmetic.proofs.BetweenLaws.{and-left, and-right, between-holds, between-below, between-above}
+use Rattle.limits.specs.Limits.{most-steps, most-reversion, most-discount, value-limit, is-steps, is-reversion, is-discount, shape-cause, limit-cause}
+
+-- a test that starts from 1
+module _ (most n : ℕ) where
+  pub from-one-none : n < 1 → (leb 1 n && leb n most) ≡ false
+  from-one-none h = between-below 1 most (λ (k : ℕ). k) n h
+
+  pub from-one-above : most < n → (leb 1 n && leb n most) ≡ false
+  from-one-above h = between-above 1 most (λ (k : ℕ). k) n h
+
+  pub from-one-holds : 1 ≤ n → n ≤ most → (leb 1 n && leb n most) ≡ true
+  from-one-holds h l = between-holds 1 most (λ (k : ℕ). k) n h l
+
+  pub from-one-rest : 1 ≤ n → (leb 1 n && leb n most) ≡ leb n most
+  from-one-rest h = rw (le-leb 1 n h)
+
+  pub from-one : (leb 1 n && leb n most) ≡ true → (1 ≤ n) × (n ≤ most)
+  from-one e = (leb-true 1 n (and-left (leb 1 n) (leb n most) e), leb-true n most (and-right (leb 1 n) (leb n most) e))
+
+cause-steps : (p q : Bool) → p ≡ false → _≡_ {A = ℕ} 3 (cond p (cond q 0 4) 3)
+cause-steps true q e = let z : _≡_ {A = ℕ} 0 1 = cc in absurd (omega arith)
+cause-steps false q e = refl
+
+cause-none : (p q : Bool) → _≡_ {A = ℕ} (cond p (cond q 0 4) 3) 0 → (p ≡ true) × (q ≡ true)
+cause-none true true e = (refl, refl)
+cause-none true false e = absurd (omega arith)
+cause-none false q e = absurd (omega arith)
+
+module _ (n b : ℕ) where
+  pub shape-steps : is-steps n ≡ false → 3 ≡ shape-cause n b
+  unfolding shape-cause
+  shape-steps e = cause-steps (is-steps n) (is-reversion b) e
+
+  module _ (known : is-steps n ≡ true) where
+    pub shape-reversion : is-reversion b ≡ false → 4 ≡ shape-cause n b
+    unfolding shape-cause
+    shape-reversion e = sym (rw (known, e))
+
+    pub shape-none : is-reversion b ≡ true → 0 ≡ shape-cause n b
+    unfolding shape-cause
+    shape-none e = sym (rw (known, e))
+
+  -- the same by the numbers
+  pub shape-empty : n ≡ 0 → shape-cause n b ≡ 3
+  shape-empty z = sym (shape-steps (from-one-none most-steps n (omega arith)))
+
+  pub shape-long : most-steps < n → shape-cause n b ≡ 3
+  shape-long h = sym (shape-steps (from-one-above most-steps n h))
+
+  module _ (some : 0 < n) (few : n ≤ most-steps) where
+    pub shape-steep : most-reversion < b → shape-cause n b ≡ 4
+    shape-steep h = sym (shape-reversion (from-one-holds most-steps n some few) (lt-leb b most-reversion h))
+
+    pub shape-found : b ≤ most-reversion → shape-cause n b ≡ 0
+    shape-found h = sym (shape-none (from-one-holds most-steps n some few) (le-leb b most-reversion h))
+
+  -- no cause: both numbers are within their limits
+  pub shape-accepted : shape-cause n b ≡ 0 → (0 < n) × (n ≤ most-steps) × (b ≤ most-reversion)
+  unfolding shape-cause
+  shape-accepted e =
+      let c = cause-none (is-steps n) (is-reversion b) e in
+      let s = from-one most-steps n (c .0) in
+      (s .0, s .1, leb-true b most-reversion (c .1))
+
+-- a node discount and its limits
+module _ (v : ℕ) (e : is-discount v ≡ true) where
+  pub discount-least : 1 ≤ v
+  discount-least = from-one most-discount v e .0
+
+  pub discount-most : v ≤ most-discount
+  discount-most = from-one most-discount v e .1
+
+-- a value and its limit
+module _ (v : ℕ) where
+  pub limit-above : value-limit < v → 12 ≡ limit-cause v
+  unfolding limit-cause
+  limit-above h = sym (rw (lt-ltb value-limit v h))
+
+  pub limit-kept : v ≤ value-limit → 0 ≡ limit-cause v
+  unfolding limit-cause
+  limit-kept h = sym (rw (le-ltb value-limit v h))
+
+  pub limit-accepted : limit-cause v ≡ 0 → v ≤ value-limit
+  limit-accepted e = by-order v value-limit (λ h. h) (λ h. absurd (none (limit-above h ∙ e)))
+    where
+      none : _≡_ {A = ℕ} 12 0 → ⊥
+      none z = omega arith

@@ -1,0 +1,60 @@
+// The limits of steps, reversions, discounts and values, tested in one place.
+ghost use mathlib.Core.Path.{_≡_};
+ghost use Rattle.limits.specs.Limits.{is-steps, is-reversion, is-discount, shape-cause, limit-cause};
+
+pub const MOST_STEPS: usize = 60;
+
+pub const MOST_REVERSION: u64 = 6_000;
+
+pub const MOST_DISCOUNT: u64 = 1_100_000_000;
+
+pub const VALUE_LIMIT: u64 = 8_000_000_000;
+
+pub const MOST_NODES: usize = 121;
+
+// Whether the steps are 1 to 60.
+pub fn is_steps(steps: usize) -> bool
+    ensures { λ r. ⌜ r ≡ is-steps steps ⌝ }
+{
+    if steps < 1 {
+        return false;
+    }
+    steps <= MOST_STEPS
+}
+
+// Whether the reversion is at most 6,000.
+pub fn is_reversion(reversion: u64) -> bool
+    ensures { λ r. ⌜ r ≡ is-reversion reversion ⌝ }
+{
+    reversion <= MOST_REVERSION
+}
+
+// Whether a number is a node discount, 1 to 1,100,000,000.
+pub fn is_discount(discount: u64) -> bool
+    ensures { λ r. ⌜ r ≡ is-discount discount ⌝ }
+{
+    if discount < 1 {
+        return false;
+    }
+    discount <= MOST_DISCOUNT
+}
+
+// The cause about the numbers of a tree: 3, 4, or 0 where there is none.
+pub fn shape_cause(steps: usize, reversion: u64) -> u64
+    ensures { λ r. ⌜ r ≡ shape-cause steps reversion ⌝ }
+{
+    if !is_steps(steps) {
+        return 3;
+    }
+    if !is_reversion(reversion) {
+        return 4;
+    }
+    0
+}
+
+// The cause about a value: 12 where it is above 8, or 0.
+pub fn limit_cause(value: u64) -> u64
+    ensures { λ r. ⌜ r ≡ limit-cause value ⌝ }
+{
+    if VALUE_LIMIT < value { 12 } else { 0 }
+}

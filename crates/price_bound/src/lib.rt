@@ -1,0 +1,52 @@
+// How far the prices on a tree may be from the exact ones, from its lent discounts.
+use arithmetic::Answer;
+ghost use mathlib.Core.Path.{_≡_};
+ghost use Prim.Native.Nat.{ℕ, _*_, _+_, _<_, _≤_};
+ghost use Rattle.arithmetic.specs.Rounding.{up};
+ghost use Rattle.lattice.specs.RateTree.{rate-tree};
+ghost use Rattle.lent_tree.specs.LentTree.{stored, Accepted};
+ghost use Rattle.pricing_laws.specs.TreePricer.{greatest-discount, roll-loss};
+ghost use Rattle.price_bound.specs.PriceBound.{bound-of, priceErrorBound};
+
+// The error bound of a row from the later one.
+fn bound_step(steps: usize, reversion: u64, row: usize, discounts: &[u64], later: u64) -> u64
+    requires { ⌜ Accepted steps reversion (now discounts) × (row < steps) × (later ≤ 1000000) ⌝ }
+    ensures { λ r. ⌜ r ≡ up (greatest-discount (rate-tree reversion) (stored reversion (now (discounts .entry))) row * later) 1000000000
+        + roll-loss ⌝ }
+{
+    let shape = lattice::row_shape(reversion, steps, row);
+    let start = shape.start;
+    let end = start + shape.count;
+    let greatest = arithmetic::greatest_of(&discounts[start..end]);
+    (greatest * later + 999_999_999) / 1_000_000_000 + 3
+}
+
+fn error_bound(steps: usize, reversion: u64, discounts: &[u64]) -> u64
+    requires { ⌜ Accepted steps reversion (now discounts) ⌝ }
+    ensures { λ r. ⌜ r ≡ bound-of steps reversion (now (discounts .entry)) ⌝ }
+{
+    let mut bound: u64 = 0;
+    let mut row = steps;
+    while 0 < row {
+        row -= 1;
+        bound = bound_step(steps, reversion, row, discounts, bound);
+    }
+    bound
+}
+
+// The error bound of bonds and options on the tree whose discounts are lent; 3, 4, 6 or 9 where the tree is refused.
+pub fn price_error_bound(steps: usize, reversion: u64, discounts: &[u64]) -> Answer
+    ensures { λ r. ⌜ r ≡ priceErrorBound steps reversion (now (discounts .entry)) ⌝ }
+{
+    let cause = lent_tree::discounts_cause(steps, reversion, discounts);
+    if cause != 0 {
+        return Answer {
+            number: cause,
+            value: 0,
+        };
+    }
+    Answer {
+        number: 0,
+        value: error_bound(steps, reversion, discounts),
+    }
+}

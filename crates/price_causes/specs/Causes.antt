@@ -1,0 +1,29 @@
+-- Causes of refusal about flows and about an option (document 01, When the engine declines).
+-- Assumes nothing.
+use mathlib.Core.Path.{_≡_}
+use Prim.Native.Nat.{ℕ, _≤_, _<_}
+use mathlib.Core.Bool.{cond, _&&_}
+use mathlib.Core.List.{List}
+use lib.Dec.{eqb, leb}
+use lib.ListN.{length}
+use Rattle.arithmetic.specs.Row.{values, each, between}
+
+-- a flow is at most 2 × one, a strike at most 4 × one
+abbrev pub most-flow : ℕ
+most-flow = 2000000000
+
+abbrev pub most-strike : ℕ
+most-strike = 4000000000
+
+-- 6: flows not n; 10: a flow above its limit
+unfoldable pub flows-cause : ℕ → List ℕ → ℕ
+flows-cause n flows = cond (eqb (length flows) n) (cond (each (length flows) (between 0 most-flow (values flows))) 0 10) 6
+
+-- 11: kind, expiry or strike outside its limit
+unfoldable pub option-cause : ℕ → ℕ → ℕ → ℕ → ℕ
+option-cause n kind expiry strike = cond (leb 1 kind && leb kind 4 && leb expiry n && leb strike most-strike) 0 11
+
+-- flows after the causes were tested
+pub record Accepted-flows (n : ℕ) (flows : List ℕ) : Type 0 where
+  pub count : length flows ≡ n
+  pub flowing : (k : ℕ) → k < n → values flows k ≤ most-flow

@@ -1,0 +1,28 @@
+-- `record_sheet::lines::put_prices` meets its contract.
+-- Assumes nothing.
+use Prim.Native.Nat.{_-_}
+use Rattle.sheet_laws.proofs.PartLaws as laws
+use borrow.Author.Needs.{needs}
+use native.Mathlib.Omega.{arith}
+use Rattle.record_sheet.proofs.lines.put_prices.Statement.{statement}
+use Rattle.record_sheet.proofs.lines.put_prices.Tie as tie
+
+put-option-requires : tie.Need-put-option-requires
+put-option-requires c κs = (omega (arith, c .before .before .pre .0), c .before .before .pre .1)
+
+bond-line-requires : tie.Need-bond-line-requires
+bond-line-requires c κs = search needs
+
+same-length : tie.Need-same-length
+same-length c = search needs
+
+returns : tie.Need-returns
+returns c =
+    let s = c .before .before .before .before .before .before .before .before .before in
+    let put-option = c .before .before .before .before .before .before .put-option in
+    let bond-line = c .before .before .bond-line in
+    laws.prices-stand _ _ (s .args .bond) (s .args .present) (s .args .option) (search needs, search needs) (search needs, search needs) (s .pre .0)
+    (put-option .ensures) (bond-line .ensures .0) (bond-line .ensures .1)
+
+pub put-prices-spec : {M : Type 1} → statement M
+put-prices-spec = tie.close (tie.spec put-option-requires bond-line-requires same-length returns)

@@ -1,0 +1,92 @@
+// The sheet of a job's record.
+mod lines;
+mod memories;
+
+ghost use mathlib.Core.Path.{_≡_};
+ghost use Prim.Native.Nat.{_≤_};
+ghost use lib.ListN.{length};
+ghost use Rattle.job_prices.specs.JobPrices.{hasOption, jobBond, jobOption};
+ghost use Rattle.sheet_room.specs.Room.{sheetRoom};
+ghost use Rattle.text_laws.specs.Put.{Put};
+ghost use Rattle.sheet_laws.specs.Stored.{Fitted};
+ghost use Rattle.sheet_laws.specs.WholeJob.{roomCause, jobNumber, jobText, memoryOf};
+ghost use Rattle.record_sheet.specs.Answers.{refusedSheet, answerOf};
+use job_prices::JobPrices;
+use job_record::Job;
+
+// Room for the longest sheet: 3,600 nodes, 60 rows and two prices, 128 bytes a line.
+const SHEET_ROOM: usize = 468_736;
+
+// A sheet that stands at the end of the lent room and is so many bytes long; a refusal's number with a zero.
+#[repr(C)]
+pub struct Written {
+    pub number: u64,
+    pub size: usize,
+}
+
+fn refused(number: u64) -> Written
+    ensures { λ r. ⌜ r ≡ refusedSheet number ⌝ }
+{
+    Written { number, size: 0 }
+}
+
+fn room_cause(room: usize) -> u64
+    ensures { λ r. ⌜ r ≡ roomCause room ⌝ }
+{
+    if room < SHEET_ROOM {
+        return 6;
+    }
+    0
+}
+
+// Draws the priced tree that stands at the start of both memories.
+fn draw<'a>(
+    job: Job,
+    prices: JobPrices,
+    discounts: &'a [u64],
+    state_prices: &'a [u64],
+    out: &mut [u8],
+) -> usize
+    requires { ⌜ Fitted job (now discounts) (now «state_prices») × (sheetRoom ≤ length (now out)) ⌝ }
+    requires { ⌜ prices ≡ record { number = 0; bond = jobBond job; «has_option» = hasOption (job .option); option = jobOption job } ⌝ }
+    ensures { λ r. ⌜ Put (now (out .entry)) (length (now (out .entry))) (jobText job) r (now (out .exit)) ⌝ }
+{
+    let steps = job.steps;
+    let reversion = job.reversion;
+    let mut quotes = memories::quotes();
+    job_fit::quotes_of_record(job, &mut quotes);
+    let discount_count = lattice::discounts_needed(steps, reversion);
+    let price_count = lattice::state_prices_needed(steps, reversion);
+    lines::put_sheet(
+        out,
+        steps,
+        reversion,
+        &quotes[..steps],
+        &discounts[..discount_count.value as usize],
+        &state_prices[..price_count.value as usize],
+        prices.bond,
+        prices.has_option,
+        prices.option,
+    )
+}
+
+// The sheet of a record, at the end of the lent room: 468,736 bytes are enough for every job, and fewer are refused with 6. Else the number of
+// its prices. A refusal leaves the room as it was.
+pub fn sheet_of_record(job: Job, out: &mut [u8]) -> Written
+    ensures answer { λ r. ⌜ r ≡ answerOf (jobNumber job (length (now (out .entry)))) (jobText job) ⌝ }
+    ensures memory { λ _. ⌜ now (out .exit) ≡ memoryOf (jobNumber job (length (now (out .entry)))) (jobText job) (now (out .entry)) ⌝ }
+{
+    let mut discounts = memories::discounts();
+    let mut state_prices = memories::state_prices();
+    let prices = job_prices::prices_of_record(job, &mut discounts, &mut state_prices);
+    let room = out.len();
+    let cause = arithmetic::lowest_cause(prices.number, room_cause(room));
+    if cause != 0 {
+        return refused(cause);
+    }
+    let start = draw(job, prices, &discounts, &state_prices, out);
+    Written {
+        number: 0,
+        size: room - start,
+    }
+}

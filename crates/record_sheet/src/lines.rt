@@ -1,0 +1,194 @@
+// The lines of a priced tree, put into a lent buffer from its end.
+ghost use mathlib.Core.Path.{_≡_};
+ghost use mathlib.Core.Bool.{Bool};
+ghost use Prim.Native.Nat.{ℕ, suc, _+_, _*_, _≤_, _<_};
+ghost use lib.ListN.{length};
+ghost use Rattle.lattice.specs.Shape.{node-count, discounts-needed};
+ghost use Rattle.text_laws.specs.Put.{Put};
+ghost use Rattle.sheet_laws.specs.TreeSheet.{
+  row-part,
+  total,
+  nodesOfRow,
+  nodeLines,
+  lineOfRow,
+  rowLines,
+  optionLines,
+  priceLines,
+  treeSheet,
+};
+ghost use Rattle.sheet_laws.specs.Stored.{Stored, Summed};
+use pricing::Price;
+use row_view::RowKind;
+
+fn row_total(row: &[u64]) -> u64
+    requires { ⌜ total (now row) ≤ 2000000100 ⌝ }
+    ensures { λ r. ⌜ r ≡ total (now (row .entry)) ⌝ }
+{
+    let mut sum = 0u64;
+    let mut index = 0usize;
+    while index < row.len() {
+        sum += row[index];
+        index += 1;
+    }
+    sum
+}
+
+// The node lines of a row.
+fn put_nodes<'a>(
+    out: &mut [u8],
+    end: usize,
+    steps: usize,
+    reversion: u64,
+    discounts: &'a [u64],
+    state_prices: &'a [u64],
+    row: usize,
+) -> usize
+    requires { ⌜ (row < steps) × Stored steps reversion (now discounts) (now «state_prices») × (128 * node-count reversion row ≤ end) ×
+        (end ≤ length (now out)) ⌝ }
+    ensures { λ r. ⌜ Put (now (out .entry)) end (nodesOfRow reversion (now (discounts .entry)) row) r (now (out .exit)) ⌝ }
+{
+    let part = row_view::row_view(
+        discounts,
+        state_prices,
+        RowKind::Discounts,
+        steps,
+        reversion,
+        row,
+    );
+    node_lines::node_lines(out, end, row as u64, part)
+}
+
+// The node lines of all rows. The last row's come first, so that the lines stand in order.
+fn put_all_nodes<'a>(
+    out: &mut [u8],
+    end: usize,
+    steps: usize,
+    reversion: u64,
+    discounts: &'a [u64],
+    state_prices: &'a [u64],
+) -> usize
+    requires { ⌜ Stored steps reversion (now discounts) (now «state_prices») × (128 * discounts-needed steps reversion ≤ end) × (end ≤ length (now out)) ⌝ }
+    ensures { λ r. ⌜ Put (now (out .entry)) end (nodeLines steps reversion (now (discounts .entry))) r (now (out .exit)) ⌝ }
+{
+    let mut start = end;
+    let mut left = steps;
+    while left > 0 {
+        left -= 1;
+        start = put_nodes(out, start, steps, reversion, discounts, state_prices, left);
+    }
+    start
+}
+
+// The line of row `before` + 1.
+fn put_row<'a>(
+    out: &mut [u8],
+    end: usize,
+    steps: usize,
+    reversion: u64,
+    quotes: &[u64],
+    discounts: &'a [u64],
+    state_prices: &'a [u64],
+    before: usize,
+) -> usize
+    requires { ⌜ (before < steps) × Stored steps reversion (now discounts) (now «state_prices») × (length (now quotes) ≡ steps) ×
+        (total (row-part reversion (now «state_prices») (suc before)) ≤ 2000000100) × (128 ≤ end) × (end ≤ length (now out)) ⌝ }
+    ensures { λ r. ⌜ Put (now (out .entry)) end (lineOfRow steps reversion (now (quotes .entry)) (now (discounts .entry)) (now («state_prices» .entry))
+        before) r (now (out .exit)) ⌝ }
+{
+    let row = before + 1;
+    let part = row_view::row_view(
+        discounts,
+        state_prices,
+        RowKind::StatePrices,
+        steps,
+        reversion,
+        row,
+    );
+    let sum = row_total(part);
+    let bound = state_price_bound::state_price_error_bound(steps, reversion, discounts, row);
+    text::row_line(out, end, row as u64, quotes[before], sum, bound.value)
+}
+
+// The lines of rows 1 to n, the last first.
+fn put_rows<'a>(
+    out: &mut [u8],
+    end: usize,
+    steps: usize,
+    reversion: u64,
+    quotes: &[u64],
+    discounts: &'a [u64],
+    state_prices: &'a [u64],
+) -> usize
+    requires { ⌜ Stored steps reversion (now discounts) (now «state_prices») × (length (now quotes) ≡ steps) × (128 * steps ≤ end) × (end ≤ length (now out))
+        ⌝ }
+    requires { ⌜ Summed steps reversion (now «state_prices») ⌝ }
+    ensures { λ r. ⌜ Put (now (out .entry)) end (rowLines steps reversion (now (quotes .entry)) (now (discounts .entry)) (now («state_prices» .entry))) r
+        (now (out .exit)) ⌝ }
+{
+    let mut start = end;
+    let mut left = steps;
+    while left > 0 {
+        left -= 1;
+        start = put_row(
+            out,
+            start,
+            steps,
+            reversion,
+            quotes,
+            discounts,
+            state_prices,
+            left,
+        );
+    }
+    start
+}
+
+// The price lines; no option, no line.
+fn put_prices(out: &mut [u8], end: usize, bond: Price, present: bool, option: Price) -> usize
+    requires { ⌜ (256 ≤ end) × (end ≤ length (now out)) ⌝ }
+    ensures { λ r. ⌜ Put (now (out .entry)) end (priceLines bond present option) r (now (out .exit)) ⌝ }
+{
+    let below = put_option(out, end, present, option);
+    text::bond_line(out, below, bond.value, bond.bound)
+}
+
+fn put_option(out: &mut [u8], end: usize, present: bool, option: Price) -> usize
+    requires { ⌜ (128 ≤ end) × (end ≤ length (now out)) ⌝ }
+    ensures { λ r. ⌜ Put (now (out .entry)) end (optionLines present option) r (now (out .exit)) ⌝ }
+{
+    if present {
+        return text::option_line(out, end, option.value, option.bound);
+    }
+    end
+}
+
+// The whole sheet, at the end of the buffer.
+pub(crate) fn put_sheet<'a>(
+    out: &mut [u8],
+    steps: usize,
+    reversion: u64,
+    quotes: &[u64],
+    discounts: &'a [u64],
+    state_prices: &'a [u64],
+    bond: Price,
+    present: bool,
+    option: Price,
+) -> usize
+    requires { ⌜ Stored steps reversion (now discounts) (now «state_prices») × (length (now quotes) ≡ steps) × (468736 ≤ length (now out)) ⌝ }
+    requires { ⌜ Summed steps reversion (now «state_prices») ⌝ }
+    ensures { λ r. ⌜ Put (now (out .entry)) (length (now (out .entry)))
+        (treeSheet steps reversion (now (quotes .entry)) (now (discounts .entry)) (now («state_prices» .entry)) bond present option) r (now (out .exit)) ⌝ }
+{
+    let end = out.len();
+    let prices_start = put_prices(out, end, bond, present, option);
+    let rows_start = put_rows(
+        out,
+        prices_start,
+        steps,
+        reversion,
+        quotes,
+        discounts,
+        state_prices,
+    );
+    put_all_nodes(out, rows_start, steps, reversion, discounts, state_prices)
+}

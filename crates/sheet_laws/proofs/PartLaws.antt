@@ -1,0 +1,224 @@
+-- Laws of rows as parts of a memory that just holds its tree, and of the lines that a call puts.
+-- Assumes nothing.
+use mathlib.Core.Path.{_≡_, refl, sym, ap, _∙_, subst}
+use mathlib.Core.Bool.{Bool, true, false}
+use mathlib.Core.List.{List, []}
+use Prim.Native.Nat.{ℕ, suc, _+_, _-_, _*_, _≤_, _<_, _^_}
+use denote.Ref.{RefT}
+use native.Mathlib.Omega.{arith}
+use native.Mathlib.Numerals.{add-one}
+use borrow.Author.Tests.{le-leb}
+use lib.ListN.{length, getD, length-append}
+use Rattle.arithmetic.specs.Sum.{sum}
+use Rattle.arithmetic.specs.Row.{values}
+use Rattle.arithmetic.proofs.PartLaws.{part-length, part-value}
+use Rattle.arithmetic.proofs.SumLaws.{sum-next, sum-grow}
+use Rattle.lattice.specs.Shape.{node-count, row-start, discounts-needed, state-prices-needed}
+use native.Mathlib.Nat.{mul-le-mul}
+use Rattle.lattice.proofs.Sizes.{row-ends, start-most, start-suc, count-within}
+use Rattle.row_view.specs.declared.RowKind.{RowKind}
+use Rattle.row_view.specs.RowView.{is-tree, holds-tree, stores-row, memory-of, is-shown, view-start, view-count, PartOf}
+use Rattle.row_view.proofs.ViewLaws.{is-stored}
+use Rattle.text_laws.specs.Put.{Put}
+use Rattle.node_lines.specs.Rows.{nodeText, rowText, hasRoomFor, rowStart, withRow}
+use Rattle.node_lines.proofs.RowLaws.{lines-room, text-room}
+use Rattle.text_laws.specs.Lines.{rowLine, priceLine, lineStart, withLine, bondWord, optionWord}
+use Rattle.text_laws.proofs.LineLaws.{row-room, price-room, line-stands, line-before}
+use Rattle.text_laws.proofs.PutLaws.{put-none, put-before, put-whole}
+use Rattle.pricing.specs.declared.Price.{Price}
+use Rattle.arithmetic.specs.declared.Answer.{Answer}
+use Rattle.state_price_bound.specs.ErrorBound.{statePriceErrorBound}
+use Rattle.state_price_bound.proofs.BoundLaws.{bound-most}
+use Rattle.sheet_laws.specs.TreeSheet.{row-part, total, nodesOfRow, nodeLines, lineOfRow, rowLines, optionLines, priceLines, treeSheet}
+use Rattle.sheet_laws.specs.Stored.{Stored, Summed}
+use Rattle.sheet_laws.proofs.Pieces.{lines-fit}
+
+module _ (n b : ℕ) (discounts prices : List ℕ) (h : Stored n b discounts prices) where
+  pub held : holds-tree discounts prices n b ≡ true
+  unfolding holds-tree is-tree
+  held =
+      rw (
+        le-leb 1 n (h .some),
+        le-leb n 60 (h .few),
+        le-leb b 6000 (h .gentle),
+        le-leb (discounts-needed n b) (length discounts) (omega (arith, h .discounts-size)),
+        le-leb (state-prices-needed n b) (length prices) (omega (arith, h .prices-size)),
+      )
+
+  pub discounts-end : (i : ℕ) → i < n → row-start b i + node-count b i ≤ length discounts
+  unfolding discounts-needed
+  discounts-end i l = omega (arith, row-ends b i n l, h .discounts-size)
+
+  pub prices-end : (i : ℕ) → i ≤ n → row-start b i + node-count b i ≤ length prices
+  unfolding state-prices-needed
+  prices-end i l = omega (arith, row-ends b i (suc n) (omega arith), h .prices-size)
+
+  pub lines-few : discounts-needed n b ≤ 3600
+  unfolding discounts-needed
+  lines-few = omega (arith, start-most b n, mul-le-mul (h .few) (h .few))
+
+-- ---- the part of a row
+
+pub part-size : (b i : ℕ) (memory : List ℕ) → row-start b i + node-count b i ≤ length memory → length (row-part b memory i) ≡ node-count b i
+unfolding row-part
+part-size b i memory h = part-length memory (row-start b i) (node-count b i) h
+
+pub part-below : (b i k bound : ℕ) (memory : List ℕ) → ((j : ℕ) → getD memory j 0 < bound) → k < node-count b i →
+    getD (row-part b memory i) k 0 < bound
+unfolding row-part
+part-below b i k bound memory each h = rw (part-value memory (row-start b i) (node-count b i) k h) (each (row-start b i + k))
+
+module _ (discounts prices : RefT (List ℕ)) (kind : RowKind) (n b i : ℕ) (part : RefT (List ℕ)) where
+  -- the part that the view shows
+  abbrev Shown : Type 0
+  Shown =
+      PartOf (memory-of discounts prices kind) (view-start (discounts .now) (prices .now) kind n b i)
+      (view-count (discounts .now) (prices .now) kind n b i) part
+
+  shown-by : is-shown (discounts .now) (prices .now) kind n b i ≡ true → Shown → part .now ≡ row-part b (memory-of discounts prices kind .now) i
+  unfolding row-part view-start view-count
+  shown-by s p = rw s at (p .contents)
+
+  -- the row that the view shows is the part of its memory
+  pub shown : Stored n b (discounts .now) (prices .now) → stores-row kind n i ≡ true → Shown →
+      part .now ≡ row-part b (memory-of discounts prices kind .now) i
+  shown h s p = shown-by (is-stored (discounts .now) (prices .now) kind n b i (held n b _ _ h) s) p
+
+-- ---- the lines of a row, put by a call
+
+module _ (out : List ℕ) (end row : ℕ) (discounts : List ℕ) (start : ℕ) (after : List ℕ) where
+  room-there : 128 * length discounts ≤ end → end ≤ length out → hasRoomFor (length discounts) (length out) end ≡ true
+  unfolding hasRoomFor
+  room-there h p = rw (le-leb (128 * length discounts) end h, le-leb end (length out) p)
+
+  pub row-stands : 128 * length discounts ≤ end → end ≤ length out → length (rowText row discounts) ≤ 128 * length discounts →
+      start ≡ rowStart out end row discounts → after ≡ withRow out end row discounts → Put out end (rowText row discounts) start after
+  unfolding rowStart withRow
+  row-stands h p l s a =
+      let r = room-there h p in
+      let e : start ≡ end - length (rowText row discounts) = rw r at s in
+      put-whole out after (rowText row discounts) end start (omega arith) p (rw r at a)
+
+pub row-length : (row : ℕ) (discounts : List ℕ) → row < 2 ^ 64 → length discounts < 2 ^ 63 → ((k : ℕ) → k < length discounts → getD discounts k 0 < 2 ^ 64) →
+    length (rowText row discounts) ≤ 128 * length discounts
+row-length row discounts r s d = lines-room (nodeText row discounts) (length discounts) (λ k l. text-room row discounts k r l s (d k l))
+
+-- ---- the sum of a row
+
+pub sum-begun : (row : List ℕ) → 0 ≡ sum 0 (values row)
+unfolding sum
+sum-begun row = refl
+
+module _ (row : List ℕ) (i s : ℕ) (so-far : s ≡ sum i (values row)) where
+  pub sum-more : s + values row i ≡ sum (i + 1) (values row)
+  sum-more = omega (arith, sum-next i (values row))
+
+  pub sum-within : i < length row → s + values row i ≤ total row
+  unfolding total
+  sum-within h = omega (arith, sum-next i (values row), sum-grow (length row) (i + 1) (values row) (omega arith))
+
+  pub sum-done : i ≡ length row → s ≡ total row
+  unfolding total
+  sum-done e = so-far ∙ ap (λ (n : ℕ). sum n (values row)) e
+
+-- ---- room for the lines
+
+module _ (n b : ℕ) (discounts prices : List ℕ) (h : Stored n b discounts prices) (small : (j : ℕ) → getD discounts j 0 < 2 ^ 64) where
+  pub nodes-length : (i : ℕ) → i < n → length (nodesOfRow b discounts i) ≤ 128 * node-count b i
+  nodes-length i l =
+      let s = part-size b i discounts (discounts-end n b discounts prices h i l) in
+      let c = count-within b i (omega (arith, h .few)) in
+      let long = row-length i (row-part b discounts i) (omega (arith, h .few)) (omega (arith, s, c))
+      (λ k below. part-below b i k (2 ^ 64) discounts small (omega (arith, s))) in
+      omega (arith, s, long)
+
+  pub nodes-fit : (i : ℕ) → i < n → 128 * row-start b i + length (nodesOfRow b discounts i) ≤ 128 * row-start b (suc i)
+  nodes-fit i l = omega (arith, nodes-length i l, start-suc b i)
+
+module _ (n b : ℕ) (quotes discounts prices : List ℕ) (few : n ≤ 60) (small : (j : ℕ) → getD quotes j 0 < 2 ^ 64) (summed : Summed n b prices) where
+  pub line-length : (i : ℕ) → i < n → length (lineOfRow n b quotes discounts prices i) ≤ 128
+  unfolding lineOfRow
+  line-length i l =
+      row-room (suc i) (values quotes i) (total (row-part b prices (suc i))) (statePriceErrorBound n b discounts (suc i) .value) (omega arith) (small i)
+      (omega (arith, summed i l)) (omega (arith, bound-most n b discounts (suc i)))
+
+  pub rows-fit : (i : ℕ) → i < n → 128 * i + length (lineOfRow n b quotes discounts prices i) ≤ 128 * suc i
+  rows-fit i l = omega (arith, line-length i l)
+
+-- the line that the code puts is the row's
+pub row-line-stands : (n b : ℕ) (quotes discounts prices : List ℕ) (i end added start : ℕ) (out after : List ℕ) (bound : Answer) →
+    added ≡ total (row-part b prices (suc i)) → bound ≡ statePriceErrorBound n b discounts (suc i) → i < 60 → getD quotes i 0 < 2 ^ 64 → added < 2 ^ 64 →
+    128 ≤ end → end ≤ length out → start ≡ lineStart out end (rowLine (i + 1) (values quotes i) added (bound .value)) →
+    after ≡ withLine out end (rowLine (i + 1) (values quotes i) added (bound .value)) → Put out end (lineOfRow n b quotes discounts prices i) start after
+unfolding lineOfRow
+row-line-stands n b quotes discounts prices i end added start out after bound es eb few q s h p e₁ e₂ =
+    let sum = total (row-part b prices (suc i)) in
+    let allowed = statePriceErrorBound n b discounts (suc i) .value in
+    let same : rowLine (i + 1) (values quotes i) added (bound .value) ≡ rowLine (suc i) (values quotes i) sum allowed = rw (← es, ← eb, add-one i) in
+    line-stands out end _ start after h p
+    (row-room (suc i) (values quotes i) sum allowed (omega arith) q (omega arith) (omega (arith, bound-most n b discounts (suc i))))
+    (e₁ ∙ ap (λ (x : List ℕ). lineStart out end x) same) (e₂ ∙ ap (λ (x : List ℕ). withLine out end x) same)
+
+-- ---- the lines of the prices
+
+-- each number of a price fits a word
+abbrev pub Fits : Price → Type 0
+Fits price = (price .value < 2 ^ 64) × (price .bound < 2 ^ 64)
+
+option-length : (present : Bool) (option : Price) → Fits option → length (optionLines present option) ≤ 128
+option-length true option f = price-room optionWord (option .value) (option .bound) (omega arith) (f .0) (f .1)
+option-length false option f = omega arith
+
+pub option-stands : (out after : List ℕ) (end start : ℕ) (present : Bool) (option : Price) → present ≡ true → Fits option → 128 ≤ end → end ≤ length out →
+    start ≡ lineStart out end (optionLines true option) → after ≡ withLine out end (optionLines true option) →
+    Put out end (optionLines present option) start after
+option-stands out after end start present option e f h p s a =
+    subst (λ (t : Bool). Put out end (optionLines t option) start after) (sym e)
+    (line-stands out end _ start after h p (option-length true option f) s a)
+
+pub option-none : (out : List ℕ) (end : ℕ) (present : Bool) (option : Price) → present ≡ false → end ≤ length out →
+    Put out end (optionLines present option) end out
+option-none out end present option e p = subst (λ (t : Bool). Put out end (optionLines t option) end out) (sym e) (put-none out end p)
+
+pub option-room : {out after : List ℕ} {end mid : ℕ} (present : Bool) (option : Price) → Fits option → 256 ≤ end →
+    Put out end (optionLines present option) mid after → (128 ≤ mid) × (mid ≤ length after)
+option-room present option f h p = (omega (arith, option-length present option f, p .place), omega (arith, p .place, p .within, p .same))
+
+pub prices-stand : {out₀ out : List ℕ} {end mid : ℕ} (after : List ℕ) (start : ℕ) (bond : Price) (present : Bool) (option : Price) →
+    Fits bond → Fits option → 256 ≤ end →
+    Put out₀ end (optionLines present option) mid out → start ≡ lineStart out mid (priceLine bondWord (bond .value) (bond .bound)) →
+    after ≡ withLine out mid (priceLine bondWord (bond .value) (bond .bound)) → Put out₀ end (priceLines bond present option) start after
+unfolding priceLines
+prices-stand after start bond present option fb fo h p s a =
+    line-before _ start after p (option-room present option fo h p .0) (price-room bondWord (bond .value) (bond .bound) (omega arith) (fb .0) (fb .1)) s a
+
+pub prices-length : (bond : Price) (present : Bool) (option : Price) → Fits bond → Fits option → length (priceLines bond present option) ≤ 256
+unfolding priceLines
+prices-length bond present option fb fo =
+    simp length-append (omega (arith, option-length present option fo, price-room bondWord (bond .value) (bond .bound) (omega arith) (fb .0) (fb .1)))
+
+-- ---- the whole sheet
+
+module _ (n b : ℕ) (quotes discounts prices : List ℕ) (bond : Price) (present : Bool) (option : Price) where
+  rows-length : n ≤ 60 → ((j : ℕ) → getD quotes j 0 < 2 ^ 64) → Summed n b prices → length (rowLines n b quotes discounts prices) ≤ 128 * n
+  rows-length few small summed =
+      lines-fit (lineOfRow n b quotes discounts prices) (λ (i : ℕ). 128 * i) n (rows-fit n b quotes discounts prices few small summed) [] 0 n (omega arith)
+
+  module _ {out priced : List ℕ} {end p₁ : ℕ} (h : Stored n b discounts prices) (fb : Fits bond) (fo : Fits option) (long : 468736 ≤ end)
+      (p : Put out end (priceLines bond present option) p₁ priced) where
+    pub rows-room : (128 * n ≤ p₁) × (p₁ ≤ length priced)
+    rows-room = (omega (arith, h .few, prices-length bond present option fb fo, p .place), omega (arith, p .place, p .within, p .same))
+
+    module _ {rowed : List ℕ} {p₂ : ℕ} (q : Put priced p₁ (rowLines n b quotes discounts prices) p₂ rowed) (small : (j : ℕ) → getD quotes j 0 < 2 ^ 64)
+        (summed : Summed n b prices) where
+      pub nodes-room : (128 * discounts-needed n b ≤ p₂) × (p₂ ≤ length rowed)
+      nodes-room = (
+        omega (arith, h .few, prices-length bond present option fb fo, p .place, q .place, rows-length (h .few) small summed, lines-few n b discounts prices h),
+        omega (arith, q .place, q .within, q .same),
+      )
+
+  pub sheet-stands : {out priced rowed after : List ℕ} {end p₁ p₂ p₃ : ℕ} → Put out end (priceLines bond present option) p₁ priced →
+      Put priced p₁ (rowLines n b quotes discounts prices) p₂ rowed → Put rowed p₂ (nodeLines n b discounts) p₃ after →
+      Put out end (treeSheet n b quotes discounts prices bond present option) p₃ after
+  unfolding treeSheet
+  sheet-stands p q r = put-before (put-before p q) r

@@ -1,0 +1,152 @@
+-- Laws of a whole job's number, sheet and print.
+-- Assumes nothing.
+use mathlib.Core.Path.{_≡_, sym, ap, _∙_, subst}
+use mathlib.Core.Bool.{Bool, true, false, cond}
+use mathlib.Core.List.{List, _++_}
+use Prim.Native.Nat.{ℕ, _+_, _-_, _≤_, _<_}
+use native.Mathlib.Omega.{arith}
+use borrow.Author.Tests.{lt-ltb, le-ltb, eq-eqb, ne-eqb}
+use lib.ListN.{length, take, drop, length-append}
+use Rattle.arithmetic.specs.Answers.{lowest-cause}
+use Rattle.arithmetic.proofs.CauseLaws.{lowest-none}
+use Rattle.arithmetic.proofs.Numbers.{by-order}
+use Rattle.limits.specs.Limits.{most-discounts, most-state-prices}
+use Rattle.pricing.specs.Prices.{first-cause}
+use Rattle.job_record.specs.declared.Job.{Job}
+use Rattle.job_record.specs.declared.Reading.{Reading}
+use Rattle.job_record.specs.Reader.{readingOf}
+use Rattle.job_fit.specs.RecordFit.{jobQuotes, jobDiscounts, jobStatePrices}
+use Rattle.job_prices.specs.declared.JobPrices.{JobPrices}
+use Rattle.job_prices.specs.JobPrices.{hasOption, jobBond, jobOption, pricesOf, recordNumber, recordPrices}
+use Rattle.job_prices.proofs.PriceLaws.{prices-given, prices-number}
+use Rattle.text_laws.specs.Put.{putBefore, Put}
+use Rattle.text_laws.specs.Lines.{refusedLine, hasRoom, lineStart, withLine}
+use Rattle.sheet_room.specs.Room.{sheetRoom}
+use Rattle.sheet_laws.specs.TreeSheet.{treeSheet}
+use Rattle.sheet_laws.specs.WholeJob.{roomCause, jobNumber, jobText, sheetNumber, sheetText, memoryOf, printedStart, printedMemory}
+
+-- ---- causes
+
+pub room-short : (room : ℕ) → room < sheetRoom → 6 ≡ roomCause room
+unfolding roomCause
+room-short room h = rw (lt-ltb room 468736 h)
+
+pub room-enough : (room : ℕ) → sheetRoom ≤ room → 0 ≡ roomCause room
+unfolding roomCause
+room-enough room h = rw (le-ltb room 468736 h)
+
+pub room-known : (room : ℕ) → roomCause room ≡ 0 → sheetRoom ≤ room
+room-known room z = by-order 468736 room (λ h. h) (λ h. absurd (apart (room-short room h ∙ z)))
+  where
+    apart : _≡_ {A = ℕ} 6 0 → ⊥
+    apart e = omega arith
+
+cond-below : (t : Bool) (k m : ℕ) → cond t (k - m) k ≤ k
+cond-below true k m = omega arith
+cond-below false k m = omega arith
+
+-- ---- the number of a record's sheet
+
+module _ (job : Job) (prices : JobPrices) (ep : prices ≡ recordPrices job most-discounts most-state-prices) where
+  pub prices-number-is : prices .number ≡ recordNumber job most-discounts most-state-prices
+  unfolding recordPrices
+  prices-number-is = ap (λ (p : JobPrices). p .number) ep ∙ prices-number _ _ _ _
+
+  pub prices-known : prices .number ≡ 0 → prices ≡ record { number = 0; bond = jobBond job; «has_option» = hasOption (job .option); option = jobOption job }
+  unfolding recordPrices
+  prices-known z = ep ∙ sym (prices-given _ _ _ _ (sym prices-number-is ∙ z))
+
+  module _ (out : List ℕ) (room cause : ℕ) (er : room ≡ roomCause (length out)) (ec : cause ≡ lowest-cause (prices .number) room) where
+    pub cause-is : cause ≡ jobNumber job (length out)
+    unfolding jobNumber
+    cause-is = ec ∙ rw (prices-number-is, er)
+
+    pub priced-none : cause ≡ 0 → prices .number ≡ 0
+    priced-none z = lowest-none (prices .number) room (sym ec ∙ z) .0
+
+    pub room-given : cause ≡ 0 → sheetRoom ≤ length out
+    room-given z = room-known (length out) (sym er ∙ lowest-none (prices .number) room (sym ec ∙ z) .1)
+
+-- the text that is put is the job's sheet
+pub text-put : (job : Job) (quotes discounts state-prices : List ℕ) (prices : JobPrices) → quotes ≡ jobQuotes job → discounts ≡ jobDiscounts job →
+    state-prices ≡ jobStatePrices job → prices ≡ record { number = 0; bond = jobBond job; «has_option» = hasOption (job .option); option = jobOption job } →
+    (out : List ℕ) (end start : ℕ) (after : List ℕ) →
+    Put out end (treeSheet (job .steps) (job .reversion) quotes discounts state-prices (prices .bond) (prices .«has_option») (prices .option)) start after →
+    Put out end (jobText job) start after
+unfolding jobText
+text-put job quotes discounts state-prices prices eq ed es ep out end start after put =
+    subst (λ (text : List ℕ). Put out end text start after) (rw (eq, ed, es, ep)) put
+
+-- ---- the room afterwards
+
+pub memory-refused : (number : ℕ) (text out : List ℕ) → (number ≡ 0 → ⊥) → out ≡ memoryOf number text out
+unfolding memoryOf
+memory-refused number text out nz = rw (ne-eqb number 0 nz)
+
+pub memory-put : (number : ℕ) (text out : List ℕ) (start : ℕ) (after : List ℕ) → number ≡ 0 → Put out (length out) text start after →
+    after ≡ memoryOf number text out
+unfolding memoryOf
+memory-put number text out start after z p = rw (eq-eqb number 0 z) (p .memory)
+
+-- ---- the number of a job's bytes
+
+module _ (bytes : List ℕ) (room : ℕ) (q : Reading) (e : q ≡ readingOf bytes) where
+  number-read : q .number ≡ readingOf bytes .number
+  number-read = ap (λ (q : Reading). q .number) e
+
+  pub number-refused : (q .number ≡ 0 → ⊥) → q .number ≡ sheetNumber bytes room
+  unfolding sheetNumber first-cause
+  number-refused nz = rw (← number-read, ne-eqb (q .number) 0 nz)
+
+  pub number-accepted : q .number ≡ 0 → jobNumber (readingOf bytes .job) room ≡ sheetNumber bytes room
+  unfolding sheetNumber first-cause
+  number-accepted z = rw (← number-read, eq-eqb (q .number) 0 z)
+
+-- ---- what is printed
+
+-- a sheet's number, its size where there is none, and the room that it left
+module _ (bytes out : List ℕ) (number size : ℕ) (after : List ℕ) (en : number ≡ sheetNumber bytes (length out))
+    (es : number ≡ 0 → size ≡ length (sheetText bytes)) (em : after ≡ memoryOf (sheetNumber bytes (length out)) (sheetText bytes) out) where
+  module _ (nz : number ≡ 0 → ⊥) where
+    none : sheetNumber bytes (length out) ≡ 0 → ⊥
+    none z = nz (en ∙ z)
+
+    room-kept : after ≡ out
+    unfolding memoryOf
+    room-kept = rw (ne-eqb (sheetNumber bytes (length out)) 0 none) at em
+
+    pub refusal-start : (start : ℕ) → start ≡ lineStart after (length after) (refusedLine number) → start ≡ printedStart bytes out
+    unfolding printedStart
+    refusal-start start e = rw (ne-eqb (sheetNumber bytes (length out)) 0 none) (rw (room-kept, en) at e)
+
+    pub refusal-memory : (last : List ℕ) → last ≡ withLine after (length after) (refusedLine number) → last ≡ printedMemory bytes out
+    unfolding printedMemory
+    refusal-memory last e = rw (ne-eqb (sheetNumber bytes (length out)) 0 none) (rw (room-kept, en) at e)
+
+    pub refusal-within : (start : ℕ) → start ≡ lineStart after (length after) (refusedLine number) → start ≤ length out
+    unfolding lineStart
+    refusal-within start e =
+        omega (arith, e, cond-below (hasRoom (length after) (length after)) (length after) (length (refusedLine number)), ap length room-kept)
+
+  module _ (z : number ≡ 0) where
+    zero-number : sheetNumber bytes (length out) ≡ 0
+    zero-number = sym en ∙ z
+
+    room-put : after ≡ putBefore out (length out) (sheetText bytes)
+    unfolding memoryOf
+    room-put = rw (eq-eqb (sheetNumber bytes (length out)) 0 zero-number) at em
+
+    pub size-within : length after ≡ length out → size ≤ length after
+    unfolding putBefore
+    size-within same =
+        let l : length after ≡ length (take (length out - length (sheetText bytes)) out) + (length (sheetText bytes) + length (drop (length out) out)) =
+        ap length room-put ∙ simp length-append in
+        omega (arith, l, same, es z)
+
+    pub sheet-start : length after ≡ length out → length after - size ≡ printedStart bytes out
+    unfolding printedStart
+    sheet-start same = rw (eq-eqb (sheetNumber bytes (length out)) 0 zero-number) (omega (arith, same, es z))
+
+    pub sheet-memory : after ≡ printedMemory bytes out
+    unfolding printedMemory
+    sheet-memory = rw (eq-eqb (sheetNumber bytes (length out)) 0 zero-number) room-put

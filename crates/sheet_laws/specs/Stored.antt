@@ -1,0 +1,31 @@
+-- What the functions within ask of their callers.
+-- Assumes nothing.
+use Prim.Native.Nat.{ℕ, suc, _≤_, _<_}
+use mathlib.Core.List.{List}
+use mathlib.Core.Path.{_≡_}
+use lib.ListN.{length, take}
+use Rattle.limits.specs.Limits.{most-discounts, most-state-prices}
+use Rattle.lattice.specs.Shape.{discounts-needed, state-prices-needed}
+use Rattle.job_record.specs.declared.Job.{Job}
+use Rattle.job_fit.specs.RecordFit.{jobDiscounts, jobStatePrices, recordFit}
+use Rattle.sheet_laws.specs.TreeSheet.{row-part, total}
+
+-- a tree within its limits, and two memories of just its size
+pub record Stored (n b : ℕ) (discounts prices : List ℕ) : Type 0 where
+  pub some : 0 < n
+  pub few : n ≤ 60
+  pub gentle : b ≤ 6000
+  pub discounts-size : length discounts ≡ discounts-needed n b
+  pub prices-size : length prices ≡ state-prices-needed n b
+
+-- each row's state prices have a sum that a fit gives
+abbrev pub Summed : ℕ → ℕ → List ℕ → Type 0
+Summed n b prices = (i : ℕ) → i < n → total (row-part b prices (suc i)) ≤ 2000000100
+
+-- a record whose fit is accepted, and memories of the largest tree with the fit at their start
+pub record Fitted (job : Job) (discounts prices : List ℕ) : Type 0 where
+  pub accepted : recordFit job most-discounts most-state-prices ≡ 0
+  pub discounts-room : length discounts ≡ most-discounts
+  pub prices-room : length prices ≡ most-state-prices
+  pub discounts-front : take (discounts-needed (job .steps) (job .reversion)) discounts ≡ jobDiscounts job
+  pub prices-front : take (state-prices-needed (job .steps) (job .reversion)) prices ≡ jobStatePrices job

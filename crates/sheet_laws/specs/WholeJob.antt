@@ -1,0 +1,54 @@
+-- A whole job (document 01, Job and sheet; When the engine declines): its number and its sheet, and what the sheet program prints.
+-- Assumes nothing.
+use Prim.Native.Nat.{ℕ, _-_}
+use mathlib.Core.Bool.{cond}
+use mathlib.Core.List.{List}
+use lib.Dec.{eqb, ltb}
+use lib.ListN.{length}
+use Rattle.arithmetic.specs.Answers.{lowest-cause}
+use Rattle.limits.specs.Limits.{most-discounts, most-state-prices}
+use Rattle.pricing.specs.Prices.{first-cause}
+use Rattle.job_record.specs.declared.Job.{Job}
+use Rattle.job_record.specs.Reader.{readingOf}
+use Rattle.job_fit.specs.RecordFit.{jobQuotes, jobDiscounts, jobStatePrices}
+use Rattle.job_prices.specs.JobPrices.{hasOption, jobBond, jobOption, recordNumber}
+use Rattle.text_laws.specs.Lines.{refusedLine, lineStart, withLine}
+use Rattle.text_laws.specs.Put.{putBefore}
+use Rattle.sheet_room.specs.Room.{sheetRoom}
+use Rattle.sheet_laws.specs.TreeSheet.{treeSheet}
+
+-- 6 where the lent room is too short
+unfoldable pub roomCause : ℕ → ℕ
+roomCause room = cond (ltb room sheetRoom) 6 0
+
+module _ (job : Job) where
+  -- the lower of the number of the job's prices and of 6 for the room
+  unfoldable pub jobNumber : ℕ → ℕ
+  jobNumber room = lowest-cause (recordNumber job most-discounts most-state-prices) (roomCause room)
+
+  unfoldable pub jobText : List ℕ
+  jobText =
+      treeSheet (job .steps) (job .reversion) (jobQuotes job) (jobDiscounts job) (jobStatePrices job)
+      (jobBond job) (hasOption (job .option)) (jobOption job)
+
+-- the number of the whole job, 1 first, and its sheet
+unfoldable pub sheetNumber : List ℕ → ℕ → ℕ
+sheetNumber bytes room = first-cause (readingOf bytes .number) (jobNumber (readingOf bytes .job) room)
+
+abbrev pub sheetText : List ℕ → List ℕ
+sheetText bytes = jobText (readingOf bytes .job)
+
+-- the room afterwards: the text at its end, or all as it was
+unfoldable pub memoryOf : ℕ → List ℕ → List ℕ → List ℕ
+memoryOf number text out = cond (eqb number 0) (putBefore out (length out) text) out
+
+-- what the sheet program prints: the sheet, or `refused` and the number; where it starts, and the room afterwards
+unfoldable pub printedStart : List ℕ → List ℕ → ℕ
+printedStart bytes out =
+    cond (eqb (sheetNumber bytes (length out)) 0) (length out - length (sheetText bytes))
+    (lineStart out (length out) (refusedLine (sheetNumber bytes (length out))))
+
+unfoldable pub printedMemory : List ℕ → List ℕ → List ℕ
+printedMemory bytes out =
+    cond (eqb (sheetNumber bytes (length out)) 0) (putBefore out (length out) (sheetText bytes))
+    (withLine out (length out) (refusedLine (sheetNumber bytes (length out))))

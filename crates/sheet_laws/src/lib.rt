@@ -1,0 +1,1 @@
+// Definitions and laws of a job's sheet.

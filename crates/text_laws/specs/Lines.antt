@@ -1,0 +1,82 @@
+-- The lines of the sheet (document 01, Job and sheet), and a lent buffer into which lines are put from its end.
+-- Assumes nothing.
+use Prim.Native.Nat.{ℕ, _-_}
+use mathlib.Core.Bool.{Bool, cond, _&&_}
+use mathlib.Core.List.{List, [], _∷_, _++_}
+use lib.Dec.{leb}
+use lib.IntN.{ℤ}
+use lib.ListN.{length}
+use Rattle.text_laws.specs.Decimal.{decimal, signedDecimal}
+use Rattle.text_laws.specs.Put.{putBefore}
+
+-- a space and a line's end
+abbrev pub space : List ℕ
+space = 32 ∷ []
+
+abbrev pub newline : List ℕ
+newline = 10 ∷ []
+
+-- a whole number, an amount of nine decimals, a rate in billionths as percent with seven
+abbrev pub whole : ℕ → List ℕ
+whole n = decimal 0 n
+
+abbrev pub amount : ℕ → List ℕ
+amount n = decimal 9 n
+
+abbrev pub signedWhole : ℤ → List ℕ
+signedWhole z = signedDecimal 0 z
+
+abbrev pub percent : ℤ → List ℕ
+percent rate = signedDecimal 7 rate
+
+-- `node `, `row `, `bond `, `option `, `refused `
+abbrev pub nodeWord : List ℕ
+nodeWord = 110 ∷ 111 ∷ 100 ∷ 101 ∷ 32 ∷ []
+
+abbrev pub rowWord : List ℕ
+rowWord = 114 ∷ 111 ∷ 119 ∷ 32 ∷ []
+
+abbrev pub bondWord : List ℕ
+bondWord = 98 ∷ 111 ∷ 110 ∷ 100 ∷ 32 ∷ []
+
+abbrev pub optionWord : List ℕ
+optionWord = 111 ∷ 112 ∷ 116 ∷ 105 ∷ 111 ∷ 110 ∷ 32 ∷ []
+
+abbrev pub refusedWord : List ℕ
+refusedWord = 114 ∷ 101 ∷ 102 ∷ 117 ∷ 115 ∷ 101 ∷ 100 ∷ 32 ∷ []
+
+-- row, node, discount, step rate in percent
+unfoldable pub nodeLine : ℕ → ℤ → ℕ → ℤ → List ℕ
+nodeLine row node discount rate =
+    nodeWord ++ ((whole row ++ space) ++ ((signedWhole node ++ space) ++ ((amount discount ++ space) ++ (percent rate ++ newline))))
+
+-- row, quote, sum of state prices, state-price allowance
+unfoldable pub rowLine : ℕ → ℕ → ℕ → ℕ → List ℕ
+rowLine row quote total bound =
+    rowWord ++ ((whole row ++ space) ++ ((amount quote ++ space) ++ ((amount total ++ space) ++ (whole bound ++ newline))))
+
+-- a price and its allowance, after the word
+unfoldable pub priceLine : List ℕ → ℕ → ℕ → List ℕ
+priceLine word price bound = word ++ ((amount price ++ space) ++ (whole bound ++ newline))
+
+abbrev pub bondLine : ℕ → ℕ → List ℕ
+bondLine price bound = priceLine bondWord price bound
+
+abbrev pub optionLine : ℕ → ℕ → List ℕ
+optionLine price bound = priceLine optionWord price bound
+
+-- the number of a refusal
+unfoldable pub refusedLine : ℕ → List ℕ
+refusedLine number = refusedWord ++ (whole number ++ newline)
+
+-- a line is put where the place is in the buffer and at least 128 bytes stand before it; no line is longer
+unfoldable pub hasRoom : ℕ → ℕ → Bool
+hasRoom size end = leb 128 end && leb end size
+
+-- where the line starts, or the place itself where the line is not put
+unfoldable pub lineStart : List ℕ → ℕ → List ℕ → ℕ
+lineStart out end line = cond (hasRoom (length out) end) (end - length line) end
+
+-- the buffer with the line, or as it was
+unfoldable pub withLine : List ℕ → ℕ → List ℕ → List ℕ
+withLine out end line = cond (hasRoom (length out) end) (putBefore out end line) out

@@ -1,0 +1,1 @@
+// Definitions and laws of the lines of the sheet.
