@@ -66,9 +66,9 @@ module _ (f n b s : ℕ) (rows kinds : List ℕ) (figures : List Float) (ds ps :
               omega (
                 arith,
                 sum-cong (node-count b i)
-                (λ k. exact-state-price (rate-tree b) (stored b held) i k - unit ^ i * fit-price f n b s kinds figures i k)
-                (λ k. exact-state-price (rate-tree b) (stored b held) i k - unit ^ i * state-price (rate-tree b) (stored b held) i k)
-                (λ k l. ap (λ (x : ℕ). exact-state-price (rate-tree b) (stored b held) i k - unit ^ i * x) (price-is k)),
+                    (λ k. exact-state-price (rate-tree b) (stored b held) i k - unit ^ i * fit-price f n b s kinds figures i k)
+                    (λ k. exact-state-price (rate-tree b) (stored b held) i k - unit ^ i * state-price (rate-tree b) (stored b held) i k)
+                    (λ k l. ap (λ (x : ℕ). exact-state-price (rate-tree b) (stored b held) i k - unit ^ i * x) (price-is k)),
                 c .short,
               );
         },

@@ -105,7 +105,8 @@ module _ (job : Job) (room : ℕ) (known : AcceptedJob job room) where
       let f = job .frequency in
       let s = job .volatility in
       let price = fit-price f n b s (jobKinds job) (jobFigures job) in
-      let near = promises-kept .tree .quotes-repriced f n b s (jobRows job) (jobKinds job) (jobFigures job) most-discounts most-state-prices (known .fit) i hi in
+      let near
+      = promises-kept .tree .quotes-repriced f n b s (jobRows job) (jobKinds job) (jobFigures job) most-discounts most-state-prices (known .fit) i hi in
       let quote = values-row n i (discountAt f (jobKinds job) (jobFigures job)) hi in
       record {
         bounded =
