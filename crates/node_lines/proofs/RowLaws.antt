@@ -2,16 +2,16 @@
 -- Assumes nothing.
 use mathlib.Core.Path.{_≡_, refl, sym, ap, _∙_, subst}
 use mathlib.Core.Bool.{Bool, true, false, cond, _&&_}
-use mathlib.Core.List.{List, [], _∷_, _++_}
+use mathlib.Core.List.{List, [], _++_}
 use Prim.Native.Nat.{ℕ, zero, suc, _+_, _-_, _*_, _/_, _%_, _≤_, _<_, _^_}
 use native.Mathlib.Omega.{arith}
 use borrow.Author.Tests.{lt-ltb, le-leb, lt-leb, leb-true, eq-eqb, ne-eqb}
 use lib.Dec.{leb}
-use lib.IntN.{ℤ, pos, natAbs, subℕ, negℤ, _-ℤ_}
+use lib.IntN.{ℤ, pos, subℕ, _-ℤ_}
 use lib.ListN.{length, getD, take, drop, length-append}
 use mir.Syntax.{w64}
-use mir.Val.{SFits, toZ, ofZ}
-use mir.Facts.{toZ-ofZ, toZ-pos}
+use mir.Val.{SFits, toZ}
+use mir.Facts.{toZ-pos}
 use Rattle.arithmetic.specs.Row.{values, each, between}
 use Rattle.arithmetic.proofs.BetweenLaws.{between-least, between-most}
 use Rattle.arithmetic.proofs.PartLaws.{part-length, part-value}

@@ -1,4 +1,4 @@
-// The node lines of a row, drawn through the reader of nodes and put into a lent buffer from its end.
+// The node lines of a row, put into a lent buffer from its end.
 ghost use mathlib.Core.Path.{_≡_};
 ghost use mathlib.Core.Bool.{true};
 ghost use Prim.Native.Nat.{_*_, _≤_, _<_};
@@ -55,7 +55,7 @@ fn put_node(out: &mut [u8], end: usize, row: u64, discounts: &[u64], index: usiz
     ensures { λ r. ⌜ Put (now (out .entry)) end (nodeText row (now (discounts .entry)) index) r (now (out .exit)) ⌝ }
 {
     let half_width = discounts.len() / 2;
-    let node = node_reader::read_node(discounts, index);
+    let node = node_reader::node_at(discounts, index);
     let number = index as i64 - half_width as i64;
     let line = text::node_line(out, end, row, number, node.discount);
     line.start

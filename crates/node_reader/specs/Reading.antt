@@ -1,6 +1,6 @@
 -- What a reader of node discounts finds at its place (document 01: the sheet is drawn through a reader that keeps the lent discounts and the next node).
 -- Assumes nothing.
-use Prim.Native.Nat.{ℕ, _+_}
+use Prim.Native.Nat.{ℕ}
 use mathlib.Core.Bool.{cond}
 use mathlib.Core.List.{List}
 use lib.ListN.{length, getD}
@@ -10,7 +10,3 @@ use Rattle.node_reader.specs.declared.Node.{Node}
 -- the node at a place: number 0 and its discount, or 6 with a zero where there is no node
 abbrev pub nodeAt : List ℕ → ℕ → Node
 nodeAt discounts next = cond (ltb next (length discounts)) (record { number = 0; discount = getD discounts next 0 }) (record { number = 6; discount = 0 })
-
--- the place after it, which stays where no node is left
-abbrev pub following : List ℕ → ℕ → ℕ
-following discounts next = cond (ltb next (length discounts)) (next + 1) next

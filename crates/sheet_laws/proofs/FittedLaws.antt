@@ -126,12 +126,8 @@ module _ (job : Job) (d p : List ℕ) (h : Fitted job d p) where
     pub stored : Stored (job .steps) (job .reversion) (take (needed .value) d) (take (all .value) p)
     stored =
         record {
-          some = accepted .some;
-          few = accepted .few;
-          gentle = accepted .gentle;
-          discounts-size = discounts-size;
+          lent = record { some = accepted .some; few = accepted .few; gentle = accepted .gentle; size = discounts-size; accepted = discounted };
           prices-size = prices-size;
-          discounted = discounted;
         }
 
     pub summed : Summed (job .steps) (job .reversion) (take (all .value) p)

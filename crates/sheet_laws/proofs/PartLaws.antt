@@ -15,6 +15,8 @@ use Rattle.arithmetic.proofs.PartLaws.{part-length, part-value}
 use Rattle.arithmetic.proofs.SumLaws.{sum-next, sum-grow}
 use Rattle.lattice.specs.Shape.{node-count, row-start, discounts-needed, state-prices-needed}
 use native.Mathlib.Nat.{mul-le-mul}
+use Rattle.lattice.specs.Entries.{nodeCount}
+use Rattle.lattice.proofs.TreeEntries.{row-value}
 use Rattle.lattice.proofs.Sizes.{row-ends, start-most, start-suc, count-within}
 use Rattle.row_view.specs.declared.RowKind.{RowKind}
 use Rattle.row_view.specs.RowView.{is-tree, holds-tree, stores-row, memory-of, is-shown, view-start, view-count, PartOf}
@@ -31,32 +33,34 @@ use Rattle.arithmetic.specs.declared.Answer.{Answer}
 use Rattle.state_price_bound.specs.ErrorBound.{statePriceErrorBound}
 use Rattle.state_price_bound.proofs.BoundLaws.{bound-most}
 use Rattle.sheet_laws.specs.TreeSheet.{row-part, total, nodesOfRow, nodeLines, lineOfRow, rowLines, optionLines, priceLines, treeSheet}
-use Rattle.sheet_laws.specs.Stored.{Stored, Summed}
+use Rattle.sheet_laws.specs.Stored.{Lent, Stored, Summed}
 use Rattle.sheet_laws.proofs.Pieces.{lines-fit}
+
+-- the rows that a memory of just a tree's discounts holds
+module _ (n b : ℕ) (discounts : List ℕ) (h : Lent n b discounts) where
+  pub discounts-end : (i : ℕ) → i < n → row-start b i + node-count b i ≤ length discounts
+  unfolding discounts-needed
+  discounts-end i l = omega (arith, row-ends b i n l, h .size)
+
+  pub lines-few : discounts-needed n b ≤ 3600
+  unfolding discounts-needed
+  lines-few = omega (arith, start-most b n, mul-le-mul (h .few) (h .few))
 
 module _ (n b : ℕ) (discounts prices : List ℕ) (h : Stored n b discounts prices) where
   pub held : holds-tree discounts prices n b ≡ true
   unfolding holds-tree is-tree
   held =
       rw (
-        le-leb 1 n (h .some),
-        le-leb n 60 (h .few),
-        le-leb b 6000 (h .gentle),
-        le-leb (discounts-needed n b) (length discounts) (omega (arith, h .discounts-size)),
+        le-leb 1 n (h .lent .some),
+        le-leb n 60 (h .lent .few),
+        le-leb b 6000 (h .lent .gentle),
+        le-leb (discounts-needed n b) (length discounts) (omega (arith, h .lent .size)),
         le-leb (state-prices-needed n b) (length prices) (omega (arith, h .prices-size)),
       )
-
-  pub discounts-end : (i : ℕ) → i < n → row-start b i + node-count b i ≤ length discounts
-  unfolding discounts-needed
-  discounts-end i l = omega (arith, row-ends b i n l, h .discounts-size)
 
   pub prices-end : (i : ℕ) → i ≤ n → row-start b i + node-count b i ≤ length prices
   unfolding state-prices-needed
   prices-end i l = omega (arith, row-ends b i (suc n) (omega arith), h .prices-size)
-
-  pub lines-few : discounts-needed n b ≤ 3600
-  unfolding discounts-needed
-  lines-few = omega (arith, start-most b n, mul-le-mul (h .few) (h .few))
 
 -- ---- the part of a row
 
@@ -123,10 +127,10 @@ module _ (row : List ℕ) (i s : ℕ) (so-far : s ≡ sum i (values row)) where
 
 -- ---- room for the lines
 
-module _ (n b : ℕ) (discounts prices : List ℕ) (h : Stored n b discounts prices) (small : (j : ℕ) → getD discounts j 0 < 2 ^ 64) where
+module _ (n b : ℕ) (discounts : List ℕ) (h : Lent n b discounts) (small : (j : ℕ) → getD discounts j 0 < 2 ^ 64) where
   pub nodes-length : (i : ℕ) → i < n → length (nodesOfRow b discounts i) ≤ 128 * node-count b i
   nodes-length i l =
-      let s = part-size b i discounts (discounts-end n b discounts prices h i l) in
+      let s = part-size b i discounts (discounts-end n b discounts h i l) in
       let c = count-within b i (omega (arith, h .few)) in
       let long = row-length i (row-part b discounts i) (omega (arith, h .few)) (omega (arith, s, c))
       (λ k below. part-below b i k (2 ^ 64) discounts small (omega (arith, s))) in
@@ -134,6 +138,42 @@ module _ (n b : ℕ) (discounts prices : List ℕ) (h : Stored n b discounts pri
 
   pub nodes-fit : (i : ℕ) → i < n → 128 * row-start b i + length (nodesOfRow b discounts i) ≤ 128 * row-start b (suc i)
   nodes-fit i l = omega (arith, nodes-length i l, start-suc b i)
+
+-- the row above `left`, whose nodes stand before a place; `count` is what the code finds
+module _ (n b : ℕ) (discounts : List ℕ) (h : Lent n b discounts) (left place : ℕ) (count : Answer) (some : 0 < left) (upto : left ≤ n)
+    (ec : count ≡ nodeCount b (left - 1)) (ep : place ≡ row-start b left) where
+  count-is : count .value ≡ node-count b (left - 1)
+  count-is = row-value b (left - 1) _ count ec (h .gentle) (omega (arith, h .few))
+
+  ends : row-start b left ≡ row-start b (left - 1) + node-count b (left - 1)
+  ends = let e : suc (left - 1) ≡ left = omega arith in rw e at (start-suc b (left - 1))
+
+  pub before-first : count .value ≤ place
+  before-first = omega (arith, count-is, ends)
+
+  pub before-start : place - count .value ≡ row-start b (left - 1)
+  before-start = omega (arith, count-is, ends)
+
+  pub before-end : place ≤ length discounts
+  before-end = omega (arith, ends, discounts-end n b discounts h (left - 1) (omega arith))
+
+  part-is : take (place - (place - count .value)) (drop (place - count .value) discounts) ≡ row-part b discounts (left - 1)
+  unfolding row-part
+  part-is =
+      let c : place - (place - count .value) ≡ node-count b (left - 1) = omega (arith, count-is, ends) in
+      rw (c, before-start)
+
+  -- the row's lines, put by a call on that part
+  pub before-put : (small : (j : ℕ) → getD discounts j 0 < 2 ^ 64) (out : List ℕ) (end : ℕ) (answer : Placed) (after : List ℕ) →
+      128 * row-start b left ≤ end → end ≤ length out →
+      let part = take (place - (place - count .value)) (drop (place - count .value) discounts) in
+      Answered (rowNumber (length out) end (left - 1) part) out end (rowText (left - 1) part) answer after →
+      Put out end (nodesOfRow b discounts (left - 1)) (answer .start) after
+  before-put small out end answer after room inside a =
+      let l : left - 1 < n = omega arith in
+      row-stands out end b (left - 1) discounts (omega (arith, h .few)) (h .accepted) (discounts-end n b discounts h (left - 1) l)
+      (omega (arith, ends)) inside (nodes-length n b discounts h small (left - 1) l)
+      (subst (λ (d : List ℕ). Answered (rowNumber (length out) end (left - 1) d) out end (rowText (left - 1) d) answer after) part-is a)
 
 module _ (n b : ℕ) (quotes discounts prices : List ℕ) (few : n ≤ 60) (small : (j : ℕ) → getD quotes j 0 < 2 ^ 64) (summed : Summed n b prices) where
   pub line-length : (i : ℕ) → i < n → length (lineOfRow n b quotes discounts prices i) ≤ 128
@@ -208,15 +248,16 @@ module _ (n b : ℕ) (quotes discounts prices : List ℕ) (bond : Price) (presen
   module _ {out priced : List ℕ} {end p₁ : ℕ} (h : Stored n b discounts prices) (fb : Fits bond) (fo : Fits option) (long : 468736 ≤ end)
       (p : Put out end (priceLines bond present option) p₁ priced) where
     pub rows-room : (128 * n ≤ p₁) × (p₁ ≤ length priced)
-    rows-room = (omega (arith, h .few, prices-length bond present option fb fo, p .place), omega (arith, p .place, p .within, p .same))
+    rows-room = (omega (arith, h .lent .few, prices-length bond present option fb fo, p .place), omega (arith, p .place, p .within, p .same))
 
     module _ {rowed : List ℕ} {p₂ : ℕ} (q : Put priced p₁ (rowLines n b quotes discounts prices) p₂ rowed) (small : (j : ℕ) → getD quotes j 0 < 2 ^ 64)
         (summed : Summed n b prices) where
       pub nodes-room : (128 * discounts-needed n b ≤ p₂) × (p₂ ≤ length rowed)
-      nodes-room = (
-        omega (arith, h .few, prices-length bond present option fb fo, p .place, q .place, rows-length (h .few) small summed, lines-few n b discounts prices h),
-        omega (arith, q .place, q .within, q .same),
-      )
+      nodes-room =
+          let few = h .lent .few in (
+            omega (arith, few, prices-length bond present option fb fo, p .place, q .place, rows-length few small summed, lines-few n b discounts (h .lent)),
+            omega (arith, q .place, q .within, q .same),
+          )
 
   pub sheet-stands : {out priced rowed after : List ℕ} {end p₁ p₂ p₃ : ℕ} → Put out end (priceLines bond present option) p₁ priced →
       Put priced p₁ (rowLines n b quotes discounts prices) p₂ rowed → Put rowed p₂ (nodeLines n b discounts) p₃ after →

@@ -1,13 +1,12 @@
 -- Laws of the lines: how long they are, and what a call leaves.
 -- Assumes nothing.
-use mathlib.Core.Path.{_≡_, refl, sym, ap, _∙_, subst}
-use mathlib.Core.List.{List, [], _∷_, _++_, append-assoc}
-use Prim.Native.Nat.{ℕ, suc, _+_, _-_, _≤_, _<_, _^_}
+use mathlib.Core.Path.{_≡_, refl, sym, _∙_, subst}
+use mathlib.Core.List.{List, _++_, append-assoc}
+use Prim.Native.Nat.{ℕ, _+_, _≤_, _<_, _^_}
 use native.Mathlib.Omega.{arith}
 use borrow.Author.Tests.{le-leb, lt-leb}
 use lib.IntN.{ℤ, natAbs}
 use lib.ListN.{length, length-append}
-use Rattle.text_laws.specs.Decimal.{decimal, signedDecimal}
 use Rattle.arithmetic.specs.Answers.{lowest-cause}
 use Rattle.arithmetic.proofs.CauseLaws.{lowest-first, lowest-none}
 use Rattle.arithmetic.proofs.Numbers.{by-order}

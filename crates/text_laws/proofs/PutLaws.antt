@@ -7,7 +7,6 @@ use native.Mathlib.Omega.{arith}
 use borrow.Author.Tests.{eq-eqb, ne-eqb}
 use lib.ListN.{length, drop, take, set, getD, length-append, length-drop, length-set, take-append-drop}
 use lib.Seq.{set-split, drop-at, length-take-le, take-append-le, take-take, take-suc, drop-length}
-use Rattle.arithmetic.proofs.Numbers.{by-equal}
 use Rattle.text_laws.specs.declared.Placed.{Placed}
 use Rattle.text_laws.specs.Put.{putBefore, Put, placeOf, withText}
 
@@ -116,10 +115,6 @@ module _ (number : ℕ) (out : List ℕ) (end : ℕ) (text : List ℕ) where
 
   -- what a caller has of it
   module _ {answer : Placed} {after : List ℕ} (a : Answered answer after) where
-    pub answered-number : answer .number ≡ number
-    unfolding placeOf
-    answered-number = ap (λ (p : Placed). p .number) (a .0) ∙ by-equal number 0 (λ z. rw (eq-eqb number 0 z) (sym z)) (λ nz. rw (ne-eqb number 0 nz))
-
     pub answered-put : number ≡ 0 → length text ≤ end → end ≤ length out → Put out end text (answer .start) after
     unfolding placeOf withText
     answered-put z l p =

@@ -1,7 +1,6 @@
 -- `node_lines::node_lines` meets its contract.
 -- Assumes nothing.
 use mathlib.Core.Path.{sym, _∙_}
-use lib.ListN.{length}
 use borrow.Author.Needs.{needs}
 use Rattle.text_laws.proofs.PutLaws.{put-refused, put-answered}
 use Rattle.node_lines.proofs.RowLaws.{row-room, row-accepted}

@@ -10,8 +10,8 @@ use Rattle.node_lines.proofs.RowLaws.{discount-read, node-fits, node-is
 use Rattle.node_lines.proofs.put_node.Statement.{statement}
 use Rattle.node_lines.proofs.put_node.Tie as tie
 
-read-node-requires : tie.Need-read-node-requires
-read-node-requires c κs = search needs
+node-at-requires : tie.Need-node-at-requires
+node-at-requires c κs = search needs
 
 cast-number : tie.Need-cast-number
 cast-number c = search needs
@@ -34,13 +34,13 @@ returns : tie.Need-returns
 returns c =
     let s = c .before .before .before .before .before .before .before in
     let shared-slice-known = c .before .before .before .before .before .shared-slice-known in
-    let read-node = c .before .before .before .before .read-node in
+    let node-at = c .before .before .before .before .node-at in
     let node-line = c .before .before .node-line in
     let a = s .args in
     let pre = s .pre in
     let n = toZ-ofZ (node-fits (a .index) (length (a .discounts .now) / 2) (omega arith) (omega arith))
     ∙ node-is (a .index) (length (a .discounts .now) / 2) (omega arith) (omega arith) in
-    let d = discount-read (a .discounts .now) (a .index) (read-node .result) (read-node .ensures) (pre .0) in
+    let d = discount-read (a .discounts .now) (a .index) (node-at .result) (node-at .ensures) (pre .0) in
     let r = text-room (a .row) (a .discounts .now) (a .index) (s .fits .row .fits) (pre .0) (omega arith) (shared-slice-known .given (a .index) .fits) in
     text-put (a .out .now) _ (a .discounts .now) (a .row) (a .end) (a .index) _ _ (pre .4) (pre .0) d n (pre .2) (pre .3) r (node-line .ensures)
 
@@ -48,7 +48,7 @@ pub put-node-spec : {M : Type 1} → statement M
 put-node-spec =
     tie.close
     (tie.spec
-    read-node-requires
+    node-at-requires
     cast-number
     cast-number-2
     sub-number

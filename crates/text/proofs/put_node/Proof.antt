@@ -1,6 +1,5 @@
 -- `text::put_node` meets its contract: each field is put before the one that follows it.
 -- Assumes nothing.
-use mathlib.Core.Path.{_≡_}
 use Prim.Native.Nat.{_≤_}
 use native.Mathlib.Omega.{arith}
 use lib.ListN.{length}

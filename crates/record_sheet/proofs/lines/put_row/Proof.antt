@@ -61,7 +61,7 @@ returns c =
     (row-total .ensures ∙ ap total (part-is (p6 .before))) (subst
     (λ (i : ℕ). state-price-error-bound .result ≡ statePriceErrorBound (a .steps) (a .reversion) (a .discounts .now) i) (add-one (a .before))
     (state-price-error-bound .ensures))
-    (omega (arith, pre .0, pre .1 .few)) (shared-slice-known .given (a .before) .fits) (search needs) (pre .4) (pre .5) (row-line .ensures)
+    (omega (arith, pre .0, pre .1 .lent .few)) (shared-slice-known .given (a .before) .fits) (search needs) (pre .4) (pre .5) (row-line .ensures)
 
 pub put-row-spec : {M : Type 1} → statement M
 put-row-spec =
