@@ -2,7 +2,8 @@
  *
  * Link with target/staticlib/libcapi.a or target/libmixegorta.so; tools/library builds both. The archive needs memcpy and memset
  * of the C library and nothing else: no function here allocates, keeps a pointer, calls back, prints or reads global state, so
- * any number of threads may call at once. During a call no other thread may write what the call is handed.
+ * any number of threads may call at once. During a call no other thread may write what the call is handed, nor read what the call
+ * may write.
  *
  * Numbers. "One" is 1,000,000,000 billionths. Discounts, state prices, flows, strikes, payoffs, values and error bounds are
  * whole billionths; probabilities are whole numbers over 600,000,000.
@@ -31,9 +32,10 @@
  *       a quoted discount outside 100,000,000 to 2,000,000,000
  *
  * Memory. A slice is a pointer followed by its count of elements, never of bytes. The pointer is aligned for its type and points to
- * that many elements; with count 0 it may be NULL. Elements behind a pointer to const are only read, and such slices may overlap
- * each other. What a pointer without const reaches must overlap nothing else that the same call is handed. A refused call leaves
- * every memory as it was, except refusal 9 of mixegorta_fit. */
+ * that many elements; with count 0 it may be NULL. All of them are initialised, those that a call only writes too: any numbers
+ * will do, such as 0. Elements behind a pointer to const are only read, and such slices may overlap each other. What a pointer
+ * without const reaches must overlap nothing else that the same call is handed. A refused call leaves every memory as it was,
+ * except refusal 9 of mixegorta_fit. */
 #ifndef MIXEGORTA_H
 #define MIXEGORTA_H
 

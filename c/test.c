@@ -318,7 +318,7 @@ static void limits(void) {
 /* Every row of a fit reprices its quote by its state prices within 300. */
 static void repricing(void) {
     enum { STEPS = 60 };
-    uint64_t quoted[STEPS];
+    uint64_t quoted[STEPS] = {0};
     falling_curve(0.99);
     CHECK(mixegorta_curve_discounts(12, STEPS, rows, STEPS, kinds, STEPS, figures, STEPS, quoted, STEPS) == 0);
     CHECK(fit(12, STEPS, 50, 10000) == 0);

@@ -182,11 +182,48 @@ def pairs():
     yield 11, job(quotes=factors(6, 0.999), flows=[2 * ONE] * 6, option=(5, 1, ONE))
 
 
+def on_the_border(number, line, made):
+    """A job whose sheet has this line: without the line it would not stand on its border."""
+    if (line + '\n').encode() not in reference.sheet(made):
+        raise SystemExit('no line %r in the sheet of %s' % (line, made.hex()))
+    return number, made
+
+
+def borders():
+    """Each limit met exactly, and passed by the least that a job can say."""
+    half, ten = 1 / 1_024, reference.pattern_of(10.0)
+    for figure, line in ((1 - half, 'row 1 0.999023438 0.999023437 4'), (reference.pattern_of(1 - half) - 1, 'row 1 0.999023437 0.999023436 4')):
+        yield on_the_border(0, line, job(f=1, s=0, quotes=[(5, figure)]))
+    for figure, line in ((half, 'row 1 0.999024389 0.999024387 4'), (reference.pattern_of(half) - 1, 'row 1 0.999024390 0.999024390 4'),
+                         (-half, 'row 1 1.000977517 1.000977516 4'), (reference.pattern_of(-half) - 1, 'row 1 1.000977516 1.000977516 4')):
+        yield on_the_border(0, line, job(f=1, s=0, quotes=[(6, figure)]))
+    yield on_the_border(0, 'node 0 0 0.327680000 205.1757813', job(f=1, s=0, quotes=[(5, 0.32768)]))
+    yield on_the_border(0, 'row 1 0.545454545 0.545454543 4', job(f=12, s=0, quotes=[(6, ten)]))
+    yield 7, job(f=12, s=0, quotes=[(6, ten + 1)])
+    # No volatility gives a product of exactly one: these two come nearest, 151 below and 1,100 above. So steep a tree is refused with 9.
+    yield 9, job(f=2, s=28_649, quotes=factors(58, 0.98))
+    yield 8, job(f=2, s=46_657, quotes=factors(36, 0.98))
+    # The lowest node of the last row alone has 1,100,000,000, and more.
+    yield on_the_border(0, 'node 3 -3 1.100000000 -9.0909091', job(quotes=factors(3, 0.99) + [(5, 1.063870137)]))
+    yield 9, job(quotes=factors(3, 0.99) + [(5, 1.063870138)])
+    # A bond and a call of exactly 8, then a bond of one billionth more.
+    level, flow = [(5, 1.0)] * 4, 1_999_999_960
+    yield on_the_border(0, 'bond 8.000000000 14', job(f=1, s=0, quotes=level, flows=[flow] + [2 * ONE] * 3))
+    yield on_the_border(0, 'option 8.000000000 14', job(f=1, s=0, quotes=level, flows=[flow] + [2 * ONE] * 3, option=(1, 1, 0)))
+    yield 12, job(f=1, s=0, quotes=level, flows=[flow + 1] + [2 * ONE] * 3)
+    # A put of exactly 8 on row 1, its bond 0; the next strike gives more.
+    rising = [(5, 0.5 * 1.0994 ** t) for t in range(9)]
+    for kind in (2, 4):
+        yield on_the_border(0, 'option 4.000000000 23', job(f=1, s=0, quotes=rising, flows=[0] * 9, option=(kind, 9, 3_748_384_118)))
+        yield 12, job(f=1, s=0, quotes=rising, flows=[0] * 9, option=(kind, 9, 3_748_384_119))
+
+
 def jobs():
     yield from good()
     yield from ((1, made) for made in malformed())
     yield from each_cause()
     yield from pairs()
+    yield from borders()
 
 
 def number_of(sheet):
@@ -194,13 +231,14 @@ def number_of(sheet):
 
 
 def main():
-    stdin, stdout, wide, numbers = b'', b'', 0, set()
+    stdin, stdout, count, wide, numbers = b'', b'', 0, 0, set()
     for number, made in jobs():
         sheet = reference.sheet(made)
         if number_of(sheet) != number:
             raise SystemExit('a job meant to give %d gives %d: %s' % (number, number_of(sheet), made.hex()))
         wide += sheet.count(b'\nnode') >= 3_599
         numbers.add(number)
+        count += 1
         stdin += struct.pack('>H', len(made)) + made
         stdout += sheet
     if wide > MOST_WIDE_JOBS or numbers != {0, 1, 2, 3, 4, 5, 7, 8, 9, 10, 11, 12}:
@@ -208,7 +246,7 @@ def main():
     for name, content in (('stdin', stdin), ('stdout', stdout)):
         with open(os.path.join(HERE, name), 'wb') as file:
             file.write(content)
-    print(len(stdin), 'bytes of jobs,', len(stdout), 'bytes of sheets')
+    print(count, 'jobs,', len(stdin), 'bytes of jobs,', len(stdout), 'bytes of sheets')
 
 
 if __name__ == '__main__':

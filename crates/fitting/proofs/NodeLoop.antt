@@ -13,7 +13,7 @@ use Rattle.arithmetic.proofs.RowLaws.{Filled, filled-start, filled-next, filled
 use Rattle.limits.specs.Limits.{is-discount}
 use Rattle.tree.specs.Tree.{chance, incoming}
 use Rattle.tree.proofs.StepLaws.{incoming-none}
-use Rattle.row_branches.specs.RowBranches.{row-branch, row-transition}
+use Rattle.row_branches.specs.RowBranches.{branch-total, row-branch, row-transition}
 use Rattle.fit_laws.specs.Step.{carried}
 use Rattle.fitting.specs.Rows.{StepReady}
 use Rattle.fitting.proofs.StepRows.{quoted-small, node-asks, sums-small, product-most, amount-most, sums-next, never}
@@ -69,7 +69,7 @@ module _ (quote z : ℕ) (prices factors downs d₀ s₀ : List ℕ) (ready : St
 
       pub spread-asks :
           (row-branch downs (length s) k .low + 2 < length s)
-          × (row-branch downs (length s) k .down + row-branch downs (length s) k .middle + row-branch downs (length s) k .up ≤ 600000000)
+          × (branch-total (row-branch downs (length s) k) ≤ 600000000)
           × (values prices k * ratio quote factors z k / one ≤ 2200000330)
           × ((j : ℕ) → j < length s → values s j ≤ 1400000000000000000)
       spread-asks =

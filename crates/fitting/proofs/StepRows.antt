@@ -10,12 +10,13 @@ use lib.ListN.{length}
 use Rattle.arithmetic.specs.Rounding.{one}
 use Rattle.arithmetic.specs.Sum.{sum, only}
 use Rattle.arithmetic.specs.Row.{row, values, each}
-use Rattle.arithmetic.proofs.SumLaws.{sum-next, sum-grow, sum-weigh-le, sum-term}
-use Rattle.arithmetic.proofs.RowLaws.{row-cong, values-row, length-row, each-holds}
+use Rattle.arithmetic.proofs.SumLaws.{sum-next, sum-grow, sum-weigh-le, sum-term, only-most}
+use Rattle.arithmetic.proofs.RowLaws.{row-cong, values-row, length-row, each-holds, added-length, added-value}
 use Rattle.tree.specs.Tree.{Transition, Inside, Total, chance, incoming, whole}
 use Rattle.tree.proofs.StepLaws.{incoming-next, incoming-none, incoming-total, chance-times}
 use Rattle.row_branches.specs.declared.RowBranch.{RowBranch}
-use Rattle.row_branches.specs.RowBranches.{row-branch, row-transition}
+use Rattle.row_branches.specs.RowBranches.{branch-up, branch-middle, branch-down, branch-total, row-branch, row-transition}
+use Rattle.row_branches.proofs.BranchLaws.{backwards}
 use Rattle.limits.specs.Limits.{is-discount}
 use Rattle.limits.proofs.LimitLaws.{discount-most}
 use Rattle.fit_laws.specs.Step.{carried}
@@ -40,9 +41,49 @@ module _ (n : ℕ) (q v : ℕ → ℕ) (hs : sum n q ≤ 2000000300) (hv : (k : 
   pub carried-sum : sum n (carried q v) ≤ 2200000330
   carried-sum = omega (arith, carried-le n q v, sum-weigh-le n 1100000000 q v hv)
 
--- what a branch hands on
-pub product-small : (p x : ℕ) → p ≤ 600000000 → x ≤ 2200000330 → p * x ≤ 1320000198000000000
-product-small p x hp hx = mul-le-mul hp hx
+-- what a branch hands on: each product is small, and so is each sum after it is added, up, middle and down in turn
+module _ (b : RowBranch) (x : ℕ) (total : branch-total b ≤ 600000000) (few : x ≤ 2200000330) where
+  product-small : (p : ℕ) → p ≤ 600000000 → p * x ≤ 1320000198000000000
+  product-small p hp = mul-le-mul hp few
+
+  pub up-small : branch-up b * x ≤ 1320000198000000000
+  up-small = product-small (branch-up b) (omega arith)
+
+  pub middle-small : branch-middle b * x ≤ 1320000198000000000
+  middle-small = product-small (branch-middle b) (omega arith)
+
+  pub down-small : branch-down b * x ≤ 1320000198000000000
+  down-small = product-small (branch-down b) (omega arith)
+
+  module _ (l : List ℕ) (inside : b .low + 2 < length l) (small : (j : ℕ) → j < length l → values l j ≤ 1400000000000000000) where
+    pub up-fits : (b .low + 2 < length l) × (values l (b .low + 2) + branch-up b * x < 18446744073709551616)
+    up-fits = (inside, omega (arith, up-small, small (b .low + 2) inside))
+
+    module _ (l₁ : List ℕ) (e₁ : l₁ ≡ row (length l) (λ j. values l j + only (b .low + 2) j (branch-up b * x))) where
+      length₁ : length l₁ ≡ length l
+      length₁ = added-length l l₁ (b .low + 2) (branch-up b * x) e₁
+
+      small₁ : (j : ℕ) → j < length l → values l₁ j ≤ 2720000198000000000
+      small₁ j h = omega (arith, added-value l l₁ (b .low + 2) (branch-up b * x) e₁ j h, only-most (b .low + 2) j (branch-up b * x), up-small, small j h)
+
+      pub middle-fits : (b .low + 1 < length l₁) × (values l₁ (b .low + 1) + branch-middle b * x < 18446744073709551616)
+      middle-fits = (omega (arith, length₁), omega (arith, middle-small, small₁ (b .low + 1) (omega arith)))
+
+      module _ (l₂ : List ℕ) (e₂ : l₂ ≡ row (length l₁) (λ j. values l₁ j + only (b .low + 1) j (branch-middle b * x))) where
+        pub down-fits : (b .low < length l₂) × (values l₂ (b .low) + branch-down b * x < 18446744073709551616)
+        down-fits =
+            let n = added-length l₁ l₂ (b .low + 1) (branch-middle b * x) e₂ in
+            let h : b .low < length l₁ = omega (arith, length₁) in (
+              omega (arith, n, length₁),
+              omega (
+                arith,
+                added-value l₁ l₂ (b .low + 1) (branch-middle b * x) e₂ (b .low) h,
+                only-most (b .low + 1) (b .low) (branch-middle b * x),
+                middle-small,
+                down-small,
+                small₁ (b .low) (omega arith),
+              ),
+            )
 
 -- the next row after k nodes stays small, and takes in one node more
 module _ (t : Transition) (n m : ℕ) (c : ℕ → ℕ) (inside : Inside t n m) (total : Total t n) (hs : sum n c ≤ 2200000330) where
@@ -64,11 +105,13 @@ module _ (t : Transition) (n m : ℕ) (c : ℕ → ℕ) (inside : Inside t n m) 
 -- a branch's three additions as one of what it hands on
 pub spread-once :
     (downs : List ℕ) (k x : ℕ) (l l′ : List ℕ) (b : RowBranch) → b ≡ row-branch downs (length l) k →
-    l′ ≡ row (length l) (λ j. values l j + (only (b .low) j (b .down * x) + only (b .low + 1) j (b .middle * x) + only (b .low + 2) j (b .up * x))) →
+    l′ ≡ row (length l) (λ j. values l j
+    + (only (b .low + 2) j (branch-up b * x) + only (b .low + 1) j (branch-middle b * x) + only (b .low) j (branch-down b * x))) →
     l′ ≡ row (length l) (λ j. values l j + chance (row-transition downs (length l)) k j * x)
 unfolding row-transition
 spread-once downs k x l l′ b e e′ =
-    e′ ∙ rw e (row-cong (length l) _ _ (λ j _. ap (λ (y : ℕ). values l j + y) (chance-times (row-transition downs (length l)) k j x)))
+    e′ ∙ rw e (row-cong (length l) _ _ (λ j _. ap (λ (y : ℕ). values l j + y)
+    (backwards _ _ _ ∙ chance-times (row-transition downs (length l)) k j x)))
 
 -- A row's nodes, one after the other: discounts v so far accepted, state prices q of at most 2,000,000,300 in sum.
 module _ (t : Transition) (n m : ℕ) (q v : ℕ → ℕ) (inside : Inside t n m) (total : Total t n) (hs : sum n q ≤ 2000000300)
@@ -107,8 +150,7 @@ module _ (t : Transition) (n m : ℕ) (q v : ℕ → ℕ) (inside : Inside t n m
 
 -- what a branch asks of the next row
 pub node-asks : (downs : List ℕ) (next n k : ℕ) → Inside (row-transition downs next) n next → Total (row-transition downs next) n → k < n →
-    (row-branch downs next k .low + 2 < next)
-    × (row-branch downs next k .down + row-branch downs next k .middle + row-branch downs next k .up ≤ 600000000)
+    (row-branch downs next k .low + 2 < next) × (branch-total (row-branch downs next k) ≤ 600000000)
 unfolding row-transition
 node-asks downs next n k inside total h = (inside k h, omega (arith, total k h))
 

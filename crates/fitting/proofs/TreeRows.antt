@@ -80,20 +80,20 @@ module _ (b n i quote : ℕ) (factors downs discounts prices sums : List ℕ) (r
       ap (λ (l : List ℕ). row-transition l (node-count b (suc i)) .low k) (lent downs)
       ∙ part-low b (n - 1) i inside downs (r .tables .downs-long) (r .tables .downs-hold) (r .tables .reverting) k h
 
-  downs-are : (k : ℕ) → k < node-count b i → row-transition (part b n i downs) (node-count b (suc i)) .down k ≡ rate-tree b .step i .down k
-  downs-are k h =
-      ap (λ (l : List ℕ). row-transition l (node-count b (suc i)) .down k) (lent downs)
-      ∙ part-down b (n - 1) i inside downs (r .tables .downs-long) (r .tables .downs-hold) (r .tables .reverting) k h
+  ups : (k : ℕ) → k < node-count b i → row-transition (part b n i downs) (node-count b (suc i)) .up k ≡ rate-tree b .step i .up k
+  ups k h =
+      ap (λ (l : List ℕ). row-transition l (node-count b (suc i)) .up k) (lent downs)
+      ∙ part-up b (n - 1) i inside downs (r .tables .downs-long) (r .tables .downs-hold) (r .tables .reverting) k h
 
   middles : (k : ℕ) → k < node-count b i → row-transition (part b n i downs) (node-count b (suc i)) .middle k ≡ rate-tree b .step i .middle k
   middles k h =
       ap (λ (l : List ℕ). row-transition l (node-count b (suc i)) .middle k) (lent downs)
       ∙ part-middle b (n - 1) i inside downs (r .tables .downs-long) (r .tables .downs-hold) (r .tables .reverting) k h
 
-  ups : (k : ℕ) → k < node-count b i → row-transition (part b n i downs) (node-count b (suc i)) .up k ≡ rate-tree b .step i .up k
-  ups k h =
-      ap (λ (l : List ℕ). row-transition l (node-count b (suc i)) .up k) (lent downs)
-      ∙ part-up b (n - 1) i inside downs (r .tables .downs-long) (r .tables .downs-hold) (r .tables .reverting) k h
+  downs-are : (k : ℕ) → k < node-count b i → row-transition (part b n i downs) (node-count b (suc i)) .down k ≡ rate-tree b .step i .down k
+  downs-are k h =
+      ap (λ (l : List ℕ). row-transition l (node-count b (suc i)) .down k) (lent downs)
+      ∙ part-down b (n - 1) i inside downs (r .tables .downs-long) (r .tables .downs-hold) (r .tables .reverting) k h
 
   tree-inside : (k : ℕ) → k < node-count b i → rate-tree b .step i .low k + 2 < node-count b (suc i)
   unfolding rate-tree

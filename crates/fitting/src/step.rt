@@ -1,4 +1,5 @@
 // One step of the fit, over one row: the sums, divisions and branches of document 01.
+use row_branches::RowBranch;
 ghost use mathlib.Core.Path.{_≡_};
 ghost use mathlib.Core.Bool.{true};
 ghost use Prim.Native.Nat.{ℕ, _+_, _*_, _/_, _≤_, _<_};
@@ -6,7 +7,14 @@ ghost use lib.ListN.{length};
 ghost use Rattle.arithmetic.specs.Sum.{sum, only};
 ghost use Rattle.arithmetic.specs.Row.{row, values, each};
 ghost use Rattle.tree.specs.Tree.{chance, incoming};
-ghost use Rattle.row_branches.specs.RowBranches.{row-branch, row-transition};
+ghost use Rattle.row_branches.specs.RowBranches.{
+  branch-up,
+  branch-middle,
+  branch-down,
+  branch-total,
+  row-branch,
+  row-transition,
+};
 ghost use Rattle.limits.specs.Limits.{most-discount, is-discount};
 ghost use Rattle.fit_laws.specs.Step.{normaliser, discount, carried};
 ghost use Rattle.fitting.specs.Rows.{Factors, StepReady};
@@ -44,36 +52,31 @@ fn add_at(next: &mut [u64], at: usize, amount: u64)
     next[at] += amount;
 }
 
-// Adds an amount, times each probability, to three neighbouring nodes.
-fn scatter(next: &mut [u64], low: usize, down: u64, middle: u64, up: u64, amount: u64)
-    requires { ⌜ (low + 2 < length (now next)) × (down + middle + up ≤ 600000000) × (amount ≤ 2200000330)
+// Adds an amount, times each probability, to the three nodes of a branch.
+fn scatter(next: &mut [u64], branch: RowBranch, amount: u64)
+    requires { ⌜ (branch .low + 2 < length (now next)) × (branch-total branch ≤ 600000000) × (amount ≤ 2200000330)
         × ((j : ℕ) → j < length (now next) → values (now next) j ≤ 1400000000000000000) ⌝ }
     ensures { λ _. ⌜ now (next .exit) ≡ row (length (now (next .entry))) (λ j. values (now (next .entry)) j
-        + (only low j (down * amount) + only (low + 1) j (middle * amount) + only (low + 2) j (up * amount))) ⌝ }
+        + (only (branch .low + 2) j (branch-up branch * amount) + only (branch .low + 1) j (branch-middle branch * amount)
+        + only (branch .low) j (branch-down branch * amount))) ⌝ }
 {
-    add_at(next, low, down * amount);
-    add_at(next, low + 1, middle * amount);
-    add_at(next, low + 2, up * amount);
+    let low = branch.low;
+    let probabilities = branch.probabilities;
+    add_at(next, low + 2, probabilities[0] * amount);
+    add_at(next, low + 1, probabilities[1] * amount);
+    add_at(next, low, probabilities[2] * amount);
 }
 
 // Adds what a node hands on to the sums of the next row.
 fn spread_node(downs: &[u64], index: usize, amount: u64, sums: &mut [u64])
     requires { ⌜ (row-branch (now downs) (length (now sums)) index .low + 2 < length (now sums))
-        × (row-branch (now downs) (length (now sums)) index .down + row-branch (now downs) (length (now sums)) index .middle
-        + row-branch (now downs) (length (now sums)) index .up ≤ 600000000)
+        × (branch-total (row-branch (now downs) (length (now sums)) index) ≤ 600000000)
         × (amount ≤ 2200000330) × ((j : ℕ) → j < length (now sums) → values (now sums) j ≤ 1400000000000000000) ⌝ }
     ensures { λ _. ⌜ now (sums .exit) ≡ row (length (now (sums .entry)))
         (λ j. values (now (sums .entry)) j + chance (row-transition (now (downs .entry)) (length (now (sums .entry)))) index j * amount) ⌝ }
 {
     let branch = row_branches::row_branch(downs, sums.len(), index);
-    scatter(
-        sums,
-        branch.low,
-        branch.down,
-        branch.middle,
-        branch.up,
-        amount,
-    );
+    scatter(sums, branch, amount);
 }
 
 // Node by node: the discount, and what it carries to the sums of the next row, which are cleared. Stops where a discount is not

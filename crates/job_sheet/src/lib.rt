@@ -6,11 +6,12 @@ ghost use Rattle.sheet_laws.specs.WholeJob.{
   sheetNumber,
   sheetText,
   memoryOf,
-  printedStart,
+  printedAnswer,
   printedMemory,
 };
 ghost use Rattle.record_sheet.specs.Answers.{answerOf};
 pub use record_sheet::Written;
+pub use text::Placed;
 
 // The sheet of a job, at the end of the lent room: 468,736 bytes are enough for every job, and fewer are refused with 6. 1 a job that is
 // malformed; then the lowest of the causes of its fit, its bond and its option. A refusal leaves the room as it was.
@@ -29,10 +30,11 @@ pub fn sheet(job: &[u8], out: &mut [u8]) -> Written
     record_sheet::sheet_of_record(reading.job, out)
 }
 
-// What the sheet program prints of a job, at the end of the lent room, and where it starts: the sheet, or `refused` and the number.
-pub fn printed(job: &[u8], out: &mut [u8]) -> usize
-    ensures place { λ r. ⌜ r ≡ printedStart (now (job .entry)) (now (out .entry)) ⌝ }
-    ensures within { λ r. ⌜ r ≤ length (now (out .entry)) ⌝ }
+// What the sheet program prints of a job, at the end of the lent room, and where it starts: the sheet, or `refused` and the number. 6 where not
+// even that line has room.
+pub fn printed(job: &[u8], out: &mut [u8]) -> Placed
+    ensures answer { λ r. ⌜ r ≡ printedAnswer (now (job .entry)) (now (out .entry)) ⌝ }
+    ensures within { λ r. ⌜ r .start ≤ length (now (out .entry)) ⌝ }
     ensures memory { λ _. ⌜ now (out .exit) ≡ printedMemory (now (job .entry)) (now (out .entry)) ⌝ }
 {
     let written = sheet(job, out);
@@ -40,5 +42,6 @@ pub fn printed(job: &[u8], out: &mut [u8]) -> usize
     if written.number != 0 {
         return text::refused_line(out, room, written.number);
     }
-    room - written.size
+    let start = room - written.size;
+    Placed { number: 0, start }
 }

@@ -4,7 +4,7 @@ use mathlib.Core.Path.{_≡_, refl, sym, ap, _∙_}
 use mathlib.Core.Bool.{Bool, true, false, cond}
 use mathlib.Core.List.{List, [], _∷_}
 use Prim.Native.Nat.{ℕ, zero, suc, _+_, _-_, _*_, _/_, _≤_, _<_, min}
-use native.Mathlib.Nat.{mul-le-mul, pos-of-ne-zero}
+use native.Mathlib.Nat.{div-le-self, mul-le-mul, pos-of-ne-zero}
 use native.Mathlib.Omega.{arith}
 use lib.Dec.{eqb, ltb, leb}
 use borrow.Author.Tests.{eq-eqb, ne-eqb, lt-ltb, le-ltb, le-leb, lt-leb, eqb-true}
@@ -34,6 +34,10 @@ module _ (b i result : ℕ) where
     pub row-found : i ≤ 60 → about-row b i result ≡ answered result
     unfolding about-row
     row-found h = rw (le-ltb 6000 b hb, le-ltb 60 i h)
+
+-- a quotient of a small number, and one more, fits 64 bits
+pub highest-fits : (a d : ℕ) → a < 10000 → a / d + 1 < 18446744073709551616
+highest-fits a d h = omega (arith, div-le-self a d)
 
 -- what is worked out for a row that is not in the tree does not show
 pub row-clipped : (b i : ℕ) (f : ℕ → ℕ) → about-row b i (f (min i 60)) ≡ about-row b i (f i)

@@ -7,7 +7,8 @@ use native.Mathlib.Omega.{arith}
 use borrow.Author.Tests.{lt-ltb, le-ltb}
 use lib.IntN.{ℤ, pos, negsuc, negℤ, natAbs, subℕ, _+ℤ_, _-ℤ_, _*ℤ_, +ℤ-negℤ-cancel, negℤ-negℤ, negℤ-+ℤ, +ℤ-comm}
 use Rattle.arithmetic.proofs.Numbers.{tangent, between}
-use Rattle.lattice.specs.Branching.{Branching, ordinary, top, bottom, up-at, middle-at, down-at, change-of, square-of}
+use Rattle.lattice.specs.Branching.{Branching, ordinary, top, bottom, up-at, middle-at, down-at}
+use Rattle.lattice.proofs.Destinations.{change-of, square-of}
 
 -- a difference that is at least 0
 pub pos-minus : (x y : ℕ) → y ≤ x → pos x +ℤ negℤ (pos y) ≡ pos (x - y)

@@ -1,8 +1,10 @@
 pub mod Sizes
+pub mod Destinations
 pub mod Formulas
 pub mod Nodes
 pub mod Differences
 pub mod RateTreeLaws
+pub mod Landing
 pub mod EntryLaws
 pub mod TableLaws
 pub mod TreeEntries

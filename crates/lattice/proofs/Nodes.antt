@@ -12,7 +12,8 @@ use lib.IntN.{ℤ, pos, negsuc, negℤ, natAbs, _*ℤ_, negℤ-negℤ}
 use Rattle.arithmetic.proofs.Numbers.{by-equal, by-order}
 use Rattle.arithmetic.proofs.Signed.{abs-negative}
 use Rattle.lattice.specs.Shape.{highest-node, half-width}
-use Rattle.lattice.specs.Branching.{Branching, ordinary, top, bottom, branching, z-of, up-at, middle-at, down-at, up, middle, down, change-of, change, square-of, square}
+use Rattle.lattice.specs.Branching.{Branching, ordinary, top, bottom, branching, z-of, up-at, middle-at, down-at, up, middle, down, change, square}
+use Rattle.lattice.proofs.Destinations.{change-of, square-of, change-is, square-is}
 use Rattle.lattice.proofs.Sizes.{Within, within-row, highest-above, highest-within, below-highest}
 use Rattle.lattice.proofs.Formulas.{Upper, upper-ordinary, upper-top, mirrored, up-mirrored, middle-mirrored, down-mirrored, change-mirrored, square-mirrored, times-negative}
 
@@ -83,15 +84,13 @@ module _ (b c : ℕ) where
   down-lower = rw (branching-mirrored b c, down-mirrored (branching b (pos (suc c))) (suc c * b))
 
   change-lower : change b (negsuc c) ≡ negℤ (change b (pos (suc c)))
-  unfolding change
   change-lower =
-      rw (branching-mirrored b c, up-lower, middle-lower, down-lower)
+      rw (change-is b (negsuc c), change-is b (pos (suc c)), branching-mirrored b c, up-lower, middle-lower, down-lower)
       (change-mirrored (branching b (pos (suc c))) (up b (pos (suc c))) (middle b (pos (suc c))) (down b (pos (suc c))))
 
   square-lower : square b (negsuc c) ≡ square b (pos (suc c))
-  unfolding square
   square-lower =
-      rw (branching-mirrored b c, up-lower, middle-lower, down-lower)
+      rw (square-is b (negsuc c), square-is b (pos (suc c)), branching-mirrored b c, up-lower, middle-lower, down-lower)
       (square-mirrored (branching b (pos (suc c))) (up b (pos (suc c))) (middle b (pos (suc c))) (down b (pos (suc c))))
 
 -- What holds of a node of the tree.
@@ -113,28 +112,28 @@ scaled : (a : ℕ) → 10000 * (60000 * a) ≡ 600000000 * a
 scaled a = omega arith
 
 upper : (b d : ℕ) → Upper (branching b (pos d)) (d * b) (up b (pos d)) (middle b (pos d)) (down b (pos d)) → Node b (pos d)
-unfolding z-of change square
+unfolding z-of
 upper b d n =
+    let moved = change-is b (pos d) ∙ n .change-is in
     record {
       up-whole = n .up-is;
       middle-whole = n .middle-is;
       down-whole = n .down-is;
       total = n .total;
       mean =
-          ap (λ (t : ℤ). pos 10000 *ℤ t) (n .change-is) ∙ times-negative 10000 (60000 * (d * b))
+          ap (λ (t : ℤ). pos 10000 *ℤ t) moved ∙ times-negative 10000 (60000 * (d * b))
           ∙ ap (λ (x : ℕ). negℤ (pos x)) (scaled (d * b));
-      variance = varied (d * b) _ _ (n .square-is) (ap natAbs (n .change-is) ∙ abs-negative (60000 * (d * b)));
+      variance = varied (d * b) _ _ (square-is b (pos d) ∙ n .square-is) (ap natAbs moved ∙ abs-negative (60000 * (d * b)));
     }
 
 module _
     (b c : ℕ)
     (n : Upper (branching b (pos (suc c))) (suc c * b) (up b (pos (suc c))) (middle b (pos (suc c))) (down b (pos (suc c)))) where
   change-below : change b (negsuc c) ≡ pos (60000 * (suc c * b))
-  unfolding change
-  change-below = change-lower b c ∙ ap negℤ (n .change-is) ∙ negℤ-negℤ (pos (60000 * (suc c * b)))
+  change-below = change-lower b c ∙ ap negℤ (change-is b (pos (suc c)) ∙ n .change-is) ∙ negℤ-negℤ (pos (60000 * (suc c * b)))
 
   lower : Node b (negsuc c)
-  unfolding z-of square
+  unfolding z-of
   lower =
       record {
         up-whole = rw (branching-mirrored b c, up-lower b c) (up-mirrored (branching b (pos (suc c))) (suc c * b) ∙ n .down-is);
@@ -146,7 +145,7 @@ module _
             ∙ ap pos (scaled (suc c * b))
             ∙ sym (negℤ-negℤ (pos (600000000 * (suc c * b))))
             ∙ ap negℤ (sym (times-negative 600000000 (suc c * b)));
-        variance = varied (suc c * b) _ _ (square-lower b c ∙ n .square-is) (ap natAbs change-below);
+        variance = varied (suc c * b) _ _ (square-lower b c ∙ square-is b (pos (suc c)) ∙ n .square-is) (ap natAbs change-below);
       }
 
 -- every node whose distance from the middle is at most J

@@ -53,20 +53,19 @@ down b j = natAbs (down-at (branching b j) (z-of b j))
 abbrev pub probabilities : ℕ → ℤ → List ℕ
 probabilities b j = up b j ∷ middle b j ∷ down b j ∷ []
 
--- the sum of probability × change of node
-unfoldable pub change-of : Branching → ℕ → ℕ → ℕ → ℤ
-change-of ordinary u m d = pos u -ℤ pos d
-change-of top u m d = negℤ (pos (m + 2 * d))
-change-of bottom u m d = pos (2 * u + m)
+-- The branches lead to lowest, lowest + 1 and lowest + 2, by down, middle and up: the sum of probability × change of node,
+unfoldable pub change-to : ℤ → ℤ → ℕ → ℕ → ℕ → ℤ
+change-to j lowest u m d = pos d *ℤ (lowest -ℤ j) +ℤ pos m *ℤ (lowest +ℤ pos 1 -ℤ j) +ℤ pos u *ℤ (lowest +ℤ pos 2 -ℤ j)
 
 unfoldable pub change : ℕ → ℤ → ℤ
-change b j = change-of (branching b j) (up b j) (middle b j) (down b j)
+change b j = change-to j (lowest-of (branching b j) j) (up b j) (middle b j) (down b j)
 
--- the sum of probability × squared change of node
-unfoldable pub square-of : Branching → ℕ → ℕ → ℕ → ℕ
-square-of ordinary u m d = u + d
-square-of top u m d = m + 4 * d
-square-of bottom u m d = 4 * u + m
+-- and of probability × squared change
+unfoldable pub squared : ℤ → ℕ
+squared z = natAbs z * natAbs z
+
+unfoldable pub square-to : ℤ → ℤ → ℕ → ℕ → ℕ → ℕ
+square-to j lowest u m d = d * squared (lowest -ℤ j) + m * squared (lowest +ℤ pos 1 -ℤ j) + u * squared (lowest +ℤ pos 2 -ℤ j)
 
 unfoldable pub square : ℕ → ℤ → ℕ
-square b j = square-of (branching b j) (up b j) (middle b j) (down b j)
+square b j = square-to j (lowest-of (branching b j) j) (up b j) (middle b j) (down b j)

@@ -1,31 +1,35 @@
 -- Laws of the lines of a row: how long they are, one line less, and what a call leaves.
 -- Assumes nothing.
 use mathlib.Core.Path.{_≡_, refl, sym, ap, _∙_, subst}
-use mathlib.Core.Bool.{Bool, true, false, cond, not, _&&_}
-use mathlib.Core.List.{List, [], _∷_, _++_}
-use Prim.Native.Nat.{ℕ, zero, suc, _+_, _-_, _*_, _/_, _≤_, _<_, _^_}
+use mathlib.Core.Bool.{Bool, true, false, cond, _&&_}
+use mathlib.Core.List.{List, [], _++_}
+use Prim.Native.Nat.{ℕ, zero, suc, _+_, _-_, _*_, _/_, _%_, _≤_, _<_, _^_}
 use native.Mathlib.Omega.{arith}
-use borrow.Author.Tests.{lt-ltb, le-leb, lt-leb, leb-true}
+use borrow.Author.Tests.{lt-ltb, le-leb, lt-leb, leb-true, eq-eqb, ne-eqb}
 use lib.Dec.{leb}
-use lib.IntN.{ℤ, pos, natAbs, subℕ, negℤ, _-ℤ_}
-use lib.ListN.{length, getD, length-append}
+use lib.IntN.{ℤ, pos, subℕ, _-ℤ_}
+use lib.ListN.{length, getD, take, drop, length-append}
 use mir.Syntax.{w64}
-use mir.Val.{SFits, toZ, ofZ}
-use mir.Facts.{toZ-ofZ, toZ-pos}
-use Rattle.arithmetic.specs.Rounding.{one}
+use mir.Val.{SFits, toZ}
+use mir.Facts.{toZ-pos}
+use Rattle.arithmetic.specs.Row.{values, each, between}
+use Rattle.arithmetic.proofs.BetweenLaws.{between-least, between-most}
+use Rattle.arithmetic.proofs.PartLaws.{part-length, part-value}
+use Rattle.arithmetic.proofs.RowLaws.{each-holds}
+use Rattle.limits.specs.Limits.{most-discount}
 use Rattle.arithmetic.proofs.Signed.{fits-by-size}
 use Rattle.lattice.specs.RateTree.{node-at}
+use Rattle.lattice.specs.Shape.{half-width, node-count}
+use Rattle.lattice.proofs.Sizes.{half-within}
 use Rattle.lattice.proofs.Differences.{sub-is, sub-size}
 use Rattle.node_reader.specs.declared.Node.{Node}
-use Rattle.node_reader.specs.declared.Node.the-variants.{Discount, End}
 use Rattle.node_reader.specs.Reading.{nodeAt}
-use Rattle.step_rate.specs.StepRate.{rateAnswer}
-use Rattle.step_rate.proofs.RateLaws.{value-bound}
+use Rattle.text_laws.specs.declared.Placed.{Placed}
 use Rattle.text_laws.specs.Put.{putBefore, Put}
-use Rattle.text_laws.specs.Lines.{nodeLine, lineStart, withLine}
-use Rattle.text_laws.proofs.LineLaws.{node-room, line-stands}
-use Rattle.text_laws.proofs.PutLaws.{put-joined, put-before}
-use Rattle.node_lines.specs.Rows.{nodeText, lines, rowText, hasRoomFor, rowStart, withRow}
+use Rattle.text_laws.specs.Lines.{lineOfNode, nodeNumber}
+use Rattle.text_laws.proofs.LineLaws.{node-line-room, node-stands}
+use Rattle.text_laws.proofs.PutLaws.{put-joined, Answered}
+use Rattle.node_lines.specs.Rows.{nodeText, lines, hasRoomFor, isRow, acceptedDiscounts, rowNumber}
 
 pub lines-none : (line : ℕ → List ℕ) (n : ℕ) → n ≡ 0 → lines line n ≡ []
 unfolding lines
@@ -46,8 +50,7 @@ lines-room line (suc n) h = simp length-append (omega (arith, h n (omega arith),
 pub text-room : (row : ℕ) (discounts : List ℕ) (k : ℕ) → row < 2 ^ 64 → k < length discounts → length discounts < 2 ^ 63 → getD discounts k 0 < 2 ^ 64
     → length (nodeText row discounts k) ≤ 128
 unfolding nodeText node-at
-text-room row discounts k r h l d =
-    node-room row (getD discounts k 0) _ _ r d (omega (arith, sub-size k (length discounts / 2))) (omega (arith, value-bound (getD discounts k 0) (rateAnswer (getD discounts k 0)) refl))
+text-room row discounts k r h l d = node-line-room row (getD discounts k 0) _ r d (omega (arith, sub-size k (length discounts / 2)))
 
 -- ---- the node that the code works out
 
@@ -62,31 +65,26 @@ node-is k w h l = ap (λ (z : ℤ). z -ℤ toZ w64 w) (toZ-pos w64 {n = k} (omeg
 
 -- ---- the node that the reader finds
 
-module _ (discounts : List ℕ) (k : ℕ) (node : Node) (e : node ≡ nodeAt discounts k) (h : k < length discounts) where
-  there : node ≡ Discount (getD discounts k 0)
-  there = rw (lt-ltb k (length discounts) h) at e
+pub discount-read : (discounts : List ℕ) (k : ℕ) (node : Node) → node ≡ nodeAt discounts k → k < length discounts → node .discount ≡ getD discounts k 0
+discount-read discounts k node e h = ap (λ (n : Node). n .discount) e ∙ rw (lt-ltb k (length discounts) h)
 
-  pub not-end : node ≡ End → ⊥
-  not-end z = let t = there in let n : _≡_ {A = ℕ} 0 1 = cc in omega arith
-
-  pub discount-is : (discount : ℕ) → node ≡ Discount discount → discount ≡ getD discounts k 0
-  discount-is discount z = let t = there in cc
-
-text-same : (row k d : ℕ) (discounts : List ℕ) (node rate : ℤ) → d ≡ getD discounts k 0 → node ≡ node-at (length discounts / 2) k
-    → rate ≡ rateAnswer d .value → nodeLine row node d rate ≡ nodeText row discounts k
-unfolding nodeText
-text-same row k d discounts node rate a b c =
-    ap (λ (r : ℤ). nodeLine row node d r) c ∙ ap (λ (z : ℤ). nodeLine row z d (rateAnswer d .value)) b
-    ∙ ap (λ (x : ℕ). nodeLine row (node-at (length discounts / 2) k) x (rateAnswer x .value)) a
+pub row-discount : (discounts : List ℕ) (k : ℕ) → acceptedDiscounts discounts ≡ true → k < length discounts →
+    (1 ≤ getD discounts k 0) × (getD discounts k 0 ≤ most-discount)
+unfolding acceptedDiscounts
+row-discount discounts k e h =
+    let t = each-holds (length discounts) k (between 1 most-discount (values discounts)) e h in
+    (between-least 1 most-discount (values discounts) k t, between-most 1 most-discount (values discounts) k t)
 
 -- the line that the code puts is the node's
-pub text-put : (out after discounts : List ℕ) (row end k start d : ℕ) (node rate : ℤ) → d ≡ getD discounts k 0 → node ≡ node-at (length discounts / 2) k
-    → rate ≡ rateAnswer d .value → 128 ≤ end → end ≤ length out → length (nodeText row discounts k) ≤ 128
-    → start ≡ lineStart out end (nodeLine row node d rate) → after ≡ withLine out end (nodeLine row node d rate) → Put out end (nodeText row discounts k) start after
-text-put out after discounts row end k start d node rate a b c h p l s t =
-    let e : nodeLine row node d rate ≡ nodeText row discounts k = text-same row k d discounts node rate a b c in
-    line-stands out end (nodeText row discounts k) start after h p l
-    (s ∙ ap (λ (x : List ℕ). lineStart out end x) e) (t ∙ ap (λ (x : List ℕ). withLine out end x) e)
+pub text-put : (out after discounts : List ℕ) (row end k d : ℕ) (node : ℤ) {answer : Placed} → acceptedDiscounts discounts ≡ true → k < length discounts
+    → d ≡ getD discounts k 0 → node ≡ node-at (length discounts / 2) k → 128 ≤ end → end ≤ length out → length (nodeText row discounts k) ≤ 128
+    → Answered (nodeNumber (length out) end d) out end (lineOfNode row node d) answer after → Put out end (nodeText row discounts k) (answer .start) after
+unfolding nodeText
+text-put out after discounts row end k d node {answer} e h a b l p r t =
+    let within = row-discount discounts k e h in
+    node-stands out end row (getD discounts k 0) (node-at (length discounts / 2) k) l p (within .0) (within .1) r
+    (subst (λ (z : ℤ). Answered (nodeNumber (length out) end (getD discounts k 0)) out end (lineOfNode row z (getD discounts k 0)) answer after) b
+    (subst (λ (x : ℕ). Answered (nodeNumber (length out) end x) out end (lineOfNode row node x) answer after) a t))
 
 -- ---- one line less is left
 
@@ -114,47 +112,91 @@ pub room-test : (n size end : ℕ) → n ≤ end / 128 → hasRoomFor n size end
 unfolding hasRoomFor
 room-test n size end h = rw (le-leb (128 * n) end (omega arith))
 
-room-known : (n size end : ℕ) → hasRoomFor n size end ≡ true → (128 * n ≤ end) × (end ≤ size)
+pub room-there : (n size end : ℕ) → 128 * n ≤ end → end ≤ size → hasRoomFor n size end ≡ true
 unfolding hasRoomFor
-room-known n size end h = by-low (leb (128 * n) end) refl h
-  where
-    by-low : (t : Bool) → leb (128 * n) end ≡ t → (t && leb end size) ≡ true → (128 * n ≤ end) × (end ≤ size)
-    by-low true e g = (leb-true (128 * n) end e, leb-true end size g)
-    by-low false e g = let z : _≡_ {A = ℕ} 0 1 = cc in let none : ⊥ = omega arith in absurd none
+room-there n size end h p = rw (le-leb (128 * n) end h, le-leb end size p)
 
-passed : (t : Bool) → not t ≡ false → t ≡ true
-passed true h = refl
-passed false h = let z : _≡_ {A = ℕ} 0 1 = cc in let none : ⊥ = omega arith in absurd none
+-- ---- the number of a row
 
-failed : (t : Bool) → not t ≡ true → t ≡ false
-failed true h = let z : _≡_ {A = ℕ} 0 1 = cc in let none : ⊥ = omega arith in absurd none
-failed false h = refl
+module _ (row count : ℕ) where
+  pub row-late : 59 < row → isRow row count ≡ false
+  unfolding isRow
+  row-late h = rw (lt-leb row 59 h)
 
--- `t` is what the code found
-module _ (n size end : ℕ) (t : Bool) (e : t ≡ hasRoomFor n size end) where
-  pub room-given : not t ≡ false → (128 * n ≤ end) × (end ≤ size)
-  room-given h = room-known n size end (sym e ∙ passed t h)
+  pub row-even : row ≤ 59 → (count % 2 ≡ 1 → ⊥) → isRow row count ≡ false
+  unfolding isRow
+  row-even h odd = rw (le-leb row 59 h, ne-eqb (count % 2) 1 odd)
 
-  pub room-missing : not t ≡ true → hasRoomFor n size end ≡ false
-  room-missing h = sym e ∙ failed t h
+  pub row-test : row ≤ 59 → count % 2 ≡ 1 → isRow row count ≡ leb count (2 * row + 1)
+  unfolding isRow
+  row-test h odd = rw (le-leb row 59 h, eq-eqb (count % 2) 1 odd)
 
-module _ (out : List ℕ) (end row : ℕ) (discounts : List ℕ) where
-  pub start-missing : hasRoomFor (length discounts) (length out) end ≡ false → end ≡ rowStart out end row discounts
-  unfolding rowStart
-  start-missing h = rw h
+and-both : (a b : Bool) → (a && b) ≡ true → (a ≡ true) × (b ≡ true)
+and-both true true e = (refl, refl)
+and-both true false e = let z : _≡_ {A = ℕ} 0 1 = cc in let none : ⊥ = omega arith in absurd none
+and-both false b e = let z : _≡_ {A = ℕ} 0 1 = cc in let none : ⊥ = omega arith in absurd none
 
-  pub row-missing : hasRoomFor (length discounts) (length out) end ≡ false → out ≡ withRow out end row discounts
-  unfolding withRow
-  row-missing h = rw h
+row-parts : (a b : Bool) → _≡_ {A = ℕ} (cond a (cond b 0 9) 6) 0 → (a ≡ true) × (b ≡ true)
+row-parts true true e = (refl, refl)
+row-parts true false e = let none : ⊥ = omega arith in absurd none
+row-parts false b e = let none : ⊥ = omega arith in absurd none
 
-  room-there : 128 * length discounts ≤ end → end ≤ length out → hasRoomFor (length discounts) (length out) end ≡ true
-  unfolding hasRoomFor
-  room-there h p = rw (le-leb (128 * length discounts) end h, le-leb end (length out) p)
+module _ (size end row : ℕ) (discounts : List ℕ) where
+  pub row-none : isRow row (length discounts) ≡ false → 6 ≡ rowNumber size end row discounts
+  unfolding rowNumber
+  row-none e = sym (rw e)
 
-  pub start-put : {start : ℕ} {after : List ℕ} → 128 * length discounts ≤ end → Put out end (rowText row discounts) start after → start ≡ rowStart out end row discounts
-  unfolding rowStart
-  start-put h p = rw (room-there h (p .within)) (omega (arith, p .place))
+  pub row-short : isRow row (length discounts) ≡ true → hasRoomFor (length discounts) size end ≡ false → 6 ≡ rowNumber size end row discounts
+  unfolding rowNumber
+  row-short e r = sym (rw (e, r))
 
-  pub row-put : {start : ℕ} {after : List ℕ} → 128 * length discounts ≤ end → Put out end (rowText row discounts) start after → after ≡ withRow out end row discounts
-  unfolding withRow
-  row-put h p = rw (room-there h (p .within)) (p .memory)
+  pub row-judged : isRow row (length discounts) ≡ true → hasRoomFor (length discounts) size end ≡ true → (t : Bool) → acceptedDiscounts discounts ≡ t
+      → cond t 0 9 ≡ rowNumber size end row discounts
+  unfolding rowNumber
+  row-judged e r t a = sym (rw (e, r, a))
+
+  module _ (z : rowNumber size end row discounts ≡ 0) where
+    parts : ((isRow row (length discounts) && hasRoomFor (length discounts) size end) ≡ true) × (acceptedDiscounts discounts ≡ true)
+    unfolding rowNumber
+    parts = row-parts _ _ z
+
+    pub row-room : (128 * length discounts ≤ end) × (end ≤ size)
+    unfolding hasRoomFor
+    row-room =
+        let room = and-both (leb (128 * length discounts) end) (leb end size) (and-both (isRow row (length discounts)) _ (parts .0) .1) in
+        (leb-true (128 * length discounts) end (room .0), leb-true end size (room .1))
+
+    pub row-accepted : acceptedDiscounts discounts ≡ true
+    row-accepted = parts .1
+
+-- the test that the code makes
+pub accepted-found : (discounts : List ℕ) (t : Bool) → t ≡ each (length discounts) (between 1 most-discount (values discounts)) →
+    acceptedDiscounts discounts ≡ t
+unfolding acceptedDiscounts
+accepted-found discounts t e = sym e
+
+-- ---- a row of a tree's memory
+
+each-every : (n : ℕ) (test : ℕ → Bool) → ((k : ℕ) → k < n → test k ≡ true) → each n test ≡ true
+unfolding each
+each-every zero test h = refl
+each-every (suc n) test h = rw (each-every n test (λ k l. h k (omega arith)), h n (omega arith))
+
+pub part-accepted : (memory : List ℕ) (start count : ℕ) → acceptedDiscounts memory ≡ true → start + count ≤ length memory →
+    acceptedDiscounts (take count (drop start memory)) ≡ true
+unfolding acceptedDiscounts
+part-accepted memory start count e h =
+    rw (part-length memory start count h)
+    (each-every count _ (λ k l. ap (λ (v : ℕ). leb 1 v && leb v most-discount) (part-value memory start count k l)
+    ∙ each-holds (length memory) (start + k) (between 1 most-discount (values memory)) e (omega arith)))
+
+pub row-is : (b i : ℕ) → i < 60 → isRow i (node-count b i) ≡ true
+unfolding isRow node-count
+row-is b i h =
+    let w = half-width b i in
+    let odd : (2 * w + 1) % 2 ≡ 1 = omega arith in
+    rw (le-leb i 59 (omega arith), odd, le-leb (2 * w + 1) (2 * i + 1) (omega (arith, half-within b i)))
+
+pub row-number-none : (size end row : ℕ) (discounts : List ℕ) → isRow row (length discounts) ≡ true → 128 * length discounts ≤ end → end ≤ size →
+    acceptedDiscounts discounts ≡ true → rowNumber size end row discounts ≡ 0
+row-number-none size end row discounts e h p a = sym (row-judged size end row discounts e (room-there (length discounts) size end h p) true a)

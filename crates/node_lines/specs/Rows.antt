@@ -1,18 +1,18 @@
 -- The node lines of a row (document 01, Job and sheet: lowest node first).
 -- Assumes nothing.
-use Prim.Native.Nat.{ℕ, zero, suc, _-_, _*_, _/_}
+use Prim.Native.Nat.{ℕ, zero, suc, _+_, _*_, _/_, _%_}
 use mathlib.Core.Bool.{Bool, cond, _&&_}
 use mathlib.Core.List.{List, [], _++_}
-use lib.Dec.{leb}
+use lib.Dec.{eqb, leb}
 use lib.ListN.{length, getD}
+use Rattle.arithmetic.specs.Row.{values, each, between}
+use Rattle.limits.specs.Limits.{most-discount}
 use Rattle.lattice.specs.RateTree.{node-at}
-use Rattle.step_rate.specs.StepRate.{rateAnswer}
-use Rattle.text_laws.specs.Put.{putBefore}
-use Rattle.text_laws.specs.Lines.{nodeLine}
+use Rattle.text_laws.specs.Lines.{lineOfNode}
 
 -- the line of the node at an index; the row's half width follows from its node count, 2 w + 1
 unfoldable pub nodeText : ℕ → List ℕ → ℕ → List ℕ
-nodeText row discounts k = nodeLine row (node-at (length discounts / 2) k) (getD discounts k 0) (rateAnswer (getD discounts k 0) .value)
+nodeText row discounts k = lineOfNode row (node-at (length discounts / 2) k) (getD discounts k 0)
 
 -- the first n lines, one after the other
 unfoldable pub lines : (ℕ → List ℕ) → ℕ → List ℕ
@@ -26,10 +26,15 @@ rowText row discounts = lines (nodeText row discounts) (length discounts)
 unfoldable pub hasRoomFor : ℕ → ℕ → ℕ → Bool
 hasRoomFor n size end = leb (128 * n) end && leb end size
 
--- where the row's lines start, or the place itself where they are not put
-unfoldable pub rowStart : List ℕ → ℕ → ℕ → List ℕ → ℕ
-rowStart out end row discounts = cond (hasRoomFor (length discounts) (length out) end) (end - length (rowText row discounts)) end
+-- a row that has discounts, 0 to 59, with an odd number of nodes, at most 2 row + 1
+unfoldable pub isRow : ℕ → ℕ → Bool
+isRow row count = leb row 59 && (eqb (count % 2) 1 && leb count (2 * row + 1))
 
--- the buffer with the row's lines, or as it was
-unfoldable pub withRow : List ℕ → ℕ → ℕ → List ℕ → List ℕ
-withRow out end row discounts = cond (hasRoomFor (length discounts) (length out) end) (putBefore out end (rowText row discounts)) out
+-- each discount is 1 to 1,100,000,000
+unfoldable pub acceptedDiscounts : List ℕ → Bool
+acceptedDiscounts discounts = each (length discounts) (between 1 most-discount (values discounts))
+
+-- 6 where there is no such row or no room for its lines, then 9 where a discount is not accepted; 0 where there is no cause
+unfoldable pub rowNumber : ℕ → ℕ → ℕ → List ℕ → ℕ
+rowNumber size end row discounts =
+    cond (isRow row (length discounts) && hasRoomFor (length discounts) size end) (cond (acceptedDiscounts discounts) 0 9) 6

@@ -73,7 +73,7 @@ module _ (n b : ℕ) (discounts flows : List ℕ) where
   within-limit a i k hi hk = discount-within n b i hi discounts a k hk
 
   module _ (h : bondPrice n b discounts flows .number ≡ 0) where
-    bond-given : Given (first-cause (tree-cause n b discounts flows) (limit-cause (bond-peak n b discounts flows))) (bond-at n b discounts flows 0 0)
+    pub bond-given : Given (first-cause (tree-cause n b discounts flows) (limit-cause (bond-peak n b discounts flows))) (bond-at n b discounts flows 0 0)
         (bound-of n b discounts) (bondPrice n b discounts flows)
     unfolding bondPrice
     bond-given = given _ _ _ h
@@ -100,7 +100,7 @@ module _ (n b : ℕ) (discounts flows : List ℕ) where
     bond-bound-a-step low = rw (bond-given .bound) (error-bound-a-step (rate-tree b) (stored b discounts) n (low-discounts n b discounts low))
 
   module _ (kind expiry strike : ℕ) (h : optionPrice n b discounts flows kind expiry strike .number ≡ 0) where
-    option-given :
+    pub option-given :
         Given
         (first-cause (tree-cause n b discounts flows)
         (first-cause (option-cause n kind expiry strike) (the-limit kind expiry strike)))

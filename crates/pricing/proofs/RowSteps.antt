@@ -13,7 +13,7 @@ use Rattle.arithmetic.proofs.RowLaws.{Filled, filled-start, filled-next}
 use Rattle.tree.specs.Tree.{whole}
 use Rattle.pricing_laws.specs.Pricer.{Side, exercise, held-or-exercised}
 use Rattle.row_branches.specs.declared.RowBranch.{RowBranch}
-use Rattle.row_branches.specs.RowBranches.{row-branch}
+use Rattle.row_branches.specs.RowBranches.{branch-total, row-branch}
 use Rattle.pricing.specs.Rows.{branch-roll, rolled-row, option-values, Rollable, Limited, Later, Filled-row, Filled-rows}
 
 -- what the roll of a node asks of its branch
@@ -25,8 +25,8 @@ module _ (downs discounts later : List ℕ) (next k : ℕ) (r : Rollable downs d
   pub branch-inside : b .low + 2 < length later
   branch-inside = omega (arith, low-is, r .inside k hk, l .room)
 
-  pub branch-total : b .down + b .middle + b .up ≡ whole
-  branch-total = rw e (r .total k hk)
+  pub branch-whole : branch-total b ≡ whole
+  branch-whole = rw e (r .total k hk)
 
   pub branch-limited : Limited later (b .low + 3)
   branch-limited j h = l .limited j (omega (arith, low-is, r .inside k hk))

@@ -3,9 +3,10 @@
 use mathlib.Core.Path.{_≡_, refl, ap, ap₂, _∙_}
 use mathlib.Core.Bool.{Bool}
 use mathlib.Core.List.{List}
-use Prim.Native.Nat.{ℕ, zero, suc, _+_, _-_, _≤_, _<_, max}
+use Prim.Native.Nat.{ℕ, zero, suc, _+_, _-_, _*_, _≤_, _<_, max}
 use native.Mathlib.Omega.{arith}
 use lib.ListN.{length, take, drop}
+use Rattle.arithmetic.specs.Rounding.{one}
 use Rattle.arithmetic.specs.Row.{row, values}
 use Rattle.arithmetic.specs.Sum.{greatest}
 use Rattle.arithmetic.proofs.SumLaws.{greatest-cong}
@@ -13,13 +14,14 @@ use Rattle.arithmetic.proofs.RowLaws.{length-row, values-row}
 use Rattle.arithmetic.proofs.PartLaws.{part-value, part-length}
 use Rattle.tree.specs.Tree.{whole, outgoing}
 use Rattle.lattice.specs.Shape.{node-count, row-start}
-use Rattle.lattice.specs.Branching.{up, middle, down}
+use Rattle.lattice.specs.Branching.{up, middle, down, probabilities}
 use Rattle.lattice.specs.RateTree.{node, low, rate-tree}
 use Rattle.lattice.proofs.Sizes.{row-ends}
 use Rattle.lattice.proofs.RateTreeLaws.{low-within, index-laws}
 use Rattle.lent_tree.specs.LentTree.{stored, Accepted}
 use Rattle.row_branches.specs.declared.RowBranch.{RowBranch}
 use Rattle.row_branches.specs.RowBranches.{row-branch}
+use Rattle.row_branches.proofs.BranchLaws.{backwards}
 use Rattle.row_branches.proofs.TableParts as tables
 use Rattle.pricing_laws.specs.Pricer.{Side, exercise, held-or-exercised}
 use Rattle.pricing_laws.specs.TreePricer.{roll-rounding, node-roll, roll}
@@ -61,7 +63,7 @@ module _ (n b i : ℕ) (hi : i < n) (discounts : List ℕ) (a : Accepted n b dis
 
   branch-is : (k : ℕ) → k < node-count b i →
       row-branch table-part (node-count b (suc i)) k
-      ≡ record { low = low b i k; down = down b (node b i k); middle = middle b (node b i k); up = up b (node b i k) }
+      ≡ record { low = low b i k; probabilities = probabilities b (node b i k) }
   branch-is k h = tables.part-branch b n i (omega arith) (down-table n b) (table-size n b) (table-holds n b) (a .reverting) k h
 
   pub rollable : Rollable table-part discount-part (node-count b (suc i))
@@ -83,7 +85,9 @@ module _ (n b i : ℕ) (hi : i < n) (discounts : List ℕ) (a : Accepted n b dis
       (later : List ℕ) (k : ℕ) → k < node-count b i →
       rolled-row later table-part discount-part (node-count b (suc i)) k ≡ rolled-at b discounts i later k
   unfolding rolled-row rolled-at branch-roll roll node-roll outgoing rate-tree
-  rolled-is later k h = rw (branch-is k h, discount-part-at k h)
+  rolled-is later k h =
+      rw (branch-is k h, discount-part-at k h)
+      (ap (λ (x : ℕ). roll-rounding (roll-rounding x whole * stored b discounts i k) one) (backwards _ _ _))
 
   -- a row of the bond, and of the option beside it, as the code gives them
   module _ (flows : List ℕ) (flow : ℕ) (ef : flow ≡ flow-at flows i) where

@@ -12,13 +12,15 @@ use Rattle.tree.specs.Tree.{whole}
 use Rattle.pricing_laws.specs.Pricer.{Side, exercise, held-or-exercised}
 use Rattle.pricing_laws.specs.TreePricer.{roll-rounding}
 use Rattle.row_branches.specs.declared.RowBranch.{RowBranch}
-use Rattle.row_branches.specs.RowBranches.{row-branch}
+use Rattle.row_branches.specs.RowBranches.{branch-up, branch-middle, branch-down, branch-total, row-branch}
+
+-- the sum over a branch of probability × later value: up, middle, down
+abbrev pub branch-sum : RowBranch → (ℕ → ℕ) → ℕ
+branch-sum b later = branch-up b * later (b .low + 2) + branch-middle b * later (b .low + 1) + branch-down b * later (b .low)
 
 -- the roll of a node along its branch
 unfoldable pub branch-roll : RowBranch → (ℕ → ℕ) → ℕ → ℕ
-branch-roll b later discount =
-    roll-rounding
-    (roll-rounding (b .down * later (b .low) + b .middle * later (b .low + 1) + b .up * later (b .low + 2)) whole * discount) one
+branch-roll b later discount = roll-rounding (roll-rounding (branch-sum b later) whole * discount) one
 
 -- the later row rolled back
 unfoldable pub rolled-row : List ℕ → List ℕ → List ℕ → ℕ → ℕ → ℕ
@@ -36,9 +38,7 @@ option-values side strike listed bonds options downs discounts next flow k =
 -- What the code asks of a row.
 pub record Rollable (downs discounts : List ℕ) (next : ℕ) : Type 0 where
   pub inside : (k : ℕ) → k < length discounts → row-branch downs next k .low + 2 < next
-  pub total :
-      (k : ℕ) → k < length discounts →
-      row-branch downs next k .down + row-branch downs next k .middle + row-branch downs next k .up ≡ whole
+  pub total : (k : ℕ) → k < length discounts → branch-total (row-branch downs next k) ≡ whole
   pub discounted : (k : ℕ) → k < length discounts → values discounts k ≤ 1100000000
 
 -- the first values of a list are at most the limit

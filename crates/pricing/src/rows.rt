@@ -8,6 +8,7 @@ ghost use lib.ListN.{length};
 ghost use Rattle.arithmetic.specs.Row.{values};
 ghost use Rattle.pricing_laws.specs.Pricer.{exercise};
 ghost use Rattle.exercise.specs.Terms.{side};
+ghost use Rattle.row_branches.specs.RowBranches.{branch-total};
 ghost use Rattle.pricing.specs.Rows.{
   branch-roll,
   bond-values,
@@ -32,14 +33,15 @@ pub(crate) fn empty_row() -> [u64; 121]
 
 // The roll of a node along its branch: divided by 600,000,000, down; then discounted, down.
 fn roll_node(branch: RowBranch, later: &[u64], discount: u64) -> u64
-    requires { ⌜ (branch .low + 2 < length (now later)) × (branch .down + branch .middle + branch .up ≡ 600000000)
+    requires { ⌜ (branch .low + 2 < length (now later)) × (branch-total branch ≡ 600000000)
         × Limited (now later) (branch .low + 3) × (discount ≤ 1100000000) ⌝ }
     ensures { λ r. ⌜ (r ≡ branch-roll branch (values (now (later .entry))) discount) × (r ≤ 8800000000) ⌝ }
 {
     let low = branch.low;
-    let sum = branch.down * later[low]
-        + branch.middle * later[low + 1]
-        + branch.up * later[low + 2];
+    let probabilities = branch.probabilities;
+    let sum = probabilities[0] * later[low + 2]
+        + probabilities[1] * later[low + 1]
+        + probabilities[2] * later[low];
     sum / 600_000_000 * discount / 1_000_000_000
 }
 

@@ -3,12 +3,17 @@
 use Rattle.pricing.proofs.Accuracy.{bond-within-bound, bond-at-most-exact, bond-bound-a-step, option-within-bound, option-bound-a-step}
 use Rattle.promises.specs.Promises.{Promises, Price-promises}
 use Rattle.promises.proofs.TreeKept.{tree-kept}
+use Rattle.promises.proofs.RowsKept.{engine-kept, exact-kept, bound-kept, priced-kept}
 use Rattle.promises.proofs.PayoffsKept.{payoffs-kept}
 use Rattle.promises.proofs.FitStored.{fit-unaltered}
 
 pub prices-kept : Price-promises
 prices-kept =
     record {
+      engine-rows = engine-kept;
+      exact-rows = exact-kept;
+      bound-rows = bound-kept;
+      priced-by-rows = priced-kept;
       bond-accurate =
           λ n b discounts flows z.
           record { never-above = bond-at-most-exact n b discounts flows z; short = bond-within-bound n b discounts flows z .below };

@@ -1,4 +1,6 @@
+pub mod StatePricesKept
 pub mod TreeKept
+pub mod RowsKept
 pub mod PayoffsKept
 pub mod FitStored
 pub mod Kept

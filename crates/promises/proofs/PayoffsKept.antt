@@ -14,15 +14,11 @@ use Rattle.arithmetic.specs.Sum.{sum}
 use Rattle.arithmetic.specs.Row.{values}
 use Rattle.arithmetic.specs.Answers.{refused, answered}
 use Rattle.arithmetic.proofs.SumLaws.{sum-cong}
-use Rattle.tree.specs.Tree.{Tree, unit}
+use Rattle.tree.specs.Tree.{unit}
 use Rattle.lattice.specs.Shape.{node-count, row-start, discounts-needed}
 use Rattle.lattice.specs.RateTree.{rate-tree}
-use Rattle.spacing.specs.Spacing.{spacing}
 use Rattle.fit_laws.specs.StatePrices.{state-price}
-use Rattle.fit_laws.proofs.StepLaws.{next-cong}
-use Rattle.fit_laws.proofs.WholeFit.{fitted-is-state}
-use Rattle.fitting.specs.Fit.{node-factor, quoted}
-use Rattle.fitting.specs.Entry.{quotes-of, fitNumber, fit-discount, fit-price}
+use Rattle.fitting.specs.Entry.{fitNumber}
 use Rattle.fitting.proofs.Promised.{fit-sound}
 use Rattle.fitting.proofs.FittedTree.{fit-lent}
 use Rattle.pricing.specs.Exact.{exact-payoff}
@@ -34,14 +30,7 @@ use Rattle.limits.specs.Limits.{value-limit}
 use Rattle.valuation.specs.Entries.{sum-limit, sum-of, value-of, fit-a-row, valueByStatePrices, valuation-refusal, valuationErrorBound}
 use Rattle.valuation.proofs.EntryLaws as entry
 use Rattle.promises.specs.Promises.{Short-of, Unaltered}
-
--- state prices go by the discounts of the tree's own nodes
-state-by : (t : Tree) (v w : ℕ → ℕ → ℕ) (n : ℕ) → ((i k : ℕ) → i < n → k < t .nodes i → v i k ≡ w i k) → (r : ℕ) → r ≤ n → (k : ℕ) →
-    state-price t v r k ≡ state-price t w r k
-unfolding state-price
-state-by t v w n same zero h k = refl
-state-by t v w n same (suc i) h k =
-    next-cong (t .step i) (t .nodes i) _ _ _ _ (λ c _. state-by t v w n same i (omega arith) c) (λ c l. same i c (omega arith) l) k
+use Rattle.promises.proofs.StatePricesKept.{fitted-prices}
 
 -- the values of answers that are not refused
 value-given : (prices payoffs : List ℕ) → valueByStatePrices prices payoffs .number ≡ 0 →
@@ -130,9 +119,7 @@ payoffs-within f n b s rows kinds figures ds ps z discounts r prices payoffs h k
     let sound = fit-sound f n b s rows kinds figures ds ps z in
     let v : ℕ → ℕ → ℕ = stored b discounts in
     let price-is : (k : ℕ) → k < node-count b r → values prices k ≡ state-price (rate-tree b) v r k =
-    λ k l. kept .prices-kept k l
-    ∙ ap (λ (q : ℕ → ℕ). q k) (fitted-is-state (rate-tree b) (node-factor b (spacing f s)) (quoted (quotes-of f n kinds figures)) r)
-    ∙ sym (state-by (rate-tree b) v (fit-discount f n b s kinds figures) n (λ i c hi hc. kept .discounts-kept i c hi hc) r h k) in
+    λ k l. kept .prices-kept k l ∙ fitted-prices f n b s kinds figures v (λ i c hi hc. kept .discounts-kept i c hi hc) r h k in
     let same : valueByStatePrices prices payoffs .value ≡ value-by-state-prices (node-count b r) (state-price (rate-tree b) v r) (values payoffs) =
     value-given prices payoffs zv ∙ value-by (length prices) (node-count b r) (values prices) (state-price (rate-tree b) v r) (values payoffs) (kept .row-length) price-is in
     rw (same, bound-given n b discounts r payoffs zb, ← exact-same b discounts r payoffs)

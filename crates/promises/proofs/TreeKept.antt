@@ -1,9 +1,9 @@
 -- The promises about branching, rates and fit.
 -- Assumes nothing.
-use mathlib.Core.Path.{_≡_, refl, ap, sym, _∙_}
-use mathlib.Core.Bool.{Bool, true, false, cond}
+use mathlib.Core.Path.{_≡_, refl, ap, sym, subst, _∙_}
+use mathlib.Core.Bool.{Bool, true, false, cond, not}
 use mathlib.Core.List.{List}
-use Prim.Native.Nat.{ℕ, suc, _≤_, _<_}
+use Prim.Native.Nat.{ℕ, suc, _*_, _≤_, _<_}
 use native.Mathlib.Nat.{pos-of-ne-zero}
 use native.Mathlib.Omega.{arith}
 use lib.Dec.{ltb, leb}
@@ -11,41 +11,82 @@ use lib.IntN.{ℤ, natAbs, pos}
 use lib.Signed.{ltZ}
 use borrow.Author.Tests.{ltb-false, leb-true}
 use Rattle.arithmetic.specs.Rounding.{one}
+use Rattle.arithmetic.specs.Frequency.{listed}
+use Rattle.arithmetic.specs.Answers.{refused, answered}
+use Rattle.arithmetic.proofs.FrequencyLaws.{listed-small}
 use Rattle.arithmetic.proofs.Numbers.{by-order, by-equal}
 use Rattle.lattice.specs.Shape.{half-width}
 use Rattle.lattice.specs.Entries.{branchAnswer, branchOf, refusedBranch}
 use Rattle.lattice.specs.declared.Branches.{Branches}
-use Rattle.lattice.proofs.Sizes.{within-row}
-use Rattle.lattice.proofs.Nodes.{Node, node-laws}
+use Rattle.lattice.specs.Branching.{change, square, squared}
+use Rattle.lattice.proofs.Sizes.{within-row, start-first, start-suc}
+use Rattle.lattice.proofs.Landing.{lands}
+use Rattle.lattice.proofs.Nodes.{node-laws}
+use Rattle.spacing.specs.Spacing.{spacing, spacing-answer}
+use Rattle.spacing.proofs.SpacingLaws.{spacing-passes, root-greatest, cube-positive}
+use Rattle.factor.specs.Series.{scale}
+use Rattle.factor.specs.Factor.{factor, exact-factor, node-answer}
+use Rattle.factor.proofs.FactorLaws.{factor-within}
 use Rattle.step_rate.specs.StepRate.{rateAnswer}
 use Rattle.step_rate.specs.declared.Rate.{Rate}
 use Rattle.step_rate.proofs.RateLaws.{answer-zero, answer-high, answer-sign}
 use Rattle.fitting.proofs.Promised.{fit-repriced}
-use Rattle.promises.specs.Promises.{Probabilities, Tree-promises}
+use Rattle.promises.specs.Promises.{Near, Branched, Spaced, Tree-promises}
+use Rattle.promises.proofs.StatePricesKept.{state-prices-kept}
 
-node-promised : (b : ℕ) (j : ℤ) → Node b j → Probabilities b j
-node-promised b j n =
-    record {
-      up-whole = n .up-whole;
-      middle-whole = n .middle-whole;
-      down-whole = n .down-whole;
-      total = n .total;
-      mean = n .mean;
-      variance = n .variance;
-    }
-
--- a branch that is not refused leaves a node of the row
-branch-given : (b i : ℕ) (j : ℤ) → branchAnswer b i j .number ≡ 0 → (b ≤ 6000) × (natAbs j ≤ half-width b i)
+-- a branch that is not refused leaves a node of the row, and is that node's
+branch-given :
+    (b i : ℕ) (j : ℤ) → branchAnswer b i j .number ≡ 0 → (b ≤ 6000) × (natAbs j ≤ half-width b i) × (branchAnswer b i j ≡ branchOf b j)
 unfolding branchAnswer
-branch-given b i j z = go (ltb 6000 b) (ltb 59 i) (leb (natAbs j) (half-width b i)) refl refl z
+branch-given b i j z = go (ltb 6000 b) (leb 60 i) (leb (natAbs j) (half-width b i)) refl refl z
   where
     go : (s t u : Bool) → ltb 6000 b ≡ s → leb (natAbs j) (half-width b i) ≡ u →
         cond s (refusedBranch 4) (cond t (refusedBranch 6) (cond u (branchOf b j) (refusedBranch 6))) .number ≡ 0 →
         (b ≤ 6000) × (natAbs j ≤ half-width b i)
+        × (cond s (refusedBranch 4) (cond t (refusedBranch 6) (cond u (branchOf b j) (refusedBranch 6))) ≡ branchOf b j)
     go true t u e f k = absurd (omega arith)
     go false true u e f k = absurd (omega arith)
-    go false false true e f k = (ltb-false 6000 b e, leb-true (natAbs j) (half-width b i) f)
+    go false false true e f k = (ltb-false 6000 b e, leb-true (natAbs j) (half-width b i) f, refl)
     go false false false e f k = absurd (omega arith)
+
+branched : (b i : ℕ) (j : ℤ) → b ≤ 6000 → natAbs j ≤ half-width b i → Branched b i j (branchOf b j)
+unfolding change square squared
+branched b i j hb h =
+    let n = node-laws b j hb (within-row b i (natAbs j) h) in
+    record {
+      up-whole = n .up-whole;
+      middle-whole = n .middle-whole;
+      down-whole = n .down-whole;
+      group = refl;
+      total = n .total;
+      lands = lands b i j h;
+      mean = n .mean;
+      variance = n .variance;
+    }
+
+-- the spacing and the factor, where they are answered
+spaced : (f s : ℕ) → spacing-answer f s .number ≡ 0 → Spaced f s (spacing-answer f s .value)
+unfolding spacing-answer spacing
+spaced f s z = go (listed f) (ltb 50000 s) refl z
+  where
+    go : (t u : Bool) → listed f ≡ t → cond (not t) (refused 2) (cond u (refused 5) (answered (spacing f s))) .number ≡ 0 →
+        Spaced f s (cond (not t) (refused 2) (cond u (refused 5) (answered (spacing f s))) .value)
+    go true true e k = absurd (omega arith)
+    go false u e k = absurd (omega arith)
+    go true false e k =
+        record {
+          passes = spacing-passes f s;
+          greatest = root-greatest (f * f * f) (3 * (1000 * s * (1000 * s))) (cube-positive (omega (arith, listed-small f e .0)));
+        }
+
+factor-near : (j : ℤ) (h : ℕ) → node-answer j h .number ≡ 0 → Near scale 14 (node-answer j h .value) (exact-factor j h)
+unfolding node-answer
+factor-near j h z = go (ltb one (natAbs j * h)) refl z
+  where
+    go : (t : Bool) → ltb one (natAbs j * h) ≡ t → cond t (refused 8) (answered (factor j h)) .number ≡ 0 →
+        Near scale 14 (cond t (refused 8) (answered (factor j h)) .value) (exact-factor j h)
+    go true e k = absurd (omega arith)
+    go false e k = let w = factor-within j h (ltb-false one (natAbs j * h) e) in record { above = w .above; below = w .below }
 
 sign : (v : ℕ) → rateAnswer v .number ≡ 0 →
     (ltZ (rateAnswer v .value) (pos 0) ≡ ltb one v) × (ltZ (pos 0) (rateAnswer v .value) ≡ ltb v one)
@@ -62,10 +103,16 @@ sign v z =
 pub tree-kept : Tree-promises
 tree-kept =
     record {
-      probabilities-exact =
-          λ b i j z. let g = branch-given b i j z in node-promised b j (node-laws b j (g .0) (within-row b i (natAbs j) (g .1)));
+      branches-exact =
+          λ b i j z.
+          let g = branch-given b i j z in
+          subst (Branched b i j) (sym (g .2)) (branched b i j (g .0) (g .1));
+      rows-tiled = λ b. record { first = start-first b; next = start-suc b };
+      spacing-greatest = spaced;
+      factors-near = factor-near;
       sign-of-rates = sign;
       quotes-repriced =
           λ f n b s rows kinds figures ds ps z i h.
           let r = fit-repriced f n b s rows kinds figures ds ps z i h in record { below = r .0; above = r .1 };
+      state-prices-near = state-prices-kept;
     }

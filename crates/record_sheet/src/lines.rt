@@ -3,12 +3,10 @@ ghost use mathlib.Core.Path.{_≡_};
 ghost use mathlib.Core.Bool.{Bool};
 ghost use Prim.Native.Nat.{ℕ, suc, _+_, _*_, _≤_, _<_};
 ghost use lib.ListN.{length};
-ghost use Rattle.lattice.specs.Shape.{node-count, discounts-needed};
 ghost use Rattle.text_laws.specs.Put.{Put};
 ghost use Rattle.sheet_laws.specs.TreeSheet.{
   row-part,
   total,
-  nodesOfRow,
   nodeLines,
   lineOfRow,
   rowLines,
@@ -16,7 +14,8 @@ ghost use Rattle.sheet_laws.specs.TreeSheet.{
   priceLines,
   treeSheet,
 };
-ghost use Rattle.sheet_laws.specs.Stored.{Stored, Summed};
+ghost use Rattle.sheet_laws.specs.Stored.{Drawing, Stored, Summed};
+use node_reader::NodeReader;
 use pricing::Price;
 use row_view::RowKind;
 
@@ -33,50 +32,66 @@ fn row_total(row: &[u64]) -> u64
     sum
 }
 
-// The node lines of a row.
-fn put_nodes<'a>(
+// The node lines of all rows, whose nodes stand before `next`. The last row's come first, so that the lines stand in order, and each row
+// leaves the place from which the row above it is read.
+fn put_nodes(
     out: &mut [u8],
     end: usize,
     steps: usize,
     reversion: u64,
-    discounts: &'a [u64],
-    state_prices: &'a [u64],
-    row: usize,
+    discounts: &[u64],
+    next: usize,
 ) -> usize
-    requires { ⌜ (row < steps) × Stored steps reversion (now discounts) (now «state_prices») × (128 * node-count reversion row ≤ end) ×
-        (end ≤ length (now out)) ⌝ }
-    ensures { λ r. ⌜ Put (now (out .entry)) end (nodesOfRow reversion (now (discounts .entry)) row) r (now (out .exit)) ⌝ }
-{
-    let part = row_view::row_view(
-        discounts,
-        state_prices,
-        RowKind::Discounts,
-        steps,
-        reversion,
-        row,
-    );
-    node_lines::node_lines(out, end, row as u64, part)
-}
-
-// The node lines of all rows. The last row's come first, so that the lines stand in order.
-fn put_all_nodes<'a>(
-    out: &mut [u8],
-    end: usize,
-    steps: usize,
-    reversion: u64,
-    discounts: &'a [u64],
-    state_prices: &'a [u64],
-) -> usize
-    requires { ⌜ Stored steps reversion (now discounts) (now «state_prices») × (128 * discounts-needed steps reversion ≤ end) × (end ≤ length (now out)) ⌝ }
+    requires { ⌜ Drawing steps reversion (now discounts) next end (length (now out)) ⌝ }
     ensures { λ r. ⌜ Put (now (out .entry)) end (nodeLines steps reversion (now (discounts .entry))) r (now (out .exit)) ⌝ }
 {
     let mut start = end;
+    let mut place = next;
     let mut left = steps;
     while left > 0 {
         left -= 1;
-        start = put_nodes(out, start, steps, reversion, discounts, state_prices, left);
+        let count = lattice::node_count(reversion, left);
+        let first = place - count.value as usize;
+        let lines = node_lines::node_lines(out, start, left as u64, &discounts[first..place]);
+        start = lines.start;
+        place = first;
     }
     start
+}
+
+// The node lines that a reader draws: those of the nodes before its place.
+fn draw_nodes<'a>(
+    out: &mut [u8],
+    end: usize,
+    steps: usize,
+    reversion: u64,
+    reader: NodeReader<'a>,
+) -> usize
+    requires { ⌜ Drawing steps reversion (now (reader .discounts)) (reader .next) end (length (now out)) ⌝ }
+    ensures { λ r. ⌜ Put (now (out .entry)) end (nodeLines steps reversion (now (reader .entry .discounts))) r (now (out .exit)) ⌝ }
+{
+    put_nodes(out, end, steps, reversion, reader.discounts, reader.next)
+}
+
+// One reader a sheet: it keeps the lent discounts and stands behind the last of them.
+fn put_all_nodes(
+    out: &mut [u8],
+    end: usize,
+    steps: usize,
+    reversion: u64,
+    discounts: &[u64],
+    count: usize,
+) -> usize
+    requires { ⌜ Drawing steps reversion (now discounts) count end (length (now out)) ⌝ }
+    ensures { λ r. ⌜ Put (now (out .entry)) end (nodeLines steps reversion (now (discounts .entry))) r (now (out .exit)) ⌝ }
+{
+    draw_nodes(
+        out,
+        end,
+        steps,
+        reversion,
+        node_reader::reader_at(discounts, count),
+    )
 }
 
 // The line of row `before` + 1.
@@ -106,7 +121,8 @@ fn put_row<'a>(
     );
     let sum = row_total(part);
     let bound = state_price_bound::state_price_error_bound(steps, reversion, discounts, row);
-    text::row_line(out, end, row as u64, quotes[before], sum, bound.value)
+    let line = text::row_line(out, end, row as u64, quotes[before], sum, bound.value);
+    line.start
 }
 
 // The lines of rows 1 to n, the last first.
@@ -149,7 +165,8 @@ fn put_prices(out: &mut [u8], end: usize, bond: Price, present: bool, option: Pr
     ensures { λ r. ⌜ Put (now (out .entry)) end (priceLines bond present option) r (now (out .exit)) ⌝ }
 {
     let below = put_option(out, end, present, option);
-    text::bond_line(out, below, bond.value, bond.bound)
+    let line = text::bond_line(out, below, bond.value, bond.bound);
+    line.start
 }
 
 fn put_option(out: &mut [u8], end: usize, present: bool, option: Price) -> usize
@@ -157,7 +174,8 @@ fn put_option(out: &mut [u8], end: usize, present: bool, option: Price) -> usize
     ensures { λ r. ⌜ Put (now (out .entry)) end (optionLines present option) r (now (out .exit)) ⌝ }
 {
     if present {
-        return text::option_line(out, end, option.value, option.bound);
+        let line = text::option_line(out, end, option.value, option.bound);
+        return line.start;
     }
     end
 }
@@ -190,5 +208,12 @@ pub(crate) fn put_sheet<'a>(
         discounts,
         state_prices,
     );
-    put_all_nodes(out, rows_start, steps, reversion, discounts, state_prices)
+    put_all_nodes(
+        out,
+        rows_start,
+        steps,
+        reversion,
+        discounts,
+        discounts.len(),
+    )
 }

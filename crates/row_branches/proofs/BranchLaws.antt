@@ -2,7 +2,7 @@
 -- Assumes nothing.
 use mathlib.Core.Path.{_≡_, refl, sym, ap, _∙_}
 use mathlib.Core.Bool.{Bool, true, false, cond, _||_}
-use mathlib.Core.List.{List}
+use mathlib.Core.List.{List, [], _∷_}
 use Prim.Native.Nat.{ℕ, zero, suc, _+_, _-_, _*_, _≤_, _<_}
 use native.Mathlib.Omega.{arith}
 use lib.Dec.{eqb, leb, ltb}
@@ -12,12 +12,16 @@ use Rattle.arithmetic.specs.Row.{values}
 use Rattle.arithmetic.proofs.Numbers.{by-order, by-equal}
 use Rattle.tree.specs.Tree.{Transition, Tree, whole}
 use Rattle.lattice.specs.Shape.{half-width, node-count}
-use Rattle.lattice.specs.Branching.{up, middle, down}
+use Rattle.lattice.specs.Branching.{up, middle, down, probabilities}
 use Rattle.lattice.specs.RateTree.{node, low, rate-tree}
 use Rattle.lattice.proofs.Sizes.{half-grows, half-full, highest-positive}
 use Rattle.lattice.proofs.RateTreeLaws.{low-growing, low-lowest, low-highest, low-inner, up-is-down, index-laws}
 use Rattle.row_branches.specs.declared.RowBranch.{RowBranch}
-use Rattle.row_branches.specs.RowBranches.{lowest, opposite, noBranch, row-branch, row-transition}
+use Rattle.row_branches.specs.RowBranches.{lowest, opposite, noBranch, row-branch, branch-up, branch-middle, branch-down, row-transition}
+
+-- a branch sums up, middle, down; a transition sums from the lowest node on
+pub backwards : (up middle down : ℕ) → up + middle + down ≡ down + middle + up
+backwards up middle down = omega arith
 
 module _ (count next k : ℕ) where
   pub lowest-grown : count < next → k ≡ lowest count next k
@@ -50,7 +54,7 @@ module _ (downs : List ℕ) (next k : ℕ) where
 
     pub branch-found : (l : ℕ) → l ≡ lowest (length downs) next k → values downs k + opposite downs k ≤ whole →
         _≡_ {A = RowBranch}
-        (record { low = l; down = values downs k; middle = whole - values downs k - opposite downs k; up = opposite downs k })
+        (record { low = l; probabilities = opposite downs k ∷ (whole - values downs k - opposite downs k) ∷ values downs k ∷ [] })
         (row-branch downs next k)
     unfolding row-branch
     branch-found l e g = rw (lt-leb (length downs) k h, le-ltb whole (values downs k + opposite downs k) g, e)
@@ -91,7 +95,7 @@ module _ (b i : ℕ) (hb : b ≤ 6000) (downs : List ℕ) (size : length downs �
 
   pub row-branch-is : (k : ℕ) → k < node-count b i →
       row-branch downs (node-count b (suc i)) k
-      ≡ record { low = low b i k; down = down b (node b i k); middle = middle b (node b i k); up = up b (node b i k) }
+      ≡ record { low = low b i k; probabilities = probabilities b (node b i k) }
   row-branch-is k h =
       let o = opposite-is k h in
       let d = holds k h in
@@ -106,14 +110,14 @@ module _ (b i : ℕ) (hb : b ≤ 6000) (downs : List ℕ) (size : length downs �
   unfolding row-transition rate-tree
   low-is k h = ap (λ (x : RowBranch). x .low) (row-branch-is k h)
 
-  pub down-is : (k : ℕ) → k < node-count b i → row-transition downs (node-count b (suc i)) .down k ≡ rate-tree b .step i .down k
+  pub up-is : (k : ℕ) → k < node-count b i → row-transition downs (node-count b (suc i)) .up k ≡ rate-tree b .step i .up k
   unfolding row-transition rate-tree
-  down-is k h = ap (λ (x : RowBranch). x .down) (row-branch-is k h)
+  up-is k h = ap branch-up (row-branch-is k h)
 
   pub middle-is : (k : ℕ) → k < node-count b i → row-transition downs (node-count b (suc i)) .middle k ≡ rate-tree b .step i .middle k
   unfolding row-transition rate-tree
-  middle-is k h = ap (λ (x : RowBranch). x .middle) (row-branch-is k h)
+  middle-is k h = ap branch-middle (row-branch-is k h)
 
-  pub up-is : (k : ℕ) → k < node-count b i → row-transition downs (node-count b (suc i)) .up k ≡ rate-tree b .step i .up k
+  pub down-is : (k : ℕ) → k < node-count b i → row-transition downs (node-count b (suc i)) .down k ≡ rate-tree b .step i .down k
   unfolding row-transition rate-tree
-  up-is k h = ap (λ (x : RowBranch). x .up) (row-branch-is k h)
+  down-is k h = ap branch-down (row-branch-is k h)

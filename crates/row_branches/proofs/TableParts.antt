@@ -9,7 +9,7 @@ use lib.ListN.{length, take, drop}
 use Rattle.arithmetic.specs.Row.{values}
 use Rattle.arithmetic.proofs.PartLaws.{part-value, part-length}
 use Rattle.lattice.specs.Shape.{half-width, node-count}
-use Rattle.lattice.specs.Branching.{up, middle, down}
+use Rattle.lattice.specs.Branching.{down, probabilities}
 use Rattle.lattice.specs.RateTree.{node-at, node, low, rate-tree}
 use Rattle.lattice.specs.Entries.{table-offset}
 use Rattle.lattice.proofs.ShapeLaws.{offset-is, table-room}
@@ -48,17 +48,17 @@ module _ (b w i : ℕ) (inside : i ≤ w) where
     module _ (hb : b ≤ 6000) (k : ℕ) (h : k < node-count b i) where
       pub part-branch :
           row-branch (table-part b w i table) (node-count b (suc i)) k
-          ≡ record { low = low b i k; down = down b (node b i k); middle = middle b (node b i k); up = up b (node b i k) }
+          ≡ record { low = low b i k; probabilities = probabilities b (node b i k) }
       part-branch = branch.row-branch-is b i hb (table-part b w i table) (table-part-length table size) table-part-down k h
 
       pub part-low : row-transition (table-part b w i table) (node-count b (suc i)) .low k ≡ rate-tree b .step i .low k
       part-low = branch.low-is b i hb (table-part b w i table) (table-part-length table size) table-part-down k h
 
-      pub part-down : row-transition (table-part b w i table) (node-count b (suc i)) .down k ≡ rate-tree b .step i .down k
-      part-down = branch.down-is b i hb (table-part b w i table) (table-part-length table size) table-part-down k h
+      pub part-up : row-transition (table-part b w i table) (node-count b (suc i)) .up k ≡ rate-tree b .step i .up k
+      part-up = branch.up-is b i hb (table-part b w i table) (table-part-length table size) table-part-down k h
 
       pub part-middle : row-transition (table-part b w i table) (node-count b (suc i)) .middle k ≡ rate-tree b .step i .middle k
       part-middle = branch.middle-is b i hb (table-part b w i table) (table-part-length table size) table-part-down k h
 
-      pub part-up : row-transition (table-part b w i table) (node-count b (suc i)) .up k ≡ rate-tree b .step i .up k
-      part-up = branch.up-is b i hb (table-part b w i table) (table-part-length table size) table-part-down k h
+      pub part-down : row-transition (table-part b w i table) (node-count b (suc i)) .down k ≡ rate-tree b .step i .down k
+      part-down = branch.down-is b i hb (table-part b w i table) (table-part-length table size) table-part-down k h

@@ -2,7 +2,7 @@
 -- Assumes nothing.
 use Prim.Native.Nat.{ℕ, _+_, _-_}
 use mathlib.Core.Bool.{cond, _||_}
-use mathlib.Core.List.{List}
+use mathlib.Core.List.{List, [], _∷_}
 use lib.Dec.{eqb, leb, ltb}
 use lib.ListN.{length}
 use Rattle.arithmetic.specs.Row.{values}
@@ -18,7 +18,7 @@ abbrev pub opposite : List ℕ → ℕ → ℕ
 opposite downs k = values downs (length downs - 1 - k)
 
 abbrev pub noBranch : RowBranch
-noBranch = record { low = 0; down = 0; middle = 0; up = 0 }
+noBranch = record { low = 0; probabilities = 0 ∷ 0 ∷ 0 ∷ [] }
 
 -- the branch of node k of a row whose next row has so many nodes
 unfoldable pub row-branch : List ℕ → ℕ → ℕ → RowBranch
@@ -26,17 +26,28 @@ row-branch downs next k =
     cond (leb (length downs) k || ltb whole (values downs k + opposite downs k)) noBranch
     (record {
       low = lowest (length downs) next k;
-      down = values downs k;
-      middle = whole - values downs k - opposite downs k;
-      up = opposite downs k;
+      probabilities = opposite downs k ∷ (whole - values downs k - opposite downs k) ∷ values downs k ∷ [];
     })
 
--- the same as a transition
+-- the three probabilities of a branch by their places, and their sum
+abbrev pub branch-up : RowBranch → ℕ
+branch-up b = values (b .probabilities) 0
+
+abbrev pub branch-middle : RowBranch → ℕ
+branch-middle b = values (b .probabilities) 1
+
+abbrev pub branch-down : RowBranch → ℕ
+branch-down b = values (b .probabilities) 2
+
+abbrev pub branch-total : RowBranch → ℕ
+branch-total b = branch-up b + branch-middle b + branch-down b
+
+-- the branches of a row as a transition
 unfoldable pub row-transition : List ℕ → ℕ → Transition
 row-transition downs next =
     record {
       low = λ k. row-branch downs next k .low;
-      down = λ k. row-branch downs next k .down;
-      middle = λ k. row-branch downs next k .middle;
-      up = λ k. row-branch downs next k .up;
+      up = λ k. branch-up (row-branch downs next k);
+      middle = λ k. branch-middle (row-branch downs next k);
+      down = λ k. branch-down (row-branch downs next k);
     }

@@ -1,8 +1,11 @@
 // Reads jobs from standard input, each after its length in two bytes, and writes their sheets one after the other. vectors.py makes the
 // input, and the reference works the output out apart.
 fn write_sheet(job: &[u8], room: &mut [u8]) {
-    let start = job_sheet::printed(job, room);
-    io::write_all(1, &room[start..]);
+    let sheet = job_sheet::printed(job, room);
+    if sheet.number == 0 {
+        let start = sheet.start;
+        io::write_all(1, &room[start..]);
+    }
 }
 
 // Writes the sheet of the next job, and says whether there was one.

@@ -1,6 +1,7 @@
 -- What the prices of a record leave for its sheet: quotes, discounts and state prices.
 -- Assumes nothing.
 use mathlib.Core.Path.{_≡_, sym, ap, _∙_, subst}
+use mathlib.Core.Bool.{true}
 use mathlib.Core.List.{List, [], append-nil}
 use Prim.Native.Nat.{ℕ, suc, _≤_, _<_}
 use native.Mathlib.Omega.{arith}
@@ -16,18 +17,22 @@ use Rattle.lattice.specs.RateTree.{rate-tree}
 use Rattle.lattice.specs.Entries.{discountsNeeded, statePricesNeeded}
 use Rattle.lattice.proofs.LaidLaws.{laid-part}
 use Rattle.lattice.proofs.TreeEntries.{Accepted, tree-value}
+use Rattle.lent_tree.specs.LentTree.{accepted-discounts}
+use Rattle.lent_tree.proofs.LentLaws.{accepted-all}
 use Rattle.fitting.specs.Entry.{fit-price}
 use Rattle.fitting.proofs.Promised.{fit-repriced}
+use Rattle.fitting.proofs.FittedTree.{fit-discounts-lent}
 use Rattle.job_record.specs.declared.Job.{Job}
 use Rattle.job_fit.specs.RecordFit.{jobKinds, jobFigures, jobQuotes, jobDiscounts, jobStatePrices, recordQuotes, recordFit, memoryAfter}
 use Rattle.job_fit.proofs.FitLaws as fits
 use Rattle.job_prices.specs.declared.JobPrices.{JobPrices}
 use Rattle.job_prices.specs.JobPrices.{recordNumber, recordPrices}
 use Rattle.job_prices.proofs.Accepted.{record-accepted}
+use Rattle.node_lines.specs.Rows.{acceptedDiscounts}
 use Rattle.sheet_laws.specs.TreeSheet.{row-part, total}
 use Rattle.sheet_laws.specs.Stored.{Stored, Summed, Fitted}
 
-total-row : (b : ℕ) (f : ℕ → ℕ → ℕ) (n i : ℕ) → i < n → total (row-part b (laid (rate-tree b) f n) i) ≡ sum (node-count b i) (f i)
+pub total-row : (b : ℕ) (f : ℕ → ℕ → ℕ) (n i : ℕ) → i < n → total (row-part b (laid (rate-tree b) f n) i) ≡ sum (node-count b i) (f i)
 unfolding total row-part
 total-row b f n i h =
     let part = rw (append-nil (laid (rate-tree b) f n)) at (laid-part b f n i h []) in
@@ -111,13 +116,17 @@ module _ (job : Job) (d p : List ℕ) (h : Fitted job d p) where
     pub prices-count : all .value ≡ length (take (all .value) p)
     prices-count = count-prices ∙ sym prices-size
 
+    -- every node discount of an accepted fit is accepted
+    discounted : acceptedDiscounts (take (needed .value) d) ≡ true
+    unfolding acceptedDiscounts accepted-discounts jobDiscounts
+    discounted =
+        let lent = accepted-all _ _ _ (fit-discounts-lent _ _ _ _ _ _ _ most-discounts most-state-prices (fits.fit-none job _ _ (h .accepted))) in
+        rw (discounts-size, discounts-are) lent
+
     pub stored : Stored (job .steps) (job .reversion) (take (needed .value) d) (take (all .value) p)
     stored =
         record {
-          some = accepted .some;
-          few = accepted .few;
-          gentle = accepted .gentle;
-          discounts-size = discounts-size;
+          lent = record { some = accepted .some; few = accepted .few; gentle = accepted .gentle; size = discounts-size; accepted = discounted };
           prices-size = prices-size;
         }
 

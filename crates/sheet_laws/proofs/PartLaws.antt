@@ -8,54 +8,59 @@ use denote.Ref.{RefT}
 use native.Mathlib.Omega.{arith}
 use native.Mathlib.Numerals.{add-one}
 use borrow.Author.Tests.{le-leb}
-use lib.ListN.{length, getD, length-append}
+use lib.ListN.{length, getD, take, drop, length-append}
 use Rattle.arithmetic.specs.Sum.{sum}
 use Rattle.arithmetic.specs.Row.{values}
 use Rattle.arithmetic.proofs.PartLaws.{part-length, part-value}
 use Rattle.arithmetic.proofs.SumLaws.{sum-next, sum-grow}
 use Rattle.lattice.specs.Shape.{node-count, row-start, discounts-needed, state-prices-needed}
 use native.Mathlib.Nat.{mul-le-mul}
+use Rattle.lattice.specs.Entries.{nodeCount}
+use Rattle.lattice.proofs.TreeEntries.{row-value}
 use Rattle.lattice.proofs.Sizes.{row-ends, start-most, start-suc, count-within}
 use Rattle.row_view.specs.declared.RowKind.{RowKind}
 use Rattle.row_view.specs.RowView.{is-tree, holds-tree, stores-row, memory-of, is-shown, view-start, view-count, PartOf}
 use Rattle.row_view.proofs.ViewLaws.{is-stored}
+use Rattle.text_laws.specs.declared.Placed.{Placed}
 use Rattle.text_laws.specs.Put.{Put}
-use Rattle.node_lines.specs.Rows.{nodeText, rowText, hasRoomFor, rowStart, withRow}
-use Rattle.node_lines.proofs.RowLaws.{lines-room, text-room}
-use Rattle.text_laws.specs.Lines.{rowLine, priceLine, lineStart, withLine, bondWord, optionWord}
+use Rattle.node_lines.specs.Rows.{nodeText, rowText, acceptedDiscounts, rowNumber}
+use Rattle.node_lines.proofs.RowLaws.{lines-room, text-room, part-accepted, row-is, row-number-none}
+use Rattle.text_laws.specs.Lines.{rowLine, priceLine, lineNumber, bondWord, optionWord}
 use Rattle.text_laws.proofs.LineLaws.{row-room, price-room, line-stands, line-before}
-use Rattle.text_laws.proofs.PutLaws.{put-none, put-before, put-whole}
+use Rattle.text_laws.proofs.PutLaws.{put-none, put-before, Answered, answered-put}
 use Rattle.pricing.specs.declared.Price.{Price}
 use Rattle.arithmetic.specs.declared.Answer.{Answer}
 use Rattle.state_price_bound.specs.ErrorBound.{statePriceErrorBound}
 use Rattle.state_price_bound.proofs.BoundLaws.{bound-most}
 use Rattle.sheet_laws.specs.TreeSheet.{row-part, total, nodesOfRow, nodeLines, lineOfRow, rowLines, optionLines, priceLines, treeSheet}
-use Rattle.sheet_laws.specs.Stored.{Stored, Summed}
+use Rattle.sheet_laws.specs.Stored.{Lent, Stored, Summed}
 use Rattle.sheet_laws.proofs.Pieces.{lines-fit}
+
+-- the rows that a memory of just a tree's discounts holds
+module _ (n b : ℕ) (discounts : List ℕ) (h : Lent n b discounts) where
+  pub discounts-end : (i : ℕ) → i < n → row-start b i + node-count b i ≤ length discounts
+  unfolding discounts-needed
+  discounts-end i l = omega (arith, row-ends b i n l, h .size)
+
+  pub lines-few : discounts-needed n b ≤ 3600
+  unfolding discounts-needed
+  lines-few = omega (arith, start-most b n, mul-le-mul (h .few) (h .few))
 
 module _ (n b : ℕ) (discounts prices : List ℕ) (h : Stored n b discounts prices) where
   pub held : holds-tree discounts prices n b ≡ true
   unfolding holds-tree is-tree
   held =
       rw (
-        le-leb 1 n (h .some),
-        le-leb n 60 (h .few),
-        le-leb b 6000 (h .gentle),
-        le-leb (discounts-needed n b) (length discounts) (omega (arith, h .discounts-size)),
+        le-leb 1 n (h .lent .some),
+        le-leb n 60 (h .lent .few),
+        le-leb b 6000 (h .lent .gentle),
+        le-leb (discounts-needed n b) (length discounts) (omega (arith, h .lent .size)),
         le-leb (state-prices-needed n b) (length prices) (omega (arith, h .prices-size)),
       )
-
-  pub discounts-end : (i : ℕ) → i < n → row-start b i + node-count b i ≤ length discounts
-  unfolding discounts-needed
-  discounts-end i l = omega (arith, row-ends b i n l, h .discounts-size)
 
   pub prices-end : (i : ℕ) → i ≤ n → row-start b i + node-count b i ≤ length prices
   unfolding state-prices-needed
   prices-end i l = omega (arith, row-ends b i (suc n) (omega arith), h .prices-size)
-
-  pub lines-few : discounts-needed n b ≤ 3600
-  unfolding discounts-needed
-  lines-few = omega (arith, start-most b n, mul-le-mul (h .few) (h .few))
 
 -- ---- the part of a row
 
@@ -86,18 +91,17 @@ module _ (discounts prices : RefT (List ℕ)) (kind : RowKind) (n b i : ℕ) (pa
 
 -- ---- the lines of a row, put by a call
 
-module _ (out : List ℕ) (end row : ℕ) (discounts : List ℕ) (start : ℕ) (after : List ℕ) where
-  room-there : 128 * length discounts ≤ end → end ≤ length out → hasRoomFor (length discounts) (length out) end ≡ true
-  unfolding hasRoomFor
-  room-there h p = rw (le-leb (128 * length discounts) end h, le-leb end (length out) p)
-
-  pub row-stands : 128 * length discounts ≤ end → end ≤ length out → length (rowText row discounts) ≤ 128 * length discounts →
-      start ≡ rowStart out end row discounts → after ≡ withRow out end row discounts → Put out end (rowText row discounts) start after
-  unfolding rowStart withRow
-  row-stands h p l s a =
-      let r = room-there h p in
-      let e : start ≡ end - length (rowText row discounts) = rw r at s in
-      put-whole out after (rowText row discounts) end start (omega arith) p (rw r at a)
+pub row-stands : (out : List ℕ) (end b i : ℕ) (memory : List ℕ) {answer : Placed} {after : List ℕ} → i < 60 → acceptedDiscounts memory ≡ true →
+    row-start b i + node-count b i ≤ length memory → 128 * node-count b i ≤ end → end ≤ length out →
+    length (nodesOfRow b memory i) ≤ 128 * node-count b i →
+    Answered (rowNumber (length out) end i (row-part b memory i)) out end (nodesOfRow b memory i) answer after →
+    Put out end (nodesOfRow b memory i) (answer .start) after
+unfolding row-part
+row-stands out end b i memory few accepted within h p l a =
+    let size = part-length memory (row-start b i) (node-count b i) within in
+    let z = row-number-none (length out) end i (take (node-count b i) (drop (row-start b i) memory)) (rw size (row-is b i few)) (omega (arith, size)) p
+    (part-accepted memory (row-start b i) (node-count b i) accepted within) in
+    answered-put _ out end _ a z (omega arith) p
 
 pub row-length : (row : ℕ) (discounts : List ℕ) → row < 2 ^ 64 → length discounts < 2 ^ 63 → ((k : ℕ) → k < length discounts → getD discounts k 0 < 2 ^ 64) →
     length (rowText row discounts) ≤ 128 * length discounts
@@ -123,10 +127,10 @@ module _ (row : List ℕ) (i s : ℕ) (so-far : s ≡ sum i (values row)) where
 
 -- ---- room for the lines
 
-module _ (n b : ℕ) (discounts prices : List ℕ) (h : Stored n b discounts prices) (small : (j : ℕ) → getD discounts j 0 < 2 ^ 64) where
+module _ (n b : ℕ) (discounts : List ℕ) (h : Lent n b discounts) (small : (j : ℕ) → getD discounts j 0 < 2 ^ 64) where
   pub nodes-length : (i : ℕ) → i < n → length (nodesOfRow b discounts i) ≤ 128 * node-count b i
   nodes-length i l =
-      let s = part-size b i discounts (discounts-end n b discounts prices h i l) in
+      let s = part-size b i discounts (discounts-end n b discounts h i l) in
       let c = count-within b i (omega (arith, h .few)) in
       let long = row-length i (row-part b discounts i) (omega (arith, h .few)) (omega (arith, s, c))
       (λ k below. part-below b i k (2 ^ 64) discounts small (omega (arith, s))) in
@@ -134,6 +138,42 @@ module _ (n b : ℕ) (discounts prices : List ℕ) (h : Stored n b discounts pri
 
   pub nodes-fit : (i : ℕ) → i < n → 128 * row-start b i + length (nodesOfRow b discounts i) ≤ 128 * row-start b (suc i)
   nodes-fit i l = omega (arith, nodes-length i l, start-suc b i)
+
+-- the row above `left`, whose nodes stand before a place; `count` is what the code finds
+module _ (n b : ℕ) (discounts : List ℕ) (h : Lent n b discounts) (left place : ℕ) (count : Answer) (some : 0 < left) (upto : left ≤ n)
+    (ec : count ≡ nodeCount b (left - 1)) (ep : place ≡ row-start b left) where
+  count-is : count .value ≡ node-count b (left - 1)
+  count-is = row-value b (left - 1) _ count ec (h .gentle) (omega (arith, h .few))
+
+  ends : row-start b left ≡ row-start b (left - 1) + node-count b (left - 1)
+  ends = let e : suc (left - 1) ≡ left = omega arith in rw e at (start-suc b (left - 1))
+
+  pub before-first : count .value ≤ place
+  before-first = omega (arith, count-is, ends)
+
+  pub before-start : place - count .value ≡ row-start b (left - 1)
+  before-start = omega (arith, count-is, ends)
+
+  pub before-end : place ≤ length discounts
+  before-end = omega (arith, ends, discounts-end n b discounts h (left - 1) (omega arith))
+
+  part-is : take (place - (place - count .value)) (drop (place - count .value) discounts) ≡ row-part b discounts (left - 1)
+  unfolding row-part
+  part-is =
+      let c : place - (place - count .value) ≡ node-count b (left - 1) = omega (arith, count-is, ends) in
+      rw (c, before-start)
+
+  -- the row's lines, put by a call on that part
+  pub before-put : (small : (j : ℕ) → getD discounts j 0 < 2 ^ 64) (out : List ℕ) (end : ℕ) (answer : Placed) (after : List ℕ) →
+      128 * row-start b left ≤ end → end ≤ length out →
+      let part = take (place - (place - count .value)) (drop (place - count .value) discounts) in
+      Answered (rowNumber (length out) end (left - 1) part) out end (rowText (left - 1) part) answer after →
+      Put out end (nodesOfRow b discounts (left - 1)) (answer .start) after
+  before-put small out end answer after room inside a =
+      let l : left - 1 < n = omega arith in
+      row-stands out end b (left - 1) discounts (omega (arith, h .few)) (h .accepted) (discounts-end n b discounts h (left - 1) l)
+      (omega (arith, ends)) inside (nodes-length n b discounts h small (left - 1) l)
+      (subst (λ (d : List ℕ). Answered (rowNumber (length out) end (left - 1) d) out end (rowText (left - 1) d) answer after) part-is a)
 
 module _ (n b : ℕ) (quotes discounts prices : List ℕ) (few : n ≤ 60) (small : (j : ℕ) → getD quotes j 0 < 2 ^ 64) (summed : Summed n b prices) where
   pub line-length : (i : ℕ) → i < n → length (lineOfRow n b quotes discounts prices i) ≤ 128
@@ -146,18 +186,19 @@ module _ (n b : ℕ) (quotes discounts prices : List ℕ) (few : n ≤ 60) (smal
   rows-fit i l = omega (arith, line-length i l)
 
 -- the line that the code puts is the row's
-pub row-line-stands : (n b : ℕ) (quotes discounts prices : List ℕ) (i end added start : ℕ) (out after : List ℕ) (bound : Answer) →
+pub row-line-stands : (n b : ℕ) (quotes discounts prices : List ℕ) (i end added : ℕ) (out after : List ℕ) (bound : Answer) {answer : Placed} →
     added ≡ total (row-part b prices (suc i)) → bound ≡ statePriceErrorBound n b discounts (suc i) → i < 60 → getD quotes i 0 < 2 ^ 64 → added < 2 ^ 64 →
-    128 ≤ end → end ≤ length out → start ≡ lineStart out end (rowLine (i + 1) (values quotes i) added (bound .value)) →
-    after ≡ withLine out end (rowLine (i + 1) (values quotes i) added (bound .value)) → Put out end (lineOfRow n b quotes discounts prices i) start after
+    128 ≤ end → end ≤ length out →
+    Answered (lineNumber (length out) end) out end (rowLine (i + 1) (values quotes i) added (bound .value)) answer after →
+    Put out end (lineOfRow n b quotes discounts prices i) (answer .start) after
 unfolding lineOfRow
-row-line-stands n b quotes discounts prices i end added start out after bound es eb few q s h p e₁ e₂ =
+row-line-stands n b quotes discounts prices i end added out after bound {answer} es eb few q s h p a =
     let sum = total (row-part b prices (suc i)) in
     let allowed = statePriceErrorBound n b discounts (suc i) .value in
     let same : rowLine (i + 1) (values quotes i) added (bound .value) ≡ rowLine (suc i) (values quotes i) sum allowed = rw (← es, ← eb, add-one i) in
-    line-stands out end _ start after h p
+    line-stands out end _ h p
     (row-room (suc i) (values quotes i) sum allowed (omega arith) q (omega arith) (omega (arith, bound-most n b discounts (suc i))))
-    (e₁ ∙ ap (λ (x : List ℕ). lineStart out end x) same) (e₂ ∙ ap (λ (x : List ℕ). withLine out end x) same)
+    (subst (λ (x : List ℕ). Answered (lineNumber (length out) end) out end x answer after) same a)
 
 -- ---- the lines of the prices
 
@@ -169,12 +210,12 @@ option-length : (present : Bool) (option : Price) → Fits option → length (op
 option-length true option f = price-room optionWord (option .value) (option .bound) (omega arith) (f .0) (f .1)
 option-length false option f = omega arith
 
-pub option-stands : (out after : List ℕ) (end start : ℕ) (present : Bool) (option : Price) → present ≡ true → Fits option → 128 ≤ end → end ≤ length out →
-    start ≡ lineStart out end (optionLines true option) → after ≡ withLine out end (optionLines true option) →
-    Put out end (optionLines present option) start after
-option-stands out after end start present option e f h p s a =
-    subst (λ (t : Bool). Put out end (optionLines t option) start after) (sym e)
-    (line-stands out end _ start after h p (option-length true option f) s a)
+pub option-stands : (out after : List ℕ) (end : ℕ) (present : Bool) (option : Price) {answer : Placed} → present ≡ true → Fits option → 128 ≤ end →
+    end ≤ length out → Answered (lineNumber (length out) end) out end (optionLines true option) answer after →
+    Put out end (optionLines present option) (answer .start) after
+option-stands out after end present option {answer} e f h p a =
+    subst (λ (t : Bool). Put out end (optionLines t option) (answer .start) after) (sym e)
+    (line-stands out end _ h p (option-length true option f) a)
 
 pub option-none : (out : List ℕ) (end : ℕ) (present : Bool) (option : Price) → present ≡ false → end ≤ length out →
     Put out end (optionLines present option) end out
@@ -184,13 +225,13 @@ pub option-room : {out after : List ℕ} {end mid : ℕ} (present : Bool) (optio
     Put out end (optionLines present option) mid after → (128 ≤ mid) × (mid ≤ length after)
 option-room present option f h p = (omega (arith, option-length present option f, p .place), omega (arith, p .place, p .within, p .same))
 
-pub prices-stand : {out₀ out : List ℕ} {end mid : ℕ} (after : List ℕ) (start : ℕ) (bond : Price) (present : Bool) (option : Price) →
-    Fits bond → Fits option → 256 ≤ end →
-    Put out₀ end (optionLines present option) mid out → start ≡ lineStart out mid (priceLine bondWord (bond .value) (bond .bound)) →
-    after ≡ withLine out mid (priceLine bondWord (bond .value) (bond .bound)) → Put out₀ end (priceLines bond present option) start after
+pub prices-stand : {out₀ out : List ℕ} {end mid : ℕ} (after : List ℕ) (bond : Price) (present : Bool) (option : Price) {answer : Placed} →
+    Fits bond → Fits option → 256 ≤ end → Put out₀ end (optionLines present option) mid out →
+    Answered (lineNumber (length out) mid) out mid (priceLine bondWord (bond .value) (bond .bound)) answer after →
+    Put out₀ end (priceLines bond present option) (answer .start) after
 unfolding priceLines
-prices-stand after start bond present option fb fo h p s a =
-    line-before _ start after p (option-room present option fo h p .0) (price-room bondWord (bond .value) (bond .bound) (omega arith) (fb .0) (fb .1)) s a
+prices-stand after bond present option fb fo h p a =
+    line-before _ p (option-room present option fo h p .0) (price-room bondWord (bond .value) (bond .bound) (omega arith) (fb .0) (fb .1)) a
 
 pub prices-length : (bond : Price) (present : Bool) (option : Price) → Fits bond → Fits option → length (priceLines bond present option) ≤ 256
 unfolding priceLines
@@ -207,15 +248,16 @@ module _ (n b : ℕ) (quotes discounts prices : List ℕ) (bond : Price) (presen
   module _ {out priced : List ℕ} {end p₁ : ℕ} (h : Stored n b discounts prices) (fb : Fits bond) (fo : Fits option) (long : 468736 ≤ end)
       (p : Put out end (priceLines bond present option) p₁ priced) where
     pub rows-room : (128 * n ≤ p₁) × (p₁ ≤ length priced)
-    rows-room = (omega (arith, h .few, prices-length bond present option fb fo, p .place), omega (arith, p .place, p .within, p .same))
+    rows-room = (omega (arith, h .lent .few, prices-length bond present option fb fo, p .place), omega (arith, p .place, p .within, p .same))
 
     module _ {rowed : List ℕ} {p₂ : ℕ} (q : Put priced p₁ (rowLines n b quotes discounts prices) p₂ rowed) (small : (j : ℕ) → getD quotes j 0 < 2 ^ 64)
         (summed : Summed n b prices) where
       pub nodes-room : (128 * discounts-needed n b ≤ p₂) × (p₂ ≤ length rowed)
-      nodes-room = (
-        omega (arith, h .few, prices-length bond present option fb fo, p .place, q .place, rows-length (h .few) small summed, lines-few n b discounts prices h),
-        omega (arith, q .place, q .within, q .same),
-      )
+      nodes-room =
+          let few = h .lent .few in (
+            omega (arith, few, prices-length bond present option fb fo, p .place, q .place, rows-length few small summed, lines-few n b discounts (h .lent)),
+            omega (arith, q .place, q .within, q .same),
+          )
 
   pub sheet-stands : {out priced rowed after : List ℕ} {end p₁ p₂ p₃ : ℕ} → Put out end (priceLines bond present option) p₁ priced →
       Put priced p₁ (rowLines n b quotes discounts prices) p₂ rowed → Put rowed p₂ (nodeLines n b discounts) p₃ after →

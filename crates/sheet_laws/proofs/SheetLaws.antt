@@ -1,7 +1,6 @@
 -- Laws of a whole job's number, sheet and print.
 -- Assumes nothing.
 use mathlib.Core.Path.{_≡_, sym, ap, _∙_, subst}
-use mathlib.Core.Bool.{Bool, true, false, cond}
 use mathlib.Core.List.{List, _++_}
 use Prim.Native.Nat.{ℕ, _+_, _-_, _≤_, _<_}
 use native.Mathlib.Omega.{arith}
@@ -9,7 +8,7 @@ use borrow.Author.Tests.{lt-ltb, le-ltb, eq-eqb, ne-eqb}
 use lib.ListN.{length, take, drop, length-append}
 use Rattle.arithmetic.specs.Answers.{lowest-cause}
 use Rattle.arithmetic.proofs.CauseLaws.{lowest-none}
-use Rattle.arithmetic.proofs.Numbers.{by-order}
+use Rattle.arithmetic.proofs.Numbers.{by-order, by-equal}
 use Rattle.limits.specs.Limits.{most-discounts, most-state-prices}
 use Rattle.pricing.specs.Prices.{first-cause}
 use Rattle.job_record.specs.declared.Job.{Job}
@@ -19,11 +18,13 @@ use Rattle.job_fit.specs.RecordFit.{jobQuotes, jobDiscounts, jobStatePrices}
 use Rattle.job_prices.specs.declared.JobPrices.{JobPrices}
 use Rattle.job_prices.specs.JobPrices.{hasOption, jobBond, jobOption, pricesOf, recordNumber, recordPrices}
 use Rattle.job_prices.proofs.PriceLaws.{prices-given, prices-number}
-use Rattle.text_laws.specs.Put.{putBefore, Put}
-use Rattle.text_laws.specs.Lines.{refusedLine, hasRoom, lineStart, withLine}
+use Rattle.text_laws.specs.declared.Placed.{Placed}
+use Rattle.text_laws.specs.Put.{putBefore, Put, placeOf}
+use Rattle.text_laws.specs.Lines.{refusedLine, lineNumber}
+use Rattle.text_laws.proofs.PutLaws.{Answered, put-answered, put-whole}
 use Rattle.sheet_room.specs.Room.{sheetRoom}
 use Rattle.sheet_laws.specs.TreeSheet.{treeSheet}
-use Rattle.sheet_laws.specs.WholeJob.{roomCause, jobNumber, jobText, sheetNumber, sheetText, memoryOf, printedStart, printedMemory}
+use Rattle.sheet_laws.specs.WholeJob.{roomCause, jobNumber, jobText, sheetNumber, sheetText, memoryOf, printedText, printedNumber}
 
 -- ---- causes
 
@@ -40,10 +41,6 @@ room-known room z = by-order 468736 room (λ h. h) (λ h. absurd (apart (room-sh
   where
     apart : _≡_ {A = ℕ} 6 0 → ⊥
     apart e = omega arith
-
-cond-below : (t : Bool) (k m : ℕ) → cond t (k - m) k ≤ k
-cond-below true k m = omega arith
-cond-below false k m = omega arith
 
 -- ---- the number of a record's sheet
 
@@ -104,6 +101,10 @@ module _ (bytes : List ℕ) (room : ℕ) (q : Reading) (e : q ≡ readingOf byte
 
 -- ---- what is printed
 
+-- the answer, and the room afterwards
+abbrev pub Printed : List ℕ → List ℕ → Placed → List ℕ → Type 0
+Printed bytes out = Answered (printedNumber bytes (length out)) out (length out) (printedText bytes (length out))
+
 -- a sheet's number, its size where there is none, and the room that it left
 module _ (bytes out : List ℕ) (number size : ℕ) (after : List ℕ) (en : number ≡ sheetNumber bytes (length out))
     (es : number ≡ 0 → size ≡ length (sheetText bytes)) (em : after ≡ memoryOf (sheetNumber bytes (length out)) (sheetText bytes) out) where
@@ -115,18 +116,13 @@ module _ (bytes out : List ℕ) (number size : ℕ) (after : List ℕ) (en : num
     unfolding memoryOf
     room-kept = rw (ne-eqb (sheetNumber bytes (length out)) 0 none) at em
 
-    pub refusal-start : (start : ℕ) → start ≡ lineStart after (length after) (refusedLine number) → start ≡ printedStart bytes out
-    unfolding printedStart
-    refusal-start start e = rw (ne-eqb (sheetNumber bytes (length out)) 0 none) (rw (room-kept, en) at e)
-
-    pub refusal-memory : (last : List ℕ) → last ≡ withLine after (length after) (refusedLine number) → last ≡ printedMemory bytes out
-    unfolding printedMemory
-    refusal-memory last e = rw (ne-eqb (sheetNumber bytes (length out)) 0 none) (rw (room-kept, en) at e)
-
-    pub refusal-within : (start : ℕ) → start ≡ lineStart after (length after) (refusedLine number) → start ≤ length out
-    unfolding lineStart
-    refusal-within start e =
-        omega (arith, e, cond-below (hasRoom (length after) (length after)) (length after) (length (refusedLine number)), ap length room-kept)
+    pub refusal-printed : (answer : Placed) (last : List ℕ) →
+        Answered (lineNumber (length after) (length after)) after (length after) (refusedLine number) answer last → Printed bytes out answer last
+    unfolding printedNumber printedText
+    refusal-printed answer last a =
+        let test = ne-eqb (sheetNumber bytes (length out)) 0 none in
+        let b = rw (room-kept, en) at a in
+        (rw test (b .0), rw test (b .1))
 
   module _ (z : number ≡ 0) where
     zero-number : sheetNumber bytes (length out) ≡ 0
@@ -143,10 +139,20 @@ module _ (bytes out : List ℕ) (number size : ℕ) (after : List ℕ) (en : num
         ap length room-put ∙ simp length-append in
         omega (arith, l, same, es z)
 
-    pub sheet-start : length after ≡ length out → length after - size ≡ printedStart bytes out
-    unfolding printedStart
-    sheet-start same = rw (eq-eqb (sheetNumber bytes (length out)) 0 zero-number) (omega (arith, same, es z))
+    pub sheet-printed : length after ≡ length out → Printed bytes out (record { number = 0; start = length after - size }) after
+    unfolding printedNumber printedText
+    sheet-printed same =
+        let test = eq-eqb (sheetNumber bytes (length out)) 0 zero-number in
+        let n : printedNumber bytes (length out) ≡ 0 = rw test in
+        let t : printedText bytes (length out) ≡ sheetText bytes = rw test in
+        let fits = size-within same in
+        put-answered _ out (length out) _ n
+        (put-whole out after _ (length out) (length after - size) (rw t (omega (arith, same, es z, fits))) (omega arith) (rw t room-put))
 
-    pub sheet-memory : after ≡ printedMemory bytes out
-    unfolding printedMemory
-    sheet-memory = rw (eq-eqb (sheetNumber bytes (length out)) 0 zero-number) room-put
+-- where a text starts is in the room
+pub start-within : (number end : ℕ) (text : List ℕ) (answer : Placed) → answer ≡ placeOf number end text → answer .start ≤ end
+unfolding placeOf
+start-within number end text answer e =
+    by-equal number 0
+    (λ z. let s : answer .start ≡ end - length text = ap (λ (p : Placed). p .start) e ∙ rw (eq-eqb number 0 z) in omega arith)
+    (λ nz. let s : answer .start ≡ 0 = ap (λ (p : Placed). p .start) e ∙ rw (ne-eqb number 0 nz) in omega arith)

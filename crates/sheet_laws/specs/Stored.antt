@@ -1,6 +1,7 @@
 -- What the functions within ask of their callers.
 -- Assumes nothing.
-use Prim.Native.Nat.{ℕ, suc, _≤_, _<_}
+use Prim.Native.Nat.{ℕ, suc, _*_, _≤_, _<_}
+use mathlib.Core.Bool.{true}
 use mathlib.Core.List.{List}
 use mathlib.Core.Path.{_≡_}
 use lib.ListN.{length, take}
@@ -8,14 +9,27 @@ use Rattle.limits.specs.Limits.{most-discounts, most-state-prices}
 use Rattle.lattice.specs.Shape.{discounts-needed, state-prices-needed}
 use Rattle.job_record.specs.declared.Job.{Job}
 use Rattle.job_fit.specs.RecordFit.{jobDiscounts, jobStatePrices, recordFit}
+use Rattle.node_lines.specs.Rows.{acceptedDiscounts}
 use Rattle.sheet_laws.specs.TreeSheet.{row-part, total}
 
--- a tree within its limits, and two memories of just its size
-pub record Stored (n b : ℕ) (discounts prices : List ℕ) : Type 0 where
+-- a tree within its limits, and a memory of just its node discounts, each accepted
+pub record Lent (n b : ℕ) (discounts : List ℕ) : Type 0 where
   pub some : 0 < n
   pub few : n ≤ 60
   pub gentle : b ≤ 6000
-  pub discounts-size : length discounts ≡ discounts-needed n b
+  pub size : length discounts ≡ discounts-needed n b
+  pub accepted : acceptedDiscounts discounts ≡ true
+
+-- all nodes stand before a place of the discounts, and their lines have room before the end
+pub record Drawing (n b : ℕ) (discounts : List ℕ) (next end size : ℕ) : Type 0 where
+  pub lent : Lent n b discounts
+  pub place : next ≡ discounts-needed n b
+  pub room : 128 * discounts-needed n b ≤ end
+  pub inside : end ≤ size
+
+-- the same tree with a memory of just its state prices
+pub record Stored (n b : ℕ) (discounts prices : List ℕ) : Type 0 where
+  pub lent : Lent n b discounts
   pub prices-size : length prices ≡ state-prices-needed n b
 
 -- each row's state prices have a sum that a fit gives

@@ -1,6 +1,6 @@
 -- A whole job (document 01, Job and sheet; When the engine declines): its number and its sheet, and what the sheet program prints.
 -- Assumes nothing.
-use Prim.Native.Nat.{ℕ, _-_}
+use Prim.Native.Nat.{ℕ}
 use mathlib.Core.Bool.{cond}
 use mathlib.Core.List.{List}
 use lib.Dec.{eqb, ltb}
@@ -12,8 +12,9 @@ use Rattle.job_record.specs.declared.Job.{Job}
 use Rattle.job_record.specs.Reader.{readingOf}
 use Rattle.job_fit.specs.RecordFit.{jobQuotes, jobDiscounts, jobStatePrices}
 use Rattle.job_prices.specs.JobPrices.{hasOption, jobBond, jobOption, recordNumber}
-use Rattle.text_laws.specs.Lines.{refusedLine, lineStart, withLine}
-use Rattle.text_laws.specs.Put.{putBefore}
+use Rattle.text_laws.specs.Lines.{refusedLine, lineNumber}
+use Rattle.text_laws.specs.declared.Placed.{Placed}
+use Rattle.text_laws.specs.Put.{putBefore, placeOf, withText}
 use Rattle.sheet_room.specs.Room.{sheetRoom}
 use Rattle.sheet_laws.specs.TreeSheet.{treeSheet}
 
@@ -42,13 +43,16 @@ sheetText bytes = jobText (readingOf bytes .job)
 unfoldable pub memoryOf : ℕ → List ℕ → List ℕ → List ℕ
 memoryOf number text out = cond (eqb number 0) (putBefore out (length out) text) out
 
--- what the sheet program prints: the sheet, or `refused` and the number; where it starts, and the room afterwards
-unfoldable pub printedStart : List ℕ → List ℕ → ℕ
-printedStart bytes out =
-    cond (eqb (sheetNumber bytes (length out)) 0) (length out - length (sheetText bytes))
-    (lineStart out (length out) (refusedLine (sheetNumber bytes (length out))))
+-- what the sheet program prints: the sheet, or `refused` and the number; 6 where not even that line has room
+unfoldable pub printedText : List ℕ → ℕ → List ℕ
+printedText bytes room = cond (eqb (sheetNumber bytes room) 0) (sheetText bytes) (refusedLine (sheetNumber bytes room))
 
-unfoldable pub printedMemory : List ℕ → List ℕ → List ℕ
-printedMemory bytes out =
-    cond (eqb (sheetNumber bytes (length out)) 0) (putBefore out (length out) (sheetText bytes))
-    (withLine out (length out) (refusedLine (sheetNumber bytes (length out))))
+unfoldable pub printedNumber : List ℕ → ℕ → ℕ
+printedNumber bytes room = cond (eqb (sheetNumber bytes room) 0) 0 (lineNumber room room)
+
+-- the answer, and the room afterwards
+abbrev pub printedAnswer : List ℕ → List ℕ → Placed
+printedAnswer bytes out = placeOf (printedNumber bytes (length out)) (length out) (printedText bytes (length out))
+
+abbrev pub printedMemory : List ℕ → List ℕ → List ℕ
+printedMemory bytes out = withText (printedNumber bytes (length out)) out (length out) (printedText bytes (length out))

@@ -1,7 +1,6 @@
 // The lines of the sheet, put into a lent buffer from its end: each function puts its text just before a place and answers where the
-// text starts, so that the line that stands above it is put before that. A line that has no room is not put, and the answer is the place.
+// text starts, so that the line that stands above it is put before that. A line that has no room is refused with 6, and the buffer stays.
 ghost use mathlib.Core.Path.{_≡_};
-ghost use mathlib.Core.Bool.{Bool};
 ghost use mathlib.Core.List.{List, [], _∷_, _++_};
 ghost use Prim.Native.Nat.{ℕ, _+_, _-_, _≤_, _<_};
 ghost use lib.ListN.{length};
@@ -18,22 +17,29 @@ ghost use Rattle.text_laws.specs.Lines.{
   bondLine,
   optionLine,
   refusedLine,
-  hasRoom,
-  lineStart,
+  lineOfNode,
+  lineNumber,
+  nodeNumber,
+  lineAnswer,
   withLine,
 };
-ghost use Rattle.text_laws.specs.Put.{Put};
+ghost use Rattle.text_laws.specs.Put.{Put, placeOf, withText};
+pub use text_laws::Placed;
 
 // No line is longer.
 const LONGEST_LINE: usize = 128;
 
-fn has_room(size: usize, end: usize) -> bool
-    ensures { λ r. ⌜ r ≡ hasRoom size end ⌝ }
+// 6 where a line has no room before a place, or 0.
+fn line_number(size: usize, end: usize) -> u64
+    ensures { λ r. ⌜ r ≡ lineNumber size end ⌝ }
 {
     if end < LONGEST_LINE {
-        return false;
+        return 6;
     }
-    end <= size
+    if size < end {
+        return 6;
+    }
+    0
 }
 
 fn put_word(out: &mut [u8], end: usize, word: &[u8]) -> usize
@@ -148,69 +154,98 @@ fn put_bounded(out: &mut [u8], end: usize, value: u64, bound: u64) -> usize
     put_field(out, start, value, 9, b' ')
 }
 
-// `node ROW NODE DISCOUNT RATE`: the rate is in billionths, and is put in percent.
-pub fn node_line(out: &mut [u8], end: usize, row: u64, node: i64, discount: u64, rate: i64) -> usize
-    ensures { λ r. ⌜ r ≡ lineStart (now (out .entry)) end (nodeLine row node discount rate) ⌝ }
-    ensures { λ r. ⌜ now (out .exit) ≡ withLine (now (out .entry)) end (nodeLine row node discount rate) ⌝ }
+// The fields of a node's line: the rate is in billionths, and is put in percent.
+fn put_node(out: &mut [u8], end: usize, row: u64, node: i64, discount: u64, rate: i64) -> usize
+    requires { ⌜ (128 ≤ end) × (end ≤ length (now out)) ⌝ }
+    ensures { λ r. ⌜ Put (now (out .entry)) end (nodeLine row node discount rate) r (now (out .exit)) ⌝ }
 {
-    if !has_room(out.len(), end) {
-        return end;
-    }
     let rate_start = put_signed_field(out, end, rate, 7, b'\n');
     let discount_start = put_field(out, rate_start, discount, 9, b' ');
     let node_start = put_signed_field(out, discount_start, node, 0, b' ');
     put_label(out, node_start, b"node ", row, b' ')
 }
 
+// `node ROW NODE DISCOUNT RATE`, with the step rate of the discount. Refused with 6 without room, then with 9 for a discount of 0 or above 1.1.
+pub fn node_line(out: &mut [u8], end: usize, row: u64, node: i64, discount: u64) -> Placed
+    ensures { λ r. ⌜ r ≡ placeOf (nodeNumber (length (now (out .entry))) end discount) end (lineOfNode row node discount) ⌝ }
+    ensures { λ r. ⌜ now (out .exit) ≡ withText (nodeNumber (length (now (out .entry))) end discount) (now (out .entry)) end (lineOfNode row node discount) ⌝ }
+{
+    let rate = step_rate::of_discount(discount);
+    let cause = arithmetic::lowest_cause(line_number(out.len(), end), rate.number);
+    if cause != 0 {
+        return Placed {
+            number: cause,
+            start: 0,
+        };
+    }
+    let start = put_node(out, end, row, node, discount, rate.value);
+    Placed { number: 0, start }
+}
+
 // `row ROW QUOTE SUM ALLOWANCE`.
-pub fn row_line(out: &mut [u8], end: usize, row: u64, quote: u64, total: u64, bound: u64) -> usize
-    ensures { λ r. ⌜ r ≡ lineStart (now (out .entry)) end (rowLine row quote total bound) ⌝ }
+pub fn row_line(out: &mut [u8], end: usize, row: u64, quote: u64, total: u64, bound: u64) -> Placed
+    ensures { λ r. ⌜ r ≡ lineAnswer (now (out .entry)) end (rowLine row quote total bound) ⌝ }
     ensures { λ r. ⌜ now (out .exit) ≡ withLine (now (out .entry)) end (rowLine row quote total bound) ⌝ }
 {
-    if !has_room(out.len(), end) {
-        return end;
+    let cause = line_number(out.len(), end);
+    if cause != 0 {
+        return Placed {
+            number: cause,
+            start: 0,
+        };
     }
     let total_start = put_bounded(out, end, total, bound);
     let quote_start = put_field(out, total_start, quote, 9, b' ');
-    put_label(out, quote_start, b"row ", row, b' ')
+    let start = put_label(out, quote_start, b"row ", row, b' ');
+    Placed { number: 0, start }
 }
 
 // A word, a price and its error bound.
-fn price_line(out: &mut [u8], end: usize, word: &[u8], price: u64, bound: u64) -> usize
+fn price_line(out: &mut [u8], end: usize, word: &[u8], price: u64, bound: u64) -> Placed
     requires { ⌜ length (now word) ≤ 8 ⌝ }
-    ensures { λ r. ⌜ r ≡ lineStart (now (out .entry)) end (priceLine (now (word .entry)) price bound) ⌝ }
+    ensures { λ r. ⌜ r ≡ lineAnswer (now (out .entry)) end (priceLine (now (word .entry)) price bound) ⌝ }
     ensures { λ r. ⌜ now (out .exit) ≡ withLine (now (out .entry)) end (priceLine (now (word .entry)) price bound) ⌝ }
 {
-    if !has_room(out.len(), end) {
-        return end;
+    let cause = line_number(out.len(), end);
+    if cause != 0 {
+        return Placed {
+            number: cause,
+            start: 0,
+        };
     }
     let price_start = put_bounded(out, end, price, bound);
-    put_word(out, price_start, word)
+    let start = put_word(out, price_start, word);
+    Placed { number: 0, start }
 }
 
 // `bond PRICE ALLOWANCE`.
-pub fn bond_line(out: &mut [u8], end: usize, price: u64, bound: u64) -> usize
-    ensures { λ r. ⌜ r ≡ lineStart (now (out .entry)) end (bondLine price bound) ⌝ }
+pub fn bond_line(out: &mut [u8], end: usize, price: u64, bound: u64) -> Placed
+    ensures { λ r. ⌜ r ≡ lineAnswer (now (out .entry)) end (bondLine price bound) ⌝ }
     ensures { λ r. ⌜ now (out .exit) ≡ withLine (now (out .entry)) end (bondLine price bound) ⌝ }
 {
     price_line(out, end, b"bond ", price, bound)
 }
 
 // `option PRICE ALLOWANCE`.
-pub fn option_line(out: &mut [u8], end: usize, price: u64, bound: u64) -> usize
-    ensures { λ r. ⌜ r ≡ lineStart (now (out .entry)) end (optionLine price bound) ⌝ }
+pub fn option_line(out: &mut [u8], end: usize, price: u64, bound: u64) -> Placed
+    ensures { λ r. ⌜ r ≡ lineAnswer (now (out .entry)) end (optionLine price bound) ⌝ }
     ensures { λ r. ⌜ now (out .exit) ≡ withLine (now (out .entry)) end (optionLine price bound) ⌝ }
 {
     price_line(out, end, b"option ", price, bound)
 }
 
 // `refused NUMBER`.
-pub fn refused_line(out: &mut [u8], end: usize, number: u64) -> usize
-    ensures { λ r. ⌜ r ≡ lineStart (now (out .entry)) end (refusedLine number) ⌝ }
+pub fn refused_line(out: &mut [u8], end: usize, number: u64) -> Placed
+    ensures { λ r. ⌜ r ≡ lineAnswer (now (out .entry)) end (refusedLine number) ⌝ }
     ensures { λ r. ⌜ now (out .exit) ≡ withLine (now (out .entry)) end (refusedLine number) ⌝ }
 {
-    if !has_room(out.len(), end) {
-        return end;
+    let cause = line_number(out.len(), end);
+    if cause != 0 {
+        return Placed {
+            number: cause,
+            start: 0,
+        };
     }
-    put_label(out, end, b"refused ", number, b'\n')
+    let start = put_label(out, end, b"refused ", number, b'\n');
+    Placed { number: 0, start }
 }

@@ -1,19 +1,24 @@
 -- Laws of the lines: how long they are, and what a call leaves.
 -- Assumes nothing.
-use mathlib.Core.Path.{_≡_, refl, sym, ap, _∙_, subst}
-use mathlib.Core.Bool.{Bool, true, false, cond, not, _&&_}
-use mathlib.Core.List.{List, [], _∷_, _++_, append-assoc}
-use Prim.Native.Nat.{ℕ, suc, _+_, _-_, _≤_, _<_, _^_}
+use mathlib.Core.Path.{_≡_, refl, sym, _∙_, subst}
+use mathlib.Core.List.{List, _++_, append-assoc}
+use Prim.Native.Nat.{ℕ, _+_, _≤_, _<_, _^_}
 use native.Mathlib.Omega.{arith}
-use borrow.Author.Tests.{le-leb, lt-leb, leb-true}
-use lib.Dec.{leb}
+use borrow.Author.Tests.{le-leb, lt-leb}
 use lib.IntN.{ℤ, natAbs}
 use lib.ListN.{length, length-append}
-use Rattle.text_laws.specs.Decimal.{decimal, signedDecimal}
-use Rattle.text_laws.specs.Put.{putBefore, Put}
-use Rattle.text_laws.specs.Lines.{space, newline, whole, amount, nodeLine, rowLine, priceLine, refusedLine, hasRoom, lineStart, withLine}
+use Rattle.arithmetic.specs.Answers.{lowest-cause}
+use Rattle.arithmetic.proofs.CauseLaws.{lowest-first, lowest-none}
+use Rattle.arithmetic.proofs.Numbers.{by-order}
+use Rattle.limits.specs.Limits.{most-discount}
+use Rattle.step_rate.specs.declared.Rate.{Rate}
+use Rattle.step_rate.specs.StepRate.{rateAnswer}
+use Rattle.step_rate.proofs.RateLaws.{answer-known, value-bound}
+use Rattle.text_laws.specs.declared.Placed.{Placed}
+use Rattle.text_laws.specs.Put.{Put}
+use Rattle.text_laws.specs.Lines.{space, newline, whole, amount, nodeLine, rowLine, priceLine, refusedLine, lineNumber, nodeNumber, lineOfNode}
 use Rattle.text_laws.proofs.DecimalLaws.{decimal-room, field-room, signed-room}
-use Rattle.text_laws.proofs.PutLaws.{put-before, put-whole, length-put}
+use Rattle.text_laws.proofs.PutLaws.{put-before, Answered, put-refused, put-answered, answered-put}
 
 -- ---- no line is longer than 128 bytes
 
@@ -42,70 +47,41 @@ refused-room number a = simp length-append (omega (arith, decimal-room 0 number 
 
 -- ---- room for a line
 
-pub room-short : (size end : ℕ) → end < 128 → hasRoom size end ≡ false
-unfolding hasRoom
-room-short size end h = rw (lt-leb 128 end h)
+pub number-near : (size end : ℕ) → end < 128 → 6 ≡ lineNumber size end
+unfolding lineNumber
+number-near size end h = rw (lt-leb 128 end h)
 
-pub room-test : (size end : ℕ) → 128 ≤ end → hasRoom size end ≡ leb end size
-unfolding hasRoom
-room-test size end h = rw (le-leb 128 end h)
+pub number-outside : (size end : ℕ) → 128 ≤ end → size < end → 6 ≡ lineNumber size end
+unfolding lineNumber
+number-outside size end h l = rw (le-leb 128 end h, lt-leb end size l)
 
-room-known : (size end : ℕ) → hasRoom size end ≡ true → (128 ≤ end) × (end ≤ size)
-unfolding hasRoom
-room-known size end h = by-low (leb 128 end) refl h
+pub number-none : (size end : ℕ) → 128 ≤ end → end ≤ size → 0 ≡ lineNumber size end
+unfolding lineNumber
+number-none size end h l = rw (le-leb 128 end h, le-leb end size l)
+
+pub room-known : (size end : ℕ) → lineNumber size end ≡ 0 → (128 ≤ end) × (end ≤ size)
+room-known size end z =
+    by-order 128 end
+    (λ h. by-order end size (λ l. (h, l)) (λ l. absurd (none (number-outside size end h l ∙ z))))
+    (λ h. absurd (none (number-near size end h ∙ z)))
   where
-    by-low : (t : Bool) → leb 128 end ≡ t → (t && leb end size) ≡ true → (128 ≤ end) × (end ≤ size)
-    by-low true e g = (leb-true 128 end e, leb-true end size g)
-    by-low false e g = let z : _≡_ {A = ℕ} 0 1 = cc in let none : ⊥ = omega arith in absurd none
-
--- a test that the code negates
-passed : (t : Bool) → not t ≡ false → t ≡ true
-passed true h = refl
-passed false h = let z : _≡_ {A = ℕ} 0 1 = cc in let none : ⊥ = omega arith in absurd none
-
-failed : (t : Bool) → not t ≡ true → t ≡ false
-failed true h = let z : _≡_ {A = ℕ} 0 1 = cc in let none : ⊥ = omega arith in absurd none
-failed false h = refl
-
--- `t` is what the code found
-module _ (size end : ℕ) (t : Bool) (e : t ≡ hasRoom size end) where
-  pub room-given : not t ≡ false → (128 ≤ end) × (end ≤ size)
-  room-given h = room-known size end (sym e ∙ passed t h)
-
-  pub room-missing : not t ≡ true → hasRoom size end ≡ false
-  room-missing h = sym e ∙ failed t h
+    none : _≡_ {A = ℕ} 6 0 → ⊥
+    none e = omega arith
 
 module _ (out : List ℕ) (end : ℕ) (line : List ℕ) where
-  -- a line without room
-  pub start-missing : hasRoom (length out) end ≡ false → end ≡ lineStart out end line
-  unfolding lineStart
-  start-missing h = rw h
+  -- a line, as the code found its number
+  pub line-refused : (found : ℕ) → found ≡ lineNumber (length out) end → (found ≡ 0 → ⊥) → Answered (lineNumber (length out) end) out end line
+      (record { number = found; start = 0 }) out
+  line-refused found e nz = put-refused _ out end line found e nz
 
-  pub line-missing : hasRoom (length out) end ≡ false → out ≡ withLine out end line
-  unfolding withLine
-  line-missing h = rw h
-
-  room-there : 128 ≤ end → end ≤ length out → hasRoom (length out) end ≡ true
-  unfolding hasRoom
-  room-there h p = rw (le-leb 128 end h, le-leb end (length out) p)
-
-  -- a line that was put
-  pub start-put : {start : ℕ} {after : List ℕ} → 128 ≤ end → Put out end line start after → start ≡ lineStart out end line
-  unfolding lineStart
-  start-put h p = rw (room-there h (p .within)) (omega (arith, p .place))
-
-  pub line-put : {start : ℕ} {after : List ℕ} → 128 ≤ end → Put out end line start after → after ≡ withLine out end line
-  unfolding withLine
-  line-put h p = rw (room-there h (p .within)) (p .memory)
+  pub line-put : {start : ℕ} {after : List ℕ} → 128 ≤ end → Put out end line start after → Answered (lineNumber (length out) end) out end line
+      (record { number = 0; start = start }) after
+  line-put h p = put-answered _ out end line (sym (number-none (length out) end h (p .within))) p
 
   -- the same for a caller: the line was put where it had room
-  pub line-stands : (start : ℕ) (after : List ℕ) → 128 ≤ end → end ≤ length out → length line ≤ 128
-      → start ≡ lineStart out end line → after ≡ withLine out end line → Put out end line start after
-  unfolding lineStart withLine
-  line-stands start after h p l s a =
-      let r = room-there h p in
-      let s′ : start ≡ end - length line = rw r at s in
-      put-whole out after line end start (omega arith) p (rw r at a)
+  pub line-stands : {answer : Placed} {after : List ℕ} → 128 ≤ end → end ≤ length out → length line ≤ 128
+      → Answered (lineNumber (length out) end) out end line answer after → Put out end line (answer .start) after
+  line-stands h p l a = answered-put _ out end line a (sym (number-none (length out) end h p)) (omega arith) p
 
 -- the word and the first field of a line, put before the rest of it
 pub put-label : {out after later text : List ℕ} {end mid start : ℕ} (word field : List ℕ) → Put out end text mid after → Put after mid (word ++ field) start later → Put out end (word ++ (field ++ text)) start later
@@ -120,7 +96,49 @@ pub room-left : {out text after : List ℕ} {end mid : ℕ} (most left : ℕ) �
 room-left most left p h l = (omega (arith, p .place), omega (arith, p .place, p .within, p .same))
 
 -- LINES ONE AFTER THE OTHER: after a line that has room, the buffer holds the line and the text that was put before, as put at once
-pub line-before : {out₀ out text : List ℕ} {end mid : ℕ} (line : List ℕ) (start : ℕ) (after : List ℕ) → Put out₀ end text mid out → 128 ≤ mid → length line ≤ 128
-    → start ≡ lineStart out mid line → after ≡ withLine out mid line → Put out₀ end (line ++ text) start after
-line-before {out₀} {out} {text} {end} {mid} line start after p h l s a =
-    put-before p (line-stands out mid line start after h (omega (arith, p .place, p .within, p .same)) l s a)
+pub line-before : {out₀ out text after : List ℕ} {end mid : ℕ} {answer : Placed} (line : List ℕ) → Put out₀ end text mid out → 128 ≤ mid → length line ≤ 128
+    → Answered (lineNumber (length out) mid) out mid line answer after → Put out₀ end (line ++ text) (answer .start) after
+line-before {out₀} {out} {text} {after} {end} {mid} line p h l a =
+    put-before p (line-stands out mid line h (omega (arith, p .place, p .within, p .same)) l a)
+
+-- ---- the line of a node
+
+module _ (size end discount : ℕ) where
+  -- the cause that the code finds
+  pub node-cause : (rate : Rate) (room found : ℕ) → rate ≡ rateAnswer discount → room ≡ lineNumber size end → found ≡ lowest-cause room (rate .number)
+      → found ≡ nodeNumber size end discount
+  unfolding nodeNumber
+  node-cause rate room found er em ef = ef ∙ rw (er, em)
+
+  pub node-room-known : (found : ℕ) → found ≡ nodeNumber size end discount → found ≡ 0 → (128 ≤ end) × (end ≤ size)
+  unfolding nodeNumber
+  node-room-known found e z = room-known size end (lowest-none (lineNumber size end) (rateAnswer discount .number) (sym e ∙ z) .0)
+
+module _ (out : List ℕ) (end row discount : ℕ) (node : ℤ) (found : ℕ) (e : found ≡ nodeNumber (length out) end discount) where
+  pub node-refused : (found ≡ 0 → ⊥) → Answered (nodeNumber (length out) end discount) out end (lineOfNode row node discount)
+      (record { number = found; start = 0 }) out
+  node-refused nz = put-refused _ out end _ found e nz
+
+  pub node-put : {start : ℕ} {after : List ℕ} → found ≡ 0 → (rate : ℤ) → rate ≡ rateAnswer discount .value
+      → Put out end (nodeLine row node discount rate) start after
+      → Answered (nodeNumber (length out) end discount) out end (lineOfNode row node discount) (record { number = 0; start = start }) after
+  unfolding lineOfNode
+  node-put {start} {after} z rate r p =
+      put-answered _ out end _ (sym e ∙ z) (subst (λ (v : ℤ). Put out end (nodeLine row node discount v) start after) r p)
+
+pub node-number-none : (size end discount : ℕ) → 128 ≤ end → end ≤ size → 0 < discount → discount ≤ most-discount → nodeNumber size end discount ≡ 0
+unfolding nodeNumber
+node-number-none size end discount h p l m =
+    let r : 0 ≡ rateAnswer discount .number = rw (answer-known discount l m) in
+    sym (r ∙ lowest-first (lineNumber size end) (rateAnswer discount .number) (sym (number-none size end h p)))
+
+pub node-line-room : (row discount : ℕ) (node : ℤ) → row < 2 ^ 64 → discount < 2 ^ 64 → natAbs node < 2 ^ 64 → length (lineOfNode row node discount) ≤ 128
+unfolding lineOfNode
+node-line-room row discount node a b c = node-room row discount node _ a b c (omega (arith, value-bound discount (rateAnswer discount) refl))
+
+-- the line was put where it had room and its discount a step rate
+pub node-stands : (out : List ℕ) (end row discount : ℕ) (node : ℤ) {answer : Placed} {after : List ℕ} → 128 ≤ end → end ≤ length out → 0 < discount
+    → discount ≤ most-discount → length (lineOfNode row node discount) ≤ 128
+    → Answered (nodeNumber (length out) end discount) out end (lineOfNode row node discount) answer after
+    → Put out end (lineOfNode row node discount) (answer .start) after
+node-stands out end row discount node h p l m r a = answered-put _ out end _ a (node-number-none (length out) end discount h p l m) (omega arith) p

@@ -4,9 +4,11 @@ use mathlib.Core.Path.{_≡_, refl, sym, ap, _∙_, subst}
 use mathlib.Core.List.{List, [], _∷_, _++_, append-assoc, append-nil}
 use Prim.Native.Nat.{ℕ, zero, suc, _+_, _-_, _≤_, _<_}
 use native.Mathlib.Omega.{arith}
+use borrow.Author.Tests.{eq-eqb, ne-eqb}
 use lib.ListN.{length, drop, take, set, getD, length-append, length-drop, length-set, take-append-drop}
 use lib.Seq.{set-split, drop-at, length-take-le, take-append-le, take-take, take-suc, drop-length}
-use Rattle.text_laws.specs.Put.{putBefore, Put}
+use Rattle.text_laws.specs.declared.Placed.{Placed}
+use Rattle.text_laws.specs.Put.{putBefore, Put, placeOf, withText}
 
 -- putting nothing changes nothing
 pub put-nothing : (out : List ℕ) (end : ℕ) → putBefore out end [] ≡ out
@@ -92,3 +94,30 @@ put-printed {out} {text} {after} {end} {start} p e =
     ap (λ (l : List ℕ). drop start l) (p .memory ∙ ap (λ (i : ℕ). take i out ++ (text ++ drop end out)) m)
     ∙ drop-at (take start out) (text ++ drop end out) start n
     ∙ ap (λ (i : ℕ). text ++ drop i out) e ∙ ap (λ (l : List ℕ). text ++ l) (drop-length out) ∙ append-nil text
+
+-- ---- the answer to a put, by its number
+
+module _ (number : ℕ) (out : List ℕ) (end : ℕ) (text : List ℕ) where
+  -- an answer, and the buffer afterwards
+  abbrev pub Answered : Placed → List ℕ → Type 0
+  Answered answer after = (answer ≡ placeOf number end text) × (after ≡ withText number out end text)
+
+  pub put-refused : (found : ℕ) → found ≡ number → (found ≡ 0 → ⊥) → Answered (record { number = found; start = 0 }) out
+  unfolding placeOf withText
+  put-refused found e nz = let test = ne-eqb number 0 (λ z. nz (e ∙ z)) in (rw (test, e), rw test)
+
+  pub put-answered : {start : ℕ} {after : List ℕ} → number ≡ 0 → Put out end text start after → Answered (record { number = 0; start = start }) after
+  unfolding placeOf withText
+  put-answered {start} z p =
+      let test = eq-eqb number 0 z in
+      let s : start ≡ end - length text = omega (arith, p .place) in
+      (rw (test, s), rw test (p .memory))
+
+  -- what a caller has of it
+  module _ {answer : Placed} {after : List ℕ} (a : Answered answer after) where
+    pub answered-put : number ≡ 0 → length text ≤ end → end ≤ length out → Put out end text (answer .start) after
+    unfolding placeOf withText
+    answered-put z l p =
+        let test = eq-eqb number 0 z in
+        let s : answer .start ≡ end - length text = ap (λ (p : Placed). p .start) (a .0) ∙ rw test in
+        put-whole out after text end (answer .start) (omega arith) p (rw test at (a .1))

@@ -1,13 +1,16 @@
 -- The lines of the sheet (document 01, Job and sheet), and a lent buffer into which lines are put from its end.
 -- Assumes nothing.
-use Prim.Native.Nat.{ℕ, _-_}
-use mathlib.Core.Bool.{Bool, cond, _&&_}
+use Prim.Native.Nat.{ℕ}
+use mathlib.Core.Bool.{cond, _&&_}
 use mathlib.Core.List.{List, [], _∷_, _++_}
 use lib.Dec.{leb}
 use lib.IntN.{ℤ}
 use lib.ListN.{length}
 use Rattle.text_laws.specs.Decimal.{decimal, signedDecimal}
-use Rattle.text_laws.specs.Put.{putBefore}
+use Rattle.arithmetic.specs.Answers.{lowest-cause}
+use Rattle.step_rate.specs.StepRate.{rateAnswer}
+use Rattle.text_laws.specs.declared.Placed.{Placed}
+use Rattle.text_laws.specs.Put.{placeOf, withText}
 
 -- a space and a line's end
 abbrev pub space : List ℕ
@@ -69,14 +72,21 @@ optionLine price bound = priceLine optionWord price bound
 unfoldable pub refusedLine : ℕ → List ℕ
 refusedLine number = refusedWord ++ (whole number ++ newline)
 
--- a line is put where the place is in the buffer and at least 128 bytes stand before it; no line is longer
-unfoldable pub hasRoom : ℕ → ℕ → Bool
-hasRoom size end = leb 128 end && leb end size
+-- the line of a node: its rate is the step rate of its discount
+unfoldable pub lineOfNode : ℕ → ℤ → ℕ → List ℕ
+lineOfNode row node discount = nodeLine row node discount (rateAnswer discount .value)
 
--- where the line starts, or the place itself where the line is not put
-unfoldable pub lineStart : List ℕ → ℕ → List ℕ → ℕ
-lineStart out end line = cond (hasRoom (length out) end) (end - length line) end
+-- a line is put where the place is in the buffer and at least 128 bytes stand before it, and else refused with 6; no line is longer
+unfoldable pub lineNumber : ℕ → ℕ → ℕ
+lineNumber size end = cond (leb 128 end && leb end size) 0 6
 
--- the buffer with the line, or as it was
-unfoldable pub withLine : List ℕ → ℕ → List ℕ → List ℕ
-withLine out end line = cond (hasRoom (length out) end) (putBefore out end line) out
+-- the answer to a line, and the buffer afterwards
+abbrev pub lineAnswer : List ℕ → ℕ → List ℕ → Placed
+lineAnswer out end line = placeOf (lineNumber (length out) end) end line
+
+abbrev pub withLine : List ℕ → ℕ → List ℕ → List ℕ
+withLine out end line = withText (lineNumber (length out) end) out end line
+
+-- a node's line is also refused where its discount has no step rate, with 9
+unfoldable pub nodeNumber : ℕ → ℕ → ℕ → ℕ
+nodeNumber size end discount = lowest-cause (lineNumber size end) (rateAnswer discount .number)

@@ -2,8 +2,11 @@
 -- Assumes nothing.
 use Prim.Native.Nat.{ℕ, _+_, _-_, _≤_}
 use mathlib.Core.Path.{_≡_}
+use mathlib.Core.Bool.{cond}
 use mathlib.Core.List.{List, _++_}
+use lib.Dec.{eqb}
 use lib.ListN.{length, take, drop}
+use Rattle.text_laws.specs.declared.Placed.{Placed}
 
 -- a buffer with a text that ends just before a place, everything else as it was
 unfoldable pub putBefore : List ℕ → ℕ → List ℕ → List ℕ
@@ -15,3 +18,11 @@ pub record Put (out : List ℕ) (end : ℕ) (text : List ℕ) (start : ℕ) (aft
   pub within : end ≤ length out
   pub same : length after ≡ length out
   pub memory : after ≡ putBefore out end text
+
+-- the answer by its number: where the text starts, or the number with a zero
+unfoldable pub placeOf : ℕ → ℕ → List ℕ → Placed
+placeOf number end text = cond (eqb number 0) (record { number = 0; start = end - length text }) (record { number = number; start = 0 })
+
+-- the buffer afterwards: with the text, or as it was
+unfoldable pub withText : ℕ → List ℕ → ℕ → List ℕ → List ℕ
+withText number out end text = cond (eqb number 0) (putBefore out end text) out

@@ -23,13 +23,11 @@ returns c =
     let refusing = c .before .before .before .before .if1 .taken in
     let number = answers.answer-number _ _ (made .result) (made .ensures .0) in
     let size = answers.answer-size _ _ (made .result) (made .ensures .0) in
-    let start = laws.refusal-start (a .job .now) (a .out .now) _ _ _ number size (made .ensures .1) refusing _ (line .0) in
-    let within = laws.refusal-within (a .job .now) (a .out .now) _ _ _ number size (made .ensures .1) refusing _ (line .0) in
-    let memory = laws.refusal-memory (a .job .now) (a .out .now) _ _ _ number size (made .ensures .1) refusing _ (line .1) in
-    (start, (within, memory))
+    let printed = laws.refusal-printed (a .job .now) (a .out .now) _ _ _ number size (made .ensures .1) refusing _ _ line in
+    (printed .0, (laws.start-within _ _ _ _ (printed .0), printed .1))
 
-sub-result : tie.Need-sub-result
-sub-result c =
+sub-start : tie.Need-sub-start
+sub-start c =
     let a = c .before .before .before .before .before .before .before .before .before .args in
     let made = c .before .before .before .before .before .sheet in
     let number = answers.answer-number _ _ (made .result) (made .ensures .0) in
@@ -45,8 +43,8 @@ returns-2 c =
     let made = c .before .before .before .before .before .sheet in
     let number = answers.answer-number _ _ (made .result) (made .ensures .0) in
     let size = answers.answer-size _ _ (made .result) (made .ensures .0) in
-    let start = laws.sheet-start (a .job .now) (a .out .now) _ _ _ number size (made .ensures .1) (c .before .if1 .left) (search needs) in
-    (start, (search needs, laws.sheet-memory (a .job .now) (a .out .now) _ _ _ number size (made .ensures .1) (c .before .if1 .left)))
+    let printed = laws.sheet-printed (a .job .now) (a .out .now) _ _ _ number size (made .ensures .1) (c .before .if1 .left) (search needs) in
+    (printed .0, (laws.start-within _ _ _ _ (printed .0), printed .1))
 
 pub printed-spec : {M : Type 1} → statement M
-printed-spec = tie.close (tie.spec sheet-requires refused-line-requires same-length returns sub-result same-length-2 returns-2)
+printed-spec = tie.close (tie.spec sheet-requires refused-line-requires same-length returns sub-start same-length-2 returns-2)

@@ -3,7 +3,6 @@
 use mathlib.Core.Path.{refl, sym, ap, _∙_}
 use native.Mathlib.Omega.{arith}
 use Rattle.lattice.proofs.EntryLaws as entry
-use native.Mathlib.Nat.{div-le-self}
 use Rattle.lattice.proofs.Sizes.{half-flat}
 use borrow.Author.Needs.{needs}
 use Rattle.lattice.proofs.half_width_of.Statement.{statement}
@@ -16,7 +15,7 @@ div-highest : tie.Need-div-highest
 div-highest c = search needs
 
 add-highest : tie.Need-add-highest
-add-highest c = omega (arith, div-le-self 1840 (c .before .args .reversion))
+add-highest c = record { fits = entry.highest-fits _ _ (omega arith) }
 
 returns-2 : tie.Need-returns-2
 returns-2 c = entry.half-before _ _ (c .before .if1 .left) (c .if2 .taken)

@@ -38,7 +38,8 @@ sub-left c = search needs
 put-node-requires : tie.Need-put-node-requires Inv-loop μ-loop
 put-node-requires c κs =
     let l = c .before .before .loop in
-    (omega arith, omega (arith, c .before .before .before .before .before .pre .0, c .before .before .before .before .before .pre .1, l .inv .4), omega arith, omega (arith, l .inv .3, l .inv .4, c .before .before .before .before .before .pre .1))
+    let pre = c .before .before .before .before .before .pre in
+    (omega arith, omega (arith, pre .0, pre .1, l .inv .4), omega arith, omega (arith, l .inv .3, l .inv .4, pre .1), pre .2)
 
 loop-less : tie.Need-loop-less Inv-loop μ-loop
 loop-less c = search needs

@@ -6,7 +6,7 @@ use native.Mathlib.Omega.{arith}
 use lib.ListN.{length}
 use denote.Ref.{now}
 use Rattle.pricing.specs.Rows.{bond-values}
-use Rattle.pricing.proofs.RowSteps.{branch-inside, branch-total, branch-limited, branch-rolled, Row-state, row-start, row-next, row-done}
+use Rattle.pricing.proofs.RowSteps.{branch-inside, branch-whole, branch-limited, branch-rolled, Row-state, row-start, row-next, row-done}
 use borrow.Author.Needs.{needs}
 use Rattle.pricing.proofs.rows.bond_row.Statement.{statement}
 use Rattle.pricing.proofs.rows.bond_row.Tie as tie
@@ -35,7 +35,7 @@ roll-node-requires c κs =
     let s = c .before .before .before .before .before .before .before .before in
     let e = c .before .row-branch .ensures in (
       branch-inside _ _ (now (s .args .later)) _ _ (s .pre .0) (s .pre .1) (omega arith) _ e,
-      branch-total _ _ (now (s .args .later)) _ _ (s .pre .0) (s .pre .1) (omega arith) _ e,
+      branch-whole _ _ (now (s .args .later)) _ _ (s .pre .0) (s .pre .1) (omega arith) _ e,
       branch-limited _ _ (now (s .args .later)) _ _ (s .pre .0) (s .pre .1) (omega arith) _ e,
       s .pre .0 .discounted (c .before .before .before .loop .k) (omega arith),
     )

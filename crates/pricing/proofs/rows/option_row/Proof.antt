@@ -7,7 +7,7 @@ use lib.ListN.{length}
 use denote.Ref.{now}
 use Rattle.exercise.specs.Terms.{side}
 use Rattle.pricing.specs.Rows.{bond-values, option-values}
-use Rattle.pricing.proofs.RowSteps.{branch-inside, branch-total, branch-limited, branch-rolled, option-from-roll}
+use Rattle.pricing.proofs.RowSteps.{branch-inside, branch-whole, branch-limited, branch-rolled, option-from-roll}
 use Rattle.pricing.proofs.RowSteps.{Rows-state, rows-start, rows-next, rows-done}
 use borrow.Author.Needs.{needs}
 use Rattle.pricing.proofs.rows.option_row.Statement.{statement}
@@ -39,7 +39,7 @@ roll-node-requires c κs =
     let s = c .before .before .before .before .before .before .before .before .before .before in
     let e = c .before .row-branch .ensures in (
       branch-inside _ _ (now (s .args .bonds)) _ _ (s .pre .0) (s .pre .1) (omega arith) _ e,
-      branch-total _ _ (now (s .args .bonds)) _ _ (s .pre .0) (s .pre .1) (omega arith) _ e,
+      branch-whole _ _ (now (s .args .bonds)) _ _ (s .pre .0) (s .pre .1) (omega arith) _ e,
       branch-limited _ _ (now (s .args .bonds)) _ _ (s .pre .0) (s .pre .1) (omega arith) _ e,
       s .pre .0 .discounted (c .before .before .before .loop .k) (omega arith),
     )
@@ -54,7 +54,7 @@ roll-node-requires-2 c κs =
     let s = c .before .before .before .before .before .before .before .before .before .before .before in
     let e = c .before .before .row-branch .ensures in (
       branch-inside _ _ (now (s .args .options)) _ _ (s .pre .0) (s .pre .2) (omega arith) _ e,
-      branch-total _ _ (now (s .args .options)) _ _ (s .pre .0) (s .pre .2) (omega arith) _ e,
+      branch-whole _ _ (now (s .args .options)) _ _ (s .pre .0) (s .pre .2) (omega arith) _ e,
       branch-limited _ _ (now (s .args .options)) _ _ (s .pre .0) (s .pre .2) (omega arith) _ e,
       s .pre .0 .discounted (c .before .before .before .before .loop .k) (omega arith),
     )

@@ -1,30 +1,28 @@
 -- `pricing::rows::roll_node` meets its contract: sum and product fit 64 bits.
 -- Assumes nothing.
 use mathlib.Core.Path.{refl}
-use Prim.Native.Nat.{_+_, _*_, _/_, _≤_}
+use Prim.Native.Nat.{_*_, _/_, _≤_}
 use native.Mathlib.Omega.{arith}
 use denote.Ref.{now}
 use Rattle.arithmetic.specs.Rounding.{down}
 use Rattle.arithmetic.specs.Row.{values}
-use Rattle.pricing.specs.Rows.{branch-roll}
+use Rattle.pricing.specs.Rows.{branch-sum, branch-roll}
 use Rattle.pricing.proofs.NodeLaws.{sum-fits, product-fits}
 use borrow.Author.Needs.{needs}
 use Rattle.pricing.proofs.rows.roll_node.Statement.{statement}
 use Rattle.pricing.proofs.rows.roll_node.Tie as tie
 
-sum : (s : tie.Start) →
-    s .args .branch .down * values (now (s .args .later)) (s .args .branch .low)
-    + s .args .branch .middle * values (now (s .args .later)) (s .args .branch .low + 1)
-    + s .args .branch .up * values (now (s .args .later)) (s .args .branch .low + 2)
-    ≤ 4800000000000000000
+sum : (s : tie.Start) → branch-sum (s .args .branch) (values (now (s .args .later))) ≤ 4800000000000000000
 sum s = sum-fits _ _ _ _ _ _ _ (s .pre .1) (s .pre .2 _ (omega arith)) (s .pre .2 _ (omega arith)) (s .pre .2 _ (omega arith)) (s .pre .3)
 
-product : (s : tie.Start) →
-    (s .args .branch .down * values (now (s .args .later)) (s .args .branch .low)
-    + s .args .branch .middle * values (now (s .args .later)) (s .args .branch .low + 1)
-    + s .args .branch .up * values (now (s .args .later)) (s .args .branch .low + 2)) / 600000000
-    * s .args .discount ≤ 8800000000000000000
+product : (s : tie.Start) → branch-sum (s .args .branch) (values (now (s .args .later))) / 600000000 * s .args .discount ≤ 8800000000000000000
 product s = product-fits _ _ _ _ _ _ _ (s .pre .1) (s .pre .2 _ (omega arith)) (s .pre .2 _ (omega arith)) (s .pre .2 _ (omega arith)) (s .pre .3)
+
+array-read-sum : tie.Need-array-read-sum
+array-read-sum c = search needs
+
+add-sum : tie.Need-add-sum
+add-sum c = search needs
 
 mul-sum : tie.Need-mul-sum
 mul-sum c = search needs
@@ -35,8 +33,11 @@ shared-slice-read-sum c = search needs
 mul-sum-2 : tie.Need-mul-sum-2
 mul-sum-2 c = omega (arith, sum (c .before .before))
 
-add-sum : tie.Need-add-sum
-add-sum c = search needs
+array-read-sum-2 : tie.Need-array-read-sum-2
+array-read-sum-2 c = search needs
+
+add-sum-2 : tie.Need-add-sum-2
+add-sum-2 c = search needs
 
 mul-sum-3 : tie.Need-mul-sum-3
 mul-sum-3 c = search needs
@@ -45,13 +46,13 @@ shared-slice-read-sum-2 : tie.Need-shared-slice-read-sum-2
 shared-slice-read-sum-2 c = search needs
 
 mul-sum-4 : tie.Need-mul-sum-4
-mul-sum-4 c = omega (arith, sum (c .before .before .before .before))
-
-add-sum-2 : tie.Need-add-sum-2
-add-sum-2 c = omega (arith, sum (c .before .before .before .before))
+mul-sum-4 c = omega (arith, sum (c .before .before .before))
 
 add-sum-3 : tie.Need-add-sum-3
-add-sum-3 c = search needs
+add-sum-3 c = omega (arith, sum (c .before .before .before))
+
+array-read-sum-3 : tie.Need-array-read-sum-3
+array-read-sum-3 c = search needs
 
 mul-sum-5 : tie.Need-mul-sum-5
 mul-sum-5 c = search needs
@@ -60,31 +61,34 @@ shared-slice-read-sum-3 : tie.Need-shared-slice-read-sum-3
 shared-slice-read-sum-3 c = search needs
 
 mul-sum-6 : tie.Need-mul-sum-6
-mul-sum-6 c = omega (arith, sum (c .before .before .before .before .before .before))
+mul-sum-6 c = omega (arith, sum (c .before .before .before .before))
 
 add-sum-4 : tie.Need-add-sum-4
-add-sum-4 c = omega (arith, sum (c .before .before .before .before .before .before))
+add-sum-4 c = omega (arith, sum (c .before .before .before .before))
 
 mul-result : tie.Need-mul-result
-mul-result c = omega (arith, product (c .before .before .before .before .before .before))
+mul-result c = omega (arith, product (c .before .before .before .before))
 
 returns : tie.Need-returns
 unfolding branch-roll down
-returns c = (refl, omega (arith, product (c .before .before .before .before .before .before)))
+returns c = (refl, omega (arith, product (c .before .before .before .before)))
 
 pub roll-node-spec : {M : Type 1} → statement M
 roll-node-spec =
     tie.close
     (tie.spec
+    array-read-sum
+    add-sum
     mul-sum
     shared-slice-read-sum
     mul-sum-2
-    add-sum
+    array-read-sum-2
+    add-sum-2
     mul-sum-3
     shared-slice-read-sum-2
     mul-sum-4
-    add-sum-2
     add-sum-3
+    array-read-sum-3
     mul-sum-5
     shared-slice-read-sum-3
     mul-sum-6

@@ -17,8 +17,8 @@ returns c =
     let s = c .before .before .before .before .before .before in
     let if1 = c .before .before .before .before .if1 in
     let option-line = c .before .before .option-line in
-    laws.option-stands (s .args .out .now) _ (s .args .end) _ (s .args .present) (s .args .option) (if1 .taken) (search needs, search needs) (s .pre .0)
-    (s .pre .1) (option-line .ensures .0) (option-line .ensures .1)
+    laws.option-stands (s .args .out .now) _ (s .args .end) (s .args .present) (s .args .option) (if1 .taken) (search needs, search needs) (s .pre .0)
+    (s .pre .1) (option-line .ensures)
 
 returns-2 : tie.Need-returns-2
 returns-2 c =

@@ -21,8 +21,8 @@ returns c =
     let s = c .before .before .before .before .before .before .before .before .before in
     let put-option = c .before .before .before .before .before .before .put-option in
     let bond-line = c .before .before .bond-line in
-    laws.prices-stand _ _ (s .args .bond) (s .args .present) (s .args .option) (search needs, search needs) (search needs, search needs) (s .pre .0)
-    (put-option .ensures) (bond-line .ensures .0) (bond-line .ensures .1)
+    laws.prices-stand _ (s .args .bond) (s .args .present) (s .args .option) (search needs, search needs) (search needs, search needs) (s .pre .0)
+    (put-option .ensures) (bond-line .ensures)
 
 pub put-prices-spec : {M : Type 1} → statement M
 put-prices-spec = tie.close (tie.spec put-option-requires bond-line-requires same-length returns)

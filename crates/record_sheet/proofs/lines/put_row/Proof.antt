@@ -56,13 +56,12 @@ returns c =
     let row-line = c .before .before .row-line in
     let a = s .args in
     let pre = s .pre in
-    laws.row-line-stands (a .steps) (a .reversion) (a .quotes .now) (a .discounts .now) (a .state-prices .now) (a .before) (a .end) (row-total .result) _
+    laws.row-line-stands (a .steps) (a .reversion) (a .quotes .now) (a .discounts .now) (a .state-prices .now) (a .before) (a .end) (row-total .result)
     (a .out .now) _ (state-price-error-bound .result)
     (row-total .ensures ∙ ap total (part-is (p6 .before))) (subst
     (λ (i : ℕ). state-price-error-bound .result ≡ statePriceErrorBound (a .steps) (a .reversion) (a .discounts .now) i) (add-one (a .before))
     (state-price-error-bound .ensures))
-    (omega (arith, pre .0, pre .1 .few)) (shared-slice-known .given (a .before) .fits) (search needs) (pre .4) (pre .5) (row-line .ensures .0)
-    (row-line .ensures .1)
+    (omega (arith, pre .0, pre .1 .lent .few)) (shared-slice-known .given (a .before) .fits) (search needs) (pre .4) (pre .5) (row-line .ensures)
 
 pub put-row-spec : {M : Type 1} → statement M
 put-row-spec =

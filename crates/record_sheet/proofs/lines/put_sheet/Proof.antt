@@ -33,7 +33,7 @@ put-all-nodes-requires c κs =
     let room = laws.nodes-room (a .steps) (a .reversion) (a .quotes .now) (a .discounts .now) (a .state-prices .now) (a .bond) (a .present) (a .option)
     (s .pre .0 .0) (fitting s .0) (fitting s .1) (s .pre .0 .2) (put-prices .ensures) (put-rows .ensures)
     (λ j. shared-slice-known .given j .fits) (s .pre .1) in
-    (s .pre .0 .0, room .0, room .1)
+    record { lent = s .pre .0 .0 .lent; place = s .pre .0 .0 .lent .size; room = room .0; inside = room .1 }
 
 same-length : tie.Need-same-length
 same-length c = search needs
