@@ -17,7 +17,7 @@ ghost use Rattle.row_view.specs.RowView.{range-by-number};
 ghost use Rattle.state_price_bound.specs.ErrorBound.{statePriceErrorBound};
 ghost use Rattle.pricing.specs.Prices.{bondPrice, optionPrice, bondAndOption};
 ghost use Rattle.valuation.specs.Entries.{valueByStatePrices, valuationErrorBound};
-ghost use Rattle.sheet_laws.specs.WholeJob.{sheetNumber, sheetText, memoryOf};
+ghost use Rattle.sheet_laws.specs.WholeJob.{sheetNumber, sheetText, sheetMemory};
 ghost use Rattle.record_sheet.specs.Answers.{answerOf};
 use arithmetic::Answer;
 use job_sheet::Written;
@@ -232,7 +232,7 @@ pub extern "C" fn mixegorta_valuation_error_bound(
 #[no_mangle]
 pub extern "C" fn mixegorta_sheet(job: &[u8], out: &mut [u8]) -> Written
     ensures answer { λ r. ⌜ r ≡ answerOf (sheetNumber (now (job .entry)) (length (now (out .entry)))) (sheetText (now (job .entry))) ⌝ }
-    ensures memory { λ _. ⌜ now (out .exit) ≡ memoryOf (sheetNumber (now (job .entry)) (length (now (out .entry)))) (sheetText (now (job .entry))) (now (out .entry)) ⌝ }
+    ensures memory { λ _. ⌜ now (out .exit) ≡ sheetMemory (now (job .entry)) (now (out .entry)) ⌝ }
 {
     job_sheet::sheet(job, out)
 }

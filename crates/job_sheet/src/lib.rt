@@ -5,7 +5,7 @@ ghost use lib.ListN.{length};
 ghost use Rattle.sheet_laws.specs.WholeJob.{
   sheetNumber,
   sheetText,
-  memoryOf,
+  sheetMemory,
   printedAnswer,
   printedMemory,
 };
@@ -17,8 +17,7 @@ pub use text::Placed;
 // malformed; then the lowest of the causes of its fit, its bond and its option. A refusal leaves the room as it was.
 pub fn sheet(job: &[u8], out: &mut [u8]) -> Written
     ensures answer { λ r. ⌜ r ≡ answerOf (sheetNumber (now (job .entry)) (length (now (out .entry)))) (sheetText (now (job .entry))) ⌝ }
-    ensures memory { λ _. ⌜ now (out .exit) ≡ memoryOf
-        (sheetNumber (now (job .entry)) (length (now (out .entry)))) (sheetText (now (job .entry))) (now (out .entry)) ⌝ }
+    ensures memory { λ _. ⌜ now (out .exit) ≡ sheetMemory (now (job .entry)) (now (out .entry)) ⌝ }
 {
     let reading = jobs::read(job);
     if reading.number != 0 {

@@ -6,7 +6,7 @@ use mathlib.Core.List.{List, [], _++_}
 use Prim.Native.Nat.{ℕ, zero, suc, _+_, _-_, _*_, _/_, _%_, _≤_, _<_, _^_}
 use native.Mathlib.Omega.{arith}
 use borrow.Author.Tests.{lt-ltb, le-leb, lt-leb, leb-true, eq-eqb, ne-eqb}
-use lib.Dec.{leb}
+use lib.Dec.{eqb, leb}
 use lib.IntN.{ℤ, pos, subℕ, _-ℤ_}
 use lib.ListN.{length, getD, take, drop, length-append}
 use mir.Syntax.{w64}
@@ -25,8 +25,8 @@ use Rattle.lattice.proofs.Differences.{sub-is, sub-size}
 use Rattle.node_reader.specs.declared.Node.{Node}
 use Rattle.node_reader.specs.Reading.{nodeAt}
 use Rattle.text_laws.specs.declared.Placed.{Placed}
-use Rattle.text_laws.specs.Put.{putBefore, Put}
 use Rattle.text_laws.specs.Lines.{lineOfNode, nodeNumber}
+use Rattle.text_laws.specs.Put.{putBefore, Put}
 use Rattle.text_laws.proofs.LineLaws.{node-line-room, node-stands}
 use Rattle.text_laws.proofs.PutLaws.{put-joined, Answered}
 use Rattle.node_lines.specs.Rows.{nodeText, lines, hasRoomFor, isRow, acceptedDiscounts, rowNumber}
@@ -47,6 +47,10 @@ lines-room line zero h = omega arith
 lines-room line (suc n) h = simp length-append (omega (arith, h n (omega arith), lines-room line n (λ k l. h k (omega arith))))
 
 -- the line of a node is no longer than 128 bytes
+pub line-room : (row w k discount : ℕ) → row < 2 ^ 64 → w < 2 ^ 62 → k < 2 ^ 62 → discount < 2 ^ 64 → length (lineOfNode row (node-at w k) discount) ≤ 128
+unfolding node-at
+line-room row w k discount r v h d = node-line-room row discount _ r d (omega (arith, sub-size k w))
+
 pub text-room : (row : ℕ) (discounts : List ℕ) (k : ℕ) → row < 2 ^ 64 → k < length discounts → length discounts < 2 ^ 63 → getD discounts k 0 < 2 ^ 64
     → length (nodeText row discounts k) ≤ 128
 unfolding nodeText node-at
@@ -54,14 +58,17 @@ text-room row discounts k r h l d = node-line-room row (getD discounts k 0) _ r 
 
 -- ---- the node that the code works out
 
+machine-sub : (k w : ℕ) → k < 2 ^ 62 → w < 2 ^ 62 → toZ w64 k -ℤ toZ w64 w ≡ pos k -ℤ pos w
+machine-sub k w h l =
+    ap (λ (z : ℤ). z -ℤ toZ w64 w) (toZ-pos w64 {n = k} (omega arith)) ∙ ap (λ (z : ℤ). pos k -ℤ z) (toZ-pos w64 {n = w} (omega arith))
+
 pub node-fits : (k w : ℕ) → k < 2 ^ 62 → w < 2 ^ 62 → SFits w64 (toZ w64 k -ℤ toZ w64 w)
 node-fits k w h l =
-    subst (λ (z : ℤ). SFits w64 z) (sub-is k w ∙ sym (ap (λ (z : ℤ). z -ℤ toZ w64 w) (toZ-pos w64 {n = k} (omega arith)) ∙ ap (λ (z : ℤ). pos k -ℤ z) (toZ-pos w64 {n = w} (omega arith))))
-    (fits-by-size (subℕ k w) (omega (arith, sub-size k w)))
+    subst (λ (z : ℤ). SFits w64 z) (sub-is k w ∙ sym (machine-sub k w h l)) (fits-by-size (subℕ k w) (omega (arith, sub-size k w)))
 
 pub node-is : (k w : ℕ) → k < 2 ^ 62 → w < 2 ^ 62 → toZ w64 k -ℤ toZ w64 w ≡ node-at w k
 unfolding node-at
-node-is k w h l = ap (λ (z : ℤ). z -ℤ toZ w64 w) (toZ-pos w64 {n = k} (omega arith)) ∙ ap (λ (z : ℤ). pos k -ℤ z) (toZ-pos w64 {n = w} (omega arith)) ∙ sym (sub-is k w)
+node-is k w h l = machine-sub k w h l ∙ sym (sub-is k w)
 
 -- ---- the node that the reader finds
 
@@ -76,15 +83,13 @@ row-discount discounts k e h =
     (between-least 1 most-discount (values discounts) k t, between-most 1 most-discount (values discounts) k t)
 
 -- the line that the code puts is the node's
-pub text-put : (out after discounts : List ℕ) (row end k d : ℕ) (node : ℤ) {answer : Placed} → acceptedDiscounts discounts ≡ true → k < length discounts
-    → d ≡ getD discounts k 0 → node ≡ node-at (length discounts / 2) k → 128 ≤ end → end ≤ length out → length (nodeText row discounts k) ≤ 128
-    → Answered (nodeNumber (length out) end d) out end (lineOfNode row node d) answer after → Put out end (nodeText row discounts k) (answer .start) after
-unfolding nodeText
-text-put out after discounts row end k d node {answer} e h a b l p r t =
-    let within = row-discount discounts k e h in
-    node-stands out end row (getD discounts k 0) (node-at (length discounts / 2) k) l p (within .0) (within .1) r
-    (subst (λ (z : ℤ). Answered (nodeNumber (length out) end (getD discounts k 0)) out end (lineOfNode row z (getD discounts k 0)) answer after) b
-    (subst (λ (x : ℕ). Answered (nodeNumber (length out) end x) out end (lineOfNode row node x) answer after) a t))
+pub line-put : (out after : List ℕ) (row end w k discount : ℕ) (node : ℤ) {answer : Placed} → node ≡ node-at w k → length (lineOfNode row (node-at w k) discount) ≤ 128
+    → 128 ≤ end → end ≤ length out → 0 < discount → discount ≤ most-discount
+    → Answered (nodeNumber (length out) end discount) out end (lineOfNode row node discount) answer after
+    → Put out end (lineOfNode row (node-at w k) discount) (answer .start) after
+line-put out after row end w k discount node {answer} e r h p l m a =
+    node-stands out end row discount (node-at w k) h p l m r
+    (subst (λ (z : ℤ). Answered (nodeNumber (length out) end discount) out end (lineOfNode row z discount) answer after) e a)
 
 -- ---- one line less is left
 
@@ -131,7 +136,7 @@ module _ (row count : ℕ) where
   unfolding isRow
   row-test h odd = rw (le-leb row 59 h, eq-eqb (count % 2) 1 odd)
 
-and-both : (a b : Bool) → (a && b) ≡ true → (a ≡ true) × (b ≡ true)
+pub and-both : (a b : Bool) → (a && b) ≡ true → (a ≡ true) × (b ≡ true)
 and-both true true e = (refl, refl)
 and-both true false e = let z : _≡_ {A = ℕ} 0 1 = cc in let none : ⊥ = omega arith in absurd none
 and-both false b e = let z : _≡_ {A = ℕ} 0 1 = cc in let none : ⊥ = omega arith in absurd none
@@ -168,6 +173,16 @@ module _ (size end row : ℕ) (discounts : List ℕ) where
 
     pub row-accepted : acceptedDiscounts discounts ≡ true
     row-accepted = parts .1
+
+    -- row 59, the last that has discounts, has at most 119 nodes
+    pub row-within : length discounts ≤ 119
+    unfolding isRow
+    row-within =
+        let count = length discounts in
+        let shaped = and-both (leb row 59) (eqb (count % 2) 1 && leb count (2 * row + 1))
+        (and-both (isRow row count) (hasRoomFor count size end) (parts .0) .0) in
+        let wide = and-both (eqb (count % 2) 1) (leb count (2 * row + 1)) (shaped .1) in
+        omega (arith, leb-true row 59 (shaped .0), leb-true count (2 * row + 1) (wide .1))
 
 -- the test that the code makes
 pub accepted-found : (discounts : List ℕ) (t : Bool) → t ≡ each (length discounts) (between 1 most-discount (values discounts)) →

@@ -1,14 +1,24 @@
-// The node lines of a row, put into a lent buffer from its end.
+// The node lines of a row, put into a lent buffer from its end by a reader that goes down from node to node.
 ghost use mathlib.Core.Path.{_≡_};
-ghost use mathlib.Core.Bool.{true};
-ghost use Prim.Native.Nat.{_*_, _≤_, _<_};
+ghost use Prim.Native.Nat.{_-_, _≤_, _<_};
 ghost use lib.ListN.{length};
-ghost use Rattle.text_laws.specs.Put.{Put, placeOf, withText};
-ghost use Rattle.node_lines.specs.Rows.{nodeText, rowText, hasRoomFor, isRow, acceptedDiscounts, rowNumber};
-use text::Placed;
+ghost use Rattle.limits.specs.Limits.{most-discount};
+ghost use Rattle.lattice.specs.RateTree.{node-at};
+ghost use Rattle.text_laws.specs.Lines.{lineOfNode};
+ghost use Rattle.text_laws.specs.Put.{Put, putBefore, withText};
+ghost use Rattle.node_lines.specs.Rows.{rowText, hasRoomFor, isRow};
+ghost use Rattle.node_lines.specs.Reading.{standBefore, nodesBefore, readNumber, drawnOf};
+ghost use Rattle.node_lines.specs.Preconditions.{Readable};
 
 // Discounts exist for rows 0 to 59.
 const LAST_ROW: u64 = 59;
+
+// Where the lines start, and the reader's next place, behind the row before; a refusal's number with zeros.
+pub struct Drawn {
+    pub number: u64,
+    pub start: usize,
+    pub next: usize,
+}
 
 fn has_room(count: usize, size: usize, end: usize) -> bool
     ensures { λ r. ⌜ r ≡ hasRoomFor count size end ⌝ }
@@ -32,60 +42,110 @@ fn is_row(row: u64, count: usize) -> bool
     count as u64 <= 2 * row + 1
 }
 
-// The cause of a row: 6 for its numbers or its room, then 9 for a discount; 0 where there is none.
-fn row_number(size: usize, end: usize, row: u64, discounts: &[u64]) -> u64
-    ensures { λ r. ⌜ r ≡ rowNumber size end row (now (discounts .entry)) ⌝ }
+fn stand_before(count: usize, next: usize, size: usize) -> bool
+    ensures { λ r. ⌜ r ≡ standBefore count next size ⌝ }
 {
-    if !is_row(row, discounts.len()) {
+    if next < count {
+        return false;
+    }
+    next <= size
+}
+
+// The cause of a row: 6 for its nodes' place, its numbers or its room, then 9 for a discount; 0 where there is none.
+fn row_number(
+    size: usize,
+    end: usize,
+    row: u64,
+    discounts: &[u64],
+    next: usize,
+    count: usize,
+) -> u64
+    ensures { λ r. ⌜ r ≡ readNumber size end row (now (discounts .entry)) next count ⌝ }
+{
+    if !stand_before(count, next, discounts.len()) {
         return 6;
     }
-    if !has_room(discounts.len(), size, end) {
+    if !is_row(row, count) {
         return 6;
     }
-    if !arithmetic::all_between(1, limits::MOST_DISCOUNT, discounts) {
+    if !has_room(count, size, end) {
+        return 6;
+    }
+    if !arithmetic::all_between(1, limits::MOST_DISCOUNT, &discounts[next - count..next]) {
         return 9;
     }
     0
 }
 
-// The line of the node at an index of the row.
-fn put_node(out: &mut [u8], end: usize, row: u64, discounts: &[u64], index: usize) -> usize
-    requires { ⌜ (index < length (now discounts)) × (128 * length (now discounts) ≤ length (now out)) × (128 ≤ end) × (end ≤ length (now out))
-        × (acceptedDiscounts (now discounts) ≡ true) ⌝ }
-    ensures { λ r. ⌜ Put (now (out .entry)) end (nodeText row (now (discounts .entry)) index) r (now (out .exit)) ⌝ }
+// The line of the node at an index of its row.
+fn put_node(
+    out: &mut [u8],
+    end: usize,
+    row: u64,
+    half_width: usize,
+    index: usize,
+    discount: u64,
+) -> usize
+    requires { ⌜ («half_width» < 60) × (index < 119) × (0 < discount) × (discount ≤ most-discount) × (128 ≤ end) × (end ≤ length (now out)) ⌝ }
+    ensures { λ r. ⌜ Put (now (out .entry)) end (lineOfNode row (node-at «half_width» index) discount) r (now (out .exit)) ⌝ }
 {
-    let half_width = discounts.len() / 2;
-    let node = node_reader::node_at(discounts, index);
-    let number = index as i64 - half_width as i64;
-    let line = text::node_line(out, end, row, number, node.discount);
+    let node = index as i64 - half_width as i64;
+    let line = text::node_line(out, end, row, node, discount);
     line.start
 }
 
-// The last node's line comes first, so that the lines stand in order.
-fn put_nodes(out: &mut [u8], end: usize, row: u64, discounts: &[u64]) -> usize
-    requires { ⌜ (128 * length (now discounts) ≤ end) × (end ≤ length (now out)) × (acceptedDiscounts (now discounts) ≡ true) ⌝ }
-    ensures { λ r. ⌜ Put (now (out .entry)) end (rowText row (now (discounts .entry))) r (now (out .exit)) ⌝ }
+// The last node's line comes first, so that the lines stand in order. The place of the next node goes down with each.
+fn put_nodes(
+    out: &mut [u8],
+    end: usize,
+    row: u64,
+    discounts: &[u64],
+    next: usize,
+    count: usize,
+) -> Drawn
+    requires { ⌜ Readable (now discounts) next count end (length (now out)) ⌝ }
+    ensures answer { λ r. ⌜ r ≡ drawnOf 0 end (rowText row (nodesBefore (now (discounts .entry)) next count)) (next - count) ⌝ }
+    ensures memory { λ _. ⌜ now (out .exit) ≡ putBefore (now (out .entry)) end (rowText row (nodesBefore (now (discounts .entry)) next count)) ⌝ }
 {
+    let half_width = count / 2;
     let mut start = end;
-    let mut left = discounts.len();
+    let mut place = next;
+    let mut left = count;
     while left > 0 {
         left -= 1;
-        start = put_node(out, start, row, discounts, left);
+        place -= 1;
+        let node = node_reader::node_at(discounts, place);
+        start = put_node(out, start, row, half_width, left, node.discount);
     }
-    start
+    Drawn {
+        number: 0,
+        start,
+        next: place,
+    }
 }
 
-// The lines of a row, given its discounts, lowest node first. Refused with 6 for a row that is none and without room for 128 bytes a line, then
-// with 9 for a discount that is 0 or above 1.1; nothing is put then.
-pub fn node_lines(out: &mut [u8], end: usize, row: u64, discounts: &[u64]) -> Placed
-    ensures answer { λ r. ⌜ r ≡ placeOf (rowNumber (length (now (out .entry))) end row (now (discounts .entry))) end (rowText row (now (discounts .entry))) ⌝ }
-    ensures memory { λ _. ⌜ now (out .exit) ≡ withText (rowNumber (length (now (out .entry))) end row (now (discounts .entry))) (now (out .entry)) end
-        (rowText row (now (discounts .entry))) ⌝ }
+// The lines of a row whose nodes are the last `count` before a place of the lent discounts, lowest node first. Refused with 6 for nodes that do not
+// stand there, a row that is none and without room for 128 bytes a line, then with 9 for a discount that is 0 or above 1.1; nothing is put then.
+pub fn node_lines(
+    out: &mut [u8],
+    end: usize,
+    row: u64,
+    discounts: &[u64],
+    next: usize,
+    count: usize,
+) -> Drawn
+    ensures answer { λ r. ⌜ r ≡ drawnOf (readNumber (length (now (out .entry))) end row (now (discounts .entry)) next count) end
+        (rowText row (nodesBefore (now (discounts .entry)) next count)) (next - count) ⌝ }
+    ensures memory { λ _. ⌜ now (out .exit) ≡ withText (readNumber (length (now (out .entry))) end row (now (discounts .entry)) next count)
+        (now (out .entry)) end (rowText row (nodesBefore (now (discounts .entry)) next count)) ⌝ }
 {
-    let number = row_number(out.len(), end, row, discounts);
+    let number = row_number(out.len(), end, row, discounts, next, count);
     if number != 0 {
-        return Placed { number, start: 0 };
+        return Drawn {
+            number,
+            start: 0,
+            next: 0,
+        };
     }
-    let start = put_nodes(out, end, row, discounts);
-    Placed { number: 0, start }
+    put_nodes(out, end, row, discounts, next, count)
 }

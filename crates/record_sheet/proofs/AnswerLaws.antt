@@ -9,15 +9,15 @@ use lib.ListN.{length}
 use Rattle.arithmetic.proofs.Numbers.{by-equal}
 use Rattle.job_record.specs.declared.Reading.{Reading}
 use Rattle.job_record.specs.Reader.{readingOf}
-use Rattle.text_laws.specs.Put.{Put}
-use Rattle.sheet_laws.specs.WholeJob.{jobNumber, jobText, sheetNumber, sheetText, memoryOf}
+use Rattle.text_laws.specs.Put.{Put, withText}
+use Rattle.sheet_laws.specs.WholeJob.{jobNumber, jobText, sheetNumber, sheetText}
 use Rattle.sheet_laws.proofs.SheetLaws.{memory-refused, memory-put, number-refused, number-accepted}
 use Rattle.record_sheet.specs.declared.Written.{Written}
 use Rattle.record_sheet.specs.Answers.{refusedSheet, answerOf}
 
 -- a sheet or a refusal, and the room afterwards
 abbrev pub Made : ℕ → List ℕ → List ℕ → Written → List ℕ → Type 0
-Made number text out answer after = (answer ≡ answerOf number text) × (after ≡ memoryOf number text out)
+Made number text out answer after = (answer ≡ answerOf number text) × (after ≡ withText number out (length out) text)
 
 module _ (number : ℕ) (text : List ℕ) where
   answer-refused : (number ≡ 0 → ⊥) → refusedSheet number ≡ answerOf number text

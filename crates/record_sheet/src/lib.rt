@@ -7,9 +7,9 @@ ghost use Prim.Native.Nat.{_≤_};
 ghost use lib.ListN.{length};
 ghost use Rattle.job_prices.specs.JobPrices.{hasOption, jobBond, jobOption};
 ghost use Rattle.sheet_room.specs.Room.{sheetRoom};
-ghost use Rattle.text_laws.specs.Put.{Put};
+ghost use Rattle.text_laws.specs.Put.{Put, withText};
 ghost use Rattle.sheet_laws.specs.Stored.{Fitted};
-ghost use Rattle.sheet_laws.specs.WholeJob.{roomCause, jobNumber, jobText, memoryOf};
+ghost use Rattle.sheet_laws.specs.WholeJob.{roomCause, jobNumber, jobText};
 ghost use Rattle.record_sheet.specs.Answers.{refusedSheet, answerOf};
 use job_prices::JobPrices;
 use job_record::Job;
@@ -74,7 +74,7 @@ fn draw<'a>(
 // its prices. A refusal leaves the room as it was.
 pub fn sheet_of_record(job: Job, out: &mut [u8]) -> Written
     ensures answer { λ r. ⌜ r ≡ answerOf (jobNumber job (length (now (out .entry)))) (jobText job) ⌝ }
-    ensures memory { λ _. ⌜ now (out .exit) ≡ memoryOf (jobNumber job (length (now (out .entry)))) (jobText job) (now (out .entry)) ⌝ }
+    ensures memory { λ _. ⌜ now (out .exit) ≡ withText (jobNumber job (length (now (out .entry)))) (now (out .entry)) (length (now (out .entry))) (jobText job) ⌝ }
 {
     let mut discounts = memories::discounts();
     let mut state_prices = memories::state_prices();

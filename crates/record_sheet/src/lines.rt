@@ -32,8 +32,8 @@ fn row_total(row: &[u64]) -> u64
     sum
 }
 
-// The node lines of all rows, whose nodes stand before `next`. The last row's come first, so that the lines stand in order, and each row
-// leaves the place from which the row above it is read.
+// The node lines of all rows, whose nodes stand before `next`. The last row's come first, so that the lines stand in order; the place goes down
+// with each node and is handed on from row to row.
 fn put_nodes(
     out: &mut [u8],
     end: usize,
@@ -51,10 +51,16 @@ fn put_nodes(
     while left > 0 {
         left -= 1;
         let count = lattice::node_count(reversion, left);
-        let first = place - count.value as usize;
-        let lines = node_lines::node_lines(out, start, left as u64, &discounts[first..place]);
+        let lines = node_lines::node_lines(
+            out,
+            start,
+            left as u64,
+            discounts,
+            place,
+            count.value as usize,
+        );
         start = lines.start;
-        place = first;
+        place = lines.next;
     }
     start
 }

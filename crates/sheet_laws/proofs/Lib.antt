@@ -1,4 +1,3 @@
-pub mod Pieces
 pub mod PartLaws
 pub mod FittedLaws
 pub mod SheetLaws

@@ -23,8 +23,11 @@ use Rattle.row_view.specs.RowView.{is-tree, holds-tree, stores-row, memory-of, 
 use Rattle.row_view.proofs.ViewLaws.{is-stored}
 use Rattle.text_laws.specs.declared.Placed.{Placed}
 use Rattle.text_laws.specs.Put.{Put}
-use Rattle.node_lines.specs.Rows.{nodeText, rowText, acceptedDiscounts, rowNumber}
+use Rattle.node_lines.specs.declared.Drawn.{Drawn}
+use Rattle.node_lines.specs.Rows.{nodeText, rowText, acceptedDiscounts}
+use Rattle.node_lines.specs.Reading.{nodesBefore, readNumber}
 use Rattle.node_lines.proofs.RowLaws.{lines-room, text-room, part-accepted, row-is, row-number-none}
+use Rattle.node_lines.proofs.ReadingLaws.{Drew, read-number-none, drawn-put, drawn-next}
 use Rattle.text_laws.specs.Lines.{rowLine, priceLine, lineNumber, bondWord, optionWord}
 use Rattle.text_laws.proofs.LineLaws.{row-room, price-room, line-stands, line-before}
 use Rattle.text_laws.proofs.PutLaws.{put-none, put-before, Answered, answered-put}
@@ -34,7 +37,7 @@ use Rattle.state_price_bound.specs.ErrorBound.{statePriceErrorBound}
 use Rattle.state_price_bound.proofs.BoundLaws.{bound-most}
 use Rattle.sheet_laws.specs.TreeSheet.{row-part, total, nodesOfRow, nodeLines, lineOfRow, rowLines, optionLines, priceLines, treeSheet}
 use Rattle.sheet_laws.specs.Stored.{Lent, Stored, Summed}
-use Rattle.sheet_laws.proofs.Pieces.{lines-fit}
+use Rattle.node_lines.proofs.LineLoop.{lines-fit}
 
 -- the rows that a memory of just a tree's discounts holds
 module _ (n b : ℕ) (discounts : List ℕ) (h : Lent n b discounts) where
@@ -91,17 +94,22 @@ module _ (discounts prices : RefT (List ℕ)) (kind : RowKind) (n b i : ℕ) (pa
 
 -- ---- the lines of a row, put by a call
 
-pub row-stands : (out : List ℕ) (end b i : ℕ) (memory : List ℕ) {answer : Placed} {after : List ℕ} → i < 60 → acceptedDiscounts memory ≡ true →
-    row-start b i + node-count b i ≤ length memory → 128 * node-count b i ≤ end → end ≤ length out →
+pub row-stands : (out : List ℕ) (end b i : ℕ) (memory : List ℕ) (next : ℕ) {answer : Drawn} {after : List ℕ} → i < 60 → acceptedDiscounts memory ≡ true →
+    next ≡ row-start b i + node-count b i → next ≤ length memory → 128 * node-count b i ≤ end → end ≤ length out →
     length (nodesOfRow b memory i) ≤ 128 * node-count b i →
-    Answered (rowNumber (length out) end i (row-part b memory i)) out end (nodesOfRow b memory i) answer after →
-    Put out end (nodesOfRow b memory i) (answer .start) after
-unfolding row-part
-row-stands out end b i memory few accepted within h p l a =
-    let size = part-length memory (row-start b i) (node-count b i) within in
-    let z = row-number-none (length out) end i (take (node-count b i) (drop (row-start b i) memory)) (rw size (row-is b i few)) (omega (arith, size)) p
-    (part-accepted memory (row-start b i) (node-count b i) accepted within) in
-    answered-put _ out end _ a z (omega arith) p
+    Drew (readNumber (length out) end i memory next (node-count b i)) out end (rowText i (nodesBefore memory next (node-count b i)))
+    (next - node-count b i) answer after →
+    Put out end (nodesOfRow b memory i) (answer .start) after × (answer .next ≡ row-start b i)
+unfolding row-part nodesBefore
+row-stands out end b i memory next few accepted ends within h p l d =
+    let count = node-count b i in
+    let first : next - count ≡ row-start b i = omega arith in
+    let size = part-length memory (row-start b i) count (omega arith) in
+    let row = row-number-none (length out) end i (take count (drop (row-start b i) memory)) (rw size (row-is b i few)) (omega (arith, size)) p
+    (part-accepted memory (row-start b i) count accepted (omega arith)) in
+    let z = read-number-none (length out) end i memory next count (omega arith) within (rw first row) in
+    let drawn = rw first at d in
+    (drawn-put _ out end _ _ drawn z (omega arith) p, drawn-next _ out end _ _ drawn z)
 
 pub row-length : (row : ℕ) (discounts : List ℕ) → row < 2 ^ 64 → length discounts < 2 ^ 63 → ((k : ℕ) → k < length discounts → getD discounts k 0 < 2 ^ 64) →
     length (rowText row discounts) ≤ 128 * length discounts
@@ -148,32 +156,21 @@ module _ (n b : ℕ) (discounts : List ℕ) (h : Lent n b discounts) (left place
   ends : row-start b left ≡ row-start b (left - 1) + node-count b (left - 1)
   ends = let e : suc (left - 1) ≡ left = omega arith in rw e at (start-suc b (left - 1))
 
-  pub before-first : count .value ≤ place
-  before-first = omega (arith, count-is, ends)
-
-  pub before-start : place - count .value ≡ row-start b (left - 1)
-  before-start = omega (arith, count-is, ends)
-
-  pub before-end : place ≤ length discounts
+  before-end : place ≤ length discounts
   before-end = omega (arith, ends, discounts-end n b discounts h (left - 1) (omega arith))
 
-  part-is : take (place - (place - count .value)) (drop (place - count .value) discounts) ≡ row-part b discounts (left - 1)
-  unfolding row-part
-  part-is =
-      let c : place - (place - count .value) ≡ node-count b (left - 1) = omega (arith, count-is, ends) in
-      rw (c, before-start)
-
-  -- the row's lines, put by a call on that part
-  pub before-put : (small : (j : ℕ) → getD discounts j 0 < 2 ^ 64) (out : List ℕ) (end : ℕ) (answer : Placed) (after : List ℕ) →
+  -- the row's lines, put by a call that reads its nodes before the place, which goes down to the row's start
+  pub before-put : (small : (j : ℕ) → getD discounts j 0 < 2 ^ 64) (out : List ℕ) (end : ℕ) (answer : Drawn) (after : List ℕ) →
       128 * row-start b left ≤ end → end ≤ length out →
-      let part = take (place - (place - count .value)) (drop (place - count .value) discounts) in
-      Answered (rowNumber (length out) end (left - 1) part) out end (rowText (left - 1) part) answer after →
-      Put out end (nodesOfRow b discounts (left - 1)) (answer .start) after
-  before-put small out end answer after room inside a =
+      Drew (readNumber (length out) end (left - 1) discounts place (count .value)) out end
+      (rowText (left - 1) (nodesBefore discounts place (count .value))) (place - count .value) answer after →
+      Put out end (nodesOfRow b discounts (left - 1)) (answer .start) after × (answer .next ≡ row-start b (left - 1))
+  before-put small out end answer after room inside d =
       let l : left - 1 < n = omega arith in
-      row-stands out end b (left - 1) discounts (omega (arith, h .few)) (h .accepted) (discounts-end n b discounts h (left - 1) l)
+      row-stands out end b (left - 1) discounts place (omega (arith, h .few)) (h .accepted) (ep ∙ ends) before-end
       (omega (arith, ends)) inside (nodes-length n b discounts h small (left - 1) l)
-      (subst (λ (d : List ℕ). Answered (rowNumber (length out) end (left - 1) d) out end (rowText (left - 1) d) answer after) part-is a)
+      (subst (λ (k : ℕ). Drew (readNumber (length out) end (left - 1) discounts place k) out end
+      (rowText (left - 1) (nodesBefore discounts place k)) (place - k) answer after) count-is d)
 
 module _ (n b : ℕ) (quotes discounts prices : List ℕ) (few : n ≤ 60) (small : (j : ℕ) → getD quotes j 0 < 2 ^ 64) (summed : Summed n b prices) where
   pub line-length : (i : ℕ) → i < n → length (lineOfRow n b quotes discounts prices i) ≤ 128

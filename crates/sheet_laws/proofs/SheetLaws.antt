@@ -19,12 +19,12 @@ use Rattle.job_prices.specs.declared.JobPrices.{JobPrices}
 use Rattle.job_prices.specs.JobPrices.{hasOption, jobBond, jobOption, pricesOf, recordNumber, recordPrices}
 use Rattle.job_prices.proofs.PriceLaws.{prices-given, prices-number}
 use Rattle.text_laws.specs.declared.Placed.{Placed}
-use Rattle.text_laws.specs.Put.{putBefore, Put, placeOf}
+use Rattle.text_laws.specs.Put.{putBefore, Put, placeOf, withText}
 use Rattle.text_laws.specs.Lines.{refusedLine, lineNumber}
 use Rattle.text_laws.proofs.PutLaws.{Answered, put-answered, put-whole}
 use Rattle.sheet_room.specs.Room.{sheetRoom}
 use Rattle.sheet_laws.specs.TreeSheet.{treeSheet}
-use Rattle.sheet_laws.specs.WholeJob.{roomCause, jobNumber, jobText, sheetNumber, sheetText, memoryOf, printedText, printedNumber}
+use Rattle.sheet_laws.specs.WholeJob.{roomCause, jobNumber, jobText, sheetNumber, sheetText, sheetMemory, printedText, printedNumber}
 
 -- ---- causes
 
@@ -76,13 +76,13 @@ text-put job quotes discounts state-prices prices eq ed es ep out end start afte
 
 -- ---- the room afterwards
 
-pub memory-refused : (number : ℕ) (text out : List ℕ) → (number ≡ 0 → ⊥) → out ≡ memoryOf number text out
-unfolding memoryOf
+pub memory-refused : (number : ℕ) (text out : List ℕ) → (number ≡ 0 → ⊥) → out ≡ withText number out (length out) text
+unfolding withText
 memory-refused number text out nz = rw (ne-eqb number 0 nz)
 
 pub memory-put : (number : ℕ) (text out : List ℕ) (start : ℕ) (after : List ℕ) → number ≡ 0 → Put out (length out) text start after →
-    after ≡ memoryOf number text out
-unfolding memoryOf
+    after ≡ withText number out (length out) text
+unfolding withText
 memory-put number text out start after z p = rw (eq-eqb number 0 z) (p .memory)
 
 -- ---- the number of a job's bytes
@@ -107,13 +107,13 @@ Printed bytes out = Answered (printedNumber bytes (length out)) out (length out)
 
 -- a sheet's number, its size where there is none, and the room that it left
 module _ (bytes out : List ℕ) (number size : ℕ) (after : List ℕ) (en : number ≡ sheetNumber bytes (length out))
-    (es : number ≡ 0 → size ≡ length (sheetText bytes)) (em : after ≡ memoryOf (sheetNumber bytes (length out)) (sheetText bytes) out) where
+    (es : number ≡ 0 → size ≡ length (sheetText bytes)) (em : after ≡ sheetMemory bytes out) where
   module _ (nz : number ≡ 0 → ⊥) where
     none : sheetNumber bytes (length out) ≡ 0 → ⊥
     none z = nz (en ∙ z)
 
     room-kept : after ≡ out
-    unfolding memoryOf
+    unfolding withText
     room-kept = rw (ne-eqb (sheetNumber bytes (length out)) 0 none) at em
 
     pub refusal-printed : (answer : Placed) (last : List ℕ) →
@@ -129,7 +129,7 @@ module _ (bytes out : List ℕ) (number size : ℕ) (after : List ℕ) (en : num
     zero-number = sym en ∙ z
 
     room-put : after ≡ putBefore out (length out) (sheetText bytes)
-    unfolding memoryOf
+    unfolding withText
     room-put = rw (eq-eqb (sheetNumber bytes (length out)) 0 zero-number) at em
 
     pub size-within : length after ≡ length out → size ≤ length after

@@ -14,7 +14,7 @@ use Rattle.job_fit.specs.RecordFit.{jobQuotes, jobDiscounts, jobStatePrices}
 use Rattle.job_prices.specs.JobPrices.{hasOption, jobBond, jobOption, recordNumber}
 use Rattle.text_laws.specs.Lines.{refusedLine, lineNumber}
 use Rattle.text_laws.specs.declared.Placed.{Placed}
-use Rattle.text_laws.specs.Put.{putBefore, placeOf, withText}
+use Rattle.text_laws.specs.Put.{placeOf, withText}
 use Rattle.sheet_room.specs.Room.{sheetRoom}
 use Rattle.sheet_laws.specs.TreeSheet.{treeSheet}
 
@@ -39,9 +39,9 @@ sheetNumber bytes room = first-cause (readingOf bytes .number) (jobNumber (readi
 abbrev pub sheetText : List ℕ → List ℕ
 sheetText bytes = jobText (readingOf bytes .job)
 
--- the room afterwards: the text at its end, or all as it was
-unfoldable pub memoryOf : ℕ → List ℕ → List ℕ → List ℕ
-memoryOf number text out = cond (eqb number 0) (putBefore out (length out) text) out
+-- the room afterwards: the sheet at its end, or all as it was
+abbrev pub sheetMemory : List ℕ → List ℕ → List ℕ
+sheetMemory bytes out = withText (sheetNumber bytes (length out)) out (length out) (sheetText bytes)
 
 -- what the sheet program prints: the sheet, or `refused` and the number; 6 where not even that line has room
 unfoldable pub printedText : List ℕ → ℕ → List ℕ

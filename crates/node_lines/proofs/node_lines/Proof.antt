@@ -1,9 +1,11 @@
 -- `node_lines::node_lines` meets its contract.
 -- Assumes nothing.
-use mathlib.Core.Path.{sym, _∙_}
+use mathlib.Core.Path.{_≡_, sym, _∙_}
+use Prim.Native.Nat.{_-_}
+use lib.ListN.{length}
 use borrow.Author.Needs.{needs}
-use Rattle.text_laws.proofs.PutLaws.{put-refused, put-answered}
-use Rattle.node_lines.proofs.RowLaws.{row-room, row-accepted}
+use Rattle.node_lines.specs.Reading.{readNumber}
+use Rattle.node_lines.proofs.ReadingLaws.{read-known, drawn-refused, drawn-answered}
 use Rattle.node_lines.proofs.node_lines.Statement.{statement}
 use Rattle.node_lines.proofs.node_lines.Tie as tie
 
@@ -12,30 +14,30 @@ row-number-requires c κs = search needs
 
 returns : tie.Need-returns
 returns c =
-    let s = c .before .before .before .before in
-    let row-number = c .before .row-number in
-    let if1 = c .if1 in
-    put-refused _ (s .args .out .now) (s .args .end) _ (row-number .result) (row-number .ensures) (if1 .taken)
+    let a = c .before .before .before .before .args in
+    let found = c .before .row-number in
+    drawn-refused _ (a .out .now) (a .end) _ (a .next - a .count) (found .result) (found .ensures) (c .if1 .taken)
+
+-- where there is no cause
+accepted : (c : tie.Else1) → let a = c .before .before .before .before .args in
+    readNumber (length (a .out .now)) (a .end) (a .row) (a .discounts .now) (a .next) (a .count) ≡ 0
+accepted c = sym (c .before .row-number .ensures) ∙ c .if1 .left
 
 put-nodes-requires : tie.Need-put-nodes-requires
 put-nodes-requires c κs =
-    let s = c .before .before .before .before .before in
-    let row-number = c .before .before .row-number in
-    let if1 = c .before .if1 in
-    let z = sym (row-number .ensures) ∙ if1 .left in
-    let room = row-room _ _ _ (s .args .discounts .now) z in
-    (room .0, room .1, row-accepted _ _ _ (s .args .discounts .now) z)
+    let e = c .before in
+    let a = e .before .before .before .before .args in
+    read-known (length (a .out .now)) (a .end) (a .row) (a .discounts .now) (a .next) (a .count) (accepted e)
 
 same-length : tie.Need-same-length
 same-length c = search needs
 
 returns-2 : tie.Need-returns-2
 returns-2 c =
-    let s = c .before .before .before .before .before .before .before .before in
-    let row-number = c .before .before .before .before .before .row-number in
-    let if1 = c .before .before .before .before .if1 in
-    let put-nodes = c .before .before .put-nodes in
-    put-answered _ (s .args .out .now) (s .args .end) _ (sym (row-number .ensures) ∙ if1 .left) (put-nodes .ensures)
+    let e = c .before .before .before .before in
+    let a = e .before .before .before .before .args in
+    let drawn = c .before .before .put-nodes .ensures in
+    drawn-answered _ (a .out .now) (a .end) _ (a .next - a .count) (accepted e) (drawn .0) (drawn .1)
 
 pub node-lines-spec : {M : Type 1} → statement M
 node-lines-spec = tie.close (tie.spec row-number-requires returns put-nodes-requires same-length returns-2)

@@ -1,80 +1,134 @@
--- `node_lines::put_nodes` meets its contract. The invariant: the lines that are left, put before the place, give the whole.
+-- `node_lines::put_nodes` meets its contract. The invariant: the lines that are left, put before the start, give the whole, and the place is behind
+-- the last node that is left.
 -- Assumes nothing.
-use mathlib.Core.Path.{_≡_, refl, sym, ap, _∙_}
-use mathlib.Core.List.{List, []}
-use Prim.Native.Nat.{ℕ, _≤_, _<_, _+_, _-_, _*_}
+use mathlib.Core.Path.{_≡_, sym, ap, _∙_, subst}
+use mathlib.Core.List.{List}
+use Prim.Native.Nat.{ℕ, suc, _≤_, _<_, _+_, _-_, _*_, _/_}
 use native.Mathlib.Omega.{arith}
-use lib.ListN.{length}
+use lib.ListN.{length, getD}
 use borrow.Author.Needs.{needs}
-use Rattle.text_laws.specs.Put.{putBefore}
-use Rattle.text_laws.proofs.PutLaws.{put-nothing, put-whole}
-use Rattle.node_lines.specs.Rows.{nodeText, lines, rowText}
-use Rattle.node_lines.proofs.RowLaws.{lines-none, lines-room, text-room, line-less, length-less}
+use Rattle.lattice.specs.RateTree.{node-at}
+use Rattle.text_laws.specs.Lines.{lineOfNode}
+use Rattle.text_laws.specs.Put.{Put}
+use Rattle.node_lines.specs.Rows.{nodeText, lines}
+use Rattle.node_lines.specs.Reading.{nodesBefore}
+use Rattle.node_lines.proofs.RowLaws.{discount-read, line-room}
+use Rattle.node_lines.proofs.LineLoop.{Progress, begun, gone, ended}
+use Rattle.node_lines.proofs.ReadingLaws.{before-length, before-text, before-discount, drawn-whole}
 use Rattle.node_lines.proofs.put_nodes.Statement.{statement}
 use Rattle.node_lines.proofs.put_nodes.Tie as tie
 
 abbrev Inv-loop : tie.InvT-loop
-Inv-loop out₀ end row discounts start₀ left₀ out start left =
-    (left ≤ length discounts) × (128 * left ≤ start) × (start + length (rowText row discounts) ≡ end + length (lines (nodeText row discounts) left))
-    × (start ≤ end) × (length out ≡ length out₀) × (putBefore out start (lines (nodeText row discounts) left) ≡ putBefore out₀ end (rowText row discounts))
+Inv-loop out₀ end row discounts next count half-width start₀ place₀ left₀ out start place left =
+    Progress (nodeText row (nodesBefore discounts next count)) (λ (i : ℕ). 128 * i) out₀ end count out start left × (place ≡ next - count + left)
 
 abbrev μ-loop : tie.MeasureT-loop
-μ-loop out₀ end row discounts start₀ left₀ out start left = left
+μ-loop out₀ end row discounts next count half-width start₀ place₀ left₀ out start place left = left
 
-line-room : (c : tie.After-shared-slice-known Inv-loop μ-loop) (k : ℕ) → k < length (c .before .before .args .discounts .now) → length (nodeText (c .before .before .args .row) (c .before .before .args .discounts .now) k) ≤ 128
-line-room c k h = let a = c .before .before .args in text-room (a .row) (a .discounts .now) k (c .before .before .fits .row .fits) h (omega arith) (c .shared-slice-known .given k .fits)
-
-whole-room : (c : tie.After-shared-slice-known Inv-loop μ-loop) → length (rowText (c .before .before .args .row) (c .before .before .args .discounts .now)) ≤ c .before .before .args .end
-whole-room c =
+fits : (c : tie.After-shared-slice-known Inv-loop μ-loop) (i : ℕ) → i < c .before .before .args .count →
     let a = c .before .before .args in
-    omega (arith, lines-room (nodeText (a .row) (a .discounts .now)) (length (a .discounts .now)) (line-room c), c .before .before .pre .0)
+    128 * i + length (nodeText (a .row) (nodesBefore (a .discounts .now) (a .next) (a .count)) i) ≤ 128 * suc i
+fits c i h =
+    let s = c .before .before in
+    let a = s .args in
+    let text = before-text (a .discounts .now) (a .next) (a .count) (s .pre .standing) (s .pre .held) (a .row) i h in
+    let few = s .pre .within-row in
+    let room = line-room (a .row) (a .count / 2) i (getD (a .discounts .now) (a .next - a .count + i) 0) (s .fits .row .fits) (omega arith) (omega arith)
+    (c .shared-slice-known .given (a .next - a .count + i) .fits) in
+    omega (arith, ap length text, room)
 
 loop-holds : tie.Need-loop-holds Inv-loop μ-loop
-loop-holds c = (search needs, c .before .before .pre .0, search needs, search needs, refl, refl)
+loop-holds c =
+    let s = c .before .before in
+    let a = s .args in
+    (begun _ (λ (i : ℕ). 128 * i) (a .count) (fits c) (a .out .now) (a .end) (s .pre .room), omega (arith, s .pre .standing))
 
 sub-left : tie.Need-sub-left Inv-loop μ-loop
 sub-left c = search needs
 
+sub-place : tie.Need-sub-place Inv-loop μ-loop
+sub-place c = let l = c .before .loop in omega (arith, l .inv .1)
+
+node-at-requires : tie.Need-node-at-requires Inv-loop μ-loop
+node-at-requires c κs = search needs
+
+-- the place of the node that is drawn next
+place-is : (c : tie.In-loop Inv-loop μ-loop) → let a = c .before .before .before .before .args in
+    c .before .loop .place - 1 ≡ a .next - a .count + (c .before .loop .left - 1)
+place-is c = let l = c .before .loop in omega (arith, l .inv .1)
+
+read : (c : tie.After-node-at Inv-loop μ-loop) → let a = c .before .before .before .before .before .args in
+    c .node-at .result .discount ≡ getD (a .discounts .now) (a .next - a .count + (c .before .before .loop .left - 1)) 0
+read c =
+    let s = c .before .before .before .before .before in
+    let a = s .args in
+    let l = c .before .before .loop in
+    let within : l .place - 1 < length (a .discounts .now) = omega (arith, place-is (c .before), l .inv .0 .upto, s .pre .standing, s .pre .held) in
+    discount-read (a .discounts .now) (l .place - 1) (c .node-at .result) (c .node-at .ensures) within
+    ∙ ap (λ (k : ℕ). getD (a .discounts .now) k 0) (place-is (c .before))
+
 put-node-requires : tie.Need-put-node-requires Inv-loop μ-loop
 put-node-requires c κs =
-    let l = c .before .before .loop in
-    let pre = c .before .before .before .before .before .pre in
-    (omega arith, omega (arith, pre .0, pre .1, l .inv .4), omega arith, omega (arith, l .inv .3, l .inv .4, pre .1), pre .2)
+    let at-node = c .before in
+    let s = at-node .before .before .before .before .before in
+    let a = s .args in
+    let l = at-node .before .before .loop in
+    let p = l .inv .0 in
+    let discount = before-discount (a .discounts .now) (a .next) (a .count) (s .pre .standing) (s .pre .held) (s .pre .accepted) (l .left - 1)
+    (omega (arith, p .upto)) in (
+      omega (arith, s .pre .within-row),
+      omega (arith, s .pre .within-row, p .upto),
+      omega (arith, read at-node, discount .0),
+      omega (arith, read at-node, discount .1),
+      omega (arith, p .enough),
+      omega (arith, p .below, p .same, s .pre .inside),
+    )
 
 loop-less : tie.Need-loop-less Inv-loop μ-loop
 loop-less c = search needs
 
 loop-again : tie.Need-loop-again Inv-loop μ-loop
 loop-again c =
-    let a = c .before .before .before .before .before .before .before .before .args in
-    let l = c .before .before .before .before .before .loop in
-    let p = c .before .before .put-node .ensures in
-    let line = nodeText (a .row) (a .discounts .now) in
-    let n = length-less line (l .left) (omega arith) in
-    let r = line-room (c .before .before .before .before .before .before) (l .left - 1) (omega arith) in
-    let w = whole-room (c .before .before .before .before .before .before) in (
-      omega arith,
-      omega (arith, p .place),
-      omega (arith, p .place),
-      omega (arith, p .place),
-      p .same ∙ l .inv .4,
-      line-less line (l .out) _ _ (l .start) (l .left) _ (omega arith) (omega arith) p (l .inv .5),
-    )
+    let at-node = c .before .before .before .before in
+    let in-loop = at-node .before in
+    let s = in-loop .before .before .before .before in
+    let a = s .args in
+    let l = in-loop .before .loop in
+    let p = l .inv .0 in
+    let some : 0 < l .left = omega arith in
+    let text = ap (λ (d : ℕ). lineOfNode (a .row) (node-at (a .count / 2) (l .left - 1)) d) (read at-node)
+    ∙ before-text (a .discounts .now) (a .next) (a .count) (s .pre .standing) (s .pre .held) (a .row) (l .left - 1) (omega (arith, p .upto)) in
+    let put = subst (λ (t : List ℕ). Put (l .out) (l .start) t (c .before .before .put-node .result) (c .before .before .put-node .last .0)) text
+    (c .before .before .put-node .ensures) in
+    (gone _ (λ (i : ℕ). 128 * i) (a .count) (fits (in-loop .before .before)) (a .out .now) (a .end) p some put, place-is in-loop)
 
 same-length : tie.Need-same-length Inv-loop μ-loop
-same-length c = search needs
+same-length c = c .before .loop .inv .0 .same
 
 returns : tie.Need-returns Inv-loop μ-loop
 returns c =
-    let a = c .before .before .before .before .args in
+    let s = c .before .before .before .before in
+    let a = s .args in
     let l = c .before .loop in
-    let line = nodeText (a .row) (a .discounts .now) in
-    let e = lines-none line (l .left) (omega arith) in
-    let z : length (lines line (l .left)) ≡ 0 = ap length e in
-    put-whole (a .out .now) (l .out) (rowText (a .row) (a .discounts .now)) (a .end) (l .start) (omega arith) (c .before .before .before .before .pre .1)
-    (sym (put-nothing (l .out) (l .start)) ∙ ap (λ (t : List ℕ). putBefore (l .out) (l .start) t) (sym e) ∙ l .inv .5)
+    let none : l .left ≡ 0 = omega arith in
+    let put = ended _ (λ (i : ℕ). 128 * i) (a .count) (fits (c .before .before)) (a .out .now) (a .end) (l .inv .0) none (s .pre .inside) in
+    let counted = before-length (a .discounts .now) (a .next) (a .count) (s .pre .standing) (s .pre .held) in
+    let line = nodeText (a .row) (nodesBefore (a .discounts .now) (a .next) (a .count)) in
+    drawn-whole 0 (a .out .now) (a .end) _ (a .next - a .count)
+    (subst (λ (n : ℕ). Put (a .out .now) (a .end) (lines line n) (l .start) (l .out)) (sym counted) put) (omega (arith, l .inv .1))
 
 pub put-nodes-spec : {M : Type 1} → statement M
 put-nodes-spec =
     tie.close
-    (tie.spec Inv-loop μ-loop loop-holds sub-left put-node-requires loop-less loop-again same-length returns)
+    (tie.spec
+    Inv-loop
+    μ-loop
+    loop-holds
+    sub-left
+    sub-place
+    node-at-requires
+    put-node-requires
+    loop-less
+    loop-again
+    same-length
+    returns)

@@ -1,68 +1,126 @@
 -- `node_lines::row_number` meets its contract.
 -- Assumes nothing.
-use mathlib.Core.Path.{sym, _∙_}
+use mathlib.Core.Path.{_≡_, sym, ap, _∙_}
 use mathlib.Core.Bool.{true, false}
+use mathlib.Core.List.{List}
+use Prim.Native.Nat.{ℕ, _≤_}
+use native.Mathlib.Omega.{arith}
+use lib.ListN.{length}
 use borrow.Author.Needs.{needs}
 use borrow.Author.Tests.{not-true, not-false}
-use Rattle.node_lines.proofs.RowLaws.{row-none, row-short, row-judged, accepted-found}
+use Rattle.node_lines.specs.Rows.{isRow, hasRoomFor, acceptedDiscounts}
+use Rattle.node_lines.specs.Reading.{standBefore, nodesBefore}
+use Rattle.node_lines.proofs.RowLaws.{accepted-found}
+use Rattle.node_lines.proofs.ReadingLaws.{stand-known, before-lent, read-none, read-no-row, read-short, read-judged}
 use Rattle.node_lines.proofs.row_number.Statement.{statement}
 use Rattle.node_lines.proofs.row_number.Tie as tie
+
+stand-before-requires : tie.Need-stand-before-requires
+stand-before-requires c κs = search needs
+
+returns : tie.Need-returns
+returns c =
+    let a = c .before .before .before .args in
+    read-none (a .size) (a .end) (a .row) (a .discounts .now) (a .next) (a .count)
+    (sym (c .before .stand-before .ensures) ∙ not-true _ (c .if1 .taken))
+
+-- what is known where the nodes stand before the place
+stands : (c : tie.Else1) → let a = c .before .before .before .args in standBefore (a .count) (a .next) (length (a .discounts .now)) ≡ true
+stands c = sym (c .before .stand-before .ensures) ∙ not-false _ (c .if1 .left)
+
+standing : (c : tie.Else1) → let a = c .before .before .before .args in (a .count ≤ a .next) × (a .next ≤ length (a .discounts .now))
+standing c = let a = c .before .before .before .args in stand-known (a .count) (a .next) (length (a .discounts .now)) (stands c)
 
 is-row-requires : tie.Need-is-row-requires
 is-row-requires c κs = search needs
 
-returns : tie.Need-returns
-returns c =
-    let s = c .before .before .before in
-    let is-row = c .before .is-row in
-    let if1 = c .if1 in
-    row-none (s .args .size) (s .args .end) (s .args .row) (s .args .discounts .now) (sym (is-row .ensures) ∙ not-true _ (if1 .taken))
+returns-2 : tie.Need-returns-2
+returns-2 c =
+    let e = c .before .before in
+    let a = e .before .before .before .args in
+    read-no-row (a .size) (a .end) (a .row) (a .discounts .now) (a .next) (a .count) (stands e)
+    (sym (c .before .is-row .ensures) ∙ not-true _ (c .if2 .taken))
+
+-- where the row is one
+shaped : (c : tie.Else2) → let a = c .before .before .before .before .before .args in isRow (a .row) (a .count) ≡ true
+shaped c = sym (c .before .is-row .ensures) ∙ not-false _ (c .if2 .left)
 
 has-room-requires : tie.Need-has-room-requires
 has-room-requires c κs = search needs
 
-returns-2 : tie.Need-returns-2
-returns-2 c =
-    let s = c .before .before .before .before .before in
-    let is-row = c .before .before .before .is-row in
-    let if1 = c .before .before .if1 in
-    let has-room = c .before .has-room in
-    let if2 = c .if2 in
-    let shaped = sym (is-row .ensures) ∙ not-false _ (if1 .left) in
-    row-short (s .args .size) (s .args .end) (s .args .row) (s .args .discounts .now) shaped (sym (has-room .ensures) ∙ not-true _ (if2 .taken))
+returns-3 : tie.Need-returns-3
+returns-3 c =
+    let row-known = c .before .before in
+    let e = row-known .before .before in
+    let a = e .before .before .before .args in
+    read-short (a .size) (a .end) (a .row) (a .discounts .now) (a .next) (a .count) (stands e) (shaped row-known)
+    (sym (c .before .has-room .ensures) ∙ not-true _ (c .if3 .taken))
+
+-- where its lines have room
+roomy : (c : tie.Else3) → let a = c .before .before .before .before .before .before .before .args in hasRoomFor (a .count) (a .size) (a .end) ≡ true
+roomy c = sym (c .before .has-room .ensures) ∙ not-false _ (c .if3 .left)
+
+sub-all-between : tie.Need-sub-all-between
+sub-all-between c = standing (c .before .before .before .before) .0
+
+mul-all-between : tie.Need-mul-all-between
+mul-all-between c = let ends = standing (c .before .before .before .before) .1 in search needs
+
+sub-all-between-2 : tie.Need-sub-all-between-2
+sub-all-between-2 c = search needs
+
+part-all-between-start : tie.Need-part-all-between-start
+part-all-between-start c = search needs
+
+part-all-between-end : tie.Need-part-all-between-end
+part-all-between-end c = standing (c .before .before .before .before) .1
+
+-- the test that the code makes is of the nodes before the place
+tested : (c : tie.After-all-between) →
+    let a = c .before .before .before .before .before .before .before .before .before .args in
+    acceptedDiscounts (nodesBefore (a .discounts .now) (a .next) (a .count)) ≡ c .all-between .result
+tested c =
+    let e = c .before .before .before .before .before .before in
+    let a = e .before .before .before .args in
+    let lent = before-lent (a .discounts .now) (a .next) (a .count) (standing e .0) (standing e .1) in
+    ap acceptedDiscounts (sym lent) ∙ accepted-found _ (c .all-between .result) (c .all-between .ensures)
 
 all-between-requires : tie.Need-all-between-requires
 all-between-requires c κs = search needs
 
-returns-3 : tie.Need-returns-3
-returns-3 c =
-    let s = c .before .before .before .before .before .before .before in
-    let is-row = c .before .before .before .before .before .is-row in
-    let if1 = c .before .before .before .before .if1 in
-    let has-room = c .before .before .before .has-room in
-    let if2 = c .before .before .if2 in
-    let all-between = c .before .all-between in
-    let if3 = c .if3 in
-    let shaped = sym (is-row .ensures) ∙ not-false _ (if1 .left) in
-    let room = sym (has-room .ensures) ∙ not-false _ (if2 .left) in
-    let tested = accepted-found (s .args .discounts .now) (all-between .result) (all-between .ensures) ∙ not-true _ (if3 .taken) in
-    row-judged (s .args .size) (s .args .end) (s .args .row) (s .args .discounts .now) shaped room false tested
-
 returns-4 : tie.Need-returns-4
 returns-4 c =
-    let s = c .before .before .before .before .before .before .before in
-    let is-row = c .before .before .before .before .before .is-row in
-    let if1 = c .before .before .before .before .if1 in
-    let has-room = c .before .before .before .has-room in
-    let if2 = c .before .before .if2 in
-    let all-between = c .before .all-between in
-    let if3 = c .if3 in
-    let shaped = sym (is-row .ensures) ∙ not-false _ (if1 .left) in
-    let room = sym (has-room .ensures) ∙ not-false _ (if2 .left) in
-    let tested = accepted-found (s .args .discounts .now) (all-between .result) (all-between .ensures) ∙ not-false _ (if3 .left) in
-    row-judged (s .args .size) (s .args .end) (s .args .row) (s .args .discounts .now) shaped room true tested
+    let room-known = c .before .before .before in
+    let row-known = room-known .before .before in
+    let e = row-known .before .before in
+    let a = e .before .before .before .args in
+    read-judged (a .size) (a .end) (a .row) (a .discounts .now) (a .next) (a .count) (stands e) (shaped row-known) (roomy room-known)
+    false (tested (c .before) ∙ not-true _ (c .if4 .taken))
+
+returns-5 : tie.Need-returns-5
+returns-5 c =
+    let room-known = c .before .before .before in
+    let row-known = room-known .before .before in
+    let e = row-known .before .before in
+    let a = e .before .before .before .args in
+    read-judged (a .size) (a .end) (a .row) (a .discounts .now) (a .next) (a .count) (stands e) (shaped row-known) (roomy room-known)
+    true (tested (c .before) ∙ not-false _ (c .if4 .left))
 
 pub row-number-spec : {M : Type 1} → statement M
 row-number-spec =
     tie.close
-    (tie.spec is-row-requires returns has-room-requires returns-2 all-between-requires returns-3 returns-4)
+    (tie.spec
+    stand-before-requires
+    returns
+    is-row-requires
+    returns-2
+    has-room-requires
+    returns-3
+    sub-all-between
+    mul-all-between
+    sub-all-between-2
+    part-all-between-start
+    part-all-between-end
+    all-between-requires
+    returns-4
+    returns-5)

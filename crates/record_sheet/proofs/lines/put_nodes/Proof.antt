@@ -5,7 +5,7 @@ use Prim.Native.Nat.{ℕ, suc, _+_, _*_, _≤_, _<_}
 use lib.ListN.{length}
 use Rattle.lattice.specs.Shape.{row-start, discounts-needed}
 use Rattle.sheet_laws.specs.TreeSheet.{nodesOfRow}
-use Rattle.sheet_laws.proofs.Pieces.{Progress, begun, gone, ended}
+use Rattle.node_lines.proofs.LineLoop.{Progress, begun, gone, ended}
 use Rattle.sheet_laws.proofs.PartLaws as laws
 use borrow.Author.Needs.{needs}
 use native.Mathlib.Omega.{arith}
@@ -47,33 +47,6 @@ sub-left c = search needs
 node-count-requires : tie.Need-node-count-requires Inv-loop μ-loop
 node-count-requires c κs = search needs
 
-sub-first : tie.Need-sub-first Inv-loop μ-loop
-sub-first c =
-    let s = c .before .before .before .before .before in
-    let l = c .before .before .loop in
-    let node-count = c .node-count in
-    let a = s .args in
-    laws.before-first (a .steps) (a .reversion) (a .discounts .now) (s .pre .lent) (l .left) (l .place) (node-count .result) (omega arith)
-    (l .inv .0 .upto) (node-count .ensures) (l .inv .1)
-
-mul-node-lines : tie.Need-mul-node-lines Inv-loop μ-loop
-mul-node-lines c = search needs
-
-sub-node-lines : tie.Need-sub-node-lines Inv-loop μ-loop
-sub-node-lines c = search needs
-
-part-node-lines-start : tie.Need-part-node-lines-start Inv-loop μ-loop
-part-node-lines-start c = search needs
-
-part-node-lines-end : tie.Need-part-node-lines-end Inv-loop μ-loop
-part-node-lines-end c =
-    let s = c .before .before .before .before .before .before in
-    let l = c .before .before .before .loop in
-    let node-count = c .before .node-count in
-    let a = s .args in
-    laws.before-end (a .steps) (a .reversion) (a .discounts .now) (s .pre .lent) (l .left) (l .place) (node-count .result) (omega arith)
-    (l .inv .0 .upto) (node-count .ensures) (l .inv .1)
-
 node-lines-requires : tie.Need-node-lines-requires Inv-loop μ-loop
 node-lines-requires c κs = search needs
 
@@ -82,28 +55,25 @@ loop-less c = search needs
 
 loop-again : tie.Need-loop-again Inv-loop μ-loop
 loop-again c =
-    let s = c .before .before .before .before .before .before .before .before .before .before in
-    let shared-slice-known = c .before .before .before .before .before .before .before .before .shared-slice-known in
-    let l = c .before .before .before .before .before .before .before .loop in
-    let node-count = c .before .before .before .before .before .node-count in
-    let node-lines = c .before .before .node-lines in
+    let counted = c .before .before .before .before in
+    let in-loop = counted .before in
+    let known = in-loop .before .before in
+    let s = known .before .before in
     let a = s .args in
+    let l = in-loop .before .loop in
     let p = l .inv .0 in
     let some : 0 < l .left = omega arith in
-    let put = laws.before-put (a .steps) (a .reversion) (a .discounts .now) (s .pre .lent) (l .left) (l .place) (node-count .result) some
-    (p .upto) (node-count .ensures) (l .inv .1) (λ j. shared-slice-known .given j .fits) (l .out) (l .start) (node-lines .result) _ (p .enough)
-    (omega (arith, p .below, p .same, s .pre .inside)) (node-lines .ensures) in
-    let known = c .before .before .before .before .before .before .before .before in (
+    let lines = c .before .before .node-lines in
+    let put = laws.before-put (a .steps) (a .reversion) (a .discounts .now) (s .pre .lent) (l .left) (l .place) (counted .node-count .result) some
+    (p .upto) (counted .node-count .ensures) (l .inv .1) (λ j. known .shared-slice-known .given j .fits) (l .out) (l .start) (lines .result) _ (p .enough)
+    (omega (arith, p .below, p .same, s .pre .inside)) (lines .ensures) in (
       gone (nodesOfRow (a .reversion) (a .discounts .now)) (λ (i : ℕ). 128 * row-start (a .reversion) i) (a .steps) (fits known)
-          (a .out .now) (a .end) p some put,
-      laws.before-start (a .steps) (a .reversion) (a .discounts .now) (s .pre .lent) (l .left) (l .place) (node-count .result) some
-          (p .upto) (node-count .ensures) (l .inv .1),
+          (a .out .now) (a .end) p some (put .0),
+      put .1,
     )
 
 same-length : tie.Need-same-length Inv-loop μ-loop
-same-length c =
-    let l = c .before .loop in
-    (l .inv .0 .same)
+same-length c = c .before .loop .inv .0 .same
 
 returns : tie.Need-returns Inv-loop μ-loop
 returns c =
@@ -122,11 +92,6 @@ put-nodes-spec =
     loop-holds
     sub-left
     node-count-requires
-    sub-first
-    mul-node-lines
-    sub-node-lines
-    part-node-lines-start
-    part-node-lines-end
     node-lines-requires
     loop-less
     loop-again

@@ -3,7 +3,7 @@
 use Prim.Native.Nat.{ℕ, suc, _+_, _-_, _*_, _≤_, _<_}
 use lib.ListN.{length}
 use Rattle.sheet_laws.specs.TreeSheet.{lineOfRow}
-use Rattle.sheet_laws.proofs.Pieces.{Progress, begun, gone, ended}
+use Rattle.node_lines.proofs.LineLoop.{Progress, begun, gone, ended}
 use Rattle.sheet_laws.proofs.PartLaws as laws
 use borrow.Author.Needs.{needs}
 use native.Mathlib.Omega.{arith}
