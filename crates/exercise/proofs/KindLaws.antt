@@ -17,17 +17,21 @@ use Rattle.pricing_laws.proofs.Schedules.{Alike}
 use Rattle.exercise.specs.declared.Terms.{Terms}
 use Rattle.exercise.specs.Terms.{side, terms-of, marks-of}
 
-pub side-is : (kind strike : ℕ) → side (terms-of kind strike .call) ≡ side-of kind
+pub side-is : (kind expiry strike : ℕ) → side (terms-of kind expiry strike .call) ≡ side-of kind
 unfolding side-of terms-of
-side-is kind strike = go (eqb kind 1 || eqb kind 3)
+side-is kind expiry strike = go (eqb kind 1 || eqb kind 3)
   where
     go : (t : Bool) → side t ≡ cond t call put
     go true = refl
     go false = refl
 
-pub strike-is : (kind strike : ℕ) → terms-of kind strike .strike ≡ strike
+pub strike-is : (kind expiry strike : ℕ) → terms-of kind expiry strike .strike ≡ strike
 unfolding terms-of
-strike-is kind strike = refl
+strike-is kind expiry strike = refl
+
+pub last-is : (kind expiry strike : ℕ) → terms-of kind expiry strike .last ≡ expiry
+unfolding terms-of
+last-is kind expiry strike = refl
 
 -- each mark
 mark-is : (kind i : ℕ) → i < 61 → values (marks-of kind) i ≡ cond (ltb kind 3) 0 1
@@ -52,5 +56,9 @@ pub marks-room : (kind expiry : ℕ) (marks : List ℕ) → marks ≡ marks-of k
 unfolding marks-of
 marks-room kind expiry marks e h = omega (arith, ap length e ∙ length-replicate {A = ℕ} 61 (cond (ltb kind 3) 0 1))
 
-pub strike-within : (kind strike most : ℕ) (terms : Terms) → terms ≡ terms-of kind strike → strike ≤ most → terms .strike ≤ most
-strike-within kind strike most terms e h = omega (arith, ap (λ (t : Terms). t .strike) e ∙ strike-is kind strike)
+module _ (kind expiry strike : ℕ) (terms : Terms) (e : terms ≡ terms-of kind expiry strike) where
+  pub strike-found : terms .strike ≡ strike
+  strike-found = ap (λ (t : Terms). t .strike) e ∙ strike-is kind expiry strike
+
+  pub last-found : terms .last ≡ expiry
+  last-found = ap (λ (t : Terms). t .last) e ∙ last-is kind expiry strike

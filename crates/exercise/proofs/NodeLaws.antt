@@ -32,10 +32,10 @@ unlisted-value false roll now e = refl
 unlisted-value true roll now e = let z : _≡_ {A = ℕ} 0 1 = cc in absurd (omega arith)
 
 -- the terms of a kind
-pub terms-built : (kind strike : ℕ) (t : Bool) → t ≡ (eqb kind 1 || eqb kind 3) →
-    _≡_ {A = Terms} (record { call = t; strike = strike }) (terms-of kind strike)
+pub terms-built : (kind expiry strike : ℕ) (t : Bool) → t ≡ (eqb kind 1 || eqb kind 3) →
+    _≡_ {A = Terms} (record { call = t; strike = strike; last = expiry }) (terms-of kind expiry strike)
 unfolding terms-of
-terms-built kind strike t e = rw e
+terms-built kind expiry strike t e = rw e
 
 pub call-by-first : (kind : ℕ) (t : Bool) → kind ≡ 1 → t ≡ eqb kind 1 → t ≡ (eqb kind 1 || eqb kind 3)
 call-by-first kind t h e = e ∙ rw (eq-eqb kind 1 h)

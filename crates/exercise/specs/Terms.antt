@@ -13,8 +13,8 @@ side true = call
 side false = put
 
 -- kinds 1 and 3 are calls
-unfoldable pub terms-of : ℕ → ℕ → Terms
-terms-of kind strike = record { call = eqb kind 1 || eqb kind 3; strike = strike }
+unfoldable pub terms-of : ℕ → ℕ → ℕ → Terms
+terms-of kind expiry strike = record { call = eqb kind 1 || eqb kind 3; strike = strike; last = expiry }
 
 -- rows 0 to 60; kinds 3 and 4 may be exercised before expiry on each
 unfoldable pub marks-of : ℕ → List ℕ

@@ -5,19 +5,21 @@ ghost use Prim.Native.Nat.{ℕ, _-_};
 ghost use Rattle.pricing_laws.specs.Pricer.{exercise, held-or-exercised};
 ghost use Rattle.exercise.specs.Terms.{side, terms-of, marks-of};
 
-// An option's side and strike.
+// An option's side, its strike and the last row on which it may be exercised.
 pub struct Terms {
     pub call: bool,
     pub strike: u64,
+    pub last: usize,
 }
 
 // The terms of a kind: 1 European call, 2 European put, 3 American call, 4 American put.
-pub fn terms_of(kind: u64, strike: u64) -> Terms
-    ensures { λ r. ⌜ r ≡ terms-of kind strike ⌝ }
+pub fn terms_of(kind: u64, expiry: usize, strike: u64) -> Terms
+    ensures { λ r. ⌜ r ≡ terms-of kind expiry strike ⌝ }
 {
     Terms {
         call: kind == 1 || kind == 3,
         strike,
+        last: expiry,
     }
 }
 

@@ -30,15 +30,17 @@ use Rattle.pricing_laws.specs.Peak.{peak, greatest-value}
 use Rattle.pricing_laws.proofs.Schedules.{Alike, option-alike}
 use Rattle.exercise.specs.declared.Terms.{Terms}
 use Rattle.exercise.specs.Terms.{side, terms-of, marks-of}
-use Rattle.exercise.proofs.KindLaws.{side-is, strike-is, kind-alike}
+use Rattle.exercise.proofs.KindLaws.{side-is, kind-alike}
 use Rattle.price_bound.specs.PriceBound.{bound-of, priceErrorBound}
 use Rattle.price_bound.proofs.BoundLaws.{bound-number}
 use Rattle.price_causes.specs.Causes.{Accepted-flows, flows-cause, option-cause}
 use Rattle.price_causes.proofs.CheckLaws.{flows-accepted}
 use Rattle.pricing.specs.declared.Price.{Price}
 use Rattle.pricing.specs.declared.BondAndOption.{BondAndOption}
+use Rattle.pricing.specs.declared.walk.Rolled.{Rolled}
 use Rattle.pricing.specs.Prices.{flow-at, tree-cause, first-cause, refusal, priced}
-use Rattle.pricing.specs.Prices.{bond-at, bond-peak, bondPrice, option-at, option-peak, option-limit, optionPrice}
+use Rattle.pricing.specs.Prices.{bond-at, bond-peak, accepted-bond, bondPrice}
+use Rattle.pricing.specs.Prices.{option-at, option-peak, option-limit, accepted-option, optionPrice}
 use Rattle.pricing.specs.Trees.{down-table, tree-bound, Bond-rolled, Both-rolled}
 use Rattle.pricing.proofs.TreeRows.{table-size}
 
@@ -145,15 +147,12 @@ module _ (n b : ℕ) (discounts flows : List ℕ) (a : Answer) (ea : a ≡ tree-
 
 module _ (n b : ℕ) (discounts flows : List ℕ) where
   -- the bond of an accepted tree, with an error bound e
-  abbrev pub accepted-bond : ℕ → Price
-  accepted-bond e = priced (limit-cause (bond-peak n b discounts flows)) (bond-at n b discounts flows 0 0) e
-
   module _ (number e : ℕ) (l : List ℕ) (s : Bond-rolled n b discounts flows 0 number l) where
-    pub bond-refused : (number ≡ 0 → ⊥) → refusal number ≡ accepted-bond e
+    pub bond-refused : (number ≡ 0 → ⊥) → refusal number ≡ accepted-bond n b discounts flows e
     unfolding bond-peak
     bond-refused z = priced-refused number _ _ _ (s .cause) z
 
-    pub bond-given : number ≡ 0 → _≡_ {A = Price} (record { number = 0; value = values l 0; bound = e }) (accepted-bond e)
+    pub bond-given : number ≡ 0 → _≡_ {A = Price} (record { number = 0; value = values l 0; bound = e }) (accepted-bond n b discounts flows e)
     unfolding bond-peak
     bond-given z = priced-given number _ _ _ _ (s .cause) z (s .held z 0 (count-positive b 0))
 
@@ -163,29 +162,27 @@ module _ (n b : ℕ) (discounts flows : List ℕ) where
   bond-cause-price c e z = refused-first c _ _ _ _ e z
 
   pub bond-price-is :
-      (e : ℕ) (p : Price) → p ≡ accepted-bond e → tree-cause n b discounts flows ≡ 0 → e ≡ bound-of n b discounts → p ≡ bondPrice n b discounts flows
+      (e : ℕ) (p : Price) → p ≡ accepted-bond n b discounts flows e → tree-cause n b discounts flows ≡ 0 → e ≡ bound-of n b discounts →
+      p ≡ bondPrice n b discounts flows
   unfolding bondPrice
-  bond-price-is e p h z eb = h ∙ ap accepted-bond eb ∙ passed-first _ _ _ _ z
+  bond-price-is e p h z eb = h ∙ ap (accepted-bond n b discounts flows) eb ∙ passed-first _ _ _ _ z
 
   -- the option of an accepted tree, with an error bound e
   module _ (side : Side) (strike : ℕ) (rows : Schedule) where
-    abbrev pub accepted-option : ℕ → Price
-    accepted-option e =
-        priced (option-limit n b discounts flows side strike rows) (option-at n b discounts flows side strike rows 0 0) e
+    module _ (e : ℕ) (r : Rolled) (s : Both-rolled n b discounts flows side strike rows r) where
+      pub option-refused : (r .number ≡ 0 → ⊥) → refusal (r .number) ≡ accepted-option n b discounts flows side strike rows e
+      option-refused z = priced-refused (r .number) _ _ _ (s .cause) z
 
-    module _ (number e : ℕ) (bond option : List ℕ) (s : Both-rolled n b discounts flows side strike rows number bond option) where
-      pub option-refused : (number ≡ 0 → ⊥) → refusal number ≡ accepted-option e
-      option-refused z = priced-refused number _ _ _ (s .cause) z
-
-      pub option-given : number ≡ 0 → _≡_ {A = Price} (record { number = 0; value = values option 0; bound = e }) (accepted-option e)
-      option-given z = priced-given number _ _ _ _ (s .cause) z (s .option-held z)
+      pub option-given : r .number ≡ 0 →
+          _≡_ {A = Price} (record { number = 0; value = r .option; bound = e }) (accepted-option n b discounts flows side strike rows e)
+      option-given z = priced-given (r .number) _ _ _ _ (s .cause) z (s .option-held z)
 
       -- no value of the bond was above the limit either
-      bond-passed : number ≡ 0 → 0 ≡ limit-cause (bond-peak n b discounts flows)
+      bond-passed : r .number ≡ 0 → 0 ≡ limit-cause (bond-peak n b discounts flows)
       unfolding option-limit
       bond-passed z = limit-kept _ (omega (arith, limit-accepted _ (sym (s .cause) ∙ z)))
 
-      pub beside-given : number ≡ 0 → _≡_ {A = Price} (record { number = 0; value = values bond 0; bound = e }) (accepted-bond e)
+      pub beside-given : r .number ≡ 0 → _≡_ {A = Price} (record { number = 0; value = r .bond; bound = e }) (accepted-bond n b discounts flows e)
       beside-given z = priced-given 0 _ _ _ _ (bond-passed z) refl (s .bond-held z)
 
   -- schedules that are alike give one answer
@@ -199,7 +196,7 @@ module _ (n b : ℕ) (discounts flows : List ℕ) where
     unfolding option-peak
     same-peak = ap₂ (λ (v : ℕ → ℕ → ℕ) (l : ℕ). peak (greatest-value (rate-tree b) v) l 0) same-values (same .last)
 
-    pub option-alike-price : (e : ℕ) → accepted-option side strike rows e ≡ accepted-option side strike other e
+    pub option-alike-price : (e : ℕ) → accepted-option n b discounts flows side strike rows e ≡ accepted-option n b discounts flows side strike other e
     unfolding option-limit
     option-alike-price e =
         ap₂ (λ (p : ℕ) (v : ℕ → ℕ → ℕ). priced (limit-cause (max (bond-peak n b discounts flows) p)) (v 0 0) e) same-peak same-values
@@ -219,20 +216,21 @@ module _ (n b : ℕ) (discounts flows : List ℕ) where
 
       module _ (e : ℕ) (eb : e ≡ bound-of n b discounts) (none : option-cause n kind expiry strike ≡ 0) (few : expiry ≤ 60) where
         kind-price-is :
-            accepted-option (side-of kind) strike (schedule-of kind expiry) e ≡ optionPrice n b discounts flows kind expiry strike
+            accepted-option n b discounts flows (side-of kind) strike (schedule-of kind expiry) e ≡ optionPrice n b discounts flows kind expiry strike
         unfolding optionPrice
         kind-price-is =
-            ap (accepted-option (side-of kind) strike (schedule-of kind expiry)) eb ∙ passed-first _ _ _ _ none ∙ passed-first _ _ _ _ z
+            ap (accepted-option n b discounts flows (side-of kind) strike (schedule-of kind expiry)) eb ∙ passed-first _ _ _ _ none ∙ passed-first _ _ _ _ z
 
         -- from the terms and marks that the code works with
         pub option-price-is :
-            (terms : Terms) (marks : List ℕ) (p : Price) → terms ≡ terms-of kind strike → marks ≡ marks-of kind →
-            p ≡ accepted-option (side (terms .call)) (terms .strike) (marked expiry marks) e →
+            (terms : Terms) (marks : List ℕ) (p : Price) → terms ≡ terms-of kind expiry strike → marks ≡ marks-of kind →
+            p ≡ accepted-option n b discounts flows (side (terms .call)) (terms .strike) (marked (terms .last) marks) e →
             p ≡ optionPrice n b discounts flows kind expiry strike
+        unfolding terms-of
         option-price-is terms marks p et em ep =
             ep
-            ∙ ap₂ (λ (t : Terms) (m : List ℕ). accepted-option (side (t .call)) (t .strike) (marked expiry m) e) et em
-            ∙ ap₂ (λ (s : Side) (k : ℕ). accepted-option s k (marked expiry (marks-of kind)) e) (side-is kind strike) (strike-is kind strike)
+            ∙ ap₂ (λ (t : Terms) (m : List ℕ). accepted-option n b discounts flows (side (t .call)) (t .strike) (marked (t .last) m) e) et em
+            ∙ ap (λ (s : Side). accepted-option n b discounts flows s strike (marked expiry (marks-of kind)) e) (side-is kind expiry strike)
             ∙ option-alike-price (side-of kind) strike (marked expiry (marks-of kind)) (schedule-of kind expiry) (kind-alike kind expiry few) e
             ∙ kind-price-is
 

@@ -13,7 +13,6 @@ use Rattle.lattice.proofs.Sizes.{count-within}
 use Rattle.lattice.proofs.ShapeLaws as shapes
 use Rattle.lent_tree.specs.LentTree.{Accepted}
 use Rattle.pricing_laws.specs.Pricer.{Side}
-use Rattle.pricing.specs.Prices.{flow-at}
 use Rattle.pricing.specs.Rows.{bond-values, option-values, Rollable, Limited, Later, Filled-row, Filled-rows}
 use Rattle.pricing.specs.Trees.{down-table, bond-step, option-step}
 use Rattle.pricing.proofs.TreeRows as rows
@@ -60,20 +59,20 @@ module _ (n b i : ℕ) (discounts : List ℕ) (a : Accepted n b discounts) (hi :
       pub part-rollable : Rollable table part (s .next)
       part-rollable = rw (table-is, part-is, next-is) (rows.rollable n b i hi discounts a)
 
-      module _ (flows : List ℕ) (flow : ℕ) (ef : flow ≡ flow-at flows i) where
+      module _ (flow : ℕ) where
         pub part-bond :
             (later after : List ℕ) (top : ℕ) → Filled-row after (length part) (bond-values later table part (s .next) flow) top →
-            Filled-row after (node-count b i) (bond-step b discounts flows i later) top
-        part-bond later after top h = rows.bond-row-is n b i hi discounts a flows flow ef later after top (rw (table-is, part-is, next-is) at h)
+            Filled-row after (node-count b i) (bond-step b discounts flow i later) top
+        part-bond later after top h = rows.bond-row-is n b i hi discounts a flow later after top (rw (table-is, part-is, next-is) at h)
 
         pub part-option :
             (side : Side) (strike : ℕ) (listed : Bool) (bonds options bond option : List ℕ) (top : ℕ) →
             Filled-rows bond option (length part) (bond-values bonds table part (s .next) flow)
             (option-values side strike listed bonds options table part (s .next) flow) top →
-            Filled-rows bond option (node-count b i) (bond-step b discounts flows i bonds)
-            (option-step side strike listed b discounts flows i bonds options) top
+            Filled-rows bond option (node-count b i) (bond-step b discounts flow i bonds)
+            (option-step side strike listed b discounts flow i bonds options) top
         part-option side strike listed bonds options bond option top h =
-            rows.option-row-is n b i hi discounts a flows flow ef side strike listed bonds options bond option top
+            rows.option-row-is n b i hi discounts a flow side strike listed bonds options bond option top
             (rw (table-is, part-is, next-is) at h)
 
   pub table-room : (downs : List ℕ) → downs ≡ down-table n b → s .offset + s .count ≤ length downs

@@ -90,16 +90,16 @@ module _ (n b i : ℕ) (hi : i < n) (discounts : List ℕ) (a : Accepted n b dis
       (ap (λ (x : ℕ). roll-rounding (roll-rounding x whole * stored b discounts i k) one) (backwards _ _ _))
 
   -- a row of the bond, and of the option beside it, as the code gives them
-  module _ (flows : List ℕ) (flow : ℕ) (ef : flow ≡ flow-at flows i) where
+  module _ (flow : ℕ) where
     abbrev code-bond : List ℕ → ℕ → ℕ
     code-bond later = bond-values later table-part discount-part (node-count b (suc i)) flow
 
-    bond-value-is : (later : List ℕ) (k : ℕ) → k < node-count b i → code-bond later k ≡ bond-step b discounts flows i later k
-    bond-value-is later k l = ap₂ (λ (x y : ℕ). x + y) (rolled-is later k l) ef
+    bond-value-is : (later : List ℕ) (k : ℕ) → k < node-count b i → code-bond later k ≡ bond-step b discounts flow i later k
+    bond-value-is later k l = ap (λ (x : ℕ). x + flow) (rolled-is later k l)
 
     pub bond-row-is :
         (later after : List ℕ) (top : ℕ) → Filled-row after (length discount-part) (code-bond later) top →
-        Filled-row after (node-count b i) (bond-step b discounts flows i later) top
+        Filled-row after (node-count b i) (bond-step b discounts flow i later) top
     bond-row-is later after top s =
         record {
           held = λ k l. s .held k (rw discount-part-length l) ∙ bond-value-is later k l;
@@ -110,14 +110,14 @@ module _ (n b i : ℕ) (hi : i < n) (discounts : List ℕ) (a : Accepted n b dis
       abbrev code-option : ℕ → ℕ
       code-option = option-values side strike listed bonds options table-part discount-part (node-count b (suc i)) flow
 
-      option-value-is : (k : ℕ) → k < node-count b i → code-option k ≡ option-step side strike listed b discounts flows i bonds options k
+      option-value-is : (k : ℕ) → k < node-count b i → code-option k ≡ option-step side strike listed b discounts flow i bonds options k
       option-value-is k l =
           ap₂ (λ (x y : ℕ). held-or-exercised listed x (exercise side strike y)) (rolled-is options k l) (bond-value-is bonds k l)
 
       pub option-row-is :
           (bond option : List ℕ) (top : ℕ) → Filled-rows bond option (length discount-part) (code-bond bonds) code-option top →
-          Filled-rows bond option (node-count b i) (bond-step b discounts flows i bonds)
-          (option-step side strike listed b discounts flows i bonds options) top
+          Filled-rows bond option (node-count b i) (bond-step b discounts flow i bonds)
+          (option-step side strike listed b discounts flow i bonds options) top
       option-row-is bond option top s =
           record {
             bond-held = λ k l. s .bond-held k (rw discount-part-length l) ∙ bond-value-is bonds k l;

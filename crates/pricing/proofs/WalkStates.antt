@@ -22,6 +22,7 @@ use Rattle.pricing_laws.specs.Peak.{peak, greatest-value}
 use Rattle.pricing_laws.proofs.Peaks.{peak-grows}
 use Rattle.pricing_laws.proofs.PriceLaws.{On, row-greatest, roll-local}
 use Rattle.pricing_laws.proofs.Backward as back
+use Rattle.pricing.specs.declared.walk.Rolled.{Rolled}
 use Rattle.pricing.specs.Prices.{flow-at, bond-at, bond-peak, option-at, option-peak, option-limit}
 use Rattle.pricing.specs.Rows.{Limited, Holds, Filled-rows}
 use Rattle.pricing.specs.Trees.{rolled-at, bond-step, option-step, Bond-rolled, Both-rolled}
@@ -38,6 +39,13 @@ greatest-max (suc n) f g = rw (greatest-max n f g) (omega arith)
 -- the greatest value of a row, as the laws of a walk take it
 abbrev top : ℕ → ℕ → (ℕ → ℕ) → ℕ
 top b i v = greatest (rate-tree b .nodes i) v
+
+-- what a walk answers: a value above the limit, or the first values of two rows
+abbrev pub passed : Rolled
+passed = record { number = 12; bond = 0; option = 0 }
+
+abbrev pub stood : List ℕ → List ℕ → Rolled
+stood bond option = record { number = 0; bond = values bond 0; option = values option 0 }
 
 -- the bond at row i stands in a list
 pub Bonds : ℕ → ℕ → List ℕ → List ℕ → ℕ → List ℕ → Type 0
@@ -80,7 +88,7 @@ module _ (n b : ℕ) (discounts flows : List ℕ) (a : Accepted n b discounts) (
 
   -- one row back
   module _ (r : ℕ) (later : List ℕ) (some : 0 < r) (s : Bonds n b discounts flows r later) (l : List ℕ)
-      (h : Holds l (node-count b (r - 1)) (bond-step b discounts flows (r - 1) later)) where
+      (h : Holds l (node-count b (r - 1)) (bond-step b discounts (flow-at flows (r - 1)) (r - 1) later)) where
     before : Bonds n b discounts flows (suc (r - 1)) later
     before = let e : r ≡ suc (r - 1) = omega arith in subst (λ (x : ℕ). Bonds n b discounts flows x later) e s
 
@@ -162,8 +170,8 @@ module _ (n b : ℕ) (discounts flows : List ℕ) (a : Accepted n b discounts) (
     -- one row back, bond and option together
     module _ (r : ℕ) (bonds options : List ℕ) (some : 0 < r) (sb : Bonds n b discounts flows r bonds) (so : Right r options)
         (listed : Bool) (el : listed ≡ rows .listed (r - 1)) (bond option : List ℕ) (found : ℕ)
-        (filled : Filled-rows bond option (node-count b (r - 1)) (bond-step b discounts flows (r - 1) bonds)
-        (option-step side strike listed b discounts flows (r - 1) bonds options) found) where
+        (filled : Filled-rows bond option (node-count b (r - 1)) (bond-step b discounts (flow-at flows (r - 1)) (r - 1) bonds)
+        (option-step side strike listed b discounts (flow-at flows (r - 1)) (r - 1) bonds options) found) where
       options-before : Right (suc (r - 1)) options
       options-before = let e : r ≡ suc (r - 1) = omega arith in subst (λ (x : ℕ). Right x options) e so
 
@@ -227,9 +235,9 @@ module _ (n b : ℕ) (discounts flows : List ℕ) (a : Accepted n b discounts) (
             rw e at (peak-grows w (rows .last) 0 (r - 1) (omega (arith, before-last))),
           )
 
-      pub both-over : (x y : List ℕ) → value-limit < found → Both-rolled n b discounts flows side strike rows 12 x y
+      pub both-over : value-limit < found → Both-rolled n b discounts flows side strike rows passed
       unfolding option-limit
-      both-over x y o =
+      both-over o =
           record {
             cause =
                 limit-above _
@@ -244,7 +252,7 @@ module _ (n b : ℕ) (discounts flows : List ℕ) (a : Accepted n b discounts) (
           none z = omega arith
 
     -- at row 0
-    at-root : (bonds l : List ℕ) → Bonds n b discounts flows 0 bonds → Right 0 l → Both-rolled n b discounts flows side strike rows 0 bonds l
+    at-root : (bonds l : List ℕ) → Bonds n b discounts flows 0 bonds → Right 0 l → Both-rolled n b discounts flows side strike rows (stood bonds l)
     unfolding Bonds Options rate-tree greatest-value bond-at option-at bond-peak option-peak option-limit
     at-root bonds l s o =
         record {
@@ -254,25 +262,28 @@ module _ (n b : ℕ) (discounts flows : List ℕ) (a : Accepted n b discounts) (
         }
 
     pub both-rolled :
-        (r : ℕ) (bonds l : List ℕ) → r ≡ 0 → Bonds n b discounts flows r bonds → Right r l → Both-rolled n b discounts flows side strike rows 0 bonds l
+        (r : ℕ) (bonds l : List ℕ) → r ≡ 0 → Bonds n b discounts flows r bonds → Right r l → Both-rolled n b discounts flows side strike rows (stood bonds l)
     both-rolled r bonds l e s o =
         at-root bonds l (subst (λ (x : ℕ). Bonds n b discounts flows x bonds) e s) (subst (λ (x : ℕ). Right x l) e o)
 
     -- the bond passes the limit before the option's last row is reached
     pub late-refused :
-        (number : ℕ) (bonds l option : List ℕ) → Bond-rolled n b discounts flows (rows .last) number bonds → (number ≡ 0 → ⊥) →
-        Both-rolled n b discounts flows side strike rows number l option
+        (number : ℕ) (bonds : List ℕ) → Bond-rolled n b discounts flows (rows .last) number bonds → (number ≡ 0 → ⊥) →
+        Both-rolled n b discounts flows side strike rows passed
     unfolding bond-peak option-limit
-    late-refused number bonds l option s z =
+    late-refused number bonds s z =
         record {
           cause =
               by-order late value-limit
               (λ low. absurd (z (s .cause ∙ sym (limit-kept late low))))
-              (λ high. s .cause ∙ sym (limit-above late high) ∙ limit-above _ (omega (arith, grown)));
-          bond-held = λ e. absurd (z e);
-          option-held = λ e. absurd (z e);
+              (λ high. limit-above _ (omega (arith, grown)));
+          bond-held = λ e. absurd (none e);
+          option-held = λ e. absurd (none e);
         }
       where
+        none : _≡_ {A = ℕ} 12 0 → ⊥
+        none e = omega arith
+
         tops : ℕ → ℕ
         tops = greatest-value (rate-tree b) (bond-at n b discounts flows)
 
@@ -287,3 +298,9 @@ pub rolled-through :
     (n b : ℕ) (discounts flows : List ℕ) (i number : ℕ) (l : List ℕ) → number ≡ 0 → Bond-rolled n b discounts flows i number l →
     Bond-rolled n b discounts flows i 0 l
 rolled-through n b discounts flows i number l z s = subst (λ (x : ℕ). Bond-rolled n b discounts flows i x l) z s
+
+-- what a walk came to, as the code answers it
+pub rolled-answer : {n b : ℕ} {discounts flows : List ℕ} {side : Side} {strike : ℕ} {rows : Schedule} {found : Rolled} (r : Rolled) → r ≡ found →
+    Both-rolled n b discounts flows side strike rows found → Both-rolled n b discounts flows side strike rows r
+rolled-answer {n} {b} {discounts} {flows} {side} {strike} {rows} r e s =
+    subst (λ (x : Rolled). Both-rolled n b discounts flows side strike rows x) (sym e) s

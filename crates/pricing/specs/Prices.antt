@@ -49,6 +49,10 @@ bond-at n b discounts flows = bond (engine (rate-tree b) (stored b discounts)) (
 unfoldable pub bond-peak : ℕ → ℕ → List ℕ → List ℕ → ℕ
 bond-peak n b discounts flows = peak (greatest-value (rate-tree b) (bond-at n b discounts flows)) n 0
 
+-- the price of an accepted tree's bond, with its error bound; 12 for a value above 8 × one
+abbrev pub accepted-bond : ℕ → ℕ → List ℕ → List ℕ → ℕ → Price
+accepted-bond n b discounts flows bound = priced (limit-cause (bond-peak n b discounts flows)) (bond-at n b discounts flows 0 0) bound
+
 unfoldable pub bondPrice : ℕ → ℕ → List ℕ → List ℕ → Price
 bondPrice n b discounts flows =
     priced (first-cause (tree-cause n b discounts flows) (limit-cause (bond-peak n b discounts flows)))
@@ -68,6 +72,10 @@ module _ (n b : ℕ) (discounts flows : List ℕ) (side : Side) (strike : ℕ) (
   -- 12: a value of bond or option above 8 × one
   unfoldable pub option-limit : ℕ
   option-limit = limit-cause (max (bond-peak n b discounts flows) option-peak)
+
+  -- the price of an accepted tree's option, with its error bound
+  abbrev pub accepted-option : ℕ → Price
+  accepted-option bound = priced option-limit (option-at 0 0) bound
 
 -- the four kinds
 unfoldable pub optionPrice : ℕ → ℕ → List ℕ → List ℕ → ℕ → ℕ → ℕ → Price

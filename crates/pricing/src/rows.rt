@@ -71,41 +71,47 @@ pub(crate) fn bond_row(
     top
 }
 
+// A row that bond and option are rolled into: the nodes of the row after it, its flow, and the option's right on it.
+pub(crate) struct RowRight {
+    pub(crate) next: usize,
+    pub(crate) flow: u64,
+    pub(crate) terms: Terms,
+    pub(crate) listed: bool,
+}
+
 // Rolls bond and option back by one row together, each node's branch worked out once for both. Gives the greatest value of the two rows.
 pub(crate) fn option_row(
-    bond: &mut [u64],
-    option: &mut [u64],
-    bonds: &[u64],
-    options: &[u64],
+    right: RowRight,
     downs: &[u64],
     discounts: &[u64],
-    next: usize,
-    flow: u64,
-    terms: Terms,
-    listed: bool,
+    bonds: &[u64],
+    options: &[u64],
+    bond: &mut [u64],
+    option: &mut [u64],
 ) -> u64
-    requires { ⌜ Rollable (now downs) (now discounts) next × Later (now bonds) next × Later (now options) next
-        × (length (now discounts) ≤ length (now bond)) × (length (now discounts) ≤ length (now option)) × (flow ≤ 2000000000) ⌝ }
+    requires { ⌜ Rollable (now downs) (now discounts) (right .next) × Later (now bonds) (right .next) × Later (now options) (right .next)
+        × (length (now discounts) ≤ length (now bond)) × (length (now discounts) ≤ length (now option)) × (right .flow ≤ 2000000000) ⌝ }
     ensures { λ r. ⌜ Filled-rows (now (bond .exit)) (now (option .exit)) (length (now (discounts .entry)))
-        (bond-values (now (bonds .entry)) (now (downs .entry)) (now (discounts .entry)) next flow)
-        (option-values (side (terms .call)) (terms .strike) listed
-        (now (bonds .entry)) (now (options .entry)) (now (downs .entry)) (now (discounts .entry)) next flow) r ⌝ }
+        (bond-values (now (bonds .entry)) (now (downs .entry)) (now (discounts .entry)) (right .next) (right .flow))
+        (option-values (side (right .terms .call)) (right .terms .strike) (right .listed)
+        (now (bonds .entry)) (now (options .entry)) (now (downs .entry)) (now (discounts .entry)) (right .next) (right .flow)) r ⌝ }
 {
+    let terms = right.terms;
     let mut top: u64 = 0;
     let mut k: usize = 0;
     while k < discounts.len() {
-        let branch = row_branches::row_branch(downs, next, k);
+        let branch = row_branches::row_branch(downs, right.next, k);
         let discount = discounts[k];
-        let value = roll_node(branch, bonds, discount) + flow;
-        let right = exercise::held_value(
+        let value = roll_node(branch, bonds, discount) + right.flow;
+        let held = exercise::held_value(
             terms,
-            listed,
+            right.listed,
             roll_node(branch, options, discount),
             value,
         );
         bond[k] = value;
-        option[k] = right;
-        top = arithmetic::larger(top, arithmetic::larger(value, right));
+        option[k] = held;
+        top = arithmetic::larger(top, arithmetic::larger(value, held));
         k += 1;
     }
     top

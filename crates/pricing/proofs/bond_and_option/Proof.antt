@@ -3,7 +3,7 @@
 use mathlib.Core.Path.{_≡_, sym, _∙_}
 use Prim.Native.Nat.{_≤_}
 use native.Mathlib.Omega.{arith}
-use Rattle.exercise.proofs.KindLaws.{marks-room, strike-within}
+use Rattle.exercise.proofs.KindLaws.{marks-room, strike-found, last-found}
 use Rattle.price_causes.proofs.CheckLaws.{option-accepted}
 use Rattle.pricing.proofs.EntryLaws as laws
 use borrow.Author.Needs.{needs}
@@ -74,12 +74,15 @@ accepted-both-requires c κs =
     let terms-of = c .before .terms-of in
     let tree = laws.tree-accepted _ _ _ _ _ (tree-bound .ensures) (if1 .left) in
     let judged = option-accepted _ _ _ _ (sym (option-cause .ensures) ∙ if2 .left) in
-    let few : s .args .expiry ≤ 60 = omega (arith, judged .0, tree .few) in (
+    let few : s .args .expiry ≤ 60 = omega (arith, judged .0, tree .few) in
+    let last = last-found _ _ _ _ (terms-of .ensures) in (
       tree,
       laws.paid-accepted _ _ _ _ _ (tree-bound .ensures) (if1 .left),
-      judged .0,
-      marks-room _ _ _ (marks-of .ensures) few,
-      strike-within _ _ _ _ (terms-of .ensures) (judged .1),
+      record {
+        last-inside = omega (arith, last, judged .0);
+        marked-rows = omega (arith, last, marks-room _ _ _ (marks-of .ensures) few);
+        strike-most = omega (arith, strike-found _ _ _ _ (terms-of .ensures), judged .1);
+      },
     )
 
 returns-3 : tie.Need-returns-3
