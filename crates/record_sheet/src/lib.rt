@@ -64,9 +64,7 @@ fn draw<'a>(
         &quotes[..steps],
         &discounts[..discount_count.value as usize],
         &state_prices[..price_count.value as usize],
-        prices.bond,
-        prices.has_option,
-        prices.option,
+        prices,
     )
 }
 

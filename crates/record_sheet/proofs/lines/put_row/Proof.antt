@@ -13,14 +13,14 @@ use native.Mathlib.Omega.{arith}
 use Rattle.record_sheet.proofs.lines.put_row.Statement.{statement}
 use Rattle.record_sheet.proofs.lines.put_row.Tie as tie
 
-part-is : (c : tie.After-row-view) → c .row-view .result .now ≡ row-part (c .before .before .before .before .before .args .reversion)
+part-is : (c : tie.After-row-view) → c .row-view .result .now ≡ row-part (c .before .before .before .before .before .args .tree .reversion)
     (c .before .before .before .before .before .args .state-prices .now) (suc (c .before .before .before .before .before .args .before))
 part-is c =
     let s = c .before .before .before .before .before in
     let a = s .args in
     rw (← add-one (a .before))
-    (laws.shown (a .discounts) (a .state-prices) StatePrices (a .steps) (a .reversion) (a .before + 1) (c .row-view .result) (s .pre .1)
-    (le-leb (a .before + 1) (a .steps) (omega (arith, s .pre .0))) (c .row-view .ensures))
+    (laws.shown (a .discounts) (a .state-prices) StatePrices (a .tree .steps) (a .tree .reversion) (a .before + 1) (c .row-view .result) (s .pre .1)
+    (le-leb (a .before + 1) (a .tree .steps) (omega (arith, s .pre .0))) (c .row-view .ensures))
 
 add-row : tie.Need-add-row
 add-row c = search needs
@@ -56,10 +56,10 @@ returns c =
     let row-line = c .before .before .row-line in
     let a = s .args in
     let pre = s .pre in
-    laws.row-line-stands (a .steps) (a .reversion) (a .quotes .now) (a .discounts .now) (a .state-prices .now) (a .before) (a .end) (row-total .result)
+    laws.row-line-stands (a .tree .steps) (a .tree .reversion) (a .quotes .now) (a .discounts .now) (a .state-prices .now) (a .before) (a .end) (row-total .result)
     (a .out .now) _ (state-price-error-bound .result)
     (row-total .ensures ∙ ap total (part-is (p6 .before))) (subst
-    (λ (i : ℕ). state-price-error-bound .result ≡ statePriceErrorBound (a .steps) (a .reversion) (a .discounts .now) i) (add-one (a .before))
+    (λ (i : ℕ). state-price-error-bound .result ≡ statePriceErrorBound (a .tree .steps) (a .tree .reversion) (a .discounts .now) i) (add-one (a .before))
     (state-price-error-bound .ensures))
     (omega (arith, pre .0, pre .1 .lent .few)) (shared-slice-known .given (a .before) .fits) (search needs) (pre .4) (pre .5) (row-line .ensures)
 
