@@ -83,8 +83,8 @@ row-discount discounts k e h =
     (between-least 1 most-discount (values discounts) k t, between-most 1 most-discount (values discounts) k t)
 
 -- the line that the code puts is the node's
-pub line-put : (out after : List ℕ) (row end w k discount : ℕ) (node : ℤ) {answer : Placed} → node ≡ node-at w k → length (lineOfNode row (node-at w k) discount) ≤ 128
-    → 128 ≤ end → end ≤ length out → 0 < discount → discount ≤ most-discount
+pub line-put : (out after : List ℕ) (row end w k discount : ℕ) (node : ℤ) {answer : Placed} → node ≡ node-at w k
+    → length (lineOfNode row (node-at w k) discount) ≤ 128 → 128 ≤ end → end ≤ length out → 0 < discount → discount ≤ most-discount
     → Answered (nodeNumber (length out) end discount) out end (lineOfNode row node discount) answer after
     → Put out end (lineOfNode row (node-at w k) discount) (answer .start) after
 line-put out after row end w k discount node {answer} e r h p l m a =

@@ -72,7 +72,8 @@ fn draw<'a>(
 // its prices. A refusal leaves the room as it was.
 pub fn sheet_of_record(job: Job, out: &mut [u8]) -> Written
     ensures answer { λ r. ⌜ r ≡ answerOf (jobNumber job (length (now (out .entry)))) (jobText job) ⌝ }
-    ensures memory { λ _. ⌜ now (out .exit) ≡ withText (jobNumber job (length (now (out .entry)))) (now (out .entry)) (length (now (out .entry))) (jobText job) ⌝ }
+    ensures memory { λ _. ⌜ now (out .exit) ≡ withText (jobNumber job (length (now (out .entry)))) (now (out .entry)) (length (now (out .entry)))
+        (jobText job) ⌝ }
 {
     let mut discounts = memories::discounts();
     let mut state_prices = memories::state_prices();

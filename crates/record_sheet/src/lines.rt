@@ -119,8 +119,8 @@ fn put_row<'a>(
 ) -> usize
     requires { ⌜ (before < tree .steps) × Stored (tree .steps) (tree .reversion) (now discounts) (now «state_prices») × (length (now quotes) ≡ tree .steps) ×
         (total (row-part (tree .reversion) (now «state_prices») (suc before)) ≤ 2000000100) × (128 ≤ end) × (end ≤ length (now out)) ⌝ }
-    ensures { λ r. ⌜ Put (now (out .entry)) end (lineOfRow (tree .steps) (tree .reversion) (now (quotes .entry)) (now (discounts .entry)) (now («state_prices» .entry))
-        before) r (now (out .exit)) ⌝ }
+    ensures { λ r. ⌜ Put (now (out .entry)) end (lineOfRow (tree .steps) (tree .reversion) (now (quotes .entry)) (now (discounts .entry))
+        (now («state_prices» .entry)) before) r (now (out .exit)) ⌝ }
 {
     let row = before + 1;
     let part = row_view::row_view(

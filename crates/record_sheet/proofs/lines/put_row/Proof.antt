@@ -56,8 +56,8 @@ returns c =
     let row-line = c .before .before .row-line in
     let a = s .args in
     let pre = s .pre in
-    laws.row-line-stands (a .tree .steps) (a .tree .reversion) (a .quotes .now) (a .discounts .now) (a .state-prices .now) (a .before) (a .end) (row-total .result)
-    (a .out .now) _ (state-price-error-bound .result)
+    laws.row-line-stands (a .tree .steps) (a .tree .reversion) (a .quotes .now) (a .discounts .now) (a .state-prices .now) (a .before) (a .end)
+    (row-total .result) (a .out .now) _ (state-price-error-bound .result)
     (row-total .ensures ∙ ap total (part-is (p6 .before))) (subst
     (λ (i : ℕ). state-price-error-bound .result ≡ statePriceErrorBound (a .tree .steps) (a .tree .reversion) (a .discounts .now) i) (add-one (a .before))
     (state-price-error-bound .ensures))
