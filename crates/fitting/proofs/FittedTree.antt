@@ -64,7 +64,9 @@ module _ (f n b s : ℕ) (kinds : List ℕ) (figures : List Float) where
 
   module _ (rows : List ℕ) (ds ps : ℕ) (z : fitNumber f n b s rows kinds figures ds ps ≡ 0) where
     pub fit-shape : shape-cause n b ≡ 0
-    fit-shape = let m = fit-numbers f n b s rows kinds figures ds ps z in shape-found n b (m .some) (m .few) (m .reverting)
+    fit-shape =
+        let m = fit-numbers f n b s rows kinds figures ds ps z in
+        shape-found n b (m .steps-positive) (m .steps-within-limit) (m .reversion-within-limit)
 
     -- an accepted fit is an accepted tree, in any memory that holds its discounts
     pub fit-lent : (discounts : List ℕ) → discounts-needed n b ≤ length discounts →

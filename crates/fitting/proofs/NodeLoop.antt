@@ -11,11 +11,12 @@ use Rattle.arithmetic.specs.Sum.{sum}
 use Rattle.arithmetic.specs.Row.{row, values, each}
 use Rattle.arithmetic.proofs.RowLaws.{Filled, filled-start, filled-next, filled-all, row-cong, length-row, each-none, each-more, each-fails}
 use Rattle.limits.specs.Limits.{is-discount}
-use Rattle.tree.specs.Tree.{chance, incoming}
+use Rattle.tree.specs.Tree.{chance, incoming, whole}
 use Rattle.tree.proofs.StepLaws.{incoming-none}
 use Rattle.row_branches.specs.RowBranches.{branch-total, row-branch, row-transition}
 use Rattle.fit_laws.specs.Step.{carried}
-use Rattle.fitting.specs.Rows.{StepReady}
+use Rattle.fitting.specs.Bounds.{most-carried, most-incoming}
+use Rattle.fitting.specs.Preconditions.{StepReady}
 use Rattle.fitting.proofs.StepRows.{quoted-small, node-asks, sums-small, product-most, amount-most, sums-next, never}
 
 -- quote × factor / Z
@@ -43,20 +44,20 @@ stepping-start quote z prices factors downs d₀ s₀ e =
       good = each-none _;
     }
 
-module _ (quote z : ℕ) (prices factors downs d₀ s₀ : List ℕ) (ready : StepReady quote prices factors downs (length d₀) (length s₀))
-    (d s : List ℕ) (k : ℕ) (g : Stepping quote z prices factors downs d₀ s₀ d s k) where
+module _ {quote z : ℕ} {prices factors downs d₀ s₀ : List ℕ} (ready : StepReady quote prices factors downs (length d₀) (length s₀))
+    {d s : List ℕ} {k : ℕ} (g : Stepping quote z prices factors downs d₀ s₀ d s k) where
   pub sums-length : length s ≡ length s₀
   sums-length = ap length (g .spread) ∙ length-row (length s₀) _
 
   pub discounts-length : length d ≡ length prices
-  discounts-length = g .filled .same ∙ ready .room
+  discounts-length = g .filled .same ∙ ready .discounts-length
 
   module _ (hk : k < length prices) where
     pub factor-there : k < length factors
-    factor-there = omega (arith, ready .bounded .same)
+    factor-there = omega (arith, ready .factors-bounded .length-is)
 
     pub quoted-fits : quote * values factors k ≤ 5440000000000000000
-    quoted-fits = quoted-small quote (values factors k) (ready .quote-most) (ready .bounded .most k hk)
+    quoted-fits = quoted-small quote (values factors k) (ready .quote-within-limit) (ready .factors-bounded .at-most k hk)
 
     pub stepping-fails : is-discount (ratio quote factors z k) ≡ false → false ≡ each (length prices) (λ i. is-discount (ratio quote factors z i))
     stepping-fails e = sym (each-fails (length prices) k (λ i. is-discount (ratio quote factors z i)) hk e)
@@ -65,21 +66,21 @@ module _ (quote z : ℕ) (prices factors downs d₀ s₀ : List ℕ) (ready : St
       pub product-fits : values prices k * ratio quote factors z k ≤ 2200000330000000000
       product-fits =
           product-most (row-transition downs (length s₀)) (length prices) (length s₀) (values prices) (ratio quote factors z)
-          (ready .inside) (ready .total) (ready .most) k hk (g .good) this
+          (ready .branches-inside) (ready .branches-total) (ready .row-sum-most) k hk (g .good) this
 
       pub spread-asks :
           (row-branch downs (length s) k .low + 2 < length s)
-          × (branch-total (row-branch downs (length s) k) ≤ 600000000)
-          × (values prices k * ratio quote factors z k / one ≤ 2200000330)
-          × ((j : ℕ) → j < length s → values s j ≤ 1400000000000000000)
+          × (branch-total (row-branch downs (length s) k) ≤ whole)
+          × (values prices k * ratio quote factors z k / one ≤ most-carried)
+          × ((j : ℕ) → j < length s → values s j ≤ most-incoming)
       spread-asks =
-          let asks = node-asks downs (length s₀) (length prices) k (ready .inside) (ready .total) hk in (
+          let asks = node-asks downs (length s₀) (length prices) k (ready .branches-inside) (ready .branches-total) hk in (
             rw sums-length (asks .0),
             rw sums-length (asks .1),
             amount-most (row-transition downs (length s₀)) (length prices) (length s₀) (values prices) (ratio quote factors z)
-                (ready .inside) (ready .total) (ready .most) k hk (g .good) this,
+                (ready .branches-inside) (ready .branches-total) (ready .row-sum-most) k hk (g .good) this,
             sums-small (row-transition downs (length s₀)) (length prices) (length s₀) (values prices) (ratio quote factors z)
-                (ready .inside) (ready .total) (ready .most) k hk (g .good) s (g .spread),
+                (ready .branches-inside) (ready .branches-total) (ready .row-sum-most) k hk (g .good) s (g .spread),
           )
 
       pub stepping-next : (s′ : List ℕ) →
@@ -92,7 +93,8 @@ module _ (quote z : ℕ) (prices factors downs d₀ s₀ : List ℕ) (ready : St
             filled = filled-next d₀ d (ratio quote factors z) k (ratio quote factors z k) (g .filled) (omega (arith, discounts-length)) refl;
             spread =
                 sums-next (row-transition downs (length s₀)) (length prices) (length s₀) (values prices) (ratio quote factors z)
-                (ready .inside) (ready .total) (ready .most) k hk (g .good) this s s′ (values prices k * ratio quote factors z k / one) refl (g .spread)
+                (ready .branches-inside) (ready .branches-total) (ready .row-sum-most) k hk (g .good) this
+                s s′ (values prices k * ratio quote factors z k / one) refl (g .spread)
                 (e ∙ ap (λ (m : ℕ). row (length s) (λ j. values s j + chance (row-transition downs m) k j
                 * (values prices k * ratio quote factors z k / one))) sums-length);
             good = each-more k (λ i. is-discount (ratio quote factors z i)) (g .good) this;
@@ -104,8 +106,8 @@ module _ (quote z : ℕ) (prices factors downs d₀ s₀ : List ℕ) (ready : St
 
     pub stepping-filled : d ≡ row (length prices) (ratio quote factors z)
     stepping-filled =
-        filled-all d₀ d (ratio quote factors z) k (g .filled) (all ∙ sym (ready .room))
-        ∙ ap (λ (n : ℕ). row n (ratio quote factors z)) (ready .room)
+        filled-all d₀ d (ratio quote factors z) k (g .filled) (all ∙ sym (ready .discounts-length))
+        ∙ ap (λ (n : ℕ). row n (ratio quote factors z)) (ready .discounts-length)
 
     pub stepping-spread : s ≡ spread-sums quote factors z prices downs (length s₀) (length prices)
     stepping-spread = g .spread ∙ ap (spread-sums quote factors z prices downs (length s₀)) all

@@ -28,6 +28,7 @@ use Rattle.curve.proofs.CurveLaws.{curve-range}
 use Rattle.fit_laws.specs.StatePrices.{fitted-price, fitted-discount, accepted-row, state-price, exact-state-price, state-price-bound}
 use Rattle.fit_laws.proofs.Shortfall.{state-below, state-price-shortfall}
 use Rattle.fit_laws.proofs.WholeFit.{Curve, fitted-is-state, quotes-repriced}
+use Rattle.fitting.specs.Bounds.{least-quote, most-quote, least-factor, most-factor}
 use Rattle.fitting.specs.Fit.{quoted, curve-accepted, curve-discount, curve-price, node-factor}
 use Rattle.fitting.specs.Entry.{quotes-of, early-cause, late-cause, fitNumber, fit-discount, fit-price}
 use Rattle.fitting.specs.Plans.{Numbers}
@@ -68,22 +69,30 @@ module _ (f n b s : ℕ) (rows kinds : List ℕ) (figures : List Float) (ds ps :
   -- every node discount of the fit is accepted
   pub fit-accepted : each n (accepted-row (rate-tree b) (fit-discount f n b s kinds figures)) ≡ true
   unfolding curve-accepted
-  fit-accepted = ap (λ (k : ℕ). each k (accepted-row (rate-tree b) (fit-discount f n b s kinds figures))) (sym (length-row n (discountAt f kinds figures))) ∙ parts .1
+  fit-accepted =
+      ap (λ (k : ℕ). each k (accepted-row (rate-tree b) (fit-discount f n b s kinds figures))) (sym (length-row n (discountAt f kinds figures)))
+      ∙ parts .1
 
   pub fit-sound : Sound (rate-tree b)
-  fit-sound = rate-tree-sound b (fit-numbers .reverting)
+  fit-sound = rate-tree-sound b (fit-numbers .reversion-within-limit)
 
-  range : (i : ℕ) → i < n → (100000000 ≤ discountAt f kinds figures i) × (discountAt f kinds figures i ≤ 2000000000)
-  range = curve-range f n rows kinds figures 60 (fit-numbers .quotes)
+  range : (i : ℕ) → i < n → (least-quote ≤ discountAt f kinds figures i) × (discountAt f kinds figures i ≤ most-quote)
+  range = curve-range f n rows kinds figures 60 (fit-numbers .quotes-converted)
 
   quote-is : (i : ℕ) → i < n → quoted (quotes-of f n kinds figures) (suc i) ≡ discountAt f kinds figures i
   unfolding quoted
   quote-is i h = values-row n i (discountAt f kinds figures) h
 
-  factor-range : (i k : ℕ) → i < n → k < node-count b i → (360000000 ≤ node-factor b (spacing f s) i k) × (node-factor b (spacing f s) i k ≤ 2720000000)
+  factor-range : (i k : ℕ) → i < n → k < node-count b i →
+      (least-factor ≤ node-factor b (spacing f s) i k) × (node-factor b (spacing f s) i k ≤ most-factor)
   factor-range i k h l =
       factor-bounds (node b i k) (spacing f s)
-      (omega (arith, mul-le-mul-right (spacing f s) (in-row b i k l), mul-le-mul-right (spacing f s) (half-later b i (n - 1) (omega arith)), fit-narrow))
+      (omega (
+        arith,
+        mul-le-mul-right (spacing f s) (in-row b i k l),
+        mul-le-mul-right (spacing f s) (half-later b i (n - 1) (omega arith)),
+        fit-narrow,
+      ))
 
   count-most : (i : ℕ) → node-count b i ≤ 2 * i + 1
   unfolding node-count
@@ -93,7 +102,7 @@ module _ (f n b s : ℕ) (rows kinds : List ℕ) (figures : List Float) (ds ps :
   unfolding rate-tree
   curve =
       record {
-        steps = fit-numbers .few;
+        steps = fit-numbers .steps-within-limit;
         counts = count-most;
         quote-low = λ i h. rw (quote-is i h) (range i h .0);
         quote-high = λ i h. rw (quote-is i h) (range i h .1);

@@ -17,33 +17,42 @@ use Rattle.tree.proofs.StepLaws.{incoming-next, incoming-none, incoming-total, 
 use Rattle.row_branches.specs.declared.RowBranch.{RowBranch}
 use Rattle.row_branches.specs.RowBranches.{branch-up, branch-middle, branch-down, branch-total, row-branch, row-transition}
 use Rattle.row_branches.proofs.BranchLaws.{backwards}
-use Rattle.limits.specs.Limits.{is-discount}
+use Rattle.limits.specs.Limits.{most-discount, is-discount}
 use Rattle.limits.proofs.LimitLaws.{discount-most}
 use Rattle.fit_laws.specs.Step.{carried}
 use Rattle.fit_laws.proofs.StepLaws.{carried-le}
-use Rattle.fitting.specs.Rows.{Factors}
+use Rattle.fitting.specs.Preconditions.{Factors}
+use Rattle.fitting.specs.Bounds.{most-quote, most-factor, most-row-sum, most-carried, most-incoming}
 
--- the sum of state price × factor, one node more
-module _ (n k total : ℕ) (q u : ℕ → ℕ) (h : k < n) (most : (k : ℕ) → k < n → u k ≤ 2720000000) (s : sum n q ≤ 2000000300)
-    (e : total ≡ sum k (λ i. q i * u i)) where
-  pub weighed-next : total + q k * u k ≡ sum (k + 1) (λ i. q i * u i)
-  weighed-next = rw e (sym (sum-next k (λ i. q i * u i)))
+-- the sum of state price × factor over the first k nodes, and one node more
+abbrev pub weighed : List ℕ → List ℕ → ℕ → ℕ
+weighed prices factors k = sum k (λ i. values prices i * values factors i)
 
-  pub weighed-small : total + q k * u k ≤ 5440000816000000000
+module _ (prices factors : List ℕ) (f : Factors factors (length prices)) (s : sum (length prices) (values prices) ≤ most-row-sum)
+    {k total : ℕ} (e : total ≡ weighed prices factors k) (h : k < length prices) where
+  pub weighed-next : total + values prices k * values factors k ≡ weighed prices factors (k + 1)
+  weighed-next = rw e (sym (sum-next k (λ i. values prices i * values factors i)))
+
+  pub weighed-small : total + values prices k * values factors k ≤ 5440000816000000000
   weighed-small =
-      omega (arith, weighed-next, sum-grow n (k + 1) (λ i. q i * u i) (omega arith), sum-weigh-le n 2720000000 q u most)
+      omega (
+        arith,
+        weighed-next,
+        sum-grow (length prices) (k + 1) (λ i. values prices i * values factors i) (omega arith),
+        sum-weigh-le (length prices) most-factor (values prices) (values factors) (f .at-most),
+      )
 
-pub quoted-small : (p x : ℕ) → p ≤ 2000000000 → x ≤ 2720000000 → p * x ≤ 5440000000000000000
+pub quoted-small : (p x : ℕ) → p ≤ most-quote → x ≤ most-factor → p * x ≤ 5440000000000000000
 quoted-small p x hp hx = mul-le-mul hp hx
 
 -- the carried amounts of state prices of at most 2,000,000,300 in sum, at discounts of at most 1.1
-module _ (n : ℕ) (q v : ℕ → ℕ) (hs : sum n q ≤ 2000000300) (hv : (k : ℕ) → k < n → v k ≤ 1100000000) where
-  pub carried-sum : sum n (carried q v) ≤ 2200000330
-  carried-sum = omega (arith, carried-le n q v, sum-weigh-le n 1100000000 q v hv)
+module _ (n : ℕ) (q v : ℕ → ℕ) (hs : sum n q ≤ most-row-sum) (hv : (k : ℕ) → k < n → v k ≤ most-discount) where
+  pub carried-sum : sum n (carried q v) ≤ most-carried
+  carried-sum = omega (arith, carried-le n q v, sum-weigh-le n most-discount q v hv)
 
 -- what a branch hands on: each product is small, and so is each sum after it is added, up, middle and down in turn
-module _ (b : RowBranch) (x : ℕ) (total : branch-total b ≤ 600000000) (few : x ≤ 2200000330) where
-  product-small : (p : ℕ) → p ≤ 600000000 → p * x ≤ 1320000198000000000
+module _ (b : RowBranch) (x : ℕ) (total : branch-total b ≤ whole) (few : x ≤ most-carried) where
+  product-small : (p : ℕ) → p ≤ whole → p * x ≤ 1320000198000000000
   product-small p hp = mul-le-mul hp few
 
   pub up-small : branch-up b * x ≤ 1320000198000000000
@@ -55,7 +64,7 @@ module _ (b : RowBranch) (x : ℕ) (total : branch-total b ≤ 600000000) (few :
   pub down-small : branch-down b * x ≤ 1320000198000000000
   down-small = product-small (branch-down b) (omega arith)
 
-  module _ (l : List ℕ) (inside : b .low + 2 < length l) (small : (j : ℕ) → j < length l → values l j ≤ 1400000000000000000) where
+  module _ (l : List ℕ) (inside : b .low + 2 < length l) (small : (j : ℕ) → j < length l → values l j ≤ most-incoming) where
     pub up-fits : (b .low + 2 < length l) × (values l (b .low + 2) + branch-up b * x < 18446744073709551616)
     up-fits = (inside, omega (arith, up-small, small (b .low + 2) inside))
 
@@ -86,8 +95,8 @@ module _ (b : RowBranch) (x : ℕ) (total : branch-total b ≤ 600000000) (few :
             )
 
 -- the next row after k nodes stays small, and takes in one node more
-module _ (t : Transition) (n m : ℕ) (c : ℕ → ℕ) (inside : Inside t n m) (total : Total t n) (hs : sum n c ≤ 2200000330) where
-  pub incoming-small : (k j : ℕ) → k ≤ n → j < m → incoming t k c j ≤ 1400000000000000000
+module _ (t : Transition) (n m : ℕ) (c : ℕ → ℕ) (inside : Inside t n m) (total : Total t n) (hs : sum n c ≤ most-carried) where
+  pub incoming-small : (k j : ℕ) → k ≤ n → j < m → incoming t k c j ≤ most-incoming
   incoming-small k j h i =
       omega (
         arith,
@@ -96,7 +105,7 @@ module _ (t : Transition) (n m : ℕ) (c : ℕ → ℕ) (inside : Inside t n m) 
         sum-grow n k c h,
       )
 
-  pub row-small : (k : ℕ) (l : List ℕ) → k ≤ n → l ≡ row m (incoming t k c) → (j : ℕ) → j < length l → values l j ≤ 1400000000000000000
+  pub row-small : (k : ℕ) (l : List ℕ) → k ≤ n → l ≡ row m (incoming t k c) → (j : ℕ) → j < length l → values l j ≤ most-incoming
   row-small k l h e j i =
       let w : length l ≡ m = ap length e ∙ length-row m _ in
       let i′ : j < m = omega arith in
@@ -114,15 +123,15 @@ spread-once downs k x l l′ b e e′ =
     (backwards _ _ _ ∙ chance-times (row-transition downs (length l)) k j x)))
 
 -- A row's nodes, one after the other: discounts v so far accepted, state prices q of at most 2,000,000,300 in sum.
-module _ (t : Transition) (n m : ℕ) (q v : ℕ → ℕ) (inside : Inside t n m) (total : Total t n) (hs : sum n q ≤ 2000000300)
+module _ (t : Transition) (n m : ℕ) (q v : ℕ → ℕ) (inside : Inside t n m) (total : Total t n) (hs : sum n q ≤ most-row-sum)
     (k : ℕ) (hk : k < n) (good : each k (λ i. is-discount (v i)) ≡ true) where
-  accepted-most : (i : ℕ) → i < k → v i ≤ 1100000000
+  accepted-most : (i : ℕ) → i < k → v i ≤ most-discount
   accepted-most i h = discount-most (v i) (each-holds k i (λ i. is-discount (v i)) good h)
 
-  carried-so-far : sum k (carried q v) ≤ 2200000330
+  carried-so-far : sum k (carried q v) ≤ most-carried
   carried-so-far = carried-sum k q v (omega (arith, sum-grow n k q (omega arith))) accepted-most
 
-  pub sums-small : (l : List ℕ) → l ≡ row m (incoming t k (carried q v)) → (j : ℕ) → j < length l → values l j ≤ 1400000000000000000
+  pub sums-small : (l : List ℕ) → l ≡ row m (incoming t k (carried q v)) → (j : ℕ) → j < length l → values l j ≤ most-incoming
   sums-small l e =
       row-small t k m (carried q v) (λ i h. inside i (omega arith)) (λ i h. total i (omega arith)) carried-so-far k l (le-refl k) e
 
@@ -130,9 +139,9 @@ module _ (t : Transition) (n m : ℕ) (q v : ℕ → ℕ) (inside : Inside t n m
     pub product-most : q k * v k ≤ 2200000330000000000
     product-most =
         let price = sum-term n k q hk in
-        mul-le-mul {n₁ = q k} {m₁ = v k} {n₂ = 2000000300} {m₂ = 1100000000} (omega arith) (discount-most (v k) this)
+        mul-le-mul {n₁ = q k} {m₁ = v k} {n₂ = most-row-sum} {m₂ = most-discount} (omega arith) (discount-most (v k) this)
 
-    pub amount-most : q k * v k / one ≤ 2200000330
+    pub amount-most : q k * v k / one ≤ most-carried
     amount-most = omega (arith, product-most)
 
     pub sums-next : (l l′ : List ℕ) (a : ℕ) → a ≡ carried q v k → l ≡ row m (incoming t k (carried q v)) →
@@ -150,7 +159,7 @@ module _ (t : Transition) (n m : ℕ) (q v : ℕ → ℕ) (inside : Inside t n m
 
 -- what a branch asks of the next row
 pub node-asks : (downs : List ℕ) (next n k : ℕ) → Inside (row-transition downs next) n next → Total (row-transition downs next) n → k < n →
-    (row-branch downs next k .low + 2 < next) × (branch-total (row-branch downs next k) ≤ 600000000)
+    (row-branch downs next k .low + 2 < next) × (branch-total (row-branch downs next k) ≤ whole)
 unfolding row-transition
 node-asks downs next n k inside total h = (inside k h, omega (arith, total k h))
 

@@ -44,14 +44,14 @@ mul-discount c = search needs
 shared-slice-read-discount : tie.Need-shared-slice-read-discount Inv-loop μ-loop
 shared-slice-read-discount c =
     let s = start (c .before) in
-    laws.factor-there _ _ _ _ _ _ _ (s .pre .0) _ _ _ (c .before .before .loop .inv) (omega arith)
+    laws.factor-there (s .pre .0) (c .before .before .loop .inv) (omega arith)
 
 mul-discount-2 : tie.Need-mul-discount-2 Inv-loop μ-loop
 mul-discount-2 c =
     let s = start (c .before) in
     omega (
       arith,
-      laws.quoted-fits _ _ _ _ _ _ _ (s .pre .0) _ _ _ (c .before .before .loop .inv) (omega arith),
+      laws.quoted-fits (s .pre .0) (c .before .before .loop .inv) (omega arith),
     )
 
 div-discount : tie.Need-div-discount Inv-loop μ-loop
@@ -66,12 +66,12 @@ same-length c = c .before .before .before .before .loop .inv .filled .same
 same-length-2 : tie.Need-same-length-2 Inv-loop μ-loop
 same-length-2 c =
     let s = start (c .before .before .before) in
-    laws.sums-length _ _ _ _ _ _ _ (s .pre .0) _ _ _ (c .before .before .before .before .loop .inv)
+    laws.sums-length (s .pre .0) (c .before .before .before .before .loop .inv)
 
 returns : tie.Need-returns Inv-loop μ-loop
 returns c =
     let s = start (c .before .before .before) in (
-      laws.stepping-fails _ _ _ _ _ _ _ (s .pre .0) _ _ _ (c .before .before .before .before .loop .inv) (omega arith)
+      laws.stepping-fails (s .pre .0) (c .before .before .before .before .loop .inv) (omega arith)
           (sym (c .before .is-discount .ensures) ∙ not-true _ (c .if1 .taken)),
       (λ e. never e, λ e. never e),
     )
@@ -84,7 +84,7 @@ slice-write-discounts c =
     let s = start (c .before .before .before) in
     omega (
       arith,
-      laws.discounts-length _ _ _ _ _ _ _ (s .pre .0) _ _ _ (c .before .before .before .before .loop .inv),
+      laws.discounts-length (s .pre .0) (c .before .before .before .before .loop .inv),
     )
 
 mul-spread-node : tie.Need-mul-spread-node Inv-loop μ-loop
@@ -98,13 +98,13 @@ mul-spread-node-2 c =
     let s = start (c .before .before .before .before) in
     omega (
       arith,
-      laws.product-fits _ _ _ _ _ _ _ (s .pre .0) _ _ _ (c .before .before .before .before .before .loop .inv) (omega arith) (accepted (c .before)),
+      laws.product-fits (s .pre .0) (c .before .before .before .before .before .loop .inv) (omega arith) (accepted (c .before)),
     )
 
 spread-node-requires : tie.Need-spread-node-requires Inv-loop μ-loop
 spread-node-requires c κs =
     let s = start (c .before .before .before .before .before) in
-    laws.spread-asks _ _ _ _ _ _ _ (s .pre .0) _ _ _ (c .before .before .before .before .before .before .loop .inv) (omega arith) (accepted (c .before .before))
+    laws.spread-asks (s .pre .0) (c .before .before .before .before .before .before .loop .inv) (omega arith) (accepted (c .before .before))
 
 add-k : tie.Need-add-k Inv-loop μ-loop
 add-k c = search needs
@@ -116,7 +116,7 @@ loop-again : tie.Need-loop-again Inv-loop μ-loop
 loop-again c =
     let place = c .before .before .before .before .before in
     let s = start (looped place) in
-    laws.stepping-next _ _ _ _ _ _ _ (s .pre .0) _ _ _ (looped place .before .loop .inv) (omega arith) (accepted place)
+    laws.stepping-next (s .pre .0) (looped place .before .loop .inv) (omega arith) (accepted place)
     _ (c .before .before .spread-node .ensures)
 
 same-length-3 : tie.Need-same-length-3 Inv-loop μ-loop
@@ -125,17 +125,17 @@ same-length-3 c = c .before .loop .inv .filled .same
 same-length-4 : tie.Need-same-length-4 Inv-loop μ-loop
 same-length-4 c =
     let s = c .before .before .before .before .before .before .before in
-    laws.sums-length _ _ _ _ _ _ _ (s .pre .0) _ _ _ (c .before .loop .inv)
+    laws.sums-length (s .pre .0) (c .before .loop .inv)
 
 returns-2 : tie.Need-returns-2 Inv-loop μ-loop
 returns-2 c =
     let s = c .before .before .before .before .before .before .before in
     let g = c .before .loop .inv in
     let e : c .before .loop .k ≡ length (s .args .prices .now) = omega (arith, g .within) in (
-      laws.stepping-good _ _ _ _ _ _ _ (s .pre .0) _ _ _ g e,
+      laws.stepping-good (s .pre .0) g e,
       (
-        λ _. laws.stepping-filled _ _ _ _ _ _ _ (s .pre .0) _ _ _ g e,
-        λ _. laws.stepping-spread _ _ _ _ _ _ _ (s .pre .0) _ _ _ g e,
+        λ _. laws.stepping-filled (s .pre .0) g e,
+        λ _. laws.stepping-spread (s .pre .0) g e,
       ),
     )
 
