@@ -77,20 +77,19 @@ module _ (f n b s converted ds ps : ℕ) (z : early-cause converted f n b s ds p
   spacing-found : spacings.Accepted f s (spacing-answer f s)
   spacing-found = spacings.spacing-zero f s (rights .0)
 
--- what code holds once causes 2 to 7 were tested: the tree's answer, the spacing's, and the lowest cause
-pub record Tested (f n b s converted ds ps : ℕ) (tree spaced : Answer) (early : ℕ) : Type 0 where
-  pub tree-is : tree ≡ discountsNeeded n b
+-- what code holds once causes 2 to 7 were tested: the spacing's answer, and the lowest cause
+pub record Tested (f n b s converted ds ps : ℕ) (spaced : Answer) (early : ℕ) : Type 0 where
   pub spaced-is : spaced ≡ spacing-answer f s
   pub early-is : early ≡ early-cause converted f n b s ds ps
 
 pub tested : {f n b s converted ds ps : ℕ} {tree spaced : Answer} {memory left right early : ℕ} →
     tree ≡ discountsNeeded n b → spaced ≡ spacing-answer f s → memory ≡ memory-cause n b ds ps →
     left ≡ lowest-cause converted (tree .number) → right ≡ lowest-cause (spaced .number) memory → early ≡ lowest-cause left right →
-    Tested f n b s converted ds ps tree spaced early
+    Tested f n b s converted ds ps spaced early
 unfolding early-cause
-tested et es em el er ee = record { tree-is = et; spaced-is = es; early-is = ee ∙ rw (el, er, et, es, em) }
+tested et es em el er ee = record { spaced-is = es; early-is = ee ∙ rw (el, er, et, es, em) }
 
-module _ {f n b s converted ds ps : ℕ} {tree spaced : Answer} {early : ℕ} (t : Tested f n b s converted ds ps tree spaced early) where
+module _ {f n b s converted ds ps : ℕ} {spaced : Answer} {early : ℕ} (t : Tested f n b s converted ds ps spaced early) where
   pub plan-early : (early ≡ 0 → ⊥) → Planned f n b s converted ds ps (record { number = early; spacing = 0; widest = 0 })
   plan-early ne =
       record {

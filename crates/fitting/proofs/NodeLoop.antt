@@ -1,23 +1,21 @@
 -- The loop over a row's nodes: what holds after k of them, what the next one asks, and what all of them leave.
 -- Assumes nothing.
 use mathlib.Core.Path.{_≡_, refl, sym, _∙_, ap}
-use mathlib.Core.Bool.{Bool, true, false}
+use mathlib.Core.Bool.{true, false}
 use mathlib.Core.List.{List}
 use Prim.Native.Nat.{ℕ, _+_, _*_, _/_, _≤_, _<_}
 use native.Mathlib.Omega.{arith}
 use lib.ListN.{length, set}
 use Rattle.arithmetic.specs.Rounding.{one}
-use Rattle.arithmetic.specs.Sum.{sum}
 use Rattle.arithmetic.specs.Row.{row, values, each}
 use Rattle.arithmetic.proofs.RowLaws.{Filled, filled-start, filled-next, filled-all, row-cong, length-row, each-none, each-more, each-fails}
 use Rattle.limits.specs.Limits.{is-discount}
-use Rattle.tree.specs.Tree.{chance, incoming, whole}
+use Rattle.tree.specs.Tree.{chance, incoming}
 use Rattle.tree.proofs.StepLaws.{incoming-none}
-use Rattle.row_branches.specs.RowBranches.{branch-total, row-branch, row-transition}
+use Rattle.row_branches.specs.RowBranches.{row-branch, row-transition}
 use Rattle.fit_laws.specs.Step.{carried}
-use Rattle.fitting.specs.Bounds.{most-carried, most-incoming}
-use Rattle.fitting.specs.Preconditions.{StepReady}
-use Rattle.fitting.proofs.StepRows.{quoted-small, node-asks, sums-small, product-most, amount-most, sums-next, never}
+use Rattle.fitting.specs.Preconditions.{StepReady, SpreadReady}
+use Rattle.fitting.proofs.StepRows.{quoted-small, node-asks, sums-small, product-most, amount-most, sums-next}
 
 -- quote × factor / Z
 abbrev pub ratio : ℕ → List ℕ → ℕ → ℕ → ℕ
@@ -68,20 +66,19 @@ module _ {quote z : ℕ} {prices factors downs d₀ s₀ : List ℕ} (ready : St
           product-most (row-transition downs (length s₀)) (length prices) (length s₀) (values prices) (ratio quote factors z)
           (ready .branches-inside) (ready .branches-total) (ready .row-sum-most) k hk (g .good) this
 
-      pub spread-asks :
-          (row-branch downs (length s) k .low + 2 < length s)
-          × (branch-total (row-branch downs (length s) k) ≤ whole)
-          × (values prices k * ratio quote factors z k / one ≤ most-carried)
-          × ((j : ℕ) → j < length s → values s j ≤ most-incoming)
+      pub spread-asks : SpreadReady (row-branch downs (length s) k) (values prices k * ratio quote factors z k / one) s
       spread-asks =
-          let asks = node-asks downs (length s₀) (length prices) k (ready .branches-inside) (ready .branches-total) hk in (
-            rw sums-length (asks .0),
-            rw sums-length (asks .1),
-            amount-most (row-transition downs (length s₀)) (length prices) (length s₀) (values prices) (ratio quote factors z)
-                (ready .branches-inside) (ready .branches-total) (ready .row-sum-most) k hk (g .good) this,
-            sums-small (row-transition downs (length s₀)) (length prices) (length s₀) (values prices) (ratio quote factors z)
-                (ready .branches-inside) (ready .branches-total) (ready .row-sum-most) k hk (g .good) s (g .spread),
-          )
+          let asks = node-asks downs (length s₀) (length prices) k (ready .branches-inside) (ready .branches-total) hk in
+          record {
+            branch-inside = rw sums-length (asks .0);
+            branch-most = rw sums-length (asks .1);
+            amount-most =
+                amount-most (row-transition downs (length s₀)) (length prices) (length s₀) (values prices) (ratio quote factors z)
+                (ready .branches-inside) (ready .branches-total) (ready .row-sum-most) k hk (g .good) this;
+            sums-most =
+                sums-small (row-transition downs (length s₀)) (length prices) (length s₀) (values prices) (ratio quote factors z)
+                (ready .branches-inside) (ready .branches-total) (ready .row-sum-most) k hk (g .good) s (g .spread);
+          }
 
       pub stepping-next : (s′ : List ℕ) →
           s′ ≡ row (length s) (λ j. values s j + chance (row-transition downs (length s)) k j * (values prices k * ratio quote factors z k / one)) →

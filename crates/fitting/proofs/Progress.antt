@@ -1,9 +1,9 @@
 -- The fit over all rows: what holds after i rows, what a row's step asks, and what it leaves.
 -- Assumes nothing.
 use mathlib.Core.Path.{_≡_, refl, sym, _∙_, ap}
-use mathlib.Core.Bool.{Bool, true, false, cond}
-use mathlib.Core.List.{List, [], _∷_, _++_}
-use Prim.Native.Nat.{ℕ, zero, suc, _+_, _-_, _*_, _≤_, _<_}
+use mathlib.Core.Bool.{Bool, true, false}
+use mathlib.Core.List.{List, _∷_, _++_}
+use Prim.Native.Nat.{ℕ, suc, _+_, _-_, _*_, _≤_, _<_}
 use native.Mathlib.Nat.{le-refl, add-sub-of-le}
 use native.Mathlib.Numerals.{add-one}
 use native.Mathlib.Omega.{arith}
@@ -14,10 +14,10 @@ use Rattle.arithmetic.specs.Sum.{sum}
 use Rattle.arithmetic.specs.Row.{row, values, place, each}
 use Rattle.arithmetic.proofs.SumLaws.{sum-cong}
 use Rattle.arithmetic.proofs.RowLaws.{row-cong, values-row, each-none, each-more, each-fails, each-cong}
-use Rattle.tree.specs.Tree.{Tree, Sound}
+use Rattle.tree.specs.Tree.{Sound}
 use Rattle.tree.specs.Layout.{start, laid}
-use Rattle.tree.proofs.LayoutLaws.{start-suc, start-grow, length-laid, laid-row, laid-next, laid-past, laid-length}
-use Rattle.lattice.specs.Shape.{half-width, node-count, row-start}
+use Rattle.tree.proofs.LayoutLaws.{start-suc, start-grow, laid-row, laid-next, laid-past, laid-length}
+use Rattle.lattice.specs.Shape.{node-count, row-start}
 use Rattle.lattice.specs.RateTree.{rate-tree}
 use Rattle.lattice.proofs.Sizes.{half-within, count-positive, row-ends}
 use Rattle.lattice.proofs.Sizes as sizes
@@ -54,7 +54,7 @@ nodes-are : (b i : ℕ) → rate-tree b .nodes i ≡ node-count b i
 unfolding rate-tree
 nodes-are b i = refl
 
-pub start-positive : (b n : ℕ) → 0 < row-start b (suc n)
+start-positive : (b n : ℕ) → 0 < row-start b (suc n)
 start-positive b n = omega (arith, start-suc (rate-tree b) n, start-is b (suc n), nodes-are b n, count-positive b n)
 
 -- a memory that starts with one

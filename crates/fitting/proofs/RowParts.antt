@@ -3,7 +3,7 @@
 use mathlib.Core.Path.{_≡_, refl, sym, _∙_, ap}
 use mathlib.Core.Bool.{Bool, true, false}
 use mathlib.Core.List.{List, _++_}
-use Prim.Native.Nat.{ℕ, _+_, _-_, _/_, _≤_, _<_}
+use Prim.Native.Nat.{ℕ, _+_, _-_, _/_, _≤_}
 use native.Mathlib.Nat.{add-sub-cancel-left}
 use native.Mathlib.Omega.{arith}
 use lib.ListN.{length, take, drop}
@@ -14,7 +14,7 @@ use Rattle.arithmetic.proofs.RowLaws.{row-cong, values-row, length-row}
 use Rattle.tree.specs.Tree.{incoming, whole}
 use Rattle.row_branches.specs.RowBranches.{row-transition}
 use Rattle.limits.specs.Limits.{is-discount}
-use Rattle.fit_laws.specs.Step.{discount, carried, next-price}
+use Rattle.fit_laws.specs.Step.{carried, next-price}
 use Rattle.fitting.specs.Rows.{RowStepped, RowFitted, row-prices, row-discounts}
 use Rattle.fitting.specs.Preconditions.{StepReady, RowReady}
 use Rattle.fitting.proofs.StepRows.{never}

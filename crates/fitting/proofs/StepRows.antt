@@ -1,9 +1,9 @@
 -- The loops of one step: what each holds after k nodes, and that it stays small.
 -- Assumes nothing.
-use mathlib.Core.Path.{_≡_, refl, sym, _∙_, ap}
+use mathlib.Core.Path.{_≡_, sym, _∙_, ap}
 use mathlib.Core.Bool.{Bool, true, false, cond}
 use mathlib.Core.List.{List}
-use Prim.Native.Nat.{ℕ, zero, suc, _+_, _*_, _/_, _≤_, _<_}
+use Prim.Native.Nat.{ℕ, _+_, _*_, _/_, _≤_, _<_}
 use native.Mathlib.Nat.{mul-le-mul, le-refl}
 use native.Mathlib.Omega.{arith}
 use lib.ListN.{length}
@@ -13,7 +13,7 @@ use Rattle.arithmetic.specs.Row.{row, values, each}
 use Rattle.arithmetic.proofs.SumLaws.{sum-next, sum-grow, sum-weigh-le, sum-term, only-most}
 use Rattle.arithmetic.proofs.RowLaws.{row-cong, values-row, length-row, each-holds, added-length, added-value}
 use Rattle.tree.specs.Tree.{Transition, Inside, Total, chance, incoming, whole}
-use Rattle.tree.proofs.StepLaws.{incoming-next, incoming-none, incoming-total, chance-times}
+use Rattle.tree.proofs.StepLaws.{incoming-next, incoming-total, chance-times}
 use Rattle.row_branches.specs.declared.RowBranch.{RowBranch}
 use Rattle.row_branches.specs.RowBranches.{branch-up, branch-middle, branch-down, branch-total, row-branch, row-transition}
 use Rattle.row_branches.proofs.BranchLaws.{backwards}
@@ -21,7 +21,7 @@ use Rattle.limits.specs.Limits.{most-discount, is-discount}
 use Rattle.limits.proofs.LimitLaws.{discount-most}
 use Rattle.fit_laws.specs.Step.{carried}
 use Rattle.fit_laws.proofs.StepLaws.{carried-le}
-use Rattle.fitting.specs.Preconditions.{Factors}
+use Rattle.fitting.specs.Preconditions.{Factors, SpreadReady}
 use Rattle.fitting.specs.Bounds.{most-quote, most-factor, most-row-sum, most-carried, most-incoming}
 
 -- the sum of state price × factor over the first k nodes, and one node more
@@ -47,56 +47,62 @@ quoted-small p x hp hx = mul-le-mul hp hx
 
 -- the carried amounts of state prices of at most 2,000,000,300 in sum, at discounts of at most 1.1
 module _ (n : ℕ) (q v : ℕ → ℕ) (hs : sum n q ≤ most-row-sum) (hv : (k : ℕ) → k < n → v k ≤ most-discount) where
-  pub carried-sum : sum n (carried q v) ≤ most-carried
+  carried-sum : sum n (carried q v) ≤ most-carried
   carried-sum = omega (arith, carried-le n q v, sum-weigh-le n most-discount q v hv)
 
 -- what a branch hands on: each product is small, and so is each sum after it is added, up, middle and down in turn
-module _ (b : RowBranch) (x : ℕ) (total : branch-total b ≤ whole) (few : x ≤ most-carried) where
+module _ {b : RowBranch} {x : ℕ} {l : List ℕ} (r : SpreadReady b x l) where
   product-small : (p : ℕ) → p ≤ whole → p * x ≤ 1320000198000000000
-  product-small p hp = mul-le-mul hp few
+  product-small p hp = mul-le-mul hp (r .amount-most)
 
   pub up-small : branch-up b * x ≤ 1320000198000000000
-  up-small = product-small (branch-up b) (omega arith)
+  up-small = product-small (branch-up b) (omega (arith, r .branch-most))
 
   pub middle-small : branch-middle b * x ≤ 1320000198000000000
-  middle-small = product-small (branch-middle b) (omega arith)
+  middle-small = product-small (branch-middle b) (omega (arith, r .branch-most))
 
   pub down-small : branch-down b * x ≤ 1320000198000000000
-  down-small = product-small (branch-down b) (omega arith)
+  down-small = product-small (branch-down b) (omega (arith, r .branch-most))
 
-  module _ (l : List ℕ) (inside : b .low + 2 < length l) (small : (j : ℕ) → j < length l → values l j ≤ most-incoming) where
-    pub up-fits : (b .low + 2 < length l) × (values l (b .low + 2) + branch-up b * x < 18446744073709551616)
-    up-fits = (inside, omega (arith, up-small, small (b .low + 2) inside))
+  pub up-fits : (b .low + 2 < length l) × (values l (b .low + 2) + branch-up b * x < 18446744073709551616)
+  up-fits = (r .branch-inside, omega (arith, up-small, r .sums-most (b .low + 2) (r .branch-inside)))
 
-    module _ (l₁ : List ℕ) (e₁ : l₁ ≡ row (length l) (λ j. values l j + only (b .low + 2) j (branch-up b * x))) where
-      length₁ : length l₁ ≡ length l
-      length₁ = added-length l l₁ (b .low + 2) (branch-up b * x) e₁
+  module _ {l₁ : List ℕ} (e₁ : l₁ ≡ row (length l) (λ j. values l j + only (b .low + 2) j (branch-up b * x))) where
+    length₁ : length l₁ ≡ length l
+    length₁ = added-length l l₁ (b .low + 2) (branch-up b * x) e₁
 
-      small₁ : (j : ℕ) → j < length l → values l₁ j ≤ 2720000198000000000
-      small₁ j h = omega (arith, added-value l l₁ (b .low + 2) (branch-up b * x) e₁ j h, only-most (b .low + 2) j (branch-up b * x), up-small, small j h)
+    small₁ : (j : ℕ) → j < length l → values l₁ j ≤ 2720000198000000000
+    small₁ j h =
+        omega (
+          arith,
+          added-value l l₁ (b .low + 2) (branch-up b * x) e₁ j h,
+          only-most (b .low + 2) j (branch-up b * x),
+          up-small,
+          r .sums-most j h,
+        )
 
-      pub middle-fits : (b .low + 1 < length l₁) × (values l₁ (b .low + 1) + branch-middle b * x < 18446744073709551616)
-      middle-fits = (omega (arith, length₁), omega (arith, middle-small, small₁ (b .low + 1) (omega arith)))
+    pub middle-fits : (b .low + 1 < length l₁) × (values l₁ (b .low + 1) + branch-middle b * x < 18446744073709551616)
+    middle-fits = (omega (arith, length₁, r .branch-inside), omega (arith, middle-small, small₁ (b .low + 1) (omega (arith, r .branch-inside))))
 
-      module _ (l₂ : List ℕ) (e₂ : l₂ ≡ row (length l₁) (λ j. values l₁ j + only (b .low + 1) j (branch-middle b * x))) where
-        pub down-fits : (b .low < length l₂) × (values l₂ (b .low) + branch-down b * x < 18446744073709551616)
-        down-fits =
-            let n = added-length l₁ l₂ (b .low + 1) (branch-middle b * x) e₂ in
-            let h : b .low < length l₁ = omega (arith, length₁) in (
-              omega (arith, n, length₁),
-              omega (
-                arith,
-                added-value l₁ l₂ (b .low + 1) (branch-middle b * x) e₂ (b .low) h,
-                only-most (b .low + 1) (b .low) (branch-middle b * x),
-                middle-small,
-                down-small,
-                small₁ (b .low) (omega arith),
-              ),
-            )
+    module _ {l₂ : List ℕ} (e₂ : l₂ ≡ row (length l₁) (λ j. values l₁ j + only (b .low + 1) j (branch-middle b * x))) where
+      pub down-fits : (b .low < length l₂) × (values l₂ (b .low) + branch-down b * x < 18446744073709551616)
+      down-fits =
+          let n = added-length l₁ l₂ (b .low + 1) (branch-middle b * x) e₂ in
+          let h : b .low < length l₁ = omega (arith, length₁, r .branch-inside) in (
+            omega (arith, n, length₁, r .branch-inside),
+            omega (
+              arith,
+              added-value l₁ l₂ (b .low + 1) (branch-middle b * x) e₂ (b .low) h,
+              only-most (b .low + 1) (b .low) (branch-middle b * x),
+              middle-small,
+              down-small,
+              small₁ (b .low) (omega (arith, r .branch-inside)),
+            ),
+          )
 
 -- the next row after k nodes stays small, and takes in one node more
 module _ (t : Transition) (n m : ℕ) (c : ℕ → ℕ) (inside : Inside t n m) (total : Total t n) (hs : sum n c ≤ most-carried) where
-  pub incoming-small : (k j : ℕ) → k ≤ n → j < m → incoming t k c j ≤ most-incoming
+  incoming-small : (k j : ℕ) → k ≤ n → j < m → incoming t k c j ≤ most-incoming
   incoming-small k j h i =
       omega (
         arith,
@@ -105,7 +111,7 @@ module _ (t : Transition) (n m : ℕ) (c : ℕ → ℕ) (inside : Inside t n m) 
         sum-grow n k c h,
       )
 
-  pub row-small : (k : ℕ) (l : List ℕ) → k ≤ n → l ≡ row m (incoming t k c) → (j : ℕ) → j < length l → values l j ≤ most-incoming
+  row-small : (k : ℕ) (l : List ℕ) → k ≤ n → l ≡ row m (incoming t k c) → (j : ℕ) → j < length l → values l j ≤ most-incoming
   row-small k l h e j i =
       let w : length l ≡ m = ap length e ∙ length-row m _ in
       let i′ : j < m = omega arith in

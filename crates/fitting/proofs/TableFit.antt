@@ -1,19 +1,16 @@
 -- The tables of a tree, and the fit from them as the fit of the definitions.
 -- Assumes nothing.
-use mathlib.Core.Path.{_≡_, refl, sym, _∙_, ap}
+use mathlib.Core.Path.{_≡_, sym, _∙_, ap}
 use mathlib.Core.Bool.{Bool, true, false, cond}
-use mathlib.Core.List.{List, [], _∷_, _++_}
-use Prim.Native.Nat.{ℕ, zero, suc, _+_, _-_, _*_, _≤_, _<_}
-use native.Mathlib.Nat.{le-refl}
+use mathlib.Core.List.{List, _++_}
+use Prim.Native.Nat.{ℕ, suc, _+_, _-_, _*_, _≤_, _<_}
 use native.Mathlib.Omega.{arith}
 use lib.ListN.{length, drop}
 use lib.IntN.{ℤ, natAbs, subℕ}
-use Rattle.arithmetic.specs.Answers.{answered}
 use Rattle.arithmetic.specs.declared.Answer.{Answer}
 use Rattle.arithmetic.specs.Rounding.{one}
-use Rattle.arithmetic.specs.Row.{row, values, each}
+use Rattle.arithmetic.specs.Row.{row, values}
 use Rattle.arithmetic.proofs.RowLaws.{values-row, length-row, each-cong}
-use Rattle.tree.specs.Tree.{Tree}
 use Rattle.tree.specs.Layout.{laid}
 use Rattle.tree.proofs.LayoutLaws.{laid-cong}
 use Rattle.lattice.specs.Shape.{half-width, node-count, row-start, discounts-needed, state-prices-needed}
@@ -24,10 +21,10 @@ use Rattle.lattice.proofs.EntryLaws.{tree-found}
 use Rattle.lattice.proofs.Differences.{sub-is, sub-size}
 use Rattle.lattice.proofs.RateTreeLaws.{same-node}
 use Rattle.lattice.proofs.TableLaws.{table-fits}
-use Rattle.factor.specs.Factor.{factor, side-factor, side-answer}
+use Rattle.factor.specs.Factor.{factor, side-answer}
 use Rattle.factor.proofs.FactorLaws.{index-below, index-above, side-accepted, nearer-within, factor-bounds}
 use Rattle.limits.specs.Limits.{most-steps, is-discount}
-use Rattle.fit_laws.specs.StatePrices.{fitted-price, fitted-discount, accepted-row}
+use Rattle.fit_laws.specs.StatePrices.{accepted-row}
 use Rattle.fit_laws.proofs.WholeFit.{price-by, fitted-discount-by}
 use Rattle.fitting.specs.Bounds.{least-factor, most-factor}
 use Rattle.fitting.specs.Rows.{table-factor}

@@ -1,18 +1,18 @@
 -- A row of the tree, with its parts of the tables: what its step asks, and what it leaves, in the lattice's terms.
 -- Assumes nothing.
 use mathlib.Core.Path.{_≡_, refl, sym, _∙_, ap}
-use mathlib.Core.Bool.{Bool, true, false, cond}
+use mathlib.Core.Bool.{Bool, cond}
 use mathlib.Core.List.{List}
-use Prim.Native.Nat.{ℕ, zero, suc, _+_, _-_, _*_, _/_, _≤_, _<_}
+use Prim.Native.Nat.{ℕ, suc, _+_, _-_, _*_, _/_, _≤_, _<_}
 use native.Mathlib.Omega.{arith}
 use lib.ListN.{length, take, drop}
 use Rattle.arithmetic.specs.Rounding.{one}
-use Rattle.arithmetic.specs.Sum.{sum, only}
-use Rattle.arithmetic.specs.Row.{row, values, place, each}
+use Rattle.arithmetic.specs.Sum.{sum}
+use Rattle.arithmetic.specs.Row.{values, place}
 use Rattle.arithmetic.proofs.SumLaws.{sum-cong}
 use Rattle.arithmetic.proofs.PartLaws.{part-is}
 use Rattle.arithmetic.proofs.RowLaws.{row-cong, each-cong}
-use Rattle.tree.specs.Tree.{Transition, Tree, Inside, Total, chance, incoming, whole}
+use Rattle.tree.specs.Tree.{Transition, chance, incoming, whole}
 use Rattle.lattice.specs.Shape.{node-count, row-start}
 use Rattle.lattice.specs.RateTree.{rate-tree}
 use Rattle.lattice.specs.Entries.{table-offset, shape-of, rowShape}

@@ -7,13 +7,23 @@ use lib.ListN.{length}
 use Rattle.arithmetic.specs.Rounding.{one}
 use Rattle.arithmetic.specs.Sum.{sum}
 use Rattle.arithmetic.specs.Row.{values}
-use Rattle.tree.specs.Tree.{Inside, Total}
+use Rattle.tree.specs.Tree.{Inside, Total, whole}
 use Rattle.limits.specs.Limits.{most-steps, most-reversion, most-nodes}
 use Rattle.lattice.specs.Shape.{half-width, node-count, row-start}
 use Rattle.lattice.specs.Branching.{down}
 use Rattle.lattice.specs.RateTree.{node}
-use Rattle.row_branches.specs.RowBranches.{row-transition}
-use Rattle.fitting.specs.Bounds.{least-quote, most-quote, least-factor, most-factor, least-row-sum, most-row-sum}
+use Rattle.row_branches.specs.declared.RowBranch.{RowBranch}
+use Rattle.row_branches.specs.RowBranches.{branch-total, row-transition}
+use Rattle.fitting.specs.Bounds.{
+  least-quote,
+  most-quote,
+  least-factor,
+  most-factor,
+  least-row-sum,
+  most-row-sum,
+  most-carried,
+  most-incoming,
+}
 use Rattle.fitting.specs.Rows.{row-prices}
 
 -- the factors of a row of n nodes, within the bounds of the series
@@ -32,6 +42,13 @@ pub record StepReady (quote : ℕ) (prices factors downs : List ℕ) (discounts 
   pub row-sum-least : least-row-sum ≤ sum (length prices) (values prices)
   pub row-sum-most : sum (length prices) (values prices) ≤ most-row-sum
   pub quote-within-limit : quote ≤ most-quote
+
+-- a branch of a row, and the amount that it hands on to the sums of the next row
+pub record SpreadReady (branch : RowBranch) (amount : ℕ) (sums : List ℕ) : Type 0 where
+  pub branch-inside : branch .low + 2 < length sums
+  pub branch-most : branch-total branch ≤ whole
+  pub amount-most : amount ≤ most-carried
+  pub sums-most : (j : ℕ) → j < length sums → values sums j ≤ most-incoming
 
 -- a row that starts at a place of both memories, its part of the tables, the next row's node count and quote
 pub record RowReady (at next quote : ℕ) (factors downs discounts prices sums : List ℕ) : Type 0 where

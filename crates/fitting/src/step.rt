@@ -2,7 +2,7 @@
 use row_branches::RowBranch;
 ghost use mathlib.Core.Path.{_≡_};
 ghost use mathlib.Core.Bool.{true};
-ghost use Prim.Native.Nat.{ℕ, _+_, _*_, _/_, _≤_, _<_};
+ghost use Prim.Native.Nat.{_+_, _*_, _/_, _≤_, _<_};
 ghost use lib.ListN.{length};
 ghost use Rattle.arithmetic.specs.Sum.{sum, only};
 ghost use Rattle.arithmetic.specs.Row.{row, values, each};
@@ -11,15 +11,14 @@ ghost use Rattle.row_branches.specs.RowBranches.{
   branch-up,
   branch-middle,
   branch-down,
-  branch-total,
   row-branch,
   row-transition,
 };
-ghost use Rattle.limits.specs.Limits.{most-discount, is-discount};
+ghost use Rattle.limits.specs.Limits.{is-discount};
 ghost use Rattle.fit_laws.specs.Step.{normaliser, carried};
-ghost use Rattle.fitting.specs.Bounds.{most-row-sum, most-carried, most-incoming};
+ghost use Rattle.fitting.specs.Bounds.{most-row-sum};
 ghost use Rattle.fitting.specs.Rows.{RowStepped};
-ghost use Rattle.fitting.specs.Preconditions.{Factors, StepReady};
+ghost use Rattle.fitting.specs.Preconditions.{Factors, StepReady, SpreadReady};
 
 const ONE: u64 = 1_000_000_000;
 
@@ -56,8 +55,7 @@ fn add_at(next: &mut [u64], at: usize, amount: u64)
 
 // Adds an amount, times each probability, to the three nodes of a branch.
 fn scatter(next: &mut [u64], branch: RowBranch, amount: u64)
-    requires { ⌜ (branch .low + 2 < length (now next)) × (branch-total branch ≤ whole) × (amount ≤ most-carried)
-        × ((j : ℕ) → j < length (now next) → values (now next) j ≤ most-incoming) ⌝ }
+    requires { ⌜ SpreadReady branch amount (now next) ⌝ }
     ensures { λ _. ⌜ now (next .exit) ≡ row (length (now (next .entry))) (λ j. values (now (next .entry)) j
         + (only (branch .low + 2) j (branch-up branch * amount) + only (branch .low + 1) j (branch-middle branch * amount)
         + only (branch .low) j (branch-down branch * amount))) ⌝ }
@@ -71,9 +69,7 @@ fn scatter(next: &mut [u64], branch: RowBranch, amount: u64)
 
 // Adds what a node hands on to the sums of the next row.
 fn spread_node(downs: &[u64], index: usize, amount: u64, sums: &mut [u64])
-    requires { ⌜ (row-branch (now downs) (length (now sums)) index .low + 2 < length (now sums))
-        × (branch-total (row-branch (now downs) (length (now sums)) index) ≤ whole)
-        × (amount ≤ most-carried) × ((j : ℕ) → j < length (now sums) → values (now sums) j ≤ most-incoming) ⌝ }
+    requires { ⌜ SpreadReady (row-branch (now downs) (length (now sums)) index) amount (now sums) ⌝ }
     ensures { λ _. ⌜ now (sums .exit) ≡ row (length (now (sums .entry)))
         (λ j. values (now (sums .entry)) j + chance (row-transition (now (downs .entry)) (length (now (sums .entry)))) index j * amount) ⌝ }
 {

@@ -1,6 +1,6 @@
 -- `fitting::fit` meets its contract.
 -- Assumes nothing.
-use mathlib.Core.Path.{_≡_, refl, sym}
+use mathlib.Core.Path.{refl, sym}
 use native.Mathlib.Omega.{arith}
 use Rattle.fitting.proofs.FitEntry as laws
 use borrow.Author.Needs.{needs}

@@ -10,7 +10,7 @@ use Rattle.fitting.proofs.causes.plan_of.Tie as tie
 tested : (c : tie.After-lowest-cause3) →
     let s = c .before .before .before .before .before .before in
     laws.Tested (s .args .frequency) (s .args .steps) (s .args .reversion) (s .args .volatility) (s .args .converted) (s .args .discounts) (s .args .prices)
-    (c .before .before .before .before .before .discounts-needed .result) (c .before .before .before .before .spacing .result) (c .lowest-cause3 .result)
+    (c .before .before .before .before .spacing .result) (c .lowest-cause3 .result)
 tested c =
     let joined = c .before .before in
     let remembered = joined .before in

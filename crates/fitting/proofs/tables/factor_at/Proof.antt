@@ -1,7 +1,5 @@
 -- `fitting::tables/factor_at` meets its contract.
 -- Assumes nothing.
-use mathlib.Core.Path.{_≡_, refl, sym, ap, _∙_}
-use native.Mathlib.Omega.{arith}
 use Rattle.fitting.proofs.TableFit as laws
 use borrow.Author.Needs.{needs}
 use Rattle.fitting.proofs.tables.factor_at.Statement.{statement}

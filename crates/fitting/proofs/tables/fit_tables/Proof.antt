@@ -1,6 +1,6 @@
 -- `fitting::tables/fit_tables` meets its contract.
 -- Assumes nothing.
-use mathlib.Core.Path.{_≡_, _∙_}
+use mathlib.Core.Path.{_∙_}
 use native.Mathlib.Omega.{arith}
 use Rattle.fitting.proofs.TableFit as laws
 use borrow.Author.Needs.{needs}
