@@ -9,11 +9,12 @@ use lib.ListN.{length, set}
 use Rattle.arithmetic.specs.Rounding.{one}
 use Rattle.arithmetic.specs.Row.{row, values, each}
 use Rattle.arithmetic.proofs.RowLaws.{Filled, filled-start, filled-next, filled-all, row-cong, length-row, each-none, each-more, each-fails}
-use Rattle.limits.specs.Limits.{is-discount}
+use Rattle.limits.specs.Limits.{most-discount, is-discount}
 use Rattle.tree.specs.Tree.{chance, incoming}
 use Rattle.tree.proofs.StepLaws.{incoming-none}
 use Rattle.row_branches.specs.RowBranches.{row-branch, row-transition}
 use Rattle.fit_laws.specs.Step.{carried}
+use Rattle.fitting.specs.Bounds.{most-quote, most-factor, most-row-sum}
 use Rattle.fitting.specs.Preconditions.{StepReady, SpreadReady}
 use Rattle.fitting.proofs.StepRows.{quoted-small, node-asks, sums-small, product-most, amount-most, sums-next}
 
@@ -54,14 +55,14 @@ module _ {quote z : ℕ} {prices factors downs d₀ s₀ : List ℕ} (ready : St
     pub factor-there : k < length factors
     factor-there = omega (arith, ready .factors-bounded .length-is)
 
-    pub quoted-fits : quote * values factors k ≤ 5440000000000000000
+    pub quoted-fits : quote * values factors k ≤ most-quote * most-factor
     quoted-fits = quoted-small quote (values factors k) (ready .quote-within-limit) (ready .factors-bounded .at-most k hk)
 
     pub stepping-fails : is-discount (ratio quote factors z k) ≡ false → false ≡ each (length prices) (λ i. is-discount (ratio quote factors z i))
     stepping-fails e = sym (each-fails (length prices) k (λ i. is-discount (ratio quote factors z i)) hk e)
 
     module _ (this : is-discount (ratio quote factors z k) ≡ true) where
-      pub product-fits : values prices k * ratio quote factors z k ≤ 2200000330000000000
+      pub product-fits : values prices k * ratio quote factors z k ≤ most-row-sum * most-discount
       product-fits =
           product-most (row-transition downs (length s₀)) (length prices) (length s₀) (values prices) (ratio quote factors z)
           (ready .branches-inside) (ready .branches-total) (ready .row-sum-most) k hk (g .good) this

@@ -33,7 +33,7 @@ module _ (prices factors : List ℕ) (f : Factors factors (length prices)) (s : 
   pub weighed-next : total + values prices k * values factors k ≡ weighed prices factors (k + 1)
   weighed-next = rw e (sym (sum-next k (λ i. values prices i * values factors i)))
 
-  pub weighed-small : total + values prices k * values factors k ≤ 5440000816000000000
+  pub weighed-small : total + values prices k * values factors k ≤ most-row-sum * most-factor
   weighed-small =
       omega (
         arith,
@@ -42,7 +42,7 @@ module _ (prices factors : List ℕ) (f : Factors factors (length prices)) (s : 
         sum-weigh-le (length prices) most-factor (values prices) (values factors) (f .at-most),
       )
 
-pub quoted-small : (p x : ℕ) → p ≤ most-quote → x ≤ most-factor → p * x ≤ 5440000000000000000
+pub quoted-small : (p x : ℕ) → p ≤ most-quote → x ≤ most-factor → p * x ≤ most-quote * most-factor
 quoted-small p x hp hx = mul-le-mul hp hx
 
 -- the carried amounts of state prices of at most 2,000,000,300 in sum, at discounts of at most 1.1
@@ -52,16 +52,16 @@ module _ (n : ℕ) (q v : ℕ → ℕ) (hs : sum n q ≤ most-row-sum) (hv : (k 
 
 -- what a branch hands on: each product is small, and so is each sum after it is added, up, middle and down in turn
 module _ {b : RowBranch} {x : ℕ} {l : List ℕ} (r : SpreadReady b x l) where
-  product-small : (p : ℕ) → p ≤ whole → p * x ≤ 1320000198000000000
+  product-small : (p : ℕ) → p ≤ whole → p * x ≤ whole * most-carried
   product-small p hp = mul-le-mul hp (r .amount-most)
 
-  pub up-small : branch-up b * x ≤ 1320000198000000000
+  pub up-small : branch-up b * x ≤ whole * most-carried
   up-small = product-small (branch-up b) (omega (arith, r .branch-most))
 
-  pub middle-small : branch-middle b * x ≤ 1320000198000000000
+  pub middle-small : branch-middle b * x ≤ whole * most-carried
   middle-small = product-small (branch-middle b) (omega (arith, r .branch-most))
 
-  pub down-small : branch-down b * x ≤ 1320000198000000000
+  pub down-small : branch-down b * x ≤ whole * most-carried
   down-small = product-small (branch-down b) (omega (arith, r .branch-most))
 
   pub up-fits : (b .low + 2 < length l) × (values l (b .low + 2) + branch-up b * x < 18446744073709551616)
@@ -71,7 +71,7 @@ module _ {b : RowBranch} {x : ℕ} {l : List ℕ} (r : SpreadReady b x l) where
     length₁ : length l₁ ≡ length l
     length₁ = added-length l l₁ (b .low + 2) (branch-up b * x) e₁
 
-    small₁ : (j : ℕ) → j < length l → values l₁ j ≤ 2720000198000000000
+    small₁ : (j : ℕ) → j < length l → values l₁ j ≤ most-incoming + whole * most-carried
     small₁ j h =
         omega (
           arith,
@@ -142,7 +142,7 @@ module _ (t : Transition) (n m : ℕ) (q v : ℕ → ℕ) (inside : Inside t n m
       row-small t k m (carried q v) (λ i h. inside i (omega arith)) (λ i h. total i (omega arith)) carried-so-far k l (le-refl k) e
 
   module _ (this : is-discount (v k) ≡ true) where
-    pub product-most : q k * v k ≤ 2200000330000000000
+    pub product-most : q k * v k ≤ most-row-sum * most-discount
     product-most =
         let price = sum-term n k q hk in
         mul-le-mul {n₁ = q k} {m₁ = v k} {n₂ = most-row-sum} {m₂ = most-discount} (omega arith) (discount-most (v k) this)

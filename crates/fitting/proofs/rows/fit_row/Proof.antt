@@ -2,14 +2,23 @@
 -- Assumes nothing.
 use mathlib.Core.Path.{_≡_, sym}
 use mathlib.Core.Bool.{true}
+use lib.ListN.{length}
 use borrow.Author.Needs.{needs}
 use borrow.Author.Tests.{not-true, not-false}
 use Rattle.fitting.proofs.RowParts as laws
 use Rattle.fitting.proofs.rows.fit_row.Statement.{statement}
 use Rattle.fitting.proofs.rows.fit_row.Tie as tie
 
+abbrev lent : tie.After-step-row-arg3 → tie.Start
+lent c = c .before .before .before .before .before .before .before .before .before
+
 abbrev start : tie.After-step-row → tie.Start
-start c = c .before .before .before .before .before .before .before .before .before .before
+start c = lent (c .before)
+
+-- the row's discounts are as many as were lent
+long : (c : tie.After-step-row) → length (c .step-row .last .1 .1 .1 .1 .0)
+    ≡ length (laws.lent (start c .args .at .start) (length (start c .args .factors .now)) (start c .args .discounts .now))
+long c = c .step-row .kept .1 .1 .1 .1 .0
 
 abbrev stepped : tie.Else1 → tie.After-step-row
 stepped c = c .before .before .before .before .before
@@ -52,10 +61,10 @@ slice-relend-prefix-step-row : tie.Need-slice-relend-prefix-step-row
 slice-relend-prefix-step-row c = search needs
 
 slice-aggregate-step-row : tie.Need-slice-aggregate-step-row
-slice-aggregate-step-row c = sym (laws.front-length (c .before .before .before .before .before .before .before .before .before .pre))
+slice-aggregate-step-row c = sym (laws.front-length (lent c .pre))
 
 step-row-requires : tie.Need-step-row-requires
-step-row-requires c κs = laws.row-asks (c .before .before .before .before .before .before .before .before .before .pre)
+step-row-requires c κs = laws.row-asks (lent c .pre)
 
 same-length : tie.Need-same-length
 same-length c = search needs
@@ -69,7 +78,7 @@ same-length-3 c = search needs
 returns : tie.Need-returns
 returns c =
     let step = c .before .before .before .before .before in
-    laws.row-refused (start step .pre) (step .step-row .ensures) (step .step-row .kept .1 .1 .1 .1 .0) (not-true _ (c .if1 .taken))
+    laws.row-refused (start step .pre) (step .step-row .ensures) (long step) (not-true _ (c .if1 .taken))
 
 slice-reshare-prefix-divide : tie.Need-slice-reshare-prefix-divide
 slice-reshare-prefix-divide c = search needs
@@ -77,7 +86,7 @@ slice-reshare-prefix-divide c = search needs
 slice-aggregate-divide : tie.Need-slice-aggregate-divide
 slice-aggregate-divide c =
     let step = stepped (c .before) in
-    sym (laws.front-again (start step .pre) (step .step-row .ensures) (step .step-row .kept .1 .1 .1 .1 .0) (accepted (c .before)))
+    sym (laws.front-again (start step .pre) (step .step-row .ensures) (long step) (accepted (c .before)))
 
 mul-divide : tie.Need-mul-divide
 mul-divide c = search needs
@@ -94,7 +103,7 @@ part-divide-end c = search needs
 divide-requires : tie.Need-divide-requires
 divide-requires c κs =
     let step = stepped (c .before .before) in
-    laws.divide-asks (start step .pre) (step .step-row .ensures) (step .step-row .kept .1 .1 .1 .1 .0) (accepted (c .before .before))
+    laws.divide-asks (start step .pre) (step .step-row .ensures) (long step) (accepted (c .before .before))
 
 same-length-4 : tie.Need-same-length-4
 same-length-4 c = search needs
@@ -109,7 +118,7 @@ returns-2 : tie.Need-returns-2
 returns-2 c =
     let passed = c .before .before .before .before .before in
     let step = stepped passed in
-    laws.row-accepted (start step .pre) (step .step-row .ensures) (step .step-row .kept .1 .1 .1 .1 .0) (accepted passed)
+    laws.row-accepted (start step .pre) (step .step-row .ensures) (long step) (accepted passed)
     (c .before .before .divide .ensures)
 
 pub fit-row-spec : {M : Type 1} → statement M
