@@ -16,7 +16,7 @@ use Rattle.row_branches.specs.RowBranches.{row-branch, row-transition}
 use Rattle.fit_laws.specs.Step.{carried}
 use Rattle.fitting.specs.Bounds.{most-quote, most-factor, most-row-sum}
 use Rattle.fitting.specs.Preconditions.{StepReady, SpreadReady}
-use Rattle.fitting.proofs.StepRows.{quoted-small, node-asks, sums-small, product-most, amount-most, sums-next}
+use Rattle.fitting.proofs.StepRows.{AtNode, quoted-small, node-asks, sums-small, product-most, amount-most, sums-next}
 
 -- quote × factor / Z
 abbrev pub ratio : ℕ → List ℕ → ℕ → ℕ → ℕ
@@ -61,11 +61,19 @@ module _ {quote z : ℕ} {prices factors downs d₀ s₀ : List ℕ} (ready : St
     pub stepping-fails : is-discount (ratio quote factors z k) ≡ false → false ≡ each (length prices) (λ i. is-discount (ratio quote factors z i))
     stepping-fails e = sym (each-fails (length prices) k (λ i. is-discount (ratio quote factors z i)) hk e)
 
+    at-node : AtNode (row-transition downs (length s₀)) (length prices) (length s₀) (values prices) (ratio quote factors z) k
+    at-node =
+        record {
+          inside = ready .branches-inside;
+          total = ready .branches-total;
+          row-sum-most = ready .row-sum-most;
+          in-row = hk;
+          accepted = g .good;
+        }
+
     module _ (this : is-discount (ratio quote factors z k) ≡ true) where
       pub product-fits : values prices k * ratio quote factors z k ≤ most-row-sum * most-discount
-      product-fits =
-          product-most (row-transition downs (length s₀)) (length prices) (length s₀) (values prices) (ratio quote factors z)
-          (ready .branches-inside) (ready .branches-total) (ready .row-sum-most) k hk (g .good) this
+      product-fits = product-most at-node this
 
       pub spread-asks : SpreadReady (row-branch downs (length s) k) (values prices k * ratio quote factors z k / one) s
       spread-asks =
@@ -73,12 +81,8 @@ module _ {quote z : ℕ} {prices factors downs d₀ s₀ : List ℕ} (ready : St
           record {
             branch-inside = rw sums-length (asks .0);
             branch-most = rw sums-length (asks .1);
-            amount-most =
-                amount-most (row-transition downs (length s₀)) (length prices) (length s₀) (values prices) (ratio quote factors z)
-                (ready .branches-inside) (ready .branches-total) (ready .row-sum-most) k hk (g .good) this;
-            sums-most =
-                sums-small (row-transition downs (length s₀)) (length prices) (length s₀) (values prices) (ratio quote factors z)
-                (ready .branches-inside) (ready .branches-total) (ready .row-sum-most) k hk (g .good) s (g .spread);
+            amount-most = amount-most at-node this;
+            sums-most = sums-small at-node s (g .spread);
           }
 
       pub stepping-next : (s′ : List ℕ) →
@@ -90,9 +94,7 @@ module _ {quote z : ℕ} {prices factors downs d₀ s₀ : List ℕ} (ready : St
             within = omega arith;
             filled = filled-next d₀ d (ratio quote factors z) k (ratio quote factors z k) (g .filled) (omega (arith, discounts-length)) refl;
             spread =
-                sums-next (row-transition downs (length s₀)) (length prices) (length s₀) (values prices) (ratio quote factors z)
-                (ready .branches-inside) (ready .branches-total) (ready .row-sum-most) k hk (g .good) this
-                s s′ (values prices k * ratio quote factors z k / one) refl (g .spread)
+                sums-next at-node this s s′ (values prices k * ratio quote factors z k / one) refl (g .spread)
                 (e ∙ ap (λ (m : ℕ). row (length s) (λ j. values s j + chance (row-transition downs m) k j
                 * (values prices k * ratio quote factors z k / one))) sums-length);
             good = each-more k (λ i. is-discount (ratio quote factors z i)) (g .good) this;

@@ -128,39 +128,46 @@ spread-once downs k x l l′ b e e′ =
     e′ ∙ rw e (row-cong (length l) _ _ (λ j _. ap (λ (y : ℕ). values l j + y)
     (backwards _ _ _ ∙ chance-times (row-transition downs (length l)) k j x)))
 
--- A row's nodes, one after the other: discounts v so far accepted, state prices q of at most 2,000,000,300 in sum.
-module _ (t : Transition) (n m : ℕ) (q v : ℕ → ℕ) (inside : Inside t n m) (total : Total t n) (hs : sum n q ≤ most-row-sum)
-    (k : ℕ) (hk : k < n) (good : each k (λ i. is-discount (v i)) ≡ true) where
+-- node k of a row, whose discounts v before it are accepted: branches t into a next row of m nodes, state prices q
+pub record AtNode (t : Transition) (n m : ℕ) (q v : ℕ → ℕ) (k : ℕ) : Type 0 where
+  pub inside : Inside t n m
+  pub total : Total t n
+  pub row-sum-most : sum n q ≤ most-row-sum
+  pub in-row : k < n
+  pub accepted : each k (λ i. is-discount (v i)) ≡ true
+
+module _ {t : Transition} {n m : ℕ} {q v : ℕ → ℕ} {k : ℕ} (a : AtNode t n m q v k) where
   accepted-most : (i : ℕ) → i < k → v i ≤ most-discount
-  accepted-most i h = discount-most (v i) (each-holds k i (λ i. is-discount (v i)) good h)
+  accepted-most i h = discount-most (v i) (each-holds k i (λ i. is-discount (v i)) (a .accepted) h)
 
   carried-so-far : sum k (carried q v) ≤ most-carried
-  carried-so-far = carried-sum k q v (omega (arith, sum-grow n k q (omega arith))) accepted-most
+  carried-so-far = carried-sum k q v (omega (arith, a .row-sum-most, sum-grow n k q (omega (arith, a .in-row)))) accepted-most
 
   pub sums-small : (l : List ℕ) → l ≡ row m (incoming t k (carried q v)) → (j : ℕ) → j < length l → values l j ≤ most-incoming
   sums-small l e =
-      row-small t k m (carried q v) (λ i h. inside i (omega arith)) (λ i h. total i (omega arith)) carried-so-far k l (le-refl k) e
+      row-small t k m (carried q v) (λ i h. a .inside i (omega (arith, a .in-row))) (λ i h. a .total i (omega (arith, a .in-row)))
+      carried-so-far k l (le-refl k) e
 
   module _ (this : is-discount (v k) ≡ true) where
     pub product-most : q k * v k ≤ most-row-sum * most-discount
     product-most =
-        let price = sum-term n k q hk in
-        mul-le-mul {n₁ = q k} {m₁ = v k} {n₂ = most-row-sum} {m₂ = most-discount} (omega arith) (discount-most (v k) this)
+        let price = sum-term n k q (a .in-row) in
+        mul-le-mul {n₁ = q k} {m₁ = v k} {n₂ = most-row-sum} {m₂ = most-discount} (omega (arith, a .row-sum-most)) (discount-most (v k) this)
 
     pub amount-most : q k * v k / one ≤ most-carried
     amount-most = omega (arith, product-most)
 
-    pub sums-next : (l l′ : List ℕ) (a : ℕ) → a ≡ carried q v k → l ≡ row m (incoming t k (carried q v)) →
-        l′ ≡ row (length l) (λ j. values l j + chance t k j * a) → l′ ≡ row m (incoming t (k + 1) (carried q v))
-    sums-next l l′ a ea e e′ =
+    pub sums-next : (l l′ : List ℕ) (x : ℕ) → x ≡ carried q v k → l ≡ row m (incoming t k (carried q v)) →
+        l′ ≡ row (length l) (λ j. values l j + chance t k j * x) → l′ ≡ row m (incoming t (k + 1) (carried q v))
+    sums-next l l′ x ex e e′ =
         e′
-        ∙ (ap (λ (x : ℕ). row x (λ j. values l j + chance t k j * a)) (ap length e ∙ length-row m _)
+        ∙ (ap (λ (y : ℕ). row y (λ j. values l j + chance t k j * x)) (ap length e ∙ length-row m _)
         ∙ row-cong m _ _ (λ j h. one-more j h))
       where
-        one-more : (j : ℕ) → j < m → values l j + chance t k j * a ≡ incoming t (k + 1) (carried q v) j
+        one-more : (j : ℕ) → j < m → values l j + chance t k j * x ≡ incoming t (k + 1) (carried q v) j
         one-more j h =
-            ap (λ (y : ℕ). y + chance t k j * a) (ap (λ (x : List ℕ). values x j) e ∙ values-row m j _ h)
-            ∙ ap (λ (x : ℕ). incoming t k (carried q v) j + chance t k j * x) ea
+            ap (λ (y : ℕ). y + chance t k j * x) (ap (λ (y : List ℕ). values y j) e ∙ values-row m j _ h)
+            ∙ ap (λ (y : ℕ). incoming t k (carried q v) j + chance t k j * y) ex
             ∙ sym (incoming-next t k (carried q v) j)
 
 -- what a branch asks of the next row
