@@ -12,7 +12,7 @@ ghost use Rattle.lattice.specs.Entries.{
 ghost use Rattle.quotes.specs.Quotes.{loneAnswer};
 ghost use Rattle.curve.specs.Curve.{curveNumber, curveMemory};
 ghost use Rattle.step_rate.specs.StepRate.{rateAnswer};
-ghost use Rattle.fitting.specs.Entry.{fitNumber, fit-memory, fit-discounts, fit-prices};
+ghost use Rattle.fitting.specs.Entry.{fitNumber, discounts-after, prices-after};
 ghost use Rattle.row_view.specs.RowView.{range-by-number};
 ghost use Rattle.state_price_bound.specs.ErrorBound.{statePriceErrorBound};
 ghost use Rattle.pricing.specs.Prices.{bondPrice, optionPrice, bondAndOption};
@@ -108,13 +108,12 @@ pub extern "C" fn mixegorta_fit(
     discounts: &mut [u64],
     state_prices: &mut [u64],
 ) -> u64
-    ensures number { λ r. ⌜ r ≡ fitNumber frequency steps reversion volatility (now (rows .entry)) (now (kinds .entry)) (now (figures .entry)) (length (now (discounts .entry))) (length (now («state_prices» .entry))) ⌝ }
-    ensures discounted { λ _. ⌜ now (discounts .exit) ≡ fit-memory
-        (fitNumber frequency steps reversion volatility (now (rows .entry)) (now (kinds .entry)) (now (figures .entry)) (length (now (discounts .entry))) (length (now («state_prices» .entry))))
-        (fit-discounts frequency steps reversion volatility (now (kinds .entry)) (now (figures .entry))) (now (discounts .entry)) ⌝ }
-    ensures priced { λ _. ⌜ now («state_prices» .exit) ≡ fit-memory
-        (fitNumber frequency steps reversion volatility (now (rows .entry)) (now (kinds .entry)) (now (figures .entry)) (length (now (discounts .entry))) (length (now («state_prices» .entry))))
-        (fit-prices frequency steps reversion volatility (now (kinds .entry)) (now (figures .entry))) (now («state_prices» .entry)) ⌝ }
+    ensures number { λ r. ⌜ r ≡ fitNumber frequency steps reversion volatility (now (rows .entry)) (now (kinds .entry)) (now (figures .entry))
+        (length (now (discounts .entry))) (length (now («state_prices» .entry))) ⌝ }
+    ensures discounted { λ _. ⌜ now (discounts .exit) ≡ discounts-after frequency steps reversion volatility
+        (now (rows .entry)) (now (kinds .entry)) (now (figures .entry)) (now (discounts .entry)) (now («state_prices» .entry)) ⌝ }
+    ensures priced { λ _. ⌜ now («state_prices» .exit) ≡ prices-after frequency steps reversion volatility
+        (now (rows .entry)) (now (kinds .entry)) (now (figures .entry)) (now (discounts .entry)) (now («state_prices» .entry)) ⌝ }
 {
     fitting::fit(
         frequency,

@@ -1,22 +1,22 @@
 -- The loop over a row's nodes: what holds after k of them, what the next one asks, and what all of them leave.
 -- Assumes nothing.
 use mathlib.Core.Path.{_≡_, refl, sym, _∙_, ap}
-use mathlib.Core.Bool.{Bool, true, false}
+use mathlib.Core.Bool.{true, false}
 use mathlib.Core.List.{List}
 use Prim.Native.Nat.{ℕ, _+_, _*_, _/_, _≤_, _<_}
 use native.Mathlib.Omega.{arith}
 use lib.ListN.{length, set}
 use Rattle.arithmetic.specs.Rounding.{one}
-use Rattle.arithmetic.specs.Sum.{sum}
 use Rattle.arithmetic.specs.Row.{row, values, each}
 use Rattle.arithmetic.proofs.RowLaws.{Filled, filled-start, filled-next, filled-all, row-cong, length-row, each-none, each-more, each-fails}
-use Rattle.limits.specs.Limits.{is-discount}
+use Rattle.limits.specs.Limits.{most-discount, is-discount}
 use Rattle.tree.specs.Tree.{chance, incoming}
 use Rattle.tree.proofs.StepLaws.{incoming-none}
-use Rattle.row_branches.specs.RowBranches.{branch-total, row-branch, row-transition}
+use Rattle.row_branches.specs.RowBranches.{row-branch, row-transition}
 use Rattle.fit_laws.specs.Step.{carried}
-use Rattle.fitting.specs.Rows.{StepReady}
-use Rattle.fitting.proofs.StepRows.{quoted-small, node-asks, sums-small, product-most, amount-most, sums-next, never}
+use Rattle.fitting.specs.Bounds.{most-quote, most-factor, most-row-sum}
+use Rattle.fitting.specs.Preconditions.{StepReady, SpreadReady}
+use Rattle.fitting.proofs.StepRows.{AtNode, quoted-small, node-asks, sums-small, product-most, amount-most, sums-next}
 
 -- quote × factor / Z
 abbrev pub ratio : ℕ → List ℕ → ℕ → ℕ → ℕ
@@ -43,44 +43,47 @@ stepping-start quote z prices factors downs d₀ s₀ e =
       good = each-none _;
     }
 
-module _ (quote z : ℕ) (prices factors downs d₀ s₀ : List ℕ) (ready : StepReady quote prices factors downs (length d₀) (length s₀))
-    (d s : List ℕ) (k : ℕ) (g : Stepping quote z prices factors downs d₀ s₀ d s k) where
+module _ {quote z : ℕ} {prices factors downs d₀ s₀ : List ℕ} (ready : StepReady quote prices factors downs (length d₀) (length s₀))
+    {d s : List ℕ} {k : ℕ} (g : Stepping quote z prices factors downs d₀ s₀ d s k) where
   pub sums-length : length s ≡ length s₀
   sums-length = ap length (g .spread) ∙ length-row (length s₀) _
 
   pub discounts-length : length d ≡ length prices
-  discounts-length = g .filled .same ∙ ready .room
+  discounts-length = g .filled .same ∙ ready .discounts-length
 
   module _ (hk : k < length prices) where
     pub factor-there : k < length factors
-    factor-there = omega (arith, ready .bounded .same)
+    factor-there = omega (arith, ready .factors-bounded .length-is)
 
-    pub quoted-fits : quote * values factors k ≤ 5440000000000000000
-    quoted-fits = quoted-small quote (values factors k) (ready .quote-most) (ready .bounded .most k hk)
+    pub quoted-fits : quote * values factors k ≤ most-quote * most-factor
+    quoted-fits = quoted-small quote (values factors k) (ready .quote-within-limit) (ready .factors-bounded .at-most k hk)
 
     pub stepping-fails : is-discount (ratio quote factors z k) ≡ false → false ≡ each (length prices) (λ i. is-discount (ratio quote factors z i))
     stepping-fails e = sym (each-fails (length prices) k (λ i. is-discount (ratio quote factors z i)) hk e)
 
-    module _ (this : is-discount (ratio quote factors z k) ≡ true) where
-      pub product-fits : values prices k * ratio quote factors z k ≤ 2200000330000000000
-      product-fits =
-          product-most (row-transition downs (length s₀)) (length prices) (length s₀) (values prices) (ratio quote factors z)
-          (ready .inside) (ready .total) (ready .most) k hk (g .good) this
+    at-node : AtNode (row-transition downs (length s₀)) (length prices) (length s₀) (values prices) (ratio quote factors z) k
+    at-node =
+        record {
+          inside = ready .branches-inside;
+          total = ready .branches-total;
+          row-sum-most = ready .row-sum-most;
+          in-row = hk;
+          accepted = g .good;
+        }
 
-      pub spread-asks :
-          (row-branch downs (length s) k .low + 2 < length s)
-          × (branch-total (row-branch downs (length s) k) ≤ 600000000)
-          × (values prices k * ratio quote factors z k / one ≤ 2200000330)
-          × ((j : ℕ) → j < length s → values s j ≤ 1400000000000000000)
+    module _ (this : is-discount (ratio quote factors z k) ≡ true) where
+      pub product-fits : values prices k * ratio quote factors z k ≤ most-row-sum * most-discount
+      product-fits = product-most at-node this
+
+      pub spread-asks : SpreadReady (row-branch downs (length s) k) (values prices k * ratio quote factors z k / one) s
       spread-asks =
-          let asks = node-asks downs (length s₀) (length prices) k (ready .inside) (ready .total) hk in (
-            rw sums-length (asks .0),
-            rw sums-length (asks .1),
-            amount-most (row-transition downs (length s₀)) (length prices) (length s₀) (values prices) (ratio quote factors z)
-                (ready .inside) (ready .total) (ready .most) k hk (g .good) this,
-            sums-small (row-transition downs (length s₀)) (length prices) (length s₀) (values prices) (ratio quote factors z)
-                (ready .inside) (ready .total) (ready .most) k hk (g .good) s (g .spread),
-          )
+          let asks = node-asks downs (length s₀) (length prices) k (ready .branches-inside) (ready .branches-total) hk in
+          record {
+            branch-inside = rw sums-length (asks .0);
+            branch-most = rw sums-length (asks .1);
+            amount-most = amount-most at-node this;
+            sums-most = sums-small at-node s (g .spread);
+          }
 
       pub stepping-next : (s′ : List ℕ) →
           s′ ≡ row (length s) (λ j. values s j + chance (row-transition downs (length s)) k j * (values prices k * ratio quote factors z k / one)) →
@@ -91,8 +94,7 @@ module _ (quote z : ℕ) (prices factors downs d₀ s₀ : List ℕ) (ready : St
             within = omega arith;
             filled = filled-next d₀ d (ratio quote factors z) k (ratio quote factors z k) (g .filled) (omega (arith, discounts-length)) refl;
             spread =
-                sums-next (row-transition downs (length s₀)) (length prices) (length s₀) (values prices) (ratio quote factors z)
-                (ready .inside) (ready .total) (ready .most) k hk (g .good) this s s′ (values prices k * ratio quote factors z k / one) refl (g .spread)
+                sums-next at-node this s s′ (values prices k * ratio quote factors z k / one) refl (g .spread)
                 (e ∙ ap (λ (m : ℕ). row (length s) (λ j. values s j + chance (row-transition downs m) k j
                 * (values prices k * ratio quote factors z k / one))) sums-length);
             good = each-more k (λ i. is-discount (ratio quote factors z i)) (g .good) this;
@@ -104,8 +106,8 @@ module _ (quote z : ℕ) (prices factors downs d₀ s₀ : List ℕ) (ready : St
 
     pub stepping-filled : d ≡ row (length prices) (ratio quote factors z)
     stepping-filled =
-        filled-all d₀ d (ratio quote factors z) k (g .filled) (all ∙ sym (ready .room))
-        ∙ ap (λ (n : ℕ). row n (ratio quote factors z)) (ready .room)
+        filled-all d₀ d (ratio quote factors z) k (g .filled) (all ∙ sym (ready .discounts-length))
+        ∙ ap (λ (n : ℕ). row n (ratio quote factors z)) (ready .discounts-length)
 
     pub stepping-spread : s ≡ spread-sums quote factors z prices downs (length s₀) (length prices)
     stepping-spread = g .spread ∙ ap (spread-sums quote factors z prices downs (length s₀)) all

@@ -62,3 +62,12 @@ fit-discounts f n b s kinds figures = laid (rate-tree b) (fit-discount f n b s k
 
 abbrev pub fit-prices : ℕ → ℕ → ℕ → ℕ → List ℕ → List Float → List ℕ
 fit-prices f n b s kinds figures = laid (rate-tree b) (fit-price f n b s kinds figures) (suc n)
+
+-- both memories after a fit
+abbrev pub discounts-after : ℕ → ℕ → ℕ → ℕ → List ℕ → List ℕ → List Float → List ℕ → List ℕ → List ℕ
+discounts-after f n b s rows kinds figures discounts prices =
+    fit-memory (fitNumber f n b s rows kinds figures (length discounts) (length prices)) (fit-discounts f n b s kinds figures) discounts
+
+abbrev pub prices-after : ℕ → ℕ → ℕ → ℕ → List ℕ → List ℕ → List Float → List ℕ → List ℕ → List ℕ
+prices-after f n b s rows kinds figures discounts prices =
+    fit-memory (fitNumber f n b s rows kinds figures (length discounts) (length prices)) (fit-prices f n b s kinds figures) prices

@@ -1,14 +1,13 @@
 -- The fit of a tree from its converted quotes and its table of factors.
 -- Assumes nothing.
-use mathlib.Core.Bool.{Bool}
-use mathlib.Core.List.{List}
+use mathlib.Core.Bool.{Bool, cond}
+use mathlib.Core.List.{List, _++_}
 use mathlib.Core.Path.{_≡_}
-use Prim.Native.Nat.{ℕ, zero, suc, _-_, _*_, _≤_, _<_}
-use lib.ListN.{length}
-use Rattle.arithmetic.specs.Row.{values, each}
-use Rattle.arithmetic.specs.Rounding.{one}
-use Rattle.limits.specs.Limits.{most-steps, most-reversion}
-use Rattle.lattice.specs.Shape.{half-width, row-start}
+use Prim.Native.Nat.{ℕ, zero, suc}
+use lib.ListN.{length, drop}
+use Rattle.arithmetic.specs.Row.{row, values, each}
+use Rattle.tree.specs.Layout.{laid}
+use Rattle.lattice.specs.Shape.{row-start}
 use Rattle.lattice.specs.RateTree.{node, rate-tree}
 use Rattle.factor.specs.Factor.{factor}
 use Rattle.fit_laws.specs.StatePrices.{fitted-price, fitted-discount, accepted-row}
@@ -43,14 +42,17 @@ curve-price b h quotes = fitted-price (rate-tree b) (node-factor b h) (quoted qu
 unfoldable pub curve-accepted : ℕ → ℕ → List ℕ → Bool
 curve-accepted b h quotes = each (length quotes) (accepted-row (rate-tree b) (curve-discount b h quotes))
 
--- what the code asks once causes 2 to 8 were tested
-pub record Fittable (b h w : ℕ) (quotes : List ℕ) (discounts prices : ℕ) : Type 0 where
-  pub some : 0 < length quotes
-  pub few : length quotes ≤ most-steps
-  pub reverting : b ≤ most-reversion
-  pub widest : w ≡ half-width b (length quotes - 1)
-  pub narrow : w * h ≤ one
-  pub least : (i : ℕ) → i < length quotes → 100000000 ≤ values quotes i
-  pub most : (i : ℕ) → i < length quotes → values quotes i ≤ 2000000000
-  pub room-discounts : row-start b (length quotes) ≤ discounts
-  pub room-prices : row-start b (suc (length quotes)) ≤ prices
+-- a memory once a fit was tried: rows 0 to n − 1 at its start where every discount is accepted, zeros in their place where one is not
+abbrev pub rows-or-zeros : ℕ → ℕ → Bool → (ℕ → ℕ → ℕ) → List ℕ → List ℕ
+rows-or-zeros b n accepted value memory =
+    cond accepted (laid (rate-tree b) value n) (row (row-start b n) (λ j. 0)) ++ drop (row-start b n) memory
+
+-- both memories once a fit was tried
+pub record TreeFitted (b n : ℕ) (accepted : Bool) (discount price : ℕ → ℕ → ℕ) (discounts prices discounts′ prices′ : List ℕ) : Type 0 where
+  pub discounted : discounts′ ≡ rows-or-zeros b n accepted discount discounts
+  pub priced : prices′ ≡ rows-or-zeros b (suc n) accepted price prices
+
+-- nothing changed past the tree in either
+pub record PastKept (b n : ℕ) (discounts prices discounts′ prices′ : List ℕ) : Type 0 where
+  pub discounted : drop (row-start b n) discounts′ ≡ drop (row-start b n) discounts
+  pub priced : drop (row-start b (suc n)) prices′ ≡ drop (row-start b (suc n)) prices

@@ -13,10 +13,10 @@ use Rattle.fitting.specs.Entry.{early-cause}
 
 -- the numbers of an accepted tree
 pub record Numbers (f n b s converted discounts prices : ℕ) : Type 0 where
-  pub quotes : converted ≡ 0
-  pub some : 0 < n
-  pub few : n ≤ most-steps
-  pub reverting : b ≤ most-reversion
+  pub quotes-converted : converted ≡ 0
+  pub steps-positive : 0 < n
+  pub steps-within-limit : n ≤ most-steps
+  pub reversion-within-limit : b ≤ most-reversion
   pub room-discounts : row-start b n ≤ discounts
   pub room-prices : row-start b (suc n) ≤ prices
 
@@ -27,4 +27,4 @@ pub record Planned (f n b s converted discounts prices : ℕ) (p : Plan) : Type 
   pub numbers : p .number ≡ 0 → Numbers f n b s converted discounts prices
   pub spacing-is : p .number ≡ 0 → p .spacing ≡ spacing f s
   pub widest-is : p .number ≡ 0 → p .widest ≡ half-width b (n - 1)
-  pub narrow : p .number ≡ 0 → p .widest * p .spacing ≤ one
+  pub spacing-within-one : p .number ≡ 0 → p .widest * p .spacing ≤ one

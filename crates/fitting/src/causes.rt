@@ -1,9 +1,5 @@
 // The causes 2 to 8 of a fit.
 ghost use mathlib.Core.Path.{_≡_};
-ghost use mathlib.Core.Bool.{cond};
-ghost use Prim.Native.Nat.{ℕ, _-_, _*_, _≤_, _<_};
-ghost use lib.Dec.{eqb, leb, ltb};
-ghost use Rattle.lattice.specs.Entries.{discountsNeeded, statePricesNeeded};
 ghost use Rattle.fitting.specs.Entry.{memory-cause};
 ghost use Rattle.fitting.specs.Plans.{Planned};
 

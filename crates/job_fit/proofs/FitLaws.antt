@@ -151,8 +151,8 @@ module _ (job : Job) where
     numbers = fit-numbers _ _ _ _ _ _ _ ds ps fit-none
 
     pub accepted : Accepted (job .steps) (job .reversion)
-    accepted = record { some = numbers .some; few = numbers .few; gentle = numbers .reverting }
+    accepted = record { some = numbers .steps-positive; few = numbers .steps-within-limit; gentle = numbers .reversion-within-limit }
 
     pub quotes-none : recordQuotes job 60 ≡ 0
     unfolding recordQuotes
-    quotes-none = rw (le-ltb 255 (job .steps) steps-few) (numbers .quotes)
+    quotes-none = rw (le-ltb 255 (job .steps) steps-few) (numbers .quotes-converted)

@@ -12,13 +12,21 @@ state-prices-needed-requires : tie.Need-state-prices-needed-requires
 state-prices-needed-requires c κs = search needs
 
 returns : tie.Need-returns
-returns c = laws.memory-short _ _ _ _ _ _ (c .before .before .before .discounts-needed .ensures) (c .before .before .state-prices-needed .ensures) (c .if1 .taken)
+returns c =
+    let found = c .before .before in
+    laws.memory-short _ _ _ _ _ _ (found .before .discounts-needed .ensures) (found .state-prices-needed .ensures) (c .if1 .taken)
 
 returns-2 : tie.Need-returns-2
-returns-2 c = laws.memory-lacks _ _ _ _ _ _ (c .before .before .before .before .before .discounts-needed .ensures) (c .before .before .before .before .state-prices-needed .ensures) (c .before .before .if1 .left) (c .if2 .taken)
+returns-2 c =
+    let tested = c .before .before in
+    let found = tested .before .before in
+    laws.memory-lacks _ _ _ _ _ _ (found .before .discounts-needed .ensures) (found .state-prices-needed .ensures) (tested .if1 .left) (c .if2 .taken)
 
 returns-3 : tie.Need-returns-3
-returns-3 c = laws.memory-enough _ _ _ _ _ _ (c .before .before .before .before .before .discounts-needed .ensures) (c .before .before .before .before .state-prices-needed .ensures) (c .before .before .if1 .left) (c .if2 .left)
+returns-3 c =
+    let tested = c .before .before in
+    let found = tested .before .before in
+    laws.memory-enough _ _ _ _ _ _ (found .before .discounts-needed .ensures) (found .state-prices-needed .ensures) (tested .if1 .left) (c .if2 .left)
 
 pub memory-of-spec : {M : Type 1} → statement M
 memory-of-spec =
