@@ -153,7 +153,8 @@ fn down_of(reversion: u64, half_width: usize, index: usize) -> u64
 }
 
 fn fill_table(reversion: u64, half_width: usize, table: &mut [u64])
-    requires { ⌜ (reversion ≤ most-reversion) × («half_width» ≤ most-steps) × («half_width» * reversion ≤ 1840 + reversion) × (length (now table) ≡ 2 * «half_width» + 1) ⌝ }
+    requires { ⌜ (reversion ≤ most-reversion) × («half_width» ≤ most-steps) × («half_width» * reversion ≤ 1840 + reversion)
+        × (length (now table) ≡ 2 * «half_width» + 1) ⌝ }
     ensures { λ _. ⌜ now (table .exit) ≡ row (length (now (table .entry))) (λ k. down reversion (node-at «half_width» k)) ⌝ }
 {
     let mut index = 0;

@@ -39,7 +39,10 @@ same-length : tie.Need-same-length
 same-length c = search needs
 
 returns-5 : tie.Need-returns-5
-returns-5 c = laws.table-filled _ _ _ (c .before .before .before .before .before .before .before .if1 .left) (c .before .before .before .before .before .before .if2 .left) (c .before .before .before .before .before .if3 .left) _ (c .before .before .before .before .if4 .left) (c .before .before .fill-table .ensures)
+returns-5 c =
+    let e = c .before .before .before .before in
+    laws.table-filled _ _ _ (e .before .before .before .if1 .left) (e .before .before .if2 .left) (e .before .if3 .left) _ (e .if4 .left)
+    (c .before .before .fill-table .ensures)
 
 pub down-probabilities-spec : {M : Type 1} → statement M
 down-probabilities-spec =

@@ -12,16 +12,22 @@ use Rattle.branches.proofs.fill_table.Statement.{statement}
 use Rattle.branches.proofs.fill_table.Tie as tie
 
 abbrev Inv-loop : tie.InvT-loop
-Inv-loop reversion half-width table₀ index₀ table index = (index ≤ length table₀) × Filled table₀ table (λ k. down reversion (node-at half-width k)) index
+Inv-loop reversion half-width table₀ index₀ table index =
+    (index ≤ length table₀) × Filled table₀ table (λ k. down reversion (node-at half-width k)) index
 
 abbrev μ-loop : tie.MeasureT-loop
 μ-loop reversion half-width table₀ index₀ table index = length table₀ - index
+
+abbrev downs : tie.Start Inv-loop μ-loop → ℕ → ℕ
+downs s k = down (s .args .reversion) (node-at (s .args .half-width) k)
 
 loop-holds : tie.Need-loop-holds Inv-loop μ-loop
 loop-holds c = (search needs, filled-start _ _)
 
 down-of-requires : tie.Need-down-of-requires Inv-loop μ-loop
-down-of-requires c κs = (c .before .before .before .pre .0, c .before .before .before .pre .1, c .before .before .before .pre .2, omega (arith, c .before .before .before .pre .3, c .before .loop .inv .1 .same))
+down-of-requires c κs =
+    let s = c .before .before .before in
+    (s .pre .0, s .pre .1, s .pre .2, omega (arith, s .pre .3, c .before .loop .inv .1 .same))
 
 mul-table : tie.Need-mul-table Inv-loop μ-loop
 mul-table c = search needs
@@ -36,13 +42,17 @@ loop-less : tie.Need-loop-less Inv-loop μ-loop
 loop-less c = omega (arith, c .before .before .loop .inv .1 .same)
 
 loop-again : tie.Need-loop-again Inv-loop μ-loop
-loop-again c = (omega (arith, c .before .before .loop .inv .1 .same), filled-next _ _ (λ k. down (c .before .before .before .before .args .reversion) (node-at (c .before .before .before .before .args .half-width) k)) _ _ (c .before .before .loop .inv .1) (search needs) (c .down-of .ensures))
+loop-again c =
+    let filled = c .before .before .loop .inv .1 in
+    (omega (arith, filled .same), filled-next _ _ (downs (c .before .before .before .before)) _ _ filled (search needs) (c .down-of .ensures))
 
 same-length : tie.Need-same-length Inv-loop μ-loop
 same-length c = c .before .loop .inv .1 .same
 
 returns : tie.Need-returns Inv-loop μ-loop
-returns c = filled-all _ _ (λ k. down (c .before .before .before .args .reversion) (node-at (c .before .before .before .args .half-width) k)) _ (c .before .loop .inv .1) (omega (arith, c .before .loop .inv .1 .same))
+returns c =
+    let filled = c .before .loop .inv .1 in
+    filled-all _ _ (downs (c .before .before .before)) _ filled (omega (arith, filled .same))
 
 pub fill-table-spec : {M : Type 1} → statement M
 fill-table-spec =

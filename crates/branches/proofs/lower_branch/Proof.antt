@@ -1,13 +1,22 @@
 -- `branches::lower_branch` meets its contract.
 -- Assumes nothing.
-use mathlib.Core.Path.{_≡_, refl, sym, ap, _∙_}
+use mathlib.Core.Path.{_≡_}
 use native.Mathlib.Omega.{arith}
-use Rattle.branches.proofs.BranchLaws as laws
+use mir.Syntax.{w64}
+use mir.Val.{SFits, toZ, ofZ}
 use mir.Facts.{toZ-ofZ}
-use lib.IntN.{ℤ, pos, natAbs}
+use lib.IntN.{pos, _-ℤ_}
 use borrow.Author.Needs.{needs}
+use Rattle.branches.proofs.BranchLaws as laws
 use Rattle.branches.proofs.lower_branch.Statement.{statement}
 use Rattle.branches.proofs.lower_branch.Tie as tie
+
+-- the node, and the lowest of its branch inside the edge
+held : (s : tie.Start) → toZ w64 (ofZ w64 (s .args .node)) ≡ s .args .node
+held s = toZ-ofZ (s .fits .node)
+
+inner-fits : (s : tie.Start) → SFits w64 (s .args .node -ℤ pos 1)
+inner-fits s = laws.less-fits (s .args .node) 1 (omega (arith, s .pre .1 .0)) (omega arith)
 
 upper-requires : tie.Need-upper-requires
 upper-requires c κs = search needs
@@ -25,13 +34,18 @@ mul-if1 : tie.Need-mul-if1
 mul-if1 c = omega (arith, c .before .pre .0 .2)
 
 sub-lowest : tie.Need-sub-lowest
-sub-lowest c = rw (toZ-ofZ (c .before .before .fits .node)) (laws.less-fits (c .before .before .args .node) 1 (omega (arith, c .before .before .pre .1 .0)) (omega arith))
+sub-lowest c = let s = c .before .before in rw (held s) (inner-fits s)
 
 returns : tie.Need-returns
-returns c = rw (toZ-ofZ (c .before .before .fits .node)) (laws.lower-edge _ _ _ _ (c .before .before .pre .1 .0) (c .before .before .pre .1 .1) (c .before .upper .ensures) (c .before .before .pre .0 .2) (c .if1 .taken))
+returns c =
+    let s = c .before .before in
+    rw (held s) (laws.lower-edge _ _ _ _ (s .pre .1 .0) (s .pre .1 .1) (c .before .upper .ensures) (s .pre .0 .2) (c .if1 .taken))
 
 returns-2 : tie.Need-returns-2
-returns-2 c = rw (toZ-ofZ (c .before .before .fits .node), toZ-ofZ (laws.less-fits (c .before .before .args .node) 1 (omega (arith, c .before .before .pre .1 .0)) (omega arith))) (laws.lower-inner _ _ _ _ (c .before .before .pre .1 .0) (c .before .before .pre .1 .1) (c .before .upper .ensures) (c .if1 .left))
+returns-2 c =
+    let s = c .before .before in
+    rw (held s, toZ-ofZ (inner-fits s))
+    (laws.lower-inner _ _ _ _ (s .pre .1 .0) (s .pre .1 .1) (c .before .upper .ensures) (c .if1 .left))
 
 pub lower-branch-spec : {M : Type 1} → statement M
 lower-branch-spec =
