@@ -90,8 +90,10 @@ pub extern "C" fn mixegorta_curve_discounts(
     figures: &[f64],
     discounts: &mut [u64],
 ) -> u64
-    ensures number { λ r. ⌜ r ≡ curveNumber frequency steps (now (rows .entry)) (now (kinds .entry)) (now (figures .entry)) (length (now (discounts .entry))) ⌝ }
-    ensures memory { λ _. ⌜ now (discounts .exit) ≡ curveMemory frequency steps (now (rows .entry)) (now (kinds .entry)) (now (figures .entry)) (now (discounts .entry)) ⌝ }
+    ensures number { λ r. ⌜ r ≡ curveNumber frequency steps
+        (now (rows .entry)) (now (kinds .entry)) (now (figures .entry)) (length (now (discounts .entry))) ⌝ }
+    ensures memory { λ _. ⌜ now (discounts .exit) ≡ curveMemory frequency steps
+        (now (rows .entry)) (now (kinds .entry)) (now (figures .entry)) (now (discounts .entry)) ⌝ }
 {
     curve::convert(frequency, steps, rows, kinds, figures, discounts)
 }
@@ -108,12 +110,15 @@ pub extern "C" fn mixegorta_fit(
     discounts: &mut [u64],
     state_prices: &mut [u64],
 ) -> u64
-    ensures number { λ r. ⌜ r ≡ fitNumber frequency steps reversion volatility (now (rows .entry)) (now (kinds .entry)) (now (figures .entry)) (length (now (discounts .entry))) (length (now («state_prices» .entry))) ⌝ }
+    ensures number { λ r. ⌜ r ≡ fitNumber frequency steps reversion volatility
+        (now (rows .entry)) (now (kinds .entry)) (now (figures .entry)) (length (now (discounts .entry))) (length (now («state_prices» .entry))) ⌝ }
     ensures discounted { λ _. ⌜ now (discounts .exit) ≡ fit-memory
-        (fitNumber frequency steps reversion volatility (now (rows .entry)) (now (kinds .entry)) (now (figures .entry)) (length (now (discounts .entry))) (length (now («state_prices» .entry))))
+        (fitNumber frequency steps reversion volatility
+        (now (rows .entry)) (now (kinds .entry)) (now (figures .entry)) (length (now (discounts .entry))) (length (now («state_prices» .entry))))
         (fit-discounts frequency steps reversion volatility (now (kinds .entry)) (now (figures .entry))) (now (discounts .entry)) ⌝ }
     ensures priced { λ _. ⌜ now («state_prices» .exit) ≡ fit-memory
-        (fitNumber frequency steps reversion volatility (now (rows .entry)) (now (kinds .entry)) (now (figures .entry)) (length (now (discounts .entry))) (length (now («state_prices» .entry))))
+        (fitNumber frequency steps reversion volatility
+        (now (rows .entry)) (now (kinds .entry)) (now (figures .entry)) (length (now (discounts .entry))) (length (now («state_prices» .entry))))
         (fit-prices frequency steps reversion volatility (now (kinds .entry)) (now (figures .entry))) (now («state_prices» .entry)) ⌝ }
 {
     fitting::fit(
@@ -232,7 +237,8 @@ pub extern "C" fn mixegorta_valuation_error_bound(
 #[no_mangle]
 pub extern "C" fn mixegorta_sheet(job: &[u8], out: &mut [u8]) -> Written
     ensures answer { λ r. ⌜ r ≡ answerOf (sheetNumber (now (job .entry)) (length (now (out .entry)))) (sheetText (now (job .entry))) ⌝ }
-    ensures memory { λ _. ⌜ now (out .exit) ≡ memoryOf (sheetNumber (now (job .entry)) (length (now (out .entry)))) (sheetText (now (job .entry))) (now (out .entry)) ⌝ }
+    ensures memory { λ _. ⌜ now (out .exit) ≡ memoryOf
+        (sheetNumber (now (job .entry)) (length (now (out .entry)))) (sheetText (now (job .entry))) (now (out .entry)) ⌝ }
 {
     job_sheet::sheet(job, out)
 }
