@@ -3,7 +3,7 @@
 use mathlib.Core.Path.{_≡_, refl, ap}
 use Prim.Native.Nat.{_-_, _≤_}
 use native.Mathlib.Omega.{arith}
-use lib.ListN.{length}
+use lib.ListN.{length, length-set}
 use borrow.Author.Needs.{needs}
 use Rattle.arithmetic.specs.declared.Answer.{Answer}
 use Rattle.arithmetic.proofs.RowLaws.{Filled, filled-start, filled-next}
@@ -45,7 +45,7 @@ loop-again c =
     let next =
     filled-next (a .discounts .now) (l .discounts) (discountAt (a .frequency) (a .kinds .now) (a .figures .now)) (l .i)
     (c .answer-at .result .value) (l .inv .2) (omega arith) value in
-    (omega arith, next .same, next)
+    (omega arith, simp length-set (l .inv .1), next)
 
 same-length : tie.Need-same-length Inv-loop μ-loop
 same-length c = c .before .loop .inv .1
