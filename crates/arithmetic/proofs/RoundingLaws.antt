@@ -2,7 +2,9 @@
 -- Assumes nothing.
 use mathlib.Core.Path.{_≡_, refl, sym, _∙_, ap}
 use Prim.Native.Nat.{ℕ, zero, suc, _+_, _-_, _*_, _/_, _%_, _≤_, _<_}
-use native.Mathlib.Nat.{mul-div-mul-left, div-div-eq-div-mul, add-mul-div-left, mul-add-div, div-add-mod, div-eq-of-lt, div-lt-iff-lt-mul, le-mul-of-pos-right, mul-assoc, mul-comm, mul-le-mul-right, mul-zero, mul-div-le, lt-div-mul-add, le-div-iff-mul-le, mul-div-cancel-left, le-antisymm}
+use native.Mathlib.Nat.{le-antisymm, le-mul-of-pos-right, mul-assoc, mul-comm, mul-le-mul-right, mul-zero}
+use native.Mathlib.Nat.{mul-div-mul-left, mul-div-cancel-left, mul-div-le, mul-add-div, add-mul-div-left, div-div-eq-div-mul, div-add-mod}
+use native.Mathlib.Nat.{div-eq-of-lt, div-lt-iff-lt-mul, lt-div-mul-add, le-div-iff-mul-le}
 use native.Mathlib.Omega.{arith}
 use lib.IntN.{ℤ, pos, negsuc, negℤ, natAbs, negℤ-negℤ}
 use lib.Ieee.Nearest.{div-same}

@@ -163,7 +163,8 @@ unfolding overlay
 overlay-none g h k = rw (le-ltb k 0 (omega arith))
 
 -- one more place is written
-pub overlay-more : (l : List ℕ) (g h : ℕ → ℕ) (i v : ℕ) → i < length l → v ≡ g i → ((k : ℕ) → getD l k 0 ≡ overlay i g h k) → (k : ℕ) → getD (set l i v) k 0 ≡ overlay (i + 1) g h k
+pub overlay-more : (l : List ℕ) (g h : ℕ → ℕ) (i v : ℕ) → i < length l → v ≡ g i → ((k : ℕ) → getD l k 0 ≡ overlay i g h k) →
+    (k : ℕ) → getD (set l i v) k 0 ≡ overlay (i + 1) g h k
 unfolding overlay
 overlay-more l g h i v p e f k = by-place (ltb k i) refl (eqb k i) refl
   where

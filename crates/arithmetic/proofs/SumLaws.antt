@@ -3,7 +3,8 @@
 use mathlib.Core.Path.{_≡_, refl, sym, ap, _∙_}
 use mathlib.Core.Bool.{Bool, true, false, cond}
 use Prim.Native.Nat.{ℕ, zero, suc, _+_, _-_, _*_, _/_, _≤_, _<_, max}
-use native.Mathlib.Nat.{not-suc-le-zero, eq-or-lt-of-le, le-of-suc-le-suc, le-refl, mul-div-le, lt-div-mul-add, mul-le-mul-left, sub-add-cancel, add-suc, add-zero, zero-mul, le-div-iff-mul-le, mul-comm}
+use native.Mathlib.Nat.{not-suc-le-zero, eq-or-lt-of-le, le-of-suc-le-suc, le-refl, sub-add-cancel, add-suc, add-zero}
+use native.Mathlib.Nat.{zero-mul, mul-comm, mul-le-mul-left, mul-div-le, lt-div-mul-add, le-div-iff-mul-le}
 use lib.Arith.{le-zero}
 use native.Mathlib.Numerals.{add-one}
 use mathlib.Core.Logic.{_⊎_, inl, inr, ⊎-elim}

@@ -90,8 +90,10 @@ pub extern "C" fn mixegorta_curve_discounts(
     figures: &[f64],
     discounts: &mut [u64],
 ) -> u64
-    ensures number { λ r. ⌜ r ≡ curveNumber frequency steps (now (rows .entry)) (now (kinds .entry)) (now (figures .entry)) (length (now (discounts .entry))) ⌝ }
-    ensures memory { λ _. ⌜ now (discounts .exit) ≡ curveMemory frequency steps (now (rows .entry)) (now (kinds .entry)) (now (figures .entry)) (now (discounts .entry)) ⌝ }
+    ensures number { λ r. ⌜ r ≡ curveNumber frequency steps
+        (now (rows .entry)) (now (kinds .entry)) (now (figures .entry)) (length (now (discounts .entry))) ⌝ }
+    ensures memory { λ _. ⌜ now (discounts .exit) ≡ curveMemory frequency steps
+        (now (rows .entry)) (now (kinds .entry)) (now (figures .entry)) (now (discounts .entry)) ⌝ }
 {
     curve::convert(frequency, steps, rows, kinds, figures, discounts)
 }

@@ -10,7 +10,8 @@ use Rattle.arithmetic.specs.Rounding.{one}
 use Rattle.arithmetic.specs.Sum.{sum}
 use Rattle.arithmetic.proofs.SumLaws.{sum-le, sum-term}
 use Rattle.factor.specs.Series.{term, series, falling, exact-term, scale}
-use Rattle.factor.proofs.SeriesLaws.{exact-whole, alternating-most, term-zero, term-falls, term-grows, exact-zero, exact-next, exact-falls, series-within}
+use Rattle.factor.proofs.SeriesLaws.{alternating-most, term-zero, term-falls, term-grows, series-within}
+use Rattle.factor.proofs.SeriesLaws.{exact-whole, exact-zero, exact-next, exact-falls}
 use Rattle.factor.proofs.Figures.{sum-at-one}
 
 unfoldable factorial : ℕ → ℕ

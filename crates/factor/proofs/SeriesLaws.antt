@@ -3,7 +3,8 @@
 use mathlib.Core.Path.{_≡_, refl, ap}
 use mathlib.Core.Bool.{Bool, true, false}
 use Prim.Native.Nat.{ℕ, zero, suc, _+_, _-_, _*_, _/_, _≤_, _<_}
-use native.Mathlib.Nat.{le-trans, le-refl, mul-le-mul, mul-le-mul-left, mul-le-mul-right, mul-pos, lt-div-mul-add, div-le-of-le-mul, le-of-mul-le-mul-left, sub-add-cancel, pow-zero, pow-suc}
+use native.Mathlib.Nat.{le-trans, le-refl, sub-add-cancel, mul-le-mul, mul-le-mul-left, mul-le-mul-right, mul-pos, le-of-mul-le-mul-left}
+use native.Mathlib.Nat.{lt-div-mul-add, div-le-of-le-mul, pow-zero, pow-suc}
 use native.Mathlib.Numerals.{add-one}
 use native.Mathlib.Omega.{arith}
 use lib.Dec.{lit≤}

@@ -4,7 +4,8 @@ use mathlib.Core.Path.{_≡_, refl, sym, ap, ap₂, _∙_}
 use Prim.Native.Nat.{ℕ, _+_, _*_}
 use native.Mathlib.Omega.{arith}
 use lib.IntN.{ℤ, pos, negsuc, negℤ, _+ℤ_, _-ℤ_, _*ℤ_, +ℤ-comm, +ℤ-assoc, +ℤ-idl, +ℤ-idr, +ℤ-negℤ-cancel, negℤ-+ℤ, pos-+ℤ-pos, pos-*ℤ-pos, pos-*ℤ-negsuc}
-use Rattle.lattice.specs.Branching.{Branching, ordinary, top, bottom, branching, lowest-of, up, middle, down, change-to, change, squared, square-to, square}
+use Rattle.lattice.specs.Branching.{Branching, ordinary, top, bottom, branching, lowest-of, up, middle, down}
+use Rattle.lattice.specs.Branching.{change-to, change, squared, square-to, square}
 
 unfoldable pub change-of : Branching → ℕ → ℕ → ℕ → ℤ
 change-of ordinary u m d = pos u -ℤ pos d

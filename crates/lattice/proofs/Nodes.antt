@@ -15,7 +15,8 @@ use Rattle.lattice.specs.Shape.{highest-node, half-width}
 use Rattle.lattice.specs.Branching.{Branching, ordinary, top, bottom, branching, z-of, up-at, middle-at, down-at, up, middle, down, change, square}
 use Rattle.lattice.proofs.Destinations.{change-of, square-of, change-is, square-is}
 use Rattle.lattice.proofs.Sizes.{Within, within-row, highest-above, highest-within, below-highest}
-use Rattle.lattice.proofs.Formulas.{Upper, upper-ordinary, upper-top, mirrored, up-mirrored, middle-mirrored, down-mirrored, change-mirrored, square-mirrored, times-negative}
+use Rattle.lattice.proofs.Formulas.{Upper, upper-ordinary, upper-top, times-negative}
+use Rattle.lattice.proofs.Formulas.{mirrored, up-mirrored, middle-mirrored, down-mirrored, change-mirrored, square-mirrored}
 
 -- which branching: by the size of z alone, without J
 pub ordinary-node : (b d : ℕ) → d * b ≤ 1840 → branching b (pos d) ≡ ordinary

@@ -7,7 +7,8 @@ use native.Mathlib.Nat.{pow-suc, sub-zero, mul-zero}
 use native.Mathlib.Omega.{arith}
 use Rattle.arithmetic.specs.Rounding.{one}
 use Rattle.arithmetic.proofs.RoundingLaws.{up-ge, up-shrinks}
-use Rattle.pricing_laws.specs.Pricer.{rounded, fractions, bond-from, bond, Side, exercise-row, Schedule, option-from, option, error-bound-from, error-bound}
+use Rattle.pricing_laws.specs.Pricer.{rounded, fractions, bond-from, bond, Side, exercise-row, Schedule, option-from, option}
+use Rattle.pricing_laws.specs.Pricer.{error-bound-from, error-bound}
 use Rattle.pricing_laws.proofs.Near.{Near, near-flow, near-exercise, near-held}
 
 -- the number e stands within a of the exact number x, which is held times M
@@ -17,7 +18,8 @@ pub record Within (a M e x : ℕ) : Type 0 where
 
 -- What the laws use of a roll on rows 0 to n - 1: with the greatest discount of the row and what the roll's own roundings cost,
 -- near values on the next row give near values on this one. Distances in half billionths.
-pub record Close {Node : Type 0} (n unit : ℕ) (Stands : ℕ → Node → Type 0) (roll exact : ℕ → (Node → ℕ) → Node → ℕ) (greatest above below : ℕ → ℕ) : Type 0 where
+pub record Close {Node : Type 0} (n unit : ℕ) (Stands : ℕ → Node → Type 0) (roll exact : ℕ → (Node → ℕ) → Node → ℕ)
+    (greatest above below : ℕ → ℕ) : Type 0 where
   pub roll-near :
       (i : ℕ) → i < n → (v x : Node → ℕ) (l u l' u' M : ℕ) →
       greatest i * l + above i ≤ one * l' → greatest i * u + below i ≤ one * u' →

@@ -8,7 +8,9 @@ use native.Mathlib.Omega.{arith}
 use lib.Dec.{leb}
 use Rattle.arithmetic.specs.Rounding.{one, down, up}
 use Rattle.tree.specs.Tree.{Tree, outgoing, unit}
-use Rattle.pricing_laws.specs.Pricer.{Pricer, bond-from, bare-bond-from, bond, bare-bond, Side, call, put, exercise, exercise-row, Schedule, held-or-exercised, option-from, option, error-bound-from, error-bound, payoff-value}
+use Rattle.pricing_laws.specs.Pricer.{Pricer, bond-from, bare-bond-from, bond, bare-bond, error-bound-from, error-bound}
+use Rattle.pricing_laws.specs.Pricer.{Side, call, put, exercise, exercise-row, Schedule, held-or-exercised}
+use Rattle.pricing_laws.specs.Pricer.{option-from, option, payoff-value}
 use Rattle.pricing_laws.specs.Schedule.{european, american, side-of, schedule-of}
 use Rattle.pricing_laws.specs.TreePricer.{node-roll, roll, exact-roll, engine, exact, greatest-discount, price-error-bound}
 
@@ -121,7 +123,8 @@ module _ (t : Tree) (discount : ℕ → ℕ → ℕ) (flow : ℕ → ℕ) (n : �
   module _ (side : Side) (strike expiry : ℕ) where
     pub exact-option-last :
         (rows : Schedule) (k : ℕ) →
-        option (exact t discount) flow n side strike rows (rows .last) k ≡ exercise side (strike * unit ^ (n - rows .last)) (bond (exact t discount) flow n (rows .last) k)
+        option (exact t discount) flow n side strike rows (rows .last) k
+        ≡ exercise side (strike * unit ^ (n - rows .last)) (bond (exact t discount) flow n (rows .last) k)
     unfolding exercise-row
     exact-option-last rows k = option-last (exact t discount) flow n side strike rows k
 

@@ -94,8 +94,11 @@ payoffs-known : (prices payoffs : List ℕ) → valueByStatePrices prices payoff
     (length prices ≡ length payoffs) × (ltb value-limit (greatest-of payoffs) ≡ false)
 unfolding valueByStatePrices fit-a-row
 payoffs-known prices payoffs z =
-    let p = value-parts (fit-a-row prices payoffs) (ltb value-limit (greatest-of payoffs)) (ltb sum-limit (sum-of prices)) (ltb value-limit (value-of prices payoffs)) (value-of prices payoffs) z in
-    (eqb-true (length prices) (length payoffs) (first-of (eqb (length prices) (length payoffs)) (not (eqb (length prices % 2) 0)) (leb (length prices) 121) (p .0)), p .1)
+    let p =
+    value-parts (fit-a-row prices payoffs) (ltb value-limit (greatest-of payoffs)) (ltb sum-limit (sum-of prices))
+    (ltb value-limit (value-of prices payoffs)) (value-of prices payoffs) z in
+    let alike = first-of (eqb (length prices) (length payoffs)) (not (eqb (length prices % 2) 0)) (leb (length prices) 121) (p .0) in
+    (eqb-true (length prices) (length payoffs) alike, p .1)
 
 -- the discounts of an accepted fit are an accepted tree, so the error bound of its rows is given
 module _ (f n b s : ℕ) (rows kinds : List ℕ) (figures : List Float) (ds ps : ℕ) (z : fitNumber f n b s rows kinds figures ds ps ≡ 0)
@@ -121,7 +124,8 @@ payoffs-within f n b s rows kinds figures ds ps z discounts r prices payoffs h k
     let price-is : (k : ℕ) → k < node-count b r → values prices k ≡ state-price (rate-tree b) v r k =
     λ k l. kept .prices-kept k l ∙ fitted-prices f n b s kinds figures v (λ i c hi hc. kept .discounts-kept i c hi hc) r h k in
     let same : valueByStatePrices prices payoffs .value ≡ value-by-state-prices (node-count b r) (state-price (rate-tree b) v r) (values payoffs) =
-    value-given prices payoffs zv ∙ value-by (length prices) (node-count b r) (values prices) (state-price (rate-tree b) v r) (values payoffs) (kept .row-length) price-is in
+    value-given prices payoffs zv
+    ∙ value-by (length prices) (node-count b r) (values prices) (state-price (rate-tree b) v r) (values payoffs) (kept .row-length) price-is in
     rw (same, bound-given n b discounts r payoffs zb, ← exact-same b discounts r payoffs)
     (turned _ _ _ _ (value-below (rate-tree b) sound v r (values payoffs)) (value-short (rate-tree b) sound v r (values payoffs)))
 

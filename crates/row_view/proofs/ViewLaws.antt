@@ -19,7 +19,8 @@ use Rattle.lattice.proofs.Sizes.{row-ends, count-positive}
 use Rattle.row_view.specs.declared.RowKind.{RowKind}
 use Rattle.row_view.specs.declared.RowKind.the-variants.{Discounts, StatePrices}
 use Rattle.row_view.specs.declared.RowRange.{RowRange}
-use Rattle.row_view.specs.RowView.{is-tree, holds-tree, stores-row, memory-of, is-shown, view-start, view-count, range-of-row, no-range, range-by-number, PartOf}
+use Rattle.row_view.specs.RowView.{is-tree, holds-tree, stores-row, memory-of, is-shown, view-start, view-count}
+use Rattle.row_view.specs.RowView.{range-of-row, no-range, range-by-number, PartOf}
 use Rattle.lattice.proofs.TreeEntries.{Accepted, by-tree}
 
 -- ---- whether both memories hold the tree, by the tests that code makes

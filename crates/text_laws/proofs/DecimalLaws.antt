@@ -115,7 +115,8 @@ fraction-length k n h = rw (fraction-point k n h) (omega (arith, length-digits k
 pub field-length : (k n follower : ℕ) → length (decimal k n ++ (follower ∷ [])) ≡ length (decimal k n) + 1
 field-length k n follower = length-followed (decimal k n) follower
 
-pub signed-length : (k follower : ℕ) (z : ℤ) → length (signedDecimal k z ++ (follower ∷ [])) ≡ length (signOf z) + length (decimal k (natAbs z) ++ (follower ∷ []))
+pub signed-length : (k follower : ℕ) (z : ℤ) →
+    length (signedDecimal k z ++ (follower ∷ [])) ≡ length (signOf z) + length (decimal k (natAbs z) ++ (follower ∷ []))
 unfolding signedDecimal
 signed-length k follower z = simp length-append (omega arith)
 

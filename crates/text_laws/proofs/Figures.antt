@@ -9,12 +9,20 @@ use Rattle.text_laws.specs.Decimal.{natural, naturalWithin, digits, deci
 use Rattle.text_laws.specs.Lines.{percent, nodeLine, rowLine, priceLine, bondLine, optionLine, refusedLine}
 
 -- `node 0 0 1.002500000 -0.2493766`
-pub node-figure : nodeLine 0 (pos 0) 1002500000 (rateAnswer 1002500000 .value) ≡ 110 ∷ 111 ∷ 100 ∷ 101 ∷ 32 ∷ 48 ∷ 32 ∷ 48 ∷ 32 ∷ 49 ∷ 46 ∷ 48 ∷ 48 ∷ 50 ∷ 53 ∷ 48 ∷ 48 ∷ 48 ∷ 48 ∷ 48 ∷ 32 ∷ 45 ∷ 48 ∷ 46 ∷ 50 ∷ 52 ∷ 57 ∷ 51 ∷ 55 ∷ 54 ∷ 54 ∷ 10 ∷ []
+pub node-figure :
+    nodeLine 0 (pos 0) 1002500000 (rateAnswer 1002500000 .value)
+    ≡ 110 ∷ 111 ∷ 100 ∷ 101 ∷ 32 ∷ 48 ∷ 32 ∷ 48 ∷ 32 ∷
+    49 ∷ 46 ∷ 48 ∷ 48 ∷ 50 ∷ 53 ∷ 48 ∷ 48 ∷ 48 ∷ 48 ∷ 48 ∷ 32 ∷
+    45 ∷ 48 ∷ 46 ∷ 50 ∷ 52 ∷ 57 ∷ 51 ∷ 55 ∷ 54 ∷ 54 ∷ 10 ∷ []
 unfolding natural naturalWithin digits decimal signedDecimal nodeLine rateAnswer nearest
 node-figure = refl
 
 -- `row 1 1.002500000 1.002499999 4`
-pub row-figure : rowLine 1 1002500000 1002499999 4 ≡ 114 ∷ 111 ∷ 119 ∷ 32 ∷ 49 ∷ 32 ∷ 49 ∷ 46 ∷ 48 ∷ 48 ∷ 50 ∷ 53 ∷ 48 ∷ 48 ∷ 48 ∷ 48 ∷ 48 ∷ 32 ∷ 49 ∷ 46 ∷ 48 ∷ 48 ∷ 50 ∷ 52 ∷ 57 ∷ 57 ∷ 57 ∷ 57 ∷ 57 ∷ 32 ∷ 52 ∷ 10 ∷ []
+pub row-figure :
+    rowLine 1 1002500000 1002499999 4
+    ≡ 114 ∷ 111 ∷ 119 ∷ 32 ∷ 49 ∷ 32 ∷
+    49 ∷ 46 ∷ 48 ∷ 48 ∷ 50 ∷ 53 ∷ 48 ∷ 48 ∷ 48 ∷ 48 ∷ 48 ∷ 32 ∷
+    49 ∷ 46 ∷ 48 ∷ 48 ∷ 50 ∷ 52 ∷ 57 ∷ 57 ∷ 57 ∷ 57 ∷ 57 ∷ 32 ∷ 52 ∷ 10 ∷ []
 unfolding natural naturalWithin digits decimal signedDecimal rowLine
 row-figure = refl
 

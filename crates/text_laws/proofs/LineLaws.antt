@@ -84,15 +84,21 @@ module _ (out : List ℕ) (end : ℕ) (line : List ℕ) where
   line-stands h p l a = answered-put _ out end line a (sym (number-none (length out) end h p)) (omega arith) p
 
 -- the word and the first field of a line, put before the rest of it
-pub put-label : {out after later text : List ℕ} {end mid start : ℕ} (word field : List ℕ) → Put out end text mid after → Put after mid (word ++ field) start later → Put out end (word ++ (field ++ text)) start later
-put-label {out} {after} {later} {text} {end} {mid} {start} word field p q = subst (λ (l : List ℕ). Put out end l start later) (append-assoc word field text) (put-before p q)
+pub put-label : {out after later text : List ℕ} {end mid start : ℕ} (word field : List ℕ) →
+    Put out end text mid after → Put after mid (word ++ field) start later → Put out end (word ++ (field ++ text)) start later
+put-label {out} {after} {later} {text} {end} {mid} {start} word field p q =
+    subst (λ (l : List ℕ). Put out end l start later) (append-assoc word field text) (put-before p q)
 
 -- an amount and its bound are at most 53 bytes
 pub bounded-room : (value bound : ℕ) → value < 2 ^ 64 → bound < 2 ^ 64 → length ((amount value ++ space) ++ (whole bound ++ newline)) ≤ 53
-bounded-room value bound a b = let x = field-room 9 value 32 a in let y = field-room 0 bound 10 b in rw (length-append (amount value ++ space) (whole bound ++ newline)) (omega arith)
+bounded-room value bound a b =
+    let x = field-room 9 value 32 a in
+    let y = field-room 0 bound 10 b in
+    rw (length-append (amount value ++ space) (whole bound ++ newline)) (omega arith)
 
 -- the room that a text leaves before it
-pub room-left : {out text after : List ℕ} {end mid : ℕ} (most left : ℕ) → Put out end text mid after → most + left ≤ end → length text ≤ most → (left ≤ mid) × (mid ≤ length after)
+pub room-left : {out text after : List ℕ} {end mid : ℕ} (most left : ℕ) → Put out end text mid after → most + left ≤ end →
+    length text ≤ most → (left ≤ mid) × (mid ≤ length after)
 room-left most left p h l = (omega (arith, p .place), omega (arith, p .place, p .within, p .same))
 
 -- LINES ONE AFTER THE OTHER: after a line that has room, the buffer holds the line and the text that was put before, as put at once

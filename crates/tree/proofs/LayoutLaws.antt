@@ -83,7 +83,8 @@ laid-cong t f g (suc i) h =
     rw (laid-cong t f g i (λ r k l m. h r k (omega arith) m), row-cong (t .nodes i) (f i) (g i) (λ k m. h i k (omega arith) m))
 
 -- the part of the rows stored that is row i
-pub laid-part : (t : Tree) (f : ℕ → ℕ → ℕ) (n i : ℕ) (rest : List ℕ) → i < n → take (t .nodes i) (drop (start t i) (laid t f n ++ rest)) ≡ row (t .nodes i) (f i)
+pub laid-part : (t : Tree) (f : ℕ → ℕ → ℕ) (n i : ℕ) (rest : List ℕ) → i < n →
+    take (t .nodes i) (drop (start t i) (laid t f n ++ rest)) ≡ row (t .nodes i) (f i)
 unfolding laid
 laid-part t f zero i rest h = absurd (not-suc-le-zero h)
 laid-part t f (suc n) i rest h =

@@ -41,10 +41,11 @@ loop-less c = search needs
 loop-again : tie.Need-loop-again Inv-loop μ-loop
 loop-again c =
     let a = c .before .before .before .before .before .before .before .args in
-    let i = c .before .before .before .before .loop .i in (
+    let i = c .before .before .before .before .loop .i in
+    let answer = c .before .before .answer-at .result in (
       search needs,
       each-more i (convertsAt (a .frequency) (a .kinds .now) (a .figures .now)) (c .before .before .before .before .loop .inv .1)
-          (converts (a .frequency) (a .kinds .now) (a .figures .now) i (c .before .before .answer-at .result) (c .before .before .answer-at .ensures) (c .if1 .left)),
+          (converts (a .frequency) (a .kinds .now) (a .figures .now) i answer (c .before .before .answer-at .ensures) (c .if1 .left)),
     )
 
 returns-2 : tie.Need-returns-2 Inv-loop μ-loop

@@ -20,7 +20,9 @@ about-tree-requires c κs = search needs
 
 returns : tie.Need-returns
 unfolding discounts-needed
-returns c = c .about-tree .ensures ∙ entry.tree-answer _ _ (λ (n : ℕ). discounts-needed n (c .before .before .before .args .reversion)) _ _ (c .before .before .clipped .ensures) (c .before .row-start-of .ensures)
+returns c =
+    let needed : ℕ → ℕ = λ n. discounts-needed n (c .before .before .before .args .reversion) in
+    c .about-tree .ensures ∙ entry.tree-answer _ _ needed _ _ (c .before .before .clipped .ensures) (c .before .row-start-of .ensures)
 
 pub discounts-needed-spec : {M : Type 1} → statement M
 discounts-needed-spec =

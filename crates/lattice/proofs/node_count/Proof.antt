@@ -30,7 +30,9 @@ about-row-requires c κs = search needs
 
 returns : tie.Need-returns
 unfolding node-count
-returns c = c .about-row .ensures ∙ entry.row-answer _ _ (node-count _) _ _ (c .before .before .clipped .ensures) (ap (λ (x : ℕ). 2 * x + 1) (c .before .half-width-of .ensures))
+returns c =
+    let count = ap (λ (x : ℕ). 2 * x + 1) (c .before .half-width-of .ensures) in
+    c .about-row .ensures ∙ entry.row-answer _ _ (node-count _) _ _ (c .before .before .clipped .ensures) count
 
 pub node-count-spec : {M : Type 1} → statement M
 node-count-spec =

@@ -24,7 +24,10 @@ about-tree-requires c κs = search needs
 
 returns : tie.Need-returns
 unfolding state-prices-needed
-returns c = c .about-tree .ensures ∙ entry.tree-answer _ _ (λ (n : ℕ). state-prices-needed n (c .before .before .before .args .reversion)) _ _ (c .before .before .clipped .ensures) (c .before .row-start-of .ensures ∙ ap (row-start _) (add-one _))
+returns c =
+    let needed : ℕ → ℕ = λ n. state-prices-needed n (c .before .before .before .args .reversion) in
+    let start = c .before .row-start-of .ensures ∙ ap (row-start _) (add-one _) in
+    c .about-tree .ensures ∙ entry.tree-answer _ _ needed _ _ (c .before .before .clipped .ensures) start
 
 pub state-prices-needed-spec : {M : Type 1} → statement M
 state-prices-needed-spec =

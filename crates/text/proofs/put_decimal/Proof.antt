@@ -19,7 +19,9 @@ power-of-ten-requires : tie.Need-power-of-ten-requires
 power-of-ten-requires c κs = search needs
 
 power : (c : tie.After-power-of-ten) → c .power-of-ten .result ≡ 10 ^ c .before .before .before .before .before .before .before .args .decimals
-power c = c .power-of-ten .ensures ∙ power-listed (c .before .before .before .before .before .before .before .args .decimals) (c .before .before .before .before .before .before .before .pre .0)
+power c =
+    let s = c .before .before .before .before .before .before .before in
+    c .power-of-ten .ensures ∙ power-listed (s .args .decimals) (s .pre .0)
 
 div-put-natural : tie.Need-div-put-natural
 div-put-natural c = omega (arith, power c, ten-pos (c .before .before .before .before .before .before .before .args .decimals))
@@ -36,7 +38,9 @@ same-length c = search needs
 returns : tie.Need-returns
 returns c =
     let s = c .before .before .before .before .before .before .before .before .before .before in
-    rw (decimal-parts (s .args .decimals) (s .args .number)) (put-before (c .before .before .before .before .before .before .before .put-fraction .ensures) (rw (power (c .before .before .before)) at (c .before .before .put-natural .ensures)))
+    let fraction = c .before .before .before .before .before .before .before .put-fraction .ensures in
+    let whole = rw (power (c .before .before .before)) at (c .before .before .put-natural .ensures) in
+    rw (decimal-parts (s .args .decimals) (s .args .number)) (put-before fraction whole)
 
 pub put-decimal-spec : {M : Type 1} → statement M
 put-decimal-spec = tie.close (tie.spec put-fraction-requires power-of-ten-requires div-put-natural put-natural-requires same-length returns)

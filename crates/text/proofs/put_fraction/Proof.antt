@@ -22,7 +22,9 @@ abbrev μ-loop : tie.MeasureT-loop
 μ-loop out₀ end number count rest₀ start₀ left₀ out rest start left = left
 
 returns : tie.Need-returns Inv-loop μ-loop
-returns c = rw (fraction-none (c .before .args .decimals) (c .before .args .number) (c .if1 .taken)) (put-none (c .before .args .out .now) (c .before .args .end) (c .before .pre .1))
+returns c =
+    let s = c .before in
+    rw (fraction-none (s .args .decimals) (s .args .number) (c .if1 .taken)) (put-none (s .args .out .now) (s .args .end) (s .pre .1))
 
 loop-holds : tie.Need-loop-holds Inv-loop μ-loop
 loop-holds c = search needs
@@ -55,7 +57,8 @@ loop-again c =
       search needs,
       omega arith,
       simp length-set (search needs),
-      put-last (l .out) _ (digits (l .left) (l .rest)) _ (l .start) _ (digits-step (l .left) (l .rest) (omega arith)) (omega (arith, length-digits (l .left) (l .rest))) (omega arith) (l .inv .3),
+      put-last (l .out) _ (digits (l .left) (l .rest)) _ (l .start) _ (digits-step (l .left) (l .rest) (omega arith))
+          (omega (arith, length-digits (l .left) (l .rest))) (omega arith) (l .inv .3),
     )
 
 sub-start-2 : tie.Need-sub-start-2 Inv-loop μ-loop
@@ -72,10 +75,12 @@ returns-2 c =
     let a = c .before .before .before .args in
     let l = c .before .loop in
     let r = room (c .before .before) in
+    let none = digits-none (l .left) (l .rest) (omega arith) in
     rw (fraction-point (a .decimals) (a .number) (omega arith))
     (put-then 46
-    (put-whole (a .out .now) (l .out) (digits (a .decimals) (a .number)) (a .end) (l .start) (omega (arith, length-digits (a .decimals) (a .number))) (c .before .before .before .pre .1)
-    (sym (put-nothing (l .out) (l .start)) ∙ ap (λ (t : List ℕ). putBefore (l .out) (l .start) t) (sym (digits-none (l .left) (l .rest) (omega arith))) ∙ l .inv .3))
+    (put-whole (a .out .now) (l .out) (digits (a .decimals) (a .number)) (a .end) (l .start)
+    (omega (arith, length-digits (a .decimals) (a .number))) (c .before .before .before .pre .1)
+    (sym (put-nothing (l .out) (l .start)) ∙ ap (λ (t : List ℕ). putBefore (l .out) (l .start) t) (sym none) ∙ l .inv .3))
     (omega arith))
 
 pub put-fraction-spec : {M : Type 1} → statement M

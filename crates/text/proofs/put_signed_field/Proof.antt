@@ -33,9 +33,10 @@ same-length c = search needs
 
 returns : tie.Need-returns
 returns c =
-    let a = c .before .before .before .before .before .before .before .before .before .before .args in
+    let s = c .before .before .before .before .before .before .before .before .before .before in
     let p = rw (size (c .before .before .before .before .before .before .before)) at (c .before .before .before .before .before .before .put-field .ensures) in
-    rw (signed-parts (a .decimals) (a .follower) (a .number)) (put-before p (rw (toZ-ofZ (c .before .before .before .before .before .before .before .before .before .before .fits .number)) at (c .before .before .put-sign .ensures)))
+    let sign = rw (toZ-ofZ (s .fits .number)) at (c .before .before .put-sign .ensures) in
+    rw (signed-parts (s .args .decimals) (s .args .follower) (s .args .number)) (put-before p sign)
 
 pub put-signed-field-spec : {M : Type 1} → statement M
 put-signed-field-spec = tie.close (tie.spec magnitude-requires put-field-requires put-sign-requires same-length returns)

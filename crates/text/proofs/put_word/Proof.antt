@@ -51,7 +51,12 @@ loop-less c = search needs
 loop-again : tie.Need-loop-again Inv-loop μ-loop
 loop-again c =
     let l = c .before .before .loop in
-    (omega arith, omega arith, simp length-set (search needs), less (l .out) (c .before .before .before .args .word .now) _ (l .start) (l .left) (omega arith) (omega arith) (omega arith) (omega arith) (l .inv .3))
+    let word = c .before .before .before .args .word .now in (
+      omega arith,
+      omega arith,
+      simp length-set (search needs),
+      less (l .out) word _ (l .start) (l .left) (omega arith) (omega arith) (omega arith) (omega arith) (l .inv .3),
+    )
 
 same-length : tie.Need-same-length Inv-loop μ-loop
 same-length c = search needs

@@ -8,9 +8,11 @@ use Rattle.valuation.proofs.EntryLaws as laws
 use Rattle.valuation.proofs.value_by_state_prices.Statement.{statement}
 use Rattle.valuation.proofs.value_by_state_prices.Tie as tie
 
-low : (c : tie.After-greatest-of) → c .greatest-of .result ≤ value-limit →
-    greatest-of (c .before .before .before .before .before .before .args .payoffs .now) ≤ value-limit
-low c h = laws.low-payoffs (c .before .before .before .before .before .before .args .payoffs .now) _ (c .greatest-of .ensures) h
+-- past the test no payoff is above the limit
+low : (c : tie.Else4) → greatest-of (c .before .before .before .before .before .before .before .args .payoffs .now) ≤ value-limit
+low c =
+    let s = c .before .before .before .before .before .before .before in
+    laws.low-payoffs (s .args .payoffs .now) _ (c .before .greatest-of .ensures) (c .if4 .left)
 
 refused-requires : tie.Need-refused-requires
 refused-requires c κs = search needs
@@ -37,7 +39,10 @@ refused-requires-4 : tie.Need-refused-requires-4
 refused-requires-4 c κs = search needs
 
 returns-4 : tie.Need-returns-4
-returns-4 c = laws.high-payoff _ _ (c .before .before .before .before .before .if1 .left) (c .before .before .before .before .if2 .left) (c .before .before .before .if3 .left) _ _ (c .refused4 .ensures) (c .before .before .greatest-of .ensures) (c .before .if4 .taken)
+returns-4 c =
+    let e = c .before .before .before in
+    laws.high-payoff _ _ (e .before .before .if1 .left) (e .before .if2 .left) (e .if3 .left)
+    _ _ (c .refused4 .ensures) (c .before .before .greatest-of .ensures) (c .before .if4 .taken)
 
 sums-above-limit-requires : tie.Need-sums-above-limit-requires
 sums-above-limit-requires c κs = search needs
@@ -47,14 +52,16 @@ refused-requires-5 c κs = search needs
 
 returns-5 : tie.Need-returns-5
 returns-5 c =
-    laws.high-sum _ _ (c .before .before .before .before .before .before .before .if1 .left) (c .before .before .before .before .before .before .if2 .left) (c .before .before .before .before .before .if3 .left) (low (c .before .before .before .before) (c .before .before .before .if4 .left))
+    let low-at = c .before .before .before in
+    let e = low-at .before .before in
+    laws.high-sum _ _ (e .before .before .if1 .left) (e .before .if2 .left) (e .if3 .left) (low low-at)
     _ _ (c .refused5 .ensures) (c .before .before .sums-above-limit .ensures) (c .before .if5 .taken)
 
 sum-of-products-requires : tie.Need-sum-of-products-requires
 sum-of-products-requires c κs = (
   c .before .before .before .before .before .before .if1 .left,
   laws.low-sum _ _ (c .before .sums-above-limit .ensures) (c .if5 .left),
-  low (c .before .before .before) (c .before .before .if4 .left),
+  low (c .before .before),
 )
 
 refused-requires-6 : tie.Need-refused-requires-6
@@ -62,12 +69,17 @@ refused-requires-6 c κs = search needs
 
 returns-6 : tie.Need-returns-6
 returns-6 c =
-    laws.high-value _ _ (c .before .before .before .before .before .before .before .before .before .if1 .left) (c .before .before .before .before .before .before .before .before .if2 .left) (c .before .before .before .before .before .before .before .if3 .left) (low (c .before .before .before .before .before .before) (c .before .before .before .before .before .if4 .left))
-    _ (c .before .before .before .before .sums-above-limit .ensures) (c .before .before .before .if5 .left) _ (c .before .before .sum-of-products .ensures) _ (c .refused6 .ensures) (c .before .if6 .taken)
+    let low-at = c .before .before .before .before .before in
+    let e = low-at .before .before in
+    laws.high-value _ _ (e .before .before .if1 .left) (e .before .if2 .left) (e .if3 .left) (low low-at)
+    _ (c .before .before .before .before .sums-above-limit .ensures) (c .before .before .before .if5 .left)
+    _ (c .before .before .sum-of-products .ensures) _ (c .refused6 .ensures) (c .before .if6 .taken)
 
 returns-7 : tie.Need-returns-7
 returns-7 c =
-    laws.value-found _ _ (c .before .before .before .before .before .before .before .before .if1 .left) (c .before .before .before .before .before .before .before .if2 .left) (c .before .before .before .before .before .before .if3 .left) (low (c .before .before .before .before .before) (c .before .before .before .before .if4 .left))
+    let low-at = c .before .before .before .before in
+    let e = low-at .before .before in
+    laws.value-found _ _ (e .before .before .if1 .left) (e .before .if2 .left) (e .if3 .left) (low low-at)
     _ (c .before .before .before .sums-above-limit .ensures) (c .before .before .if5 .left) _ (c .before .sum-of-products .ensures) (c .if6 .left)
 
 pub value-by-state-prices-spec : {M : Type 1} → statement M
