@@ -52,7 +52,13 @@ pub record TreeFitted (b n : ℕ) (accepted : Bool) (discount price : ℕ → �
   pub discounted : discounts′ ≡ rows-or-zeros b n accepted discount discounts
   pub priced : prices′ ≡ rows-or-zeros b (suc n) accepted price prices
 
--- nothing changed past the tree in either
+-- the same, with the answer: whether every discount is accepted
+pub record FitTried (b n : ℕ) (accepted : Bool) (discount price : ℕ → ℕ → ℕ)
+    (discounts prices discounts′ prices′ : List ℕ) (answer : Bool) : Type 0 where
+  pub tested : answer ≡ accepted
+  pub memories : TreeFitted b n answer discount price discounts prices discounts′ prices′
+
+-- nothing changed past the tree in either memory
 pub record PastKept (b n : ℕ) (discounts prices discounts′ prices′ : List ℕ) : Type 0 where
   pub discounted : drop (row-start b n) discounts′ ≡ drop (row-start b n) discounts
   pub priced : drop (row-start b (suc n)) prices′ ≡ drop (row-start b (suc n)) prices

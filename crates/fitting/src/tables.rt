@@ -20,6 +20,7 @@ ghost use Rattle.fitting.specs.Fit.{
   curve-discount,
   curve-price,
   TreeFitted,
+  FitTried,
 };
 
 // A tree's reversion, the spacing of its nodes, and the half width of its widest row that has discounts.
@@ -71,10 +72,9 @@ fn fit_or_clear(
     sums: &mut [u64],
 ) -> bool
     requires { ⌜ RowsReady reversion (now quotes) (now factors) (now downs) (now discounts) (now prices) (now sums) ⌝ }
-    ensures tested { λ r. ⌜ r ≡ table-accepted reversion (now (quotes .entry)) (now (factors .entry)) ⌝ }
-    ensures fitted { λ r. ⌜ TreeFitted reversion (length (now (quotes .entry))) r
+    ensures { λ r. ⌜ FitTried reversion (length (now (quotes .entry))) (table-accepted reversion (now (quotes .entry)) (now (factors .entry)))
         (table-discount reversion (now (quotes .entry)) (now (factors .entry))) (table-price reversion (now (quotes .entry)) (now (factors .entry)))
-        (now (discounts .entry)) (now (prices .entry)) (now (discounts .exit)) (now (prices .exit)) ⌝ }
+        (now (discounts .entry)) (now (prices .entry)) (now (discounts .exit)) (now (prices .exit)) r ⌝ }
 {
     let steps = quotes.len();
     let needed = lattice::discounts_needed(steps, reversion);
@@ -99,10 +99,10 @@ fn fit_tables(
 ) -> bool
     requires { ⌜ QuotesReady (grid .reversion) (grid .spacing) (grid .widest) (now quotes) (length (now discounts)) (length (now prices))
         × (length (now factors) ≡ 2 * grid .widest + 1) × (length (now downs) ≡ 2 * grid .widest + 1) × (most-nodes ≤ length (now sums)) ⌝ }
-    ensures tested { λ r. ⌜ r ≡ curve-accepted (grid .reversion) (grid .spacing) (now (quotes .entry)) ⌝ }
-    ensures fitted { λ r. ⌜ TreeFitted (grid .reversion) (length (now (quotes .entry))) r
+    ensures { λ r. ⌜ FitTried (grid .reversion) (length (now (quotes .entry)))
+        (curve-accepted (grid .reversion) (grid .spacing) (now (quotes .entry)))
         (curve-discount (grid .reversion) (grid .spacing) (now (quotes .entry))) (curve-price (grid .reversion) (grid .spacing) (now (quotes .entry)))
-        (now (discounts .entry)) (now (prices .entry)) (now (discounts .exit)) (now (prices .exit)) ⌝ }
+        (now (discounts .entry)) (now (prices .entry)) (now (discounts .exit)) (now (prices .exit)) r ⌝ }
 {
     fill_factors(grid.widest, grid.spacing, factors);
     branches::down_probabilities(grid.reversion, grid.widest, downs);

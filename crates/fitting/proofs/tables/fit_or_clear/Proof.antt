@@ -46,7 +46,7 @@ same-length-3 c = search needs
 returns : tie.Need-returns
 returns c =
     let rows = c .before .before .before .before .before .before .before .fit-rows in
-    (sym (c .if1 .taken) ∙ rows .ensures .0, rows .ensures .1 .0 (c .if1 .taken))
+    record { tested = sym (c .if1 .taken) ∙ rows .ensures .0; memories = rows .ensures .1 .0 (c .if1 .taken) }
 
 clear-front-requires : tie.Need-clear-front-requires
 clear-front-requires c κs =
@@ -71,11 +71,13 @@ returns-2 : tie.Need-returns-2
 returns-2 c =
     let cleared = c .before .before .before .before .before .before in
     let rejected = cleared .before .before in
-    let fitted = rejected .before .before .before .before .before .before .before in (
-      sym (rejected .if1 .left) ∙ fitted .fit-rows .ensures .0,
-      laws.cleared (fitted .fit-rows .ensures .1 .1) (discounts-size (sized fitted)) (prices-size (sized fitted))
-          (cleared .clear-front .ensures) (c .before .before .clear-front2 .ensures),
-    )
+    let fitted = rejected .before .before .before .before .before .before .before in
+    record {
+      tested = sym (rejected .if1 .left) ∙ fitted .fit-rows .ensures .0;
+      memories =
+          laws.cleared (fitted .fit-rows .ensures .1 .1) (discounts-size (sized fitted)) (prices-size (sized fitted))
+          (cleared .clear-front .ensures) (c .before .before .clear-front2 .ensures);
+    }
 
 pub fit-or-clear-spec : {M : Type 1} → statement M
 fit-or-clear-spec =

@@ -52,7 +52,7 @@ same-length-2 c = search needs
 returns : tie.Need-returns
 returns c =
     let fitted = c .before .before .before .before .before .before .before .before .fit-tables .ensures in
-    (laws.number-none (fitted .0) (c .if1 .taken), laws.fitted-as (fitted .0) (fitted .1))
+    (laws.number-none (fitted .tested) (c .if1 .taken), laws.fitted-as (fitted .tested) (fitted .memories))
 
 same-length-3 : tie.Need-same-length-3
 same-length-3 c = search needs
@@ -63,7 +63,7 @@ same-length-4 c = search needs
 returns-2 : tie.Need-returns-2
 returns-2 c =
     let fitted = c .before .before .before .before .before .before .before .before .fit-tables .ensures in
-    (laws.number-nine (fitted .0) (c .if1 .left), laws.fitted-as (fitted .0) (fitted .1))
+    (laws.number-nine (fitted .tested) (c .if1 .left), laws.fitted-as (fitted .tested) (fitted .memories))
 
 pub fit-quotes-spec : {M : Type 1} → statement M
 fit-quotes-spec =

@@ -53,10 +53,11 @@ returns : tie.Need-returns
 returns c =
     let fitted = c .before .before .before .before .before .before in
     let filled = fitted .before .before .before .before .before .before .before .before .before .before .before .before in
-    let s = start filled in (
-      fitted .fit-or-clear .ensures .0 ∙ laws.accepted-same (s .pre .0) _ (s .pre .1) (filled .fill-factors .ensures),
-      laws.fitted-same (s .pre .0) _ (s .pre .1) (filled .fill-factors .ensures) (fitted .fit-or-clear .ensures .1),
-    )
+    let s = start filled in
+    record {
+      tested = fitted .fit-or-clear .ensures .tested ∙ laws.accepted-same (s .pre .0) _ (s .pre .1) (filled .fill-factors .ensures);
+      memories = laws.fitted-same (s .pre .0) _ (s .pre .1) (filled .fill-factors .ensures) (fitted .fit-or-clear .ensures .memories);
+    }
 
 pub fit-tables-spec : {M : Type 1} → statement M
 fit-tables-spec =
