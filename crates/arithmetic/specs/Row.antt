@@ -17,8 +17,8 @@ abbrev pub values : List ℕ → ℕ → ℕ
 values l k = getD l k 0
 
 -- the greatest of a list; 0 where it is empty
-abbrev pub greatest-of : List ℕ → ℕ
-greatest-of l = greatest (length l) (values l)
+abbrev pub greatestOf : List ℕ → ℕ
+greatestOf l = greatest (length l) (values l)
 
 -- a memory in which a list stands from an index on, everything else as it was
 unfoldable pub place : List ℕ → ℕ → List ℕ → List ℕ

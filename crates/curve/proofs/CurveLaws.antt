@@ -16,7 +16,7 @@ use Rattle.arithmetic.specs.Row.{row, values, place, each}
 use Rattle.arithmetic.proofs.RowLaws.{length-row, values-row, each-holds}
 use Rattle.arithmetic.specs.Frequency.{listed}
 use Rattle.quotes.proofs.QuoteLaws.{lone-told, lone-seventh, row-known}
-use Rattle.limits.specs.Limits.{most-steps, is-steps}
+use Rattle.limits.specs.Limits.{mostSteps, isSteps}
 use Rattle.limits.proofs.LimitLaws.{from-one}
 use Rattle.curve.specs.Curve.{placeAt, inPlace, answerAt, convertsAt, discountAt, curveNumber, curveMemory}
 use Rattle.arithmetic.proofs.PlaceLaws.{length-place, place-inside, place-after}
@@ -102,7 +102,7 @@ number-none true true true true h = (refl, refl, refl, refl)
 pub record Accepted (f n : ℕ) (rows kinds : List ℕ) (figures : List Float) (room : ℕ) : Type 0 where
   pub frequency : listed f ≡ true
   pub least : 1 ≤ n
-  pub most : n ≤ most-steps
+  pub most : n ≤ mostSteps
   pub rows-long : length rows ≡ n
   pub kinds-long : length kinds ≡ n
   pub figures-long : length figures ≡ n
@@ -116,11 +116,11 @@ module _ (f n : ℕ) (rows kinds : List ℕ) (figures : List Float) (room : ℕ)
   number-frequency h = rw h
 
   module _ (a : listed f ≡ true) where
-    pub number-steps : is-steps n ≡ false → curveNumber f n rows kinds figures room ≡ 3
+    pub number-steps : isSteps n ≡ false → curveNumber f n rows kinds figures room ≡ 3
     unfolding curveNumber
     number-steps h = rw (a, h)
 
-    module _ (h : is-steps n ≡ true) where
+    module _ (h : isSteps n ≡ true) where
       pub number-place : inPlace n rows kinds figures room ≡ false → curveNumber f n rows kinds figures room ≡ 6
       unfolding curveNumber
       number-place p = rw (a, h, p)
@@ -141,8 +141,8 @@ module _ (f n : ℕ) (rows kinds : List ℕ) (figures : List Float) (room : ℕ)
   pub accepted : curveNumber f n rows kinds figures room ≡ 0 → Accepted f n rows kinds figures room
   unfolding curveNumber inPlace
   accepted h =
-      let parts = number-none (listed f) (is-steps n) (inPlace n rows kinds figures room) (each n (convertsAt f kinds figures)) h in
-      let steps = from-one most-steps n (parts .1) in
+      let parts = number-none (listed f) (isSteps n) (inPlace n rows kinds figures room) (each n (convertsAt f kinds figures)) h in
+      let steps = from-one mostSteps n (parts .1) in
       let places = five (eqb (length rows) n) (eqb (length kinds) n) (eqb (length figures) n) (leb n room) (each n (placeAt rows)) (parts .2) in
       record {
         frequency = parts .0;

@@ -9,12 +9,12 @@ use lib.ListN.{length, set}
 use Rattle.arithmetic.specs.Rounding.{one}
 use Rattle.arithmetic.specs.Row.{row, values, each}
 use Rattle.arithmetic.proofs.RowLaws.{Filled, filled-start, filled-next, filled-all, row-cong, length-row, each-none, each-more, each-fails}
-use Rattle.limits.specs.Limits.{most-discount, is-discount}
+use Rattle.limits.specs.Limits.{mostDiscount, isDiscount}
 use Rattle.tree.specs.Tree.{chance, incoming}
 use Rattle.tree.proofs.StepLaws.{incoming-none}
-use Rattle.row_branches.specs.RowBranches.{row-branch, row-transition}
+use Rattle.row_branches.specs.RowBranches.{rowBranch, rowTransition}
 use Rattle.fit_laws.specs.Step.{carried}
-use Rattle.fitting.specs.Bounds.{most-quote, most-factor, most-row-sum}
+use Rattle.fitting.specs.Bounds.{mostQuote, mostFactor, mostRowSum}
 use Rattle.fitting.specs.Preconditions.{StepReady, SpreadReady}
 use Rattle.fitting.proofs.StepRows.{AtNode, quoted-small, node-asks, sums-small, product-most, amount-most, sums-next}
 
@@ -24,14 +24,14 @@ ratio quote factors z k = quote * values factors k / z
 
 -- the sums over the branches of the first k nodes into each node of a next row of m nodes
 abbrev pub spread-sums : ℕ → List ℕ → ℕ → List ℕ → List ℕ → ℕ → ℕ → List ℕ
-spread-sums quote factors z prices downs m k = row m (incoming (row-transition downs m) k (carried (values prices) (ratio quote factors z)))
+spread-sums quote factors z prices downs m k = row m (incoming (rowTransition downs m) k (carried (values prices) (ratio quote factors z)))
 
 -- discounts d and sums s after k nodes; d₀ and s₀ before the first
 pub record Stepping (quote z : ℕ) (prices factors downs d₀ s₀ d s : List ℕ) (k : ℕ) : Type 0 where
   pub within : k ≤ length prices
   pub filled : Filled d₀ d (ratio quote factors z) k
   pub spread : s ≡ spread-sums quote factors z prices downs (length s₀) k
-  pub good : each k (λ i. is-discount (ratio quote factors z i)) ≡ true
+  pub good : each k (λ i. isDiscount (ratio quote factors z i)) ≡ true
 
 pub stepping-start : (quote z : ℕ) (prices factors downs d₀ s₀ : List ℕ) → s₀ ≡ row (length s₀) (λ j. 0) →
     Stepping quote z prices factors downs d₀ s₀ d₀ s₀ 0
@@ -39,7 +39,7 @@ stepping-start quote z prices factors downs d₀ s₀ e =
     record {
       within = omega arith;
       filled = filled-start d₀ (ratio quote factors z);
-      spread = e ∙ row-cong (length s₀) _ _ (λ j _. sym (incoming-none (row-transition downs (length s₀)) (carried (values prices) (ratio quote factors z)) j));
+      spread = e ∙ row-cong (length s₀) _ _ (λ j _. sym (incoming-none (rowTransition downs (length s₀)) (carried (values prices) (ratio quote factors z)) j));
       good = each-none _;
     }
 
@@ -55,13 +55,13 @@ module _ {quote z : ℕ} {prices factors downs d₀ s₀ : List ℕ} (ready : St
     pub factor-there : k < length factors
     factor-there = omega (arith, ready .factors-bounded .length-is)
 
-    pub quoted-fits : quote * values factors k ≤ most-quote * most-factor
+    pub quoted-fits : quote * values factors k ≤ mostQuote * mostFactor
     quoted-fits = quoted-small quote (values factors k) (ready .quote-within-limit) (ready .factors-bounded .at-most k hk)
 
-    pub stepping-fails : is-discount (ratio quote factors z k) ≡ false → false ≡ each (length prices) (λ i. is-discount (ratio quote factors z i))
-    stepping-fails e = sym (each-fails (length prices) k (λ i. is-discount (ratio quote factors z i)) hk e)
+    pub stepping-fails : isDiscount (ratio quote factors z k) ≡ false → false ≡ each (length prices) (λ i. isDiscount (ratio quote factors z i))
+    stepping-fails e = sym (each-fails (length prices) k (λ i. isDiscount (ratio quote factors z i)) hk e)
 
-    at-node : AtNode (row-transition downs (length s₀)) (length prices) (length s₀) (values prices) (ratio quote factors z) k
+    at-node : AtNode (rowTransition downs (length s₀)) (length prices) (length s₀) (values prices) (ratio quote factors z) k
     at-node =
         record {
           inside = ready .branches-inside;
@@ -71,11 +71,11 @@ module _ {quote z : ℕ} {prices factors downs d₀ s₀ : List ℕ} (ready : St
           accepted = g .good;
         }
 
-    module _ (this : is-discount (ratio quote factors z k) ≡ true) where
-      pub product-fits : values prices k * ratio quote factors z k ≤ most-row-sum * most-discount
+    module _ (this : isDiscount (ratio quote factors z k) ≡ true) where
+      pub product-fits : values prices k * ratio quote factors z k ≤ mostRowSum * mostDiscount
       product-fits = product-most at-node this
 
-      pub spread-asks : SpreadReady (row-branch downs (length s) k) (values prices k * ratio quote factors z k / one) s
+      pub spread-asks : SpreadReady (rowBranch downs (length s) k) (values prices k * ratio quote factors z k / one) s
       spread-asks =
           let asks = node-asks downs (length s₀) (length prices) k (ready .branches-inside) (ready .branches-total) hk in
           record {
@@ -86,7 +86,7 @@ module _ {quote z : ℕ} {prices factors downs d₀ s₀ : List ℕ} (ready : St
           }
 
       pub stepping-next : (s′ : List ℕ) →
-          s′ ≡ row (length s) (λ j. values s j + chance (row-transition downs (length s)) k j * (values prices k * ratio quote factors z k / one)) →
+          s′ ≡ row (length s) (λ j. values s j + chance (rowTransition downs (length s)) k j * (values prices k * ratio quote factors z k / one)) →
           Stepping quote z prices factors downs d₀ s₀ (set d k (ratio quote factors z k)) s′ (k + 1)
       unfolding carried
       stepping-next s′ e =
@@ -95,14 +95,14 @@ module _ {quote z : ℕ} {prices factors downs d₀ s₀ : List ℕ} (ready : St
             filled = filled-next d₀ d (ratio quote factors z) k (ratio quote factors z k) (g .filled) (omega (arith, discounts-length)) refl;
             spread =
                 sums-next at-node this s s′ (values prices k * ratio quote factors z k / one) refl (g .spread)
-                (e ∙ ap (λ (m : ℕ). row (length s) (λ j. values s j + chance (row-transition downs m) k j
+                (e ∙ ap (λ (m : ℕ). row (length s) (λ j. values s j + chance (rowTransition downs m) k j
                 * (values prices k * ratio quote factors z k / one))) sums-length);
-            good = each-more k (λ i. is-discount (ratio quote factors z i)) (g .good) this;
+            good = each-more k (λ i. isDiscount (ratio quote factors z i)) (g .good) this;
           }
 
   module _ (all : k ≡ length prices) where
-    pub stepping-good : true ≡ each (length prices) (λ i. is-discount (ratio quote factors z i))
-    stepping-good = sym (ap (λ (n : ℕ). each n (λ i. is-discount (ratio quote factors z i))) (sym all) ∙ g .good)
+    pub stepping-good : true ≡ each (length prices) (λ i. isDiscount (ratio quote factors z i))
+    stepping-good = sym (ap (λ (n : ℕ). each n (λ i. isDiscount (ratio quote factors z i))) (sym all) ∙ g .good)
 
     pub stepping-filled : d ≡ row (length prices) (ratio quote factors z)
     stepping-filled =

@@ -11,11 +11,11 @@ use lib.Seq.{take-at, drop-at, length-take-le, drop-drop}
 use Rattle.arithmetic.specs.Row.{row, values, place, each}
 use Rattle.arithmetic.proofs.PartLaws.{part-is, part-length}
 use Rattle.arithmetic.proofs.RowLaws.{row-cong, values-row, length-row}
-use Rattle.tree.specs.Tree.{incoming, whole}
-use Rattle.row_branches.specs.RowBranches.{row-transition}
-use Rattle.limits.specs.Limits.{is-discount}
-use Rattle.fit_laws.specs.Step.{carried, next-price}
-use Rattle.fitting.specs.Rows.{RowStepped, RowFitted, row-prices, row-discounts}
+use Rattle.tree.specs.Tree.{incoming, probabilityTotal}
+use Rattle.row_branches.specs.RowBranches.{rowTransition}
+use Rattle.limits.specs.Limits.{isDiscount}
+use Rattle.fit_laws.specs.Step.{carried, nextPrice}
+use Rattle.fitting.specs.Rows.{RowStepped, RowFitted, rowPrices, rowDiscounts}
 use Rattle.fitting.specs.Preconditions.{StepReady, RowReady}
 use Rattle.fitting.proofs.StepRows.{never}
 
@@ -78,14 +78,14 @@ module _ {at next quote : ℕ} {factors downs discounts prices sums : List ℕ} 
   module _ {d′ s′ : List ℕ} {r : Bool}
       (step : RowStepped quote (length (take next sums)) (lent at (length factors) prices) factors downs d′ s′ r)
       (long : length d′ ≡ length (lent at (length factors) discounts)) where
-    row-tested : r ≡ each (length factors) (λ k. is-discount (row-discounts at (length factors) quote (values factors) prices k))
+    row-tested : r ≡ each (length factors) (λ k. isDiscount (rowDiscounts at (length factors) quote (values factors) prices k))
     row-tested = step .tested ∙ rw (lent-prices, part-is prices at (length factors))
 
     placed : replaced at (at + length factors - at) discounts d′ ≡ place discounts at d′
     placed = replaced-place at (length factors) discounts d′ (long ∙ lent-discounts)
 
     row-filled : r ≡ true → replaced at (at + length factors - at) discounts d′
-        ≡ place discounts at (row (length factors) (row-discounts at (length factors) quote (values factors) prices))
+        ≡ place discounts at (row (length factors) (rowDiscounts at (length factors) quote (values factors) prices))
     row-filled t = placed ∙ ap (place discounts at) (step .filled t ∙ rw (lent-prices, part-is prices at (length factors)))
 
     row-kept : drop (at + length factors) (replaced at (at + length factors - at) discounts d′) ≡ drop (at + length factors) discounts
@@ -94,14 +94,14 @@ module _ {at next quote : ℕ} {factors downs discounts prices sums : List ℕ} 
         ∙ place-past discounts d′ at (length factors) (long ∙ lent-discounts) (omega (arith, ready .room-discounts))
 
     -- a discount was not accepted
-    pub row-refused : r ≡ false → RowFitted at (length factors) next quote (values factors) (row-transition downs next)
+    pub row-refused : r ≡ false → RowFitted at (length factors) next quote (values factors) (rowTransition downs next)
         discounts prices (replaced at (at + length factors - at) discounts d′) prices false
     row-refused e = record { tested = sym e ∙ row-tested; filled = λ t. never t; kept = row-kept; stepped = refl }
 
     -- all were
     module _ (t : r ≡ true) where
-      sums-known : s′ ≡ row next (incoming (row-transition downs next) (length factors)
-          (carried (row-prices at (length factors) prices) (row-discounts at (length factors) quote (values factors) prices)))
+      sums-known : s′ ≡ row next (incoming (rowTransition downs next) (length factors)
+          (carried (rowPrices at (length factors) prices) (rowDiscounts at (length factors) quote (values factors) prices)))
       sums-known = step .spreads t ∙ rw (front-length, lent-prices, part-is prices at (length factors))
 
       sums-length : length s′ ≡ next
@@ -120,16 +120,16 @@ module _ {at next quote : ℕ} {factors downs discounts prices sums : List ℕ} 
       divide-asks = front-again ∙ sym next-length
 
       module _ {p′ : List ℕ}
-          (divided : p′ ≡ row (length (lent (at + length factors) next prices)) (λ j. values (take next (s′ ++ drop next sums)) j / whole)) where
+          (divided : p′ ≡ row (length (lent (at + length factors) next prices)) (λ j. values (take next (s′ ++ drop next sums)) j / probabilityTotal)) where
         next-prices : p′ ≡ row next
-            (next-price (row-transition downs next) (length factors) (row-prices at (length factors) prices)
-            (row-discounts at (length factors) quote (values factors) prices))
-        unfolding next-price
+            (nextPrice (rowTransition downs next) (length factors) (rowPrices at (length factors) prices)
+            (rowDiscounts at (length factors) quote (values factors) prices))
+        unfolding nextPrice
         next-prices =
             divided ∙ rw (next-length, front-is)
-            (row-cong next _ _ (λ j h. ap (λ (x : ℕ). x / whole) (ap (λ (l : List ℕ). values l j) sums-known ∙ values-row next j _ h)))
+            (row-cong next _ _ (λ j h. ap (λ (x : ℕ). x / probabilityTotal) (ap (λ (l : List ℕ). values l j) sums-known ∙ values-row next j _ h)))
 
-        pub row-accepted : RowFitted at (length factors) next quote (values factors) (row-transition downs next) discounts prices
+        pub row-accepted : RowFitted at (length factors) next quote (values factors) (rowTransition downs next) discounts prices
             (replaced at (at + length factors - at) discounts d′)
             (replaced (at + length factors) (at + length factors + next - (at + length factors)) prices p′) true
         row-accepted =

@@ -11,17 +11,17 @@ use Rattle.arithmetic.specs.Row.{row, values, each}
 use Rattle.arithmetic.proofs.SumLaws.{sum-weigh-ge}
 use Rattle.arithmetic.proofs.RowLaws.{length-row}
 use Rattle.tree.specs.Tree.{incoming}
-use Rattle.row_branches.specs.RowBranches.{row-transition}
-use Rattle.limits.specs.Limits.{is-discount}
+use Rattle.row_branches.specs.RowBranches.{rowTransition}
+use Rattle.limits.specs.Limits.{isDiscount}
 use Rattle.fit_laws.specs.Step.{normaliser, discount, carried}
 use Rattle.fit_laws.proofs.StepLaws.{normaliser-ge}
-use Rattle.fitting.specs.Bounds.{least-factor, least-row-sum}
+use Rattle.fitting.specs.Bounds.{leastFactor, leastRowSum}
 use Rattle.fitting.specs.Rows.{RowStepped}
 use Rattle.fitting.specs.Preconditions.{StepReady}
 
 -- Z is not 0
-normaliser-positive : (n : ℕ) (q u : ℕ → ℕ) → least-row-sum ≤ sum n q → ((k : ℕ) → k < n → least-factor ≤ u k) → 0 < normaliser n q u
-normaliser-positive n q u low least = omega (arith, sum-weigh-ge n least-factor q u least, normaliser-ge n q u)
+normaliser-positive : (n : ℕ) (q u : ℕ → ℕ) → leastRowSum ≤ sum n q → ((k : ℕ) → k < n → leastFactor ≤ u k) → 0 < normaliser n q u
+normaliser-positive n q u low least = omega (arith, sum-weigh-ge n leastFactor q u least, normaliser-ge n q u)
 
 -- what the loop asks once Z is known and the sums were cleared
 module _ {quote discounts next : ℕ} {prices factors downs : List ℕ} (ready : StepReady quote prices factors downs discounts next) where
@@ -42,9 +42,9 @@ module _ {quote discounts next : ℕ} {prices factors downs : List ℕ} (ready :
 -- what the loop leaves, by the step's definitions; the sums before it were cleared
 module _ (quote z next : ℕ) (prices factors downs : List ℕ) (ez : z ≡ normaliser (length prices) (values prices) (values factors))
     (cleared discounts sums : List ℕ) (r : Bool) (ec : cleared ≡ row next (λ j. 0))
-    (er : r ≡ each (length prices) (λ k. is-discount (quote * values factors k / z)))
+    (er : r ≡ each (length prices) (λ k. isDiscount (quote * values factors k / z)))
     (ed : r ≡ true → discounts ≡ row (length prices) (λ k. quote * values factors k / z))
-    (es : r ≡ true → sums ≡ row (length cleared) (incoming (row-transition downs (length cleared)) (length prices)
+    (es : r ≡ true → sums ≡ row (length cleared) (incoming (rowTransition downs (length cleared)) (length prices)
     (carried (values prices) (λ k. quote * values factors k / z)))) where
   pub stepped : RowStepped quote next prices factors downs discounts sums r
   unfolding discount
@@ -53,7 +53,7 @@ module _ (quote z next : ℕ) (prices factors downs : List ℕ) (ez : z ≡ norm
         tested = er ∙ rw ez;
         filled = λ t. ed t ∙ rw ez;
         spreads = λ t. es t
-            ∙ ap (λ (m : ℕ). row m (incoming (row-transition downs m) (length prices) (carried (values prices) (λ k. quote * values factors k / z))))
+            ∙ ap (λ (m : ℕ). row m (incoming (rowTransition downs m) (length prices) (carried (values prices) (λ k. quote * values factors k / z))))
             (ap length ec ∙ length-row next (λ j. 0))
             ∙ rw ez;
       }

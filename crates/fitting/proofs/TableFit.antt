@@ -13,79 +13,79 @@ use Rattle.arithmetic.specs.Row.{row, values}
 use Rattle.arithmetic.proofs.RowLaws.{values-row, length-row, each-cong}
 use Rattle.tree.specs.Layout.{laid}
 use Rattle.tree.proofs.LayoutLaws.{laid-cong}
-use Rattle.lattice.specs.Shape.{half-width, node-count, row-start, discounts-needed, state-prices-needed}
-use Rattle.lattice.specs.Branching.{down}
-use Rattle.lattice.specs.RateTree.{node-at, node, rate-tree}
-use Rattle.lattice.specs.Entries.{tableOf, discountsNeeded, statePricesNeeded}
+use Rattle.lattice.specs.Shape.{halfWidth, nodeCount, rowStart, discountsNeeded, statePricesNeeded}
+use Rattle.lattice.specs.Branching.{downProbability}
+use Rattle.lattice.specs.RateTree.{nodeOfIndex, node, rateTree}
+use Rattle.lattice.specs.Entries.{tableOf, discountsNeededAnswer, statePricesNeededAnswer}
 use Rattle.lattice.proofs.EntryLaws.{tree-found}
 use Rattle.lattice.proofs.Differences.{sub-is, sub-size}
 use Rattle.lattice.proofs.RateTreeLaws.{same-node}
 use Rattle.lattice.proofs.TableLaws.{table-fits}
-use Rattle.factor.specs.Factor.{factor, side-answer}
+use Rattle.factor.specs.Factor.{factor, sideAnswer}
 use Rattle.factor.proofs.FactorLaws.{index-below, index-above, side-accepted, nearer-within, factor-bounds}
-use Rattle.limits.specs.Limits.{most-steps, is-discount}
-use Rattle.fit_laws.specs.StatePrices.{accepted-row}
+use Rattle.limits.specs.Limits.{mostSteps, isDiscount}
+use Rattle.fit_laws.specs.StatePrices.{acceptedRow}
 use Rattle.fit_laws.proofs.WholeFit.{price-by, fitted-discount-by}
-use Rattle.fitting.specs.Bounds.{least-factor, most-factor}
-use Rattle.fitting.specs.Rows.{table-factor}
+use Rattle.fitting.specs.Bounds.{leastFactor, mostFactor}
+use Rattle.fitting.specs.Rows.{tableFactor}
 use Rattle.fitting.specs.Preconditions.{Tables, QuotesReady}
 use Rattle.fitting.specs.Fit.{
   quoted,
-  table-discount,
-  table-price,
-  table-accepted,
-  curve-discount,
-  curve-price,
-  curve-accepted,
-  node-factor,
+  tableDiscount,
+  tablePrice,
+  tableAccepted,
+  curveDiscount,
+  curvePrice,
+  curveAccepted,
+  nodeFactor,
   TreeFitted,
   PastKept,
 }
-use Rattle.lattice.specs.Entries.{table-offset}
+use Rattle.lattice.specs.Entries.{tableOffset}
 use Rattle.lattice.proofs.Sizes.{half-within}
 use Rattle.lattice.proofs.ShapeLaws.{table-room, offset-is}
 
 -- the factors of a row of half width w by index
 abbrev pub factors-at : ℕ → ℕ → ℕ → ℕ
-factors-at w h k = factor (node-at w k) h
+factors-at w h k = factor (nodeOfIndex w k) h
 
 -- the factor's entry on either side of the middle
 module _ (w k h : ℕ) {a : Answer} (within : w * h ≤ one) where
-  pub below-value : k < w → a ≡ side-answer (w - k) true h → a .value ≡ factor (node-at w k) h
-  unfolding node-at
+  pub below-value : k < w → a ≡ sideAnswer (w - k) true h → a .value ≡ factor (nodeOfIndex w k) h
+  unfolding nodeOfIndex
   below-value l e =
       ap (λ (x : Answer). x .value) (e ∙ side-accepted (w - k) true h (nearer-within (w - k) w h (omega arith) within))
       ∙ sym (index-below w k h l) ∙ ap (λ (j : ℤ). factor j h) (sym (sub-is k w))
 
-  pub above-value : w ≤ k → k ≤ 2 * w → a ≡ side-answer (k - w) false h → a .value ≡ factor (node-at w k) h
-  unfolding node-at
+  pub above-value : w ≤ k → k ≤ 2 * w → a ≡ sideAnswer (k - w) false h → a .value ≡ factor (nodeOfIndex w k) h
+  unfolding nodeOfIndex
   above-value l m e =
       ap (λ (x : Answer). x .value) (e ∙ side-accepted (k - w) false h (nearer-within (k - w) w h (omega arith) within))
       ∙ sym (index-above w k h l) ∙ ap (λ (j : ℤ). factor j h) (sym (sub-is k w))
 
 -- every node of a row has a factor within the bounds of the series
 table-bounds : (w k h : ℕ) → w * h ≤ one → k < 2 * w + 1 →
-    (least-factor ≤ factor (node-at w k) h) × (factor (node-at w k) h ≤ most-factor)
-unfolding node-at
+    (leastFactor ≤ factor (nodeOfIndex w k) h) × (factor (nodeOfIndex w k) h ≤ mostFactor)
+unfolding nodeOfIndex
 table-bounds w k h within l = factor-bounds (subℕ k w) h (nearer-within (natAbs (subℕ k w)) w h (omega (arith, sub-size k w)) within)
 
 -- the half width of row n − 1 is below the number of steps
-pub widest-small : {b h w : ℕ} {q : List ℕ} {ds ps : ℕ} → QuotesReady b h w q ds ps → w + 1 ≤ most-steps
+pub widest-small : {b h w : ℕ} {q : List ℕ} {ds ps : ℕ} → QuotesReady b h w q ds ps → w + 1 ≤ mostSteps
 widest-small {b} {h} {w} {q} f = omega (arith, f .widest-is, f .steps-positive, f .steps-within-limit, half-within b (length q - 1))
 
 module _ {b h w : ℕ} {q : List ℕ} {ds ps : ℕ} (f : QuotesReady b h w q ds ps) {factors : List ℕ} (count : ℕ) (long : count ≡ 2 * w + 1)
-    (ef : factors ≡ row count (λ k. factor (node-at w k) h)) where
-  count-is : count ≡ node-count b (length q - 1)
-  unfolding node-count
+    (ef : factors ≡ row count (λ k. factor (nodeOfIndex w k) h)) where
+  count-is : count ≡ nodeCount b (length q - 1)
+  unfolding nodeCount
   count-is = long ∙ rw (f .widest-is)
 
-  factors-long : length factors ≡ node-count b (length q - 1)
+  factors-long : length factors ≡ nodeCount b (length q - 1)
   factors-long = ap length ef ∙ length-row count _ ∙ count-is
 
-  factors-value : (k : ℕ) → k < node-count b (length q - 1) → values factors k ≡ factor (node-at w k) h
+  factors-value : (k : ℕ) → k < nodeCount b (length q - 1) → values factors k ≡ factor (nodeOfIndex w k) h
   factors-value k l = ap (λ (x : List ℕ). values x k) ef ∙ values-row count k _ (rw count-is l)
 
-  factors-range : (k : ℕ) → k < node-count b (length q - 1) → (least-factor ≤ factor (node-at w k) h) × (factor (node-at w k) h ≤ most-factor)
+  factors-range : (k : ℕ) → k < nodeCount b (length q - 1) → (leastFactor ≤ factor (nodeOfIndex w k) h) × (factor (nodeOfIndex w k) h ≤ mostFactor)
   factors-range k l = table-bounds w k h (f .spacing-within-one) (rw (← long, count-is) l)
 
   pub tables-of : (downs : List ℕ) {after : List ℕ} → length downs ≡ 2 * w + 1 → after ≡ tableOf b w downs → Tables b (length q) factors after
@@ -99,50 +99,50 @@ module _ {b h w : ℕ} {q : List ℕ} {ds ps : ℕ} (f : QuotesReady b h w q ds 
           at-least = λ k l. rw (factors-value k l) (factors-range k l .0);
           at-most = λ k l. rw (factors-value k l) (factors-range k l .1);
         };
-        downs-length = ap length known ∙ length-row (node-count b (length q - 1)) _;
-        downs-hold = λ k l. ap (λ (x : List ℕ). values x k) known ∙ values-row (node-count b (length q - 1)) k _ l;
+        downs-length = ap length known ∙ length-row (nodeCount b (length q - 1)) _;
+        downs-hold = λ k l. ap (λ (x : List ℕ). values x k) known ∙ values-row (nodeCount b (length q - 1)) k _ l;
       }
     where
-      known : after ≡ row (node-count b (length q - 1)) (λ k. down b (node b (length q - 1) k))
+      known : after ≡ row (nodeCount b (length q - 1)) (λ k. downProbability b (node b (length q - 1) k))
       known =
           ea ∙ ap (λ (x : ℕ). tableOf b x downs) (f .widest-is)
           ∙ table-fits b (length q - 1) downs (f .reversion-within-limit) (omega (arith, f .steps-within-limit)) (ed ∙ sym long ∙ count-is) .1
 
   -- each row's factors are those of its nodes
-  factor-by : (i k : ℕ) → i < length q → k < node-count b i → table-factor b (length q) factors i k ≡ node-factor b h i k
-  unfolding table-factor
+  factor-by : (i k : ℕ) → i < length q → k < nodeCount b i → tableFactor b (length q) factors i k ≡ nodeFactor b h i k
+  unfolding tableFactor
   factor-by i k l m =
-      let g : table-offset b (length q - 1) i + k < node-count b (length q - 1) = omega (arith, table-room b (length q - 1) i (omega arith)) in
-      let e : table-offset b (length q - 1) i + k ≡ k + table-offset b (length q - 1) i = omega arith in
-      factors-value (table-offset b (length q - 1) i + k) g
-      ∙ ap (λ (x : ℕ). factor (node-at w x) h) e
-      ∙ ap (λ (x : ℕ). factor (node-at x (k + table-offset b (length q - 1) i)) h) (f .widest-is ∙ sym (offset-is b (length q - 1) i (omega arith)))
-      ∙ ap (λ (j : ℤ). factor j h) (same-node (half-width b i) k (table-offset b (length q - 1) i))
+      let g : tableOffset b (length q - 1) i + k < nodeCount b (length q - 1) = omega (arith, table-room b (length q - 1) i (omega arith)) in
+      let e : tableOffset b (length q - 1) i + k ≡ k + tableOffset b (length q - 1) i = omega arith in
+      factors-value (tableOffset b (length q - 1) i + k) g
+      ∙ ap (λ (x : ℕ). factor (nodeOfIndex w x) h) e
+      ∙ ap (λ (x : ℕ). factor (nodeOfIndex x (k + tableOffset b (length q - 1) i)) h) (f .widest-is ∙ sym (offset-is b (length q - 1) i (omega arith)))
+      ∙ ap (λ (j : ℤ). factor j h) (same-node (halfWidth b i) k (tableOffset b (length q - 1) i))
 
-  same : (i k : ℕ) → i < length q → k < rate-tree b .nodes i → table-factor b (length q) factors i k ≡ node-factor b h i k
-  unfolding rate-tree
+  same : (i k : ℕ) → i < length q → k < rateTree b .nodes i → tableFactor b (length q) factors i k ≡ nodeFactor b h i k
+  unfolding rateTree
   same i k l m = factor-by i k l m
 
-  discount-same : (i k : ℕ) → i < length q → k < rate-tree b .nodes i → table-discount b q factors i k ≡ curve-discount b h q i k
-  discount-same i k l m = fitted-discount-by (rate-tree b) _ (node-factor b h) (quoted q) (length q) same i l k m
+  discount-same : (i k : ℕ) → i < length q → k < rateTree b .nodes i → tableDiscount b q factors i k ≡ curveDiscount b h q i k
+  discount-same i k l m = fitted-discount-by (rateTree b) _ (nodeFactor b h) (quoted q) (length q) same i l k m
 
-  pub accepted-same : table-accepted b q factors ≡ curve-accepted b h q
-  unfolding table-accepted curve-accepted accepted-row
+  pub accepted-same : tableAccepted b q factors ≡ curveAccepted b h q
+  unfolding tableAccepted curveAccepted acceptedRow
   accepted-same =
-      each-cong (length q) _ _ (λ i l. each-cong (rate-tree b .nodes i) _ _ (λ k m. ap is-discount (discount-same i k l m)))
+      each-cong (length q) _ _ (λ i l. each-cong (rateTree b .nodes i) _ _ (λ k m. ap isDiscount (discount-same i k l m)))
 
-  discounts-same : laid (rate-tree b) (table-discount b q factors) (length q) ≡ laid (rate-tree b) (curve-discount b h q) (length q)
-  discounts-same = laid-cong (rate-tree b) _ _ (length q) discount-same
+  discounts-same : laid (rateTree b) (tableDiscount b q factors) (length q) ≡ laid (rateTree b) (curveDiscount b h q) (length q)
+  discounts-same = laid-cong (rateTree b) _ _ (length q) discount-same
 
-  prices-same : laid (rate-tree b) (table-price b q factors) (suc (length q)) ≡ laid (rate-tree b) (curve-price b h q) (suc (length q))
+  prices-same : laid (rateTree b) (tablePrice b q factors) (suc (length q)) ≡ laid (rateTree b) (curvePrice b h q) (suc (length q))
   prices-same =
-      laid-cong (rate-tree b) _ _ (suc (length q))
-      (λ i k l m. price-by (rate-tree b) _ (node-factor b h) (quoted q) (length q) same i (omega arith) k)
+      laid-cong (rateTree b) _ _ (suc (length q))
+      (λ i k l m. price-by (rateTree b) _ (nodeFactor b h) (quoted q) (length q) same i (omega arith) k)
 
   -- the fit from the tables is that of the definitions
   pub fitted-same : {r : Bool} {d p d′ p′ : List ℕ} →
-      TreeFitted b (length q) r (table-discount b q factors) (table-price b q factors) d p d′ p′ →
-      TreeFitted b (length q) r (curve-discount b h q) (curve-price b h q) d p d′ p′
+      TreeFitted b (length q) r (tableDiscount b q factors) (tablePrice b q factors) d p d′ p′ →
+      TreeFitted b (length q) r (curveDiscount b h q) (curvePrice b h q) d p d′ p′
   fitted-same t = record { discounted = rw discounts-same at (t .discounted); priced = rw prices-same at (t .priced) }
 
 -- what the lattice answers about the sizes of an accepted tree
@@ -150,25 +150,25 @@ module _ {b n : ℕ} {factors downs : List ℕ} (t : Tables b n factors downs) w
   nonzero : n ≡ 0 → ⊥
   nonzero z = omega (arith, t .steps-positive)
 
-  pub needed-discounts : {a : Answer} → a ≡ discountsNeeded n b → a .value ≡ row-start b n
-  unfolding discounts-needed
+  pub needed-discounts : {a : Answer} → a ≡ discountsNeededAnswer n b → a .value ≡ rowStart b n
+  unfolding discountsNeeded
   needed-discounts e = ap (λ (x : Answer). x .value) (e ∙ tree-found n b _ nonzero (t .steps-within-limit) (t .reversion-within-limit))
 
-  pub needed-prices : {a : Answer} → a ≡ statePricesNeeded n b → a .value ≡ row-start b (suc n)
-  unfolding state-prices-needed
+  pub needed-prices : {a : Answer} → a ≡ statePricesNeededAnswer n b → a .value ≡ rowStart b (suc n)
+  unfolding statePricesNeeded
   needed-prices e = ap (λ (x : Answer). x .value) (e ∙ tree-found n b _ nonzero (t .steps-within-limit) (t .reversion-within-limit))
 
 -- memories whose fronts were cleared, x and y places long
 module _ {b n x y : ℕ} {discount price : ℕ → ℕ → ℕ} {d p d₁ p₁ d₂ p₂ : List ℕ} (kept : PastKept b n d p d₁ p₁)
-    (ex : x ≡ row-start b n) (ey : y ≡ row-start b (suc n))
+    (ex : x ≡ rowStart b n) (ey : y ≡ rowStart b (suc n))
     (ed : d₂ ≡ row x (λ j. 0) ++ drop x d₁) (ep : p₂ ≡ row y (λ j. 0) ++ drop y p₁) where
   pub cleared : TreeFitted b n false discount price d p d₂ p₂
   cleared =
       record {
         discounted =
-            ed ∙ ap (λ (m : ℕ). row m (λ j. 0) ++ drop m d₁) ex ∙ ap (λ (l : List ℕ). row (row-start b n) (λ j. 0) ++ l) (kept .discounted);
+            ed ∙ ap (λ (m : ℕ). row m (λ j. 0) ++ drop m d₁) ex ∙ ap (λ (l : List ℕ). row (rowStart b n) (λ j. 0) ++ l) (kept .discounted);
         priced =
-            ep ∙ ap (λ (m : ℕ). row m (λ j. 0) ++ drop m p₁) ey ∙ ap (λ (l : List ℕ). row (row-start b (suc n)) (λ j. 0) ++ l) (kept .priced);
+            ep ∙ ap (λ (m : ℕ). row m (λ j. 0) ++ drop m p₁) ey ∙ ap (λ (l : List ℕ). row (rowStart b (suc n)) (λ j. 0) ++ l) (kept .priced);
       }
 
 -- the test as the number of a cause

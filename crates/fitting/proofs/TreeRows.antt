@@ -12,27 +12,27 @@ use Rattle.arithmetic.specs.Row.{values, place}
 use Rattle.arithmetic.proofs.SumLaws.{sum-cong}
 use Rattle.arithmetic.proofs.PartLaws.{part-is}
 use Rattle.arithmetic.proofs.RowLaws.{row-cong, each-cong}
-use Rattle.tree.specs.Tree.{Transition, chance, incoming, whole}
-use Rattle.lattice.specs.Shape.{node-count, row-start}
-use Rattle.lattice.specs.RateTree.{rate-tree}
-use Rattle.lattice.specs.Entries.{table-offset, shape-of, rowShape}
+use Rattle.tree.specs.Tree.{Transition, chance, incoming, probabilityTotal}
+use Rattle.lattice.specs.Shape.{nodeCount, rowStart}
+use Rattle.lattice.specs.RateTree.{rateTree}
+use Rattle.lattice.specs.Entries.{tableOffset, shapeOf, rowShapeAnswer}
 use Rattle.lattice.proofs.Sizes.{row-ends, start-suc, count-within}
 use Rattle.lattice.proofs.ShapeLaws.{shape-found, shape-fits}
 use Rattle.lattice.proofs.RateTreeLaws.{rate-tree-sound}
-use Rattle.row_branches.specs.RowBranches.{row-transition}
+use Rattle.row_branches.specs.RowBranches.{rowTransition}
 use Rattle.row_branches.proofs.TableParts.{table-part, part-within, table-part-length, table-part-value, part-low, part-down, part-middle, part-up}
-use Rattle.limits.specs.Limits.{most-steps, most-reversion, most-nodes, is-discount}
-use Rattle.fit_laws.specs.Step.{normaliser, discount, carried, next-price}
+use Rattle.limits.specs.Limits.{mostSteps, mostReversion, mostNodes, isDiscount}
+use Rattle.fit_laws.specs.Step.{normaliser, discount, carried, nextPrice}
 use Rattle.lattice.specs.declared.RowShape.{RowShape}
-use Rattle.fitting.specs.Rows.{RowFitted, row-prices, table-factor}
+use Rattle.fitting.specs.Rows.{RowFitted, rowPrices, tableFactor}
 use Rattle.fitting.specs.Preconditions.{RowReady, TreeRowReady}
 
 -- the shape that code holds of a row of the tree
-module _ {b n i : ℕ} {s : RowShape} (reverting : b ≤ most-reversion) (few : n ≤ most-steps) (h : i < n) (e : s ≡ rowShape b (n - 1) i) where
-  pub shape-known : s ≡ shape-of b (n - 1) i
+module _ {b n i : ℕ} {s : RowShape} (reverting : b ≤ mostReversion) (few : n ≤ mostSteps) (h : i < n) (e : s ≡ rowShapeAnswer b (n - 1) i) where
+  pub shape-known : s ≡ shapeOf b (n - 1) i
   shape-known = e ∙ sym (shape-found b (n - 1) i reverting (omega arith) (omega arith) (omega arith))
 
-  pub shape-room : (s .offset + s .count ≤ node-count b (n - 1)) × (node-count b (n - 1) ≤ most-nodes)
+  pub shape-room : (s .offset + s .count ≤ nodeCount b (n - 1)) × (nodeCount b (n - 1) ≤ mostNodes)
   shape-room = shape-fits b (n - 1) i (omega arith) (omega arith) s shape-known
 
 -- a discount goes by the factors of the row's own nodes
@@ -46,10 +46,10 @@ discount-same n p q u w h k l =
 next-same : (n : ℕ) (t s : Transition) (q v w : ℕ → ℕ)
     → ((k : ℕ) → k < n → t .low k ≡ s .low k) → ((k : ℕ) → k < n → t .down k ≡ s .down k)
     → ((k : ℕ) → k < n → t .middle k ≡ s .middle k) → ((k : ℕ) → k < n → t .up k ≡ s .up k)
-    → ((k : ℕ) → k < n → v k ≡ w k) → (j : ℕ) → next-price t n q v j ≡ next-price s n q w j
-unfolding next-price incoming chance carried
+    → ((k : ℕ) → k < n → v k ≡ w k) → (j : ℕ) → nextPrice t n q v j ≡ nextPrice s n q w j
+unfolding nextPrice incoming chance carried
 next-same n t s q v w el ed em eu ev j =
-    ap (λ (x : ℕ). x / whole) (sum-cong n _ _ (λ k h. rw (el k h, ed k h, em k h, eu k h, ev k h)))
+    ap (λ (x : ℕ). x / probabilityTotal) (sum-cong n _ _ (λ k h. rw (el k h, ed k h, em k h, eu k h, ev k h)))
 
 -- and so does what the row's step leaves
 row-same : {start n m p : ℕ} {u w : ℕ → ℕ} {t s : Transition} {d q d′ q′ : List ℕ} {r : Bool} → ((k : ℕ) → k < n → u k ≡ w k)
@@ -57,18 +57,18 @@ row-same : {start n m p : ℕ} {u w : ℕ → ℕ} {t s : Transition} {d q d′ 
     → ((k : ℕ) → k < n → t .middle k ≡ s .middle k) → ((k : ℕ) → k < n → t .up k ≡ s .up k)
     → RowFitted start n m p u t d q d′ q′ r → RowFitted start n m p w s d q d′ q′ r
 row-same {start} {n} {m} {p} {u} {w} {t} {s} {d} {q} {d′} {q′} {r} eu el ed em eh f =
-    let v = discount-same n p (row-prices start n q) u w eu in
+    let v = discount-same n p (rowPrices start n q) u w eu in
     record {
-      tested = f .tested ∙ each-cong n _ _ (λ k h. ap is-discount (v k h));
+      tested = f .tested ∙ each-cong n _ _ (λ k h. ap isDiscount (v k h));
       filled = λ e. f .filled e ∙ ap (place d start) (row-cong n _ _ v);
       kept = f .kept;
       stepped = f .stepped
-          ∙ ap (λ (l : List ℕ). cond r (place q (start + n) l) q) (row-cong m _ _ (λ j _. next-same n t s (row-prices start n q) _ _ el ed em eh v j));
+          ∙ ap (λ (l : List ℕ). cond r (place q (start + n) l) q) (row-cong m _ _ (λ j _. next-same n t s (rowPrices start n q) _ _ el ed em eh v j));
     }
 
 -- a table's part for row i, as lending has it
 abbrev part : ℕ → ℕ → ℕ → List ℕ → List ℕ
-part b n i l = take (table-offset b (n - 1) i + node-count b i - table-offset b (n - 1) i) (drop (table-offset b (n - 1) i) l)
+part b n i l = take (tableOffset b (n - 1) i + nodeCount b i - tableOffset b (n - 1) i) (drop (tableOffset b (n - 1) i) l)
 
 -- and by the shape that code holds
 abbrev pub shaped : RowShape → List ℕ → List ℕ
@@ -79,51 +79,51 @@ module _ {b n i quote : ℕ} {factors downs discounts prices sums : List ℕ} (r
   inside = omega (arith, r .in-tree)
 
   lent : (l : List ℕ) → part b n i l ≡ table-part b (n - 1) i l
-  lent l = part-is l (table-offset b (n - 1) i) (node-count b i)
+  lent l = part-is l (tableOffset b (n - 1) i) (nodeCount b i)
 
-  factors-length : length (part b n i factors) ≡ node-count b i
+  factors-length : length (part b n i factors) ≡ nodeCount b i
   factors-length = ap length (lent factors) ∙ table-part-length b (n - 1) i inside factors (r .tables .factors-bounded .length-is)
 
-  downs-length : length (part b n i downs) ≡ node-count b i
+  downs-length : length (part b n i downs) ≡ nodeCount b i
   downs-length = ap length (lent downs) ∙ table-part-length b (n - 1) i inside downs (r .tables .downs-length)
 
-  factor-value : (k : ℕ) → k < node-count b i → values (part b n i factors) k ≡ values factors (table-offset b (n - 1) i + k)
+  factor-value : (k : ℕ) → k < nodeCount b i → values (part b n i factors) k ≡ values factors (tableOffset b (n - 1) i + k)
   factor-value k h =
       ap (λ (l : List ℕ). values l k) (lent factors) ∙ table-part-value b (n - 1) i inside factors (r .tables .factors-bounded .length-is) k h
 
-  factor-is : (k : ℕ) → k < node-count b i → values (part b n i factors) k ≡ table-factor b n factors i k
-  unfolding table-factor
+  factor-is : (k : ℕ) → k < nodeCount b i → values (part b n i factors) k ≡ tableFactor b n factors i k
+  unfolding tableFactor
   factor-is k h = factor-value k h
 
-  lows : (k : ℕ) → k < node-count b i → row-transition (part b n i downs) (node-count b (suc i)) .low k ≡ rate-tree b .step i .low k
+  lows : (k : ℕ) → k < nodeCount b i → rowTransition (part b n i downs) (nodeCount b (suc i)) .low k ≡ rateTree b .step i .low k
   lows k h =
-      ap (λ (l : List ℕ). row-transition l (node-count b (suc i)) .low k) (lent downs)
+      ap (λ (l : List ℕ). rowTransition l (nodeCount b (suc i)) .low k) (lent downs)
       ∙ part-low b (n - 1) i inside downs (r .tables .downs-length) (r .tables .downs-hold) (r .tables .reversion-within-limit) k h
 
-  ups : (k : ℕ) → k < node-count b i → row-transition (part b n i downs) (node-count b (suc i)) .up k ≡ rate-tree b .step i .up k
+  ups : (k : ℕ) → k < nodeCount b i → rowTransition (part b n i downs) (nodeCount b (suc i)) .up k ≡ rateTree b .step i .up k
   ups k h =
-      ap (λ (l : List ℕ). row-transition l (node-count b (suc i)) .up k) (lent downs)
+      ap (λ (l : List ℕ). rowTransition l (nodeCount b (suc i)) .up k) (lent downs)
       ∙ part-up b (n - 1) i inside downs (r .tables .downs-length) (r .tables .downs-hold) (r .tables .reversion-within-limit) k h
 
-  middles : (k : ℕ) → k < node-count b i → row-transition (part b n i downs) (node-count b (suc i)) .middle k ≡ rate-tree b .step i .middle k
+  middles : (k : ℕ) → k < nodeCount b i → rowTransition (part b n i downs) (nodeCount b (suc i)) .middle k ≡ rateTree b .step i .middle k
   middles k h =
-      ap (λ (l : List ℕ). row-transition l (node-count b (suc i)) .middle k) (lent downs)
+      ap (λ (l : List ℕ). rowTransition l (nodeCount b (suc i)) .middle k) (lent downs)
       ∙ part-middle b (n - 1) i inside downs (r .tables .downs-length) (r .tables .downs-hold) (r .tables .reversion-within-limit) k h
 
-  downs-are : (k : ℕ) → k < node-count b i → row-transition (part b n i downs) (node-count b (suc i)) .down k ≡ rate-tree b .step i .down k
+  downs-are : (k : ℕ) → k < nodeCount b i → rowTransition (part b n i downs) (nodeCount b (suc i)) .down k ≡ rateTree b .step i .down k
   downs-are k h =
-      ap (λ (l : List ℕ). row-transition l (node-count b (suc i)) .down k) (lent downs)
+      ap (λ (l : List ℕ). rowTransition l (nodeCount b (suc i)) .down k) (lent downs)
       ∙ part-down b (n - 1) i inside downs (r .tables .downs-length) (r .tables .downs-hold) (r .tables .reversion-within-limit) k h
 
-  tree-inside : (k : ℕ) → k < node-count b i → rate-tree b .step i .low k + 2 < node-count b (suc i)
-  unfolding rate-tree
+  tree-inside : (k : ℕ) → k < nodeCount b i → rateTree b .step i .low k + 2 < nodeCount b (suc i)
+  unfolding rateTree
   tree-inside k h = rate-tree-sound b (r .tables .reversion-within-limit) .inside i k h
 
-  tree-total : (k : ℕ) → k < node-count b i → rate-tree b .step i .down k + rate-tree b .step i .middle k + rate-tree b .step i .up k ≡ whole
-  unfolding rate-tree
+  tree-total : (k : ℕ) → k < nodeCount b i → rateTree b .step i .down k + rateTree b .step i .middle k + rateTree b .step i .up k ≡ probabilityTotal
+  unfolding rateTree
   tree-total k h = rate-tree-sound b (r .tables .reversion-within-limit) .total i k h
 
-  row-ready : RowReady (row-start b i) (node-count b (suc i)) quote (part b n i factors) (part b n i downs) discounts prices sums
+  row-ready : RowReady (rowStart b i) (nodeCount b (suc i)) quote (part b n i factors) (part b n i downs) discounts prices sums
   row-ready =
       record {
         factors-bounded = record {
@@ -146,20 +146,20 @@ module _ {b n i quote : ℕ} {factors downs discounts prices sums : List ℕ} (r
 
   -- what the row's step leaves, in the lattice's terms
   tree-fitted : {d′ p′ : List ℕ} {accepted : Bool} →
-      RowFitted (row-start b i) (length (part b n i factors)) (node-count b (suc i)) quote (values (part b n i factors))
-      (row-transition (part b n i downs) (node-count b (suc i))) discounts prices d′ p′ accepted →
-      RowFitted (row-start b i) (node-count b i) (node-count b (suc i)) quote (table-factor b n factors i) (rate-tree b .step i)
+      RowFitted (rowStart b i) (length (part b n i factors)) (nodeCount b (suc i)) quote (values (part b n i factors))
+      (rowTransition (part b n i downs) (nodeCount b (suc i))) discounts prices d′ p′ accepted →
+      RowFitted (rowStart b i) (nodeCount b i) (nodeCount b (suc i)) quote (tableFactor b n factors i) (rateTree b .step i)
       discounts prices d′ p′ accepted
   tree-fitted f = row-same factor-is lows downs-are middles ups (rw factors-length at f)
 
   -- the same by the shape that code holds
-  module _ {s : RowShape} (es : s ≡ shape-of b (n - 1) i) where
+  module _ {s : RowShape} (es : s ≡ shapeOf b (n - 1) i) where
     pub shaped-ready : RowReady (s .start) (s .next) quote (shaped s factors) (shaped s downs) discounts prices sums
     shaped-ready = rw es row-ready
 
     pub shaped-fitted : {d′ p′ : List ℕ} {accepted : Bool} →
         RowFitted (s .start) (length (shaped s factors)) (s .next) quote (values (shaped s factors))
-        (row-transition (shaped s downs) (s .next)) discounts prices d′ p′ accepted →
-        RowFitted (row-start b i) (node-count b i) (node-count b (suc i)) quote (table-factor b n factors i) (rate-tree b .step i)
+        (rowTransition (shaped s downs) (s .next)) discounts prices d′ p′ accepted →
+        RowFitted (rowStart b i) (nodeCount b i) (nodeCount b (suc i)) quote (tableFactor b n factors i) (rateTree b .step i)
         discounts prices d′ p′ accepted
     shaped-fitted f = tree-fitted (rw es at f)

@@ -7,35 +7,35 @@ use Prim.Native.Nat.{ℕ, _+_, _-_}
 use lib.ListN.{length, take, drop}
 use Rattle.arithmetic.specs.Row.{row, values, place, each}
 use Rattle.tree.specs.Tree.{Transition, incoming}
-use Rattle.row_branches.specs.RowBranches.{row-transition}
-use Rattle.limits.specs.Limits.{is-discount}
-use Rattle.lattice.specs.Entries.{table-offset}
-use Rattle.fit_laws.specs.Step.{discount, carried, next-price}
+use Rattle.row_branches.specs.RowBranches.{rowTransition}
+use Rattle.limits.specs.Limits.{isDiscount}
+use Rattle.lattice.specs.Entries.{tableOffset}
+use Rattle.fit_laws.specs.Step.{discount, carried, nextPrice}
 
 -- the factors of row i from a table of the widest row that has discounts, row n − 1
-unfoldable pub table-factor : ℕ → ℕ → List ℕ → ℕ → ℕ → ℕ
-table-factor b n factors i k = values factors (table-offset b (n - 1) i + k)
+unfoldable pub tableFactor : ℕ → ℕ → List ℕ → ℕ → ℕ → ℕ
+tableFactor b n factors i k = values factors (tableOffset b (n - 1) i + k)
 
 -- the state prices of the row of so many nodes that starts at a place of a memory, and the discounts that follow from them
-abbrev pub row-prices : ℕ → ℕ → List ℕ → ℕ → ℕ
-row-prices start count prices = values (take count (drop start prices))
+abbrev pub rowPrices : ℕ → ℕ → List ℕ → ℕ → ℕ
+rowPrices start count prices = values (take count (drop start prices))
 
-abbrev pub row-discounts : ℕ → ℕ → ℕ → (ℕ → ℕ) → List ℕ → ℕ → ℕ
-row-discounts start count quote factor prices = discount count (row-prices start count prices) factor quote
+abbrev pub rowDiscounts : ℕ → ℕ → ℕ → (ℕ → ℕ) → List ℕ → ℕ → ℕ
+rowDiscounts start count quote factor prices = discount count (rowPrices start count prices) factor quote
 
 -- what the step of a row leaves: its discounts, and the sums over the branches into each node of the next row
 pub record RowStepped (quote next : ℕ) (prices factors downs discounts′ sums′ : List ℕ) (accepted : Bool) : Type 0 where
-  pub tested : accepted ≡ each (length prices) (λ k. is-discount (discount (length prices) (values prices) (values factors) quote k))
+  pub tested : accepted ≡ each (length prices) (λ k. isDiscount (discount (length prices) (values prices) (values factors) quote k))
   pub filled : accepted ≡ true → discounts′ ≡ row (length prices) (discount (length prices) (values prices) (values factors) quote)
-  pub spreads : accepted ≡ true → sums′ ≡ row next (incoming (row-transition downs next) (length prices)
+  pub spreads : accepted ≡ true → sums′ ≡ row next (incoming (rowTransition downs next) (length prices)
       (carried (values prices) (discount (length prices) (values prices) (values factors) quote)))
 
 -- what it leaves in the memories, in both of which the row starts at the same place: where every discount is accepted, the row's discounts
 -- and the next row's state prices. Nothing past the row changes among the discounts, and no state price where a discount is not accepted.
 pub record RowFitted (start count next quote : ℕ) (factor : ℕ → ℕ) (t : Transition)
     (discounts prices discounts′ prices′ : List ℕ) (accepted : Bool) : Type 0 where
-  pub tested : accepted ≡ each count (λ k. is-discount (row-discounts start count quote factor prices k))
-  pub filled : accepted ≡ true → discounts′ ≡ place discounts start (row count (row-discounts start count quote factor prices))
+  pub tested : accepted ≡ each count (λ k. isDiscount (rowDiscounts start count quote factor prices k))
+  pub filled : accepted ≡ true → discounts′ ≡ place discounts start (row count (rowDiscounts start count quote factor prices))
   pub kept : drop (start + count) discounts′ ≡ drop (start + count) discounts
   pub stepped : prices′ ≡ cond accepted (place prices (start + count) (row next
-      (next-price t count (row-prices start count prices) (row-discounts start count quote factor prices)))) prices
+      (nextPrice t count (rowPrices start count prices) (rowDiscounts start count quote factor prices)))) prices

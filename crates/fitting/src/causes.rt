@@ -1,6 +1,6 @@
 // The causes 2 to 8 of a fit.
 ghost use mathlib.Core.Path.{_≡_};
-ghost use Rattle.fitting.specs.Entry.{memory-cause};
+ghost use Rattle.fitting.specs.Entry.{memoryCause};
 ghost use Rattle.fitting.specs.Plans.{Planned};
 
 // What a fit needs to know of its numbers, or the number of a cause.
@@ -11,7 +11,7 @@ pub(crate) struct Plan {
 }
 
 fn memory_of(steps: usize, reversion: u64, discounts: usize, prices: usize) -> u64
-    ensures { λ r. ⌜ r ≡ memory-cause steps reversion discounts prices ⌝ }
+    ensures { λ r. ⌜ r ≡ memoryCause steps reversion discounts prices ⌝ }
 {
     let needed = lattice::discounts_needed(steps, reversion);
     let all = lattice::state_prices_needed(steps, reversion);

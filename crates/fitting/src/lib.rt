@@ -7,7 +7,7 @@ mod tables;
 use tables::Grid;
 ghost use mathlib.Core.Path.{_≡_};
 ghost use lib.ListN.{length};
-ghost use Rattle.fitting.specs.Entry.{fitNumber, discounts-after, prices-after};
+ghost use Rattle.fitting.specs.Entry.{fitNumber, discountsAfter, pricesAfter};
 
 // Fits a tree: discounts of rows 0 to n - 1 and state prices of rows 0 to n at the start of the two memories, row after row.
 // 2 the steps a year, 3 the steps, 4 the reversion, 5 the volatility, 6 the quotes' number or place or a memory too short,
@@ -25,9 +25,9 @@ pub fn fit(
 ) -> u64
     ensures number { λ r. ⌜ r ≡ fitNumber frequency steps reversion volatility (now (rows .entry)) (now (kinds .entry)) (now (figures .entry))
         (length (now (discounts .entry))) (length (now (prices .entry))) ⌝ }
-    ensures discounted { λ _. ⌜ now (discounts .exit) ≡ discounts-after frequency steps reversion volatility
+    ensures discounted { λ _. ⌜ now (discounts .exit) ≡ discountsAfter frequency steps reversion volatility
         (now (rows .entry)) (now (kinds .entry)) (now (figures .entry)) (now (discounts .entry)) (now (prices .entry)) ⌝ }
-    ensures priced { λ _. ⌜ now (prices .exit) ≡ prices-after frequency steps reversion volatility
+    ensures priced { λ _. ⌜ now (prices .exit) ≡ pricesAfter frequency steps reversion volatility
         (now (rows .entry)) (now (kinds .entry)) (now (figures .entry)) (now (discounts .entry)) (now (prices .entry)) ⌝ }
 {
     let mut quotes = [0u64; 60];

@@ -5,12 +5,12 @@ ghost use mathlib.Core.Bool.{true};
 ghost use Prim.Native.Nat.{suc};
 ghost use lib.ListN.{length};
 ghost use Rattle.arithmetic.specs.Row.{values};
-ghost use Rattle.row_branches.specs.RowBranches.{row-transition};
-ghost use Rattle.lattice.specs.Shape.{node-count, row-start};
-ghost use Rattle.lattice.specs.RateTree.{rate-tree};
-ghost use Rattle.fitting.specs.Rows.{table-factor, RowFitted};
+ghost use Rattle.row_branches.specs.RowBranches.{rowTransition};
+ghost use Rattle.lattice.specs.Shape.{nodeCount, rowStart};
+ghost use Rattle.lattice.specs.RateTree.{rateTree};
+ghost use Rattle.fitting.specs.Rows.{tableFactor, RowFitted};
 ghost use Rattle.fitting.specs.Preconditions.{RowReady, TreeRowReady, RowsReady};
-ghost use Rattle.fitting.specs.Fit.{table-discount, table-price, table-accepted, TreeFitted, PastKept};
+ghost use Rattle.fitting.specs.Fit.{tableDiscount, tablePrice, tableAccepted, TreeFitted, PastKept};
 
 // Where a row starts in both memories, the next row's node count, and the next row's quote.
 struct RowPlace {
@@ -38,7 +38,7 @@ fn fit_row(
 ) -> bool
     requires { ⌜ RowReady (at .start) (at .next) (at .quote) (now factors) (now downs) (now discounts) (now prices) (now sums) ⌝ }
     ensures { λ r. ⌜ RowFitted (at .start) (length (now (factors .entry))) (at .next) (at .quote)
-        (values (now (factors .entry))) (row-transition (now (downs .entry)) (at .next))
+        (values (now (factors .entry))) (rowTransition (now (downs .entry)) (at .next))
         (now (discounts .entry)) (now (prices .entry)) (now (discounts .exit)) (now (prices .exit)) r ⌝ }
 {
     let start = at.start;
@@ -70,9 +70,9 @@ fn tree_row(
 ) -> bool
     requires { ⌜ TreeRowReady (at .reversion) (at .steps) (at .row) (at .quote)
         (now factors) (now downs) (now discounts) (now prices) (now sums) ⌝ }
-    ensures { λ r. ⌜ RowFitted (row-start (at .reversion) (at .row)) (node-count (at .reversion) (at .row))
-        (node-count (at .reversion) (suc (at .row))) (at .quote)
-        (table-factor (at .reversion) (at .steps) (now (factors .entry)) (at .row)) (rate-tree (at .reversion) .step (at .row))
+    ensures { λ r. ⌜ RowFitted (rowStart (at .reversion) (at .row)) (nodeCount (at .reversion) (at .row))
+        (nodeCount (at .reversion) (suc (at .row))) (at .quote)
+        (tableFactor (at .reversion) (at .steps) (now (factors .entry)) (at .row)) (rateTree (at .reversion) .step (at .row))
         (now (discounts .entry)) (now (prices .entry)) (now (discounts .exit)) (now (prices .exit)) r ⌝ }
 {
     let shape = lattice::row_shape(at.reversion, at.steps - 1, at.row);
@@ -103,9 +103,9 @@ pub(crate) fn fit_rows(
     sums: &mut [u64],
 ) -> bool
     requires { ⌜ RowsReady reversion (now quotes) (now factors) (now downs) (now discounts) (now prices) (now sums) ⌝ }
-    ensures tested { λ r. ⌜ r ≡ table-accepted reversion (now (quotes .entry)) (now (factors .entry)) ⌝ }
+    ensures tested { λ r. ⌜ r ≡ tableAccepted reversion (now (quotes .entry)) (now (factors .entry)) ⌝ }
     ensures fitted { λ r. ⌜ (r ≡ true → TreeFitted reversion (length (now (quotes .entry))) true
-        (table-discount reversion (now (quotes .entry)) (now (factors .entry))) (table-price reversion (now (quotes .entry)) (now (factors .entry)))
+        (tableDiscount reversion (now (quotes .entry)) (now (factors .entry))) (tablePrice reversion (now (quotes .entry)) (now (factors .entry)))
         (now (discounts .entry)) (now (prices .entry)) (now (discounts .exit)) (now (prices .exit))) ⌝ }
     ensures kept { λ _. ⌜ PastKept reversion (length (now (quotes .entry)))
         (now (discounts .entry)) (now (prices .entry)) (now (discounts .exit)) (now (prices .exit)) ⌝ }

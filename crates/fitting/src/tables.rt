@@ -8,17 +8,17 @@ ghost use Prim.Native.Nat.{_+_, _*_, _≤_};
 ghost use lib.ListN.{length, drop};
 ghost use Rattle.arithmetic.specs.Rounding.{one};
 ghost use Rattle.arithmetic.specs.Row.{row};
-ghost use Rattle.limits.specs.Limits.{most-steps, most-nodes};
-ghost use Rattle.lattice.specs.RateTree.{node-at};
+ghost use Rattle.limits.specs.Limits.{mostSteps, mostNodes};
+ghost use Rattle.lattice.specs.RateTree.{nodeOfIndex};
 ghost use Rattle.factor.specs.Factor.{factor};
 ghost use Rattle.fitting.specs.Preconditions.{RowsReady, QuotesReady};
 ghost use Rattle.fitting.specs.Fit.{
-  table-discount,
-  table-price,
-  table-accepted,
-  curve-accepted,
-  curve-discount,
-  curve-price,
+  tableDiscount,
+  tablePrice,
+  tableAccepted,
+  curveAccepted,
+  curveDiscount,
+  curvePrice,
   TreeFitted,
   FitTried,
 };
@@ -32,8 +32,8 @@ pub(crate) struct Grid {
 
 // The factor of the node at an index of a row of this half width.
 fn factor_at(widest: usize, spacing: u64, index: usize) -> u64
-    requires { ⌜ (widest ≤ most-steps) × (widest * spacing ≤ one) × (index ≤ 2 * widest) ⌝ }
-    ensures { λ r. ⌜ r ≡ factor (node-at widest index) spacing ⌝ }
+    requires { ⌜ (widest ≤ mostSteps) × (widest * spacing ≤ one) × (index ≤ 2 * widest) ⌝ }
+    ensures { λ r. ⌜ r ≡ factor (nodeOfIndex widest index) spacing ⌝ }
 {
     if index < widest {
         let below = factor::factor((widest - index) as u64, true, spacing);
@@ -44,8 +44,8 @@ fn factor_at(widest: usize, spacing: u64, index: usize) -> u64
 }
 
 fn fill_factors(widest: usize, spacing: u64, factors: &mut [u64])
-    requires { ⌜ (widest ≤ most-steps) × (widest * spacing ≤ one) × (length (now factors) ≡ 2 * widest + 1) ⌝ }
-    ensures { λ _. ⌜ now (factors .exit) ≡ row (length (now (factors .entry))) (λ k. factor (node-at widest k) spacing) ⌝ }
+    requires { ⌜ (widest ≤ mostSteps) × (widest * spacing ≤ one) × (length (now factors) ≡ 2 * widest + 1) ⌝ }
+    ensures { λ _. ⌜ now (factors .exit) ≡ row (length (now (factors .entry))) (λ k. factor (nodeOfIndex widest k) spacing) ⌝ }
 {
     let mut k: usize = 0;
     while k < factors.len() {
@@ -72,8 +72,8 @@ fn fit_or_clear(
     sums: &mut [u64],
 ) -> bool
     requires { ⌜ RowsReady reversion (now quotes) (now factors) (now downs) (now discounts) (now prices) (now sums) ⌝ }
-    ensures { λ r. ⌜ FitTried reversion (length (now (quotes .entry))) (table-accepted reversion (now (quotes .entry)) (now (factors .entry)))
-        (table-discount reversion (now (quotes .entry)) (now (factors .entry))) (table-price reversion (now (quotes .entry)) (now (factors .entry)))
+    ensures { λ r. ⌜ FitTried reversion (length (now (quotes .entry))) (tableAccepted reversion (now (quotes .entry)) (now (factors .entry)))
+        (tableDiscount reversion (now (quotes .entry)) (now (factors .entry))) (tablePrice reversion (now (quotes .entry)) (now (factors .entry)))
         (now (discounts .entry)) (now (prices .entry)) (now (discounts .exit)) (now (prices .exit)) r ⌝ }
 {
     let steps = quotes.len();
@@ -98,10 +98,10 @@ fn fit_tables(
     sums: &mut [u64],
 ) -> bool
     requires { ⌜ QuotesReady (grid .reversion) (grid .spacing) (grid .widest) (now quotes) (length (now discounts)) (length (now prices))
-        × (length (now factors) ≡ 2 * grid .widest + 1) × (length (now downs) ≡ 2 * grid .widest + 1) × (most-nodes ≤ length (now sums)) ⌝ }
+        × (length (now factors) ≡ 2 * grid .widest + 1) × (length (now downs) ≡ 2 * grid .widest + 1) × (mostNodes ≤ length (now sums)) ⌝ }
     ensures { λ r. ⌜ FitTried (grid .reversion) (length (now (quotes .entry)))
-        (curve-accepted (grid .reversion) (grid .spacing) (now (quotes .entry)))
-        (curve-discount (grid .reversion) (grid .spacing) (now (quotes .entry))) (curve-price (grid .reversion) (grid .spacing) (now (quotes .entry)))
+        (curveAccepted (grid .reversion) (grid .spacing) (now (quotes .entry)))
+        (curveDiscount (grid .reversion) (grid .spacing) (now (quotes .entry))) (curvePrice (grid .reversion) (grid .spacing) (now (quotes .entry)))
         (now (discounts .entry)) (now (prices .entry)) (now (discounts .exit)) (now (prices .exit)) r ⌝ }
 {
     fill_factors(grid.widest, grid.spacing, factors);
@@ -125,10 +125,10 @@ pub(crate) fn fit_quotes(
     prices: &mut [u64],
 ) -> u64
     requires { ⌜ QuotesReady (grid .reversion) (grid .spacing) (grid .widest) (now quotes) (length (now discounts)) (length (now prices)) ⌝ }
-    ensures number { λ r. ⌜ r ≡ cond (curve-accepted (grid .reversion) (grid .spacing) (now (quotes .entry))) 0 9 ⌝ }
+    ensures number { λ r. ⌜ r ≡ cond (curveAccepted (grid .reversion) (grid .spacing) (now (quotes .entry))) 0 9 ⌝ }
     ensures fitted { λ _. ⌜ TreeFitted (grid .reversion) (length (now (quotes .entry)))
-        (curve-accepted (grid .reversion) (grid .spacing) (now (quotes .entry)))
-        (curve-discount (grid .reversion) (grid .spacing) (now (quotes .entry))) (curve-price (grid .reversion) (grid .spacing) (now (quotes .entry)))
+        (curveAccepted (grid .reversion) (grid .spacing) (now (quotes .entry)))
+        (curveDiscount (grid .reversion) (grid .spacing) (now (quotes .entry))) (curvePrice (grid .reversion) (grid .spacing) (now (quotes .entry)))
         (now (discounts .entry)) (now (prices .entry)) (now (discounts .exit)) (now (prices .exit)) ⌝ }
 {
     let count = 2 * grid.widest + 1;

@@ -5,7 +5,7 @@ mod priced;
 ghost use mathlib.Core.Path.{_≡_};
 ghost use Prim.Native.Nat.{_≤_};
 ghost use lib.ListN.{length};
-ghost use Rattle.fitting.specs.Entry.{memory-cause};
+ghost use Rattle.fitting.specs.Entry.{memoryCause};
 ghost use Rattle.job_fit.specs.RecordFit.{jobFlows, jobDiscounts, jobStatePrices, memoryAfter};
 ghost use Rattle.job_record.specs.Reader.{readingOf};
 ghost use Rattle.job_prices.specs.JobPrices.{
@@ -28,7 +28,7 @@ pub struct JobPrices {
 }
 
 fn memory_cause(steps: usize, reversion: u64, discounts: usize, state_prices: usize) -> u64
-    ensures { λ r. ⌜ r ≡ memory-cause steps reversion discounts «state_prices» ⌝ }
+    ensures { λ r. ⌜ r ≡ memoryCause steps reversion discounts «state_prices» ⌝ }
 {
     let needed = lattice::discounts_needed(steps, reversion);
     let all = lattice::state_prices_needed(steps, reversion);

@@ -9,20 +9,20 @@ use exercise::Terms;
 ghost use mathlib.Core.Path.{_≡_};
 ghost use Prim.Native.Nat.{_≤_};
 ghost use lib.ListN.{take};
-ghost use Rattle.lattice.specs.Shape.{node-count};
+ghost use Rattle.lattice.specs.Shape.{nodeCount};
 ghost use Rattle.pricing_laws.specs.Schedule.{marked};
 ghost use Rattle.exercise.specs.Terms.{side};
 ghost use Rattle.lent_tree.specs.LentTree.{Accepted};
-ghost use Rattle.price_causes.specs.Causes.{Accepted-flows};
+ghost use Rattle.price_causes.specs.Causes.{AcceptedFlows};
 ghost use Rattle.pricing.specs.Prices.{
-  refusal,
-  accepted-bond,
-  accepted-option,
+  refusedPrice,
+  acceptedBond,
+  acceptedOption,
   bondPrice,
   optionPrice,
   bondAndOption,
 };
-ghost use Rattle.pricing.specs.Trees.{down-table, tree-bound, Exercisable};
+ghost use Rattle.pricing.specs.Trees.{downTable, treeBound, Exercisable};
 
 // A price in billionths with its error bound; a refusal's number with zeros.
 #[repr(C)]
@@ -40,7 +40,7 @@ pub struct BondAndOption {
 }
 
 fn refused(number: u64) -> Price
-    ensures { λ r. ⌜ r ≡ refusal number ⌝ }
+    ensures { λ r. ⌜ r ≡ refusedPrice number ⌝ }
 {
     Price {
         number,
@@ -52,7 +52,7 @@ fn refused(number: u64) -> Price
 // The table of down-probabilities, worked out once for all rows.
 fn table_of(steps: usize, reversion: u64) -> [u64; 121]
     requires { ⌜ (steps ≤ 60) × (reversion ≤ 6000) ⌝ }
-    ensures { λ r. ⌜ take (node-count reversion steps) r ≡ down-table steps reversion ⌝ }
+    ensures { λ r. ⌜ take (nodeCount reversion steps) r ≡ downTable steps reversion ⌝ }
 {
     let widest = lattice::half_width(reversion, steps).value as usize;
     let nodes = 2 * widest + 1;
@@ -69,8 +69,8 @@ fn accepted_bond(
     flows: &[u64],
     bound: u64,
 ) -> Price
-    requires { ⌜ Accepted steps reversion (now discounts) × Accepted-flows steps (now flows) ⌝ }
-    ensures { λ r. ⌜ r ≡ accepted-bond steps reversion (now (discounts .entry)) (now (flows .entry)) bound ⌝ }
+    requires { ⌜ Accepted steps reversion (now discounts) × AcceptedFlows steps (now flows) ⌝ }
+    ensures { λ r. ⌜ r ≡ acceptedBond steps reversion (now (discounts .entry)) (now (flows .entry)) bound ⌝ }
 {
     let nodes = lattice::node_count(reversion, steps).value as usize;
     let table = table_of(steps, reversion);
@@ -103,9 +103,9 @@ fn accepted_both(
     marks: &[u8],
     bound: u64,
 ) -> BondAndOption
-    requires { ⌜ Accepted steps reversion (now discounts) × Accepted-flows steps (now flows) × Exercisable terms steps (now marks) ⌝ }
-    ensures bond { λ r. ⌜ r .bond ≡ accepted-bond steps reversion (now (discounts .entry)) (now (flows .entry)) bound ⌝ }
-    ensures option { λ r. ⌜ r .option ≡ accepted-option steps reversion (now (discounts .entry)) (now (flows .entry)) (side (terms .call)) (terms .strike)
+    requires { ⌜ Accepted steps reversion (now discounts) × AcceptedFlows steps (now flows) × Exercisable terms steps (now marks) ⌝ }
+    ensures bond { λ r. ⌜ r .bond ≡ acceptedBond steps reversion (now (discounts .entry)) (now (flows .entry)) bound ⌝ }
+    ensures option { λ r. ⌜ r .option ≡ acceptedOption steps reversion (now (discounts .entry)) (now (flows .entry)) (side (terms .call)) (terms .strike)
         (marked (terms .last) (now (marks .entry))) bound ⌝ }
 {
     let nodes = lattice::node_count(reversion, steps).value as usize;
@@ -134,7 +134,7 @@ fn accepted_both(
 
 // The error bound of a tree and its flows, or the first cause about them.
 fn tree_bound(steps: usize, reversion: u64, discounts: &[u64], flows: &[u64]) -> Answer
-    ensures { λ r. ⌜ r ≡ tree-bound steps reversion (now (discounts .entry)) (now (flows .entry)) ⌝ }
+    ensures { λ r. ⌜ r ≡ treeBound steps reversion (now (discounts .entry)) (now (flows .entry)) ⌝ }
 {
     let bound = price_bound::price_error_bound(steps, reversion, discounts);
     let cause = arithmetic::lowest_cause(bound.number, price_causes::flows_cause(steps, flows));

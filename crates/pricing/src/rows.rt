@@ -8,17 +8,17 @@ ghost use lib.ListN.{length};
 ghost use Rattle.arithmetic.specs.Row.{values};
 ghost use Rattle.pricing_laws.specs.Pricer.{exercise};
 ghost use Rattle.exercise.specs.Terms.{side};
-ghost use Rattle.row_branches.specs.RowBranches.{branch-total};
+ghost use Rattle.row_branches.specs.RowBranches.{branchTotal};
 ghost use Rattle.pricing.specs.Rows.{
-  branch-roll,
-  bond-values,
-  option-values,
+  branchRoll,
+  bondValues,
+  optionValues,
   Rollable,
   Limited,
   Later,
   Holds,
-  Filled-row,
-  Filled-rows,
+  FilledRow,
+  FilledRows,
 };
 
 // The nodes of the widest row.
@@ -33,9 +33,9 @@ pub(crate) fn empty_row() -> [u64; 121]
 
 // The roll of a node along its branch: divided by 600,000,000, down; then discounted, down.
 fn roll_node(branch: RowBranch, later: &[u64], discount: u64) -> u64
-    requires { ⌜ (branch .low + 2 < length (now later)) × (branch-total branch ≡ 600000000)
+    requires { ⌜ (branch .low + 2 < length (now later)) × (branchTotal branch ≡ 600000000)
         × Limited (now later) (branch .low + 3) × (discount ≤ 1100000000) ⌝ }
-    ensures { λ r. ⌜ (r ≡ branch-roll branch (values (now (later .entry))) discount) × (r ≤ 8800000000) ⌝ }
+    ensures { λ r. ⌜ (r ≡ branchRoll branch (values (now (later .entry))) discount) × (r ≤ 8800000000) ⌝ }
 {
     let low = branch.low;
     let probabilities = branch.probabilities;
@@ -56,8 +56,8 @@ pub(crate) fn bond_row(
 ) -> u64
     requires { ⌜ Rollable (now downs) (now discounts) next × Later (now later) next
         × (length (now discounts) ≤ length (now row)) × (flow ≤ 2000000000) ⌝ }
-    ensures { λ r. ⌜ Filled-row (now (row .exit)) (length (now (discounts .entry)))
-        (bond-values (now (later .entry)) (now (downs .entry)) (now (discounts .entry)) next flow) r ⌝ }
+    ensures { λ r. ⌜ FilledRow (now (row .exit)) (length (now (discounts .entry)))
+        (bondValues (now (later .entry)) (now (downs .entry)) (now (discounts .entry)) next flow) r ⌝ }
 {
     let mut top: u64 = 0;
     let mut k: usize = 0;
@@ -91,9 +91,9 @@ pub(crate) fn option_row(
 ) -> u64
     requires { ⌜ Rollable (now downs) (now discounts) (right .next) × Later (now bonds) (right .next) × Later (now options) (right .next)
         × (length (now discounts) ≤ length (now bond)) × (length (now discounts) ≤ length (now option)) × (right .flow ≤ 2000000000) ⌝ }
-    ensures { λ r. ⌜ Filled-rows (now (bond .exit)) (now (option .exit)) (length (now (discounts .entry)))
-        (bond-values (now (bonds .entry)) (now (downs .entry)) (now (discounts .entry)) (right .next) (right .flow))
-        (option-values (side (right .terms .call)) (right .terms .strike) (right .listed)
+    ensures { λ r. ⌜ FilledRows (now (bond .exit)) (now (option .exit)) (length (now (discounts .entry)))
+        (bondValues (now (bonds .entry)) (now (downs .entry)) (now (discounts .entry)) (right .next) (right .flow))
+        (optionValues (side (right .terms .call)) (right .terms .strike) (right .listed)
         (now (bonds .entry)) (now (options .entry)) (now (downs .entry)) (now (discounts .entry)) (right .next) (right .flow)) r ⌝ }
 {
     let terms = right.terms;

@@ -7,21 +7,21 @@ ghost use mathlib.Core.Bool.{Bool};
 ghost use Prim.Native.Nat.{ℕ, _+_, _-_, _*_, _<_, _≤_, max};
 ghost use lib.ListN.{length, take, drop};
 ghost use Rattle.arithmetic.specs.Row.{values};
-ghost use Rattle.lattice.specs.Shape.{node-count};
+ghost use Rattle.lattice.specs.Shape.{nodeCount};
 ghost use Rattle.pricing_laws.specs.Schedule.{marked};
 ghost use Rattle.exercise.specs.Terms.{side};
-ghost use Rattle.pricing.specs.Prices.{flow-at};
-ghost use Rattle.pricing.specs.Rows.{Limited, Filled-row, Filled-rows};
+ghost use Rattle.pricing.specs.Prices.{flowAt};
+ghost use Rattle.pricing.specs.Rows.{Limited, FilledRow, FilledRows};
 ghost use Rattle.pricing.specs.Trees.{
   Ready,
   Exercisable,
   Steppable,
   rowStepAt,
   optionStepAt,
-  bond-step,
-  option-step,
-  Bond-rolled,
-  Both-rolled,
+  bondStep,
+  optionStep,
+  BondRolled,
+  BothRolled,
 };
 
 // A tree's number of steps and its reversion.
@@ -55,7 +55,7 @@ pub(crate) struct Rolled {
 // The flow of a row; row 0 has none.
 fn flow_of(flows: &[u64], row: usize) -> u64
     requires { ⌜ row ≤ length (now flows) ⌝ }
-    ensures { λ r. ⌜ r ≡ flow-at (now (flows .entry)) row ⌝ }
+    ensures { λ r. ⌜ r ≡ flowAt (now (flows .entry)) row ⌝ }
 {
     if row == 0 {
         return 0;
@@ -103,9 +103,9 @@ fn bond_step(
     later: &[u64; 121],
     bond: &mut [u64; 121],
 ) -> u64
-    requires { ⌜ Steppable at (now downs) (now discounts) × Limited (now later) (node-count (at .reversion) (at .row + 1)) ⌝ }
-    ensures { λ r. ⌜ Filled-row (now (bond .exit)) (node-count (at .reversion) (at .row))
-        (bond-step (at .reversion) (now (discounts .entry)) (at .flow) (at .row) (now (later .entry))) r ⌝ }
+    requires { ⌜ Steppable at (now downs) (now discounts) × Limited (now later) (nodeCount (at .reversion) (at .row + 1)) ⌝ }
+    ensures { λ r. ⌜ FilledRow (now (bond .exit)) (nodeCount (at .reversion) (at .row))
+        (bondStep (at .reversion) (now (discounts .entry)) (at .flow) (at .row) (now (later .entry))) r ⌝ }
 {
     let shape = lattice::row_shape(at.reversion, at.steps, at.row);
     rows::bond_row(
@@ -128,11 +128,11 @@ fn option_step(
     bond: &mut [u64; 121],
     option: &mut [u64; 121],
 ) -> u64
-    requires { ⌜ Steppable (right .at) (now downs) (now discounts) × Limited (now bonds) (node-count (right .at .reversion) (right .at .row + 1))
-        × Limited (now options) (node-count (right .at .reversion) (right .at .row + 1)) ⌝ }
-    ensures { λ r. ⌜ Filled-rows (now (bond .exit)) (now (option .exit)) (node-count (right .at .reversion) (right .at .row))
-        (bond-step (right .at .reversion) (now (discounts .entry)) (right .at .flow) (right .at .row) (now (bonds .entry)))
-        (option-step (side (right .terms .call)) (right .terms .strike) (right .listed) (right .at .reversion)
+    requires { ⌜ Steppable (right .at) (now downs) (now discounts) × Limited (now bonds) (nodeCount (right .at .reversion) (right .at .row + 1))
+        × Limited (now options) (nodeCount (right .at .reversion) (right .at .row + 1)) ⌝ }
+    ensures { λ r. ⌜ FilledRows (now (bond .exit)) (now (option .exit)) (nodeCount (right .at .reversion) (right .at .row))
+        (bondStep (right .at .reversion) (now (discounts .entry)) (right .at .flow) (right .at .row) (now (bonds .entry)))
+        (optionStep (side (right .terms .call)) (right .terms .strike) (right .listed) (right .at .reversion)
         (now (discounts .entry)) (right .at .flow) (right .at .row) (now (bonds .entry)) (now (options .entry))) r ⌝ }
 {
     let at = right.at;
@@ -165,7 +165,7 @@ pub(crate) fn roll_bond(
     bond: &mut [u64; 121],
 ) -> u64
     requires { ⌜ Ready (tree .steps) (tree .reversion) (now downs) (now discounts) (now flows) × (last ≤ tree .steps) ⌝ }
-    ensures { λ r. ⌜ Bond-rolled (tree .steps) (tree .reversion) (now (discounts .entry)) (now (flows .entry)) last r (now (bond .exit)) ⌝ }
+    ensures { λ r. ⌜ BondRolled (tree .steps) (tree .reversion) (now (discounts .entry)) (now (flows .entry)) last r (now (bond .exit)) ⌝ }
 {
     rows::fill_row(flow_of(flows, tree.steps), bond);
     let mut other = rows::empty_row();
@@ -220,8 +220,8 @@ fn roll_option(
     bond: &mut [u64; 121],
 ) -> Rolled
     requires { ⌜ Ready (tree .steps) (tree .reversion) (now downs) (now discounts) (now flows) × Exercisable terms (tree .steps) (now marks)
-        × Bond-rolled (tree .steps) (tree .reversion) (now discounts) (now flows) (terms .last) 0 (now bond) ⌝ }
-    ensures { λ r. ⌜ Both-rolled (tree .steps) (tree .reversion) (now (discounts .entry)) (now (flows .entry)) (side (terms .call)) (terms .strike)
+        × BondRolled (tree .steps) (tree .reversion) (now discounts) (now flows) (terms .last) 0 (now bond) ⌝ }
+    ensures { λ r. ⌜ BothRolled (tree .steps) (tree .reversion) (now (discounts .entry)) (now (flows .entry)) (side (terms .call)) (terms .strike)
         (marked (terms .last) (now (marks .entry))) r ⌝ }
 {
     let mut option = rows::empty_row();
@@ -275,7 +275,7 @@ pub(crate) fn roll_both(
     flows: &[u64],
 ) -> Rolled
     requires { ⌜ Ready (tree .steps) (tree .reversion) (now downs) (now discounts) (now flows) × Exercisable terms (tree .steps) (now marks) ⌝ }
-    ensures { λ r. ⌜ Both-rolled (tree .steps) (tree .reversion) (now (discounts .entry)) (now (flows .entry)) (side (terms .call)) (terms .strike)
+    ensures { λ r. ⌜ BothRolled (tree .steps) (tree .reversion) (now (discounts .entry)) (now (flows .entry)) (side (terms .call)) (terms .strike)
         (marked (terms .last) (now (marks .entry))) r ⌝ }
 {
     let mut bond = rows::empty_row();

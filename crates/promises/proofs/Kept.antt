@@ -1,13 +1,13 @@
 -- The promises are kept.
 -- Assumes nothing.
 use Rattle.pricing.proofs.Accuracy.{bond-within-bound, bond-at-most-exact, bond-bound-a-step, option-within-bound, option-bound-a-step}
-use Rattle.promises.specs.Promises.{Promises, Price-promises}
+use Rattle.promises.specs.Promises.{Promises, PricePromises}
 use Rattle.promises.proofs.TreeKept.{tree-kept}
 use Rattle.promises.proofs.RowsKept.{engine-kept, exact-kept, bound-kept, priced-kept}
 use Rattle.promises.proofs.PayoffsKept.{payoffs-kept}
 use Rattle.promises.proofs.FitStored.{fit-unaltered}
 
-pub prices-kept : Price-promises
+pub prices-kept : PricePromises
 prices-kept =
     record {
       engine-rows = engine-kept;

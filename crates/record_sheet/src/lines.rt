@@ -5,7 +5,7 @@ ghost use Prim.Native.Nat.{ℕ, suc, _+_, _*_, _≤_, _<_};
 ghost use lib.ListN.{length};
 ghost use Rattle.text_laws.specs.Put.{Put};
 ghost use Rattle.sheet_laws.specs.TreeSheet.{
-  row-part,
+  rowPart,
   total,
   nodeLines,
   lineOfRow,
@@ -118,7 +118,7 @@ fn put_row<'a>(
     before: usize,
 ) -> usize
     requires { ⌜ (before < tree .steps) × Stored (tree .steps) (tree .reversion) (now discounts) (now «state_prices») × (length (now quotes) ≡ tree .steps) ×
-        (total (row-part (tree .reversion) (now «state_prices») (suc before)) ≤ 2000000100) × (128 ≤ end) × (end ≤ length (now out)) ⌝ }
+        (total (rowPart (tree .reversion) (now «state_prices») (suc before)) ≤ 2000000100) × (128 ≤ end) × (end ≤ length (now out)) ⌝ }
     ensures { λ r. ⌜ Put (now (out .entry)) end (lineOfRow (tree .steps) (tree .reversion) (now (quotes .entry)) (now (discounts .entry))
         (now («state_prices» .entry)) before) r (now (out .exit)) ⌝ }
 {

@@ -9,7 +9,7 @@ ghost use Rattle.text_laws.specs.Decimal.{natural, fraction, decimal, signOf, s
 ghost use Rattle.text_laws.specs.Lines.{
   space,
   newline,
-  whole,
+  wholeNumber,
   amount,
   nodeLine,
   rowLine,
@@ -139,7 +139,7 @@ fn put_signed_field(out: &mut [u8], end: usize, number: i64, decimals: usize, fo
 // A line's word and the whole number that follows it.
 fn put_label(out: &mut [u8], end: usize, word: &[u8], number: u64, follower: u8) -> usize
     requires { ⌜ (length (now word) + 22 ≤ end) × (end ≤ length (now out)) ⌝ }
-    ensures { λ r. ⌜ Put (now (out .entry)) end (now (word .entry) ++ (whole number ++ (follower ∷ []))) r (now (out .exit)) ⌝ }
+    ensures { λ r. ⌜ Put (now (out .entry)) end (now (word .entry) ++ (wholeNumber number ++ (follower ∷ []))) r (now (out .exit)) ⌝ }
 {
     let start = put_field(out, end, number, 0, follower);
     put_word(out, start, word)
@@ -148,7 +148,7 @@ fn put_label(out: &mut [u8], end: usize, word: &[u8], number: u64, follower: u8)
 // An amount and its error bound, with which a line ends.
 fn put_bounded(out: &mut [u8], end: usize, value: u64, bound: u64) -> usize
     requires { ⌜ (53 ≤ end) × (end ≤ length (now out)) ⌝ }
-    ensures { λ r. ⌜ Put (now (out .entry)) end ((amount value ++ space) ++ (whole bound ++ newline)) r (now (out .exit)) ⌝ }
+    ensures { λ r. ⌜ Put (now (out .entry)) end ((amount value ++ space) ++ (wholeNumber bound ++ newline)) r (now (out .exit)) ⌝ }
 {
     let start = put_field(out, end, bound, 0, b'\n');
     put_field(out, start, value, 9, b' ')

@@ -7,16 +7,16 @@ use native.Mathlib.Omega.{arith}
 use borrow.Author.Tests.{le-leb, lt-leb}
 use lib.IntN.{ℤ, natAbs}
 use lib.ListN.{length, length-append}
-use Rattle.arithmetic.specs.Answers.{lowest-cause}
+use Rattle.arithmetic.specs.Answers.{lowestCause}
 use Rattle.arithmetic.proofs.CauseLaws.{lowest-first, lowest-none}
 use Rattle.arithmetic.proofs.Numbers.{by-order}
-use Rattle.limits.specs.Limits.{most-discount}
+use Rattle.limits.specs.Limits.{mostDiscount}
 use Rattle.step_rate.specs.declared.Rate.{Rate}
 use Rattle.step_rate.specs.StepRate.{rateAnswer}
 use Rattle.step_rate.proofs.RateLaws.{answer-known, value-bound}
 use Rattle.text_laws.specs.declared.Placed.{Placed}
 use Rattle.text_laws.specs.Put.{Put}
-use Rattle.text_laws.specs.Lines.{space, newline, whole, amount, nodeLine, rowLine, priceLine, refusedLine, lineNumber, nodeNumber, lineOfNode}
+use Rattle.text_laws.specs.Lines.{space, newline, wholeNumber, amount, nodeLine, rowLine, priceLine, refusedLine, lineNumber, nodeNumber, lineOfNode}
 use Rattle.text_laws.proofs.DecimalLaws.{decimal-room, field-room, signed-room}
 use Rattle.text_laws.proofs.PutLaws.{put-before, Answered, put-refused, put-answered, answered-put}
 
@@ -90,11 +90,11 @@ put-label {out} {after} {later} {text} {end} {mid} {start} word field p q =
     subst (λ (l : List ℕ). Put out end l start later) (append-assoc word field text) (put-before p q)
 
 -- an amount and its bound are at most 53 bytes
-pub bounded-room : (value bound : ℕ) → value < 2 ^ 64 → bound < 2 ^ 64 → length ((amount value ++ space) ++ (whole bound ++ newline)) ≤ 53
+pub bounded-room : (value bound : ℕ) → value < 2 ^ 64 → bound < 2 ^ 64 → length ((amount value ++ space) ++ (wholeNumber bound ++ newline)) ≤ 53
 bounded-room value bound a b =
     let x = field-room 9 value 32 a in
     let y = field-room 0 bound 10 b in
-    rw (length-append (amount value ++ space) (whole bound ++ newline)) (omega arith)
+    rw (length-append (amount value ++ space) (wholeNumber bound ++ newline)) (omega arith)
 
 -- the room that a text leaves before it
 pub room-left : {out text after : List ℕ} {end mid : ℕ} (most left : ℕ) → Put out end text mid after → most + left ≤ end →
@@ -111,7 +111,7 @@ line-before {out₀} {out} {text} {after} {end} {mid} line p h l a =
 
 module _ (size end discount : ℕ) where
   -- the cause that the code finds
-  pub node-cause : (rate : Rate) (room found : ℕ) → rate ≡ rateAnswer discount → room ≡ lineNumber size end → found ≡ lowest-cause room (rate .number)
+  pub node-cause : (rate : Rate) (room found : ℕ) → rate ≡ rateAnswer discount → room ≡ lineNumber size end → found ≡ lowestCause room (rate .number)
       → found ≡ nodeNumber size end discount
   unfolding nodeNumber
   node-cause rate room found er em ef = ef ∙ rw (er, em)
@@ -132,7 +132,7 @@ module _ (out : List ℕ) (end row discount : ℕ) (node : ℤ) (found : ℕ) (e
   node-put {start} {after} z rate r p =
       put-answered _ out end _ (sym e ∙ z) (subst (λ (v : ℤ). Put out end (nodeLine row node discount v) start after) r p)
 
-pub node-number-none : (size end discount : ℕ) → 128 ≤ end → end ≤ size → 0 < discount → discount ≤ most-discount → nodeNumber size end discount ≡ 0
+pub node-number-none : (size end discount : ℕ) → 128 ≤ end → end ≤ size → 0 < discount → discount ≤ mostDiscount → nodeNumber size end discount ≡ 0
 unfolding nodeNumber
 node-number-none size end discount h p l m =
     let r : 0 ≡ rateAnswer discount .number = rw (answer-known discount l m) in
@@ -144,7 +144,7 @@ node-line-room row discount node a b c = node-room row discount node _ a b c (om
 
 -- the line was put where it had room and its discount a step rate
 pub node-stands : (out : List ℕ) (end row discount : ℕ) (node : ℤ) {answer : Placed} {after : List ℕ} → 128 ≤ end → end ≤ length out → 0 < discount
-    → discount ≤ most-discount → length (lineOfNode row node discount) ≤ 128
+    → discount ≤ mostDiscount → length (lineOfNode row node discount) ≤ 128
     → Answered (nodeNumber (length out) end discount) out end (lineOfNode row node discount) answer after
     → Put out end (lineOfNode row node discount) (answer .start) after
 node-stands out end row discount node h p l m r a = answered-put _ out end _ a (node-number-none (length out) end discount h p l m) (omega arith) p

@@ -4,7 +4,7 @@ use mathlib.Core.Path.{_≡_, sym, _∙_}
 use mathlib.Core.Bool.{true}
 use borrow.Author.Tests.{not-true, not-false}
 use Rattle.arithmetic.specs.Frequency.{listed}
-use Rattle.limits.specs.Limits.{is-steps}
+use Rattle.limits.specs.Limits.{isSteps}
 use Rattle.curve.specs.Curve.{inPlace}
 use Rattle.curve.proofs.CurveLaws.{placed-kinds, placed-figures, number-frequency, number-steps, number-place, number-quotes, number-accepted}
 use borrow.Author.Needs.{needs}
@@ -27,7 +27,7 @@ is-steps-requires c κs = search needs
 returns-2 : tie.Need-returns-2
 returns-2 c = sym (number-steps _ _ _ _ _ _ (known (c .before .before)) (sym (c .before .is-steps .ensures) ∙ not-true _ (c .if2 .taken)))
 
-few : (c : tie.Else2) → is-steps (c .before .before .before .before .before .before .before .args .steps) ≡ true
+few : (c : tie.Else2) → isSteps (c .before .before .before .before .before .before .before .args .steps) ≡ true
 few c = sym (c .before .is-steps .ensures) ∙ not-false _ (c .if2 .left)
 
 is-in-place-requires : tie.Need-is-in-place-requires

@@ -6,7 +6,7 @@ use Prim.Native.Nat.{_≤_}
 use native.Mathlib.Omega.{arith}
 use lib.ListN.{length}
 use denote.Ref.{now}
-use Rattle.job_record.specs.Form.{mostSteps, quotesAt, restAt}
+use Rattle.job_record.specs.Form.{mostJobSteps, quotesAt, restAt}
 use Rattle.job_record.specs.Reader.{jobOf}
 use Rattle.job_record.proofs.Forms.{well-body, well-length, body-rest}
 use Rattle.jobs.proofs.job_of.Statement.{statement}
@@ -19,7 +19,7 @@ number-requires : tie.Need-number-requires
 number-requires c κs = omega (arith, well-length _ (c .before .pre))
 
 -- the number of steps as it was read, and the place after the flows
-known : (c : tie.After-number) → (c .number .result ≤ mostSteps) × (restAt quotesAt (c .number .result) ≤ length (now (c .before .before .args .bytes)))
+known : (c : tie.After-number) → (c .number .result ≤ mostJobSteps) × (restAt quotesAt (c .number .result) ≤ length (now (c .before .before .args .bytes)))
 known c = (omega (arith, c .number .ensures .1), rw (c .number .ensures .0) (well-length _ (c .before .before .pre)))
 
 after-fields-requires : tie.Need-after-fields-requires

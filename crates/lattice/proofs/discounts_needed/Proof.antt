@@ -1,6 +1,6 @@
 -- `lattice::discounts_needed` meets its contract.
 -- Assumes nothing.
-use Rattle.lattice.specs.Shape.{half-width, node-count, row-start, discounts-needed, state-prices-needed}
+use Rattle.lattice.specs.Shape.{halfWidth, nodeCount, rowStart, discountsNeeded, statePricesNeeded}
 use Prim.Native.Nat.{ℕ}
 use mathlib.Core.Path.{refl, sym, ap, _∙_}
 use native.Mathlib.Omega.{arith}
@@ -19,9 +19,9 @@ about-tree-requires : tie.Need-about-tree-requires
 about-tree-requires c κs = search needs
 
 returns : tie.Need-returns
-unfolding discounts-needed
+unfolding discountsNeeded
 returns c =
-    let needed : ℕ → ℕ = λ n. discounts-needed n (c .before .before .before .args .reversion) in
+    let needed : ℕ → ℕ = λ n. discountsNeeded n (c .before .before .before .args .reversion) in
     c .about-tree .ensures ∙ entry.tree-answer _ _ needed _ _ (c .before .before .clipped .ensures) (c .before .row-start-of .ensures)
 
 pub discounts-needed-spec : {M : Type 1} → statement M

@@ -1,6 +1,6 @@
 -- `lattice::node_count` meets its contract.
 -- Assumes nothing.
-use Rattle.lattice.specs.Shape.{half-width, node-count, row-start, discounts-needed, state-prices-needed}
+use Rattle.lattice.specs.Shape.{halfWidth, nodeCount, rowStart, discountsNeeded, statePricesNeeded}
 use Prim.Native.Nat.{ℕ, _+_, _*_, _≤_}
 use Rattle.lattice.proofs.Sizes.{half-within}
 use mathlib.Core.Path.{refl, sym, ap, _∙_}
@@ -29,10 +29,10 @@ about-row-requires : tie.Need-about-row-requires
 about-row-requires c κs = search needs
 
 returns : tie.Need-returns
-unfolding node-count
+unfolding nodeCount
 returns c =
     let count = ap (λ (x : ℕ). 2 * x + 1) (c .before .half-width-of .ensures) in
-    c .about-row .ensures ∙ entry.row-answer _ _ (node-count _) _ _ (c .before .before .clipped .ensures) count
+    c .about-row .ensures ∙ entry.row-answer _ _ (nodeCount _) _ _ (c .before .before .clipped .ensures) count
 
 pub node-count-spec : {M : Type 1} → statement M
 node-count-spec =

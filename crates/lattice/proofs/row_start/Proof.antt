@@ -1,6 +1,6 @@
 -- `lattice::row_start` meets its contract.
 -- Assumes nothing.
-use Rattle.lattice.specs.Shape.{half-width, node-count, row-start, discounts-needed, state-prices-needed}
+use Rattle.lattice.specs.Shape.{halfWidth, nodeCount, rowStart, discountsNeeded, statePricesNeeded}
 use mathlib.Core.Path.{refl, sym, ap, _∙_}
 use native.Mathlib.Omega.{arith}
 use Rattle.lattice.proofs.EntryLaws as entry
@@ -18,7 +18,7 @@ about-row-requires : tie.Need-about-row-requires
 about-row-requires c κs = search needs
 
 returns : tie.Need-returns
-returns c = c .about-row .ensures ∙ entry.row-answer _ _ (row-start _) _ _ (c .before .before .clipped .ensures) (c .before .row-start-of .ensures)
+returns c = c .about-row .ensures ∙ entry.row-answer _ _ (rowStart _) _ _ (c .before .before .clipped .ensures) (c .before .row-start-of .ensures)
 
 pub row-start-spec : {M : Type 1} → statement M
 row-start-spec =

@@ -1,6 +1,6 @@
 -- `lattice::state_prices_needed` meets its contract.
 -- Assumes nothing.
-use Rattle.lattice.specs.Shape.{half-width, node-count, row-start, discounts-needed, state-prices-needed}
+use Rattle.lattice.specs.Shape.{halfWidth, nodeCount, rowStart, discountsNeeded, statePricesNeeded}
 use Prim.Native.Nat.{ℕ}
 use native.Mathlib.Numerals.{add-one}
 use mathlib.Core.Path.{refl, sym, ap, _∙_}
@@ -23,10 +23,10 @@ about-tree-requires : tie.Need-about-tree-requires
 about-tree-requires c κs = search needs
 
 returns : tie.Need-returns
-unfolding state-prices-needed
+unfolding statePricesNeeded
 returns c =
-    let needed : ℕ → ℕ = λ n. state-prices-needed n (c .before .before .before .args .reversion) in
-    let start = c .before .row-start-of .ensures ∙ ap (row-start _) (add-one _) in
+    let needed : ℕ → ℕ = λ n. statePricesNeeded n (c .before .before .before .args .reversion) in
+    let start = c .before .row-start-of .ensures ∙ ap (rowStart _) (add-one _) in
     c .about-tree .ensures ∙ entry.tree-answer _ _ needed _ _ (c .before .before .clipped .ensures) start
 
 pub state-prices-needed-spec : {M : Type 1} → statement M

@@ -74,7 +74,7 @@ accepted-both-requires c κs =
     let terms-of = c .before .terms-of in
     let tree = laws.tree-accepted _ _ _ _ _ (tree-bound .ensures) (if1 .left) in
     let judged = option-accepted _ _ _ _ (sym (option-cause .ensures) ∙ if2 .left) in
-    let few : s .args .expiry ≤ 60 = omega (arith, judged .0, tree .few) in
+    let few : s .args .expiry ≤ 60 = omega (arith, judged .0, tree .steps-within-limit) in
     let last = last-found _ _ _ _ (terms-of .ensures) in (
       tree,
       laws.paid-accepted _ _ _ _ _ (tree-bound .ensures) (if1 .left),
@@ -99,7 +99,7 @@ returns-3 c =
     let bound = laws.bound-is _ _ _ _ _ (tree-bound .ensures) (if1 .left) in
     let passed = sym (option-cause .ensures) ∙ if2 .left in
     laws.both-are _ _ _ (laws.bond-price-is _ _ _ _ _ _ (accepted-both .ensures .0) none bound)
-    (laws.option-price-is _ _ _ _ _ _ _ none _ bound passed (omega (arith, option-accepted _ _ _ _ passed .0, tree .few)) _ _ _
+    (laws.option-price-is _ _ _ _ _ _ _ none _ bound passed (omega (arith, option-accepted _ _ _ _ passed .0, tree .steps-within-limit)) _ _ _
     (terms-of .ensures) (marks-of .ensures) (accepted-both .ensures .1))
 
 pub bond-and-option-spec : {M : Type 1} → statement M

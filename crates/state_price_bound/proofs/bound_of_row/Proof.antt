@@ -1,6 +1,6 @@
 -- `state_price_bound::bound_of_row` meets its contract.
 -- Assumes nothing.
-use Rattle.lattice.specs.Shape.{node-count}
+use Rattle.lattice.specs.Shape.{nodeCount}
 use Rattle.lattice.proofs.Sizes.{start-within}
 use mathlib.Core.Path.{_≡_}
 use Prim.Native.Nat.{_+_, _≤_, _-_}
@@ -54,7 +54,7 @@ node-count-requires c κs = search needs
 counts :
     (c : tie.After-node-count Inv-loop μ-loop) →
     let l = c .before .before .before .before in
-    c .node-count .result .value ≡ node-count (l .before .before .args .reversion) (l .loop .index + 1)
+    c .node-count .result .value ≡ nodeCount (l .before .before .args .reversion) (l .loop .index + 1)
 counts c = row-value _ _ _ _ (c .node-count .ensures) (omega arith) (omega arith)
 
 next-bound-requires : tie.Need-next-bound-requires Inv-loop μ-loop

@@ -2,14 +2,14 @@
 -- Assumes nothing.
 use borrow.Author.Needs.{needs}
 use Prim.Native.Nat.{_≤_}
-use Rattle.arithmetic.specs.Row.{greatest-of}
-use Rattle.limits.specs.Limits.{value-limit}
+use Rattle.arithmetic.specs.Row.{greatestOf}
+use Rattle.limits.specs.Limits.{valueLimit}
 use Rattle.valuation.proofs.EntryLaws as laws
 use Rattle.valuation.proofs.value_by_state_prices.Statement.{statement}
 use Rattle.valuation.proofs.value_by_state_prices.Tie as tie
 
 -- past the test no payoff is above the limit
-low : (c : tie.Else4) → greatest-of (c .before .before .before .before .before .before .before .args .payoffs .now) ≤ value-limit
+low : (c : tie.Else4) → greatestOf (c .before .before .before .before .before .before .before .args .payoffs .now) ≤ valueLimit
 low c =
     let s = c .before .before .before .before .before .before .before in
     laws.low-payoffs (s .args .payoffs .now) _ (c .before .greatest-of .ensures) (c .if4 .left)

@@ -4,9 +4,9 @@ use mathlib.Core.Path.{_≡_}
 use Prim.Native.Nat.{_+_, _-_, _≤_}
 use native.Mathlib.Omega.{arith}
 use borrow.Author.Needs.{needs}
-use Rattle.limits.specs.Limits.{most-nodes}
-use Rattle.lattice.specs.Shape.{node-count}
-use Rattle.lattice.specs.Entries.{shape-of}
+use Rattle.limits.specs.Limits.{mostNodes}
+use Rattle.lattice.specs.Shape.{nodeCount}
+use Rattle.lattice.specs.Entries.{shapeOf}
 use Rattle.fitting.proofs.TreeRows as laws
 use Rattle.fitting.proofs.rows.tree_row.Statement.{statement}
 use Rattle.fitting.proofs.rows.tree_row.Tie as tie
@@ -15,14 +15,14 @@ abbrev start : tie.After-row-shape → tie.Start
 start c = c .before .before .before .before .before .before .before
 
 known : (c : tie.After-row-shape) →
-    c .row-shape .result ≡ shape-of (start c .args .at .reversion) (start c .args .at .steps - 1) (start c .args .at .row)
+    c .row-shape .result ≡ shapeOf (start c .args .at .reversion) (start c .args .at .steps - 1) (start c .args .at .row)
 known c =
     let s = start c in
     laws.shape-known (s .pre .tables .reversion-within-limit) (s .pre .tables .steps-within-limit) (s .pre .in-tree) (c .row-shape .ensures)
 
 room : (c : tie.After-row-shape) →
-    (c .row-shape .result .offset + c .row-shape .result .count ≤ node-count (start c .args .at .reversion) (start c .args .at .steps - 1))
-    × (node-count (start c .args .at .reversion) (start c .args .at .steps - 1) ≤ most-nodes)
+    (c .row-shape .result .offset + c .row-shape .result .count ≤ nodeCount (start c .args .at .reversion) (start c .args .at .steps - 1))
+    × (nodeCount (start c .args .at .reversion) (start c .args .at .steps - 1) ≤ mostNodes)
 room c =
     let s = start c in
     laws.shape-room (s .pre .tables .reversion-within-limit) (s .pre .tables .steps-within-limit) (s .pre .in-tree) (c .row-shape .ensures)

@@ -4,7 +4,7 @@ use mathlib.Core.Path.{_≡_, sym, _∙_}
 use Prim.Native.Nat.{suc}
 use native.Mathlib.Omega.{arith}
 use lib.ListN.{length}
-use Rattle.lattice.specs.Shape.{row-start}
+use Rattle.lattice.specs.Shape.{rowStart}
 use Rattle.fitting.proofs.TableFit as laws
 use borrow.Author.Needs.{needs}
 use Rattle.fitting.proofs.tables.fit_or_clear.Statement.{statement}
@@ -18,11 +18,11 @@ sized c = c .before .before .before .before
 
 -- the sizes of the needed parts
 discounts-size : (c : tie.After-state-prices-needed) →
-    c .before .discounts-needed .result .value ≡ row-start (start c .args .reversion) (length (start c .args .quotes .now))
+    c .before .discounts-needed .result .value ≡ rowStart (start c .args .reversion) (length (start c .args .quotes .now))
 discounts-size c = laws.needed-discounts (start c .pre .tables) (c .before .discounts-needed .ensures)
 
 prices-size : (c : tie.After-state-prices-needed) →
-    c .state-prices-needed .result .value ≡ row-start (start c .args .reversion) (suc (length (start c .args .quotes .now)))
+    c .state-prices-needed .result .value ≡ rowStart (start c .args .reversion) (suc (length (start c .args .quotes .now)))
 prices-size c = laws.needed-prices (start c .pre .tables) (c .state-prices-needed .ensures)
 
 discounts-needed-requires : tie.Need-discounts-needed-requires

@@ -3,14 +3,14 @@
 use Prim.Native.Nat.{_+_, _≤_}
 use native.Mathlib.Omega.{arith}
 use lib.ListN.{length-take}
-use Rattle.limits.specs.Limits.{most-steps}
+use Rattle.limits.specs.Limits.{mostSteps}
 use Rattle.fitting.proofs.TableFit as laws
 use borrow.Author.Needs.{needs}
 use Rattle.fitting.proofs.tables.fit_quotes.Statement.{statement}
 use Rattle.fitting.proofs.tables.fit_quotes.Tie as tie
 
 -- the widest row's count fits the tables
-small : (s : tie.Start) → s .args .grid .widest + 1 ≤ most-steps
+small : (s : tie.Start) → s .args .grid .widest + 1 ≤ mostSteps
 small s = laws.widest-small (s .pre)
 
 mul-count : tie.Need-mul-count

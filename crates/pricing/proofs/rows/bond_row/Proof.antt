@@ -5,7 +5,7 @@ use Prim.Native.Nat.{ℕ, _+_, _-_, _≤_}
 use native.Mathlib.Omega.{arith}
 use lib.ListN.{length}
 use denote.Ref.{now}
-use Rattle.pricing.specs.Rows.{bond-values}
+use Rattle.pricing.specs.Rows.{bondValues}
 use Rattle.pricing.proofs.RowSteps.{branch-inside, branch-whole, branch-limited, branch-rolled, Row-state, row-start, row-next, row-done}
 use borrow.Author.Needs.{needs}
 use Rattle.pricing.proofs.rows.bond_row.Statement.{statement}
@@ -13,7 +13,7 @@ use Rattle.pricing.proofs.rows.bond_row.Tie as tie
 
 abbrev Inv-loop : tie.InvT-loop
 Inv-loop row₀ later downs discounts next flow top₀ k₀ row top k =
-    (k ≤ length discounts) × Row-state row₀ row (bond-values later downs discounts next flow) top k
+    (k ≤ length discounts) × Row-state row₀ row (bondValues later downs discounts next flow) top k
 
 abbrev μ-loop : tie.MeasureT-loop
 μ-loop row₀ later downs discounts next flow top₀ k₀ row top k = length discounts - k

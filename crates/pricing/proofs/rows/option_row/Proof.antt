@@ -8,8 +8,8 @@ use lib.ListN.{length}
 use denote.Ref.{now}
 use Rattle.arithmetic.specs.Row.{values}
 use Rattle.exercise.specs.Terms.{side}
-use Rattle.row_branches.specs.RowBranches.{branch-total}
-use Rattle.pricing.specs.Rows.{bond-values, option-values, Limited, Later}
+use Rattle.row_branches.specs.RowBranches.{branchTotal}
+use Rattle.pricing.specs.Rows.{bondValues, optionValues, Limited, Later}
 use Rattle.pricing.proofs.RowSteps.{branch-inside, branch-whole, branch-limited, branch-rolled, option-from-roll}
 use Rattle.pricing.proofs.RowSteps.{Rows-state, rows-start, rows-next, rows-done}
 use borrow.Author.Needs.{needs}
@@ -19,8 +19,8 @@ use Rattle.pricing.proofs.rows.option_row.Tie as tie
 abbrev Inv-loop : tie.InvT-loop
 Inv-loop right downs discounts bonds options bond₀ option₀ terms top₀ k₀ bond option top k =
     (k ≤ length discounts)
-    × Rows-state bond₀ bond option₀ option (bond-values bonds downs discounts (right .next) (right .flow))
-    (option-values (side (right .terms .call)) (right .terms .strike) (right .listed) bonds options downs discounts (right .next) (right .flow)) top k
+    × Rows-state bond₀ bond option₀ option (bondValues bonds downs discounts (right .next) (right .flow))
+    (optionValues (side (right .terms .call)) (right .terms .strike) (right .listed) bonds options downs discounts (right .next) (right .flow)) top k
 
 abbrev μ-loop : tie.MeasureT-loop
 μ-loop right downs discounts bonds options bond₀ option₀ terms top₀ k₀ bond option top k = length discounts - k
@@ -48,7 +48,7 @@ start c = c .before .before .before .before .before .before .before .before .bef
 -- what the roll of a row asks
 rolls : (c : tie.After-shared-slice-known5 Inv-loop μ-loop) (later : List ℕ) → Later later (start c .args .right .next) →
     let branch = c .before .row-branch .result in
-    (branch .low + 2 < length later) × (branch-total branch ≡ 600000000) × Limited later (branch .low + 3)
+    (branch .low + 2 < length later) × (branchTotal branch ≡ 600000000) × Limited later (branch .low + 3)
 rolls c later l =
     let ready = start c .pre .0 in
     let e = c .before .row-branch .ensures in (

@@ -4,16 +4,16 @@ use mathlib.Core.Path.{_≡_, ap, _∙_, subst}
 use Prim.Native.Nat.{ℕ, suc, _+_, _-_}
 use borrow.Author.Tests.{le-leb}
 use Rattle.row_view.specs.declared.RowKind.the-variants.{StatePrices}
-use Rattle.sheet_laws.specs.TreeSheet.{row-part, total}
+use Rattle.sheet_laws.specs.TreeSheet.{rowPart, total}
 use native.Mathlib.Numerals.{add-one}
-use Rattle.state_price_bound.specs.ErrorBound.{statePriceErrorBound}
+use Rattle.state_price_bound.specs.ErrorBound.{statePriceErrorBoundAnswer}
 use Rattle.sheet_laws.proofs.PartLaws as laws
 use borrow.Author.Needs.{needs}
 use native.Mathlib.Omega.{arith}
 use Rattle.record_sheet.proofs.lines.put_row.Statement.{statement}
 use Rattle.record_sheet.proofs.lines.put_row.Tie as tie
 
-part-is : (c : tie.After-row-view) → c .row-view .result .now ≡ row-part (c .before .before .before .before .before .args .tree .reversion)
+part-is : (c : tie.After-row-view) → c .row-view .result .now ≡ rowPart (c .before .before .before .before .before .args .tree .reversion)
     (c .before .before .before .before .before .args .state-prices .now) (suc (c .before .before .before .before .before .args .before))
 part-is c =
     let s = c .before .before .before .before .before in
@@ -59,9 +59,9 @@ returns c =
     laws.row-line-stands (a .tree .steps) (a .tree .reversion) (a .quotes .now) (a .discounts .now) (a .state-prices .now) (a .before) (a .end)
     (row-total .result) (a .out .now) _ (state-price-error-bound .result)
     (row-total .ensures ∙ ap total (part-is (p6 .before))) (subst
-    (λ (i : ℕ). state-price-error-bound .result ≡ statePriceErrorBound (a .tree .steps) (a .tree .reversion) (a .discounts .now) i) (add-one (a .before))
+    (λ (i : ℕ). state-price-error-bound .result ≡ statePriceErrorBoundAnswer (a .tree .steps) (a .tree .reversion) (a .discounts .now) i) (add-one (a .before))
     (state-price-error-bound .ensures))
-    (omega (arith, pre .0, pre .1 .lent .few)) (shared-slice-known .given (a .before) .fits) (search needs) (pre .4) (pre .5) (row-line .ensures)
+    (omega (arith, pre .0, pre .1 .lent .steps-within-limit)) (shared-slice-known .given (a .before) .fits) (search needs) (pre .4) (pre .5) (row-line .ensures)
 
 pub put-row-spec : {M : Type 1} → statement M
 put-row-spec =

@@ -24,7 +24,8 @@ fits : (c : tie.After-shared-slice-known3 Inv-loop μ-loop) (i : ℕ) → i < c 
 fits c =
     let s = c .before .before .before .before in
     let shared-slice-known = c .before .before .shared-slice-known in
-    laws.rows-fit (s .args .steps) (s .args .reversion) (s .args .quotes .now) (s .args .discounts .now) (s .args .state-prices .now) (s .pre .0 .0 .lent .few)
+    let a = s .args in
+    laws.rows-fit (a .steps) (a .reversion) (a .quotes .now) (a .discounts .now) (a .state-prices .now) (s .pre .0 .0 .lent .steps-within-limit)
     (λ j. shared-slice-known .given j .fits) (s .pre .1)
 
 loop-holds : tie.Need-loop-holds Inv-loop μ-loop

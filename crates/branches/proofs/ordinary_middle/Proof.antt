@@ -1,13 +1,13 @@
--- `branches::across` meets its contract.
+-- `branches::ordinary_middle` meets its contract.
 -- Assumes nothing.
 use mathlib.Core.Path.{refl, sym, ap, _∙_}
 use native.Mathlib.Omega.{arith}
 use borrow.Author.Needs.{needs}
-use Rattle.lattice.specs.Branching.{up-at, middle-at, down-at}
+use Rattle.lattice.specs.Branching.{upFormula, middleFormula, downFormula}
 use lib.IntN.{natAbs}
 use Rattle.lattice.proofs.Formulas as formulas
-use Rattle.branches.proofs.across.Statement.{statement}
-use Rattle.branches.proofs.across.Tie as tie
+use Rattle.branches.proofs.ordinary_middle.Statement.{statement}
+use Rattle.branches.proofs.ordinary_middle.Tie as tie
 
 mul-result : tie.Need-mul-result
 mul-result c = omega (arith, formulas.square-within (c .args .z) (omega arith))
@@ -16,10 +16,10 @@ mul-result-2 : tie.Need-mul-result-2
 mul-result-2 c = omega (arith, formulas.square-within (c .args .z) (omega arith))
 
 sub-result : tie.Need-sub-result
-sub-result c = omega (arith, formulas.across-whole (c .args .z) (c .pre))
+sub-result c = omega (arith, formulas.ordinary-middle-whole (c .args .z) (c .pre))
 
 returns : tie.Need-returns
 returns c = sym (ap natAbs (formulas.upper-ordinary _ (c .pre) .middle-is))
 
-pub across-spec : {M : Type 1} → statement M
-across-spec = tie.close (tie.spec mul-result mul-result-2 sub-result returns)
+pub ordinary-middle-spec : {M : Type 1} → statement M
+ordinary-middle-spec = tie.close (tie.spec mul-result mul-result-2 sub-result returns)
