@@ -2,13 +2,13 @@
 -- Assumes nothing.
 use mathlib.Core.Path.{_≡_, refl, sym, _∙_, ap}
 use Prim.Native.Nat.{ℕ, zero, suc, _+_, _-_, _*_, _/_, _%_, _≤_, _<_}
-use native.Mathlib.Nat.{le-antisymm, le-mul-of-pos-right, mul-assoc, mul-comm, mul-le-mul-right, mul-zero}
+use native.Mathlib.Nat.{le-antisymm, le-mul-of-pos-right, mul-assoc, mul-le-mul-right}
 use native.Mathlib.Nat.{mul-div-mul-left, mul-div-cancel-left, mul-div-le, mul-add-div, add-mul-div-left, div-div-eq-div-mul, div-add-mod}
 use native.Mathlib.Nat.{div-eq-of-lt, div-lt-iff-lt-mul, lt-div-mul-add, le-div-iff-mul-le}
 use native.Mathlib.Omega.{arith}
-use lib.IntN.{ℤ, pos, negsuc, negℤ, natAbs, negℤ-negℤ}
+use lib.IntN.{ℤ, pos, negsuc, negℤ, natAbs}
 use lib.Ieee.Nearest.{div-same}
-use Rattle.arithmetic.specs.Rounding.{one, roundDown, roundUp, nearest, roundDownSigned, roundUpSigned, nearestSigned, Rounds}
+use Rattle.arithmetic.specs.Rounding.{one, roundDown, roundUp, nearest, nearestSigned, Rounds}
 
 module _ (a d : ℕ) (h : 0 < d) where
   -- down: at most the quotient, and less than one below it
@@ -24,10 +24,6 @@ module _ (a d : ℕ) (h : 0 < d) where
   pub up-ge : a ≤ d * roundUp a d
   unfolding roundUp
   up-ge = omega (arith, lt-div-mul-add {a = a + (d - 1)} h)
-
-  pub up-lt : d * roundUp a d < a + d
-  unfolding roundUp
-  up-lt = omega (arith, mul-div-le (a + (d - 1)) d)
 
   -- nearest: at most a half above the quotient, and less than a half below it
   pub nearest-le-half : 2 * (d * nearest a d) ≤ 2 * a + d
@@ -74,24 +70,10 @@ pub up-monotone : (a b d : ℕ) → 0 < d → a ≤ b → roundUp a d ≤ roundU
 unfolding roundUp
 up-monotone a b d p h = div-monotone (a + (d - 1)) (b + (d - 1)) d p (omega arith)
 
-pub up-exact : (q d : ℕ) → 0 < d → roundUp (d * q) d ≡ q
-unfolding roundUp
-up-exact q d h =
-    le-antisymm
-    (let l : (d * q + (d - 1)) / d < suc q = div-lt-iff-lt-mul h .1 (omega arith) in omega arith)
-    (le-div-iff-mul-le h .1 (omega arith))
-
 -- divided by at least as much as it is multiplied by, up leaves no more than before
 pub up-shrinks : (g a : ℕ) → g ≤ one → roundUp (g * a) one ≤ a
 unfolding roundUp
 up-shrinks g a h = omega (arith, mul-le-mul-right a h)
-
--- a quotient with a sign: exchanging the sign exchanges down and up, and leaves nearest, which goes by the magnitude
-pub up-negated : (z : ℤ) (d : ℕ) → 0 < d → roundUpSigned (negℤ z) d ≡ negℤ (roundDownSigned z d)
-unfolding roundUpSigned roundDownSigned
-up-negated (pos zero) d h = ap pos (rw mul-zero at (up-exact 0 d h)) ∙ ap (λ (x : ℕ). negℤ (pos x)) (sym (rw mul-zero at (down-rounds .exact 0 d h)))
-up-negated (pos (suc a)) d h = refl
-up-negated (negsuc a) d h = sym (negℤ-negℤ (pos (roundUp (suc a) d)))
 
 abs-negative : (n : ℕ) → natAbs (negℤ (pos n)) ≡ n
 abs-negative zero = refl
@@ -152,14 +134,3 @@ product-by-parts s one g pg =
 pub nearest-signed-bounds : (z : ℤ) (d : ℕ) → 0 < d →
     (2 * (d * natAbs (nearestSigned z d)) ≤ 2 * natAbs z + d) × (2 * natAbs z < 2 * (d * natAbs (nearestSigned z d)) + d)
 nearest-signed-bounds z d h = rw (nearest-magnitude z d) (nearest-le-half (natAbs z) d h, nearest-gt-half (natAbs z) d h)
-
--- below zero, down goes away from zero and up towards it
-pub down-signed-bounds : (a d : ℕ) → 0 < d →
-    (suc a ≤ d * natAbs (roundDownSigned (negsuc a) d)) × (d * natAbs (roundDownSigned (negsuc a) d) < suc a + d)
-unfolding roundDownSigned
-down-signed-bounds a d h = rw (abs-negative (roundUp (suc a) d)) (up-ge (suc a) d h, up-lt (suc a) d h)
-
-pub up-signed-bounds : (a d : ℕ) → 0 < d →
-    (d * natAbs (roundUpSigned (negsuc a) d) ≤ suc a) × (suc a < d * natAbs (roundUpSigned (negsuc a) d) + d)
-unfolding roundUpSigned
-up-signed-bounds a d h = rw (abs-negative (roundDown (suc a) d)) (down-le (suc a) d h, down-gt (suc a) d h)

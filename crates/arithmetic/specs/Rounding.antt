@@ -25,10 +25,6 @@ unfoldable pub roundDownSigned : ℤ → ℕ → ℤ
 roundDownSigned (pos a) d = pos (roundDown a d)
 roundDownSigned (negsuc a) d = negℤ (pos (roundUp (suc a) d))
 
-unfoldable pub roundUpSigned : ℤ → ℕ → ℤ
-roundUpSigned (pos a) d = pos (roundUp a d)
-roundUpSigned (negsuc a) d = negℤ (pos (roundDown (suc a) d))
-
 unfoldable pub nearestSigned : ℤ → ℕ → ℤ
 nearestSigned (pos a) d = pos (nearest a d)
 nearestSigned (negsuc a) d = negℤ (pos (nearest (suc a) d))

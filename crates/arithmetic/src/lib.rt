@@ -1,6 +1,6 @@
 // Rounding, sums and rows that every layer shares, answers with their causes, the powers of ten, and tests of slices.
 ghost use mathlib.Core.Path.{_≡_};
-ghost use Prim.Native.Nat.{ℕ, _<_, _≤_, _^_, max};
+ghost use Prim.Native.Nat.{_<_, _≤_, _^_, max};
 ghost use lib.IntN.{natAbs};
 ghost use lib.ListN.{length};
 ghost use Rattle.arithmetic.specs.Sum.{greatest};

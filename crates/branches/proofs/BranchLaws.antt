@@ -1,11 +1,10 @@
 -- The branch of a node as code works it out, and the entry's answer by the tests that code makes.
 -- Assumes nothing.
-use mathlib.Core.Path.{_≡_, refl, sym, ap, _∙_}
-use mathlib.Core.Bool.{Bool, true, false, cond}
+use mathlib.Core.Path.{_≡_}
+use mathlib.Core.Bool.{true}
 use mathlib.Core.List.{List, [], _∷_}
-use Prim.Native.Nat.{ℕ, zero, suc, _+_, _-_, _*_, _≤_, _<_}
+use Prim.Native.Nat.{ℕ, suc, _+_, _-_, _*_, _≤_, _<_}
 use native.Mathlib.Omega.{arith}
-use lib.Dec.{ltb, leb}
 use lib.ListN.{getD}
 use borrow.Author.Tests.{lt-ltb, le-ltb, le-leb, lt-leb, ltb-true}
 use lib.IntN.{ℤ, pos, negsuc, negℤ, natAbs, _-ℤ_}
@@ -16,10 +15,10 @@ use Rattle.arithmetic.proofs.Numbers.{by-order}
 use Rattle.arithmetic.proofs.Signed.{abs-negative, abs-sum, fits-by-size}
 use Rattle.limits.specs.Limits.{mostSteps, mostReversion}
 use Rattle.lattice.specs.Shape.{halfWidth}
-use Rattle.lattice.specs.Branching.{branching, lowestOf, upProbability, middleProbability, downProbability, probabilities}
+use Rattle.lattice.specs.Branching.{lowestOf, upProbability, middleProbability, downProbability, probabilities}
 use Rattle.lattice.specs.Entries.{refusedBranch, branchOf, branchAnswer}
 use Rattle.lattice.specs.declared.Branches.{Branches}
-use Rattle.lattice.proofs.Sizes.{Within, within-row, row-within, within-by-product, product-within, half-within}
+use Rattle.lattice.proofs.Sizes.{within-row, row-within, within-by-product, product-within, half-within}
 use Rattle.lattice.proofs.Nodes.{ordinary-node, top-node, branching-mirrored, up-lower, middle-lower, down-lower}
 
 -- a node's neighbours are small

@@ -3,14 +3,14 @@
 use mathlib.Core.Path.{_≡_, refl, sym, ap, _∙_}
 use mathlib.Core.Bool.{Bool, true, false, cond, _||_}
 use mathlib.Core.List.{List}
-use Prim.Native.Nat.{ℕ, suc, _≤_, _<_}
+use Prim.Native.Nat.{ℕ, _≤_, _<_}
 use native.Mathlib.Omega.{arith}
-use lib.Dec.{eqb, leb, ltb}
-use lib.ListN.{length, replicate, getD-replicate, length-replicate}
+use lib.Dec.{eqb, ltb}
+use lib.ListN.{length, getD-replicate, length-replicate}
 use borrow.Author.Tests.{lt-ltb, le-ltb, lt-leb, le-leb}
 use Rattle.arithmetic.specs.Row.{values}
 use Rattle.arithmetic.proofs.Numbers.{by-order}
-use Rattle.pricing_laws.specs.Pricer.{Side, call, put, Schedule}
+use Rattle.pricing_laws.specs.Pricer.{call, put}
 use Rattle.pricing_laws.specs.Schedule.{sideOf, scheduleOf, european, american, marked}
 use Rattle.pricing_laws.proofs.Recurrences.{schedule-last}
 use Rattle.pricing_laws.proofs.Schedules.{Alike}

@@ -1,7 +1,6 @@
 // The value of one node of an option, and the rows on which each kind may be exercised.
 ghost use mathlib.Core.Path.{_≡_};
-ghost use mathlib.Core.Bool.{Bool, true, false};
-ghost use Prim.Native.Nat.{ℕ, _-_};
+ghost use Prim.Native.Nat.{_-_};
 ghost use Rattle.pricing_laws.specs.Pricer.{exercise, heldOrExercised};
 ghost use Rattle.exercise.specs.Terms.{side, termsOf, marksOf};
 

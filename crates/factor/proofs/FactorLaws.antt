@@ -3,7 +3,7 @@
 use mathlib.Core.Path.{_≡_, refl, sym, _∙_, ap}
 use mathlib.Core.Bool.{Bool, true, false}
 use Prim.Native.Nat.{ℕ, zero, suc, _+_, _-_, _*_, _≤_, _<_}
-use native.Mathlib.Nat.{zero-mul, le-trans, mul-le-mul-right}
+use native.Mathlib.Nat.{le-trans, mul-le-mul-right}
 use native.Mathlib.Omega.{arith}
 use borrow.Author.Tests.{lt-ltb, le-ltb}
 use lib.IntN.{ℤ, pos, negsuc, natAbs, _-ℤ_}
@@ -11,12 +11,11 @@ use lib.Signed.{ltZ}
 use Rattle.arithmetic.specs.Rounding.{one, roundDown}
 use Rattle.arithmetic.specs.Sum.{sum}
 use Rattle.arithmetic.specs.Answers.{refused, answered}
-use Rattle.arithmetic.specs.declared.Answer.{Answer}
-use Rattle.arithmetic.proofs.Numbers.{by-order}
-use Rattle.factor.specs.Series.{term, even, odd, series, scale, SeriesWithin}
+use Rattle.arithmetic.specs.Within.{Within}
+use Rattle.factor.specs.Series.{term, even, odd, series, scale}
 use Rattle.factor.specs.Factor.{factor, exactFactor, nodeAnswer, sideFactor, sideAnswer}
 use Rattle.factor.proofs.SeriesLaws.{series-within, sum-by-parts, odd-le-even, term-falls}
-use Rattle.factor.proofs.Bounds.{series-bounds, sum-least, alternating-within-one}
+use Rattle.factor.proofs.Bounds.{series-bounds}
 
 -- U(j) by the distance and the side of j
 pub factor-side : (j : ℤ) (h : ℕ) → factor j h ≡ sideFactor (natAbs j) (ltZ j (pos 0)) h
@@ -46,13 +45,6 @@ unfolding series sum term roundDown
 middle true = refl
 middle false = refl
 
-pub side-middle : (below : Bool) (h : ℕ) → sideFactor 0 below h ≡ one
-unfolding sideFactor
-side-middle below h = rw (zero-mul h) (middle below)
-
-pub factor-middle : (h : ℕ) → factor (pos 0) h ≡ one
-factor-middle h = factor-above 0 h ∙ side-middle false h
-
 -- what holds of the farthest node holds of the nearer ones
 pub nearer-within : (k d h : ℕ) → k ≤ d → d * h ≤ one → k * h ≤ one
 nearer-within k d h l within = le-trans (mul-le-mul-right h l) within
@@ -67,17 +59,8 @@ side-bounds d below h l = series-bounds (d * h) below l
 pub factor-bounds : (j : ℤ) (h : ℕ) → natAbs j * h ≤ one → (360000000 ≤ factor j h) × (factor j h ≤ 2720000000)
 factor-bounds j h l = rw (factor-side j h) (side-bounds (natAbs j) (ltZ j (pos 0)) h l)
 
--- at least one below the middle, at most one above it,
-pub side-below-least : (d h : ℕ) → one ≤ sideFactor d true h
-unfolding sideFactor
-side-below-least d h = sum-least (d * h)
-
-pub side-above-most : (d h : ℕ) → d * h ≤ one → sideFactor d false h ≤ one
-unfolding sideFactor
-side-above-most d h l = alternating-within-one (d * h) l
-
 -- and within 14 of the same series in exact fractions
-pub factor-within : (j : ℤ) (h : ℕ) → natAbs j * h ≤ one → SeriesWithin scale 14 (factor j h) (exactFactor j h)
+pub factor-within : (j : ℤ) (h : ℕ) → natAbs j * h ≤ one → Within 14 scale (factor j h) (exactFactor j h)
 unfolding factor exactFactor
 factor-within j h l = series-within (natAbs j * h) (ltZ j (pos 0)) l
 
@@ -98,21 +81,6 @@ node-side j h = refl
 
 pub node-refused : (j : ℤ) (h : ℕ) → one < natAbs j * h → nodeAnswer j h ≡ refused 8
 node-refused j h l = node-side j h ∙ side-refused (natAbs j) (ltZ j (pos 0)) h l
-
-pub node-accepted : (j : ℤ) (h : ℕ) → natAbs j * h ≤ one → nodeAnswer j h ≡ answered (factor j h)
-node-accepted j h l = node-side j h ∙ side-accepted (natAbs j) (ltZ j (pos 0)) h l ∙ ap answered (sym (factor-side j h))
-
--- number 0 means accepted, and the value is the factor
-pub side-zero :
-    (d : ℕ) (below : Bool) (h : ℕ) → sideAnswer d below h .number ≡ 0 →
-    (d * h ≤ one) × (sideAnswer d below h .value ≡ sideFactor d below h)
-side-zero d below h e =
-    by-order (d * h) one
-    (λ l. (l, ap (λ (a : Answer). a .value) (side-accepted d below h l)))
-    (λ l. absurd (refusal (ap (λ (a : Answer). a .number) (side-refused d below h l))))
-  where
-    refusal : sideAnswer d below h .number ≡ 8 → ⊥
-    refusal r = omega arith
 
 -- Where y is |j| × h and at most one, the sums of the even and of the odd terms give the value answered.
 module _ (d h y e o : ℕ) (same : y ≡ d * h) (l : y ≤ one) (p : e ≡ sum 7 (even (term y))) (q : o ≡ sum 6 (odd (term y))) where

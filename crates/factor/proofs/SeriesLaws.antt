@@ -12,7 +12,8 @@ use Rattle.arithmetic.specs.Rounding.{one, roundDown}
 use Rattle.arithmetic.specs.Sum.{sum}
 use Rattle.arithmetic.proofs.RoundingLaws.{down-le, down-gt, down-rounds}
 use Rattle.arithmetic.proofs.SumLaws.{sum-le, sum-add, sum-scale, sum-grow, sum-shift}
-use Rattle.factor.specs.Series.{term, even, odd, series, falling, exactTerm, scale, SeriesWithin}
+use Rattle.arithmetic.specs.Within.{Within}
+use Rattle.factor.specs.Series.{term, even, odd, series, falling, exactTerm, scale}
 
 suc-positive : (k : ℕ) → 0 < suc k
 suc-positive k = omega arith
@@ -210,10 +211,10 @@ parts-of y hy =
     odd-place i l = omega arith
 
 -- their sum, and their difference
-sum-within : (w e o e′ o′ : ℕ) → Parts w e o e′ o′ → SeriesWithin w 14 (e + o) (e′ + o′)
+sum-within : (w e o e′ o′ : ℕ) → Parts w e o e′ o′ → Within 14 w (e + o) (e′ + o′)
 sum-within w e o e′ o′ p = record { above = omega arith; below = omega (arith, mul-le-mul-left w (p .total)) }
 
-difference-within : (w e o e′ o′ d d′ : ℕ) → Parts w e o e′ o′ → d + o ≡ e → d′ + o′ ≡ e′ → SeriesWithin w 14 d d′
+difference-within : (w e o e′ o′ d d′ : ℕ) → Parts w e o e′ o′ → d + o ≡ e → d′ + o′ ≡ e′ → Within 14 w d d′
 difference-within w e o e′ o′ d d′ p r s =
     let scaled : w * (d + o) ≡ w * e = ap (λ (x : ℕ). w * x) r in
     record { above = omega (arith, mul-le-mul-left w (p .total)); below = omega (arith, mul-le-mul-left w (p .total)) }
@@ -227,7 +228,7 @@ module _ (y : ℕ) (hy : y ≤ one) where
   exact-whole = alternating-whole (exactTerm y) (λ k l. exact-falls y k hy l)
 
 -- for y up to one the rounded series is within 14 of the exact one, either sign
-pub series-within : (y : ℕ) (below : Bool) → y ≤ one → SeriesWithin scale 14 (series below (term y)) (series below (exactTerm y))
+pub series-within : (y : ℕ) (below : Bool) → y ≤ one → Within 14 scale (series below (term y)) (series below (exactTerm y))
 series-within y true hy =
     rw (sum-by-parts (term y), sum-by-parts (exactTerm y)) (sum-within scale _ _ _ _ (parts-of y hy))
 series-within y false hy =

@@ -1,6 +1,6 @@
 -- The series of a factor, rounded and in exact fractions (document 01, Spacing and fit, second point).
 -- Assumes nothing.
-use Prim.Native.Nat.{ℕ, zero, suc, _+_, _-_, _*_, _^_, _≤_}
+use Prim.Native.Nat.{ℕ, zero, suc, _+_, _-_, _*_, _^_}
 use mathlib.Core.Bool.{Bool, true, false}
 use Rattle.arithmetic.specs.Rounding.{one, roundDown}
 use Rattle.arithmetic.specs.Sum.{sum}
@@ -38,8 +38,3 @@ scale = falling 12 * one ^ 11
 -- term k in exact fractions, one × (y / one)^k / k!, times 12! × one^11
 unfoldable pub exactTerm : ℕ → ℕ → ℕ
 exactTerm y k = y ^ k * (falling (12 - k) * one ^ (12 - k))
-
--- a value within e of an exact one, which is held times m
-pub record SeriesWithin (m e value exact : ℕ) : Type 0 where
-  pub above : m * value ≤ exact + m * e
-  pub below : exact ≤ m * (value + e)

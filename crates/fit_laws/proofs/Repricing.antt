@@ -2,16 +2,14 @@
 -- Error budget, lower side: at most one unit a node for carrying (n), one unit a node for branching (m), and the old sum over one for the
 -- discounts' rounding, together at most 119 + 121 + 2 = 242. Upper side: quote over Z for the rounding of Z, at most 55.
 -- Assumes nothing.
-use mathlib.Core.Path.{_≡_, refl, _∙_, sym}
-use Prim.Native.Nat.{ℕ, zero, suc, _+_, _*_, _/_, _≤_, _<_}
-use native.Mathlib.Nat.{le-trans, le-of-lt, mul-le-mul, mul-le-mul-left, mul-le-mul-right, le-of-mul-le-mul-left, lt-of-mul-lt-mul-left}
+use Prim.Native.Nat.{ℕ, zero, _+_, _*_, _≤_, _<_}
+use native.Mathlib.Nat.{mul-le-mul, mul-le-mul-left, le-of-mul-le-mul-left, lt-of-mul-lt-mul-left}
 use native.Mathlib.Omega.{arith}
 use Rattle.arithmetic.specs.Sum.{sum}
 use Rattle.arithmetic.specs.Rounding.{one}
-use Rattle.tree.specs.Tree.{Transition, incoming, probabilityTotal, Inside, Total}
+use Rattle.tree.specs.Tree.{Transition, Inside, Total}
 use Rattle.fit_laws.specs.Step.{normaliser, discount, carried, nextPrice}
-use Rattle.arithmetic.proofs.SumLaws.{sum-weigh-ge, sum-weigh-le, sum-term, sum-grow}
-use Rattle.tree.proofs.StepLaws.{incoming-total}
+use Rattle.arithmetic.proofs.SumLaws.{sum-weigh-ge, sum-weigh-le, sum-grow}
 use Rattle.fit_laws.proofs.StepLaws.{carried-le, carried-ge, next-le, next-ge, discount-le, discount-ge, normaliser-le, normaliser-ge}
 
 -- the general law, for any quote and any factors
@@ -82,17 +80,3 @@ module _ (t : Transition) (n m p : ℕ) (q u : ℕ → ℕ) (f : Fittable t n m 
 
   pub quoted-fits : (k : ℕ) → k < n → p * u k < 18446744073709551616
   quoted-fits k l = omega (arith, mul-le-mul (f .quote-high) (f .factor-high k l))
-
-  pub discounted-fits : (v k : ℕ) → k < n → v ≤ 1100000000 → q k * v < 18446744073709551616
-  discounted-fits v k l h =
-      omega (arith, mul-le-mul-left (q k) h, sum-term n k q l, f .sum-high)
-
-  pub incoming-fits : (j : ℕ) → j < m → incoming t n (carried q (discount n q u p)) j < 18446744073709551616
-  incoming-fits j l =
-      omega (
-        arith,
-        sum-term m j (incoming t n (carried q (discount n q u p))) l,
-        incoming-total t n m (carried q (discount n q u p)) (f .inside) (f .total),
-        carried-high,
-        f .quote-high,
-      )

@@ -1,8 +1,7 @@
 -- Rounded state prices never exceed the exact ones node by node, and the sum of the shortfalls is at most the state-price allowance, for any tree and
 -- any discounts.
 -- Assumes nothing.
-use mathlib.Core.Path.{_≡_, refl, _∙_, sym, ap}
-use Prim.Native.Nat.{ℕ, zero, suc, _+_, _-_, _*_, _/_, _^_, _≤_, _<_}
+use Prim.Native.Nat.{ℕ, zero, suc, _+_, _-_, _*_, _^_, _≤_, _<_}
 use native.Mathlib.Nat.{mul-le-mul-left, mul-le-mul-right, pow-succ', mul-div-le}
 use native.Mathlib.Omega.{arith}
 use Rattle.arithmetic.specs.Rounding.{one, roundUp}

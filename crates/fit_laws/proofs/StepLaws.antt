@@ -1,14 +1,14 @@
 -- Laws of one step of the fit, for any width and any transition.
 -- Assumes nothing.
-use mathlib.Core.Path.{_≡_, refl, _∙_, sym, ap}
-use Prim.Native.Nat.{ℕ, zero, suc, _+_, _*_, _/_, _≤_, _<_}
-use native.Mathlib.Nat.{le-trans, mul-le-mul-left, mul-le-mul-right, mul-div-le, lt-div-mul-add, le-of-mul-le-mul-left, lt-of-mul-lt-mul-left}
+use mathlib.Core.Path.{_≡_, _∙_, ap}
+use Prim.Native.Nat.{ℕ, zero, _+_, _*_, _/_, _≤_, _<_}
+use native.Mathlib.Nat.{mul-le-mul-left, mul-div-le, lt-div-mul-add}
 use native.Mathlib.Omega.{arith}
 use Rattle.arithmetic.specs.Sum.{sum}
 use Rattle.arithmetic.specs.Rounding.{one}
 use Rattle.tree.specs.Tree.{Transition, incoming, probabilityTotal, Inside, Total}
 use Rattle.fit_laws.specs.Step.{normaliser, discount, carried, nextPrice}
-use Rattle.arithmetic.proofs.SumLaws.{sum-cong, sum-le, sum-add, sum-scale, sum-floor-le, sum-floor-ge, sum-weigh-le, sum-weigh-ge}
+use Rattle.arithmetic.proofs.SumLaws.{sum-cong, sum-le, sum-add, sum-scale, sum-floor-le, sum-floor-ge}
 use Rattle.tree.proofs.StepLaws.{incoming-total, incoming-cong}
 
 pub carried-node : (q v : ℕ → ℕ) (k : ℕ) → one * carried q v k ≤ q k * v k

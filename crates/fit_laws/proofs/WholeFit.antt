@@ -1,12 +1,12 @@
 -- The fit over all rows: every quote is repriced within 300 billionths, and no step overflows.
 -- Assumes nothing.
-use mathlib.Core.Path.{_≡_, refl, _∙_, sym, ap}
-use Prim.Native.Nat.{ℕ, zero, suc, _+_, _-_, _*_, _/_, _^_, _≤_, _<_}
+use mathlib.Core.Path.{_≡_, refl, _∙_, ap}
+use Prim.Native.Nat.{ℕ, zero, suc, _+_, _-_, _*_, _/_, _≤_, _<_}
 use native.Mathlib.Omega.{arith}
 use Rattle.arithmetic.specs.Sum.{sum}
 use Rattle.arithmetic.specs.Rounding.{one}
 use Rattle.fit_laws.specs.Step.{normaliser, discount, nextPrice}
-use Rattle.tree.specs.Tree.{Tree, Sound, unit}
+use Rattle.tree.specs.Tree.{Tree, Sound}
 use Rattle.fit_laws.specs.StatePrices.{statePrice, fittedPrice, fittedDiscount}
 use Rattle.arithmetic.proofs.SumLaws.{sum-single, sum-cong}
 use Rattle.fit_laws.proofs.StepLaws.{next-cong}

@@ -4,35 +4,22 @@ use mathlib.Core.Path.{_≡_, refl, sym, _∙_, ap}
 use Prim.Native.Nat.{ℕ, suc, _-_, _*_, _≤_, _<_}
 use native.Mathlib.Nat.{mul-le-mul}
 use native.Mathlib.Omega.{arith}
-use borrow.Author.Tests.{eq-eqb, ne-eqb, lt-ltb, le-ltb, le-leb, lt-leb}
+use borrow.Author.Tests.{eq-eqb, ne-eqb, lt-ltb, le-ltb}
 use Rattle.arithmetic.specs.declared.Answer.{Answer}
 use Rattle.arithmetic.specs.Rounding.{one}
 use Rattle.arithmetic.proofs.Numbers.{by-order}
 use Rattle.lattice.specs.Shape.{halfWidth, rowStart, discountsNeeded, statePricesNeeded}
-use Rattle.lattice.specs.Entries.{discountsNeededAnswer, statePricesNeededAnswer, halfWidthAnswer}
+use Rattle.lattice.specs.Entries.{discountsNeededAnswer, statePricesNeededAnswer, halfWidthAnswer, memoryCause}
 use Rattle.lattice.proofs.Sizes.{half-within}
+use Rattle.lattice.proofs.MemoryLaws.{memory-short, memory-lacks}
 use Rattle.lattice.proofs.TreeEntries.{Accepted, tree-accepted, tree-value, row-value}
 use Rattle.spacing.specs.Spacing.{spacing, spacingAnswer}
 use Rattle.arithmetic.proofs.FrequencyLaws.{listed-small}
 use Rattle.spacing.proofs.SpacingLaws as spacings
 use Rattle.arithmetic.specs.Answers.{lowestCause}
 use Rattle.arithmetic.proofs.CauseLaws.{lowest-none}
-use Rattle.fitting.specs.Entry.{memoryCause, earlyCause}
+use Rattle.fitting.specs.Entry.{earlyCause}
 use Rattle.fitting.specs.Plans.{Numbers, Planned}
-
-module _ (n b ds ps : ℕ) (needed all : Answer) (en : needed ≡ discountsNeededAnswer n b) (ea : all ≡ statePricesNeededAnswer n b) where
-  pub memory-short : ds < needed .value → 6 ≡ memoryCause n b ds ps
-  unfolding memoryCause
-  memory-short h = rw (← en, lt-leb (needed .value) ds h)
-
-  module _ (h : needed .value ≤ ds) where
-    pub memory-lacks : ps < all .value → 6 ≡ memoryCause n b ds ps
-    unfolding memoryCause
-    memory-lacks g = rw (← en, ← ea, le-leb (needed .value) ds h, lt-leb (all .value) ps g)
-
-    pub memory-enough : all .value ≤ ps → 0 ≡ memoryCause n b ds ps
-    unfolding memoryCause
-    memory-enough g = rw (← en, ← ea, le-leb (needed .value) ds h, le-leb (all .value) ps g)
 
 -- the memories hold the tree
 pub memory-none : (n b ds ps : ℕ) → memoryCause n b ds ps ≡ 0 → (discountsNeededAnswer n b .value ≤ ds) × (statePricesNeededAnswer n b .value ≤ ps)

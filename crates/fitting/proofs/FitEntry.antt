@@ -19,7 +19,7 @@ use Rattle.tree.specs.Layout.{laid}
 use Rattle.tree.proofs.LayoutLaws.{length-laid}
 use Rattle.lattice.specs.Shape.{halfWidth, rowStart, discountsNeeded}
 use Rattle.lattice.specs.RateTree.{rateTree}
-use Rattle.lattice.specs.Entries.{discountsNeededAnswer, statePricesNeededAnswer}
+use Rattle.lattice.specs.Entries.{discountsNeededAnswer, statePricesNeededAnswer, memoryCause}
 use Rattle.lattice.proofs.RateTreeLaws.{start-is}
 use Rattle.lattice.proofs.TreeEntries.{by-tree}
 use Rattle.spacing.specs.Spacing.{spacing, spacingAnswer}
@@ -31,18 +31,7 @@ use Rattle.fitting.specs.declared.causes.Plan.{Plan}
 use Rattle.fitting.specs.Bounds.{leastQuote, mostQuote}
 use Rattle.fitting.specs.Fit.{curveDiscount, curvePrice, curveAccepted, rowsOrZeros, TreeFitted}
 use Rattle.fitting.specs.Preconditions.{QuotesReady}
-use Rattle.fitting.specs.Entry.{
-  quotesOf,
-  memoryCause,
-  earlyCause,
-  lateCause,
-  fitNumber,
-  fitMemory,
-  fitDiscounts,
-  fitPrices,
-  discountsAfter,
-  pricesAfter,
-}
+use Rattle.fitting.specs.Entry.{quotesOf, earlyCause, lateCause, fitNumber, fitMemory, fitDiscounts, fitPrices, discountsAfter, pricesAfter}
 use Rattle.fitting.specs.Plans.{Planned}
 
 -- causes 2 to 7 are at most 7

@@ -1,10 +1,10 @@
 -- The fit of a tree to its quotes (document 01, Spacing and fit; When the engine declines): its number, and both memories afterwards.
 -- f steps a year, n steps, b reversion, s volatility; the quotes as rows, kinds and figures.
 -- Assumes nothing.
-use mathlib.Core.Bool.{cond, _&&_}
+use mathlib.Core.Bool.{cond}
 use mathlib.Core.List.{List}
 use Prim.Native.Nat.{ℕ, suc, _-_, _*_}
-use lib.Dec.{eqb, leb, ltb}
+use lib.Dec.{eqb, ltb}
 use lib.Ieee.{Float}
 use lib.ListN.{length}
 use Rattle.arithmetic.specs.Answers.{lowestCause}
@@ -14,7 +14,7 @@ use Rattle.limits.specs.Limits.{mostSteps}
 use Rattle.tree.specs.Layout.{laid}
 use Rattle.lattice.specs.Shape.{halfWidth}
 use Rattle.lattice.specs.RateTree.{rateTree}
-use Rattle.lattice.specs.Entries.{discountsNeededAnswer, statePricesNeededAnswer}
+use Rattle.lattice.specs.Entries.{discountsNeededAnswer, memoryCause}
 use Rattle.spacing.specs.Spacing.{spacing, spacingAnswer}
 use Rattle.curve.specs.Curve.{discountAt, curveNumber}
 use Rattle.fitting.specs.Fit.{curveDiscount, curvePrice, curveAccepted}
@@ -29,11 +29,6 @@ fitDiscount f n b s kinds figures = curveDiscount b (spacing f s) (quotesOf f n 
 
 abbrev pub fitPrice : ℕ → ℕ → ℕ → ℕ → List ℕ → List Float → ℕ → ℕ → ℕ
 fitPrice f n b s kinds figures = curvePrice b (spacing f s) (quotesOf f n kinds figures)
-
--- 6: tree memory too short
-unfoldable pub memoryCause : ℕ → ℕ → ℕ → ℕ → ℕ
-memoryCause n b discounts prices =
-    cond (leb (discountsNeededAnswer n b .value) discounts && leb (statePricesNeededAnswer n b .value) prices) 0 6
 
 -- causes 2 to 7: the quotes' number, 3 or 4 of the tree, 2 or 5 of the spacing, and the memories'; lowest first
 unfoldable pub earlyCause : ℕ → ℕ → ℕ → ℕ → ℕ → ℕ → ℕ → ℕ

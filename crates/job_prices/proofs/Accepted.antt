@@ -6,11 +6,11 @@ use mathlib.Core.List.{List}
 use Prim.Native.Nat.{ℕ}
 use native.Mathlib.Omega.{arith}
 use borrow.Author.Tests.{eq-eqb, ne-eqb}
+use Rattle.lattice.specs.Entries.{memoryCause}
 use Rattle.arithmetic.proofs.CauseLaws.{lowest-none}
 use Rattle.arithmetic.proofs.Numbers.{by-equal}
 use Rattle.limits.specs.Limits.{mostDiscounts, mostStatePrices}
 use Rattle.limits.proofs.LimitLaws.{limit-kept, limit-accepted}
-use Rattle.fitting.specs.Entry.{memoryCause}
 use Rattle.pricing.proofs.Accuracy.{first-none}
 use Rattle.pricing.specs.Prices.{firstCause, bondPeak, optionLimit, priced, bondPrice, optionPrice}
 use Rattle.job_record.specs.declared.Job.{Job}

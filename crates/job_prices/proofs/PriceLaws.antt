@@ -3,24 +3,22 @@
 use mathlib.Core.Path.{_≡_, refl, sym, ap, _∙_, subst}
 use mathlib.Core.Bool.{Bool, true, false}
 use mathlib.Core.List.{List}
-use Prim.Native.Nat.{ℕ, _≤_, _<_, max}
+use Prim.Native.Nat.{ℕ, _≤_}
 use native.Mathlib.Omega.{arith}
-use borrow.Author.Tests.{eq-eqb, ne-eqb, lt-ltb, ltb-false}
+use borrow.Author.Tests.{eq-eqb, ne-eqb}
 use lib.ListN.{length, take}
 use Rattle.arithmetic.specs.Answers.{lowestCause}
-use Rattle.arithmetic.specs.Row.{row, values, place}
+use Rattle.arithmetic.specs.Row.{values, place}
 use Rattle.arithmetic.specs.declared.Answer.{Answer}
 use Rattle.arithmetic.proofs.CauseLaws.{lowest-none}
-use Rattle.arithmetic.proofs.Numbers.{by-equal, by-order}
+use Rattle.arithmetic.proofs.Numbers.{by-equal}
 use Rattle.arithmetic.proofs.PlaceLaws.{filled-place, length-place, place-front}
 use Rattle.arithmetic.proofs.RowLaws.{Filled, row-of}
 use Rattle.limits.specs.Limits.{mostDiscounts, mostStatePrices}
 use Rattle.lattice.specs.Shape.{discountsNeeded, statePricesNeeded}
-use Rattle.lattice.specs.Entries.{discountsNeededAnswer, statePricesNeededAnswer}
+use Rattle.lattice.specs.Entries.{discountsNeededAnswer, statePricesNeededAnswer, memoryCause}
 use Rattle.lattice.proofs.TreeEntries.{tree-value}
 use Rattle.fitting.proofs.CauseLaws.{memory-none}
-use Rattle.fitting.specs.Entry.{memoryCause, fitMemory}
-use Rattle.fitting.proofs.CauseLaws.{memory-short, memory-lacks}
 use Rattle.fitting.proofs.FittedTree.{fit-placed}
 use Rattle.pricing.specs.declared.Price.{Price}
 use Rattle.pricing.specs.declared.BondAndOption.{BondAndOption}

@@ -4,9 +4,9 @@ use Prim.Native.Nat.{ℕ}
 use mathlib.Core.Bool.{Bool, false, cond, not}
 use mathlib.Core.List.{List}
 use lib.Dec.{eqb}
+use Rattle.lattice.specs.Entries.{memoryCause}
 use Rattle.arithmetic.specs.Answers.{lowestCause}
 use Rattle.limits.specs.Limits.{mostDiscounts, mostStatePrices}
-use Rattle.fitting.specs.Entry.{memoryCause}
 use Rattle.pricing.specs.declared.Price.{Price}
 use Rattle.pricing.specs.Prices.{refusedPrice, firstCause, bondPrice, optionPrice}
 use Rattle.job_record.specs.declared.OptionRecord.{OptionRecord}

@@ -7,15 +7,12 @@ use mathlib.Core.Bool.{Bool, true, false}
 use mathlib.Core.List.{List}
 use mathlib.Core.Path.{_≡_, refl, sym, ap, _∙_}
 use lib.ListN.{length, take, replicate, length-replicate, length-take}
-use lib.Seq.{getD-take}
-use Rattle.arithmetic.specs.Row.{row, values}
 use Rattle.arithmetic.proofs.Numbers.{by-equal}
-use Rattle.arithmetic.proofs.RowLaws.{row-of, zeros}
+use Rattle.arithmetic.proofs.RowLaws.{zeros}
 use Rattle.job_record.specs.Bytes.{Bytes}
 use Rattle.job_record.specs.Form.{mostJobSteps, wellFormed}
 use Rattle.job_record.specs.Reader.{jobOf, noJob, acceptedReading, malformed, readingOf}
-use Rattle.job_record.specs.Grammar.{encode, Column, SoundOption, SoundJob, Encodes, ReadsAs}
-use Rattle.job_record.specs.declared.OptionRecord.{OptionRecord}
+use Rattle.job_record.specs.Grammar.{encode, Column, SoundJob, Encodes, ReadsAs}
 use Rattle.job_record.specs.declared.Job.{Job}
 use Rattle.job_record.specs.declared.Reading.{Reading}
 use Rattle.job_record.proofs.Forms.{well-short}
@@ -37,22 +34,6 @@ module _ (s : List ℕ) where
 
 -- what a caller's test of the number says. r is what the reader gave
 module _ (s : List ℕ) (r : Reading) (e : r ≡ readingOf s) where
-  pub accepted-well : r .number ≡ 0 → (wellFormed s ≡ true) × (r .job ≡ jobOf s)
-  accepted-well zero = go (wellFormed s) refl
-    where
-      go : (t : Bool) → wellFormed s ≡ t → (wellFormed s ≡ true) × (r .job ≡ jobOf s)
-      go true h = (h, ap (λ (q : Reading). q .job) (e ∙ reading-well s h))
-      go false h =
-          let one : r .number ≡ 1 = ap (λ (q : Reading). q .number) (e ∙ reading-bad s h) in
-          let none : ⊥ = omega arith in
-          absurd none
-
-  pub refused-bad : (r .number ≡ 0 → ⊥) → (wellFormed s ≡ false) × (r ≡ malformed)
-  refused-bad other = go (wellFormed s) refl
-    where
-      go : (t : Bool) → wellFormed s ≡ t → (wellFormed s ≡ false) × (r ≡ malformed)
-      go true h = absurd (other (ap (λ (q : Reading). q .number) (e ∙ reading-well s h)))
-      go false h = (h, e ∙ reading-bad s h)
 
 -- a record's bytes are accepted, and give that record
 encoded-by : (s : List ℕ) (job : Job) → Encodes s job → encode job ≡ s → readingOf s ≡ acceptedReading job
@@ -139,11 +120,3 @@ encode-once job other a c same = sym (encode-read job a) ∙ ap jobOf same ∙ e
 module _ (l : List ℕ) (n bound : ℕ) (column : Column l n bound) (few : n < 256) where
   pub lent-length : length (take n l) ≡ n
   lent-length = simp length-take (omega (arith, column .size))
-
-  pub lent-row : take n l ≡ row n (values l)
-  lent-row = row-of (take n l) n (values l) lent-length (λ k below. rw getD-take)
-
--- an option's tag: none, or 8
-pub option-tag : (option : OptionRecord) → SoundOption option → (option .tag ≡ 0 → ⊥) → option .tag ≡ 8
-option-tag option sound other =
-    by-equal (option .tag) 8 (λ same. same) (λ no. absurd (other (ap (λ (o : OptionRecord). o .tag) (sound .absent no))))

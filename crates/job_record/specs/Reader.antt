@@ -7,23 +7,8 @@ use lib.ListN.{length, getD, replicate}
 use lib.Dec.{eqb}
 use Rattle.arithmetic.specs.Row.{row, overlay}
 use Rattle.job_record.specs.Bytes.{numberAt}
-use Rattle.job_record.specs.Form.{
-  mostJobSteps,
-  dataAt,
-  afterFields,
-  frequencyAt,
-  stepsAt,
-  reversionAt,
-  volatilityAt,
-  quotesAt,
-  flowsAt,
-  restAt,
-  kindAt,
-  expiryAt,
-  strikeAt,
-  stepsOf,
-  wellFormed,
-}
+use Rattle.job_record.specs.Form.{mostJobSteps, dataAt, afterFields, frequencyAt, reversionAt, volatilityAt, quotesAt}
+use Rattle.job_record.specs.Form.{flowsAt, restAt, kindAt, expiryAt, strikeAt, stepsOf, wellFormed}
 use Rattle.job_record.specs.declared.OptionRecord.{OptionRecord}
 use Rattle.job_record.specs.declared.Job.{Job}
 use Rattle.job_record.specs.declared.Reading.{Reading}

@@ -2,23 +2,23 @@
 -- Assumes nothing.
 use mathlib.Core.Path.{_≡_, refl, sym, ap, _∙_}
 use mathlib.Core.Bool.{Bool, true, false, cond}
-use mathlib.Core.List.{List, [], _∷_}
-use Prim.Native.Nat.{ℕ, zero, suc, _+_, _-_, _*_, _/_, _≤_, _<_, min}
+use mathlib.Core.List.{[], _∷_}
+use Prim.Native.Nat.{ℕ, _+_, _-_, _*_, _/_, _≤_, _<_, min}
 use native.Mathlib.Nat.{div-le-self, mul-le-mul, pos-of-ne-zero}
 use native.Mathlib.Omega.{arith}
-use lib.Dec.{eqb, ltb, leb}
-use borrow.Author.Tests.{eq-eqb, ne-eqb, lt-ltb, le-ltb, le-leb, lt-leb, eqb-true}
-use lib.IntN.{ℤ, pos, negsuc, natAbs}
+use lib.Dec.{eqb, ltb}
+use borrow.Author.Tests.{ne-eqb, lt-ltb, le-ltb, eqb-true}
+use lib.IntN.{pos, natAbs}
 use Rattle.arithmetic.specs.Answers.{refused, answered}
 use Rattle.arithmetic.specs.declared.Answer.{Answer}
 use Rattle.arithmetic.proofs.Numbers.{by-order, by-equal}
 use Rattle.limits.specs.Limits.{shapeCause}
 use Rattle.limits.proofs.LimitLaws.{shape-empty, shape-long, shape-steep, shape-found}
 use Rattle.lattice.specs.Shape.{highestNode, halfWidth, rowStart}
-use Rattle.lattice.specs.Branching.{ordinary, top, branching, zOf, upFormula, middleFormula, downFormula}
+use Rattle.lattice.specs.Branching.{ordinary, top, zOf, upFormula, middleFormula, downFormula}
 use Rattle.lattice.specs.Branching.{upProbability, middleProbability, downProbability, probabilities}
 use Rattle.lattice.specs.Entries.{aboutRow, aboutTree}
-use Rattle.lattice.proofs.Sizes.{Within, half-flat, half-capped, half-within, start-square, start-capped, within-by-product, highest-small}
+use Rattle.lattice.proofs.Sizes.{half-flat, half-capped, half-within, start-square, start-capped, within-by-product}
 use Rattle.lattice.proofs.Nodes.{ordinary-node, top-node}
 
 module _ (b i result : ℕ) where

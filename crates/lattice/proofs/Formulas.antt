@@ -1,11 +1,10 @@
 -- Document 01's formulas at z = a and z = −a: none is below 0 on a node of the tree, and the two sides mirror one another.
 -- Assumes nothing.
 use mathlib.Core.Path.{_≡_, refl, sym, subst, ap, _∙_}
-use Prim.Native.Nat.{ℕ, zero, suc, _+_, _-_, _*_, _≤_, _<_}
+use Prim.Native.Nat.{ℕ, zero, suc, _+_, _-_, _*_, _≤_}
 use native.Mathlib.Nat.{sub-add-cancel, mul-le-mul, mul-zero}
 use native.Mathlib.Omega.{arith}
-use borrow.Author.Tests.{lt-ltb, le-ltb}
-use lib.IntN.{ℤ, pos, negsuc, negℤ, natAbs, subℕ, _+ℤ_, _-ℤ_, _*ℤ_, +ℤ-negℤ-cancel, negℤ-negℤ, negℤ-+ℤ, +ℤ-comm}
+use lib.IntN.{ℤ, pos, negℤ, _+ℤ_, _*ℤ_, +ℤ-negℤ-cancel, negℤ-negℤ, negℤ-+ℤ, +ℤ-comm}
 use Rattle.arithmetic.proofs.Numbers.{tangent, between}
 use Rattle.lattice.specs.Branching.{Branching, ordinary, top, bottom, upFormula, middleFormula, downFormula}
 use Rattle.lattice.proofs.Destinations.{change-of, square-of}

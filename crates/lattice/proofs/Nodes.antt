@@ -3,7 +3,7 @@
 -- Assumes nothing.
 use mathlib.Core.Path.{_≡_, refl, sym, ap, _∙_}
 use mathlib.Core.Bool.{Bool, true, false, cond}
-use Prim.Native.Nat.{ℕ, zero, suc, _+_, _-_, _*_, _≤_, _<_}
+use Prim.Native.Nat.{ℕ, suc, _+_, _-_, _*_, _≤_, _<_}
 use native.Mathlib.Nat.{pos-of-ne-zero, mul-zero}
 use native.Mathlib.Omega.{arith}
 use lib.Dec.{eqb}
@@ -11,11 +11,11 @@ use borrow.Author.Tests.{eq-eqb, ne-eqb}
 use lib.IntN.{ℤ, pos, negsuc, negℤ, natAbs, _*ℤ_, negℤ-negℤ}
 use Rattle.arithmetic.proofs.Numbers.{by-equal, by-order}
 use Rattle.arithmetic.proofs.Signed.{abs-negative}
-use Rattle.lattice.specs.Shape.{highestNode, halfWidth}
+use Rattle.lattice.specs.Shape.{highestNode}
 use Rattle.lattice.specs.Branching.{Branching, ordinary, top, bottom, branching, zOf, upFormula, middleFormula, downFormula}
 use Rattle.lattice.specs.Branching.{upProbability, middleProbability, downProbability, change, square}
-use Rattle.lattice.proofs.Destinations.{change-of, square-of, change-is, square-is}
-use Rattle.lattice.proofs.Sizes.{Within, within-row, highest-above, highest-within, below-highest}
+use Rattle.lattice.proofs.Destinations.{change-is, square-is}
+use Rattle.lattice.proofs.Sizes.{Within, highest-above, highest-within, below-highest}
 use Rattle.lattice.proofs.Formulas.{Upper, upper-ordinary, upper-top, times-negative}
 use Rattle.lattice.proofs.Formulas.{mirrored, up-mirrored, middle-mirrored, down-mirrored, change-mirrored, square-mirrored}
 

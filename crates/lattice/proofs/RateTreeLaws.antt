@@ -1,21 +1,20 @@
 -- The uniform view of the lattice: index k, lowest descendant, three weights. The lattice of every reversion up to 6,000 is a sound tree.
 -- Assumes nothing.
-use mathlib.Core.Path.{_≡_, refl, sym, ap, _∙_, subst}
-use mathlib.Core.Bool.{Bool, true, false, cond}
-use Prim.Native.Nat.{ℕ, zero, suc, _+_, _-_, _*_, _≤_, _<_, min}
+use mathlib.Core.Path.{_≡_, refl, sym, ap, _∙_}
+use Prim.Native.Nat.{ℕ, zero, suc, _+_, _-_, _*_, _≤_, _<_}
 use native.Mathlib.Nat.{add-zero, zero-mul}
 use native.Mathlib.Omega.{arith}
 use lib.Dec.{eqb}
 use borrow.Author.Tests.{eqb-true, eqb-false}
-use lib.IntN.{ℤ, pos, negsuc, natAbs, subℕ, _+ℤ_, _-ℤ_}
-use Rattle.arithmetic.proofs.Numbers.{by-order, by-equal, by-test}
-use Rattle.tree.specs.Tree.{Tree, Sound, probabilityTotal}
+use lib.IntN.{ℤ, pos, negsuc, natAbs, subℕ, _+ℤ_}
+use Rattle.arithmetic.proofs.Numbers.{by-order, by-test}
+use Rattle.tree.specs.Tree.{Sound}
 use Rattle.tree.specs.Layout.{start}
 use Rattle.lattice.specs.Shape.{highestNode, halfWidth, nodeCount, rowStart}
 use Rattle.lattice.specs.Branching.{Branching, ordinary, top, bottom, branching, lowestOf, zOf, upFormula, downFormula}
-use Rattle.lattice.specs.Branching.{upProbability, middleProbability, downProbability}
+use Rattle.lattice.specs.Branching.{upProbability, downProbability}
 use Rattle.lattice.specs.RateTree.{nodeOfIndex, node, low, rateTree}
-use Rattle.lattice.proofs.Sizes.{Within, within-row, half-flat, half-capped, half-root, half-within, half-full, highest-positive}
+use Rattle.lattice.proofs.Sizes.{within-row, half-flat, half-capped, half-root, half-full, highest-positive}
 use Rattle.lattice.proofs.Differences.{sub-high, sub-low, sub-same, sub-less, sub-more, sub-size}
 use Rattle.lattice.proofs.Nodes.{Node, node-laws, up-lower, down-lower, ordinary-node}
 

@@ -1,16 +1,14 @@
 -- Laws of rows for every reversion: J is the first node whose z is above 1,840; rows tile the memory with no gap and no overlap.
 -- Assumes nothing.
-use mathlib.Core.Path.{_≡_, refl, sym, ap, _∙_}
-use Prim.Native.Nat.{ℕ, zero, suc, _+_, _-_, _*_, _/_, _%_, _≤_, _<_, min}
+use mathlib.Core.Path.{_≡_, refl}
+use Prim.Native.Nat.{ℕ, zero, suc, _+_, _-_, _*_, _/_, _≤_, _<_, min}
 use native.Mathlib.Nat.{mul-suc, suc-mul, mul-le-mul, mul-le-mul-right, add-mul, one-mul, div-add-mod', mod-lt, div-le-self, pos-of-ne-zero, mul-zero, le-refl}
-use native.Mathlib.Numerals.{add-one}
 use native.Mathlib.Omega.{arith}
 use borrow.Author.Tests.{eq-eqb, ne-eqb}
 use Rattle.arithmetic.specs.Sum.{sum}
 use Rattle.arithmetic.proofs.SumLaws.{sum-suc, sum-next, sum-grow}
 use Rattle.arithmetic.proofs.Numbers.{by-equal, by-order}
-use Rattle.limits.specs.Limits.{mostSteps, mostDiscounts, mostStatePrices}
-use Rattle.lattice.specs.Shape.{highestNode, halfWidth, nodeCount, rowStart, discountsNeeded, statePricesNeeded}
+use Rattle.lattice.specs.Shape.{highestNode, halfWidth, nodeCount, rowStart}
 
 pub highest-above : (b : ℕ) → 0 < b → 1840 < highestNode b * b
 unfolding highestNode
@@ -70,13 +68,6 @@ pub product-within : (b d : ℕ) → Within b d → d * b ≤ 1840 + b
 product-within b d w =
     by-equal b 0 (λ z. rw z (omega (arith, mul-zero d)))
     (λ nz. omega (arith, mul-le-mul-right b (w nz), highest-within b))
-
--- the next row is one wider at each end, or as wide
-pub half-next : (b i : ℕ) → halfWidth b (suc i) ≤ halfWidth b i + 1
-half-next b i =
-    by-equal b 0
-    (λ z. omega (arith, half-flat b i z, half-flat b (suc i) z))
-    (λ nz. omega (arith, half-capped b i nz, half-capped b (suc i) nz))
 
 pub half-grows : (b i : ℕ) → halfWidth b i ≤ halfWidth b (suc i)
 half-grows b i =
@@ -161,12 +152,3 @@ start-most b (suc i) = simp (mul-suc, suc-mul) (omega (arith, start-most b i, ha
 
 pub start-within : (b i : ℕ) → i ≤ 61 → rowStart b i ≤ 3721
 start-within b i h = omega (arith, start-most b i, mul-le-mul h h)
-
--- the memories of the widest tree
-pub discounts-most : (n b : ℕ) → n ≤ mostSteps → discountsNeeded n b ≤ mostDiscounts
-unfolding discountsNeeded
-discounts-most n b h = omega (arith, start-most b n, mul-le-mul h h)
-
-pub state-prices-most : (n b : ℕ) → n ≤ mostSteps → statePricesNeeded n b ≤ mostStatePrices
-unfolding statePricesNeeded
-state-prices-most n b h = start-within b (suc n) (omega arith)

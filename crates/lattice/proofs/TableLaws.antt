@@ -1,27 +1,25 @@
 -- The table of down-probabilities: what callers use of it, and its answer by the tests that code makes.
 -- Assumes nothing.
 use mathlib.Core.Path.{_≡_, refl, sym, ap, _∙_}
-use mathlib.Core.Bool.{Bool, true, false, cond, _&&_}
-use mathlib.Core.List.{List, [], _∷_}
-use Prim.Native.Nat.{ℕ, zero, suc, _+_, _-_, _*_, _≤_, _<_}
+use mathlib.Core.Bool.{true, false}
+use mathlib.Core.List.{List}
+use Prim.Native.Nat.{ℕ, suc, _+_, _-_, _*_, _≤_, _<_}
 use native.Mathlib.Nat.{mul-le-mul-right}
 use native.Mathlib.Omega.{arith}
-use lib.Dec.{eqb, ltb, leb}
+use lib.Dec.{leb}
 use lib.ListN.{length, getD}
 use borrow.Author.Tests.{eq-eqb, ne-eqb, lt-ltb, le-ltb, le-leb, lt-leb}
-use lib.IntN.{ℤ, pos, negsuc, subℕ}
-use Rattle.arithmetic.specs.Row.{row, values}
-use Rattle.arithmetic.proofs.RowLaws.{values-row}
+use lib.IntN.{pos}
+use Rattle.arithmetic.specs.Row.{row}
 use Rattle.arithmetic.proofs.Numbers.{by-order}
-use Rattle.tree.specs.Tree.{Tree, Transition}
 use Rattle.lattice.specs.Shape.{halfWidth, nodeCount}
-use Rattle.lattice.specs.Branching.{upProbability, middleProbability, downProbability, probabilities}
-use Rattle.lattice.specs.RateTree.{nodeOfIndex, node, rateTree}
+use Rattle.lattice.specs.Branching.{downProbability, probabilities}
+use Rattle.lattice.specs.RateTree.{nodeOfIndex, node}
 use Rattle.lattice.specs.Entries.{isHalfWidth, tableNumber, tableOf}
 use Rattle.lattice.proofs.Sizes.{within-row, row-within, within-by-product, product-within, half-within}
 use Rattle.lattice.proofs.Differences.{sub-high, sub-low}
 use Rattle.lattice.proofs.Nodes.{down-lower}
-use Rattle.lattice.proofs.RateTreeLaws.{same-node, up-is-down, index-laws}
+use Rattle.lattice.proofs.RateTreeLaws.{same-node}
 
 -- an index on either side of the middle
 module _ (b w k : ℕ) (p : List ℕ) where
@@ -93,11 +91,3 @@ table-fits b i table hb hi e =
 module _ (b i d k : ℕ) where
   pub down-from-table : downProbability b (node b i k) ≡ downProbability b (nodeOfIndex (halfWidth b i + d) (k + d))
   down-from-table = ap (downProbability b) (sym (same-node (halfWidth b i) k d))
-
-  pub up-from-table : k ≤ 2 * halfWidth b i → upProbability b (node b i k) ≡ downProbability b (nodeOfIndex (halfWidth b i + d) (2 * halfWidth b i - k + d))
-  up-from-table h =
-      up-is-down b (halfWidth b i) k h ∙ ap (downProbability b) (sym (same-node (halfWidth b i) (2 * halfWidth b i - k) d))
-
-pub middle-is-rest : (b i k : ℕ) → b ≤ 6000 → k < nodeCount b i →
-    middleProbability b (node b i k) ≡ 600000000 - downProbability b (node b i k) - upProbability b (node b i k)
-middle-is-rest b i k hb h = omega (arith, index-laws b i k h hb .total)

@@ -39,6 +39,11 @@ discountsNeededAnswer n b = aboutTree n b (discountsNeeded n b)
 abbrev pub statePricesNeededAnswer : ℕ → ℕ → Answer
 statePricesNeededAnswer n b = aboutTree n b (statePricesNeeded n b)
 
+-- 6 where one of two memories is too short for the tree; 0 where there is no cause, or the tree itself is refused
+unfoldable pub memoryCause : ℕ → ℕ → ℕ → ℕ → ℕ
+memoryCause n b discounts prices =
+    cond (leb (discountsNeededAnswer n b .value) discounts && leb (statePricesNeededAnswer n b .value) prices) 0 6
+
 -- where row i starts in a table of row w's nodes, each row's middle node above the other's
 abbrev pub tableOffset : ℕ → ℕ → ℕ → ℕ
 tableOffset b w i = halfWidth b w - halfWidth b i

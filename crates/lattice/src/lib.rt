@@ -1,7 +1,7 @@
 // The shape of the rate tree: widths of rows and where rows start.
 use arithmetic::Answer;
 ghost use mathlib.Core.Path.{_≡_};
-ghost use Prim.Native.Nat.{ℕ, _≤_, _<_, min};
+ghost use Prim.Native.Nat.{_≤_, _<_, min};
 ghost use Rattle.limits.specs.Limits.{mostSteps};
 ghost use Rattle.lattice.specs.Shape.{halfWidth, rowStart};
 ghost use Rattle.lattice.specs.Entries.{
@@ -12,6 +12,7 @@ ghost use Rattle.lattice.specs.Entries.{
   rowStartAnswer,
   discountsNeededAnswer,
   statePricesNeededAnswer,
+  memoryCause,
   refusedShape,
   shapeOf,
   rowShapeAnswer,
@@ -139,6 +140,21 @@ pub fn state_prices_needed(steps: usize, reversion: u64) -> Answer
         reversion,
         row_start_of(reversion, clipped(steps) + 1),
     )
+}
+
+// 6 where the memories of so many discounts and state prices are too short for a tree; 0 for a tree that is refused itself.
+pub fn memory_cause(steps: usize, reversion: u64, discounts: usize, state_prices: usize) -> u64
+    ensures { λ r. ⌜ r ≡ memoryCause steps reversion discounts «state_prices» ⌝ }
+{
+    let needed = discounts_needed(steps, reversion);
+    let all = state_prices_needed(steps, reversion);
+    if (discounts as u64) < needed.value {
+        return 6;
+    }
+    if (state_prices as u64) < all.value {
+        return 6;
+    }
+    0
 }
 
 fn refused_shape(number: u64) -> RowShape

@@ -5,8 +5,8 @@ use mathlib.Core.Bool.{Bool, cond}
 use mathlib.Core.List.{List}
 use lib.Dec.{eqb, leb}
 use lib.ListN.{length}
-use Rattle.arithmetic.specs.Row.{values, each, between}
-use Rattle.limits.specs.Limits.{mostSteps, mostReversion, mostDiscount, shapeCause}
+use Rattle.arithmetic.specs.Row.{values}
+use Rattle.limits.specs.Limits.{mostSteps, mostReversion, mostDiscount, shapeCause, allDiscounts}
 use Rattle.lattice.specs.Shape.{rowStart, discountsNeeded}
 
 -- what a memory that stores row after row, lowest node first, holds for row i, by node
@@ -15,7 +15,7 @@ stored b memory i = λ k. values memory (rowStart b i + k)
 
 -- every node discount of the needed part, rows 0 to n − 1, is 1 to 1,100,000,000
 unfoldable pub acceptedDiscounts : ℕ → ℕ → List ℕ → Bool
-acceptedDiscounts n b discounts = each (discountsNeeded n b) (between 1 mostDiscount (values discounts))
+acceptedDiscounts n b discounts = allDiscounts (discountsNeeded n b) discounts
 
 -- 3 and 4 about the numbers, 6 for too short a memory, 9 for a discount, lowest number first; 0 where there is none
 unfoldable pub discountsCause : ℕ → ℕ → List ℕ → ℕ

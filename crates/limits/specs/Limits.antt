@@ -2,7 +2,9 @@
 -- Assumes nothing.
 use Prim.Native.Nat.{ℕ}
 use mathlib.Core.Bool.{Bool, cond, _&&_}
+use mathlib.Core.List.{List}
 use lib.Dec.{leb, ltb}
+use Rattle.arithmetic.specs.Row.{values, each}
 
 -- n, steps: 1 to 60
 abbrev pub mostSteps : ℕ
@@ -39,6 +41,10 @@ isReversion b = leb b mostReversion
 
 abbrev pub isDiscount : ℕ → Bool
 isDiscount v = leb 1 v && leb v mostDiscount
+
+-- each of the first n discounts of a memory is within its limits
+abbrev pub allDiscounts : ℕ → List ℕ → Bool
+allDiscounts n discounts = each n (λ k. isDiscount (values discounts k))
 
 -- the cause about a tree's numbers: 3 for n, then 4 for b; 0 where there is none
 unfoldable pub shapeCause : ℕ → ℕ → ℕ

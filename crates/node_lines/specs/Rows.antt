@@ -5,8 +5,7 @@ use mathlib.Core.Bool.{Bool, cond, _&&_}
 use mathlib.Core.List.{List, [], _++_}
 use lib.Dec.{eqb, leb}
 use lib.ListN.{length, getD}
-use Rattle.arithmetic.specs.Row.{values, each, between}
-use Rattle.limits.specs.Limits.{mostDiscount}
+use Rattle.limits.specs.Limits.{allDiscounts}
 use Rattle.lattice.specs.RateTree.{nodeOfIndex}
 use Rattle.text_laws.specs.Lines.{lineOfNode}
 
@@ -32,7 +31,7 @@ isRow row count = leb row 59 && (eqb (count % 2) 1 && leb count (2 * row + 1))
 
 -- each discount is 1 to 1,100,000,000
 unfoldable pub acceptedNodes : List ℕ → Bool
-acceptedNodes discounts = each (length discounts) (between 1 mostDiscount (values discounts))
+acceptedNodes discounts = allDiscounts (length discounts) discounts
 
 -- 6 where there is no such row or no room for its lines, then 9 where a discount is not accepted; 0 where there is no cause
 unfoldable pub rowNumber : ℕ → ℕ → ℕ → List ℕ → ℕ

@@ -8,11 +8,10 @@ use native.Mathlib.Nat.{mul-le-mul}
 use native.Mathlib.Omega.{arith}
 use lib.ListN.{length, take, drop}
 use lib.Dec.{eqb}
-use borrow.Author.Tests.{eq-eqb, ne-eqb, eqb-true}
+use borrow.Author.Tests.{ne-eqb, eqb-true}
 use Rattle.arithmetic.specs.Rounding.{one, roundUp}
 use Rattle.arithmetic.specs.Row.{values}
 use Rattle.arithmetic.specs.Sum.{greatest}
-use Rattle.arithmetic.specs.declared.Answer.{Answer}
 use Rattle.arithmetic.specs.Answers.{refused, answered}
 use Rattle.arithmetic.proofs.SumLaws.{greatest-le, greatest-cong}
 use Rattle.arithmetic.proofs.PartLaws.{part-is, part-value, part-length}
@@ -127,7 +126,3 @@ module _ (n b : ℕ) (discounts : List ℕ) where
           cond t (answered (treeErrorBound n b discounts)) (refused (discountsCause n b discounts)) .number ≡ discountsCause n b discounts
       go true e = sym (eqb-true (discountsCause n b discounts) 0 e)
       go false e = refl
-
-  pub bound-value : discountsCause n b discounts ≡ 0 → priceErrorBoundAnswer n b discounts .value ≡ treeErrorBound n b discounts
-  unfolding priceErrorBoundAnswer
-  bound-value z = rw (eq-eqb (discountsCause n b discounts) 0 z)

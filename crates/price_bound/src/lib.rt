@@ -1,7 +1,7 @@
 // How far the prices on a tree may be from the exact ones, from its lent discounts.
 use arithmetic::Answer;
 ghost use mathlib.Core.Path.{_≡_};
-ghost use Prim.Native.Nat.{ℕ, _*_, _+_, _<_, _≤_};
+ghost use Prim.Native.Nat.{_*_, _+_, _<_, _≤_};
 ghost use Rattle.arithmetic.specs.Rounding.{roundUp};
 ghost use Rattle.lattice.specs.RateTree.{rateTree};
 ghost use Rattle.lent_tree.specs.LentTree.{stored, Accepted};

@@ -3,7 +3,7 @@
 use mathlib.Core.Path.{_≡_, refl}
 use mathlib.Core.Bool.{Bool, true, false, cond}
 use mathlib.Core.List.{List}
-use Prim.Native.Nat.{ℕ, _+_, _*_, _^_, _≤_, _<_, max}
+use Prim.Native.Nat.{ℕ, _+_, _*_, _^_, _≤_, _<_}
 use native.Mathlib.Omega.{arith}
 use lib.Dec.{eqb}
 use borrow.Author.Tests.{eqb-true, eqb-false}
@@ -23,7 +23,7 @@ use Rattle.price_bound.specs.PriceBound.{treeErrorBound}
 use Rattle.price_bound.proofs.BoundLaws.{discount-within}
 use Rattle.price_causes.specs.Causes.{flowsCause, optionCause}
 use Rattle.price_causes.proofs.CheckLaws.{option-accepted}
-use Rattle.pricing_laws.proofs.Accuracy.{Within}
+use Rattle.arithmetic.specs.Within.{Within}
 use Rattle.pricing_laws.proofs.PriceLaws.{Discounts-at-most, bond-accurate, bond-never-above, kind-accurate, error-bound-a-step}
 use Rattle.pricing.specs.declared.Price.{Price}
 use Rattle.pricing.specs.Prices.{flowAt, bondValue, bondPeak, optionValue, optionLimit, treeCause, firstCause, priced, bondPrice, optionPrice}

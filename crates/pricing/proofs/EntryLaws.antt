@@ -39,7 +39,7 @@ use Rattle.pricing.specs.declared.Price.{Price}
 use Rattle.pricing.specs.declared.BondAndOption.{BondAndOption}
 use Rattle.pricing.specs.declared.walk.Rolled.{Rolled}
 use Rattle.pricing.specs.Prices.{flowAt, treeCause, firstCause, refusedPrice, priced}
-use Rattle.pricing.specs.Prices.{bondValue, bondPeak, acceptedBond, bondPrice}
+use Rattle.pricing.specs.Prices.{bondPeak, acceptedBond, bondPrice}
 use Rattle.pricing.specs.Prices.{optionValue, optionPeak, optionLimit, acceptedOption, optionPrice}
 use Rattle.pricing.specs.Trees.{downTable, treeBound, BondRolled, BothRolled}
 use Rattle.pricing.proofs.TreeRows.{table-size}

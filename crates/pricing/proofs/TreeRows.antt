@@ -7,8 +7,7 @@ use Prim.Native.Nat.{ℕ, zero, suc, _+_, _-_, _*_, _≤_, _<_, max}
 use native.Mathlib.Omega.{arith}
 use lib.ListN.{length, take, drop}
 use Rattle.arithmetic.specs.Rounding.{one}
-use Rattle.arithmetic.specs.Row.{row, values}
-use Rattle.arithmetic.specs.Sum.{greatest}
+use Rattle.arithmetic.specs.Row.{values}
 use Rattle.arithmetic.proofs.SumLaws.{greatest-cong}
 use Rattle.arithmetic.proofs.RowLaws.{length-row, values-row}
 use Rattle.arithmetic.proofs.PartLaws.{part-value, part-length}
@@ -19,7 +18,6 @@ use Rattle.lattice.specs.RateTree.{node, low, rateTree}
 use Rattle.lattice.proofs.Sizes.{row-ends}
 use Rattle.lattice.proofs.RateTreeLaws.{low-within, index-laws}
 use Rattle.lent_tree.specs.LentTree.{stored, Accepted}
-use Rattle.row_branches.specs.declared.RowBranch.{RowBranch}
 use Rattle.row_branches.specs.RowBranches.{rowBranch}
 use Rattle.row_branches.proofs.BranchLaws.{backwards}
 use Rattle.row_branches.proofs.TableParts as tables

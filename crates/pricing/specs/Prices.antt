@@ -1,6 +1,6 @@
 -- The answers of the pricing entries (document 01, Prices and When the engine declines). n steps, reversion b, discounts and flows as lent.
 -- Assumes nothing.
-use Prim.Native.Nat.{ℕ, zero, suc, _+_, max}
+use Prim.Native.Nat.{ℕ, zero, suc, max}
 use mathlib.Core.Bool.{cond}
 use mathlib.Core.List.{List}
 use lib.Dec.{eqb}

@@ -9,6 +9,7 @@ use Rattle.arithmetic.specs.Rounding.{one}
 use Rattle.arithmetic.specs.Row.{values}
 use Rattle.arithmetic.specs.Sum.{greatest}
 use Rattle.tree.specs.Tree.{probabilityTotal}
+use Rattle.limits.specs.Limits.{mostDiscount, valueLimit}
 use Rattle.pricing_laws.specs.Pricer.{Side, exercise, heldOrExercised}
 use Rattle.pricing_laws.specs.TreePricer.{rollRounding}
 use Rattle.row_branches.specs.declared.RowBranch.{RowBranch}
@@ -39,11 +40,11 @@ optionValues side strike listed bonds options downs discounts next flow k =
 pub record Rollable (downs discounts : List ℕ) (next : ℕ) : Type 0 where
   pub inside : (k : ℕ) → k < length discounts → rowBranch downs next k .low + 2 < next
   pub total : (k : ℕ) → k < length discounts → branchTotal (rowBranch downs next k) ≡ probabilityTotal
-  pub discounted : (k : ℕ) → k < length discounts → values discounts k ≤ 1100000000
+  pub discounted : (k : ℕ) → k < length discounts → values discounts k ≤ mostDiscount
 
 -- the first values of a list are at most the limit
 abbrev pub Limited : List ℕ → ℕ → Type 0
-Limited l count = (k : ℕ) → k < count → values l k ≤ 8000000000
+Limited l count = (k : ℕ) → k < count → values l k ≤ valueLimit
 
 -- a later row that may be rolled back
 pub record Later (l : List ℕ) (count : ℕ) : Type 0 where

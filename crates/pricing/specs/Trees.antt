@@ -19,11 +19,11 @@ use Rattle.pricing_laws.specs.TreePricer.{rollRounding, roll}
 use Rattle.exercise.specs.declared.Terms.{Terms}
 use Rattle.lent_tree.specs.LentTree.{stored, Accepted}
 use Rattle.price_bound.specs.PriceBound.{treeErrorBound}
-use Rattle.price_causes.specs.Causes.{AcceptedFlows}
+use Rattle.price_causes.specs.Causes.{mostFlow, mostStrike, AcceptedFlows}
 use Rattle.pricing.specs.declared.walk.RowStep.{RowStep}
 use Rattle.pricing.specs.declared.walk.OptionStep.{OptionStep}
 use Rattle.pricing.specs.declared.walk.Rolled.{Rolled}
-use Rattle.pricing.specs.Prices.{flowAt, treeCause, bondValue, bondPeak, optionValue, optionLimit}
+use Rattle.pricing.specs.Prices.{flowAt, treeCause, bondValue, optionValue, optionLimit}
 use Rattle.pricing.specs.Rows.{Holds}
 
 -- the down-probabilities of all nodes of row n
@@ -53,15 +53,13 @@ pub record Steppable (at : RowStep) (downs discounts : List ℕ) : Type 0 where
   pub tree : Accepted (at .steps) (at .reversion) discounts
   pub table : downs ≡ downTable (at .steps) (at .reversion)
   pub inside : at .row < at .steps
-  -- the most that a flow may be
-  pub flow-most : at .flow ≤ 2000000000
+  pub flow-most : at .flow ≤ mostFlow
 
 -- an option that a tree of n steps may have, with a mark for each row before its last
 pub record Exercisable (terms : Terms) (n : ℕ) (marks : List ℕ) : Type 0 where
   pub last-inside : terms .last ≤ n
   pub marked-rows : terms .last ≤ length marks
-  -- the most that a strike may be
-  pub strike-most : terms .strike ≤ 4000000000
+  pub strike-most : terms .strike ≤ mostStrike
 
 -- a row rolled back from the values of the next one
 unfoldable pub rolledAt : ℕ → List ℕ → ℕ → List ℕ → ℕ → ℕ

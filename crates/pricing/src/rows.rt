@@ -2,10 +2,12 @@
 use exercise::Terms;
 use row_branches::RowBranch;
 ghost use mathlib.Core.Path.{_≡_};
-ghost use mathlib.Core.Bool.{Bool};
-ghost use Prim.Native.Nat.{ℕ, _+_, _-_, _*_, _<_, _≤_, max};
+ghost use Prim.Native.Nat.{_+_, _-_, _*_, _<_, _≤_};
 ghost use lib.ListN.{length};
 ghost use Rattle.arithmetic.specs.Row.{values};
+ghost use Rattle.tree.specs.Tree.{probabilityTotal};
+ghost use Rattle.limits.specs.Limits.{mostDiscount};
+ghost use Rattle.price_causes.specs.Causes.{mostFlow};
 ghost use Rattle.pricing_laws.specs.Pricer.{exercise};
 ghost use Rattle.exercise.specs.Terms.{side};
 ghost use Rattle.row_branches.specs.RowBranches.{branchTotal};
@@ -33,8 +35,8 @@ pub(crate) fn empty_row() -> [u64; 121]
 
 // The roll of a node along its branch: divided by 600,000,000, down; then discounted, down.
 fn roll_node(branch: RowBranch, later: &[u64], discount: u64) -> u64
-    requires { ⌜ (branch .low + 2 < length (now later)) × (branchTotal branch ≡ 600000000)
-        × Limited (now later) (branch .low + 3) × (discount ≤ 1100000000) ⌝ }
+    requires { ⌜ (branch .low + 2 < length (now later)) × (branchTotal branch ≡ probabilityTotal)
+        × Limited (now later) (branch .low + 3) × (discount ≤ mostDiscount) ⌝ }
     ensures { λ r. ⌜ (r ≡ branchRoll branch (values (now (later .entry))) discount) × (r ≤ 8800000000) ⌝ }
 {
     let low = branch.low;
@@ -55,7 +57,7 @@ pub(crate) fn bond_row(
     flow: u64,
 ) -> u64
     requires { ⌜ Rollable (now downs) (now discounts) next × Later (now later) next
-        × (length (now discounts) ≤ length (now row)) × (flow ≤ 2000000000) ⌝ }
+        × (length (now discounts) ≤ length (now row)) × (flow ≤ mostFlow) ⌝ }
     ensures { λ r. ⌜ FilledRow (now (row .exit)) (length (now (discounts .entry)))
         (bondValues (now (later .entry)) (now (downs .entry)) (now (discounts .entry)) next flow) r ⌝ }
 {
@@ -90,7 +92,7 @@ pub(crate) fn option_row(
     option: &mut [u64],
 ) -> u64
     requires { ⌜ Rollable (now downs) (now discounts) (right .next) × Later (now bonds) (right .next) × Later (now options) (right .next)
-        × (length (now discounts) ≤ length (now bond)) × (length (now discounts) ≤ length (now option)) × (right .flow ≤ 2000000000) ⌝ }
+        × (length (now discounts) ≤ length (now bond)) × (length (now discounts) ≤ length (now option)) × (right .flow ≤ mostFlow) ⌝ }
     ensures { λ r. ⌜ FilledRows (now (bond .exit)) (now (option .exit)) (length (now (discounts .entry)))
         (bondValues (now (bonds .entry)) (now (downs .entry)) (now (discounts .entry)) (right .next) (right .flow))
         (optionValues (side (right .terms .call)) (right .terms .strike) (right .listed)

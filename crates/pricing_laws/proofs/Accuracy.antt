@@ -6,15 +6,11 @@ use Prim.Native.Nat.{ℕ, zero, suc, _+_, _-_, _*_, _^_, _≤_, _<_}
 use native.Mathlib.Nat.{pow-suc, sub-zero, mul-zero}
 use native.Mathlib.Omega.{arith}
 use Rattle.arithmetic.specs.Rounding.{one}
+use Rattle.arithmetic.specs.Within.{Within}
 use Rattle.arithmetic.proofs.RoundingLaws.{up-ge, up-shrinks}
 use Rattle.pricing_laws.specs.Pricer.{rounded, fractions, bondFrom, bond, Side, exerciseRow, Schedule, optionFrom, option}
 use Rattle.pricing_laws.specs.Pricer.{errorBoundFrom, errorBound}
 use Rattle.pricing_laws.proofs.Near.{Near, near-flow, near-exercise, near-held}
-
--- the number e stands within a of the exact number x, which is held times M
-pub record Within (a M e x : ℕ) : Type 0 where
-  pub above : e * M ≤ x + a * M
-  pub below : x ≤ (e + a) * M
 
 -- What the laws use of a roll on rows 0 to n - 1: with the greatest discount of the row and what the roll's own roundings cost,
 -- near values on the next row give near values on this one. Distances in half billionths.

@@ -16,10 +16,6 @@ pub record Near (l u M e x : ℕ) : Type 0 where
   pub above : 2 * (e * M) ≤ 2 * x + l * M
   pub below : 2 * x ≤ 2 * (e * M) + u * M
 
-pub near-widen : {l u l' u' M e x : ℕ} → l ≤ l' → u ≤ u' → Near l u M e x → Near l' u' M e x
-near-widen {l} {u} {l'} {u'} {M} hl hu n =
-    record { above = omega (arith, n .above, mul-le-mul-right M hl); below = omega (arith, n .below, mul-le-mul-right M hu) }
-
 -- the whole times one value, by the three probabilities
 parts : (p q r w : ℕ) → p + q + r ≡ probabilityTotal → p * w + q * w + r * w ≡ 600000000 * w
 parts p q r w h = simp (← add-mul) (ap (λ (t : ℕ). t * w) h)

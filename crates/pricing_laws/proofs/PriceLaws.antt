@@ -7,6 +7,7 @@ use native.Mathlib.Omega.{arith}
 use native.Mathlib.Decide.{le-ind}
 use lib.Dec.{lit≤}
 use Rattle.arithmetic.specs.Rounding.{one, roundUp, Rounds}
+use Rattle.arithmetic.specs.Within.{Within}
 use Rattle.arithmetic.specs.Sum.{greatest}
 use Rattle.arithmetic.proofs.RoundingLaws.{down-rounds}
 use Rattle.arithmetic.proofs.SumLaws.{greatest-ge, greatest-le, greatest-cong}
@@ -16,7 +17,7 @@ use Rattle.pricing_laws.specs.Pricer.{bond, Side, Schedule, option, erro
 use Rattle.pricing_laws.specs.Schedule.{sideOf, scheduleOf}
 use Rattle.pricing_laws.specs.TreePricer.{rollRounding, rollLoss, nodeRoll, roll, exactRoll, engine, exact, greatestDiscount, priceErrorBound}
 use Rattle.pricing_laws.proofs.Near.{near-average, near-discount}
-use Rattle.pricing_laws.proofs.Accuracy.{Within, Close, bond-within, option-within, bond-below, loss-a-step}
+use Rattle.pricing_laws.proofs.Accuracy.{Close, bond-within, option-within, bond-below, loss-a-step}
 use Rattle.pricing_laws.proofs.Recurrences.{schedule-last}
 use Rattle.pricing_laws.proofs.Backward.{Greatest, Local}
 

@@ -1,6 +1,6 @@
 -- What an accepted fit leaves in both memories is the fit, unaltered: its discounts by row and node, and each row of its state prices.
 -- Assumes nothing.
-use mathlib.Core.Path.{_≡_, ap, _∙_}
+use mathlib.Core.Path.{ap, _∙_}
 use mathlib.Core.List.{List}
 use Prim.Native.Nat.{ℕ, suc, _+_, _≤_}
 use native.Mathlib.Omega.{arith}

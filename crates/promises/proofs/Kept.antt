@@ -19,7 +19,7 @@ prices-kept =
           record { never-above = bond-at-most-exact n b discounts flows z; short = bond-within-bound n b discounts flows z .below };
       option-accurate =
           λ n b discounts flows kind expiry strike z.
-          let w = option-within-bound n b discounts flows kind expiry strike z in record { above = w .above; below = w .below };
+          option-within-bound n b discounts flows kind expiry strike z;
       bond-a-step = bond-bound-a-step;
       option-a-step = option-bound-a-step;
       payoffs-accurate = payoffs-kept;

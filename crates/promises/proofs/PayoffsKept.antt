@@ -3,7 +3,7 @@
 use mathlib.Core.Path.{_≡_, refl, ap, sym, _∙_}
 use mathlib.Core.Bool.{Bool, true, false, cond, not, _&&_}
 use mathlib.Core.List.{List}
-use Prim.Native.Nat.{ℕ, zero, suc, _+_, _*_, _/_, _%_, _^_, _≤_, _<_}
+use Prim.Native.Nat.{ℕ, _+_, _*_, _/_, _%_, _^_, _≤_, _<_}
 use native.Mathlib.Omega.{arith}
 use lib.Dec.{eqb, leb, ltb}
 use lib.Ieee.{Float}
@@ -11,11 +11,11 @@ use lib.ListN.{length}
 use borrow.Author.Tests.{eqb-false, eqb-true, ltb-false}
 use Rattle.arithmetic.specs.Rounding.{one}
 use Rattle.arithmetic.specs.Sum.{sum}
-use Rattle.arithmetic.specs.Row.{values}
+use Rattle.arithmetic.specs.Row.{values, sumOf}
 use Rattle.arithmetic.specs.Answers.{refused, answered}
 use Rattle.arithmetic.proofs.SumLaws.{sum-cong}
 use Rattle.tree.specs.Tree.{unit}
-use Rattle.lattice.specs.Shape.{nodeCount, rowStart, discountsNeeded}
+use Rattle.lattice.specs.Shape.{nodeCount, discountsNeeded}
 use Rattle.lattice.specs.RateTree.{rateTree}
 use Rattle.fit_laws.specs.StatePrices.{statePrice}
 use Rattle.fitting.specs.Entry.{fitNumber}
@@ -27,7 +27,7 @@ use Rattle.lent_tree.specs.LentTree.{stored}
 use Rattle.valuation_laws.specs.Valuation.{valueByStatePrices, valuationErrorBound, exactPrice}
 use Rattle.valuation_laws.proofs.ValuationLaws.{value-below, value-short}
 use Rattle.limits.specs.Limits.{valueLimit}
-use Rattle.valuation.specs.Entries.{sumLimit, sumOf, valueOf, fitARow, valueByStatePricesAnswer, valuationCause, valuationErrorBoundAnswer}
+use Rattle.valuation.specs.Entries.{sumLimit, valueOf, fitARow, valueByStatePricesAnswer, valuationCause, valuationErrorBoundAnswer}
 use Rattle.valuation.proofs.EntryLaws as entry
 use Rattle.promises.specs.Promises.{ShortOf, Unaltered}
 use Rattle.promises.proofs.StatePricesKept.{fitted-prices}

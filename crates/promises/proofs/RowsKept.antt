@@ -1,6 +1,6 @@
 -- Engine and exact pricer row by row, and the entries' answers by them.
 -- Assumes nothing.
-use mathlib.Core.Path.{_≡_, refl}
+use mathlib.Core.Path.{refl}
 use mathlib.Core.List.{List}
 use Prim.Native.Nat.{ℕ}
 use Rattle.tree.specs.Tree.{Tree}

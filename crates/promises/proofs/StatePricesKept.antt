@@ -5,7 +5,6 @@ use mathlib.Core.List.{List}
 use Prim.Native.Nat.{ℕ, zero, suc, _-_, _*_, _^_, _≤_, _<_}
 use native.Mathlib.Omega.{arith}
 use lib.Ieee.{Float}
-use Rattle.arithmetic.specs.Sum.{sum}
 use Rattle.arithmetic.specs.Answers.{lowestCause}
 use Rattle.arithmetic.proofs.SumLaws.{sum-cong}
 use Rattle.tree.specs.Tree.{Tree, unit}

@@ -2,8 +2,7 @@
 -- Assumes nothing.
 use mathlib.Core.Path.{_≡_, refl, ap, sym, subst, _∙_}
 use mathlib.Core.Bool.{Bool, true, false, cond, not}
-use mathlib.Core.List.{List}
-use Prim.Native.Nat.{ℕ, suc, _*_, _≤_, _<_}
+use Prim.Native.Nat.{ℕ, _*_, _≤_}
 use native.Mathlib.Nat.{pos-of-ne-zero}
 use native.Mathlib.Omega.{arith}
 use lib.Dec.{ltb, leb}
@@ -17,7 +16,6 @@ use Rattle.arithmetic.proofs.FrequencyLaws.{listed-small}
 use Rattle.arithmetic.proofs.Numbers.{by-order, by-equal}
 use Rattle.lattice.specs.Shape.{halfWidth}
 use Rattle.lattice.specs.Entries.{branchAnswer, branchOf, refusedBranch}
-use Rattle.lattice.specs.declared.Branches.{Branches}
 use Rattle.lattice.specs.Branching.{change, square, squared}
 use Rattle.lattice.proofs.Sizes.{within-row, start-first, start-suc}
 use Rattle.lattice.proofs.Landing.{lands}
@@ -86,7 +84,7 @@ factor-near j h z = go (ltb one (natAbs j * h)) refl z
     go : (t : Bool) → ltb one (natAbs j * h) ≡ t → cond t (refused 8) (answered (factor j h)) .number ≡ 0 →
         Near scale 14 (cond t (refused 8) (answered (factor j h)) .value) (exactFactor j h)
     go true e k = absurd (omega arith)
-    go false e k = let w = factor-within j h (ltb-false one (natAbs j * h) e) in record { above = w .above; below = w .below }
+    go false e k = factor-within j h (ltb-false one (natAbs j * h) e)
 
 sign : (v : ℕ) → rateAnswer v .number ≡ 0 →
     (ltZ (rateAnswer v .value) (pos 0) ≡ ltb one v) × (ltZ (pos 0) (rateAnswer v .value) ≡ ltb v one)

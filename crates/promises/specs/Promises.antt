@@ -10,6 +10,7 @@ use lib.IntN.{ℤ, pos, negℤ, natAbs, _+ℤ_, _*ℤ_}
 use lib.ListN.{length, take, drop}
 use lib.Signed.{ltZ}
 use Rattle.arithmetic.specs.Rounding.{one, roundUp}
+use Rattle.arithmetic.specs.Within.{Within}
 use Rattle.arithmetic.specs.Sum.{sum}
 use Rattle.arithmetic.specs.Row.{values}
 use Rattle.tree.specs.Tree.{Tree, outgoing, unit}
@@ -51,11 +52,6 @@ pub record Branched (b i : ℕ) (j : ℤ) (a : Branches) : Type 0 where
       3 * (600000000 * squareTo j (a .lowest) (branches.upProbability b j) (middleProbability b j) (downProbability b j))
       ≡ 600000000 * 600000000 + 3 * squared (changeTo j (a .lowest) (branches.upProbability b j) (middleProbability b j) (downProbability b j))
 
--- a value within e of an exact one, which is held times M
-pub record Near (M e value exact : ℕ) : Type 0 where
-  pub above : M * value ≤ exact + M * e
-  pub below : exact ≤ M * (value + e)
-
 -- rows stand one after the other, without a gap: each starts where the one before it ends
 pub record Tiled (b : ℕ) : Type 0 where
   pub first : rowStart b 0 ≡ 0
@@ -82,7 +78,7 @@ pub record TreePromises : Type 0 where
   pub rows-tiled : (b : ℕ) → Tiled b
   pub spacing-greatest : (f s : ℕ) → spacingAnswer f s .number ≡ 0 → Spaced f s (spacingAnswer f s .value)
   -- U(j) is within 14 of the same series in exact fractions, held times 12! × one^11
-  pub factors-near : (j : ℤ) (h : ℕ) → nodeAnswer j h .number ≡ 0 → Near scale 14 (nodeAnswer j h .value) (exactFactor j h)
+  pub factors-near : (j : ℤ) (h : ℕ) → nodeAnswer j h .number ≡ 0 → Within 14 scale (nodeAnswer j h .value) (exactFactor j h)
   -- a step rate is negative exactly where the discount is above one, positive exactly where it is below
   pub sign-of-rates : (v : ℕ) → rateAnswer v .number ≡ 0 →
       (ltZ (rateAnswer v .value) (pos 0) ≡ ltb one v) × (ltZ (pos 0) (rateAnswer v .value) ≡ ltb v one)
@@ -97,11 +93,6 @@ pub record TreePromises : Type 0 where
       (statePriceErrorBoundAnswer n b (fitDiscounts f n b s kinds figures) i .value)
 
 -- ---- prices
-
--- a price of whole billionths within its allowance of the exact price x, which is held times M
-pub record Within (allowance M price x : ℕ) : Type 0 where
-  pub above : price * M ≤ x + allowance * M
-  pub below : x ≤ (price + allowance) * M
 
 -- never above the exact price, and short of it by at most the allowance
 pub record ShortOf (allowance M price x : ℕ) : Type 0 where

@@ -1,19 +1,10 @@
 // The lines of a priced tree, put into a lent buffer from its end.
 ghost use mathlib.Core.Path.{_≡_};
-ghost use mathlib.Core.Bool.{Bool};
-ghost use Prim.Native.Nat.{ℕ, suc, _+_, _*_, _≤_, _<_};
+ghost use Prim.Native.Nat.{suc, _+_, _*_, _≤_, _<_};
 ghost use lib.ListN.{length};
+ghost use Rattle.arithmetic.specs.Row.{sumOf};
 ghost use Rattle.text_laws.specs.Put.{Put};
-ghost use Rattle.sheet_laws.specs.TreeSheet.{
-  rowPart,
-  total,
-  nodeLines,
-  lineOfRow,
-  rowLines,
-  optionLines,
-  priceLines,
-  treeSheet,
-};
+ghost use Rattle.sheet_laws.specs.TreeSheet.{rowPart, nodeLines, lineOfRow, rowLines, optionLines, priceLines, treeSheet};
 ghost use Rattle.sheet_laws.specs.Stored.{Drawing, Stored, Summed};
 use job_prices::JobPrices;
 use node_reader::NodeReader;
@@ -27,8 +18,8 @@ struct Tree {
 }
 
 fn row_total(row: &[u64]) -> u64
-    requires { ⌜ total (now row) ≤ 2000000100 ⌝ }
-    ensures { λ r. ⌜ r ≡ total (now (row .entry)) ⌝ }
+    requires { ⌜ sumOf (now row) ≤ 2000000100 ⌝ }
+    ensures { λ r. ⌜ r ≡ sumOf (now (row .entry)) ⌝ }
 {
     let mut sum = 0u64;
     let mut index = 0usize;
@@ -118,7 +109,7 @@ fn put_row<'a>(
     before: usize,
 ) -> usize
     requires { ⌜ (before < tree .steps) × Stored (tree .steps) (tree .reversion) (now discounts) (now «state_prices») × (length (now quotes) ≡ tree .steps) ×
-        (total (rowPart (tree .reversion) (now «state_prices») (suc before)) ≤ 2000000100) × (128 ≤ end) × (end ≤ length (now out)) ⌝ }
+        (sumOf (rowPart (tree .reversion) (now «state_prices») (suc before)) ≤ 2000000100) × (128 ≤ end) × (end ≤ length (now out)) ⌝ }
     ensures { λ r. ⌜ Put (now (out .entry)) end (lineOfRow (tree .steps) (tree .reversion) (now (quotes .entry)) (now (discounts .entry))
         (now («state_prices» .entry)) before) r (now (out .exit)) ⌝ }
 {

@@ -1,20 +1,19 @@
 -- Row i's part of a table that has a number for each node of row w: its length, its values, and the branches that a table of
 -- down-probabilities gives.
 -- Assumes nothing.
-use mathlib.Core.Path.{_≡_, sym, ap, ap₂, _∙_}
+use mathlib.Core.Path.{_≡_, sym, ap₂, _∙_}
 use mathlib.Core.List.{List}
 use Prim.Native.Nat.{ℕ, suc, _+_, _≤_, _<_}
 use native.Mathlib.Omega.{arith}
 use lib.ListN.{length, take, drop}
 use Rattle.arithmetic.specs.Row.{values}
 use Rattle.arithmetic.proofs.PartLaws.{part-value, part-length}
-use Rattle.lattice.specs.Shape.{halfWidth, nodeCount}
+use Rattle.lattice.specs.Shape.{nodeCount}
 use Rattle.lattice.specs.Branching.{downProbability, probabilities}
 use Rattle.lattice.specs.RateTree.{nodeOfIndex, node, low, rateTree}
 use Rattle.lattice.specs.Entries.{tableOffset}
 use Rattle.lattice.proofs.ShapeLaws.{offset-is, table-room}
 use Rattle.lattice.proofs.TableLaws.{down-from-table}
-use Rattle.row_branches.specs.declared.RowBranch.{RowBranch}
 use Rattle.row_branches.specs.RowBranches.{rowBranch, rowTransition}
 use Rattle.row_branches.proofs.BranchLaws as branch
 

@@ -1,7 +1,6 @@
 // The branches of a row's nodes, from the row's part of the table of down-probabilities.
 ghost use mathlib.Core.Path.{_≡_};
-ghost use Prim.Native.Nat.{ℕ, _+_, _<_, _≤_};
-ghost use lib.ListN.{length};
+ghost use Prim.Native.Nat.{_+_, _<_};
 ghost use Rattle.row_branches.specs.RowBranches.{lowest, noBranch, rowBranch};
 
 // The lowest of the three nodes of the next row that a node leads to, and up, middle and down over 600,000,000.

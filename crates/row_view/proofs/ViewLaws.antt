@@ -6,16 +6,16 @@ use mathlib.Core.Bool.{Bool, true, false, cond, _&&_, and-false}
 use mathlib.Core.List.{List}
 use denote.Ref.{RefT}
 use native.Mathlib.Omega.{arith}
-use lib.Dec.{ltb, leb}
+use lib.Dec.{leb}
 use lib.ListN.{length, take, drop, length-drop}
 use lib.Seq.{length-take-le, getD-take, getD-drop}
-use borrow.Author.Tests.{ltb-true, leb-true, lt-ltb, le-leb, lt-leb, eq-eqb, ne-eqb}
+use borrow.Author.Tests.{ltb-true, leb-true, le-leb, lt-leb, eq-eqb, ne-eqb}
 use Rattle.arithmetic.specs.Row.{values}
 use Rattle.arithmetic.specs.declared.Answer.{Answer}
 use Rattle.arithmetic.proofs.BetweenLaws.{and-left, and-right}
 use Rattle.lattice.specs.Shape.{nodeCount, rowStart, discountsNeeded, statePricesNeeded}
 use Rattle.lattice.specs.Entries.{aboutTree}
-use Rattle.lattice.proofs.Sizes.{row-ends, count-positive}
+use Rattle.lattice.proofs.Sizes.{row-ends}
 use Rattle.row_view.specs.declared.RowKind.{RowKind}
 use Rattle.row_view.specs.declared.RowKind.the-variants.{Discounts, StatePrices}
 use Rattle.row_view.specs.declared.RowRange.{RowRange}
@@ -148,16 +148,6 @@ module _ (whole : RefT (List ℕ)) (start count : ℕ) (part : RefT (List ℕ)) 
   pub part-value : (k : ℕ) → k < count → values (part .now) k ≡ values (whole .now) (start + k)
   part-value k h = rw (p .contents, getD-take, getD-drop)
 
--- a refusal is an empty part, and an accepted row has at least one node
-pub refusal-is-empty : (discounts prices : List ℕ) (kind : RowKind) (n b i : ℕ) →
-    ltb 0 (viewCount discounts prices kind n b i) ≡ isShown discounts prices kind n b i
-unfolding viewCount
-refusal-is-empty discounts prices kind n b i = go (isShown discounts prices kind n b i)
-  where
-    go : (shown : Bool) → ltb 0 (cond shown (nodeCount b i) 0) ≡ shown
-    go true = lt-ltb 0 (nodeCount b i) (count-positive b i)
-    go false = refl
-
 module _ (discounts prices : RefT (List ℕ)) (kind : RowKind) (n b i : ℕ) where
   pub view-within :
       viewStart (discounts .now) (prices .now) kind n b i + viewCount (discounts .now) (prices .now) kind n b i
@@ -170,13 +160,6 @@ module _ (discounts prices : RefT (List ℕ)) (kind : RowKind) (n b i : ℕ) whe
       go true true h s = row-room discounts prices kind n b i (holding _ _ _ _ h) s .2
       go true false h s = omega arith
       go false u h s = omega arith
-
-  -- the view has as many elements as its count says
-  pub view-length : (part : RefT (List ℕ)) →
-      PartOf (memoryOf discounts prices kind) (viewStart (discounts .now) (prices .now) kind n b i)
-      (viewCount (discounts .now) (prices .now) kind n b i) part →
-      length (part .now) ≡ viewCount (discounts .now) (prices .now) kind n b i
-  view-length part p = part-length _ _ _ part p view-within
 
   module _ (memory : RefT (List ℕ)) (e : memory ≡ memoryOf discounts prices kind)
       (r : RowRange) (q : r ≡ rangeOfRow (discounts .now) (prices .now) kind n b i) where

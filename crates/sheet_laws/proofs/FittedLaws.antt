@@ -1,11 +1,12 @@
 -- What the prices of a record leave for its sheet: quotes, discounts and state prices.
 -- Assumes nothing.
-use mathlib.Core.Path.{_≡_, sym, ap, _∙_, subst}
+use mathlib.Core.Path.{_≡_, sym, ap, _∙_}
 use mathlib.Core.Bool.{true}
 use mathlib.Core.List.{List, [], append-nil}
 use Prim.Native.Nat.{ℕ, suc, _≤_, _<_}
 use native.Mathlib.Omega.{arith}
 use lib.ListN.{length, take, length-take}
+use Rattle.arithmetic.specs.Row.{sumOf}
 use Rattle.arithmetic.specs.Sum.{sum}
 use Rattle.arithmetic.specs.declared.Answer.{Answer}
 use Rattle.arithmetic.proofs.PlaceLaws.{length-place, place-front}
@@ -23,17 +24,17 @@ use Rattle.fitting.specs.Entry.{fitPrice}
 use Rattle.fitting.proofs.Promised.{fit-repriced}
 use Rattle.fitting.proofs.FittedTree.{fit-discounts-lent}
 use Rattle.job_record.specs.declared.Job.{Job}
-use Rattle.job_fit.specs.RecordFit.{jobKinds, jobFigures, jobQuotes, jobDiscounts, jobStatePrices, recordQuotes, recordFit, memoryAfter}
+use Rattle.job_fit.specs.RecordFit.{jobKinds, jobFigures, jobQuotes, jobDiscounts, jobStatePrices, recordQuotes, memoryAfter}
 use Rattle.job_fit.proofs.FitLaws as fits
 use Rattle.job_prices.specs.declared.JobPrices.{JobPrices}
 use Rattle.job_prices.specs.JobPrices.{recordNumber, recordPrices}
 use Rattle.job_prices.proofs.Accepted.{record-accepted}
 use Rattle.node_lines.specs.Rows.{acceptedNodes}
-use Rattle.sheet_laws.specs.TreeSheet.{rowPart, total}
+use Rattle.sheet_laws.specs.TreeSheet.{rowPart}
 use Rattle.sheet_laws.specs.Stored.{Stored, Summed, Fitted}
 
-pub total-row : (b : ℕ) (f : ℕ → ℕ → ℕ) (n i : ℕ) → i < n → total (rowPart b (laid (rateTree b) f n) i) ≡ sum (nodeCount b i) (f i)
-unfolding total rowPart
+pub total-row : (b : ℕ) (f : ℕ → ℕ → ℕ) (n i : ℕ) → i < n → sumOf (rowPart b (laid (rateTree b) f n) i) ≡ sum (nodeCount b i) (f i)
+unfolding sumOf rowPart
 total-row b f n i h =
     let part = rw (append-nil (laid (rateTree b) f n)) at (laid-part b f n i h []) in
     rw part (sum-row (nodeCount b i) (f i))

@@ -10,7 +10,7 @@ use native.Mathlib.Numerals.{add-one}
 use borrow.Author.Tests.{le-leb}
 use lib.ListN.{length, getD, take, drop, length-append}
 use Rattle.arithmetic.specs.Sum.{sum}
-use Rattle.arithmetic.specs.Row.{values}
+use Rattle.arithmetic.specs.Row.{values, sumOf}
 use Rattle.arithmetic.proofs.PartLaws.{part-length, part-value}
 use Rattle.arithmetic.proofs.SumLaws.{sum-next, sum-grow}
 use Rattle.lattice.specs.Shape.{nodeCount, rowStart, discountsNeeded, statePricesNeeded}
@@ -30,12 +30,12 @@ use Rattle.node_lines.proofs.RowLaws.{lines-room, text-room, part-accepted, row
 use Rattle.node_lines.proofs.ReadingLaws.{Drew, read-number-none, drawn-put, drawn-next}
 use Rattle.text_laws.specs.Lines.{rowLine, priceLine, lineNumber, bondWord, optionWord}
 use Rattle.text_laws.proofs.LineLaws.{row-room, price-room, line-stands, line-before}
-use Rattle.text_laws.proofs.PutLaws.{put-none, put-before, Answered, answered-put}
+use Rattle.text_laws.proofs.PutLaws.{put-none, put-before, Answered}
 use Rattle.pricing.specs.declared.Price.{Price}
 use Rattle.arithmetic.specs.declared.Answer.{Answer}
 use Rattle.state_price_bound.specs.ErrorBound.{statePriceErrorBoundAnswer}
 use Rattle.state_price_bound.proofs.BoundLaws.{bound-most}
-use Rattle.sheet_laws.specs.TreeSheet.{rowPart, total, nodesOfRow, nodeLines, lineOfRow, rowLines, optionLines, priceLines, treeSheet}
+use Rattle.sheet_laws.specs.TreeSheet.{rowPart, nodesOfRow, nodeLines, lineOfRow, rowLines, optionLines, priceLines, treeSheet}
 use Rattle.sheet_laws.specs.Stored.{Lent, Stored, Summed}
 use Rattle.node_lines.proofs.LineLoop.{lines-fit}
 
@@ -125,12 +125,12 @@ module _ (row : List ℕ) (i s : ℕ) (so-far : s ≡ sum i (values row)) where
   pub sum-more : s + values row i ≡ sum (i + 1) (values row)
   sum-more = omega (arith, sum-next i (values row))
 
-  pub sum-within : i < length row → s + values row i ≤ total row
-  unfolding total
+  pub sum-within : i < length row → s + values row i ≤ sumOf row
+  unfolding sumOf
   sum-within h = omega (arith, sum-next i (values row), sum-grow (length row) (i + 1) (values row) (omega arith))
 
-  pub sum-done : i ≡ length row → s ≡ total row
-  unfolding total
+  pub sum-done : i ≡ length row → s ≡ sumOf row
+  unfolding sumOf
   sum-done e = so-far ∙ ap (λ (n : ℕ). sum n (values row)) e
 
 -- ---- room for the lines
@@ -176,7 +176,7 @@ module _ (n b : ℕ) (quotes discounts prices : List ℕ) (few : n ≤ 60) (smal
   pub line-length : (i : ℕ) → i < n → length (lineOfRow n b quotes discounts prices i) ≤ 128
   unfolding lineOfRow
   line-length i l =
-      row-room (suc i) (values quotes i) (total (rowPart b prices (suc i))) (statePriceErrorBoundAnswer n b discounts (suc i) .value) (omega arith) (small i)
+      row-room (suc i) (values quotes i) (sumOf (rowPart b prices (suc i))) (statePriceErrorBoundAnswer n b discounts (suc i) .value) (omega arith) (small i)
       (omega (arith, summed i l)) (omega (arith, bound-most n b discounts (suc i)))
 
   pub rows-fit : (i : ℕ) → i < n → 128 * i + length (lineOfRow n b quotes discounts prices i) ≤ 128 * suc i
@@ -184,13 +184,13 @@ module _ (n b : ℕ) (quotes discounts prices : List ℕ) (few : n ≤ 60) (smal
 
 -- the line that the code puts is the row's
 pub row-line-stands : (n b : ℕ) (quotes discounts prices : List ℕ) (i end added : ℕ) (out after : List ℕ) (bound : Answer) {answer : Placed} →
-    added ≡ total (rowPart b prices (suc i)) → bound ≡ statePriceErrorBoundAnswer n b discounts (suc i) → i < 60 → getD quotes i 0 < 2 ^ 64 → added < 2 ^ 64 →
+    added ≡ sumOf (rowPart b prices (suc i)) → bound ≡ statePriceErrorBoundAnswer n b discounts (suc i) → i < 60 → getD quotes i 0 < 2 ^ 64 → added < 2 ^ 64 →
     128 ≤ end → end ≤ length out →
     Answered (lineNumber (length out) end) out end (rowLine (i + 1) (values quotes i) added (bound .value)) answer after →
     Put out end (lineOfRow n b quotes discounts prices i) (answer .start) after
 unfolding lineOfRow
 row-line-stands n b quotes discounts prices i end added out after bound {answer} es eb few q s h p a =
-    let sum = total (rowPart b prices (suc i)) in
+    let sum = sumOf (rowPart b prices (suc i)) in
     let allowed = statePriceErrorBoundAnswer n b discounts (suc i) .value in
     let same : rowLine (i + 1) (values quotes i) added (bound .value) ≡ rowLine (suc i) (values quotes i) sum allowed = rw (← es, ← eb, add-one i) in
     line-stands out end _ h p

@@ -4,8 +4,7 @@
 use Prim.Native.Nat.{ℕ, suc}
 use mathlib.Core.Bool.{Bool, cond}
 use mathlib.Core.List.{List, [], _++_}
-use lib.ListN.{length, take, drop}
-use Rattle.arithmetic.specs.Sum.{sum}
+use lib.ListN.{take, drop}
 use Rattle.arithmetic.specs.Row.{values}
 use Rattle.lattice.specs.Shape.{nodeCount, rowStart}
 use Rattle.state_price_bound.specs.ErrorBound.{statePriceErrorBoundAnswer}
@@ -16,10 +15,6 @@ use Rattle.node_lines.specs.Rows.{lines, rowText}
 -- the part of a memory that contains row i
 unfoldable pub rowPart : ℕ → List ℕ → ℕ → List ℕ
 rowPart b memory i = take (nodeCount b i) (drop (rowStart b i) memory)
-
--- the sum of a row
-unfoldable pub total : List ℕ → ℕ
-total l = sum (length l) (values l)
 
 -- node lines: rows 0 to n − 1, lowest node first
 abbrev pub nodesOfRow : ℕ → List ℕ → ℕ → List ℕ

@@ -1,6 +1,6 @@
 -- Every sheet without a refusal keeps its promises.
 -- Assumes nothing.
-use mathlib.Core.Path.{_≡_, refl, sym, ap, ap₂, _∙_}
+use mathlib.Core.Path.{_≡_, refl, ap, ap₂, _∙_}
 use mathlib.Core.Bool.{Bool, true, false, cond}
 use mathlib.Core.List.{List, [], _∷_}
 use Prim.Native.Nat.{ℕ, suc, _*_, _+_, _/_, _≤_, _<_}
@@ -23,8 +23,8 @@ use Rattle.curve.specs.Curve.{discountAt}
 use Rattle.step_rate.specs.StepRate.{rateAnswer}
 use Rattle.step_rate.specs.declared.Rate.{Rate}
 use Rattle.step_rate.proofs.RateLaws.{answer-known}
-use Rattle.fitting.specs.Entry.{quotesOf, fitNumber, fitPrice}
-use Rattle.fitting.proofs.FittedTree.{fit-discounts-lent, fit-discounts-length}
+use Rattle.fitting.specs.Entry.{fitPrice}
+use Rattle.fitting.proofs.FittedTree.{fit-discounts-lent}
 use Rattle.job_record.specs.declared.Job.{Job}
 use Rattle.job_record.specs.Reader.{readingOf}
 use Rattle.job_fit.specs.RecordFit.{jobRows, jobKinds, jobFigures, jobQuotes, jobDiscounts, jobStatePrices}
@@ -33,12 +33,11 @@ use Rattle.text_laws.specs.Decimal.{signOf}
 use Rattle.text_laws.specs.Lines.{nodeLine, lineOfNode}
 use Rattle.text_laws.proofs.Signs.{sign-negative, sign-none}
 use Rattle.node_lines.specs.Rows.{nodeText}
-use Rattle.sheet_laws.specs.TreeSheet.{rowPart, total, treeSheet}
-use Rattle.sheet_laws.specs.WholeJob.{jobNumber, jobText, sheetNumber, sheetText}
+use Rattle.sheet_laws.specs.TreeSheet.{rowPart, treeSheet}
+use Rattle.sheet_laws.specs.WholeJob.{jobText, sheetNumber}
 use Rattle.sheet_laws.proofs.PartLaws.{part-size}
 use Rattle.sheet_laws.proofs.FittedLaws.{total-row}
 use Rattle.sheet_laws.proofs.Accepted.{AcceptedJob, sheet-accepted, job-accepted}
-use Rattle.promises.specs.Promises.{Repriced}
 use Rattle.promises.proofs.Kept.{promises-kept}
 use Rattle.sheet_promises.specs.SheetPromises.{NodeShown, RowShown, SheetShown, SheetPromises}
 

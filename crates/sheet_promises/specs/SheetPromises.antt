@@ -2,19 +2,19 @@
 -- with number 0, and what the demands say of these answers holds of the sheet.
 -- Assumes nothing.
 use mathlib.Core.Path.{_≡_}
-use mathlib.Core.Bool.{Bool, true, cond}
+use mathlib.Core.Bool.{true, cond}
 use mathlib.Core.List.{List, [], _∷_, _++_}
 use Prim.Native.Nat.{ℕ, suc, _^_, _<_}
 use lib.Dec.{ltb}
+use Rattle.arithmetic.specs.Within.{Within}
 use Rattle.arithmetic.specs.Rounding.{one}
-use Rattle.arithmetic.specs.Row.{values}
+use Rattle.arithmetic.specs.Row.{values, sumOf}
 use Rattle.tree.specs.Tree.{unit}
 use Rattle.lattice.specs.Shape.{nodeCount}
 use Rattle.lattice.specs.RateTree.{node}
 use Rattle.lent_tree.specs.LentTree.{stored}
 use Rattle.step_rate.specs.StepRate.{rateAnswer}
 use Rattle.state_price_bound.specs.ErrorBound.{statePriceErrorBoundAnswer}
-use Rattle.pricing.specs.declared.Price.{Price}
 use Rattle.pricing.specs.Exact.{exactBond, exactOption}
 use Rattle.job_record.specs.declared.Job.{Job}
 use Rattle.job_record.specs.Reader.{readingOf}
@@ -23,9 +23,9 @@ use Rattle.job_prices.specs.JobPrices.{hasOption, jobBond, jobOption}
 use Rattle.text_laws.specs.Decimal.{signOf}
 use Rattle.text_laws.specs.Lines.{nodeLine}
 use Rattle.node_lines.specs.Rows.{nodeText}
-use Rattle.sheet_laws.specs.TreeSheet.{rowPart, total, nodeLines, rowLines, priceLines}
+use Rattle.sheet_laws.specs.TreeSheet.{rowPart, nodeLines, rowLines, priceLines}
 use Rattle.sheet_laws.specs.WholeJob.{sheetText}
-use Rattle.promises.specs.Promises.{Repriced, Within, ShortOf}
+use Rattle.promises.specs.Promises.{Repriced, ShortOf}
 
 -- the line of node k of row i: its discount and the step rate of that discount, whose sign in the bytes is a minus exactly where the discount
 -- is above one
@@ -39,7 +39,7 @@ pub record NodeShown (b : ℕ) (discounts : List ℕ) (i k : ℕ) : Type 0 where
 -- the line of row i + 1: an allowance that the entry gives, and a quote within 300 of the sum of the row's state prices
 pub record RowShown (n b : ℕ) (quotes discounts prices : List ℕ) (i : ℕ) : Type 0 where
   pub bounded : statePriceErrorBoundAnswer n b discounts (suc i) .number ≡ 0
-  pub repriced : Repriced (values quotes i) (total (rowPart b prices (suc i)))
+  pub repriced : Repriced (values quotes i) (sumOf (rowPart b prices (suc i)))
 
 -- the sheet of a job
 pub record SheetShown (job : Job) (text : List ℕ) : Type 0 where

@@ -7,11 +7,11 @@ use Prim.Native.Nat.{ℕ, zero, suc, _+_, _*_, _/_, _≤_, _<_}
 use native.Mathlib.Nat.{le-trans, le-antisymm, le-of-suc-le-suc, eq-or-lt-of-le, lt-of-not-le, not-le-of-lt}
 use native.Mathlib.Nat.{mul-le-mul, mul-le-mul-left, mul-le-mul-right, mul-pos, le-div-iff-mul-le, div-lt-iff-lt-mul}
 use native.Mathlib.Omega.{arith}
-use borrow.Author.Tests.{lt-ltb, le-ltb, ne-eqb, eqb-true}
+use borrow.Author.Tests.{lt-ltb, le-ltb}
 use lib.Dec.{leb, T, leb→le, le→leb}
 use Rattle.arithmetic.specs.Answers.{refused, answered}
 use Rattle.arithmetic.specs.declared.Answer.{Answer}
-use Rattle.arithmetic.proofs.Numbers.{by-order, by-equal}
+use Rattle.arithmetic.proofs.Numbers.{by-order}
 use Rattle.spacing.specs.Spacing.{greatestPassing, greatestRoot, spacing, spacingAnswer}
 use Rattle.arithmetic.specs.Frequency.{listed}
 use Rattle.arithmetic.proofs.FrequencyLaws.{listed-small}

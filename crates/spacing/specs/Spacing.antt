@@ -1,8 +1,8 @@
 -- The spacing of the nodes (document 01, Spacing and fit, first point) and the entry that answers it.
 -- Assumes nothing.
 use Prim.Native.Nat.{ℕ, zero, suc, _*_}
-use mathlib.Core.Bool.{Bool, cond, not, _||_}
-use lib.Dec.{leb, ltb, eqb}
+use mathlib.Core.Bool.{Bool, cond, not}
+use lib.Dec.{leb, ltb}
 use Rattle.arithmetic.specs.Frequency.{listed}
 use Rattle.arithmetic.specs.Answers.{refused, answered}
 use Rattle.arithmetic.specs.declared.Answer.{Answer}

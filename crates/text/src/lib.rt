@@ -1,10 +1,9 @@
 // The lines of the sheet, put into a lent buffer from its end: each function puts its text just before a place and answers where the
 // text starts, so that the line that stands above it is put before that. A line that has no room is refused with 6, and the buffer stays.
 ghost use mathlib.Core.Path.{_≡_};
-ghost use mathlib.Core.List.{List, [], _∷_, _++_};
-ghost use Prim.Native.Nat.{ℕ, _+_, _-_, _≤_, _<_};
+ghost use mathlib.Core.List.{[], _∷_, _++_};
+ghost use Prim.Native.Nat.{_+_, _-_, _≤_, _<_};
 ghost use lib.ListN.{length};
-ghost use lib.IntN.{natAbs};
 ghost use Rattle.text_laws.specs.Decimal.{natural, fraction, decimal, signOf, signedDecimal};
 ghost use Rattle.text_laws.specs.Lines.{
   space,

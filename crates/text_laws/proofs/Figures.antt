@@ -1,8 +1,8 @@
 -- The sheet of document 01's job, line by line, and the starred rate, computed.
 -- Assumes nothing.
 use mathlib.Core.Path.{_≡_, refl}
-use mathlib.Core.List.{List, [], _∷_}
-use lib.IntN.{pos, negsuc}
+use mathlib.Core.List.{[], _∷_}
+use lib.IntN.{pos}
 use Rattle.arithmetic.specs.Rounding.{nearest}
 use Rattle.step_rate.specs.StepRate.{rateAnswer}
 use Rattle.text_laws.specs.Decimal.{natural, naturalWithin, lastDigits, decimal, signedDecimal}

@@ -16,7 +16,7 @@ use Rattle.step_rate.specs.StepRate.{rateAnswer}
 use Rattle.step_rate.proofs.RateLaws.{answer-known, value-bound}
 use Rattle.text_laws.specs.declared.Placed.{Placed}
 use Rattle.text_laws.specs.Put.{Put}
-use Rattle.text_laws.specs.Lines.{space, newline, wholeNumber, amount, nodeLine, rowLine, priceLine, refusedLine, lineNumber, nodeNumber, lineOfNode}
+use Rattle.text_laws.specs.Lines.{space, newline, wholeNumber, amount, nodeLine, rowLine, priceLine, lineNumber, nodeNumber, lineOfNode}
 use Rattle.text_laws.proofs.DecimalLaws.{decimal-room, field-room, signed-room}
 use Rattle.text_laws.proofs.PutLaws.{put-before, Answered, put-refused, put-answered, answered-put}
 
@@ -40,10 +40,6 @@ row-room row quote total bound a b c d =
 pub price-room : (word : List ℕ) (price bound : ℕ) → length word ≤ 8 → price < 2 ^ 64 → bound < 2 ^ 64 → length (priceLine word price bound) ≤ 128
 unfolding priceLine
 price-room word price bound w a b = simp length-append (omega (arith, decimal-room 9 price a, decimal-room 0 bound b))
-
-pub refused-room : (number : ℕ) → number < 2 ^ 64 → length (refusedLine number) ≤ 128
-unfolding refusedLine
-refused-room number a = simp length-append (omega (arith, decimal-room 0 number a))
 
 -- ---- room for a line
 

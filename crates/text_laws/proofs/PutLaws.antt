@@ -1,12 +1,12 @@
 -- Laws of text that is put into a buffer from its end.
 -- Assumes nothing.
-use mathlib.Core.Path.{_≡_, refl, sym, ap, _∙_, subst}
-use mathlib.Core.List.{List, [], _∷_, _++_, append-assoc, append-nil}
-use Prim.Native.Nat.{ℕ, zero, suc, _+_, _-_, _≤_, _<_}
+use mathlib.Core.Path.{_≡_, refl, sym, ap, _∙_}
+use mathlib.Core.List.{List, [], _∷_, _++_, append-assoc}
+use Prim.Native.Nat.{ℕ, suc, _+_, _-_, _≤_, _<_}
 use native.Mathlib.Omega.{arith}
 use borrow.Author.Tests.{eq-eqb, ne-eqb}
-use lib.ListN.{length, drop, take, set, getD, length-append, length-drop, length-set, take-append-drop}
-use lib.Seq.{set-split, drop-at, length-take-le, take-append-le, take-take, take-suc, drop-length}
+use lib.ListN.{length, drop, take, set, length-append, length-drop, take-append-drop}
+use lib.Seq.{set-split, drop-at, length-take-le, take-append-le, take-take}
 use Rattle.text_laws.specs.declared.Placed.{Placed}
 use Rattle.text_laws.specs.Put.{putBefore, Put, placeOf, withText}
 
@@ -88,16 +88,6 @@ put-before {out} {after} {later} {text} {next} {end} {mid} {start} p q =
 pub put-then : {out after text : List ℕ} {end mid : ℕ} (byte : ℕ) → Put out end text mid after → 0 < mid →
     Put out end (byte ∷ text) (mid - 1) (set after (mid - 1) byte)
 put-then {out} {after} {text} {end} {mid} byte p h = put-before p (put-one after mid byte h (omega (arith, p .place, p .within, p .same)))
-
--- what is printed of a buffer that was filled from its end
-pub put-printed : {out text after : List ℕ} {end start : ℕ} → Put out end text start after → end ≡ length out → drop start after ≡ text
-unfolding putBefore
-put-printed {out} {text} {after} {end} {start} p e =
-    let m : end - length text ≡ start = omega (arith, p .place) in
-    let n : length (take start out) ≡ start = length-take-le start out (omega (arith, p .place, p .within)) in
-    ap (λ (l : List ℕ). drop start l) (p .memory ∙ ap (λ (i : ℕ). take i out ++ (text ++ drop end out)) m)
-    ∙ drop-at (take start out) (text ++ drop end out) start n
-    ∙ ap (λ (i : ℕ). text ++ drop i out) e ∙ ap (λ (l : List ℕ). text ++ l) (drop-length out) ∙ append-nil text
 
 -- ---- the answer to a put, by its number
 

@@ -1,7 +1,7 @@
 -- Laws of one step, for any width and any transition. Duality: what flows into the next row, weighed by values there, is what stands on this
 -- row weighed by the values rolled back.
 -- Assumes nothing.
-use mathlib.Core.Path.{_≡_, refl, _∙_, sym, ap}
+use mathlib.Core.Path.{_≡_, refl, _∙_, ap}
 use Prim.Native.Nat.{ℕ, zero, suc, _+_, _*_, _≤_, _<_}
 use native.Mathlib.Nat.{add-mul, mul-le-mul-left}
 use native.Mathlib.Omega.{arith}

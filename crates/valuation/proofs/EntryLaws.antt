@@ -1,16 +1,16 @@
 -- The answers of the entries by the tests that code makes.
 -- Assumes nothing.
 use mathlib.Core.Path.{_≡_, refl, sym, ap, _∙_}
-use mathlib.Core.Bool.{Bool, true, false, cond, not, _&&_, and-false}
+use mathlib.Core.Bool.{Bool, true, false, cond, and-false}
 use mathlib.Core.List.{List}
-use Prim.Native.Nat.{ℕ, zero, suc, _+_, _-_, _*_, _/_, _%_, _≤_, _<_}
+use Prim.Native.Nat.{ℕ, suc, _+_, _-_, _*_, _/_, _%_, _≤_, _<_}
 use native.Mathlib.Omega.{arith}
-use lib.Dec.{eqb, leb, ltb}
+use lib.Dec.{eqb, ltb}
 use lib.ListN.{length}
 use borrow.Author.Tests.{eq-eqb, ne-eqb, lt-ltb, le-ltb, le-leb, lt-leb, ltb-false, eqb-true}
 use Rattle.arithmetic.specs.Rounding.{one}
 use Rattle.arithmetic.specs.Sum.{sum, greatest}
-use Rattle.arithmetic.specs.Row.{values, greatestOf}
+use Rattle.arithmetic.specs.Row.{values, greatestOf, sumOf}
 use Rattle.arithmetic.specs.Answers.{refused, answered, lowestCause}
 use Rattle.arithmetic.specs.declared.Answer.{Answer}
 use Rattle.arithmetic.proofs.CauseLaws.{lowest-first, lowest-none}
@@ -28,7 +28,7 @@ use Rattle.state_price_bound.specs.ErrorBound.{boundCause, statePriceErrorBound
 use Rattle.state_price_bound.proofs.Meaning.{answer-number, answer-value}
 use Rattle.state_price_bound.proofs.BoundLaws.{Lent, not-refused, row-there, bound-most}
 use Rattle.valuation_laws.specs.Valuation.{valueByStatePrices, valuationBound, valuationErrorBound}
-use Rattle.valuation.specs.Entries.{sumLimit, sumOf, sumOfProducts, valueOf, fitARow, valueByStatePricesAnswer}
+use Rattle.valuation.specs.Entries.{sumLimit, sumOfProducts, valueOf, fitARow, valueByStatePricesAnswer}
 use Rattle.valuation.specs.Entries.{payoffsCause, valuationCause, valuationErrorBoundAnswer}
 
 -- ---- the running sum

@@ -6,7 +6,7 @@ use mathlib.Core.List.{List}
 use lib.Dec.{eqb, leb, ltb}
 use lib.ListN.{length}
 use Rattle.arithmetic.specs.Sum.{sum}
-use Rattle.arithmetic.specs.Row.{values, greatestOf}
+use Rattle.arithmetic.specs.Row.{values, sumOf, greatestOf}
 use Rattle.arithmetic.specs.declared.Answer.{Answer}
 use Rattle.arithmetic.specs.Answers.{refused, answered, lowestCause}
 use Rattle.limits.specs.Limits.{mostNodes, valueLimit, limitCause}
@@ -19,9 +19,6 @@ use Rattle.valuation_laws.specs.Valuation.{valueByStatePrices, valuationErrorBo
 -- state prices may not sum above it
 abbrev pub sumLimit : ℕ
 sumLimit = 2000000100
-
-unfoldable pub sumOf : List ℕ → ℕ
-sumOf prices = sum (length prices) (λ k. values prices k)
 
 -- the sum of state price × payoff
 unfoldable pub sumOfProducts : List ℕ → List ℕ → ℕ

@@ -1,22 +1,13 @@
 // What payoffs on a row are worth by the row's state prices, and how far that may fall short of their exact price.
 use arithmetic::Answer;
 ghost use mathlib.Core.Path.{_≡_};
-ghost use mathlib.Core.Bool.{Bool};
-ghost use Prim.Native.Nat.{ℕ, _≤_};
+ghost use Prim.Native.Nat.{_≤_};
 ghost use lib.Dec.{ltb};
 ghost use lib.ListN.{length};
-ghost use Rattle.arithmetic.specs.Sum.{sum};
-ghost use Rattle.arithmetic.specs.Row.{values, greatestOf};
+ghost use Rattle.arithmetic.specs.Row.{greatestOf, sumOf};
 ghost use Rattle.limits.specs.Limits.{valueLimit};
 ghost use Rattle.valuation_laws.specs.Valuation.{valuationBound};
-ghost use Rattle.valuation.specs.Entries.{
-  sumLimit,
-  sumOf,
-  sumOfProducts,
-  payoffsCause,
-  valueByStatePricesAnswer,
-  valuationErrorBoundAnswer,
-};
+ghost use Rattle.valuation.specs.Entries.{sumLimit, sumOfProducts, payoffsCause, valueByStatePricesAnswer, valuationErrorBoundAnswer};
 
 const ONE: u64 = 1_000_000_000;
 

@@ -1,14 +1,14 @@
 -- Valuation by state prices against the exact price of the same payoffs, for any tree, any discounts and any payoffs.
 -- Assumes nothing.
-use mathlib.Core.Path.{_≡_, refl, _∙_, sym, ap}
-use Prim.Native.Nat.{ℕ, zero, suc, _+_, _*_, _/_, _^_, _≤_, _<_}
+use mathlib.Core.Path.{_≡_, refl, _∙_, sym}
+use Prim.Native.Nat.{ℕ, zero, suc, _+_, _*_, _/_, _^_, _≤_}
 use native.Mathlib.Nat.{mul-le-mul-left, mul-le-mul-right, add-suc, suc-add, add-zero, zero-add, mul-div-le}
 use native.Mathlib.Omega.{arith}
-use Rattle.arithmetic.specs.Rounding.{one, roundUp}
+use Rattle.arithmetic.specs.Rounding.{one}
 use Rattle.arithmetic.specs.Sum.{sum, greatest}
 use Rattle.arithmetic.proofs.RoundingLaws.{up-ge}
 use Rattle.arithmetic.proofs.SumLaws.{sum-cong, sum-le, sum-scale, sum-single, greatest-ge}
-use Rattle.tree.specs.Tree.{Tree, Sound, outgoing, unit}
+use Rattle.tree.specs.Tree.{Tree, Sound, unit}
 use Rattle.tree.proofs.StepLaws.{duality}
 use Rattle.fit_laws.specs.StatePrices.{statePrice, exactStatePrice, statePriceErrorBound, fittedPrice, fittedDiscount}
 use Rattle.fit_laws.proofs.Shortfall.{stretch, state-below, state-short}

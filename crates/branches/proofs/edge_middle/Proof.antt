@@ -1,11 +1,9 @@
 -- `branches::edge_middle` meets its contract.
 -- Assumes nothing.
-use mathlib.Core.Path.{refl, sym, ap, _∙_}
+use mathlib.Core.Path.{sym, ap}
 use native.Mathlib.Omega.{arith}
-use Rattle.lattice.specs.Branching.{upFormula, middleFormula, downFormula}
 use lib.IntN.{natAbs}
 use Rattle.lattice.proofs.Formulas as formulas
-use borrow.Author.Needs.{needs}
 use Rattle.branches.proofs.edge_middle.Statement.{statement}
 use Rattle.branches.proofs.edge_middle.Tie as tie
 

@@ -1,6 +1,5 @@
 -- `branches::fill_table` meets its contract.
 -- Assumes nothing.
-use mathlib.Core.Path.{_≡_, refl, sym, ap, _∙_}
 use native.Mathlib.Omega.{arith}
 use borrow.Author.Needs.{needs}
 use Rattle.arithmetic.proofs.RowLaws.{Filled, filled-start, filled-next, filled-all}

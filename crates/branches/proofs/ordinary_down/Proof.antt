@@ -1,11 +1,9 @@
 -- `branches::ordinary_down` meets its contract.
 -- Assumes nothing.
-use mathlib.Core.Path.{refl, sym, ap, _∙_}
+use mathlib.Core.Path.{refl}
 use native.Mathlib.Omega.{arith}
-use Rattle.lattice.specs.Branching.{upFormula, middleFormula, downFormula}
-use lib.IntN.{natAbs}
+use Rattle.lattice.specs.Branching.{downFormula}
 use Rattle.lattice.proofs.Formulas as formulas
-use borrow.Author.Needs.{needs}
 use Rattle.branches.proofs.ordinary_down.Statement.{statement}
 use Rattle.branches.proofs.ordinary_down.Tie as tie
 

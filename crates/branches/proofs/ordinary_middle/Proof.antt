@@ -1,9 +1,7 @@
 -- `branches::ordinary_middle` meets its contract.
 -- Assumes nothing.
-use mathlib.Core.Path.{refl, sym, ap, _∙_}
+use mathlib.Core.Path.{sym, ap}
 use native.Mathlib.Omega.{arith}
-use borrow.Author.Needs.{needs}
-use Rattle.lattice.specs.Branching.{upFormula, middleFormula, downFormula}
 use lib.IntN.{natAbs}
 use Rattle.lattice.proofs.Formulas as formulas
 use Rattle.branches.proofs.ordinary_middle.Statement.{statement}

@@ -1,11 +1,10 @@
 -- `branches::ordinary_up` meets its contract.
 -- Assumes nothing.
-use mathlib.Core.Path.{refl, sym, ap, _∙_}
+use mathlib.Core.Path.{sym, ap}
 use native.Mathlib.Omega.{arith}
-use Rattle.lattice.specs.Branching.{upFormula, middleFormula, downFormula}
+use Rattle.lattice.specs.Branching.{upFormula}
 use lib.IntN.{natAbs}
 use Rattle.lattice.proofs.Formulas as formulas
-use borrow.Author.Needs.{needs}
 use Rattle.branches.proofs.ordinary_up.Statement.{statement}
 use Rattle.branches.proofs.ordinary_up.Tie as tie
 

@@ -1,6 +1,5 @@
 -- `job_prices::prices_of_record` meets its contract.
 -- Assumes nothing.
-use native.Mathlib.Omega.{arith}
 use borrow.Author.Needs.{needs}
 use Rattle.job_prices.proofs.PriceLaws as laws
 use Rattle.job_prices.proofs.prices_of_record.Statement.{statement}

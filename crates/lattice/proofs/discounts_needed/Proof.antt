@@ -1,9 +1,8 @@
 -- `lattice::discounts_needed` meets its contract.
 -- Assumes nothing.
-use Rattle.lattice.specs.Shape.{halfWidth, nodeCount, rowStart, discountsNeeded, statePricesNeeded}
+use Rattle.lattice.specs.Shape.{discountsNeeded}
 use Prim.Native.Nat.{ℕ}
-use mathlib.Core.Path.{refl, sym, ap, _∙_}
-use native.Mathlib.Omega.{arith}
+use mathlib.Core.Path.{_∙_}
 use Rattle.lattice.proofs.EntryLaws as entry
 use borrow.Author.Needs.{needs}
 use Rattle.lattice.proofs.discounts_needed.Statement.{statement}

@@ -1,8 +1,7 @@
 -- `lattice::half_width` meets its contract.
 -- Assumes nothing.
-use Rattle.lattice.specs.Shape.{halfWidth, nodeCount, rowStart, discountsNeeded, statePricesNeeded}
-use mathlib.Core.Path.{refl, sym, ap, _∙_}
-use native.Mathlib.Omega.{arith}
+use Rattle.lattice.specs.Shape.{halfWidth}
+use mathlib.Core.Path.{_∙_}
 use Rattle.lattice.proofs.EntryLaws as entry
 use borrow.Author.Needs.{needs}
 use Rattle.lattice.proofs.half_width.Statement.{statement}

@@ -1,9 +1,9 @@
 -- `lattice::node_count` meets its contract.
 -- Assumes nothing.
-use Rattle.lattice.specs.Shape.{halfWidth, nodeCount, rowStart, discountsNeeded, statePricesNeeded}
+use Rattle.lattice.specs.Shape.{nodeCount}
 use Prim.Native.Nat.{ℕ, _+_, _*_, _≤_}
 use Rattle.lattice.proofs.Sizes.{half-within}
-use mathlib.Core.Path.{refl, sym, ap, _∙_}
+use mathlib.Core.Path.{ap, _∙_}
 use native.Mathlib.Omega.{arith}
 use Rattle.lattice.proofs.EntryLaws as entry
 use borrow.Author.Needs.{needs}

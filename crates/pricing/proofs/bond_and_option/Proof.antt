@@ -1,6 +1,6 @@
 -- `pricing::bond_and_option` meets its contract.
 -- Assumes nothing.
-use mathlib.Core.Path.{_≡_, sym, _∙_}
+use mathlib.Core.Path.{sym, _∙_}
 use Prim.Native.Nat.{_≤_}
 use native.Mathlib.Omega.{arith}
 use Rattle.exercise.proofs.KindLaws.{marks-room, strike-found, last-found}

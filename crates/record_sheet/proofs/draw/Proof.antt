@@ -1,7 +1,6 @@
 -- `record_sheet::draw` meets its contract.
 -- Assumes nothing.
 use mathlib.Core.Path.{sym}
-use native.Mathlib.Omega.{arith}
 use borrow.Author.Needs.{needs}
 use Rattle.sheet_laws.proofs.FittedLaws as fits
 use Rattle.sheet_laws.proofs.SheetLaws as laws

@@ -3,7 +3,6 @@
 use native.Mathlib.Omega.{arith}
 use borrow.Author.Needs.{needs}
 use Rattle.text_laws.proofs.DecimalLaws.{field-room}
-use Rattle.text_laws.proofs.LineLaws.{room-left}
 use Rattle.text_laws.proofs.PutLaws.{put-before}
 use Rattle.text.proofs.put_label.Statement.{statement}
 use Rattle.text.proofs.put_label.Tie as tie

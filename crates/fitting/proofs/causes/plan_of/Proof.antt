@@ -14,7 +14,7 @@ tested : (c : tie.After-lowest-cause3) →
 tested c =
     let joined = c .before .before in
     let remembered = joined .before in
-    laws.tested (remembered .before .before .discounts-needed .ensures) (remembered .before .spacing .ensures) (remembered .memory-of .ensures)
+    laws.tested (remembered .before .before .discounts-needed .ensures) (remembered .before .spacing .ensures) (remembered .memory-cause .ensures)
     (joined .lowest-cause .ensures) (c .before .lowest-cause2 .ensures) (c .lowest-cause3 .ensures)
 
 discounts-needed-requires : tie.Need-discounts-needed-requires
@@ -23,8 +23,8 @@ discounts-needed-requires c κs = search needs
 spacing-requires : tie.Need-spacing-requires
 spacing-requires c κs = search needs
 
-memory-of-requires : tie.Need-memory-of-requires
-memory-of-requires c κs = search needs
+memory-cause-requires : tie.Need-memory-cause-requires
+memory-cause-requires c κs = search needs
 
 lowest-cause-requires : tie.Need-lowest-cause-requires
 lowest-cause-requires c κs = search needs
@@ -65,7 +65,7 @@ plan-of-spec =
     (tie.spec
     discounts-needed-requires
     spacing-requires
-    memory-of-requires
+    memory-cause-requires
     lowest-cause-requires
     lowest-cause-requires-2
     lowest-cause-requires-3

@@ -3,8 +3,9 @@
 use mathlib.Core.Path.{_≡_, ap, _∙_, subst}
 use Prim.Native.Nat.{ℕ, suc, _+_, _-_}
 use borrow.Author.Tests.{le-leb}
+use Rattle.arithmetic.specs.Row.{sumOf}
 use Rattle.row_view.specs.declared.RowKind.the-variants.{StatePrices}
-use Rattle.sheet_laws.specs.TreeSheet.{rowPart, total}
+use Rattle.sheet_laws.specs.TreeSheet.{rowPart}
 use native.Mathlib.Numerals.{add-one}
 use Rattle.state_price_bound.specs.ErrorBound.{statePriceErrorBoundAnswer}
 use Rattle.sheet_laws.proofs.PartLaws as laws
@@ -58,7 +59,7 @@ returns c =
     let pre = s .pre in
     laws.row-line-stands (a .tree .steps) (a .tree .reversion) (a .quotes .now) (a .discounts .now) (a .state-prices .now) (a .before) (a .end)
     (row-total .result) (a .out .now) _ (state-price-error-bound .result)
-    (row-total .ensures ∙ ap total (part-is (p6 .before))) (subst
+    (row-total .ensures ∙ ap sumOf (part-is (p6 .before))) (subst
     (λ (i : ℕ). state-price-error-bound .result ≡ statePriceErrorBoundAnswer (a .tree .steps) (a .tree .reversion) (a .discounts .now) i) (add-one (a .before))
     (state-price-error-bound .ensures))
     (omega (arith, pre .0, pre .1 .lent .steps-within-limit)) (shared-slice-known .given (a .before) .fits) (search needs) (pre .4) (pre .5) (row-line .ensures)

@@ -1,9 +1,9 @@
--- `fitting::causes/memory_of` meets its contract.
+-- `lattice::memory_cause` meets its contract.
 -- Assumes nothing.
-use Rattle.fitting.proofs.CauseLaws as laws
+use Rattle.lattice.proofs.MemoryLaws as laws
 use borrow.Author.Needs.{needs}
-use Rattle.fitting.proofs.causes.memory_of.Statement.{statement}
-use Rattle.fitting.proofs.causes.memory_of.Tie as tie
+use Rattle.lattice.proofs.memory_cause.Statement.{statement}
+use Rattle.lattice.proofs.memory_cause.Tie as tie
 
 discounts-needed-requires : tie.Need-discounts-needed-requires
 discounts-needed-requires c κs = search needs
@@ -28,7 +28,7 @@ returns-3 c =
     let found = tested .before .before in
     laws.memory-enough _ _ _ _ _ _ (found .before .discounts-needed .ensures) (found .state-prices-needed .ensures) (tested .if1 .left) (c .if2 .left)
 
-pub memory-of-spec : {M : Type 1} → statement M
-memory-of-spec =
+pub memory-cause-spec : {M : Type 1} → statement M
+memory-cause-spec =
     tie.close
     (tie.spec discounts-needed-requires state-prices-needed-requires returns returns-2 returns-3)
