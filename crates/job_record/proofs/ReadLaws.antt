@@ -32,9 +32,6 @@ module _ (s : List ℕ) where
   unfolding readingOf
   reading-bad h = rw h
 
--- what a caller's test of the number says. r is what the reader gave
-module _ (s : List ℕ) (r : Reading) (e : r ≡ readingOf s) where
-
 -- a record's bytes are accepted, and give that record
 encoded-by : (s : List ℕ) (job : Job) → Encodes s job → encode job ≡ s → readingOf s ≡ acceptedReading job
 encoded-by s job e same =
