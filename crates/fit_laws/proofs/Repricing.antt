@@ -8,6 +8,7 @@ use native.Mathlib.Omega.{arith}
 use Rattle.arithmetic.specs.Sum.{sum}
 use Rattle.arithmetic.specs.Rounding.{one}
 use Rattle.tree.specs.Tree.{Transition, Inside, Total}
+use Rattle.fit_laws.specs.Bounds.{leastFactor, mostFactor, leastRowSum, mostRowSum, mostQuote}
 use Rattle.fit_laws.specs.Step.{normaliser, discount, carried, nextPrice}
 use Rattle.arithmetic.proofs.SumLaws.{sum-weigh-ge, sum-weigh-le, sum-grow}
 use Rattle.fit_laws.proofs.StepLaws.{carried-le, carried-ge, next-le, next-ge, discount-le, discount-ge, normaliser-le, normaliser-ge}
@@ -45,11 +46,11 @@ pub record Fittable (t : Transition) (n m p : ℕ) (q u : ℕ → ℕ) : Type 0 
   pub total : Total t n
   pub nodes : n ≤ 119
   pub next-nodes : m ≤ 121
-  pub sum-low : 99999700 ≤ sum n q
-  pub sum-high : sum n q ≤ 2000000300
-  pub factor-low : (k : ℕ) → k < n → 360000000 ≤ u k
-  pub factor-high : (k : ℕ) → k < n → u k ≤ 2720000000
-  pub quote-high : p ≤ 2000000000
+  pub sum-low : leastRowSum ≤ sum n q
+  pub sum-high : sum n q ≤ mostRowSum
+  pub factor-low : (k : ℕ) → k < n → leastFactor ≤ u k
+  pub factor-high : (k : ℕ) → k < n → u k ≤ mostFactor
+  pub quote-high : p ≤ mostQuote
 
 module _ (t : Transition) (n m p : ℕ) (q u : ℕ → ℕ) (f : Fittable t n m p q u) where
   pub normaliser-low : 35999891 ≤ normaliser n q u

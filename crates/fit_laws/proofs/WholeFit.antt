@@ -5,6 +5,8 @@ use Prim.Native.Nat.{ℕ, zero, suc, _+_, _-_, _*_, _/_, _≤_, _<_}
 use native.Mathlib.Omega.{arith}
 use Rattle.arithmetic.specs.Sum.{sum}
 use Rattle.arithmetic.specs.Rounding.{one}
+use Rattle.limits.specs.Limits.{mostSteps}
+use Rattle.fit_laws.specs.Bounds.{leastQuote, mostQuote, leastFactor, mostFactor, leastRowSum, mostRowSum}
 use Rattle.fit_laws.specs.Step.{normaliser, discount, nextPrice}
 use Rattle.tree.specs.Tree.{Tree, Sound}
 use Rattle.fit_laws.specs.StatePrices.{statePrice, fittedPrice, fittedDiscount}
@@ -25,17 +27,17 @@ fitted-is-state t u p (suc i) =
 
 -- What a curve and its factors must keep for an n-step fit: the ranges of the quotes and of the factors, and the node counts.
 pub record Curve (t : Tree) (n : ℕ) (u : ℕ → ℕ → ℕ) (p : ℕ → ℕ) : Type 0 where
-  pub steps : n ≤ 60
+  pub steps : n ≤ mostSteps
   pub counts : (i : ℕ) → t .nodes i ≤ 2 * i + 1
-  pub quote-low : (i : ℕ) → i < n → 100000000 ≤ p (suc i)
-  pub quote-high : (i : ℕ) → i < n → p (suc i) ≤ 2000000000
-  pub factor-low : (i k : ℕ) → i < n → k < t .nodes i → 360000000 ≤ u i k
-  pub factor-high : (i k : ℕ) → i < n → k < t .nodes i → u i k ≤ 2720000000
+  pub quote-low : (i : ℕ) → i < n → leastQuote ≤ p (suc i)
+  pub quote-high : (i : ℕ) → i < n → p (suc i) ≤ mostQuote
+  pub factor-low : (i k : ℕ) → i < n → k < t .nodes i → leastFactor ≤ u i k
+  pub factor-high : (i k : ℕ) → i < n → k < t .nodes i → u i k ≤ mostFactor
 
 module _ (t : Tree) (s : Sound t) (n : ℕ) (u : ℕ → ℕ → ℕ) (p : ℕ → ℕ) (c : Curve t n u p) where
   -- each row that a fit step starts from
   fittable-of :
-      (i : ℕ) → i < n → 99999700 ≤ sum (t .nodes i) (fittedPrice t u p i) → sum (t .nodes i) (fittedPrice t u p i) ≤ 2000000300 →
+      (i : ℕ) → i < n → leastRowSum ≤ sum (t .nodes i) (fittedPrice t u p i) → sum (t .nodes i) (fittedPrice t u p i) ≤ mostRowSum →
       Fittable (t .step i) (t .nodes i) (t .nodes (suc i)) (p (suc i)) (fittedPrice t u p i) (u i)
   fittable-of i l low high =
       record {

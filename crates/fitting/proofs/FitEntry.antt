@@ -28,7 +28,7 @@ use Rattle.limits.specs.Limits.{mostSteps, isSteps}
 use Rattle.curve.specs.Curve.{discountAt, convertsAt, inPlace, curveNumber, curveMemory}
 use Rattle.curve.proofs.CurveLaws.{curve-range, curve-stored}
 use Rattle.fitting.specs.declared.causes.Plan.{Plan}
-use Rattle.fitting.specs.Bounds.{leastQuote, mostQuote}
+use Rattle.fit_laws.specs.Bounds.{leastQuote, mostQuote}
 use Rattle.fitting.specs.Fit.{curveDiscount, curvePrice, curveAccepted, rowsOrZeros, TreeFitted}
 use Rattle.fitting.specs.Preconditions.{QuotesReady}
 use Rattle.fitting.specs.Entry.{quotesOf, earlyCause, lateCause, fitNumber, fitMemory, fitDiscounts, fitPrices, discountsAfter, pricesAfter}

@@ -28,7 +28,7 @@ use Rattle.fit_laws.specs.StatePrices.{fittedPrice, fittedDiscount, acceptedRow
 use Rattle.fit_laws.proofs.StepLaws.{discount-cong, next-cong}
 use Rattle.fit_laws.proofs.Repricing.{Fittable}
 use Rattle.fit_laws.proofs.WholeFit.{Curve, fittable}
-use Rattle.fitting.specs.Bounds.{leastFactor, mostFactor}
+use Rattle.fit_laws.specs.Bounds.{leastFactor, mostFactor}
 use Rattle.fitting.specs.Rows.{RowFitted, rowPrices, rowDiscounts, tableFactor}
 use Rattle.fitting.specs.Preconditions.{TreeRowReady, RowsReady}
 use Rattle.fitting.specs.Fit.{quoted, tableDiscount, tablePrice, tableAccepted, TreeFitted, PastKept}

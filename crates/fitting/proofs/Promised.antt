@@ -28,7 +28,7 @@ use Rattle.curve.proofs.CurveLaws.{curve-range}
 use Rattle.fit_laws.specs.StatePrices.{acceptedRow, exactStatePrice, statePriceErrorBound}
 use Rattle.fit_laws.proofs.Shortfall.{state-below, state-price-shortfall}
 use Rattle.fit_laws.proofs.WholeFit.{Curve, fitted-is-state, quotes-repriced}
-use Rattle.fitting.specs.Bounds.{leastQuote, mostQuote, leastFactor, mostFactor}
+use Rattle.fit_laws.specs.Bounds.{leastQuote, mostQuote, leastFactor, mostFactor}
 use Rattle.fitting.specs.Fit.{quoted, curveAccepted, nodeFactor}
 use Rattle.fitting.specs.Entry.{quotesOf, earlyCause, lateCause, fitNumber, fitDiscount, fitPrice}
 use Rattle.fitting.specs.Plans.{Numbers}

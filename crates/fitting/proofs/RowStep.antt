@@ -15,7 +15,7 @@ use Rattle.row_branches.specs.RowBranches.{rowTransition}
 use Rattle.limits.specs.Limits.{isDiscount}
 use Rattle.fit_laws.specs.Step.{normaliser, discount, carried}
 use Rattle.fit_laws.proofs.StepLaws.{normaliser-ge}
-use Rattle.fitting.specs.Bounds.{leastFactor, leastRowSum}
+use Rattle.fit_laws.specs.Bounds.{leastFactor, leastRowSum}
 use Rattle.fitting.specs.Rows.{RowStepped}
 use Rattle.fitting.specs.Preconditions.{StepReady}
 

@@ -22,7 +22,7 @@ use Rattle.limits.proofs.LimitLaws.{discount-most}
 use Rattle.fit_laws.specs.Step.{carried}
 use Rattle.fit_laws.proofs.StepLaws.{carried-le}
 use Rattle.fitting.specs.Preconditions.{Factors, SpreadReady}
-use Rattle.fitting.specs.Bounds.{mostQuote, mostFactor, mostRowSum, mostCarried, mostIncoming}
+use Rattle.fit_laws.specs.Bounds.{mostQuote, mostFactor, mostRowSum, mostCarried, mostIncoming}
 
 -- the sum of state price × factor over the first k nodes, and one node more
 abbrev pub weighed : List ℕ → List ℕ → ℕ → ℕ

@@ -26,7 +26,7 @@ use Rattle.factor.proofs.FactorLaws.{index-below, index-above, side-accepted, n
 use Rattle.limits.specs.Limits.{mostSteps, isDiscount}
 use Rattle.fit_laws.specs.StatePrices.{acceptedRow}
 use Rattle.fit_laws.proofs.WholeFit.{price-by, fitted-discount-by}
-use Rattle.fitting.specs.Bounds.{leastFactor, mostFactor}
+use Rattle.fit_laws.specs.Bounds.{leastFactor, mostFactor}
 use Rattle.fitting.specs.Rows.{tableFactor}
 use Rattle.fitting.specs.Preconditions.{Tables, QuotesReady}
 use Rattle.fitting.specs.Fit.{

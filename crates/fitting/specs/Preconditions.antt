@@ -14,7 +14,7 @@ use Rattle.lattice.specs.Branching.{downProbability}
 use Rattle.lattice.specs.RateTree.{node}
 use Rattle.row_branches.specs.declared.RowBranch.{RowBranch}
 use Rattle.row_branches.specs.RowBranches.{branchTotal, rowTransition}
-use Rattle.fitting.specs.Bounds.{
+use Rattle.fit_laws.specs.Bounds.{
   leastQuote,
   mostQuote,
   leastFactor,

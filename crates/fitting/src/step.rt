@@ -16,7 +16,7 @@ ghost use Rattle.row_branches.specs.RowBranches.{
 };
 ghost use Rattle.limits.specs.Limits.{isDiscount};
 ghost use Rattle.fit_laws.specs.Step.{normaliser, carried};
-ghost use Rattle.fitting.specs.Bounds.{mostRowSum};
+ghost use Rattle.fit_laws.specs.Bounds.{mostRowSum};
 ghost use Rattle.fitting.specs.Rows.{RowStepped};
 ghost use Rattle.fitting.specs.Preconditions.{Factors, StepReady, SpreadReady};
 
