@@ -29,7 +29,7 @@ use Rattle.step_rate.specs.StepRate.{rateAnswer}
 use Rattle.step_rate.specs.declared.Rate.{Rate}
 use Rattle.step_rate.proofs.RateLaws.{answer-zero, answer-high, answer-sign}
 use Rattle.fitting.proofs.Promised.{fit-repriced}
-use Rattle.promises.specs.Promises.{Near, Branched, Spaced, TreePromises}
+use Rattle.promises.specs.Promises.{Branched, Spaced, TreePromises}
 use Rattle.promises.proofs.StatePricesKept.{state-prices-kept}
 
 -- a branch that is not refused leaves a node of the row, and is that node's

@@ -26,7 +26,7 @@ nodeLines n b discounts = lines (nodesOfRow b discounts) n
 -- row lines: rows 1 to n; row, quote, sum of state prices, state-price allowance
 unfoldable pub lineOfRow : ℕ → ℕ → List ℕ → List ℕ → List ℕ → ℕ → List ℕ
 lineOfRow n b quotes discounts prices i =
-    rowLine (suc i) (values quotes i) (total (rowPart b prices (suc i))) (statePriceErrorBoundAnswer n b discounts (suc i) .value)
+    rowLine (suc i) (values quotes i) (sumOf (rowPart b prices (suc i))) (statePriceErrorBoundAnswer n b discounts (suc i) .value)
 
 abbrev pub rowLines : ℕ → ℕ → List ℕ → List ℕ → List ℕ → List ℕ
 rowLines n b quotes discounts prices = lines (lineOfRow n b quotes discounts prices) n
