@@ -10,6 +10,7 @@ use lib.IntN.{ℤ, natAbs, pos}
 use lib.Signed.{ltZ}
 use borrow.Author.Tests.{ltb-false, leb-true}
 use Rattle.arithmetic.specs.Rounding.{one}
+use Rattle.arithmetic.specs.Within.{Within}
 use Rattle.arithmetic.specs.Frequency.{listed}
 use Rattle.arithmetic.specs.Answers.{refused, answered}
 use Rattle.arithmetic.proofs.FrequencyLaws.{listed-small}
@@ -77,12 +78,12 @@ spaced f s z = go (listed f) (ltb 50000 s) refl z
           greatest = root-greatest (f * f * f) (3 * (1000 * s * (1000 * s))) (cube-positive (omega (arith, listed-small f e .0)));
         }
 
-factor-near : (j : ℤ) (h : ℕ) → nodeAnswer j h .number ≡ 0 → Near scale 14 (nodeAnswer j h .value) (exactFactor j h)
+factor-near : (j : ℤ) (h : ℕ) → nodeAnswer j h .number ≡ 0 → Within 14 scale (nodeAnswer j h .value) (exactFactor j h)
 unfolding nodeAnswer
 factor-near j h z = go (ltb one (natAbs j * h)) refl z
   where
     go : (t : Bool) → ltb one (natAbs j * h) ≡ t → cond t (refused 8) (answered (factor j h)) .number ≡ 0 →
-        Near scale 14 (cond t (refused 8) (answered (factor j h)) .value) (exactFactor j h)
+        Within 14 scale (cond t (refused 8) (answered (factor j h)) .value) (exactFactor j h)
     go true e k = absurd (omega arith)
     go false e k = factor-within j h (ltb-false one (natAbs j * h) e)
 
