@@ -214,7 +214,8 @@ module _ (n b : ℕ) (discounts : List ℕ) (i : ℕ) (payoffs : List ℕ) where
       counted : length payoffs ≡ nodeCount b i
       counted =
           known .0
-          ∙ row-value b i (nodeCount b i) nodes (f .row-nodes) (lent .tree .reversion-within-limit) (omega (arith, lent .present, lent .tree .steps-within-limit))
+          ∙ row-value b i (nodeCount b i) nodes (f .row-nodes) (lent .tree .reversion-within-limit)
+          (omega (arith, lent .present, lent .tree .steps-within-limit))
 
       pub none-sizes : (g ≤ valueLimit) × (bound .value ≤ 1000000)
       none-sizes = (known .1, omega (arith, ap (λ (a : Answer). a .value) (f .row-bound), bound-most n b discounts i))
