@@ -4,30 +4,30 @@ use mathlib.Core.Path.{_≡_, _∙_}
 use Prim.Native.Nat.{ℕ, _≤_, _<_}
 use native.Mathlib.Omega.{arith}
 use borrow.Author.Tests.{eq-eqb, ne-eqb}
-use Rattle.arithmetic.specs.Answers.{lowest-cause}
+use Rattle.arithmetic.specs.Answers.{lowestCause}
 use Rattle.arithmetic.proofs.Numbers.{by-equal, by-order}
 
 module _ (a b : ℕ) where
-  pub lowest-first : a ≡ 0 → b ≡ lowest-cause a b
-  unfolding lowest-cause
+  pub lowest-first : a ≡ 0 → b ≡ lowestCause a b
+  unfolding lowestCause
   lowest-first e = rw (eq-eqb a 0 e)
 
   module _ (na : a ≡ 0 → ⊥) where
-    pub lowest-second : b ≡ 0 → a ≡ lowest-cause a b
-    unfolding lowest-cause
+    pub lowest-second : b ≡ 0 → a ≡ lowestCause a b
+    unfolding lowestCause
     lowest-second e = rw (ne-eqb a 0 na, eq-eqb b 0 e)
 
     module _ (nb : b ≡ 0 → ⊥) where
-      pub lowest-less : a < b → a ≡ lowest-cause a b
-      unfolding lowest-cause
+      pub lowest-less : a < b → a ≡ lowestCause a b
+      unfolding lowestCause
       lowest-less h = rw (ne-eqb a 0 na, ne-eqb b 0 nb) (omega arith)
 
-      pub lowest-more : b ≤ a → b ≡ lowest-cause a b
-      unfolding lowest-cause
+      pub lowest-more : b ≤ a → b ≡ lowestCause a b
+      unfolding lowestCause
       lowest-more h = rw (ne-eqb a 0 na, ne-eqb b 0 nb) (omega arith)
 
 -- no lowest cause, no cause
-pub lowest-none : (a b : ℕ) → lowest-cause a b ≡ 0 → (a ≡ 0) × (b ≡ 0)
+pub lowest-none : (a b : ℕ) → lowestCause a b ≡ 0 → (a ≡ 0) × (b ≡ 0)
 lowest-none a b e =
     by-equal a 0
     (λ za. (za, lowest-first a b za ∙ e))

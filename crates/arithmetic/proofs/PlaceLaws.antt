@@ -6,7 +6,7 @@ use Prim.Native.Nat.{ℕ, _+_, _-_, _≤_, _<_}
 use native.Mathlib.Nat.{zero-add}
 use native.Mathlib.Omega.{arith}
 use lib.ListN.{length, take, length-append, length-drop, List·getD-append}
-use lib.Seq.{take-at, length-take-le, getD-append-add, getD-drop, getD-take, ext-getD}
+use lib.Seq.{take-at, length-take-le, getD-append-add, getD-drop, ext-getD}
 use Rattle.arithmetic.specs.Row.{row, values, place}
 use Rattle.arithmetic.proofs.Numbers.{by-order}
 use Rattle.arithmetic.proofs.RowLaws.{Filled, length-row, values-row}
@@ -18,10 +18,6 @@ module _ (memory : List ℕ) (start : ℕ) (part : List ℕ) (fits : start + len
   pub length-place : length (place memory start part) ≡ length memory
   unfolding place
   length-place = simp (length-append, length-drop, front) (omega arith)
-
-  pub place-before : (k : ℕ) → k < start → values (place memory start part) k ≡ values memory k
-  unfolding place
-  place-before k h = List·getD-append (take start memory) _ 0 k (rw front h) ∙ getD-take start memory k 0 h
 
   pub place-inside : (k : ℕ) → k < length part → values (place memory start part) (start + k) ≡ values part k
   unfolding place

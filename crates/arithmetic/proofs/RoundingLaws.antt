@@ -2,30 +2,28 @@
 -- Assumes nothing.
 use mathlib.Core.Path.{_≡_, refl, sym, _∙_, ap}
 use Prim.Native.Nat.{ℕ, zero, suc, _+_, _-_, _*_, _/_, _%_, _≤_, _<_}
-use native.Mathlib.Nat.{mul-div-mul-left, div-div-eq-div-mul, add-mul-div-left, mul-add-div, div-add-mod, div-eq-of-lt, div-lt-iff-lt-mul, le-mul-of-pos-right, mul-assoc, mul-comm, mul-le-mul-right, mul-zero, mul-div-le, lt-div-mul-add, le-div-iff-mul-le, mul-div-cancel-left, le-antisymm}
+use native.Mathlib.Nat.{le-antisymm, le-mul-of-pos-right, mul-assoc, mul-le-mul-right}
+use native.Mathlib.Nat.{mul-div-mul-left, mul-div-cancel-left, mul-div-le, mul-add-div, add-mul-div-left, div-div-eq-div-mul, div-add-mod}
+use native.Mathlib.Nat.{div-eq-of-lt, div-lt-iff-lt-mul, lt-div-mul-add, le-div-iff-mul-le}
 use native.Mathlib.Omega.{arith}
-use lib.IntN.{ℤ, pos, negsuc, negℤ, natAbs, negℤ-negℤ}
+use lib.IntN.{ℤ, pos, negsuc, negℤ, natAbs}
 use lib.Ieee.Nearest.{div-same}
-use Rattle.arithmetic.specs.Rounding.{one, down, up, nearest, down-signed, up-signed, nearest-signed, Rounds}
+use Rattle.arithmetic.specs.Rounding.{one, roundDown, roundUp, nearest, nearestSigned, Rounds}
 
 module _ (a d : ℕ) (h : 0 < d) where
   -- down: at most the quotient, and less than one below it
-  pub down-le : d * down a d ≤ a
-  unfolding down
+  pub down-le : d * roundDown a d ≤ a
+  unfolding roundDown
   down-le = mul-div-le a d
 
-  pub down-gt : a < d * down a d + d
-  unfolding down
+  pub down-gt : a < d * roundDown a d + d
+  unfolding roundDown
   down-gt = omega (arith, lt-div-mul-add {a = a} h)
 
   -- up: at least the quotient, and less than one above it
-  pub up-ge : a ≤ d * up a d
-  unfolding up
+  pub up-ge : a ≤ d * roundUp a d
+  unfolding roundUp
   up-ge = omega (arith, lt-div-mul-add {a = a + (d - 1)} h)
-
-  pub up-lt : d * up a d < a + d
-  unfolding up
-  up-lt = omega (arith, mul-div-le (a + (d - 1)) d)
 
   -- nearest: at most a half above the quotient, and less than a half below it
   pub nearest-le-half : 2 * (d * nearest a d) ≤ 2 * a + d
@@ -40,8 +38,8 @@ module _ (a d : ℕ) (h : 0 < d) where
 div-monotone : (a b d : ℕ) → 0 < d → a ≤ b → a / d ≤ b / d
 div-monotone a b d p h = le-div-iff-mul-le {k = d} {x = a / d} {y = b} p .1 (omega (arith, mul-div-le a d))
 
-pub down-rounds : Rounds down 0 2
-unfolding down
+pub down-rounds : Rounds roundDown 0 2
+unfolding roundDown
 down-rounds =
     record {
       above = λ a d h. omega (arith, down-le a d h);
@@ -68,35 +66,21 @@ nearest-rounds =
     }
 
 -- up keeps order and leaves a whole quotient
-pub up-monotone : (a b d : ℕ) → 0 < d → a ≤ b → up a d ≤ up b d
-unfolding up
+pub up-monotone : (a b d : ℕ) → 0 < d → a ≤ b → roundUp a d ≤ roundUp b d
+unfolding roundUp
 up-monotone a b d p h = div-monotone (a + (d - 1)) (b + (d - 1)) d p (omega arith)
 
-pub up-exact : (q d : ℕ) → 0 < d → up (d * q) d ≡ q
-unfolding up
-up-exact q d h =
-    le-antisymm
-    (let l : (d * q + (d - 1)) / d < suc q = div-lt-iff-lt-mul h .1 (omega arith) in omega arith)
-    (le-div-iff-mul-le h .1 (omega arith))
-
 -- divided by at least as much as it is multiplied by, up leaves no more than before
-pub up-shrinks : (g a : ℕ) → g ≤ one → up (g * a) one ≤ a
-unfolding up
+pub up-shrinks : (g a : ℕ) → g ≤ one → roundUp (g * a) one ≤ a
+unfolding roundUp
 up-shrinks g a h = omega (arith, mul-le-mul-right a h)
-
--- a quotient with a sign: exchanging the sign exchanges down and up, and leaves nearest, which goes by the magnitude
-pub up-negated : (z : ℤ) (d : ℕ) → 0 < d → up-signed (negℤ z) d ≡ negℤ (down-signed z d)
-unfolding up-signed down-signed
-up-negated (pos zero) d h = ap pos (rw mul-zero at (up-exact 0 d h)) ∙ ap (λ (x : ℕ). negℤ (pos x)) (sym (rw mul-zero at (down-rounds .exact 0 d h)))
-up-negated (pos (suc a)) d h = refl
-up-negated (negsuc a) d h = sym (negℤ-negℤ (pos (up (suc a) d)))
 
 abs-negative : (n : ℕ) → natAbs (negℤ (pos n)) ≡ n
 abs-negative zero = refl
 abs-negative (suc n) = refl
 
-pub nearest-magnitude : (z : ℤ) (d : ℕ) → natAbs (nearest-signed z d) ≡ nearest (natAbs z) d
-unfolding nearest-signed
+pub nearest-magnitude : (z : ℤ) (d : ℕ) → natAbs (nearestSigned z d) ≡ nearest (natAbs z) d
+unfolding nearestSigned
 nearest-magnitude (pos a) d = refl
 nearest-magnitude (negsuc a) d = abs-negative (nearest (suc a) d)
 
@@ -148,16 +132,5 @@ product-by-parts s one g pg =
 
 -- the bounds of a quotient with a sign, by its magnitude
 pub nearest-signed-bounds : (z : ℤ) (d : ℕ) → 0 < d →
-    (2 * (d * natAbs (nearest-signed z d)) ≤ 2 * natAbs z + d) × (2 * natAbs z < 2 * (d * natAbs (nearest-signed z d)) + d)
+    (2 * (d * natAbs (nearestSigned z d)) ≤ 2 * natAbs z + d) × (2 * natAbs z < 2 * (d * natAbs (nearestSigned z d)) + d)
 nearest-signed-bounds z d h = rw (nearest-magnitude z d) (nearest-le-half (natAbs z) d h, nearest-gt-half (natAbs z) d h)
-
--- below zero, down goes away from zero and up towards it
-pub down-signed-bounds : (a d : ℕ) → 0 < d →
-    (suc a ≤ d * natAbs (down-signed (negsuc a) d)) × (d * natAbs (down-signed (negsuc a) d) < suc a + d)
-unfolding down-signed
-down-signed-bounds a d h = rw (abs-negative (up (suc a) d)) (up-ge (suc a) d h, up-lt (suc a) d h)
-
-pub up-signed-bounds : (a d : ℕ) → 0 < d →
-    (d * natAbs (up-signed (negsuc a) d) ≤ suc a) × (suc a < d * natAbs (up-signed (negsuc a) d) + d)
-unfolding up-signed
-up-signed-bounds a d h = rw (abs-negative (down (suc a) d)) (down-le (suc a) d h, down-gt (suc a) d h)

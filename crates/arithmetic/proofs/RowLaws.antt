@@ -1,20 +1,18 @@
 -- Laws of rows in memory and of tests of every index.
 -- Assumes nothing.
-use mathlib.Core.Path.{_≡_, refl, sym, _∙_, ap, subst}
-use mathlib.Core.Bool.{Bool, true, false, cond, _&&_, and-true, and-assoc}
-use mathlib.Core.List.{List, [], _∷_, _++_, append-assoc}
+use mathlib.Core.Path.{_≡_, refl, sym, _∙_, ap}
+use mathlib.Core.Bool.{Bool, true, false, _&&_, and-true, and-assoc}
+use mathlib.Core.List.{List}
 use mathlib.Core.Logic.{_⊎_, inl, inr, ⊎-elim}
 use Prim.Native.Nat.{ℕ, zero, suc, _+_, _-_, _≤_, _<_}
 use native.Mathlib.Numerals.{add-one}
-use native.Mathlib.Nat.{not-suc-le-zero, le-of-suc-le-suc, eq-or-lt-of-le, lt-of-not-le, add-zero, add-suc, le-refl}
+use native.Mathlib.Nat.{not-suc-le-zero, le-of-suc-le-suc, eq-or-lt-of-le, lt-of-not-le, add-zero, add-suc}
 use native.Mathlib.Decide.{decLe}
 use native.Mathlib.Omega.{arith}
-use borrow.Author.Tests.{lt-ltb, le-ltb, ltb-true, ltb-false, eqb-true, eqb-false}
-use lib.Dec.{ltb, eqb}
 use lib.ListN.{length, getD, set, length-set, replicate}
 use lib.Seq.{ext-getD, getD-set-same, getD-set-other}
 use Rattle.arithmetic.specs.Sum.{sum, only}
-use Rattle.arithmetic.specs.Row.{row, values, each, overlay}
+use Rattle.arithmetic.specs.Row.{row, values, each}
 use Rattle.arithmetic.proofs.SumLaws.{sum-cong, only-same, only-other}
 
 pub length-row : (n : ℕ) (f : ℕ → ℕ) → length (row n f) ≡ n
@@ -157,28 +155,6 @@ each-fails (suc n) k p h e = ⊎-elim last (λ g. earlier (each-fails n k p g e)
 
     earlier : each n p ≡ false → (each n p && p n) ≡ false
     earlier q = ap (λ (b : Bool). b && p n) q
-
-pub overlay-none : (g h : ℕ → ℕ) (k : ℕ) → overlay 0 g h k ≡ h k
-unfolding overlay
-overlay-none g h k = rw (le-ltb k 0 (omega arith))
-
--- one more place is written
-pub overlay-more : (l : List ℕ) (g h : ℕ → ℕ) (i v : ℕ) → i < length l → v ≡ g i → ((k : ℕ) → getD l k 0 ≡ overlay i g h k) → (k : ℕ) → getD (set l i v) k 0 ≡ overlay (i + 1) g h k
-unfolding overlay
-overlay-more l g h i v p e f k = by-place (ltb k i) refl (eqb k i) refl
-  where
-    past : i ≤ k → (k ≡ i → ⊥) → i + 1 ≤ k
-    past a b = omega arith
-
-    by-place : (a : Bool) → ltb k i ≡ a → (b : Bool) → eqb k i ≡ b → getD (set l i v) k 0 ≡ cond (ltb k (i + 1)) (g k) (h k)
-    by-place a ea true eb =
-        let q : k ≡ i = eqb-true k i eb in
-        rw (lt-ltb k (i + 1) (omega arith), q) (getD-set-same l i v 0 p ∙ e)
-    by-place true ea false eb =
-        let q : k < i = ltb-true k i ea in
-        getD-set-other l i k v 0 (eqb-false k i eb) ∙ f k ∙ rw (ea, lt-ltb k (i + 1) (omega arith))
-    by-place false ea false eb =
-        getD-set-other l i k v 0 (eqb-false k i eb) ∙ f k ∙ rw (ea, le-ltb k (i + 1) (past (ltb-false k i ea) (eqb-false k i eb)))
 
 pub zeros : (n k : ℕ) → getD {A = ℕ} (replicate n 0) k 0 ≡ 0
 zeros zero k = refl

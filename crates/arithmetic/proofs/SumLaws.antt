@@ -3,7 +3,8 @@
 use mathlib.Core.Path.{_≡_, refl, sym, ap, _∙_}
 use mathlib.Core.Bool.{Bool, true, false, cond}
 use Prim.Native.Nat.{ℕ, zero, suc, _+_, _-_, _*_, _/_, _≤_, _<_, max}
-use native.Mathlib.Nat.{not-suc-le-zero, eq-or-lt-of-le, le-of-suc-le-suc, le-refl, mul-div-le, lt-div-mul-add, mul-le-mul-left, sub-add-cancel, add-suc, add-zero, zero-mul, le-div-iff-mul-le, mul-comm}
+use native.Mathlib.Nat.{not-suc-le-zero, eq-or-lt-of-le, le-of-suc-le-suc, le-refl, sub-add-cancel, add-suc, add-zero}
+use native.Mathlib.Nat.{zero-mul, mul-le-mul-left, mul-div-le, lt-div-mul-add}
 use lib.Arith.{le-zero}
 use native.Mathlib.Numerals.{add-one}
 use mathlib.Core.Logic.{_⊎_, inl, inr, ⊎-elim}
@@ -145,12 +146,6 @@ unfolding sum
 sum-split n zero f = rw (add-zero n) (omega arith)
 sum-split n (suc m) f = rw (add-suc n m) (omega (arith, sum-split n m f))
 
--- the sum of the quotients rounded down is at most the quotient of the sum rounded down
-pub sum-floors : (n d : ℕ) (f : ℕ → ℕ) → 0 < d → sum n (λ k. f k / d) ≤ sum n f / d
-sum-floors n d f h =
-    le-div-iff-mul-le {k = d} {x = sum n (λ k. f k / d)} {y = sum n f} h .1
-    (rw (mul-comm (sum n (λ k. f k / d)) d) (sum-floor-le n d f))
-
 -- a sum of differences that are not cut off
 pub sum-sub : (n : ℕ) (f g : ℕ → ℕ) → ((k : ℕ) → k < n → g k ≤ f k) → sum n (λ k. f k - g k) + sum n g ≡ sum n f
 sum-sub n f g h = sym (sum-add n (λ k. f k - g k) g) ∙ sum-cong n _ f (λ k l. sub-add-cancel (h k l))
@@ -191,11 +186,6 @@ pub greatest-cong : (n : ℕ) (f g : ℕ → ℕ) → ((k : ℕ) → k < n → f
 unfolding greatest
 greatest-cong zero f g h = refl
 greatest-cong (suc n) f g h = omega (arith, greatest-cong n f g (λ k l. h k (omega arith)), h n (omega arith))
-
--- the greatest of values that are all the same
-pub greatest-same : (n : ℕ) (f : ℕ → ℕ) (a : ℕ) → 0 < n → ((k : ℕ) → k < n → f k ≡ a) → greatest n f ≡ a
-greatest-same n f a p h =
-    omega (arith, greatest-le n f a (λ k l. omega (arith, h k l)), greatest-ge n f 0 p, h 0 p)
 
 pub greatest-none : (f : ℕ → ℕ) → greatest 0 f ≡ 0
 unfolding greatest

@@ -14,5 +14,5 @@ abbrev pub answered : ℕ → Answer
 answered result = record { number = 0; value = result }
 
 -- the lowest of two causes; 0 stands for none
-unfoldable pub lowest-cause : ℕ → ℕ → ℕ
-lowest-cause a b = cond (eqb a 0) b (cond (eqb b 0) a (min a b))
+unfoldable pub lowestCause : ℕ → ℕ → ℕ
+lowestCause a b = cond (eqb a 0) b (cond (eqb b 0) a (min a b))

@@ -4,3 +4,4 @@ pub mod Row
 pub mod Power
 pub mod Answers
 pub mod Frequency
+pub mod Within

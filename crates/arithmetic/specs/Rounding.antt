@@ -9,29 +9,25 @@ abbrev pub one : ℕ
 one = 1000000000
 
 -- a / d, down
-unfoldable pub down : ℕ → ℕ → ℕ
-down a d = a / d
+unfoldable pub roundDown : ℕ → ℕ → ℕ
+roundDown a d = a / d
 
 -- a / d, up
-unfoldable pub up : ℕ → ℕ → ℕ
-up a d = (a + (d - 1)) / d
+unfoldable pub roundUp : ℕ → ℕ → ℕ
+roundUp a d = (a + (d - 1)) / d
 
 -- a / d, nearest
 unfoldable pub nearest : ℕ → ℕ → ℕ
 nearest a d = (2 * a + d) / (2 * d)
 
 -- the same of numbers with a sign
-unfoldable pub down-signed : ℤ → ℕ → ℤ
-down-signed (pos a) d = pos (down a d)
-down-signed (negsuc a) d = negℤ (pos (up (suc a) d))
+unfoldable pub roundDownSigned : ℤ → ℕ → ℤ
+roundDownSigned (pos a) d = pos (roundDown a d)
+roundDownSigned (negsuc a) d = negℤ (pos (roundUp (suc a) d))
 
-unfoldable pub up-signed : ℤ → ℕ → ℤ
-up-signed (pos a) d = pos (up a d)
-up-signed (negsuc a) d = negℤ (pos (down (suc a) d))
-
-unfoldable pub nearest-signed : ℤ → ℕ → ℤ
-nearest-signed (pos a) d = pos (nearest a d)
-nearest-signed (negsuc a) d = negℤ (pos (nearest (suc a) d))
+unfoldable pub nearestSigned : ℤ → ℕ → ℤ
+nearestSigned (pos a) d = pos (nearest a d)
+nearestSigned (negsuc a) d = negℤ (pos (nearest (suc a) d))
 
 -- What laws use of a division: it exceeds the exact quotient by at most over / 2, falls short of it by at most under / 2, keeps order,
 -- and leaves a whole quotient.

@@ -5,7 +5,7 @@ use mathlib.Core.Bool.{Bool, true, cond, _&&_}
 use mathlib.Core.List.{List, [], _∷_, _++_}
 use lib.Dec.{leb, ltb}
 use lib.ListN.{getD, take, drop, length}
-use Rattle.arithmetic.specs.Sum.{greatest}
+use Rattle.arithmetic.specs.Sum.{sum, greatest}
 
 -- the list f 0, .., f (n - 1)
 unfoldable pub row : ℕ → (ℕ → ℕ) → List ℕ
@@ -16,9 +16,13 @@ row (suc n) f = f 0 ∷ row n (λ k. f (suc k))
 abbrev pub values : List ℕ → ℕ → ℕ
 values l k = getD l k 0
 
+-- the sum of a list
+unfoldable pub sumOf : List ℕ → ℕ
+sumOf l = sum (length l) (values l)
+
 -- the greatest of a list; 0 where it is empty
-abbrev pub greatest-of : List ℕ → ℕ
-greatest-of l = greatest (length l) (values l)
+abbrev pub greatestOf : List ℕ → ℕ
+greatestOf l = greatest (length l) (values l)
 
 -- a memory in which a list stands from an index on, everything else as it was
 unfoldable pub place : List ℕ → ℕ → List ℕ → List ℕ

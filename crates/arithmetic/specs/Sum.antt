@@ -1,7 +1,7 @@
 -- A row is a function of the index, lowest node first, with its node count. Its sum and its greatest value.
 -- Assumes nothing.
 use Prim.Native.Nat.{ℕ, zero, suc, _+_, max}
-use mathlib.Core.Bool.{Bool, cond}
+use mathlib.Core.Bool.{cond}
 use lib.Dec.{eqb}
 
 -- f 0 + .. + f (n - 1)

@@ -1,13 +1,13 @@
 // Rounding, sums and rows that every layer shares, answers with their causes, the powers of ten, and tests of slices.
 ghost use mathlib.Core.Path.{_≡_};
-ghost use Prim.Native.Nat.{ℕ, _<_, _≤_, _^_, max};
+ghost use Prim.Native.Nat.{_<_, _≤_, _^_, max};
 ghost use lib.IntN.{natAbs};
 ghost use lib.ListN.{length};
 ghost use Rattle.arithmetic.specs.Sum.{greatest};
-ghost use Rattle.arithmetic.specs.Row.{values, greatest-of, each, between};
+ghost use Rattle.arithmetic.specs.Row.{values, greatestOf, each, between};
 ghost use Rattle.arithmetic.specs.Power.{powerOfTen};
 ghost use Rattle.arithmetic.specs.Frequency.{listed};
-ghost use Rattle.arithmetic.specs.Answers.{lowest-cause};
+ghost use Rattle.arithmetic.specs.Answers.{lowestCause};
 
 // An answer that can be a refusal: number 0 with the value, or the refusal's number with value 0.
 #[repr(C)]
@@ -75,7 +75,7 @@ pub fn is_listed(frequency: u64) -> bool
 
 // The lowest of two causes; 0 stands for none.
 pub fn lowest_cause(a: u64, b: u64) -> u64
-    ensures { λ r. ⌜ r ≡ lowest-cause a b ⌝ }
+    ensures { λ r. ⌜ r ≡ lowestCause a b ⌝ }
 {
     if a == 0 {
         return b;
@@ -125,7 +125,7 @@ fn next_above(xs: &[u64], best: u64, from: usize) -> usize
 
 // The greatest of a row, 0 where it is empty. A search between the few places where it grows costs less than a choice at each.
 pub fn greatest_of(xs: &[u64]) -> u64
-    ensures { λ r. ⌜ r ≡ greatest-of (now (xs .entry)) ⌝ }
+    ensures { λ r. ⌜ r ≡ greatestOf (now (xs .entry)) ⌝ }
 {
     let mut best: u64 = 0;
     let mut k: usize = 0;

@@ -1,71 +1,71 @@
 // The branch of a node: where it leads and how likely; and the table of down-probabilities that serves every row.
 use lattice::Branches;
 ghost use mathlib.Core.Path.{_≡_};
-ghost use Prim.Native.Nat.{ℕ, _+_, _*_, _≤_};
+ghost use Prim.Native.Nat.{_+_, _*_, _≤_};
 ghost use mathlib.Core.Bool.{true};
 ghost use lib.IntN.{pos, natAbs};
 ghost use lib.Signed.{ltZ};
 ghost use lib.ListN.{length};
 ghost use Rattle.arithmetic.specs.Row.{row};
-ghost use Rattle.limits.specs.Limits.{most-steps, most-reversion};
+ghost use Rattle.limits.specs.Limits.{mostSteps, mostReversion};
 ghost use Rattle.lattice.specs.Branching.{
   ordinary,
   top,
-  up-at,
-  middle-at,
-  down-at,
+  upFormula,
+  middleFormula,
+  downFormula,
   probabilities,
-  down,
+  downProbability,
 };
-ghost use Rattle.lattice.specs.RateTree.{node-at};
+ghost use Rattle.lattice.specs.RateTree.{nodeOfIndex};
 ghost use Rattle.lattice.specs.Entries.{refusedBranch, branchOf, branchAnswer, tableNumber, tableOf};
 
-// The five formulas of the upper side at z.
-fn outer(z: u64) -> u64
+// The five formulas of the upper side at z; down at the edge is the ordinary up.
+fn ordinary_up(z: u64) -> u64
     requires { ⌜ z ≤ 7840 ⌝ }
-    ensures { λ r. ⌜ r ≡ natAbs (up-at ordinary (pos z)) ⌝ }
+    ensures { λ r. ⌜ r ≡ natAbs (upFormula ordinary (pos z)) ⌝ }
 {
     100000000 + 3 * (z * z) - 30000 * z
 }
 
-fn inner(z: u64) -> u64
+fn ordinary_down(z: u64) -> u64
     requires { ⌜ z ≤ 7840 ⌝ }
-    ensures { λ r. ⌜ r ≡ natAbs (down-at ordinary (pos z)) ⌝ }
+    ensures { λ r. ⌜ r ≡ natAbs (downFormula ordinary (pos z)) ⌝ }
 {
     100000000 + 3 * (z * z) + 30000 * z
 }
 
-fn across(z: u64) -> u64
+fn ordinary_middle(z: u64) -> u64
     requires { ⌜ z ≤ 1840 ⌝ }
-    ensures { λ r. ⌜ r ≡ natAbs (middle-at ordinary (pos z)) ⌝ }
+    ensures { λ r. ⌜ r ≡ natAbs (middleFormula ordinary (pos z)) ⌝ }
 {
     400000000 - 6 * (z * z)
 }
 
-fn stay(z: u64) -> u64
+fn edge_up(z: u64) -> u64
     requires { ⌜ z ≤ 7840 ⌝ }
-    ensures { λ r. ⌜ r ≡ natAbs (up-at top (pos z)) ⌝ }
+    ensures { λ r. ⌜ r ≡ natAbs (upFormula top (pos z)) ⌝ }
 {
     700000000 + 3 * (z * z) - 90000 * z
 }
 
-fn near(z: u64) -> u64
+fn edge_middle(z: u64) -> u64
     requires { ⌜ (1841 ≤ z) × (z ≤ 7840) ⌝ }
-    ensures { λ r. ⌜ r ≡ natAbs (middle-at top (pos z)) ⌝ }
+    ensures { λ r. ⌜ r ≡ natAbs (middleFormula top (pos z)) ⌝ }
 {
     120000 * z - (200000000 + 6 * (z * z))
 }
 
 // Up, middle and down of the node so far above the middle. Whether it is J shows in z: no division.
 fn upper(reversion: u64, distance: u64) -> [u64; 3]
-    requires { ⌜ (reversion ≤ most-reversion) × (distance ≤ most-steps) × (distance * reversion ≤ 1840 + reversion) ⌝ }
+    requires { ⌜ (reversion ≤ mostReversion) × (distance ≤ mostSteps) × (distance * reversion ≤ 1840 + reversion) ⌝ }
     ensures { λ r. ⌜ r ≡ probabilities reversion (pos distance) ⌝ }
 {
     let z = distance * reversion;
     if 1840 < z {
-        return [stay(z), near(z), outer(z)];
+        return [edge_up(z), edge_middle(z), ordinary_up(z)];
     }
-    [outer(z), across(z), inner(z)]
+    [ordinary_up(z), ordinary_middle(z), ordinary_down(z)]
 }
 
 fn refused_branch(number: u64) -> Branches
@@ -80,7 +80,7 @@ fn refused_branch(number: u64) -> Branches
 
 // The branch of a node below the middle: the mirror image of the node so far above it.
 fn lower_branch(reversion: u64, node: i64, distance: u64) -> Branches
-    requires { ⌜ (reversion ≤ most-reversion) × (distance ≤ most-steps) × (distance * reversion ≤ 1840 + reversion) ⌝ }
+    requires { ⌜ (reversion ≤ mostReversion) × (distance ≤ mostSteps) × (distance * reversion ≤ 1840 + reversion) ⌝ }
     requires { ⌜ (natAbs node ≡ distance) × (ltZ node (pos 0) ≡ true) ⌝ }
     ensures { λ r. ⌜ r ≡ branchOf reversion node ⌝ }
 {
@@ -99,7 +99,7 @@ fn lower_branch(reversion: u64, node: i64, distance: u64) -> Branches
 }
 
 fn upper_branch(reversion: u64, node: i64, distance: u64) -> Branches
-    requires { ⌜ (reversion ≤ most-reversion) × (distance ≤ most-steps) × (distance * reversion ≤ 1840 + reversion) ⌝ }
+    requires { ⌜ (reversion ≤ mostReversion) × (distance ≤ mostSteps) × (distance * reversion ≤ 1840 + reversion) ⌝ }
     requires { ⌜ node ≡ pos distance ⌝ }
     ensures { λ r. ⌜ r ≡ branchOf reversion node ⌝ }
 {
@@ -141,8 +141,8 @@ pub fn branch(reversion: u64, row: usize, node: i64) -> Branches
 
 // The down-probability of the node at an index of a row of this half width.
 fn down_of(reversion: u64, half_width: usize, index: usize) -> u64
-    requires { ⌜ (reversion ≤ most-reversion) × («half_width» ≤ most-steps) × («half_width» * reversion ≤ 1840 + reversion) × (index ≤ 2 * «half_width») ⌝ }
-    ensures { λ r. ⌜ r ≡ down reversion (node-at «half_width» index) ⌝ }
+    requires { ⌜ (reversion ≤ mostReversion) × («half_width» ≤ mostSteps) × («half_width» * reversion ≤ 1840 + reversion) × (index ≤ 2 * «half_width») ⌝ }
+    ensures { λ r. ⌜ r ≡ downProbability reversion (nodeOfIndex «half_width» index) ⌝ }
 {
     if index < half_width {
         let image = upper(reversion, (half_width - index) as u64);
@@ -153,9 +153,9 @@ fn down_of(reversion: u64, half_width: usize, index: usize) -> u64
 }
 
 fn fill_table(reversion: u64, half_width: usize, table: &mut [u64])
-    requires { ⌜ (reversion ≤ most-reversion) × («half_width» ≤ most-steps) × («half_width» * reversion ≤ 1840 + reversion)
+    requires { ⌜ (reversion ≤ mostReversion) × («half_width» ≤ mostSteps) × («half_width» * reversion ≤ 1840 + reversion)
         × (length (now table) ≡ 2 * «half_width» + 1) ⌝ }
-    ensures { λ _. ⌜ now (table .exit) ≡ row (length (now (table .entry))) (λ k. down reversion (node-at «half_width» k)) ⌝ }
+    ensures { λ _. ⌜ now (table .exit) ≡ row (length (now (table .entry))) (λ k. downProbability reversion (nodeOfIndex «half_width» k)) ⌝ }
 {
     let mut index = 0;
     while index < table.len() {

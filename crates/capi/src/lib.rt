@@ -2,21 +2,21 @@
 ghost use mathlib.Core.Path.{_≡_};
 ghost use lib.ListN.{length};
 ghost use Rattle.lattice.specs.Entries.{
-  halfWidth,
-  nodeCount,
-  rowStart,
-  discountsNeeded,
-  statePricesNeeded,
+  halfWidthAnswer,
+  nodeCountAnswer,
+  rowStartAnswer,
+  discountsNeededAnswer,
+  statePricesNeededAnswer,
   branchAnswer,
 };
 ghost use Rattle.quotes.specs.Quotes.{loneAnswer};
 ghost use Rattle.curve.specs.Curve.{curveNumber, curveMemory};
 ghost use Rattle.step_rate.specs.StepRate.{rateAnswer};
-ghost use Rattle.fitting.specs.Entry.{fitNumber, fit-memory, fit-discounts, fit-prices};
-ghost use Rattle.row_view.specs.RowView.{range-by-number};
-ghost use Rattle.state_price_bound.specs.ErrorBound.{statePriceErrorBound};
+ghost use Rattle.fitting.specs.Entry.{fitNumber, discountsAfter, pricesAfter};
+ghost use Rattle.row_view.specs.RowView.{rangeByNumber};
+ghost use Rattle.state_price_bound.specs.ErrorBound.{statePriceErrorBoundAnswer};
 ghost use Rattle.pricing.specs.Prices.{bondPrice, optionPrice, bondAndOption};
-ghost use Rattle.valuation.specs.Entries.{valueByStatePrices, valuationErrorBound};
+ghost use Rattle.valuation.specs.Entries.{valueByStatePricesAnswer, valuationErrorBoundAnswer};
 ghost use Rattle.sheet_laws.specs.WholeJob.{sheetNumber, sheetText, sheetMemory};
 ghost use Rattle.record_sheet.specs.Answers.{answerOf};
 use arithmetic::Answer;
@@ -32,35 +32,35 @@ use step_rate::Rate;
 
 #[no_mangle]
 pub extern "C" fn mixegorta_half_width(reversion: u64, row: usize) -> Answer
-    ensures { λ r. ⌜ r ≡ halfWidth reversion row ⌝ }
+    ensures { λ r. ⌜ r ≡ halfWidthAnswer reversion row ⌝ }
 {
     lattice::half_width(reversion, row)
 }
 
 #[no_mangle]
 pub extern "C" fn mixegorta_node_count(reversion: u64, row: usize) -> Answer
-    ensures { λ r. ⌜ r ≡ nodeCount reversion row ⌝ }
+    ensures { λ r. ⌜ r ≡ nodeCountAnswer reversion row ⌝ }
 {
     lattice::node_count(reversion, row)
 }
 
 #[no_mangle]
 pub extern "C" fn mixegorta_row_start(reversion: u64, row: usize) -> Answer
-    ensures { λ r. ⌜ r ≡ rowStart reversion row ⌝ }
+    ensures { λ r. ⌜ r ≡ rowStartAnswer reversion row ⌝ }
 {
     lattice::row_start(reversion, row)
 }
 
 #[no_mangle]
 pub extern "C" fn mixegorta_discounts_needed(steps: usize, reversion: u64) -> Answer
-    ensures { λ r. ⌜ r ≡ discountsNeeded steps reversion ⌝ }
+    ensures { λ r. ⌜ r ≡ discountsNeededAnswer steps reversion ⌝ }
 {
     lattice::discounts_needed(steps, reversion)
 }
 
 #[no_mangle]
 pub extern "C" fn mixegorta_state_prices_needed(steps: usize, reversion: u64) -> Answer
-    ensures { λ r. ⌜ r ≡ statePricesNeeded steps reversion ⌝ }
+    ensures { λ r. ⌜ r ≡ statePricesNeededAnswer steps reversion ⌝ }
 {
     lattice::state_prices_needed(steps, reversion)
 }
@@ -90,8 +90,10 @@ pub extern "C" fn mixegorta_curve_discounts(
     figures: &[f64],
     discounts: &mut [u64],
 ) -> u64
-    ensures number { λ r. ⌜ r ≡ curveNumber frequency steps (now (rows .entry)) (now (kinds .entry)) (now (figures .entry)) (length (now (discounts .entry))) ⌝ }
-    ensures memory { λ _. ⌜ now (discounts .exit) ≡ curveMemory frequency steps (now (rows .entry)) (now (kinds .entry)) (now (figures .entry)) (now (discounts .entry)) ⌝ }
+    ensures number { λ r. ⌜ r ≡ curveNumber frequency steps
+        (now (rows .entry)) (now (kinds .entry)) (now (figures .entry)) (length (now (discounts .entry))) ⌝ }
+    ensures memory { λ _. ⌜ now (discounts .exit) ≡ curveMemory frequency steps
+        (now (rows .entry)) (now (kinds .entry)) (now (figures .entry)) (now (discounts .entry)) ⌝ }
 {
     curve::convert(frequency, steps, rows, kinds, figures, discounts)
 }
@@ -108,13 +110,12 @@ pub extern "C" fn mixegorta_fit(
     discounts: &mut [u64],
     state_prices: &mut [u64],
 ) -> u64
-    ensures number { λ r. ⌜ r ≡ fitNumber frequency steps reversion volatility (now (rows .entry)) (now (kinds .entry)) (now (figures .entry)) (length (now (discounts .entry))) (length (now («state_prices» .entry))) ⌝ }
-    ensures discounted { λ _. ⌜ now (discounts .exit) ≡ fit-memory
-        (fitNumber frequency steps reversion volatility (now (rows .entry)) (now (kinds .entry)) (now (figures .entry)) (length (now (discounts .entry))) (length (now («state_prices» .entry))))
-        (fit-discounts frequency steps reversion volatility (now (kinds .entry)) (now (figures .entry))) (now (discounts .entry)) ⌝ }
-    ensures priced { λ _. ⌜ now («state_prices» .exit) ≡ fit-memory
-        (fitNumber frequency steps reversion volatility (now (rows .entry)) (now (kinds .entry)) (now (figures .entry)) (length (now (discounts .entry))) (length (now («state_prices» .entry))))
-        (fit-prices frequency steps reversion volatility (now (kinds .entry)) (now (figures .entry))) (now («state_prices» .entry)) ⌝ }
+    ensures number { λ r. ⌜ r ≡ fitNumber frequency steps reversion volatility (now (rows .entry)) (now (kinds .entry)) (now (figures .entry))
+        (length (now (discounts .entry))) (length (now («state_prices» .entry))) ⌝ }
+    ensures discounted { λ _. ⌜ now (discounts .exit) ≡ discountsAfter frequency steps reversion volatility
+        (now (rows .entry)) (now (kinds .entry)) (now (figures .entry)) (now (discounts .entry)) (now («state_prices» .entry)) ⌝ }
+    ensures priced { λ _. ⌜ now («state_prices» .exit) ≡ pricesAfter frequency steps reversion volatility
+        (now (rows .entry)) (now (kinds .entry)) (now (figures .entry)) (now (discounts .entry)) (now («state_prices» .entry)) ⌝ }
 {
     fitting::fit(
         frequency,
@@ -138,7 +139,7 @@ pub extern "C" fn mixegorta_row_range(
     reversion: u64,
     row: usize,
 ) -> RowRange
-    ensures { λ r. ⌜ r ≡ range-by-number (now (discounts .entry)) (now («state_prices» .entry)) kind steps reversion row ⌝ }
+    ensures { λ r. ⌜ r ≡ rangeByNumber (now (discounts .entry)) (now («state_prices» .entry)) kind steps reversion row ⌝ }
 {
     row_view::range_by_number(discounts, state_prices, kind, steps, reversion, row)
 }
@@ -157,7 +158,7 @@ pub extern "C" fn mixegorta_state_price_error_bound(
     discounts: &[u64],
     row: usize,
 ) -> Answer
-    ensures { λ r. ⌜ r ≡ statePriceErrorBound steps reversion (now (discounts .entry)) row ⌝ }
+    ensures { λ r. ⌜ r ≡ statePriceErrorBoundAnswer steps reversion (now (discounts .entry)) row ⌝ }
 {
     state_price_bound::state_price_error_bound(steps, reversion, discounts, row)
 }
@@ -208,7 +209,7 @@ pub extern "C" fn mixegorta_bond_and_option(
 
 #[no_mangle]
 pub extern "C" fn mixegorta_value_by_state_prices(state_prices: &[u64], payoffs: &[u64]) -> Answer
-    ensures { λ r. ⌜ r ≡ valueByStatePrices (now («state_prices» .entry)) (now (payoffs .entry)) ⌝ }
+    ensures { λ r. ⌜ r ≡ valueByStatePricesAnswer (now («state_prices» .entry)) (now (payoffs .entry)) ⌝ }
 {
     valuation::value_by_state_prices(state_prices, payoffs)
 }
@@ -221,7 +222,7 @@ pub extern "C" fn mixegorta_valuation_error_bound(
     row: usize,
     payoffs: &[u64],
 ) -> Answer
-    ensures { λ r. ⌜ r ≡ valuationErrorBound steps reversion (now (discounts .entry)) row (now (payoffs .entry)) ⌝ }
+    ensures { λ r. ⌜ r ≡ valuationErrorBoundAnswer steps reversion (now (discounts .entry)) row (now (payoffs .entry)) ⌝ }
 {
     valuation::valuation_error_bound(steps, reversion, discounts, row, payoffs)
 }

@@ -3,9 +3,7 @@
 use mathlib.Core.Path.{_≡_, refl, sym, _∙_, ap}
 use mathlib.Core.Bool.{Bool, true, false, not, cond, _&&_}
 use mathlib.Core.List.{List}
-use mathlib.Core.Logic.{_⊎_}
 use Prim.Native.Nat.{ℕ, _+_, _≤_, _<_}
-use native.Mathlib.Nat.{zero-add}
 use native.Mathlib.Omega.{arith}
 use borrow.Author.Tests.{lt-leb, le-leb, leb-true, eq-eqb, ne-eqb, eqb-true}
 use lib.Dec.{leb, eqb}
@@ -13,13 +11,12 @@ use lib.ListN.{length, getD}
 use lib.Ieee.{Float, nan}
 use Rattle.arithmetic.specs.declared.Answer.{Answer}
 use Rattle.arithmetic.specs.Row.{row, values, place, each}
-use Rattle.arithmetic.proofs.RowLaws.{length-row, values-row, each-holds}
+use Rattle.arithmetic.proofs.RowLaws.{length-row, each-holds}
 use Rattle.arithmetic.specs.Frequency.{listed}
-use Rattle.quotes.proofs.QuoteLaws.{lone-told, lone-seventh, row-known}
-use Rattle.limits.specs.Limits.{most-steps, is-steps}
+use Rattle.quotes.proofs.QuoteLaws.{lone-told}
+use Rattle.limits.specs.Limits.{mostSteps, isSteps}
 use Rattle.limits.proofs.LimitLaws.{from-one}
 use Rattle.curve.specs.Curve.{placeAt, inPlace, answerAt, convertsAt, discountAt, curveNumber, curveMemory}
-use Rattle.arithmetic.proofs.PlaceLaws.{length-place, place-inside, place-after}
 
 true≢false : true ≡ false → ⊥
 true≢false q = let z : _≡_ {A = ℕ} 0 1 = cc in omega arith
@@ -102,7 +99,7 @@ number-none true true true true h = (refl, refl, refl, refl)
 pub record Accepted (f n : ℕ) (rows kinds : List ℕ) (figures : List Float) (room : ℕ) : Type 0 where
   pub frequency : listed f ≡ true
   pub least : 1 ≤ n
-  pub most : n ≤ most-steps
+  pub most : n ≤ mostSteps
   pub rows-long : length rows ≡ n
   pub kinds-long : length kinds ≡ n
   pub figures-long : length figures ≡ n
@@ -116,11 +113,11 @@ module _ (f n : ℕ) (rows kinds : List ℕ) (figures : List Float) (room : ℕ)
   number-frequency h = rw h
 
   module _ (a : listed f ≡ true) where
-    pub number-steps : is-steps n ≡ false → curveNumber f n rows kinds figures room ≡ 3
+    pub number-steps : isSteps n ≡ false → curveNumber f n rows kinds figures room ≡ 3
     unfolding curveNumber
     number-steps h = rw (a, h)
 
-    module _ (h : is-steps n ≡ true) where
+    module _ (h : isSteps n ≡ true) where
       pub number-place : inPlace n rows kinds figures room ≡ false → curveNumber f n rows kinds figures room ≡ 6
       unfolding curveNumber
       number-place p = rw (a, h, p)
@@ -141,8 +138,8 @@ module _ (f n : ℕ) (rows kinds : List ℕ) (figures : List Float) (room : ℕ)
   pub accepted : curveNumber f n rows kinds figures room ≡ 0 → Accepted f n rows kinds figures room
   unfolding curveNumber inPlace
   accepted h =
-      let parts = number-none (listed f) (is-steps n) (inPlace n rows kinds figures room) (each n (convertsAt f kinds figures)) h in
-      let steps = from-one most-steps n (parts .1) in
+      let parts = number-none (listed f) (isSteps n) (inPlace n rows kinds figures room) (each n (convertsAt f kinds figures)) h in
+      let steps = from-one mostSteps n (parts .1) in
       let places = five (eqb (length rows) n) (eqb (length kinds) n) (eqb (length figures) n) (leb n room) (each n (placeAt rows)) (parts .2) in
       record {
         frequency = parts .0;
@@ -163,14 +160,6 @@ module _ (f n : ℕ) (rows kinds : List ℕ) (figures : List Float) (room : ℕ)
   unfolding answerAt
   curve-range h k i = lone-told f (values kinds k) (record { row = k + 1; figure = getD figures k nan }) .range (accepted h .converted k i)
 
--- a refused point that stands in its place is refused with 7, never with a lower number
-pub point-seventh :
-    (f : ℕ) (kinds : List ℕ) (figures : List Float) (k : ℕ) → listed f ≡ true → k < 60 →
-    (answerAt f kinds figures k .number ≡ 0) ⊎ (answerAt f kinds figures k .number ≡ 7)
-unfolding answerAt
-point-seventh f kinds figures k a h =
-    lone-seventh f (values kinds k) (record { row = k + 1; figure = getD figures k nan }) a (row-known (k + 1) (omega arith) (omega arith))
-
 -- ---- the memory
 
 module _ (f n : ℕ) (rows kinds : List ℕ) (figures : List Float) (memory : List ℕ) where
@@ -187,22 +176,6 @@ module _ (f n : ℕ) (rows kinds : List ℕ) (figures : List Float) (memory : Li
 
     fits : 0 + length (row n (discountAt f kinds figures)) ≤ length memory
     fits = omega (arith, length-row n (discountAt f kinds figures), accepted f n rows kinds figures (length memory) h .room-enough)
-
-    -- its values there are the discounts, and what stands past them has not changed
-    pub curve-values : (k : ℕ) → k < n → values (curveMemory f n rows kinds figures memory) k ≡ discountAt f kinds figures k
-    curve-values k i =
-        ap (λ (l : List ℕ). values l k) curve-stored
-        ∙ ap (λ (m : ℕ). values (place memory 0 (row n (discountAt f kinds figures))) m) (sym (zero-add k))
-        ∙ place-inside memory 0 (row n (discountAt f kinds figures)) fits k (omega (arith, length-row n (discountAt f kinds figures)))
-        ∙ values-row n k (discountAt f kinds figures) i
-
-    pub curve-past : (k : ℕ) → n ≤ k → values (curveMemory f n rows kinds figures memory) k ≡ values memory k
-    curve-past k i =
-        ap (λ (l : List ℕ). values l k) curve-stored
-        ∙ place-after memory 0 (row n (discountAt f kinds figures)) fits k (omega (arith, length-row n (discountAt f kinds figures)))
-
-    pub curve-length : length (curveMemory f n rows kinds figures memory) ≡ length memory
-    curve-length = ap length curve-stored ∙ length-place memory 0 (row n (discountAt f kinds figures)) fits
 
 -- ---- what the entry needs, from the number that it worked out
 

@@ -9,7 +9,7 @@ use lib.Ieee.{Float, nan}
 use Rattle.arithmetic.specs.declared.Answer.{Answer}
 use Rattle.arithmetic.specs.Row.{row, values, place, each}
 use Rattle.arithmetic.specs.Frequency.{listed}
-use Rattle.limits.specs.Limits.{is-steps}
+use Rattle.limits.specs.Limits.{isSteps}
 use Rattle.quotes.specs.Quotes.{loneAnswer}
 
 -- the point's row is its place
@@ -39,7 +39,7 @@ unfoldable pub curveNumber : ℕ → ℕ → List ℕ → List ℕ → List Floa
 unfolding inPlace answerAt each
 curveNumber f n rows kinds figures room =
     cond (not (listed f)) 2
-    (cond (not (is-steps n)) 3
+    (cond (not (isSteps n)) 3
     (cond (not (inPlace n rows kinds figures room)) 6
     (cond (not (each n (convertsAt f kinds figures))) 7 0)))
 

@@ -97,7 +97,8 @@ fn cause(
 // The discounts of the points, at the start of the memory.
 fn store(frequency: u64, kinds: &[u8], figures: &[f64], discounts: &mut [u64])
     requires { ⌜ (length (now figures) ≡ length (now kinds)) × (length (now kinds) ≤ length (now discounts)) ⌝ }
-    ensures { λ _. ⌜ now (discounts .exit) ≡ place (now (discounts .entry)) 0 (row (length (now (kinds .entry))) (discountAt frequency (now (kinds .entry)) (now (figures .entry)))) ⌝ }
+    ensures { λ _. ⌜ now (discounts .exit) ≡ place (now (discounts .entry)) 0
+        (row (length (now (kinds .entry))) (discountAt frequency (now (kinds .entry)) (now (figures .entry)))) ⌝ }
 {
     let mut i = 0usize;
     while i < kinds.len() {
@@ -117,8 +118,10 @@ pub fn convert(
     figures: &[f64],
     discounts: &mut [u64],
 ) -> u64
-    ensures number { λ r. ⌜ r ≡ curveNumber frequency steps (now (rows .entry)) (now (kinds .entry)) (now (figures .entry)) (length (now (discounts .entry))) ⌝ }
-    ensures memory { λ _. ⌜ now (discounts .exit) ≡ curveMemory frequency steps (now (rows .entry)) (now (kinds .entry)) (now (figures .entry)) (now (discounts .entry)) ⌝ }
+    ensures number { λ r. ⌜ r ≡ curveNumber frequency steps
+        (now (rows .entry)) (now (kinds .entry)) (now (figures .entry)) (length (now (discounts .entry))) ⌝ }
+    ensures memory { λ _. ⌜ now (discounts .exit) ≡ curveMemory frequency steps
+        (now (rows .entry)) (now (kinds .entry)) (now (figures .entry)) (now (discounts .entry)) ⌝ }
 {
     let number = cause(frequency, steps, rows, kinds, figures, discounts.len());
     if number != 0 {

@@ -13,9 +13,9 @@ side true = call
 side false = put
 
 -- kinds 1 and 3 are calls
-unfoldable pub terms-of : ℕ → ℕ → Terms
-terms-of kind strike = record { call = eqb kind 1 || eqb kind 3; strike = strike }
+unfoldable pub termsOf : ℕ → ℕ → ℕ → Terms
+termsOf kind expiry strike = record { call = eqb kind 1 || eqb kind 3; strike = strike; last = expiry }
 
 -- rows 0 to 60; kinds 3 and 4 may be exercised before expiry on each
-unfoldable pub marks-of : ℕ → List ℕ
-marks-of kind = replicate 61 (cond (ltb kind 3) 0 1)
+unfoldable pub marksOf : ℕ → List ℕ
+marksOf kind = replicate 61 (cond (ltb kind 3) 0 1)

@@ -1,29 +1,30 @@
 // The value of one node of an option, and the rows on which each kind may be exercised.
 ghost use mathlib.Core.Path.{_≡_};
-ghost use mathlib.Core.Bool.{Bool, true, false};
-ghost use Prim.Native.Nat.{ℕ, _-_};
-ghost use Rattle.pricing_laws.specs.Pricer.{exercise, held-or-exercised};
-ghost use Rattle.exercise.specs.Terms.{side, terms-of, marks-of};
+ghost use Prim.Native.Nat.{_-_};
+ghost use Rattle.pricing_laws.specs.Pricer.{exercise, heldOrExercised};
+ghost use Rattle.exercise.specs.Terms.{side, termsOf, marksOf};
 
-// An option's side and strike.
+// An option's side, its strike and the last row on which it may be exercised.
 pub struct Terms {
     pub call: bool,
     pub strike: u64,
+    pub last: usize,
 }
 
 // The terms of a kind: 1 European call, 2 European put, 3 American call, 4 American put.
-pub fn terms_of(kind: u64, strike: u64) -> Terms
-    ensures { λ r. ⌜ r ≡ terms-of kind strike ⌝ }
+pub fn terms_of(kind: u64, expiry: usize, strike: u64) -> Terms
+    ensures { λ r. ⌜ r ≡ termsOf kind expiry strike ⌝ }
 {
     Terms {
         call: kind == 1 || kind == 3,
         strike,
+        last: expiry,
     }
 }
 
 // A mark for each row, 1 where a kind may be exercised on it before expiry.
 pub fn marks_of(kind: u64) -> [u8; 61]
-    ensures { λ r. ⌜ r ≡ marks-of kind ⌝ }
+    ensures { λ r. ⌜ r ≡ marksOf kind ⌝ }
 {
     if kind < 3 {
         return [0; 61];
@@ -50,7 +51,7 @@ pub fn exercise_value(terms: Terms, bond: u64) -> u64
 
 // Before expiry: the larger of roll and exercise on a row that is listed, the roll on any other.
 pub fn held_value(terms: Terms, listed: bool, roll: u64, bond: u64) -> u64
-    ensures { λ r. ⌜ r ≡ held-or-exercised listed roll (exercise (side (terms .call)) (terms .strike) bond) ⌝ }
+    ensures { λ r. ⌜ r ≡ heldOrExercised listed roll (exercise (side (terms .call)) (terms .strike) bond) ⌝ }
 {
     if listed {
         return arithmetic::larger(roll, exercise_value(terms, bond));

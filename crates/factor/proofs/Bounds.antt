@@ -9,8 +9,9 @@ use lib.Dec.{lit≤}
 use Rattle.arithmetic.specs.Rounding.{one}
 use Rattle.arithmetic.specs.Sum.{sum}
 use Rattle.arithmetic.proofs.SumLaws.{sum-le, sum-term}
-use Rattle.factor.specs.Series.{term, series, falling, exact-term, scale}
-use Rattle.factor.proofs.SeriesLaws.{exact-whole, alternating-most, term-zero, term-falls, term-grows, exact-zero, exact-next, exact-falls, series-within}
+use Rattle.factor.specs.Series.{term, series, falling, exactTerm, scale}
+use Rattle.factor.proofs.SeriesLaws.{alternating-most, term-zero, term-falls, term-grows, series-within}
+use Rattle.factor.proofs.SeriesLaws.{exact-whole, exact-zero, exact-next, exact-falls}
 use Rattle.factor.proofs.Figures.{sum-at-one}
 
 unfoldable factorial : ℕ → ℕ
@@ -71,12 +72,12 @@ module _ (o y : ℕ) (e : ℕ → ℕ) (positive : 0 < o) (hy : y ≤ o) (next :
           let (d, s) = le-dest hy in
           rw (← s) (six-products y d)
 
-exact-least : (y : ℕ) → y ≤ one → 44 * exact-term y 0 ≤ 120 * series false (exact-term y)
+exact-least : (y : ℕ) → y ≤ one → 44 * exactTerm y 0 ≤ 120 * series false (exactTerm y)
 unfolding sum
 exact-least y hy =
     omega (
       arith,
-      six-terms one y (exact-term y) (lit≤ tt) hy (exact-next y),
+      six-terms one y (exactTerm y) (lit≤ tt) hy (exact-next y),
       exact-whole y hy,
       exact-falls y 6 hy (lit≤ tt),
       exact-falls y 8 hy (lit≤ tt),

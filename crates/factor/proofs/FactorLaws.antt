@@ -3,55 +3,47 @@
 use mathlib.Core.Path.{_≡_, refl, sym, _∙_, ap}
 use mathlib.Core.Bool.{Bool, true, false}
 use Prim.Native.Nat.{ℕ, zero, suc, _+_, _-_, _*_, _≤_, _<_}
-use native.Mathlib.Nat.{zero-mul, le-trans, mul-le-mul-right}
+use native.Mathlib.Nat.{le-trans, mul-le-mul-right}
 use native.Mathlib.Omega.{arith}
 use borrow.Author.Tests.{lt-ltb, le-ltb}
 use lib.IntN.{ℤ, pos, negsuc, natAbs, _-ℤ_}
 use lib.Signed.{ltZ}
-use Rattle.arithmetic.specs.Rounding.{one, down}
+use Rattle.arithmetic.specs.Rounding.{one, roundDown}
 use Rattle.arithmetic.specs.Sum.{sum}
 use Rattle.arithmetic.specs.Answers.{refused, answered}
-use Rattle.arithmetic.specs.declared.Answer.{Answer}
-use Rattle.arithmetic.proofs.Numbers.{by-order}
-use Rattle.factor.specs.Series.{term, even, odd, series, scale, Within}
-use Rattle.factor.specs.Factor.{factor, exact-factor, node-answer, side-factor, side-answer}
+use Rattle.arithmetic.specs.Within.{Within}
+use Rattle.factor.specs.Series.{term, even, odd, series, scale}
+use Rattle.factor.specs.Factor.{factor, exactFactor, nodeAnswer, sideFactor, sideAnswer}
 use Rattle.factor.proofs.SeriesLaws.{series-within, sum-by-parts, odd-le-even, term-falls}
-use Rattle.factor.proofs.Bounds.{series-bounds, sum-least, alternating-within-one}
+use Rattle.factor.proofs.Bounds.{series-bounds}
 
 -- U(j) by the distance and the side of j
-pub factor-side : (j : ℤ) (h : ℕ) → factor j h ≡ side-factor (natAbs j) (ltZ j (pos 0)) h
-unfolding factor side-factor
+pub factor-side : (j : ℤ) (h : ℕ) → factor j h ≡ sideFactor (natAbs j) (ltZ j (pos 0)) h
+unfolding factor sideFactor
 factor-side j h = refl
 
-pub factor-above : (d h : ℕ) → factor (pos d) h ≡ side-factor d false h
-factor-above d h = factor-side (pos d) h ∙ ap (λ (below : Bool). side-factor d below h) (le-ltb d 0 (omega arith))
+pub factor-above : (d h : ℕ) → factor (pos d) h ≡ sideFactor d false h
+factor-above d h = factor-side (pos d) h ∙ ap (λ (below : Bool). sideFactor d below h) (le-ltb d 0 (omega arith))
 
-pub factor-below : (d h : ℕ) → factor (negsuc d) h ≡ side-factor (suc d) true h
+pub factor-below : (d h : ℕ) → factor (negsuc d) h ≡ sideFactor (suc d) true h
 factor-below d h = factor-side (negsuc d) h
 
 -- the node at index k of a row of half width w is k - w
-pub index-below : (w k h : ℕ) → k < w → factor (pos k -ℤ pos w) h ≡ side-factor (w - k) true h
+pub index-below : (w k h : ℕ) → k < w → factor (pos k -ℤ pos w) h ≡ sideFactor (w - k) true h
 index-below zero k h l = omega arith
 index-below (suc w) k h l =
     let e : suc (suc w - suc k) ≡ suc w - k = omega arith in
-    rw (lt-ltb k (suc w) l) (factor-below (suc w - suc k) h ∙ ap (λ (d : ℕ). side-factor d true h) e)
+    rw (lt-ltb k (suc w) l) (factor-below (suc w - suc k) h ∙ ap (λ (d : ℕ). sideFactor d true h) e)
 
-pub index-above : (w k h : ℕ) → w ≤ k → factor (pos k -ℤ pos w) h ≡ side-factor (k - w) false h
-index-above zero k h l = factor-above (k + 0) h ∙ ap (λ (d : ℕ). side-factor d false h) (omega arith)
+pub index-above : (w k h : ℕ) → w ≤ k → factor (pos k -ℤ pos w) h ≡ sideFactor (k - w) false h
+index-above zero k h l = factor-above (k + 0) h ∙ ap (λ (d : ℕ). sideFactor d false h) (omega arith)
 index-above (suc w) k h l = rw (le-ltb k (suc w) l) (factor-above (k - suc w) h)
 
 -- the middle node has factor one, counted to either side
 middle : (below : Bool) → series below (term 0) ≡ one
-unfolding series sum term down
+unfolding series sum term roundDown
 middle true = refl
 middle false = refl
-
-pub side-middle : (below : Bool) (h : ℕ) → side-factor 0 below h ≡ one
-unfolding side-factor
-side-middle below h = rw (zero-mul h) (middle below)
-
-pub factor-middle : (h : ℕ) → factor (pos 0) h ≡ one
-factor-middle h = factor-above 0 h ∙ side-middle false h
 
 -- what holds of the farthest node holds of the nearer ones
 pub nearer-within : (k d h : ℕ) → k ≤ d → d * h ≤ one → k * h ≤ one
@@ -60,71 +52,47 @@ nearer-within k d h l within = le-trans (mul-le-mul-right h l) within
 -- where |j| × h is at most one, the factor is from 0.36 to 2.72 of one,
 pub side-bounds :
     (d : ℕ) (below : Bool) (h : ℕ) → d * h ≤ one →
-    (360000000 ≤ side-factor d below h) × (side-factor d below h ≤ 2720000000)
-unfolding side-factor
+    (360000000 ≤ sideFactor d below h) × (sideFactor d below h ≤ 2720000000)
+unfolding sideFactor
 side-bounds d below h l = series-bounds (d * h) below l
 
 pub factor-bounds : (j : ℤ) (h : ℕ) → natAbs j * h ≤ one → (360000000 ≤ factor j h) × (factor j h ≤ 2720000000)
 factor-bounds j h l = rw (factor-side j h) (side-bounds (natAbs j) (ltZ j (pos 0)) h l)
 
--- at least one below the middle, at most one above it,
-pub side-below-least : (d h : ℕ) → one ≤ side-factor d true h
-unfolding side-factor
-side-below-least d h = sum-least (d * h)
-
-pub side-above-most : (d h : ℕ) → d * h ≤ one → side-factor d false h ≤ one
-unfolding side-factor
-side-above-most d h l = alternating-within-one (d * h) l
-
 -- and within 14 of the same series in exact fractions
-pub factor-within : (j : ℤ) (h : ℕ) → natAbs j * h ≤ one → Within scale 14 (factor j h) (exact-factor j h)
-unfolding factor exact-factor
+pub factor-within : (j : ℤ) (h : ℕ) → natAbs j * h ≤ one → Within 14 scale (factor j h) (exactFactor j h)
+unfolding factor exactFactor
 factor-within j h l = series-within (natAbs j * h) (ltZ j (pos 0)) l
 
 -- the answers by distance and side
 module _ (d : ℕ) (below : Bool) (h : ℕ) where
-  pub side-refused : one < d * h → side-answer d below h ≡ refused 8
-  unfolding side-answer
+  pub side-refused : one < d * h → sideAnswer d below h ≡ refused 8
+  unfolding sideAnswer
   side-refused l = rw (lt-ltb one (d * h) l)
 
-  pub side-accepted : d * h ≤ one → side-answer d below h ≡ answered (side-factor d below h)
-  unfolding side-answer
+  pub side-accepted : d * h ≤ one → sideAnswer d below h ≡ answered (sideFactor d below h)
+  unfolding sideAnswer
   side-accepted l = rw (le-ltb one (d * h) l)
 
 -- the answers by the signed number
-pub node-side : (j : ℤ) (h : ℕ) → node-answer j h ≡ side-answer (natAbs j) (ltZ j (pos 0)) h
-unfolding node-answer side-answer factor side-factor
+pub node-side : (j : ℤ) (h : ℕ) → nodeAnswer j h ≡ sideAnswer (natAbs j) (ltZ j (pos 0)) h
+unfolding nodeAnswer sideAnswer factor sideFactor
 node-side j h = refl
 
-pub node-refused : (j : ℤ) (h : ℕ) → one < natAbs j * h → node-answer j h ≡ refused 8
+pub node-refused : (j : ℤ) (h : ℕ) → one < natAbs j * h → nodeAnswer j h ≡ refused 8
 node-refused j h l = node-side j h ∙ side-refused (natAbs j) (ltZ j (pos 0)) h l
-
-pub node-accepted : (j : ℤ) (h : ℕ) → natAbs j * h ≤ one → node-answer j h ≡ answered (factor j h)
-node-accepted j h l = node-side j h ∙ side-accepted (natAbs j) (ltZ j (pos 0)) h l ∙ ap answered (sym (factor-side j h))
-
--- number 0 means accepted, and the value is the factor
-pub side-zero :
-    (d : ℕ) (below : Bool) (h : ℕ) → side-answer d below h .number ≡ 0 →
-    (d * h ≤ one) × (side-answer d below h .value ≡ side-factor d below h)
-side-zero d below h e =
-    by-order (d * h) one
-    (λ l. (l, ap (λ (a : Answer). a .value) (side-accepted d below h l)))
-    (λ l. absurd (refusal (ap (λ (a : Answer). a .number) (side-refused d below h l))))
-  where
-    refusal : side-answer d below h .number ≡ 8 → ⊥
-    refusal r = omega arith
 
 -- Where y is |j| × h and at most one, the sums of the even and of the odd terms give the value answered.
 module _ (d h y e o : ℕ) (same : y ≡ d * h) (l : y ≤ one) (p : e ≡ sum 7 (even (term y))) (q : o ≡ sum 6 (odd (term y))) where
-  side-found : (below : Bool) (x : ℕ) → x ≡ series below (term y) → answered x ≡ side-answer d below h
-  unfolding side-factor
+  side-found : (below : Bool) (x : ℕ) → x ≡ series below (term y) → answered x ≡ sideAnswer d below h
+  unfolding sideFactor
   side-found below x found =
       ap answered (found ∙ ap (λ (z : ℕ). series below (term z)) same) ∙ sym (side-accepted d below h (rw same at l))
 
-  pub sums-below : answered (e + o) ≡ side-answer d true h
+  pub sums-below : answered (e + o) ≡ sideAnswer d true h
   sums-below = side-found true (e + o) (rw (p, q) (sym (sum-by-parts (term y))))
 
-  pub sums-above : answered (e - o) ≡ side-answer d false h
+  pub sums-above : answered (e - o) ≡ sideAnswer d false h
   unfolding series
   sums-above = side-found false (e - o) (rw (p, q) refl)
 

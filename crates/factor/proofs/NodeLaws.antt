@@ -12,7 +12,7 @@ use mir.Syntax.{w64}
 use mir.Val.{Fits, SFits, toZ, ofZ}
 use mir.Facts.{toZ-ofZ}
 use Rattle.arithmetic.proofs.Signed.{fits-by-size, is-whole}
-use Rattle.factor.specs.Factor.{node-answer, side-answer}
+use Rattle.factor.specs.Factor.{nodeAnswer, sideAnswer}
 use Rattle.factor.proofs.FactorLaws.{node-side}
 
 none-below : (n : ℕ) → ltb n 0 ≡ true → ⊥
@@ -53,7 +53,7 @@ module _ (z : ℤ) (f : SFits w64 z) where
     pub nearer-held : toZ w64 (ofZ w64 (negsuc 0 -ℤ toZ w64 (ofZ w64 z))) ≡ pos (natAbs z - 1)
     nearer-held = toZ-ofZ nearer-fits ∙ nearer-is
 
-    pub node-below : (h : ℕ) → side-answer (natAbs (pos (natAbs z - 1)) + 1) true h ≡ node-answer z h
+    pub node-below : (h : ℕ) → sideAnswer (natAbs (pos (natAbs z - 1)) + 1) true h ≡ nodeAnswer z h
     node-below h =
         let e : natAbs (pos (natAbs z - 1)) + 1 ≡ natAbs z = omega (arith, size-positive z below) in
         rw e (sym (rw below at (node-side z h)))
@@ -65,7 +65,7 @@ module _ (z : ℤ) (f : SFits w64 z) where
         let n : ltZ z (pos 0) ≡ false = rw held at l in
         rw held (is-whole z n, record { fits = omega (arith, size-most z f) })
 
-    pub node-above : (h : ℕ) → side-answer (natAbs (toZ w64 (ofZ w64 z))) false h ≡ node-answer z h
+    pub node-above : (h : ℕ) → sideAnswer (natAbs (toZ w64 (ofZ w64 z))) false h ≡ nodeAnswer z h
     node-above h =
         let n : ltZ z (pos 0) ≡ false = rw held at l in
         rw held (sym (rw n at (node-side z h)))

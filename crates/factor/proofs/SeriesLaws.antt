@@ -3,15 +3,17 @@
 use mathlib.Core.Path.{_≡_, refl, ap}
 use mathlib.Core.Bool.{Bool, true, false}
 use Prim.Native.Nat.{ℕ, zero, suc, _+_, _-_, _*_, _/_, _≤_, _<_}
-use native.Mathlib.Nat.{le-trans, le-refl, mul-le-mul, mul-le-mul-left, mul-le-mul-right, mul-pos, lt-div-mul-add, div-le-of-le-mul, le-of-mul-le-mul-left, sub-add-cancel, pow-zero, pow-suc}
+use native.Mathlib.Nat.{le-trans, le-refl, sub-add-cancel, mul-le-mul, mul-le-mul-left, mul-le-mul-right, mul-pos, le-of-mul-le-mul-left}
+use native.Mathlib.Nat.{lt-div-mul-add, div-le-of-le-mul, pow-zero, pow-suc}
 use native.Mathlib.Numerals.{add-one}
 use native.Mathlib.Omega.{arith}
 use lib.Dec.{lit≤}
-use Rattle.arithmetic.specs.Rounding.{one, down}
+use Rattle.arithmetic.specs.Rounding.{one, roundDown}
 use Rattle.arithmetic.specs.Sum.{sum}
 use Rattle.arithmetic.proofs.RoundingLaws.{down-le, down-gt, down-rounds}
 use Rattle.arithmetic.proofs.SumLaws.{sum-le, sum-add, sum-scale, sum-grow, sum-shift}
-use Rattle.factor.specs.Series.{term, even, odd, series, falling, exact-term, scale, Within}
+use Rattle.arithmetic.specs.Within.{Within}
+use Rattle.factor.specs.Series.{term, even, odd, series, falling, exactTerm, scale}
 
 suc-positive : (k : ℕ) → 0 < suc k
 suc-positive k = omega arith
@@ -52,12 +54,12 @@ pub term-zero : (y : ℕ) → term y 0 ≡ one
 unfolding term
 term-zero y = refl
 
-pub term-next : (y k : ℕ) → term y (suc k) ≡ down (term y k * y) (suc k * one)
+pub term-next : (y k : ℕ) → term y (suc k) ≡ roundDown (term y k * y) (suc k * one)
 unfolding term
 term-next y k = refl
 
 pub term-falls : (y k : ℕ) → y ≤ one → term y (suc k) ≤ term y k
-unfolding term down
+unfolding term roundDown
 term-falls y k h =
     div-le-of-le-mul (suc k * one) (omega (arith, mul-le-mul-left (term y k) h, mul-le-mul-left (term y k * one) (suc-positive k)))
 
@@ -72,42 +74,42 @@ term-grows y z (suc k) h =
     down-rounds .monotone _ _ (suc k * one) (positive-divisor k one (lit≤ tt)) (mul-le-mul (term-grows y z k h) h)
 
 -- the exact terms follow the series' rule, and fall
-pub exact-next : (y k : ℕ) → k < 12 → exact-term y (suc k) * (suc k * one) ≡ exact-term y k * y
-unfolding exact-term falling
+pub exact-next : (y k : ℕ) → k < 12 → exactTerm y (suc k) * (suc k * one) ≡ exactTerm y k * y
+unfolding exactTerm falling
 exact-next y k l =
     let d : ℕ = 12 - suc k in
     let e : 12 - k ≡ suc d = omega arith in
     let e′ : 12 - d ≡ suc k = omega arith in
     rw (e, e′, pow-suc y k, pow-suc one d) (omega arith)
 
-pub exact-zero : (y : ℕ) → exact-term y 0 ≡ scale * one
-unfolding exact-term falling scale
+pub exact-zero : (y : ℕ) → exactTerm y 0 ≡ scale * one
+unfolding exactTerm falling scale
 exact-zero y = rw (pow-zero y) refl
 
-pub exact-falls : (y k : ℕ) → y ≤ one → k < 12 → exact-term y (suc k) ≤ exact-term y k
+pub exact-falls : (y k : ℕ) → y ≤ one → k < 12 → exactTerm y (suc k) ≤ exactTerm y k
 exact-falls y k h l =
-    le-of-mul-le-mul-left {m = exact-term y (suc k)} {n = exact-term y k} {k = suc k * one}
-    (omega (arith, exact-next y k l, mul-le-mul-left (exact-term y k) h, mul-le-mul-left (exact-term y k * one) (suc-positive k)))
+    le-of-mul-le-mul-left {m = exactTerm y (suc k)} {n = exactTerm y k} {k = suc k * one}
+    (omega (arith, exact-next y k l, mul-le-mul-left (exactTerm y k) h, mul-le-mul-left (exactTerm y k * one) (suc-positive k)))
     (positive-divisor k one (lit≤ tt))
 
 -- One step over any unit o and any scale w: x and x′ are the exact terms, times w; b and b′ bound the error in hundredths.
 module _ (w o k y t x x′ : ℕ) (pos : 0 < o) (e : x′ * (suc k * o) ≡ x * y) where
   -- the rounded term stays below the exact one,
-  step-low : w * t ≤ x → w * down (t * y) (suc k * o) ≤ x′
+  step-low : w * t ≤ x → w * roundDown (t * y) (suc k * o) ≤ x′
   step-low h =
       let d : ℕ = suc k * o in
       let dpos : 0 < d = positive-divisor k o pos in
-      le-of-mul-le-mul-left {m = w * down (t * y) d} {n = x′} {k = d}
+      le-of-mul-le-mul-left {m = w * roundDown (t * y) d} {n = x′} {k = d}
       (omega (arith, mul-le-mul-left w (down-le (t * y) d dpos), mul-le-mul-right y h, e)) dpos
 
   -- and its error is divided by k + 1 and grows by less than one
   step-high :
       (b b′ : ℕ) → y ≤ o → 100 * suc k + b ≤ suc k * b′ → 100 * x ≤ w * (100 * t + b) →
-      100 * x′ ≤ w * (100 * down (t * y) (suc k * o) + b′)
+      100 * x′ ≤ w * (100 * roundDown (t * y) (suc k * o) + b′)
   step-high b b′ hy hb h =
       let d : ℕ = suc k * o in
       let dpos : 0 < d = positive-divisor k o pos in
-      le-of-mul-le-mul-left {m = 100 * x′} {n = w * (100 * down (t * y) d + b′)} {k = d}
+      le-of-mul-le-mul-left {m = 100 * x′} {n = w * (100 * roundDown (t * y) d + b′)} {k = d}
       (omega (
         arith,
         e,
@@ -129,49 +131,49 @@ error-next k = omega (arith, lt-div-mul-add {a = error (suc k) + suc k} {b = suc
 
 -- term 1 is y
 term-one : (y : ℕ) → term y 1 ≡ y
-unfolding term down
+unfolding term roundDown
 term-one y = omega arith
 
-exact-one : (y : ℕ) → exact-term y 1 ≡ scale * y
+exact-one : (y : ℕ) → exactTerm y 1 ≡ scale * y
 exact-one y = omega (arith, exact-next y 0 (lit≤ tt), ap (λ (x : ℕ). x * y) (exact-zero y))
 
-term-low : (y k : ℕ) → y ≤ one → k < 13 → scale * term y k ≤ exact-term y k
+term-low : (y k : ℕ) → y ≤ one → k < 13 → scale * term y k ≤ exactTerm y k
 term-low y zero hy l = omega (arith, exact-zero y, ap (λ (x : ℕ). scale * x) (term-zero y))
 term-low y (suc k) hy l =
     rw (term-next y k)
-    (step-low scale one k y (term y k) (exact-term y k) (exact-term y (suc k)) (lit≤ tt) (exact-next y k (omega arith))
+    (step-low scale one k y (term y k) (exactTerm y k) (exactTerm y (suc k)) (lit≤ tt) (exact-next y k (omega arith))
     (term-low y k hy (omega arith)))
 
-term-high : (y k : ℕ) → y ≤ one → k < 13 → 100 * exact-term y k ≤ scale * (100 * term y k + error k)
+term-high : (y k : ℕ) → y ≤ one → k < 13 → 100 * exactTerm y k ≤ scale * (100 * term y k + error k)
 unfolding error
 term-high y zero hy l = omega (arith, exact-zero y, ap (λ (x : ℕ). scale * x) (term-zero y))
 term-high y (suc zero) hy l = rw (term-one y, exact-one y) (omega arith)
 term-high y (suc (suc k)) hy l =
     rw (term-next y (suc k))
-    (step-high scale one (suc k) y (term y (suc k)) (exact-term y (suc k)) (exact-term y (suc (suc k))) (lit≤ tt)
+    (step-high scale one (suc k) y (term y (suc k)) (exactTerm y (suc k)) (exactTerm y (suc (suc k))) (lit≤ tt)
     (exact-next y (suc k) (omega arith)) (error (suc k)) (error (suc (suc k))) hy (error-next k)
     (term-high y (suc k) hy (omega arith)))
 
 -- a sum over any choice of terms: place i of n has term p i
 module _ (y n : ℕ) (p : ℕ → ℕ) (hy : y ≤ one) (h : (i : ℕ) → i < n → p i < 13) where
-  chosen-low : scale * sum n (λ i. term y (p i)) ≤ sum n (λ i. exact-term y (p i))
+  chosen-low : scale * sum n (λ i. term y (p i)) ≤ sum n (λ i. exactTerm y (p i))
   chosen-low =
       omega (
         arith,
         sum-scale n scale (λ i. term y (p i)),
-        sum-le n (λ i. scale * term y (p i)) (λ i. exact-term y (p i)) (λ i l. term-low y (p i) hy (h i l)),
+        sum-le n (λ i. scale * term y (p i)) (λ i. exactTerm y (p i)) (λ i l. term-low y (p i) hy (h i l)),
       )
 
   chosen-high :
-      100 * sum n (λ i. exact-term y (p i)) ≤ scale * (100 * sum n (λ i. term y (p i)) + sum n (λ i. error (p i)))
+      100 * sum n (λ i. exactTerm y (p i)) ≤ scale * (100 * sum n (λ i. term y (p i)) + sum n (λ i. error (p i)))
   chosen-high =
       omega (
         arith,
-        sum-scale n 100 (λ i. exact-term y (p i)),
+        sum-scale n 100 (λ i. exactTerm y (p i)),
         sum-scale n (100 * scale) (λ i. term y (p i)),
         sum-scale n scale (λ i. error (p i)),
         sum-add n (λ i. (100 * scale) * term y (p i)) (λ i. scale * error (p i)),
-        sum-le n (λ i. 100 * exact-term y (p i)) (λ i. (100 * scale) * term y (p i) + scale * error (p i))
+        sum-le n (λ i. 100 * exactTerm y (p i)) (λ i. (100 * scale) * term y (p i) + scale * error (p i))
             (λ i l. omega (arith, term-high y (p i) hy (h i l))),
       )
 
@@ -190,7 +192,7 @@ record Parts (w e o e′ o′ : ℕ) : Type 0 where
   odd-high : 100 * o′ ≤ w * (100 * o + odds)
   total : evens + odds ≤ 1400
 
-parts-of : (y : ℕ) → y ≤ one → Parts scale (sum 7 (even (term y))) (sum 6 (odd (term y))) (sum 7 (even (exact-term y))) (sum 6 (odd (exact-term y)))
+parts-of : (y : ℕ) → y ≤ one → Parts scale (sum 7 (even (term y))) (sum 6 (odd (term y))) (sum 7 (even (exactTerm y))) (sum 6 (odd (exactTerm y)))
 parts-of y hy =
     record {
       evens = sum 7 (even error);
@@ -209,10 +211,10 @@ parts-of y hy =
     odd-place i l = omega arith
 
 -- their sum, and their difference
-sum-within : (w e o e′ o′ : ℕ) → Parts w e o e′ o′ → Within w 14 (e + o) (e′ + o′)
+sum-within : (w e o e′ o′ : ℕ) → Parts w e o e′ o′ → Within 14 w (e + o) (e′ + o′)
 sum-within w e o e′ o′ p = record { above = omega arith; below = omega (arith, mul-le-mul-left w (p .total)) }
 
-difference-within : (w e o e′ o′ d d′ : ℕ) → Parts w e o e′ o′ → d + o ≡ e → d′ + o′ ≡ e′ → Within w 14 d d′
+difference-within : (w e o e′ o′ d d′ : ℕ) → Parts w e o e′ o′ → d + o ≡ e → d′ + o′ ≡ e′ → Within 14 w d d′
 difference-within w e o e′ o′ d d′ p r s =
     let scaled : w * (d + o) ≡ w * e = ap (λ (x : ℕ). w * x) r in
     record { above = omega (arith, mul-le-mul-left w (p .total)); below = omega (arith, mul-le-mul-left w (p .total)) }
@@ -222,12 +224,12 @@ module _ (y : ℕ) (hy : y ≤ one) where
   pub rounded-whole : series false (term y) + sum 6 (odd (term y)) ≡ sum 7 (even (term y))
   rounded-whole = alternating-whole (term y) (λ k l. term-falls y k hy)
 
-  pub exact-whole : series false (exact-term y) + sum 6 (odd (exact-term y)) ≡ sum 7 (even (exact-term y))
-  exact-whole = alternating-whole (exact-term y) (λ k l. exact-falls y k hy l)
+  pub exact-whole : series false (exactTerm y) + sum 6 (odd (exactTerm y)) ≡ sum 7 (even (exactTerm y))
+  exact-whole = alternating-whole (exactTerm y) (λ k l. exact-falls y k hy l)
 
 -- for y up to one the rounded series is within 14 of the exact one, either sign
-pub series-within : (y : ℕ) (below : Bool) → y ≤ one → Within scale 14 (series below (term y)) (series below (exact-term y))
+pub series-within : (y : ℕ) (below : Bool) → y ≤ one → Within 14 scale (series below (term y)) (series below (exactTerm y))
 series-within y true hy =
-    rw (sum-by-parts (term y), sum-by-parts (exact-term y)) (sum-within scale _ _ _ _ (parts-of y hy))
+    rw (sum-by-parts (term y), sum-by-parts (exactTerm y)) (sum-within scale _ _ _ _ (parts-of y hy))
 series-within y false hy =
     difference-within scale _ _ _ _ _ _ (parts-of y hy) (rounded-whole y hy) (exact-whole y hy)

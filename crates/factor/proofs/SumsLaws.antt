@@ -5,7 +5,7 @@ use mathlib.Core.List.{List}
 use Prim.Native.Nat.{ℕ, _+_, _*_, _≤_, _<_}
 use native.Mathlib.Numerals.{add-one}
 use native.Mathlib.Omega.{arith}
-use Rattle.arithmetic.specs.Rounding.{one, down}
+use Rattle.arithmetic.specs.Rounding.{one, roundDown}
 use Rattle.arithmetic.specs.Row.{row, values}
 use Rattle.arithmetic.specs.Sum.{sum}
 use Rattle.arithmetic.proofs.RowLaws.{values-row}
@@ -22,7 +22,7 @@ module _ (table : List ℕ) (e : table ≡ row 12 divisor) (k : ℕ) (h : k < 12
   divisor-positive = omega (arith, divisor-at)
 
   -- and gives the next term
-  pub next-is : (y last next : ℕ) → last ≡ term y k → next ≡ down (last * y) (values table k) → next ≡ term y (k + 1)
+  pub next-is : (y last next : ℕ) → last ≡ term y k → next ≡ roundDown (last * y) (values table k) → next ≡ term y (k + 1)
   next-is y last next p q = q ∙ rw (p, divisor-at, add-one k) (sym (term-next y k))
 
 -- What the loop holds after some pairs of terms.

@@ -1,8 +1,8 @@
 -- The series of a factor, rounded and in exact fractions (document 01, Spacing and fit, second point).
 -- Assumes nothing.
-use Prim.Native.Nat.{ℕ, zero, suc, _+_, _-_, _*_, _^_, _≤_}
+use Prim.Native.Nat.{ℕ, zero, suc, _+_, _-_, _*_, _^_}
 use mathlib.Core.Bool.{Bool, true, false}
-use Rattle.arithmetic.specs.Rounding.{one, down}
+use Rattle.arithmetic.specs.Rounding.{one, roundDown}
 use Rattle.arithmetic.specs.Sum.{sum}
 
 -- divisor k of the table, from 0: k + 1 times one
@@ -12,7 +12,7 @@ divisor k = (k + 1) * one
 -- term 0 is one; term k is (term k-1) × y / (k × one), down
 unfoldable pub term : ℕ → ℕ → ℕ
 term y zero = one
-term y (suc k) = down (term y k * y) (suc k * one)
+term y (suc k) = roundDown (term y k * y) (suc k * one)
 
 -- the terms of even place, and of odd place
 abbrev pub even : (ℕ → ℕ) → ℕ → ℕ
@@ -36,10 +36,5 @@ unfoldable pub scale : ℕ
 scale = falling 12 * one ^ 11
 
 -- term k in exact fractions, one × (y / one)^k / k!, times 12! × one^11
-unfoldable pub exact-term : ℕ → ℕ → ℕ
-exact-term y k = y ^ k * (falling (12 - k) * one ^ (12 - k))
-
--- a value within e of an exact one, which is held times m
-pub record Within (m e value exact : ℕ) : Type 0 where
-  pub above : m * value ≤ exact + m * e
-  pub below : exact ≤ m * (value + e)
+unfoldable pub exactTerm : ℕ → ℕ → ℕ
+exactTerm y k = y ^ k * (falling (12 - k) * one ^ (12 - k))

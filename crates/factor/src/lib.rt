@@ -1,11 +1,11 @@
 // The factor of a node: the exponential series to its twelfth term, each term rounded down.
 ghost use mathlib.Core.Path.{_≡_};
 ghost use Prim.Native.Nat.{_+_, _*_, _≤_, _<_, min};
-ghost use Rattle.arithmetic.specs.Rounding.{one, down};
+ghost use Rattle.arithmetic.specs.Rounding.{one, roundDown};
 ghost use Rattle.arithmetic.specs.Row.{row};
 ghost use Rattle.arithmetic.specs.Sum.{sum};
 ghost use Rattle.factor.specs.Series.{divisor, term, even, odd};
-ghost use Rattle.factor.specs.Factor.{side-answer, node-answer};
+ghost use Rattle.factor.specs.Factor.{sideAnswer, nodeAnswer};
 use arithmetic::Answer;
 
 const ONE: u64 = 1_000_000_000;
@@ -35,7 +35,7 @@ fn divisors() -> [u64; 12]
 
 fn next_term(last: u64, y: u64, divisor: u64) -> u64
     requires { ⌜ (last ≤ one) × (y ≤ one) × (0 < divisor) ⌝ }
-    ensures { λ r. ⌜ r ≡ down (last * y) divisor ⌝ }
+    ensures { λ r. ⌜ r ≡ roundDown (last * y) divisor ⌝ }
 {
     last * y / divisor
 }
@@ -90,7 +90,7 @@ fn bounded_product(distance: u64, spacing: u64) -> u64
 
 // The factor of the node at a distance from the middle one, below it or not; refuses with 8.
 pub fn factor(distance: u64, below: bool, spacing: u64) -> Answer
-    ensures { λ r. ⌜ r ≡ side-answer distance below spacing ⌝ }
+    ensures { λ r. ⌜ r ≡ sideAnswer distance below spacing ⌝ }
 {
     let y = bounded_product(distance, spacing);
     if ONE < y {
@@ -114,7 +114,7 @@ pub fn factor(distance: u64, below: bool, spacing: u64) -> Answer
 
 // The factor of a node by its signed number; refuses with 8.
 pub fn factor_of_node(node: i64, spacing: u64) -> Answer
-    ensures { λ r. ⌜ r ≡ node-answer node spacing ⌝ }
+    ensures { λ r. ⌜ r ≡ nodeAnswer node spacing ⌝ }
 {
     if node < 0 {
         // The lowest number has no opposite: its size less one is taken first.

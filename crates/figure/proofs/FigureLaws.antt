@@ -14,16 +14,16 @@ use mir.Val.{toZ, ofZ}
 use mir.Facts.{toZ-ofZ}
 use Rattle.arithmetic.proofs.Signed.{fits-by-size}
 use Rattle.figure.specs.declared.Figure.{Figure}
-use Rattle.figure.specs.Figure.{magnitudeOf, negative, beyond, signed, billionthsOf, figureOf, refused, accepted, patternFloat}
+use Rattle.figure.specs.Figure.{magnitudeOf, negative, beyond, signed, billionthsOf, figureOf, refusedFigure, acceptedFigure, patternFloat}
 use Rattle.figure.proofs.Patterns.{accepted-field, accepted-sign, magnitude-bound, fieldOf}
 
-pub figure-refused : (x : Float) → beyond x ≡ true → figureOf x ≡ refused
+pub figure-refused : (x : Float) → beyond x ≡ true → figureOf x ≡ refusedFigure
 unfolding figureOf
-figure-refused x h = ap (λ (b : Bool). cond b refused (accepted (billionthsOf x))) h
+figure-refused x h = ap (λ (b : Bool). cond b refusedFigure (acceptedFigure (billionthsOf x))) h
 
-pub figure-accepted : (x : Float) → beyond x ≡ false → figureOf x ≡ accepted (billionthsOf x)
+pub figure-accepted : (x : Float) → beyond x ≡ false → figureOf x ≡ acceptedFigure (billionthsOf x)
 unfolding figureOf
-figure-accepted x h = ap (λ (b : Bool). cond b refused (accepted (billionthsOf x))) h
+figure-accepted x h = ap (λ (b : Bool). cond b refusedFigure (acceptedFigure (billionthsOf x))) h
 
 -- an accepted figure is no NaN
 pub not-nan : (x : Float) → beyond x ≡ false → T (not (isNan x))
@@ -74,7 +74,7 @@ module _ (x : Float) (r : Figure) (e : r ≡ figureOf x) where
   unfolding figureOf
   number-accepted n = by-test (beyond x) (sym (ap (λ (q : Figure). q .number) e) ∙ n)
     where
-      by-test : (b : Bool) → cond b refused (accepted (billionthsOf x)) .number ≡ 0 → b ≡ false
+      by-test : (b : Bool) → cond b refusedFigure (acceptedFigure (billionthsOf x)) .number ≡ 0 → b ≡ false
       by-test true q = let none : ⊥ = omega arith in absurd none
       by-test false q = refl
 
@@ -82,7 +82,7 @@ module _ (x : Float) (r : Figure) (e : r ≡ figureOf x) where
   unfolding figureOf
   number-refused n = by-test (beyond x) (λ q. n (ap (λ (q : Figure). q .number) e ∙ q))
     where
-      by-test : (b : Bool) → (cond b refused (accepted (billionthsOf x)) .number ≡ 0 → ⊥) → b ≡ true
+      by-test : (b : Bool) → (cond b refusedFigure (acceptedFigure (billionthsOf x)) .number ≡ 0 → ⊥) → b ≡ true
       by-test true q = refl
       by-test false q = absurd (q refl)
 
@@ -94,7 +94,7 @@ module _ (x : Float) (r : Figure) (e : r ≡ figureOf x) where
   unfolding figureOf
   value-bound = subst (λ (q : Figure). natAbs (q .value) ≤ 10000000000) (sym e) (by-test (beyond x) refl)
     where
-      by-test : (b : Bool) → beyond x ≡ b → natAbs (cond b refused (accepted (billionthsOf x)) .value) ≤ 10000000000
+      by-test : (b : Bool) → beyond x ≡ b → natAbs (cond b refusedFigure (acceptedFigure (billionthsOf x)) .value) ≤ 10000000000
       by-test true h = omega arith
       by-test false h = billionths-bound x h
 

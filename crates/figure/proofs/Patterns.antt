@@ -75,14 +75,17 @@ pub pattern-zero : (b : ℕ) → fieldOf b ≡ 0 → magnitudeOf (ofBits binary6
 unfolding ofBits
 pattern-zero b e =
     ap (λ (x : ℕ). magnitudeOf (ofFields binary64 (leb (2 ^ 63) b) x (digitsOf b))) e
-    ∙ value-magnitude (ofFields binary64 (leb (2 ^ 63) b) 0 (digitsOf b)) (leb (2 ^ 63) b) (digitsOf b * 2 ^ 0) (2 ^ 1074) (pow-pos 1074) (zero-field (leb (2 ^ 63) b) (digitsOf b))
+    ∙ value-magnitude (ofFields binary64 (leb (2 ^ 63) b) 0 (digitsOf b)) (leb (2 ^ 63) b) (digitsOf b * 2 ^ 0) (2 ^ 1074) (pow-pos 1074)
+    (zero-field (leb (2 ^ 63) b) (digitsOf b))
     ∙ ap (λ (a : ℕ). nearest (a * one) (2 ^ 1074)) (mul-one (digitsOf b))
 
-pub pattern-later : (b : ℕ) (x : ℕ) → fieldOf b ≡ suc x → suc x ≤ 1026 → magnitudeOf (ofBits binary64 b) ≡ nearest ((digitsOf b + 2 ^ 52) * one) (2 ^ (1075 - suc x))
+pub pattern-later : (b : ℕ) (x : ℕ) → fieldOf b ≡ suc x → suc x ≤ 1026 →
+    magnitudeOf (ofBits binary64 b) ≡ nearest ((digitsOf b + 2 ^ 52) * one) (2 ^ (1075 - suc x))
 unfolding ofBits
 pattern-later b x e h =
     ap (λ (y : ℕ). magnitudeOf (ofFields binary64 (leb (2 ^ 63) b) y (digitsOf b))) e
-    ∙ value-magnitude (ofFields binary64 (leb (2 ^ 63) b) (suc x) (digitsOf b)) (leb (2 ^ 63) b) ((2 ^ 52 + digitsOf b) * 2 ^ x) (2 ^ 1074) (pow-pos 1074) (later-field (leb (2 ^ 63) b) (digitsOf b) x (omega arith))
+    ∙ value-magnitude (ofFields binary64 (leb (2 ^ 63) b) (suc x) (digitsOf b)) (leb (2 ^ 63) b) ((2 ^ 52 + digitsOf b) * 2 ^ x) (2 ^ 1074)
+    (pow-pos 1074) (later-field (leb (2 ^ 63) b) (digitsOf b) x (omega arith))
     ∙ nearest-same ((2 ^ 52 + digitsOf b) * 2 ^ x * one) (2 ^ 1074) ((digitsOf b + 2 ^ 52) * one) (2 ^ (1075 - suc x)) (pow-pos 1074) (pow-pos (1075 - suc x))
     (moved (digitsOf b) (2 ^ x) (2 ^ (1075 - suc x)) (2 ^ 1074) (sym (pow-add 2 x (1075 - suc x)) ∙ ap (λ (k : ℕ). 2 ^ k) together))
   where

@@ -38,16 +38,16 @@ beyond (inf s) = true
 beyond (fin s m e) = ltb (10 * down e) (m * up e)
 
 -- refusal 7 with zero
-abbrev pub refused : Figure
-refused = record { number = 7; value = pos 0 }
+abbrev pub refusedFigure : Figure
+refusedFigure = record { number = 7; value = pos 0 }
 
-abbrev pub accepted : ℤ → Figure
-accepted z = record { number = 0; value = z }
+abbrev pub acceptedFigure : ℤ → Figure
+acceptedFigure z = record { number = 0; value = z }
 
 -- the answer to a float
 unfoldable pub figureOf : Float → Figure
 unfolding beyond billionthsOf
-figureOf x = cond (beyond x) refused (accepted (billionthsOf x))
+figureOf x = cond (beyond x) refusedFigure (acceptedFigure (billionthsOf x))
 
 -- the float of a pattern of 64 bits; a NaN's pattern gives an infinity
 unfoldable pub patternFloat : ℕ → Float

@@ -1,8 +1,8 @@
 -- Every starred figure holds.
 -- Assumes nothing.
 use mathlib.Core.Path.{refl}
-use Rattle.lattice.specs.Shape.{highest-node}
-use Rattle.lattice.specs.Branching.{branching, z-of, up-at, middle-at, down-at, up, middle, down}
+use Rattle.lattice.specs.Shape.{highestNode}
+use Rattle.lattice.specs.Branching.{branching, zOf, upFormula, middleFormula, downFormula, upProbability, middleProbability, downProbability}
 use Rattle.spacing.proofs.Figures as spacings
 use Rattle.factor.proofs.Figures as factors
 use Rattle.figure.proofs.Figures as floats
@@ -12,7 +12,7 @@ use Rattle.text_laws.proofs.Figures as text
 use Rattle.figures.specs.Figures.{Figures}
 
 pub figures : Figures
-unfolding highest-node branching z-of up-at middle-at down-at up middle down
+unfolding highestNode branching zOf upFormula middleFormula downFormula upProbability middleProbability downProbability
 figures =
     record {
       highest-at-1840 = refl;

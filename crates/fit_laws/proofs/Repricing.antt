@@ -2,22 +2,21 @@
 -- Error budget, lower side: at most one unit a node for carrying (n), one unit a node for branching (m), and the old sum over one for the
 -- discounts' rounding, together at most 119 + 121 + 2 = 242. Upper side: quote over Z for the rounding of Z, at most 55.
 -- Assumes nothing.
-use mathlib.Core.Path.{_≡_, refl, _∙_, sym}
-use Prim.Native.Nat.{ℕ, zero, suc, _+_, _*_, _/_, _≤_, _<_}
-use native.Mathlib.Nat.{le-trans, le-of-lt, mul-le-mul, mul-le-mul-left, mul-le-mul-right, le-of-mul-le-mul-left, lt-of-mul-lt-mul-left}
+use Prim.Native.Nat.{ℕ, zero, _+_, _*_, _≤_, _<_}
+use native.Mathlib.Nat.{mul-le-mul, mul-le-mul-left, le-of-mul-le-mul-left, lt-of-mul-lt-mul-left}
 use native.Mathlib.Omega.{arith}
 use Rattle.arithmetic.specs.Sum.{sum}
 use Rattle.arithmetic.specs.Rounding.{one}
-use Rattle.tree.specs.Tree.{Transition, incoming, whole, Inside, Total}
-use Rattle.fit_laws.specs.Step.{normaliser, discount, carried, next-price}
-use Rattle.arithmetic.proofs.SumLaws.{sum-weigh-ge, sum-weigh-le, sum-term, sum-grow}
-use Rattle.tree.proofs.StepLaws.{incoming-total}
+use Rattle.tree.specs.Tree.{Transition, Inside, Total}
+use Rattle.fit_laws.specs.Bounds.{leastFactor, mostFactor, leastRowSum, mostRowSum, mostQuote}
+use Rattle.fit_laws.specs.Step.{normaliser, discount, carried, nextPrice}
+use Rattle.arithmetic.proofs.SumLaws.{sum-weigh-ge, sum-weigh-le, sum-grow}
 use Rattle.fit_laws.proofs.StepLaws.{carried-le, carried-ge, next-le, next-ge, discount-le, discount-ge, normaliser-le, normaliser-ge}
 
 -- the general law, for any quote and any factors
 pub short-by :
     (t : Transition) (n m p : ℕ) (q u : ℕ → ℕ) → Inside t n m → Total t n → zero < normaliser n q u →
-    one * p ≤ one * (sum m (next-price t n q (discount n q u p)) + n + m) + sum n q
+    one * p ≤ one * (sum m (nextPrice t n q (discount n q u p)) + n + m) + sum n q
 short-by t n m p q u inside total positive =
     let v : ℕ → ℕ = discount n q u p in
     let z : ℕ = normaliser n q u in
@@ -47,11 +46,11 @@ pub record Fittable (t : Transition) (n m p : ℕ) (q u : ℕ → ℕ) : Type 0 
   pub total : Total t n
   pub nodes : n ≤ 119
   pub next-nodes : m ≤ 121
-  pub sum-low : 99999700 ≤ sum n q
-  pub sum-high : sum n q ≤ 2000000300
-  pub factor-low : (k : ℕ) → k < n → 360000000 ≤ u k
-  pub factor-high : (k : ℕ) → k < n → u k ≤ 2720000000
-  pub quote-high : p ≤ 2000000000
+  pub sum-low : leastRowSum ≤ sum n q
+  pub sum-high : sum n q ≤ mostRowSum
+  pub factor-low : (k : ℕ) → k < n → leastFactor ≤ u k
+  pub factor-high : (k : ℕ) → k < n → u k ≤ mostFactor
+  pub quote-high : p ≤ mostQuote
 
 module _ (t : Transition) (n m p : ℕ) (q u : ℕ → ℕ) (f : Fittable t n m p q u) where
   pub normaliser-low : 35999891 ≤ normaliser n q u
@@ -67,8 +66,8 @@ module _ (t : Transition) (n m p : ℕ) (q u : ℕ → ℕ) (f : Fittable t n m 
 
   -- the repriced quote: short by at most 242, over by at most 55
   pub repriced :
-      (p ≤ sum m (next-price t n q (discount n q u p)) + 242)
-      × (sum m (next-price t n q (discount n q u p)) ≤ p + 55)
+      (p ≤ sum m (nextPrice t n q (discount n q u p)) + 242)
+      × (sum m (nextPrice t n q (discount n q u p)) ≤ p + 55)
   repriced = (
     omega
         (arith, short-by t n m p q u (f .inside) (f .total) (omega (arith, normaliser-low)), f .nodes, f .next-nodes, f .sum-high),
@@ -82,17 +81,3 @@ module _ (t : Transition) (n m p : ℕ) (q u : ℕ → ℕ) (f : Fittable t n m 
 
   pub quoted-fits : (k : ℕ) → k < n → p * u k < 18446744073709551616
   quoted-fits k l = omega (arith, mul-le-mul (f .quote-high) (f .factor-high k l))
-
-  pub discounted-fits : (v k : ℕ) → k < n → v ≤ 1100000000 → q k * v < 18446744073709551616
-  discounted-fits v k l h =
-      omega (arith, mul-le-mul-left (q k) h, sum-term n k q l, f .sum-high)
-
-  pub incoming-fits : (j : ℕ) → j < m → incoming t n (carried q (discount n q u p)) j < 18446744073709551616
-  incoming-fits j l =
-      omega (
-        arith,
-        sum-term m j (incoming t n (carried q (discount n q u p))) l,
-        incoming-total t n m (carried q (discount n q u p)) (f .inside) (f .total),
-        carried-high,
-        f .quote-high,
-      )

@@ -1,14 +1,14 @@
 -- Laws of one step of the fit, for any width and any transition.
 -- Assumes nothing.
-use mathlib.Core.Path.{_≡_, refl, _∙_, sym, ap}
-use Prim.Native.Nat.{ℕ, zero, suc, _+_, _*_, _/_, _≤_, _<_}
-use native.Mathlib.Nat.{le-trans, mul-le-mul-left, mul-le-mul-right, mul-div-le, lt-div-mul-add, le-of-mul-le-mul-left, lt-of-mul-lt-mul-left}
+use mathlib.Core.Path.{_≡_, _∙_, ap}
+use Prim.Native.Nat.{ℕ, zero, _+_, _*_, _/_, _≤_, _<_}
+use native.Mathlib.Nat.{mul-le-mul-left, mul-div-le, lt-div-mul-add}
 use native.Mathlib.Omega.{arith}
 use Rattle.arithmetic.specs.Sum.{sum}
 use Rattle.arithmetic.specs.Rounding.{one}
-use Rattle.tree.specs.Tree.{Transition, incoming, whole, Inside, Total}
-use Rattle.fit_laws.specs.Step.{normaliser, discount, carried, next-price}
-use Rattle.arithmetic.proofs.SumLaws.{sum-cong, sum-le, sum-add, sum-scale, sum-floor-le, sum-floor-ge, sum-weigh-le, sum-weigh-ge}
+use Rattle.tree.specs.Tree.{Transition, incoming, probabilityTotal, Inside, Total}
+use Rattle.fit_laws.specs.Step.{normaliser, discount, carried, nextPrice}
+use Rattle.arithmetic.proofs.SumLaws.{sum-cong, sum-le, sum-add, sum-scale, sum-floor-le, sum-floor-ge}
 use Rattle.tree.proofs.StepLaws.{incoming-total, incoming-cong}
 
 pub carried-node : (q v : ℕ → ℕ) (k : ℕ) → one * carried q v k ≤ q k * v k
@@ -27,17 +27,17 @@ carried-ge n q v = sum-floor-ge n one (λ k. q k * v k) (omega arith)
 -- branching: the next row's sum is the carried sum, less at most one unit a node
 pub next-le :
     (t : Transition) (n m : ℕ) (q v : ℕ → ℕ) → Inside t n m → Total t n →
-    sum m (next-price t n q v) ≤ sum n (carried q v)
-unfolding next-price
+    sum m (nextPrice t n q v) ≤ sum n (carried q v)
+unfolding nextPrice
 next-le t n m q v h p =
-    omega (arith, sum-floor-le m whole (λ j. incoming t n (carried q v) j), incoming-total t n m (carried q v) h p)
+    omega (arith, sum-floor-le m probabilityTotal (λ j. incoming t n (carried q v) j), incoming-total t n m (carried q v) h p)
 
 pub next-ge :
     (t : Transition) (n m : ℕ) (q v : ℕ → ℕ) → Inside t n m → Total t n →
-    sum n (carried q v) ≤ sum m (next-price t n q v) + m
-unfolding next-price
+    sum n (carried q v) ≤ sum m (nextPrice t n q v) + m
+unfolding nextPrice
 next-ge t n m q v h p =
-    omega (arith, sum-floor-ge m whole (λ j. incoming t n (carried q v) j) (omega arith), incoming-total t n m (carried q v) h p)
+    omega (arith, sum-floor-ge m probabilityTotal (λ j. incoming t n (carried q v) j) (omega arith), incoming-total t n m (carried q v) h p)
 
 -- the discounts' rounding, summed over the row
 pub discount-le :
@@ -86,8 +86,8 @@ discount-cong n p q r u h k =
 
 pub next-cong :
     (t : Transition) (n : ℕ) (q r v w : ℕ → ℕ) → ((k : ℕ) → k < n → q k ≡ r k) → ((k : ℕ) → k < n → v k ≡ w k) → (j : ℕ) →
-    next-price t n q v j ≡ next-price t n r w j
-unfolding next-price carried
+    nextPrice t n q v j ≡ nextPrice t n r w j
+unfolding nextPrice carried
 next-cong t n q r v w hq hv j =
-    ap (λ (a : ℕ). a / whole)
+    ap (λ (a : ℕ). a / probabilityTotal)
     (incoming-cong t n _ _ (λ k l. ap (λ (x : ℕ). x * v k / one) (hq k l) ∙ ap (λ (x : ℕ). r k * x / one) (hv k l)) j)

@@ -1,42 +1,44 @@
 -- The fit over all rows: every quote is repriced within 300 billionths, and no step overflows.
 -- Assumes nothing.
-use mathlib.Core.Path.{_≡_, refl, _∙_, sym, ap}
-use Prim.Native.Nat.{ℕ, zero, suc, _+_, _-_, _*_, _/_, _^_, _≤_, _<_}
+use mathlib.Core.Path.{_≡_, refl, _∙_, ap}
+use Prim.Native.Nat.{ℕ, zero, suc, _+_, _-_, _*_, _/_, _≤_, _<_}
 use native.Mathlib.Omega.{arith}
 use Rattle.arithmetic.specs.Sum.{sum}
 use Rattle.arithmetic.specs.Rounding.{one}
-use Rattle.fit_laws.specs.Step.{normaliser, discount, next-price}
-use Rattle.tree.specs.Tree.{Tree, Sound, unit}
-use Rattle.fit_laws.specs.StatePrices.{state-price, fitted-price, fitted-discount}
+use Rattle.limits.specs.Limits.{mostSteps}
+use Rattle.fit_laws.specs.Bounds.{leastQuote, mostQuote, leastFactor, mostFactor, leastRowSum, mostRowSum}
+use Rattle.fit_laws.specs.Step.{normaliser, discount, nextPrice}
+use Rattle.tree.specs.Tree.{Tree, Sound}
+use Rattle.fit_laws.specs.StatePrices.{statePrice, fittedPrice, fittedDiscount}
 use Rattle.arithmetic.proofs.SumLaws.{sum-single, sum-cong}
 use Rattle.fit_laws.proofs.StepLaws.{next-cong}
 use Rattle.fit_laws.proofs.Repricing.{Fittable, repriced}
 
 -- the fitted state prices are those that follow from the fitted discounts
 pub fitted-is-state :
-    (t : Tree) (u : ℕ → ℕ → ℕ) (p : ℕ → ℕ) (i : ℕ) → fitted-price t u p i ≡ state-price t (fitted-discount t u p) i
-unfolding fitted-price state-price fitted-discount
+    (t : Tree) (u : ℕ → ℕ → ℕ) (p : ℕ → ℕ) (i : ℕ) → fittedPrice t u p i ≡ statePrice t (fittedDiscount t u p) i
+unfolding fittedPrice statePrice fittedDiscount
 fitted-is-state t u p zero = refl
 fitted-is-state t u p (suc i) =
     ap
-    (λ (q : ℕ → ℕ). next-price (t .step i) (t .nodes i) q
-    (discount (t .nodes i) (fitted-price t u p i) (u i) (p (suc i))))
+    (λ (q : ℕ → ℕ). nextPrice (t .step i) (t .nodes i) q
+    (discount (t .nodes i) (fittedPrice t u p i) (u i) (p (suc i))))
     (fitted-is-state t u p i)
 
 -- What a curve and its factors must keep for an n-step fit: the ranges of the quotes and of the factors, and the node counts.
 pub record Curve (t : Tree) (n : ℕ) (u : ℕ → ℕ → ℕ) (p : ℕ → ℕ) : Type 0 where
-  pub steps : n ≤ 60
+  pub steps : n ≤ mostSteps
   pub counts : (i : ℕ) → t .nodes i ≤ 2 * i + 1
-  pub quote-low : (i : ℕ) → i < n → 100000000 ≤ p (suc i)
-  pub quote-high : (i : ℕ) → i < n → p (suc i) ≤ 2000000000
-  pub factor-low : (i k : ℕ) → i < n → k < t .nodes i → 360000000 ≤ u i k
-  pub factor-high : (i k : ℕ) → i < n → k < t .nodes i → u i k ≤ 2720000000
+  pub quote-low : (i : ℕ) → i < n → leastQuote ≤ p (suc i)
+  pub quote-high : (i : ℕ) → i < n → p (suc i) ≤ mostQuote
+  pub factor-low : (i k : ℕ) → i < n → k < t .nodes i → leastFactor ≤ u i k
+  pub factor-high : (i k : ℕ) → i < n → k < t .nodes i → u i k ≤ mostFactor
 
 module _ (t : Tree) (s : Sound t) (n : ℕ) (u : ℕ → ℕ → ℕ) (p : ℕ → ℕ) (c : Curve t n u p) where
   -- each row that a fit step starts from
   fittable-of :
-      (i : ℕ) → i < n → 99999700 ≤ sum (t .nodes i) (fitted-price t u p i) → sum (t .nodes i) (fitted-price t u p i) ≤ 2000000300 →
-      Fittable (t .step i) (t .nodes i) (t .nodes (suc i)) (p (suc i)) (fitted-price t u p i) (u i)
+      (i : ℕ) → i < n → leastRowSum ≤ sum (t .nodes i) (fittedPrice t u p i) → sum (t .nodes i) (fittedPrice t u p i) ≤ mostRowSum →
+      Fittable (t .step i) (t .nodes i) (t .nodes (suc i)) (p (suc i)) (fittedPrice t u p i) (u i)
   fittable-of i l low high =
       record {
         inside = s .inside i;
@@ -50,50 +52,50 @@ module _ (t : Tree) (s : Sound t) (n : ℕ) (u : ℕ → ℕ → ℕ) (p : ℕ �
         quote-high = c .quote-high i l;
       }
 
-  root-sum : sum (t .nodes 0) (fitted-price t u p 0) ≡ one
-  unfolding fitted-price
+  root-sum : sum (t .nodes 0) (fittedPrice t u p 0) ≡ one
+  unfolding fittedPrice
   root-sum = rw (s .root) (sum-single (λ k. one))
 
   pub fittable :
-      (i : ℕ) → i < n → Fittable (t .step i) (t .nodes i) (t .nodes (suc i)) (p (suc i)) (fitted-price t u p i) (u i)
-  unfolding fitted-price
+      (i : ℕ) → i < n → Fittable (t .step i) (t .nodes i) (t .nodes (suc i)) (p (suc i)) (fittedPrice t u p i) (u i)
+  unfolding fittedPrice
   fittable zero l = fittable-of 0 l (omega (arith, root-sum)) (omega (arith, root-sum))
   fittable (suc i) l =
       let l′ : i < n = omega arith in
-      let r : (p (suc i) ≤ sum (t .nodes (suc i)) (fitted-price t u p (suc i)) + 242)
-      × (sum (t .nodes (suc i)) (fitted-price t u p (suc i)) ≤ p (suc i) + 55)
-      = repriced (t .step i) (t .nodes i) (t .nodes (suc i)) (p (suc i)) (fitted-price t u p i) (u i) (fittable i l′) in
+      let r : (p (suc i) ≤ sum (t .nodes (suc i)) (fittedPrice t u p (suc i)) + 242)
+      × (sum (t .nodes (suc i)) (fittedPrice t u p (suc i)) ≤ p (suc i) + 55)
+      = repriced (t .step i) (t .nodes i) (t .nodes (suc i)) (p (suc i)) (fittedPrice t u p i) (u i) (fittable i l′) in
       fittable-of (suc i) l (omega (arith, r, c .quote-low i l′)) (omega (arith, r, c .quote-high i l′))
 
   -- every quote is repriced within 300 billionths; the sum stays within what weighing takes
   pub quotes-repriced :
       (i : ℕ) → i < n →
-      (p (suc i) ≤ sum (t .nodes (suc i)) (fitted-price t u p (suc i)) + 300)
-      × (sum (t .nodes (suc i)) (fitted-price t u p (suc i)) ≤ p (suc i) + 300)
-      × (sum (t .nodes (suc i)) (fitted-price t u p (suc i)) ≤ 2000000100)
-  unfolding fitted-price
+      (p (suc i) ≤ sum (t .nodes (suc i)) (fittedPrice t u p (suc i)) + 300)
+      × (sum (t .nodes (suc i)) (fittedPrice t u p (suc i)) ≤ p (suc i) + 300)
+      × (sum (t .nodes (suc i)) (fittedPrice t u p (suc i)) ≤ 2000000100)
+  unfolding fittedPrice
   quotes-repriced i l =
-      let r = repriced (t .step i) (t .nodes i) (t .nodes (suc i)) (p (suc i)) (fitted-price t u p i) (u i) (fittable i l) in
+      let r = repriced (t .step i) (t .nodes i) (t .nodes (suc i)) (p (suc i)) (fittedPrice t u p i) (u i) (fittable i l) in
       (omega (arith, r), omega (arith, r), omega (arith, r, c .quote-high i l))
 
 -- the fit goes by the factors of the tree's own nodes
 module _ (t : Tree) (u w : ℕ → ℕ → ℕ) (p : ℕ → ℕ) (n : ℕ) (same : (i k : ℕ) → i < n → k < t .nodes i → u i k ≡ w i k) where
-  discount-by : (i : ℕ) → i < n → ((k : ℕ) → k < t .nodes i → fitted-price t u p i k ≡ fitted-price t w p i k) → (k : ℕ) → k < t .nodes i →
-      discount (t .nodes i) (fitted-price t u p i) (u i) (p (suc i)) k ≡ discount (t .nodes i) (fitted-price t w p i) (w i) (p (suc i)) k
+  discount-by : (i : ℕ) → i < n → ((k : ℕ) → k < t .nodes i → fittedPrice t u p i k ≡ fittedPrice t w p i k) → (k : ℕ) → k < t .nodes i →
+      discount (t .nodes i) (fittedPrice t u p i) (u i) (p (suc i)) k ≡ discount (t .nodes i) (fittedPrice t w p i) (w i) (p (suc i)) k
   unfolding discount normaliser
   discount-by i h e k l =
-      ap (λ (x : ℕ). p (suc i) * x / (sum (t .nodes i) (λ k. fitted-price t u p i k * u i k) / one)) (same i k h l)
+      ap (λ (x : ℕ). p (suc i) * x / (sum (t .nodes i) (λ k. fittedPrice t u p i k * u i k) / one)) (same i k h l)
       ∙ ap (λ (s : ℕ). p (suc i) * w i k / (s / one))
-      (sum-cong (t .nodes i) (λ k. fitted-price t u p i k * u i k) (λ k. fitted-price t w p i k * w i k)
-      (λ k m. ap (λ (x : ℕ). x * u i k) (e k m) ∙ ap (λ (x : ℕ). fitted-price t w p i k * x) (same i k h m)))
+      (sum-cong (t .nodes i) (λ k. fittedPrice t u p i k * u i k) (λ k. fittedPrice t w p i k * w i k)
+      (λ k m. ap (λ (x : ℕ). x * u i k) (e k m) ∙ ap (λ (x : ℕ). fittedPrice t w p i k * x) (same i k h m)))
 
-  pub price-by : (i : ℕ) → i ≤ n → (k : ℕ) → fitted-price t u p i k ≡ fitted-price t w p i k
-  unfolding fitted-price
+  pub price-by : (i : ℕ) → i ≤ n → (k : ℕ) → fittedPrice t u p i k ≡ fittedPrice t w p i k
+  unfolding fittedPrice
   price-by zero h k = refl
   price-by (suc i) h k =
       let e = price-by i (omega arith) in
       next-cong (t .step i) (t .nodes i) _ _ _ _ (λ c _. e c) (discount-by i (omega arith) (λ c _. e c)) k
 
-  pub fitted-discount-by : (i : ℕ) → i < n → (k : ℕ) → k < t .nodes i → fitted-discount t u p i k ≡ fitted-discount t w p i k
-  unfolding fitted-discount
+  pub fitted-discount-by : (i : ℕ) → i < n → (k : ℕ) → k < t .nodes i → fittedDiscount t u p i k ≡ fittedDiscount t w p i k
+  unfolding fittedDiscount
   fitted-discount-by i h k l = discount-by i h (λ c _. price-by i (omega arith) c) k l

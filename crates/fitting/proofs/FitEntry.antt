@@ -10,27 +10,28 @@ use lib.Ieee.{Float}
 use lib.ListN.{length, take, drop}
 use lib.Seq.{take-at}
 use borrow.Author.Tests.{eq-eqb, ne-eqb}
-use Rattle.arithmetic.specs.Answers.{refused, answered, lowest-cause}
+use Rattle.arithmetic.specs.Answers.{refused, answered, lowestCause}
 use Rattle.arithmetic.specs.Rounding.{one}
 use Rattle.arithmetic.specs.Row.{row, values, place, each}
 use Rattle.arithmetic.proofs.Numbers.{by-equal}
 use Rattle.arithmetic.proofs.RowLaws.{values-row, length-row}
 use Rattle.tree.specs.Layout.{laid}
 use Rattle.tree.proofs.LayoutLaws.{length-laid}
-use Rattle.lattice.specs.Shape.{half-width, row-start, discounts-needed}
-use Rattle.lattice.specs.RateTree.{rate-tree}
-use Rattle.lattice.specs.Entries.{discountsNeeded, statePricesNeeded}
+use Rattle.lattice.specs.Shape.{halfWidth, rowStart, discountsNeeded}
+use Rattle.lattice.specs.RateTree.{rateTree}
+use Rattle.lattice.specs.Entries.{discountsNeededAnswer, statePricesNeededAnswer, memoryCause}
 use Rattle.lattice.proofs.RateTreeLaws.{start-is}
 use Rattle.lattice.proofs.TreeEntries.{by-tree}
-use Rattle.spacing.specs.Spacing.{spacing, spacing-answer}
+use Rattle.spacing.specs.Spacing.{spacing, spacingAnswer}
 use Rattle.arithmetic.specs.Frequency.{listed}
-use Rattle.limits.specs.Limits.{is-steps}
+use Rattle.limits.specs.Limits.{mostSteps, isSteps}
 use Rattle.curve.specs.Curve.{discountAt, convertsAt, inPlace, curveNumber, curveMemory}
 use Rattle.curve.proofs.CurveLaws.{curve-range, curve-stored}
 use Rattle.fitting.specs.declared.causes.Plan.{Plan}
-use Rattle.fitting.specs.Fit.{Fittable, curve-discount, curve-price, curve-accepted}
-use Rattle.fitting.specs.Entry
-use Rattle.fitting.specs.Entry.{quotes-of, memory-cause, early-cause, late-cause, fitNumber, fit-memory, fit-discounts, fit-prices}
+use Rattle.fit_laws.specs.Bounds.{leastQuote, mostQuote}
+use Rattle.fitting.specs.Fit.{curveDiscount, curvePrice, curveAccepted, rowsOrZeros, TreeFitted}
+use Rattle.fitting.specs.Preconditions.{QuotesReady}
+use Rattle.fitting.specs.Entry.{quotesOf, earlyCause, lateCause, fitNumber, fitMemory, fitDiscounts, fitPrices, discountsAfter, pricesAfter}
 use Rattle.fitting.specs.Plans.{Planned}
 
 -- causes 2 to 7 are at most 7
@@ -44,31 +45,31 @@ chain-small false false false false = omega arith
 curve-small : (f n : ℕ) (rows kinds : List ℕ) (figures : List Float) (room : ℕ) → curveNumber f n rows kinds figures room ≤ 7
 unfolding curveNumber
 curve-small f n rows kinds figures room =
-    chain-small (not (listed f)) (not (is-steps n)) (not (inPlace n rows kinds figures room)) (not (each n (convertsAt f kinds figures)))
+    chain-small (not (listed f)) (not (isSteps n)) (not (inPlace n rows kinds figures room)) (not (each n (convertsAt f kinds figures)))
 
-tree-small : (n b : ℕ) → discountsNeeded n b .number ≤ 7
+tree-small : (n b : ℕ) → discountsNeededAnswer n b .number ≤ 7
 tree-small n b =
-    by-tree n b (discounts-needed n b) (λ a. a .number ≤ 7) (λ _. omega arith) (λ _. omega arith) (λ _ _ _. omega arith) (λ _. omega arith)
+    by-tree n b (discountsNeeded n b) (λ a. a .number ≤ 7) (λ _. omega arith) (λ _. omega arith) (λ _ _ _. omega arith) (λ _. omega arith)
 
 answer-small : (a b : Bool) (x : ℕ) → (cond a (refused 2) (cond b (refused 5) (answered x))) .number ≤ 7
 answer-small true b x = omega arith
 answer-small false true x = omega arith
 answer-small false false x = omega arith
 
-spacing-small : (f s : ℕ) → spacing-answer f s .number ≤ 7
-unfolding spacing-answer
+spacing-small : (f s : ℕ) → spacingAnswer f s .number ≤ 7
+unfolding spacingAnswer
 spacing-small f s = answer-small (not (listed f)) (ltb 50000 s) (spacing f s)
 
-memory-small : (n b ds ps : ℕ) → memory-cause n b ds ps ≤ 7
-unfolding memory-cause
-memory-small n b ds ps = six (leb (discountsNeeded n b .value) ds && leb (statePricesNeeded n b .value) ps)
+memory-small : (n b ds ps : ℕ) → memoryCause n b ds ps ≤ 7
+unfolding memoryCause
+memory-small n b ds ps = six (leb (discountsNeededAnswer n b .value) ds && leb (statePricesNeededAnswer n b .value) ps)
   where
     six : (t : Bool) → cond t 0 6 ≤ 7
     six true = omega arith
     six false = omega arith
 
-lowest-small : (a b : ℕ) → a ≤ 7 → b ≤ 7 → lowest-cause a b ≤ 7
-unfolding lowest-cause
+lowest-small : (a b : ℕ) → a ≤ 7 → b ≤ 7 → lowestCause a b ≤ 7
+unfolding lowestCause
 lowest-small a b ha hb = go (eqb a 0) (eqb b 0)
   where
     go : (s t : Bool) → cond s b (cond t a (min a b)) ≤ 7
@@ -76,30 +77,34 @@ lowest-small a b ha hb = go (eqb a 0) (eqb b 0)
     go false true = ha
     go false false = omega arith
 
-early-small : (c f n b s ds ps : ℕ) → c ≤ 7 → early-cause c f n b s ds ps ≤ 7
-unfolding early-cause
+early-small : (c f n b s ds ps : ℕ) → c ≤ 7 → earlyCause c f n b s ds ps ≤ 7
+unfolding earlyCause
 early-small c f n b s ds ps h =
     lowest-small _ _ (lowest-small c _ h (tree-small n b)) (lowest-small _ _ (spacing-small f s) (memory-small n b ds ps))
 
 -- a memory that a refusal leaves, and one that the fit wrote
-kept : (number : ℕ) (rows memory : List ℕ) → (number ≡ 0 → ⊥) → number ≤ 8 → memory ≡ fit-memory number rows memory
-unfolding fit-memory
+kept : (number : ℕ) (rows memory : List ℕ) → (number ≡ 0 → ⊥) → number ≤ 8 → memory ≡ fitMemory number rows memory
+unfolding fitMemory
 kept number rows memory nz h = rw (ne-eqb number 0 nz, ne-eqb number 9 nine)
   where
     nine : number ≡ 9 → ⊥
     nine e = omega arith
 
-written : (t : Bool) (rows memory after : List ℕ) (m : ℕ) → length rows ≡ m → after ≡ cond t rows (row m (λ j. 0)) ++ drop m memory →
-    after ≡ fit-memory (cond t 0 9) rows memory
-unfolding fit-memory place
-written true rows memory after m e ea =
-    let z : 0 + length rows ≡ m = omega arith in
-    ea ∙ ap (λ (k : ℕ). rows ++ drop k memory) (sym z)
-written false rows memory after m e ea =
-    let z : 0 + length (row (length rows) (λ j. 0)) ≡ m = omega (arith, length-row (length rows) (λ j. 0)) in
-    ea ∙ ap (λ (k : ℕ). row k (λ j. 0) ++ drop m memory) (sym e) ∙ ap (λ (k : ℕ). row (length rows) (λ j. 0) ++ drop k memory) (sym z)
+laid-size : (b n : ℕ) (v : ℕ → ℕ → ℕ) → length (laid (rateTree b) v n) ≡ rowStart b n
+laid-size b n v = length-laid (rateTree b) v n ∙ start-is b n
 
-pub cond-zero : (t : Bool) → _≡_ {A = ℕ} (cond t 8 0) 0 → t ≡ false
+written : (b n : ℕ) (t : Bool) (v : ℕ → ℕ → ℕ) (memory after : List ℕ) → after ≡ rowsOrZeros b n t v memory →
+    after ≡ fitMemory (cond t 0 9) (laid (rateTree b) v n) memory
+unfolding fitMemory place
+written b n true v memory after ea =
+    let z : rowStart b n ≡ 0 + length (laid (rateTree b) v n) = omega (arith, laid-size b n v) in
+    ea ∙ ap (λ (k : ℕ). laid (rateTree b) v n ++ drop k memory) z
+written b n false v memory after ea =
+    let m = length (laid (rateTree b) v n) in
+    let z : rowStart b n ≡ 0 + length (row m (λ j. 0)) = omega (arith, length-row m (λ j. 0), laid-size b n v) in
+    ea ∙ ap (λ (k : ℕ). row k (λ j. 0) ++ drop (rowStart b n) memory) (sym (laid-size b n v)) ∙ ap (λ (k : ℕ). row m (λ j. 0) ++ drop k memory) z
+
+cond-zero : (t : Bool) → _≡_ {A = ℕ} (cond t 8 0) 0 → t ≡ false
 cond-zero true e = absurd (none e)
   where
     none : _≡_ {A = ℕ} 8 0 → ⊥
@@ -110,64 +115,73 @@ cond-eight : (t : Bool) (x : ℕ) → (_≡_ {A = ℕ} (cond t 8 0) 0 → ⊥) �
 cond-eight true x h = refl
 cond-eight false x h = absurd (h refl)
 
-module _ (f n b s : ℕ) (rows kinds : List ℕ) (figures : List Float) (d p : List ℕ) (plan : Plan) (c : ℕ)
-    (ec : c ≡ curveNumber f n rows kinds figures 60) (made : Planned f n b s c (length d) (length p) plan) where
-  early : ℕ
-  early = early-cause c f n b s (length d) (length p)
+cond-small : (t : Bool) → cond t 8 0 ≤ 8
+cond-small true = omega arith
+cond-small false = omega arith
 
-  number-named : fitNumber f n b s rows kinds figures (length d) (length p)
-      ≡ cond (eqb (early-cause c f n b s (length d) (length p)) 0) (late-cause n b (spacing f s) (quotes-of f n kinds figures)) (early-cause c f n b s (length d) (length p))
-  unfolding fitNumber
-  number-named = rw (← ec)
+-- what code holds once the quotes were converted and the plan was made: the plan, and the memory of the quotes
+pub record Prepared (f n b s : ℕ) (rows kinds : List ℕ) (figures : List Float) (d p : List ℕ) (plan : Plan) (after : List ℕ) : Type 0 where
+  pub planned : Planned f n b s (curveNumber f n rows kinds figures mostSteps) (length d) (length p) plan
+  pub memory : List ℕ
+  pub memory-length : length memory ≡ mostSteps
+  pub after-is : after ≡ curveMemory f n rows kinds figures memory
+
+pub prepared : {f n b s : ℕ} {rows kinds : List ℕ} {figures : List Float} {d p : List ℕ} {plan : Plan} {after : List ℕ} {converted : ℕ} (memory : List ℕ) →
+    length memory ≡ mostSteps → converted ≡ curveNumber f n rows kinds figures mostSteps → after ≡ curveMemory f n rows kinds figures memory →
+    Planned f n b s converted (length d) (length p) plan → Prepared f n b s rows kinds figures d p plan after
+prepared memory room ec ea made = record { planned = rw ec at made; memory = memory; memory-length = room; after-is = ea }
+
+module _ {f n b s : ℕ} {rows kinds : List ℕ} {figures : List Float} {d p : List ℕ} {plan : Plan} {after : List ℕ}
+    (k : Prepared f n b s rows kinds figures d p plan after) where
+  abbrev early : ℕ
+  early = earlyCause (curveNumber f n rows kinds figures mostSteps) f n b s (length d) (length p)
+
+  abbrev fit-number : ℕ
+  fit-number = fitNumber f n b s rows kinds figures (length d) (length p)
+
+  abbrev wide : Bool
+  wide = ltb one (halfWidth b (n - 1) * spacing f s)
+
+  abbrev accepted : Bool
+  accepted = curveAccepted b (spacing f s) (quotesOf f n kinds figures)
 
   -- refused before the fit
   module _ (nz : plan .number ≡ 0 → ⊥) where
-    number-refused : plan .number ≡ fitNumber f n b s rows kinds figures (length d) (length p)
-    unfolding late-cause
+    number-refused : plan .number ≡ fit-number
+    unfolding fitNumber lateCause
     number-refused =
-        made .number
-        ∙ by-equal (early-cause c f n b s (length d) (length p)) 0
-        (λ z. rw (eq-eqb (early-cause c f n b s (length d) (length p)) 0 z)
-        (cond-eight (ltb one (half-width b (n - 1) * spacing f s)) _
-        (λ e. nz (made .number ∙ rw (eq-eqb (early-cause c f n b s (length d) (length p)) 0 z) e))))
-        (λ k. rw (ne-eqb (early-cause c f n b s (length d) (length p)) 0 k))
-        ∙ sym number-named
+        k .planned .number
+        ∙ by-equal early 0
+        (λ z. rw (eq-eqb early 0 z) (cond-eight wide _ (λ e. nz (k .planned .number ∙ rw (eq-eqb early 0 z) e))))
+        (λ some. rw (ne-eqb early 0 some))
 
     refused-most : plan .number ≤ 8
     refused-most =
-        by-equal (early-cause c f n b s (length d) (length p)) 0
-        (λ z. rw (made .number, eq-eqb (early-cause c f n b s (length d) (length p)) 0 z) (eight (ltb one (half-width b (n - 1) * spacing f s))))
-        (λ k. rw (made .number, ne-eqb (early-cause c f n b s (length d) (length p)) 0 k)
-        (omega (arith, early-small c f n b s (length d) (length p) (rw ec (curve-small f n rows kinds figures 60)))))
-      where
-        eight : (t : Bool) → cond t 8 0 ≤ 8
-        eight true = omega arith
-        eight false = omega arith
+        let small = early-small _ f n b s (length d) (length p) (curve-small f n rows kinds figures mostSteps) in
+        by-equal early 0
+        (λ z. rw (k .planned .number, eq-eqb early 0 z) (cond-small wide))
+        (λ some. rw (k .planned .number, ne-eqb early 0 some) (omega (arith, small)))
 
-    pub fit-refused :
-        (plan .number ≡ fitNumber f n b s rows kinds figures (length d) (length p))
-        × ((d ≡ fit-memory (fitNumber f n b s rows kinds figures (length d) (length p)) (fit-discounts f n b s kinds figures) d)
-        × (p ≡ fit-memory (fitNumber f n b s rows kinds figures (length d) (length p)) (fit-prices f n b s kinds figures) p))
-    fit-refused = (
-      number-refused,
-      (
-        kept (plan .number) (fit-discounts f n b s kinds figures) d nz refused-most ∙ ap (λ (x : ℕ). fit-memory x (fit-discounts f n b s kinds figures) d) number-refused,
-        kept (plan .number) (fit-prices f n b s kinds figures) p nz refused-most ∙ ap (λ (x : ℕ). fit-memory x (fit-prices f n b s kinds figures) p) number-refused,
-      ),
-    )
+    kept-as : (part memory : List ℕ) → memory ≡ fitMemory fit-number part memory
+    kept-as part memory =
+        kept (plan .number) part memory nz refused-most ∙ ap (λ (x : ℕ). fitMemory x part memory) number-refused
+
+    pub fit-refused : (plan .number ≡ fitNumber f n b s rows kinds figures (length d) (length p))
+        × ((d ≡ discountsAfter f n b s rows kinds figures d p) × (p ≡ pricesAfter f n b s rows kinds figures d p))
+    fit-refused = (number-refused, (kept-as (fitDiscounts f n b s kinds figures) d, kept-as (fitPrices f n b s kinds figures) p))
 
   -- accepted so far
-  module _ (z : plan .number ≡ 0) (memory after : List ℕ) (room : length memory ≡ 60) (ea : after ≡ curveMemory f n rows kinds figures memory) where
-    quoted-all : curveNumber f n rows kinds figures (length memory) ≡ 0
-    quoted-all = ap (curveNumber f n rows kinds figures) room ∙ sym ec ∙ made .numbers z .quotes
+  module _ (z : plan .number ≡ 0) where
+    quoted-all : curveNumber f n rows kinds figures (length (k .memory)) ≡ 0
+    quoted-all = ap (curveNumber f n rows kinds figures) (k .memory-length) ∙ k .planned .numbers z .quotes-converted
 
-    pub steps-few : n ≤ 60
-    steps-few = made .numbers z .few
+    pub steps-few : n ≤ mostSteps
+    steps-few = k .planned .numbers z .steps-within-limit
 
-    pub quotes-are : take n after ≡ quotes-of f n kinds figures
+    quotes-are : take n after ≡ quotesOf f n kinds figures
     unfolding place
     quotes-are =
-        ap (take n) (ea ∙ curve-stored f n rows kinds figures memory quoted-all)
+        ap (take n) (k .after-is ∙ curve-stored f n rows kinds figures (k .memory) quoted-all)
         ∙ take-at (row n (discountAt f kinds figures)) _ n (length-row n (discountAt f kinds figures))
 
     pub quotes-length : length (take n after) ≡ n
@@ -176,61 +190,47 @@ module _ (f n b s : ℕ) (rows kinds : List ℕ) (figures : List Float) (d p : L
     value-is : (i : ℕ) → i < n → values (take n after) i ≡ discountAt f kinds figures i
     value-is i h = ap (λ (x : List ℕ). values x i) quotes-are ∙ values-row n i _ h
 
-    in-range : (i : ℕ) → i < n → (100000000 ≤ discountAt f kinds figures i) × (discountAt f kinds figures i ≤ 2000000000)
-    in-range i h = curve-range f n rows kinds figures (length memory) quoted-all i h
+    in-range : (i : ℕ) → i < n → (leastQuote ≤ values (take n after) i) × (values (take n after) i ≤ mostQuote)
+    in-range i h = rw (value-is i h) (curve-range f n rows kinds figures (length (k .memory)) quoted-all i h)
 
-    pub fittable : Fittable b (plan .spacing) (plan .widest) (take n after) (length d) (length p)
-    fittable =
+    pub quotes-ready : QuotesReady b (plan .spacing) (plan .widest) (take n after) (length d) (length p)
+    quotes-ready =
+        let numbers = k .planned .numbers z in
         record {
-          some = rw quotes-length (made .numbers z .some);
-          few = rw quotes-length (made .numbers z .few);
-          reverting = made .numbers z .reverting;
-          widest = rw quotes-length (made .widest-is z);
-          narrow = made .narrow z;
-          least = λ i h. rw (value-is i (rw quotes-length at h)) (in-range i (rw quotes-length at h) .0);
-          most = λ i h. rw (value-is i (rw quotes-length at h)) (in-range i (rw quotes-length at h) .1);
-          room-discounts = rw quotes-length (made .numbers z .room-discounts);
-          room-prices = rw quotes-length (made .numbers z .room-prices);
+          steps-positive = rw quotes-length (numbers .steps-positive);
+          steps-within-limit = rw quotes-length (numbers .steps-within-limit);
+          reversion-within-limit = numbers .reversion-within-limit;
+          widest-is = rw quotes-length (k .planned .widest-is z);
+          spacing-within-one = k .planned .spacing-within-one z;
+          quotes-least = λ i h. in-range i (rw quotes-length at h) .0;
+          quotes-most = λ i h. in-range i (rw quotes-length at h) .1;
+          room-discounts = rw quotes-length (numbers .room-discounts);
+          room-prices = rw quotes-length (numbers .room-prices);
         }
 
-    accepted : Bool
-    accepted = curve-accepted b (spacing f s) (quotes-of f n kinds figures)
+    none-early : early ≡ 0
+    none-early = by-equal early 0 (λ e. e) (λ some. absurd (some (sym (rw (ne-eqb early 0 some) at (k .planned .number)) ∙ z)))
 
-    number-found : fitNumber f n b s rows kinds figures (length d) (length p) ≡ cond (curve-accepted b (spacing f s) (quotes-of f n kinds figures)) 0 9
-    unfolding late-cause
-    number-found =
-        let e : early-cause c f n b s (length d) (length p) ≡ 0 = none-early in
-        number-named ∙ rw (eq-eqb (early-cause c f n b s (length d) (length p)) 0 e, not-wide e)
-      where
-        none-early : early-cause c f n b s (length d) (length p) ≡ 0
-        none-early =
-            by-equal (early-cause c f n b s (length d) (length p)) 0 (λ e. e)
-            (λ k. absurd (k (sym (rw (ne-eqb (early-cause c f n b s (length d) (length p)) 0 k) at (made .number)) ∙ z)))
+    not-wide : wide ≡ false
+    not-wide = cond-zero _ (sym (rw (eq-eqb early 0 none-early) at (k .planned .number)) ∙ z)
 
-        not-wide : early-cause c f n b s (length d) (length p) ≡ 0 → ltb one (half-width b (n - 1) * spacing f s) ≡ false
-        not-wide e = cond-zero _ (sym (rw (eq-eqb (early-cause c f n b s (length d) (length p)) 0 e) at (made .number)) ∙ z)
+    number-found : fit-number ≡ cond accepted 0 9
+    unfolding fitNumber lateCause
+    number-found = rw (eq-eqb early 0 none-early, not-wide)
 
-    rows-length : (g : ℕ → ℕ → ℕ) (i : ℕ) → length (laid (rate-tree b) g i) ≡ row-start b i
-    rows-length g i = length-laid (rate-tree b) g i ∙ start-is b i
+    made-as : (m : ℕ) (v : ℕ → ℕ → ℕ) (memory after : List ℕ) → after ≡ rowsOrZeros b m accepted v memory →
+        after ≡ fitMemory fit-number (laid (rateTree b) v m) memory
+    made-as m v memory after e =
+        written b m accepted v memory after e ∙ ap (λ (x : ℕ). fitMemory x (laid (rateTree b) v m) memory) (sym number-found)
 
-    module _ (r : ℕ) (d′ p′ : List ℕ)
-        (er : r ≡ cond (curve-accepted b (plan .spacing) (take n after)) 0 9)
-        (ed : d′ ≡ cond (curve-accepted b (plan .spacing) (take n after)) (laid (rate-tree b) (curve-discount b (plan .spacing) (take n after)) (length (take n after)))
-        (row (row-start b (length (take n after))) (λ j. 0)) ++ drop (row-start b (length (take n after))) d)
-        (ep : p′ ≡ cond (curve-accepted b (plan .spacing) (take n after)) (laid (rate-tree b) (curve-price b (plan .spacing) (take n after)) (suc (length (take n after))))
-        (row (row-start b (suc (length (take n after)))) (λ j. 0)) ++ drop (row-start b (suc (length (take n after)))) p) where
-      pub fit-made :
-          (r ≡ fitNumber f n b s rows kinds figures (length d) (length p))
-          × ((d′ ≡ fit-memory (fitNumber f n b s rows kinds figures (length d) (length p)) (fit-discounts f n b s kinds figures) d)
-          × (p′ ≡ fit-memory (fitNumber f n b s rows kinds figures (length d) (length p)) (fit-prices f n b s kinds figures) p))
-      fit-made = (
-        (rw (made .spacing-is z, quotes-are) at er) ∙ sym number-found,
-        (
-          written (curve-accepted b (spacing f s) (quotes-of f n kinds figures)) (fit-discounts f n b s kinds figures) d d′ (row-start b n) (rows-length _ n)
-              (rw (quotes-length, made .spacing-is z, quotes-are) at ed)
-              ∙ ap (λ (x : ℕ). fit-memory x (fit-discounts f n b s kinds figures) d) (sym number-found),
-          written (curve-accepted b (spacing f s) (quotes-of f n kinds figures)) (fit-prices f n b s kinds figures) p p′ (row-start b (suc n)) (rows-length _ (suc n))
-              (rw (quotes-length, made .spacing-is z, quotes-are) at ep)
-              ∙ ap (λ (x : ℕ). fit-memory x (fit-prices f n b s kinds figures) p) (sym number-found),
-        ),
-      )
+    module _ {r : ℕ} {d′ p′ : List ℕ}
+        (er : r ≡ cond (curveAccepted b (plan .spacing) (take n after)) 0 9)
+        (t : TreeFitted b (length (take n after)) (curveAccepted b (plan .spacing) (take n after))
+        (curveDiscount b (plan .spacing) (take n after)) (curvePrice b (plan .spacing) (take n after)) d p d′ p′) where
+      pub fit-made : (r ≡ fitNumber f n b s rows kinds figures (length d) (length p))
+          × ((d′ ≡ discountsAfter f n b s rows kinds figures d p) × (p′ ≡ pricesAfter f n b s rows kinds figures d p))
+      fit-made =
+          let named = rw (quotes-length, k .planned .spacing-is z, quotes-are) at t in (
+            (rw (k .planned .spacing-is z, quotes-are) at er) ∙ sym number-found,
+            (made-as n _ d d′ (named .discounted), made-as (suc n) _ p p′ (named .priced)),
+          )

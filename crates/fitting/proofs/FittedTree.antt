@@ -1,93 +1,63 @@
--- What an accepted fit leaves for its callers: memories of the needed lengths, whose discounts are an accepted tree.
+-- What an accepted fit leaves for its callers: rows of the needed lengths, whose discounts are an accepted tree.
 -- Assumes nothing.
-use mathlib.Core.Path.{_≡_, refl, sym, ap, _∙_}
-use mathlib.Core.Bool.{Bool, true, false, cond}
+use mathlib.Core.Path.{_≡_, sym, ap, _∙_}
 use mathlib.Core.List.{List, [], append-nil}
 use Prim.Native.Nat.{ℕ, suc, _+_, _≤_, _<_}
 use native.Mathlib.Omega.{arith}
-use lib.Dec.{eqb}
 use lib.Ieee.{Float}
-use lib.ListN.{length, take}
+use lib.ListN.{length}
 use borrow.Author.Tests.{eq-eqb}
-use Rattle.arithmetic.specs.Row.{row, values, place, each}
-use Rattle.arithmetic.proofs.RowLaws.{length-row, each-cong}
-use Rattle.arithmetic.proofs.PlaceLaws.{length-place, place-front}
-use Rattle.limits.specs.Limits.{is-discount, shape-cause}
+use Rattle.arithmetic.specs.Row.{values, place}
+use Rattle.arithmetic.proofs.RowLaws.{each-cong}
+use Rattle.limits.specs.Limits.{isDiscount, shapeCause}
 use Rattle.limits.proofs.LimitLaws.{shape-found}
-use Rattle.tree.specs.Layout.{laid}
-use Rattle.lattice.specs.Shape.{node-count, row-start, discounts-needed, state-prices-needed}
-use Rattle.lattice.specs.RateTree.{rate-tree}
+use Rattle.lattice.specs.Shape.{nodeCount, rowStart, discountsNeeded, statePricesNeeded}
+use Rattle.lattice.specs.RateTree.{rateTree}
 use Rattle.lattice.proofs.LaidLaws.{length-laid, laid-value}
-use Rattle.lent_tree.specs.LentTree.{stored, accepted-discounts, discounts-cause}
+use Rattle.lent_tree.specs.LentTree.{stored, discountsCause}
 use Rattle.lent_tree.proofs.LentLaws.{accepted-by-row, lent-accepted}
-use Rattle.fit_laws.specs.StatePrices.{accepted-row}
-use Rattle.fitting.specs.Entry.{fitNumber, fit-memory, fit-discount, fit-price, fit-discounts, fit-prices}
+use Rattle.fit_laws.specs.StatePrices.{acceptedRow}
+use Rattle.fitting.specs.Entry.{fitNumber, fitMemory, fitDiscount, fitPrice, fitDiscounts, fitPrices}
 use Rattle.fitting.proofs.Promised.{fit-numbers, fit-accepted}
 
 -- a memory after a fit
-pub fit-placed : (number : ℕ) (part memory : List ℕ) → number ≡ 0 → fit-memory number part memory ≡ place memory 0 part
-unfolding fit-memory
+pub fit-placed : (number : ℕ) (part memory : List ℕ) → number ≡ 0 → fitMemory number part memory ≡ place memory 0 part
+unfolding fitMemory
 fit-placed number part memory z = rw (eq-eqb number 0 z)
 
-pub fit-memory-length : (number : ℕ) (part memory : List ℕ) → length part ≤ length memory → length (fit-memory number part memory) ≡ length memory
-unfolding fit-memory
-fit-memory-length number part memory h = go (eqb number 0) (eqb number 9)
-  where
-    go : (s t : Bool) → length (cond s (place memory 0 part) (cond t (place memory 0 (row (length part) (λ k. 0))) memory)) ≡ length memory
-    go true t = length-place memory 0 part (omega arith)
-    go false true = length-place memory 0 (row (length part) (λ k. 0)) (omega (arith, length-row (length part) (λ k. 0)))
-    go false false = refl
-
 module _ (f n b s : ℕ) (kinds : List ℕ) (figures : List Float) where
-  pub fit-discounts-length : length (fit-discounts f n b s kinds figures) ≡ discounts-needed n b
-  unfolding discounts-needed
-  fit-discounts-length = length-laid b (fit-discount f n b s kinds figures) n
+  pub fit-discounts-length : length (fitDiscounts f n b s kinds figures) ≡ discountsNeeded n b
+  unfolding discountsNeeded
+  fit-discounts-length = length-laid b (fitDiscount f n b s kinds figures) n
 
-  pub fit-prices-length : length (fit-prices f n b s kinds figures) ≡ state-prices-needed n b
-  unfolding state-prices-needed
-  fit-prices-length = length-laid b (fit-price f n b s kinds figures) (suc n)
+  pub fit-prices-length : length (fitPrices f n b s kinds figures) ≡ statePricesNeeded n b
+  unfolding statePricesNeeded
+  fit-prices-length = length-laid b (fitPrice f n b s kinds figures) (suc n)
 
-  -- what the fit's own memories hold at a node
-  pub fit-discount-stored : (i k : ℕ) → i < n → k < node-count b i →
-      stored b (fit-discounts f n b s kinds figures) i k ≡ fit-discount f n b s kinds figures i k
+  -- what the fit's own discounts hold at a node
+  pub fit-discount-stored : (i k : ℕ) → i < n → k < nodeCount b i →
+      stored b (fitDiscounts f n b s kinds figures) i k ≡ fitDiscount f n b s kinds figures i k
   unfolding stored
   fit-discount-stored i k h l =
-      ap (λ (m : List ℕ). values m (row-start b i + k)) (sym (append-nil (fit-discounts f n b s kinds figures)))
-      ∙ laid-value b (fit-discount f n b s kinds figures) n i h [] k l
-
-  pub fit-price-stored : (i k : ℕ) → i ≤ n → k < node-count b i →
-      stored b (fit-prices f n b s kinds figures) i k ≡ fit-price f n b s kinds figures i k
-  unfolding stored
-  fit-price-stored i k h l =
-      ap (λ (m : List ℕ). values m (row-start b i + k)) (sym (append-nil (fit-prices f n b s kinds figures)))
-      ∙ laid-value b (fit-price f n b s kinds figures) (suc n) i (omega arith) [] k l
+      ap (λ (m : List ℕ). values m (rowStart b i + k)) (sym (append-nil (fitDiscounts f n b s kinds figures)))
+      ∙ laid-value b (fitDiscount f n b s kinds figures) n i h [] k l
 
   module _ (rows : List ℕ) (ds ps : ℕ) (z : fitNumber f n b s rows kinds figures ds ps ≡ 0) where
-    pub fit-shape : shape-cause n b ≡ 0
-    fit-shape = let m = fit-numbers f n b s rows kinds figures ds ps z in shape-found n b (m .some) (m .few) (m .reverting)
+    fit-shape : shapeCause n b ≡ 0
+    fit-shape =
+        let m = fit-numbers f n b s rows kinds figures ds ps z in
+        shape-found n b (m .steps-positive) (m .steps-within-limit) (m .reversion-within-limit)
 
     -- an accepted fit is an accepted tree, in any memory that holds its discounts
-    pub fit-lent : (discounts : List ℕ) → discounts-needed n b ≤ length discounts →
-        ((i k : ℕ) → i < n → k < node-count b i → stored b discounts i k ≡ fit-discount f n b s kinds figures i k) →
-        discounts-cause n b discounts ≡ 0
-    unfolding accepted-row rate-tree
+    pub fit-lent : (discounts : List ℕ) → discountsNeeded n b ≤ length discounts →
+        ((i k : ℕ) → i < n → k < nodeCount b i → stored b discounts i k ≡ fitDiscount f n b s kinds figures i k) →
+        discountsCause n b discounts ≡ 0
+    unfolding acceptedRow rateTree
     fit-lent discounts room kept =
         lent-accepted n b discounts fit-shape room
         (accepted-by-row n b discounts
-        ∙ each-cong n _ _ (λ i h. each-cong (node-count b i) _ _ (λ k l. ap is-discount (kept i k h l)))
+        ∙ each-cong n _ _ (λ i h. each-cong (nodeCount b i) _ _ (λ k l. ap isDiscount (kept i k h l)))
         ∙ fit-accepted f n b s rows kinds figures ds ps z)
 
-    pub fit-discounts-lent : discounts-cause n b (fit-discounts f n b s kinds figures) ≡ 0
-    fit-discounts-lent = fit-lent (fit-discounts f n b s kinds figures) (omega (arith, fit-discounts-length)) fit-discount-stored
-
-    -- the memories after the fit
-    module _ (memory : List ℕ) where
-      pub fit-discounts-front : take (discounts-needed n b) (fit-memory 0 (fit-discounts f n b s kinds figures) memory) ≡ fit-discounts f n b s kinds figures
-      fit-discounts-front =
-          ap (take (discounts-needed n b)) (fit-placed 0 (fit-discounts f n b s kinds figures) memory refl)
-          ∙ place-front memory (fit-discounts f n b s kinds figures) (discounts-needed n b) fit-discounts-length
-
-      pub fit-prices-front : take (state-prices-needed n b) (fit-memory 0 (fit-prices f n b s kinds figures) memory) ≡ fit-prices f n b s kinds figures
-      fit-prices-front =
-          ap (take (state-prices-needed n b)) (fit-placed 0 (fit-prices f n b s kinds figures) memory refl)
-          ∙ place-front memory (fit-prices f n b s kinds figures) (state-prices-needed n b) fit-prices-length
+    pub fit-discounts-lent : discountsCause n b (fitDiscounts f n b s kinds figures) ≡ 0
+    fit-discounts-lent = fit-lent (fitDiscounts f n b s kinds figures) (omega (arith, fit-discounts-length)) fit-discount-stored

@@ -1,22 +1,22 @@
 -- The loop over a row's nodes: what holds after k of them, what the next one asks, and what all of them leave.
 -- Assumes nothing.
 use mathlib.Core.Path.{_≡_, refl, sym, _∙_, ap}
-use mathlib.Core.Bool.{Bool, true, false}
+use mathlib.Core.Bool.{true, false}
 use mathlib.Core.List.{List}
 use Prim.Native.Nat.{ℕ, _+_, _*_, _/_, _≤_, _<_}
 use native.Mathlib.Omega.{arith}
 use lib.ListN.{length, set}
 use Rattle.arithmetic.specs.Rounding.{one}
-use Rattle.arithmetic.specs.Sum.{sum}
 use Rattle.arithmetic.specs.Row.{row, values, each}
 use Rattle.arithmetic.proofs.RowLaws.{Filled, filled-start, filled-next, filled-all, row-cong, length-row, each-none, each-more, each-fails}
-use Rattle.limits.specs.Limits.{is-discount}
+use Rattle.limits.specs.Limits.{mostDiscount, isDiscount}
 use Rattle.tree.specs.Tree.{chance, incoming}
 use Rattle.tree.proofs.StepLaws.{incoming-none}
-use Rattle.row_branches.specs.RowBranches.{branch-total, row-branch, row-transition}
+use Rattle.row_branches.specs.RowBranches.{rowBranch, rowTransition}
 use Rattle.fit_laws.specs.Step.{carried}
-use Rattle.fitting.specs.Rows.{StepReady}
-use Rattle.fitting.proofs.StepRows.{quoted-small, node-asks, sums-small, product-most, amount-most, sums-next, never}
+use Rattle.fit_laws.specs.Bounds.{mostQuote, mostFactor, mostRowSum}
+use Rattle.fitting.specs.Preconditions.{StepReady, SpreadReady}
+use Rattle.fitting.proofs.StepRows.{AtNode, quoted-small, node-asks, sums-small, product-most, amount-most, sums-next}
 
 -- quote × factor / Z
 abbrev pub ratio : ℕ → List ℕ → ℕ → ℕ → ℕ
@@ -24,14 +24,14 @@ ratio quote factors z k = quote * values factors k / z
 
 -- the sums over the branches of the first k nodes into each node of a next row of m nodes
 abbrev pub spread-sums : ℕ → List ℕ → ℕ → List ℕ → List ℕ → ℕ → ℕ → List ℕ
-spread-sums quote factors z prices downs m k = row m (incoming (row-transition downs m) k (carried (values prices) (ratio quote factors z)))
+spread-sums quote factors z prices downs m k = row m (incoming (rowTransition downs m) k (carried (values prices) (ratio quote factors z)))
 
 -- discounts d and sums s after k nodes; d₀ and s₀ before the first
 pub record Stepping (quote z : ℕ) (prices factors downs d₀ s₀ d s : List ℕ) (k : ℕ) : Type 0 where
   pub within : k ≤ length prices
   pub filled : Filled d₀ d (ratio quote factors z) k
   pub spread : s ≡ spread-sums quote factors z prices downs (length s₀) k
-  pub good : each k (λ i. is-discount (ratio quote factors z i)) ≡ true
+  pub good : each k (λ i. isDiscount (ratio quote factors z i)) ≡ true
 
 pub stepping-start : (quote z : ℕ) (prices factors downs d₀ s₀ : List ℕ) → s₀ ≡ row (length s₀) (λ j. 0) →
     Stepping quote z prices factors downs d₀ s₀ d₀ s₀ 0
@@ -39,51 +39,54 @@ stepping-start quote z prices factors downs d₀ s₀ e =
     record {
       within = omega arith;
       filled = filled-start d₀ (ratio quote factors z);
-      spread = e ∙ row-cong (length s₀) _ _ (λ j _. sym (incoming-none (row-transition downs (length s₀)) (carried (values prices) (ratio quote factors z)) j));
+      spread = e ∙ row-cong (length s₀) _ _ (λ j _. sym (incoming-none (rowTransition downs (length s₀)) (carried (values prices) (ratio quote factors z)) j));
       good = each-none _;
     }
 
-module _ (quote z : ℕ) (prices factors downs d₀ s₀ : List ℕ) (ready : StepReady quote prices factors downs (length d₀) (length s₀))
-    (d s : List ℕ) (k : ℕ) (g : Stepping quote z prices factors downs d₀ s₀ d s k) where
+module _ {quote z : ℕ} {prices factors downs d₀ s₀ : List ℕ} (ready : StepReady quote prices factors downs (length d₀) (length s₀))
+    {d s : List ℕ} {k : ℕ} (g : Stepping quote z prices factors downs d₀ s₀ d s k) where
   pub sums-length : length s ≡ length s₀
   sums-length = ap length (g .spread) ∙ length-row (length s₀) _
 
   pub discounts-length : length d ≡ length prices
-  discounts-length = g .filled .same ∙ ready .room
+  discounts-length = g .filled .same ∙ ready .discounts-length
 
   module _ (hk : k < length prices) where
     pub factor-there : k < length factors
-    factor-there = omega (arith, ready .bounded .same)
+    factor-there = omega (arith, ready .factors-bounded .length-is)
 
-    pub quoted-fits : quote * values factors k ≤ 5440000000000000000
-    quoted-fits = quoted-small quote (values factors k) (ready .quote-most) (ready .bounded .most k hk)
+    pub quoted-fits : quote * values factors k ≤ mostQuote * mostFactor
+    quoted-fits = quoted-small quote (values factors k) (ready .quote-within-limit) (ready .factors-bounded .at-most k hk)
 
-    pub stepping-fails : is-discount (ratio quote factors z k) ≡ false → false ≡ each (length prices) (λ i. is-discount (ratio quote factors z i))
-    stepping-fails e = sym (each-fails (length prices) k (λ i. is-discount (ratio quote factors z i)) hk e)
+    pub stepping-fails : isDiscount (ratio quote factors z k) ≡ false → false ≡ each (length prices) (λ i. isDiscount (ratio quote factors z i))
+    stepping-fails e = sym (each-fails (length prices) k (λ i. isDiscount (ratio quote factors z i)) hk e)
 
-    module _ (this : is-discount (ratio quote factors z k) ≡ true) where
-      pub product-fits : values prices k * ratio quote factors z k ≤ 2200000330000000000
-      product-fits =
-          product-most (row-transition downs (length s₀)) (length prices) (length s₀) (values prices) (ratio quote factors z)
-          (ready .inside) (ready .total) (ready .most) k hk (g .good) this
+    at-node : AtNode (rowTransition downs (length s₀)) (length prices) (length s₀) (values prices) (ratio quote factors z) k
+    at-node =
+        record {
+          inside = ready .branches-inside;
+          total = ready .branches-total;
+          row-sum-most = ready .row-sum-most;
+          in-row = hk;
+          accepted = g .good;
+        }
 
-      pub spread-asks :
-          (row-branch downs (length s) k .low + 2 < length s)
-          × (branch-total (row-branch downs (length s) k) ≤ 600000000)
-          × (values prices k * ratio quote factors z k / one ≤ 2200000330)
-          × ((j : ℕ) → j < length s → values s j ≤ 1400000000000000000)
+    module _ (this : isDiscount (ratio quote factors z k) ≡ true) where
+      pub product-fits : values prices k * ratio quote factors z k ≤ mostRowSum * mostDiscount
+      product-fits = product-most at-node this
+
+      pub spread-asks : SpreadReady (rowBranch downs (length s) k) (values prices k * ratio quote factors z k / one) s
       spread-asks =
-          let asks = node-asks downs (length s₀) (length prices) k (ready .inside) (ready .total) hk in (
-            rw sums-length (asks .0),
-            rw sums-length (asks .1),
-            amount-most (row-transition downs (length s₀)) (length prices) (length s₀) (values prices) (ratio quote factors z)
-                (ready .inside) (ready .total) (ready .most) k hk (g .good) this,
-            sums-small (row-transition downs (length s₀)) (length prices) (length s₀) (values prices) (ratio quote factors z)
-                (ready .inside) (ready .total) (ready .most) k hk (g .good) s (g .spread),
-          )
+          let asks = node-asks downs (length s₀) (length prices) k (ready .branches-inside) (ready .branches-total) hk in
+          record {
+            branch-inside = rw sums-length (asks .0);
+            branch-most = rw sums-length (asks .1);
+            amount-most = amount-most at-node this;
+            sums-most = sums-small at-node s (g .spread);
+          }
 
       pub stepping-next : (s′ : List ℕ) →
-          s′ ≡ row (length s) (λ j. values s j + chance (row-transition downs (length s)) k j * (values prices k * ratio quote factors z k / one)) →
+          s′ ≡ row (length s) (λ j. values s j + chance (rowTransition downs (length s)) k j * (values prices k * ratio quote factors z k / one)) →
           Stepping quote z prices factors downs d₀ s₀ (set d k (ratio quote factors z k)) s′ (k + 1)
       unfolding carried
       stepping-next s′ e =
@@ -91,21 +94,20 @@ module _ (quote z : ℕ) (prices factors downs d₀ s₀ : List ℕ) (ready : St
             within = omega arith;
             filled = filled-next d₀ d (ratio quote factors z) k (ratio quote factors z k) (g .filled) (omega (arith, discounts-length)) refl;
             spread =
-                sums-next (row-transition downs (length s₀)) (length prices) (length s₀) (values prices) (ratio quote factors z)
-                (ready .inside) (ready .total) (ready .most) k hk (g .good) this s s′ (values prices k * ratio quote factors z k / one) refl (g .spread)
-                (e ∙ ap (λ (m : ℕ). row (length s) (λ j. values s j + chance (row-transition downs m) k j
+                sums-next at-node this s s′ (values prices k * ratio quote factors z k / one) refl (g .spread)
+                (e ∙ ap (λ (m : ℕ). row (length s) (λ j. values s j + chance (rowTransition downs m) k j
                 * (values prices k * ratio quote factors z k / one))) sums-length);
-            good = each-more k (λ i. is-discount (ratio quote factors z i)) (g .good) this;
+            good = each-more k (λ i. isDiscount (ratio quote factors z i)) (g .good) this;
           }
 
   module _ (all : k ≡ length prices) where
-    pub stepping-good : true ≡ each (length prices) (λ i. is-discount (ratio quote factors z i))
-    stepping-good = sym (ap (λ (n : ℕ). each n (λ i. is-discount (ratio quote factors z i))) (sym all) ∙ g .good)
+    pub stepping-good : true ≡ each (length prices) (λ i. isDiscount (ratio quote factors z i))
+    stepping-good = sym (ap (λ (n : ℕ). each n (λ i. isDiscount (ratio quote factors z i))) (sym all) ∙ g .good)
 
     pub stepping-filled : d ≡ row (length prices) (ratio quote factors z)
     stepping-filled =
-        filled-all d₀ d (ratio quote factors z) k (g .filled) (all ∙ sym (ready .room))
-        ∙ ap (λ (n : ℕ). row n (ratio quote factors z)) (ready .room)
+        filled-all d₀ d (ratio quote factors z) k (g .filled) (all ∙ sym (ready .discounts-length))
+        ∙ ap (λ (n : ℕ). row n (ratio quote factors z)) (ready .discounts-length)
 
     pub stepping-spread : s ≡ spread-sums quote factors z prices downs (length s₀) (length prices)
     stepping-spread = g .spread ∙ ap (spread-sums quote factors z prices downs (length s₀)) all

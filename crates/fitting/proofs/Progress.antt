@@ -1,9 +1,9 @@
 -- The fit over all rows: what holds after i rows, what a row's step asks, and what it leaves.
 -- Assumes nothing.
 use mathlib.Core.Path.{_≡_, refl, sym, _∙_, ap}
-use mathlib.Core.Bool.{Bool, true, false, cond}
-use mathlib.Core.List.{List, [], _∷_, _++_}
-use Prim.Native.Nat.{ℕ, zero, suc, _+_, _-_, _*_, _≤_, _<_}
+use mathlib.Core.Bool.{Bool, true, false}
+use mathlib.Core.List.{List, _∷_, _++_}
+use Prim.Native.Nat.{ℕ, suc, _+_, _-_, _*_, _≤_, _<_}
 use native.Mathlib.Nat.{le-refl, add-sub-of-le}
 use native.Mathlib.Numerals.{add-one}
 use native.Mathlib.Omega.{arith}
@@ -14,38 +14,31 @@ use Rattle.arithmetic.specs.Sum.{sum}
 use Rattle.arithmetic.specs.Row.{row, values, place, each}
 use Rattle.arithmetic.proofs.SumLaws.{sum-cong}
 use Rattle.arithmetic.proofs.RowLaws.{row-cong, values-row, each-none, each-more, each-fails, each-cong}
-use Rattle.tree.specs.Tree.{Tree, Sound}
+use Rattle.tree.specs.Tree.{Sound}
 use Rattle.tree.specs.Layout.{start, laid}
-use Rattle.tree.proofs.LayoutLaws.{start-suc, start-grow, length-laid, laid-row, laid-next, laid-past, laid-length}
-use Rattle.lattice.specs.Shape.{half-width, node-count, row-start}
-use Rattle.lattice.specs.RateTree.{rate-tree}
-use Rattle.lattice.proofs.Sizes.{half-within, count-positive}
+use Rattle.tree.proofs.LayoutLaws.{start-suc, start-grow, laid-row, laid-next, laid-past, laid-length}
+use Rattle.lattice.specs.Shape.{nodeCount, rowStart}
+use Rattle.lattice.specs.RateTree.{rateTree}
+use Rattle.lattice.proofs.Sizes.{half-within, count-positive, row-ends}
 use Rattle.lattice.proofs.Sizes as sizes
 use Rattle.lattice.proofs.RateTreeLaws.{rate-tree-sound}
-use Rattle.limits.specs.Limits.{is-discount}
-use Rattle.fit_laws.specs.Step.{discount, next-price}
-use Rattle.fit_laws.specs.StatePrices.{fitted-price, fitted-discount, accepted-row}
+use Rattle.limits.specs.Limits.{isDiscount}
+use Rattle.fit_laws.specs.Step.{discount, nextPrice}
+use Rattle.fit_laws.specs.StatePrices.{fittedPrice, fittedDiscount, acceptedRow}
 use Rattle.fit_laws.proofs.StepLaws.{discount-cong, next-cong}
 use Rattle.fit_laws.proofs.Repricing.{Fittable}
 use Rattle.fit_laws.proofs.WholeFit.{Curve, fittable}
-use Rattle.fitting.specs.Rows.{Factors, Tables, TreeRow, table-factor}
-use Rattle.fitting.specs.Fit.{quoted, table-discount, table-price, table-accepted}
+use Rattle.fit_laws.specs.Bounds.{leastFactor, mostFactor}
+use Rattle.fitting.specs.Rows.{RowFitted, rowPrices, rowDiscounts, tableFactor}
+use Rattle.fitting.specs.Preconditions.{TreeRowReady, RowsReady}
+use Rattle.fitting.specs.Fit.{quoted, tableDiscount, tablePrice, tableAccepted, TreeFitted, PastKept}
 use Rattle.lattice.proofs.ShapeLaws.{table-room}
-
--- what the caller ensures: quotes l, tables u and d, the memories d₀ and p₀, a row of working memory
-pub record Known (b : ℕ) (l u downs d₀ p₀ a : List ℕ) : Type 0 where
-  pub tables : Tables b (length l) u downs
-  pub low : (i : ℕ) → i < length l → 100000000 ≤ values l i
-  pub high : (i : ℕ) → i < length l → values l i ≤ 2000000000
-  pub room-discounts : row-start b (length l) ≤ length d₀
-  pub room-prices : row-start b (suc (length l)) ≤ length p₀
-  pub room-sums : 121 ≤ length a
 
 -- what holds after i rows
 pub record Progress (b : ℕ) (l u d₀ p₀ d p : List ℕ) (i : ℕ) : Type 0 where
-  pub discounts : d ≡ laid (rate-tree b) (table-discount b l u) i ++ drop (start (rate-tree b) i) d₀
-  pub prices : p ≡ laid (rate-tree b) (table-price b l u) (suc i) ++ drop (start (rate-tree b) (suc i)) p₀
-  pub accepted : each i (accepted-row (rate-tree b) (table-discount b l u)) ≡ true
+  pub discounts : d ≡ laid (rateTree b) (tableDiscount b l u) i ++ drop (start (rateTree b) i) d₀
+  pub prices : p ≡ laid (rateTree b) (tablePrice b l u) (suc i) ++ drop (start (rateTree b) (suc i)) p₀
+  pub accepted : each i (acceptedRow (rateTree b) (tableDiscount b l u)) ≡ true
 
 -- lists that agree past a place agree past every later one
 drop-later : (a c : ℕ) (x y : List ℕ) → a ≤ c → drop a x ≡ drop a y → drop c x ≡ drop c y
@@ -53,13 +46,16 @@ drop-later a c x y h e =
     let s : a + (c - a) ≡ c = add-sub-of-le h in
     rw (← s) (sym (drop-drop (c - a) a x) ∙ ap (drop (c - a)) e ∙ drop-drop (c - a) a y)
 
-start-is : (b i : ℕ) → start (rate-tree b) i ≡ row-start b i
-unfolding start row-start rate-tree
+start-is : (b i : ℕ) → start (rateTree b) i ≡ rowStart b i
+unfolding start rowStart rateTree
 start-is b i = refl
 
-nodes-are : (b i : ℕ) → rate-tree b .nodes i ≡ node-count b i
-unfolding rate-tree
+nodes-are : (b i : ℕ) → rateTree b .nodes i ≡ nodeCount b i
+unfolding rateTree
 nodes-are b i = refl
+
+start-positive : (b n : ℕ) → 0 < rowStart b (suc n)
+start-positive b n = omega (arith, start-suc (rateTree b) n, start-is b (suc n), nodes-are b n, count-positive b n)
 
 -- a memory that starts with one
 first-price : (n : ℕ) (p : List ℕ) → 0 < length p → n ≡ 1 → set p 0 one ≡ row n (λ k. one) ++ drop n (set p 0 one)
@@ -67,144 +63,151 @@ unfolding row
 first-price n p h e =
     rw e (set-split p 0 one h ∙ ap (λ (x : List ℕ). one ∷ x) (sym (drop-set-lt 1 p 0 one (omega arith))))
 
-root-start : (b : ℕ) → start (rate-tree b) 0 ≡ 0
+root-start : (b : ℕ) → start (rateTree b) 0 ≡ 0
 unfolding start sum
 root-start b = refl
 
-module _ (b : ℕ) (l u downs d₀ p₀ a : List ℕ) (k : Known b l u downs d₀ p₀ a) where
-  factor-least : (i j : ℕ) → i < length l → j < node-count b i → 360000000 ≤ table-factor b (length l) u i j
-  unfolding table-factor
-  factor-least i j h g = k .tables .bounded .least _ (omega (arith, table-room b (length l - 1) i (omega arith)))
+module _ {b : ℕ} {l u downs d₀ p₀ a : List ℕ} (k : RowsReady b l u downs d₀ p₀ a) where
+  factor-least : (i j : ℕ) → i < length l → j < nodeCount b i → leastFactor ≤ tableFactor b (length l) u i j
+  unfolding tableFactor
+  factor-least i j h g = k .tables .factors-bounded .at-least _ (omega (arith, table-room b (length l - 1) i (omega arith)))
 
-  factor-most : (i j : ℕ) → i < length l → j < node-count b i → table-factor b (length l) u i j ≤ 2720000000
-  unfolding table-factor
-  factor-most i j h g = k .tables .bounded .most _ (omega (arith, table-room b (length l - 1) i (omega arith)))
+  factor-most : (i j : ℕ) → i < length l → j < nodeCount b i → tableFactor b (length l) u i j ≤ mostFactor
+  unfolding tableFactor
+  factor-most i j h g = k .tables .factors-bounded .at-most _ (omega (arith, table-room b (length l - 1) i (omega arith)))
 
-  count-most : (i : ℕ) → node-count b i ≤ 2 * i + 1
-  unfolding node-count
+  count-most : (i : ℕ) → nodeCount b i ≤ 2 * i + 1
+  unfolding nodeCount
   count-most i = omega (arith, half-within b i)
 
-  pub curve : Curve (rate-tree b) (length l) (table-factor b (length l) u) (quoted l)
-  unfolding quoted rate-tree
+  curve : Curve (rateTree b) (length l) (tableFactor b (length l) u) (quoted l)
+  unfolding quoted rateTree
   curve =
       record {
-        steps = k .tables .few;
+        steps = k .tables .steps-within-limit;
         counts = count-most;
-        quote-low = k .low;
-        quote-high = k .high;
-        factor-low = λ i j h g. factor-least i j h g;
-        factor-high = λ i j h g. factor-most i j h g;
+        quote-low = k .quotes-least;
+        quote-high = k .quotes-most;
+        factor-low = factor-least;
+        factor-high = factor-most;
       }
 
-  pub sound : Sound (rate-tree b)
-  sound = rate-tree-sound b (k .tables .reverting)
+  sound : Sound (rateTree b)
+  sound = rate-tree-sound b (k .tables .reversion-within-limit)
 
-  pub ready : (i : ℕ) → i < length l →
-      Fittable (rate-tree b .step i) (node-count b i) (node-count b (suc i)) (quoted l (suc i)) (table-price b l u i) (table-factor b (length l) u i)
-  unfolding rate-tree
-  ready i h = fittable (rate-tree b) sound (length l) (table-factor b (length l) u) (quoted l) curve i h
+  ready : (i : ℕ) → i < length l →
+      Fittable (rateTree b .step i) (nodeCount b i) (nodeCount b (suc i)) (quoted l (suc i))
+      (tablePrice b l u i) (tableFactor b (length l) u i)
+  unfolding rateTree
+  ready i h = fittable (rateTree b) sound (length l) (tableFactor b (length l) u) (quoted l) curve i h
 
-  root-nodes : rate-tree b .nodes 0 ≡ 1
+  root-nodes : rateTree b .nodes 0 ≡ 1
   root-nodes = sound .root
 
   -- the first row's state price
-  root-prices : 0 < length p₀ → set p₀ 0 one ≡ laid (rate-tree b) (table-price b l u) 1 ++ drop (start (rate-tree b) 1) (set p₀ 0 one)
-  unfolding laid fitted-price
+  root-prices : 0 < length p₀ → set p₀ 0 one ≡ laid (rateTree b) (tablePrice b l u) 1 ++ drop (start (rateTree b) 1) (set p₀ 0 one)
+  unfolding laid fittedPrice
   root-prices h =
-      let e : rate-tree b .nodes 0 ≡ start (rate-tree b) 1 = omega (arith, start-suc (rate-tree b) 0, root-start b) in
-      first-price (rate-tree b .nodes 0) p₀ h root-nodes
-      ∙ ap (λ (x : ℕ). row (rate-tree b .nodes 0) (λ k. one) ++ drop x (set p₀ 0 one)) e
+      let e : rateTree b .nodes 0 ≡ start (rateTree b) 1 = omega (arith, start-suc (rateTree b) 0, root-start b) in
+      first-price (rateTree b .nodes 0) p₀ h root-nodes
+      ∙ ap (λ (x : ℕ). row (rateTree b .nodes 0) (λ k. one) ++ drop x (set p₀ 0 one)) e
 
-  pub begun : 0 < length p₀ → Progress b l u d₀ (set p₀ 0 one) d₀ (set p₀ 0 one) 0
+  pub prices-some : 0 < length p₀
+  prices-some = omega (arith, start-positive b (length l), k .room-prices)
+
+  pub begun : Progress b l u d₀ (set p₀ 0 one) d₀ (set p₀ 0 one) 0
   unfolding laid start sum
-  begun h = record { discounts = refl; prices = root-prices h; accepted = each-none _ }
+  begun = record { discounts = refl; prices = root-prices prices-some; accepted = each-none _ }
+
+  -- storing the first state price leaves what the fit asks
+  pub stored-ready : RowsReady b l u downs d₀ (set p₀ 0 one) a
+  stored-ready =
+      record {
+        tables = k .tables;
+        quotes-least = k .quotes-least;
+        quotes-most = k .quotes-most;
+        room-discounts = k .room-discounts;
+        room-prices = rw (length-set p₀ 0 one) (k .room-prices);
+        room-sums = k .room-sums;
+      }
 
 -- one row: the memories d and p before it
-module _ (b : ℕ) (l u downs d₀ p₀ a : List ℕ) (k : Known b l u downs d₀ p₀ a) (d p a′ : List ℕ) (i : ℕ) (g : Progress b l u d₀ p₀ d p i)
-    (hi : i < length l) (ha : length a′ ≡ length a) where
+module _ {b : ℕ} {l u downs d₀ p₀ a : List ℕ} (k : RowsReady b l u downs d₀ p₀ a) {d p : List ℕ} {i : ℕ}
+    (g : Progress b l u d₀ p₀ d p i) (hi : i < length l) where
   -- the row's own part of the memory
-  part : take (node-count b i) (drop (row-start b i) p) ≡ row (node-count b i) (table-price b l u i)
-  unfolding rate-tree start row-start
-  part = rw (g .prices) (laid-row (rate-tree b) (table-price b l u) i (drop (start (rate-tree b) (suc i)) p₀))
+  part : take (nodeCount b i) (drop (rowStart b i) p) ≡ row (nodeCount b i) (tablePrice b l u i)
+  unfolding rateTree start rowStart
+  part = rw (g .prices) (laid-row (rateTree b) (tablePrice b l u) i (drop (start (rateTree b) (suc i)) p₀))
 
-  part-value : (j : ℕ) → j < node-count b i → values (take (node-count b i) (drop (row-start b i) p)) j ≡ table-price b l u i j
-  part-value j h = ap (λ (x : List ℕ). values x j) part ∙ values-row (node-count b i) j (table-price b l u i) h
+  part-value : (j : ℕ) → j < nodeCount b i → rowPrices (rowStart b i) (nodeCount b i) p j ≡ tablePrice b l u i j
+  part-value j h = ap (λ (x : List ℕ). values x j) part ∙ values-row (nodeCount b i) j (tablePrice b l u i) h
 
-  part-sum : sum (node-count b i) (values (take (node-count b i) (drop (row-start b i) p))) ≡ sum (node-count b i) (table-price b l u i)
-  part-sum = sum-cong (node-count b i) _ _ part-value
+  part-sum : sum (nodeCount b i) (rowPrices (rowStart b i) (nodeCount b i) p) ≡ sum (nodeCount b i) (tablePrice b l u i)
+  part-sum = sum-cong (nodeCount b i) _ _ part-value
 
-  pub discounts-length : length d ≡ length d₀
+  discounts-length : length d ≡ length d₀
   discounts-length =
-      laid-length (rate-tree b) (table-discount b l u) i d d₀
-      (omega (arith, start-grow (rate-tree b) (length l) i (omega arith), start-is b (length l), k .room-discounts)) (g .discounts)
+      laid-length (rateTree b) (tableDiscount b l u) i d d₀
+      (omega (arith, start-grow (rateTree b) (length l) i (omega arith), start-is b (length l), k .room-discounts)) (g .discounts)
 
-  pub prices-length : length p ≡ length p₀
+  prices-length : length p ≡ length p₀
   prices-length =
-      laid-length (rate-tree b) (table-price b l u) (suc i) p p₀
-      (omega (arith, start-grow (rate-tree b) (suc (length l)) (suc i) (omega arith), start-is b (suc (length l)), k .room-prices)) (g .prices)
+      laid-length (rateTree b) (tablePrice b l u) (suc i) p p₀
+      (omega (arith, start-grow (rateTree b) (suc (length l)) (suc i) (omega arith), start-is b (suc (length l)), k .room-prices)) (g .prices)
 
-  pub row-asks : TreeRow b (length l) i (values l i) u downs d p a′
-  row-asks =
+  pub row-asks : (a′ : List ℕ) → length a′ ≡ length a → TreeRowReady b (length l) i (values l i) u downs d p a′
+  row-asks a′ same =
       record {
         tables = k .tables;
         in-tree = hi;
         room-discounts = rw discounts-length (k .room-discounts);
         room-prices = rw prices-length (k .room-prices);
-        room-sums = rw ha (k .room-sums);
-        least = rw part-sum (ready b l u downs d₀ p₀ a k i hi .sum-low);
-        most = rw part-sum (ready b l u downs d₀ p₀ a k i hi .sum-high);
-        quote-most = k .high i hi;
+        room-sums = rw same (k .room-sums);
+        row-sum-least = rw part-sum (ready k i hi .sum-low);
+        row-sum-most = rw part-sum (ready k i hi .sum-high);
+        quote-within-limit = k .quotes-most i hi;
       }
 
   -- the row's discounts and the next state prices, by the definitions
-  discount-is : (j : ℕ) →
-      discount (node-count b i) (values (take (node-count b i) (drop (row-start b i) p))) (table-factor b (length l) u i) (values l i) j ≡ table-discount b l u i j
-  unfolding quoted fitted-discount rate-tree
-  discount-is j = discount-cong (node-count b i) (values l i) _ (table-price b l u i) (table-factor b (length l) u i) part-value j
+  discount-is : (j : ℕ) → rowDiscounts (rowStart b i) (nodeCount b i) (values l i) (tableFactor b (length l) u i) p j ≡ tableDiscount b l u i j
+  unfolding quoted fittedDiscount rateTree
+  discount-is j = discount-cong (nodeCount b i) (values l i) _ (tablePrice b l u i) (tableFactor b (length l) u i) part-value j
 
   price-is : (j : ℕ) →
-      next-price (rate-tree b .step i) (node-count b i) (values (take (node-count b i) (drop (row-start b i) p)))
-      (discount (node-count b i) (values (take (node-count b i) (drop (row-start b i) p))) (table-factor b (length l) u i) (values l i)) j
-      ≡ table-price b l u (suc i) j
-  unfolding fitted-price quoted rate-tree
+      nextPrice (rateTree b .step i) (nodeCount b i) (rowPrices (rowStart b i) (nodeCount b i) p)
+      (rowDiscounts (rowStart b i) (nodeCount b i) (values l i) (tableFactor b (length l) u i) p) j
+      ≡ tablePrice b l u (suc i) j
+  unfolding fittedPrice quoted rateTree
   price-is j =
-      next-cong (rate-tree b .step i) (node-count b i) _ (table-price b l u i) _
-      (discount (node-count b i) (table-price b l u i) (table-factor b (length l) u i) (values l i)) part-value
-      (λ c h. discount-cong (node-count b i) (values l i) _ (table-price b l u i) (table-factor b (length l) u i) part-value c) j
+      next-cong (rateTree b .step i) (nodeCount b i) _ (tablePrice b l u i) _
+      (discount (nodeCount b i) (tablePrice b l u i) (tableFactor b (length l) u i) (values l i)) part-value
+      (λ c h. discount-cong (nodeCount b i) (values l i) _ (tablePrice b l u i) (tableFactor b (length l) u i) part-value c) j
 
-  module _ (d′ p′ : List ℕ) (r : Bool)
-      (er : r ≡ each (node-count b i) (λ j. is-discount
-      (discount (node-count b i) (values (take (node-count b i) (drop (row-start b i) p))) (table-factor b (length l) u i) (values l i) j)))
-      (ed : (r ≡ true → d′ ≡ place d (row-start b i) (row (node-count b i)
-      (discount (node-count b i) (values (take (node-count b i) (drop (row-start b i) p))) (table-factor b (length l) u i) (values l i))))
-      × (drop (row-start b (suc i)) d′ ≡ drop (row-start b (suc i)) d))
-      (ep : p′ ≡ cond r (place p (row-start b (suc i)) (row (node-count b (suc i))
-      (next-price (rate-tree b .step i) (node-count b i) (values (take (node-count b i) (drop (row-start b i) p)))
-      (discount (node-count b i) (values (take (node-count b i) (drop (row-start b i) p))) (table-factor b (length l) u i) (values l i))))) p) where
-    row-tested : r ≡ accepted-row (rate-tree b) (table-discount b l u) i
-    unfolding accepted-row rate-tree
-    row-tested = er ∙ each-cong (node-count b i) _ _ (λ j _. ap is-discount (discount-is j))
+  module _ {d′ p′ : List ℕ} {r : Bool} (f : RowFitted (rowStart b i) (nodeCount b i) (nodeCount b (suc i)) (values l i)
+      (tableFactor b (length l) u i) (rateTree b .step i) d p d′ p′ r) where
+    row-tested : r ≡ acceptedRow (rateTree b) (tableDiscount b l u) i
+    unfolding acceptedRow rateTree
+    row-tested = f .tested ∙ each-cong (nodeCount b i) _ _ (λ j _. ap isDiscount (discount-is j))
 
-    row-filled : r ≡ true → d′ ≡ laid (rate-tree b) (table-discount b l u) (suc i) ++ drop (start (rate-tree b) (suc i)) d₀
-    unfolding rate-tree start row-start
+    row-filled : r ≡ true → d′ ≡ laid (rateTree b) (tableDiscount b l u) (suc i) ++ drop (start (rateTree b) (suc i)) d₀
+    unfolding rateTree start rowStart
     row-filled e =
-        ed .0 e ∙ ap (place d (row-start b i)) (row-cong (node-count b i) _ _ (λ j _. discount-is j))
-        ∙ laid-next (rate-tree b) (table-discount b l u) i d d₀ (g .discounts)
+        f .filled e ∙ ap (place d (rowStart b i)) (row-cong (nodeCount b i) _ _ (λ j _. discount-is j))
+        ∙ laid-next (rateTree b) (tableDiscount b l u) i d d₀ (g .discounts)
 
-    row-stepped : r ≡ true → p′ ≡ laid (rate-tree b) (table-price b l u) (suc (suc i)) ++ drop (start (rate-tree b) (suc (suc i))) p₀
-    unfolding rate-tree start row-start
-    row-stepped e =
-        ep ∙ ap (λ (t : Bool). cond t (place p (row-start b (suc i)) (row (node-count b (suc i))
-        (next-price (rate-tree b .step i) (node-count b i) (values (take (node-count b i) (drop (row-start b i) p)))
-        (discount (node-count b i) (values (take (node-count b i) (drop (row-start b i) p))) (table-factor b (length l) u i) (values l i))))) p) e
-        ∙ ap (place p (row-start b (suc i))) (row-cong (node-count b (suc i)) _ _ (λ j _. price-is j))
-        ∙ laid-next (rate-tree b) (table-price b l u) (suc i) p p₀ (g .prices)
+    -- the memory of state prices where the row was accepted, and where it was not
+    stepped-true : r ≡ true → p′ ≡ place p (rowStart b (suc i)) (row (nodeCount b (suc i)) (tablePrice b l u (suc i)))
+    stepped-true e =
+        rw e at (f .stepped)
+        ∙ ap (place p (rowStart b i + nodeCount b i)) (row-cong (nodeCount b (suc i)) _ _ (λ j _. price-is j))
+        ∙ ap (λ (x : ℕ). place p x (row (nodeCount b (suc i)) (tablePrice b l u (suc i)))) (sym (sizes.start-suc b i))
+
+    row-stepped : r ≡ true → p′ ≡ laid (rateTree b) (tablePrice b l u) (suc (suc i)) ++ drop (start (rateTree b) (suc (suc i))) p₀
+    unfolding rateTree start rowStart
+    row-stepped e = stepped-true e ∙ laid-next (rateTree b) (tablePrice b l u) (suc i) p p₀ (g .prices)
 
     row-kept : r ≡ false → p′ ≡ p
-    row-kept e =
-        ep ∙ ap (λ (t : Bool). cond t (place p (row-start b (suc i)) (row (node-count b (suc i))
-        (next-price (rate-tree b .step i) (node-count b i) (values (take (node-count b i) (drop (row-start b i) p)))
-        (discount (node-count b i) (values (take (node-count b i) (drop (row-start b i) p))) (table-factor b (length l) u i) (values l i))))) p) e
+    row-kept e = rw e at (f .stepped)
 
     -- one row more
     pub progressed : r ≡ true → Progress b l u d₀ p₀ d′ p′ (i + 1)
@@ -213,80 +216,53 @@ module _ (b : ℕ) (l u downs d₀ p₀ a : List ℕ) (k : Known b l u downs d�
         (record {
           discounts = row-filled e;
           prices = row-stepped e;
-          accepted = rw (add-one i) at (each-more i (accepted-row (rate-tree b) (table-discount b l u)) (g .accepted) (sym row-tested ∙ e));
+          accepted = rw (add-one i) at (each-more i (acceptedRow (rateTree b) (tableDiscount b l u)) (g .accepted) (sym row-tested ∙ e));
         })
 
     -- or a refusal, with nothing past the tree changed
-    pub refused :
-        r ≡ false →
-        (false ≡ table-accepted b l u)
-        × (drop (row-start b (length l)) d′ ≡ drop (row-start b (length l)) d₀)
-        × (drop (row-start b (suc (length l))) p′ ≡ drop (row-start b (suc (length l))) p₀)
-    unfolding table-accepted start row-start rate-tree
-    refused e = (
-      sym (each-fails (length l) i (accepted-row (rate-tree b) (table-discount b l u)) hi (sym row-tested ∙ e)),
-      drop-later (row-start b (suc i)) (row-start b (length l)) d′ d (sizes.start-grow b (suc i) (length l) hi) (ed .1)
-          ∙ laid-past (rate-tree b) (table-discount b l u) i (length l) d d₀ (omega arith) (g .discounts),
-      laid-past (rate-tree b) (table-price b l u) (suc i) (suc (length l)) p′ p₀ (omega arith) (row-kept e ∙ g .prices),
-    )
+    pub refused : r ≡ false → false ≡ tableAccepted b l u
+    unfolding tableAccepted
+    refused e = sym (each-fails (length l) i (acceptedRow (rateTree b) (tableDiscount b l u)) hi (sym row-tested ∙ e))
+
+    pub refused-past : r ≡ false → PastKept b (length l) d₀ p₀ d′ p′
+    unfolding start rowStart rateTree
+    refused-past e =
+        record {
+          discounted =
+              drop-later (rowStart b i + nodeCount b i) (rowStart b (length l)) d′ d (row-ends b i (length l) hi) (f .kept)
+              ∙ laid-past (rateTree b) (tableDiscount b l u) i (length l) d d₀ (omega arith) (g .discounts);
+          priced = laid-past (rateTree b) (tablePrice b l u) (suc i) (suc (length l)) p′ p₀ (omega arith) (row-kept e ∙ g .prices);
+        }
+
+-- what lies past the tree was not changed by the first state price either
+pub past-stored : {b n : ℕ} {d p d′ p′ : List ℕ} → PastKept b n d (set p 0 one) d′ p′ → PastKept b n d p d′ p′
+past-stored {b} {n} {d} {p} {d′} {p′} k =
+    record { discounted = k .discounted; priced = k .priced ∙ drop-set-lt (rowStart b (suc n)) p 0 one (start-positive b n) }
 
 -- all rows done: p is the memory before the first state price was stored
-module _ (b : ℕ) (l u d p d′ p′ : List ℕ) (i : ℕ) (e : i ≡ length l) (g : Progress b l u d (set p 0 one) d′ p′ i) where
-  past-first : drop (start (rate-tree b) (suc (length l))) (set p 0 one) ≡ drop (start (rate-tree b) (suc (length l))) p
-  past-first = drop-set-lt (start (rate-tree b) (suc (length l))) p 0 one positive
-    where
-      positive : 0 < start (rate-tree b) (suc (length l))
-      positive = omega (arith, start-suc (rate-tree b) (length l), nodes-are b (length l), count-positive b (length l))
+module _ {b : ℕ} {l u d : List ℕ} (p : List ℕ) {d′ p′ : List ℕ} {i : ℕ} (e : i ≡ length l) (g : Progress b l u d (set p 0 one) d′ p′ i) where
+  past-first : drop (rowStart b (suc (length l))) (set p 0 one) ≡ drop (rowStart b (suc (length l))) p
+  past-first = drop-set-lt (rowStart b (suc (length l))) p 0 one (start-positive b (length l))
 
-  pub complete :
-      (d′ ≡ laid (rate-tree b) (table-discount b l u) (length l) ++ drop (row-start b (length l)) d)
-      × (p′ ≡ laid (rate-tree b) (table-price b l u) (suc (length l)) ++ drop (row-start b (suc (length l))) p)
-  unfolding start row-start rate-tree
-  complete = (
-    g .discounts ∙ ap (λ (n : ℕ). laid (rate-tree b) (table-discount b l u) n ++ drop (start (rate-tree b) n) d) e,
-    g .prices
-        ∙ ap (λ (n : ℕ). laid (rate-tree b) (table-price b l u) (suc n) ++ drop (start (rate-tree b) (suc n)) (set p 0 one)) e
-        ∙ ap (λ (x : List ℕ). laid (rate-tree b) (table-price b l u) (suc (length l)) ++ x) past-first,
-  )
+  pub complete : TreeFitted b (length l) true (tableDiscount b l u) (tablePrice b l u) d p d′ p′
+  unfolding start rowStart rateTree
+  complete =
+      record {
+        discounted = g .discounts ∙ ap (λ (n : ℕ). laid (rateTree b) (tableDiscount b l u) n ++ drop (start (rateTree b) n) d) e;
+        priced =
+            g .prices
+            ∙ ap (λ (n : ℕ). laid (rateTree b) (tablePrice b l u) (suc n) ++ drop (start (rateTree b) (suc n)) (set p 0 one)) e
+            ∙ ap (λ (x : List ℕ). laid (rateTree b) (tablePrice b l u) (suc (length l)) ++ x) past-first;
+      }
 
-  pub complete-accepted : true ≡ table-accepted b l u
-  unfolding table-accepted
-  complete-accepted = sym (ap (λ (n : ℕ). each n (accepted-row (rate-tree b) (table-discount b l u))) (sym e) ∙ g .accepted)
+  pub complete-accepted : true ≡ tableAccepted b l u
+  unfolding tableAccepted
+  complete-accepted = sym (ap (λ (n : ℕ). each n (acceptedRow (rateTree b) (tableDiscount b l u))) (sym e) ∙ g .accepted)
 
--- what the fit asks, once the first row's state price was stored
-pub start-positive : (b n : ℕ) → 0 < row-start b (suc n)
-start-positive b n = omega (arith, start-suc (rate-tree b) n, start-is b (suc n), nodes-are b n, count-positive b n)
-
-pub known-plain :
-    (b : ℕ) (l u downs d p a : List ℕ) →
-    Tables b (length l) u downs
-    × ((i : ℕ) → i < length l → 100000000 ≤ values l i) × ((i : ℕ) → i < length l → values l i ≤ 2000000000)
-    × (row-start b (length l) ≤ length d) × (row-start b (suc (length l)) ≤ length p) × (121 ≤ length a) →
-    Known b l u downs d p a
-known-plain b l u downs d p a h =
-    record { tables = h .0; low = h .1; high = h .2; room-discounts = h .3; room-prices = h .4; room-sums = h .5 }
-
-pub known-of :
-    (b : ℕ) (l u downs d p a : List ℕ) →
-    Tables b (length l) u downs
-    × ((i : ℕ) → i < length l → 100000000 ≤ values l i) × ((i : ℕ) → i < length l → values l i ≤ 2000000000)
-    × (row-start b (length l) ≤ length d) × (row-start b (suc (length l)) ≤ length p) × (121 ≤ length a) →
-    Known b l u downs d (set p 0 one) a
-known-of b l u downs d p a h =
-    known-plain b l u downs d (set p 0 one) a (h .0, h .1, h .2, h .3, rw (length-set p 0 one) (h .4), h .5)
-
--- what lies past the tree, when all rows are done
-pub complete-past :
-    (b : ℕ) (l u d p d′ p′ : List ℕ) →
-    (d′ ≡ laid (rate-tree b) (table-discount b l u) (length l) ++ drop (row-start b (length l)) d)
-    × (p′ ≡ laid (rate-tree b) (table-price b l u) (suc (length l)) ++ drop (row-start b (suc (length l))) p) →
-    (drop (row-start b (length l)) d′ ≡ drop (row-start b (length l)) d)
-    × (drop (row-start b (suc (length l))) p′ ≡ drop (row-start b (suc (length l))) p)
-unfolding start row-start rate-tree
-complete-past b l u d p d′ p′ e = (
-  laid-past (rate-tree b) (table-discount b l u) (length l) (length l) d′ d (le-refl _) (e .0),
-  laid-past (rate-tree b) (table-price b l u) (suc (length l)) (suc (length l)) p′ p (le-refl _) (e .1),
-)
-
-pub past-stored : (b n : ℕ) (p x : List ℕ) → x ≡ drop (row-start b (suc n)) (set p 0 one) → x ≡ drop (row-start b (suc n)) p
-past-stored b n p x e = e ∙ drop-set-lt (row-start b (suc n)) p 0 one (start-positive b n)
+  pub complete-past : PastKept b (length l) d p d′ p′
+  unfolding start rowStart rateTree
+  complete-past =
+      record {
+        discounted = laid-past (rateTree b) (tableDiscount b l u) (length l) (length l) d′ d (le-refl _) (complete .discounted);
+        priced = laid-past (rateTree b) (tablePrice b l u) (suc (length l)) (suc (length l)) p′ p (le-refl _) (complete .priced);
+      }

@@ -5,26 +5,26 @@ use mathlib.Core.Bool.{cond}
 use Prim.Native.Nat.{ℕ, suc, _-_, _*_, _≤_, _<_}
 use lib.Dec.{eqb, ltb}
 use Rattle.arithmetic.specs.Rounding.{one}
-use Rattle.limits.specs.Limits.{most-steps, most-reversion}
-use Rattle.lattice.specs.Shape.{half-width, row-start}
+use Rattle.limits.specs.Limits.{mostSteps, mostReversion}
+use Rattle.lattice.specs.Shape.{halfWidth, rowStart}
 use Rattle.spacing.specs.Spacing.{spacing}
 use Rattle.fitting.specs.declared.causes.Plan.{Plan}
-use Rattle.fitting.specs.Entry.{early-cause}
+use Rattle.fitting.specs.Entry.{earlyCause}
 
 -- the numbers of an accepted tree
 pub record Numbers (f n b s converted discounts prices : ℕ) : Type 0 where
-  pub quotes : converted ≡ 0
-  pub some : 0 < n
-  pub few : n ≤ most-steps
-  pub reverting : b ≤ most-reversion
-  pub room-discounts : row-start b n ≤ discounts
-  pub room-prices : row-start b (suc n) ≤ prices
+  pub quotes-converted : converted ≡ 0
+  pub steps-positive : 0 < n
+  pub steps-within-limit : n ≤ mostSteps
+  pub reversion-within-limit : b ≤ mostReversion
+  pub room-discounts : rowStart b n ≤ discounts
+  pub room-prices : rowStart b (suc n) ≤ prices
 
 -- the plan's number is that of the lowest cause, 8 after the others; without one, it holds h and the half width of row n − 1
 pub record Planned (f n b s converted discounts prices : ℕ) (p : Plan) : Type 0 where
-  pub number : p .number ≡ cond (eqb (early-cause converted f n b s discounts prices) 0)
-      (cond (ltb one (half-width b (n - 1) * spacing f s)) 8 0) (early-cause converted f n b s discounts prices)
+  pub number : p .number ≡ cond (eqb (earlyCause converted f n b s discounts prices) 0)
+      (cond (ltb one (halfWidth b (n - 1) * spacing f s)) 8 0) (earlyCause converted f n b s discounts prices)
   pub numbers : p .number ≡ 0 → Numbers f n b s converted discounts prices
   pub spacing-is : p .number ≡ 0 → p .spacing ≡ spacing f s
-  pub widest-is : p .number ≡ 0 → p .widest ≡ half-width b (n - 1)
-  pub narrow : p .number ≡ 0 → p .widest * p .spacing ≤ one
+  pub widest-is : p .number ≡ 0 → p .widest ≡ halfWidth b (n - 1)
+  pub spacing-within-one : p .number ≡ 0 → p .widest * p .spacing ≤ one

@@ -1,10 +1,4 @@
 // The causes 2 to 8 of a fit.
-ghost use mathlib.Core.Path.{_≡_};
-ghost use mathlib.Core.Bool.{cond};
-ghost use Prim.Native.Nat.{ℕ, _-_, _*_, _≤_, _<_};
-ghost use lib.Dec.{eqb, leb, ltb};
-ghost use Rattle.lattice.specs.Entries.{discountsNeeded, statePricesNeeded};
-ghost use Rattle.fitting.specs.Entry.{memory-cause};
 ghost use Rattle.fitting.specs.Plans.{Planned};
 
 // What a fit needs to know of its numbers, or the number of a cause.
@@ -12,20 +6,6 @@ pub(crate) struct Plan {
     pub(crate) number: u64,
     pub(crate) spacing: u64,
     pub(crate) widest: usize,
-}
-
-fn memory_of(steps: usize, reversion: u64, discounts: usize, prices: usize) -> u64
-    ensures { λ r. ⌜ r ≡ memory-cause steps reversion discounts prices ⌝ }
-{
-    let needed = lattice::discounts_needed(steps, reversion);
-    let all = lattice::state_prices_needed(steps, reversion);
-    if (discounts as u64) < needed.value {
-        return 6;
-    }
-    if (prices as u64) < all.value {
-        return 6;
-    }
-    0
 }
 
 // `converted` is the number of the quotes' conversion.
@@ -42,7 +22,7 @@ pub(crate) fn plan_of(
 {
     let tree = lattice::discounts_needed(steps, reversion);
     let spaced = spacing::spacing(frequency, volatility);
-    let memory = memory_of(steps, reversion, discounts, prices);
+    let memory = lattice::memory_cause(steps, reversion, discounts, prices);
     let early = arithmetic::lowest_cause(
         arithmetic::lowest_cause(converted, tree.number),
         arithmetic::lowest_cause(spaced.number, memory),

@@ -4,9 +4,10 @@ mod rows;
 mod step;
 mod tables;
 
+use tables::Grid;
 ghost use mathlib.Core.Path.{_≡_};
 ghost use lib.ListN.{length};
-ghost use Rattle.fitting.specs.Entry.{fitNumber, fit-memory, fit-discounts, fit-prices};
+ghost use Rattle.fitting.specs.Entry.{fitNumber, discountsAfter, pricesAfter};
 
 // Fits a tree: discounts of rows 0 to n - 1 and state prices of rows 0 to n at the start of the two memories, row after row.
 // 2 the steps a year, 3 the steps, 4 the reversion, 5 the volatility, 6 the quotes' number or place or a memory too short,
@@ -22,13 +23,12 @@ pub fn fit(
     discounts: &mut [u64],
     prices: &mut [u64],
 ) -> u64
-    ensures number { λ r. ⌜ r ≡ fitNumber frequency steps reversion volatility (now (rows .entry)) (now (kinds .entry)) (now (figures .entry)) (length (now (discounts .entry))) (length (now (prices .entry))) ⌝ }
-    ensures discounted { λ _. ⌜ now (discounts .exit) ≡ fit-memory
-        (fitNumber frequency steps reversion volatility (now (rows .entry)) (now (kinds .entry)) (now (figures .entry)) (length (now (discounts .entry))) (length (now (prices .entry))))
-        (fit-discounts frequency steps reversion volatility (now (kinds .entry)) (now (figures .entry))) (now (discounts .entry)) ⌝ }
-    ensures priced { λ _. ⌜ now (prices .exit) ≡ fit-memory
-        (fitNumber frequency steps reversion volatility (now (rows .entry)) (now (kinds .entry)) (now (figures .entry)) (length (now (discounts .entry))) (length (now (prices .entry))))
-        (fit-prices frequency steps reversion volatility (now (kinds .entry)) (now (figures .entry))) (now (prices .entry)) ⌝ }
+    ensures number { λ r. ⌜ r ≡ fitNumber frequency steps reversion volatility (now (rows .entry)) (now (kinds .entry)) (now (figures .entry))
+        (length (now (discounts .entry))) (length (now (prices .entry))) ⌝ }
+    ensures discounted { λ _. ⌜ now (discounts .exit) ≡ discountsAfter frequency steps reversion volatility
+        (now (rows .entry)) (now (kinds .entry)) (now (figures .entry)) (now (discounts .entry)) (now (prices .entry)) ⌝ }
+    ensures priced { λ _. ⌜ now (prices .exit) ≡ pricesAfter frequency steps reversion volatility
+        (now (rows .entry)) (now (kinds .entry)) (now (figures .entry)) (now (discounts .entry)) (now (prices .entry)) ⌝ }
 {
     let mut quotes = [0u64; 60];
     let converted = curve::convert(frequency, steps, rows, kinds, figures, &mut quotes);
@@ -44,12 +44,10 @@ pub fn fit(
     if plan.number != 0 {
         return plan.number;
     }
-    tables::fit_quotes(
-        reversion,
-        plan.spacing,
-        plan.widest,
-        &quotes[..steps],
-        discounts,
-        prices,
-    )
+    let grid = Grid {
+        reversion: reversion,
+        spacing: plan.spacing,
+        widest: plan.widest,
+    };
+    tables::fit_quotes(grid, &quotes[..steps], discounts, prices)
 }

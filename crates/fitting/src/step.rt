@@ -2,28 +2,29 @@
 use row_branches::RowBranch;
 ghost use mathlib.Core.Path.{_≡_};
 ghost use mathlib.Core.Bool.{true};
-ghost use Prim.Native.Nat.{ℕ, _+_, _*_, _/_, _≤_, _<_};
+ghost use Prim.Native.Nat.{_+_, _*_, _/_, _≤_, _<_};
 ghost use lib.ListN.{length};
 ghost use Rattle.arithmetic.specs.Sum.{sum, only};
 ghost use Rattle.arithmetic.specs.Row.{row, values, each};
-ghost use Rattle.tree.specs.Tree.{chance, incoming};
+ghost use Rattle.tree.specs.Tree.{chance, incoming, probabilityTotal};
 ghost use Rattle.row_branches.specs.RowBranches.{
-  branch-up,
-  branch-middle,
-  branch-down,
-  branch-total,
-  row-branch,
-  row-transition,
+  branchUp,
+  branchMiddle,
+  branchDown,
+  rowBranch,
+  rowTransition,
 };
-ghost use Rattle.limits.specs.Limits.{most-discount, is-discount};
-ghost use Rattle.fit_laws.specs.Step.{normaliser, discount, carried};
-ghost use Rattle.fitting.specs.Rows.{Factors, StepReady};
+ghost use Rattle.limits.specs.Limits.{isDiscount};
+ghost use Rattle.fit_laws.specs.Step.{normaliser, carried};
+ghost use Rattle.fit_laws.specs.Bounds.{mostRowSum};
+ghost use Rattle.fitting.specs.Rows.{RowStepped};
+ghost use Rattle.fitting.specs.Preconditions.{Factors, StepReady, SpreadReady};
 
 const ONE: u64 = 1_000_000_000;
 
 // Z of a row.
 pub(crate) fn normaliser_of(prices: &[u64], factors: &[u64]) -> u64
-    requires { ⌜ Factors (now factors) (length (now prices)) × (sum (length (now prices)) (values (now prices)) ≤ 2000000300) ⌝ }
+    requires { ⌜ Factors (now factors) (length (now prices)) × (sum (length (now prices)) (values (now prices)) ≤ mostRowSum) ⌝ }
     ensures { λ r. ⌜ r ≡ normaliser (length (now (prices .entry))) (values (now (prices .entry))) (values (now (factors .entry))) ⌝ }
 {
     let mut total: u64 = 0;
@@ -54,11 +55,10 @@ fn add_at(next: &mut [u64], at: usize, amount: u64)
 
 // Adds an amount, times each probability, to the three nodes of a branch.
 fn scatter(next: &mut [u64], branch: RowBranch, amount: u64)
-    requires { ⌜ (branch .low + 2 < length (now next)) × (branch-total branch ≤ 600000000) × (amount ≤ 2200000330)
-        × ((j : ℕ) → j < length (now next) → values (now next) j ≤ 1400000000000000000) ⌝ }
+    requires { ⌜ SpreadReady branch amount (now next) ⌝ }
     ensures { λ _. ⌜ now (next .exit) ≡ row (length (now (next .entry))) (λ j. values (now (next .entry)) j
-        + (only (branch .low + 2) j (branch-up branch * amount) + only (branch .low + 1) j (branch-middle branch * amount)
-        + only (branch .low) j (branch-down branch * amount))) ⌝ }
+        + (only (branch .low + 2) j (branchUp branch * amount) + only (branch .low + 1) j (branchMiddle branch * amount)
+        + only (branch .low) j (branchDown branch * amount))) ⌝ }
 {
     let low = branch.low;
     let probabilities = branch.probabilities;
@@ -69,11 +69,9 @@ fn scatter(next: &mut [u64], branch: RowBranch, amount: u64)
 
 // Adds what a node hands on to the sums of the next row.
 fn spread_node(downs: &[u64], index: usize, amount: u64, sums: &mut [u64])
-    requires { ⌜ (row-branch (now downs) (length (now sums)) index .low + 2 < length (now sums))
-        × (branch-total (row-branch (now downs) (length (now sums)) index) ≤ 600000000)
-        × (amount ≤ 2200000330) × ((j : ℕ) → j < length (now sums) → values (now sums) j ≤ 1400000000000000000) ⌝ }
+    requires { ⌜ SpreadReady (rowBranch (now downs) (length (now sums)) index) amount (now sums) ⌝ }
     ensures { λ _. ⌜ now (sums .exit) ≡ row (length (now (sums .entry)))
-        (λ j. values (now (sums .entry)) j + chance (row-transition (now (downs .entry)) (length (now (sums .entry)))) index j * amount) ⌝ }
+        (λ j. values (now (sums .entry)) j + chance (rowTransition (now (downs .entry)) (length (now (sums .entry)))) index j * amount) ⌝ }
 {
     let branch = row_branches::row_branch(downs, sums.len(), index);
     scatter(sums, branch, amount);
@@ -92,10 +90,10 @@ fn fill_row(
 ) -> bool
     requires { ⌜ StepReady quote (now prices) (now factors) (now downs) (length (now discounts)) (length (now sums))
         × (0 < z) × (now sums ≡ row (length (now sums)) (λ j. 0)) ⌝ }
-    ensures tested { λ r. ⌜ r ≡ each (length (now (prices .entry))) (λ k. is-discount (quote * values (now (factors .entry)) k / z)) ⌝ }
+    ensures tested { λ r. ⌜ r ≡ each (length (now (prices .entry))) (λ k. isDiscount (quote * values (now (factors .entry)) k / z)) ⌝ }
     ensures filled { λ r. ⌜ (r ≡ true → now (discounts .exit) ≡ row (length (now (prices .entry))) (λ k. quote * values (now (factors .entry)) k / z)) ⌝ }
     ensures spreads { λ r. ⌜ (r ≡ true → now (sums .exit) ≡ row (length (now (sums .entry)))
-        (incoming (row-transition (now (downs .entry)) (length (now (sums .entry)))) (length (now (prices .entry)))
+        (incoming (rowTransition (now (downs .entry)) (length (now (sums .entry)))) (length (now (prices .entry)))
         (carried (values (now (prices .entry))) (λ k. quote * values (now (factors .entry)) k / z)))) ⌝ }
 {
     let mut k: usize = 0;
@@ -114,7 +112,7 @@ fn fill_row(
 // The state prices: each sum over the denominator of the probabilities.
 pub(crate) fn divide(sums: &[u64], next: &mut [u64])
     requires { ⌜ length (now sums) ≡ length (now next) ⌝ }
-    ensures { λ _. ⌜ now (next .exit) ≡ row (length (now (next .entry))) (λ j. values (now (sums .entry)) j / 600000000) ⌝ }
+    ensures { λ _. ⌜ now (next .exit) ≡ row (length (now (next .entry))) (λ j. values (now (sums .entry)) j / probabilityTotal) ⌝ }
 {
     let mut k: usize = 0;
     while k < next.len() {
@@ -133,14 +131,8 @@ pub(crate) fn step_row(
     sums: &mut [u64],
 ) -> bool
     requires { ⌜ StepReady quote (now prices) (now factors) (now downs) (length (now discounts)) (length (now sums)) ⌝ }
-    ensures tested { λ r. ⌜ r ≡ each (length (now (prices .entry))) (λ k. is-discount
-        (discount (length (now (prices .entry))) (values (now (prices .entry))) (values (now (factors .entry))) quote k)) ⌝ }
-    ensures filled { λ r. ⌜ (r ≡ true → now (discounts .exit) ≡ row (length (now (prices .entry)))
-        (discount (length (now (prices .entry))) (values (now (prices .entry))) (values (now (factors .entry))) quote)) ⌝ }
-    ensures spreads { λ r. ⌜ (r ≡ true → now (sums .exit) ≡ row (length (now (sums .entry)))
-        (incoming (row-transition (now (downs .entry)) (length (now (sums .entry)))) (length (now (prices .entry)))
-        (carried (values (now (prices .entry)))
-        (discount (length (now (prices .entry))) (values (now (prices .entry))) (values (now (factors .entry))) quote)))) ⌝ }
+    ensures { λ r. ⌜ RowStepped quote (length (now (sums .entry))) (now (prices .entry)) (now (factors .entry)) (now (downs .entry))
+        (now (discounts .exit)) (now (sums .exit)) r ⌝ }
 {
     let z = normaliser_of(prices, factors);
     clear(sums);

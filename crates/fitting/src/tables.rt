@@ -4,30 +4,36 @@ use crate::step;
 ghost use mathlib.Core.Path.{_≡_};
 ghost use mathlib.Core.Bool.{cond};
 ghost use mathlib.Core.List.{_++_};
-ghost use Prim.Native.Nat.{ℕ, suc, _+_, _-_, _*_, _≤_, _<_};
+ghost use Prim.Native.Nat.{_+_, _*_, _≤_};
 ghost use lib.ListN.{length, drop};
 ghost use Rattle.arithmetic.specs.Rounding.{one};
-ghost use Rattle.arithmetic.specs.Row.{row, values};
-ghost use Rattle.limits.specs.Limits.{most-steps, most-nodes};
-ghost use Rattle.tree.specs.Layout.{laid};
-ghost use Rattle.lattice.specs.Shape.{half-width, node-count, row-start};
-ghost use Rattle.lattice.specs.RateTree.{node-at, rate-tree};
+ghost use Rattle.arithmetic.specs.Row.{row};
+ghost use Rattle.limits.specs.Limits.{mostSteps, mostNodes};
+ghost use Rattle.lattice.specs.RateTree.{nodeOfIndex};
 ghost use Rattle.factor.specs.Factor.{factor};
-ghost use Rattle.fitting.specs.Rows.{Ready};
+ghost use Rattle.fitting.specs.Preconditions.{RowsReady, QuotesReady};
 ghost use Rattle.fitting.specs.Fit.{
-  table-discount,
-  table-price,
-  table-accepted,
-  Fittable,
-  curve-accepted,
-  curve-discount,
-  curve-price,
+  tableDiscount,
+  tablePrice,
+  tableAccepted,
+  curveAccepted,
+  curveDiscount,
+  curvePrice,
+  TreeFitted,
+  FitTried,
 };
+
+// A tree's reversion, the spacing of its nodes, and the half width of its widest row that has discounts.
+pub(crate) struct Grid {
+    pub(crate) reversion: u64,
+    pub(crate) spacing: u64,
+    pub(crate) widest: usize,
+}
 
 // The factor of the node at an index of a row of this half width.
 fn factor_at(widest: usize, spacing: u64, index: usize) -> u64
-    requires { ⌜ (widest ≤ most-steps) × (widest * spacing ≤ one) × (index ≤ 2 * widest) ⌝ }
-    ensures { λ r. ⌜ r ≡ factor (node-at widest index) spacing ⌝ }
+    requires { ⌜ (widest ≤ mostSteps) × (widest * spacing ≤ one) × (index ≤ 2 * widest) ⌝ }
+    ensures { λ r. ⌜ r ≡ factor (nodeOfIndex widest index) spacing ⌝ }
 {
     if index < widest {
         let below = factor::factor((widest - index) as u64, true, spacing);
@@ -38,8 +44,8 @@ fn factor_at(widest: usize, spacing: u64, index: usize) -> u64
 }
 
 fn fill_factors(widest: usize, spacing: u64, factors: &mut [u64])
-    requires { ⌜ (widest ≤ most-steps) × (widest * spacing ≤ one) × (length (now factors) ≡ 2 * widest + 1) ⌝ }
-    ensures { λ _. ⌜ now (factors .exit) ≡ row (length (now (factors .entry))) (λ k. factor (node-at widest k) spacing) ⌝ }
+    requires { ⌜ (widest ≤ mostSteps) × (widest * spacing ≤ one) × (length (now factors) ≡ 2 * widest + 1) ⌝ }
+    ensures { λ _. ⌜ now (factors .exit) ≡ row (length (now (factors .entry))) (λ k. factor (nodeOfIndex widest k) spacing) ⌝ }
 {
     let mut k: usize = 0;
     while k < factors.len() {
@@ -65,14 +71,10 @@ fn fit_or_clear(
     prices: &mut [u64],
     sums: &mut [u64],
 ) -> bool
-    requires { ⌜ Ready reversion (now quotes) (now factors) (now downs) (now discounts) (now prices) (now sums) ⌝ }
-    ensures tested { λ r. ⌜ r ≡ table-accepted reversion (now (quotes .entry)) (now (factors .entry)) ⌝ }
-    ensures discounted { λ r. ⌜ now (discounts .exit) ≡ cond r
-        (laid (rate-tree reversion) (table-discount reversion (now (quotes .entry)) (now (factors .entry))) (length (now (quotes .entry))))
-        (row (row-start reversion (length (now (quotes .entry)))) (λ j. 0)) ++ drop (row-start reversion (length (now (quotes .entry)))) (now (discounts .entry)) ⌝ }
-    ensures priced { λ r. ⌜ now (prices .exit) ≡ cond r
-        (laid (rate-tree reversion) (table-price reversion (now (quotes .entry)) (now (factors .entry))) (suc (length (now (quotes .entry)))))
-        (row (row-start reversion (suc (length (now (quotes .entry))))) (λ j. 0)) ++ drop (row-start reversion (suc (length (now (quotes .entry))))) (now (prices .entry)) ⌝ }
+    requires { ⌜ RowsReady reversion (now quotes) (now factors) (now downs) (now discounts) (now prices) (now sums) ⌝ }
+    ensures { λ r. ⌜ FitTried reversion (length (now (quotes .entry))) (tableAccepted reversion (now (quotes .entry)) (now (factors .entry)))
+        (tableDiscount reversion (now (quotes .entry)) (now (factors .entry))) (tablePrice reversion (now (quotes .entry)) (now (factors .entry)))
+        (now (discounts .entry)) (now (prices .entry)) (now (discounts .exit)) (now (prices .exit)) r ⌝ }
 {
     let steps = quotes.len();
     let needed = lattice::discounts_needed(steps, reversion);
@@ -87,9 +89,7 @@ fn fit_or_clear(
 
 // Fills the tables and fits: `factors` and `downs` are as long as row n - 1.
 fn fit_tables(
-    reversion: u64,
-    spacing: u64,
-    widest: usize,
+    grid: Grid,
     quotes: &[u64],
     factors: &mut [u64],
     downs: &mut [u64],
@@ -97,47 +97,46 @@ fn fit_tables(
     prices: &mut [u64],
     sums: &mut [u64],
 ) -> bool
-    requires { ⌜ Fittable reversion spacing widest (now quotes) (length (now discounts)) (length (now prices))
-        × (length (now factors) ≡ 2 * widest + 1) × (length (now downs) ≡ 2 * widest + 1) × (most-nodes ≤ length (now sums)) ⌝ }
-    ensures tested { λ r. ⌜ r ≡ curve-accepted reversion spacing (now (quotes .entry)) ⌝ }
-    ensures discounted { λ r. ⌜ now (discounts .exit) ≡ cond r
-        (laid (rate-tree reversion) (curve-discount reversion spacing (now (quotes .entry))) (length (now (quotes .entry))))
-        (row (row-start reversion (length (now (quotes .entry)))) (λ j. 0)) ++ drop (row-start reversion (length (now (quotes .entry)))) (now (discounts .entry)) ⌝ }
-    ensures priced { λ r. ⌜ now (prices .exit) ≡ cond r
-        (laid (rate-tree reversion) (curve-price reversion spacing (now (quotes .entry))) (suc (length (now (quotes .entry)))))
-        (row (row-start reversion (suc (length (now (quotes .entry))))) (λ j. 0)) ++ drop (row-start reversion (suc (length (now (quotes .entry))))) (now (prices .entry)) ⌝ }
+    requires { ⌜ QuotesReady (grid .reversion) (grid .spacing) (grid .widest) (now quotes) (length (now discounts)) (length (now prices))
+        × (length (now factors) ≡ 2 * grid .widest + 1) × (length (now downs) ≡ 2 * grid .widest + 1) × (mostNodes ≤ length (now sums)) ⌝ }
+    ensures { λ r. ⌜ FitTried (grid .reversion) (length (now (quotes .entry)))
+        (curveAccepted (grid .reversion) (grid .spacing) (now (quotes .entry)))
+        (curveDiscount (grid .reversion) (grid .spacing) (now (quotes .entry))) (curvePrice (grid .reversion) (grid .spacing) (now (quotes .entry)))
+        (now (discounts .entry)) (now (prices .entry)) (now (discounts .exit)) (now (prices .exit)) r ⌝ }
 {
-    fill_factors(widest, spacing, factors);
-    branches::down_probabilities(reversion, widest, downs);
-    fit_or_clear(reversion, quotes, factors, downs, discounts, prices, sums)
+    fill_factors(grid.widest, grid.spacing, factors);
+    branches::down_probabilities(grid.reversion, grid.widest, downs);
+    fit_or_clear(
+        grid.reversion,
+        quotes,
+        factors,
+        downs,
+        discounts,
+        prices,
+        sums,
+    )
 }
 
 // The fit of converted quotes once causes 2 to 8 were tested: 0 or 9.
 pub(crate) fn fit_quotes(
-    reversion: u64,
-    spacing: u64,
-    widest: usize,
+    grid: Grid,
     quotes: &[u64],
     discounts: &mut [u64],
     prices: &mut [u64],
 ) -> u64
-    requires { ⌜ Fittable reversion spacing widest (now quotes) (length (now discounts)) (length (now prices)) ⌝ }
-    ensures number { λ r. ⌜ r ≡ cond (curve-accepted reversion spacing (now (quotes .entry))) 0 9 ⌝ }
-    ensures discounted { λ _. ⌜ now (discounts .exit) ≡ cond (curve-accepted reversion spacing (now (quotes .entry)))
-        (laid (rate-tree reversion) (curve-discount reversion spacing (now (quotes .entry))) (length (now (quotes .entry))))
-        (row (row-start reversion (length (now (quotes .entry)))) (λ j. 0)) ++ drop (row-start reversion (length (now (quotes .entry)))) (now (discounts .entry)) ⌝ }
-    ensures priced { λ _. ⌜ now (prices .exit) ≡ cond (curve-accepted reversion spacing (now (quotes .entry)))
-        (laid (rate-tree reversion) (curve-price reversion spacing (now (quotes .entry))) (suc (length (now (quotes .entry)))))
-        (row (row-start reversion (suc (length (now (quotes .entry))))) (λ j. 0)) ++ drop (row-start reversion (suc (length (now (quotes .entry))))) (now (prices .entry)) ⌝ }
+    requires { ⌜ QuotesReady (grid .reversion) (grid .spacing) (grid .widest) (now quotes) (length (now discounts)) (length (now prices)) ⌝ }
+    ensures number { λ r. ⌜ r ≡ cond (curveAccepted (grid .reversion) (grid .spacing) (now (quotes .entry))) 0 9 ⌝ }
+    ensures fitted { λ _. ⌜ TreeFitted (grid .reversion) (length (now (quotes .entry)))
+        (curveAccepted (grid .reversion) (grid .spacing) (now (quotes .entry)))
+        (curveDiscount (grid .reversion) (grid .spacing) (now (quotes .entry))) (curvePrice (grid .reversion) (grid .spacing) (now (quotes .entry)))
+        (now (discounts .entry)) (now (prices .entry)) (now (discounts .exit)) (now (prices .exit)) ⌝ }
 {
-    let count = 2 * widest + 1;
+    let count = 2 * grid.widest + 1;
     let mut factors = [0u64; 121];
     let mut downs = [0u64; 121];
     let mut sums = [0u64; 121];
     if fit_tables(
-        reversion,
-        spacing,
-        widest,
+        grid,
         quotes,
         &mut factors[..count],
         &mut downs[..count],

@@ -2,7 +2,7 @@
 // works the output out apart, field after field.
 ghost use mathlib.Core.Path.{_≡_};
 ghost use lib.ListN.{length};
-ghost use Rattle.job_record.specs.Grammar.{Sound};
+ghost use Rattle.job_record.specs.Grammar.{SoundJob};
 use job_record::Job;
 use job_record::OptionRecord;
 
@@ -58,7 +58,7 @@ fn show_option(option: OptionRecord) {
 }
 
 fn show_job(number: u64, job: Job)
-    requires { ⌜ Sound job ⌝ }
+    requires { ⌜ SoundJob job ⌝ }
 {
     let steps = job.steps;
     show_head(

@@ -1,19 +1,19 @@
 -- Laws of a record's quotes and fit.
 -- Assumes nothing.
-use mathlib.Core.Path.{_≡_, sym, ap, _∙_}
+use mathlib.Core.Path.{_≡_, _∙_}
 use mathlib.Core.List.{List}
 use Prim.Native.Nat.{ℕ, _≤_, _<_}
 use native.Mathlib.Omega.{arith}
 use borrow.Author.Tests.{lt-ltb, le-ltb, eq-eqb, ne-eqb}
 use lib.Ieee.{Float}
 use lib.ListN.{length, take, length-take}
-use Rattle.arithmetic.specs.Row.{row, place}
+use Rattle.arithmetic.specs.Row.{place}
 use Rattle.arithmetic.proofs.Numbers.{by-order}
 use Rattle.arithmetic.proofs.RowLaws.{length-row}
-use Rattle.lattice.specs.Shape.{discounts-needed, state-prices-needed}
+use Rattle.lattice.specs.Shape.{discountsNeeded, statePricesNeeded}
 use Rattle.lattice.proofs.TreeEntries.{Accepted}
 use Rattle.curve.specs.Curve.{discountAt, curveNumber, curveMemory}
-use Rattle.fitting.specs.Entry.{fitNumber, fit-memory, fit-discounts, fit-prices}
+use Rattle.fitting.specs.Entry.{fitNumber, fitMemory, fitDiscounts, fitPrices}
 use Rattle.fitting.specs.Plans.{Numbers}
 use Rattle.fitting.proofs.FittedTree.{fit-discounts-length, fit-prices-length}
 use Rattle.fitting.proofs.Promised.{fit-numbers}
@@ -46,8 +46,8 @@ module _ (job : Job) where
   abbrev pub Fitted : List ℕ → List ℕ → ℕ → List ℕ → List ℕ → Type 0
   Fitted d p r after-d after-p =
       (r ≡ recordFit job (length d) (length p))
-      × ((after-d ≡ fit-memory (recordFit job (length d) (length p)) (jobDiscounts job) d)
-      × (after-p ≡ fit-memory (recordFit job (length d) (length p)) (jobStatePrices job) p))
+      × ((after-d ≡ fitMemory (recordFit job (length d) (length p)) (jobDiscounts job) d)
+      × (after-p ≡ fitMemory (recordFit job (length d) (length p)) (jobStatePrices job) p))
 
   module _ (many : 255 < job .steps) where
     quotes-many : (room : ℕ) → 1 ≡ recordQuotes job room
@@ -58,8 +58,8 @@ module _ (job : Job) where
     unfolding recordFit
     fit-many ds ps = rw (lt-ltb 255 (job .steps) many)
 
-    one-kept : (number : ℕ) (part memory : List ℕ) → 1 ≡ number → memory ≡ fit-memory number part memory
-    unfolding fit-memory
+    one-kept : (number : ℕ) (part memory : List ℕ) → 1 ≡ number → memory ≡ fitMemory number part memory
+    unfolding fitMemory
     one-kept number part memory e = rw (← e)
 
     pub quotes-refused : (memory : List ℕ) → Quoted memory 1 memory
@@ -99,24 +99,24 @@ module _ (job : Job) where
     unfolding recordFit
     fit-number ds ps = rw (er, ef, le-ltb 255 (job .steps) few)
 
-    discounts-are : fit-discounts (job .frequency) (job .steps) (job .reversion) (job .volatility) (jobKinds job) figures ≡ jobDiscounts job
+    discounts-are : fitDiscounts (job .frequency) (job .steps) (job .reversion) (job .volatility) (jobKinds job) figures ≡ jobDiscounts job
     unfolding jobDiscounts
     discounts-are = rw ef
 
-    prices-are : fit-prices (job .frequency) (job .steps) (job .reversion) (job .volatility) (jobKinds job) figures ≡ jobStatePrices job
+    prices-are : fitPrices (job .frequency) (job .steps) (job .reversion) (job .volatility) (jobKinds job) figures ≡ jobStatePrices job
     unfolding jobStatePrices
     prices-are = rw ef
 
     pub fit-made : (d p after-d after-p : List ℕ) (r : ℕ) → r ≡ lentFit (length d) (length p) →
-        after-d ≡ fit-memory (lentFit (length d) (length p))
-        (fit-discounts (job .frequency) (job .steps) (job .reversion) (job .volatility) (jobKinds job) figures) d →
-        after-p ≡ fit-memory (lentFit (length d) (length p))
-        (fit-prices (job .frequency) (job .steps) (job .reversion) (job .volatility) (jobKinds job) figures) p →
+        after-d ≡ fitMemory (lentFit (length d) (length p))
+        (fitDiscounts (job .frequency) (job .steps) (job .reversion) (job .volatility) (jobKinds job) figures) d →
+        after-p ≡ fitMemory (lentFit (length d) (length p))
+        (fitPrices (job .frequency) (job .steps) (job .reversion) (job .volatility) (jobKinds job) figures) p →
         Fitted d p r after-d after-p
     fit-made d p after-d after-p r e ed ep =
         let n = fit-number (length d) (length p) in
         let same : (old new memory : List ℕ) → old ≡ new →
-        fit-memory (lentFit (length d) (length p)) old memory ≡ fit-memory (recordFit job (length d) (length p)) new memory =
+        fitMemory (lentFit (length d) (length p)) old memory ≡ fitMemory (recordFit job (length d) (length p)) new memory =
         λ old new memory el. rw (n, el) in
         (e ∙ n, (ed ∙ same _ _ d discounts-are, ep ∙ same _ _ p prices-are))
 
@@ -127,11 +127,11 @@ module _ (job : Job) where
   unfolding jobQuotes
   quotes-length = length-row (job .steps) (discountAt (job .frequency) (jobKinds job) (jobFigures job))
 
-  pub discounts-length : length (jobDiscounts job) ≡ discounts-needed (job .steps) (job .reversion)
+  pub discounts-length : length (jobDiscounts job) ≡ discountsNeeded (job .steps) (job .reversion)
   unfolding jobDiscounts
   discounts-length = fit-discounts-length _ _ _ _ (jobKinds job) (jobFigures job)
 
-  pub prices-length : length (jobStatePrices job) ≡ state-prices-needed (job .steps) (job .reversion)
+  pub prices-length : length (jobStatePrices job) ≡ statePricesNeeded (job .steps) (job .reversion)
   unfolding jobStatePrices
   prices-length = fit-prices-length _ _ _ _ (jobKinds job) (jobFigures job)
 
@@ -151,8 +151,12 @@ module _ (job : Job) where
     numbers = fit-numbers _ _ _ _ _ _ _ ds ps fit-none
 
     pub accepted : Accepted (job .steps) (job .reversion)
-    accepted = record { some = numbers .some; few = numbers .few; gentle = numbers .reverting }
+    accepted = record {
+      steps-positive = numbers .steps-positive;
+      steps-within-limit = numbers .steps-within-limit;
+      reversion-within-limit = numbers .reversion-within-limit;
+    }
 
     pub quotes-none : recordQuotes job 60 ≡ 0
     unfolding recordQuotes
-    quotes-none = rw (le-ltb 255 (job .steps) steps-few) (numbers .quotes)
+    quotes-none = rw (le-ltb 255 (job .steps) steps-few) (numbers .quotes-converted)

@@ -9,7 +9,7 @@ use lib.ListN.{take}
 use Rattle.arithmetic.specs.Row.{row, place}
 use Rattle.figure.specs.Figure.{patternFloat}
 use Rattle.curve.specs.Curve.{curveNumber}
-use Rattle.fitting.specs.Entry.{fitNumber, fit-discounts, fit-prices, quotes-of}
+use Rattle.fitting.specs.Entry.{fitNumber, fitDiscounts, fitPrices, quotesOf}
 use Rattle.job_record.specs.declared.Job.{Job}
 
 module _ (job : Job) where
@@ -28,13 +28,13 @@ module _ (job : Job) where
 
   -- the quotes of rows 1 to n, and the tree fitted to them: discounts of rows 0 to n − 1, state prices of rows 0 to n
   unfoldable pub jobQuotes : List ℕ
-  jobQuotes = quotes-of (job .frequency) (job .steps) jobKinds jobFigures
+  jobQuotes = quotesOf (job .frequency) (job .steps) jobKinds jobFigures
 
   unfoldable pub jobDiscounts : List ℕ
-  jobDiscounts = fit-discounts (job .frequency) (job .steps) (job .reversion) (job .volatility) jobKinds jobFigures
+  jobDiscounts = fitDiscounts (job .frequency) (job .steps) (job .reversion) (job .volatility) jobKinds jobFigures
 
   unfoldable pub jobStatePrices : List ℕ
-  jobStatePrices = fit-prices (job .frequency) (job .steps) (job .reversion) (job .volatility) jobKinds jobFigures
+  jobStatePrices = fitPrices (job .frequency) (job .steps) (job .reversion) (job .volatility) jobKinds jobFigures
 
   -- 1: no job's bytes give more than 255 steps; then the causes of the conversion into a memory of so many numbers
   unfoldable pub recordQuotes : ℕ → ℕ

@@ -3,7 +3,7 @@ mod columns;
 
 ghost use mathlib.Core.Path.{_≡_};
 ghost use lib.ListN.{length};
-ghost use Rattle.fitting.specs.Entry.{fit-memory};
+ghost use Rattle.fitting.specs.Entry.{fitMemory};
 ghost use Rattle.job_fit.specs.RecordFit.{
   recordQuotes,
   recordFit,
@@ -42,10 +42,10 @@ pub fn quotes_of_record(job: Job, quotes: &mut [u64]) -> u64
 // the memories as the fit does.
 pub fn fit_of_record(job: Job, discounts: &mut [u64], state_prices: &mut [u64]) -> u64
     ensures number { λ r. ⌜ r ≡ recordFit job (length (now (discounts .entry))) (length (now («state_prices» .entry))) ⌝ }
-    ensures discounted { λ _. ⌜ now (discounts .exit) ≡ fit-memory
+    ensures discounted { λ _. ⌜ now (discounts .exit) ≡ fitMemory
         (recordFit job (length (now (discounts .entry))) (length (now («state_prices» .entry))))
         (jobDiscounts job) (now (discounts .entry)) ⌝ }
-    ensures priced { λ _. ⌜ now («state_prices» .exit) ≡ fit-memory
+    ensures priced { λ _. ⌜ now («state_prices» .exit) ≡ fitMemory
         (recordFit job (length (now (discounts .entry))) (length (now («state_prices» .entry))))
         (jobStatePrices job) (now («state_prices» .entry)) ⌝ }
 {

@@ -3,28 +3,26 @@
 use mathlib.Core.Path.{_≡_, refl, sym, ap, _∙_, subst}
 use mathlib.Core.Bool.{Bool, true, false}
 use mathlib.Core.List.{List}
-use Prim.Native.Nat.{ℕ, _≤_, _<_, max}
+use Prim.Native.Nat.{ℕ, _≤_}
 use native.Mathlib.Omega.{arith}
-use borrow.Author.Tests.{eq-eqb, ne-eqb, lt-ltb, ltb-false}
+use borrow.Author.Tests.{eq-eqb, ne-eqb}
 use lib.ListN.{length, take}
-use Rattle.arithmetic.specs.Answers.{lowest-cause}
-use Rattle.arithmetic.specs.Row.{row, values, place}
+use Rattle.arithmetic.specs.Answers.{lowestCause}
+use Rattle.arithmetic.specs.Row.{values, place}
 use Rattle.arithmetic.specs.declared.Answer.{Answer}
 use Rattle.arithmetic.proofs.CauseLaws.{lowest-none}
-use Rattle.arithmetic.proofs.Numbers.{by-equal, by-order}
+use Rattle.arithmetic.proofs.Numbers.{by-equal}
 use Rattle.arithmetic.proofs.PlaceLaws.{filled-place, length-place, place-front}
 use Rattle.arithmetic.proofs.RowLaws.{Filled, row-of}
-use Rattle.limits.specs.Limits.{most-discounts, most-state-prices}
-use Rattle.lattice.specs.Shape.{discounts-needed, state-prices-needed}
-use Rattle.lattice.specs.Entries.{discountsNeeded, statePricesNeeded}
+use Rattle.limits.specs.Limits.{mostDiscounts, mostStatePrices}
+use Rattle.lattice.specs.Shape.{discountsNeeded, statePricesNeeded}
+use Rattle.lattice.specs.Entries.{discountsNeededAnswer, statePricesNeededAnswer, memoryCause}
 use Rattle.lattice.proofs.TreeEntries.{tree-value}
 use Rattle.fitting.proofs.CauseLaws.{memory-none}
-use Rattle.fitting.specs.Entry.{memory-cause, fit-memory}
-use Rattle.fitting.proofs.CauseLaws.{memory-short, memory-lacks}
 use Rattle.fitting.proofs.FittedTree.{fit-placed}
 use Rattle.pricing.specs.declared.Price.{Price}
 use Rattle.pricing.specs.declared.BondAndOption.{BondAndOption}
-use Rattle.pricing.specs.Prices.{refusal, first-cause, bondPrice, bondAndOption}
+use Rattle.pricing.specs.Prices.{refusedPrice, firstCause, bondPrice, bondAndOption}
 use Rattle.job_record.specs.declared.OptionRecord.{OptionRecord}
 use Rattle.job_record.specs.declared.Job.{Job}
 use Rattle.job_record.specs.declared.Reading.{Reading}
@@ -61,7 +59,7 @@ module _ (number : ℕ) (bond : Price) (present : Bool) (option : Price) where
 
 module _ (n b : ℕ) (discounts flows : List ℕ) (option : OptionRecord) (r : JobPrices) where
   pub without-option : (bond : Price) → option .tag ≡ 0 → bond ≡ bondPrice n b discounts flows →
-      r ≡ pricesOf (bond .number) bond false (refusal 0) → r ≡ treePrices n b discounts flows option
+      r ≡ pricesOf (bond .number) bond false (refusedPrice 0) → r ≡ treePrices n b discounts flows option
   unfolding treePrices treeNumber
   without-option bond z eb e = e ∙ rw (eb, eq-eqb (option .tag) 0 z)
 
@@ -96,7 +94,7 @@ module _ (n b : ℕ) (discounts flows : List ℕ) (option : OptionRecord) (r : J
 
 -- an accepted fit: so many numbers at the start of two memories are its tree, the lent memories hold it, and what is left to test is the tree
 pub record Held (job : Job) (needed all : ℕ) (d p lent-d lent-p : List ℕ) : Type 0 where
-  pub few : job .steps ≤ 255
+  pub steps-within-limit : job .steps ≤ 255
   pub discounts-are : take needed d ≡ jobDiscounts job
   pub prices-are : take all p ≡ jobStatePrices job
   pub discounts-size : length (jobDiscounts job) ≡ needed
@@ -113,18 +111,18 @@ abbrev pub Record : Job → List ℕ → List ℕ → JobPrices → List ℕ →
 Record job d p =
     Left (recordNumber job (length d) (length p)) (recordPrices job (length d) (length p)) (jobDiscounts job) (jobStatePrices job) d p
 
-module _ (job : Job) (d₀ p₀ d p : List ℕ) (fitted : ℕ) (ld : length d₀ ≡ most-discounts) (lp : length p₀ ≡ most-state-prices)
+module _ (job : Job) (d₀ p₀ d p : List ℕ) (fitted : ℕ) (ld : length d₀ ≡ mostDiscounts) (lp : length p₀ ≡ mostStatePrices)
     (fit : fits.Fitted job d₀ p₀ fitted d p) (lent-d lent-p : List ℕ) (memory cause : ℕ)
-    (em : memory ≡ memory-cause (job .steps) (job .reversion) (length lent-d) (length lent-p)) (ec : cause ≡ lowest-cause fitted memory) where
-  fitted-is : fitted ≡ recordFit job most-discounts most-state-prices
+    (em : memory ≡ memoryCause (job .steps) (job .reversion) (length lent-d) (length lent-p)) (ec : cause ≡ lowestCause fitted memory) where
+  fitted-is : fitted ≡ recordFit job mostDiscounts mostStatePrices
   fitted-is = fit .0 ∙ rw (ld, lp)
 
-  cause-is : cause ≡ lowest-cause (recordFit job most-discounts most-state-prices)
-      (memory-cause (job .steps) (job .reversion) (length lent-d) (length lent-p))
+  cause-is : cause ≡ lowestCause (recordFit job mostDiscounts mostStatePrices)
+      (memoryCause (job .steps) (job .reversion) (length lent-d) (length lent-p))
   cause-is = ec ∙ rw (fitted-is, em)
 
   cause-found : (cause ≡ 0 → ⊥) → cause ≡ recordNumber job (length lent-d) (length lent-p)
-  unfolding recordNumber first-cause
+  unfolding recordNumber firstCause
   cause-found nz = rw (← cause-is, ne-eqb cause 0 nz)
 
   cause-given : (nz : cause ≡ 0 → ⊥) → refusedPrices cause ≡ recordPrices job (length lent-d) (length lent-p)
@@ -138,13 +136,13 @@ module _ (job : Job) (d₀ p₀ d p : List ℕ) (fitted : ℕ) (ld : length d₀
 
   module _ (z : cause ≡ 0) where
     number-is : treeNumber (job .steps) (job .reversion) (jobDiscounts job) (jobFlows job) (job .option) ≡ recordNumber job (length lent-d) (length lent-p)
-    unfolding recordNumber first-cause
+    unfolding recordNumber firstCause
     number-is = rw (← cause-is, eq-eqb cause 0 z)
 
     fit-none : fitted ≡ 0
     fit-none = lowest-none fitted memory (sym ec ∙ z) .0
 
-    record-none : recordFit job most-discounts most-state-prices ≡ 0
+    record-none : recordFit job mostDiscounts mostStatePrices ≡ 0
     record-none = sym fitted-is ∙ fit-none
 
     d-is : d ≡ place d₀ 0 (jobDiscounts job)
@@ -153,9 +151,10 @@ module _ (job : Job) (d₀ p₀ d p : List ℕ) (fitted : ℕ) (ld : length d₀
     p-is : p ≡ place p₀ 0 (jobStatePrices job)
     p-is = fit .1 .1 ∙ fit-placed _ (jobStatePrices job) p₀ (sym (fit .0) ∙ fit-none)
 
-    pub held : (needed all : Answer) → needed ≡ discountsNeeded (job .steps) (job .reversion) → all ≡ statePricesNeeded (job .steps) (job .reversion) →
+    pub held : (needed all : Answer) → needed ≡ discountsNeededAnswer (job .steps) (job .reversion) →
+        all ≡ statePricesNeededAnswer (job .steps) (job .reversion) →
         Held job (needed .value) (all .value) d p lent-d lent-p
-    unfolding treePrices recordPrices discounts-needed state-prices-needed
+    unfolding treePrices recordPrices discountsNeeded statePricesNeeded
     held needed all en ea =
         let ok = fits.accepted job _ _ record-none in
         let known = fits.numbers job _ _ record-none in
@@ -167,7 +166,7 @@ module _ (job : Job) (d₀ p₀ d p : List ℕ) (fitted : ℕ) (ld : length d₀
         let long-d = ap length d-is ∙ length-place d₀ 0 (jobDiscounts job) (omega (arith, dl, dn, known .room-discounts, ld)) in
         let long-p = ap length p-is ∙ length-place p₀ 0 (jobStatePrices job) (omega (arith, pl, pn, known .room-prices, lp)) in
         record {
-          few = fits.steps-few job _ _ record-none;
+          steps-within-limit = fits.steps-few job _ _ record-none;
           discounts-are = ap (take (needed .value)) d-is ∙ place-front d₀ (jobDiscounts job) (needed .value) dl;
           prices-are = ap (take (all .value)) p-is ∙ place-front p₀ (jobStatePrices job) (all .value) pl;
           discounts-size = dl;
@@ -188,7 +187,7 @@ module _ (job : Job) (needed all : ℕ) (d p lent-d lent-p : List ℕ) (h : Held
   prices-count = sym (h .prices-size) ∙ ap length (sym (h .prices-are))
 
   pub tree-fits : (job .steps ≤ 255) × (length (take needed d) ≤ length lent-d) × (length (take all p) ≤ length lent-p)
-  tree-fits = (h .few, omega (arith, discounts-count, h .discounts-room), omega (arith, prices-count, h .prices-room))
+  tree-fits = (h .steps-within-limit, omega (arith, discounts-count, h .discounts-room), omega (arith, prices-count, h .prices-room))
 
   pub record-made : (r : JobPrices) (after-d after-p : List ℕ) →
       Left (treeNumber (job .steps) (job .reversion) (take needed d) (jobFlows job) (job .option))
@@ -210,7 +209,7 @@ module _ (bytes d p : List ℕ) (q : Reading) (e : q ≡ readingOf bytes) where
 
   module _ (nz : q .number ≡ 0 → ⊥) where
     read-found : q .number ≡ bytesNumber bytes (length d) (length p)
-    unfolding bytesNumber first-cause
+    unfolding bytesNumber firstCause
     read-found = rw (← number-read, ne-eqb (q .number) 0 nz)
 
     read-given : refusedPrices (q .number) ≡ bytesPrices bytes (length d) (length p)
@@ -222,7 +221,7 @@ module _ (bytes d p : List ℕ) (q : Reading) (e : q ≡ readingOf bytes) where
 
   module _ (z : q .number ≡ 0) where
     bytes-number : recordNumber (readingOf bytes .job) (length d) (length p) ≡ bytesNumber bytes (length d) (length p)
-    unfolding bytesNumber first-cause
+    unfolding bytesNumber firstCause
     bytes-number = rw (← number-read, eq-eqb (q .number) 0 z)
 
     bytes-prices : recordPrices (readingOf bytes .job) (length d) (length p) ≡ bytesPrices bytes (length d) (length p)

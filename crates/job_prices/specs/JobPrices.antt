@@ -4,11 +4,11 @@ use Prim.Native.Nat.{ℕ}
 use mathlib.Core.Bool.{Bool, false, cond, not}
 use mathlib.Core.List.{List}
 use lib.Dec.{eqb}
-use Rattle.arithmetic.specs.Answers.{lowest-cause}
-use Rattle.limits.specs.Limits.{most-discounts, most-state-prices}
-use Rattle.fitting.specs.Entry.{memory-cause}
+use Rattle.lattice.specs.Entries.{memoryCause}
+use Rattle.arithmetic.specs.Answers.{lowestCause}
+use Rattle.limits.specs.Limits.{mostDiscounts, mostStatePrices}
 use Rattle.pricing.specs.declared.Price.{Price}
-use Rattle.pricing.specs.Prices.{refusal, first-cause, bondPrice, optionPrice}
+use Rattle.pricing.specs.Prices.{refusedPrice, firstCause, bondPrice, optionPrice}
 use Rattle.job_record.specs.declared.OptionRecord.{OptionRecord}
 use Rattle.job_record.specs.declared.Job.{Job}
 use Rattle.job_record.specs.Reader.{readingOf}
@@ -22,7 +22,7 @@ hasOption option = not (eqb (option .tag) 0)
 -- the option of a tree whose discounts are lent; zeros for none
 abbrev pub treeOption : ℕ → ℕ → List ℕ → List ℕ → OptionRecord → Price
 treeOption n b discounts flows option =
-    cond (hasOption option) (optionPrice n b discounts flows (option .kind) (option .expiry) (option .strike)) (refusal 0)
+    cond (hasOption option) (optionPrice n b discounts flows (option .kind) (option .expiry) (option .strike)) (refusedPrice 0)
 
 -- causes 10 to 12: the number of the option, which judges all that the bond's does; of the bond where there is none
 unfoldable pub treeNumber : ℕ → ℕ → List ℕ → List ℕ → OptionRecord → ℕ
@@ -31,7 +31,7 @@ treeNumber n b discounts flows option =
 
 -- a refusal's number with zeros
 abbrev pub refusedPrices : ℕ → JobPrices
-refusedPrices number = record { number = number; bond = refusal 0; «has_option» = false; option = refusal 0 }
+refusedPrices number = record { number = number; bond = refusedPrice 0; «has_option» = false; option = refusedPrice 0 }
 
 -- all prices, or a refusal
 unfoldable pub pricesOf : ℕ → Price → Bool → Price → JobPrices
@@ -46,8 +46,8 @@ module _ (job : Job) where
   -- 1, then the lowest of causes 2 to 9 and of 6 for lent memories of so many numbers, then causes 10 to 12
   unfoldable pub recordNumber : ℕ → ℕ → ℕ
   recordNumber discounts prices =
-      first-cause
-      (lowest-cause (recordFit job most-discounts most-state-prices) (memory-cause (job .steps) (job .reversion) discounts prices))
+      firstCause
+      (lowestCause (recordFit job mostDiscounts mostStatePrices) (memoryCause (job .steps) (job .reversion) discounts prices))
       (treeNumber (job .steps) (job .reversion) (jobDiscounts job) (jobFlows job) (job .option))
 
   abbrev pub jobBond : Price
@@ -61,7 +61,7 @@ module _ (job : Job) where
 
 -- of a job's bytes: 1 first
 unfoldable pub bytesNumber : List ℕ → ℕ → ℕ → ℕ
-bytesNumber bytes discounts prices = first-cause (readingOf bytes .number) (recordNumber (readingOf bytes .job) discounts prices)
+bytesNumber bytes discounts prices = firstCause (readingOf bytes .number) (recordNumber (readingOf bytes .job) discounts prices)
 
 unfoldable pub bytesPrices : List ℕ → ℕ → ℕ → JobPrices
 bytesPrices bytes discounts prices =

@@ -5,7 +5,6 @@ mod priced;
 ghost use mathlib.Core.Path.{_≡_};
 ghost use Prim.Native.Nat.{_≤_};
 ghost use lib.ListN.{length};
-ghost use Rattle.fitting.specs.Entry.{memory-cause};
 ghost use Rattle.job_fit.specs.RecordFit.{jobFlows, jobDiscounts, jobStatePrices, memoryAfter};
 ghost use Rattle.job_record.specs.Reader.{readingOf};
 ghost use Rattle.job_prices.specs.JobPrices.{
@@ -25,20 +24,6 @@ pub struct JobPrices {
     pub bond: Price,
     pub has_option: bool,
     pub option: Price,
-}
-
-fn memory_cause(steps: usize, reversion: u64, discounts: usize, state_prices: usize) -> u64
-    ensures { λ r. ⌜ r ≡ memory-cause steps reversion discounts «state_prices» ⌝ }
-{
-    let needed = lattice::discounts_needed(steps, reversion);
-    let all = lattice::state_prices_needed(steps, reversion);
-    if (discounts as u64) < needed.value {
-        return 6;
-    }
-    if (state_prices as u64) < all.value {
-        return 6;
-    }
-    0
 }
 
 // Prices a fitted tree, and copies it to the lent memories where nothing is refused.
@@ -91,7 +76,7 @@ pub fn prices_of_record(job: Job, discounts: &mut [u64], state_prices: &mut [u64
     let fitted = job_fit::fit_of_record(job, &mut fitted_discounts, &mut fitted_prices);
     let steps = job.steps;
     let reversion = job.reversion;
-    let memory = memory_cause(steps, reversion, discounts.len(), state_prices.len());
+    let memory = lattice::memory_cause(steps, reversion, discounts.len(), state_prices.len());
     let cause = arithmetic::lowest_cause(fitted, memory);
     if cause != 0 {
         return priced::refused(cause);

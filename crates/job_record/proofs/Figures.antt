@@ -5,24 +5,24 @@ use mathlib.Core.List.{List, [], _++_}
 use mathlib.Core.Path.{_≡_, refl, sym}
 use lib.ListN.{length}
 use Rattle.arithmetic.specs.Row.{row, overlay, each}
-use Rattle.job_record.specs.Bytes.{digits, numberAt}
+use Rattle.job_record.specs.Bytes.{numberBytes, numberAt}
 use Rattle.job_record.specs.Form.{mostBytes, isKind, fieldAt, fieldsFrom, headFormed, restFormed, bodyFormed, wellFormed}
-use Rattle.job_record.specs.Reader.{padded, optionAt, jobOf, accepted, malformed, readingOf}
+use Rattle.job_record.specs.Reader.{padded, optionAt, jobOf, acceptedReading, malformed, readingOf}
 use Rattle.job_record.specs.Grammar.{field, joined, optionField, encode}
 use Rattle.job_record.specs.Example.{exampleHead, exampleQuote, exampleFlow, exampleOption, example, exampleJob, quoteOf, jobWith, recordWith}
 use Rattle.job_record.proofs.Forms.{refuse-long}
 use Rattle.job_record.proofs.ReadLaws.{reading-bad}
 
-pub example-read : readingOf example ≡ accepted exampleJob
+pub example-read : readingOf example ≡ acceptedReading exampleJob
 unfolding numberAt isKind fieldAt fieldsFrom headFormed restFormed bodyFormed wellFormed padded optionAt jobOf readingOf row overlay each
 example-read = refl
 
 pub example-written : encode exampleJob ≡ example
-unfolding field joined optionField encode digits
+unfolding field joined optionField encode numberBytes
 example-written = refl
 
 -- a rate in the quote's place, and a tag that is no kind
-pub rate-read : readingOf (jobWith (quoteOf 6)) ≡ accepted (recordWith 6)
+pub rate-read : readingOf (jobWith (quoteOf 6)) ≡ acceptedReading (recordWith 6)
 unfolding numberAt isKind fieldAt fieldsFrom headFormed restFormed bodyFormed wellFormed padded optionAt jobOf readingOf row overlay each
 rate-read = refl
 

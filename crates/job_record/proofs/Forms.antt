@@ -15,7 +15,7 @@ use Rattle.arithmetic.proofs.RowLaws.{each-none, each-more, each-fails, each-ho
 use Rattle.job_record.specs.Bytes.{Bytes, numberAt}
 use Rattle.job_record.specs.Form.{
   mostBytes,
-  mostSteps,
+  mostJobSteps,
   dataAt,
   afterField,
   afterFields,
@@ -173,7 +173,7 @@ module _ (s : List ℕ) (h : wellFormed s ≡ true) where
   well-length = body-length s quotesAt (stepsOf s) well-body
 
 -- a job of bytes has at most 255 steps
-pub steps-few : (s : List ℕ) → Bytes s → stepsOf s ≤ mostSteps
+pub steps-few : (s : List ℕ) → Bytes s → stepsOf s ≤ mostJobSteps
 steps-few s b = omega (arith, number-bound s b (dataAt stepsAt) 1)
 
 -- the answer, by the test that fails first

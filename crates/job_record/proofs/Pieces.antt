@@ -9,7 +9,7 @@ use mathlib.Core.Path.{_≡_, refl, sym, ap, _∙_}
 use lib.ListN.{length, getD, take, drop, take-append-drop, length-drop}
 use lib.Seq.{take-add, drop-drop, take-suc, drop-cons, getD-drop, length-take-le}
 use lib.Arith.{digits-div, digits-mod}
-use Rattle.job_record.specs.Bytes.{Bytes, numberAt, digits}
+use Rattle.job_record.specs.Bytes.{Bytes, numberAt, numberBytes}
 use Rattle.job_record.specs.Form.{dataAt, afterFields, fieldAt, fieldsFrom}
 use Rattle.job_record.specs.Reader.{tagOf, dataOf}
 use Rattle.job_record.specs.Grammar.{field, joined}
@@ -29,12 +29,12 @@ pub byte-piece : (s : List ℕ) (o : ℕ) → o < length s → take 1 (drop o s)
 byte-piece s o h = rw (drop-cons s o 0 h)
 
 -- the number in k bytes is written as these
-pub digits-piece : (s : List ℕ) → Bytes s → (o k : ℕ) → o + k ≤ length s → digits k (numberAt s o k) ≡ take k (drop o s)
-unfolding numberAt digits
+pub digits-piece : (s : List ℕ) → Bytes s → (o k : ℕ) → o + k ≤ length s → numberBytes k (numberAt s o k) ≡ take k (drop o s)
+unfolding numberAt numberBytes
 digits-piece s b o zero h = refl
 digits-piece s b o (suc k) h =
     let inside : k < length (drop o s) = simp length-drop (omega arith) in
-    let before : digits k (numberAt s o k) ≡ take k (drop o s) = digits-piece s b o k (omega arith) in
+    let before : numberBytes k (numberAt s o k) ≡ take k (drop o s) = digits-piece s b o k (omega arith) in
     rw (digits-div (numberAt s o k) (b (o + k)), digits-mod (numberAt s o k) (b (o + k)), before, take-suc (drop o s) k 0 inside, getD-drop o s k 0)
 
 -- a field that stands at a place is its tag and its data
@@ -46,8 +46,9 @@ module _ (s : List ℕ) (b : Bytes s) (o : ℕ) (tags : Tags) (k : ℕ) (h : fie
       let long : length (take k (drop (o + 3) s)) ≡ k = length-take-le k (drop (o + 3) s) (simp length-drop (omega arith)) in
       let place : o + 1 + 2 ≡ o + 3 = omega arith in
       let size : 1 + (2 + k) ≡ k + 3 = omega arith in
-      let counted : digits 2 k ≡ take 2 (drop (o + 1) s) = ap (digits 2) (sym (field-length s o tags k h)) ∙ digits-piece s b (o + 1) 2 (omega arith) in
-      ap (λ (n : ℕ). getD s o 0 ∷ (digits 2 n ++ take k (drop (o + 3) s))) long
+      let counted : numberBytes 2 k ≡ take 2 (drop (o + 1) s) =
+      ap (numberBytes 2) (sym (field-length s o tags k h)) ∙ digits-piece s b (o + 1) 2 (omega arith) in
+      ap (λ (n : ℕ). getD s o 0 ∷ (numberBytes 2 n ++ take k (drop (o + 3) s))) long
       ∙ ap (λ (l : List ℕ). getD s o 0 ∷ (l ++ take k (drop (o + 3) s))) counted
       ∙ ap (λ (p : ℕ). getD s o 0 ∷ (take 2 (drop (o + 1) s) ++ take k (drop p s))) (sym place)
       ∙ ap (λ (l : List ℕ). getD s o 0 ∷ l) (join 2 k (o + 1) s)
@@ -56,7 +57,7 @@ module _ (s : List ℕ) (b : Bytes s) (o : ℕ) (tags : Tags) (k : ℕ) (h : fie
       ∙ ap (λ (n : ℕ). take n (drop o s)) size
 
   -- one whose data are one number
-  pub number-field : field (getD s o 0) (digits k (numberAt s (dataAt o) k)) ≡ take (k + 3) (drop o s)
+  pub number-field : field (getD s o 0) (numberBytes k (numberAt s (dataAt o) k)) ≡ take (k + 3) (drop o s)
   number-field = ap (field (getD s o 0)) (digits-piece s b (dataAt o) k (field-whole s o tags k h)) ∙ field-piece
 
 -- the same where the tag is known
@@ -64,7 +65,7 @@ module _ (s : List ℕ) (b : Bytes s) (o tag k : ℕ) (h : fieldAt s o (Only tag
   pub only-piece : field tag (take k (drop (dataAt o) s)) ≡ take (k + 3) (drop o s)
   only-piece = rw (field-tag s o tag k h) at (field-piece s b o (Only tag) k h)
 
-  pub only-field : field tag (digits k (numberAt s (dataAt o) k)) ≡ take (k + 3) (drop o s)
+  pub only-field : field tag (numberBytes k (numberAt s (dataAt o) k)) ≡ take (k + 3) (drop o s)
   only-field = rw (field-tag s o tag k h) at (number-field s b o (Only tag) k h)
 
 -- parts of one size, one after the other
@@ -79,7 +80,7 @@ joined-piece s f size o (suc n) h =
 -- fields of one width, one after the other, are their tags and numbers
 pub fields-piece :
     (s : List ℕ) → Bytes s → (from : ℕ) (tags : Tags) (width n : ℕ) → fieldsFrom s from tags width n ≡ true → (f : ℕ → List ℕ)
-    → ((i : ℕ) → i < n → f i ≡ field (tagOf s from width i) (digits width (dataOf s from width i)))
+    → ((i : ℕ) → i < n → f i ≡ field (tagOf s from width i) (numberBytes width (dataOf s from width i)))
     → joined n f ≡ take ((width + 3) * n) (drop from s)
 fields-piece s b from tags width n h f same =
     joined-piece s f (width + 3) from n

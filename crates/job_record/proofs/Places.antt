@@ -11,7 +11,7 @@ use borrow.Author.Tests.{le-leb, eq-eqb}
 use lib.ListN.{length, getD, length-append}
 use lib.Seq.{getD-at}
 use lib.Arith.{lt-of-le-ne}
-use Rattle.job_record.specs.Bytes.{numberAt, digits}
+use Rattle.job_record.specs.Bytes.{numberAt, numberBytes}
 use Rattle.job_record.specs.Form.{dataAt, hasTag, fieldAt}
 use Rattle.job_record.specs.Grammar.{field, joined}
 use Rattle.job_record.specs.declared.Tags.{Tags}
@@ -51,44 +51,44 @@ at-byte s o x l h = rw (h .split) (getD-at (h .front) x (l ++ h .rest) 0 o (h .p
 pub at-within : (s : List ℕ) (o : ℕ) (l : List ℕ) → At s o l → o + length l ≤ length s
 at-within s o l h = rw (h .split) (simp length-append (omega (arith, h .place)))
 
-pub digits-length : (k v : ℕ) → length (digits k v) ≡ k
-unfolding digits
+pub digits-length : (k v : ℕ) → length (numberBytes k v) ≡ k
+unfolding numberBytes
 digits-length zero v = refl
 digits-length (suc k) v = simp length-append (omega (arith, digits-length k (v / 256)))
 
-pub at-number : (s : List ℕ) (o k v : ℕ) → v < 256 ^ k → At s o (digits k v) → numberAt s o k ≡ v
-unfolding numberAt digits
+pub at-number : (s : List ℕ) (o k v : ℕ) → v < 256 ^ k → At s o (numberBytes k v) → numberAt s o k ≡ v
+unfolding numberAt numberBytes
 at-number s o zero v fits h = omega arith
 at-number s o (suc k) v fits h =
     let high : v / 256 < 256 ^ k = div-lt-iff-lt-mul {k = 256} (omega arith) .1 (rw pow-suc at fits) in
-    let upper : numberAt s o k ≡ v / 256 = at-number s o k (v / 256) high (at-first s o (digits k (v / 256)) (v % 256 ∷ []) h) in
-    let last : At s (o + k) (v % 256 ∷ []) = rw (digits-length k (v / 256)) at (at-second s o (digits k (v / 256)) (v % 256 ∷ []) h) in
+    let upper : numberAt s o k ≡ v / 256 = at-number s o k (v / 256) high (at-first s o (numberBytes k (v / 256)) (v % 256 ∷ []) h) in
+    let last : At s (o + k) (v % 256 ∷ []) = rw (digits-length k (v / 256)) at (at-second s o (numberBytes k (v / 256)) (v % 256 ∷ []) h) in
     let lower : getD s (o + k) 0 ≡ v % 256 = at-byte s (o + k) (v % 256) [] last in
     rw (upper, lower) (div-add-mod' v 256)
 
 -- a field that was written
 module _ (s : List ℕ) (o tag : ℕ) (body : List ℕ) (h : At s o (field tag body)) where
-  parts : At s o ((tag ∷ []) ++ (digits 2 (length body) ++ body))
+  parts : At s o ((tag ∷ []) ++ (numberBytes 2 (length body) ++ body))
   unfolding field
   parts = h
 
-  counted : At s (o + 1) (digits 2 (length body) ++ body)
-  counted = at-second s o (tag ∷ []) (digits 2 (length body) ++ body) parts
+  counted : At s (o + 1) (numberBytes 2 (length body) ++ body)
+  counted = at-second s o (tag ∷ []) (numberBytes 2 (length body) ++ body) parts
 
   pub at-body : At s (dataAt o) body
   at-body =
       let place : o + 1 + 2 ≡ o + 3 = omega arith in
-      rw place at (rw (digits-length 2 (length body)) at (at-second s (o + 1) (digits 2 (length body)) body counted))
+      rw place at (rw (digits-length 2 (length body)) at (at-second s (o + 1) (numberBytes 2 (length body)) body counted))
 
   pub at-tag : getD s o 0 ≡ tag
-  at-tag = at-byte s o tag (digits 2 (length body) ++ body) parts
+  at-tag = at-byte s o tag (numberBytes 2 (length body) ++ body) parts
 
   pub at-field : (tags : Tags) → hasTag tags tag ≡ true → length body < 65536 → fieldAt s o tags (length body) ≡ true
   unfolding fieldAt
   at-field tags has small =
       both (le-leb _ _ (at-within s (o + 3) body at-body))
       (both (ap (hasTag tags) at-tag ∙ has)
-      (eq-eqb _ _ (at-number s (o + 1) 2 (length body) small (at-first s (o + 1) (digits 2 (length body)) body counted))))
+      (eq-eqb _ _ (at-number s (o + 1) 2 (length body) small (at-first s (o + 1) (numberBytes 2 (length body)) body counted))))
 
 pub field-size : (tag : ℕ) (body : List ℕ) → length (field tag body) ≡ length body + 3
 unfolding field

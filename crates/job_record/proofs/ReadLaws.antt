@@ -7,15 +7,12 @@ use mathlib.Core.Bool.{Bool, true, false}
 use mathlib.Core.List.{List}
 use mathlib.Core.Path.{_≡_, refl, sym, ap, _∙_}
 use lib.ListN.{length, take, replicate, length-replicate, length-take}
-use lib.Seq.{getD-take}
-use Rattle.arithmetic.specs.Row.{row, values}
 use Rattle.arithmetic.proofs.Numbers.{by-equal}
-use Rattle.arithmetic.proofs.RowLaws.{row-of, zeros}
+use Rattle.arithmetic.proofs.RowLaws.{zeros}
 use Rattle.job_record.specs.Bytes.{Bytes}
-use Rattle.job_record.specs.Form.{mostSteps, wellFormed}
-use Rattle.job_record.specs.Reader.{jobOf, noJob, accepted, malformed, readingOf}
-use Rattle.job_record.specs.Grammar.{encode, Column, OptionSound, Sound, Encodes, ReadsAs}
-use Rattle.job_record.specs.declared.OptionRecord.{OptionRecord}
+use Rattle.job_record.specs.Form.{mostJobSteps, wellFormed}
+use Rattle.job_record.specs.Reader.{jobOf, noJob, acceptedReading, malformed, readingOf}
+use Rattle.job_record.specs.Grammar.{encode, Column, SoundJob, Encodes, ReadsAs}
 use Rattle.job_record.specs.declared.Job.{Job}
 use Rattle.job_record.specs.declared.Reading.{Reading}
 use Rattle.job_record.proofs.Forms.{well-short}
@@ -27,7 +24,7 @@ abbrev refusal : Job → Reading
 refusal job = record { number = 1; job = job }
 
 module _ (s : List ℕ) where
-  pub reading-well : wellFormed s ≡ true → readingOf s ≡ accepted (jobOf s)
+  pub reading-well : wellFormed s ≡ true → readingOf s ≡ acceptedReading (jobOf s)
   unfolding readingOf
   reading-well h = rw h
 
@@ -35,33 +32,14 @@ module _ (s : List ℕ) where
   unfolding readingOf
   reading-bad h = rw h
 
--- what a caller's test of the number says. r is what the reader gave
-module _ (s : List ℕ) (r : Reading) (e : r ≡ readingOf s) where
-  pub accepted-well : r .number ≡ 0 → (wellFormed s ≡ true) × (r .job ≡ jobOf s)
-  accepted-well zero = go (wellFormed s) refl
-    where
-      go : (t : Bool) → wellFormed s ≡ t → (wellFormed s ≡ true) × (r .job ≡ jobOf s)
-      go true h = (h, ap (λ (q : Reading). q .job) (e ∙ reading-well s h))
-      go false h =
-          let one : r .number ≡ 1 = ap (λ (q : Reading). q .number) (e ∙ reading-bad s h) in
-          let none : ⊥ = omega arith in
-          absurd none
-
-  pub refused-bad : (r .number ≡ 0 → ⊥) → (wellFormed s ≡ false) × (r ≡ malformed)
-  refused-bad other = go (wellFormed s) refl
-    where
-      go : (t : Bool) → wellFormed s ≡ t → (wellFormed s ≡ false) × (r ≡ malformed)
-      go true h = absurd (other (ap (λ (q : Reading). q .number) (e ∙ reading-well s h)))
-      go false h = (h, e ∙ reading-bad s h)
-
 -- a record's bytes are accepted, and give that record
-encoded-by : (s : List ℕ) (job : Job) → Encodes s job → encode job ≡ s → readingOf s ≡ accepted job
+encoded-by : (s : List ℕ) (job : Job) → Encodes s job → encode job ≡ s → readingOf s ≡ acceptedReading job
 encoded-by s job e same =
     let formed : wellFormed s ≡ true = rw same at (encode-formed job (e .sound)) in
     let read : jobOf s ≡ job = rw same at (encode-read job (e .sound)) in
-    reading-well s formed ∙ ap accepted read
+    reading-well s formed ∙ ap acceptedReading read
 
-pub read-encoded : (s : List ℕ) (job : Job) → Encodes s job → readingOf s ≡ accepted job
+pub read-encoded : (s : List ℕ) (job : Job) → Encodes s job → readingOf s ≡ acceptedReading job
 read-encoded s job e = encoded-by s job e (e .fields)
 
 -- what is accepted is the bytes of the record that is given
@@ -69,11 +47,11 @@ pub read-encodes : (s : List ℕ) → Bytes s → wellFormed s ≡ true → Enco
 read-encodes s b h = record { sound = read-sound s b h; fields = written s b h; short = well-short s h }
 
 -- zeros are a sound record
-zeros-column : (bound : ℕ) → 0 < bound → Column (replicate mostSteps 0) 0 bound
+zeros-column : (bound : ℕ) → 0 < bound → Column (replicate mostJobSteps 0) 0 bound
 zeros-column bound positive =
-    record { size = length-replicate {A = ℕ} mostSteps 0; below = λ k. rw (zeros mostSteps k) positive; after = λ k past. zeros mostSteps k }
+    record { size = length-replicate {A = ℕ} mostJobSteps 0; below = λ k. rw (zeros mostJobSteps k) positive; after = λ k past. zeros mostJobSteps k }
 
-zeros-sound : Sound noJob
+zeros-sound : SoundJob noJob
 unfolding noJob
 zeros-sound =
     record {
@@ -113,9 +91,9 @@ module _ (s : List ℕ) (b : Bytes s) where
   reads = reads-by (wellFormed s) refl
 
   -- the two answers of the code
-  pub read-well : (job : Job) → job ≡ jobOf s → wellFormed s ≡ true → (accepted job ≡ readingOf s) × ReadsAs s (accepted job)
+  pub read-well : (job : Job) → job ≡ jobOf s → wellFormed s ≡ true → (acceptedReading job ≡ readingOf s) × ReadsAs s (acceptedReading job)
   read-well job e h =
-      let same : accepted job ≡ readingOf s = ap accepted e ∙ sym (reading-well s h) in
+      let same : acceptedReading job ≡ readingOf s = ap acceptedReading e ∙ sym (reading-well s h) in
       (same, rw same reads)
 
   pub read-bad : (job : Job) → job ≡ noJob → wellFormed s ≡ false → (refusal job ≡ readingOf s) × ReadsAs s (refusal job)
@@ -132,18 +110,10 @@ read-once s r q a c =
     (λ another. a .refuses other ∙ sym (c .refuses another)))
 
 -- two records with the same bytes are one
-pub encode-once : (job other : Job) → Sound job → Sound other → encode job ≡ encode other → job ≡ other
+pub encode-once : (job other : Job) → SoundJob job → SoundJob other → encode job ≡ encode other → job ≡ other
 encode-once job other a c same = sym (encode-read job a) ∙ ap jobOf same ∙ encode-read other c
 
 -- the part of a column that a caller lends: its n entries
 module _ (l : List ℕ) (n bound : ℕ) (column : Column l n bound) (few : n < 256) where
   pub lent-length : length (take n l) ≡ n
   lent-length = simp length-take (omega (arith, column .size))
-
-  pub lent-row : take n l ≡ row n (values l)
-  lent-row = row-of (take n l) n (values l) lent-length (λ k below. rw getD-take)
-
--- an option's tag: none, or 8
-pub option-tag : (option : OptionRecord) → OptionSound option → (option .tag ≡ 0 → ⊥) → option .tag ≡ 8
-option-tag option sound other =
-    by-equal (option .tag) 8 (λ same. same) (λ no. absurd (other (ap (λ (o : OptionRecord). o .tag) (sound .absent no))))

@@ -6,10 +6,10 @@ use mathlib.Core.Bool.{Bool, true, false, cond}
 use mathlib.Core.List.{List, [], _++_}
 use mathlib.Core.Path.{_≡_, refl, sym, ap, _∙_}
 use borrow.Author.Tests.{le-leb, eq-eqb, ne-eqb, eqb-true, eqb-false}
-use lib.ListN.{length, getD, length-append}
+use lib.ListN.{length, length-append}
 use lib.Dec.{eqb}
 use Rattle.arithmetic.specs.Row.{values}
-use Rattle.job_record.specs.Bytes.{numberAt, digits}
+use Rattle.job_record.specs.Bytes.{numberAt, numberBytes}
 use Rattle.job_record.specs.Form.{
   mostBytes,
   dataAt,
@@ -36,7 +36,7 @@ use Rattle.job_record.specs.Form.{
   wellFormed,
 }
 use Rattle.job_record.specs.Reader.{padded, tagOf, dataOf, noOption, optionAt, jobOf}
-use Rattle.job_record.specs.Grammar.{field, joined, quoteField, flowField, optionData, optionField, encode, OptionSound, Sound}
+use Rattle.job_record.specs.Grammar.{field, joined, quoteField, flowField, optionData, optionField, encode, SoundOption, SoundJob}
 use Rattle.job_record.specs.declared.Tags.{Tags}
 use Rattle.job_record.specs.declared.Tags.the-variants.{AnyKind, Only}
 use Rattle.job_record.specs.declared.OptionRecord.{OptionRecord}
@@ -60,28 +60,28 @@ use Rattle.job_record.proofs.Places.{
 }
 
 -- a field whose data are one number
-module _ (s : List ℕ) (o tag k v : ℕ) (h : At s o (field tag (digits k v))) where
+module _ (s : List ℕ) (o tag k v : ℕ) (h : At s o (field tag (numberBytes k v))) where
   number-formed : (tags : Tags) → hasTag tags tag ≡ true → k < 65536 → fieldAt s o tags k ≡ true
-  number-formed tags has small = rw (digits-length k v) at (at-field s o tag (digits k v) h tags has (rw (digits-length k v) small))
+  number-formed tags has small = rw (digits-length k v) at (at-field s o tag (numberBytes k v) h tags has (rw (digits-length k v) small))
 
   only-formed : k < 65536 → fieldAt s o (Only tag) k ≡ true
   only-formed = number-formed (Only tag) (eq-eqb tag tag refl)
 
   number-read : v < 256 ^ k → numberAt s (dataAt o) k ≡ v
-  number-read fits = at-number s (dataAt o) k v fits (at-body s o tag (digits k v) h)
+  number-read fits = at-number s (dataAt o) k v fits (at-body s o tag (numberBytes k v) h)
 
-number-size : (tag k v : ℕ) → length (field tag (digits k v)) ≡ k + 3
-number-size tag k v = field-size tag (digits k v) ∙ ap (λ (n : ℕ). n + 3) (digits-length k v)
+number-size : (tag k v : ℕ) → length (field tag (numberBytes k v)) ≡ k + 3
+number-size tag k v = field-size tag (numberBytes k v) ∙ ap (λ (n : ℕ). n + 3) (digits-length k v)
 
 -- n such fields of one width, one after the other
-fields-size : (tag number : ℕ → ℕ) (width n : ℕ) → length (joined n (λ i. field (tag i) (digits width (number i)))) ≡ (width + 3) * n
+fields-size : (tag number : ℕ → ℕ) (width n : ℕ) → length (joined n (λ i. field (tag i) (numberBytes width (number i)))) ≡ (width + 3) * n
 fields-size tag number width n =
-    joined-size (λ i. field (tag i) (digits width (number i))) (width + 3) n (λ i. number-size (tag i) width (number i))
+    joined-size (λ i. field (tag i) (numberBytes width (number i))) (width + 3) n (λ i. number-size (tag i) width (number i))
 
-module _ (s : List ℕ) (from : ℕ) (tag number : ℕ → ℕ) (width n : ℕ) (h : At s from (joined n (λ i. field (tag i) (digits width (number i))))) where
-  one-at : (i : ℕ) → i < n → At s (afterFields from width i) (field (tag i) (digits width (number i)))
+module _ (s : List ℕ) (from : ℕ) (tag number : ℕ → ℕ) (width n : ℕ) (h : At s from (joined n (λ i. field (tag i) (numberBytes width (number i))))) where
+  one-at : (i : ℕ) → i < n → At s (afterFields from width i) (field (tag i) (numberBytes width (number i)))
   one-at =
-      at-joined s from (λ i. field (tag i) (digits width (number i))) (width + 3) n (λ i. number-size (tag i) width (number i)) h
+      at-joined s from (λ i. field (tag i) (numberBytes width (number i))) (width + 3) n (λ i. number-size (tag i) width (number i)) h
 
   fields-formed : (tags : Tags) → width < 65536 → ((i : ℕ) → i < n → hasTag tags (tag i) ≡ true) → fieldsFrom s from tags width n ≡ true
   fields-formed tags small has =
@@ -89,7 +89,7 @@ module _ (s : List ℕ) (from : ℕ) (tag number : ℕ → ℕ) (width n : ℕ) 
       (λ i below. number-formed s (afterFields from width i) (tag i) width (number i) (one-at i below) tags (has i below) small)
 
   tags-read : (i : ℕ) → i < n → tagOf s from width i ≡ tag i
-  tags-read i below = at-tag s (afterFields from width i) (tag i) (digits width (number i)) (one-at i below)
+  tags-read i below = at-tag s (afterFields from width i) (tag i) (numberBytes width (number i)) (one-at i below)
 
   numbers-read : ((i : ℕ) → number i < 256 ^ width) → (i : ℕ) → i < n → dataOf s from width i ≡ number i
   numbers-read fits i below = number-read s (afterFields from width i) (tag i) width (number i) (one-at i below) (fits i)
@@ -115,19 +115,19 @@ module _ (s : List ℕ) (o : ℕ) (option : OptionRecord) (h : At s o (field 8 (
   at-kind : At s (kindAt o) (optionData option)
   at-kind = at-body s o 8 (optionData option) h
 
-  at-expiry : At s (expiryAt o) (digits 1 (option .expiry) ++ digits 4 (option .strike))
-  at-expiry = rw (digits-length 1 (option .kind)) at (at-second s (kindAt o) (digits 1 (option .kind)) _ at-kind)
+  at-expiry : At s (expiryAt o) (numberBytes 1 (option .expiry) ++ numberBytes 4 (option .strike))
+  at-expiry = rw (digits-length 1 (option .kind)) at (at-second s (kindAt o) (numberBytes 1 (option .kind)) _ at-kind)
 
-  at-strike : At s (strikeAt o) (digits 4 (option .strike))
-  at-strike = rw (digits-length 1 (option .expiry)) at (at-second s (expiryAt o) (digits 1 (option .expiry)) _ at-expiry)
+  at-strike : At s (strikeAt o) (numberBytes 4 (option .strike))
+  at-strike = rw (digits-length 1 (option .expiry)) at (at-second s (expiryAt o) (numberBytes 1 (option .expiry)) _ at-expiry)
 
-  option-present : OptionSound option → optionAt s o ≡ record { tag = 8; kind = option .kind; expiry = option .expiry; strike = option .strike }
+  option-present : SoundOption option → optionAt s o ≡ record { tag = 8; kind = option .kind; expiry = option .expiry; strike = option .strike }
   unfolding optionAt
   option-present r =
       rw (
         ne-eqb (length s) o more,
-        at-number s (kindAt o) 1 (option .kind) (r .kind) (at-first s (kindAt o) (digits 1 (option .kind)) _ at-kind),
-        at-number s (expiryAt o) 1 (option .expiry) (r .expiry) (at-first s (expiryAt o) (digits 1 (option .expiry)) _ at-expiry),
+        at-number s (kindAt o) 1 (option .kind) (r .kind) (at-first s (kindAt o) (numberBytes 1 (option .kind)) _ at-kind),
+        at-number s (expiryAt o) 1 (option .expiry) (r .expiry) (at-first s (expiryAt o) (numberBytes 1 (option .expiry)) _ at-expiry),
         at-number s (strikeAt o) 4 (option .strike) (r .strike) at-strike,
       )
 
@@ -150,12 +150,12 @@ module _ (s : List ℕ) (o : ℕ) (option : OptionRecord) (h : At s o (optionFie
   rest-written : restFormed s o ≡ true
   rest-written = rest-by (eqb (option .tag) 8) refl
 
-  option-by : (t : Bool) → eqb (option .tag) 8 ≡ t → OptionSound option → optionAt s o ≡ option
+  option-by : (t : Bool) → eqb (option .tag) 8 ≡ t → SoundOption option → optionAt s o ≡ option
   unfolding optionField
   option-by true p r = option-present s o option (rw p at h) (rw p at e) r ∙ rw (eqb-true (option .tag) 8 p)
   option-by false p r = option-none s o (rw p at e) ∙ sym (r .absent (eqb-false (option .tag) 8 p))
 
-  option-read : OptionSound option → optionAt s o ≡ option
+  option-read : SoundOption option → optionAt s o ≡ option
   option-read = option-by (eqb (option .tag) 8) refl
 
 option-short : (option : OptionRecord) → length (optionField option) ≤ afterField 0 optionWidth
@@ -207,7 +207,7 @@ module _ (s : List ℕ) (from : ℕ) (job : Job) (h : At s from (bodyOf job)) (e
         flows-size job,
       )
 
-  module _ (r : Sound job) where
+  module _ (r : SoundJob job) where
     body-written : bodyFormed s from (job .steps) ≡ true
     unfolding bodyFormed
     body-written =
@@ -237,16 +237,16 @@ module _ (s : List ℕ) (from : ℕ) (job : Job) (h : At s from (bodyOf job)) (e
 module _ (job : Job) where
   -- f, n, b and s
   field₁ : List ℕ
-  field₁ = field 1 (digits 1 (job .frequency))
+  field₁ = field 1 (numberBytes 1 (job .frequency))
 
   field₂ : List ℕ
-  field₂ = field 2 (digits 1 (job .steps))
+  field₂ = field 2 (numberBytes 1 (job .steps))
 
   field₃ : List ℕ
-  field₃ = field 3 (digits 2 (job .reversion))
+  field₃ = field 3 (numberBytes 2 (job .reversion))
 
   field₄ : List ℕ
-  field₄ = field 4 (digits 4 (job .volatility))
+  field₄ = field 4 (numberBytes 4 (job .volatility))
 
   size₁ : length field₁ ≡ 1 + 3
   unfolding field₁
@@ -285,19 +285,19 @@ module _ (job : Job) where
   encode-size = simp (length-append, number-size) (omega arith)
 
   -- the four fields of the head
-  frequency-field : At (encode job) frequencyAt (field 1 (digits 1 (job .frequency)))
+  frequency-field : At (encode job) frequencyAt (field 1 (numberBytes 1 (job .frequency)))
   unfolding field₁
   frequency-field = at-first (encode job) frequencyAt _ _ at-frequency
 
-  steps-field : At (encode job) stepsAt (field 2 (digits 1 (job .steps)))
+  steps-field : At (encode job) stepsAt (field 2 (numberBytes 1 (job .steps)))
   unfolding field₂
   steps-field = at-first (encode job) stepsAt _ _ at-steps
 
-  reversion-field : At (encode job) reversionAt (field 3 (digits 2 (job .reversion)))
+  reversion-field : At (encode job) reversionAt (field 3 (numberBytes 2 (job .reversion)))
   unfolding field₃
   reversion-field = at-first (encode job) reversionAt _ _ at-reversion
 
-  volatility-field : At (encode job) volatilityAt (field 4 (digits 4 (job .volatility)))
+  volatility-field : At (encode job) volatilityAt (field 4 (numberBytes 4 (job .volatility)))
   unfolding field₄
   volatility-field = at-first (encode job) volatilityAt _ _ at-volatility
 
@@ -309,7 +309,7 @@ module _ (job : Job) where
       (both (only-formed (encode job) reversionAt 3 2 (job .reversion) reversion-field (omega arith))
       (only-formed (encode job) volatilityAt 4 4 (job .volatility) volatility-field (omega arith))))
 
-  module _ (r : Sound job) where
+  module _ (r : SoundJob job) where
     steps-read : stepsOf (encode job) ≡ job .steps
     steps-read = number-read (encode job) stepsAt 2 1 (job .steps) steps-field (r .steps)
 

@@ -6,13 +6,13 @@ use mathlib.Core.Bool.{true}
 use mathlib.Core.List.{List, _++_}
 use mathlib.Core.Path.{_≡_, refl, sym, ap, _∙_}
 use borrow.Author.Tests.{eq-eqb, ne-eqb}
-use lib.ListN.{length, getD, take, drop, length-drop, drop-of-length-le}
+use lib.ListN.{length, take, drop, length-drop, drop-of-length-le}
 use lib.Seq.{take-all}
 use Rattle.arithmetic.specs.Row.{values}
 use Rattle.arithmetic.proofs.Numbers.{by-equal}
-use Rattle.job_record.specs.Bytes.{Bytes, numberAt, digits}
+use Rattle.job_record.specs.Bytes.{Bytes, numberAt, numberBytes}
 use Rattle.job_record.specs.Form.{
-  mostSteps,
+  mostJobSteps,
   dataAt,
   afterField,
   afterFields,
@@ -35,7 +35,7 @@ use Rattle.job_record.specs.Form.{
   wellFormed,
 }
 use Rattle.job_record.specs.Reader.{padded, tagOf, dataOf, optionAt, jobOf}
-use Rattle.job_record.specs.Grammar.{field, joined, quoteField, flowField, optionField, encode, Column, OptionSound, Sound}
+use Rattle.job_record.specs.Grammar.{field, joined, optionField, encode, Column, SoundOption, SoundJob}
 use Rattle.job_record.specs.declared.Tags.the-variants.{AnyKind, Only}
 use Rattle.job_record.proofs.Numbers.{number-bound}
 use Rattle.job_record.proofs.Forms.{
@@ -62,7 +62,7 @@ module _ (s : List ℕ) (b : Bytes s) where
   -- kind, expiry and strike are the option's data
   option-data :
       (o : ℕ) → length s ≡ afterField o optionWidth
-      → digits 1 (numberAt s (kindAt o) 1) ++ (digits 1 (numberAt s (expiryAt o) 1) ++ digits 4 (numberAt s (strikeAt o) 4))
+      → numberBytes 1 (numberAt s (kindAt o) 1) ++ (numberBytes 1 (numberAt s (expiryAt o) 1) ++ numberBytes 4 (numberAt s (strikeAt o) 4))
       ≡ take optionWidth (drop (dataAt o) s)
   option-data o long =
       rw (digits-piece s b (kindAt o) 1 (omega arith), digits-piece s b (expiryAt o) 1 (omega arith), digits-piece s b (strikeAt o) 4 (omega arith))
@@ -80,7 +80,7 @@ module _ (s : List ℕ) (b : Bytes s) where
       ∙ only-piece s b o 8 optionWidth (rest-option s o h other)
       ∙ take-all (optionWidth + 3) (drop o s) (simp length-drop (omega arith))))
 
-  option-sound : (o : ℕ) → OptionSound (optionAt s o)
+  option-sound : (o : ℕ) → SoundOption (optionAt s o)
   unfolding optionAt
   option-sound o =
       by-equal (length s) o
@@ -95,7 +95,7 @@ module _ (s : List ℕ) (b : Bytes s) where
       }))
 
   -- the columns of fields that stand from any place on
-  module _ (from width n : ℕ) (few : n ≤ mostSteps) where
+  module _ (from width n : ℕ) (few : n ≤ mostJobSteps) where
     tags-column : Column (padded n (tagOf s from width)) n 256
     tags-column = padded-column n (tagOf s from width) 256 few (omega arith) (λ k below. b (afterFields from width k))
 
@@ -104,9 +104,9 @@ module _ (s : List ℕ) (b : Bytes s) where
         padded-column n (dataOf s from width) (256 ^ width) few positive (λ k below. number-bound s b (dataAt (afterFields from width k)) width)
 
   -- the quotes, the flows and the option, from any place on
-  module _ (quotes n : ℕ) (few : n ≤ mostSteps) (h : bodyFormed s quotes n ≡ true) where
+  module _ (quotes n : ℕ) (few : n ≤ mostJobSteps) (h : bodyFormed s quotes n ≡ true) where
     quotes-piece :
-        joined n (λ i. field (values (padded n (tagOf s quotes 8)) i) (digits 8 (values (padded n (dataOf s quotes 8)) i)))
+        joined n (λ i. field (values (padded n (tagOf s quotes 8)) i) (numberBytes 8 (values (padded n (dataOf s quotes 8)) i)))
         ≡ take ((8 + 3) * n) (drop quotes s)
     quotes-piece =
         fields-piece s b quotes AnyKind 8 n (body-quotes s quotes n h) _
@@ -117,15 +117,15 @@ module _ (s : List ℕ) (b : Bytes s) where
         field-tag s (afterFields (flowsAt quotes n) 4 i) 7 4 (fields-each s (flowsAt quotes n) (Only 7) 4 n (body-flows s quotes n h) i below)
 
     flows-piece :
-        joined n (λ i. field 7 (digits 4 (values (padded n (dataOf s (flowsAt quotes n) 4)) i)))
+        joined n (λ i. field 7 (numberBytes 4 (values (padded n (dataOf s (flowsAt quotes n) 4)) i)))
         ≡ take ((4 + 3) * n) (drop (flowsAt quotes n) s)
     flows-piece =
         fields-piece s b (flowsAt quotes n) (Only 7) 4 n (body-flows s quotes n h) _
         (λ i below. rw (padded-at n (dataOf s (flowsAt quotes n) 4) i few below, flow-tag i below))
 
     body-piece :
-        joined n (λ i. field (values (padded n (tagOf s quotes 8)) i) (digits 8 (values (padded n (dataOf s quotes 8)) i)))
-        ++ (joined n (λ i. field 7 (digits 4 (values (padded n (dataOf s (flowsAt quotes n) 4)) i)))
+        joined n (λ i. field (values (padded n (tagOf s quotes 8)) i) (numberBytes 8 (values (padded n (dataOf s quotes 8)) i)))
+        ++ (joined n (λ i. field 7 (numberBytes 4 (values (padded n (dataOf s (flowsAt quotes n) 4)) i)))
         ++ optionField (optionAt s (restAt quotes n)))
         ≡ drop quotes s
     body-piece =
@@ -141,10 +141,10 @@ module _ (s : List ℕ) (b : Bytes s) where
   -- the fields of the head, and the rest of the job
   head-piece :
       headFormed s ≡ true
-      → field 1 (digits 1 (numberAt s (dataAt frequencyAt) 1))
-      ++ (field 2 (digits 1 (numberAt s (dataAt stepsAt) 1))
-      ++ (field 3 (digits 2 (numberAt s (dataAt reversionAt) 2))
-      ++ (field 4 (digits 4 (numberAt s (dataAt volatilityAt) 4)) ++ drop quotesAt s)))
+      → field 1 (numberBytes 1 (numberAt s (dataAt frequencyAt) 1))
+      ++ (field 2 (numberBytes 1 (numberAt s (dataAt stepsAt) 1))
+      ++ (field 3 (numberBytes 2 (numberAt s (dataAt reversionAt) 2))
+      ++ (field 4 (numberBytes 4 (numberAt s (dataAt volatilityAt) 4)) ++ drop quotesAt s)))
       ≡ s
   head-piece formed =
       rw (
@@ -160,7 +160,7 @@ module _ (s : List ℕ) (b : Bytes s) where
     unfolding encode jobOf
     written = rw (body-piece quotesAt (stepsOf s) (steps-few s b) (well-body s h)) (head-piece (well-head s h))
 
-    pub read-sound : Sound (jobOf s)
+    pub read-sound : SoundJob (jobOf s)
     unfolding jobOf
     read-sound =
         record {

@@ -13,9 +13,9 @@ abbrev pub mostWidth : ℕ
 mostWidth = 8
 
 -- a number in width bytes
-unfoldable pub digits : ℕ → ℕ → List ℕ
-digits zero v = []
-digits (suc width) v = digits width (v / 256) ++ (v % 256 ∷ [])
+unfoldable pub numberBytes : ℕ → ℕ → List ℕ
+numberBytes zero v = []
+numberBytes (suc width) v = numberBytes width (v / 256) ++ (v % 256 ∷ [])
 
 -- the number in the width bytes of s from a place on
 unfoldable pub numberAt : List ℕ → ℕ → ℕ → ℕ

@@ -3,7 +3,7 @@
 use Prim.Native.Nat.{ℕ, _-_}
 use mathlib.Core.List.{List, [], _∷_, _++_}
 use lib.ListN.{replicate}
-use Rattle.job_record.specs.Form.{mostSteps}
+use Rattle.job_record.specs.Form.{mostJobSteps}
 use Rattle.job_record.specs.declared.Job.{Job}
 
 -- 01000101 02000101 0300020000 04000400000000
@@ -39,9 +39,9 @@ recordWith tag =
       steps = 1;
       reversion = 0;
       volatility = 0;
-      kinds = tag ∷ replicate (mostSteps - 1) 0;
-      figures = 4607193677799085834 ∷ replicate (mostSteps - 1) 0;
-      flows = 1000000000 ∷ replicate (mostSteps - 1) 0;
+      kinds = tag ∷ replicate (mostJobSteps - 1) 0;
+      figures = 4607193677799085834 ∷ replicate (mostJobSteps - 1) 0;
+      flows = 1000000000 ∷ replicate (mostJobSteps - 1) 0;
       option = record { tag = 8; kind = 4; expiry = 1; strike = 1010000000 };
     }
 

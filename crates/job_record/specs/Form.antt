@@ -15,8 +15,8 @@ abbrev pub mostBytes : ℕ
 mostBytes = 4700
 
 -- as many steps as one byte can say: the places of a record for quotes and for flows
-abbrev pub mostSteps : ℕ
-mostSteps = 255
+abbrev pub mostJobSteps : ℕ
+mostJobSteps = 255
 
 -- one byte of tag and two of length
 abbrev pub fieldHead : ℕ
@@ -35,7 +35,7 @@ afterFields from width count = from + (width + fieldHead) * count
 
 -- no field is looked for beyond this place
 abbrev pub farthest : ℕ
-farthest = afterFields mostBytes mostWidth mostSteps
+farthest = afterFields mostBytes mostWidth mostJobSteps
 
 -- the kinds of quotes: 5 a discount factor, 6 a simple yearly rate
 unfoldable pub isKind : ℕ → Bool

@@ -7,16 +7,16 @@ use mathlib.Core.Path.{_≡_}
 use lib.ListN.{length}
 use lib.Dec.{eqb}
 use Rattle.arithmetic.specs.Row.{values}
-use Rattle.job_record.specs.Bytes.{digits}
-use Rattle.job_record.specs.Form.{mostBytes, mostSteps, isKind}
-use Rattle.job_record.specs.Reader.{noOption, accepted, malformed}
+use Rattle.job_record.specs.Bytes.{numberBytes}
+use Rattle.job_record.specs.Form.{mostBytes, mostJobSteps, isKind}
+use Rattle.job_record.specs.Reader.{noOption, acceptedReading, malformed}
 use Rattle.job_record.specs.declared.OptionRecord.{OptionRecord}
 use Rattle.job_record.specs.declared.Job.{Job}
 use Rattle.job_record.specs.declared.Reading.{Reading}
 
 -- job field: one-byte tag, two-byte length, data
 unfoldable pub field : ℕ → List ℕ → List ℕ
-field tag content = tag ∷ (digits 2 (length content) ++ content)
+field tag content = tag ∷ (numberBytes 2 (length content) ++ content)
 
 -- part 0, .., part (n - 1), one after the other
 unfoldable pub joined : ℕ → (ℕ → List ℕ) → List ℕ
@@ -25,15 +25,15 @@ joined (suc n) part = joined n part ++ part n
 
 -- a quote: 05 or 06, 8 bytes of float
 abbrev pub quoteField : Job → ℕ → List ℕ
-quoteField job i = field (values (job .kinds) i) (digits 8 (values (job .figures) i))
+quoteField job i = field (values (job .kinds) i) (numberBytes 8 (values (job .figures) i))
 
 -- a flow: 07, 4
 abbrev pub flowField : Job → ℕ → List ℕ
-flowField job i = field 7 (digits 4 (values (job .flows) i))
+flowField job i = field 7 (numberBytes 4 (values (job .flows) i))
 
 -- kind 1, expiry 1, strike 4
 abbrev pub optionData : OptionRecord → List ℕ
-optionData option = digits 1 (option .kind) ++ (digits 1 (option .expiry) ++ digits 4 (option .strike))
+optionData option = numberBytes 1 (option .kind) ++ (numberBytes 1 (option .expiry) ++ numberBytes 4 (option .strike))
 
 -- an option: 08
 unfoldable pub optionField : OptionRecord → List ℕ
@@ -42,27 +42,27 @@ optionField option = cond (eqb (option .tag) 8) (field 8 (optionData option)) []
 -- in this order: f, n, b, s; n quotes; n flows; at most one option
 unfoldable pub encode : Job → List ℕ
 encode job =
-    field 1 (digits 1 (job .frequency))
-    ++ (field 2 (digits 1 (job .steps))
-    ++ (field 3 (digits 2 (job .reversion))
-    ++ (field 4 (digits 4 (job .volatility))
+    field 1 (numberBytes 1 (job .frequency))
+    ++ (field 2 (numberBytes 1 (job .steps))
+    ++ (field 3 (numberBytes 2 (job .reversion))
+    ++ (field 4 (numberBytes 4 (job .volatility))
     ++ (joined (job .steps) (quoteField job) ++ (joined (job .steps) (flowField job) ++ optionField (job .option))))))
 
 -- a column of a record holds its n entries, each below a bound, and zeros after them
 pub record Column (l : List ℕ) (n bound : ℕ) : Type 0 where
-  pub size : length l ≡ mostSteps
+  pub size : length l ≡ mostJobSteps
   pub below : (k : ℕ) → values l k < bound
   pub after : (k : ℕ) → n ≤ k → values l k ≡ 0
 
 -- each number of the option fits its place, and zeros stand for none
-pub record OptionSound (option : OptionRecord) : Type 0 where
+pub record SoundOption (option : OptionRecord) : Type 0 where
   pub kind : option .kind < 256 ^ 1
   pub expiry : option .expiry < 256 ^ 1
   pub strike : option .strike < 256 ^ 4
   pub absent : (option .tag ≡ 8 → ⊥) → option ≡ noOption
 
 -- what every job's record meets: each number fits its field, each quote has a kind, nothing stands where the job says nothing
-pub record Sound (job : Job) : Type 0 where
+pub record SoundJob (job : Job) : Type 0 where
   pub frequency : job .frequency < 256 ^ 1
   pub steps : job .steps < 256 ^ 1
   pub reversion : job .reversion < 256 ^ 2
@@ -71,18 +71,18 @@ pub record Sound (job : Job) : Type 0 where
   pub kind : (k : ℕ) → k < job .steps → isKind (values (job .kinds) k) ≡ true
   pub figures : Column (job .figures) (job .steps) (256 ^ 8)
   pub flows : Column (job .flows) (job .steps) (256 ^ 4)
-  pub option : OptionSound (job .option)
+  pub option : SoundOption (job .option)
 
 -- the bytes are those of the record
 pub record Encodes (s : List ℕ) (job : Job) : Type 0 where
-  pub sound : Sound job
+  pub sound : SoundJob job
   pub fields : encode job ≡ s
   pub short : length s ≤ mostBytes
 
 -- reading by the grammar: the bytes of a record give that record, what is accepted is the bytes of the record given,
 -- and everything else is refused with 1. The record is a sound one either way: zeros are
 pub record ReadsAs (s : List ℕ) (r : Reading) : Type 0 where
-  pub reads : (job : Job) → Encodes s job → r ≡ accepted job
+  pub reads : (job : Job) → Encodes s job → r ≡ acceptedReading job
   pub only : r .number ≡ 0 → Encodes s (r .job)
   pub refuses : (r .number ≡ 0 → ⊥) → r ≡ malformed
-  pub sound : Sound (r .job)
+  pub sound : SoundJob (r .job)

@@ -7,30 +7,15 @@ use lib.ListN.{length, getD, replicate}
 use lib.Dec.{eqb}
 use Rattle.arithmetic.specs.Row.{row, overlay}
 use Rattle.job_record.specs.Bytes.{numberAt}
-use Rattle.job_record.specs.Form.{
-  mostSteps,
-  dataAt,
-  afterFields,
-  frequencyAt,
-  stepsAt,
-  reversionAt,
-  volatilityAt,
-  quotesAt,
-  flowsAt,
-  restAt,
-  kindAt,
-  expiryAt,
-  strikeAt,
-  stepsOf,
-  wellFormed,
-}
+use Rattle.job_record.specs.Form.{mostJobSteps, dataAt, afterFields, frequencyAt, reversionAt, volatilityAt, quotesAt}
+use Rattle.job_record.specs.Form.{flowsAt, restAt, kindAt, expiryAt, strikeAt, stepsOf, wellFormed}
 use Rattle.job_record.specs.declared.OptionRecord.{OptionRecord}
 use Rattle.job_record.specs.declared.Job.{Job}
 use Rattle.job_record.specs.declared.Reading.{Reading}
 
 -- f 0, .., f (n - 1) in the places of a record, zeros after them
 unfoldable pub padded : ℕ → (ℕ → ℕ) → List ℕ
-padded n f = row mostSteps (overlay n f (λ k. 0))
+padded n f = row mostJobSteps (overlay n f (λ k. 0))
 
 -- of the fields of one width from a place on: tag and data of the i-th
 abbrev pub tagOf : List ℕ → ℕ → ℕ → ℕ → ℕ
@@ -70,19 +55,19 @@ noJob =
       steps = 0;
       reversion = 0;
       volatility = 0;
-      kinds = replicate mostSteps 0;
-      figures = replicate mostSteps 0;
-      flows = replicate mostSteps 0;
+      kinds = replicate mostJobSteps 0;
+      figures = replicate mostJobSteps 0;
+      flows = replicate mostJobSteps 0;
       option = noOption;
     }
 
 -- number 0 with a job
-abbrev pub accepted : Job → Reading
-accepted job = record { number = 0; job = job }
+abbrev pub acceptedReading : Job → Reading
+acceptedReading job = record { number = 0; job = job }
 
 -- cause 1, with zeros
 abbrev pub malformed : Reading
 malformed = record { number = 1; job = noJob }
 
 unfoldable pub readingOf : List ℕ → Reading
-readingOf s = cond (wellFormed s) (accepted (jobOf s)) malformed
+readingOf s = cond (wellFormed s) (acceptedReading (jobOf s)) malformed

@@ -4,7 +4,7 @@ ghost use mathlib.Core.Bool.{true};
 ghost use Prim.Native.Nat.{_+_, _*_, _^_, _≤_, _<_};
 ghost use lib.ListN.{length};
 ghost use Rattle.job_record.specs.Bytes.{mostWidth, numberAt};
-ghost use Rattle.job_record.specs.Form.{mostBytes, mostSteps, afterFields, farthest, restAt, isKind, hasTag};
+ghost use Rattle.job_record.specs.Form.{mostBytes, mostJobSteps, afterFields, farthest, restAt, isKind, hasTag};
 ghost use Rattle.job_record.specs.Form.{fieldAt, fieldsFrom, headFormed, restFormed, bodyFormed, wellFormed};
 ghost use Rattle.job_record.specs.Reader.{padded, tagOf, dataOf, optionAt, jobOf, noJob, readingOf};
 ghost use Rattle.job_record.specs.Grammar.{ReadsAs};
@@ -54,7 +54,7 @@ fn number(bytes: &[u8], at: usize, width: usize) -> u64
 
 // The place after `count` fields of one width that stand from a place on.
 fn after_fields(from: usize, width: usize, count: usize) -> usize
-    requires { ⌜ (from ≤ mostBytes) × (width ≤ mostWidth) × (count ≤ mostSteps) ⌝ }
+    requires { ⌜ (from ≤ mostBytes) × (width ≤ mostWidth) × (count ≤ mostJobSteps) ⌝ }
     ensures { λ r. ⌜ (r ≡ afterFields from width count) × (r ≤ farthest) ⌝ }
 {
     from + (width + FIELD_HEAD) * count
@@ -95,7 +95,7 @@ fn field_at(bytes: &[u8], at: usize, tags: Tags, width: usize) -> bool
 
 // Whether `count` such fields stand one after the other from a place on.
 fn fields_from(bytes: &[u8], from: usize, tags: Tags, width: usize, count: usize) -> bool
-    requires { ⌜ (from ≤ mostBytes) × (width ≤ mostWidth) × (count ≤ mostSteps) ⌝ }
+    requires { ⌜ (from ≤ mostBytes) × (width ≤ mostWidth) × (count ≤ mostJobSteps) ⌝ }
     ensures { λ r. ⌜ r ≡ fieldsFrom (now (bytes .entry)) from tags width count ⌝ }
 {
     let mut i: usize = 0;
@@ -139,7 +139,7 @@ fn rest_formed(bytes: &[u8], at: usize) -> bool
 
 // Whether as many quotes and flows as there are steps, and at most one option, stand from a place on.
 fn body_formed(bytes: &[u8], quotes: usize, steps: usize) -> bool
-    requires { ⌜ (steps ≤ mostSteps) × (restAt quotes steps ≤ mostBytes) ⌝ }
+    requires { ⌜ (steps ≤ mostJobSteps) × (restAt quotes steps ≤ mostBytes) ⌝ }
     ensures { λ r. ⌜ r ≡ bodyFormed (now (bytes .entry)) quotes steps ⌝ }
 {
     if !fields_from(bytes, quotes, Tags::AnyKind, 8, steps) {
@@ -167,7 +167,7 @@ fn well_formed(bytes: &[u8]) -> bool
 
 // The tags of `count` fields of one width from a place on.
 fn tags_from(bytes: &[u8], from: usize, width: usize, count: usize) -> [u8; job_record::MOST_STEPS]
-    requires { ⌜ (from ≤ mostBytes) × (width ≤ mostWidth) × (count ≤ mostSteps) × (afterFields from width count ≤ length (now bytes)) ⌝ }
+    requires { ⌜ (from ≤ mostBytes) × (width ≤ mostWidth) × (count ≤ mostJobSteps) × (afterFields from width count ≤ length (now bytes)) ⌝ }
     ensures { λ r. ⌜ r ≡ padded count (tagOf (now (bytes .entry)) from width) ⌝ }
 {
     let mut tags = [0u8; job_record::MOST_STEPS];
@@ -181,7 +181,7 @@ fn tags_from(bytes: &[u8], from: usize, width: usize, count: usize) -> [u8; job_
 
 // The data of `count` fields of one width from a place on.
 fn data_from(bytes: &[u8], from: usize, width: usize, count: usize) -> [u64; job_record::MOST_STEPS]
-    requires { ⌜ (from ≤ mostBytes) × (width ≤ mostWidth) × (count ≤ mostSteps) × (afterFields from width count ≤ length (now bytes)) ⌝ }
+    requires { ⌜ (from ≤ mostBytes) × (width ≤ mostWidth) × (count ≤ mostJobSteps) × (afterFields from width count ≤ length (now bytes)) ⌝ }
     ensures { λ r. ⌜ r ≡ padded count (dataOf (now (bytes .entry)) from width) ⌝ }
 {
     let mut numbers = [0u64; job_record::MOST_STEPS];

@@ -1,13 +1,12 @@
 -- Document 01's formulas at z = a and z = −a: none is below 0 on a node of the tree, and the two sides mirror one another.
 -- Assumes nothing.
 use mathlib.Core.Path.{_≡_, refl, sym, subst, ap, _∙_}
-use Prim.Native.Nat.{ℕ, zero, suc, _+_, _-_, _*_, _≤_, _<_}
+use Prim.Native.Nat.{ℕ, zero, suc, _+_, _-_, _*_, _≤_}
 use native.Mathlib.Nat.{sub-add-cancel, mul-le-mul, mul-zero}
 use native.Mathlib.Omega.{arith}
-use borrow.Author.Tests.{lt-ltb, le-ltb}
-use lib.IntN.{ℤ, pos, negsuc, negℤ, natAbs, subℕ, _+ℤ_, _-ℤ_, _*ℤ_, +ℤ-negℤ-cancel, negℤ-negℤ, negℤ-+ℤ, +ℤ-comm}
+use lib.IntN.{ℤ, pos, negℤ, _+ℤ_, _*ℤ_, +ℤ-negℤ-cancel, negℤ-negℤ, negℤ-+ℤ, +ℤ-comm}
 use Rattle.arithmetic.proofs.Numbers.{tangent, between}
-use Rattle.lattice.specs.Branching.{Branching, ordinary, top, bottom, up-at, middle-at, down-at}
+use Rattle.lattice.specs.Branching.{Branching, ordinary, top, bottom, upFormula, middleFormula, downFormula}
 use Rattle.lattice.proofs.Destinations.{change-of, square-of}
 
 -- a difference that is at least 0
@@ -34,25 +33,25 @@ times-negative c (suc x) = refl
 
 -- Three numbers of a node on the upper side by its branching, a = z: each with its difference written as a sum.
 pub record Upper (r : Branching) (a u m d : ℕ) : Type 0 where
-  pub up-is : up-at r (pos a) ≡ pos u
-  pub middle-is : middle-at r (pos a) ≡ pos m
-  pub down-is : down-at r (pos a) ≡ pos d
+  pub up-is : upFormula r (pos a) ≡ pos u
+  pub middle-is : middleFormula r (pos a) ≡ pos m
+  pub down-is : downFormula r (pos a) ≡ pos d
   pub total : u + m + d ≡ 600000000
   pub change-is : change-of r u m d ≡ negℤ (pos (60000 * a))
   pub square-is : square-of r u m d ≡ 2 * (100000000 + 3 * (a * a))
 
 -- no difference is cut off
-pub outer-whole : (a : ℕ) → 30000 * a ≤ 100000000 + 3 * (a * a)
-outer-whole a = omega (arith, tangent a 5000)
+pub ordinary-up-whole : (a : ℕ) → 30000 * a ≤ 100000000 + 3 * (a * a)
+ordinary-up-whole a = omega (arith, tangent a 5000)
 
-pub stay-whole : (a : ℕ) → 90000 * a ≤ 700000000 + 3 * (a * a)
-stay-whole a = omega (arith, tangent a 15000)
+pub edge-up-whole : (a : ℕ) → 90000 * a ≤ 700000000 + 3 * (a * a)
+edge-up-whole a = omega (arith, tangent a 15000)
 
-pub across-whole : (a : ℕ) → a ≤ 1840 → 6 * (a * a) ≤ 400000000
-across-whole a h = omega (arith, mul-le-mul h h)
+pub ordinary-middle-whole : (a : ℕ) → a ≤ 1840 → 6 * (a * a) ≤ 400000000
+ordinary-middle-whole a h = omega (arith, mul-le-mul h h)
 
-pub near-whole : (a : ℕ) → 1841 ≤ a → a ≤ 7840 → 200000000 + 6 * (a * a) ≤ 120000 * a
-near-whole a l u = omega (arith, between a 1841 7840 l u)
+pub edge-middle-whole : (a : ℕ) → 1841 ≤ a → a ≤ 7840 → 200000000 + 6 * (a * a) ≤ 120000 * a
+edge-middle-whole a l u = omega (arith, between a 1841 7840 l u)
 
 -- z is at most 7,840 anywhere in the tree
 pub square-within : (a : ℕ) → a ≤ 7840 → a * a ≤ 61465600
@@ -60,10 +59,10 @@ square-within a h = mul-le-mul h h
 
 pub upper-ordinary : (a : ℕ) → a ≤ 1840 →
     Upper ordinary a (100000000 + 3 * (a * a) - 30000 * a) (400000000 - 6 * (a * a)) (100000000 + 3 * (a * a) + 30000 * a)
-unfolding up-at middle-at down-at change-of square-of
+unfolding upFormula middleFormula downFormula change-of square-of
 upper-ordinary a h =
-    let o = outer-whole a in
-    let c = across-whole a h in
+    let o = ordinary-up-whole a in
+    let c = ordinary-middle-whole a h in
     let e : 100000000 + 3 * (a * a) + 30000 * a - (100000000 + 3 * (a * a) - 30000 * a) ≡ 60000 * a = omega arith in
     record {
       up-is = pos-minus (100000000 + 3 * (a * a)) (30000 * a) o;
@@ -78,11 +77,11 @@ upper-ordinary a h =
 
 pub upper-top : (a : ℕ) → 1841 ≤ a → a ≤ 7840 →
     Upper top a (700000000 + 3 * (a * a) - 90000 * a) (120000 * a - (200000000 + 6 * (a * a))) (100000000 + 3 * (a * a) - 30000 * a)
-unfolding up-at middle-at down-at change-of square-of
+unfolding upFormula middleFormula downFormula change-of square-of
 upper-top a l h =
-    let o = outer-whole a in
-    let s = stay-whole a in
-    let n = near-whole a l h in
+    let o = ordinary-up-whole a in
+    let s = edge-up-whole a in
+    let n = edge-middle-whole a l h in
     let e : 120000 * a - (200000000 + 6 * (a * a)) + 2 * (100000000 + 3 * (a * a) - 30000 * a) ≡ 60000 * a = omega arith in
     record {
       up-is = pos-minus (700000000 + 3 * (a * a)) (90000 * a) s;
@@ -101,8 +100,8 @@ mirrored top = bottom
 mirrored bottom = top
 
 -- a sum that adds what the other side takes away
-pub up-mirrored : (r : Branching) (a : ℕ) → up-at (mirrored r) (negℤ (pos a)) ≡ down-at r (pos a)
-unfolding up-at down-at
+pub up-mirrored : (r : Branching) (a : ℕ) → upFormula (mirrored r) (negℤ (pos a)) ≡ downFormula r (pos a)
+unfolding upFormula downFormula
 up-mirrored ordinary zero = refl
 up-mirrored top zero = refl
 up-mirrored bottom zero = refl
@@ -110,8 +109,8 @@ up-mirrored ordinary (suc c) = ap (λ (t : ℤ). pos (100000000 + 3 * (suc c * s
 up-mirrored top (suc c) = refl
 up-mirrored bottom (suc c) = ap (λ (t : ℤ). pos (700000000 + 3 * (suc c * suc c)) +ℤ t) (negℤ-negℤ (pos (90000 * suc c)))
 
-pub down-mirrored : (r : Branching) (a : ℕ) → down-at (mirrored r) (negℤ (pos a)) ≡ up-at r (pos a)
-unfolding up-at down-at
+pub down-mirrored : (r : Branching) (a : ℕ) → downFormula (mirrored r) (negℤ (pos a)) ≡ upFormula r (pos a)
+unfolding upFormula downFormula
 down-mirrored ordinary zero = refl
 down-mirrored top zero = refl
 down-mirrored bottom zero = refl
@@ -119,8 +118,8 @@ down-mirrored ordinary (suc c) = refl
 down-mirrored top (suc c) = refl
 down-mirrored bottom (suc c) = ap (λ (t : ℤ). pos (100000000 + 3 * (suc c * suc c)) +ℤ t) (negℤ-negℤ (pos (30000 * suc c)))
 
-pub middle-mirrored : (r : Branching) (a : ℕ) → middle-at (mirrored r) (negℤ (pos a)) ≡ middle-at r (pos a)
-unfolding middle-at
+pub middle-mirrored : (r : Branching) (a : ℕ) → middleFormula (mirrored r) (negℤ (pos a)) ≡ middleFormula r (pos a)
+unfolding middleFormula
 middle-mirrored ordinary zero = refl
 middle-mirrored top zero = refl
 middle-mirrored bottom zero = refl

@@ -10,3 +10,4 @@ pub mod TableLaws
 pub mod TreeEntries
 pub mod ShapeLaws
 pub mod LaidLaws
+pub mod MemoryLaws

@@ -3,7 +3,7 @@
 -- Assumes nothing.
 use mathlib.Core.Path.{_≡_, refl, sym, ap, _∙_}
 use mathlib.Core.Bool.{Bool, true, false, cond}
-use Prim.Native.Nat.{ℕ, zero, suc, _+_, _-_, _*_, _≤_, _<_}
+use Prim.Native.Nat.{ℕ, suc, _+_, _-_, _*_, _≤_, _<_}
 use native.Mathlib.Nat.{pos-of-ne-zero, mul-zero}
 use native.Mathlib.Omega.{arith}
 use lib.Dec.{eqb}
@@ -11,11 +11,13 @@ use borrow.Author.Tests.{eq-eqb, ne-eqb}
 use lib.IntN.{ℤ, pos, negsuc, negℤ, natAbs, _*ℤ_, negℤ-negℤ}
 use Rattle.arithmetic.proofs.Numbers.{by-equal, by-order}
 use Rattle.arithmetic.proofs.Signed.{abs-negative}
-use Rattle.lattice.specs.Shape.{highest-node, half-width}
-use Rattle.lattice.specs.Branching.{Branching, ordinary, top, bottom, branching, z-of, up-at, middle-at, down-at, up, middle, down, change, square}
-use Rattle.lattice.proofs.Destinations.{change-of, square-of, change-is, square-is}
-use Rattle.lattice.proofs.Sizes.{Within, within-row, highest-above, highest-within, below-highest}
-use Rattle.lattice.proofs.Formulas.{Upper, upper-ordinary, upper-top, mirrored, up-mirrored, middle-mirrored, down-mirrored, change-mirrored, square-mirrored, times-negative}
+use Rattle.lattice.specs.Shape.{highestNode}
+use Rattle.lattice.specs.Branching.{Branching, ordinary, top, bottom, branching, zOf, upFormula, middleFormula, downFormula}
+use Rattle.lattice.specs.Branching.{upProbability, middleProbability, downProbability, change, square}
+use Rattle.lattice.proofs.Destinations.{change-is, square-is}
+use Rattle.lattice.proofs.Sizes.{Within, highest-above, highest-within, below-highest}
+use Rattle.lattice.proofs.Formulas.{Upper, upper-ordinary, upper-top, times-negative}
+use Rattle.lattice.proofs.Formulas.{mirrored, up-mirrored, middle-mirrored, down-mirrored, change-mirrored, square-mirrored}
 
 -- which branching: by the size of z alone, without J
 pub ordinary-node : (b d : ℕ) → d * b ≤ 1840 → branching b (pos d) ≡ ordinary
@@ -23,37 +25,37 @@ unfolding branching
 ordinary-node b d h =
     by-equal b 0
     (λ z. simp (eq-eqb b 0 z))
-    (λ nz. simp (ne-eqb b 0 nz, ne-eqb d (highest-node b) (λ e. apart nz e)))
+    (λ nz. simp (ne-eqb b 0 nz, ne-eqb d (highestNode b) (λ e. apart nz e)))
   where
-    apart : (b ≡ 0 → ⊥) → d ≡ highest-node b → ⊥
+    apart : (b ≡ 0 → ⊥) → d ≡ highestNode b → ⊥
     apart nz e = omega (arith, ap (λ (x : ℕ). x * b) e, highest-above b (pos-of-ne-zero nz))
 
 module _ (b d : ℕ) (w : Within b d) (h : 1840 < d * b) where
   not-flat : b ≡ 0 → ⊥
   not-flat z = omega (arith, ap (λ (x : ℕ). d * x) z, mul-zero d)
 
-  at-highest : d ≡ highest-node b
+  at-highest : d ≡ highestNode b
   at-highest =
-      by-order (highest-node b) d (λ l. omega (arith, w not-flat)) (λ l. absurd (absent (below-highest b d l)))
+      by-order (highestNode b) d (λ l. omega (arith, w not-flat)) (λ l. absurd (absent (below-highest b d l)))
     where
       absent : d * b ≤ 1840 → ⊥
       absent g = omega arith
 
   pub top-node : branching b (pos d) ≡ top
   unfolding branching
-  top-node = simp (ne-eqb b 0 not-flat, eq-eqb d (highest-node b) at-highest)
+  top-node = simp (ne-eqb b 0 not-flat, eq-eqb d (highestNode b) at-highest)
 
   pub top-range : b ≤ 6000 → (1841 ≤ d * b) × (d * b ≤ 7840)
   top-range hb = (h, omega (arith, ap (λ (x : ℕ). x * b) at-highest, highest-within b))
 
 -- the three numbers of a node on the upper side
 as-computed : (r : Branching) (a u m d : ℕ) → Upper r a u m d →
-    Upper r a (natAbs (up-at r (pos a))) (natAbs (middle-at r (pos a))) (natAbs (down-at r (pos a)))
+    Upper r a (natAbs (upFormula r (pos a))) (natAbs (middleFormula r (pos a))) (natAbs (downFormula r (pos a)))
 as-computed r a u m d n = rw (n .up-is, n .middle-is, n .down-is) n
 
 pub upper-node : (b d : ℕ) → b ≤ 6000 → Within b d →
-    Upper (branching b (pos d)) (d * b) (up b (pos d)) (middle b (pos d)) (down b (pos d))
-unfolding up middle down z-of
+    Upper (branching b (pos d)) (d * b) (upProbability b (pos d)) (middleProbability b (pos d)) (downProbability b (pos d))
+unfolding upProbability middleProbability downProbability zOf
 upper-node b d hb w =
     by-order (d * b) 1840
     (λ h. rw (ordinary-node b d h) (as-computed ordinary (d * b) _ _ _ (upper-ordinary (d * b) h)))
@@ -63,7 +65,7 @@ upper-node b d hb w =
 
 pub branching-mirrored : (b c : ℕ) → branching b (negsuc c) ≡ mirrored (branching b (pos (suc c)))
 unfolding branching
-branching-mirrored b c = go (eqb b 0) (eqb (suc c) (highest-node b))
+branching-mirrored b c = go (eqb b 0) (eqb (suc c) (highestNode b))
   where
     go : (s t : Bool) → cond s ordinary (cond t bottom ordinary) ≡ mirrored (cond s ordinary (cond t top ordinary))
     go true t = refl
@@ -71,37 +73,37 @@ branching-mirrored b c = go (eqb b 0) (eqb (suc c) (highest-node b))
     go false false = refl
 
 module _ (b c : ℕ) where
-  pub up-lower : up b (negsuc c) ≡ down b (pos (suc c))
-  unfolding up down z-of
+  pub up-lower : upProbability b (negsuc c) ≡ downProbability b (pos (suc c))
+  unfolding upProbability downProbability zOf
   up-lower = rw (branching-mirrored b c, up-mirrored (branching b (pos (suc c))) (suc c * b))
 
-  pub middle-lower : middle b (negsuc c) ≡ middle b (pos (suc c))
-  unfolding middle z-of
+  pub middle-lower : middleProbability b (negsuc c) ≡ middleProbability b (pos (suc c))
+  unfolding middleProbability zOf
   middle-lower = rw (branching-mirrored b c, middle-mirrored (branching b (pos (suc c))) (suc c * b))
 
-  pub down-lower : down b (negsuc c) ≡ up b (pos (suc c))
-  unfolding up down z-of
+  pub down-lower : downProbability b (negsuc c) ≡ upProbability b (pos (suc c))
+  unfolding upProbability downProbability zOf
   down-lower = rw (branching-mirrored b c, down-mirrored (branching b (pos (suc c))) (suc c * b))
 
   change-lower : change b (negsuc c) ≡ negℤ (change b (pos (suc c)))
   change-lower =
       rw (change-is b (negsuc c), change-is b (pos (suc c)), branching-mirrored b c, up-lower, middle-lower, down-lower)
-      (change-mirrored (branching b (pos (suc c))) (up b (pos (suc c))) (middle b (pos (suc c))) (down b (pos (suc c))))
+      (change-mirrored (branching b (pos (suc c))) (upProbability b (pos (suc c))) (middleProbability b (pos (suc c))) (downProbability b (pos (suc c))))
 
   square-lower : square b (negsuc c) ≡ square b (pos (suc c))
   square-lower =
       rw (square-is b (negsuc c), square-is b (pos (suc c)), branching-mirrored b c, up-lower, middle-lower, down-lower)
-      (square-mirrored (branching b (pos (suc c))) (up b (pos (suc c))) (middle b (pos (suc c))) (down b (pos (suc c))))
+      (square-mirrored (branching b (pos (suc c))) (upProbability b (pos (suc c))) (middleProbability b (pos (suc c))) (downProbability b (pos (suc c))))
 
 -- What holds of a node of the tree.
 pub record Node (b : ℕ) (j : ℤ) : Type 0 where
   -- each formula is a whole number at least 0
-  pub up-whole : up-at (branching b j) (z-of b j) ≡ pos (up b j)
-  pub middle-whole : middle-at (branching b j) (z-of b j) ≡ pos (middle b j)
-  pub down-whole : down-at (branching b j) (z-of b j) ≡ pos (down b j)
-  pub total : up b j + middle b j + down b j ≡ 600000000
+  pub up-whole : upFormula (branching b j) (zOf b j) ≡ pos (upProbability b j)
+  pub middle-whole : middleFormula (branching b j) (zOf b j) ≡ pos (middleProbability b j)
+  pub down-whole : downFormula (branching b j) (zOf b j) ≡ pos (downProbability b j)
+  pub total : upProbability b j + middleProbability b j + downProbability b j ≡ 600000000
   -- the mean change, over 600,000,000, is −z over 10,000
-  pub mean : pos 10000 *ℤ change b j ≡ negℤ (pos 600000000 *ℤ z-of b j)
+  pub mean : pos 10000 *ℤ change b j ≡ negℤ (pos 600000000 *ℤ zOf b j)
   -- the mean square less the square of the mean is 1/3
   pub variance : 3 * (600000000 * square b j) ≡ 600000000 * 600000000 + 3 * (natAbs (change b j) * natAbs (change b j))
 
@@ -111,8 +113,8 @@ varied a s x es ex = rw (es, ex) (omega arith)
 scaled : (a : ℕ) → 10000 * (60000 * a) ≡ 600000000 * a
 scaled a = omega arith
 
-upper : (b d : ℕ) → Upper (branching b (pos d)) (d * b) (up b (pos d)) (middle b (pos d)) (down b (pos d)) → Node b (pos d)
-unfolding z-of
+upper : (b d : ℕ) → Upper (branching b (pos d)) (d * b) (upProbability b (pos d)) (middleProbability b (pos d)) (downProbability b (pos d)) → Node b (pos d)
+unfolding zOf
 upper b d n =
     let moved = change-is b (pos d) ∙ n .change-is in
     record {
@@ -128,12 +130,13 @@ upper b d n =
 
 module _
     (b c : ℕ)
-    (n : Upper (branching b (pos (suc c))) (suc c * b) (up b (pos (suc c))) (middle b (pos (suc c))) (down b (pos (suc c)))) where
+    (n : Upper (branching b (pos (suc c))) (suc c * b) (upProbability b (pos (suc c))) (middleProbability b (pos (suc c)))
+    (downProbability b (pos (suc c)))) where
   change-below : change b (negsuc c) ≡ pos (60000 * (suc c * b))
   change-below = change-lower b c ∙ ap negℤ (change-is b (pos (suc c)) ∙ n .change-is) ∙ negℤ-negℤ (pos (60000 * (suc c * b)))
 
   lower : Node b (negsuc c)
-  unfolding z-of
+  unfolding zOf
   lower =
       record {
         up-whole = rw (branching-mirrored b c, up-lower b c) (up-mirrored (branching b (pos (suc c))) (suc c * b) ∙ n .down-is);

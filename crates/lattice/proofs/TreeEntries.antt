@@ -7,18 +7,18 @@ use native.Mathlib.Omega.{arith}
 use Rattle.arithmetic.specs.Answers.{refused, answered}
 use Rattle.arithmetic.specs.declared.Answer.{Answer}
 use Rattle.arithmetic.proofs.Numbers.{by-order, by-equal}
-use Rattle.lattice.specs.Entries.{about-row, about-tree}
+use Rattle.lattice.specs.Entries.{aboutRow, aboutTree}
 use Rattle.lattice.proofs.EntryLaws.{row-found, tree-empty, tree-long, tree-steep, tree-found}
 
 -- the value that an entry gives for a row of a tree
-pub row-value : (b i x : ℕ) (a : Answer) → a ≡ about-row b i x → b ≤ 6000 → i ≤ 60 → a .value ≡ x
+pub row-value : (b i x : ℕ) (a : Answer) → a ≡ aboutRow b i x → b ≤ 6000 → i ≤ 60 → a .value ≡ x
 row-value b i x a e hb hi = ap (λ (r : Answer). r .value) (e ∙ row-found b i x hb hi)
 
 -- steps and reversion within their limits
 pub record Accepted (n b : ℕ) : Type 0 where
-  pub some : 0 < n
-  pub few : n ≤ 60
-  pub gentle : b ≤ 6000
+  pub steps-positive : 0 < n
+  pub steps-within-limit : n ≤ 60
+  pub reversion-within-limit : b ≤ 6000
 
 module _ (n b x : ℕ) where
   -- a property of an answer about a tree, from what each of its cases says
@@ -28,17 +28,17 @@ module _ (n b x : ℕ) where
       → (60 < n → P (refused 3))
       → (0 < n → n ≤ 60 → 6000 < b → P (refused 4))
       → (Accepted n b → P (answered x))
-      → P (about-tree n b x)
+      → P (aboutTree n b x)
   by-tree P empty long steep found =
       by-equal n 0
       (λ z. subst P (sym (tree-empty n b x z)) (empty z))
       (λ nz. by-order n 60
       (λ h. by-order b 6000
-      (λ g. subst P (sym (tree-found n b x nz h g)) (found (record { some = pos-of-ne-zero nz; few = h; gentle = g })))
+      (λ g. subst P (sym (tree-found n b x nz h g)) (found (record { steps-positive = pos-of-ne-zero nz; steps-within-limit = h; reversion-within-limit = g })))
       (λ g. subst P (sym (tree-steep n b x nz h g)) (steep (pos-of-ne-zero nz) h g)))
       (λ h. subst P (sym (tree-long n b x nz h)) (long h)))
 
-  module _ (a : Answer) (e : a ≡ about-tree n b x) where
+  module _ (a : Answer) (e : a ≡ aboutTree n b x) where
     -- number 0: the limits hold
     pub tree-accepted : a .number ≡ 0 → Accepted n b
     tree-accepted z =
@@ -52,7 +52,7 @@ module _ (n b x : ℕ) where
     -- and then the value is the one asked for
     pub tree-value : Accepted n b → a .value ≡ x
     tree-value l =
-        ap (λ (r : Answer). r .value) (e ∙ tree-found n b x (λ z. none z) (l .few) (l .gentle))
+        ap (λ (r : Answer). r .value) (e ∙ tree-found n b x (λ z. none z) (l .steps-within-limit) (l .reversion-within-limit))
       where
         none : n ≡ 0 → ⊥
-        none z = omega (arith, l .some)
+        none z = omega (arith, l .steps-positive)

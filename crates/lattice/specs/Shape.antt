@@ -6,24 +6,24 @@ use lib.Dec.{eqb}
 use Rattle.arithmetic.specs.Sum.{sum}
 
 -- J: 1,840 divided by b, down, plus 1. With b = 0 there is no J, and nothing reads this.
-unfoldable pub highest-node : ℕ → ℕ
-highest-node b = 1840 / b + 1
+unfoldable pub highestNode : ℕ → ℕ
+highestNode b = 1840 / b + 1
 
 -- w: the lesser of i and J; i where b = 0
-unfoldable pub half-width : ℕ → ℕ → ℕ
-half-width b i = cond (eqb b 0) i (min i (highest-node b))
+unfoldable pub halfWidth : ℕ → ℕ → ℕ
+halfWidth b i = cond (eqb b 0) i (min i (highestNode b))
 
 -- nodes −w to w
-unfoldable pub node-count : ℕ → ℕ → ℕ
-node-count b i = 2 * half-width b i + 1
+unfoldable pub nodeCount : ℕ → ℕ → ℕ
+nodeCount b i = 2 * halfWidth b i + 1
 
 -- stored row after row: where row i starts
-unfoldable pub row-start : ℕ → ℕ → ℕ
-row-start b i = sum i (node-count b)
+unfoldable pub rowStart : ℕ → ℕ → ℕ
+rowStart b i = sum i (nodeCount b)
 
 -- discounts exist for rows 0 to n − 1, state prices for rows 0 to n
-unfoldable pub discounts-needed : ℕ → ℕ → ℕ
-discounts-needed n b = row-start b n
+unfoldable pub discountsNeeded : ℕ → ℕ → ℕ
+discountsNeeded n b = rowStart b n
 
-unfoldable pub state-prices-needed : ℕ → ℕ → ℕ
-state-prices-needed n b = row-start b (suc n)
+unfoldable pub statePricesNeeded : ℕ → ℕ → ℕ
+statePricesNeeded n b = rowStart b (suc n)

@@ -1,20 +1,21 @@
 // The shape of the rate tree: widths of rows and where rows start.
 use arithmetic::Answer;
 ghost use mathlib.Core.Path.{_≡_};
-ghost use Prim.Native.Nat.{ℕ, _≤_, _<_, min};
-ghost use Rattle.limits.specs.Limits.{most-steps};
-ghost use Rattle.lattice.specs.Shape.{half-width, row-start};
+ghost use Prim.Native.Nat.{_≤_, _<_, min};
+ghost use Rattle.limits.specs.Limits.{mostSteps};
+ghost use Rattle.lattice.specs.Shape.{halfWidth, rowStart};
 ghost use Rattle.lattice.specs.Entries.{
-  about-row,
-  about-tree,
-  halfWidth,
-  nodeCount,
-  rowStart,
-  discountsNeeded,
-  statePricesNeeded,
-  refused-shape,
-  shape-of,
-  rowShape,
+  aboutRow,
+  aboutTree,
+  halfWidthAnswer,
+  nodeCountAnswer,
+  rowStartAnswer,
+  discountsNeededAnswer,
+  statePricesNeededAnswer,
+  memoryCause,
+  refusedShape,
+  shapeOf,
+  rowShapeAnswer,
 };
 
 // Where a node leads: to `lowest` and the two nodes above it, with probabilities up, middle, down over 600,000,000.
@@ -35,7 +36,7 @@ pub struct RowShape {
 }
 
 fn half_width_of(reversion: u64, row: usize) -> usize
-    ensures { λ r. ⌜ r ≡ half-width reversion row ⌝ }
+    ensures { λ r. ⌜ r ≡ halfWidth reversion row ⌝ }
 {
     if reversion == 0 {
         return row;
@@ -47,7 +48,7 @@ fn half_width_of(reversion: u64, row: usize) -> usize
 // Rows that still grow have the odd numbers of nodes, so that they start at squares; later rows are equally wide.
 fn row_start_of(reversion: u64, row: usize) -> usize
     requires { ⌜ row ≤ 61 ⌝ }
-    ensures { λ r. ⌜ r ≡ row-start reversion row ⌝ }
+    ensures { λ r. ⌜ r ≡ rowStart reversion row ⌝ }
 {
     let widest = half_width_of(reversion, row);
     widest * widest + (row - widest) * (2 * widest + 1)
@@ -55,7 +56,7 @@ fn row_start_of(reversion: u64, row: usize) -> usize
 
 // A row or a number of steps for which every size fits.
 fn clipped(row: usize) -> usize
-    ensures { λ r. ⌜ r ≡ min row most-steps ⌝ }
+    ensures { λ r. ⌜ r ≡ min row mostSteps ⌝ }
 {
     if row < limits::MOST_STEPS {
         row
@@ -65,7 +66,7 @@ fn clipped(row: usize) -> usize
 }
 
 fn about_row(reversion: u64, row: usize, result: usize) -> Answer
-    ensures { λ r. ⌜ r ≡ about-row reversion row result ⌝ }
+    ensures { λ r. ⌜ r ≡ aboutRow reversion row result ⌝ }
 {
     if limits::MOST_REVERSION < reversion {
         return Answer {
@@ -86,7 +87,7 @@ fn about_row(reversion: u64, row: usize, result: usize) -> Answer
 }
 
 fn about_tree(steps: usize, reversion: u64, result: usize) -> Answer
-    ensures { λ r. ⌜ r ≡ about-tree steps reversion result ⌝ }
+    ensures { λ r. ⌜ r ≡ aboutTree steps reversion result ⌝ }
 {
     let number = limits::shape_cause(steps, reversion);
     if number != 0 {
@@ -100,14 +101,14 @@ fn about_tree(steps: usize, reversion: u64, result: usize) -> Answer
 
 // w, the half width of a row.
 pub fn half_width(reversion: u64, row: usize) -> Answer
-    ensures { λ r. ⌜ r ≡ halfWidth reversion row ⌝ }
+    ensures { λ r. ⌜ r ≡ halfWidthAnswer reversion row ⌝ }
 {
     about_row(reversion, row, half_width_of(reversion, clipped(row)))
 }
 
 // The number of nodes of a row.
 pub fn node_count(reversion: u64, row: usize) -> Answer
-    ensures { λ r. ⌜ r ≡ nodeCount reversion row ⌝ }
+    ensures { λ r. ⌜ r ≡ nodeCountAnswer reversion row ⌝ }
 {
     about_row(
         reversion,
@@ -118,21 +119,21 @@ pub fn node_count(reversion: u64, row: usize) -> Answer
 
 // Where a row starts in a memory that stores row after row.
 pub fn row_start(reversion: u64, row: usize) -> Answer
-    ensures { λ r. ⌜ r ≡ rowStart reversion row ⌝ }
+    ensures { λ r. ⌜ r ≡ rowStartAnswer reversion row ⌝ }
 {
     about_row(reversion, row, row_start_of(reversion, clipped(row)))
 }
 
 // How many discounts a tree has.
 pub fn discounts_needed(steps: usize, reversion: u64) -> Answer
-    ensures { λ r. ⌜ r ≡ discountsNeeded steps reversion ⌝ }
+    ensures { λ r. ⌜ r ≡ discountsNeededAnswer steps reversion ⌝ }
 {
     about_tree(steps, reversion, row_start_of(reversion, clipped(steps)))
 }
 
 // How many state prices a tree has.
 pub fn state_prices_needed(steps: usize, reversion: u64) -> Answer
-    ensures { λ r. ⌜ r ≡ statePricesNeeded steps reversion ⌝ }
+    ensures { λ r. ⌜ r ≡ statePricesNeededAnswer steps reversion ⌝ }
 {
     about_tree(
         steps,
@@ -141,8 +142,23 @@ pub fn state_prices_needed(steps: usize, reversion: u64) -> Answer
     )
 }
 
+// 6 where the memories of so many discounts and state prices are too short for a tree; 0 for a tree that is refused itself.
+pub fn memory_cause(steps: usize, reversion: u64, discounts: usize, state_prices: usize) -> u64
+    ensures { λ r. ⌜ r ≡ memoryCause steps reversion discounts «state_prices» ⌝ }
+{
+    let needed = discounts_needed(steps, reversion);
+    let all = state_prices_needed(steps, reversion);
+    if (discounts as u64) < needed.value {
+        return 6;
+    }
+    if (state_prices as u64) < all.value {
+        return 6;
+    }
+    0
+}
+
 fn refused_shape(number: u64) -> RowShape
-    ensures { λ r. ⌜ r ≡ refused-shape number ⌝ }
+    ensures { λ r. ⌜ r ≡ refusedShape number ⌝ }
 {
     RowShape {
         number,
@@ -154,8 +170,8 @@ fn refused_shape(number: u64) -> RowShape
 }
 
 fn shape_of(reversion: u64, widest: usize, row: usize) -> RowShape
-    requires { ⌜ (row < most-steps) × (row ≤ widest) ⌝ }
-    ensures { λ r. ⌜ r ≡ shape-of reversion widest row ⌝ }
+    requires { ⌜ (row < mostSteps) × (row ≤ widest) ⌝ }
+    ensures { λ r. ⌜ r ≡ shapeOf reversion widest row ⌝ }
 {
     let half = half_width_of(reversion, row);
     let next = half_width_of(reversion, row + 1);
@@ -170,7 +186,7 @@ fn shape_of(reversion: u64, widest: usize, row: usize) -> RowShape
 
 // Where a row stands, in tables of row `widest` too. Row 60 has no next row, and a row past `widest` no place in the tables.
 pub fn row_shape(reversion: u64, widest: usize, row: usize) -> RowShape
-    ensures { λ r. ⌜ r ≡ rowShape reversion widest row ⌝ }
+    ensures { λ r. ⌜ r ≡ rowShapeAnswer reversion widest row ⌝ }
 {
     if limits::MOST_REVERSION < reversion {
         return refused_shape(4);

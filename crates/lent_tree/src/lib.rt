@@ -1,10 +1,10 @@
 // A tree whose discounts are lent.
 ghost use mathlib.Core.Path.{_≡_};
-ghost use Rattle.lent_tree.specs.LentTree.{discounts-cause};
+ghost use Rattle.lent_tree.specs.LentTree.{discountsCause};
 
 // The first cause about a tree's numbers and its lent discounts; 0 where there is none.
 pub fn discounts_cause(steps: usize, reversion: u64, discounts: &[u64]) -> u64
-    ensures { λ r. ⌜ r ≡ discounts-cause steps reversion (now (discounts .entry)) ⌝ }
+    ensures { λ r. ⌜ r ≡ discountsCause steps reversion (now (discounts .entry)) ⌝ }
 {
     let needed = lattice::discounts_needed(steps, reversion);
     if needed.number != 0 {

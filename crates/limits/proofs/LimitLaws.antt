@@ -1,15 +1,14 @@
 -- What the tests of limits say.
 -- Assumes nothing.
-use mathlib.Core.Path.{_≡_, refl, sym, ap, _∙_}
-use mathlib.Core.Bool.{Bool, true, false, cond, not, _&&_}
-use Prim.Native.Nat.{ℕ, suc, _≤_, _<_}
+use mathlib.Core.Path.{_≡_, refl, sym, _∙_}
+use mathlib.Core.Bool.{Bool, true, false, cond, _&&_}
+use Prim.Native.Nat.{ℕ, _≤_, _<_}
 use native.Mathlib.Omega.{arith}
-use lib.Dec.{leb, ltb}
-use borrow.Author.Tests.{le-leb, lt-leb, lt-ltb, le-ltb, leb-true, ltb-true, ltb-false}
-use Rattle.arithmetic.specs.Row.{values, between}
+use lib.Dec.{leb}
+use borrow.Author.Tests.{le-leb, lt-leb, lt-ltb, le-ltb, leb-true}
 use Rattle.arithmetic.proofs.Numbers.{by-order}
 use Rattle.arithmetic.proofs.BetweenLaws.{and-left, and-right, between-holds, between-below, between-above}
-use Rattle.limits.specs.Limits.{most-steps, most-reversion, most-discount, value-limit, is-steps, is-reversion, is-discount, shape-cause, limit-cause}
+use Rattle.limits.specs.Limits.{mostSteps, mostReversion, mostDiscount, valueLimit, isSteps, isReversion, isDiscount, shapeCause, limitCause}
 
 -- a test that starts from 1
 module _ (most n : ℕ) where
@@ -38,61 +37,61 @@ cause-none true false e = absurd (omega arith)
 cause-none false q e = absurd (omega arith)
 
 module _ (n b : ℕ) where
-  pub shape-steps : is-steps n ≡ false → 3 ≡ shape-cause n b
-  unfolding shape-cause
-  shape-steps e = cause-steps (is-steps n) (is-reversion b) e
+  pub shape-steps : isSteps n ≡ false → 3 ≡ shapeCause n b
+  unfolding shapeCause
+  shape-steps e = cause-steps (isSteps n) (isReversion b) e
 
-  module _ (known : is-steps n ≡ true) where
-    pub shape-reversion : is-reversion b ≡ false → 4 ≡ shape-cause n b
-    unfolding shape-cause
+  module _ (known : isSteps n ≡ true) where
+    pub shape-reversion : isReversion b ≡ false → 4 ≡ shapeCause n b
+    unfolding shapeCause
     shape-reversion e = sym (rw (known, e))
 
-    pub shape-none : is-reversion b ≡ true → 0 ≡ shape-cause n b
-    unfolding shape-cause
+    pub shape-none : isReversion b ≡ true → 0 ≡ shapeCause n b
+    unfolding shapeCause
     shape-none e = sym (rw (known, e))
 
   -- the same by the numbers
-  pub shape-empty : n ≡ 0 → shape-cause n b ≡ 3
-  shape-empty z = sym (shape-steps (from-one-none most-steps n (omega arith)))
+  pub shape-empty : n ≡ 0 → shapeCause n b ≡ 3
+  shape-empty z = sym (shape-steps (from-one-none mostSteps n (omega arith)))
 
-  pub shape-long : most-steps < n → shape-cause n b ≡ 3
-  shape-long h = sym (shape-steps (from-one-above most-steps n h))
+  pub shape-long : mostSteps < n → shapeCause n b ≡ 3
+  shape-long h = sym (shape-steps (from-one-above mostSteps n h))
 
-  module _ (some : 0 < n) (few : n ≤ most-steps) where
-    pub shape-steep : most-reversion < b → shape-cause n b ≡ 4
-    shape-steep h = sym (shape-reversion (from-one-holds most-steps n some few) (lt-leb b most-reversion h))
+  module _ (some : 0 < n) (few : n ≤ mostSteps) where
+    pub shape-steep : mostReversion < b → shapeCause n b ≡ 4
+    shape-steep h = sym (shape-reversion (from-one-holds mostSteps n some few) (lt-leb b mostReversion h))
 
-    pub shape-found : b ≤ most-reversion → shape-cause n b ≡ 0
-    shape-found h = sym (shape-none (from-one-holds most-steps n some few) (le-leb b most-reversion h))
+    pub shape-found : b ≤ mostReversion → shapeCause n b ≡ 0
+    shape-found h = sym (shape-none (from-one-holds mostSteps n some few) (le-leb b mostReversion h))
 
   -- no cause: both numbers are within their limits
-  pub shape-accepted : shape-cause n b ≡ 0 → (0 < n) × (n ≤ most-steps) × (b ≤ most-reversion)
-  unfolding shape-cause
+  pub shape-accepted : shapeCause n b ≡ 0 → (0 < n) × (n ≤ mostSteps) × (b ≤ mostReversion)
+  unfolding shapeCause
   shape-accepted e =
-      let c = cause-none (is-steps n) (is-reversion b) e in
-      let s = from-one most-steps n (c .0) in
-      (s .0, s .1, leb-true b most-reversion (c .1))
+      let c = cause-none (isSteps n) (isReversion b) e in
+      let s = from-one mostSteps n (c .0) in
+      (s .0, s .1, leb-true b mostReversion (c .1))
 
 -- a node discount and its limits
-module _ (v : ℕ) (e : is-discount v ≡ true) where
+module _ (v : ℕ) (e : isDiscount v ≡ true) where
   pub discount-least : 1 ≤ v
-  discount-least = from-one most-discount v e .0
+  discount-least = from-one mostDiscount v e .0
 
-  pub discount-most : v ≤ most-discount
-  discount-most = from-one most-discount v e .1
+  pub discount-most : v ≤ mostDiscount
+  discount-most = from-one mostDiscount v e .1
 
 -- a value and its limit
 module _ (v : ℕ) where
-  pub limit-above : value-limit < v → 12 ≡ limit-cause v
-  unfolding limit-cause
-  limit-above h = sym (rw (lt-ltb value-limit v h))
+  pub limit-above : valueLimit < v → 12 ≡ limitCause v
+  unfolding limitCause
+  limit-above h = sym (rw (lt-ltb valueLimit v h))
 
-  pub limit-kept : v ≤ value-limit → 0 ≡ limit-cause v
-  unfolding limit-cause
-  limit-kept h = sym (rw (le-ltb value-limit v h))
+  pub limit-kept : v ≤ valueLimit → 0 ≡ limitCause v
+  unfolding limitCause
+  limit-kept h = sym (rw (le-ltb valueLimit v h))
 
-  pub limit-accepted : limit-cause v ≡ 0 → v ≤ value-limit
-  limit-accepted e = by-order v value-limit (λ h. h) (λ h. absurd (none (limit-above h ∙ e)))
+  pub limit-accepted : limitCause v ≡ 0 → v ≤ valueLimit
+  limit-accepted e = by-order v valueLimit (λ h. h) (λ h. absurd (none (limit-above h ∙ e)))
     where
       none : _≡_ {A = ℕ} 12 0 → ⊥
       none z = omega arith

@@ -1,6 +1,6 @@
 // The limits of steps, reversions, discounts and values, tested in one place.
 ghost use mathlib.Core.Path.{_≡_};
-ghost use Rattle.limits.specs.Limits.{is-steps, is-reversion, is-discount, shape-cause, limit-cause};
+ghost use Rattle.limits.specs.Limits.{isSteps, isReversion, isDiscount, shapeCause, limitCause};
 
 pub const MOST_STEPS: usize = 60;
 
@@ -14,7 +14,7 @@ pub const MOST_NODES: usize = 121;
 
 // Whether the steps are 1 to 60.
 pub fn is_steps(steps: usize) -> bool
-    ensures { λ r. ⌜ r ≡ is-steps steps ⌝ }
+    ensures { λ r. ⌜ r ≡ isSteps steps ⌝ }
 {
     if steps < 1 {
         return false;
@@ -24,14 +24,14 @@ pub fn is_steps(steps: usize) -> bool
 
 // Whether the reversion is at most 6,000.
 pub fn is_reversion(reversion: u64) -> bool
-    ensures { λ r. ⌜ r ≡ is-reversion reversion ⌝ }
+    ensures { λ r. ⌜ r ≡ isReversion reversion ⌝ }
 {
     reversion <= MOST_REVERSION
 }
 
 // Whether a number is a node discount, 1 to 1,100,000,000.
 pub fn is_discount(discount: u64) -> bool
-    ensures { λ r. ⌜ r ≡ is-discount discount ⌝ }
+    ensures { λ r. ⌜ r ≡ isDiscount discount ⌝ }
 {
     if discount < 1 {
         return false;
@@ -41,7 +41,7 @@ pub fn is_discount(discount: u64) -> bool
 
 // The cause about the numbers of a tree: 3, 4, or 0 where there is none.
 pub fn shape_cause(steps: usize, reversion: u64) -> u64
-    ensures { λ r. ⌜ r ≡ shape-cause steps reversion ⌝ }
+    ensures { λ r. ⌜ r ≡ shapeCause steps reversion ⌝ }
 {
     if !is_steps(steps) {
         return 3;
@@ -54,7 +54,7 @@ pub fn shape_cause(steps: usize, reversion: u64) -> u64
 
 // The cause about a value: 12 where it is above 8, or 0.
 pub fn limit_cause(value: u64) -> u64
-    ensures { λ r. ⌜ r ≡ limit-cause value ⌝ }
+    ensures { λ r. ⌜ r ≡ limitCause value ⌝ }
 {
     if VALUE_LIMIT < value { 12 } else { 0 }
 }

@@ -1,21 +1,21 @@
 -- Laws of the nodes before a place, and of what a call that draws them leaves.
 -- Assumes nothing.
 use mathlib.Core.Path.{_≡_, refl, sym, ap, _∙_, subst}
-use mathlib.Core.Bool.{Bool, true, false, cond, _&&_}
+use mathlib.Core.Bool.{Bool, true, false, cond}
 use mathlib.Core.List.{List}
-use Prim.Native.Nat.{ℕ, _+_, _-_, _*_, _/_, _≤_, _<_}
+use Prim.Native.Nat.{ℕ, _+_, _-_, _/_, _≤_, _<_}
 use native.Mathlib.Omega.{arith}
 use borrow.Author.Tests.{le-leb, lt-leb, leb-true, eq-eqb, ne-eqb}
 use lib.Dec.{leb}
 use lib.ListN.{length, getD, take, drop}
 use Rattle.arithmetic.proofs.PartLaws.{part-length, part-value}
-use Rattle.limits.specs.Limits.{most-discount}
-use Rattle.lattice.specs.RateTree.{node-at}
+use Rattle.limits.specs.Limits.{mostDiscount}
+use Rattle.lattice.specs.RateTree.{nodeOfIndex}
 use Rattle.text_laws.specs.Lines.{lineOfNode}
 use Rattle.text_laws.specs.Put.{Put, putBefore, withText}
 use Rattle.text_laws.proofs.PutLaws.{put-whole}
 use Rattle.node_lines.specs.declared.Drawn.{Drawn}
-use Rattle.node_lines.specs.Rows.{nodeText, isRow, hasRoomFor, acceptedDiscounts, rowNumber}
+use Rattle.node_lines.specs.Rows.{nodeText, isRow, hasRoomFor, acceptedNodes, rowNumber}
 use Rattle.node_lines.specs.Reading.{standBefore, nodesBefore, readNumber, drawnOf}
 use Rattle.node_lines.specs.Preconditions.{Readable}
 use Rattle.node_lines.proofs.RowLaws.{and-both, row-none, row-short, row-judged, row-room, row-accepted, row-within, row-discount}
@@ -51,14 +51,14 @@ module _ (discounts : List ℕ) (next count : ℕ) (standing : count ≤ next) (
   before-value k h = part-value discounts (next - count) count k h
 
   pub before-text : (row k : ℕ) → k < count →
-      lineOfNode row (node-at (count / 2) k) (getD discounts (next - count + k) 0) ≡ nodeText row (nodesBefore discounts next count) k
+      lineOfNode row (nodeOfIndex (count / 2) k) (getD discounts (next - count + k) 0) ≡ nodeText row (nodesBefore discounts next count) k
   unfolding nodeText
   before-text row k h = sym (rw (before-length, before-value k h))
 
-  pub before-discount : acceptedDiscounts (nodesBefore discounts next count) ≡ true → (k : ℕ) → k < count →
-      (1 ≤ getD discounts (next - count + k) 0) × (getD discounts (next - count + k) 0 ≤ most-discount)
+  pub before-discount : acceptedNodes (nodesBefore discounts next count) ≡ true → (k : ℕ) → k < count →
+      (1 ≤ getD discounts (next - count + k) 0) × (getD discounts (next - count + k) 0 ≤ mostDiscount)
   before-discount a k h =
-      subst (λ (d : ℕ). (1 ≤ d) × (d ≤ most-discount)) (before-value k h) (row-discount (nodesBefore discounts next count) k a (omega (arith, before-length)))
+      subst (λ (d : ℕ). (1 ≤ d) × (d ≤ mostDiscount)) (before-value k h) (row-discount (nodesBefore discounts next count) k a (omega (arith, before-length)))
 
 -- ---- the number of what is read
 
@@ -85,7 +85,7 @@ module _ (size end row : ℕ) (discounts : List ℕ) (next count : ℕ) where
       pub read-short : hasRoomFor count size end ≡ false → 6 ≡ readNumber size end row discounts next count
       read-short r = row-short size end row (nodesBefore discounts next count) (rw counted shaped) (rw counted r) ∙ row-read
 
-      pub read-judged : hasRoomFor count size end ≡ true → (t : Bool) → acceptedDiscounts (nodesBefore discounts next count) ≡ t →
+      pub read-judged : hasRoomFor count size end ≡ true → (t : Bool) → acceptedNodes (nodesBefore discounts next count) ≡ t →
           cond t 0 9 ≡ readNumber size end row discounts next count
       read-judged r t a = row-judged size end row (nodesBefore discounts next count) (rw counted shaped) (rw counted r) t a ∙ row-read
 

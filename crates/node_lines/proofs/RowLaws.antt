@@ -16,10 +16,10 @@ use Rattle.arithmetic.specs.Row.{values, each, between}
 use Rattle.arithmetic.proofs.BetweenLaws.{between-least, between-most}
 use Rattle.arithmetic.proofs.PartLaws.{part-length, part-value}
 use Rattle.arithmetic.proofs.RowLaws.{each-holds}
-use Rattle.limits.specs.Limits.{most-discount}
+use Rattle.limits.specs.Limits.{mostDiscount}
 use Rattle.arithmetic.proofs.Signed.{fits-by-size}
-use Rattle.lattice.specs.RateTree.{node-at}
-use Rattle.lattice.specs.Shape.{half-width, node-count}
+use Rattle.lattice.specs.RateTree.{nodeOfIndex}
+use Rattle.lattice.specs.Shape.{halfWidth, nodeCount}
 use Rattle.lattice.proofs.Sizes.{half-within}
 use Rattle.lattice.proofs.Differences.{sub-is, sub-size}
 use Rattle.node_reader.specs.declared.Node.{Node}
@@ -29,7 +29,7 @@ use Rattle.text_laws.specs.Lines.{lineOfNode, nodeNumber}
 use Rattle.text_laws.specs.Put.{putBefore, Put}
 use Rattle.text_laws.proofs.LineLaws.{node-line-room, node-stands}
 use Rattle.text_laws.proofs.PutLaws.{put-joined, Answered}
-use Rattle.node_lines.specs.Rows.{nodeText, lines, hasRoomFor, isRow, acceptedDiscounts, rowNumber}
+use Rattle.node_lines.specs.Rows.{nodeText, lines, hasRoomFor, isRow, acceptedNodes, rowNumber}
 
 pub lines-none : (line : ℕ → List ℕ) (n : ℕ) → n ≡ 0 → lines line n ≡ []
 unfolding lines
@@ -47,13 +47,13 @@ lines-room line zero h = omega arith
 lines-room line (suc n) h = simp length-append (omega (arith, h n (omega arith), lines-room line n (λ k l. h k (omega arith))))
 
 -- the line of a node is no longer than 128 bytes
-pub line-room : (row w k discount : ℕ) → row < 2 ^ 64 → w < 2 ^ 62 → k < 2 ^ 62 → discount < 2 ^ 64 → length (lineOfNode row (node-at w k) discount) ≤ 128
-unfolding node-at
+pub line-room : (row w k discount : ℕ) → row < 2 ^ 64 → w < 2 ^ 62 → k < 2 ^ 62 → discount < 2 ^ 64 → length (lineOfNode row (nodeOfIndex w k) discount) ≤ 128
+unfolding nodeOfIndex
 line-room row w k discount r v h d = node-line-room row discount _ r d (omega (arith, sub-size k w))
 
 pub text-room : (row : ℕ) (discounts : List ℕ) (k : ℕ) → row < 2 ^ 64 → k < length discounts → length discounts < 2 ^ 63 → getD discounts k 0 < 2 ^ 64
     → length (nodeText row discounts k) ≤ 128
-unfolding nodeText node-at
+unfolding nodeText nodeOfIndex
 text-room row discounts k r h l d = node-line-room row (getD discounts k 0) _ r d (omega (arith, sub-size k (length discounts / 2)))
 
 -- ---- the node that the code works out
@@ -66,8 +66,8 @@ pub node-fits : (k w : ℕ) → k < 2 ^ 62 → w < 2 ^ 62 → SFits w64 (toZ w64
 node-fits k w h l =
     subst (λ (z : ℤ). SFits w64 z) (sub-is k w ∙ sym (machine-sub k w h l)) (fits-by-size (subℕ k w) (omega (arith, sub-size k w)))
 
-pub node-is : (k w : ℕ) → k < 2 ^ 62 → w < 2 ^ 62 → toZ w64 k -ℤ toZ w64 w ≡ node-at w k
-unfolding node-at
+pub node-is : (k w : ℕ) → k < 2 ^ 62 → w < 2 ^ 62 → toZ w64 k -ℤ toZ w64 w ≡ nodeOfIndex w k
+unfolding nodeOfIndex
 node-is k w h l = machine-sub k w h l ∙ sym (sub-is k w)
 
 -- ---- the node that the reader finds
@@ -75,20 +75,20 @@ node-is k w h l = machine-sub k w h l ∙ sym (sub-is k w)
 pub discount-read : (discounts : List ℕ) (k : ℕ) (node : Node) → node ≡ nodeAt discounts k → k < length discounts → node .discount ≡ getD discounts k 0
 discount-read discounts k node e h = ap (λ (n : Node). n .discount) e ∙ rw (lt-ltb k (length discounts) h)
 
-pub row-discount : (discounts : List ℕ) (k : ℕ) → acceptedDiscounts discounts ≡ true → k < length discounts →
-    (1 ≤ getD discounts k 0) × (getD discounts k 0 ≤ most-discount)
-unfolding acceptedDiscounts
+pub row-discount : (discounts : List ℕ) (k : ℕ) → acceptedNodes discounts ≡ true → k < length discounts →
+    (1 ≤ getD discounts k 0) × (getD discounts k 0 ≤ mostDiscount)
+unfolding acceptedNodes
 row-discount discounts k e h =
-    let t = each-holds (length discounts) k (between 1 most-discount (values discounts)) e h in
-    (between-least 1 most-discount (values discounts) k t, between-most 1 most-discount (values discounts) k t)
+    let t = each-holds (length discounts) k (between 1 mostDiscount (values discounts)) e h in
+    (between-least 1 mostDiscount (values discounts) k t, between-most 1 mostDiscount (values discounts) k t)
 
 -- the line that the code puts is the node's
-pub line-put : (out after : List ℕ) (row end w k discount : ℕ) (node : ℤ) {answer : Placed} → node ≡ node-at w k → length (lineOfNode row (node-at w k) discount) ≤ 128
-    → 128 ≤ end → end ≤ length out → 0 < discount → discount ≤ most-discount
+pub line-put : (out after : List ℕ) (row end w k discount : ℕ) (node : ℤ) {answer : Placed} → node ≡ nodeOfIndex w k
+    → length (lineOfNode row (nodeOfIndex w k) discount) ≤ 128 → 128 ≤ end → end ≤ length out → 0 < discount → discount ≤ mostDiscount
     → Answered (nodeNumber (length out) end discount) out end (lineOfNode row node discount) answer after
-    → Put out end (lineOfNode row (node-at w k) discount) (answer .start) after
+    → Put out end (lineOfNode row (nodeOfIndex w k) discount) (answer .start) after
 line-put out after row end w k discount node {answer} e r h p l m a =
-    node-stands out end row discount (node-at w k) h p l m r
+    node-stands out end row discount (nodeOfIndex w k) h p l m r
     (subst (λ (z : ℤ). Answered (nodeNumber (length out) end discount) out end (lineOfNode row z discount) answer after) e a)
 
 -- ---- one line less is left
@@ -155,13 +155,13 @@ module _ (size end row : ℕ) (discounts : List ℕ) where
   unfolding rowNumber
   row-short e r = sym (rw (e, r))
 
-  pub row-judged : isRow row (length discounts) ≡ true → hasRoomFor (length discounts) size end ≡ true → (t : Bool) → acceptedDiscounts discounts ≡ t
+  pub row-judged : isRow row (length discounts) ≡ true → hasRoomFor (length discounts) size end ≡ true → (t : Bool) → acceptedNodes discounts ≡ t
       → cond t 0 9 ≡ rowNumber size end row discounts
   unfolding rowNumber
   row-judged e r t a = sym (rw (e, r, a))
 
   module _ (z : rowNumber size end row discounts ≡ 0) where
-    parts : ((isRow row (length discounts) && hasRoomFor (length discounts) size end) ≡ true) × (acceptedDiscounts discounts ≡ true)
+    parts : ((isRow row (length discounts) && hasRoomFor (length discounts) size end) ≡ true) × (acceptedNodes discounts ≡ true)
     unfolding rowNumber
     parts = row-parts _ _ z
 
@@ -171,7 +171,7 @@ module _ (size end row : ℕ) (discounts : List ℕ) where
         let room = and-both (leb (128 * length discounts) end) (leb end size) (and-both (isRow row (length discounts)) _ (parts .0) .1) in
         (leb-true (128 * length discounts) end (room .0), leb-true end size (room .1))
 
-    pub row-accepted : acceptedDiscounts discounts ≡ true
+    pub row-accepted : acceptedNodes discounts ≡ true
     row-accepted = parts .1
 
     -- row 59, the last that has discounts, has at most 119 nodes
@@ -185,9 +185,9 @@ module _ (size end row : ℕ) (discounts : List ℕ) where
         omega (arith, leb-true row 59 (shaped .0), leb-true count (2 * row + 1) (wide .1))
 
 -- the test that the code makes
-pub accepted-found : (discounts : List ℕ) (t : Bool) → t ≡ each (length discounts) (between 1 most-discount (values discounts)) →
-    acceptedDiscounts discounts ≡ t
-unfolding acceptedDiscounts
+pub accepted-found : (discounts : List ℕ) (t : Bool) → t ≡ each (length discounts) (between 1 mostDiscount (values discounts)) →
+    acceptedNodes discounts ≡ t
+unfolding acceptedNodes
 accepted-found discounts t e = sym e
 
 -- ---- a row of a tree's memory
@@ -197,21 +197,21 @@ unfolding each
 each-every zero test h = refl
 each-every (suc n) test h = rw (each-every n test (λ k l. h k (omega arith)), h n (omega arith))
 
-pub part-accepted : (memory : List ℕ) (start count : ℕ) → acceptedDiscounts memory ≡ true → start + count ≤ length memory →
-    acceptedDiscounts (take count (drop start memory)) ≡ true
-unfolding acceptedDiscounts
+pub part-accepted : (memory : List ℕ) (start count : ℕ) → acceptedNodes memory ≡ true → start + count ≤ length memory →
+    acceptedNodes (take count (drop start memory)) ≡ true
+unfolding acceptedNodes
 part-accepted memory start count e h =
     rw (part-length memory start count h)
-    (each-every count _ (λ k l. ap (λ (v : ℕ). leb 1 v && leb v most-discount) (part-value memory start count k l)
-    ∙ each-holds (length memory) (start + k) (between 1 most-discount (values memory)) e (omega arith)))
+    (each-every count _ (λ k l. ap (λ (v : ℕ). leb 1 v && leb v mostDiscount) (part-value memory start count k l)
+    ∙ each-holds (length memory) (start + k) (between 1 mostDiscount (values memory)) e (omega arith)))
 
-pub row-is : (b i : ℕ) → i < 60 → isRow i (node-count b i) ≡ true
-unfolding isRow node-count
+pub row-is : (b i : ℕ) → i < 60 → isRow i (nodeCount b i) ≡ true
+unfolding isRow nodeCount
 row-is b i h =
-    let w = half-width b i in
+    let w = halfWidth b i in
     let odd : (2 * w + 1) % 2 ≡ 1 = omega arith in
     rw (le-leb i 59 (omega arith), odd, le-leb (2 * w + 1) (2 * i + 1) (omega (arith, half-within b i)))
 
 pub row-number-none : (size end row : ℕ) (discounts : List ℕ) → isRow row (length discounts) ≡ true → 128 * length discounts ≤ end → end ≤ size →
-    acceptedDiscounts discounts ≡ true → rowNumber size end row discounts ≡ 0
+    acceptedNodes discounts ≡ true → rowNumber size end row discounts ≡ 0
 row-number-none size end row discounts e h p a = sym (row-judged size end row discounts e (room-there (length discounts) size end h p) true a)

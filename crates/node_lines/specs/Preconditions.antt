@@ -5,7 +5,7 @@ use mathlib.Core.Path.{_≡_}
 use mathlib.Core.Bool.{true}
 use mathlib.Core.List.{List}
 use lib.ListN.{length}
-use Rattle.node_lines.specs.Rows.{acceptedDiscounts}
+use Rattle.node_lines.specs.Rows.{acceptedNodes}
 use Rattle.node_lines.specs.Reading.{nodesBefore}
 
 -- the nodes of a row stand before a place, and their lines have room before the end
@@ -14,6 +14,6 @@ pub record Readable (discounts : List ℕ) (next count end size : ℕ) : Type 0 
   pub held : next ≤ length discounts
   -- row 59, the last that has discounts, has at most 119 nodes
   pub within-row : count ≤ 119
-  pub accepted : acceptedDiscounts (nodesBefore discounts next count) ≡ true
+  pub accepted : acceptedNodes (nodesBefore discounts next count) ≡ true
   pub room : 128 * count ≤ end
   pub inside : end ≤ size

@@ -5,14 +5,13 @@ use mathlib.Core.Bool.{Bool, cond, _&&_}
 use mathlib.Core.List.{List, [], _++_}
 use lib.Dec.{eqb, leb}
 use lib.ListN.{length, getD}
-use Rattle.arithmetic.specs.Row.{values, each, between}
-use Rattle.limits.specs.Limits.{most-discount}
-use Rattle.lattice.specs.RateTree.{node-at}
+use Rattle.limits.specs.Limits.{allDiscounts}
+use Rattle.lattice.specs.RateTree.{nodeOfIndex}
 use Rattle.text_laws.specs.Lines.{lineOfNode}
 
 -- the line of the node at an index; the row's half width follows from its node count, 2 w + 1
 unfoldable pub nodeText : ℕ → List ℕ → ℕ → List ℕ
-nodeText row discounts k = lineOfNode row (node-at (length discounts / 2) k) (getD discounts k 0)
+nodeText row discounts k = lineOfNode row (nodeOfIndex (length discounts / 2) k) (getD discounts k 0)
 
 -- the first n lines, one after the other
 unfoldable pub lines : (ℕ → List ℕ) → ℕ → List ℕ
@@ -31,10 +30,10 @@ unfoldable pub isRow : ℕ → ℕ → Bool
 isRow row count = leb row 59 && (eqb (count % 2) 1 && leb count (2 * row + 1))
 
 -- each discount is 1 to 1,100,000,000
-unfoldable pub acceptedDiscounts : List ℕ → Bool
-acceptedDiscounts discounts = each (length discounts) (between 1 most-discount (values discounts))
+unfoldable pub acceptedNodes : List ℕ → Bool
+acceptedNodes discounts = allDiscounts (length discounts) discounts
 
 -- 6 where there is no such row or no room for its lines, then 9 where a discount is not accepted; 0 where there is no cause
 unfoldable pub rowNumber : ℕ → ℕ → ℕ → List ℕ → ℕ
 rowNumber size end row discounts =
-    cond (isRow row (length discounts) && hasRoomFor (length discounts) size end) (cond (acceptedDiscounts discounts) 0 9) 6
+    cond (isRow row (length discounts) && hasRoomFor (length discounts) size end) (cond (acceptedNodes discounts) 0 9) 6

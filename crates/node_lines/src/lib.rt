@@ -2,8 +2,8 @@
 ghost use mathlib.Core.Path.{_≡_};
 ghost use Prim.Native.Nat.{_-_, _≤_, _<_};
 ghost use lib.ListN.{length};
-ghost use Rattle.limits.specs.Limits.{most-discount};
-ghost use Rattle.lattice.specs.RateTree.{node-at};
+ghost use Rattle.limits.specs.Limits.{mostDiscount};
+ghost use Rattle.lattice.specs.RateTree.{nodeOfIndex};
 ghost use Rattle.text_laws.specs.Lines.{lineOfNode};
 ghost use Rattle.text_laws.specs.Put.{Put, putBefore, withText};
 ghost use Rattle.node_lines.specs.Rows.{rowText, hasRoomFor, isRow};
@@ -86,8 +86,8 @@ fn put_node(
     index: usize,
     discount: u64,
 ) -> usize
-    requires { ⌜ («half_width» < 60) × (index < 119) × (0 < discount) × (discount ≤ most-discount) × (128 ≤ end) × (end ≤ length (now out)) ⌝ }
-    ensures { λ r. ⌜ Put (now (out .entry)) end (lineOfNode row (node-at «half_width» index) discount) r (now (out .exit)) ⌝ }
+    requires { ⌜ («half_width» < 60) × (index < 119) × (0 < discount) × (discount ≤ mostDiscount) × (128 ≤ end) × (end ≤ length (now out)) ⌝ }
+    ensures { λ r. ⌜ Put (now (out .entry)) end (lineOfNode row (nodeOfIndex «half_width» index) discount) r (now (out .exit)) ⌝ }
 {
     let node = index as i64 - half_width as i64;
     let line = text::node_line(out, end, row, node, discount);

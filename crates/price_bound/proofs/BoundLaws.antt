@@ -8,80 +8,79 @@ use native.Mathlib.Nat.{mul-le-mul}
 use native.Mathlib.Omega.{arith}
 use lib.ListN.{length, take, drop}
 use lib.Dec.{eqb}
-use borrow.Author.Tests.{eq-eqb, ne-eqb, eqb-true}
-use Rattle.arithmetic.specs.Rounding.{one, up}
+use borrow.Author.Tests.{ne-eqb, eqb-true}
+use Rattle.arithmetic.specs.Rounding.{one, roundUp}
 use Rattle.arithmetic.specs.Row.{values}
 use Rattle.arithmetic.specs.Sum.{greatest}
-use Rattle.arithmetic.specs.declared.Answer.{Answer}
 use Rattle.arithmetic.specs.Answers.{refused, answered}
 use Rattle.arithmetic.proofs.SumLaws.{greatest-le, greatest-cong}
 use Rattle.arithmetic.proofs.PartLaws.{part-is, part-value, part-length}
-use Rattle.lattice.specs.Shape.{node-count, row-start}
-use Rattle.lattice.specs.RateTree.{rate-tree}
+use Rattle.lattice.specs.Shape.{nodeCount, rowStart}
+use Rattle.lattice.specs.RateTree.{rateTree}
 use Rattle.lattice.specs.declared.RowShape.{RowShape}
-use Rattle.lattice.specs.Entries.{shape-of, rowShape}
+use Rattle.lattice.specs.Entries.{shapeOf, rowShapeAnswer}
 use Rattle.lattice.proofs.Sizes.{row-ends}
 use Rattle.lattice.proofs.ShapeLaws.{shape-found}
-use Rattle.lent_tree.specs.LentTree.{stored, Accepted, discounts-cause}
-use Rattle.pricing_laws.specs.TreePricer.{roll-loss, greatest-discount, price-error-bound}
+use Rattle.lent_tree.specs.LentTree.{stored, Accepted, discountsCause}
+use Rattle.pricing_laws.specs.TreePricer.{rollLoss, greatestDiscount, priceErrorBound}
 use Rattle.pricing_laws.proofs.PriceLaws.{error-bound-small}
 use Rattle.pricing_laws.proofs.Recurrences.{error-bound-last, error-bound-before}
-use Rattle.price_bound.specs.PriceBound.{bound-of, priceErrorBound}
+use Rattle.price_bound.specs.PriceBound.{treeErrorBound, priceErrorBoundAnswer}
 
 pub discount-within :
-    (n b i : ℕ) → i < n → (discounts : List ℕ) → Accepted n b discounts → (k : ℕ) → k < node-count b i → stored b discounts i k ≤ 1100000000
+    (n b i : ℕ) → i < n → (discounts : List ℕ) → Accepted n b discounts → (k : ℕ) → k < nodeCount b i → stored b discounts i k ≤ 1100000000
 unfolding stored
-discount-within n b i hi discounts a k h = a .discounted (row-start b i + k) (omega (arith, row-ends b i n hi))
+discount-within n b i hi discounts a k h = a .discounted (rowStart b i + k) (omega (arith, row-ends b i n hi))
 
 -- the error bound of the rows done
 abbrev pub bound-row : ℕ → ℕ → List ℕ → ℕ → ℕ
-bound-row n b discounts = price-error-bound (rate-tree b) (stored b discounts) n
+bound-row n b discounts = priceErrorBound (rateTree b) (stored b discounts) n
 
 module _ (n b : ℕ) (discounts : List ℕ) (a : Accepted n b discounts) where
   abbrev bound-at : ℕ → ℕ
   bound-at = bound-row n b discounts
 
   pub bound-first : bound-at n ≡ 0
-  bound-first = error-bound-last roll-loss (greatest-discount (rate-tree b) (stored b discounts)) n
+  bound-first = error-bound-last rollLoss (greatestDiscount (rateTree b) (stored b discounts)) n
 
   pub bound-next :
       (r bound next : ℕ) → 0 < r → r ≤ n → bound ≡ bound-at r →
-      next ≡ up (greatest-discount (rate-tree b) (stored b discounts) (r - 1) * bound) 1000000000 + roll-loss → next ≡ bound-at (r - 1)
+      next ≡ roundUp (greatestDiscount (rateTree b) (stored b discounts) (r - 1) * bound) 1000000000 + rollLoss → next ≡ bound-at (r - 1)
   bound-next r bound next some h e g =
       let z : r ≡ suc (r - 1) = omega arith in
       g
-      ∙ ap (λ (x : ℕ). up (greatest-discount (rate-tree b) (stored b discounts) (r - 1) * x) 1000000000 + roll-loss) (e ∙ ap bound-at z)
-      ∙ sym (error-bound-before roll-loss (greatest-discount (rate-tree b) (stored b discounts)) n (r - 1) (omega arith))
+      ∙ ap (λ (x : ℕ). roundUp (greatestDiscount (rateTree b) (stored b discounts) (r - 1) * x) 1000000000 + rollLoss) (e ∙ ap bound-at z)
+      ∙ sym (error-bound-before rollLoss (greatestDiscount (rateTree b) (stored b discounts)) n (r - 1) (omega arith))
 
   pub bound-small : (r bound : ℕ) → r ≤ n → bound ≡ bound-at r → bound ≤ 1000000
-  unfolding rate-tree
+  unfolding rateTree
   bound-small r bound h e =
       omega (
         arith,
-        error-bound-small (rate-tree b) (stored b discounts) n (λ i k hi hk. discount-within n b i hi discounts a k hk) (a .few) r h,
+        error-bound-small (rateTree b) (stored b discounts) n (λ i k hi hk. discount-within n b i hi discounts a k hk) (a .steps-within-limit) r h,
       )
 
-  pub bound-done : (r bound : ℕ) → r ≡ 0 → bound ≡ bound-at r → bound ≡ bound-of n b discounts
-  unfolding bound-of
+  pub bound-done : (r bound : ℕ) → r ≡ 0 → bound ≡ bound-at r → bound ≡ treeErrorBound n b discounts
+  unfolding treeErrorBound
   bound-done r bound e h = h ∙ ap bound-at e
 
 -- one row, from its part of the discounts
 module _ (n b i : ℕ) (discounts : List ℕ) (a : Accepted n b discounts) (hi : i < n) where
   abbrev row-greatest : ℕ
-  row-greatest = greatest-discount (rate-tree b) (stored b discounts) i
+  row-greatest = greatestDiscount (rateTree b) (stored b discounts) i
 
   greatest-most : row-greatest ≤ 1100000000
-  unfolding greatest-discount rate-tree
-  greatest-most = greatest-le (node-count b i) (stored b discounts i) 1100000000 (discount-within n b i hi discounts a)
+  unfolding greatestDiscount rateTree
+  greatest-most = greatest-le (nodeCount b i) (stored b discounts i) 1100000000 (discount-within n b i hi discounts a)
 
-  module _ (s : RowShape) (es : s ≡ rowShape b n i) where
-    shape : s ≡ shape-of b n i
-    shape = es ∙ sym (shape-found b n i (a .reverting) (a .few) (omega arith) (omega (arith, a .few)))
+  module _ (s : RowShape) (es : s ≡ rowShapeAnswer b n i) where
+    shape : s ≡ shapeOf b n i
+    shape = es ∙ sym (shape-found b n i (a .reversion-within-limit) (a .steps-within-limit) (omega arith) (omega (arith, a .steps-within-limit)))
 
-    count-is : s .count ≡ node-count b i
+    count-is : s .count ≡ nodeCount b i
     count-is = ap (λ (x : RowShape). x .count) shape
 
-    start-is : s .start ≡ row-start b i
+    start-is : s .start ≡ rowStart b i
     start-is = ap (λ (x : RowShape). x .start) shape
 
     pub part-room : s .start + s .count ≤ length discounts
@@ -90,44 +89,40 @@ module _ (n b i : ℕ) (discounts : List ℕ) (a : Accepted n b discounts) (hi :
     pub greatest-part :
         (g : ℕ) (part : List ℕ) → part ≡ take (s .start + s .count - s .start) (drop (s .start) discounts) →
         g ≡ greatest (length part) (values part) → g ≡ row-greatest
-    unfolding greatest-discount rate-tree stored
+    unfolding greatestDiscount rateTree stored
     greatest-part g part ep e =
-        let p : part ≡ take (node-count b i) (drop (row-start b i) discounts)
+        let p : part ≡ take (nodeCount b i) (drop (rowStart b i) discounts)
         = ep ∙ part-is discounts (s .start) (s .count) ∙ ap₂ (λ (x y : ℕ). take x (drop y discounts)) count-is start-is in
-        let l : length part ≡ node-count b i
-        = ap length p ∙ part-length discounts (row-start b i) (node-count b i) (omega (arith, row-ends b i n hi, a .room)) in
+        let l : length part ≡ nodeCount b i
+        = ap length p ∙ part-length discounts (rowStart b i) (nodeCount b i) (omega (arith, row-ends b i n hi, a .room)) in
         e
         ∙ ap (λ (m : ℕ). greatest m (values part)) l
-        ∙ greatest-cong (node-count b i) _ _
-        (λ k h. ap (λ (x : List ℕ). values x k) p ∙ part-value discounts (row-start b i) (node-count b i) k h)
+        ∙ greatest-cong (nodeCount b i) _ _
+        (λ k h. ap (λ (x : List ℕ). values x k) p ∙ part-value discounts (rowStart b i) (nodeCount b i) k h)
 
   pub bound-fits : (g later : ℕ) → g ≡ row-greatest → later ≤ 1000000 → g * later ≤ 1100000000000000
   bound-fits g later e h = mul-le-mul {n₁ = g} {m₁ = later} {n₂ = 1100000000} {m₂ = 1000000} (omega (arith, greatest-most)) h
 
-pub bound-up : (x loss : ℕ) → (x + 999999999) / 1000000000 + loss ≡ up x one + loss
-unfolding up
+pub bound-up : (x loss : ℕ) → (x + 999999999) / 1000000000 + loss ≡ roundUp x one + loss
+unfolding roundUp
 bound-up x loss = refl
 
 -- the answer, by the cause that was found
 module _ (n b : ℕ) (discounts : List ℕ) where
-  pub bound-refused : (c : ℕ) → c ≡ discounts-cause n b discounts → (c ≡ 0 → ⊥) → refused c ≡ priceErrorBound n b discounts
-  unfolding priceErrorBound
+  pub bound-refused : (c : ℕ) → c ≡ discountsCause n b discounts → (c ≡ 0 → ⊥) → refused c ≡ priceErrorBoundAnswer n b discounts
+  unfolding priceErrorBoundAnswer
   bound-refused c e z = rw (← e, ne-eqb c 0 z)
 
   pub bound-given :
-      (c v : ℕ) → c ≡ discounts-cause n b discounts → c ≡ 0 → v ≡ bound-of n b discounts → answered v ≡ priceErrorBound n b discounts
-  unfolding priceErrorBound
+      (c v : ℕ) → c ≡ discountsCause n b discounts → c ≡ 0 → v ≡ treeErrorBound n b discounts → answered v ≡ priceErrorBoundAnswer n b discounts
+  unfolding priceErrorBoundAnswer
   bound-given c v e z h = rw (← e, z, h)
 
-  pub bound-number : priceErrorBound n b discounts .number ≡ discounts-cause n b discounts
-  unfolding priceErrorBound
-  bound-number = go (eqb (discounts-cause n b discounts) 0) refl
+  pub bound-number : priceErrorBoundAnswer n b discounts .number ≡ discountsCause n b discounts
+  unfolding priceErrorBoundAnswer
+  bound-number = go (eqb (discountsCause n b discounts) 0) refl
     where
-      go : (t : Bool) → eqb (discounts-cause n b discounts) 0 ≡ t →
-          cond t (answered (bound-of n b discounts)) (refused (discounts-cause n b discounts)) .number ≡ discounts-cause n b discounts
-      go true e = sym (eqb-true (discounts-cause n b discounts) 0 e)
+      go : (t : Bool) → eqb (discountsCause n b discounts) 0 ≡ t →
+          cond t (answered (treeErrorBound n b discounts)) (refused (discountsCause n b discounts)) .number ≡ discountsCause n b discounts
+      go true e = sym (eqb-true (discountsCause n b discounts) 0 e)
       go false e = refl
-
-  pub bound-value : discounts-cause n b discounts ≡ 0 → priceErrorBound n b discounts .value ≡ bound-of n b discounts
-  unfolding priceErrorBound
-  bound-value z = rw (eq-eqb (discounts-cause n b discounts) 0 z)

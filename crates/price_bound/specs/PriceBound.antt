@@ -6,14 +6,14 @@ use mathlib.Core.List.{List}
 use lib.Dec.{eqb}
 use Rattle.arithmetic.specs.declared.Answer.{Answer}
 use Rattle.arithmetic.specs.Answers.{refused, answered}
-use Rattle.lattice.specs.RateTree.{rate-tree}
-use Rattle.lent_tree.specs.LentTree.{stored, discounts-cause}
-use Rattle.pricing_laws.specs.TreePricer.{price-error-bound}
+use Rattle.lattice.specs.RateTree.{rateTree}
+use Rattle.lent_tree.specs.LentTree.{stored, discountsCause}
+use Rattle.pricing_laws.specs.TreePricer.{priceErrorBound}
 
 -- the price allowance of row 0
-unfoldable pub bound-of : ℕ → ℕ → List ℕ → ℕ
-bound-of n b discounts = price-error-bound (rate-tree b) (stored b discounts) n 0
+unfoldable pub treeErrorBound : ℕ → ℕ → List ℕ → ℕ
+treeErrorBound n b discounts = priceErrorBound (rateTree b) (stored b discounts) n 0
 
-unfoldable pub priceErrorBound : ℕ → ℕ → List ℕ → Answer
-priceErrorBound n b discounts =
-    cond (eqb (discounts-cause n b discounts) 0) (answered (bound-of n b discounts)) (refused (discounts-cause n b discounts))
+unfoldable pub priceErrorBoundAnswer : ℕ → ℕ → List ℕ → Answer
+priceErrorBoundAnswer n b discounts =
+    cond (eqb (discountsCause n b discounts) 0) (answered (treeErrorBound n b discounts)) (refused (discountsCause n b discounts))

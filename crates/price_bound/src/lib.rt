@@ -1,18 +1,18 @@
 // How far the prices on a tree may be from the exact ones, from its lent discounts.
 use arithmetic::Answer;
 ghost use mathlib.Core.Path.{_≡_};
-ghost use Prim.Native.Nat.{ℕ, _*_, _+_, _<_, _≤_};
-ghost use Rattle.arithmetic.specs.Rounding.{up};
-ghost use Rattle.lattice.specs.RateTree.{rate-tree};
+ghost use Prim.Native.Nat.{_*_, _+_, _<_, _≤_};
+ghost use Rattle.arithmetic.specs.Rounding.{roundUp};
+ghost use Rattle.lattice.specs.RateTree.{rateTree};
 ghost use Rattle.lent_tree.specs.LentTree.{stored, Accepted};
-ghost use Rattle.pricing_laws.specs.TreePricer.{greatest-discount, roll-loss};
-ghost use Rattle.price_bound.specs.PriceBound.{bound-of, priceErrorBound};
+ghost use Rattle.pricing_laws.specs.TreePricer.{greatestDiscount, rollLoss};
+ghost use Rattle.price_bound.specs.PriceBound.{treeErrorBound, priceErrorBoundAnswer};
 
 // The error bound of a row from the later one.
 fn bound_step(steps: usize, reversion: u64, row: usize, discounts: &[u64], later: u64) -> u64
     requires { ⌜ Accepted steps reversion (now discounts) × (row < steps) × (later ≤ 1000000) ⌝ }
-    ensures { λ r. ⌜ r ≡ up (greatest-discount (rate-tree reversion) (stored reversion (now (discounts .entry))) row * later) 1000000000
-        + roll-loss ⌝ }
+    ensures { λ r. ⌜ r ≡ roundUp (greatestDiscount (rateTree reversion) (stored reversion (now (discounts .entry))) row * later) 1000000000
+        + rollLoss ⌝ }
 {
     let shape = lattice::row_shape(reversion, steps, row);
     let start = shape.start;
@@ -23,7 +23,7 @@ fn bound_step(steps: usize, reversion: u64, row: usize, discounts: &[u64], later
 
 fn error_bound(steps: usize, reversion: u64, discounts: &[u64]) -> u64
     requires { ⌜ Accepted steps reversion (now discounts) ⌝ }
-    ensures { λ r. ⌜ r ≡ bound-of steps reversion (now (discounts .entry)) ⌝ }
+    ensures { λ r. ⌜ r ≡ treeErrorBound steps reversion (now (discounts .entry)) ⌝ }
 {
     let mut bound: u64 = 0;
     let mut row = steps;
@@ -36,7 +36,7 @@ fn error_bound(steps: usize, reversion: u64, discounts: &[u64]) -> u64
 
 // The error bound of bonds and options on the tree whose discounts are lent; 3, 4, 6 or 9 where the tree is refused.
 pub fn price_error_bound(steps: usize, reversion: u64, discounts: &[u64]) -> Answer
-    ensures { λ r. ⌜ r ≡ priceErrorBound steps reversion (now (discounts .entry)) ⌝ }
+    ensures { λ r. ⌜ r ≡ priceErrorBoundAnswer steps reversion (now (discounts .entry)) ⌝ }
 {
     let cause = lent_tree::discounts_cause(steps, reversion, discounts);
     if cause != 0 {

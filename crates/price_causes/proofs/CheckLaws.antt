@@ -11,7 +11,7 @@ use borrow.Author.Tests.{le-leb, lt-leb, leb-true, eq-eqb, ne-eqb, eqb-true}
 use Rattle.arithmetic.specs.Row.{values, each, between}
 use Rattle.arithmetic.proofs.RowLaws.{each-holds}
 use Rattle.arithmetic.proofs.BetweenLaws.{and-left, and-right, between-most}
-use Rattle.price_causes.specs.Causes.{most-flow, most-strike, flows-cause, option-cause, Accepted-flows}
+use Rattle.price_causes.specs.Causes.{mostFlow, mostStrike, flowsCause, optionCause, AcceptedFlows}
 
 -- where a cause of 0 was found, each test passed
 cond-zero-else : (p : Bool) (x m : ℕ) → cond p x (suc m) ≡ 0 → (p ≡ true) × (x ≡ 0)
@@ -21,61 +21,61 @@ cond-zero-else false x m e = absurd (omega arith)
 -- ---- flows
 
 module _ (n : ℕ) (flows : List ℕ) where
-  pub flows-miscounted : (length flows ≡ n → ⊥) → 6 ≡ flows-cause n flows
-  unfolding flows-cause
+  pub flows-miscounted : (length flows ≡ n → ⊥) → 6 ≡ flowsCause n flows
+  unfolding flowsCause
   flows-miscounted h = sym (rw (ne-eqb (length flows) n h))
 
-  module _ (count : length flows ≡ n) (r : Bool) (judged : r ≡ each (length flows) (between 0 most-flow (values flows))) where
-    pub flow-refused : r ≡ false → 10 ≡ flows-cause n flows
-    unfolding flows-cause
+  module _ (count : length flows ≡ n) (r : Bool) (judged : r ≡ each (length flows) (between 0 mostFlow (values flows))) where
+    pub flow-refused : r ≡ false → 10 ≡ flowsCause n flows
+    unfolding flowsCause
     flow-refused h = sym (rw (eq-eqb (length flows) n count, ← judged, h))
 
-    pub flows-passed : r ≡ true → 0 ≡ flows-cause n flows
-    unfolding flows-cause
+    pub flows-passed : r ≡ true → 0 ≡ flowsCause n flows
+    unfolding flowsCause
     flows-passed h = sym (rw (eq-eqb (length flows) n count, ← judged, h))
 
-  pub flows-accepted : flows-cause n flows ≡ 0 → Accepted-flows n flows
-  unfolding flows-cause
+  pub flows-accepted : flowsCause n flows ≡ 0 → AcceptedFlows n flows
+  unfolding flowsCause
   flows-accepted e =
       let c = cond-zero-else (eqb (length flows) n) _ 5 e in
-      let f = cond-zero-else (each (length flows) (between 0 most-flow (values flows))) 0 9 (c .1) in
+      let f = cond-zero-else (each (length flows) (between 0 mostFlow (values flows))) 0 9 (c .1) in
       let count = eqb-true (length flows) n (c .0) in
       record {
         count = count;
-        flowing = λ k h. between-most 0 most-flow (values flows) k (each-holds (length flows) k _ (f .0) (omega arith));
+        flowing = λ k h. between-most 0 mostFlow (values flows) k (each-holds (length flows) k _ (f .0) (omega arith));
       }
 
 -- ---- an option
 
 module _ (n kind expiry strike : ℕ) where
-  pub kind-below : kind < 1 → 11 ≡ option-cause n kind expiry strike
-  unfolding option-cause
+  pub kind-below : kind < 1 → 11 ≡ optionCause n kind expiry strike
+  unfolding optionCause
   kind-below h = sym (rw (lt-leb 1 kind h))
 
   module _ (some : 1 ≤ kind) where
-    pub kind-above : 4 < kind → 11 ≡ option-cause n kind expiry strike
-    unfolding option-cause
+    pub kind-above : 4 < kind → 11 ≡ optionCause n kind expiry strike
+    unfolding optionCause
     kind-above h = sym (rw (le-leb 1 kind some, lt-leb kind 4 h))
 
     module _ (few : kind ≤ 4) where
-      pub expiry-past : n < expiry → 11 ≡ option-cause n kind expiry strike
-      unfolding option-cause
+      pub expiry-past : n < expiry → 11 ≡ optionCause n kind expiry strike
+      unfolding optionCause
       expiry-past h = sym (rw (le-leb 1 kind some, le-leb kind 4 few, lt-leb expiry n h))
 
       module _ (in-tree : expiry ≤ n) where
-        pub strike-above : most-strike < strike → 11 ≡ option-cause n kind expiry strike
-        unfolding option-cause
-        strike-above h = sym (rw (le-leb 1 kind some, le-leb kind 4 few, le-leb expiry n in-tree, lt-leb strike most-strike h))
+        pub strike-above : mostStrike < strike → 11 ≡ optionCause n kind expiry strike
+        unfolding optionCause
+        strike-above h = sym (rw (le-leb 1 kind some, le-leb kind 4 few, le-leb expiry n in-tree, lt-leb strike mostStrike h))
 
-        pub option-passed : strike ≤ most-strike → 0 ≡ option-cause n kind expiry strike
-        unfolding option-cause
-        option-passed h = sym (rw (le-leb 1 kind some, le-leb kind 4 few, le-leb expiry n in-tree, le-leb strike most-strike h))
+        pub option-passed : strike ≤ mostStrike → 0 ≡ optionCause n kind expiry strike
+        unfolding optionCause
+        option-passed h = sym (rw (le-leb 1 kind some, le-leb kind 4 few, le-leb expiry n in-tree, le-leb strike mostStrike h))
 
-pub option-accepted : (n kind expiry strike : ℕ) → option-cause n kind expiry strike ≡ 0 → (expiry ≤ n) × (strike ≤ most-strike)
-unfolding option-cause
+pub option-accepted : (n kind expiry strike : ℕ) → optionCause n kind expiry strike ≡ 0 → (expiry ≤ n) × (strike ≤ mostStrike)
+unfolding optionCause
 option-accepted n kind expiry strike e =
-    let p = cond-zero-else (leb 1 kind && leb kind 4 && leb expiry n && leb strike most-strike) 0 10 e in
+    let p = cond-zero-else (leb 1 kind && leb kind 4 && leb expiry n && leb strike mostStrike) 0 10 e in
     let most = leb 1 kind && leb kind 4 && leb expiry n in (
-      leb-true expiry n (and-right (leb 1 kind && leb kind 4) (leb expiry n) (and-left most (leb strike most-strike) (p .0))),
-      leb-true strike most-strike (and-right most (leb strike most-strike) (p .0)),
+      leb-true expiry n (and-right (leb 1 kind && leb kind 4) (leb expiry n) (and-left most (leb strike mostStrike) (p .0))),
+      leb-true strike mostStrike (and-right most (leb strike mostStrike) (p .0)),
     )

@@ -9,21 +9,21 @@ use lib.ListN.{length}
 use Rattle.arithmetic.specs.Row.{values, each, between}
 
 -- a flow is at most 2 × one, a strike at most 4 × one
-abbrev pub most-flow : ℕ
-most-flow = 2000000000
+abbrev pub mostFlow : ℕ
+mostFlow = 2000000000
 
-abbrev pub most-strike : ℕ
-most-strike = 4000000000
+abbrev pub mostStrike : ℕ
+mostStrike = 4000000000
 
 -- 6: flows not n; 10: a flow above its limit
-unfoldable pub flows-cause : ℕ → List ℕ → ℕ
-flows-cause n flows = cond (eqb (length flows) n) (cond (each (length flows) (between 0 most-flow (values flows))) 0 10) 6
+unfoldable pub flowsCause : ℕ → List ℕ → ℕ
+flowsCause n flows = cond (eqb (length flows) n) (cond (each (length flows) (between 0 mostFlow (values flows))) 0 10) 6
 
 -- 11: kind, expiry or strike outside its limit
-unfoldable pub option-cause : ℕ → ℕ → ℕ → ℕ → ℕ
-option-cause n kind expiry strike = cond (leb 1 kind && leb kind 4 && leb expiry n && leb strike most-strike) 0 11
+unfoldable pub optionCause : ℕ → ℕ → ℕ → ℕ → ℕ
+optionCause n kind expiry strike = cond (leb 1 kind && leb kind 4 && leb expiry n && leb strike mostStrike) 0 11
 
 -- flows after the causes were tested
-pub record Accepted-flows (n : ℕ) (flows : List ℕ) : Type 0 where
+pub record AcceptedFlows (n : ℕ) (flows : List ℕ) : Type 0 where
   pub count : length flows ≡ n
-  pub flowing : (k : ℕ) → k < n → values flows k ≤ most-flow
+  pub flowing : (k : ℕ) → k < n → values flows k ≤ mostFlow

@@ -1,10 +1,10 @@
 // Causes of refusal about a bond's flows and about an option.
 ghost use mathlib.Core.Path.{_≡_};
-ghost use Rattle.price_causes.specs.Causes.{flows-cause, option-cause};
+ghost use Rattle.price_causes.specs.Causes.{flowsCause, optionCause};
 
 // The cause about flows: 6 where they are not as many as the steps, then 10 for one above its limit; 0 where there is none.
 pub fn flows_cause(steps: usize, flows: &[u64]) -> u64
-    ensures { λ r. ⌜ r ≡ flows-cause steps (now (flows .entry)) ⌝ }
+    ensures { λ r. ⌜ r ≡ flowsCause steps (now (flows .entry)) ⌝ }
 {
     if flows.len() != steps {
         return 6;
@@ -17,7 +17,7 @@ pub fn flows_cause(steps: usize, flows: &[u64]) -> u64
 
 // The cause about an option's kind, expiry and strike; 0 where there is none.
 pub fn option_cause(steps: usize, kind: u64, expiry: usize, strike: u64) -> u64
-    ensures { λ r. ⌜ r ≡ option-cause steps kind expiry strike ⌝ }
+    ensures { λ r. ⌜ r ≡ optionCause steps kind expiry strike ⌝ }
 {
     if kind < 1 {
         return 11;

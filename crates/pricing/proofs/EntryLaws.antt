@@ -10,75 +10,77 @@ use lib.Seq.{take-append-seam}
 use lib.Dec.{eqb}
 use borrow.Author.Tests.{eq-eqb, ne-eqb, eqb-true}
 use Rattle.arithmetic.specs.Row.{values}
-use Rattle.arithmetic.specs.Answers.{refused, answered, lowest-cause}
+use Rattle.arithmetic.specs.Answers.{refused, answered, lowestCause}
 use Rattle.arithmetic.specs.declared.Answer.{Answer}
 use Rattle.arithmetic.proofs.CauseLaws.{lowest-none}
-use Rattle.limits.specs.Limits.{limit-cause}
+use Rattle.limits.specs.Limits.{limitCause}
 use Rattle.limits.proofs.LimitLaws.{limit-kept, limit-accepted}
-use Rattle.lattice.specs.Shape.{half-width, node-count}
-use Rattle.lattice.specs.RateTree.{rate-tree}
-use Rattle.lattice.specs.Entries.{about-row, tableOf}
+use Rattle.lattice.specs.Shape.{halfWidth, nodeCount}
+use Rattle.lattice.specs.RateTree.{rateTree}
+use Rattle.lattice.specs.Entries.{aboutRow, tableOf}
 use Rattle.lattice.proofs.EntryLaws.{row-found}
 use Rattle.lattice.proofs.Sizes.{count-positive, count-within}
 use Rattle.lattice.proofs.TableLaws as tables
-use Rattle.lent_tree.specs.LentTree.{stored, Accepted, discounts-cause}
+use Rattle.lent_tree.specs.LentTree.{stored, Accepted, discountsCause}
 use Rattle.lent_tree.proofs.LentLaws.{accepted}
 use Rattle.pricing_laws.specs.Pricer.{Side, Schedule}
-use Rattle.pricing_laws.specs.Schedule.{side-of, schedule-of, marked}
+use Rattle.pricing_laws.specs.Schedule.{sideOf, scheduleOf, marked}
 use Rattle.pricing_laws.specs.TreePricer.{engine}
-use Rattle.pricing_laws.specs.Peak.{peak, greatest-value}
+use Rattle.pricing_laws.specs.Peak.{peak, greatestValue}
 use Rattle.pricing_laws.proofs.Schedules.{Alike, option-alike}
 use Rattle.exercise.specs.declared.Terms.{Terms}
-use Rattle.exercise.specs.Terms.{side, terms-of, marks-of}
-use Rattle.exercise.proofs.KindLaws.{side-is, strike-is, kind-alike}
-use Rattle.price_bound.specs.PriceBound.{bound-of, priceErrorBound}
+use Rattle.exercise.specs.Terms.{side, termsOf, marksOf}
+use Rattle.exercise.proofs.KindLaws.{side-is, kind-alike}
+use Rattle.price_bound.specs.PriceBound.{treeErrorBound, priceErrorBoundAnswer}
 use Rattle.price_bound.proofs.BoundLaws.{bound-number}
-use Rattle.price_causes.specs.Causes.{Accepted-flows, flows-cause, option-cause}
+use Rattle.price_causes.specs.Causes.{AcceptedFlows, flowsCause, optionCause}
 use Rattle.price_causes.proofs.CheckLaws.{flows-accepted}
 use Rattle.pricing.specs.declared.Price.{Price}
 use Rattle.pricing.specs.declared.BondAndOption.{BondAndOption}
-use Rattle.pricing.specs.Prices.{flow-at, tree-cause, first-cause, refusal, priced}
-use Rattle.pricing.specs.Prices.{bond-at, bond-peak, bondPrice, option-at, option-peak, option-limit, optionPrice}
-use Rattle.pricing.specs.Trees.{down-table, tree-bound, Bond-rolled, Both-rolled}
+use Rattle.pricing.specs.declared.walk.Rolled.{Rolled}
+use Rattle.pricing.specs.Prices.{flowAt, treeCause, firstCause, refusedPrice, priced}
+use Rattle.pricing.specs.Prices.{bondPeak, acceptedBond, bondPrice}
+use Rattle.pricing.specs.Prices.{optionValue, optionPeak, optionLimit, acceptedOption, optionPrice}
+use Rattle.pricing.specs.Trees.{downTable, treeBound, BondRolled, BothRolled}
 use Rattle.pricing.proofs.TreeRows.{table-size}
 
 -- what the lattice answers about row n
 module _ (n b : ℕ) (hn : n ≤ 60) (hb : b ≤ 6000) (a : Answer) where
-  pub answer-value : (x : ℕ) → a ≡ about-row b n x → a .value ≡ x
+  pub answer-value : (x : ℕ) → a ≡ aboutRow b n x → a .value ≡ x
   answer-value x e = ap (λ (y : Answer). y .value) (e ∙ row-found b n x hb hn)
 
-  pub widest-fits : a ≡ about-row b n (half-width b n) → 2 * a .value + 1 ≤ 121
-  unfolding node-count
-  widest-fits e = omega (arith, answer-value (half-width b n) e, count-within b n hn)
+  pub widest-fits : a ≡ aboutRow b n (halfWidth b n) → 2 * a .value + 1 ≤ 121
+  unfolding nodeCount
+  widest-fits e = omega (arith, answer-value (halfWidth b n) e, count-within b n hn)
 
   -- the table that the lattice fills at the start of a row is the table of row n
   pub table-filled :
-      (t after : List ℕ) → length t ≡ 121 → a ≡ about-row b n (half-width b n) → after ≡ tableOf b (a .value) (take (2 * a .value + 1) t) →
-      take (node-count b n) (after ++ drop (2 * a .value + 1) t) ≡ down-table n b
-  unfolding node-count down-table
+      (t after : List ℕ) → length t ≡ 121 → a ≡ aboutRow b n (halfWidth b n) → after ≡ tableOf b (a .value) (take (2 * a .value + 1) t) →
+      take (nodeCount b n) (after ++ drop (2 * a .value + 1) t) ≡ downTable n b
+  unfolding nodeCount downTable
   table-filled t after room e et =
-      let w : a .value ≡ half-width b n = answer-value (half-width b n) e in
-      let long : length (take (2 * half-width b n + 1) t) ≡ 2 * half-width b n + 1 = simp length-take (omega (arith, count-within b n hn)) in
-      let filled : after ≡ down-table n b
-      = et ∙ rw w (tables.table-fits b n (take (2 * half-width b n + 1) t) hb hn long .1) in
-      let front : take (length (down-table n b)) (after ++ drop (2 * a .value + 1) t) ≡ down-table n b
-      = rw filled (take-append-seam (down-table n b) (drop (2 * a .value + 1) t)) in
+      let w : a .value ≡ halfWidth b n = answer-value (halfWidth b n) e in
+      let long : length (take (2 * halfWidth b n + 1) t) ≡ 2 * halfWidth b n + 1 = simp length-take (omega (arith, count-within b n hn)) in
+      let filled : after ≡ downTable n b
+      = et ∙ rw w (tables.table-fits b n (take (2 * halfWidth b n + 1) t) hb hn long .1) in
+      let front : take (length (downTable n b)) (after ++ drop (2 * a .value + 1) t) ≡ downTable n b
+      = rw filled (take-append-seam (downTable n b) (drop (2 * a .value + 1) t)) in
       rw (table-size n b) at front
 
   -- and the part that is lent on is that table
-  pub prefix-room : (t : List ℕ) → a ≡ about-row b n (node-count b n) → take (node-count b n) t ≡ down-table n b → a .value ≤ length t
+  pub prefix-room : (t : List ℕ) → a ≡ aboutRow b n (nodeCount b n) → take (nodeCount b n) t ≡ downTable n b → a .value ≤ length t
   prefix-room t e h =
-      omega (arith, answer-value (node-count b n) e, simp length-take at (ap length h ∙ table-size n b))
+      omega (arith, answer-value (nodeCount b n) e, simp length-take at (ap length h ∙ table-size n b))
 
   pub prefix-is :
-      (t : List ℕ) → a ≡ about-row b n (node-count b n) → take (node-count b n) t ≡ down-table n b → take (a .value) t ≡ down-table n b
-  prefix-is t e h = ap (λ (k : ℕ). take k t) (answer-value (node-count b n) e) ∙ h
+      (t : List ℕ) → a ≡ aboutRow b n (nodeCount b n) → take (nodeCount b n) t ≡ downTable n b → take (a .value) t ≡ downTable n b
+  prefix-is t e h = ap (λ (k : ℕ). take k t) (answer-value (nodeCount b n) e) ∙ h
 
 pub prefix-length : (k : ℕ) (t : List ℕ) → k ≤ length t → k ≡ length (take k t)
 prefix-length k t h = sym (simp length-take (omega arith))
 
 -- a refusal and a price, by the number
-priced-refused : (number cause v e : ℕ) → number ≡ cause → (number ≡ 0 → ⊥) → refusal number ≡ priced cause v e
+priced-refused : (number cause v e : ℕ) → number ≡ cause → (number ≡ 0 → ⊥) → refusedPrice number ≡ priced cause v e
 unfolding priced
 priced-refused number cause v e h z = rw (← h, ne-eqb number 0 z)
 
@@ -89,151 +91,147 @@ unfolding priced
 priced-given number cause v e v′ h z hv = rw (← h, z, hv)
 
 -- a cause that comes first is given; where there is none, the later one counts
-refused-first : (c cause later v e : ℕ) → c ≡ cause → (c ≡ 0 → ⊥) → refusal c ≡ priced (first-cause cause later) v e
-unfolding first-cause priced
+refused-first : (c cause later v e : ℕ) → c ≡ cause → (c ≡ 0 → ⊥) → refusedPrice c ≡ priced (firstCause cause later) v e
+unfolding firstCause priced
 refused-first c cause later v e h z = rw (← h, ne-eqb c 0 z, ne-eqb c 0 z)
 
-passed-first : (cause later v e : ℕ) → cause ≡ 0 → priced later v e ≡ priced (first-cause cause later) v e
-unfolding first-cause
+passed-first : (cause later v e : ℕ) → cause ≡ 0 → priced later v e ≡ priced (firstCause cause later) v e
+unfolding firstCause
 passed-first cause later v e z = rw (eq-eqb cause 0 z)
 
 -- the error bound of a tree and its flows, as the code works it out
-module _ (n b : ℕ) (discounts flows : List ℕ) (a : Answer) (f c : ℕ) (ea : a ≡ priceErrorBound n b discounts) (ef : f ≡ flows-cause n flows)
-    (ec : c ≡ lowest-cause (a .number) f) where
-  cause-is : c ≡ tree-cause n b discounts flows
-  unfolding tree-cause
-  cause-is = ec ∙ ap₂ lowest-cause (ap (λ (x : Answer). x .number) ea ∙ bound-number n b discounts) ef
+module _ (n b : ℕ) (discounts flows : List ℕ) (a : Answer) (f c : ℕ) (ea : a ≡ priceErrorBoundAnswer n b discounts) (ef : f ≡ flowsCause n flows)
+    (ec : c ≡ lowestCause (a .number) f) where
+  cause-is : c ≡ treeCause n b discounts flows
+  unfolding treeCause
+  cause-is = ec ∙ ap₂ lowestCause (ap (λ (x : Answer). x .number) ea ∙ bound-number n b discounts) ef
 
-  pub tree-refused : (c ≡ 0 → ⊥) → refused c ≡ tree-bound n b discounts flows
-  unfolding tree-bound
+  pub tree-refused : (c ≡ 0 → ⊥) → refused c ≡ treeBound n b discounts flows
+  unfolding treeBound
   tree-refused z = rw (← cause-is, ne-eqb c 0 z)
 
-  pub tree-passed : c ≡ 0 → a ≡ tree-bound n b discounts flows
-  unfolding tree-bound priceErrorBound tree-cause
+  pub tree-passed : c ≡ 0 → a ≡ treeBound n b discounts flows
+  unfolding treeBound priceErrorBoundAnswer treeCause
   tree-passed z =
-      let none = lowest-none (discounts-cause n b discounts) (flows-cause n flows) (sym cause-is ∙ z) in
-      ea ∙ rw (eq-eqb (discounts-cause n b discounts) 0 (none .0), ← cause-is, z)
+      let none = lowest-none (discountsCause n b discounts) (flowsCause n flows) (sym cause-is ∙ z) in
+      ea ∙ rw (eq-eqb (discountsCause n b discounts) 0 (none .0), ← cause-is, z)
 
 -- what it says
-module _ (n b : ℕ) (discounts flows : List ℕ) (a : Answer) (ea : a ≡ tree-bound n b discounts flows) where
-  pub tree-number : a .number ≡ tree-cause n b discounts flows
-  unfolding tree-bound
-  tree-number = ap (λ (x : Answer). x .number) ea ∙ go (eqb (tree-cause n b discounts flows) 0) refl
+module _ (n b : ℕ) (discounts flows : List ℕ) (a : Answer) (ea : a ≡ treeBound n b discounts flows) where
+  pub tree-number : a .number ≡ treeCause n b discounts flows
+  unfolding treeBound
+  tree-number = ap (λ (x : Answer). x .number) ea ∙ go (eqb (treeCause n b discounts flows) 0) refl
     where
-      go : (t : Bool) → eqb (tree-cause n b discounts flows) 0 ≡ t →
-          cond t (answered (bound-of n b discounts)) (refused (tree-cause n b discounts flows)) .number ≡ tree-cause n b discounts flows
-      go true e = sym (eqb-true (tree-cause n b discounts flows) 0 e)
+      go : (t : Bool) → eqb (treeCause n b discounts flows) 0 ≡ t →
+          cond t (answered (treeErrorBound n b discounts)) (refused (treeCause n b discounts flows)) .number ≡ treeCause n b discounts flows
+      go true e = sym (eqb-true (treeCause n b discounts flows) 0 e)
       go false e = refl
 
   module _ (z : a .number ≡ 0) where
-    pub tree-none : tree-cause n b discounts flows ≡ 0
+    pub tree-none : treeCause n b discounts flows ≡ 0
     tree-none = sym tree-number ∙ z
 
-    causes : (discounts-cause n b discounts ≡ 0) × (flows-cause n flows ≡ 0)
-    unfolding tree-cause
-    causes = lowest-none (discounts-cause n b discounts) (flows-cause n flows) tree-none
+    causes : (discountsCause n b discounts ≡ 0) × (flowsCause n flows ≡ 0)
+    unfolding treeCause
+    causes = lowest-none (discountsCause n b discounts) (flowsCause n flows) tree-none
 
     pub tree-accepted : Accepted n b discounts
     tree-accepted = accepted n b discounts (causes .0)
 
-    pub paid-accepted : Accepted-flows n flows
+    pub paid-accepted : AcceptedFlows n flows
     paid-accepted = flows-accepted n flows (causes .1)
 
-    pub bound-is : a .value ≡ bound-of n b discounts
-    unfolding tree-bound
-    bound-is = ap (λ (x : Answer). x .value) ea ∙ rw (eq-eqb (tree-cause n b discounts flows) 0 tree-none)
+    pub bound-is : a .value ≡ treeErrorBound n b discounts
+    unfolding treeBound
+    bound-is = ap (λ (x : Answer). x .value) ea ∙ rw (eq-eqb (treeCause n b discounts flows) 0 tree-none)
 
 module _ (n b : ℕ) (discounts flows : List ℕ) where
   -- the bond of an accepted tree, with an error bound e
-  abbrev pub accepted-bond : ℕ → Price
-  accepted-bond e = priced (limit-cause (bond-peak n b discounts flows)) (bond-at n b discounts flows 0 0) e
-
-  module _ (number e : ℕ) (l : List ℕ) (s : Bond-rolled n b discounts flows 0 number l) where
-    pub bond-refused : (number ≡ 0 → ⊥) → refusal number ≡ accepted-bond e
-    unfolding bond-peak
+  module _ (number e : ℕ) (l : List ℕ) (s : BondRolled n b discounts flows 0 number l) where
+    pub bond-refused : (number ≡ 0 → ⊥) → refusedPrice number ≡ acceptedBond n b discounts flows e
+    unfolding bondPeak
     bond-refused z = priced-refused number _ _ _ (s .cause) z
 
-    pub bond-given : number ≡ 0 → _≡_ {A = Price} (record { number = 0; value = values l 0; bound = e }) (accepted-bond e)
-    unfolding bond-peak
+    pub bond-given : number ≡ 0 → _≡_ {A = Price} (record { number = 0; value = values l 0; bound = e }) (acceptedBond n b discounts flows e)
+    unfolding bondPeak
     bond-given z = priced-given number _ _ _ _ (s .cause) z (s .held z 0 (count-positive b 0))
 
   -- the entry: a cause about the tree, or the price
-  pub bond-cause-price : (c : ℕ) → c ≡ tree-cause n b discounts flows → (c ≡ 0 → ⊥) → refusal c ≡ bondPrice n b discounts flows
+  pub bond-cause-price : (c : ℕ) → c ≡ treeCause n b discounts flows → (c ≡ 0 → ⊥) → refusedPrice c ≡ bondPrice n b discounts flows
   unfolding bondPrice
   bond-cause-price c e z = refused-first c _ _ _ _ e z
 
   pub bond-price-is :
-      (e : ℕ) (p : Price) → p ≡ accepted-bond e → tree-cause n b discounts flows ≡ 0 → e ≡ bound-of n b discounts → p ≡ bondPrice n b discounts flows
+      (e : ℕ) (p : Price) → p ≡ acceptedBond n b discounts flows e → treeCause n b discounts flows ≡ 0 → e ≡ treeErrorBound n b discounts →
+      p ≡ bondPrice n b discounts flows
   unfolding bondPrice
-  bond-price-is e p h z eb = h ∙ ap accepted-bond eb ∙ passed-first _ _ _ _ z
+  bond-price-is e p h z eb = h ∙ ap (acceptedBond n b discounts flows) eb ∙ passed-first _ _ _ _ z
 
   -- the option of an accepted tree, with an error bound e
   module _ (side : Side) (strike : ℕ) (rows : Schedule) where
-    abbrev pub accepted-option : ℕ → Price
-    accepted-option e =
-        priced (option-limit n b discounts flows side strike rows) (option-at n b discounts flows side strike rows 0 0) e
+    module _ (e : ℕ) (r : Rolled) (s : BothRolled n b discounts flows side strike rows r) where
+      pub option-refused : (r .number ≡ 0 → ⊥) → refusedPrice (r .number) ≡ acceptedOption n b discounts flows side strike rows e
+      option-refused z = priced-refused (r .number) _ _ _ (s .cause) z
 
-    module _ (number e : ℕ) (bond option : List ℕ) (s : Both-rolled n b discounts flows side strike rows number bond option) where
-      pub option-refused : (number ≡ 0 → ⊥) → refusal number ≡ accepted-option e
-      option-refused z = priced-refused number _ _ _ (s .cause) z
-
-      pub option-given : number ≡ 0 → _≡_ {A = Price} (record { number = 0; value = values option 0; bound = e }) (accepted-option e)
-      option-given z = priced-given number _ _ _ _ (s .cause) z (s .option-held z)
+      pub option-given : r .number ≡ 0 →
+          _≡_ {A = Price} (record { number = 0; value = r .option; bound = e }) (acceptedOption n b discounts flows side strike rows e)
+      option-given z = priced-given (r .number) _ _ _ _ (s .cause) z (s .option-held z)
 
       -- no value of the bond was above the limit either
-      bond-passed : number ≡ 0 → 0 ≡ limit-cause (bond-peak n b discounts flows)
-      unfolding option-limit
+      bond-passed : r .number ≡ 0 → 0 ≡ limitCause (bondPeak n b discounts flows)
+      unfolding optionLimit
       bond-passed z = limit-kept _ (omega (arith, limit-accepted _ (sym (s .cause) ∙ z)))
 
-      pub beside-given : number ≡ 0 → _≡_ {A = Price} (record { number = 0; value = values bond 0; bound = e }) (accepted-bond e)
+      pub beside-given : r .number ≡ 0 → _≡_ {A = Price} (record { number = 0; value = r .bond; bound = e }) (acceptedBond n b discounts flows e)
       beside-given z = priced-given 0 _ _ _ _ (bond-passed z) refl (s .bond-held z)
 
   -- schedules that are alike give one answer
   module _ (side : Side) (strike : ℕ) (rows other : Schedule) (same : Alike rows other) where
-    same-values : option-at n b discounts flows side strike rows ≡ option-at n b discounts flows side strike other
-    unfolding option-at
+    same-values : optionValue n b discounts flows side strike rows ≡ optionValue n b discounts flows side strike other
+    unfolding optionValue
     same-values =
-        fun-ext (λ i. option-alike (engine (rate-tree b) (stored b discounts)) (flow-at flows) n side strike rows other same i)
+        fun-ext (λ i. option-alike (engine (rateTree b) (stored b discounts)) (flowAt flows) n side strike rows other same i)
 
-    same-peak : option-peak n b discounts flows side strike rows ≡ option-peak n b discounts flows side strike other
-    unfolding option-peak
-    same-peak = ap₂ (λ (v : ℕ → ℕ → ℕ) (l : ℕ). peak (greatest-value (rate-tree b) v) l 0) same-values (same .last)
+    same-peak : optionPeak n b discounts flows side strike rows ≡ optionPeak n b discounts flows side strike other
+    unfolding optionPeak
+    same-peak = ap₂ (λ (v : ℕ → ℕ → ℕ) (l : ℕ). peak (greatestValue (rateTree b) v) l 0) same-values (same .last)
 
-    pub option-alike-price : (e : ℕ) → accepted-option side strike rows e ≡ accepted-option side strike other e
-    unfolding option-limit
+    pub option-alike-price : (e : ℕ) → acceptedOption n b discounts flows side strike rows e ≡ acceptedOption n b discounts flows side strike other e
+    unfolding optionLimit
     option-alike-price e =
-        ap₂ (λ (p : ℕ) (v : ℕ → ℕ → ℕ). priced (limit-cause (max (bond-peak n b discounts flows) p)) (v 0 0) e) same-peak same-values
+        ap₂ (λ (p : ℕ) (v : ℕ → ℕ → ℕ). priced (limitCause (max (bondPeak n b discounts flows) p)) (v 0 0) e) same-peak same-values
 
   -- a kind: a cause about the tree, a cause about the option, or the price
   module _ (kind expiry strike : ℕ) where
     pub option-tree-price :
-        (c : ℕ) → c ≡ tree-cause n b discounts flows → (c ≡ 0 → ⊥) → refusal c ≡ optionPrice n b discounts flows kind expiry strike
+        (c : ℕ) → c ≡ treeCause n b discounts flows → (c ≡ 0 → ⊥) → refusedPrice c ≡ optionPrice n b discounts flows kind expiry strike
     unfolding optionPrice
     option-tree-price c e z = refused-first c _ _ _ _ e z
 
-    module _ (z : tree-cause n b discounts flows ≡ 0) where
+    module _ (z : treeCause n b discounts flows ≡ 0) where
       pub option-cause-price :
-          (c : ℕ) → c ≡ option-cause n kind expiry strike → (c ≡ 0 → ⊥) → refusal c ≡ optionPrice n b discounts flows kind expiry strike
+          (c : ℕ) → c ≡ optionCause n kind expiry strike → (c ≡ 0 → ⊥) → refusedPrice c ≡ optionPrice n b discounts flows kind expiry strike
       unfolding optionPrice
       option-cause-price c e nz = refused-first c _ _ _ _ e nz ∙ passed-first _ _ _ _ z
 
-      module _ (e : ℕ) (eb : e ≡ bound-of n b discounts) (none : option-cause n kind expiry strike ≡ 0) (few : expiry ≤ 60) where
+      module _ (e : ℕ) (eb : e ≡ treeErrorBound n b discounts) (none : optionCause n kind expiry strike ≡ 0) (few : expiry ≤ 60) where
         kind-price-is :
-            accepted-option (side-of kind) strike (schedule-of kind expiry) e ≡ optionPrice n b discounts flows kind expiry strike
+            acceptedOption n b discounts flows (sideOf kind) strike (scheduleOf kind expiry) e ≡ optionPrice n b discounts flows kind expiry strike
         unfolding optionPrice
         kind-price-is =
-            ap (accepted-option (side-of kind) strike (schedule-of kind expiry)) eb ∙ passed-first _ _ _ _ none ∙ passed-first _ _ _ _ z
+            ap (acceptedOption n b discounts flows (sideOf kind) strike (scheduleOf kind expiry)) eb ∙ passed-first _ _ _ _ none ∙ passed-first _ _ _ _ z
 
         -- from the terms and marks that the code works with
         pub option-price-is :
-            (terms : Terms) (marks : List ℕ) (p : Price) → terms ≡ terms-of kind strike → marks ≡ marks-of kind →
-            p ≡ accepted-option (side (terms .call)) (terms .strike) (marked expiry marks) e →
+            (terms : Terms) (marks : List ℕ) (p : Price) → terms ≡ termsOf kind expiry strike → marks ≡ marksOf kind →
+            p ≡ acceptedOption n b discounts flows (side (terms .call)) (terms .strike) (marked (terms .last) marks) e →
             p ≡ optionPrice n b discounts flows kind expiry strike
+        unfolding termsOf
         option-price-is terms marks p et em ep =
             ep
-            ∙ ap₂ (λ (t : Terms) (m : List ℕ). accepted-option (side (t .call)) (t .strike) (marked expiry m) e) et em
-            ∙ ap₂ (λ (s : Side) (k : ℕ). accepted-option s k (marked expiry (marks-of kind)) e) (side-is kind strike) (strike-is kind strike)
-            ∙ option-alike-price (side-of kind) strike (marked expiry (marks-of kind)) (schedule-of kind expiry) (kind-alike kind expiry few) e
+            ∙ ap₂ (λ (t : Terms) (m : List ℕ). acceptedOption n b discounts flows (side (t .call)) (t .strike) (marked (t .last) m) e) et em
+            ∙ ap (λ (s : Side). acceptedOption n b discounts flows s strike (marked expiry (marksOf kind)) e) (side-is kind expiry strike)
+            ∙ option-alike-price (sideOf kind) strike (marked expiry (marksOf kind)) (scheduleOf kind expiry) (kind-alike kind expiry few) e
             ∙ kind-price-is
 
 -- bond and option, each as it should be

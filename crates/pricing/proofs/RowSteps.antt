@@ -3,37 +3,37 @@
 use mathlib.Core.Path.{_≡_, sym, ap, ap₂, _∙_}
 use mathlib.Core.Bool.{Bool}
 use mathlib.Core.List.{List}
-use Prim.Native.Nat.{ℕ, _+_, _-_, _≤_, _<_, max}
+use Prim.Native.Nat.{ℕ, _+_, _-_, _<_, max}
 use native.Mathlib.Omega.{arith}
 use lib.ListN.{length, set}
 use Rattle.arithmetic.specs.Row.{values}
 use Rattle.arithmetic.specs.Sum.{greatest}
 use Rattle.arithmetic.proofs.SumLaws.{greatest-none, greatest-next}
 use Rattle.arithmetic.proofs.RowLaws.{Filled, filled-start, filled-next}
-use Rattle.tree.specs.Tree.{whole}
-use Rattle.pricing_laws.specs.Pricer.{Side, exercise, held-or-exercised}
+use Rattle.tree.specs.Tree.{probabilityTotal}
+use Rattle.pricing_laws.specs.Pricer.{Side, exercise, heldOrExercised}
 use Rattle.row_branches.specs.declared.RowBranch.{RowBranch}
-use Rattle.row_branches.specs.RowBranches.{branch-total, row-branch}
-use Rattle.pricing.specs.Rows.{branch-roll, rolled-row, option-values, Rollable, Limited, Later, Filled-row, Filled-rows}
+use Rattle.row_branches.specs.RowBranches.{branchTotal, rowBranch}
+use Rattle.pricing.specs.Rows.{branchRoll, rolledRow, optionValues, Rollable, Limited, Later, FilledRow, FilledRows}
 
 -- what the roll of a node asks of its branch
 module _ (downs discounts later : List ℕ) (next k : ℕ) (r : Rollable downs discounts next) (l : Later later next) (hk : k < length discounts)
-    (b : RowBranch) (e : b ≡ row-branch downs next k) where
-  low-is : b .low ≡ row-branch downs next k .low
+    (b : RowBranch) (e : b ≡ rowBranch downs next k) where
+  low-is : b .low ≡ rowBranch downs next k .low
   low-is = ap (λ (x : RowBranch). x .low) e
 
   pub branch-inside : b .low + 2 < length later
   branch-inside = omega (arith, low-is, r .inside k hk, l .room)
 
-  pub branch-whole : branch-total b ≡ whole
+  pub branch-whole : branchTotal b ≡ probabilityTotal
   branch-whole = rw e (r .total k hk)
 
   pub branch-limited : Limited later (b .low + 3)
   branch-limited j h = l .limited j (omega (arith, low-is, r .inside k hk))
 
-  pub branch-rolled : (x : ℕ) → x ≡ branch-roll b (values later) (values discounts k) → x ≡ rolled-row later downs discounts next k
-  unfolding rolled-row
-  branch-rolled x h = h ∙ ap (λ (y : RowBranch). branch-roll y (values later) (values discounts k)) e
+  pub branch-rolled : (x : ℕ) → x ≡ branchRoll b (values later) (values discounts k) → x ≡ rolledRow later downs discounts next k
+  unfolding rolledRow
+  branch-rolled x h = h ∙ ap (λ (y : RowBranch). branchRoll y (values later) (values discounts k)) e
 
 -- The loop over a row: k nodes done, and the greatest of them.
 pub record Row-state (row₀ row : List ℕ) (f : ℕ → ℕ) (top k : ℕ) : Type 0 where
@@ -53,7 +53,7 @@ row-next row₀ row f top k x top′ s h e t =
     }
 
 pub row-done :
-    (row₀ row : List ℕ) (f : ℕ → ℕ) (top k n : ℕ) → Row-state row₀ row f top k → k ≡ n → Filled-row row n f top
+    (row₀ row : List ℕ) (f : ℕ → ℕ) (top k n : ℕ) → Row-state row₀ row f top k → k ≡ n → FilledRow row n f top
 row-done row₀ row f top k n s e =
     record { held = λ j h. s .filled .done j (omega arith); found = s .found ∙ ap (λ (m : ℕ). greatest m f) e }
 
@@ -81,7 +81,7 @@ rows-next bond₀ bond option₀ option f g top k x y z top′ s hb ho ex ey ez 
 
 pub rows-done :
     (bond₀ bond option₀ option : List ℕ) (f g : ℕ → ℕ) (top k n : ℕ) → Rows-state bond₀ bond option₀ option f g top k → k ≡ n →
-    Filled-rows bond option n f g top
+    FilledRows bond option n f g top
 rows-done bond₀ bond option₀ option f g top k n s e =
     record {
       bond-held = λ j h. s .bond-filled .done j (omega arith);
@@ -92,8 +92,8 @@ rows-done bond₀ bond option₀ option f g top k n s e =
 -- the option's value from the bond's value and the option's roll, as the code has them
 pub option-from-roll :
     (side : Side) (strike : ℕ) (listed : Bool) (bonds options downs discounts : List ℕ) (next flow k bond roll r : ℕ) →
-    bond ≡ rolled-row bonds downs discounts next k + flow → roll ≡ rolled-row options downs discounts next k →
-    r ≡ held-or-exercised listed roll (exercise side strike bond) →
-    r ≡ option-values side strike listed bonds options downs discounts next flow k
+    bond ≡ rolledRow bonds downs discounts next k + flow → roll ≡ rolledRow options downs discounts next k →
+    r ≡ heldOrExercised listed roll (exercise side strike bond) →
+    r ≡ optionValues side strike listed bonds options downs discounts next flow k
 option-from-roll side strike listed bonds options downs discounts next flow k bond roll r eb eo er =
-    er ∙ ap₂ (λ (x y : ℕ). held-or-exercised listed x (exercise side strike y)) eo eb
+    er ∙ ap₂ (λ (x y : ℕ). heldOrExercised listed x (exercise side strike y)) eo eb

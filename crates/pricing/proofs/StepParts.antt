@@ -7,74 +7,73 @@ use Prim.Native.Nat.{ℕ, suc, _+_, _≤_, _<_}
 use native.Mathlib.Omega.{arith}
 use lib.ListN.{length, take, drop}
 use Rattle.lattice.specs.declared.RowShape.{RowShape}
-use Rattle.lattice.specs.Shape.{node-count, row-start}
-use Rattle.lattice.specs.Entries.{table-offset, shape-of, rowShape}
+use Rattle.lattice.specs.Shape.{nodeCount, rowStart}
+use Rattle.lattice.specs.Entries.{tableOffset, shapeOf, rowShapeAnswer}
 use Rattle.lattice.proofs.Sizes.{count-within}
 use Rattle.lattice.proofs.ShapeLaws as shapes
 use Rattle.lent_tree.specs.LentTree.{Accepted}
 use Rattle.pricing_laws.specs.Pricer.{Side}
-use Rattle.pricing.specs.Prices.{flow-at}
-use Rattle.pricing.specs.Rows.{bond-values, option-values, Rollable, Limited, Later, Filled-row, Filled-rows}
-use Rattle.pricing.specs.Trees.{down-table, bond-step, option-step}
+use Rattle.pricing.specs.Rows.{bondValues, optionValues, Rollable, Limited, Later, FilledRow, FilledRows}
+use Rattle.pricing.specs.Trees.{downTable, bondStep, optionStep}
 use Rattle.pricing.proofs.TreeRows as rows
 
-module _ (n b i : ℕ) (discounts : List ℕ) (a : Accepted n b discounts) (hi : i < n) (s : RowShape) (es : s ≡ rowShape b n i) where
-  shape : s ≡ shape-of b n i
-  shape = es ∙ sym (shapes.shape-found b n i (a .reverting) (a .few) (omega arith) (omega (arith, a .few)))
+module _ (n b i : ℕ) (discounts : List ℕ) (a : Accepted n b discounts) (hi : i < n) (s : RowShape) (es : s ≡ rowShapeAnswer b n i) where
+  shape : s ≡ shapeOf b n i
+  shape = es ∙ sym (shapes.shape-found b n i (a .reversion-within-limit) (a .steps-within-limit) (omega arith) (omega (arith, a .steps-within-limit)))
 
-  count-is : s .count ≡ node-count b i
+  count-is : s .count ≡ nodeCount b i
   count-is = ap (λ (x : RowShape). x .count) shape
 
-  start-is : s .start ≡ row-start b i
+  start-is : s .start ≡ rowStart b i
   start-is = ap (λ (x : RowShape). x .start) shape
 
-  offset-is : s .offset ≡ table-offset b n i
+  offset-is : s .offset ≡ tableOffset b n i
   offset-is = ap (λ (x : RowShape). x .offset) shape
 
-  next-is : s .next ≡ node-count b (suc i)
+  next-is : s .next ≡ nodeCount b (suc i)
   next-is = ap (λ (x : RowShape). x .next) shape
 
   pub discount-room : s .start + s .count ≤ length discounts
   discount-room = rw (start-is, count-is) (rows.discounts-fit n b i hi discounts a)
 
   -- a later row that may be rolled back: the next row is no wider than the widest
-  pub later-next : (later : List ℕ) → length later ≡ 121 → Limited later (node-count b (i + 1)) → Later later (s .next)
+  pub later-next : (later : List ℕ) → length later ≡ 121 → Limited later (nodeCount b (i + 1)) → Later later (s .next)
   later-next later room l =
-      let z : node-count b (i + 1) ≡ s .next = ap (node-count b) (omega arith) ∙ sym next-is in
-      record { room = omega (arith, next-is, count-within b (suc i) (omega (arith, a .few))); limited = λ k h. l k (omega arith) }
+      let z : nodeCount b (i + 1) ≡ s .next = ap (nodeCount b) (omega arith) ∙ sym next-is in
+      record { room = omega (arith, next-is, count-within b (suc i) (omega (arith, a .steps-within-limit))); limited = λ k h. l k (omega arith) }
 
   module _ (part : List ℕ) (ep : part ≡ take (s .count) (drop (s .start) discounts)) where
     part-is : part ≡ rows.discount-part n b i hi discounts a
     part-is = ep ∙ ap₂ (λ (x y : ℕ). take x (drop y discounts)) count-is start-is
 
     pub part-within : length part ≤ 121
-    part-within = omega (arith, ap length part-is, rows.discount-part-length n b i hi discounts a, count-within b i (omega (arith, a .few)))
+    part-within = omega (arith, ap length part-is, rows.discount-part-length n b i hi discounts a, count-within b i (omega (arith, a .steps-within-limit)))
 
-    module _ (downs : List ℕ) (et : downs ≡ down-table n b) (table : List ℕ) (ed : table ≡ take (s .count) (drop (s .offset) downs)) where
+    module _ (downs : List ℕ) (et : downs ≡ downTable n b) (table : List ℕ) (ed : table ≡ take (s .count) (drop (s .offset) downs)) where
       table-is : table ≡ rows.table-part n b i hi discounts a
       table-is =
           ed
           ∙ ap₂ (λ (x y : ℕ). take x (drop y downs)) count-is offset-is
-          ∙ ap (λ (l : List ℕ). take (node-count b i) (drop (table-offset b n i) l)) et
+          ∙ ap (λ (l : List ℕ). take (nodeCount b i) (drop (tableOffset b n i) l)) et
 
       pub part-rollable : Rollable table part (s .next)
       part-rollable = rw (table-is, part-is, next-is) (rows.rollable n b i hi discounts a)
 
-      module _ (flows : List ℕ) (flow : ℕ) (ef : flow ≡ flow-at flows i) where
+      module _ (flow : ℕ) where
         pub part-bond :
-            (later after : List ℕ) (top : ℕ) → Filled-row after (length part) (bond-values later table part (s .next) flow) top →
-            Filled-row after (node-count b i) (bond-step b discounts flows i later) top
-        part-bond later after top h = rows.bond-row-is n b i hi discounts a flows flow ef later after top (rw (table-is, part-is, next-is) at h)
+            (later after : List ℕ) (top : ℕ) → FilledRow after (length part) (bondValues later table part (s .next) flow) top →
+            FilledRow after (nodeCount b i) (bondStep b discounts flow i later) top
+        part-bond later after top h = rows.bond-row-is n b i hi discounts a flow later after top (rw (table-is, part-is, next-is) at h)
 
         pub part-option :
             (side : Side) (strike : ℕ) (listed : Bool) (bonds options bond option : List ℕ) (top : ℕ) →
-            Filled-rows bond option (length part) (bond-values bonds table part (s .next) flow)
-            (option-values side strike listed bonds options table part (s .next) flow) top →
-            Filled-rows bond option (node-count b i) (bond-step b discounts flows i bonds)
-            (option-step side strike listed b discounts flows i bonds options) top
+            FilledRows bond option (length part) (bondValues bonds table part (s .next) flow)
+            (optionValues side strike listed bonds options table part (s .next) flow) top →
+            FilledRows bond option (nodeCount b i) (bondStep b discounts flow i bonds)
+            (optionStep side strike listed b discounts flow i bonds options) top
         part-option side strike listed bonds options bond option top h =
-            rows.option-row-is n b i hi discounts a flows flow ef side strike listed bonds options bond option top
+            rows.option-row-is n b i hi discounts a flow side strike listed bonds options bond option top
             (rw (table-is, part-is, next-is) at h)
 
-  pub table-room : (downs : List ℕ) → downs ≡ down-table n b → s .offset + s .count ≤ length downs
+  pub table-room : (downs : List ℕ) → downs ≡ downTable n b → s .offset + s .count ≤ length downs
   table-room downs e = rw (e, offset-is, count-is, rows.table-size n b) (shapes.table-room b n i (omega arith))

@@ -7,137 +7,135 @@ use Prim.Native.Nat.{ℕ, zero, suc, _+_, _-_, _*_, _≤_, _<_, max}
 use native.Mathlib.Omega.{arith}
 use lib.ListN.{length, take, drop}
 use Rattle.arithmetic.specs.Rounding.{one}
-use Rattle.arithmetic.specs.Row.{row, values}
-use Rattle.arithmetic.specs.Sum.{greatest}
+use Rattle.arithmetic.specs.Row.{values}
 use Rattle.arithmetic.proofs.SumLaws.{greatest-cong}
 use Rattle.arithmetic.proofs.RowLaws.{length-row, values-row}
 use Rattle.arithmetic.proofs.PartLaws.{part-value, part-length}
-use Rattle.tree.specs.Tree.{whole, outgoing}
-use Rattle.lattice.specs.Shape.{node-count, row-start}
-use Rattle.lattice.specs.Branching.{up, middle, down, probabilities}
-use Rattle.lattice.specs.RateTree.{node, low, rate-tree}
+use Rattle.tree.specs.Tree.{probabilityTotal, outgoing}
+use Rattle.lattice.specs.Shape.{nodeCount, rowStart}
+use Rattle.lattice.specs.Branching.{upProbability, middleProbability, downProbability, probabilities}
+use Rattle.lattice.specs.RateTree.{node, low, rateTree}
 use Rattle.lattice.proofs.Sizes.{row-ends}
 use Rattle.lattice.proofs.RateTreeLaws.{low-within, index-laws}
 use Rattle.lent_tree.specs.LentTree.{stored, Accepted}
-use Rattle.row_branches.specs.declared.RowBranch.{RowBranch}
-use Rattle.row_branches.specs.RowBranches.{row-branch}
+use Rattle.row_branches.specs.RowBranches.{rowBranch}
 use Rattle.row_branches.proofs.BranchLaws.{backwards}
 use Rattle.row_branches.proofs.TableParts as tables
-use Rattle.pricing_laws.specs.Pricer.{Side, exercise, held-or-exercised}
-use Rattle.pricing_laws.specs.TreePricer.{roll-rounding, node-roll, roll}
+use Rattle.pricing_laws.specs.Pricer.{Side, exercise, heldOrExercised}
+use Rattle.pricing_laws.specs.TreePricer.{rollRounding, nodeRoll, roll}
 use Rattle.price_bound.proofs.BoundLaws.{discount-within}
-use Rattle.price_causes.specs.Causes.{Accepted-flows}
-use Rattle.pricing.specs.Prices.{flow-at}
-use Rattle.pricing.specs.Rows.{branch-roll, rolled-row, bond-values, option-values, Rollable, Filled-row, Filled-rows}
-use Rattle.pricing.specs.Trees.{down-table, rolled-at, bond-step, option-step}
+use Rattle.price_causes.specs.Causes.{AcceptedFlows}
+use Rattle.pricing.specs.Prices.{flowAt}
+use Rattle.pricing.specs.Rows.{branchRoll, rolledRow, bondValues, optionValues, Rollable, FilledRow, FilledRows}
+use Rattle.pricing.specs.Trees.{downTable, rolledAt, bondStep, optionStep}
 
-pub table-size : (n b : ℕ) → length (down-table n b) ≡ node-count b n
-unfolding down-table
-table-size n b = length-row (node-count b n) (λ k. down b (node b n k))
+pub table-size : (n b : ℕ) → length (downTable n b) ≡ nodeCount b n
+unfolding downTable
+table-size n b = length-row (nodeCount b n) (λ k. downProbability b (node b n k))
 
-table-holds : (n b k : ℕ) → k < node-count b n → values (down-table n b) k ≡ down b (node b n k)
-unfolding down-table
-table-holds n b k h = values-row (node-count b n) k (λ j. down b (node b n j)) h
+table-holds : (n b k : ℕ) → k < nodeCount b n → values (downTable n b) k ≡ downProbability b (node b n k)
+unfolding downTable
+table-holds n b k h = values-row (nodeCount b n) k (λ j. downProbability b (node b n j)) h
 
 module _ (n b i : ℕ) (hi : i < n) (discounts : List ℕ) (a : Accepted n b discounts) where
   -- row i's part of the table
   abbrev pub table-part : List ℕ
-  table-part = tables.table-part b n i (down-table n b)
+  table-part = tables.table-part b n i (downTable n b)
 
-  pub discounts-fit : row-start b i + node-count b i ≤ length discounts
+  pub discounts-fit : rowStart b i + nodeCount b i ≤ length discounts
   discounts-fit = omega (arith, row-ends b i n hi, a .room)
 
   -- row i's part of the discounts
   abbrev pub discount-part : List ℕ
-  discount-part = take (node-count b i) (drop (row-start b i) discounts)
+  discount-part = take (nodeCount b i) (drop (rowStart b i) discounts)
 
-  pub discount-part-length : length discount-part ≡ node-count b i
+  pub discount-part-length : length discount-part ≡ nodeCount b i
   discount-part-length = part-length discounts _ _ discounts-fit
 
-  discount-part-at : (k : ℕ) → k < node-count b i → values discount-part k ≡ stored b discounts i k
+  discount-part-at : (k : ℕ) → k < nodeCount b i → values discount-part k ≡ stored b discounts i k
   unfolding stored
-  discount-part-at k h = part-value discounts (row-start b i) (node-count b i) k h
+  discount-part-at k h = part-value discounts (rowStart b i) (nodeCount b i) k h
 
-  total-is : (k : ℕ) → k < node-count b i → up b (node b i k) + middle b (node b i k) + down b (node b i k) ≡ whole
-  total-is k h = index-laws b i k h (a .reverting) .total
+  total-is : (k : ℕ) → k < nodeCount b i → upProbability b (node b i k) + middleProbability b (node b i k) + downProbability b (node b i k) ≡ probabilityTotal
+  total-is k h = index-laws b i k h (a .reversion-within-limit) .total
 
-  branch-is : (k : ℕ) → k < node-count b i →
-      row-branch table-part (node-count b (suc i)) k
+  branch-is : (k : ℕ) → k < nodeCount b i →
+      rowBranch table-part (nodeCount b (suc i)) k
       ≡ record { low = low b i k; probabilities = probabilities b (node b i k) }
-  branch-is k h = tables.part-branch b n i (omega arith) (down-table n b) (table-size n b) (table-holds n b) (a .reverting) k h
+  branch-is k h = tables.part-branch b n i (omega arith) (downTable n b) (table-size n b) (table-holds n b) (a .reversion-within-limit) k h
 
-  pub rollable : Rollable table-part discount-part (node-count b (suc i))
+  pub rollable : Rollable table-part discount-part (nodeCount b (suc i))
   rollable =
       record {
         inside = λ k h.
-            let h′ : k < node-count b i = rw discount-part-length at h in
+            let h′ : k < nodeCount b i = rw discount-part-length at h in
             rw (branch-is k h′) (low-within b i k h′);
         total = λ k h.
-            let h′ : k < node-count b i = rw discount-part-length at h in
+            let h′ : k < nodeCount b i = rw discount-part-length at h in
             rw (branch-is k h′) (omega (arith, total-is k h′));
         discounted = λ k h.
-            let h′ : k < node-count b i = rw discount-part-length at h in
+            let h′ : k < nodeCount b i = rw discount-part-length at h in
             omega (arith, discount-part-at k h′, discount-within n b i hi discounts a k h′);
       }
 
   -- the row as the code rolls it is the tree's roll
   rolled-is :
-      (later : List ℕ) (k : ℕ) → k < node-count b i →
-      rolled-row later table-part discount-part (node-count b (suc i)) k ≡ rolled-at b discounts i later k
-  unfolding rolled-row rolled-at branch-roll roll node-roll outgoing rate-tree
+      (later : List ℕ) (k : ℕ) → k < nodeCount b i →
+      rolledRow later table-part discount-part (nodeCount b (suc i)) k ≡ rolledAt b discounts i later k
+  unfolding rolledRow rolledAt branchRoll roll nodeRoll outgoing rateTree
   rolled-is later k h =
       rw (branch-is k h, discount-part-at k h)
-      (ap (λ (x : ℕ). roll-rounding (roll-rounding x whole * stored b discounts i k) one) (backwards _ _ _))
+      (ap (λ (x : ℕ). rollRounding (rollRounding x probabilityTotal * stored b discounts i k) one) (backwards _ _ _))
 
   -- a row of the bond, and of the option beside it, as the code gives them
-  module _ (flows : List ℕ) (flow : ℕ) (ef : flow ≡ flow-at flows i) where
+  module _ (flow : ℕ) where
     abbrev code-bond : List ℕ → ℕ → ℕ
-    code-bond later = bond-values later table-part discount-part (node-count b (suc i)) flow
+    code-bond later = bondValues later table-part discount-part (nodeCount b (suc i)) flow
 
-    bond-value-is : (later : List ℕ) (k : ℕ) → k < node-count b i → code-bond later k ≡ bond-step b discounts flows i later k
-    bond-value-is later k l = ap₂ (λ (x y : ℕ). x + y) (rolled-is later k l) ef
+    bond-value-is : (later : List ℕ) (k : ℕ) → k < nodeCount b i → code-bond later k ≡ bondStep b discounts flow i later k
+    bond-value-is later k l = ap (λ (x : ℕ). x + flow) (rolled-is later k l)
 
     pub bond-row-is :
-        (later after : List ℕ) (top : ℕ) → Filled-row after (length discount-part) (code-bond later) top →
-        Filled-row after (node-count b i) (bond-step b discounts flows i later) top
+        (later after : List ℕ) (top : ℕ) → FilledRow after (length discount-part) (code-bond later) top →
+        FilledRow after (nodeCount b i) (bondStep b discounts flow i later) top
     bond-row-is later after top s =
         record {
           held = λ k l. s .held k (rw discount-part-length l) ∙ bond-value-is later k l;
-          found = s .found ∙ rw discount-part-length (greatest-cong (node-count b i) _ _ (bond-value-is later));
+          found = s .found ∙ rw discount-part-length (greatest-cong (nodeCount b i) _ _ (bond-value-is later));
         }
 
     module _ (side : Side) (strike : ℕ) (listed : Bool) (bonds options : List ℕ) where
       abbrev code-option : ℕ → ℕ
-      code-option = option-values side strike listed bonds options table-part discount-part (node-count b (suc i)) flow
+      code-option = optionValues side strike listed bonds options table-part discount-part (nodeCount b (suc i)) flow
 
-      option-value-is : (k : ℕ) → k < node-count b i → code-option k ≡ option-step side strike listed b discounts flows i bonds options k
+      option-value-is : (k : ℕ) → k < nodeCount b i → code-option k ≡ optionStep side strike listed b discounts flow i bonds options k
       option-value-is k l =
-          ap₂ (λ (x y : ℕ). held-or-exercised listed x (exercise side strike y)) (rolled-is options k l) (bond-value-is bonds k l)
+          ap₂ (λ (x y : ℕ). heldOrExercised listed x (exercise side strike y)) (rolled-is options k l) (bond-value-is bonds k l)
 
       pub option-row-is :
-          (bond option : List ℕ) (top : ℕ) → Filled-rows bond option (length discount-part) (code-bond bonds) code-option top →
-          Filled-rows bond option (node-count b i) (bond-step b discounts flows i bonds)
-          (option-step side strike listed b discounts flows i bonds options) top
+          (bond option : List ℕ) (top : ℕ) → FilledRows bond option (length discount-part) (code-bond bonds) code-option top →
+          FilledRows bond option (nodeCount b i) (bondStep b discounts flow i bonds)
+          (optionStep side strike listed b discounts flow i bonds options) top
       option-row-is bond option top s =
           record {
             bond-held = λ k l. s .bond-held k (rw discount-part-length l) ∙ bond-value-is bonds k l;
             option-held = λ k l. s .option-held k (rw discount-part-length l) ∙ option-value-is k l;
             found =
                 s .found
-                ∙ rw discount-part-length (greatest-cong (node-count b i) _ _ (λ k l. ap₂ max (bond-value-is bonds k l) (option-value-is k l)));
+                ∙ rw discount-part-length (greatest-cong (nodeCount b i) _ _ (λ k l. ap₂ max (bond-value-is bonds k l) (option-value-is k l)));
           }
 
 -- the flow of a row
-pub flow-none : (flows : List ℕ) (i : ℕ) → i ≡ 0 → flow-at flows i ≡ 0
-unfolding flow-at
+pub flow-none : (flows : List ℕ) (i : ℕ) → i ≡ 0 → flowAt flows i ≡ 0
+unfolding flowAt
 flow-none flows i e = rw e
 
-pub flow-later : (flows : List ℕ) (i : ℕ) → (i ≡ 0 → ⊥) → flow-at flows i ≡ values flows (i - 1)
-unfolding flow-at
+pub flow-later : (flows : List ℕ) (i : ℕ) → (i ≡ 0 → ⊥) → flowAt flows i ≡ values flows (i - 1)
+unfolding flowAt
 flow-later flows zero n = absurd (n refl)
 flow-later flows (suc t) n = let e : t ≡ suc t - 1 = omega arith in ap (values flows) e
 
-pub flow-within : (n : ℕ) (flows : List ℕ) → Accepted-flows n flows → (i : ℕ) → i ≤ n → flow-at flows i ≤ 2000000000
-unfolding flow-at
+pub flow-within : (n : ℕ) (flows : List ℕ) → AcceptedFlows n flows → (i : ℕ) → i ≤ n → flowAt flows i ≤ 2000000000
+unfolding flowAt
 flow-within n flows a zero h = omega arith
 flow-within n flows a (suc t) h = a .flowing t h

@@ -1,6 +1,6 @@
 -- The walk back through an accepted tree: what the code holds at each row.
 -- Assumes nothing.
-use mathlib.Core.Path.{_≡_, refl, sym, ap, ap₂, _∙_, subst}
+use mathlib.Core.Path.{_≡_, refl, sym, ap₂, _∙_, subst}
 use mathlib.Core.Bool.{Bool}
 use mathlib.Core.List.{List}
 use Prim.Native.Nat.{ℕ, zero, suc, _+_, _-_, _≤_, _<_, max}
@@ -10,23 +10,24 @@ use Rattle.arithmetic.specs.Row.{values}
 use Rattle.arithmetic.specs.Sum.{greatest}
 use Rattle.arithmetic.proofs.Numbers.{by-order}
 use Rattle.arithmetic.proofs.SumLaws.{greatest-cong}
-use Rattle.limits.specs.Limits.{value-limit}
+use Rattle.limits.specs.Limits.{valueLimit}
 use Rattle.limits.proofs.LimitLaws.{limit-above, limit-kept, limit-accepted}
-use Rattle.lattice.specs.Shape.{node-count}
-use Rattle.lattice.specs.RateTree.{rate-tree}
+use Rattle.lattice.specs.Shape.{nodeCount}
+use Rattle.lattice.specs.RateTree.{rateTree}
 use Rattle.lattice.proofs.Sizes.{count-within, count-positive}
 use Rattle.lattice.proofs.RateTreeLaws.{rate-tree-sound}
-use Rattle.pricing_laws.specs.Pricer.{rounded, bond, Side, Schedule, exercise, held-or-exercised}
-use Rattle.pricing_laws.specs.TreePricer.{roll-rounding, roll}
-use Rattle.pricing_laws.specs.Peak.{peak, greatest-value}
+use Rattle.pricing_laws.specs.Pricer.{rounded, bond, Side, Schedule, exercise, heldOrExercised}
+use Rattle.pricing_laws.specs.TreePricer.{rollRounding, roll}
+use Rattle.pricing_laws.specs.Peak.{peak, greatestValue}
 use Rattle.pricing_laws.proofs.Peaks.{peak-grows}
 use Rattle.pricing_laws.proofs.PriceLaws.{On, row-greatest, roll-local}
 use Rattle.pricing_laws.proofs.Backward as back
-use Rattle.pricing.specs.Prices.{flow-at, bond-at, bond-peak, option-at, option-peak, option-limit}
-use Rattle.pricing.specs.Rows.{Limited, Holds, Filled-rows}
-use Rattle.pricing.specs.Trees.{rolled-at, bond-step, option-step, Bond-rolled, Both-rolled}
+use Rattle.pricing.specs.declared.walk.Rolled.{Rolled}
+use Rattle.pricing.specs.Prices.{flowAt, bondValue, bondPeak, optionValue, optionPeak, optionLimit}
+use Rattle.pricing.specs.Rows.{Limited, Holds, FilledRows}
+use Rattle.pricing.specs.Trees.{rolledAt, bondStep, optionStep, BondRolled, BothRolled}
 use Rattle.lent_tree.specs.LentTree.{stored, Accepted}
-use Rattle.price_causes.specs.Causes.{Accepted-flows}
+use Rattle.price_causes.specs.Causes.{AcceptedFlows}
 use Rattle.pricing.proofs.TreeRows.{flow-within}
 
 -- the greatest of two rows together
@@ -37,12 +38,19 @@ greatest-max (suc n) f g = rw (greatest-max n f g) (omega arith)
 
 -- the greatest value of a row, as the laws of a walk take it
 abbrev top : ℕ → ℕ → (ℕ → ℕ) → ℕ
-top b i v = greatest (rate-tree b .nodes i) v
+top b i v = greatest (rateTree b .nodes i) v
+
+-- what a walk answers: a value above the limit, or the first values of two rows
+abbrev pub passed : Rolled
+passed = record { number = 12; bond = 0; option = 0 }
+
+abbrev pub stood : List ℕ → List ℕ → Rolled
+stood bond option = record { number = 0; bond = values bond 0; option = values option 0 }
 
 -- the bond at row i stands in a list
 pub Bonds : ℕ → ℕ → List ℕ → List ℕ → ℕ → List ℕ → Type 0
 Bonds n b discounts flows i l =
-    back.Bond-state n (On (rate-tree b)) (top b) (roll (rate-tree b) (stored b discounts) roll-rounding) (flow-at flows) i (values l)
+    back.Bond-state n (On (rateTree b)) (top b) (roll (rateTree b) (stored b discounts) rollRounding) (flowAt flows) i (values l)
 
 pub bonds-inside : (n b : ℕ) (discounts flows : List ℕ) (i : ℕ) (l : List ℕ) → Bonds n b discounts flows i l → i ≤ n
 unfolding Bonds
@@ -51,36 +59,36 @@ bonds-inside n b discounts flows i l s = s .in-tree
 -- the option at row i stands in a list
 pub Options : ℕ → ℕ → List ℕ → List ℕ → Side → ℕ → Schedule → ℕ → List ℕ → Type 0
 Options n b discounts flows side strike rows i l =
-    back.Option-state n (On (rate-tree b)) (top b) (roll (rate-tree b) (stored b discounts) roll-rounding) (flow-at flows)
+    back.Option-state n (On (rateTree b)) (top b) (roll (rateTree b) (stored b discounts) rollRounding) (flowAt flows)
     side strike rows i (values l)
 
-module _ (n b : ℕ) (discounts flows : List ℕ) (a : Accepted n b discounts) (f : Accepted-flows n flows) where
+module _ (n b : ℕ) (discounts flows : List ℕ) (a : Accepted n b discounts) (f : AcceptedFlows n flows) where
   abbrev the-roll : ℕ → (ℕ → ℕ) → ℕ → ℕ
-  the-roll = roll (rate-tree b) (stored b discounts) roll-rounding
+  the-roll = roll (rateTree b) (stored b discounts) rollRounding
 
-  great : back.Greatest (On (rate-tree b)) (top b)
-  great = row-greatest (rate-tree b)
+  great : back.Greatest (On (rateTree b)) (top b)
+  great = row-greatest (rateTree b)
 
-  local : back.Local (On (rate-tree b)) the-roll
-  local = roll-local (rate-tree b) (rate-tree-sound b (a .reverting)) (stored b discounts) roll-rounding
+  local : back.Local (On (rateTree b)) the-roll
+  local = roll-local (rateTree b) (rate-tree-sound b (a .reversion-within-limit)) (stored b discounts) rollRounding
 
-  narrow : (i k : ℕ) → i ≤ n → k < node-count b i → k < 121
-  narrow i k h l = omega (arith, count-within b i (omega (arith, a .few)))
+  narrow : (i k : ℕ) → i ≤ n → k < nodeCount b i → k < 121
+  narrow i k h l = omega (arith, count-within b i (omega (arith, a .steps-within-limit)))
 
   -- row n: its flow
-  pub bonds-first : (l : List ℕ) → Holds l 121 (λ k. flow-at flows n) → Bonds n b discounts flows n l
-  unfolding Bonds rate-tree
+  pub bonds-first : (l : List ℕ) → Holds l 121 (λ k. flowAt flows n) → Bonds n b discounts flows n l
+  unfolding Bonds rateTree
   bonds-first l h =
-      back.bond-first n (On (rate-tree b)) (top b) great the-roll local (flow-at flows) (values l)
+      back.bond-first n (On (rateTree b)) (top b) great the-roll local (flowAt flows) (values l)
       (omega (arith, flow-within n flows f n (le-refl n))) (λ k hk. h k (narrow n k (le-refl n) hk))
 
-  pub bonds-limited : (i : ℕ) (later : List ℕ) → Bonds n b discounts flows i later → Limited later (node-count b i)
-  unfolding Bonds rate-tree
-  bonds-limited i later s = back.bond-limit n (On (rate-tree b)) (top b) great the-roll local (flow-at flows) i (values later) s
+  pub bonds-limited : (i : ℕ) (later : List ℕ) → Bonds n b discounts flows i later → Limited later (nodeCount b i)
+  unfolding Bonds rateTree
+  bonds-limited i later s = back.bond-limit n (On (rateTree b)) (top b) great the-roll local (flowAt flows) i (values later) s
 
   -- one row back
   module _ (r : ℕ) (later : List ℕ) (some : 0 < r) (s : Bonds n b discounts flows r later) (l : List ℕ)
-      (h : Holds l (node-count b (r - 1)) (bond-step b discounts flows (r - 1) later)) where
+      (h : Holds l (nodeCount b (r - 1)) (bondStep b discounts (flowAt flows (r - 1)) (r - 1) later)) where
     before : Bonds n b discounts flows (suc (r - 1)) later
     before = let e : r ≡ suc (r - 1) = omega arith in subst (λ (x : ℕ). Bonds n b discounts flows x later) e s
 
@@ -88,46 +96,46 @@ module _ (n b : ℕ) (discounts flows : List ℕ) (a : Accepted n b discounts) (
     unfolding Bonds
     inside = omega (arith, s .in-tree)
 
-    pub bonds-held : (k : ℕ) → k < node-count b (r - 1) → values l k ≡ bond (rounded the-roll) (flow-at flows) n (r - 1) k
-    unfolding Bonds rate-tree rolled-at
+    pub bonds-held : (k : ℕ) → k < nodeCount b (r - 1) → values l k ≡ bond (rounded the-roll) (flowAt flows) n (r - 1) k
+    unfolding Bonds rateTree rolledAt
     bonds-held =
-        back.bond-held n (On (rate-tree b)) (top b) great the-roll local (flow-at flows) (r - 1) (values later) inside before (values l) h
+        back.bond-held n (On (rateTree b)) (top b) great the-roll local (flowAt flows) (r - 1) (values later) inside before (values l) h
         (top b (r - 1) (values l)) refl
 
-    module _ (found : ℕ) (ef : found ≡ greatest (node-count b (r - 1)) (values l)) where
-      pub bonds-over : value-limit < found → value-limit < peak (greatest-value (rate-tree b) (bond-at n b discounts flows)) n (r - 1)
-      unfolding Bonds rate-tree rolled-at greatest-value bond-at
+    module _ (found : ℕ) (ef : found ≡ greatest (nodeCount b (r - 1)) (values l)) where
+      pub bonds-over : valueLimit < found → valueLimit < peak (greatestValue (rateTree b) (bondValue n b discounts flows)) n (r - 1)
+      unfolding Bonds rateTree rolledAt greatestValue bondValue
       bonds-over o =
-          back.bond-over n (On (rate-tree b)) (top b) great the-roll local (flow-at flows) (r - 1) (values later) inside before (values l) h found ef o
+          back.bond-over n (On (rateTree b)) (top b) great the-roll local (flowAt flows) (r - 1) (values later) inside before (values l) h found ef o
 
-      pub bonds-next : found ≤ value-limit → Bonds n b discounts flows (r - 1) l
-      unfolding Bonds rate-tree rolled-at
+      pub bonds-next : found ≤ valueLimit → Bonds n b discounts flows (r - 1) l
+      unfolding Bonds rateTree rolledAt
       bonds-next o =
-          back.bond-step n (On (rate-tree b)) (top b) great the-roll local (flow-at flows) (r - 1) (values later) inside before (values l) h found ef o
+          back.bond-step n (On (rateTree b)) (top b) great the-roll local (flowAt flows) (r - 1) (values later) inside before (values l) h found ef o
 
   -- the answer of the walk back to row `last`
   module _ (last : ℕ) where
     pub bond-refused :
-        (r : ℕ) (l : List ℕ) → last < r → r ≤ n → value-limit < peak (greatest-value (rate-tree b) (bond-at n b discounts flows)) n (r - 1) →
-        Bond-rolled n b discounts flows last 12 l
+        (r : ℕ) (l : List ℕ) → last < r → r ≤ n → valueLimit < peak (greatestValue (rateTree b) (bondValue n b discounts flows)) n (r - 1) →
+        BondRolled n b discounts flows last 12 l
     bond-refused r l h hr o =
         let e : last + (r - 1 - last) ≡ r - 1 = omega arith in
-        let g = rw e at (peak-grows (greatest-value (rate-tree b) (bond-at n b discounts flows)) n last (r - 1 - last) (omega arith)) in
+        let g = rw e at (peak-grows (greatestValue (rateTree b) (bondValue n b discounts flows)) n last (r - 1 - last) (omega arith)) in
         record { cause = limit-above _ (omega (arith, g)); held = λ z. absurd (none z) }
       where
         none : _≡_ {A = ℕ} 12 0 → ⊥
         none z = omega arith
 
-    row-rolled : (l : List ℕ) → Bonds n b discounts flows last l → Bond-rolled n b discounts flows last 0 l
-    unfolding Bonds rate-tree greatest-value bond-at
+    row-rolled : (l : List ℕ) → Bonds n b discounts flows last l → BondRolled n b discounts flows last 0 l
+    unfolding Bonds rateTree greatestValue bondValue
     row-rolled l s = record { cause = limit-kept _ (s .within-limit); held = λ z. s .held }
 
-    pub bond-rolled : (r : ℕ) (l : List ℕ) → r ≡ last → Bonds n b discounts flows r l → Bond-rolled n b discounts flows last 0 l
+    pub bond-rolled : (r : ℕ) (l : List ℕ) → r ≡ last → Bonds n b discounts flows r l → BondRolled n b discounts flows last 0 l
     bond-rolled r l e s = row-rolled l (subst (λ (x : ℕ). Bonds n b discounts flows x l) e s)
 
     -- and back from its answer
-    pub bonds-from : (l : List ℕ) → last ≤ n → Bond-rolled n b discounts flows last 0 l → Bonds n b discounts flows last l
-    unfolding Bonds rate-tree greatest-value bond-at
+    pub bonds-from : (l : List ℕ) → last ≤ n → BondRolled n b discounts flows last 0 l → Bonds n b discounts flows last l
+    unfolding Bonds rateTree greatestValue bondValue
     bonds-from l h s = record { in-tree = h; held = s .held refl; within-limit = limit-accepted _ (sym (s .cause)) }
 
   -- the option beside the bond
@@ -136,7 +144,7 @@ module _ (n b : ℕ) (discounts flows : List ℕ) (a : Accepted n b discounts) (
     Right = Options n b discounts flows side strike rows
 
     -- exercise values of a limited bond and strike are limited
-    exercise-limited : (s : Side) (k v : ℕ) → k ≤ 4000000000 → v ≤ value-limit → exercise s k v ≤ value-limit
+    exercise-limited : (s : Side) (k v : ℕ) → k ≤ 4000000000 → v ≤ valueLimit → exercise s k v ≤ valueLimit
     unfolding exercise
     exercise-limited Side.call k v hk hv = omega arith
     exercise-limited Side.put k v hk hv = omega arith
@@ -145,25 +153,25 @@ module _ (n b : ℕ) (discounts flows : List ℕ) (a : Accepted n b discounts) (
     pub options-first :
         (bonds l : List ℕ) → strike ≤ 4000000000 → Bonds n b discounts flows (rows .last) bonds →
         Holds l 121 (λ k. exercise side strike (values bonds k)) → Right (rows .last) l
-    unfolding Bonds Options rate-tree
+    unfolding Bonds Options rateTree
     options-first bonds l hs s h =
-        back.option-first n (On (rate-tree b)) (top b) great the-roll local (flow-at flows) side strike rows (values bonds) (values l) s value-is
+        back.option-first n (On (rateTree b)) (top b) great the-roll local (flowAt flows) side strike rows (values bonds) (values l) s value-is
         (λ k hk. rw (value-is k hk) (exercise-limited side strike (values bonds k) hs
-        (back.bond-limit n (On (rate-tree b)) (top b) great the-roll local (flow-at flows) (rows .last) (values bonds) s k hk)))
+        (back.bond-limit n (On (rateTree b)) (top b) great the-roll local (flowAt flows) (rows .last) (values bonds) s k hk)))
       where
-        value-is : (k : ℕ) → k < node-count b (rows .last) → values l k ≡ exercise side strike (values bonds k)
+        value-is : (k : ℕ) → k < nodeCount b (rows .last) → values l k ≡ exercise side strike (values bonds k)
         value-is k hk = h k (narrow (rows .last) k hl hk)
 
-    pub options-limited : (i : ℕ) (later : List ℕ) → Right i later → Limited later (node-count b i)
-    unfolding Options rate-tree
+    pub options-limited : (i : ℕ) (later : List ℕ) → Right i later → Limited later (nodeCount b i)
+    unfolding Options rateTree
     options-limited i later s =
-        back.option-limit n (On (rate-tree b)) (top b) great the-roll local (flow-at flows) side strike rows i (values later) s
+        back.option-limit n (On (rateTree b)) (top b) great the-roll local (flowAt flows) side strike rows i (values later) s
 
     -- one row back, bond and option together
     module _ (r : ℕ) (bonds options : List ℕ) (some : 0 < r) (sb : Bonds n b discounts flows r bonds) (so : Right r options)
         (listed : Bool) (el : listed ≡ rows .listed (r - 1)) (bond option : List ℕ) (found : ℕ)
-        (filled : Filled-rows bond option (node-count b (r - 1)) (bond-step b discounts flows (r - 1) bonds)
-        (option-step side strike listed b discounts flows (r - 1) bonds options) found) where
+        (filled : FilledRows bond option (nodeCount b (r - 1)) (bondStep b discounts (flowAt flows (r - 1)) (r - 1) bonds)
+        (optionStep side strike listed b discounts (flowAt flows (r - 1)) (r - 1) bonds options) found) where
       options-before : Right (suc (r - 1)) options
       options-before = let e : r ≡ suc (r - 1) = omega arith in subst (λ (x : ℕ). Right x options) e so
 
@@ -172,69 +180,69 @@ module _ (n b : ℕ) (discounts flows : List ℕ) (a : Accepted n b discounts) (
       before-last = omega (arith, so .before-last)
 
       option-value-is :
-          (k : ℕ) → k < node-count b (r - 1) →
-          values option k ≡ held-or-exercised (rows .listed (r - 1)) (rolled-at b discounts (r - 1) options k) (exercise side strike (values bond k))
+          (k : ℕ) → k < nodeCount b (r - 1) →
+          values option k ≡ heldOrExercised (rows .listed (r - 1)) (rolledAt b discounts (r - 1) options k) (exercise side strike (values bond k))
       option-value-is k h =
           filled .option-held k h
-          ∙ ap₂ (λ (t : Bool) (x : ℕ). held-or-exercised t (rolled-at b discounts (r - 1) options k) (exercise side strike x))
+          ∙ ap₂ (λ (t : Bool) (x : ℕ). heldOrExercised t (rolledAt b discounts (r - 1) options k) (exercise side strike x))
           el (sym (filled .bond-held k h))
 
       bond-found : ℕ
-      bond-found = greatest (node-count b (r - 1)) (values bond)
+      bond-found = greatest (nodeCount b (r - 1)) (values bond)
 
       option-found : ℕ
-      option-found = greatest (node-count b (r - 1)) (values option)
+      option-found = greatest (nodeCount b (r - 1)) (values option)
 
       found-is : found ≡ max bond-found option-found
       unfolding bond-found option-found
       found-is =
           filled .found
-          ∙ greatest-cong (node-count b (r - 1)) _ (λ k. max (values bond k) (values option k))
+          ∙ greatest-cong (nodeCount b (r - 1)) _ (λ k. max (values bond k) (values option k))
           (λ k h. ap₂ max (sym (filled .bond-held k h)) (sym (filled .option-held k h)))
-          ∙ greatest-max (node-count b (r - 1)) (values bond) (values option)
+          ∙ greatest-max (nodeCount b (r - 1)) (values bond) (values option)
 
-      pub both-next : found ≤ value-limit → Bonds n b discounts flows (r - 1) bond × Right (r - 1) option
-      unfolding Options rate-tree rolled-at bond-found option-found
+      pub both-next : found ≤ valueLimit → Bonds n b discounts flows (r - 1) bond × Right (r - 1) option
+      unfolding Options rateTree rolledAt bond-found option-found
       both-next o = (
         bonds-next r bonds some sb bond (filled .bond-held) bond-found refl (omega (arith, found-is)),
-        back.option-step n (On (rate-tree b)) (top b) great the-roll local (flow-at flows) side strike rows (r - 1) (values options)
+        back.option-step n (On (rateTree b)) (top b) great the-roll local (flowAt flows) side strike rows (r - 1) (values options)
             before-last options-before (values bond) (bonds-held r bonds some sb bond (filled .bond-held)) (values option) option-value-is
             option-found refl (omega (arith, found-is)),
       )
 
       -- a value above the limit is one of the bond or one of the option
-      over-bond : value-limit < bond-found → value-limit < bond-peak n b discounts flows
-      unfolding bond-found bond-peak
+      over-bond : valueLimit < bond-found → valueLimit < bondPeak n b discounts flows
+      unfolding bond-found bondPeak
       over-bond h =
           let e : 0 + (r - 1) ≡ r - 1 = omega arith in
-          let w = greatest-value (rate-tree b) (bond-at n b discounts flows) in
+          let w = greatestValue (rateTree b) (bondValue n b discounts flows) in
           omega (
             arith,
             bonds-over r bonds some sb bond (filled .bond-held) bond-found refl h,
             rw e at (peak-grows w n 0 (r - 1) (omega (arith, inside r bonds some sb bond (filled .bond-held)))),
           )
 
-      over-option : value-limit < option-found → value-limit < option-peak n b discounts flows side strike rows
-      unfolding Options rate-tree rolled-at greatest-value option-at option-peak option-found
+      over-option : valueLimit < option-found → valueLimit < optionPeak n b discounts flows side strike rows
+      unfolding Options rateTree rolledAt greatestValue optionValue optionPeak option-found
       over-option h =
           let e : 0 + (r - 1) ≡ r - 1 = omega arith in
-          let w = greatest-value (rate-tree b) (option-at n b discounts flows side strike rows) in
+          let w = greatestValue (rateTree b) (optionValue n b discounts flows side strike rows) in
           omega (
             arith,
-            back.option-over n (On (rate-tree b)) (top b) great the-roll local (flow-at flows) side strike rows (r - 1) (values options)
+            back.option-over n (On (rateTree b)) (top b) great the-roll local (flowAt flows) side strike rows (r - 1) (values options)
                 before-last options-before (values bond) (bonds-held r bonds some sb bond (filled .bond-held)) (values option) option-value-is
                 option-found refl h,
             rw e at (peak-grows w (rows .last) 0 (r - 1) (omega (arith, before-last))),
           )
 
-      pub both-over : (x y : List ℕ) → value-limit < found → Both-rolled n b discounts flows side strike rows 12 x y
-      unfolding option-limit
-      both-over x y o =
+      pub both-over : valueLimit < found → BothRolled n b discounts flows side strike rows passed
+      unfolding optionLimit
+      both-over o =
           record {
             cause =
                 limit-above _
-                (by-order bond-found value-limit
-                (λ h. let g : value-limit < option-found = omega (arith, found-is) in omega (arith, over-option g))
+                (by-order bond-found valueLimit
+                (λ h. let g : valueLimit < option-found = omega (arith, found-is) in omega (arith, over-option g))
                 (λ h. omega (arith, over-bond h)));
             bond-held = λ z. absurd (none z);
             option-held = λ z. absurd (none z);
@@ -244,8 +252,8 @@ module _ (n b : ℕ) (discounts flows : List ℕ) (a : Accepted n b discounts) (
           none z = omega arith
 
     -- at row 0
-    at-root : (bonds l : List ℕ) → Bonds n b discounts flows 0 bonds → Right 0 l → Both-rolled n b discounts flows side strike rows 0 bonds l
-    unfolding Bonds Options rate-tree greatest-value bond-at option-at bond-peak option-peak option-limit
+    at-root : (bonds l : List ℕ) → Bonds n b discounts flows 0 bonds → Right 0 l → BothRolled n b discounts flows side strike rows (stood bonds l)
+    unfolding Bonds Options rateTree greatestValue bondValue optionValue bondPeak optionPeak optionLimit
     at-root bonds l s o =
         record {
           cause = limit-kept _ (omega (arith, s .within-limit, o .within-limit));
@@ -254,27 +262,30 @@ module _ (n b : ℕ) (discounts flows : List ℕ) (a : Accepted n b discounts) (
         }
 
     pub both-rolled :
-        (r : ℕ) (bonds l : List ℕ) → r ≡ 0 → Bonds n b discounts flows r bonds → Right r l → Both-rolled n b discounts flows side strike rows 0 bonds l
+        (r : ℕ) (bonds l : List ℕ) → r ≡ 0 → Bonds n b discounts flows r bonds → Right r l → BothRolled n b discounts flows side strike rows (stood bonds l)
     both-rolled r bonds l e s o =
         at-root bonds l (subst (λ (x : ℕ). Bonds n b discounts flows x bonds) e s) (subst (λ (x : ℕ). Right x l) e o)
 
     -- the bond passes the limit before the option's last row is reached
     pub late-refused :
-        (number : ℕ) (bonds l option : List ℕ) → Bond-rolled n b discounts flows (rows .last) number bonds → (number ≡ 0 → ⊥) →
-        Both-rolled n b discounts flows side strike rows number l option
-    unfolding bond-peak option-limit
-    late-refused number bonds l option s z =
+        (number : ℕ) (bonds : List ℕ) → BondRolled n b discounts flows (rows .last) number bonds → (number ≡ 0 → ⊥) →
+        BothRolled n b discounts flows side strike rows passed
+    unfolding bondPeak optionLimit
+    late-refused number bonds s z =
         record {
           cause =
-              by-order late value-limit
+              by-order late valueLimit
               (λ low. absurd (z (s .cause ∙ sym (limit-kept late low))))
-              (λ high. s .cause ∙ sym (limit-above late high) ∙ limit-above _ (omega (arith, grown)));
-          bond-held = λ e. absurd (z e);
-          option-held = λ e. absurd (z e);
+              (λ high. limit-above _ (omega (arith, grown)));
+          bond-held = λ e. absurd (none e);
+          option-held = λ e. absurd (none e);
         }
       where
+        none : _≡_ {A = ℕ} 12 0 → ⊥
+        none e = omega arith
+
         tops : ℕ → ℕ
-        tops = greatest-value (rate-tree b) (bond-at n b discounts flows)
+        tops = greatestValue (rateTree b) (bondValue n b discounts flows)
 
         late : ℕ
         late = peak tops n (rows .last)
@@ -284,6 +295,12 @@ module _ (n b : ℕ) (discounts flows : List ℕ) (a : Accepted n b discounts) (
 
 -- a walk that was not refused
 pub rolled-through :
-    (n b : ℕ) (discounts flows : List ℕ) (i number : ℕ) (l : List ℕ) → number ≡ 0 → Bond-rolled n b discounts flows i number l →
-    Bond-rolled n b discounts flows i 0 l
-rolled-through n b discounts flows i number l z s = subst (λ (x : ℕ). Bond-rolled n b discounts flows i x l) z s
+    (n b : ℕ) (discounts flows : List ℕ) (i number : ℕ) (l : List ℕ) → number ≡ 0 → BondRolled n b discounts flows i number l →
+    BondRolled n b discounts flows i 0 l
+rolled-through n b discounts flows i number l z s = subst (λ (x : ℕ). BondRolled n b discounts flows i x l) z s
+
+-- what a walk came to, as the code answers it
+pub rolled-answer : {n b : ℕ} {discounts flows : List ℕ} {side : Side} {strike : ℕ} {rows : Schedule} {found : Rolled} (r : Rolled) → r ≡ found →
+    BothRolled n b discounts flows side strike rows found → BothRolled n b discounts flows side strike rows r
+rolled-answer {n} {b} {discounts} {flows} {side} {strike} {rows} r e s =
+    subst (λ (x : Rolled). BothRolled n b discounts flows side strike rows x) (sym e) s

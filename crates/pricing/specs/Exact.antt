@@ -4,20 +4,20 @@
 use Prim.Native.Nat.{ℕ}
 use mathlib.Core.List.{List}
 use Rattle.arithmetic.specs.Row.{values}
-use Rattle.lattice.specs.RateTree.{rate-tree}
-use Rattle.pricing_laws.specs.Pricer.{bond, option, payoff-value}
-use Rattle.pricing_laws.specs.Schedule.{side-of, schedule-of}
+use Rattle.lattice.specs.RateTree.{rateTree}
+use Rattle.pricing_laws.specs.Pricer.{bond, option, payoffValue}
+use Rattle.pricing_laws.specs.Schedule.{sideOf, scheduleOf}
 use Rattle.pricing_laws.specs.TreePricer.{exact}
 use Rattle.lent_tree.specs.LentTree.{stored}
-use Rattle.pricing.specs.Prices.{flow-at}
+use Rattle.pricing.specs.Prices.{flowAt}
 
-unfoldable pub exact-bond : ℕ → ℕ → List ℕ → List ℕ → ℕ
-exact-bond n b discounts flows = bond (exact (rate-tree b) (stored b discounts)) (flow-at flows) n 0 0
+unfoldable pub exactBond : ℕ → ℕ → List ℕ → List ℕ → ℕ
+exactBond n b discounts flows = bond (exact (rateTree b) (stored b discounts)) (flowAt flows) n 0 0
 
-unfoldable pub exact-option : ℕ → ℕ → List ℕ → List ℕ → ℕ → ℕ → ℕ → ℕ
-exact-option n b discounts flows kind expiry strike =
-    option (exact (rate-tree b) (stored b discounts)) (flow-at flows) n (side-of kind) strike (schedule-of kind expiry) 0 0
+unfoldable pub exactOption : ℕ → ℕ → List ℕ → List ℕ → ℕ → ℕ → ℕ → ℕ
+exactOption n b discounts flows kind expiry strike =
+    option (exact (rateTree b) (stored b discounts)) (flowAt flows) n (sideOf kind) strike (scheduleOf kind expiry) 0 0
 
 -- payoffs on row t, rolled to row 0 without flows
-unfoldable pub exact-payoff : ℕ → List ℕ → ℕ → List ℕ → ℕ
-exact-payoff b discounts t payoffs = payoff-value (exact (rate-tree b) (stored b discounts)) (values payoffs) t 0 0
+unfoldable pub exactPayoff : ℕ → List ℕ → ℕ → List ℕ → ℕ
+exactPayoff b discounts t payoffs = payoffValue (exact (rateTree b) (stored b discounts)) (values payoffs) t 0 0

@@ -8,42 +8,43 @@ use lib.ListN.{length}
 use Rattle.arithmetic.specs.Rounding.{one}
 use Rattle.arithmetic.specs.Row.{values}
 use Rattle.arithmetic.specs.Sum.{greatest}
-use Rattle.tree.specs.Tree.{whole}
-use Rattle.pricing_laws.specs.Pricer.{Side, exercise, held-or-exercised}
-use Rattle.pricing_laws.specs.TreePricer.{roll-rounding}
+use Rattle.tree.specs.Tree.{probabilityTotal}
+use Rattle.limits.specs.Limits.{mostDiscount, valueLimit}
+use Rattle.pricing_laws.specs.Pricer.{Side, exercise, heldOrExercised}
+use Rattle.pricing_laws.specs.TreePricer.{rollRounding}
 use Rattle.row_branches.specs.declared.RowBranch.{RowBranch}
-use Rattle.row_branches.specs.RowBranches.{branch-up, branch-middle, branch-down, branch-total, row-branch}
+use Rattle.row_branches.specs.RowBranches.{branchUp, branchMiddle, branchDown, branchTotal, rowBranch}
 
 -- the sum over a branch of probability × later value: up, middle, down
-abbrev pub branch-sum : RowBranch → (ℕ → ℕ) → ℕ
-branch-sum b later = branch-up b * later (b .low + 2) + branch-middle b * later (b .low + 1) + branch-down b * later (b .low)
+abbrev pub branchSum : RowBranch → (ℕ → ℕ) → ℕ
+branchSum b later = branchUp b * later (b .low + 2) + branchMiddle b * later (b .low + 1) + branchDown b * later (b .low)
 
 -- the roll of a node along its branch
-unfoldable pub branch-roll : RowBranch → (ℕ → ℕ) → ℕ → ℕ
-branch-roll b later discount = roll-rounding (roll-rounding (branch-sum b later) whole * discount) one
+unfoldable pub branchRoll : RowBranch → (ℕ → ℕ) → ℕ → ℕ
+branchRoll b later discount = rollRounding (rollRounding (branchSum b later) probabilityTotal * discount) one
 
 -- the later row rolled back
-unfoldable pub rolled-row : List ℕ → List ℕ → List ℕ → ℕ → ℕ → ℕ
-rolled-row later downs discounts next k = branch-roll (row-branch downs next k) (values later) (values discounts k)
+unfoldable pub rolledRow : List ℕ → List ℕ → List ℕ → ℕ → ℕ → ℕ
+rolledRow later downs discounts next k = branchRoll (rowBranch downs next k) (values later) (values discounts k)
 
 -- a row of the bond: rolled back, with its flow
-abbrev pub bond-values : List ℕ → List ℕ → List ℕ → ℕ → ℕ → ℕ → ℕ
-bond-values later downs discounts next flow k = rolled-row later downs discounts next k + flow
+abbrev pub bondValues : List ℕ → List ℕ → List ℕ → ℕ → ℕ → ℕ → ℕ
+bondValues later downs discounts next flow k = rolledRow later downs discounts next k + flow
 
 -- a row of the option, from the later rows of bond and option
-abbrev pub option-values : Side → ℕ → Bool → List ℕ → List ℕ → List ℕ → List ℕ → ℕ → ℕ → ℕ → ℕ
-option-values side strike listed bonds options downs discounts next flow k =
-    held-or-exercised listed (rolled-row options downs discounts next k) (exercise side strike (bond-values bonds downs discounts next flow k))
+abbrev pub optionValues : Side → ℕ → Bool → List ℕ → List ℕ → List ℕ → List ℕ → ℕ → ℕ → ℕ → ℕ
+optionValues side strike listed bonds options downs discounts next flow k =
+    heldOrExercised listed (rolledRow options downs discounts next k) (exercise side strike (bondValues bonds downs discounts next flow k))
 
 -- What the code asks of a row.
 pub record Rollable (downs discounts : List ℕ) (next : ℕ) : Type 0 where
-  pub inside : (k : ℕ) → k < length discounts → row-branch downs next k .low + 2 < next
-  pub total : (k : ℕ) → k < length discounts → branch-total (row-branch downs next k) ≡ whole
-  pub discounted : (k : ℕ) → k < length discounts → values discounts k ≤ 1100000000
+  pub inside : (k : ℕ) → k < length discounts → rowBranch downs next k .low + 2 < next
+  pub total : (k : ℕ) → k < length discounts → branchTotal (rowBranch downs next k) ≡ probabilityTotal
+  pub discounted : (k : ℕ) → k < length discounts → values discounts k ≤ mostDiscount
 
 -- the first values of a list are at most the limit
 abbrev pub Limited : List ℕ → ℕ → Type 0
-Limited l count = (k : ℕ) → k < count → values l k ≤ 8000000000
+Limited l count = (k : ℕ) → k < count → values l k ≤ valueLimit
 
 -- a later row that may be rolled back
 pub record Later (l : List ℕ) (count : ℕ) : Type 0 where
@@ -55,11 +56,11 @@ abbrev pub Holds : List ℕ → ℕ → (ℕ → ℕ) → Type 0
 Holds l count f = (k : ℕ) → k < count → values l k ≡ f k
 
 -- What the code leaves: a row of the bond and its greatest value; the rows of bond and option and the greatest value of both.
-pub record Filled-row (row : List ℕ) (count : ℕ) (f : ℕ → ℕ) (top : ℕ) : Type 0 where
+pub record FilledRow (row : List ℕ) (count : ℕ) (f : ℕ → ℕ) (top : ℕ) : Type 0 where
   pub held : Holds row count f
   pub found : top ≡ greatest count f
 
-pub record Filled-rows (bond option : List ℕ) (count : ℕ) (f g : ℕ → ℕ) (top : ℕ) : Type 0 where
+pub record FilledRows (bond option : List ℕ) (count : ℕ) (f g : ℕ → ℕ) (top : ℕ) : Type 0 where
   pub bond-held : Holds bond count f
   pub option-held : Holds option count g
   pub found : top ≡ greatest count (λ k. max (f k) (g k))

@@ -3,29 +3,26 @@
 mod rows;
 mod walk;
 
+use crate::walk::Tree;
 use arithmetic::Answer;
 use exercise::Terms;
 ghost use mathlib.Core.Path.{_≡_};
-ghost use Prim.Native.Nat.{ℕ, _≤_};
-ghost use lib.ListN.{length, take};
-ghost use Rattle.limits.specs.Limits.{limit-cause};
-ghost use Rattle.lattice.specs.Shape.{node-count};
+ghost use Prim.Native.Nat.{_≤_};
+ghost use lib.ListN.{take};
+ghost use Rattle.lattice.specs.Shape.{nodeCount};
 ghost use Rattle.pricing_laws.specs.Schedule.{marked};
 ghost use Rattle.exercise.specs.Terms.{side};
 ghost use Rattle.lent_tree.specs.LentTree.{Accepted};
-ghost use Rattle.price_causes.specs.Causes.{Accepted-flows};
+ghost use Rattle.price_causes.specs.Causes.{AcceptedFlows};
 ghost use Rattle.pricing.specs.Prices.{
-  refusal,
-  priced,
-  bond-at,
-  bond-peak,
-  option-at,
-  option-limit,
+  refusedPrice,
+  acceptedBond,
+  acceptedOption,
   bondPrice,
   optionPrice,
   bondAndOption,
 };
-ghost use Rattle.pricing.specs.Trees.{down-table, tree-bound};
+ghost use Rattle.pricing.specs.Trees.{downTable, treeBound, Exercisable};
 
 // A price in billionths with its error bound; a refusal's number with zeros.
 #[repr(C)]
@@ -43,7 +40,7 @@ pub struct BondAndOption {
 }
 
 fn refused(number: u64) -> Price
-    ensures { λ r. ⌜ r ≡ refusal number ⌝ }
+    ensures { λ r. ⌜ r ≡ refusedPrice number ⌝ }
 {
     Price {
         number,
@@ -55,7 +52,7 @@ fn refused(number: u64) -> Price
 // The table of down-probabilities, worked out once for all rows.
 fn table_of(steps: usize, reversion: u64) -> [u64; 121]
     requires { ⌜ (steps ≤ 60) × (reversion ≤ 6000) ⌝ }
-    ensures { λ r. ⌜ take (node-count reversion steps) r ≡ down-table steps reversion ⌝ }
+    ensures { λ r. ⌜ take (nodeCount reversion steps) r ≡ downTable steps reversion ⌝ }
 {
     let widest = lattice::half_width(reversion, steps).value as usize;
     let nodes = 2 * widest + 1;
@@ -72,16 +69,14 @@ fn accepted_bond(
     flows: &[u64],
     bound: u64,
 ) -> Price
-    requires { ⌜ Accepted steps reversion (now discounts) × Accepted-flows steps (now flows) ⌝ }
-    ensures { λ r. ⌜ r ≡ priced (limit-cause (bond-peak steps reversion (now (discounts .entry)) (now (flows .entry))))
-        (bond-at steps reversion (now (discounts .entry)) (now (flows .entry)) 0 0) bound ⌝ }
+    requires { ⌜ Accepted steps reversion (now discounts) × AcceptedFlows steps (now flows) ⌝ }
+    ensures { λ r. ⌜ r ≡ acceptedBond steps reversion (now (discounts .entry)) (now (flows .entry)) bound ⌝ }
 {
     let nodes = lattice::node_count(reversion, steps).value as usize;
     let table = table_of(steps, reversion);
     let mut bond = rows::empty_row();
     let number = walk::roll_bond(
-        steps,
-        reversion,
+        Tree { steps, reversion },
         0,
         &table[..nodes],
         discounts,
@@ -105,50 +100,33 @@ fn accepted_both(
     discounts: &[u64],
     flows: &[u64],
     terms: Terms,
-    last: usize,
     marks: &[u8],
     bound: u64,
 ) -> BondAndOption
-    requires { ⌜ Accepted steps reversion (now discounts) × Accepted-flows steps (now flows) × (last ≤ steps) × (last ≤ length (now marks))
-        × (terms .strike ≤ 4000000000) ⌝ }
-    ensures bond { λ r. ⌜ r .bond ≡ priced (limit-cause (bond-peak steps reversion (now (discounts .entry)) (now (flows .entry))))
-        (bond-at steps reversion (now (discounts .entry)) (now (flows .entry)) 0 0) bound ⌝ }
-    ensures option { λ r. ⌜ r .option ≡ priced
-        (option-limit steps reversion (now (discounts .entry)) (now (flows .entry)) (side (terms .call)) (terms .strike) (marked last (now (marks .entry))))
-        (option-at steps reversion (now (discounts .entry)) (now (flows .entry)) (side (terms .call)) (terms .strike) (marked last (now (marks .entry))) 0 0)
-        bound ⌝ }
+    requires { ⌜ Accepted steps reversion (now discounts) × AcceptedFlows steps (now flows) × Exercisable terms steps (now marks) ⌝ }
+    ensures bond { λ r. ⌜ r .bond ≡ acceptedBond steps reversion (now (discounts .entry)) (now (flows .entry)) bound ⌝ }
+    ensures option { λ r. ⌜ r .option ≡ acceptedOption steps reversion (now (discounts .entry)) (now (flows .entry)) (side (terms .call)) (terms .strike)
+        (marked (terms .last) (now (marks .entry))) bound ⌝ }
 {
     let nodes = lattice::node_count(reversion, steps).value as usize;
     let table = table_of(steps, reversion);
-    let mut bond = rows::empty_row();
-    let mut option = rows::empty_row();
-    let number = walk::roll_both(
-        steps,
-        reversion,
-        terms,
-        last,
-        marks,
-        &table[..nodes],
-        discounts,
-        flows,
-        &mut bond,
-        &mut option,
-    );
-    if number != 0 {
+    let tree = Tree { steps, reversion };
+    let rolled = walk::roll_both(tree, terms, marks, &table[..nodes], discounts, flows);
+    if rolled.number != 0 {
         return BondAndOption {
             bond: accepted_bond(steps, reversion, discounts, flows, bound),
-            option: refused(number),
+            option: refused(rolled.number),
         };
     }
     BondAndOption {
         bond: Price {
             number: 0,
-            value: bond[0],
+            value: rolled.bond,
             bound,
         },
         option: Price {
             number: 0,
-            value: option[0],
+            value: rolled.option,
             bound,
         },
     }
@@ -156,7 +134,7 @@ fn accepted_both(
 
 // The error bound of a tree and its flows, or the first cause about them.
 fn tree_bound(steps: usize, reversion: u64, discounts: &[u64], flows: &[u64]) -> Answer
-    ensures { λ r. ⌜ r ≡ tree-bound steps reversion (now (discounts .entry)) (now (flows .entry)) ⌝ }
+    ensures { λ r. ⌜ r ≡ treeBound steps reversion (now (discounts .entry)) (now (flows .entry)) ⌝ }
 {
     let bound = price_bound::price_error_bound(steps, reversion, discounts);
     let cause = arithmetic::lowest_cause(bound.number, price_causes::flows_cause(steps, flows));
@@ -207,13 +185,13 @@ pub fn bond_and_option(
         };
     }
     let marks = exercise::marks_of(kind);
+    let terms = exercise::terms_of(kind, expiry, strike);
     accepted_both(
         steps,
         reversion,
         discounts,
         flows,
-        exercise::terms_of(kind, strike),
-        expiry,
+        terms,
         &marks,
         bound.value,
     )

@@ -2,23 +2,25 @@
 use exercise::Terms;
 use row_branches::RowBranch;
 ghost use mathlib.Core.Path.{_≡_};
-ghost use mathlib.Core.Bool.{Bool};
-ghost use Prim.Native.Nat.{ℕ, _+_, _-_, _*_, _<_, _≤_, max};
+ghost use Prim.Native.Nat.{_+_, _-_, _*_, _<_, _≤_};
 ghost use lib.ListN.{length};
 ghost use Rattle.arithmetic.specs.Row.{values};
+ghost use Rattle.tree.specs.Tree.{probabilityTotal};
+ghost use Rattle.limits.specs.Limits.{mostDiscount};
+ghost use Rattle.price_causes.specs.Causes.{mostFlow};
 ghost use Rattle.pricing_laws.specs.Pricer.{exercise};
 ghost use Rattle.exercise.specs.Terms.{side};
-ghost use Rattle.row_branches.specs.RowBranches.{branch-total};
+ghost use Rattle.row_branches.specs.RowBranches.{branchTotal};
 ghost use Rattle.pricing.specs.Rows.{
-  branch-roll,
-  bond-values,
-  option-values,
+  branchRoll,
+  bondValues,
+  optionValues,
   Rollable,
   Limited,
   Later,
   Holds,
-  Filled-row,
-  Filled-rows,
+  FilledRow,
+  FilledRows,
 };
 
 // The nodes of the widest row.
@@ -33,9 +35,9 @@ pub(crate) fn empty_row() -> [u64; 121]
 
 // The roll of a node along its branch: divided by 600,000,000, down; then discounted, down.
 fn roll_node(branch: RowBranch, later: &[u64], discount: u64) -> u64
-    requires { ⌜ (branch .low + 2 < length (now later)) × (branch-total branch ≡ 600000000)
-        × Limited (now later) (branch .low + 3) × (discount ≤ 1100000000) ⌝ }
-    ensures { λ r. ⌜ (r ≡ branch-roll branch (values (now (later .entry))) discount) × (r ≤ 8800000000) ⌝ }
+    requires { ⌜ (branch .low + 2 < length (now later)) × (branchTotal branch ≡ probabilityTotal)
+        × Limited (now later) (branch .low + 3) × (discount ≤ mostDiscount) ⌝ }
+    ensures { λ r. ⌜ (r ≡ branchRoll branch (values (now (later .entry))) discount) × (r ≤ 8800000000) ⌝ }
 {
     let low = branch.low;
     let probabilities = branch.probabilities;
@@ -55,9 +57,9 @@ pub(crate) fn bond_row(
     flow: u64,
 ) -> u64
     requires { ⌜ Rollable (now downs) (now discounts) next × Later (now later) next
-        × (length (now discounts) ≤ length (now row)) × (flow ≤ 2000000000) ⌝ }
-    ensures { λ r. ⌜ Filled-row (now (row .exit)) (length (now (discounts .entry)))
-        (bond-values (now (later .entry)) (now (downs .entry)) (now (discounts .entry)) next flow) r ⌝ }
+        × (length (now discounts) ≤ length (now row)) × (flow ≤ mostFlow) ⌝ }
+    ensures { λ r. ⌜ FilledRow (now (row .exit)) (length (now (discounts .entry)))
+        (bondValues (now (later .entry)) (now (downs .entry)) (now (discounts .entry)) next flow) r ⌝ }
 {
     let mut top: u64 = 0;
     let mut k: usize = 0;
@@ -71,41 +73,47 @@ pub(crate) fn bond_row(
     top
 }
 
+// A row that bond and option are rolled into: the nodes of the row after it, its flow, and the option's right on it.
+pub(crate) struct RowRight {
+    pub(crate) next: usize,
+    pub(crate) flow: u64,
+    pub(crate) terms: Terms,
+    pub(crate) listed: bool,
+}
+
 // Rolls bond and option back by one row together, each node's branch worked out once for both. Gives the greatest value of the two rows.
 pub(crate) fn option_row(
-    bond: &mut [u64],
-    option: &mut [u64],
-    bonds: &[u64],
-    options: &[u64],
+    right: RowRight,
     downs: &[u64],
     discounts: &[u64],
-    next: usize,
-    flow: u64,
-    terms: Terms,
-    listed: bool,
+    bonds: &[u64],
+    options: &[u64],
+    bond: &mut [u64],
+    option: &mut [u64],
 ) -> u64
-    requires { ⌜ Rollable (now downs) (now discounts) next × Later (now bonds) next × Later (now options) next
-        × (length (now discounts) ≤ length (now bond)) × (length (now discounts) ≤ length (now option)) × (flow ≤ 2000000000) ⌝ }
-    ensures { λ r. ⌜ Filled-rows (now (bond .exit)) (now (option .exit)) (length (now (discounts .entry)))
-        (bond-values (now (bonds .entry)) (now (downs .entry)) (now (discounts .entry)) next flow)
-        (option-values (side (terms .call)) (terms .strike) listed
-        (now (bonds .entry)) (now (options .entry)) (now (downs .entry)) (now (discounts .entry)) next flow) r ⌝ }
+    requires { ⌜ Rollable (now downs) (now discounts) (right .next) × Later (now bonds) (right .next) × Later (now options) (right .next)
+        × (length (now discounts) ≤ length (now bond)) × (length (now discounts) ≤ length (now option)) × (right .flow ≤ mostFlow) ⌝ }
+    ensures { λ r. ⌜ FilledRows (now (bond .exit)) (now (option .exit)) (length (now (discounts .entry)))
+        (bondValues (now (bonds .entry)) (now (downs .entry)) (now (discounts .entry)) (right .next) (right .flow))
+        (optionValues (side (right .terms .call)) (right .terms .strike) (right .listed)
+        (now (bonds .entry)) (now (options .entry)) (now (downs .entry)) (now (discounts .entry)) (right .next) (right .flow)) r ⌝ }
 {
+    let terms = right.terms;
     let mut top: u64 = 0;
     let mut k: usize = 0;
     while k < discounts.len() {
-        let branch = row_branches::row_branch(downs, next, k);
+        let branch = row_branches::row_branch(downs, right.next, k);
         let discount = discounts[k];
-        let value = roll_node(branch, bonds, discount) + flow;
-        let right = exercise::held_value(
+        let value = roll_node(branch, bonds, discount) + right.flow;
+        let held = exercise::held_value(
             terms,
-            listed,
+            right.listed,
             roll_node(branch, options, discount),
             value,
         );
         bond[k] = value;
-        option[k] = right;
-        top = arithmetic::larger(top, arithmetic::larger(value, right));
+        option[k] = held;
+        top = arithmetic::larger(top, arithmetic::larger(value, held));
         k += 1;
     }
     top

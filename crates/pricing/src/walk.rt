@@ -1,21 +1,60 @@
 // The way back through the tree, row by row.
 use crate::rows;
+use crate::rows::RowRight;
 use exercise::Terms;
 ghost use mathlib.Core.Path.{_≡_};
-ghost use mathlib.Core.Bool.{Bool};
-ghost use Prim.Native.Nat.{ℕ, _+_, _-_, _*_, _<_, _≤_, max};
+ghost use Prim.Native.Nat.{_+_, _-_, _*_, _<_, _≤_};
 ghost use lib.ListN.{length, take, drop};
-ghost use Rattle.lattice.specs.Shape.{node-count};
+ghost use Rattle.arithmetic.specs.Row.{values};
+ghost use Rattle.lattice.specs.Shape.{nodeCount};
 ghost use Rattle.pricing_laws.specs.Schedule.{marked};
 ghost use Rattle.exercise.specs.Terms.{side};
-ghost use Rattle.pricing.specs.Prices.{flow-at};
-ghost use Rattle.pricing.specs.Rows.{Limited, Filled-row, Filled-rows};
-ghost use Rattle.pricing.specs.Trees.{Ready, bond-step, option-step, Bond-rolled, Both-rolled};
+ghost use Rattle.pricing.specs.Prices.{flowAt};
+ghost use Rattle.pricing.specs.Rows.{Limited, FilledRow, FilledRows};
+ghost use Rattle.pricing.specs.Trees.{
+  Ready,
+  Exercisable,
+  Steppable,
+  rowStepAt,
+  optionStepAt,
+  bondStep,
+  optionStep,
+  BondRolled,
+  BothRolled,
+};
+
+// A tree's number of steps and its reversion.
+pub(crate) struct Tree {
+    pub(crate) steps: usize,
+    pub(crate) reversion: u64,
+}
+
+// A row of a tree, with its flow.
+struct RowStep {
+    steps: usize,
+    reversion: u64,
+    row: usize,
+    flow: u64,
+}
+
+// A row of a tree, and an option's right on it.
+struct OptionStep {
+    at: RowStep,
+    terms: Terms,
+    listed: bool,
+}
+
+// Bond and option at row 0; a refusal's number with zeros.
+pub(crate) struct Rolled {
+    pub(crate) number: u64,
+    pub(crate) bond: u64,
+    pub(crate) option: u64,
+}
 
 // The flow of a row; row 0 has none.
 fn flow_of(flows: &[u64], row: usize) -> u64
     requires { ⌜ row ≤ length (now flows) ⌝ }
-    ensures { λ r. ⌜ r ≡ flow-at (now (flows .entry)) row ⌝ }
+    ensures { λ r. ⌜ r ≡ flowAt (now (flows .entry)) row ⌝ }
 {
     if row == 0 {
         return 0;
@@ -32,99 +71,108 @@ fn part(memory: &[u64], start: usize, count: usize) -> &[u64]
     &memory[start..end]
 }
 
+fn row_step_at(tree: Tree, flows: &[u64], row: usize) -> RowStep
+    requires { ⌜ row ≤ length (now flows) ⌝ }
+    ensures { λ r. ⌜ r ≡ rowStepAt (tree .steps) (tree .reversion) (now (flows .entry)) row ⌝ }
+{
+    RowStep {
+        steps: tree.steps,
+        reversion: tree.reversion,
+        row,
+        flow: flow_of(flows, row),
+    }
+}
+
+fn option_step_at(tree: Tree, flows: &[u64], terms: Terms, marks: &[u8], row: usize) -> OptionStep
+    requires { ⌜ (row ≤ length (now flows)) × (row < length (now marks)) ⌝ }
+    ensures { λ r. ⌜ r ≡ optionStepAt (tree .steps) (tree .reversion) (now (flows .entry)) terms (now (marks .entry)) row ⌝ }
+{
+    OptionStep {
+        at: row_step_at(tree, flows, row),
+        terms,
+        listed: marks[row] == 1,
+    }
+}
+
 // The bond one row back, with the row's flow. Gives the row's greatest value.
 fn bond_step(
-    steps: usize,
-    reversion: u64,
-    row: usize,
+    at: RowStep,
     downs: &[u64],
     discounts: &[u64],
-    flows: &[u64],
     later: &[u64; 121],
     bond: &mut [u64; 121],
 ) -> u64
-    requires { ⌜ Ready steps reversion (now downs) (now discounts) (now flows) × (row < steps)
-        × Limited (now later) (node-count reversion (row + 1)) ⌝ }
-    ensures { λ r. ⌜ Filled-row (now (bond .exit)) (node-count reversion row)
-        (bond-step reversion (now (discounts .entry)) (now (flows .entry)) row (now (later .entry))) r ⌝ }
+    requires { ⌜ Steppable at (now downs) (now discounts) × Limited (now later) (nodeCount (at .reversion) (at .row + 1)) ⌝ }
+    ensures { λ r. ⌜ FilledRow (now (bond .exit)) (nodeCount (at .reversion) (at .row))
+        (bondStep (at .reversion) (now (discounts .entry)) (at .flow) (at .row) (now (later .entry))) r ⌝ }
 {
-    let shape = lattice::row_shape(reversion, steps, row);
+    let shape = lattice::row_shape(at.reversion, at.steps, at.row);
     rows::bond_row(
         bond,
         later,
         part(downs, shape.offset, shape.count),
         part(discounts, shape.start, shape.count),
         shape.next,
-        flow_of(flows, row),
+        at.flow,
     )
 }
 
 // Bond and option one row back. Gives the greatest value of both.
 fn option_step(
-    steps: usize,
-    reversion: u64,
-    row: usize,
+    right: OptionStep,
     downs: &[u64],
     discounts: &[u64],
-    flows: &[u64],
-    terms: Terms,
-    listed: bool,
     bonds: &[u64; 121],
     options: &[u64; 121],
     bond: &mut [u64; 121],
     option: &mut [u64; 121],
 ) -> u64
-    requires { ⌜ Ready steps reversion (now downs) (now discounts) (now flows) × (row < steps)
-        × Limited (now bonds) (node-count reversion (row + 1)) × Limited (now options) (node-count reversion (row + 1)) ⌝ }
-    ensures { λ r. ⌜ Filled-rows (now (bond .exit)) (now (option .exit)) (node-count reversion row)
-        (bond-step reversion (now (discounts .entry)) (now (flows .entry)) row (now (bonds .entry)))
-        (option-step (side (terms .call)) (terms .strike) listed reversion
-        (now (discounts .entry)) (now (flows .entry)) row (now (bonds .entry)) (now (options .entry))) r ⌝ }
+    requires { ⌜ Steppable (right .at) (now downs) (now discounts) × Limited (now bonds) (nodeCount (right .at .reversion) (right .at .row + 1))
+        × Limited (now options) (nodeCount (right .at .reversion) (right .at .row + 1)) ⌝ }
+    ensures { λ r. ⌜ FilledRows (now (bond .exit)) (now (option .exit)) (nodeCount (right .at .reversion) (right .at .row))
+        (bondStep (right .at .reversion) (now (discounts .entry)) (right .at .flow) (right .at .row) (now (bonds .entry)))
+        (optionStep (side (right .terms .call)) (right .terms .strike) (right .listed) (right .at .reversion)
+        (now (discounts .entry)) (right .at .flow) (right .at .row) (now (bonds .entry)) (now (options .entry))) r ⌝ }
 {
-    let shape = lattice::row_shape(reversion, steps, row);
+    let at = right.at;
+    let terms = right.terms;
+    let shape = lattice::row_shape(at.reversion, at.steps, at.row);
+    let row = RowRight {
+        next: shape.next,
+        flow: at.flow,
+        terms,
+        listed: right.listed,
+    };
     rows::option_row(
-        bond,
-        option,
-        bonds,
-        options,
+        row,
         part(downs, shape.offset, shape.count),
         part(discounts, shape.start, shape.count),
-        shape.next,
-        flow_of(flows, row),
-        terms,
-        listed,
+        bonds,
+        options,
+        bond,
+        option,
     )
 }
 
 // The bond from row n back to row `last`, two rows a turn, so that no row is copied on the way. 12 where a value is above 8 × one.
 pub(crate) fn roll_bond(
-    steps: usize,
-    reversion: u64,
+    tree: Tree,
     last: usize,
     downs: &[u64],
     discounts: &[u64],
     flows: &[u64],
     bond: &mut [u64; 121],
 ) -> u64
-    requires { ⌜ Ready steps reversion (now downs) (now discounts) (now flows) × (last ≤ steps) ⌝ }
-    ensures { λ r. ⌜ Bond-rolled steps reversion (now (discounts .entry)) (now (flows .entry)) last r (now (bond .exit)) ⌝ }
+    requires { ⌜ Ready (tree .steps) (tree .reversion) (now downs) (now discounts) (now flows) × (last ≤ tree .steps) ⌝ }
+    ensures { λ r. ⌜ BondRolled (tree .steps) (tree .reversion) (now (discounts .entry)) (now (flows .entry)) last r (now (bond .exit)) ⌝ }
 {
-    rows::fill_row(flow_of(flows, steps), bond);
+    rows::fill_row(flow_of(flows, tree.steps), bond);
     let mut other = rows::empty_row();
-    let mut row = steps;
+    let mut row = tree.steps;
     while last < row {
         row -= 1;
-        let first = bond_step(
-            steps,
-            reversion,
-            row,
-            downs,
-            discounts,
-            flows,
-            bond,
-            &mut other,
-        );
-        if limits::VALUE_LIMIT < first {
+        let at = row_step_at(tree, flows, row);
+        if limits::VALUE_LIMIT < bond_step(at, downs, discounts, bond, &mut other) {
             return 12;
         }
         if row == last {
@@ -132,114 +180,106 @@ pub(crate) fn roll_bond(
             return 0;
         }
         row -= 1;
-        let second = bond_step(steps, reversion, row, downs, discounts, flows, &other, bond);
-        if limits::VALUE_LIMIT < second {
+        let before = row_step_at(tree, flows, row);
+        if limits::VALUE_LIMIT < bond_step(before, downs, discounts, &other, bond) {
             return 12;
         }
     }
     0
+}
+
+fn at_root(bond: &[u64; 121], option: &[u64; 121]) -> Rolled
+    ensures { λ r. ⌜ r ≡ record { number = 0; bond = values (now (bond .entry)) 0; option = values (now (option .entry)) 0 } ⌝ }
+{
+    Rolled {
+        number: 0,
+        bond: bond[0],
+        option: option[0],
+    }
+}
+
+fn over() -> Rolled
+    ensures { λ r. ⌜ r ≡ record { number = 12; bond = 0; option = 0 } ⌝ }
+{
+    Rolled {
+        number: 12,
+        bond: 0,
+        option: 0,
+    }
 }
 
 // The option from its last row back to row 0, and the bond with it, two rows a turn. 12 where a value on the way is above 8 × one.
 fn roll_option(
-    steps: usize,
-    reversion: u64,
+    tree: Tree,
     terms: Terms,
-    last: usize,
     marks: &[u8],
     downs: &[u64],
     discounts: &[u64],
     flows: &[u64],
     bond: &mut [u64; 121],
-    option: &mut [u64; 121],
-) -> u64
-    requires { ⌜ Ready steps reversion (now downs) (now discounts) (now flows) × (last ≤ steps) × (last ≤ length (now marks))
-        × (terms .strike ≤ 4000000000) × Bond-rolled steps reversion (now discounts) (now flows) last 0 (now bond) ⌝ }
-    ensures { λ r. ⌜ Both-rolled steps reversion (now (discounts .entry)) (now (flows .entry)) (side (terms .call)) (terms .strike)
-        (marked last (now (marks .entry))) r (now (bond .exit)) (now (option .exit)) ⌝ }
+) -> Rolled
+    requires { ⌜ Ready (tree .steps) (tree .reversion) (now downs) (now discounts) (now flows) × Exercisable terms (tree .steps) (now marks)
+        × BondRolled (tree .steps) (tree .reversion) (now discounts) (now flows) (terms .last) 0 (now bond) ⌝ }
+    ensures { λ r. ⌜ BothRolled (tree .steps) (tree .reversion) (now (discounts .entry)) (now (flows .entry)) (side (terms .call)) (terms .strike)
+        (marked (terms .last) (now (marks .entry))) r ⌝ }
 {
-    rows::exercise_row(terms, bond, option);
+    let mut option = rows::empty_row();
+    rows::exercise_row(terms, bond, &mut option);
     let mut bonds = rows::empty_row();
     let mut options = rows::empty_row();
-    let mut row = last;
+    let mut row = terms.last;
     while 0 < row {
         row -= 1;
+        let right = option_step_at(tree, flows, terms, marks, row);
         let first = option_step(
-            steps,
-            reversion,
-            row,
+            right,
             downs,
             discounts,
-            flows,
-            terms,
-            marks[row] == 1,
             bond,
-            option,
+            &option,
             &mut bonds,
             &mut options,
         );
         if limits::VALUE_LIMIT < first {
-            return 12;
+            return over();
         }
         if row == 0 {
-            *bond = bonds;
-            *option = options;
-            return 0;
+            return at_root(&bonds, &options);
         }
         row -= 1;
+        let before = option_step_at(tree, flows, terms, marks, row);
         let second = option_step(
-            steps,
-            reversion,
-            row,
+            before,
             downs,
             discounts,
-            flows,
-            terms,
-            marks[row] == 1,
             &bonds,
             &options,
             bond,
-            option,
+            &mut option,
         );
         if limits::VALUE_LIMIT < second {
-            return 12;
+            return over();
         }
     }
-    0
+    at_root(bond, &option)
 }
 
 // The bond back to the option's last row, then both together: one pass over the tree.
 pub(crate) fn roll_both(
-    steps: usize,
-    reversion: u64,
+    tree: Tree,
     terms: Terms,
-    last: usize,
     marks: &[u8],
     downs: &[u64],
     discounts: &[u64],
     flows: &[u64],
-    bond: &mut [u64; 121],
-    option: &mut [u64; 121],
-) -> u64
-    requires { ⌜ Ready steps reversion (now downs) (now discounts) (now flows) × (last ≤ steps) × (last ≤ length (now marks))
-        × (terms .strike ≤ 4000000000) ⌝ }
-    ensures { λ r. ⌜ Both-rolled steps reversion (now (discounts .entry)) (now (flows .entry)) (side (terms .call)) (terms .strike)
-        (marked last (now (marks .entry))) r (now (bond .exit)) (now (option .exit)) ⌝ }
+) -> Rolled
+    requires { ⌜ Ready (tree .steps) (tree .reversion) (now downs) (now discounts) (now flows) × Exercisable terms (tree .steps) (now marks) ⌝ }
+    ensures { λ r. ⌜ BothRolled (tree .steps) (tree .reversion) (now (discounts .entry)) (now (flows .entry)) (side (terms .call)) (terms .strike)
+        (marked (terms .last) (now (marks .entry))) r ⌝ }
 {
-    let number = roll_bond(steps, reversion, last, downs, discounts, flows, bond);
-    if number != 0 {
-        return number;
+    let mut bond = rows::empty_row();
+    if roll_bond(tree, terms.last, downs, discounts, flows, &mut bond) != 0 {
+        return over();
     }
-    roll_option(
-        steps,
-        reversion,
-        terms,
-        last,
-        marks,
-        downs,
-        discounts,
-        flows,
-        bond,
-        option,
-    )
+    roll_option(tree, terms, marks, downs, discounts, flows, &mut bond)
 }

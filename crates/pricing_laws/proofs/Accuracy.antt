@@ -6,18 +6,16 @@ use Prim.Native.Nat.{ℕ, zero, suc, _+_, _-_, _*_, _^_, _≤_, _<_}
 use native.Mathlib.Nat.{pow-suc, sub-zero, mul-zero}
 use native.Mathlib.Omega.{arith}
 use Rattle.arithmetic.specs.Rounding.{one}
+use Rattle.arithmetic.specs.Within.{Within}
 use Rattle.arithmetic.proofs.RoundingLaws.{up-ge, up-shrinks}
-use Rattle.pricing_laws.specs.Pricer.{rounded, fractions, bond-from, bond, Side, exercise-row, Schedule, option-from, option, error-bound-from, error-bound}
+use Rattle.pricing_laws.specs.Pricer.{rounded, fractions, bondFrom, bond, Side, exerciseRow, Schedule, optionFrom, option}
+use Rattle.pricing_laws.specs.Pricer.{errorBoundFrom, errorBound}
 use Rattle.pricing_laws.proofs.Near.{Near, near-flow, near-exercise, near-held}
-
--- the number e stands within a of the exact number x, which is held times M
-pub record Within (a M e x : ℕ) : Type 0 where
-  pub above : e * M ≤ x + a * M
-  pub below : x ≤ (e + a) * M
 
 -- What the laws use of a roll on rows 0 to n - 1: with the greatest discount of the row and what the roll's own roundings cost,
 -- near values on the next row give near values on this one. Distances in half billionths.
-pub record Close {Node : Type 0} (n unit : ℕ) (Stands : ℕ → Node → Type 0) (roll exact : ℕ → (Node → ℕ) → Node → ℕ) (greatest above below : ℕ → ℕ) : Type 0 where
+pub record Close {Node : Type 0} (n unit : ℕ) (Stands : ℕ → Node → Type 0) (roll exact : ℕ → (Node → ℕ) → Node → ℕ)
+    (greatest above below : ℕ → ℕ) : Type 0 where
   pub roll-near :
       (i : ℕ) → i < n → (v x : Node → ℕ) (l u l' u' M : ℕ) →
       greatest i * l + above i ≤ one * l' → greatest i * u + below i ≤ one * u' →
@@ -31,13 +29,13 @@ module _ {Node : Type 0} (n unit : ℕ) (Stands : ℕ → Node → Type 0) (roll
       (cover-below : (i : ℕ) → i < n → greatest i * u (suc i) + below i ≤ one * u i) (flow : ℕ → ℕ) where
     bond-near :
         (s i : ℕ) → i + s ≡ n → (k : Node) → Stands i k →
-        Near (l i) (u i) (unit ^ s) (bond-from (rounded roll) flow s i k) (bond-from (fractions unit exact) flow s i k)
-    unfolding bond-from
+        Near (l i) (u i) (unit ^ s) (bondFrom (rounded roll) flow s i k) (bondFrom (fractions unit exact) flow s i k)
+    unfolding bondFrom
     bond-near zero i e k hk = record { above = omega arith; below = omega arith }
     bond-near (suc s) i e k hk =
         near-flow _ _ _ _ _ (flow i)
         (rw pow-suc
-        (close .roll-near i (omega arith) (bond-from (rounded roll) flow s (suc i)) (bond-from (fractions unit exact) flow s (suc i))
+        (close .roll-near i (omega arith) (bondFrom (rounded roll) flow s (suc i)) (bondFrom (fractions unit exact) flow s (suc i))
         (l (suc i)) (u (suc i)) (l i) (u i) (unit ^ s) (cover-above i (omega arith)) (cover-below i (omega arith))
         (bond-near s (suc i) (omega arith)) k hk))
 
@@ -52,23 +50,23 @@ module _ {Node : Type 0} (n unit : ℕ) (Stands : ℕ → Node → Type 0) (roll
       (cover-below : (i : ℕ) → i < n → greatest i * a (suc i) + below i ≤ one * a i) (flow : ℕ → ℕ) (side : Side) (strike : ℕ) where
     exercise-near :
         (i : ℕ) → i ≤ n → (k : Node) → Stands i k →
-        Near (a i) (a i) (unit ^ (n - i)) (exercise-row (rounded roll) flow n side strike i k) (exercise-row (fractions unit exact) flow n side strike i k)
-    unfolding exercise-row
+        Near (a i) (a i) (unit ^ (n - i)) (exerciseRow (rounded roll) flow n side strike i k) (exerciseRow (fractions unit exact) flow n side strike i k)
+    unfolding exerciseRow
     exercise-near i h k hk =
         near-exercise side (a i) (unit ^ (n - i)) _ _ strike (bond-row a a cover-above cover-below flow i h k hk)
 
     option-near :
         (listed : ℕ → Bool) (s i : ℕ) → i + s ≤ n → (k : Node) → Stands i k →
-        Near (a i) (a i) (unit ^ (n - i)) (option-from (rounded roll) flow n side strike listed s i k)
-        (option-from (fractions unit exact) flow n side strike listed s i k)
-    unfolding option-from
+        Near (a i) (a i) (unit ^ (n - i)) (optionFrom (rounded roll) flow n side strike listed s i k)
+        (optionFrom (fractions unit exact) flow n side strike listed s i k)
+    unfolding optionFrom
     option-near listed zero i h k hk = exercise-near i (omega arith) k hk
     option-near listed (suc s) i h k hk =
         near-held (listed i) _ _ _ _ _ _ _
         (let e : n - i ≡ suc (n - suc i) = omega arith in
         rw (e, pow-suc)
-        (close .roll-near i (omega arith) (option-from (rounded roll) flow n side strike listed s (suc i))
-        (option-from (fractions unit exact) flow n side strike listed s (suc i))
+        (close .roll-near i (omega arith) (optionFrom (rounded roll) flow n side strike listed s (suc i))
+        (optionFrom (fractions unit exact) flow n side strike listed s (suc i))
         (a (suc i)) (a (suc i)) (a i) (a i) (unit ^ (n - suc i)) (cover-above i (omega arith)) (cover-below i (omega arith))
         (option-near listed s (suc i) (omega arith)) k hk))
         (exercise-near i (omega arith) k hk)
@@ -83,25 +81,25 @@ module _ {Node : Type 0} (n unit : ℕ) (Stands : ℕ → Node → Type 0) (roll
 module _ (loss : ℕ) (greatest : ℕ → ℕ) where
   pub error-bound-covers :
       (n i cost : ℕ) → i < n → cost ≤ one * (2 * loss) →
-      greatest i * (2 * error-bound loss greatest n (suc i)) + cost ≤ one * (2 * error-bound loss greatest n i)
-  unfolding error-bound error-bound-from
+      greatest i * (2 * errorBound loss greatest n (suc i)) + cost ≤ one * (2 * errorBound loss greatest n i)
+  unfolding errorBound errorBoundFrom
   error-bound-covers n i cost h c =
       let e : n - i ≡ suc (n - suc i) = omega arith in
-      rw e (omega (arith, up-ge (greatest i * error-bound-from loss greatest (n - suc i) (suc i)) one (omega arith)))
+      rw e (omega (arith, up-ge (greatest i * errorBoundFrom loss greatest (n - suc i) (suc i)) one (omega arith)))
 
   -- where no discount is above one, a step adds at most its loss
-  error-bound-most : (n s i : ℕ) → ((i : ℕ) → i < n → greatest i ≤ one) → i + s ≡ n → error-bound-from loss greatest s i ≤ loss * s
-  unfolding error-bound-from
+  error-bound-most : (n s i : ℕ) → ((i : ℕ) → i < n → greatest i ≤ one) → i + s ≡ n → errorBoundFrom loss greatest s i ≤ loss * s
+  unfolding errorBoundFrom
   error-bound-most n zero i h e = omega arith
   error-bound-most n (suc s) i h e =
       omega (
         arith,
-        up-shrinks (greatest i) (error-bound-from loss greatest s (suc i)) (h i (omega arith)),
+        up-shrinks (greatest i) (errorBoundFrom loss greatest s (suc i)) (h i (omega arith)),
         error-bound-most n s (suc i) h (omega arith),
       )
 
-  pub loss-a-step : (n : ℕ) → ((i : ℕ) → i < n → greatest i ≤ one) → error-bound loss greatest n 0 ≤ loss * n
-  unfolding error-bound
+  pub loss-a-step : (n : ℕ) → ((i : ℕ) → i < n → greatest i ≤ one) → errorBound loss greatest n 0 ≤ loss * n
+  unfolding errorBound
   loss-a-step n h = rw sub-zero (error-bound-most n n 0 h (omega arith))
 
 pub within : (a M e x : ℕ) → Near (2 * a) (2 * a) M e x → Within a M e x
@@ -113,22 +111,22 @@ module _ {Node : Type 0} (n unit loss : ℕ) (Stands : ℕ → Node → Type 0) 
     (cost-above : (i : ℕ) → i < n → above i ≤ one * (2 * loss)) (cost-below : (i : ℕ) → i < n → below i ≤ one * (2 * loss)) where
   pub bond-within :
       (flow : ℕ → ℕ) (k : Node) → Stands 0 k →
-      Within (error-bound loss greatest n 0) (unit ^ n) (bond (rounded roll) flow n 0 k) (bond (fractions unit exact) flow n 0 k)
+      Within (errorBound loss greatest n 0) (unit ^ n) (bond (rounded roll) flow n 0 k) (bond (fractions unit exact) flow n 0 k)
   bond-within flow k hk =
       within _ _ _ _
       (rw sub-zero at
-      (bond-row n unit Stands roll exact greatest above below close (λ i. 2 * error-bound loss greatest n i) (λ i. 2 * error-bound loss greatest n i)
+      (bond-row n unit Stands roll exact greatest above below close (λ i. 2 * errorBound loss greatest n i) (λ i. 2 * errorBound loss greatest n i)
       (λ i h. error-bound-covers loss greatest n i (above i) h (cost-above i h)) (λ i h. error-bound-covers loss greatest n i (below i) h (cost-below i h))
       flow 0 (omega arith) k hk))
 
   pub option-within :
       (flow : ℕ → ℕ) (side : Side) (strike : ℕ) (rows : Schedule) → rows .last ≤ n → (k : Node) → Stands 0 k →
-      Within (error-bound loss greatest n 0) (unit ^ n) (option (rounded roll) flow n side strike rows 0 k)
+      Within (errorBound loss greatest n 0) (unit ^ n) (option (rounded roll) flow n side strike rows 0 k)
       (option (fractions unit exact) flow n side strike rows 0 k)
   option-within flow side strike rows h k hk =
       within _ _ _ _
       (rw sub-zero at
-      (option-row n unit Stands roll exact greatest above below close (λ i. 2 * error-bound loss greatest n i)
+      (option-row n unit Stands roll exact greatest above below close (λ i. 2 * errorBound loss greatest n i)
       (λ i h. error-bound-covers loss greatest n i (above i) h (cost-above i h)) (λ i h. error-bound-covers loss greatest n i (below i) h (cost-below i h))
       flow side strike rows 0 (omega arith) h k hk))
 
@@ -138,7 +136,7 @@ module _ {Node : Type 0} (n unit loss : ℕ) (Stands : ℕ → Node → Type 0) 
       bond (rounded roll) flow n 0 k * unit ^ n ≤ bond (fractions unit exact) flow n 0 k
   bond-below never flow k hk =
       let r =
-      bond-row n unit Stands roll exact greatest above below close (λ i. 0) (λ i. 2 * error-bound loss greatest n i)
+      bond-row n unit Stands roll exact greatest above below close (λ i. 0) (λ i. 2 * errorBound loss greatest n i)
       (λ i h. omega (arith, never i, mul-zero (greatest i))) (λ i h. error-bound-covers loss greatest n i (below i) h (cost-below i h))
       flow 0 (omega arith) k hk in
       let s = rw sub-zero at r in

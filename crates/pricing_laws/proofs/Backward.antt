@@ -5,8 +5,8 @@ use mathlib.Core.Path.{_≡_, sym, ap, ap₂, _∙_}
 use Prim.Native.Nat.{ℕ, suc, _+_, _-_, _≤_, _<_}
 use native.Mathlib.Nat.{le-refl}
 use native.Mathlib.Omega.{arith}
-use Rattle.pricing_laws.specs.Pricer.{rounded, bond, Side, exercise, exercise-row, Schedule, held-or-exercised, option}
-use Rattle.limits.specs.Limits.{value-limit}
+use Rattle.pricing_laws.specs.Pricer.{rounded, bond, Side, exercise, exerciseRow, Schedule, heldOrExercised, option}
+use Rattle.limits.specs.Limits.{valueLimit}
 use Rattle.pricing_laws.specs.Peak.{peak}
 use Rattle.pricing_laws.proofs.Peaks.{peak-last, peak-before, row-in-peak}
 use Rattle.pricing_laws.proofs.Recurrences.{bond-last, bond-before, option-last, option-before}
@@ -28,13 +28,13 @@ module _ {Node : Type 0} (n : ℕ) (Stands : ℕ → Node → Type 0) (top : ℕ
   pub record Bond-state (i : ℕ) (v : Node → ℕ) : Type 0 where
     pub in-tree : i ≤ n
     pub held : (k : Node) → Stands i k → v k ≡ bond (rounded roll) flow n i k
-    pub within-limit : peak (λ r. top r (bond (rounded roll) flow n r)) n i ≤ value-limit
+    pub within-limit : peak (λ r. top r (bond (rounded roll) flow n r)) n i ≤ valueLimit
 
   -- the option at row i
   pub record Option-state (side : Side) (strike : ℕ) (rows : Schedule) (i : ℕ) (v : Node → ℕ) : Type 0 where
     pub before-last : i ≤ rows .last
     pub held : (k : Node) → Stands i k → v k ≡ option (rounded roll) flow n side strike rows i k
-    pub within-limit : peak (λ r. top r (option (rounded roll) flow n side strike rows r)) (rows .last) i ≤ value-limit
+    pub within-limit : peak (λ r. top r (option (rounded roll) flow n side strike rows r)) (rows .last) i ≤ valueLimit
 
 module _ {Node : Type 0} (n : ℕ) (Stands : ℕ → Node → Type 0) (top : ℕ → (Node → ℕ) → ℕ) (great : Greatest Stands top)
     (roll : ℕ → (Node → ℕ) → Node → ℕ) (local : Local Stands roll) (flow : ℕ → ℕ) where
@@ -45,7 +45,7 @@ module _ {Node : Type 0} (n : ℕ) (Stands : ℕ → Node → Type 0) (top : ℕ
   Bonds = Bond-state n Stands top roll flow
 
   -- no value of the row is above the limit
-  pub bond-limit : (i : ℕ) (v : Node → ℕ) → Bonds i v → (k : Node) → Stands i k → v k ≤ value-limit
+  pub bond-limit : (i : ℕ) (v : Node → ℕ) → Bonds i v → (k : Node) → Stands i k → v k ≤ valueLimit
   bond-limit i v s k hk =
       omega (
         arith,
@@ -56,7 +56,7 @@ module _ {Node : Type 0} (n : ℕ) (Stands : ℕ → Node → Type 0) (top : ℕ
       )
 
   -- row n
-  pub bond-first : (v : Node → ℕ) → flow n ≤ value-limit → ((k : Node) → Stands n k → v k ≡ flow n) → Bonds n v
+  pub bond-first : (v : Node → ℕ) → flow n ≤ valueLimit → ((k : Node) → Stands n k → v k ≡ flow n) → Bonds n v
   bond-first v h e =
       record {
         in-tree = le-refl n;
@@ -65,7 +65,7 @@ module _ {Node : Type 0} (n : ℕ) (Stands : ℕ → Node → Type 0) (top : ℕ
             omega (
               arith,
               peak-last bond-top n,
-              great .bounded n (bond (rounded roll) flow n n) value-limit (λ k hk. omega (arith, bond-last (rounded roll) flow n k)),
+              great .bounded n (bond (rounded roll) flow n n) valueLimit (λ k hk. omega (arith, bond-last (rounded roll) flow n k)),
             );
       }
 
@@ -81,10 +81,10 @@ module _ {Node : Type 0} (n : ℕ) (Stands : ℕ → Node → Type 0) (top : ℕ
     found-top : found ≡ bond-top i
     found-top = ef ∙ great .same i w _ bond-held
 
-    pub bond-over : value-limit < found → value-limit < peak bond-top n i
+    pub bond-over : valueLimit < found → valueLimit < peak bond-top n i
     bond-over h = omega (arith, found-top, row-in-peak bond-top n i (omega arith))
 
-    pub bond-step : found ≤ value-limit → Bonds i w
+    pub bond-step : found ≤ valueLimit → Bonds i w
     bond-step h =
         record {
           in-tree = omega arith;
@@ -100,7 +100,7 @@ module _ {Node : Type 0} (n : ℕ) (Stands : ℕ → Node → Type 0) (top : ℕ
     abbrev pub Options : ℕ → (Node → ℕ) → Type 0
     Options = Option-state n Stands top roll flow side strike rows
 
-    pub option-limit : (i : ℕ) (v : Node → ℕ) → Options i v → (k : Node) → Stands i k → v k ≤ value-limit
+    pub option-limit : (i : ℕ) (v : Node → ℕ) → Options i v → (k : Node) → Stands i k → v k ≤ valueLimit
     option-limit i v s k hk =
         omega (
           arith,
@@ -112,14 +112,14 @@ module _ {Node : Type 0} (n : ℕ) (Stands : ℕ → Node → Type 0) (top : ℕ
 
     exercise-held :
         (i : ℕ) (v : Node → ℕ) → ((k : Node) → Stands i k → v k ≡ bond (rounded roll) flow n i k) → (k : Node) → Stands i k →
-        exercise side strike (v k) ≡ exercise-row (rounded roll) flow n side strike i k
-    unfolding exercise-row
+        exercise side strike (v k) ≡ exerciseRow (rounded roll) flow n side strike i k
+    unfolding exerciseRow
     exercise-held i v h k hk = ap (exercise side strike) (h k hk)
 
     -- at expiry: the exercise values, none above the limit
     pub option-first :
         (v w : Node → ℕ) → Bonds (rows .last) v → ((k : Node) → Stands (rows .last) k → w k ≡ exercise side strike (v k)) →
-        ((k : Node) → Stands (rows .last) k → w k ≤ value-limit) → Options (rows .last) w
+        ((k : Node) → Stands (rows .last) k → w k ≤ valueLimit) → Options (rows .last) w
     option-first v w s step h =
         let held : (k : Node) → Stands (rows .last) k → w k ≡ option (rounded roll) flow n side strike rows (rows .last) k
         = λ k hk. step k hk ∙ exercise-held (rows .last) v (s .held) k hk ∙ sym (option-last (rounded roll) flow n side strike rows k) in
@@ -130,7 +130,7 @@ module _ {Node : Type 0} (n : ℕ) (Stands : ℕ → Node → Type 0) (top : ℕ
               omega (
                 arith,
                 peak-last option-top (rows .last),
-                great .bounded (rows .last) (option (rounded roll) flow n side strike rows (rows .last)) value-limit
+                great .bounded (rows .last) (option (rounded roll) flow n side strike rows (rows .last)) valueLimit
                     (λ k hk. omega (arith, held k hk, h k hk)),
               );
         }
@@ -138,12 +138,12 @@ module _ {Node : Type 0} (n : ℕ) (Stands : ℕ → Node → Type 0) (top : ℕ
     -- one row back, with the bond's row
     module _ (i : ℕ) (v : Node → ℕ) (hi : i < rows .last) (s : Options (suc i) v) (bonds : Node → ℕ)
         (bs : (k : Node) → Stands i k → bonds k ≡ bond (rounded roll) flow n i k) (w : Node → ℕ)
-        (step : (k : Node) → Stands i k → w k ≡ held-or-exercised (rows .listed i) (roll i v k) (exercise side strike (bonds k)))
+        (step : (k : Node) → Stands i k → w k ≡ heldOrExercised (rows .listed i) (roll i v k) (exercise side strike (bonds k)))
         (found : ℕ) (ef : found ≡ top i w) where
       option-held : (k : Node) → Stands i k → w k ≡ option (rounded roll) flow n side strike rows i k
       option-held k hk =
           step k hk
-          ∙ ap₂ (held-or-exercised (rows .listed i))
+          ∙ ap₂ (heldOrExercised (rows .listed i))
           (local .roll-same i v (option (rounded roll) flow n side strike rows (suc i)) (s .held) k hk)
           (exercise-held i bonds bs k hk)
           ∙ sym (option-before (rounded roll) flow n side strike rows i hi k)
@@ -151,10 +151,10 @@ module _ {Node : Type 0} (n : ℕ) (Stands : ℕ → Node → Type 0) (top : ℕ
       found-option : found ≡ option-top i
       found-option = ef ∙ great .same i w _ option-held
 
-      pub option-over : value-limit < found → value-limit < peak option-top (rows .last) i
+      pub option-over : valueLimit < found → valueLimit < peak option-top (rows .last) i
       option-over h = omega (arith, found-option, row-in-peak option-top (rows .last) i (omega arith))
 
-      pub option-step : found ≤ value-limit → Options i w
+      pub option-step : found ≤ valueLimit → Options i w
       option-step h =
           record {
             before-last = omega arith;

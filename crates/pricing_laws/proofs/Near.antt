@@ -7,21 +7,17 @@ use Prim.Native.Nat.{ℕ, _+_, _-_, _*_, _≤_, _<_, max}
 use native.Mathlib.Nat.{add-mul, mul-comm, mul-sub, mul-le-mul-left, mul-le-mul-right, max-eq-left, max-eq-right, le-of-lt}
 use native.Mathlib.Omega.{arith}
 use Rattle.arithmetic.specs.Rounding.{one, Rounds}
-use Rattle.tree.specs.Tree.{whole, Transition, outgoing, Inside, Total}
+use Rattle.tree.specs.Tree.{probabilityTotal, Transition, outgoing, Inside, Total}
 use Rattle.arithmetic.proofs.Numbers.{by-order}
-use Rattle.pricing_laws.specs.Pricer.{Side, call, put, exercise, held-or-exercised}
+use Rattle.pricing_laws.specs.Pricer.{Side, call, put, exercise, heldOrExercised}
 
 -- e is the engine's number and x the exact one times M: e is above x by at most l halves, and below it by at most u halves
 pub record Near (l u M e x : ℕ) : Type 0 where
   pub above : 2 * (e * M) ≤ 2 * x + l * M
   pub below : 2 * x ≤ 2 * (e * M) + u * M
 
-pub near-widen : {l u l' u' M e x : ℕ} → l ≤ l' → u ≤ u' → Near l u M e x → Near l' u' M e x
-near-widen {l} {u} {l'} {u'} {M} hl hu n =
-    record { above = omega (arith, n .above, mul-le-mul-right M hl); below = omega (arith, n .below, mul-le-mul-right M hu) }
-
 -- the whole times one value, by the three probabilities
-parts : (p q r w : ℕ) → p + q + r ≡ whole → p * w + q * w + r * w ≡ 600000000 * w
+parts : (p q r w : ℕ) → p + q + r ≡ probabilityTotal → p * w + q * w + r * w ≡ 600000000 * w
 parts p q r w h = simp (← add-mul) (ap (λ (t : ℕ). t * w) h)
 
 -- Averaging over the branches of a node, then dividing by 600,000,000.
@@ -53,11 +49,11 @@ module _ (divide : ℕ → ℕ → ℕ) (over under : ℕ) (rounds : Rounds divi
         parts (t .down k) (t .middle k) (t .up k) (u * M) (total k hk),
       )
 
-  pub near-average : Near (l + over) (u + under) (M * whole) (divide (outgoing t v k) whole) (outgoing t x k)
+  pub near-average : Near (l + over) (u + under) (M * probabilityTotal) (divide (outgoing t v k) probabilityTotal) (outgoing t x k)
   near-average =
       record {
-        above = omega (arith, sum-above, mul-le-mul-right M (rounds .above (outgoing t v k) whole (omega arith)));
-        below = omega (arith, sum-below, mul-le-mul-right M (rounds .below (outgoing t v k) whole (omega arith)));
+        above = omega (arith, sum-above, mul-le-mul-right M (rounds .above (outgoing t v k) probabilityTotal (omega arith)));
+        below = omega (arith, sum-below, mul-le-mul-right M (rounds .below (outgoing t v k) probabilityTotal (omega arith)));
       }
 
 -- Discounting, then dividing by one. Any discount of at most g.
@@ -109,7 +105,7 @@ near-max l u M e x f y n m =
     (λ h. let g = mul-le-mul-right M (le-of-lt h) in
     rw (max-eq-left (le-of-lt h)) (record { above = omega (arith, g, n .above); below = omega (arith, g, n .below, m .below) }))
 
-pub near-held : (b : Bool) (l u M e x f y : ℕ) → Near l u M e x → Near l u M f y → Near l u M (held-or-exercised b e f) (held-or-exercised b x y)
-unfolding held-or-exercised
+pub near-held : (b : Bool) (l u M e x f y : ℕ) → Near l u M e x → Near l u M f y → Near l u M (heldOrExercised b e f) (heldOrExercised b x y)
+unfolding heldOrExercised
 near-held true l u M e x f y n m = near-max l u M e x f y n m
 near-held false l u M e x f y n m = n

@@ -5,15 +5,15 @@ use mathlib.Core.Logic.{⊎-elim}
 use Prim.Native.Nat.{ℕ, zero, suc, _+_, _-_, _≤_, _<_, max}
 use native.Mathlib.Nat.{sub-self, le-refl, eq-or-lt-of-le, add-zero, add-suc}
 use native.Mathlib.Omega.{arith}
-use Rattle.pricing_laws.specs.Peak.{peak-from, peak}
+use Rattle.pricing_laws.specs.Peak.{peakFrom, peak}
 
 module _ (top : ℕ → ℕ) (n : ℕ) where
   pub peak-last : peak top n n ≡ top n
-  unfolding peak peak-from
+  unfolding peak peakFrom
   peak-last = rw sub-self
 
   pub peak-before : (i : ℕ) → i < n → peak top n i ≡ max (top i) (peak top n (suc i))
-  unfolding peak peak-from
+  unfolding peak peakFrom
   peak-before i h = let e : n - i ≡ suc (n - suc i) = omega arith in rw e
 
   -- more rows have no smaller peak

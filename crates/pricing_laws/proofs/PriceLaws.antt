@@ -6,17 +6,18 @@ use native.Mathlib.Nat.{mul-assoc, mul-le-mul-right, le-refl}
 use native.Mathlib.Omega.{arith}
 use native.Mathlib.Decide.{le-ind}
 use lib.Dec.{lit≤}
-use Rattle.arithmetic.specs.Rounding.{one, up, Rounds}
+use Rattle.arithmetic.specs.Rounding.{one, roundUp, Rounds}
+use Rattle.arithmetic.specs.Within.{Within}
 use Rattle.arithmetic.specs.Sum.{greatest}
 use Rattle.arithmetic.proofs.RoundingLaws.{down-rounds}
 use Rattle.arithmetic.proofs.SumLaws.{greatest-ge, greatest-le, greatest-cong}
-use Rattle.tree.specs.Tree.{Tree, Sound, whole, unit}
+use Rattle.tree.specs.Tree.{Tree, Sound, probabilityTotal, unit}
 use Rattle.tree.proofs.StepLaws.{outgoing-cong}
-use Rattle.pricing_laws.specs.Pricer.{bond, Side, Schedule, option, error-bound-from, error-bound}
-use Rattle.pricing_laws.specs.Schedule.{side-of, schedule-of}
-use Rattle.pricing_laws.specs.TreePricer.{roll-rounding, roll-loss, node-roll, roll, exact-roll, engine, exact, greatest-discount, price-error-bound}
+use Rattle.pricing_laws.specs.Pricer.{bond, Side, Schedule, option, errorBoundFrom, errorBound}
+use Rattle.pricing_laws.specs.Schedule.{sideOf, scheduleOf}
+use Rattle.pricing_laws.specs.TreePricer.{rollRounding, rollLoss, nodeRoll, roll, exactRoll, engine, exact, greatestDiscount, priceErrorBound}
 use Rattle.pricing_laws.proofs.Near.{near-average, near-discount}
-use Rattle.pricing_laws.proofs.Accuracy.{Within, Close, bond-within, option-within, bond-below, loss-a-step}
+use Rattle.pricing_laws.proofs.Accuracy.{Close, bond-within, option-within, bond-below, loss-a-step}
 use Rattle.pricing_laws.proofs.Recurrences.{schedule-last}
 use Rattle.pricing_laws.proofs.Backward.{Greatest, Local}
 
@@ -33,21 +34,21 @@ abbrev pub cost : ℕ → (ℕ → ℕ) → ℕ → ℕ
 cost halves greatest i = greatest i * halves + one * halves
 
 -- the rounding of the engine's rolls, in half billionths: never above the exact quotient, and less than 2 below it
-pub roll-rounds : Rounds roll-rounding 0 2
+pub roll-rounds : Rounds rollRounding 0 2
 roll-rounds = down-rounds
 
 -- One roll step, under any rounding: values near the exact ones give values near the exact ones.
 pub roll-close :
     (divide : ℕ → ℕ → ℕ) (over under : ℕ) → Rounds divide over under → (t : Tree) → Sound t → (discount : ℕ → ℕ → ℕ) (n : ℕ) →
-    Close n unit (On t) (roll t discount divide) (exact-roll t discount) (greatest-discount t discount)
-    (cost over (greatest-discount t discount)) (cost under (greatest-discount t discount))
-unfolding roll node-roll exact-roll greatest-discount
+    Close n unit (On t) (roll t discount divide) (exactRoll t discount) (greatestDiscount t discount)
+    (cost over (greatestDiscount t discount)) (cost under (greatestDiscount t discount))
+unfolding roll nodeRoll exactRoll greatestDiscount
 roll-close divide over under rounds t sound discount n =
     record {
       roll-near = λ i hi v x l u l' u' M hl hu near k hk.
-          let e : M * whole * one ≡ M * unit = mul-assoc M whole one in
+          let e : M * probabilityTotal * one ≡ M * unit = mul-assoc M probabilityTotal one in
           rw (← e)
-          (near-discount divide over under rounds (l + over) (u + under) l' u' (M * whole) _ _ (discount i k) _
+          (near-discount divide over under rounds (l + over) (u + under) l' u' (M * probabilityTotal) _ _ (discount i k) _
           (greatest-ge (t .nodes i) (discount i) k hk) (omega arith) (omega arith)
           (near-average divide over under rounds (t .step i) (t .nodes i) (t .nodes (suc i)) (sound .inside i) (sound .total i) v x l u M near k hk));
     }
@@ -56,51 +57,51 @@ roll-close divide over under rounds t sound discount n =
 pub roll-same :
     (t : Tree) → Sound t → (discount : ℕ → ℕ → ℕ) (divide : ℕ → ℕ → ℕ) (i : ℕ) (v w : ℕ → ℕ) → ((j : ℕ) → j < t .nodes (suc i) → v j ≡ w j) →
     (k : ℕ) → k < t .nodes i → roll t discount divide i v k ≡ roll t discount divide i w k
-unfolding roll node-roll
+unfolding roll nodeRoll
 roll-same t sound discount divide i v w h k hk =
     rw (outgoing-cong (t .step i) (t .nodes i) (t .nodes (suc i)) (sound .inside i) v w k hk h)
 
 -- a loss a step covers the two roundings, where 2,100,000,000 times the rounding's halves are at most twice the loss in billionths
 cost-covered :
     (t : Tree) (discount : ℕ → ℕ → ℕ) (n loss halves : ℕ) → Discounts-at-most 1100000000 t discount n → 2100000000 * halves ≤ one * (2 * loss) →
-    (i : ℕ) → i < n → cost halves (greatest-discount t discount) i ≤ one * (2 * loss)
-unfolding greatest-discount
+    (i : ℕ) → i < n → cost halves (greatestDiscount t discount) i ≤ one * (2 * loss)
+unfolding greatestDiscount
 cost-covered t discount n loss halves hd h i hi =
     omega (arith, mul-le-mul-right halves (greatest-le (t .nodes i) (discount i) 1100000000 (λ k l. hd i k hi l)))
 
 module _ (t : Tree) (sound : Sound t) (discount : ℕ → ℕ → ℕ) (n : ℕ) (hd : Discounts-at-most 1100000000 t discount n) (flow : ℕ → ℕ) where
   -- the bond's price is within its error bound
   pub bond-accurate :
-      Within (price-error-bound t discount n 0) (unit ^ n) (bond (engine t discount) flow n 0 0) (bond (exact t discount) flow n 0 0)
+      Within (priceErrorBound t discount n 0) (unit ^ n) (bond (engine t discount) flow n 0 0) (bond (exact t discount) flow n 0 0)
   bond-accurate =
-      bond-within n unit roll-loss (On t) _ _ _ _ _ (roll-close roll-rounding 0 2 roll-rounds t sound discount n)
-      (cost-covered t discount n roll-loss 0 hd (omega arith)) (cost-covered t discount n roll-loss 2 hd (omega arith)) flow 0
+      bond-within n unit rollLoss (On t) _ _ _ _ _ (roll-close rollRounding 0 2 roll-rounds t sound discount n)
+      (cost-covered t discount n rollLoss 0 hd (omega arith)) (cost-covered t discount n rollLoss 2 hd (omega arith)) flow 0
       (omega (arith, sound .root))
 
   -- and never above the exact price
   pub bond-never-above : bond (engine t discount) flow n 0 0 * unit ^ n ≤ bond (exact t discount) flow n 0 0
   bond-never-above =
-      bond-below n unit roll-loss (On t) _ _ _ _ _ (roll-close roll-rounding 0 2 roll-rounds t sound discount n)
-      (cost-covered t discount n roll-loss 0 hd (omega arith)) (cost-covered t discount n roll-loss 2 hd (omega arith)) (λ i. omega arith) flow 0
+      bond-below n unit rollLoss (On t) _ _ _ _ _ (roll-close rollRounding 0 2 roll-rounds t sound discount n)
+      (cost-covered t discount n rollLoss 0 hd (omega arith)) (cost-covered t discount n rollLoss 2 hd (omega arith)) (λ i. omega arith) flow 0
       (omega (arith, sound .root))
 
   -- the option's price is within the same error bound, whatever its schedule
   pub option-accurate :
       (side : Side) (strike : ℕ) (rows : Schedule) → rows .last ≤ n →
-      Within (price-error-bound t discount n 0) (unit ^ n)
+      Within (priceErrorBound t discount n 0) (unit ^ n)
       (option (engine t discount) flow n side strike rows 0 0) (option (exact t discount) flow n side strike rows 0 0)
   option-accurate side strike rows h =
-      option-within n unit roll-loss (On t) _ _ _ _ _ (roll-close roll-rounding 0 2 roll-rounds t sound discount n)
-      (cost-covered t discount n roll-loss 0 hd (omega arith)) (cost-covered t discount n roll-loss 2 hd (omega arith)) flow side strike rows h 0
+      option-within n unit rollLoss (On t) _ _ _ _ _ (roll-close rollRounding 0 2 roll-rounds t sound discount n)
+      (cost-covered t discount n rollLoss 0 hd (omega arith)) (cost-covered t discount n rollLoss 2 hd (omega arith)) flow side strike rows h 0
       (omega (arith, sound .root))
 
   -- so for each of the four kinds
   pub kind-accurate :
       (kind expiry strike : ℕ) → expiry ≤ n →
-      Within (price-error-bound t discount n 0) (unit ^ n)
-      (option (engine t discount) flow n (side-of kind) strike (schedule-of kind expiry) 0 0)
-      (option (exact t discount) flow n (side-of kind) strike (schedule-of kind expiry) 0 0)
-  kind-accurate kind expiry strike h = option-accurate (side-of kind) strike (schedule-of kind expiry) (omega (arith, schedule-last kind expiry))
+      Within (priceErrorBound t discount n 0) (unit ^ n)
+      (option (engine t discount) flow n (sideOf kind) strike (scheduleOf kind expiry) 0 0)
+      (option (exact t discount) flow n (sideOf kind) strike (scheduleOf kind expiry) 0 0)
+  kind-accurate kind expiry strike h = option-accurate (sideOf kind) strike (scheduleOf kind expiry) (omega (arith, schedule-last kind expiry))
 
 -- what the laws of a walk back use: the greatest value of a row, and that a roll is local
 pub row-greatest : (t : Tree) → Greatest (On t) (λ i v. greatest (t .nodes i) v)
@@ -127,26 +128,26 @@ ceiling-grows : (s r : ℕ) → s ≤ r → ceiling s ≤ ceiling r
 unfolding ceiling
 ceiling-grows s r h = le-ind (λ (m : ℕ). ceiling s ≤ ceiling m) (le-refl (ceiling s)) (λ m _ p. omega arith) r h
 
-ceiling-step : (g a c : ℕ) → g ≤ 1100000000 → a ≤ c → up (g * a) one + 3 ≤ 11 * c / 10 + 5
-unfolding up
+ceiling-step : (g a c : ℕ) → g ≤ 1100000000 → a ≤ c → roundUp (g * a) one + 3 ≤ 11 * c / 10 + 5
+unfolding roundUp
 ceiling-step g a c hg ha = omega (arith, mul-le-mul-right a hg)
 
 module _ (t : Tree) (discount : ℕ → ℕ → ℕ) (n : ℕ) (hd : Discounts-at-most 1100000000 t discount n) where
-  bound-ceiling : (s i : ℕ) → i + s ≡ n → error-bound-from roll-loss (greatest-discount t discount) s i ≤ ceiling s
-  unfolding error-bound-from ceiling greatest-discount
+  bound-ceiling : (s i : ℕ) → i + s ≡ n → errorBoundFrom rollLoss (greatestDiscount t discount) s i ≤ ceiling s
+  unfolding errorBoundFrom ceiling greatestDiscount
   bound-ceiling zero i e = omega arith
   bound-ceiling (suc s) i e =
       ceiling-step _ _ _ (greatest-le (t .nodes i) (discount i) 1100000000 (λ k l. hd i k (omega arith) l)) (bound-ceiling s (suc i) (omega arith))
 
   -- the error bound of every row of at most 60 steps is small
-  pub error-bound-small : n ≤ 60 → (i : ℕ) → i ≤ n → price-error-bound t discount n i ≤ 1000000
-  unfolding error-bound
+  pub error-bound-small : n ≤ 60 → (i : ℕ) → i ≤ n → priceErrorBound t discount n i ≤ 1000000
+  unfolding errorBound
   error-bound-small few i h =
       omega (arith, bound-ceiling (n - i) i (omega arith), ceiling-grows (n - i) 60 (omega arith), ceiling-60)
 
 -- where no discount is above one: at most 3 a step
 pub error-bound-a-step :
-    (t : Tree) (discount : ℕ → ℕ → ℕ) (n : ℕ) → Discounts-at-most one t discount n → price-error-bound t discount n 0 ≤ 3 * n
-unfolding greatest-discount
+    (t : Tree) (discount : ℕ → ℕ → ℕ) (n : ℕ) → Discounts-at-most one t discount n → priceErrorBound t discount n 0 ≤ 3 * n
+unfolding greatestDiscount
 error-bound-a-step t discount n h =
-    loss-a-step 3 (greatest-discount t discount) n (λ i hi. greatest-le (t .nodes i) (discount i) one (λ k l. h i k hi l))
+    loss-a-step 3 (greatestDiscount t discount) n (λ i hi. greatest-le (t .nodes i) (discount i) one (λ k l. h i k hi l))

@@ -4,7 +4,7 @@ use mathlib.Core.Path.{_≡_, refl, ap, ap₂, _∙_}
 use mathlib.Core.Bool.{Bool}
 use Prim.Native.Nat.{ℕ, zero, suc, _+_, _-_, _≤_, _<_}
 use native.Mathlib.Omega.{arith}
-use Rattle.pricing_laws.specs.Pricer.{Pricer, Side, Schedule, exercise-row, held-or-exercised, option-from, option}
+use Rattle.pricing_laws.specs.Pricer.{Pricer, Side, Schedule, exerciseRow, heldOrExercised, optionFrom, option}
 
 -- two schedules that end on one row and list the same rows before it
 pub record Alike (rows other : Schedule) : Type 0 where
@@ -14,11 +14,11 @@ pub record Alike (rows other : Schedule) : Type 0 where
 module _ {Node : Type 0} (p : Pricer Node) (flow : ℕ → ℕ) (n : ℕ) (side : Side) (strike : ℕ) where
   from-alike :
       (f g : ℕ → Bool) (s i : ℕ) → ((j : ℕ) → i ≤ j → j < i + s → f j ≡ g j) →
-      option-from p flow n side strike f s i ≡ option-from p flow n side strike g s i
-  unfolding option-from
+      optionFrom p flow n side strike f s i ≡ optionFrom p flow n side strike g s i
+  unfolding optionFrom
   from-alike f g zero i h = refl
   from-alike f g (suc s) i h =
-      ap₂ {C = Node → ℕ} (λ (t : Bool) (v : Node → ℕ). λ k. held-or-exercised t (p .roll i v k) (exercise-row p flow n side strike i k))
+      ap₂ {C = Node → ℕ} (λ (t : Bool) (v : Node → ℕ). λ k. heldOrExercised t (p .roll i v k) (exerciseRow p flow n side strike i k))
       (h i (omega arith) (omega arith)) (from-alike f g s (suc i) (λ j l m. h j (omega arith) (omega arith)))
 
   pub option-alike :
@@ -27,4 +27,4 @@ module _ {Node : Type 0} (p : Pricer Node) (flow : ℕ → ℕ) (n : ℕ) (side 
   unfolding option
   option-alike rows other a i =
       from-alike (rows .listed) (other .listed) (rows .last - i) i (λ j l m. a .listed j (omega arith))
-      ∙ ap (λ (last : ℕ). option-from p flow n side strike (other .listed) (last - i) i) (a .last)
+      ∙ ap (λ (last : ℕ). optionFrom p flow n side strike (other .listed) (last - i) i) (a .last)

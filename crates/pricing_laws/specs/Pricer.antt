@@ -3,7 +3,7 @@
 -- Assumes nothing.
 use Prim.Native.Nat.{ℕ, zero, suc, _+_, _-_, _*_, _^_, max}
 use mathlib.Core.Bool.{Bool, true, false}
-use Rattle.arithmetic.specs.Rounding.{one, up}
+use Rattle.arithmetic.specs.Rounding.{one, roundUp}
 
 -- roll i v k: the value at node k of row i of values v on the next row.
 -- held s x: the amount x on a row from which s rows are left to the last one.
@@ -22,27 +22,27 @@ fractions unit roll = record { roll = roll; held = λ s x. x * unit ^ s }
 -- Bond: the flow at row n; before, the roll plus the row's flow. Row 0 has none: flow 0 is 0.
 module _ {Node : Type 0} (p : Pricer Node) (flow : ℕ → ℕ) where
   -- with the flow of its row, at row i with s rows left
-  unfoldable pub bond-from : ℕ → ℕ → Node → ℕ
-  bond-from zero i = λ k. p .held 0 (flow i)
-  bond-from (suc s) i = λ k. p .roll i (bond-from s (suc i)) k + p .held (suc s) (flow i)
+  unfoldable pub bondFrom : ℕ → ℕ → Node → ℕ
+  bondFrom zero i = λ k. p .held 0 (flow i)
+  bondFrom (suc s) i = λ k. p .roll i (bondFrom s (suc i)) k + p .held (suc s) (flow i)
 
   -- without the flow of its row; at row n the bond is then repaid
-  unfoldable pub bare-bond-from : ℕ → ℕ → Node → ℕ
-  bare-bond-from zero i = λ k. 0
-  bare-bond-from (suc s) i = p .roll i (bond-from s (suc i))
+  unfoldable pub bareBondFrom : ℕ → ℕ → Node → ℕ
+  bareBondFrom zero i = λ k. 0
+  bareBondFrom (suc s) i = p .roll i (bondFrom s (suc i))
 
   -- with and without the flow of row i, of a bond that ends at row n
   unfoldable pub bond : ℕ → ℕ → Node → ℕ
-  bond n i = bond-from (n - i) i
+  bond n i = bondFrom (n - i) i
 
-  unfoldable pub bare-bond : ℕ → ℕ → Node → ℕ
-  bare-bond n i = bare-bond-from (n - i) i
+  unfoldable pub bareBond : ℕ → ℕ → Node → ℕ
+  bareBond n i = bareBondFrom (n - i) i
 
 -- Payoffs on a row, rolled back without flows: the value at row i of payoffs on row i + s.
 module _ {Node : Type 0} (p : Pricer Node) (payoff : Node → ℕ) where
-  unfoldable pub payoff-value : ℕ → ℕ → Node → ℕ
-  payoff-value zero i = λ k. p .held 0 (payoff k)
-  payoff-value (suc s) i = p .roll i (payoff-value s (suc i))
+  unfoldable pub payoffValue : ℕ → ℕ → Node → ℕ
+  payoffValue zero i = λ k. p .held 0 (payoff k)
+  payoffValue (suc s) i = p .roll i (payoffValue s (suc i))
 
 pub data Side : Type 0 where
   call put : Side
@@ -58,30 +58,30 @@ pub record Schedule : Type 0 where
   pub listed : ℕ → Bool
 
 -- before expiry: on a row that is listed the larger of roll and exercise, on any other the roll
-unfoldable pub held-or-exercised : Bool → ℕ → ℕ → ℕ
-held-or-exercised true roll now = max roll now
-held-or-exercised false roll now = roll
+unfoldable pub heldOrExercised : Bool → ℕ → ℕ → ℕ
+heldOrExercised true roll now = max roll now
+heldOrExercised false roll now = roll
 
 -- The option on a bond that ends at row n.
 module _ {Node : Type 0} (p : Pricer Node) (flow : ℕ → ℕ) (n : ℕ) (side : Side) (strike : ℕ) where
   -- the exercise value at row i: on the bond with the flow of its row
-  unfoldable pub exercise-row : ℕ → Node → ℕ
-  exercise-row i = λ k. exercise side (p .held (n - i) strike) (bond p flow n i k)
+  unfoldable pub exerciseRow : ℕ → Node → ℕ
+  exerciseRow i = λ k. exercise side (p .held (n - i) strike) (bond p flow n i k)
 
   -- at row i, with s rows left to expiry
-  unfoldable pub option-from : (ℕ → Bool) → ℕ → ℕ → Node → ℕ
-  option-from listed zero i = exercise-row i
-  option-from listed (suc s) i = λ k. held-or-exercised (listed i) (p .roll i (option-from listed s (suc i)) k) (exercise-row i k)
+  unfoldable pub optionFrom : (ℕ → Bool) → ℕ → ℕ → Node → ℕ
+  optionFrom listed zero i = exerciseRow i
+  optionFrom listed (suc s) i = λ k. heldOrExercised (listed i) (p .roll i (optionFrom listed s (suc i)) k) (exerciseRow i k)
 
   unfoldable pub option : Schedule → ℕ → Node → ℕ
-  option rows i = option-from (rows .listed) (rows .last - i) i
+  option rows i = optionFrom (rows .listed) (rows .last - i) i
 
 -- The error bound of prices (document 01: price allowance), with the greatest discount of each row: 0 at row n, then greatest × later bound
 -- / one, up, plus a loss for each step.
 module _ (loss : ℕ) (greatest : ℕ → ℕ) where
-  unfoldable pub error-bound-from : ℕ → ℕ → ℕ
-  error-bound-from zero i = 0
-  error-bound-from (suc s) i = up (greatest i * error-bound-from s (suc i)) one + loss
+  unfoldable pub errorBoundFrom : ℕ → ℕ → ℕ
+  errorBoundFrom zero i = 0
+  errorBoundFrom (suc s) i = roundUp (greatest i * errorBoundFrom s (suc i)) one + loss
 
-  unfoldable pub error-bound : ℕ → ℕ → ℕ
-  error-bound n i = error-bound-from (n - i) i
+  unfoldable pub errorBound : ℕ → ℕ → ℕ
+  errorBound n i = errorBoundFrom (n - i) i

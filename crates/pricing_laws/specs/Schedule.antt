@@ -16,11 +16,11 @@ unfoldable pub american : ℕ → Schedule
 american expiry = record { last = expiry; listed = λ i. true }
 
 -- kinds 1 European call, 2 European put, 3 American call, 4 American put
-unfoldable pub side-of : ℕ → Side
-side-of kind = cond (eqb kind 1 || eqb kind 3) call put
+unfoldable pub sideOf : ℕ → Side
+sideOf kind = cond (eqb kind 1 || eqb kind 3) call put
 
-unfoldable pub schedule-of : ℕ → ℕ → Schedule
-schedule-of kind expiry = cond (leb 3 kind) (american expiry) (european expiry)
+unfoldable pub scheduleOf : ℕ → ℕ → Schedule
+scheduleOf kind expiry = cond (leb 3 kind) (american expiry) (european expiry)
 
 -- the rows that marks name: row i where mark i is 1
 unfoldable pub marked : ℕ → List ℕ → Schedule

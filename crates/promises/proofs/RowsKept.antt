@@ -1,19 +1,19 @@
 -- Engine and exact pricer row by row, and the entries' answers by them.
 -- Assumes nothing.
-use mathlib.Core.Path.{_≡_, refl}
+use mathlib.Core.Path.{refl}
 use mathlib.Core.List.{List}
 use Prim.Native.Nat.{ℕ}
 use Rattle.tree.specs.Tree.{Tree}
 use Rattle.pricing_laws.specs.Pricer.{Side}
 use Rattle.pricing_laws.proofs.Recurrences as rows
-use Rattle.price_bound.specs.PriceBound.{bound-of}
-use Rattle.pricing.specs.Prices.{bond-at, option-at}
-use Rattle.pricing.specs.Exact.{exact-bond, exact-option}
+use Rattle.price_bound.specs.PriceBound.{treeErrorBound}
+use Rattle.pricing.specs.Prices.{bondValue, optionValue}
+use Rattle.pricing.specs.Exact.{exactBond, exactOption}
 use Rattle.pricing.proofs.Accuracy as prices
-use Rattle.promises.specs.Promises.{Engine-rows, Exact-rows, Bound-rows, Priced-by-rows}
+use Rattle.promises.specs.Promises.{EngineRows, ExactRows, BoundRows, PricedByRows}
 
 module _ (t : Tree) (discount : ℕ → ℕ → ℕ) (flow : ℕ → ℕ) (n : ℕ) (side : Side) (strike expiry : ℕ) where
-  pub engine-kept : Engine-rows t discount flow n side strike expiry
+  pub engine-kept : EngineRows t discount flow n side strike expiry
   engine-kept =
       record {
         bond-last = rows.engine-bond-last t discount flow n;
@@ -23,7 +23,7 @@ module _ (t : Tree) (discount : ℕ → ℕ → ℕ) (flow : ℕ → ℕ) (n : �
         american-before = rows.engine-american-before t discount flow n side strike expiry;
       }
 
-  pub exact-kept : Exact-rows t discount flow n side strike expiry
+  pub exact-kept : ExactRows t discount flow n side strike expiry
   exact-kept =
       record {
         bond-last = rows.exact-bond-last t discount flow n;
@@ -35,11 +35,11 @@ module _ (t : Tree) (discount : ℕ → ℕ → ℕ) (flow : ℕ → ℕ) (n : �
         payoff-before = rows.exact-payoff-before t discount flow n;
       }
 
-pub bound-kept : (t : Tree) (discount : ℕ → ℕ → ℕ) (n : ℕ) → Bound-rows t discount n
+pub bound-kept : (t : Tree) (discount : ℕ → ℕ → ℕ) (n : ℕ) → BoundRows t discount n
 bound-kept t discount n = record { last = rows.price-error-bound-last t discount n; before = rows.price-error-bound-before t discount n }
 
-pub priced-kept : (n b : ℕ) (discounts flows : List ℕ) → Priced-by-rows n b discounts flows
-unfolding bond-at option-at bound-of exact-bond exact-option
+pub priced-kept : (n b : ℕ) (discounts flows : List ℕ) → PricedByRows n b discounts flows
+unfolding bondValue optionValue treeErrorBound exactBond exactOption
 priced-kept n b discounts flows =
     record {
       bond-is = λ z. prices.bond-given n b discounts flows z .value;

@@ -2,8 +2,7 @@
 -- Assumes nothing.
 use mathlib.Core.Path.{_≡_, refl, ap, sym, subst, _∙_}
 use mathlib.Core.Bool.{Bool, true, false, cond, not}
-use mathlib.Core.List.{List}
-use Prim.Native.Nat.{ℕ, suc, _*_, _≤_, _<_}
+use Prim.Native.Nat.{ℕ, _*_, _≤_}
 use native.Mathlib.Nat.{pos-of-ne-zero}
 use native.Mathlib.Omega.{arith}
 use lib.Dec.{ltb, leb}
@@ -11,45 +10,45 @@ use lib.IntN.{ℤ, natAbs, pos}
 use lib.Signed.{ltZ}
 use borrow.Author.Tests.{ltb-false, leb-true}
 use Rattle.arithmetic.specs.Rounding.{one}
+use Rattle.arithmetic.specs.Within.{Within}
 use Rattle.arithmetic.specs.Frequency.{listed}
 use Rattle.arithmetic.specs.Answers.{refused, answered}
 use Rattle.arithmetic.proofs.FrequencyLaws.{listed-small}
 use Rattle.arithmetic.proofs.Numbers.{by-order, by-equal}
-use Rattle.lattice.specs.Shape.{half-width}
+use Rattle.lattice.specs.Shape.{halfWidth}
 use Rattle.lattice.specs.Entries.{branchAnswer, branchOf, refusedBranch}
-use Rattle.lattice.specs.declared.Branches.{Branches}
 use Rattle.lattice.specs.Branching.{change, square, squared}
 use Rattle.lattice.proofs.Sizes.{within-row, start-first, start-suc}
 use Rattle.lattice.proofs.Landing.{lands}
 use Rattle.lattice.proofs.Nodes.{node-laws}
-use Rattle.spacing.specs.Spacing.{spacing, spacing-answer}
+use Rattle.spacing.specs.Spacing.{spacing, spacingAnswer}
 use Rattle.spacing.proofs.SpacingLaws.{spacing-passes, root-greatest, cube-positive}
 use Rattle.factor.specs.Series.{scale}
-use Rattle.factor.specs.Factor.{factor, exact-factor, node-answer}
+use Rattle.factor.specs.Factor.{factor, exactFactor, nodeAnswer}
 use Rattle.factor.proofs.FactorLaws.{factor-within}
 use Rattle.step_rate.specs.StepRate.{rateAnswer}
 use Rattle.step_rate.specs.declared.Rate.{Rate}
 use Rattle.step_rate.proofs.RateLaws.{answer-zero, answer-high, answer-sign}
 use Rattle.fitting.proofs.Promised.{fit-repriced}
-use Rattle.promises.specs.Promises.{Near, Branched, Spaced, Tree-promises}
+use Rattle.promises.specs.Promises.{Branched, Spaced, TreePromises}
 use Rattle.promises.proofs.StatePricesKept.{state-prices-kept}
 
 -- a branch that is not refused leaves a node of the row, and is that node's
 branch-given :
-    (b i : ℕ) (j : ℤ) → branchAnswer b i j .number ≡ 0 → (b ≤ 6000) × (natAbs j ≤ half-width b i) × (branchAnswer b i j ≡ branchOf b j)
+    (b i : ℕ) (j : ℤ) → branchAnswer b i j .number ≡ 0 → (b ≤ 6000) × (natAbs j ≤ halfWidth b i) × (branchAnswer b i j ≡ branchOf b j)
 unfolding branchAnswer
-branch-given b i j z = go (ltb 6000 b) (leb 60 i) (leb (natAbs j) (half-width b i)) refl refl z
+branch-given b i j z = go (ltb 6000 b) (leb 60 i) (leb (natAbs j) (halfWidth b i)) refl refl z
   where
-    go : (s t u : Bool) → ltb 6000 b ≡ s → leb (natAbs j) (half-width b i) ≡ u →
+    go : (s t u : Bool) → ltb 6000 b ≡ s → leb (natAbs j) (halfWidth b i) ≡ u →
         cond s (refusedBranch 4) (cond t (refusedBranch 6) (cond u (branchOf b j) (refusedBranch 6))) .number ≡ 0 →
-        (b ≤ 6000) × (natAbs j ≤ half-width b i)
+        (b ≤ 6000) × (natAbs j ≤ halfWidth b i)
         × (cond s (refusedBranch 4) (cond t (refusedBranch 6) (cond u (branchOf b j) (refusedBranch 6))) ≡ branchOf b j)
     go true t u e f k = absurd (omega arith)
     go false true u e f k = absurd (omega arith)
-    go false false true e f k = (ltb-false 6000 b e, leb-true (natAbs j) (half-width b i) f, refl)
+    go false false true e f k = (ltb-false 6000 b e, leb-true (natAbs j) (halfWidth b i) f, refl)
     go false false false e f k = absurd (omega arith)
 
-branched : (b i : ℕ) (j : ℤ) → b ≤ 6000 → natAbs j ≤ half-width b i → Branched b i j (branchOf b j)
+branched : (b i : ℕ) (j : ℤ) → b ≤ 6000 → natAbs j ≤ halfWidth b i → Branched b i j (branchOf b j)
 unfolding change square squared
 branched b i j hb h =
     let n = node-laws b j hb (within-row b i (natAbs j) h) in
@@ -65,8 +64,8 @@ branched b i j hb h =
     }
 
 -- the spacing and the factor, where they are answered
-spaced : (f s : ℕ) → spacing-answer f s .number ≡ 0 → Spaced f s (spacing-answer f s .value)
-unfolding spacing-answer spacing
+spaced : (f s : ℕ) → spacingAnswer f s .number ≡ 0 → Spaced f s (spacingAnswer f s .value)
+unfolding spacingAnswer spacing
 spaced f s z = go (listed f) (ltb 50000 s) refl z
   where
     go : (t u : Bool) → listed f ≡ t → cond (not t) (refused 2) (cond u (refused 5) (answered (spacing f s))) .number ≡ 0 →
@@ -79,14 +78,14 @@ spaced f s z = go (listed f) (ltb 50000 s) refl z
           greatest = root-greatest (f * f * f) (3 * (1000 * s * (1000 * s))) (cube-positive (omega (arith, listed-small f e .0)));
         }
 
-factor-near : (j : ℤ) (h : ℕ) → node-answer j h .number ≡ 0 → Near scale 14 (node-answer j h .value) (exact-factor j h)
-unfolding node-answer
+factor-near : (j : ℤ) (h : ℕ) → nodeAnswer j h .number ≡ 0 → Within 14 scale (nodeAnswer j h .value) (exactFactor j h)
+unfolding nodeAnswer
 factor-near j h z = go (ltb one (natAbs j * h)) refl z
   where
     go : (t : Bool) → ltb one (natAbs j * h) ≡ t → cond t (refused 8) (answered (factor j h)) .number ≡ 0 →
-        Near scale 14 (cond t (refused 8) (answered (factor j h)) .value) (exact-factor j h)
+        Within 14 scale (cond t (refused 8) (answered (factor j h)) .value) (exactFactor j h)
     go true e k = absurd (omega arith)
-    go false e k = let w = factor-within j h (ltb-false one (natAbs j * h) e) in record { above = w .above; below = w .below }
+    go false e k = factor-within j h (ltb-false one (natAbs j * h) e)
 
 sign : (v : ℕ) → rateAnswer v .number ≡ 0 →
     (ltZ (rateAnswer v .value) (pos 0) ≡ ltb one v) × (ltZ (pos 0) (rateAnswer v .value) ≡ ltb v one)
@@ -100,7 +99,7 @@ sign v z =
     apart : _≡_ {A = ℕ} 9 0 → ⊥
     apart k = omega arith
 
-pub tree-kept : Tree-promises
+pub tree-kept : TreePromises
 tree-kept =
     record {
       branches-exact =

@@ -13,7 +13,7 @@ use mir.Syntax.{w64}
 use mir.Val.{SFits, toZ, ofZ}
 use mir.Facts.{toZ-ofZ, toZ-pos}
 use Rattle.quotes.specs.Quotes.{quotient}
-use Rattle.arithmetic.specs.Rounding.{down}
+use Rattle.arithmetic.specs.Rounding.{roundDown}
 use Rattle.arithmetic.proofs.Signed.{abs-sum, abs-product, fits-by-size}
 
 -- ---- a quotient by the divisor's sign
@@ -25,7 +25,7 @@ quotient-none n (pos (suc d)) h = let l : suc d ≤ 0 = leb-true (suc d) 0 h in 
 quotient-none n (negsuc d) h = refl
 
 pub quotient-some : (n : ℕ) (z : ℤ) → leZ z (pos 0) ≡ false → T (nonNeg z) × (0 < natAbs z) × (quotient n z ≡ n / natAbs z)
-unfolding quotient down
+unfolding quotient roundDown
 quotient-some n (pos zero) h = let l : 0 < 0 = leb-false 0 0 h in let none : ⊥ = omega arith in absurd none
 quotient-some n (pos (suc d)) h = (tt, leb-false (suc d) 0 h, refl)
 quotient-some n (negsuc d) h = let z : _≡_ {A = ℕ} 0 1 = cc in let none : ⊥ = omega arith in absurd none

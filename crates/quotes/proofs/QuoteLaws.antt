@@ -1,11 +1,11 @@
 -- The cases of a quote's answer, and what a caller learns from one.
 -- Assumes nothing.
 use mathlib.Core.Path.{_≡_, refl, sym, _∙_, ap}
-use mathlib.Core.Bool.{Bool, true, false, not, cond, _&&_, _||_}
+use mathlib.Core.Bool.{Bool, true, false, not, cond, _&&_}
 use mathlib.Core.Logic.{_⊎_, inl, inr}
 use Prim.Native.Nat.{ℕ, suc, _≤_, _<_}
 use native.Mathlib.Omega.{arith}
-use borrow.Author.Tests.{eqb-true, ne-eqb, lt-leb, le-leb, leb-true, ltb-true}
+use borrow.Author.Tests.{lt-leb, le-leb, leb-true, ltb-true}
 use lib.Dec.{T, eqb, leb}
 use lib.IntN.{ℤ, pos, negsuc, natAbs}
 use lib.Signed.{ltZ, nonNeg}
@@ -54,10 +54,6 @@ row-high t l h = between-high 1 60 t l h
 pub row-known : (t : ℕ) → 1 ≤ t → t ≤ 60 → rowKnown t ≡ true
 unfolding rowKnown
 row-known t l h = between-known 1 60 t l h
-
-pub row-bounds : (t : ℕ) → rowKnown t ≡ true → (1 ≤ t) × (t ≤ 60)
-unfolding rowKnown
-row-bounds t h = between-bounds 1 60 t h
 
 pub range-bounds : (p : ℕ) → inRange p ≡ true → (100000000 ≤ p) × (p ≤ 2000000000)
 unfolding inRange

@@ -1,14 +1,14 @@
 -- What a quoted point gives (document 01, Quotes): its discount P in billionths, or a refusal.
 -- Assumes nothing.
 use Prim.Native.Nat.{ℕ, zero, suc, _*_}
-use mathlib.Core.Bool.{Bool, not, cond, _&&_, _||_}
+use mathlib.Core.Bool.{Bool, not, cond, _&&_}
 use lib.Dec.{leb, eqb}
 use lib.IntN.{ℤ, pos, negsuc, _+ℤ_, _*ℤ_}
 use lib.Ieee.{Float}
 use Rattle.arithmetic.specs.declared.Answer.{Answer}
 use Rattle.arithmetic.specs.Answers.{refused, answered}
 use Rattle.arithmetic.specs.Frequency.{listed}
-use Rattle.arithmetic.specs.Rounding.{one, down}
+use Rattle.arithmetic.specs.Rounding.{one, roundDown}
 use Rattle.figure.specs.Figure.{billionthsOf, beyond}
 use Rattle.quotes.specs.declared.Point.{Point}
 use Rattle.quotes.specs.declared.Quote.{Quote}
@@ -29,9 +29,9 @@ factorDiscount (negsuc r) = 0
 
 -- a quotient, down; 0, which is out of range, where the divisor is 0 or less
 unfoldable pub quotient : ℕ → ℤ → ℕ
-unfolding down
+unfolding roundDown
 quotient n (pos zero) = 0
-quotient n (pos (suc d)) = down n (suc d)
+quotient n (pos (suc d)) = roundDown n (suc d)
 quotient n (negsuc d) = 0
 
 -- P of a yearly rate of r billionths for row t: one × one × f / (f × one + t × r), down

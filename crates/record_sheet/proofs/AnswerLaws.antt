@@ -11,7 +11,7 @@ use Rattle.job_record.specs.declared.Reading.{Reading}
 use Rattle.job_record.specs.Reader.{readingOf}
 use Rattle.text_laws.specs.Put.{Put, withText}
 use Rattle.sheet_laws.specs.WholeJob.{jobNumber, jobText, sheetNumber, sheetText}
-use Rattle.sheet_laws.proofs.SheetLaws.{memory-refused, memory-put, number-refused, number-accepted}
+use Rattle.sheet_laws.proofs.SheetLaws.{memory-refused, memory-put, number-accepted}
 use Rattle.record_sheet.specs.declared.Written.{Written}
 use Rattle.record_sheet.specs.Answers.{refusedSheet, answerOf}
 

@@ -64,9 +64,7 @@ fn draw<'a>(
         &quotes[..steps],
         &discounts[..discount_count.value as usize],
         &state_prices[..price_count.value as usize],
-        prices.bond,
-        prices.has_option,
-        prices.option,
+        prices,
     )
 }
 
@@ -74,7 +72,8 @@ fn draw<'a>(
 // its prices. A refusal leaves the room as it was.
 pub fn sheet_of_record(job: Job, out: &mut [u8]) -> Written
     ensures answer { λ r. ⌜ r ≡ answerOf (jobNumber job (length (now (out .entry)))) (jobText job) ⌝ }
-    ensures memory { λ _. ⌜ now (out .exit) ≡ withText (jobNumber job (length (now (out .entry)))) (now (out .entry)) (length (now (out .entry))) (jobText job) ⌝ }
+    ensures memory { λ _. ⌜ now (out .exit) ≡ withText (jobNumber job (length (now (out .entry)))) (now (out .entry)) (length (now (out .entry)))
+        (jobText job) ⌝ }
 {
     let mut discounts = memories::discounts();
     let mut state_prices = memories::state_prices();

@@ -1,27 +1,25 @@
 // The lines of a priced tree, put into a lent buffer from its end.
 ghost use mathlib.Core.Path.{_≡_};
-ghost use mathlib.Core.Bool.{Bool};
-ghost use Prim.Native.Nat.{ℕ, suc, _+_, _*_, _≤_, _<_};
+ghost use Prim.Native.Nat.{suc, _+_, _*_, _≤_, _<_};
 ghost use lib.ListN.{length};
+ghost use Rattle.arithmetic.specs.Row.{sumOf};
 ghost use Rattle.text_laws.specs.Put.{Put};
-ghost use Rattle.sheet_laws.specs.TreeSheet.{
-  row-part,
-  total,
-  nodeLines,
-  lineOfRow,
-  rowLines,
-  optionLines,
-  priceLines,
-  treeSheet,
-};
+ghost use Rattle.sheet_laws.specs.TreeSheet.{rowPart, nodeLines, lineOfRow, rowLines, optionLines, priceLines, treeSheet};
 ghost use Rattle.sheet_laws.specs.Stored.{Drawing, Stored, Summed};
+use job_prices::JobPrices;
 use node_reader::NodeReader;
 use pricing::Price;
 use row_view::RowKind;
 
+// A tree's number of steps and its reversion.
+struct Tree {
+    steps: usize,
+    reversion: u64,
+}
+
 fn row_total(row: &[u64]) -> u64
-    requires { ⌜ total (now row) ≤ 2000000100 ⌝ }
-    ensures { λ r. ⌜ r ≡ total (now (row .entry)) ⌝ }
+    requires { ⌜ sumOf (now row) ≤ 2000000100 ⌝ }
+    ensures { λ r. ⌜ r ≡ sumOf (now (row .entry)) ⌝ }
 {
     let mut sum = 0u64;
     let mut index = 0usize;
@@ -104,29 +102,33 @@ fn put_all_nodes(
 fn put_row<'a>(
     out: &mut [u8],
     end: usize,
-    steps: usize,
-    reversion: u64,
+    tree: Tree,
     quotes: &[u64],
     discounts: &'a [u64],
     state_prices: &'a [u64],
     before: usize,
 ) -> usize
-    requires { ⌜ (before < steps) × Stored steps reversion (now discounts) (now «state_prices») × (length (now quotes) ≡ steps) ×
-        (total (row-part reversion (now «state_prices») (suc before)) ≤ 2000000100) × (128 ≤ end) × (end ≤ length (now out)) ⌝ }
-    ensures { λ r. ⌜ Put (now (out .entry)) end (lineOfRow steps reversion (now (quotes .entry)) (now (discounts .entry)) (now («state_prices» .entry))
-        before) r (now (out .exit)) ⌝ }
+    requires { ⌜ (before < tree .steps) × Stored (tree .steps) (tree .reversion) (now discounts) (now «state_prices») × (length (now quotes) ≡ tree .steps) ×
+        (sumOf (rowPart (tree .reversion) (now «state_prices») (suc before)) ≤ 2000000100) × (128 ≤ end) × (end ≤ length (now out)) ⌝ }
+    ensures { λ r. ⌜ Put (now (out .entry)) end (lineOfRow (tree .steps) (tree .reversion) (now (quotes .entry)) (now (discounts .entry))
+        (now («state_prices» .entry)) before) r (now (out .exit)) ⌝ }
 {
     let row = before + 1;
     let part = row_view::row_view(
         discounts,
         state_prices,
         RowKind::StatePrices,
-        steps,
-        reversion,
+        tree.steps,
+        tree.reversion,
         row,
     );
     let sum = row_total(part);
-    let bound = state_price_bound::state_price_error_bound(steps, reversion, discounts, row);
+    let bound = state_price_bound::state_price_error_bound(
+        tree.steps,
+        tree.reversion,
+        discounts,
+        row,
+    );
     let line = text::row_line(out, end, row as u64, quotes[before], sum, bound.value);
     line.start
 }
@@ -154,8 +156,7 @@ fn put_rows<'a>(
         start = put_row(
             out,
             start,
-            steps,
-            reversion,
+            Tree { steps, reversion },
             quotes,
             discounts,
             state_prices,
@@ -194,17 +195,18 @@ pub(crate) fn put_sheet<'a>(
     quotes: &[u64],
     discounts: &'a [u64],
     state_prices: &'a [u64],
-    bond: Price,
-    present: bool,
-    option: Price,
+    prices: JobPrices,
 ) -> usize
     requires { ⌜ Stored steps reversion (now discounts) (now «state_prices») × (length (now quotes) ≡ steps) × (468736 ≤ length (now out)) ⌝ }
     requires { ⌜ Summed steps reversion (now «state_prices») ⌝ }
     ensures { λ r. ⌜ Put (now (out .entry)) (length (now (out .entry)))
-        (treeSheet steps reversion (now (quotes .entry)) (now (discounts .entry)) (now («state_prices» .entry)) bond present option) r (now (out .exit)) ⌝ }
+        (treeSheet steps reversion (now (quotes .entry)) (now (discounts .entry)) (now («state_prices» .entry))
+        (prices .bond) (prices .«has_option») (prices .option)) r (now (out .exit)) ⌝ }
 {
     let end = out.len();
-    let prices_start = put_prices(out, end, bond, present, option);
+    let bond = prices.bond;
+    let option = prices.option;
+    let prices_start = put_prices(out, end, bond, prices.has_option, option);
     let rows_start = put_rows(
         out,
         prices_start,

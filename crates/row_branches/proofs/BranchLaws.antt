@@ -1,23 +1,21 @@
 -- A row's branches by the tests that code makes, and what they are on a row of the lattice.
 -- Assumes nothing.
-use mathlib.Core.Path.{_≡_, refl, sym, ap, _∙_}
-use mathlib.Core.Bool.{Bool, true, false, cond, _||_}
+use mathlib.Core.Path.{_≡_, sym, ap, _∙_}
 use mathlib.Core.List.{List, [], _∷_}
-use Prim.Native.Nat.{ℕ, zero, suc, _+_, _-_, _*_, _≤_, _<_}
+use Prim.Native.Nat.{ℕ, suc, _+_, _-_, _*_, _≤_, _<_}
 use native.Mathlib.Omega.{arith}
-use lib.Dec.{eqb, leb, ltb}
 use lib.ListN.{length}
 use borrow.Author.Tests.{eq-eqb, ne-eqb, lt-ltb, le-ltb, le-leb, lt-leb}
 use Rattle.arithmetic.specs.Row.{values}
 use Rattle.arithmetic.proofs.Numbers.{by-order, by-equal}
-use Rattle.tree.specs.Tree.{Transition, Tree, whole}
-use Rattle.lattice.specs.Shape.{half-width, node-count}
-use Rattle.lattice.specs.Branching.{up, middle, down, probabilities}
-use Rattle.lattice.specs.RateTree.{node, low, rate-tree}
+use Rattle.tree.specs.Tree.{probabilityTotal}
+use Rattle.lattice.specs.Shape.{halfWidth, nodeCount}
+use Rattle.lattice.specs.Branching.{upProbability, middleProbability, downProbability, probabilities}
+use Rattle.lattice.specs.RateTree.{node, low, rateTree}
 use Rattle.lattice.proofs.Sizes.{half-grows, half-full, highest-positive}
 use Rattle.lattice.proofs.RateTreeLaws.{low-growing, low-lowest, low-highest, low-inner, up-is-down, index-laws}
 use Rattle.row_branches.specs.declared.RowBranch.{RowBranch}
-use Rattle.row_branches.specs.RowBranches.{lowest, opposite, noBranch, row-branch, branch-up, branch-middle, branch-down, row-transition}
+use Rattle.row_branches.specs.RowBranches.{lowest, opposite, noBranch, rowBranch, branchUp, branchMiddle, branchDown, rowTransition}
 
 -- a branch sums up, middle, down; a transition sums from the lowest node on
 pub backwards : (up middle down : ℕ) → up + middle + down ≡ down + middle + up
@@ -43,34 +41,34 @@ module _ (count next k : ℕ) where
       lowest-inner e = rw (le-ltb count next g, le-ltb k 2 h, ne-eqb (k + 1) count e)
 
 module _ (downs : List ℕ) (next k : ℕ) where
-  pub branch-past : length downs ≤ k → noBranch ≡ row-branch downs next k
-  unfolding row-branch
+  pub branch-past : length downs ≤ k → noBranch ≡ rowBranch downs next k
+  unfolding rowBranch
   branch-past h = rw (le-leb (length downs) k h)
 
   module _ (h : k < length downs) where
-    pub branch-over : whole < values downs k + opposite downs k → noBranch ≡ row-branch downs next k
-    unfolding row-branch
-    branch-over g = rw (lt-leb (length downs) k h, lt-ltb whole (values downs k + opposite downs k) g)
+    pub branch-over : probabilityTotal < values downs k + opposite downs k → noBranch ≡ rowBranch downs next k
+    unfolding rowBranch
+    branch-over g = rw (lt-leb (length downs) k h, lt-ltb probabilityTotal (values downs k + opposite downs k) g)
 
-    pub branch-found : (l : ℕ) → l ≡ lowest (length downs) next k → values downs k + opposite downs k ≤ whole →
+    pub branch-found : (l : ℕ) → l ≡ lowest (length downs) next k → values downs k + opposite downs k ≤ probabilityTotal →
         _≡_ {A = RowBranch}
-        (record { low = l; probabilities = opposite downs k ∷ (whole - values downs k - opposite downs k) ∷ values downs k ∷ [] })
-        (row-branch downs next k)
-    unfolding row-branch
-    branch-found l e g = rw (lt-leb (length downs) k h, le-ltb whole (values downs k + opposite downs k) g, e)
+        (record { low = l; probabilities = opposite downs k ∷ (probabilityTotal - values downs k - opposite downs k) ∷ values downs k ∷ [] })
+        (rowBranch downs next k)
+    unfolding rowBranch
+    branch-found l e g = rw (lt-leb (length downs) k h, le-ltb probabilityTotal (values downs k + opposite downs k) g, e)
 
 -- where branches lead, by the node counts of the two rows
-pub lowest-is : (b i k : ℕ) → k < node-count b i → low b i k ≡ lowest (node-count b i) (node-count b (suc i)) k
-unfolding node-count
+pub lowest-is : (b i k : ℕ) → k < nodeCount b i → low b i k ≡ lowest (nodeCount b i) (nodeCount b (suc i)) k
+unfolding nodeCount
 lowest-is b i k h =
-    by-order (half-width b (suc i)) (half-width b i)
-    (λ c. let e : half-width b (suc i) ≡ half-width b i = omega (arith, half-grows b i) in capped e)
+    by-order (halfWidth b (suc i)) (halfWidth b i)
+    (λ c. let e : halfWidth b (suc i) ≡ halfWidth b i = omega (arith, half-grows b i) in capped e)
     (λ g. low-growing b i k h g ∙ lowest-grown _ _ k (omega arith))
   where
-    capped : half-width b (suc i) ≡ half-width b i → low b i k ≡ lowest (2 * half-width b i + 1) (2 * half-width b (suc i) + 1) k
+    capped : halfWidth b (suc i) ≡ halfWidth b i → low b i k ≡ lowest (2 * halfWidth b i + 1) (2 * halfWidth b (suc i) + 1) k
     capped e =
         by-order 2 k
-        (λ l. by-equal (k + 1) (2 * half-width b i + 1)
+        (λ l. by-equal (k + 1) (2 * halfWidth b i + 1)
         (λ z. low-highest b i k h e (omega arith) ∙ lowest-last _ _ k (omega arith) l z)
         (λ nz. low-inner b i k h e (omega arith) (omega (arith, nz)) ∙ lowest-inner _ _ k (omega arith) l nz))
         (λ l. first l ∙ lowest-first _ _ k (omega arith) l)
@@ -84,40 +82,40 @@ lowest-is b i k h =
             low-inner b i k h e p (omega (arith, half-full b i e .1, highest-positive b)) ∙ z)
 
 -- On a row of the lattice, and a list that holds its down-probabilities.
-module _ (b i : ℕ) (hb : b ≤ 6000) (downs : List ℕ) (size : length downs ≡ node-count b i)
-    (holds : (k : ℕ) → k < node-count b i → values downs k ≡ down b (node b i k)) where
-  opposite-is : (k : ℕ) → k < node-count b i → opposite downs k ≡ up b (node b i k)
-  unfolding node-count
+module _ (b i : ℕ) (hb : b ≤ 6000) (downs : List ℕ) (size : length downs ≡ nodeCount b i)
+    (holds : (k : ℕ) → k < nodeCount b i → values downs k ≡ downProbability b (node b i k)) where
+  opposite-is : (k : ℕ) → k < nodeCount b i → opposite downs k ≡ upProbability b (node b i k)
+  unfolding nodeCount
   opposite-is k h =
-      let e : length downs - 1 - k ≡ 2 * half-width b i - k = omega arith in
-      let l : 2 * half-width b i - k < node-count b i = omega arith in
-      ap (values downs) e ∙ holds (2 * half-width b i - k) l ∙ sym (up-is-down b (half-width b i) k (omega arith))
+      let e : length downs - 1 - k ≡ 2 * halfWidth b i - k = omega arith in
+      let l : 2 * halfWidth b i - k < nodeCount b i = omega arith in
+      ap (values downs) e ∙ holds (2 * halfWidth b i - k) l ∙ sym (up-is-down b (halfWidth b i) k (omega arith))
 
-  pub row-branch-is : (k : ℕ) → k < node-count b i →
-      row-branch downs (node-count b (suc i)) k
+  pub row-branch-is : (k : ℕ) → k < nodeCount b i →
+      rowBranch downs (nodeCount b (suc i)) k
       ≡ record { low = low b i k; probabilities = probabilities b (node b i k) }
   row-branch-is k h =
       let o = opposite-is k h in
       let d = holds k h in
       let t = index-laws b i k h hb .total in
-      let m : whole - down b (node b i k) - up b (node b i k) ≡ middle b (node b i k) = omega arith in
-      sym (branch-found downs (node-count b (suc i)) k (omega arith) (low b i k)
-      (lowest-is b i k h ∙ ap (λ (c : ℕ). lowest c (node-count b (suc i)) k) (sym size)) (omega arith))
+      let m : probabilityTotal - downProbability b (node b i k) - upProbability b (node b i k) ≡ middleProbability b (node b i k) = omega arith in
+      sym (branch-found downs (nodeCount b (suc i)) k (omega arith) (low b i k)
+      (lowest-is b i k h ∙ ap (λ (c : ℕ). lowest c (nodeCount b (suc i)) k) (sym size)) (omega arith))
       ∙ rw (d, o, m)
 
   -- so each of the transition's numbers is the lattice's
-  pub low-is : (k : ℕ) → k < node-count b i → row-transition downs (node-count b (suc i)) .low k ≡ rate-tree b .step i .low k
-  unfolding row-transition rate-tree
+  pub low-is : (k : ℕ) → k < nodeCount b i → rowTransition downs (nodeCount b (suc i)) .low k ≡ rateTree b .step i .low k
+  unfolding rowTransition rateTree
   low-is k h = ap (λ (x : RowBranch). x .low) (row-branch-is k h)
 
-  pub up-is : (k : ℕ) → k < node-count b i → row-transition downs (node-count b (suc i)) .up k ≡ rate-tree b .step i .up k
-  unfolding row-transition rate-tree
-  up-is k h = ap branch-up (row-branch-is k h)
+  pub up-is : (k : ℕ) → k < nodeCount b i → rowTransition downs (nodeCount b (suc i)) .up k ≡ rateTree b .step i .up k
+  unfolding rowTransition rateTree
+  up-is k h = ap branchUp (row-branch-is k h)
 
-  pub middle-is : (k : ℕ) → k < node-count b i → row-transition downs (node-count b (suc i)) .middle k ≡ rate-tree b .step i .middle k
-  unfolding row-transition rate-tree
-  middle-is k h = ap branch-middle (row-branch-is k h)
+  pub middle-is : (k : ℕ) → k < nodeCount b i → rowTransition downs (nodeCount b (suc i)) .middle k ≡ rateTree b .step i .middle k
+  unfolding rowTransition rateTree
+  middle-is k h = ap branchMiddle (row-branch-is k h)
 
-  pub down-is : (k : ℕ) → k < node-count b i → row-transition downs (node-count b (suc i)) .down k ≡ rate-tree b .step i .down k
-  unfolding row-transition rate-tree
-  down-is k h = ap branch-down (row-branch-is k h)
+  pub down-is : (k : ℕ) → k < nodeCount b i → rowTransition downs (nodeCount b (suc i)) .down k ≡ rateTree b .step i .down k
+  unfolding rowTransition rateTree
+  down-is k h = ap branchDown (row-branch-is k h)

@@ -6,7 +6,7 @@ use mathlib.Core.List.{List, [], _∷_}
 use lib.Dec.{eqb, leb, ltb}
 use lib.ListN.{length}
 use Rattle.arithmetic.specs.Row.{values}
-use Rattle.tree.specs.Tree.{Transition, whole}
+use Rattle.tree.specs.Tree.{Transition, probabilityTotal}
 use Rattle.row_branches.specs.declared.RowBranch.{RowBranch}
 
 -- the lowest node that node k of a row of count nodes leads to, in a row of next nodes: the row grows, or its edges branch inwards
@@ -21,33 +21,33 @@ abbrev pub noBranch : RowBranch
 noBranch = record { low = 0; probabilities = 0 ∷ 0 ∷ 0 ∷ [] }
 
 -- the branch of node k of a row whose next row has so many nodes
-unfoldable pub row-branch : List ℕ → ℕ → ℕ → RowBranch
-row-branch downs next k =
-    cond (leb (length downs) k || ltb whole (values downs k + opposite downs k)) noBranch
+unfoldable pub rowBranch : List ℕ → ℕ → ℕ → RowBranch
+rowBranch downs next k =
+    cond (leb (length downs) k || ltb probabilityTotal (values downs k + opposite downs k)) noBranch
     (record {
       low = lowest (length downs) next k;
-      probabilities = opposite downs k ∷ (whole - values downs k - opposite downs k) ∷ values downs k ∷ [];
+      probabilities = opposite downs k ∷ (probabilityTotal - values downs k - opposite downs k) ∷ values downs k ∷ [];
     })
 
 -- the three probabilities of a branch by their places, and their sum
-abbrev pub branch-up : RowBranch → ℕ
-branch-up b = values (b .probabilities) 0
+abbrev pub branchUp : RowBranch → ℕ
+branchUp b = values (b .probabilities) 0
 
-abbrev pub branch-middle : RowBranch → ℕ
-branch-middle b = values (b .probabilities) 1
+abbrev pub branchMiddle : RowBranch → ℕ
+branchMiddle b = values (b .probabilities) 1
 
-abbrev pub branch-down : RowBranch → ℕ
-branch-down b = values (b .probabilities) 2
+abbrev pub branchDown : RowBranch → ℕ
+branchDown b = values (b .probabilities) 2
 
-abbrev pub branch-total : RowBranch → ℕ
-branch-total b = branch-up b + branch-middle b + branch-down b
+abbrev pub branchTotal : RowBranch → ℕ
+branchTotal b = branchUp b + branchMiddle b + branchDown b
 
 -- the branches of a row as a transition
-unfoldable pub row-transition : List ℕ → ℕ → Transition
-row-transition downs next =
+unfoldable pub rowTransition : List ℕ → ℕ → Transition
+rowTransition downs next =
     record {
-      low = λ k. row-branch downs next k .low;
-      up = λ k. branch-up (row-branch downs next k);
-      middle = λ k. branch-middle (row-branch downs next k);
-      down = λ k. branch-down (row-branch downs next k);
+      low = λ k. rowBranch downs next k .low;
+      up = λ k. branchUp (rowBranch downs next k);
+      middle = λ k. branchMiddle (rowBranch downs next k);
+      down = λ k. branchDown (rowBranch downs next k);
     }

@@ -1,8 +1,7 @@
 // The branches of a row's nodes, from the row's part of the table of down-probabilities.
 ghost use mathlib.Core.Path.{_≡_};
-ghost use Prim.Native.Nat.{ℕ, _+_, _<_, _≤_};
-ghost use lib.ListN.{length};
-ghost use Rattle.row_branches.specs.RowBranches.{lowest, noBranch, row-branch};
+ghost use Prim.Native.Nat.{_+_, _<_};
+ghost use Rattle.row_branches.specs.RowBranches.{lowest, noBranch, rowBranch};
 
 // The lowest of the three nodes of the next row that a node leads to, and up, middle and down over 600,000,000.
 pub struct RowBranch {
@@ -38,7 +37,7 @@ fn no_branch() -> RowBranch
 
 // The branch of the node at an index; zeros where the row has no such node or the numbers are no probabilities.
 pub fn row_branch(downs: &[u64], next: usize, index: usize) -> RowBranch
-    ensures { λ r. ⌜ r ≡ row-branch (now (downs .entry)) next index ⌝ }
+    ensures { λ r. ⌜ r ≡ rowBranch (now (downs .entry)) next index ⌝ }
 {
     let count = downs.len();
     if count <= index {

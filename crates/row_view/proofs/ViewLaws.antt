@@ -6,33 +6,34 @@ use mathlib.Core.Bool.{Bool, true, false, cond, _&&_, and-false}
 use mathlib.Core.List.{List}
 use denote.Ref.{RefT}
 use native.Mathlib.Omega.{arith}
-use lib.Dec.{ltb, leb}
+use lib.Dec.{leb}
 use lib.ListN.{length, take, drop, length-drop}
 use lib.Seq.{length-take-le, getD-take, getD-drop}
-use borrow.Author.Tests.{ltb-true, leb-true, lt-ltb, le-leb, lt-leb, eq-eqb, ne-eqb}
+use borrow.Author.Tests.{ltb-true, leb-true, le-leb, lt-leb, eq-eqb, ne-eqb}
 use Rattle.arithmetic.specs.Row.{values}
 use Rattle.arithmetic.specs.declared.Answer.{Answer}
 use Rattle.arithmetic.proofs.BetweenLaws.{and-left, and-right}
-use Rattle.lattice.specs.Shape.{node-count, row-start, discounts-needed, state-prices-needed}
-use Rattle.lattice.specs.Entries.{about-tree}
-use Rattle.lattice.proofs.Sizes.{row-ends, count-positive}
+use Rattle.lattice.specs.Shape.{nodeCount, rowStart, discountsNeeded, statePricesNeeded}
+use Rattle.lattice.specs.Entries.{aboutTree}
+use Rattle.lattice.proofs.Sizes.{row-ends}
 use Rattle.row_view.specs.declared.RowKind.{RowKind}
 use Rattle.row_view.specs.declared.RowKind.the-variants.{Discounts, StatePrices}
 use Rattle.row_view.specs.declared.RowRange.{RowRange}
-use Rattle.row_view.specs.RowView.{is-tree, holds-tree, stores-row, memory-of, is-shown, view-start, view-count, range-of-row, no-range, range-by-number, PartOf}
+use Rattle.row_view.specs.RowView.{isTree, holdsTree, storesRow, memoryOf, isShown, viewStart, viewCount}
+use Rattle.row_view.specs.RowView.{rangeOfRow, noRange, rangeByNumber, PartOf}
 use Rattle.lattice.proofs.TreeEntries.{Accepted, by-tree}
 
 -- ---- whether both memories hold the tree, by the tests that code makes
 
 module _ (discounts prices : List ℕ) (n b : ℕ) where
-  no-tree : is-tree n b ≡ false → false ≡ holds-tree discounts prices n b
-  unfolding holds-tree
+  no-tree : isTree n b ≡ false → false ≡ holdsTree discounts prices n b
+  unfolding holdsTree
   no-tree h = rw h
 
-  pub refused-tree : (x : ℕ) (a : Answer) → a ≡ about-tree n b x → (a .number ≡ 0 → ⊥) → false ≡ holds-tree discounts prices n b
-  unfolding is-tree
+  pub refused-tree : (x : ℕ) (a : Answer) → a ≡ aboutTree n b x → (a .number ≡ 0 → ⊥) → false ≡ holdsTree discounts prices n b
+  unfolding isTree
   refused-tree x a e nz =
-      by-tree n b x (λ r. (r .number ≡ 0 → ⊥) → false ≡ holds-tree discounts prices n b)
+      by-tree n b x (λ r. (r .number ≡ 0 → ⊥) → false ≡ holdsTree discounts prices n b)
       (λ z k. no-tree (simp (lt-leb 1 n (omega arith))))
       (λ h k. no-tree (simp (lt-leb n 60 h, and-false)))
       (λ p h s k. no-tree (simp (lt-leb b 6000 s, and-false)))
@@ -40,53 +41,53 @@ module _ (discounts prices : List ℕ) (n b : ℕ) where
       (λ z. nz (ap (λ (r : Answer). r .number) e ∙ z))
 
   module _ (l : Accepted n b) where
-    a-tree : is-tree n b ≡ true
-    unfolding is-tree
-    a-tree = simp (le-leb 1 n (l .some), le-leb n 60 (l .few), le-leb b 6000 (l .gentle))
+    a-tree : isTree n b ≡ true
+    unfolding isTree
+    a-tree = simp (le-leb 1 n (l .steps-positive), le-leb n 60 (l .steps-within-limit), le-leb b 6000 (l .reversion-within-limit))
 
-    pub short-discounts : (x : ℕ) → x ≡ discounts-needed n b → length discounts < x → false ≡ holds-tree discounts prices n b
-    unfolding holds-tree
-    short-discounts x e h = rw (a-tree, lt-leb (discounts-needed n b) (length discounts) (omega arith))
+    pub short-discounts : (x : ℕ) → x ≡ discountsNeeded n b → length discounts < x → false ≡ holdsTree discounts prices n b
+    unfolding holdsTree
+    short-discounts x e h = rw (a-tree, lt-leb (discountsNeeded n b) (length discounts) (omega arith))
 
-    pub long-discounts : (x y : ℕ) → x ≡ discounts-needed n b → y ≡ state-prices-needed n b → x ≤ length discounts →
-        leb y (length prices) ≡ holds-tree discounts prices n b
-    unfolding holds-tree
-    long-discounts x y e f h = rw (a-tree, le-leb (discounts-needed n b) (length discounts) (omega arith), f)
+    pub long-discounts : (x y : ℕ) → x ≡ discountsNeeded n b → y ≡ statePricesNeeded n b → x ≤ length discounts →
+        leb y (length prices) ≡ holdsTree discounts prices n b
+    unfolding holdsTree
+    long-discounts x y e f h = rw (a-tree, le-leb (discountsNeeded n b) (length discounts) (omega arith), f)
 
 -- what memories that hold the tree tell
 pub record Holding (discounts prices : List ℕ) (n b : ℕ) : Type 0 where
-  pub few : n ≤ 60
-  pub gentle : b ≤ 6000
-  pub discounts-room : row-start b n ≤ length discounts
-  pub prices-room : row-start b (suc n) ≤ length prices
+  pub steps-within-limit : n ≤ 60
+  pub reversion-within-limit : b ≤ 6000
+  pub discounts-room : rowStart b n ≤ length discounts
+  pub prices-room : rowStart b (suc n) ≤ length prices
 
-pub holding : (discounts prices : List ℕ) (n b : ℕ) → holds-tree discounts prices n b ≡ true → Holding discounts prices n b
-unfolding holds-tree is-tree discounts-needed state-prices-needed
+pub holding : (discounts prices : List ℕ) (n b : ℕ) → holdsTree discounts prices n b ≡ true → Holding discounts prices n b
+unfolding holdsTree isTree discountsNeeded statePricesNeeded
 holding discounts prices n b h =
     let t₁ = leb 1 n in
     let t₂ = leb n 60 in
     let t₃ = leb b 6000 in
-    let t₄ = leb (row-start b n) (length discounts) in
-    let t₅ = leb (row-start b (suc n)) (length prices) in
+    let t₄ = leb (rowStart b n) (length discounts) in
+    let t₅ = leb (rowStart b (suc n)) (length prices) in
     let room = and-left (t₁ && t₂ && t₃ && t₄) t₅ h in
     let limits = and-left (t₁ && t₂ && t₃) t₄ room in
     record {
-      few = leb-true n 60 (and-right t₁ t₂ (and-left (t₁ && t₂) t₃ limits));
-      gentle = leb-true b 6000 (and-right (t₁ && t₂) t₃ limits);
-      discounts-room = leb-true (row-start b n) (length discounts) (and-right (t₁ && t₂ && t₃) t₄ room);
-      prices-room = leb-true (row-start b (suc n)) (length prices) (and-right (t₁ && t₂ && t₃ && t₄) t₅ h);
+      steps-within-limit = leb-true n 60 (and-right t₁ t₂ (and-left (t₁ && t₂) t₃ limits));
+      reversion-within-limit = leb-true b 6000 (and-right (t₁ && t₂) t₃ limits);
+      discounts-room = leb-true (rowStart b n) (length discounts) (and-right (t₁ && t₂ && t₃) t₄ room);
+      prices-room = leb-true (rowStart b (suc n)) (length prices) (and-right (t₁ && t₂ && t₃ && t₄) t₅ h);
     }
 
 -- ---- the shown part
 
 module _ (discounts prices : RefT (List ℕ)) (kind : RowKind) (n b i : ℕ) where
   -- a stored row ends within its memory
-  pub row-room : Holding (discounts .now) (prices .now) n b → stores-row kind n i ≡ true →
-      (b ≤ 6000) × (i ≤ 60) × (row-start b i + node-count b i ≤ length (memory-of discounts prices kind .now))
+  pub row-room : Holding (discounts .now) (prices .now) n b → storesRow kind n i ≡ true →
+      (b ≤ 6000) × (i ≤ 60) × (rowStart b i + nodeCount b i ≤ length (memoryOf discounts prices kind .now))
   row-room h = go kind
     where
-      go : (kind : RowKind) → stores-row kind n i ≡ true →
-          (b ≤ 6000) × (i ≤ 60) × (row-start b i + node-count b i ≤ length (memory-of discounts prices kind .now))
+      go : (kind : RowKind) → storesRow kind n i ≡ true →
+          (b ≤ 6000) × (i ≤ 60) × (rowStart b i + nodeCount b i ≤ length (memoryOf discounts prices kind .now))
       go Discounts s =
           let l : i < n = ltb-true i n s in
           omega (arith, h, row-ends b i n l)
@@ -95,41 +96,41 @@ module _ (discounts prices : RefT (List ℕ)) (kind : RowKind) (n b i : ℕ) whe
           omega (arith, h, row-ends b i (suc n) (omega arith))
 
 module _ (discounts prices : List ℕ) (kind : RowKind) (n b i : ℕ) where
-  pub not-held : holds-tree discounts prices n b ≡ false → is-shown discounts prices kind n b i ≡ false
-  unfolding is-shown
+  pub not-held : holdsTree discounts prices n b ≡ false → isShown discounts prices kind n b i ≡ false
+  unfolding isShown
   not-held h = rw h
 
-  pub not-stored : stores-row kind n i ≡ false → is-shown discounts prices kind n b i ≡ false
-  unfolding is-shown
+  pub not-stored : storesRow kind n i ≡ false → isShown discounts prices kind n b i ≡ false
+  unfolding isShown
   not-stored h = simp (h, and-false)
 
-  pub is-stored : holds-tree discounts prices n b ≡ true → stores-row kind n i ≡ true → is-shown discounts prices kind n b i ≡ true
-  unfolding is-shown
+  pub is-stored : holdsTree discounts prices n b ≡ true → storesRow kind n i ≡ true → isShown discounts prices kind n b i ≡ true
+  unfolding isShown
   is-stored h s = simp (h, s)
 
   -- the range of a row, by whether the row is shown
-  pub hidden-range : is-shown discounts prices kind n b i ≡ false → no-range ≡ range-of-row discounts prices kind n b i
-  unfolding view-start view-count
+  pub hidden-range : isShown discounts prices kind n b i ≡ false → noRange ≡ rangeOfRow discounts prices kind n b i
+  unfolding viewStart viewCount
   hidden-range h = rw h
 
-  pub shown-range : (start count : ℕ) → is-shown discounts prices kind n b i ≡ true → start ≡ row-start b i → count ≡ node-count b i →
-      _≡_ {A = RowRange} (record { start = start; count = count }) (range-of-row discounts prices kind n b i)
-  unfolding view-start view-count
+  pub shown-range : (start count : ℕ) → isShown discounts prices kind n b i ≡ true → start ≡ rowStart b i → count ≡ nodeCount b i →
+      _≡_ {A = RowRange} (record { start = start; count = count }) (rangeOfRow discounts prices kind n b i)
+  unfolding viewStart viewCount
   shown-range start count h p q = rw (h, p, q)
 
 -- the range by the kind's number
 module _ (discounts prices : List ℕ) (kind n b i : ℕ) where
-  pub numbered-discounts : kind ≡ 1 → range-of-row discounts prices Discounts n b i ≡ range-by-number discounts prices kind n b i
-  unfolding range-by-number
+  pub numbered-discounts : kind ≡ 1 → rangeOfRow discounts prices Discounts n b i ≡ rangeByNumber discounts prices kind n b i
+  unfolding rangeByNumber
   numbered-discounts h = simp (eq-eqb kind 1 h)
 
   module _ (h : kind ≡ 1 → ⊥) where
-    pub numbered-prices : kind ≡ 2 → range-of-row discounts prices StatePrices n b i ≡ range-by-number discounts prices kind n b i
-    unfolding range-by-number
+    pub numbered-prices : kind ≡ 2 → rangeOfRow discounts prices StatePrices n b i ≡ rangeByNumber discounts prices kind n b i
+    unfolding rangeByNumber
     numbered-prices k = simp (ne-eqb kind 1 h, eq-eqb kind 2 k)
 
-    pub numbered-otherwise : (kind ≡ 2 → ⊥) → no-range ≡ range-by-number discounts prices kind n b i
-    unfolding range-by-number
+    pub numbered-otherwise : (kind ≡ 2 → ⊥) → noRange ≡ rangeByNumber discounts prices kind n b i
+    unfolding rangeByNumber
     numbered-otherwise k = simp (ne-eqb kind 1 h, ne-eqb kind 2 k)
 
 -- the part between a start and an end that code has computed
@@ -147,48 +148,31 @@ module _ (whole : RefT (List ℕ)) (start count : ℕ) (part : RefT (List ℕ)) 
   pub part-value : (k : ℕ) → k < count → values (part .now) k ≡ values (whole .now) (start + k)
   part-value k h = rw (p .contents, getD-take, getD-drop)
 
--- a refusal is an empty part, and an accepted row has at least one node
-pub refusal-is-empty : (discounts prices : List ℕ) (kind : RowKind) (n b i : ℕ) →
-    ltb 0 (view-count discounts prices kind n b i) ≡ is-shown discounts prices kind n b i
-unfolding view-count
-refusal-is-empty discounts prices kind n b i = go (is-shown discounts prices kind n b i)
-  where
-    go : (shown : Bool) → ltb 0 (cond shown (node-count b i) 0) ≡ shown
-    go true = lt-ltb 0 (node-count b i) (count-positive b i)
-    go false = refl
-
 module _ (discounts prices : RefT (List ℕ)) (kind : RowKind) (n b i : ℕ) where
   pub view-within :
-      view-start (discounts .now) (prices .now) kind n b i + view-count (discounts .now) (prices .now) kind n b i
-      ≤ length (memory-of discounts prices kind .now)
-  unfolding view-start view-count is-shown
-  view-within = go (holds-tree (discounts .now) (prices .now) n b) (stores-row kind n i) refl refl
+      viewStart (discounts .now) (prices .now) kind n b i + viewCount (discounts .now) (prices .now) kind n b i
+      ≤ length (memoryOf discounts prices kind .now)
+  unfolding viewStart viewCount isShown
+  view-within = go (holdsTree (discounts .now) (prices .now) n b) (storesRow kind n i) refl refl
     where
-      go : (t u : Bool) → holds-tree (discounts .now) (prices .now) n b ≡ t → stores-row kind n i ≡ u →
-          cond (t && u) (row-start b i) 0 + cond (t && u) (node-count b i) 0 ≤ length (memory-of discounts prices kind .now)
+      go : (t u : Bool) → holdsTree (discounts .now) (prices .now) n b ≡ t → storesRow kind n i ≡ u →
+          cond (t && u) (rowStart b i) 0 + cond (t && u) (nodeCount b i) 0 ≤ length (memoryOf discounts prices kind .now)
       go true true h s = row-room discounts prices kind n b i (holding _ _ _ _ h) s .2
       go true false h s = omega arith
       go false u h s = omega arith
 
-  -- the view has as many elements as its count says
-  pub view-length : (part : RefT (List ℕ)) →
-      PartOf (memory-of discounts prices kind) (view-start (discounts .now) (prices .now) kind n b i)
-      (view-count (discounts .now) (prices .now) kind n b i) part →
-      length (part .now) ≡ view-count (discounts .now) (prices .now) kind n b i
-  view-length part p = part-length _ _ _ part p view-within
-
-  module _ (memory : RefT (List ℕ)) (e : memory ≡ memory-of discounts prices kind)
-      (r : RowRange) (q : r ≡ range-of-row (discounts .now) (prices .now) kind n b i) where
-    starts : r .start ≡ view-start (discounts .now) (prices .now) kind n b i
+  module _ (memory : RefT (List ℕ)) (e : memory ≡ memoryOf discounts prices kind)
+      (r : RowRange) (q : r ≡ rangeOfRow (discounts .now) (prices .now) kind n b i) where
+    starts : r .start ≡ viewStart (discounts .now) (prices .now) kind n b i
     starts = ap (λ (x : RowRange). x .start) q
 
-    counts : r .count ≡ view-count (discounts .now) (prices .now) kind n b i
+    counts : r .count ≡ viewCount (discounts .now) (prices .now) kind n b i
     counts = ap (λ (x : RowRange). x .count) q
 
     pub range-within : r .start + r .count ≤ length (memory .now)
     range-within = rw (starts, counts, e) view-within
 
     pub range-part : (part : RefT (List ℕ)) → PartOf memory (r .start) (r .count) part →
-        PartOf (memory-of discounts prices kind) (view-start (discounts .now) (prices .now) kind n b i)
-        (view-count (discounts .now) (prices .now) kind n b i) part
+        PartOf (memoryOf discounts prices kind) (viewStart (discounts .now) (prices .now) kind n b i)
+        (viewCount (discounts .now) (prices .now) kind n b i) part
     range-part part p = rw (← starts, ← counts, ← e) p

@@ -1,14 +1,14 @@
 // Either kind of row of a tree, shown as the part of the lent memory that contains it.
 ghost use mathlib.Core.Path.{_≡_};
 ghost use Rattle.row_view.specs.RowView.{
-  holds-tree,
-  stores-row,
-  memory-of,
+  holdsTree,
+  storesRow,
+  memoryOf,
   PartOf,
-  view-start,
-  view-count,
-  range-of-row,
-  range-by-number,
+  viewStart,
+  viewCount,
+  rangeOfRow,
+  rangeByNumber,
 };
 
 // The two kinds of rows that a tree has in memory.
@@ -26,7 +26,7 @@ pub struct RowRange {
 
 // Whether the steps and the reversion are within their limits and both memories are long enough for the tree.
 fn holds_tree(discounts: &[u64], state_prices: &[u64], steps: usize, reversion: u64) -> bool
-    ensures { λ r. ⌜ r ≡ holds-tree (now (discounts .entry)) (now («state_prices» .entry)) steps reversion ⌝ }
+    ensures { λ r. ⌜ r ≡ holdsTree (now (discounts .entry)) (now («state_prices» .entry)) steps reversion ⌝ }
 {
     let discounts_needed = lattice::discounts_needed(steps, reversion);
     if discounts_needed.number != 0 {
@@ -41,7 +41,7 @@ fn holds_tree(discounts: &[u64], state_prices: &[u64], steps: usize, reversion: 
 
 // Discounts have rows 0 to n - 1, state prices rows 0 to n.
 fn stores_row(kind: RowKind, steps: usize, row: usize) -> bool
-    ensures { λ r. ⌜ r ≡ stores-row kind steps row ⌝ }
+    ensures { λ r. ⌜ r ≡ storesRow kind steps row ⌝ }
 {
     match kind {
         RowKind::Discounts => row < steps,
@@ -51,7 +51,7 @@ fn stores_row(kind: RowKind, steps: usize, row: usize) -> bool
 
 // The lent memory of a kind: the caller's own reference.
 fn memory_of<'a>(discounts: &'a [u64], state_prices: &'a [u64], kind: RowKind) -> &'a [u64]
-    ensures { λ r. ⌜ r ≡ memory-of (discounts .entry) («state_prices» .entry) kind ⌝ }
+    ensures { λ r. ⌜ r ≡ memoryOf (discounts .entry) («state_prices» .entry) kind ⌝ }
 {
     match kind {
         RowKind::Discounts => discounts,
@@ -68,7 +68,7 @@ pub fn row_range(
     reversion: u64,
     row: usize,
 ) -> RowRange
-    ensures { λ r. ⌜ r ≡ range-of-row (now (discounts .entry)) (now («state_prices» .entry)) kind steps reversion row ⌝ }
+    ensures { λ r. ⌜ r ≡ rangeOfRow (now (discounts .entry)) (now («state_prices» .entry)) kind steps reversion row ⌝ }
 {
     if !holds_tree(discounts, state_prices, steps, reversion) {
         return RowRange { start: 0, count: 0 };
@@ -93,7 +93,7 @@ pub fn range_by_number(
     reversion: u64,
     row: usize,
 ) -> RowRange
-    ensures { λ r. ⌜ r ≡ range-by-number (now (discounts .entry)) (now («state_prices» .entry)) kind steps reversion row ⌝ }
+    ensures { λ r. ⌜ r ≡ rangeByNumber (now (discounts .entry)) (now («state_prices» .entry)) kind steps reversion row ⌝ }
 {
     if kind == 1 {
         return row_range(
@@ -127,9 +127,9 @@ pub fn row_view<'a>(
     reversion: u64,
     row: usize,
 ) -> &'a [u64]
-    ensures { λ r. ⌜ PartOf (memory-of (discounts .entry) («state_prices» .entry) kind)
-        (view-start (now (discounts .entry)) (now («state_prices» .entry)) kind steps reversion row)
-        (view-count (now (discounts .entry)) (now («state_prices» .entry)) kind steps reversion row) r ⌝ }
+    ensures { λ r. ⌜ PartOf (memoryOf (discounts .entry) («state_prices» .entry) kind)
+        (viewStart (now (discounts .entry)) (now («state_prices» .entry)) kind steps reversion row)
+        (viewCount (now (discounts .entry)) (now («state_prices» .entry)) kind steps reversion row) r ⌝ }
 {
     let memory = memory_of(discounts, state_prices, kind);
     let range = row_range(discounts, state_prices, kind, steps, reversion, row);

@@ -6,7 +6,7 @@ use mathlib.Core.Bool.{true}
 use mathlib.Core.List.{List}
 use Prim.Native.Nat.{ℕ, _≤_}
 use Rattle.arithmetic.proofs.CauseLaws.{lowest-none}
-use Rattle.limits.specs.Limits.{most-discounts, most-state-prices}
+use Rattle.limits.specs.Limits.{mostDiscounts, mostStatePrices}
 use Rattle.fitting.specs.Entry.{fitNumber}
 use Rattle.pricing.specs.Prices.{optionPrice}
 use Rattle.job_record.specs.declared.Job.{Job}
@@ -23,7 +23,7 @@ use Rattle.sheet_laws.proofs.SheetLaws.{room-known}
 -- each part of a job whose sheet has no cause
 pub record AcceptedJob (job : Job) (room : ℕ) : Type 0 where
   pub fit : fitNumber (job .frequency) (job .steps) (job .reversion) (job .volatility) (jobRows job) (jobKinds job) (jobFigures job)
-      most-discounts most-state-prices ≡ 0
+      mostDiscounts mostStatePrices ≡ 0
   pub room-enough : sheetRoom ≤ room
   pub bond : jobBond job .number ≡ 0
   pub option-priced : hasOption (job .option) ≡ true →
@@ -37,9 +37,9 @@ pub job-accepted : (job : Job) (room : ℕ) → jobNumber job room ≡ 0 → Acc
 unfolding jobNumber
 job-accepted job room z =
     let both = lowest-none _ _ z in
-    let parts = record-accepted job most-discounts most-state-prices (both .0) in
+    let parts = record-accepted job mostDiscounts mostStatePrices (both .0) in
     record {
-      fit = fit-none job most-discounts most-state-prices (parts .fit);
+      fit = fit-none job mostDiscounts mostStatePrices (parts .fit);
       room-enough = room-known room (both .1);
       bond = parts .bond;
       option-priced = parts .option-priced;

@@ -1,58 +1,59 @@
 -- What the prices of a record leave for its sheet: quotes, discounts and state prices.
 -- Assumes nothing.
-use mathlib.Core.Path.{_≡_, sym, ap, _∙_, subst}
+use mathlib.Core.Path.{_≡_, sym, ap, _∙_}
 use mathlib.Core.Bool.{true}
 use mathlib.Core.List.{List, [], append-nil}
 use Prim.Native.Nat.{ℕ, suc, _≤_, _<_}
 use native.Mathlib.Omega.{arith}
 use lib.ListN.{length, take, length-take}
+use Rattle.arithmetic.specs.Row.{sumOf}
 use Rattle.arithmetic.specs.Sum.{sum}
 use Rattle.arithmetic.specs.declared.Answer.{Answer}
 use Rattle.arithmetic.proofs.PlaceLaws.{length-place, place-front}
 use Rattle.arithmetic.proofs.RowLaws.{sum-row}
-use Rattle.limits.specs.Limits.{most-discounts, most-state-prices}
+use Rattle.limits.specs.Limits.{mostDiscounts, mostStatePrices}
 use Rattle.tree.specs.Layout.{laid}
-use Rattle.lattice.specs.Shape.{node-count, discounts-needed, state-prices-needed}
-use Rattle.lattice.specs.RateTree.{rate-tree}
-use Rattle.lattice.specs.Entries.{discountsNeeded, statePricesNeeded}
+use Rattle.lattice.specs.Shape.{nodeCount, discountsNeeded, statePricesNeeded}
+use Rattle.lattice.specs.RateTree.{rateTree}
+use Rattle.lattice.specs.Entries.{discountsNeededAnswer, statePricesNeededAnswer}
 use Rattle.lattice.proofs.LaidLaws.{laid-part}
 use Rattle.lattice.proofs.TreeEntries.{Accepted, tree-value}
-use Rattle.lent_tree.specs.LentTree.{accepted-discounts}
+use Rattle.lent_tree.specs.LentTree.{acceptedDiscounts}
 use Rattle.lent_tree.proofs.LentLaws.{accepted-all}
-use Rattle.fitting.specs.Entry.{fit-price}
+use Rattle.fitting.specs.Entry.{fitPrice}
 use Rattle.fitting.proofs.Promised.{fit-repriced}
 use Rattle.fitting.proofs.FittedTree.{fit-discounts-lent}
 use Rattle.job_record.specs.declared.Job.{Job}
-use Rattle.job_fit.specs.RecordFit.{jobKinds, jobFigures, jobQuotes, jobDiscounts, jobStatePrices, recordQuotes, recordFit, memoryAfter}
+use Rattle.job_fit.specs.RecordFit.{jobKinds, jobFigures, jobQuotes, jobDiscounts, jobStatePrices, recordQuotes, memoryAfter}
 use Rattle.job_fit.proofs.FitLaws as fits
 use Rattle.job_prices.specs.declared.JobPrices.{JobPrices}
 use Rattle.job_prices.specs.JobPrices.{recordNumber, recordPrices}
 use Rattle.job_prices.proofs.Accepted.{record-accepted}
-use Rattle.node_lines.specs.Rows.{acceptedDiscounts}
-use Rattle.sheet_laws.specs.TreeSheet.{row-part, total}
+use Rattle.node_lines.specs.Rows.{acceptedNodes}
+use Rattle.sheet_laws.specs.TreeSheet.{rowPart}
 use Rattle.sheet_laws.specs.Stored.{Stored, Summed, Fitted}
 
-pub total-row : (b : ℕ) (f : ℕ → ℕ → ℕ) (n i : ℕ) → i < n → total (row-part b (laid (rate-tree b) f n) i) ≡ sum (node-count b i) (f i)
-unfolding total row-part
+pub total-row : (b : ℕ) (f : ℕ → ℕ → ℕ) (n i : ℕ) → i < n → sumOf (rowPart b (laid (rateTree b) f n) i) ≡ sum (nodeCount b i) (f i)
+unfolding sumOf rowPart
 total-row b f n i h =
-    let part = rw (append-nil (laid (rate-tree b) f n)) at (laid-part b f n i h []) in
-    rw part (sum-row (node-count b i) (f i))
+    let part = rw (append-nil (laid (rateTree b) f n)) at (laid-part b f n i h []) in
+    rw part (sum-row (nodeCount b i) (f i))
 
 -- ---- the fit in memories of the largest tree
 
-module _ (job : Job) (d₀ p₀ : List ℕ) (ld : length d₀ ≡ most-discounts) (lp : length p₀ ≡ most-state-prices) where
+module _ (job : Job) (d₀ p₀ : List ℕ) (ld : length d₀ ≡ mostDiscounts) (lp : length p₀ ≡ mostStatePrices) where
   abbrev lentNumber : ℕ
   lentNumber = recordNumber job (length d₀) (length p₀)
 
-  number-is : lentNumber ≡ recordNumber job most-discounts most-state-prices
+  number-is : lentNumber ≡ recordNumber job mostDiscounts mostStatePrices
   number-is = rw (ld, lp)
 
-  pub prices-largest : (prices : JobPrices) → prices ≡ recordPrices job (length d₀) (length p₀) → prices ≡ recordPrices job most-discounts most-state-prices
+  pub prices-largest : (prices : JobPrices) → prices ≡ recordPrices job (length d₀) (length p₀) → prices ≡ recordPrices job mostDiscounts mostStatePrices
   prices-largest prices e = e ∙ rw (ld, lp)
 
-  pub fitted : (d p : List ℕ) → recordNumber job most-discounts most-state-prices ≡ 0 →
+  pub fitted : (d p : List ℕ) → recordNumber job mostDiscounts mostStatePrices ≡ 0 →
       d ≡ memoryAfter lentNumber (jobDiscounts job) d₀ → p ≡ memoryAfter lentNumber (jobStatePrices job) p₀ → Fitted job d p
-  unfolding discounts-needed state-prices-needed
+  unfolding discountsNeeded statePricesNeeded
   fitted d p none ed ep =
       let fit = record-accepted job _ _ none .fit in
       let z = number-is ∙ none in
@@ -65,8 +66,8 @@ module _ (job : Job) (d₀ p₀ : List ℕ) (ld : length d₀ ≡ most-discounts
         accepted = fit;
         discounts-room = ap length dp ∙ length-place d₀ 0 (jobDiscounts job) (omega (arith, dl, known .room-discounts, ld)) ∙ ld;
         prices-room = ap length pp ∙ length-place p₀ 0 (jobStatePrices job) (omega (arith, pl, known .room-prices, lp)) ∙ lp;
-        discounts-front = ap (take (discounts-needed (job .steps) (job .reversion))) dp ∙ place-front d₀ (jobDiscounts job) _ dl;
-        prices-front = ap (take (state-prices-needed (job .steps) (job .reversion))) pp ∙ place-front p₀ (jobStatePrices job) _ pl;
+        discounts-front = ap (take (discountsNeeded (job .steps) (job .reversion))) dp ∙ place-front d₀ (jobDiscounts job) _ dl;
+        prices-front = ap (take (statePricesNeeded (job .steps) (job .reversion))) pp ∙ place-front p₀ (jobStatePrices job) _ pl;
       }
 
 -- ---- what a caller takes of it
@@ -90,12 +91,12 @@ module _ (job : Job) (d p : List ℕ) (h : Fitted job d p) where
     quotes-end = omega (arith, quotes-count, length-take (job .steps) q)
 
   -- the counts that the code works out
-  module _ (needed all : Answer) (en : needed ≡ discountsNeeded (job .steps) (job .reversion))
-      (ea : all ≡ statePricesNeeded (job .steps) (job .reversion)) where
-    count-discounts : needed .value ≡ discounts-needed (job .steps) (job .reversion)
+  module _ (needed all : Answer) (en : needed ≡ discountsNeededAnswer (job .steps) (job .reversion))
+      (ea : all ≡ statePricesNeededAnswer (job .steps) (job .reversion)) where
+    count-discounts : needed .value ≡ discountsNeeded (job .steps) (job .reversion)
     count-discounts = tree-value _ _ _ needed en accepted
 
-    count-prices : all .value ≡ state-prices-needed (job .steps) (job .reversion)
+    count-prices : all .value ≡ statePricesNeeded (job .steps) (job .reversion)
     count-prices = tree-value _ _ _ all ea accepted
 
     pub discounts-are : take (needed .value) d ≡ jobDiscounts job
@@ -104,10 +105,10 @@ module _ (job : Job) (d p : List ℕ) (h : Fitted job d p) where
     pub prices-are : take (all .value) p ≡ jobStatePrices job
     prices-are = ap (λ (k : ℕ). take k p) count-prices ∙ h .prices-front
 
-    pub discounts-size : length (take (needed .value) d) ≡ discounts-needed (job .steps) (job .reversion)
+    pub discounts-size : length (take (needed .value) d) ≡ discountsNeeded (job .steps) (job .reversion)
     discounts-size = ap length discounts-are ∙ fits.discounts-length job
 
-    pub prices-size : length (take (all .value) p) ≡ state-prices-needed (job .steps) (job .reversion)
+    pub prices-size : length (take (all .value) p) ≡ statePricesNeeded (job .steps) (job .reversion)
     prices-size = ap length prices-are ∙ fits.prices-length job
 
     pub discounts-count : needed .value ≡ length (take (needed .value) d)
@@ -117,22 +118,28 @@ module _ (job : Job) (d p : List ℕ) (h : Fitted job d p) where
     prices-count = count-prices ∙ sym prices-size
 
     -- every node discount of an accepted fit is accepted
-    discounted : acceptedDiscounts (take (needed .value) d) ≡ true
-    unfolding acceptedDiscounts accepted-discounts jobDiscounts
+    discounted : acceptedNodes (take (needed .value) d) ≡ true
+    unfolding acceptedNodes acceptedDiscounts jobDiscounts
     discounted =
-        let lent = accepted-all _ _ _ (fit-discounts-lent _ _ _ _ _ _ _ most-discounts most-state-prices (fits.fit-none job _ _ (h .accepted))) in
+        let lent = accepted-all _ _ _ (fit-discounts-lent _ _ _ _ _ _ _ mostDiscounts mostStatePrices (fits.fit-none job _ _ (h .accepted))) in
         rw (discounts-size, discounts-are) lent
 
     pub stored : Stored (job .steps) (job .reversion) (take (needed .value) d) (take (all .value) p)
     stored =
         record {
-          lent = record { some = accepted .some; few = accepted .few; gentle = accepted .gentle; size = discounts-size; accepted = discounted };
+          lent = record {
+            steps-positive = accepted .steps-positive;
+            steps-within-limit = accepted .steps-within-limit;
+            reversion-within-limit = accepted .reversion-within-limit;
+            size = discounts-size;
+            accepted = discounted;
+          };
           prices-size = prices-size;
         }
 
     pub summed : Summed (job .steps) (job .reversion) (take (all .value) p)
     unfolding jobStatePrices
     summed i l =
-        let price = fit-price (job .frequency) (job .steps) (job .reversion) (job .volatility) (jobKinds job) (jobFigures job) in
+        let price = fitPrice (job .frequency) (job .steps) (job .reversion) (job .volatility) (jobKinds job) (jobFigures job) in
         rw (prices-are, total-row (job .reversion) price (suc (job .steps)) (suc i) (omega arith))
-        (fit-repriced _ _ _ _ _ _ _ most-discounts most-state-prices (fits.fit-none job _ _ (h .accepted)) i l .2)
+        (fit-repriced _ _ _ _ _ _ _ mostDiscounts mostStatePrices (fits.fit-none job _ _ (h .accepted)) i l .2)

@@ -10,103 +10,103 @@ use native.Mathlib.Numerals.{add-one}
 use borrow.Author.Tests.{le-leb}
 use lib.ListN.{length, getD, take, drop, length-append}
 use Rattle.arithmetic.specs.Sum.{sum}
-use Rattle.arithmetic.specs.Row.{values}
+use Rattle.arithmetic.specs.Row.{values, sumOf}
 use Rattle.arithmetic.proofs.PartLaws.{part-length, part-value}
 use Rattle.arithmetic.proofs.SumLaws.{sum-next, sum-grow}
-use Rattle.lattice.specs.Shape.{node-count, row-start, discounts-needed, state-prices-needed}
+use Rattle.lattice.specs.Shape.{nodeCount, rowStart, discountsNeeded, statePricesNeeded}
 use native.Mathlib.Nat.{mul-le-mul}
-use Rattle.lattice.specs.Entries.{nodeCount}
+use Rattle.lattice.specs.Entries.{nodeCountAnswer}
 use Rattle.lattice.proofs.TreeEntries.{row-value}
 use Rattle.lattice.proofs.Sizes.{row-ends, start-most, start-suc, count-within}
 use Rattle.row_view.specs.declared.RowKind.{RowKind}
-use Rattle.row_view.specs.RowView.{is-tree, holds-tree, stores-row, memory-of, is-shown, view-start, view-count, PartOf}
+use Rattle.row_view.specs.RowView.{isTree, holdsTree, storesRow, memoryOf, isShown, viewStart, viewCount, PartOf}
 use Rattle.row_view.proofs.ViewLaws.{is-stored}
 use Rattle.text_laws.specs.declared.Placed.{Placed}
 use Rattle.text_laws.specs.Put.{Put}
 use Rattle.node_lines.specs.declared.Drawn.{Drawn}
-use Rattle.node_lines.specs.Rows.{nodeText, rowText, acceptedDiscounts}
+use Rattle.node_lines.specs.Rows.{nodeText, rowText, acceptedNodes}
 use Rattle.node_lines.specs.Reading.{nodesBefore, readNumber}
 use Rattle.node_lines.proofs.RowLaws.{lines-room, text-room, part-accepted, row-is, row-number-none}
 use Rattle.node_lines.proofs.ReadingLaws.{Drew, read-number-none, drawn-put, drawn-next}
 use Rattle.text_laws.specs.Lines.{rowLine, priceLine, lineNumber, bondWord, optionWord}
 use Rattle.text_laws.proofs.LineLaws.{row-room, price-room, line-stands, line-before}
-use Rattle.text_laws.proofs.PutLaws.{put-none, put-before, Answered, answered-put}
+use Rattle.text_laws.proofs.PutLaws.{put-none, put-before, Answered}
 use Rattle.pricing.specs.declared.Price.{Price}
 use Rattle.arithmetic.specs.declared.Answer.{Answer}
-use Rattle.state_price_bound.specs.ErrorBound.{statePriceErrorBound}
+use Rattle.state_price_bound.specs.ErrorBound.{statePriceErrorBoundAnswer}
 use Rattle.state_price_bound.proofs.BoundLaws.{bound-most}
-use Rattle.sheet_laws.specs.TreeSheet.{row-part, total, nodesOfRow, nodeLines, lineOfRow, rowLines, optionLines, priceLines, treeSheet}
+use Rattle.sheet_laws.specs.TreeSheet.{rowPart, nodesOfRow, nodeLines, lineOfRow, rowLines, optionLines, priceLines, treeSheet}
 use Rattle.sheet_laws.specs.Stored.{Lent, Stored, Summed}
 use Rattle.node_lines.proofs.LineLoop.{lines-fit}
 
 -- the rows that a memory of just a tree's discounts holds
 module _ (n b : ℕ) (discounts : List ℕ) (h : Lent n b discounts) where
-  pub discounts-end : (i : ℕ) → i < n → row-start b i + node-count b i ≤ length discounts
-  unfolding discounts-needed
+  pub discounts-end : (i : ℕ) → i < n → rowStart b i + nodeCount b i ≤ length discounts
+  unfolding discountsNeeded
   discounts-end i l = omega (arith, row-ends b i n l, h .size)
 
-  pub lines-few : discounts-needed n b ≤ 3600
-  unfolding discounts-needed
-  lines-few = omega (arith, start-most b n, mul-le-mul (h .few) (h .few))
+  pub lines-few : discountsNeeded n b ≤ 3600
+  unfolding discountsNeeded
+  lines-few = omega (arith, start-most b n, mul-le-mul (h .steps-within-limit) (h .steps-within-limit))
 
 module _ (n b : ℕ) (discounts prices : List ℕ) (h : Stored n b discounts prices) where
-  pub held : holds-tree discounts prices n b ≡ true
-  unfolding holds-tree is-tree
+  pub held : holdsTree discounts prices n b ≡ true
+  unfolding holdsTree isTree
   held =
       rw (
-        le-leb 1 n (h .lent .some),
-        le-leb n 60 (h .lent .few),
-        le-leb b 6000 (h .lent .gentle),
-        le-leb (discounts-needed n b) (length discounts) (omega (arith, h .lent .size)),
-        le-leb (state-prices-needed n b) (length prices) (omega (arith, h .prices-size)),
+        le-leb 1 n (h .lent .steps-positive),
+        le-leb n 60 (h .lent .steps-within-limit),
+        le-leb b 6000 (h .lent .reversion-within-limit),
+        le-leb (discountsNeeded n b) (length discounts) (omega (arith, h .lent .size)),
+        le-leb (statePricesNeeded n b) (length prices) (omega (arith, h .prices-size)),
       )
 
-  pub prices-end : (i : ℕ) → i ≤ n → row-start b i + node-count b i ≤ length prices
-  unfolding state-prices-needed
+  pub prices-end : (i : ℕ) → i ≤ n → rowStart b i + nodeCount b i ≤ length prices
+  unfolding statePricesNeeded
   prices-end i l = omega (arith, row-ends b i (suc n) (omega arith), h .prices-size)
 
 -- ---- the part of a row
 
-pub part-size : (b i : ℕ) (memory : List ℕ) → row-start b i + node-count b i ≤ length memory → length (row-part b memory i) ≡ node-count b i
-unfolding row-part
-part-size b i memory h = part-length memory (row-start b i) (node-count b i) h
+pub part-size : (b i : ℕ) (memory : List ℕ) → rowStart b i + nodeCount b i ≤ length memory → length (rowPart b memory i) ≡ nodeCount b i
+unfolding rowPart
+part-size b i memory h = part-length memory (rowStart b i) (nodeCount b i) h
 
-pub part-below : (b i k bound : ℕ) (memory : List ℕ) → ((j : ℕ) → getD memory j 0 < bound) → k < node-count b i →
-    getD (row-part b memory i) k 0 < bound
-unfolding row-part
-part-below b i k bound memory each h = rw (part-value memory (row-start b i) (node-count b i) k h) (each (row-start b i + k))
+pub part-below : (b i k bound : ℕ) (memory : List ℕ) → ((j : ℕ) → getD memory j 0 < bound) → k < nodeCount b i →
+    getD (rowPart b memory i) k 0 < bound
+unfolding rowPart
+part-below b i k bound memory each h = rw (part-value memory (rowStart b i) (nodeCount b i) k h) (each (rowStart b i + k))
 
 module _ (discounts prices : RefT (List ℕ)) (kind : RowKind) (n b i : ℕ) (part : RefT (List ℕ)) where
   -- the part that the view shows
   abbrev Shown : Type 0
   Shown =
-      PartOf (memory-of discounts prices kind) (view-start (discounts .now) (prices .now) kind n b i)
-      (view-count (discounts .now) (prices .now) kind n b i) part
+      PartOf (memoryOf discounts prices kind) (viewStart (discounts .now) (prices .now) kind n b i)
+      (viewCount (discounts .now) (prices .now) kind n b i) part
 
-  shown-by : is-shown (discounts .now) (prices .now) kind n b i ≡ true → Shown → part .now ≡ row-part b (memory-of discounts prices kind .now) i
-  unfolding row-part view-start view-count
+  shown-by : isShown (discounts .now) (prices .now) kind n b i ≡ true → Shown → part .now ≡ rowPart b (memoryOf discounts prices kind .now) i
+  unfolding rowPart viewStart viewCount
   shown-by s p = rw s at (p .contents)
 
   -- the row that the view shows is the part of its memory
-  pub shown : Stored n b (discounts .now) (prices .now) → stores-row kind n i ≡ true → Shown →
-      part .now ≡ row-part b (memory-of discounts prices kind .now) i
+  pub shown : Stored n b (discounts .now) (prices .now) → storesRow kind n i ≡ true → Shown →
+      part .now ≡ rowPart b (memoryOf discounts prices kind .now) i
   shown h s p = shown-by (is-stored (discounts .now) (prices .now) kind n b i (held n b _ _ h) s) p
 
 -- ---- the lines of a row, put by a call
 
-pub row-stands : (out : List ℕ) (end b i : ℕ) (memory : List ℕ) (next : ℕ) {answer : Drawn} {after : List ℕ} → i < 60 → acceptedDiscounts memory ≡ true →
-    next ≡ row-start b i + node-count b i → next ≤ length memory → 128 * node-count b i ≤ end → end ≤ length out →
-    length (nodesOfRow b memory i) ≤ 128 * node-count b i →
-    Drew (readNumber (length out) end i memory next (node-count b i)) out end (rowText i (nodesBefore memory next (node-count b i)))
-    (next - node-count b i) answer after →
-    Put out end (nodesOfRow b memory i) (answer .start) after × (answer .next ≡ row-start b i)
-unfolding row-part nodesBefore
+pub row-stands : (out : List ℕ) (end b i : ℕ) (memory : List ℕ) (next : ℕ) {answer : Drawn} {after : List ℕ} → i < 60 → acceptedNodes memory ≡ true →
+    next ≡ rowStart b i + nodeCount b i → next ≤ length memory → 128 * nodeCount b i ≤ end → end ≤ length out →
+    length (nodesOfRow b memory i) ≤ 128 * nodeCount b i →
+    Drew (readNumber (length out) end i memory next (nodeCount b i)) out end (rowText i (nodesBefore memory next (nodeCount b i)))
+    (next - nodeCount b i) answer after →
+    Put out end (nodesOfRow b memory i) (answer .start) after × (answer .next ≡ rowStart b i)
+unfolding rowPart nodesBefore
 row-stands out end b i memory next few accepted ends within h p l d =
-    let count = node-count b i in
-    let first : next - count ≡ row-start b i = omega arith in
-    let size = part-length memory (row-start b i) count (omega arith) in
-    let row = row-number-none (length out) end i (take count (drop (row-start b i) memory)) (rw size (row-is b i few)) (omega (arith, size)) p
-    (part-accepted memory (row-start b i) count accepted (omega arith)) in
+    let count = nodeCount b i in
+    let first : next - count ≡ rowStart b i = omega arith in
+    let size = part-length memory (rowStart b i) count (omega arith) in
+    let row = row-number-none (length out) end i (take count (drop (rowStart b i) memory)) (rw size (row-is b i few)) (omega (arith, size)) p
+    (part-accepted memory (rowStart b i) count accepted (omega arith)) in
     let z = read-number-none (length out) end i memory next count (omega arith) within (rw first row) in
     let drawn = rw first at d in
     (drawn-put _ out end _ _ drawn z (omega arith) p, drawn-next _ out end _ _ drawn z)
@@ -125,35 +125,35 @@ module _ (row : List ℕ) (i s : ℕ) (so-far : s ≡ sum i (values row)) where
   pub sum-more : s + values row i ≡ sum (i + 1) (values row)
   sum-more = omega (arith, sum-next i (values row))
 
-  pub sum-within : i < length row → s + values row i ≤ total row
-  unfolding total
+  pub sum-within : i < length row → s + values row i ≤ sumOf row
+  unfolding sumOf
   sum-within h = omega (arith, sum-next i (values row), sum-grow (length row) (i + 1) (values row) (omega arith))
 
-  pub sum-done : i ≡ length row → s ≡ total row
-  unfolding total
+  pub sum-done : i ≡ length row → s ≡ sumOf row
+  unfolding sumOf
   sum-done e = so-far ∙ ap (λ (n : ℕ). sum n (values row)) e
 
 -- ---- room for the lines
 
 module _ (n b : ℕ) (discounts : List ℕ) (h : Lent n b discounts) (small : (j : ℕ) → getD discounts j 0 < 2 ^ 64) where
-  pub nodes-length : (i : ℕ) → i < n → length (nodesOfRow b discounts i) ≤ 128 * node-count b i
+  pub nodes-length : (i : ℕ) → i < n → length (nodesOfRow b discounts i) ≤ 128 * nodeCount b i
   nodes-length i l =
       let s = part-size b i discounts (discounts-end n b discounts h i l) in
-      let c = count-within b i (omega (arith, h .few)) in
-      let long = row-length i (row-part b discounts i) (omega (arith, h .few)) (omega (arith, s, c))
+      let c = count-within b i (omega (arith, h .steps-within-limit)) in
+      let long = row-length i (rowPart b discounts i) (omega (arith, h .steps-within-limit)) (omega (arith, s, c))
       (λ k below. part-below b i k (2 ^ 64) discounts small (omega (arith, s))) in
       omega (arith, s, long)
 
-  pub nodes-fit : (i : ℕ) → i < n → 128 * row-start b i + length (nodesOfRow b discounts i) ≤ 128 * row-start b (suc i)
+  pub nodes-fit : (i : ℕ) → i < n → 128 * rowStart b i + length (nodesOfRow b discounts i) ≤ 128 * rowStart b (suc i)
   nodes-fit i l = omega (arith, nodes-length i l, start-suc b i)
 
 -- the row above `left`, whose nodes stand before a place; `count` is what the code finds
 module _ (n b : ℕ) (discounts : List ℕ) (h : Lent n b discounts) (left place : ℕ) (count : Answer) (some : 0 < left) (upto : left ≤ n)
-    (ec : count ≡ nodeCount b (left - 1)) (ep : place ≡ row-start b left) where
-  count-is : count .value ≡ node-count b (left - 1)
-  count-is = row-value b (left - 1) _ count ec (h .gentle) (omega (arith, h .few))
+    (ec : count ≡ nodeCountAnswer b (left - 1)) (ep : place ≡ rowStart b left) where
+  count-is : count .value ≡ nodeCount b (left - 1)
+  count-is = row-value b (left - 1) _ count ec (h .reversion-within-limit) (omega (arith, h .steps-within-limit))
 
-  ends : row-start b left ≡ row-start b (left - 1) + node-count b (left - 1)
+  ends : rowStart b left ≡ rowStart b (left - 1) + nodeCount b (left - 1)
   ends = let e : suc (left - 1) ≡ left = omega arith in rw e at (start-suc b (left - 1))
 
   before-end : place ≤ length discounts
@@ -161,13 +161,13 @@ module _ (n b : ℕ) (discounts : List ℕ) (h : Lent n b discounts) (left place
 
   -- the row's lines, put by a call that reads its nodes before the place, which goes down to the row's start
   pub before-put : (small : (j : ℕ) → getD discounts j 0 < 2 ^ 64) (out : List ℕ) (end : ℕ) (answer : Drawn) (after : List ℕ) →
-      128 * row-start b left ≤ end → end ≤ length out →
+      128 * rowStart b left ≤ end → end ≤ length out →
       Drew (readNumber (length out) end (left - 1) discounts place (count .value)) out end
       (rowText (left - 1) (nodesBefore discounts place (count .value))) (place - count .value) answer after →
-      Put out end (nodesOfRow b discounts (left - 1)) (answer .start) after × (answer .next ≡ row-start b (left - 1))
+      Put out end (nodesOfRow b discounts (left - 1)) (answer .start) after × (answer .next ≡ rowStart b (left - 1))
   before-put small out end answer after room inside d =
       let l : left - 1 < n = omega arith in
-      row-stands out end b (left - 1) discounts place (omega (arith, h .few)) (h .accepted) (ep ∙ ends) before-end
+      row-stands out end b (left - 1) discounts place (omega (arith, h .steps-within-limit)) (h .accepted) (ep ∙ ends) before-end
       (omega (arith, ends)) inside (nodes-length n b discounts h small (left - 1) l)
       (subst (λ (k : ℕ). Drew (readNumber (length out) end (left - 1) discounts place k) out end
       (rowText (left - 1) (nodesBefore discounts place k)) (place - k) answer after) count-is d)
@@ -176,7 +176,7 @@ module _ (n b : ℕ) (quotes discounts prices : List ℕ) (few : n ≤ 60) (smal
   pub line-length : (i : ℕ) → i < n → length (lineOfRow n b quotes discounts prices i) ≤ 128
   unfolding lineOfRow
   line-length i l =
-      row-room (suc i) (values quotes i) (total (row-part b prices (suc i))) (statePriceErrorBound n b discounts (suc i) .value) (omega arith) (small i)
+      row-room (suc i) (values quotes i) (sumOf (rowPart b prices (suc i))) (statePriceErrorBoundAnswer n b discounts (suc i) .value) (omega arith) (small i)
       (omega (arith, summed i l)) (omega (arith, bound-most n b discounts (suc i)))
 
   pub rows-fit : (i : ℕ) → i < n → 128 * i + length (lineOfRow n b quotes discounts prices i) ≤ 128 * suc i
@@ -184,14 +184,14 @@ module _ (n b : ℕ) (quotes discounts prices : List ℕ) (few : n ≤ 60) (smal
 
 -- the line that the code puts is the row's
 pub row-line-stands : (n b : ℕ) (quotes discounts prices : List ℕ) (i end added : ℕ) (out after : List ℕ) (bound : Answer) {answer : Placed} →
-    added ≡ total (row-part b prices (suc i)) → bound ≡ statePriceErrorBound n b discounts (suc i) → i < 60 → getD quotes i 0 < 2 ^ 64 → added < 2 ^ 64 →
+    added ≡ sumOf (rowPart b prices (suc i)) → bound ≡ statePriceErrorBoundAnswer n b discounts (suc i) → i < 60 → getD quotes i 0 < 2 ^ 64 → added < 2 ^ 64 →
     128 ≤ end → end ≤ length out →
     Answered (lineNumber (length out) end) out end (rowLine (i + 1) (values quotes i) added (bound .value)) answer after →
     Put out end (lineOfRow n b quotes discounts prices i) (answer .start) after
 unfolding lineOfRow
 row-line-stands n b quotes discounts prices i end added out after bound {answer} es eb few q s h p a =
-    let sum = total (row-part b prices (suc i)) in
-    let allowed = statePriceErrorBound n b discounts (suc i) .value in
+    let sum = sumOf (rowPart b prices (suc i)) in
+    let allowed = statePriceErrorBoundAnswer n b discounts (suc i) .value in
     let same : rowLine (i + 1) (values quotes i) added (bound .value) ≡ rowLine (suc i) (values quotes i) sum allowed = rw (← es, ← eb, add-one i) in
     line-stands out end _ h p
     (row-room (suc i) (values quotes i) sum allowed (omega arith) q (omega arith) (omega (arith, bound-most n b discounts (suc i))))
@@ -245,13 +245,13 @@ module _ (n b : ℕ) (quotes discounts prices : List ℕ) (bond : Price) (presen
   module _ {out priced : List ℕ} {end p₁ : ℕ} (h : Stored n b discounts prices) (fb : Fits bond) (fo : Fits option) (long : 468736 ≤ end)
       (p : Put out end (priceLines bond present option) p₁ priced) where
     pub rows-room : (128 * n ≤ p₁) × (p₁ ≤ length priced)
-    rows-room = (omega (arith, h .lent .few, prices-length bond present option fb fo, p .place), omega (arith, p .place, p .within, p .same))
+    rows-room = (omega (arith, h .lent .steps-within-limit, prices-length bond present option fb fo, p .place), omega (arith, p .place, p .within, p .same))
 
     module _ {rowed : List ℕ} {p₂ : ℕ} (q : Put priced p₁ (rowLines n b quotes discounts prices) p₂ rowed) (small : (j : ℕ) → getD quotes j 0 < 2 ^ 64)
         (summed : Summed n b prices) where
-      pub nodes-room : (128 * discounts-needed n b ≤ p₂) × (p₂ ≤ length rowed)
+      pub nodes-room : (128 * discountsNeeded n b ≤ p₂) × (p₂ ≤ length rowed)
       nodes-room =
-          let few = h .lent .few in (
+          let few = h .lent .steps-within-limit in (
             omega (arith, few, prices-length bond present option fb fo, p .place, q .place, rows-length few small summed, lines-few n b discounts (h .lent)),
             omega (arith, q .place, q .within, q .same),
           )

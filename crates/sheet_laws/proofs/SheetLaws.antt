@@ -1,22 +1,22 @@
 -- Laws of a whole job's number, sheet and print.
 -- Assumes nothing.
 use mathlib.Core.Path.{_≡_, sym, ap, _∙_, subst}
-use mathlib.Core.List.{List, _++_}
+use mathlib.Core.List.{List}
 use Prim.Native.Nat.{ℕ, _+_, _-_, _≤_, _<_}
 use native.Mathlib.Omega.{arith}
 use borrow.Author.Tests.{lt-ltb, le-ltb, eq-eqb, ne-eqb}
 use lib.ListN.{length, take, drop, length-append}
-use Rattle.arithmetic.specs.Answers.{lowest-cause}
+use Rattle.arithmetic.specs.Answers.{lowestCause}
 use Rattle.arithmetic.proofs.CauseLaws.{lowest-none}
 use Rattle.arithmetic.proofs.Numbers.{by-order, by-equal}
-use Rattle.limits.specs.Limits.{most-discounts, most-state-prices}
-use Rattle.pricing.specs.Prices.{first-cause}
+use Rattle.limits.specs.Limits.{mostDiscounts, mostStatePrices}
+use Rattle.pricing.specs.Prices.{firstCause}
 use Rattle.job_record.specs.declared.Job.{Job}
 use Rattle.job_record.specs.declared.Reading.{Reading}
 use Rattle.job_record.specs.Reader.{readingOf}
 use Rattle.job_fit.specs.RecordFit.{jobQuotes, jobDiscounts, jobStatePrices}
 use Rattle.job_prices.specs.declared.JobPrices.{JobPrices}
-use Rattle.job_prices.specs.JobPrices.{hasOption, jobBond, jobOption, pricesOf, recordNumber, recordPrices}
+use Rattle.job_prices.specs.JobPrices.{hasOption, jobBond, jobOption, recordNumber, recordPrices}
 use Rattle.job_prices.proofs.PriceLaws.{prices-given, prices-number}
 use Rattle.text_laws.specs.declared.Placed.{Placed}
 use Rattle.text_laws.specs.Put.{putBefore, Put, placeOf, withText}
@@ -44,8 +44,8 @@ room-known room z = by-order 468736 room (λ h. h) (λ h. absurd (apart (room-sh
 
 -- ---- the number of a record's sheet
 
-module _ (job : Job) (prices : JobPrices) (ep : prices ≡ recordPrices job most-discounts most-state-prices) where
-  pub prices-number-is : prices .number ≡ recordNumber job most-discounts most-state-prices
+module _ (job : Job) (prices : JobPrices) (ep : prices ≡ recordPrices job mostDiscounts mostStatePrices) where
+  pub prices-number-is : prices .number ≡ recordNumber job mostDiscounts mostStatePrices
   unfolding recordPrices
   prices-number-is = ap (λ (p : JobPrices). p .number) ep ∙ prices-number _ _ _ _
 
@@ -53,7 +53,7 @@ module _ (job : Job) (prices : JobPrices) (ep : prices ≡ recordPrices job most
   unfolding recordPrices
   prices-known z = ep ∙ sym (prices-given _ _ _ _ (sym prices-number-is ∙ z))
 
-  module _ (out : List ℕ) (room cause : ℕ) (er : room ≡ roomCause (length out)) (ec : cause ≡ lowest-cause (prices .number) room) where
+  module _ (out : List ℕ) (room cause : ℕ) (er : room ≡ roomCause (length out)) (ec : cause ≡ lowestCause (prices .number) room) where
     pub cause-is : cause ≡ jobNumber job (length out)
     unfolding jobNumber
     cause-is = ec ∙ rw (prices-number-is, er)
@@ -92,11 +92,11 @@ module _ (bytes : List ℕ) (room : ℕ) (q : Reading) (e : q ≡ readingOf byte
   number-read = ap (λ (q : Reading). q .number) e
 
   pub number-refused : (q .number ≡ 0 → ⊥) → q .number ≡ sheetNumber bytes room
-  unfolding sheetNumber first-cause
+  unfolding sheetNumber firstCause
   number-refused nz = rw (← number-read, ne-eqb (q .number) 0 nz)
 
   pub number-accepted : q .number ≡ 0 → jobNumber (readingOf bytes .job) room ≡ sheetNumber bytes room
-  unfolding sheetNumber first-cause
+  unfolding sheetNumber firstCause
   number-accepted z = rw (← number-read, eq-eqb (q .number) 0 z)
 
 -- ---- what is printed

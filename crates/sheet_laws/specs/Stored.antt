@@ -5,41 +5,42 @@ use mathlib.Core.Bool.{true}
 use mathlib.Core.List.{List}
 use mathlib.Core.Path.{_≡_}
 use lib.ListN.{length, take}
-use Rattle.limits.specs.Limits.{most-discounts, most-state-prices}
-use Rattle.lattice.specs.Shape.{discounts-needed, state-prices-needed}
+use Rattle.arithmetic.specs.Row.{sumOf}
+use Rattle.limits.specs.Limits.{mostDiscounts, mostStatePrices}
+use Rattle.lattice.specs.Shape.{discountsNeeded, statePricesNeeded}
 use Rattle.job_record.specs.declared.Job.{Job}
 use Rattle.job_fit.specs.RecordFit.{jobDiscounts, jobStatePrices, recordFit}
-use Rattle.node_lines.specs.Rows.{acceptedDiscounts}
-use Rattle.sheet_laws.specs.TreeSheet.{row-part, total}
+use Rattle.node_lines.specs.Rows.{acceptedNodes}
+use Rattle.sheet_laws.specs.TreeSheet.{rowPart}
 
 -- a tree within its limits, and a memory of just its node discounts, each accepted
 pub record Lent (n b : ℕ) (discounts : List ℕ) : Type 0 where
-  pub some : 0 < n
-  pub few : n ≤ 60
-  pub gentle : b ≤ 6000
-  pub size : length discounts ≡ discounts-needed n b
-  pub accepted : acceptedDiscounts discounts ≡ true
+  pub steps-positive : 0 < n
+  pub steps-within-limit : n ≤ 60
+  pub reversion-within-limit : b ≤ 6000
+  pub size : length discounts ≡ discountsNeeded n b
+  pub accepted : acceptedNodes discounts ≡ true
 
 -- all nodes stand before a place of the discounts, and their lines have room before the end
 pub record Drawing (n b : ℕ) (discounts : List ℕ) (next end size : ℕ) : Type 0 where
   pub lent : Lent n b discounts
-  pub place : next ≡ discounts-needed n b
-  pub room : 128 * discounts-needed n b ≤ end
+  pub place : next ≡ discountsNeeded n b
+  pub room : 128 * discountsNeeded n b ≤ end
   pub inside : end ≤ size
 
 -- the same tree with a memory of just its state prices
 pub record Stored (n b : ℕ) (discounts prices : List ℕ) : Type 0 where
   pub lent : Lent n b discounts
-  pub prices-size : length prices ≡ state-prices-needed n b
+  pub prices-size : length prices ≡ statePricesNeeded n b
 
 -- each row's state prices have a sum that a fit gives
 abbrev pub Summed : ℕ → ℕ → List ℕ → Type 0
-Summed n b prices = (i : ℕ) → i < n → total (row-part b prices (suc i)) ≤ 2000000100
+Summed n b prices = (i : ℕ) → i < n → sumOf (rowPart b prices (suc i)) ≤ 2000000100
 
 -- a record whose fit is accepted, and memories of the largest tree with the fit at their start
 pub record Fitted (job : Job) (discounts prices : List ℕ) : Type 0 where
-  pub accepted : recordFit job most-discounts most-state-prices ≡ 0
-  pub discounts-room : length discounts ≡ most-discounts
-  pub prices-room : length prices ≡ most-state-prices
-  pub discounts-front : take (discounts-needed (job .steps) (job .reversion)) discounts ≡ jobDiscounts job
-  pub prices-front : take (state-prices-needed (job .steps) (job .reversion)) prices ≡ jobStatePrices job
+  pub accepted : recordFit job mostDiscounts mostStatePrices ≡ 0
+  pub discounts-room : length discounts ≡ mostDiscounts
+  pub prices-room : length prices ≡ mostStatePrices
+  pub discounts-front : take (discountsNeeded (job .steps) (job .reversion)) discounts ≡ jobDiscounts job
+  pub prices-front : take (statePricesNeeded (job .steps) (job .reversion)) prices ≡ jobStatePrices job

@@ -5,9 +5,9 @@ use mathlib.Core.Bool.{cond}
 use mathlib.Core.List.{List}
 use lib.Dec.{eqb, ltb}
 use lib.ListN.{length}
-use Rattle.arithmetic.specs.Answers.{lowest-cause}
-use Rattle.limits.specs.Limits.{most-discounts, most-state-prices}
-use Rattle.pricing.specs.Prices.{first-cause}
+use Rattle.arithmetic.specs.Answers.{lowestCause}
+use Rattle.limits.specs.Limits.{mostDiscounts, mostStatePrices}
+use Rattle.pricing.specs.Prices.{firstCause}
 use Rattle.job_record.specs.declared.Job.{Job}
 use Rattle.job_record.specs.Reader.{readingOf}
 use Rattle.job_fit.specs.RecordFit.{jobQuotes, jobDiscounts, jobStatePrices}
@@ -25,7 +25,7 @@ roomCause room = cond (ltb room sheetRoom) 6 0
 module _ (job : Job) where
   -- the lower of the number of the job's prices and of 6 for the room
   unfoldable pub jobNumber : ℕ → ℕ
-  jobNumber room = lowest-cause (recordNumber job most-discounts most-state-prices) (roomCause room)
+  jobNumber room = lowestCause (recordNumber job mostDiscounts mostStatePrices) (roomCause room)
 
   unfoldable pub jobText : List ℕ
   jobText =
@@ -34,7 +34,7 @@ module _ (job : Job) where
 
 -- the number of the whole job, 1 first, and its sheet
 unfoldable pub sheetNumber : List ℕ → ℕ → ℕ
-sheetNumber bytes room = first-cause (readingOf bytes .number) (jobNumber (readingOf bytes .job) room)
+sheetNumber bytes room = firstCause (readingOf bytes .number) (jobNumber (readingOf bytes .job) room)
 
 abbrev pub sheetText : List ℕ → List ℕ
 sheetText bytes = jobText (readingOf bytes .job)

@@ -1,6 +1,6 @@
 -- Every sheet without a refusal keeps its promises.
 -- Assumes nothing.
-use mathlib.Core.Path.{_≡_, refl, sym, ap, ap₂, _∙_}
+use mathlib.Core.Path.{_≡_, refl, ap, ap₂, _∙_}
 use mathlib.Core.Bool.{Bool, true, false, cond}
 use mathlib.Core.List.{List, [], _∷_}
 use Prim.Native.Nat.{ℕ, suc, _*_, _+_, _/_, _≤_, _<_}
@@ -13,9 +13,9 @@ use Rattle.arithmetic.specs.Rounding.{one}
 use Rattle.arithmetic.specs.Row.{values}
 use Rattle.arithmetic.proofs.RowLaws.{values-row}
 use Rattle.arithmetic.proofs.PartLaws.{part-value}
-use Rattle.limits.specs.Limits.{most-discounts, most-state-prices}
-use Rattle.lattice.specs.Shape.{half-width, node-count, row-start}
-use Rattle.lattice.specs.RateTree.{node-at, node}
+use Rattle.limits.specs.Limits.{mostDiscounts, mostStatePrices}
+use Rattle.lattice.specs.Shape.{halfWidth, nodeCount, rowStart}
+use Rattle.lattice.specs.RateTree.{nodeOfIndex, node}
 use Rattle.lattice.proofs.Sizes.{row-ends}
 use Rattle.lent_tree.specs.LentTree.{Accepted, stored}
 use Rattle.lent_tree.proofs.LentLaws.{accepted}
@@ -23,8 +23,8 @@ use Rattle.curve.specs.Curve.{discountAt}
 use Rattle.step_rate.specs.StepRate.{rateAnswer}
 use Rattle.step_rate.specs.declared.Rate.{Rate}
 use Rattle.step_rate.proofs.RateLaws.{answer-known}
-use Rattle.fitting.specs.Entry.{quotes-of, fitNumber, fit-price}
-use Rattle.fitting.proofs.FittedTree.{fit-discounts-lent, fit-discounts-length}
+use Rattle.fitting.specs.Entry.{fitPrice}
+use Rattle.fitting.proofs.FittedTree.{fit-discounts-lent}
 use Rattle.job_record.specs.declared.Job.{Job}
 use Rattle.job_record.specs.Reader.{readingOf}
 use Rattle.job_fit.specs.RecordFit.{jobRows, jobKinds, jobFigures, jobQuotes, jobDiscounts, jobStatePrices}
@@ -33,14 +33,13 @@ use Rattle.text_laws.specs.Decimal.{signOf}
 use Rattle.text_laws.specs.Lines.{nodeLine, lineOfNode}
 use Rattle.text_laws.proofs.Signs.{sign-negative, sign-none}
 use Rattle.node_lines.specs.Rows.{nodeText}
-use Rattle.sheet_laws.specs.TreeSheet.{row-part, total, treeSheet}
-use Rattle.sheet_laws.specs.WholeJob.{jobNumber, jobText, sheetNumber, sheetText}
+use Rattle.sheet_laws.specs.TreeSheet.{rowPart, treeSheet}
+use Rattle.sheet_laws.specs.WholeJob.{jobText, sheetNumber}
 use Rattle.sheet_laws.proofs.PartLaws.{part-size}
 use Rattle.sheet_laws.proofs.FittedLaws.{total-row}
 use Rattle.sheet_laws.proofs.Accepted.{AcceptedJob, sheet-accepted, job-accepted}
-use Rattle.promises.specs.Promises.{Repriced}
 use Rattle.promises.proofs.Kept.{promises-kept}
-use Rattle.sheet_promises.specs.SheetPromises.{Node-shown, Row-shown, Sheet-shown, Sheet-promises}
+use Rattle.sheet_promises.specs.SheetPromises.{NodeShown, RowShown, SheetShown, SheetPromises}
 
 -- the sign of a printed rate
 sign-shown : (v : ℕ) → rateAnswer v .number ≡ 0 → signOf (rateAnswer v .value) ≡ cond (ltb one v) (45 ∷ []) []
@@ -57,19 +56,19 @@ sign-shown v z = go (ltb one v) refl
 half-of : (w : ℕ) → (2 * w + 1) / 2 ≡ w
 half-of w = omega arith
 
-module _ (n b : ℕ) (discounts : List ℕ) (a : Accepted n b discounts) (i k : ℕ) (hi : i < n) (hk : k < node-count b i) where
-  row-room : row-start b i + node-count b i ≤ length discounts
+module _ (n b : ℕ) (discounts : List ℕ) (a : Accepted n b discounts) (i k : ℕ) (hi : i < n) (hk : k < nodeCount b i) where
+  row-room : rowStart b i + nodeCount b i ≤ length discounts
   row-room = omega (arith, row-ends b i n hi, a .room)
 
-  place-shown : node-at (length (row-part b discounts i) / 2) k ≡ node b i k
-  unfolding node-count
-  place-shown = ap (λ (x : ℕ). node-at (x / 2) k) (part-size b i discounts row-room) ∙ ap (λ (w : ℕ). node-at w k) (half-of (half-width b i))
+  place-shown : nodeOfIndex (length (rowPart b discounts i) / 2) k ≡ node b i k
+  unfolding nodeCount
+  place-shown = ap (λ (x : ℕ). nodeOfIndex (x / 2) k) (part-size b i discounts row-room) ∙ ap (λ (w : ℕ). nodeOfIndex w k) (half-of (halfWidth b i))
 
-  discount-shown : values (row-part b discounts i) k ≡ stored b discounts i k
-  unfolding row-part stored
-  discount-shown = part-value discounts (row-start b i) (node-count b i) k hk
+  discount-shown : values (rowPart b discounts i) k ≡ stored b discounts i k
+  unfolding rowPart stored
+  discount-shown = part-value discounts (rowStart b i) (nodeCount b i) k hk
 
-  node-shown : rateAnswer (stored b discounts i k) .number ≡ 0 → Node-shown b discounts i k
+  node-shown : rateAnswer (stored b discounts i k) .number ≡ 0 → NodeShown b discounts i k
   unfolding nodeText lineOfNode
   node-shown z =
       record {
@@ -90,27 +89,27 @@ module _ (job : Job) (room : ℕ) (known : AcceptedJob job room) where
   unfolding jobDiscounts
   tree =
       accepted n b _
-      (fit-discounts-lent (job .frequency) n b (job .volatility) (jobKinds job) (jobFigures job) (jobRows job) most-discounts most-state-prices (known .fit))
+      (fit-discounts-lent (job .frequency) n b (job .volatility) (jobKinds job) (jobFigures job) (jobRows job) mostDiscounts mostStatePrices (known .fit))
 
-  rated : (i k : ℕ) → i < n → k < node-count b i → rateAnswer (stored b (jobDiscounts job) i k) .number ≡ 0
+  rated : (i k : ℕ) → i < n → k < nodeCount b i → rateAnswer (stored b (jobDiscounts job) i k) .number ≡ 0
   unfolding stored
   rated i k hi hk =
-      let inside : row-start b i + k < row-start b n = omega (arith, row-ends b i n hi) in
+      let inside : rowStart b i + k < rowStart b n = omega (arith, row-ends b i n hi) in
       ap (λ (r : Rate). r .number)
-      (answer-known (values (jobDiscounts job) (row-start b i + k)) (tree .positive _ inside) (tree .discounted _ inside))
+      (answer-known (values (jobDiscounts job) (rowStart b i + k)) (tree .positive _ inside) (tree .discounted _ inside))
 
-  row-shown : (i : ℕ) → i < n → Row-shown n b (jobQuotes job) (jobDiscounts job) (jobStatePrices job) i
+  row-shown : (i : ℕ) → i < n → RowShown n b (jobQuotes job) (jobDiscounts job) (jobStatePrices job) i
   unfolding jobQuotes jobDiscounts jobStatePrices
   row-shown i hi =
       let f = job .frequency in
       let s = job .volatility in
-      let price = fit-price f n b s (jobKinds job) (jobFigures job) in
+      let price = fitPrice f n b s (jobKinds job) (jobFigures job) in
       let near
-      = promises-kept .tree .quotes-repriced f n b s (jobRows job) (jobKinds job) (jobFigures job) most-discounts most-state-prices (known .fit) i hi in
+      = promises-kept .tree .quotes-repriced f n b s (jobRows job) (jobKinds job) (jobFigures job) mostDiscounts mostStatePrices (known .fit) i hi in
       let quote = values-row n i (discountAt f (jobKinds job) (jobFigures job)) hi in
       record {
         bounded =
-            promises-kept .tree .state-prices-near f n b s (jobRows job) (jobKinds job) (jobFigures job) most-discounts most-state-prices (known .fit)
+            promises-kept .tree .state-prices-near f n b s (jobRows job) (jobKinds job) (jobFigures job) mostDiscounts mostStatePrices (known .fit)
             (suc i) hi .0;
         repriced = rw (total-row b price (suc n) (suc i) (omega arith), quote) near;
       }
@@ -118,7 +117,7 @@ module _ (job : Job) (room : ℕ) (known : AcceptedJob job room) where
   option-number : hasOption (job .option) ≡ true → jobOption job .number ≡ 0
   option-number e = rw e (known .option-priced e)
 
-  pub job-shown : Sheet-shown job (jobText job)
+  pub job-shown : SheetShown job (jobText job)
   unfolding jobText treeSheet
   job-shown =
       record {
@@ -132,6 +131,6 @@ module _ (job : Job) (room : ℕ) (known : AcceptedJob job room) where
       }
 
 -- every job whose sheet is not refused
-pub sheet-kept : (bytes : List ℕ) (room : ℕ) → sheetNumber bytes room ≡ 0 → Sheet-promises bytes
+pub sheet-kept : (bytes : List ℕ) (room : ℕ) → sheetNumber bytes room ≡ 0 → SheetPromises bytes
 sheet-kept bytes room z =
     job-shown (readingOf bytes .job) room (job-accepted (readingOf bytes .job) room (sheet-accepted bytes room z .1))

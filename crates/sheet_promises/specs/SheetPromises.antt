@@ -2,20 +2,20 @@
 -- with number 0, and what the demands say of these answers holds of the sheet.
 -- Assumes nothing.
 use mathlib.Core.Path.{_≡_}
-use mathlib.Core.Bool.{Bool, true, cond}
+use mathlib.Core.Bool.{true, cond}
 use mathlib.Core.List.{List, [], _∷_, _++_}
 use Prim.Native.Nat.{ℕ, suc, _^_, _<_}
 use lib.Dec.{ltb}
+use Rattle.arithmetic.specs.Within.{Within}
 use Rattle.arithmetic.specs.Rounding.{one}
-use Rattle.arithmetic.specs.Row.{values}
+use Rattle.arithmetic.specs.Row.{values, sumOf}
 use Rattle.tree.specs.Tree.{unit}
-use Rattle.lattice.specs.Shape.{node-count}
+use Rattle.lattice.specs.Shape.{nodeCount}
 use Rattle.lattice.specs.RateTree.{node}
 use Rattle.lent_tree.specs.LentTree.{stored}
 use Rattle.step_rate.specs.StepRate.{rateAnswer}
-use Rattle.state_price_bound.specs.ErrorBound.{statePriceErrorBound}
-use Rattle.pricing.specs.declared.Price.{Price}
-use Rattle.pricing.specs.Exact.{exact-bond, exact-option}
+use Rattle.state_price_bound.specs.ErrorBound.{statePriceErrorBoundAnswer}
+use Rattle.pricing.specs.Exact.{exactBond, exactOption}
 use Rattle.job_record.specs.declared.Job.{Job}
 use Rattle.job_record.specs.Reader.{readingOf}
 use Rattle.job_fit.specs.RecordFit.{jobQuotes, jobDiscounts, jobStatePrices, jobFlows}
@@ -23,43 +23,43 @@ use Rattle.job_prices.specs.JobPrices.{hasOption, jobBond, jobOption}
 use Rattle.text_laws.specs.Decimal.{signOf}
 use Rattle.text_laws.specs.Lines.{nodeLine}
 use Rattle.node_lines.specs.Rows.{nodeText}
-use Rattle.sheet_laws.specs.TreeSheet.{row-part, total, nodeLines, rowLines, priceLines}
+use Rattle.sheet_laws.specs.TreeSheet.{rowPart, nodeLines, rowLines, priceLines}
 use Rattle.sheet_laws.specs.WholeJob.{sheetText}
-use Rattle.promises.specs.Promises.{Repriced, Within, Short-of}
+use Rattle.promises.specs.Promises.{Repriced, ShortOf}
 
 -- the line of node k of row i: its discount and the step rate of that discount, whose sign in the bytes is a minus exactly where the discount
 -- is above one
-pub record Node-shown (b : ℕ) (discounts : List ℕ) (i k : ℕ) : Type 0 where
+pub record NodeShown (b : ℕ) (discounts : List ℕ) (i k : ℕ) : Type 0 where
   pub line :
-      nodeText i (row-part b discounts i) k
+      nodeText i (rowPart b discounts i) k
       ≡ nodeLine i (node b i k) (stored b discounts i k) (rateAnswer (stored b discounts i k) .value)
   pub rated : rateAnswer (stored b discounts i k) .number ≡ 0
   pub sign : signOf (rateAnswer (stored b discounts i k) .value) ≡ cond (ltb one (stored b discounts i k)) (45 ∷ []) []
 
 -- the line of row i + 1: an allowance that the entry gives, and a quote within 300 of the sum of the row's state prices
-pub record Row-shown (n b : ℕ) (quotes discounts prices : List ℕ) (i : ℕ) : Type 0 where
-  pub bounded : statePriceErrorBound n b discounts (suc i) .number ≡ 0
-  pub repriced : Repriced (values quotes i) (total (row-part b prices (suc i)))
+pub record RowShown (n b : ℕ) (quotes discounts prices : List ℕ) (i : ℕ) : Type 0 where
+  pub bounded : statePriceErrorBoundAnswer n b discounts (suc i) .number ≡ 0
+  pub repriced : Repriced (values quotes i) (sumOf (rowPart b prices (suc i)))
 
 -- the sheet of a job
-pub record Sheet-shown (job : Job) (text : List ℕ) : Type 0 where
+pub record SheetShown (job : Job) (text : List ℕ) : Type 0 where
   pub lines :
       text
       ≡ nodeLines (job .steps) (job .reversion) (jobDiscounts job)
       ++ (rowLines (job .steps) (job .reversion) (jobQuotes job) (jobDiscounts job) (jobStatePrices job)
       ++ priceLines (jobBond job) (hasOption (job .option)) (jobOption job))
-  pub nodes : (i k : ℕ) → i < job .steps → k < node-count (job .reversion) i → Node-shown (job .reversion) (jobDiscounts job) i k
-  pub rows : (i : ℕ) → i < job .steps → Row-shown (job .steps) (job .reversion) (jobQuotes job) (jobDiscounts job) (jobStatePrices job) i
+  pub nodes : (i k : ℕ) → i < job .steps → k < nodeCount (job .reversion) i → NodeShown (job .reversion) (jobDiscounts job) i k
+  pub rows : (i : ℕ) → i < job .steps → RowShown (job .steps) (job .reversion) (jobQuotes job) (jobDiscounts job) (jobStatePrices job) i
   pub bond-given : jobBond job .number ≡ 0
   pub bond-near :
-      Short-of (jobBond job .bound) (unit ^ job .steps) (jobBond job .value)
-      (exact-bond (job .steps) (job .reversion) (jobDiscounts job) (jobFlows job))
+      ShortOf (jobBond job .bound) (unit ^ job .steps) (jobBond job .value)
+      (exactBond (job .steps) (job .reversion) (jobDiscounts job) (jobFlows job))
   pub option-given : hasOption (job .option) ≡ true → jobOption job .number ≡ 0
   pub option-near :
       hasOption (job .option) ≡ true →
       Within (jobOption job .bound) (unit ^ job .steps) (jobOption job .value)
-      (exact-option (job .steps) (job .reversion) (jobDiscounts job) (jobFlows job) (job .option .kind) (job .option .expiry) (job .option .strike))
+      (exactOption (job .steps) (job .reversion) (jobDiscounts job) (jobFlows job) (job .option .kind) (job .option .expiry) (job .option .strike))
 
 -- of a job's bytes
-abbrev pub Sheet-promises : List ℕ → Type 0
-Sheet-promises bytes = Sheet-shown (readingOf bytes .job) (sheetText bytes)
+abbrev pub SheetPromises : List ℕ → Type 0
+SheetPromises bytes = SheetShown (readingOf bytes .job) (sheetText bytes)

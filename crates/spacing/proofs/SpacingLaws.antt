@@ -4,65 +4,66 @@ use mathlib.Core.Path.{_≡_, refl, sym, ap, _∙_}
 use mathlib.Core.Bool.{Bool, true, false, cond}
 use mathlib.Core.Logic.{_⊎_, inl, inr}
 use Prim.Native.Nat.{ℕ, zero, suc, _+_, _*_, _/_, _≤_, _<_}
-use native.Mathlib.Nat.{le-trans, le-of-suc-le-suc, eq-or-lt-of-le, mul-le-mul, mul-le-mul-left, mul-le-mul-right, le-div-iff-mul-le, lt-of-not-le, not-le-of-lt, le-antisymm, mul-pos, div-lt-iff-lt-mul}
+use native.Mathlib.Nat.{le-trans, le-antisymm, le-of-suc-le-suc, eq-or-lt-of-le, lt-of-not-le, not-le-of-lt}
+use native.Mathlib.Nat.{mul-le-mul, mul-le-mul-left, mul-le-mul-right, mul-pos, le-div-iff-mul-le, div-lt-iff-lt-mul}
 use native.Mathlib.Omega.{arith}
-use borrow.Author.Tests.{lt-ltb, le-ltb, ne-eqb, eqb-true}
+use borrow.Author.Tests.{lt-ltb, le-ltb}
 use lib.Dec.{leb, T, leb→le, le→leb}
 use Rattle.arithmetic.specs.Answers.{refused, answered}
 use Rattle.arithmetic.specs.declared.Answer.{Answer}
-use Rattle.arithmetic.proofs.Numbers.{by-order, by-equal}
-use Rattle.spacing.specs.Spacing.{greatest-passing, greatest-root, spacing, spacing-answer}
+use Rattle.arithmetic.proofs.Numbers.{by-order}
+use Rattle.spacing.specs.Spacing.{greatestPassing, greatestRoot, spacing, spacingAnswer}
 use Rattle.arithmetic.specs.Frequency.{listed}
 use Rattle.arithmetic.proofs.FrequencyLaws.{listed-small}
 
 -- what passes among 0 to n is at most the greatest that passes, which passes if 0 does
-passing-most : (test : ℕ → Bool) (n k : ℕ) → k ≤ n → T (test k) → k ≤ greatest-passing test n
-unfolding greatest-passing
+passing-most : (test : ℕ → Bool) (n k : ℕ) → k ≤ n → T (test k) → k ≤ greatestPassing test n
+unfolding greatestPassing
 passing-most test zero k l h = l
 passing-most test (suc n) k l h = go (test (suc n)) refl (λ m. passing-most test n k m h) (eq-or-lt-of-le l)
   where
     go :
-        (b : Bool) → test (suc n) ≡ b → (k ≤ n → k ≤ greatest-passing test n) → (k ≡ suc n) ⊎ (k < suc n) →
-        k ≤ cond b (suc n) (greatest-passing test n)
+        (b : Bool) → test (suc n) ≡ b → (k ≤ n → k ≤ greatestPassing test n) → (k ≡ suc n) ⊎ (k < suc n) →
+        k ≤ cond b (suc n) (greatestPassing test n)
     go true e ih d = l
     go false e ih (inl d) = absurd (rw (d, e) at h)
     go false e ih (inr d) = ih (le-of-suc-le-suc d)
 
-passing-passes : (test : ℕ → Bool) (n : ℕ) → T (test 0) → T (test (greatest-passing test n))
-unfolding greatest-passing
+passing-passes : (test : ℕ → Bool) (n : ℕ) → T (test 0) → T (test (greatestPassing test n))
+unfolding greatestPassing
 passing-passes test zero h = h
 passing-passes test (suc n) h = go (test (suc n)) refl (passing-passes test n h)
   where
     go :
-        (b : Bool) → test (suc n) ≡ b → T (test (greatest-passing test n)) →
-        T (test (cond b (suc n) (greatest-passing test n)))
+        (b : Bool) → test (suc n) ≡ b → T (test (greatestPassing test n)) →
+        T (test (cond b (suc n) (greatestPassing test n)))
     go true e ih = rw e tt
     go false e ih = ih
 
 module _ (c x : ℕ) where
   -- the root passes,
-  pub root-passes : greatest-root c x * greatest-root c x * c ≤ x
-  unfolding greatest-root
+  pub root-passes : greatestRoot c x * greatestRoot c x * c ≤ x
+  unfolding greatestRoot
   root-passes = leb→le _ x (passing-passes (λ h. leb (h * h * c) x) x (le→leb (0 * 0 * c) x (omega arith)))
 
   module _ (positive : 0 < c) where
     -- nothing greater does,
-    pub root-greatest : (h : ℕ) → h * h * c ≤ x → h ≤ greatest-root c x
-    unfolding greatest-root
+    pub root-greatest : (h : ℕ) → h * h * c ≤ x → h ≤ greatestRoot c x
+    unfolding greatestRoot
     root-greatest h l = passing-most (λ h. leb (h * h * c) x) x h (le-trans (small h) l) (le→leb (h * h * c) x l)
       where
         small : (h : ℕ) → h ≤ h * h * c
         small zero = omega arith
         small (suc k) = omega (arith, mul-le-mul-left (suc k * suc k) positive)
 
-    pub root-next-fails : x < (greatest-root c x + 1) * (greatest-root c x + 1) * c
+    pub root-next-fails : x < (greatestRoot c x + 1) * (greatestRoot c x + 1) * c
     root-next-fails =
-        lt-of-not-le (λ (l : (greatest-root c x + 1) * (greatest-root c x + 1) * c ≤ x).
-        let g : greatest-root c x + 1 ≤ greatest-root c x = root-greatest (greatest-root c x + 1) l in omega arith)
+        lt-of-not-le (λ (l : (greatestRoot c x + 1) * (greatestRoot c x + 1) * c ≤ x).
+        let g : greatestRoot c x + 1 ≤ greatestRoot c x = root-greatest (greatestRoot c x + 1) l in omega arith)
 
     -- and the two inequalities determine it
-    pub root-unique : (h : ℕ) → h * h * c ≤ x → x < (h + 1) * (h + 1) * c → h ≡ greatest-root c x
-    root-unique h low high = le-antisymm (root-greatest h low) (below (greatest-root c x) root-passes)
+    pub root-unique : (h : ℕ) → h * h * c ≤ x → x < (h + 1) * (h + 1) * c → h ≡ greatestRoot c x
+    root-unique h low high = le-antisymm (root-greatest h low) (below (greatestRoot c x) root-passes)
       where
         below : (g : ℕ) → g * g * c ≤ x → g ≤ h
         below g l =
@@ -70,7 +71,7 @@ module _ (c x : ℕ) where
             omega arith
 
     -- the whole square root of the quotient is the root of the product
-    pub root-of-quotient : (h : ℕ) → h * h ≤ x / c → x / c < (h + 1) * (h + 1) → h ≡ greatest-root c x
+    pub root-of-quotient : (h : ℕ) → h * h ≤ x / c → x / c < (h + 1) * (h + 1) → h ≡ greatestRoot c x
     root-of-quotient h low high = root-unique h (le-div-iff-mul-le positive .0 low) (div-lt-iff-lt-mul positive .0 high)
 
 pub cube-positive : {f : ℕ} → 0 < f → 0 < f * f * f
@@ -107,23 +108,23 @@ module _ (f s : ℕ) where
             let square : 86602541 * 86602541 ≤ h * h = mul-le-mul l l in
             omega (arith, mul-le-mul-left (h * h) cube, mul-le-mul small small)
 
-pub spacing-unlisted : (f s : ℕ) → listed f ≡ false → spacing-answer f s ≡ refused 2
-unfolding spacing-answer
+pub spacing-unlisted : (f s : ℕ) → listed f ≡ false → spacingAnswer f s ≡ refused 2
+unfolding spacingAnswer
 spacing-unlisted f s u = rw u
 
-pub spacing-volatile : (f s : ℕ) → listed f ≡ true → 50000 < s → spacing-answer f s ≡ refused 5
-unfolding spacing-answer
+pub spacing-volatile : (f s : ℕ) → listed f ≡ true → 50000 < s → spacingAnswer f s ≡ refused 5
+unfolding spacingAnswer
 spacing-volatile f s u h = rw (u, lt-ltb 50000 s h)
 
-pub spacing-accepted : (f s : ℕ) → listed f ≡ true → s ≤ 50000 → spacing-answer f s ≡ answered (spacing f s)
-unfolding spacing-answer
+pub spacing-accepted : (f s : ℕ) → listed f ≡ true → s ≤ 50000 → spacingAnswer f s ≡ answered (spacing f s)
+unfolding spacingAnswer
 spacing-accepted f s u h = rw (u, le-ltb 50000 s h)
 
 -- a whole square root of the quotient is the value answered
 pub spacing-found :
     (f s h : ℕ) → listed f ≡ true → s ≤ 50000 →
     h * h ≤ 3 * (1000 * s * (1000 * s)) / (f * f * f) → 3 * (1000 * s * (1000 * s)) / (f * f * f) < (h + 1) * (h + 1) →
-    spacing-answer f s ≡ answered h
+    spacingAnswer f s ≡ answered h
 unfolding spacing
 spacing-found f s h u l low high =
     spacing-accepted f s u l
@@ -135,13 +136,13 @@ pub record Accepted (f s : ℕ) (answer : Answer) : Type 0 where
   pub volatility : s ≤ 50000
   pub value : answer .value ≡ spacing f s
 
-pub spacing-zero : (f s : ℕ) → spacing-answer f s .number ≡ 0 → Accepted f s (spacing-answer f s)
+pub spacing-zero : (f s : ℕ) → spacingAnswer f s .number ≡ 0 → Accepted f s (spacingAnswer f s)
 spacing-zero f s e = by-listed (listed f) refl
   where
-    impossible : (cause : ℕ) → 0 < cause → spacing-answer f s ≡ refused cause → ⊥
+    impossible : (cause : ℕ) → 0 < cause → spacingAnswer f s ≡ refused cause → ⊥
     impossible cause p r = omega (arith, ap (λ (a : Answer). a .number) r)
 
-    by-listed : (t : Bool) → listed f ≡ t → Accepted f s (spacing-answer f s)
+    by-listed : (t : Bool) → listed f ≡ t → Accepted f s (spacingAnswer f s)
     by-listed false u = absurd (impossible 2 (omega arith) (spacing-unlisted f s u))
     by-listed true u =
         by-order s 50000

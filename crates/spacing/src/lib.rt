@@ -1,7 +1,7 @@
 // The spacing of the nodes.
 ghost use mathlib.Core.Path.{_≡_};
 ghost use Prim.Native.Nat.{_+_, _*_, _≤_, _<_};
-ghost use Rattle.spacing.specs.Spacing.{spacing-answer};
+ghost use Rattle.spacing.specs.Spacing.{spacingAnswer};
 use arithmetic::Answer;
 
 // The whole square root of a number below 2^54, by halving an interval of 2^27: 27 steps.
@@ -24,7 +24,7 @@ fn square_root(square: u64) -> u64
 
 // The spacing of the nodes for a listed number of steps a year and a yearly volatility in millionths; refuses with 2 or 5.
 pub fn spacing(frequency: u64, volatility: u64) -> Answer
-    ensures { λ r. ⌜ r ≡ spacing-answer frequency volatility ⌝ }
+    ensures { λ r. ⌜ r ≡ spacingAnswer frequency volatility ⌝ }
 {
     if !arithmetic::is_listed(frequency) {
         return Answer {

@@ -10,30 +10,30 @@ use borrow.Author.Tests.{eqb-true}
 use Rattle.arithmetic.specs.Sum.{sum}
 use Rattle.arithmetic.specs.Answers.{refused, answered}
 use Rattle.tree.specs.Tree.{unit}
-use Rattle.lattice.specs.Shape.{node-count}
-use Rattle.lattice.specs.RateTree.{rate-tree}
+use Rattle.lattice.specs.Shape.{nodeCount}
+use Rattle.lattice.specs.RateTree.{rateTree}
 use Rattle.lattice.proofs.RateTreeLaws.{rate-tree-sound}
 use Rattle.lent_tree.specs.LentTree.{stored}
-use Rattle.fit_laws.specs.StatePrices.{state-price, exact-state-price, state-price-bound}
+use Rattle.fit_laws.specs.StatePrices.{statePrice, exactStatePrice, statePriceErrorBound}
 use Rattle.fit_laws.proofs.Shortfall.{state-below, state-price-shortfall}
-use Rattle.state_price_bound.specs.ErrorBound.{refusal, statePriceErrorBound}
+use Rattle.state_price_bound.specs.ErrorBound.{boundCause, statePriceErrorBoundAnswer}
 use Rattle.state_price_bound.proofs.BoundLaws.{not-refused}
 
 module _ (n b : ℕ) (discounts : List ℕ) (i : ℕ) where
   -- the answer's number is the refusal's, and without one its value is the allowance
-  pub answer-number : statePriceErrorBound n b discounts i .number ≡ refusal n b discounts i
-  unfolding statePriceErrorBound
-  answer-number = go (eqb (refusal n b discounts i) 0) refl
+  pub answer-number : statePriceErrorBoundAnswer n b discounts i .number ≡ boundCause n b discounts i
+  unfolding statePriceErrorBoundAnswer
+  answer-number = go (eqb (boundCause n b discounts i) 0) refl
     where
-      go : (t : Bool) → eqb (refusal n b discounts i) 0 ≡ t →
-          cond t (answered (state-price-bound (rate-tree b) (stored b discounts) i)) (refused (refusal n b discounts i)) .number
-          ≡ refusal n b discounts i
-      go true e = sym (eqb-true (refusal n b discounts i) 0 e)
+      go : (t : Bool) → eqb (boundCause n b discounts i) 0 ≡ t →
+          cond t (answered (statePriceErrorBound (rateTree b) (stored b discounts) i)) (refused (boundCause n b discounts i)) .number
+          ≡ boundCause n b discounts i
+      go true e = sym (eqb-true (boundCause n b discounts i) 0 e)
       go false e = refl
 
-  pub answer-value : refusal n b discounts i ≡ 0 →
-      statePriceErrorBound n b discounts i .value ≡ state-price-bound (rate-tree b) (stored b discounts) i
-  unfolding statePriceErrorBound
+  pub answer-value : boundCause n b discounts i ≡ 0 →
+      statePriceErrorBoundAnswer n b discounts i .value ≡ statePriceErrorBound (rateTree b) (stored b discounts) i
+  unfolding statePriceErrorBoundAnswer
   answer-value z = rw z
 
 -- ---- the meaning of the bound
@@ -41,20 +41,20 @@ module _ (n b : ℕ) (discounts : List ℕ) (i : ℕ) where
 -- The state prices that follow from discounts are at most the exact ones, and fall short of them by at most a bound in sum. An exact state price of
 -- row i is held times m^i.
 pub record Covers (b : ℕ) (discounts : List ℕ) (i bound : ℕ) : Type 0 where
-  pub below : (k : ℕ) → unit ^ i * state-price (rate-tree b) (stored b discounts) i k ≤ exact-state-price (rate-tree b) (stored b discounts) i k
+  pub below : (k : ℕ) → unit ^ i * statePrice (rateTree b) (stored b discounts) i k ≤ exactStatePrice (rateTree b) (stored b discounts) i k
   pub short :
-      sum (node-count b i)
-      (λ k. exact-state-price (rate-tree b) (stored b discounts) i k - unit ^ i * state-price (rate-tree b) (stored b discounts) i k)
+      sum (nodeCount b i)
+      (λ k. exactStatePrice (rateTree b) (stored b discounts) i k - unit ^ i * statePrice (rateTree b) (stored b discounts) i k)
       ≤ unit ^ i * bound
 
-pub bound-covers : (n b : ℕ) (discounts : List ℕ) (i : ℕ) → statePriceErrorBound n b discounts i .number ≡ 0 →
-    Covers b discounts i (statePriceErrorBound n b discounts i .value)
-unfolding rate-tree
+pub bound-covers : (n b : ℕ) (discounts : List ℕ) (i : ℕ) → statePriceErrorBoundAnswer n b discounts i .number ≡ 0 →
+    Covers b discounts i (statePriceErrorBoundAnswer n b discounts i .value)
+unfolding rateTree
 bound-covers n b discounts i z =
-    let none : refusal n b discounts i ≡ 0 = sym (answer-number n b discounts i) ∙ z in
+    let none : boundCause n b discounts i ≡ 0 = sym (answer-number n b discounts i) ∙ z in
     record {
-      below = state-below (rate-tree b) (stored b discounts) i;
+      below = state-below (rateTree b) (stored b discounts) i;
       short =
           rw (answer-value n b discounts i none)
-          (state-price-shortfall (rate-tree b) (rate-tree-sound b (not-refused n b discounts i none .tree .reverting)) (stored b discounts) i);
+          (state-price-shortfall (rateTree b) (rate-tree-sound b (not-refused n b discounts i none .tree .reversion-within-limit)) (stored b discounts) i);
     }

@@ -5,21 +5,21 @@ use mathlib.Core.Bool.{cond}
 use mathlib.Core.List.{List}
 use lib.Dec.{eqb, ltb}
 use Rattle.arithmetic.specs.declared.Answer.{Answer}
-use Rattle.arithmetic.specs.Answers.{refused, answered, lowest-cause}
-use Rattle.lattice.specs.RateTree.{rate-tree}
-use Rattle.lent_tree.specs.LentTree.{stored, discounts-cause}
-use Rattle.fit_laws.specs.StatePrices.{state-price-bound}
+use Rattle.arithmetic.specs.Answers.{refused, answered, lowestCause}
+use Rattle.lattice.specs.RateTree.{rateTree}
+use Rattle.lent_tree.specs.LentTree.{stored, discountsCause}
+use Rattle.fit_laws.specs.StatePrices.{statePriceErrorBound}
 
 -- 6 for a row past row n, which a tree of n steps has not; else 0
-unfoldable pub row-cause : ℕ → ℕ → ℕ
-row-cause n i = cond (ltb n i) 6 0
+unfoldable pub rowCause : ℕ → ℕ → ℕ
+rowCause n i = cond (ltb n i) 6 0
 
 -- the number of the refusal of row i of a tree whose discounts are lent; 0 where the tree is accepted and has the row
-unfoldable pub refusal : ℕ → ℕ → List ℕ → ℕ → ℕ
-refusal n b discounts i = lowest-cause (discounts-cause n b discounts) (row-cause n i)
+unfoldable pub boundCause : ℕ → ℕ → List ℕ → ℕ → ℕ
+boundCause n b discounts i = lowestCause (discountsCause n b discounts) (rowCause n i)
 
 -- the state-price allowance of row i
-unfoldable pub statePriceErrorBound : ℕ → ℕ → List ℕ → ℕ → Answer
-statePriceErrorBound n b discounts i =
-    cond (eqb (refusal n b discounts i) 0) (answered (state-price-bound (rate-tree b) (stored b discounts) i))
-    (refused (refusal n b discounts i))
+unfoldable pub statePriceErrorBoundAnswer : ℕ → ℕ → List ℕ → ℕ → Answer
+statePriceErrorBoundAnswer n b discounts i =
+    cond (eqb (boundCause n b discounts i) 0) (answered (statePriceErrorBound (rateTree b) (stored b discounts) i))
+    (refused (boundCause n b discounts i))

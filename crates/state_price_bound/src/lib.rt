@@ -3,29 +3,29 @@ use arithmetic::Answer;
 ghost use mathlib.Core.Path.{_≡_};
 ghost use Prim.Native.Nat.{ℕ, _+_, _*_, _<_, _≤_};
 ghost use lib.ListN.{length};
-ghost use Rattle.arithmetic.specs.Rounding.{one, up};
+ghost use Rattle.arithmetic.specs.Rounding.{one, roundUp};
 ghost use Rattle.arithmetic.specs.Row.{values};
-ghost use Rattle.limits.specs.Limits.{most-steps, most-reversion, most-discount, most-nodes};
-ghost use Rattle.lattice.specs.Shape.{row-start};
-ghost use Rattle.lattice.specs.RateTree.{rate-tree};
+ghost use Rattle.limits.specs.Limits.{mostSteps, mostReversion, mostDiscount, mostNodes};
+ghost use Rattle.lattice.specs.Shape.{rowStart};
+ghost use Rattle.lattice.specs.RateTree.{rateTree};
 ghost use Rattle.lent_tree.specs.LentTree.{stored};
-ghost use Rattle.fit_laws.specs.StatePrices.{state-price-bound};
-ghost use Rattle.state_price_bound.specs.ErrorBound.{row-cause, statePriceErrorBound};
+ghost use Rattle.fit_laws.specs.StatePrices.{statePriceErrorBound};
+ghost use Rattle.state_price_bound.specs.ErrorBound.{rowCause, statePriceErrorBoundAnswer};
 
 const ONE: u64 = 1_000_000_000;
 
 // The bound of the next row. No row has more than 121 nodes, and 60 steps keep the bound below a million.
 fn next_bound(greatest: u64, bound: u64, nodes: u64, next_nodes: u64) -> u64
-    requires { ⌜ (greatest ≤ most-discount) × (bound ≤ 1000000) × (nodes ≤ most-nodes) × («next_nodes» ≤ most-nodes) ⌝ }
-    ensures { λ r. ⌜ r ≡ up (greatest * bound) one + nodes + «next_nodes» ⌝ }
+    requires { ⌜ (greatest ≤ mostDiscount) × (bound ≤ 1000000) × (nodes ≤ mostNodes) × («next_nodes» ≤ mostNodes) ⌝ }
+    ensures { λ r. ⌜ r ≡ roundUp (greatest * bound) one + nodes + «next_nodes» ⌝ }
 {
     (greatest * bound + (ONE - 1)) / ONE + nodes + next_nodes
 }
 
 fn bound_of_row(reversion: u64, discounts: &[u64], row: usize) -> u64
-    requires { ⌜ (reversion ≤ most-reversion) × (row ≤ most-steps) × (row-start reversion row ≤ length (now discounts)) ⌝ }
-    requires { ⌜ ((k : ℕ) → k < row-start reversion row → values (now discounts) k ≤ most-discount) ⌝ }
-    ensures { λ r. ⌜ r ≡ state-price-bound (rate-tree reversion) (stored reversion (now (discounts .entry))) row ⌝ }
+    requires { ⌜ (reversion ≤ mostReversion) × (row ≤ mostSteps) × (rowStart reversion row ≤ length (now discounts)) ⌝ }
+    requires { ⌜ ((k : ℕ) → k < rowStart reversion row → values (now discounts) k ≤ mostDiscount) ⌝ }
+    ensures { λ r. ⌜ r ≡ statePriceErrorBound (rateTree reversion) (stored reversion (now (discounts .entry))) row ⌝ }
 {
     let mut bound: u64 = 0;
     let mut start: usize = 0;
@@ -45,7 +45,7 @@ fn bound_of_row(reversion: u64, discounts: &[u64], row: usize) -> u64
 
 // 6 for a row that the tree has not, or 0.
 fn row_cause(steps: usize, row: usize) -> u64
-    ensures { λ r. ⌜ r ≡ row-cause steps row ⌝ }
+    ensures { λ r. ⌜ r ≡ rowCause steps row ⌝ }
 {
     if steps < row { 6 } else { 0 }
 }
@@ -57,7 +57,7 @@ pub fn state_price_error_bound(
     discounts: &[u64],
     row: usize,
 ) -> Answer
-    ensures { λ r. ⌜ r ≡ statePriceErrorBound steps reversion (now (discounts .entry)) row ⌝ }
+    ensures { λ r. ⌜ r ≡ statePriceErrorBoundAnswer steps reversion (now (discounts .entry)) row ⌝ }
 {
     let number = arithmetic::lowest_cause(
         lent_tree::discounts_cause(steps, reversion, discounts),

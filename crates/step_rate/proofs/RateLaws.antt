@@ -1,25 +1,25 @@
 -- The step rate over whole numbers, its sign, and what a caller learns from an answer.
 -- Assumes nothing.
 use mathlib.Core.Path.{_≡_, refl, sym, _∙_, ap, subst}
-use mathlib.Core.Bool.{Bool, true, false, not, cond, _&&_}
+use mathlib.Core.Bool.{Bool, true, false, not, cond}
 use Prim.Native.Nat.{ℕ, zero, suc, _+_, _-_, _*_, _≤_, _<_}
 use native.Mathlib.Nat.{le-div-iff-mul-le, mul-zero, zero-mul}
 use native.Mathlib.Omega.{arith}
-use borrow.Author.Tests.{lt-ltb, le-ltb, lt-leb, le-leb, leb-true}
-use lib.Dec.{ltb, leb}
+use borrow.Author.Tests.{lt-ltb, le-ltb, lt-leb, le-leb}
+use lib.Dec.{ltb}
 use lib.IntN.{pos, negsuc, negℤ, natAbs, _-ℤ_, _*ℤ_}
 use lib.Signed.{ltZ}
 use mir.Syntax.{w64}
 use mir.Val.{toZ, ofZ}
 use mir.Facts.{toZ-ofZ}
-use Rattle.arithmetic.specs.Rounding.{one, nearest, nearest-signed}
+use Rattle.arithmetic.specs.Rounding.{one, nearest, nearestSigned}
 use Rattle.arithmetic.proofs.Numbers.{by-order}
 use Rattle.arithmetic.proofs.RoundingLaws.{nearest-rounds, nearest-le}
 use Rattle.arithmetic.proofs.Signed.{abs-negative, fits-by-size}
-use Rattle.limits.specs.Limits.{is-discount}
+use Rattle.limits.specs.Limits.{isDiscount}
 use Rattle.limits.proofs.LimitLaws.{discount-least, discount-most}
 use Rattle.step_rate.specs.declared.Rate.{Rate}
-use Rattle.step_rate.specs.StepRate.{stepRate, refused, answered, rateAnswer}
+use Rattle.step_rate.specs.StepRate.{stepRate, refusedRate, answeredRate, rateAnswer}
 
 -- ---- differences with a sign
 
@@ -39,8 +39,8 @@ negative-times zero b = rw (zero-mul b)
 negative-times (suc a) b = refl
 
 -- a quotient to the nearest goes by the magnitude, so a changed sign stays outside
-pub nearest-negated : (a d : ℕ) → 0 < d → nearest-signed (negℤ (pos a)) d ≡ negℤ (pos (nearest a d))
-unfolding nearest-signed
+pub nearest-negated : (a d : ℕ) → 0 < d → nearestSigned (negℤ (pos a)) d ≡ negℤ (pos (nearest a d))
+unfolding nearestSigned
 nearest-negated zero d h =
     let e : nearest 0 d ≡ 0 = rw mul-zero at (nearest-rounds .exact 0 d h) in
     ap pos e ∙ ap (λ (k : ℕ). negℤ (pos k)) (sym e)
@@ -54,7 +54,7 @@ module _ (v : ℕ) (h : 0 < v) where
   rate-above l = rw (less-negative one v l, negative-times (v - one) one) (nearest-negated ((v - one) * one) v h)
 
   pub rate-within : v ≤ one → stepRate v ≡ pos (nearest ((one - v) * one) v)
-  unfolding stepRate nearest-signed
+  unfolding stepRate nearestSigned
   rate-within l = rw (less-whole one v l)
 
 -- a gap of at least 1 gives a rate of at least 1 in size
@@ -101,20 +101,20 @@ module _ (v : ℕ) (h : 0 < v) where
 -- ---- the answer, by its causes
 
 module _ (v : ℕ) where
-  pub answer-zero : v ≡ 0 → rateAnswer v ≡ refused
+  pub answer-zero : v ≡ 0 → rateAnswer v ≡ refusedRate
   unfolding rateAnswer
   answer-zero e = rw (lt-leb 1 v (omega arith))
 
-  pub answer-high : 1100000000 < v → rateAnswer v ≡ refused
+  pub answer-high : 1100000000 < v → rateAnswer v ≡ refusedRate
   unfolding rateAnswer
   answer-high l = rw (le-leb 1 v (omega arith), lt-leb v 1100000000 l)
 
-  pub answer-refused : is-discount v ≡ false → rateAnswer v ≡ refused
+  pub answer-refused : isDiscount v ≡ false → rateAnswer v ≡ refusedRate
   unfolding rateAnswer
   answer-refused e = rw e
 
   -- an accepted discount has number 0 and its step rate
-  pub answer-known : 0 < v → v ≤ 1100000000 → rateAnswer v ≡ answered (stepRate v)
+  pub answer-known : 0 < v → v ≤ 1100000000 → rateAnswer v ≡ answeredRate (stepRate v)
   unfolding rateAnswer
   answer-known h l = rw (le-leb 1 v h, le-leb v 1100000000 l)
 
@@ -128,9 +128,9 @@ module _ (v : ℕ) where
 module _ (v : ℕ) (r : Rate) (e : r ≡ rateAnswer v) where
   pub value-bound : natAbs (r .value) ≤ one * one
   unfolding rateAnswer
-  value-bound = subst (λ (q : Rate). natAbs (q .value) ≤ one * one) (sym e) (by-known (is-discount v) refl)
+  value-bound = subst (λ (q : Rate). natAbs (q .value) ≤ one * one) (sym e) (by-known (isDiscount v) refl)
     where
-      by-known : (b : Bool) → is-discount v ≡ b → natAbs (cond (not b) refused (answered (stepRate v)) .value) ≤ one * one
+      by-known : (b : Bool) → isDiscount v ≡ b → natAbs (cond (not b) refusedRate (answeredRate (stepRate v)) .value) ≤ one * one
       by-known true h = rate-size v (discount-least v h) (omega (arith, discount-most v h))
       by-known false h = omega arith
 

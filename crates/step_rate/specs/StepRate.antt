@@ -3,23 +3,23 @@
 use Prim.Native.Nat.{ℕ}
 use mathlib.Core.Bool.{cond, not}
 use lib.IntN.{ℤ, pos, _-ℤ_, _*ℤ_}
-use Rattle.arithmetic.specs.Rounding.{one, nearest-signed}
-use Rattle.limits.specs.Limits.{is-discount}
+use Rattle.arithmetic.specs.Rounding.{one, nearestSigned}
+use Rattle.limits.specs.Limits.{isDiscount}
 use Rattle.step_rate.specs.declared.Rate.{Rate}
 
 -- (one - v) × one / v, nearest
 unfoldable pub stepRate : ℕ → ℤ
-unfolding nearest-signed
-stepRate v = nearest-signed ((pos one -ℤ pos v) *ℤ pos one) v
+unfolding nearestSigned
+stepRate v = nearestSigned ((pos one -ℤ pos v) *ℤ pos one) v
 
 -- refusal 9 with zero
-abbrev pub refused : Rate
-refused = record { number = 9; value = pos 0 }
+abbrev pub refusedRate : Rate
+refusedRate = record { number = 9; value = pos 0 }
 
-abbrev pub answered : ℤ → Rate
-answered z = record { number = 0; value = z }
+abbrev pub answeredRate : ℤ → Rate
+answeredRate z = record { number = 0; value = z }
 
 -- the answer to a discount
 unfoldable pub rateAnswer : ℕ → Rate
 unfolding stepRate
-rateAnswer v = cond (not (is-discount v)) refused (answered (stepRate v))
+rateAnswer v = cond (not (isDiscount v)) refusedRate (answeredRate (stepRate v))

@@ -2,7 +2,7 @@
 ghost use mathlib.Core.Path.{_≡_};
 ghost use Prim.Native.Nat.{_*_, _≤_};
 ghost use Rattle.arithmetic.specs.Rounding.{one, nearest};
-ghost use Rattle.limits.specs.Limits.{most-discount};
+ghost use Rattle.limits.specs.Limits.{mostDiscount};
 ghost use Rattle.step_rate.specs.StepRate.{rateAnswer};
 
 const ONE: u64 = 1_000_000_000;
@@ -16,7 +16,7 @@ pub struct Rate {
 
 // gap × one / discount, to the nearest.
 fn ratio(gap: u64, discount: u64) -> u64
-    requires { ⌜ (1 ≤ discount) × (discount ≤ most-discount) × (gap ≤ one) ⌝ }
+    requires { ⌜ (1 ≤ discount) × (discount ≤ mostDiscount) × (gap ≤ one) ⌝ }
     ensures { λ r. ⌜ r ≡ nearest (gap * one) discount ⌝ }
 {
     (2 * (gap * ONE) + discount) / (2 * discount)

@@ -1,15 +1,14 @@
 // The lines of the sheet, put into a lent buffer from its end: each function puts its text just before a place and answers where the
 // text starts, so that the line that stands above it is put before that. A line that has no room is refused with 6, and the buffer stays.
 ghost use mathlib.Core.Path.{_≡_};
-ghost use mathlib.Core.List.{List, [], _∷_, _++_};
-ghost use Prim.Native.Nat.{ℕ, _+_, _-_, _≤_, _<_};
+ghost use mathlib.Core.List.{[], _∷_, _++_};
+ghost use Prim.Native.Nat.{_+_, _-_, _≤_, _<_};
 ghost use lib.ListN.{length};
-ghost use lib.IntN.{natAbs};
 ghost use Rattle.text_laws.specs.Decimal.{natural, fraction, decimal, signOf, signedDecimal};
 ghost use Rattle.text_laws.specs.Lines.{
   space,
   newline,
-  whole,
+  wholeNumber,
   amount,
   nodeLine,
   rowLine,
@@ -139,7 +138,7 @@ fn put_signed_field(out: &mut [u8], end: usize, number: i64, decimals: usize, fo
 // A line's word and the whole number that follows it.
 fn put_label(out: &mut [u8], end: usize, word: &[u8], number: u64, follower: u8) -> usize
     requires { ⌜ (length (now word) + 22 ≤ end) × (end ≤ length (now out)) ⌝ }
-    ensures { λ r. ⌜ Put (now (out .entry)) end (now (word .entry) ++ (whole number ++ (follower ∷ []))) r (now (out .exit)) ⌝ }
+    ensures { λ r. ⌜ Put (now (out .entry)) end (now (word .entry) ++ (wholeNumber number ++ (follower ∷ []))) r (now (out .exit)) ⌝ }
 {
     let start = put_field(out, end, number, 0, follower);
     put_word(out, start, word)
@@ -148,7 +147,7 @@ fn put_label(out: &mut [u8], end: usize, word: &[u8], number: u64, follower: u8)
 // An amount and its error bound, with which a line ends.
 fn put_bounded(out: &mut [u8], end: usize, value: u64, bound: u64) -> usize
     requires { ⌜ (53 ≤ end) × (end ≤ length (now out)) ⌝ }
-    ensures { λ r. ⌜ Put (now (out .entry)) end ((amount value ++ space) ++ (whole bound ++ newline)) r (now (out .exit)) ⌝ }
+    ensures { λ r. ⌜ Put (now (out .entry)) end ((amount value ++ space) ++ (wholeNumber bound ++ newline)) r (now (out .exit)) ⌝ }
 {
     let start = put_field(out, end, bound, 0, b'\n');
     put_field(out, start, value, 9, b' ')

@@ -1,6 +1,6 @@
 -- Laws of decimal text: its last digit, and how long it is.
 -- Assumes nothing.
-use mathlib.Core.Path.{_≡_, refl, sym, ap, _∙_}
+use mathlib.Core.Path.{_≡_, refl, sym, ap}
 use mathlib.Core.Bool.{Bool, true, false, cond}
 use mathlib.Core.List.{List, [], _∷_, _++_, append-assoc, append-nil}
 use Prim.Native.Nat.{ℕ, zero, suc, _+_, _-_, _*_, _/_, _%_, _^_, _≤_, _<_}
@@ -10,17 +10,17 @@ use borrow.Author.Tests.{lt-ltb, le-ltb, ltb-true, ltb-false}
 use lib.Dec.{ltb, lit<}
 use lib.IntN.{ℤ, pos, negsuc, natAbs}
 use lib.ListN.{length, length-append}
-use Rattle.text_laws.specs.Decimal.{digit, naturalWithin, natural, digits, fraction, decimal, signOf, signedDecimal}
+use Rattle.text_laws.specs.Decimal.{digit, naturalWithin, natural, lastDigits, fraction, decimal, signOf, signedDecimal}
 
 -- ---- the last digit
 
-pub digits-step : (k n : ℕ) → 0 < k → digits k n ≡ digits (k - 1) (n / 10) ++ (digit (n % 10) ∷ [])
-unfolding digits
+pub digits-step : (k n : ℕ) → 0 < k → lastDigits k n ≡ lastDigits (k - 1) (n / 10) ++ (digit (n % 10) ∷ [])
+unfolding lastDigits
 digits-step zero n h = let none : ⊥ = omega arith in absurd none
 digits-step (suc k) n h = let e : suc k - 1 ≡ k = omega arith in rw e
 
-pub digits-none : (k n : ℕ) → k ≡ 0 → digits k n ≡ []
-unfolding digits
+pub digits-none : (k n : ℕ) → k ≡ 0 → lastDigits k n ≡ []
+unfolding lastDigits
 digits-none k n e = rw e
 
 pub natural-small : (n : ℕ) → n < 10 → natural n ≡ digit n ∷ []
@@ -53,7 +53,7 @@ pub fraction-none : (k n : ℕ) → k ≡ 0 → fraction k n ≡ []
 unfolding fraction
 fraction-none k n e = rw e
 
-pub fraction-point : (k n : ℕ) → 0 < k → fraction k n ≡ 46 ∷ digits k n
+pub fraction-point : (k n : ℕ) → 0 < k → fraction k n ≡ 46 ∷ lastDigits k n
 unfolding fraction
 fraction-point zero n h = let none : ⊥ = omega arith in absurd none
 fraction-point (suc k) n h = refl
@@ -66,8 +66,8 @@ decimal-parts (suc k) n = refl
 
 -- ---- lengths
 
-pub length-digits : (k n : ℕ) → length (digits k n) ≡ k
-unfolding digits
+pub length-digits : (k n : ℕ) → length (lastDigits k n) ≡ k
+unfolding lastDigits
 length-digits zero n = refl
 length-digits (suc k) n = simp (length-append, length-digits k (n / 10)) (omega arith)
 
@@ -115,7 +115,8 @@ fraction-length k n h = rw (fraction-point k n h) (omega (arith, length-digits k
 pub field-length : (k n follower : ℕ) → length (decimal k n ++ (follower ∷ [])) ≡ length (decimal k n) + 1
 field-length k n follower = length-followed (decimal k n) follower
 
-pub signed-length : (k follower : ℕ) (z : ℤ) → length (signedDecimal k z ++ (follower ∷ [])) ≡ length (signOf z) + length (decimal k (natAbs z) ++ (follower ∷ []))
+pub signed-length : (k follower : ℕ) (z : ℤ) →
+    length (signedDecimal k z ++ (follower ∷ [])) ≡ length (signOf z) + length (decimal k (natAbs z) ++ (follower ∷ []))
 unfolding signedDecimal
 signed-length k follower z = simp length-append (omega arith)
 

@@ -7,16 +7,16 @@ use native.Mathlib.Omega.{arith}
 use borrow.Author.Tests.{le-leb, lt-leb}
 use lib.IntN.{ℤ, natAbs}
 use lib.ListN.{length, length-append}
-use Rattle.arithmetic.specs.Answers.{lowest-cause}
+use Rattle.arithmetic.specs.Answers.{lowestCause}
 use Rattle.arithmetic.proofs.CauseLaws.{lowest-first, lowest-none}
 use Rattle.arithmetic.proofs.Numbers.{by-order}
-use Rattle.limits.specs.Limits.{most-discount}
+use Rattle.limits.specs.Limits.{mostDiscount}
 use Rattle.step_rate.specs.declared.Rate.{Rate}
 use Rattle.step_rate.specs.StepRate.{rateAnswer}
 use Rattle.step_rate.proofs.RateLaws.{answer-known, value-bound}
 use Rattle.text_laws.specs.declared.Placed.{Placed}
 use Rattle.text_laws.specs.Put.{Put}
-use Rattle.text_laws.specs.Lines.{space, newline, whole, amount, nodeLine, rowLine, priceLine, refusedLine, lineNumber, nodeNumber, lineOfNode}
+use Rattle.text_laws.specs.Lines.{space, newline, wholeNumber, amount, nodeLine, rowLine, priceLine, lineNumber, nodeNumber, lineOfNode}
 use Rattle.text_laws.proofs.DecimalLaws.{decimal-room, field-room, signed-room}
 use Rattle.text_laws.proofs.PutLaws.{put-before, Answered, put-refused, put-answered, answered-put}
 
@@ -40,10 +40,6 @@ row-room row quote total bound a b c d =
 pub price-room : (word : List ℕ) (price bound : ℕ) → length word ≤ 8 → price < 2 ^ 64 → bound < 2 ^ 64 → length (priceLine word price bound) ≤ 128
 unfolding priceLine
 price-room word price bound w a b = simp length-append (omega (arith, decimal-room 9 price a, decimal-room 0 bound b))
-
-pub refused-room : (number : ℕ) → number < 2 ^ 64 → length (refusedLine number) ≤ 128
-unfolding refusedLine
-refused-room number a = simp length-append (omega (arith, decimal-room 0 number a))
 
 -- ---- room for a line
 
@@ -84,15 +80,21 @@ module _ (out : List ℕ) (end : ℕ) (line : List ℕ) where
   line-stands h p l a = answered-put _ out end line a (sym (number-none (length out) end h p)) (omega arith) p
 
 -- the word and the first field of a line, put before the rest of it
-pub put-label : {out after later text : List ℕ} {end mid start : ℕ} (word field : List ℕ) → Put out end text mid after → Put after mid (word ++ field) start later → Put out end (word ++ (field ++ text)) start later
-put-label {out} {after} {later} {text} {end} {mid} {start} word field p q = subst (λ (l : List ℕ). Put out end l start later) (append-assoc word field text) (put-before p q)
+pub put-label : {out after later text : List ℕ} {end mid start : ℕ} (word field : List ℕ) →
+    Put out end text mid after → Put after mid (word ++ field) start later → Put out end (word ++ (field ++ text)) start later
+put-label {out} {after} {later} {text} {end} {mid} {start} word field p q =
+    subst (λ (l : List ℕ). Put out end l start later) (append-assoc word field text) (put-before p q)
 
 -- an amount and its bound are at most 53 bytes
-pub bounded-room : (value bound : ℕ) → value < 2 ^ 64 → bound < 2 ^ 64 → length ((amount value ++ space) ++ (whole bound ++ newline)) ≤ 53
-bounded-room value bound a b = let x = field-room 9 value 32 a in let y = field-room 0 bound 10 b in rw (length-append (amount value ++ space) (whole bound ++ newline)) (omega arith)
+pub bounded-room : (value bound : ℕ) → value < 2 ^ 64 → bound < 2 ^ 64 → length ((amount value ++ space) ++ (wholeNumber bound ++ newline)) ≤ 53
+bounded-room value bound a b =
+    let x = field-room 9 value 32 a in
+    let y = field-room 0 bound 10 b in
+    rw (length-append (amount value ++ space) (wholeNumber bound ++ newline)) (omega arith)
 
 -- the room that a text leaves before it
-pub room-left : {out text after : List ℕ} {end mid : ℕ} (most left : ℕ) → Put out end text mid after → most + left ≤ end → length text ≤ most → (left ≤ mid) × (mid ≤ length after)
+pub room-left : {out text after : List ℕ} {end mid : ℕ} (most left : ℕ) → Put out end text mid after → most + left ≤ end →
+    length text ≤ most → (left ≤ mid) × (mid ≤ length after)
 room-left most left p h l = (omega (arith, p .place), omega (arith, p .place, p .within, p .same))
 
 -- LINES ONE AFTER THE OTHER: after a line that has room, the buffer holds the line and the text that was put before, as put at once
@@ -105,7 +107,7 @@ line-before {out₀} {out} {text} {after} {end} {mid} line p h l a =
 
 module _ (size end discount : ℕ) where
   -- the cause that the code finds
-  pub node-cause : (rate : Rate) (room found : ℕ) → rate ≡ rateAnswer discount → room ≡ lineNumber size end → found ≡ lowest-cause room (rate .number)
+  pub node-cause : (rate : Rate) (room found : ℕ) → rate ≡ rateAnswer discount → room ≡ lineNumber size end → found ≡ lowestCause room (rate .number)
       → found ≡ nodeNumber size end discount
   unfolding nodeNumber
   node-cause rate room found er em ef = ef ∙ rw (er, em)
@@ -126,7 +128,7 @@ module _ (out : List ℕ) (end row discount : ℕ) (node : ℤ) (found : ℕ) (e
   node-put {start} {after} z rate r p =
       put-answered _ out end _ (sym e ∙ z) (subst (λ (v : ℤ). Put out end (nodeLine row node discount v) start after) r p)
 
-pub node-number-none : (size end discount : ℕ) → 128 ≤ end → end ≤ size → 0 < discount → discount ≤ most-discount → nodeNumber size end discount ≡ 0
+pub node-number-none : (size end discount : ℕ) → 128 ≤ end → end ≤ size → 0 < discount → discount ≤ mostDiscount → nodeNumber size end discount ≡ 0
 unfolding nodeNumber
 node-number-none size end discount h p l m =
     let r : 0 ≡ rateAnswer discount .number = rw (answer-known discount l m) in
@@ -138,7 +140,7 @@ node-line-room row discount node a b c = node-room row discount node _ a b c (om
 
 -- the line was put where it had room and its discount a step rate
 pub node-stands : (out : List ℕ) (end row discount : ℕ) (node : ℤ) {answer : Placed} {after : List ℕ} → 128 ≤ end → end ≤ length out → 0 < discount
-    → discount ≤ most-discount → length (lineOfNode row node discount) ≤ 128
+    → discount ≤ mostDiscount → length (lineOfNode row node discount) ≤ 128
     → Answered (nodeNumber (length out) end discount) out end (lineOfNode row node discount) answer after
     → Put out end (lineOfNode row node discount) (answer .start) after
 node-stands out end row discount node h p l m r a = answered-put _ out end _ a (node-number-none (length out) end discount h p l m) (omega arith) p

@@ -1,12 +1,12 @@
 -- Laws of text that is put into a buffer from its end.
 -- Assumes nothing.
-use mathlib.Core.Path.{_≡_, refl, sym, ap, _∙_, subst}
-use mathlib.Core.List.{List, [], _∷_, _++_, append-assoc, append-nil}
-use Prim.Native.Nat.{ℕ, zero, suc, _+_, _-_, _≤_, _<_}
+use mathlib.Core.Path.{_≡_, refl, sym, ap, _∙_}
+use mathlib.Core.List.{List, [], _∷_, _++_, append-assoc}
+use Prim.Native.Nat.{ℕ, suc, _+_, _-_, _≤_, _<_}
 use native.Mathlib.Omega.{arith}
 use borrow.Author.Tests.{eq-eqb, ne-eqb}
-use lib.ListN.{length, drop, take, set, getD, length-append, length-drop, length-set, take-append-drop}
-use lib.Seq.{set-split, drop-at, length-take-le, take-append-le, take-take, take-suc, drop-length}
+use lib.ListN.{length, drop, take, set, length-append, length-drop, take-append-drop}
+use lib.Seq.{set-split, drop-at, length-take-le, take-append-le, take-take}
 use Rattle.text_laws.specs.declared.Placed.{Placed}
 use Rattle.text_laws.specs.Put.{putBefore, Put, placeOf, withText}
 
@@ -56,7 +56,8 @@ put-last out text next whole start byte e h p w =
 pub put-none : (out : List ℕ) (end : ℕ) → end ≤ length out → Put out end [] end out
 put-none out end h = record { place = omega arith; within = h; same = refl; memory = sym (put-nothing out end) }
 
-pub put-whole : (out after text : List ℕ) (end start : ℕ) → start + length text ≡ end → end ≤ length out → after ≡ putBefore out end text → Put out end text start after
+pub put-whole : (out after text : List ℕ) (end start : ℕ) → start + length text ≡ end → end ≤ length out →
+    after ≡ putBefore out end text → Put out end text start after
 put-whole out after text end start p h e = record {
   place = p;
   within = h;
@@ -68,13 +69,15 @@ put-whole out after text end start p h e = record {
 pub put-one : (out : List ℕ) (end byte : ℕ) → 0 < end → end ≤ length out → Put out end (byte ∷ []) (end - 1) (set out (end - 1) byte)
 put-one out end byte h p = put-whole out (set out (end - 1) byte) (byte ∷ []) end (end - 1) (omega arith) p (stored out end byte h p)
 
-pub put-front : (out out₀ text last : List ℕ) (start byte end : ℕ) → 0 < start → start ≤ length out → last ≡ byte ∷ [] → start - 1 + length text ≡ end → end ≤ length out₀
-    → putBefore out start last ≡ putBefore out₀ end text → Put out₀ end text (start - 1) (set out (start - 1) byte)
+pub put-front : (out out₀ text last : List ℕ) (start byte end : ℕ) → 0 < start → start ≤ length out → last ≡ byte ∷ [] →
+    start - 1 + length text ≡ end → end ≤ length out₀ → putBefore out start last ≡ putBefore out₀ end text →
+    Put out₀ end text (start - 1) (set out (start - 1) byte)
 put-front out out₀ text last start byte end h p e n q w =
     put-whole out₀ (set out (start - 1) byte) text end (start - 1) n q (stored out start byte h p ∙ ap (λ (l : List ℕ). putBefore out start l) (sym e) ∙ w)
 
 -- one text before another
-pub put-before : {out after later text next : List ℕ} {end mid start : ℕ} → Put out end text mid after → Put after mid next start later → Put out end (next ++ text) start later
+pub put-before : {out after later text next : List ℕ} {end mid start : ℕ} →
+    Put out end text mid after → Put after mid next start later → Put out end (next ++ text) start later
 put-before {out} {after} {later} {text} {next} {end} {mid} {start} p q =
     let s : start + (length next + length text) ≡ end = omega (arith, p .place, q .place) in
     let m : mid ≡ end - length text = omega (arith, p .place) in
@@ -82,18 +85,9 @@ put-before {out} {after} {later} {text} {next} {end} {mid} {start} p q =
     (q .memory ∙ ap (λ (l : List ℕ). putBefore l mid next) (p .memory) ∙ ap (λ (i : ℕ). putBefore (putBefore out end text) i next) m
     ∙ put-joined out text next end (omega arith) (p .within))
 
-pub put-then : {out after text : List ℕ} {end mid : ℕ} (byte : ℕ) → Put out end text mid after → 0 < mid → Put out end (byte ∷ text) (mid - 1) (set after (mid - 1) byte)
+pub put-then : {out after text : List ℕ} {end mid : ℕ} (byte : ℕ) → Put out end text mid after → 0 < mid →
+    Put out end (byte ∷ text) (mid - 1) (set after (mid - 1) byte)
 put-then {out} {after} {text} {end} {mid} byte p h = put-before p (put-one after mid byte h (omega (arith, p .place, p .within, p .same)))
-
--- what is printed of a buffer that was filled from its end
-pub put-printed : {out text after : List ℕ} {end start : ℕ} → Put out end text start after → end ≡ length out → drop start after ≡ text
-unfolding putBefore
-put-printed {out} {text} {after} {end} {start} p e =
-    let m : end - length text ≡ start = omega (arith, p .place) in
-    let n : length (take start out) ≡ start = length-take-le start out (omega (arith, p .place, p .within)) in
-    ap (λ (l : List ℕ). drop start l) (p .memory ∙ ap (λ (i : ℕ). take i out ++ (text ++ drop end out)) m)
-    ∙ drop-at (take start out) (text ++ drop end out) start n
-    ∙ ap (λ (i : ℕ). text ++ drop i out) e ∙ ap (λ (l : List ℕ). text ++ l) (drop-length out) ∙ append-nil text
 
 -- ---- the answer to a put, by its number
 

@@ -20,19 +20,19 @@ unfoldable pub natural : ℕ → List ℕ
 natural n = naturalWithin n n
 
 -- the last k digits of n
-unfoldable pub digits : ℕ → ℕ → List ℕ
-digits zero n = []
-digits (suc k) n = digits k (n / 10) ++ (digit (n % 10) ∷ [])
+unfoldable pub lastDigits : ℕ → ℕ → List ℕ
+lastDigits zero n = []
+lastDigits (suc k) n = lastDigits k (n / 10) ++ (digit (n % 10) ∷ [])
 
 -- the point and the k decimals of n over 10 ^ k; without decimals there is no point
 unfoldable pub fraction : ℕ → ℕ → List ℕ
 fraction zero n = []
-fraction (suc k) n = 46 ∷ digits (suc k) n
+fraction (suc k) n = 46 ∷ lastDigits (suc k) n
 
 -- n over 10 ^ k, with k decimals; without decimals there is no point
 unfoldable pub decimal : ℕ → ℕ → List ℕ
 decimal zero n = natural n
-decimal (suc k) n = natural (n / 10 ^ suc k) ++ (46 ∷ digits (suc k) n)
+decimal (suc k) n = natural (n / 10 ^ suc k) ++ (46 ∷ lastDigits (suc k) n)
 
 -- the sign is the number's, whatever its whole part is
 abbrev pub signOf : ℤ → List ℕ

@@ -7,7 +7,7 @@ use lib.Dec.{leb}
 use lib.IntN.{ℤ}
 use lib.ListN.{length}
 use Rattle.text_laws.specs.Decimal.{decimal, signedDecimal}
-use Rattle.arithmetic.specs.Answers.{lowest-cause}
+use Rattle.arithmetic.specs.Answers.{lowestCause}
 use Rattle.step_rate.specs.StepRate.{rateAnswer}
 use Rattle.text_laws.specs.declared.Placed.{Placed}
 use Rattle.text_laws.specs.Put.{placeOf, withText}
@@ -20,8 +20,8 @@ abbrev pub newline : List ℕ
 newline = 10 ∷ []
 
 -- a whole number, an amount of nine decimals, a rate in billionths as percent with seven
-abbrev pub whole : ℕ → List ℕ
-whole n = decimal 0 n
+abbrev pub wholeNumber : ℕ → List ℕ
+wholeNumber n = decimal 0 n
 
 abbrev pub amount : ℕ → List ℕ
 amount n = decimal 9 n
@@ -51,16 +51,16 @@ refusedWord = 114 ∷ 101 ∷ 102 ∷ 117 ∷ 115 ∷ 101 ∷ 100 ∷ 32 ∷ []
 -- row, node, discount, step rate in percent
 unfoldable pub nodeLine : ℕ → ℤ → ℕ → ℤ → List ℕ
 nodeLine row node discount rate =
-    nodeWord ++ ((whole row ++ space) ++ ((signedWhole node ++ space) ++ ((amount discount ++ space) ++ (percent rate ++ newline))))
+    nodeWord ++ ((wholeNumber row ++ space) ++ ((signedWhole node ++ space) ++ ((amount discount ++ space) ++ (percent rate ++ newline))))
 
 -- row, quote, sum of state prices, state-price allowance
 unfoldable pub rowLine : ℕ → ℕ → ℕ → ℕ → List ℕ
 rowLine row quote total bound =
-    rowWord ++ ((whole row ++ space) ++ ((amount quote ++ space) ++ ((amount total ++ space) ++ (whole bound ++ newline))))
+    rowWord ++ ((wholeNumber row ++ space) ++ ((amount quote ++ space) ++ ((amount total ++ space) ++ (wholeNumber bound ++ newline))))
 
 -- a price and its allowance, after the word
 unfoldable pub priceLine : List ℕ → ℕ → ℕ → List ℕ
-priceLine word price bound = word ++ ((amount price ++ space) ++ (whole bound ++ newline))
+priceLine word price bound = word ++ ((amount price ++ space) ++ (wholeNumber bound ++ newline))
 
 abbrev pub bondLine : ℕ → ℕ → List ℕ
 bondLine price bound = priceLine bondWord price bound
@@ -70,7 +70,7 @@ optionLine price bound = priceLine optionWord price bound
 
 -- the number of a refusal
 unfoldable pub refusedLine : ℕ → List ℕ
-refusedLine number = refusedWord ++ (whole number ++ newline)
+refusedLine number = refusedWord ++ (wholeNumber number ++ newline)
 
 -- the line of a node: its rate is the step rate of its discount
 unfoldable pub lineOfNode : ℕ → ℤ → ℕ → List ℕ
@@ -89,4 +89,4 @@ withLine out end line = withText (lineNumber (length out) end) out end line
 
 -- a node's line is also refused where its discount has no step rate, with 9
 unfoldable pub nodeNumber : ℕ → ℕ → ℕ → ℕ
-nodeNumber size end discount = lowest-cause (lineNumber size end) (rateAnswer discount .number)
+nodeNumber size end discount = lowestCause (lineNumber size end) (rateAnswer discount .number)

@@ -1,13 +1,13 @@
 -- Laws of rows stored row after row.
 -- Assumes nothing.
 use mathlib.Core.Path.{_≡_, refl, sym, _∙_, ap, subst}
-use mathlib.Core.List.{List, [], _∷_, _++_, append-assoc}
+use mathlib.Core.List.{List, _++_, append-assoc}
 use Prim.Native.Nat.{ℕ, zero, suc, _+_, _-_, _≤_, _<_}
-use native.Mathlib.Nat.{add-sub-of-le, le-refl, not-suc-le-zero}
+use native.Mathlib.Nat.{add-sub-of-le, not-suc-le-zero}
 use native.Mathlib.Omega.{arith}
 use lib.ListN.{length, take, drop, length-append, length-drop}
 use lib.Seq.{take-at, drop-at, drop-drop}
-use Rattle.arithmetic.specs.Sum.{sum, only}
+use Rattle.arithmetic.specs.Sum.{sum}
 use Rattle.arithmetic.specs.Row.{row, values, place}
 use Rattle.tree.specs.Tree.{Tree}
 use Rattle.tree.specs.Layout.{start, laid}
@@ -83,7 +83,8 @@ laid-cong t f g (suc i) h =
     rw (laid-cong t f g i (λ r k l m. h r k (omega arith) m), row-cong (t .nodes i) (f i) (g i) (λ k m. h i k (omega arith) m))
 
 -- the part of the rows stored that is row i
-pub laid-part : (t : Tree) (f : ℕ → ℕ → ℕ) (n i : ℕ) (rest : List ℕ) → i < n → take (t .nodes i) (drop (start t i) (laid t f n ++ rest)) ≡ row (t .nodes i) (f i)
+pub laid-part : (t : Tree) (f : ℕ → ℕ → ℕ) (n i : ℕ) (rest : List ℕ) → i < n →
+    take (t .nodes i) (drop (start t i) (laid t f n ++ rest)) ≡ row (t .nodes i) (f i)
 unfolding laid
 laid-part t f zero i rest h = absurd (not-suc-le-zero h)
 laid-part t f (suc n) i rest h =

@@ -1,12 +1,12 @@
 -- Laws of one step, for any width and any transition. Duality: what flows into the next row, weighed by values there, is what stands on this
 -- row weighed by the values rolled back.
 -- Assumes nothing.
-use mathlib.Core.Path.{_≡_, refl, _∙_, sym, ap}
+use mathlib.Core.Path.{_≡_, refl, _∙_, ap}
 use Prim.Native.Nat.{ℕ, zero, suc, _+_, _*_, _≤_, _<_}
 use native.Mathlib.Nat.{add-mul, mul-le-mul-left}
 use native.Mathlib.Omega.{arith}
 use Rattle.arithmetic.specs.Sum.{sum, only}
-use Rattle.tree.specs.Tree.{Transition, Tree, Inside, Total, Sound, chance, incoming, outgoing, whole}
+use Rattle.tree.specs.Tree.{Transition, Tree, Inside, Total, Sound, chance, incoming, outgoing, probabilityTotal}
 use Rattle.arithmetic.proofs.SumLaws.{sum-cong, sum-add, sum-scale, sum-swap, sum-only, sum-next, sum-le, only-times}
 
 -- what node k hands on, weighed by the values where its branches lead
@@ -55,16 +55,16 @@ duality t n m c v h =
 -- what flows into the next row is the whole times what stood on this one
 pub incoming-total :
     (t : Transition) (n m : ℕ) (c : ℕ → ℕ) → Inside t n m → Total t n →
-    sum m (λ j. incoming t n c j) ≡ whole * sum n c
+    sum m (λ j. incoming t n c j) ≡ probabilityTotal * sum n c
 unfolding outgoing
 incoming-total t n m c h p =
     sum-cong m _ (λ j. incoming t n c j * 1) (λ j l. omega arith)
     ∙ (duality t n m c (λ j. 1) h
-    ∙ (sum-cong n _ (λ k. whole * c k) (λ k l. product k l) ∙ sum-scale n whole c))
+    ∙ (sum-cong n _ (λ k. probabilityTotal * c k) (λ k l. product k l) ∙ sum-scale n probabilityTotal c))
   where
-    product : (k : ℕ) → k < n → c k * (t .down k * 1 + t .middle k * 1 + t .up k * 1) ≡ whole * c k
+    product : (k : ℕ) → k < n → c k * (t .down k * 1 + t .middle k * 1 + t .up k * 1) ≡ probabilityTotal * c k
     product k l =
-        let e : t .down k * 1 + t .middle k * 1 + t .up k * 1 ≡ whole = omega (arith, p k l) in
+        let e : t .down k * 1 + t .middle k * 1 + t .up k * 1 ≡ probabilityTotal = omega (arith, p k l) in
         rw e (omega arith)
 
 -- one node more: what flows into node j
@@ -129,7 +129,7 @@ module _ (t : Transition) (n m : ℕ) (inside : Inside t n m) (v w : ℕ → ℕ
 -- the sum of one value on all branches
 pub outgoing-same :
     (t : Transition) (n m : ℕ) → Inside t n m → Total t n → (v : ℕ → ℕ) (a k : ℕ) → k < n → ((j : ℕ) → j < m → v j ≡ a) →
-    outgoing t v k ≡ whole * a
+    outgoing t v k ≡ probabilityTotal * a
 unfolding outgoing
 outgoing-same t n m inside total v a k hk h =
     let r = inside k hk in

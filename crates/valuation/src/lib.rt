@@ -1,22 +1,13 @@
 // What payoffs on a row are worth by the row's state prices, and how far that may fall short of their exact price.
 use arithmetic::Answer;
 ghost use mathlib.Core.Path.{_≡_};
-ghost use mathlib.Core.Bool.{Bool};
-ghost use Prim.Native.Nat.{ℕ, _≤_};
+ghost use Prim.Native.Nat.{_≤_};
 ghost use lib.Dec.{ltb};
 ghost use lib.ListN.{length};
-ghost use Rattle.arithmetic.specs.Sum.{sum};
-ghost use Rattle.arithmetic.specs.Row.{values, greatest-of};
-ghost use Rattle.limits.specs.Limits.{value-limit};
-ghost use Rattle.valuation_laws.specs.Valuation.{valuation-bound};
-ghost use Rattle.valuation.specs.Entries.{
-  sum-limit,
-  sum-of,
-  sum-of-products,
-  payoffs-cause,
-  valueByStatePrices,
-  valuationErrorBound,
-};
+ghost use Rattle.arithmetic.specs.Row.{greatestOf, sumOf};
+ghost use Rattle.limits.specs.Limits.{valueLimit};
+ghost use Rattle.valuation_laws.specs.Valuation.{valuationBound};
+ghost use Rattle.valuation.specs.Entries.{sumLimit, sumOfProducts, payoffsCause, valueByStatePricesAnswer, valuationErrorBoundAnswer};
 
 const ONE: u64 = 1_000_000_000;
 
@@ -28,7 +19,7 @@ fn refused(number: u64) -> Answer
 
 // Whether state prices sum above 2,000,000,100. Tests what is left before it adds, so that no sum wraps.
 fn sums_above_limit(prices: &[u64]) -> bool
-    ensures { λ r. ⌜ r ≡ ltb sum-limit (sum-of (now (prices .entry))) ⌝ }
+    ensures { λ r. ⌜ r ≡ ltb sumLimit (sumOf (now (prices .entry))) ⌝ }
 {
     let mut total: u64 = 0;
     let mut index = 0;
@@ -44,8 +35,8 @@ fn sums_above_limit(prices: &[u64]) -> bool
 
 // At most 2,000,000,100 times 8,000,000,000, which 64 bits hold.
 fn sum_of_products(prices: &[u64], payoffs: &[u64]) -> u64
-    requires { ⌜ (length (now prices) ≡ length (now payoffs)) × (sum-of (now prices) ≤ sum-limit) × (greatest-of (now payoffs) ≤ value-limit) ⌝ }
-    ensures { λ r. ⌜ r ≡ sum-of-products (now (prices .entry)) (now (payoffs .entry)) ⌝ }
+    requires { ⌜ (length (now prices) ≡ length (now payoffs)) × (sumOf (now prices) ≤ sumLimit) × (greatestOf (now payoffs) ≤ valueLimit) ⌝ }
+    ensures { λ r. ⌜ r ≡ sumOfProducts (now (prices .entry)) (now (payoffs .entry)) ⌝ }
 {
     let mut total: u64 = 0;
     let mut index = 0;
@@ -58,7 +49,7 @@ fn sum_of_products(prices: &[u64], payoffs: &[u64]) -> u64
 
 // The value of payoffs on a row, by the row's state prices.
 pub fn value_by_state_prices(prices: &[u64], payoffs: &[u64]) -> Answer
-    ensures { λ r. ⌜ r ≡ valueByStatePrices (now (prices .entry)) (now (payoffs .entry)) ⌝ }
+    ensures { λ r. ⌜ r ≡ valueByStatePricesAnswer (now (prices .entry)) (now (payoffs .entry)) ⌝ }
 {
     if prices.len() != payoffs.len() {
         return refused(6);
@@ -84,7 +75,7 @@ pub fn value_by_state_prices(prices: &[u64], payoffs: &[u64]) -> Answer
 
 // The causes about payoffs: their number, then their size.
 fn payoffs_cause(count: usize, nodes: u64, greatest: u64) -> u64
-    ensures { λ r. ⌜ r ≡ payoffs-cause count nodes greatest ⌝ }
+    ensures { λ r. ⌜ r ≡ payoffsCause count nodes greatest ⌝ }
 {
     let high = limits::limit_cause(greatest);
     if count as u64 != nodes {
@@ -94,8 +85,8 @@ fn payoffs_cause(count: usize, nodes: u64, greatest: u64) -> u64
 }
 
 fn bound_of_value(greatest: u64, bound: u64) -> u64
-    requires { ⌜ (greatest ≤ value-limit) × (bound ≤ 1000000) ⌝ }
-    ensures { λ r. ⌜ r ≡ valuation-bound greatest bound ⌝ }
+    requires { ⌜ (greatest ≤ valueLimit) × (bound ≤ 1000000) ⌝ }
+    ensures { λ r. ⌜ r ≡ valuationBound greatest bound ⌝ }
 {
     (greatest * bound + (ONE - 1)) / ONE + 1
 }
@@ -108,7 +99,7 @@ pub fn valuation_error_bound(
     row: usize,
     payoffs: &[u64],
 ) -> Answer
-    ensures { λ r. ⌜ r ≡ valuationErrorBound steps reversion (now (discounts .entry)) row (now (payoffs .entry)) ⌝ }
+    ensures { λ r. ⌜ r ≡ valuationErrorBoundAnswer steps reversion (now (discounts .entry)) row (now (payoffs .entry)) ⌝ }
 {
     let bound = state_price_bound::state_price_error_bound(steps, reversion, discounts, row);
     let nodes = lattice::node_count(reversion, row);

@@ -1,6 +1,5 @@
 -- `branches::down_of` meets its contract.
 -- Assumes nothing.
-use mathlib.Core.Path.{_≡_, refl, sym, ap, _∙_}
 use native.Mathlib.Omega.{arith}
 use Rattle.lattice.proofs.TableLaws as laws
 use borrow.Author.Needs.{needs}

@@ -1,25 +1,24 @@
 -- `branches::fill_table` meets its contract.
 -- Assumes nothing.
-use mathlib.Core.Path.{_≡_, refl, sym, ap, _∙_}
 use native.Mathlib.Omega.{arith}
 use borrow.Author.Needs.{needs}
 use Rattle.arithmetic.proofs.RowLaws.{Filled, filled-start, filled-next, filled-all}
 use Prim.Native.Nat.{ℕ, _≤_, _-_}
 use lib.ListN.{length}
-use Rattle.lattice.specs.Branching.{down}
-use Rattle.lattice.specs.RateTree.{node-at}
+use Rattle.lattice.specs.Branching.{downProbability}
+use Rattle.lattice.specs.RateTree.{nodeOfIndex}
 use Rattle.branches.proofs.fill_table.Statement.{statement}
 use Rattle.branches.proofs.fill_table.Tie as tie
 
 abbrev Inv-loop : tie.InvT-loop
 Inv-loop reversion half-width table₀ index₀ table index =
-    (index ≤ length table₀) × Filled table₀ table (λ k. down reversion (node-at half-width k)) index
+    (index ≤ length table₀) × Filled table₀ table (λ k. downProbability reversion (nodeOfIndex half-width k)) index
 
 abbrev μ-loop : tie.MeasureT-loop
 μ-loop reversion half-width table₀ index₀ table index = length table₀ - index
 
 abbrev downs : tie.Start Inv-loop μ-loop → ℕ → ℕ
-downs s k = down (s .args .reversion) (node-at (s .args .half-width) k)
+downs s k = downProbability (s .args .reversion) (nodeOfIndex (s .args .half-width) k)
 
 loop-holds : tie.Need-loop-holds Inv-loop μ-loop
 loop-holds c = (search needs, filled-start _ _)

@@ -15,8 +15,8 @@ use Rattle.branches.proofs.lower_branch.Tie as tie
 held : (s : tie.Start) → toZ w64 (ofZ w64 (s .args .node)) ≡ s .args .node
 held s = toZ-ofZ (s .fits .node)
 
-inner-fits : (s : tie.Start) → SFits w64 (s .args .node -ℤ pos 1)
-inner-fits s = laws.less-fits (s .args .node) 1 (omega (arith, s .pre .1 .0)) (omega arith)
+ordinary-fits : (s : tie.Start) → SFits w64 (s .args .node -ℤ pos 1)
+ordinary-fits s = laws.less-fits (s .args .node) 1 (omega (arith, s .pre .1 .0)) (omega arith)
 
 upper-requires : tie.Need-upper-requires
 upper-requires c κs = search needs
@@ -34,7 +34,7 @@ mul-if1 : tie.Need-mul-if1
 mul-if1 c = omega (arith, c .before .pre .0 .2)
 
 sub-lowest : tie.Need-sub-lowest
-sub-lowest c = let s = c .before .before in rw (held s) (inner-fits s)
+sub-lowest c = let s = c .before .before in rw (held s) (ordinary-fits s)
 
 returns : tie.Need-returns
 returns c =
@@ -44,8 +44,8 @@ returns c =
 returns-2 : tie.Need-returns-2
 returns-2 c =
     let s = c .before .before in
-    rw (held s, toZ-ofZ (inner-fits s))
-    (laws.lower-inner _ _ _ _ (s .pre .1 .0) (s .pre .1 .1) (c .before .upper .ensures) (c .if1 .left))
+    rw (held s, toZ-ofZ (ordinary-fits s))
+    (laws.lower-ordinary _ _ _ _ (s .pre .1 .0) (s .pre .1 .1) (c .before .upper .ensures) (c .if1 .left))
 
 pub lower-branch-spec : {M : Type 1} → statement M
 lower-branch-spec =

@@ -1,6 +1,6 @@
 -- `branches::upper` meets its contract.
 -- Assumes nothing.
-use mathlib.Core.Path.{refl, sym, ap, _∙_}
+use mathlib.Core.Path.{sym}
 use native.Mathlib.Omega.{arith}
 use Rattle.lattice.proofs.EntryLaws as entry
 use native.Mathlib.Nat.{mul-le-mul}
@@ -17,32 +17,32 @@ edge c = top-range _ _ (within-by-product _ _ (c .before .pre .2)) (c .if1 .take
 mul-z : tie.Need-mul-z
 mul-z c = omega (arith, mul-le-mul (c .pre .1) (c .pre .0))
 
-stay-requires : tie.Need-stay-requires
-stay-requires c κs = edge c .1
+edge-up-requires : tie.Need-edge-up-requires
+edge-up-requires c κs = edge c .1
 
-near-requires : tie.Need-near-requires
-near-requires c κs = edge (c .before)
+edge-middle-requires : tie.Need-edge-middle-requires
+edge-middle-requires c κs = edge (c .before)
 
-outer-requires : tie.Need-outer-requires
-outer-requires c κs = edge (c .before .before) .1
+ordinary-up-requires : tie.Need-ordinary-up-requires
+ordinary-up-requires c κs = edge (c .before .before) .1
 
 returns : tie.Need-returns
 returns c =
-    rw (c .before .before .stay .ensures, c .before .near .ensures, c .outer .ensures)
+    rw (c .before .before .edge-up .ensures, c .before .edge-middle .ensures, c .ordinary-up .ensures)
     (sym (entry.three-top _ _ (c .before .before .before .before .pre .2) (c .before .before .before .if1 .taken)))
 
-outer-requires-2 : tie.Need-outer-requires-2
-outer-requires-2 c κs = search needs
+ordinary-up-requires-2 : tie.Need-ordinary-up-requires-2
+ordinary-up-requires-2 c κs = search needs
 
-across-requires : tie.Need-across-requires
-across-requires c κs = search needs
+ordinary-middle-requires : tie.Need-ordinary-middle-requires
+ordinary-middle-requires c κs = search needs
 
-inner-requires : tie.Need-inner-requires
-inner-requires c κs = search needs
+ordinary-down-requires : tie.Need-ordinary-down-requires
+ordinary-down-requires c κs = search needs
 
 returns-2 : tie.Need-returns-2
 returns-2 c =
-    rw (c .before .before .outer2 .ensures, c .before .across .ensures, c .inner .ensures)
+    rw (c .before .before .ordinary-up2 .ensures, c .before .ordinary-middle .ensures, c .ordinary-down .ensures)
     (sym (entry.three-ordinary _ _ (c .before .before .before .if1 .left)))
 
 pub upper-spec : {M : Type 1} → statement M
@@ -50,11 +50,11 @@ upper-spec =
     tie.close
     (tie.spec
     mul-z
-    stay-requires
-    near-requires
-    outer-requires
+    edge-up-requires
+    edge-middle-requires
+    ordinary-up-requires
     returns
-    outer-requires-2
-    across-requires
-    inner-requires
+    ordinary-up-requires-2
+    ordinary-middle-requires
+    ordinary-down-requires
     returns-2)

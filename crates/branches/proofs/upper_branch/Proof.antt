@@ -22,8 +22,8 @@ size s = rw (s .pre .1) (s .pre .0 .1)
 edge-fits : (s : tie.Start) → SFits w64 (s .args .node -ℤ pos 2)
 edge-fits s = laws.less-fits (s .args .node) 2 (size s) (omega arith)
 
-inner-fits : (s : tie.Start) → SFits w64 (s .args .node -ℤ pos 1)
-inner-fits s = laws.less-fits (s .args .node) 1 (size s) (omega arith)
+ordinary-fits : (s : tie.Start) → SFits w64 (s .args .node -ℤ pos 1)
+ordinary-fits s = laws.less-fits (s .args .node) 1 (size s) (omega arith)
 
 upper-requires : tie.Need-upper-requires
 upper-requires c κs = search needs
@@ -35,7 +35,7 @@ sub-lowest : tie.Need-sub-lowest
 sub-lowest c = let s = c .before .before in rw (held s) (edge-fits s)
 
 sub-lowest-2 : tie.Need-sub-lowest-2
-sub-lowest-2 c = let s = c .before .before in rw (held s) (inner-fits s)
+sub-lowest-2 c = let s = c .before .before in rw (held s) (ordinary-fits s)
 
 returns : tie.Need-returns
 returns c =
@@ -45,7 +45,7 @@ returns c =
 returns-2 : tie.Need-returns-2
 returns-2 c =
     let s = c .before .before in
-    rw (held s, toZ-ofZ (inner-fits s), s .pre .1, c .before .upper .ensures) (laws.upper-inner _ _ (c .if1 .left))
+    rw (held s, toZ-ofZ (ordinary-fits s), s .pre .1, c .before .upper .ensures) (laws.upper-ordinary _ _ (c .if1 .left))
 
 pub upper-branch-spec : {M : Type 1} → statement M
 upper-branch-spec =

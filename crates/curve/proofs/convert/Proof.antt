@@ -12,13 +12,17 @@ returns : tie.Need-returns
 returns c = entry-refused _ _ _ _ _ _ _ (c .before .cause .ensures) (c .if1 .taken)
 
 store-requires : tie.Need-store-requires
-store-requires c κs = entry-room _ _ _ _ _ (c .before .before .before .before .before .before .before .args .discounts .now) _ (c .before .before .cause .ensures) (c .before .if1 .left)
+store-requires c κs =
+    let a = c .before .before .before .before .before .before .before .args in
+    entry-room _ _ _ _ _ (a .discounts .now) _ (c .before .before .cause .ensures) (c .before .if1 .left)
 
 same-length : tie.Need-same-length
 same-length c = search needs
 
 returns-2 : tie.Need-returns-2
-returns-2 c = entry-stored _ _ _ _ _ _ _ (c .before .before .before .before .before .cause .ensures) (c .before .before .before .before .if1 .left) _ (c .before .before .store .ensures)
+returns-2 c =
+    let e = c .before .before .before .before in
+    entry-stored _ _ _ _ _ _ _ (e .before .cause .ensures) (e .if1 .left) _ (c .before .before .store .ensures)
 
 pub convert-spec : {M : Type 1} → statement M
 convert-spec = tie.close (tie.spec cause-requires returns store-requires same-length returns-2)

@@ -27,7 +27,9 @@ in-order-requires c κs = search needs
 
 returns-5 : tie.Need-returns-5
 returns-5 c =
-    c .in-order .ensures ∙ sym (place-each _ _ _ _ _ (c .before .before .before .before .if1 .left) (c .before .before .before .if2 .left) (c .before .before .if3 .left) (c .before .if4 .left))
+    let e = c .before in
+    c .in-order .ensures
+    ∙ sym (place-each _ _ _ _ _ (e .before .before .before .if1 .left) (e .before .before .if2 .left) (e .before .if3 .left) (e .if4 .left))
 
 pub is-in-place-spec : {M : Type 1} → statement M
 is-in-place-spec =

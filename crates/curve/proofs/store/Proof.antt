@@ -3,7 +3,7 @@
 use mathlib.Core.Path.{_≡_, refl, ap}
 use Prim.Native.Nat.{_-_, _≤_}
 use native.Mathlib.Omega.{arith}
-use lib.ListN.{length}
+use lib.ListN.{length, length-set}
 use borrow.Author.Needs.{needs}
 use Rattle.arithmetic.specs.declared.Answer.{Answer}
 use Rattle.arithmetic.proofs.RowLaws.{Filled, filled-start, filled-next}
@@ -13,7 +13,8 @@ use Rattle.curve.proofs.store.Statement.{statement}
 use Rattle.curve.proofs.store.Tie as tie
 
 abbrev Inv-loop : tie.InvT-loop
-Inv-loop frequency kinds figures discounts₀ i₀ discounts i = (i ≤ length kinds) × (length discounts ≡ length discounts₀) × Filled discounts₀ discounts (discountAt frequency kinds figures) i
+Inv-loop frequency kinds figures discounts₀ i₀ discounts i =
+    (i ≤ length kinds) × (length discounts ≡ length discounts₀) × Filled discounts₀ discounts (discountAt frequency kinds figures) i
 
 abbrev μ-loop : tie.MeasureT-loop
 μ-loop frequency kinds figures discounts₀ i₀ discounts i = length kinds - i
@@ -40,8 +41,11 @@ loop-again : tie.Need-loop-again Inv-loop μ-loop
 loop-again c =
     let a = c .before .before .before .before .before .before .args in
     let l = c .before .before .loop in
-    let next = filled-next (a .discounts .now) (l .discounts) (discountAt (a .frequency) (a .kinds .now) (a .figures .now)) (l .i) (c .answer-at .result .value) (l .inv .2) (omega arith) (ap (λ (r : Answer). r .value) (c .answer-at .ensures)) in
-    (omega arith, next .same, next)
+    let value = ap (λ (r : Answer). r .value) (c .answer-at .ensures) in
+    let next =
+    filled-next (a .discounts .now) (l .discounts) (discountAt (a .frequency) (a .kinds .now) (a .figures .now)) (l .i)
+    (c .answer-at .result .value) (l .inv .2) (omega arith) value in
+    (omega arith, simp length-set (l .inv .1), next)
 
 same-length : tie.Need-same-length Inv-loop μ-loop
 same-length c = c .before .loop .inv .1
@@ -51,7 +55,8 @@ returns c =
     let a = c .before .before .before .before .before .args in
     let l = c .before .loop in
     let same : l .i ≡ length (a .kinds .now) = omega arith in
-    filled-place (a .discounts .now) (l .discounts) (discountAt (a .frequency) (a .kinds .now) (a .figures .now)) (length (a .kinds .now)) (rw same at (l .inv .2)) (omega arith)
+    filled-place (a .discounts .now) (l .discounts) (discountAt (a .frequency) (a .kinds .now) (a .figures .now)) (length (a .kinds .now))
+    (rw same at (l .inv .2)) (omega arith)
 
 pub store-spec : {M : Type 1} → statement M
 store-spec =

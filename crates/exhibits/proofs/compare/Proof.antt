@@ -1,10 +1,23 @@
 -- `exhibits::compare` meets its contract.
 -- Assumes nothing.
+use Prim.Native.Nat.{_*_, _≤_}
 use native.Mathlib.Omega.{arith}
 use native.Mathlib.Nat.{mul-le-mul}
 use borrow.Author.Needs.{needs}
 use Rattle.exhibits.proofs.compare.Statement.{statement}
 use Rattle.exhibits.proofs.compare.Tie as tie
+
+-- the products of what the contract bounds, and of a value that has passed its test
+exact-most : (c : tie.Else1) → c .before .before .before .before .args .value * c .before .before .before .before .args .scale ≤ 2000000000000
+exact-most c =
+    let s = c .before .before .before .before in
+    mul-le-mul {n₁ = s .args .value} {m₁ = s .args .scale} {n₂ = 2000000000} {m₂ = 1000} (c .if1 .left) (s .pre .0)
+
+shown-most : (s : tie.Start) → s .args .printed * s .args .unit ≤ 6000000000000
+shown-most s = mul-le-mul {n₁ = s .args .printed} {m₁ = s .args .unit} {n₂ = 10000} {m₂ = 600000000} (s .pre .1) (s .pre .2)
+
+room-most : (s : tie.Start) → s .args .units * s .args .unit ≤ 1200000000
+room-most s = mul-le-mul {n₁ = s .args .units} {m₁ = s .args .unit} {n₂ = 2} {m₂ = 600000000} (s .pre .3) (s .pre .2)
 
 slice-aggregate-write-all : tie.Need-slice-aggregate-write-all
 slice-aggregate-write-all c = search needs
@@ -25,16 +38,16 @@ returns : tie.Need-returns
 returns c = search needs
 
 mul-exact : tie.Need-mul-exact
-mul-exact c = omega (arith, mul-le-mul {n₁ = c .before .before .before .before .args .value} {m₁ = c .before .before .before .before .args .scale} {n₂ = 2000000000} {m₂ = 1000} (omega (arith, c .before .before .before .before .pre)) (omega (arith, c .before .before .before .before .pre)))
+mul-exact c = omega (arith, exact-most c)
 
 mul-shown : tie.Need-mul-shown
-mul-shown c = omega (arith, mul-le-mul {n₁ = c .before .before .before .before .args .printed} {m₁ = c .before .before .before .before .args .unit} {n₂ = 10000} {m₂ = 600000000} (omega (arith, c .before .before .before .before .pre)) (omega (arith, c .before .before .before .before .pre)))
+mul-shown c = omega (arith, shown-most (c .before .before .before .before))
 
 mul-room : tie.Need-mul-room
-mul-room c = omega (arith, mul-le-mul {n₁ = c .before .before .before .before .args .units} {m₁ = c .before .before .before .before .args .unit} {n₂ = 2} {m₂ = 600000000} (omega (arith, c .before .before .before .before .pre)) (omega (arith, c .before .before .before .before .pre)))
+mul-room c = omega (arith, room-most (c .before .before .before .before))
 
 add-if2 : tie.Need-add-if2
-add-if2 c = omega (arith, mul-le-mul {n₁ = c .before .before .before .before .args .value} {m₁ = c .before .before .before .before .args .scale} {n₂ = 2000000000} {m₂ = 1000} (omega (arith, c .before .before .before .before .pre)) (omega (arith, c .before .before .before .before .pre)), mul-le-mul {n₁ = c .before .before .before .before .args .units} {m₁ = c .before .before .before .before .args .unit} {n₂ = 2} {m₂ = 600000000} (omega (arith, c .before .before .before .before .pre)) (omega (arith, c .before .before .before .before .pre)))
+add-if2 c = omega (arith, exact-most c, room-most (c .before .before .before .before))
 
 slice-aggregate-write-all-3 : tie.Need-slice-aggregate-write-all-3
 slice-aggregate-write-all-3 c = search needs
@@ -46,7 +59,7 @@ returns-2 : tie.Need-returns-2
 returns-2 c = search needs
 
 add-if3 : tie.Need-add-if3
-add-if3 c = omega (arith, mul-le-mul {n₁ = c .before .before .before .before .before .args .printed} {m₁ = c .before .before .before .before .before .args .unit} {n₂ = 10000} {m₂ = 600000000} (omega (arith, c .before .before .before .before .before .pre)) (omega (arith, c .before .before .before .before .before .pre)), mul-le-mul {n₁ = c .before .before .before .before .before .args .units} {m₁ = c .before .before .before .before .before .args .unit} {n₂ = 2} {m₂ = 600000000} (omega (arith, c .before .before .before .before .before .pre)) (omega (arith, c .before .before .before .before .before .pre)))
+add-if3 c = let s = c .before .before .before .before .before in omega (arith, shown-most s, room-most s)
 
 slice-aggregate-write-all-4 : tie.Need-slice-aggregate-write-all-4
 slice-aggregate-write-all-4 c = search needs

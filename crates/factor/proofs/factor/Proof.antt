@@ -23,16 +23,27 @@ series-sums-requires c κs = search needs
 
 add-t7 : tie.Need-add-t7
 add-t7 c =
-    omega (arith, sums-fit _ _ _ _ _ (same (c .before .before .before)) (c .before .before .before .if1 .left) (c .before .before .series-sums .ensures .0) (c .before .before .series-sums .ensures .1))
+    let e = c .before .before .before in
+    let sums = c .before .before .series-sums .ensures in
+    omega (arith, sums-fit _ _ _ _ _ (same e) (e .if1 .left) (sums .0) (sums .1))
 
 returns-2 : tie.Need-returns-2
-returns-2 c = rw (c .before .if2 .taken) (sums-below _ _ _ _ _ (same (c .before .before .before)) (c .before .before .before .if1 .left) (c .before .before .series-sums .ensures .0) (c .before .before .series-sums .ensures .1))
+returns-2 c =
+    let e = c .before .before .before in
+    let sums = c .before .before .series-sums .ensures in
+    rw (c .before .if2 .taken) (sums-below _ _ _ _ _ (same e) (e .if1 .left) (sums .0) (sums .1))
 
 sub-t8 : tie.Need-sub-t8
-sub-t8 c = odd-within _ _ _ _ _ (same (c .before .before .before)) (c .before .before .before .if1 .left) (c .before .before .series-sums .ensures .0) (c .before .before .series-sums .ensures .1)
+sub-t8 c =
+    let e = c .before .before .before in
+    let sums = c .before .before .series-sums .ensures in
+    odd-within _ _ _ _ _ (same e) (e .if1 .left) (sums .0) (sums .1)
 
 returns-3 : tie.Need-returns-3
-returns-3 c = rw (c .before .if2 .left) (sums-above _ _ _ _ _ (same (c .before .before .before)) (c .before .before .before .if1 .left) (c .before .before .series-sums .ensures .0) (c .before .before .series-sums .ensures .1))
+returns-3 c =
+    let e = c .before .before .before in
+    let sums = c .before .before .series-sums .ensures in
+    rw (c .before .if2 .left) (sums-above _ _ _ _ _ (same e) (e .if1 .left) (sums .0) (sums .1))
 
 pub factor-spec : {M : Type 1} → statement M
 factor-spec =

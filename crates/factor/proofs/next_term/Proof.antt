@@ -4,7 +4,7 @@ use mathlib.Core.Path.{refl}
 use native.Mathlib.Nat.{mul-le-mul}
 use native.Mathlib.Omega.{arith}
 use borrow.Author.Needs.{needs}
-use Rattle.arithmetic.specs.Rounding.{down}
+use Rattle.arithmetic.specs.Rounding.{roundDown}
 use Rattle.factor.proofs.next_term.Statement.{statement}
 use Rattle.factor.proofs.next_term.Tie as tie
 
@@ -15,7 +15,7 @@ div-result : tie.Need-div-result
 div-result c = search needs
 
 returns : tie.Need-returns
-unfolding down
+unfolding roundDown
 returns c = refl
 
 pub next-term-spec : {M : Type 1} → statement M

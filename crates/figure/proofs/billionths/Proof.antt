@@ -9,7 +9,7 @@ use mir.Syntax.{w64}
 use mir.Facts.{toZ-pos}
 use lib.Ieee.{Float, binary64, fits}
 use borrow.Author.Needs.{needs}
-use Rattle.figure.specs.Figure.{beyond, accepted}
+use Rattle.figure.specs.Figure.{beyond, acceptedFigure}
 use Rattle.figure.proofs.FigureLaws.{figure-refused, figure-accepted, not-nan, field-small, size-small, plus, minus}
 use Rattle.arithmetic.proofs.Signed.{minus-fits, minus-back}
 use Rattle.figure.proofs.billionths.Statement.{statement}
@@ -47,7 +47,7 @@ returns-2 c =
     let x : Float = c .before .before .before .before .args .x in
     let m : ℕ = c .before .magnitude .result in
     let e = c .before .before in
-    ap accepted
+    ap acceptedFigure
     (toZ-pos w64 (omega (arith, small (c .before)))
     ∙ sym (plus x (in-format e) (within e) m (c .before .magnitude .ensures) (c .if2 .taken)))
     ∙ sym (figure-accepted x (within e))
@@ -63,7 +63,7 @@ returns-3 c =
     let x : Float = c .before .before .before .before .args .x in
     let m : ℕ = c .before .magnitude .result in
     let e = c .before .before in
-    ap accepted
+    ap acceptedFigure
     (minus-back m (omega (arith, small (c .before)))
     ∙ sym (minus x (in-format e) (within e) m (c .before .magnitude .ensures) (c .if2 .left)))
     ∙ sym (figure-accepted x (within e))

@@ -12,7 +12,9 @@ use Rattle.figure.proofs.scaled.Statement.{statement}
 use Rattle.figure.proofs.scaled.Tie as tie
 
 returns : tie.Need-returns
-returns c = sym (nearest-zero (c .before .args .significand * one) (2 ^ (c .before .args .shift)) (omega (arith, pow-mono {i = 85} {j = c .before .args .shift} (omega arith))))
+returns c =
+    let a = c .before .args in
+    sym (nearest-zero (a .significand * one) (2 ^ (a .shift)) (omega (arith, pow-mono {i = 85} {j = a .shift} (omega arith))))
 
 power-of-ten-requires : tie.Need-power-of-ten-requires
 power-of-ten-requires c κs = search needs

@@ -1,13 +1,21 @@
 -- `fitting::fit` meets its contract.
 -- Assumes nothing.
-use mathlib.Core.Path.{_≡_, refl, sym, ap, _∙_}
+use mathlib.Core.Path.{refl, sym}
 use native.Mathlib.Omega.{arith}
-use Prim.Native.Nat.{ℕ, _+_, _-_, _*_, _/_, _≤_, _<_}
-use lib.ListN.{length}
 use Rattle.fitting.proofs.FitEntry as laws
 use borrow.Author.Needs.{needs}
 use Rattle.fitting.proofs.fit.Statement.{statement}
 use Rattle.fitting.proofs.fit.Tie as tie
+
+-- what is known once the quotes were converted and the plan was made
+prepared : (c : tie.After-plan-of) →
+    let s = c .before .before .before .before .before .before .before .before .before in
+    laws.Prepared (s .args .frequency) (s .args .steps) (s .args .reversion) (s .args .volatility)
+    (s .args .rows .now) (s .args .kinds .now) (s .args .figures .now) (s .args .discounts .now) (s .args .prices .now)
+    (c .plan-of .result) (c .before .before .convert .last .1 .1 .1 .1 .1 .0)
+prepared c =
+    let converted = c .before .before .convert in
+    laws.prepared _ refl (converted .ensures .0) (converted .ensures .1) (c .plan-of .ensures)
 
 slice-aggregate-convert : tie.Need-slice-aggregate-convert
 slice-aggregate-convert c = search needs
@@ -19,24 +27,20 @@ plan-of-requires : tie.Need-plan-of-requires
 plan-of-requires c κs = search needs
 
 returns : tie.Need-returns
-returns c =
-    let s = c .before .before .before .before .before .before .before .before .before .before .before in
-    laws.fit-refused (s .args .frequency) (s .args .steps) (s .args .reversion) (s .args .volatility) (s .args .rows .now) (s .args .kinds .now) (s .args .figures .now) (s .args .discounts .now) (s .args .prices .now) (c .before .before .plan-of .result) (c .before .before .before .before .convert .result) (c .before .before .before .before .convert .ensures .0) (c .before .before .plan-of .ensures) (c .if1 .taken)
+returns c = laws.fit-refused (prepared (c .before .before)) (c .if1 .taken)
 
 array-share-prefix-quotes : tie.Need-array-share-prefix-quotes
-array-share-prefix-quotes c =
-    let s = c .before .before .before .before .before .before .before .before .before .before .before in
-    let h = laws.steps-few (s .args .frequency) (s .args .steps) (s .args .reversion) (s .args .volatility) (s .args .rows .now) (s .args .kinds .now) (s .args .figures .now) (s .args .discounts .now) (s .args .prices .now) (c .before .before .plan-of .result) (c .before .before .before .before .convert .result) (c .before .before .before .before .convert .ensures .0) (c .before .before .plan-of .ensures) (c .if1 .left) _ _ refl (c .before .before .before .before .convert .ensures .1) in omega arith
+array-share-prefix-quotes c = omega (arith, laws.steps-few (prepared (c .before .before)) (c .if1 .left))
 
 slice-aggregate-fit-quotes : tie.Need-slice-aggregate-fit-quotes
 slice-aggregate-fit-quotes c =
-    let s = c .before .before .before .before .before .before .before .before .before .before .before .before in
-    sym (laws.quotes-length (s .args .frequency) (s .args .steps) (s .args .reversion) (s .args .volatility) (s .args .rows .now) (s .args .kinds .now) (s .args .figures .now) (s .args .discounts .now) (s .args .prices .now) (c .before .before .before .plan-of .result) (c .before .before .before .before .before .convert .result) (c .before .before .before .before .before .convert .ensures .0) (c .before .before .before .plan-of .ensures) (c .before .if1 .left) _ _ refl (c .before .before .before .before .before .convert .ensures .1))
+    let planned = c .before in
+    sym (laws.quotes-length (prepared (planned .before .before)) (planned .if1 .left))
 
 fit-quotes-requires : tie.Need-fit-quotes-requires
 fit-quotes-requires c κs =
-    let s = c .before .before .before .before .before .before .before .before .before .before .before .before .before .before in
-    laws.fittable (s .args .frequency) (s .args .steps) (s .args .reversion) (s .args .volatility) (s .args .rows .now) (s .args .kinds .now) (s .args .figures .now) (s .args .discounts .now) (s .args .prices .now) (c .before .before .before .before .before .plan-of .result) (c .before .before .before .before .before .before .before .convert .result) (c .before .before .before .before .before .before .before .convert .ensures .0) (c .before .before .before .before .before .plan-of .ensures) (c .before .before .before .if1 .left) _ _ refl (c .before .before .before .before .before .before .before .convert .ensures .1)
+    let planned = c .before .before .before in
+    laws.quotes-ready (prepared (planned .before .before)) (planned .if1 .left)
 
 same-length : tie.Need-same-length
 same-length c = search needs
@@ -46,8 +50,9 @@ same-length-2 c = search needs
 
 returns-2 : tie.Need-returns-2
 returns-2 c =
-    let s = c .before .before .before .before .before .before .before .before .before .before .before .before .before .before .before .before .before .before .before in
-    laws.fit-made (s .args .frequency) (s .args .steps) (s .args .reversion) (s .args .volatility) (s .args .rows .now) (s .args .kinds .now) (s .args .figures .now) (s .args .discounts .now) (s .args .prices .now) (c .before .before .before .before .before .before .before .before .before .before .plan-of .result) (c .before .before .before .before .before .before .before .before .before .before .before .before .convert .result) (c .before .before .before .before .before .before .before .before .before .before .before .before .convert .ensures .0) (c .before .before .before .before .before .before .before .before .before .before .plan-of .ensures) (c .before .before .before .before .before .before .before .before .if1 .left) _ _ refl (c .before .before .before .before .before .before .before .before .before .before .before .before .convert .ensures .1) _ _ _ (c .before .before .before .before .fit-quotes .ensures .0) (c .before .before .before .before .fit-quotes .ensures .1 .0) (c .before .before .before .before .fit-quotes .ensures .1 .1)
+    let fitted = c .before .before .before .before in
+    let planned = fitted .before .before .before .before in
+    laws.fit-made (prepared (planned .before .before)) (planned .if1 .left) (fitted .fit-quotes .ensures .0) (fitted .fit-quotes .ensures .1)
 
 pub fit-spec : {M : Type 1} → statement M
 fit-spec =

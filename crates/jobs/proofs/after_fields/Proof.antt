@@ -6,13 +6,13 @@ use native.Mathlib.Nat.{mul-le-mul}
 use native.Mathlib.Omega.{arith}
 use mathlib.Core.Path.{refl}
 use Rattle.job_record.specs.Bytes.{mostWidth}
-use Rattle.job_record.specs.Form.{mostSteps}
+use Rattle.job_record.specs.Form.{mostJobSteps}
 use Rattle.jobs.proofs.after_fields.Statement.{statement}
 use Rattle.jobs.proofs.after_fields.Tie as tie
 
 -- the fields take no more bytes than the most and widest
-near : (c : tie.Start) → (c .args .width + 3) * c .args .count ≤ (mostWidth + 3) * mostSteps
-near c = mul-le-mul {n₁ = c .args .width + 3} {m₁ = c .args .count} {n₂ = mostWidth + 3} {m₂ = mostSteps} (omega arith) (omega arith)
+near : (c : tie.Start) → (c .args .width + 3) * c .args .count ≤ (mostWidth + 3) * mostJobSteps
+near c = mul-le-mul {n₁ = c .args .width + 3} {m₁ = c .args .count} {n₂ = mostWidth + 3} {m₂ = mostJobSteps} (omega arith) (omega arith)
 
 add-result : tie.Need-add-result
 add-result c = search needs

@@ -8,14 +8,14 @@ use lib.ListN.{replicate}
 use denote.Ref.{now}
 use Rattle.arithmetic.proofs.RowLaws.{Filled, filled-start, filled-next}
 use Rattle.job_record.specs.Bytes.{numberAt}
-use Rattle.job_record.specs.Form.{mostSteps, dataAt}
+use Rattle.job_record.specs.Form.{mostJobSteps, dataAt}
 use Rattle.job_record.specs.Reader.{dataOf}
 use Rattle.job_record.proofs.Columns.{filled-padded, field-within}
 use Rattle.jobs.proofs.data_from.Statement.{statement}
 use Rattle.jobs.proofs.data_from.Tie as tie
 
 abbrev Inv-loop : tie.InvT-loop
-Inv-loop bytes from width count numbers₀ i₀ numbers i = (i ≤ count) × Filled (replicate mostSteps 0) numbers (dataOf bytes from width) i
+Inv-loop bytes from width count numbers₀ i₀ numbers i = (i ≤ count) × Filled (replicate mostJobSteps 0) numbers (dataOf bytes from width) i
 
 abbrev μ-loop : tie.MeasureT-loop
 μ-loop bytes from width count numbers₀ i₀ numbers i = count - i

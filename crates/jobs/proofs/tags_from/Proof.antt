@@ -7,14 +7,14 @@ use native.Mathlib.Omega.{arith}
 use lib.ListN.{replicate, getD}
 use denote.Ref.{now}
 use Rattle.arithmetic.proofs.RowLaws.{Filled, filled-start, filled-next}
-use Rattle.job_record.specs.Form.{mostSteps}
+use Rattle.job_record.specs.Form.{mostJobSteps}
 use Rattle.job_record.specs.Reader.{tagOf}
 use Rattle.job_record.proofs.Columns.{filled-padded, field-within}
 use Rattle.jobs.proofs.tags_from.Statement.{statement}
 use Rattle.jobs.proofs.tags_from.Tie as tie
 
 abbrev Inv-loop : tie.InvT-loop
-Inv-loop bytes from width count tags₀ i₀ tags i = (i ≤ count) × Filled (replicate mostSteps 0) tags (tagOf bytes from width) i
+Inv-loop bytes from width count tags₀ i₀ tags i = (i ≤ count) × Filled (replicate mostJobSteps 0) tags (tagOf bytes from width) i
 
 abbrev μ-loop : tie.MeasureT-loop
 μ-loop bytes from width count tags₀ i₀ tags i = count - i

@@ -1,6 +1,6 @@
 -- `lattice::about_row` meets its contract.
 -- Assumes nothing.
-use mathlib.Core.Path.{refl, sym, ap, _∙_}
+use mathlib.Core.Path.{sym}
 use Rattle.lattice.proofs.EntryLaws as entry
 use Rattle.lattice.proofs.about_row.Statement.{statement}
 use Rattle.lattice.proofs.about_row.Tie as tie

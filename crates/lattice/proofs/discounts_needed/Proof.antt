@@ -1,9 +1,8 @@
 -- `lattice::discounts_needed` meets its contract.
 -- Assumes nothing.
-use Rattle.lattice.specs.Shape.{half-width, node-count, row-start, discounts-needed, state-prices-needed}
+use Rattle.lattice.specs.Shape.{discountsNeeded}
 use Prim.Native.Nat.{ℕ}
-use mathlib.Core.Path.{refl, sym, ap, _∙_}
-use native.Mathlib.Omega.{arith}
+use mathlib.Core.Path.{_∙_}
 use Rattle.lattice.proofs.EntryLaws as entry
 use borrow.Author.Needs.{needs}
 use Rattle.lattice.proofs.discounts_needed.Statement.{statement}
@@ -19,8 +18,10 @@ about-tree-requires : tie.Need-about-tree-requires
 about-tree-requires c κs = search needs
 
 returns : tie.Need-returns
-unfolding discounts-needed
-returns c = c .about-tree .ensures ∙ entry.tree-answer _ _ (λ (n : ℕ). discounts-needed n (c .before .before .before .args .reversion)) _ _ (c .before .before .clipped .ensures) (c .before .row-start-of .ensures)
+unfolding discountsNeeded
+returns c =
+    let needed : ℕ → ℕ = λ n. discountsNeeded n (c .before .before .before .args .reversion) in
+    c .about-tree .ensures ∙ entry.tree-answer _ _ needed _ _ (c .before .before .clipped .ensures) (c .before .row-start-of .ensures)
 
 pub discounts-needed-spec : {M : Type 1} → statement M
 discounts-needed-spec =

@@ -1,6 +1,6 @@
 -- `lattice::half_width_of` meets its contract.
 -- Assumes nothing.
-use mathlib.Core.Path.{refl, sym, ap, _∙_}
+use mathlib.Core.Path.{sym}
 use native.Mathlib.Omega.{arith}
 use Rattle.lattice.proofs.EntryLaws as entry
 use Rattle.lattice.proofs.Sizes.{half-flat}

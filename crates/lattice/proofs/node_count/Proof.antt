@@ -1,9 +1,9 @@
 -- `lattice::node_count` meets its contract.
 -- Assumes nothing.
-use Rattle.lattice.specs.Shape.{half-width, node-count, row-start, discounts-needed, state-prices-needed}
+use Rattle.lattice.specs.Shape.{nodeCount}
 use Prim.Native.Nat.{ℕ, _+_, _*_, _≤_}
 use Rattle.lattice.proofs.Sizes.{half-within}
-use mathlib.Core.Path.{refl, sym, ap, _∙_}
+use mathlib.Core.Path.{ap, _∙_}
 use native.Mathlib.Omega.{arith}
 use Rattle.lattice.proofs.EntryLaws as entry
 use borrow.Author.Needs.{needs}
@@ -29,8 +29,10 @@ about-row-requires : tie.Need-about-row-requires
 about-row-requires c κs = search needs
 
 returns : tie.Need-returns
-unfolding node-count
-returns c = c .about-row .ensures ∙ entry.row-answer _ _ (node-count _) _ _ (c .before .before .clipped .ensures) (ap (λ (x : ℕ). 2 * x + 1) (c .before .half-width-of .ensures))
+unfolding nodeCount
+returns c =
+    let count = ap (λ (x : ℕ). 2 * x + 1) (c .before .half-width-of .ensures) in
+    c .about-row .ensures ∙ entry.row-answer _ _ (nodeCount _) _ _ (c .before .before .clipped .ensures) count
 
 pub node-count-spec : {M : Type 1} → statement M
 node-count-spec =

@@ -1,8 +1,7 @@
 -- `lattice::row_start` meets its contract.
 -- Assumes nothing.
-use Rattle.lattice.specs.Shape.{half-width, node-count, row-start, discounts-needed, state-prices-needed}
-use mathlib.Core.Path.{refl, sym, ap, _∙_}
-use native.Mathlib.Omega.{arith}
+use Rattle.lattice.specs.Shape.{rowStart}
+use mathlib.Core.Path.{_∙_}
 use Rattle.lattice.proofs.EntryLaws as entry
 use borrow.Author.Needs.{needs}
 use Rattle.lattice.proofs.row_start.Statement.{statement}
@@ -18,7 +17,7 @@ about-row-requires : tie.Need-about-row-requires
 about-row-requires c κs = search needs
 
 returns : tie.Need-returns
-returns c = c .about-row .ensures ∙ entry.row-answer _ _ (row-start _) _ _ (c .before .before .clipped .ensures) (c .before .row-start-of .ensures)
+returns c = c .about-row .ensures ∙ entry.row-answer _ _ (rowStart _) _ _ (c .before .before .clipped .ensures) (c .before .row-start-of .ensures)
 
 pub row-start-spec : {M : Type 1} → statement M
 row-start-spec =

@@ -1,6 +1,5 @@
 -- `lattice::row_start_of` meets its contract.
 -- Assumes nothing.
-use mathlib.Core.Path.{refl, sym, ap, _∙_}
 use native.Mathlib.Omega.{arith}
 use Rattle.lattice.proofs.EntryLaws as entry
 use borrow.Author.Needs.{needs}

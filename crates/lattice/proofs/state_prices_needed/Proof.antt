@@ -1,10 +1,9 @@
 -- `lattice::state_prices_needed` meets its contract.
 -- Assumes nothing.
-use Rattle.lattice.specs.Shape.{half-width, node-count, row-start, discounts-needed, state-prices-needed}
+use Rattle.lattice.specs.Shape.{rowStart, statePricesNeeded}
 use Prim.Native.Nat.{ℕ}
 use native.Mathlib.Numerals.{add-one}
-use mathlib.Core.Path.{refl, sym, ap, _∙_}
-use native.Mathlib.Omega.{arith}
+use mathlib.Core.Path.{ap, _∙_}
 use Rattle.lattice.proofs.EntryLaws as entry
 use borrow.Author.Needs.{needs}
 use Rattle.lattice.proofs.state_prices_needed.Statement.{statement}
@@ -23,8 +22,11 @@ about-tree-requires : tie.Need-about-tree-requires
 about-tree-requires c κs = search needs
 
 returns : tie.Need-returns
-unfolding state-prices-needed
-returns c = c .about-tree .ensures ∙ entry.tree-answer _ _ (λ (n : ℕ). state-prices-needed n (c .before .before .before .args .reversion)) _ _ (c .before .before .clipped .ensures) (c .before .row-start-of .ensures ∙ ap (row-start _) (add-one _))
+unfolding statePricesNeeded
+returns c =
+    let needed : ℕ → ℕ = λ n. statePricesNeeded n (c .before .before .before .args .reversion) in
+    let start = c .before .row-start-of .ensures ∙ ap (rowStart _) (add-one _) in
+    c .about-tree .ensures ∙ entry.tree-answer _ _ needed _ _ (c .before .before .clipped .ensures) start
 
 pub state-prices-needed-spec : {M : Type 1} → statement M
 state-prices-needed-spec =

@@ -7,7 +7,7 @@ use Prim.Native.Nat.{ℕ, suc, _≤_, _<_, _+_, _-_, _*_, _/_}
 use native.Mathlib.Omega.{arith}
 use lib.ListN.{length, getD}
 use borrow.Author.Needs.{needs}
-use Rattle.lattice.specs.RateTree.{node-at}
+use Rattle.lattice.specs.RateTree.{nodeOfIndex}
 use Rattle.text_laws.specs.Lines.{lineOfNode}
 use Rattle.text_laws.specs.Put.{Put}
 use Rattle.node_lines.specs.Rows.{nodeText, lines}
@@ -96,7 +96,7 @@ loop-again c =
     let l = in-loop .before .loop in
     let p = l .inv .0 in
     let some : 0 < l .left = omega arith in
-    let text = ap (λ (d : ℕ). lineOfNode (a .row) (node-at (a .count / 2) (l .left - 1)) d) (read at-node)
+    let text = ap (λ (d : ℕ). lineOfNode (a .row) (nodeOfIndex (a .count / 2) (l .left - 1)) d) (read at-node)
     ∙ before-text (a .discounts .now) (a .next) (a .count) (s .pre .standing) (s .pre .held) (a .row) (l .left - 1) (omega (arith, p .upto)) in
     let put = subst (λ (t : List ℕ). Put (l .out) (l .start) t (c .before .before .put-node .result) (c .before .before .put-node .last .0)) text
     (c .before .before .put-node .ensures) in

@@ -2,13 +2,11 @@
 -- Assumes nothing.
 use mathlib.Core.Path.{_≡_, sym, ap, _∙_}
 use mathlib.Core.Bool.{true, false}
-use mathlib.Core.List.{List}
-use Prim.Native.Nat.{ℕ, _≤_}
-use native.Mathlib.Omega.{arith}
+use Prim.Native.Nat.{_≤_}
 use lib.ListN.{length}
 use borrow.Author.Needs.{needs}
 use borrow.Author.Tests.{not-true, not-false}
-use Rattle.node_lines.specs.Rows.{isRow, hasRoomFor, acceptedDiscounts}
+use Rattle.node_lines.specs.Rows.{isRow, hasRoomFor, acceptedNodes}
 use Rattle.node_lines.specs.Reading.{standBefore, nodesBefore}
 use Rattle.node_lines.proofs.RowLaws.{accepted-found}
 use Rattle.node_lines.proofs.ReadingLaws.{stand-known, before-lent, read-none, read-no-row, read-short, read-judged}
@@ -78,12 +76,12 @@ part-all-between-end c = standing (c .before .before .before .before) .1
 -- the test that the code makes is of the nodes before the place
 tested : (c : tie.After-all-between) →
     let a = c .before .before .before .before .before .before .before .before .before .args in
-    acceptedDiscounts (nodesBefore (a .discounts .now) (a .next) (a .count)) ≡ c .all-between .result
+    acceptedNodes (nodesBefore (a .discounts .now) (a .next) (a .count)) ≡ c .all-between .result
 tested c =
     let e = c .before .before .before .before .before .before in
     let a = e .before .before .before .args in
     let lent = before-lent (a .discounts .now) (a .next) (a .count) (standing e .0) (standing e .1) in
-    ap acceptedDiscounts (sym lent) ∙ accepted-found _ (c .all-between .result) (c .all-between .ensures)
+    ap acceptedNodes (sym lent) ∙ accepted-found _ (c .all-between .result) (c .all-between .ensures)
 
 all-between-requires : tie.Need-all-between-requires
 all-between-requires c κs = search needs

@@ -5,9 +5,9 @@ use Prim.Native.Nat.{ℕ, _+_, _*_, _/_, _≤_}
 use native.Mathlib.Omega.{arith}
 use lib.ListN.{length}
 use denote.Ref.{now}
-use Rattle.lattice.specs.RateTree.{rate-tree}
+use Rattle.lattice.specs.RateTree.{rateTree}
 use Rattle.lent_tree.specs.LentTree.{stored}
-use Rattle.pricing_laws.specs.TreePricer.{greatest-discount}
+use Rattle.pricing_laws.specs.TreePricer.{greatestDiscount}
 use Rattle.price_bound.proofs.BoundLaws.{part-room, greatest-part, bound-fits, bound-up}
 use borrow.Author.Needs.{needs}
 use Rattle.price_bound.proofs.bound_step.Statement.{statement}
@@ -18,7 +18,7 @@ row-shape-requires c κs = search needs
 
 -- the row's greatest discount, by what the function was handed
 abbrev row-greatest : tie.Start → ℕ
-row-greatest s = greatest-discount (rate-tree (s .args .reversion)) (stored (s .args .reversion) (now (s .args .discounts))) (s .args .row)
+row-greatest s = greatestDiscount (rateTree (s .args .reversion)) (stored (s .args .reversion) (now (s .args .discounts))) (s .args .row)
 
 -- the row's part is within the discounts
 room : (c : tie.After-struct-known) →

@@ -18,14 +18,14 @@ empty-row-requires c κs = search needs
 
 array-share-prefix-table : tie.Need-array-share-prefix-table
 array-share-prefix-table c =
-    let s = c .before .before .before .before .before in
-    prefix-room _ _ (s .pre .0 .few) (s .pre .0 .reverting) _ _ (c .before .before .node-count .ensures) (c .before .table-of .ensures)
+    let tree = c .before .before .before .before .before .pre .0 in
+    prefix-room _ _ (tree .steps-within-limit) (tree .reversion-within-limit) _ _ (c .before .before .node-count .ensures) (c .before .table-of .ensures)
 
 slice-aggregate-roll-bond : tie.Need-slice-aggregate-roll-bond
 slice-aggregate-roll-bond c =
     let s = c .before .before .before .before .before .before in
-    let few = s .pre .0 .few in
-    let low = s .pre .0 .reverting in
+    let few = s .pre .0 .steps-within-limit in
+    let low = s .pre .0 .reversion-within-limit in
     prefix-length _ _ (prefix-room _ _ few low _ _ (c .before .before .before .node-count .ensures) (c .before .before .table-of .ensures))
 
 roll-bond-requires : tie.Need-roll-bond-requires
@@ -37,7 +37,7 @@ roll-bond-requires c κs =
       record {
         tree = s .pre .0;
         paid = s .pre .1;
-        table = prefix-is _ _ (s .pre .0 .few) (s .pre .0 .reverting) _ _ (node-count .ensures) (table-of .ensures);
+        table = prefix-is _ _ (s .pre .0 .steps-within-limit) (s .pre .0 .reversion-within-limit) _ _ (node-count .ensures) (table-of .ensures);
       },
       omega arith,
     )
@@ -48,8 +48,8 @@ refused-requires c κs = search needs
 returns : tie.Need-returns
 returns c = c .refused .ensures ∙ bond-refused _ _ _ _ _ _ _ (c .before .before .roll-bond .ensures) (c .before .if1 .taken)
 
-array-read-t18 : tie.Need-array-read-t18
-array-read-t18 c = search needs
+array-read-t19 : tie.Need-array-read-t19
+array-read-t19 c = search needs
 
 returns-2 : tie.Need-returns-2
 returns-2 c = bond-given _ _ _ _ _ _ _ (c .before .roll-bond .ensures) (c .if1 .left)
@@ -66,5 +66,5 @@ accepted-bond-spec =
     roll-bond-requires
     refused-requires
     returns
-    array-read-t18
+    array-read-t19
     returns-2)

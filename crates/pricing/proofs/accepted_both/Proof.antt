@@ -12,44 +12,33 @@ node-count-requires c κs = search needs
 table-of-requires : tie.Need-table-of-requires
 table-of-requires c κs = search needs
 
-empty-row-requires : tie.Need-empty-row-requires
-empty-row-requires c κs = search needs
-
-empty-row-requires-2 : tie.Need-empty-row-requires-2
-empty-row-requires-2 c κs = search needs
+-- where the table is worked out
+abbrev start : tie.After-table-of → tie.Start
+start c = c .before .before .before .before .before
 
 array-share-prefix-table : tie.Need-array-share-prefix-table
 array-share-prefix-table c =
-    let p6 = c .before .before .before .before .before .before in
-    let node-count = c .before .before .before .node-count in
-    let table-of = c .before .before .table-of in
-    let s = p6 .before in
-    prefix-room _ _ (s .pre .0 .few) (s .pre .0 .reverting) _ _ (node-count .ensures) (table-of .ensures)
+    let tree = start c .pre .0 in
+    prefix-room _ _ (tree .steps-within-limit) (tree .reversion-within-limit) _ _ (c .before .node-count .ensures) (c .table-of .ensures)
 
 slice-aggregate-roll-both : tie.Need-slice-aggregate-roll-both
 slice-aggregate-roll-both c =
-    let p7 = c .before .before .before .before .before .before .before in
-    let node-count = c .before .before .before .before .node-count in
-    let table-of = c .before .before .before .table-of in
-    let s = p7 .before in
-    let few = s .pre .0 .few in
-    let low = s .pre .0 .reverting in
-    prefix-length _ _ (prefix-room _ _ few low _ _ (node-count .ensures) (table-of .ensures))
+    let made = c .before in
+    let tree = start made .pre .0 in
+    let room = prefix-room _ _ (tree .steps-within-limit) (tree .reversion-within-limit) _ _ (made .before .node-count .ensures) (made .table-of .ensures) in
+    prefix-length _ _ room
 
 roll-both-requires : tie.Need-roll-both-requires
 roll-both-requires c κs =
-    let p9 = c .before .before .before .before .before .before .before .before .before in
-    let node-count = c .before .before .before .before .before .before .node-count in
-    let table-of = c .before .before .before .before .before .table-of in
-    let s = p9 .before in (
+    let made = c .before in
+    let s = start made in
+    let tree = s .pre .0 in (
       record {
-        tree = s .pre .0;
+        tree = tree;
         paid = s .pre .1;
-        table = prefix-is _ _ (s .pre .0 .few) (s .pre .0 .reverting) _ _ (node-count .ensures) (table-of .ensures);
+        table = prefix-is _ _ (tree .steps-within-limit) (tree .reversion-within-limit) _ _ (made .before .node-count .ensures) (made .table-of .ensures);
       },
       s .pre .2,
-      s .pre .3,
-      s .pre .4,
     )
 
 accepted-bond-requires : tie.Need-accepted-bond-requires
@@ -59,22 +48,16 @@ refused-requires : tie.Need-refused-requires
 refused-requires c κs = search needs
 
 returns : tie.Need-returns
-returns c = (
-  c .before .accepted-bond .ensures,
-  c .refused .ensures ∙ option-refused _ _ _ _ _ _ _ _ _ _ _ (c .before .before .before .roll-both .ensures) (c .before .before .if1 .taken),
-)
-
-array-read-t25 : tie.Need-array-read-t25
-array-read-t25 c = search needs
-
-array-read-t29 : tie.Need-array-read-t29
-array-read-t29 c = search needs
+returns c =
+    let over = c .before .before in (
+      c .before .accepted-bond .ensures,
+      c .refused .ensures ∙ option-refused _ _ _ _ _ _ _ _ _ (over .before .before .roll-both .ensures) (over .if1 .taken),
+    )
 
 returns-2 : tie.Need-returns-2
-returns-2 c = (
-  beside-given _ _ _ _ _ _ _ _ _ _ _ (c .before .roll-both .ensures) (c .if1 .left),
-  option-given _ _ _ _ _ _ _ _ _ _ _ (c .before .roll-both .ensures) (c .if1 .left),
-)
+returns-2 c =
+    let rolled = c .before .before .roll-both .ensures in
+    (beside-given _ _ _ _ _ _ _ _ _ rolled (c .if1 .left), option-given _ _ _ _ _ _ _ _ _ rolled (c .if1 .left))
 
 pub accepted-both-spec : {M : Type 1} → statement M
 accepted-both-spec =
@@ -82,14 +65,10 @@ accepted-both-spec =
     (tie.spec
     node-count-requires
     table-of-requires
-    empty-row-requires
-    empty-row-requires-2
     array-share-prefix-table
     slice-aggregate-roll-both
     roll-both-requires
     accepted-bond-requires
     refused-requires
     returns
-    array-read-t25
-    array-read-t29
     returns-2)

@@ -19,7 +19,10 @@ loop-holds : tie.Need-loop-holds Inv-loop μ-loop
 loop-holds c = omega arith
 
 mul-numbers : tie.Need-mul-numbers Inv-loop μ-loop
-mul-numbers c = omega (arith, mul-le-mul {n₁ = c .before .loop .place % 3600} {m₁ = c .before .before .args .factor} {n₂ = 3600} {m₂ = 1000000000} (omega arith) (c .before .before .pre .1))
+mul-numbers c =
+    let l = c .before .loop in
+    let s = c .before .before in
+    omega (arith, mul-le-mul {n₁ = l .place % 3600} {m₁ = s .args .factor} {n₂ = 3600} {m₂ = 1000000000} (omega arith) (s .pre .1))
 
 rem-numbers : tie.Need-rem-numbers Inv-loop μ-loop
 rem-numbers c = search needs

@@ -1,10 +1,15 @@
 -- `quote_figures::print_signed` is safe and ends.
 -- Assumes nothing.
+use Prim.Native.Nat.{_<_, _^_}
 use native.Mathlib.Omega.{arith}
+use lib.IntN.{natAbs}
 use Rattle.arithmetic.proofs.Signed.{is-whole, back, negated-fits, negated-back}
 use borrow.Author.Needs.{needs}
 use Rattle.quote_figures.proofs.print_signed.Statement.{statement}
 use Rattle.quote_figures.proofs.print_signed.Tie as tie
+
+small : (s : tie.Start) → natAbs (s .args .value) < 2 ^ 63
+small s = omega (arith, s .pre)
 
 print-refusal-requires : tie.Need-print-refusal-requires
 print-refusal-requires c κs = search needs
@@ -19,10 +24,15 @@ write-all-requires : tie.Need-write-all-requires
 write-all-requires c κs = search needs
 
 sub-print-decimal : tie.Need-sub-print-decimal
-sub-print-decimal c = negated-fits (c .before .before .before .before .args .value) (omega (arith, c .before .before .before .before .pre)) (c .before .before .before .before .fits .value) (c .before .before .if2 .taken)
+sub-print-decimal c =
+    let s = c .before .before .before .before in
+    negated-fits (s .args .value) (small s) (s .fits .value) (c .before .before .if2 .taken)
 
 cast-print-decimal : tie.Need-cast-print-decimal
-cast-print-decimal c = rw (negated-back (c .before .before .before .before .args .value) (omega (arith, c .before .before .before .before .pre)) (c .before .before .before .before .fits .value) (c .before .before .if2 .taken)) (tt, record { fits = omega (arith, c .before .before .before .before .pre) })
+cast-print-decimal c =
+    let s = c .before .before .before .before in
+    rw (negated-back (s .args .value) (small s) (s .fits .value) (c .before .before .if2 .taken))
+    (tt, record { fits = omega (arith, small s) })
 
 print-decimal-requires : tie.Need-print-decimal-requires
 print-decimal-requires c κs = search needs
@@ -32,8 +42,9 @@ returns-2 c = search needs
 
 cast-print-decimal-2 : tie.Need-cast-print-decimal-2
 cast-print-decimal-2 c =
-    let same = back (c .before .before .args .value) (omega (arith, c .before .before .pre)) (c .before .before .fits .value) in
-    rw same (is-whole (c .before .before .args .value) (rw same at (c .if2 .left)), record { fits = omega (arith, c .before .before .pre) })
+    let s = c .before .before in
+    let same = back (s .args .value) (small s) (s .fits .value) in
+    rw same (is-whole (s .args .value) (rw same at (c .if2 .left)), record { fits = omega (arith, small s) })
 
 print-decimal-requires-2 : tie.Need-print-decimal-requires-2
 print-decimal-requires-2 c κs = search needs

@@ -50,8 +50,9 @@ size c = divisor-size (c .args .frequency) (c .args .row) (c .args .rate) (c .pr
 returns : tie.Need-returns
 unfolding rateDiscount
 returns c =
+    let s = c .before .before in
     c .refusal .ensures
-    ∙ sym (ranged-none _ (quotient-none (one * one * c .before .before .args .frequency) (divisor (c .before .before)) (rw (back (c .before .before)) at (c .before .if1 .taken))))
+    ∙ sym (ranged-none _ (quotient-none (one * one * s .args .frequency) (divisor s) (rw (back s) at (c .before .if1 .taken))))
 
 mul-ranged : tie.Need-mul-ranged
 mul-ranged c = search needs
@@ -74,8 +75,9 @@ ranged-requires c κs = search needs
 returns-2 : tie.Need-returns-2
 unfolding rateDiscount
 returns-2 c =
+    let s = c .before .before in
     c .ranged .ensures
-    ∙ ap rangedAnswer (rw (back (c .before .before)) (sym (quotient-some (one * one * c .before .before .args .frequency) (divisor (c .before .before)) (positive (c .before)) .2)))
+    ∙ ap rangedAnswer (rw (back s) (sym (quotient-some (one * one * s .args .frequency) (divisor s) (positive (c .before)) .2)))
 
 pub of-billionths-spec : {M : Type 1} → statement M
 of-billionths-spec =

@@ -16,13 +16,20 @@ accepted : (c : tie.Else1) → Accepted (c .before .before .before .before .befo
 accepted c = tree-accepted _ _ _ _ (c .before .before .discounts-needed .ensures) (c .if1 .left)
 
 returns-2 : tie.Need-returns-2
-returns-2 c = laws.short-discounts _ _ _ _ (accepted (c .before .before)) _ (tree-value _ _ _ _ (c .before .before .before .before .discounts-needed .ensures) (accepted (c .before .before))) (c .if2 .taken)
+returns-2 c =
+    let e = c .before .before in
+    laws.short-discounts _ _ _ _ (accepted e) _ (tree-value _ _ _ _ (e .before .before .discounts-needed .ensures) (accepted e)) (c .if2 .taken)
 
 state-prices-needed-requires : tie.Need-state-prices-needed-requires
 state-prices-needed-requires c κs = search needs
 
 returns-3 : tie.Need-returns-3
-returns-3 c = laws.long-discounts _ _ _ _ (accepted (c .before .before .before .before)) _ _ (tree-value _ _ _ _ (c .before .before .before .before .before .before .discounts-needed .ensures) (accepted (c .before .before .before .before))) (tree-value _ _ _ _ (c .before .state-prices-needed .ensures) (accepted (c .before .before .before .before))) (c .before .before .if2 .left)
+returns-3 c =
+    let e = c .before .before .before .before in
+    laws.long-discounts _ _ _ _ (accepted e) _ _
+    (tree-value _ _ _ _ (e .before .before .discounts-needed .ensures) (accepted e))
+    (tree-value _ _ _ _ (c .before .state-prices-needed .ensures) (accepted e))
+    (c .before .before .if2 .left)
 
 pub holds-tree-spec : {M : Type 1} → statement M
 holds-tree-spec =

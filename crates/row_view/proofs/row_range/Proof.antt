@@ -5,7 +5,7 @@ use mathlib.Core.Bool.{true}
 use denote.Ref.{now}
 use borrow.Author.Tests.{not-true, not-false}
 use Rattle.lattice.proofs.TreeEntries.{row-value}
-use Rattle.row_view.specs.RowView.{holds-tree, stores-row}
+use Rattle.row_view.specs.RowView.{holdsTree, storesRow}
 use Rattle.row_view.proofs.ViewLaws as laws
 use borrow.Author.Needs.{needs}
 use Rattle.row_view.proofs.row_range.Statement.{statement}
@@ -27,10 +27,16 @@ returns-2 c =
     laws.hidden-range _ _ _ _ _ _
     (laws.not-stored _ _ _ _ _ _ (sym (c .before .stores-row .ensures) ∙ not-true _ (c .if2 .taken)))
 
-held : (c : tie.Else1) → holds-tree (now (c .before .before .before .before .args .discounts)) (now (c .before .before .before .before .args .state-prices)) (c .before .before .before .before .args .steps) (c .before .before .before .before .args .reversion) ≡ true
+held :
+    (c : tie.Else1) →
+    let a = c .before .before .before .before .args in
+    holdsTree (now (a .discounts)) (now (a .state-prices)) (a .steps) (a .reversion) ≡ true
 held c = sym (c .before .holds-tree .ensures) ∙ not-false _ (c .if1 .left)
 
-stored : (c : tie.Else2) → stores-row (c .before .before .before .before .before .before .args .kind) (c .before .before .before .before .before .before .args .steps) (c .before .before .before .before .before .before .args .row) ≡ true
+stored :
+    (c : tie.Else2) →
+    let a = c .before .before .before .before .before .before .args in
+    storesRow (a .kind) (a .steps) (a .row) ≡ true
 stored c = sym (c .before .stores-row .ensures) ∙ not-false _ (c .if2 .left)
 
 row-start-requires : tie.Need-row-start-requires

@@ -16,7 +16,10 @@ memory-of-requires c κs = search needs
 row-range-requires : tie.Need-row-range-requires
 row-range-requires c κs = search needs
 
-within : (c : tie.After-struct-known) → c .before .row-range .result .start + c .before .row-range .result .count ≤ length (now (c .before .before .memory-of .result))
+within :
+    (c : tie.After-struct-known) →
+    let r = c .before .row-range .result in
+    r .start + r .count ≤ length (now (c .before .before .memory-of .result))
 within c =
     let a = c .before .before .before .before .before .args in
     laws.range-within (a .discounts) (a .state-prices) (a .kind) (a .steps) (a .reversion) (a .row)

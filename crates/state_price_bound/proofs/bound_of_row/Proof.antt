@@ -1,6 +1,6 @@
 -- `state_price_bound::bound_of_row` meets its contract.
 -- Assumes nothing.
-use Rattle.lattice.specs.Shape.{node-count}
+use Rattle.lattice.specs.Shape.{nodeCount}
 use Rattle.lattice.proofs.Sizes.{start-within}
 use mathlib.Core.Path.{_≡_}
 use Prim.Native.Nat.{_+_, _≤_, _-_}
@@ -29,7 +29,9 @@ add-end : tie.Need-add-end Inv-loop μ-loop
 add-end c = omega (arith, room c)
 
 mul-greatest-of : tie.Need-mul-greatest-of Inv-loop μ-loop
-mul-greatest-of c = omega (arith, c .before .loop .inv .1 .starts, start-within (c .before .before .before .args .reversion) (c .before .loop .index) (omega arith))
+mul-greatest-of c =
+    let l = c .before .loop in
+    omega (arith, l .inv .1 .starts, start-within (c .before .before .before .args .reversion) (l .index) (omega arith))
 
 sub-greatest-of : tie.Need-sub-greatest-of Inv-loop μ-loop
 sub-greatest-of c = search needs
@@ -49,13 +51,17 @@ add-node-count c = search needs
 node-count-requires : tie.Need-node-count-requires Inv-loop μ-loop
 node-count-requires c κs = search needs
 
-counts : (c : tie.After-node-count Inv-loop μ-loop) → c .node-count .result .value ≡ node-count (c .before .before .before .before .before .before .args .reversion) (c .before .before .before .before .loop .index + 1)
+counts :
+    (c : tie.After-node-count Inv-loop μ-loop) →
+    let l = c .before .before .before .before in
+    c .node-count .result .value ≡ nodeCount (l .before .before .args .reversion) (l .loop .index + 1)
 counts c = row-value _ _ _ _ (c .node-count .ensures) (omega arith) (omega arith)
 
 next-bound-requires : tie.Need-next-bound-requires Inv-loop μ-loop
 next-bound-requires c κs =
-    laws.reached-sizes _ _ _ _ _ _ (c .before .before .before .before .loop .inv .1) _ (room (c .before .before .before)) (c .before .greatest-of .ensures) _ (counts c)
-    _ (omega arith) (c .before .before .before .before .before .before .pre .1) (omega arith)
+    let i = c .before .before .before in
+    laws.reached-sizes _ _ _ _ _ _ (i .before .loop .inv .1) _ (room i) (c .before .greatest-of .ensures) _ (counts c)
+    _ (omega arith) (i .before .before .before .pre .1) (omega arith)
 
 add-index : tie.Need-add-index Inv-loop μ-loop
 add-index c = search needs
@@ -64,11 +70,12 @@ loop-less : tie.Need-loop-less Inv-loop μ-loop
 loop-less c = search needs
 
 loop-again : tie.Need-loop-again Inv-loop μ-loop
-loop-again c = (
-  search needs,
-  laws.reached-next _ _ _ _ _ _ (c .before .before .before .before .before .loop .inv .1) _ (room (c .before .before .before .before)) (c .before .before .greatest-of .ensures) _ (counts (c .before))
-      _ (c .next-bound .ensures),
-)
+loop-again c =
+    let i = c .before .before .before .before in (
+      search needs,
+      laws.reached-next _ _ _ _ _ _ (i .before .loop .inv .1) _ (room i) (c .before .before .greatest-of .ensures) _ (counts (c .before))
+          _ (c .next-bound .ensures),
+    )
 
 returns : tie.Need-returns Inv-loop μ-loop
 returns c = laws.reached-last _ _ _ _ _ _ (c .before .loop .inv .1) _ (omega arith)

@@ -4,7 +4,7 @@ use mathlib.Core.Path.{refl}
 use native.Mathlib.Nat.{mul-le-mul}
 use native.Mathlib.Omega.{arith}
 use Prim.Native.Nat.{_≤_, _*_}
-use Rattle.arithmetic.specs.Rounding.{up}
+use Rattle.arithmetic.specs.Rounding.{roundUp}
 use borrow.Author.Needs.{needs}
 use Rattle.state_price_bound.proofs.next_bound.Statement.{statement}
 use Rattle.state_price_bound.proofs.next_bound.Tie as tie
@@ -29,7 +29,7 @@ add-result-3 : tie.Need-add-result-3
 add-result-3 c = omega (arith, product c)
 
 returns : tie.Need-returns
-unfolding up
+unfolding roundUp
 returns c = refl
 
 pub next-bound-spec : {M : Type 1} → statement M

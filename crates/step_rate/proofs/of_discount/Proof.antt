@@ -11,9 +11,9 @@ use borrow.Author.Needs.{needs}
 use borrow.Author.Tests.{not-true, not-false}
 use Rattle.arithmetic.specs.Rounding.{one}
 use Rattle.arithmetic.proofs.Signed.{minus-fits, minus-back}
-use Rattle.limits.specs.Limits.{most-discount, is-discount}
+use Rattle.limits.specs.Limits.{mostDiscount, isDiscount}
 use Rattle.limits.proofs.LimitLaws.{discount-least, discount-most}
-use Rattle.step_rate.specs.StepRate.{answered}
+use Rattle.step_rate.specs.StepRate.{answeredRate}
 use Rattle.step_rate.proofs.RateLaws.{ratio-small, rate-above, rate-within, answer-refused, answer-known}
 use Rattle.step_rate.proofs.of_discount.Statement.{statement}
 use Rattle.step_rate.proofs.of_discount.Tie as tie
@@ -24,10 +24,10 @@ is-discount-requires c κs = search needs
 returns : tie.Need-returns
 returns c = sym (answer-refused (c .before .before .args .discount) (sym (c .before .is-discount .ensures) ∙ not-true _ (c .if1 .taken)))
 
-accepted : (c : tie.Else1) → is-discount (c .before .before .args .discount) ≡ true
+accepted : (c : tie.Else1) → isDiscount (c .before .before .args .discount) ≡ true
 accepted c = sym (c .before .is-discount .ensures) ∙ not-false _ (c .if1 .left)
 
-known : (c : tie.Else1) → (1 ≤ c .before .before .args .discount) × (c .before .before .args .discount ≤ most-discount)
+known : (c : tie.Else1) → (1 ≤ c .before .before .args .discount) × (c .before .before .args .discount ≤ mostDiscount)
 known c = (discount-least (c .before .before .args .discount) (accepted c), discount-most (c .before .before .args .discount) (accepted c))
 
 sub-ratio : tie.Need-sub-ratio
@@ -52,7 +52,7 @@ returns-2 : tie.Need-returns-2
 returns-2 c =
     let v = c .before .before .before .before .args .discount in
     let k = known (c .before .before) in
-    ap answered
+    ap answeredRate
     (minus-back (c .ratio .result) (omega (arith, above-small c))
     ∙ ap (λ (m : ℕ). negℤ (pos m)) (c .ratio .ensures)
     ∙ sym (rate-above v (omega arith) (c .before .if2 .taken)))
@@ -74,7 +74,7 @@ returns-3 : tie.Need-returns-3
 returns-3 c =
     let v = c .before .before .before .before .args .discount in
     let k = known (c .before .before) in
-    ap answered
+    ap answeredRate
     (toZ-pos w64 (omega (arith, within-small c))
     ∙ ap pos (c .ratio2 .ensures)
     ∙ sym (rate-within v (omega arith) (c .before .if2 .left)))

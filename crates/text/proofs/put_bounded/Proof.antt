@@ -16,7 +16,9 @@ put-field-requires-2 : tie.Need-put-field-requires-2
 put-field-requires-2 c κs =
     let s = c .before .before .before .before .before .before in
     let p = c .before .before .before .put-field .ensures in
-    (omega arith, omega (arith, p .place, field-room 0 (s .args .bound) 10 (s .fits .bound .fits), field-room 9 (s .args .value) 32 (s .fits .value .fits)), omega (arith, p .place, p .within, p .same))
+    let b = field-room 0 (s .args .bound) 10 (s .fits .bound .fits) in
+    let v = field-room 9 (s .args .value) 32 (s .fits .value .fits) in
+    (omega arith, omega (arith, p .place, b, v), omega (arith, p .place, p .within, p .same))
 
 same-length : tie.Need-same-length
 same-length c = search needs

@@ -2,7 +2,6 @@
 -- Assumes nothing.
 use native.Mathlib.Omega.{arith}
 use Prim.Native.Nat.{_<_}
-use borrow.Author.Needs.{needs}
 use Rattle.text_laws.proofs.DecimalLaws.{field-length}
 use Rattle.text_laws.proofs.PutLaws.{put-one, put-before}
 use Rattle.text.proofs.put_field.Statement.{statement}

@@ -1,12 +1,12 @@
 -- `text::put_fraction` meets its contract. The invariant: the digits that are left, put before the place, give the whole.
 -- Assumes nothing.
-use mathlib.Core.Path.{_≡_, refl, sym, ap, _∙_}
-use mathlib.Core.List.{List, []}
+use mathlib.Core.Path.{_≡_, sym, ap, _∙_}
+use mathlib.Core.List.{List}
 use Prim.Native.Nat.{ℕ, _≤_, _+_, _-_}
 use native.Mathlib.Omega.{arith}
 use lib.ListN.{length, length-set}
 use borrow.Author.Needs.{needs}
-use Rattle.text_laws.specs.Decimal.{digits}
+use Rattle.text_laws.specs.Decimal.{lastDigits}
 use Rattle.text_laws.specs.Put.{putBefore}
 use Rattle.text_laws.proofs.DecimalLaws.{digits-step, digits-none, length-digits, fraction-none, fraction-point, fraction-length}
 use Rattle.text_laws.proofs.PutLaws.{put-nothing, put-none, put-last, put-whole, put-then}
@@ -16,13 +16,15 @@ use Rattle.text.proofs.put_fraction.Tie as tie
 abbrev Inv-loop : tie.InvT-loop
 Inv-loop out₀ end number count rest₀ start₀ left₀ out rest start left =
     (left ≤ count) × (start + count ≡ end + left) × (length out ≡ length out₀)
-    × (putBefore out start (digits left rest) ≡ putBefore out₀ end (digits count number))
+    × (putBefore out start (lastDigits left rest) ≡ putBefore out₀ end (lastDigits count number))
 
 abbrev μ-loop : tie.MeasureT-loop
 μ-loop out₀ end number count rest₀ start₀ left₀ out rest start left = left
 
 returns : tie.Need-returns Inv-loop μ-loop
-returns c = rw (fraction-none (c .before .args .decimals) (c .before .args .number) (c .if1 .taken)) (put-none (c .before .args .out .now) (c .before .args .end) (c .before .pre .1))
+returns c =
+    let s = c .before in
+    rw (fraction-none (s .args .decimals) (s .args .number) (c .if1 .taken)) (put-none (s .args .out .now) (s .args .end) (s .pre .1))
 
 loop-holds : tie.Need-loop-holds Inv-loop μ-loop
 loop-holds c = search needs
@@ -55,7 +57,8 @@ loop-again c =
       search needs,
       omega arith,
       simp length-set (search needs),
-      put-last (l .out) _ (digits (l .left) (l .rest)) _ (l .start) _ (digits-step (l .left) (l .rest) (omega arith)) (omega (arith, length-digits (l .left) (l .rest))) (omega arith) (l .inv .3),
+      put-last (l .out) _ (lastDigits (l .left) (l .rest)) _ (l .start) _ (digits-step (l .left) (l .rest) (omega arith))
+          (omega (arith, length-digits (l .left) (l .rest))) (omega arith) (l .inv .3),
     )
 
 sub-start-2 : tie.Need-sub-start-2 Inv-loop μ-loop
@@ -72,10 +75,12 @@ returns-2 c =
     let a = c .before .before .before .args in
     let l = c .before .loop in
     let r = room (c .before .before) in
+    let none = digits-none (l .left) (l .rest) (omega arith) in
     rw (fraction-point (a .decimals) (a .number) (omega arith))
     (put-then 46
-    (put-whole (a .out .now) (l .out) (digits (a .decimals) (a .number)) (a .end) (l .start) (omega (arith, length-digits (a .decimals) (a .number))) (c .before .before .before .pre .1)
-    (sym (put-nothing (l .out) (l .start)) ∙ ap (λ (t : List ℕ). putBefore (l .out) (l .start) t) (sym (digits-none (l .left) (l .rest) (omega arith))) ∙ l .inv .3))
+    (put-whole (a .out .now) (l .out) (lastDigits (a .decimals) (a .number)) (a .end) (l .start)
+    (omega (arith, length-digits (a .decimals) (a .number))) (c .before .before .before .pre .1)
+    (sym (put-nothing (l .out) (l .start)) ∙ ap (λ (t : List ℕ). putBefore (l .out) (l .start) t) (sym none) ∙ l .inv .3))
     (omega arith))
 
 pub put-fraction-spec : {M : Type 1} → statement M

@@ -1,7 +1,7 @@
 -- `text::put_natural` meets its contract. The invariant: the digits that are left, put before the place, give the whole.
 -- Assumes nothing.
 use mathlib.Core.Path.{_≡_}
-use Prim.Native.Nat.{ℕ, _≤_, _+_, _-_, _/_, _%_}
+use Prim.Native.Nat.{_≤_, _+_, _-_, _/_, _%_}
 use native.Mathlib.Omega.{arith}
 use lib.ListN.{length, length-set}
 use borrow.Author.Needs.{needs}
@@ -45,7 +45,8 @@ loop-again c =
       omega arith,
       omega arith,
       simp length-set (search needs),
-      put-last (l .out) (natural (l .rest / 10)) (natural (l .rest)) _ (l .start) (digit (l .rest % 10)) (natural-step (l .rest) (omega arith)) (omega arith) (omega arith) (l .inv .3),
+      put-last (l .out) (natural (l .rest / 10)) (natural (l .rest)) _ (l .start) (digit (l .rest % 10))
+          (natural-step (l .rest) (omega arith)) (omega arith) (omega arith) (l .inv .3),
     )
 
 sub-start-2 : tie.Need-sub-start-2 Inv-loop μ-loop
@@ -68,8 +69,8 @@ returns c =
     let s = c .before .before in
     let l = c .before .loop in
     let n = length-natural-small (l .rest) (omega arith) in
-    put-front (l .out) (s .args .out .now) (natural (s .args .number)) (natural (l .rest)) (l .start) (digit (l .rest)) (s .args .end) (omega arith) (omega arith) (natural-small (l .rest) (omega arith))
-    (omega arith) (s .pre .1) (l .inv .3)
+    put-front (l .out) (s .args .out .now) (natural (s .args .number)) (natural (l .rest)) (l .start) (digit (l .rest)) (s .args .end)
+    (omega arith) (omega arith) (natural-small (l .rest) (omega arith)) (omega arith) (s .pre .1) (l .inv .3)
 
 pub put-natural-spec : {M : Type 1} → statement M
 put-natural-spec =

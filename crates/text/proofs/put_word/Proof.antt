@@ -1,7 +1,7 @@
 -- `text::put_word` meets its contract. The invariant: what is left of the word, put before the place, gives the whole.
 -- Assumes nothing.
 use mathlib.Core.Path.{_≡_, refl, sym, ap, _∙_}
-use mathlib.Core.List.{List, []}
+use mathlib.Core.List.{List}
 use Prim.Native.Nat.{ℕ, suc, _≤_, _<_, _+_, _-_}
 use native.Mathlib.Omega.{arith}
 use lib.ListN.{length, getD, take, set, length-set}
@@ -51,7 +51,12 @@ loop-less c = search needs
 loop-again : tie.Need-loop-again Inv-loop μ-loop
 loop-again c =
     let l = c .before .before .loop in
-    (omega arith, omega arith, simp length-set (search needs), less (l .out) (c .before .before .before .args .word .now) _ (l .start) (l .left) (omega arith) (omega arith) (omega arith) (omega arith) (l .inv .3))
+    let word = c .before .before .before .args .word .now in (
+      omega arith,
+      omega arith,
+      simp length-set (search needs),
+      less (l .out) word _ (l .start) (l .left) (omega arith) (omega arith) (omega arith) (omega arith) (l .inv .3),
+    )
 
 same-length : tie.Need-same-length Inv-loop μ-loop
 same-length c = search needs

@@ -3,8 +3,8 @@
 use Prim.Native.Nat.{_*_, _≤_}
 use native.Mathlib.Nat.{mul-le-mul}
 use native.Mathlib.Omega.{arith}
-use Rattle.arithmetic.specs.Rounding.{up}
-use Rattle.valuation_laws.specs.Valuation.{valuation-bound}
+use Rattle.arithmetic.specs.Rounding.{roundUp}
+use Rattle.valuation_laws.specs.Valuation.{valuationBound}
 use borrow.Author.Needs.{needs}
 use Rattle.valuation.proofs.EntryLaws as laws
 use Rattle.valuation.proofs.bound_of_value.Statement.{statement}
@@ -26,7 +26,7 @@ add-result-2 : tie.Need-add-result-2
 add-result-2 c = omega (arith, small c)
 
 returns : tie.Need-returns
-unfolding valuation-bound up
+unfolding valuationBound roundUp
 returns c = omega arith
 
 pub bound-of-value-spec : {M : Type 1} → statement M

@@ -6,14 +6,25 @@ use borrow.Author.Needs.{needs}
 use Rattle.fitting.proofs.causes.plan_of.Statement.{statement}
 use Rattle.fitting.proofs.causes.plan_of.Tie as tie
 
+-- what is known once the causes 2 to 7 were tested
+tested : (c : tie.After-lowest-cause3) →
+    let s = c .before .before .before .before .before .before in
+    laws.Tested (s .args .frequency) (s .args .steps) (s .args .reversion) (s .args .volatility) (s .args .converted) (s .args .discounts) (s .args .prices)
+    (c .before .before .before .before .spacing .result) (c .lowest-cause3 .result)
+tested c =
+    let joined = c .before .before in
+    let remembered = joined .before in
+    laws.tested (remembered .before .before .discounts-needed .ensures) (remembered .before .spacing .ensures) (remembered .memory-cause .ensures)
+    (joined .lowest-cause .ensures) (c .before .lowest-cause2 .ensures) (c .lowest-cause3 .ensures)
+
 discounts-needed-requires : tie.Need-discounts-needed-requires
 discounts-needed-requires c κs = search needs
 
 spacing-requires : tie.Need-spacing-requires
 spacing-requires c κs = search needs
 
-memory-of-requires : tie.Need-memory-of-requires
-memory-of-requires c κs = search needs
+memory-cause-requires : tie.Need-memory-cause-requires
+memory-cause-requires c κs = search needs
 
 lowest-cause-requires : tie.Need-lowest-cause-requires
 lowest-cause-requires c κs = search needs
@@ -25,32 +36,28 @@ lowest-cause-requires-3 : tie.Need-lowest-cause-requires-3
 lowest-cause-requires-3 c κs = search needs
 
 returns : tie.Need-returns
-returns c =
-    let s = c .before .before .before .before .before .before .before in
-    laws.plan-early (s .args .frequency) (s .args .steps) (s .args .reversion) (s .args .volatility) (s .args .converted) (s .args .discounts) (s .args .prices) _ _ _ _ _ _ (c .before .before .before .before .before .before .discounts-needed .ensures) (c .before .before .before .before .before .spacing .ensures) (c .before .before .before .before .memory-of .ensures) (c .before .before .before .lowest-cause .ensures) (c .before .before .lowest-cause2 .ensures) (c .before .lowest-cause3 .ensures) (c .if1 .taken)
+returns c = laws.plan-early (tested (c .before)) (c .if1 .taken)
 
 sub-half-width : tie.Need-sub-half-width
-sub-half-width c =
-    let s = c .before .before .before .before .before .before .before in
-    omega (arith, laws.steps-some (s .args .frequency) (s .args .steps) (s .args .reversion) (s .args .volatility) (s .args .converted) (s .args .discounts) (s .args .prices) _ _ _ _ _ _ (c .before .before .before .before .before .before .discounts-needed .ensures) (c .before .before .before .before .before .spacing .ensures) (c .before .before .before .before .memory-of .ensures) (c .before .before .before .lowest-cause .ensures) (c .before .before .lowest-cause2 .ensures) (c .before .lowest-cause3 .ensures) (c .if1 .left))
+sub-half-width c = omega (arith, laws.known (tested (c .before)) (c .if1 .left) .steps-positive)
 
 half-width-requires : tie.Need-half-width-requires
 half-width-requires c κs = search needs
 
 mul-if2 : tie.Need-mul-if2
 mul-if2 c =
-    let s = c .before .before .before .before .before .before .before .before .before .before in
-    omega (arith, laws.product-fits (s .args .frequency) (s .args .steps) (s .args .reversion) (s .args .volatility) (s .args .converted) (s .args .discounts) (s .args .prices) _ _ _ _ _ _ (c .before .before .before .before .before .before .before .before .before .discounts-needed .ensures) (c .before .before .before .before .before .before .before .before .spacing .ensures) (c .before .before .before .before .before .before .before .memory-of .ensures) (c .before .before .before .before .before .before .lowest-cause .ensures) (c .before .before .before .before .before .lowest-cause2 .ensures) (c .before .before .before .before .lowest-cause3 .ensures) (c .before .before .before .if1 .left) _ (c .before .before .half-width .ensures))
+    let half = c .before .before in
+    omega (arith, laws.product-fits (tested (half .before .before)) (half .before .if1 .left) (half .half-width .ensures))
 
 returns-2 : tie.Need-returns-2
 returns-2 c =
-    let s = c .before .before .before .before .before .before .before .before .before .before .before in
-    laws.plan-wide (s .args .frequency) (s .args .steps) (s .args .reversion) (s .args .volatility) (s .args .converted) (s .args .discounts) (s .args .prices) _ _ _ _ _ _ (c .before .before .before .before .before .before .before .before .before .before .discounts-needed .ensures) (c .before .before .before .before .before .before .before .before .before .spacing .ensures) (c .before .before .before .before .before .before .before .before .memory-of .ensures) (c .before .before .before .before .before .before .before .lowest-cause .ensures) (c .before .before .before .before .before .before .lowest-cause2 .ensures) (c .before .before .before .before .before .lowest-cause3 .ensures) (c .before .before .before .before .if1 .left) _ (c .before .before .before .half-width .ensures) (c .if2 .taken)
+    let half = c .before .before .before in
+    laws.plan-wide (tested (half .before .before)) (half .before .if1 .left) (half .half-width .ensures) (c .if2 .taken)
 
 returns-3 : tie.Need-returns-3
 returns-3 c =
-    let s = c .before .before .before .before .before .before .before .before .before .before .before in
-    laws.plan-made (s .args .frequency) (s .args .steps) (s .args .reversion) (s .args .volatility) (s .args .converted) (s .args .discounts) (s .args .prices) _ _ _ _ _ _ (c .before .before .before .before .before .before .before .before .before .before .discounts-needed .ensures) (c .before .before .before .before .before .before .before .before .before .spacing .ensures) (c .before .before .before .before .before .before .before .before .memory-of .ensures) (c .before .before .before .before .before .before .before .lowest-cause .ensures) (c .before .before .before .before .before .before .lowest-cause2 .ensures) (c .before .before .before .before .before .lowest-cause3 .ensures) (c .before .before .before .before .if1 .left) _ (c .before .before .before .half-width .ensures) (c .if2 .left)
+    let half = c .before .before .before in
+    laws.plan-made (tested (half .before .before)) (half .before .if1 .left) (half .half-width .ensures) (c .if2 .left)
 
 pub plan-of-spec : {M : Type 1} → statement M
 plan-of-spec =
@@ -58,7 +65,7 @@ plan-of-spec =
     (tie.spec
     discounts-needed-requires
     spacing-requires
-    memory-of-requires
+    memory-cause-requires
     lowest-cause-requires
     lowest-cause-requires-2
     lowest-cause-requires-3

@@ -1,12 +1,31 @@
 -- `fitting::rows/fit_row` meets its contract.
 -- Assumes nothing.
-use mathlib.Core.Path.{_≡_, refl, sym, _∙_}
+use mathlib.Core.Path.{_≡_, sym}
+use mathlib.Core.Bool.{true}
+use lib.ListN.{length}
 use borrow.Author.Needs.{needs}
 use borrow.Author.Tests.{not-true, not-false}
-use Rattle.fitting.proofs.StepRows.{never}
 use Rattle.fitting.proofs.RowParts as laws
 use Rattle.fitting.proofs.rows.fit_row.Statement.{statement}
 use Rattle.fitting.proofs.rows.fit_row.Tie as tie
+
+abbrev lent : tie.After-step-row-arg3 → tie.Start
+lent c = c .before .before .before .before .before .before .before .before .before
+
+abbrev start : tie.After-step-row → tie.Start
+start c = lent (c .before)
+
+-- the row's discounts are as many as were lent
+long : (c : tie.After-step-row) → length (c .step-row .last .1 .1 .1 .1 .0)
+    ≡ length (laws.lent (start c .args .at .start) (length (start c .args .factors .now)) (start c .args .discounts .now))
+long c = c .step-row .kept .1 .1 .1 .1 .0
+
+abbrev stepped : tie.Else1 → tie.After-step-row
+stepped c = c .before .before .before .before .before
+
+-- every discount of the row is accepted
+accepted : (c : tie.Else1) → stepped c .step-row .result ≡ true
+accepted c = not-false _ (c .if1 .left)
 
 add-end : tie.Need-add-end
 add-end c = search needs
@@ -42,14 +61,10 @@ slice-relend-prefix-step-row : tie.Need-slice-relend-prefix-step-row
 slice-relend-prefix-step-row c = search needs
 
 slice-aggregate-step-row : tie.Need-slice-aggregate-step-row
-slice-aggregate-step-row c =
-    let s = c .before .before .before .before .before .before .before .before .before in
-    sym (laws.front-length _ _ _ _ _ _ _ _ (s .pre))
+slice-aggregate-step-row c = sym (laws.front-length (lent c .pre))
 
 step-row-requires : tie.Need-step-row-requires
-step-row-requires c κs =
-    let s = c .before .before .before .before .before .before .before .before .before in
-    laws.row-asks _ _ _ _ _ _ _ _ (s .pre)
+step-row-requires c κs = laws.row-asks (lent c .pre)
 
 same-length : tie.Need-same-length
 same-length c = search needs
@@ -62,27 +77,16 @@ same-length-3 c = search needs
 
 returns : tie.Need-returns
 returns c =
-    let s = c .before .before .before .before .before .before .before .before .before .before .before .before .before .before .before in
-    let step = c .before .before .before .before .before .step-row in
-    let refused = not-true _ (c .if1 .taken) in (
-      sym refused ∙ laws.row-tested _ _ _ _ _ _ _ _ (s .pre) _ _ (step .ensures .0) (step .kept .1 .1 .1 .1 .0) (step .ensures .1 .0),
-      (
-        (
-          λ e. never e,
-          laws.row-kept _ _ _ _ _ _ _ _ (s .pre) _ _ (step .ensures .0) (step .kept .1 .1 .1 .1 .0) (step .ensures .1 .0),
-        ),
-        refl,
-      ),
-    )
+    let step = c .before .before .before .before .before in
+    laws.row-refused (start step .pre) (step .step-row .ensures) (long step) (not-true _ (c .if1 .taken))
 
 slice-reshare-prefix-divide : tie.Need-slice-reshare-prefix-divide
 slice-reshare-prefix-divide c = search needs
 
 slice-aggregate-divide : tie.Need-slice-aggregate-divide
 slice-aggregate-divide c =
-    let s = c .before .before .before .before .before .before .before .before .before .before .before .before .before .before .before .before in
-    let spreads = c .before .before .before .before .before .before .step-row .ensures .1 .1 in
-    sym (laws.front-again _ _ _ _ _ _ _ _ (s .pre) _ (spreads (not-false _ (c .before .if1 .left))))
+    let step = stepped (c .before) in
+    sym (laws.front-again (start step .pre) (step .step-row .ensures) (long step) (accepted (c .before)))
 
 mul-divide : tie.Need-mul-divide
 mul-divide c = search needs
@@ -98,9 +102,8 @@ part-divide-end c = search needs
 
 divide-requires : tie.Need-divide-requires
 divide-requires c κs =
-    let s = c .before .before .before .before .before .before .before .before .before .before .before .before .before .before .before .before .before in
-    let spreads = c .before .before .before .before .before .before .before .step-row .ensures .1 .1 in
-    laws.divide-asks _ _ _ _ _ _ _ _ (s .pre) _ (spreads (not-false _ (c .before .before .if1 .left)))
+    let step = stepped (c .before .before) in
+    laws.divide-asks (start step .pre) (step .step-row .ensures) (long step) (accepted (c .before .before))
 
 same-length-4 : tie.Need-same-length-4
 same-length-4 c = search needs
@@ -113,19 +116,10 @@ same-length-6 c = search needs
 
 returns-2 : tie.Need-returns-2
 returns-2 c =
-    let stepped = c .before .before .before .before .before .before .before .before .before .before in
-    let s = stepped .before .before .before .before .before .before .before .before .before .before in
-    let step = stepped .step-row in
-    let accepted = not-false _ (c .before .before .before .before .before .if1 .left) in (
-      sym accepted ∙ laws.row-tested _ _ _ _ _ _ _ _ (s .pre) _ _ (step .ensures .0) (step .kept .1 .1 .1 .1 .0) (step .ensures .1 .0),
-      (
-        (
-          λ _. laws.row-filled _ _ _ _ _ _ _ _ (s .pre) _ _ (step .ensures .0) (step .kept .1 .1 .1 .1 .0) (step .ensures .1 .0) accepted,
-          laws.row-kept _ _ _ _ _ _ _ _ (s .pre) _ _ (step .ensures .0) (step .kept .1 .1 .1 .1 .0) (step .ensures .1 .0),
-        ),
-        laws.row-stepped _ _ _ _ _ _ _ _ (s .pre) _ (step .ensures .1 .1 accepted) _ (c .before .before .divide .ensures),
-      ),
-    )
+    let passed = c .before .before .before .before .before in
+    let step = stepped passed in
+    laws.row-accepted (start step .pre) (step .step-row .ensures) (long step) (accepted passed)
+    (c .before .before .divide .ensures)
 
 pub fit-row-spec : {M : Type 1} → statement M
 fit-row-spec =

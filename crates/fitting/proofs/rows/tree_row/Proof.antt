@@ -4,29 +4,31 @@ use mathlib.Core.Path.{_≡_}
 use Prim.Native.Nat.{_+_, _-_, _≤_}
 use native.Mathlib.Omega.{arith}
 use borrow.Author.Needs.{needs}
-use Rattle.lattice.specs.Shape.{node-count}
-use Rattle.lattice.specs.Entries.{shape-of}
+use Rattle.limits.specs.Limits.{mostNodes}
+use Rattle.lattice.specs.Shape.{nodeCount}
+use Rattle.lattice.specs.Entries.{shapeOf}
 use Rattle.fitting.proofs.TreeRows as laws
 use Rattle.fitting.proofs.rows.tree_row.Statement.{statement}
 use Rattle.fitting.proofs.rows.tree_row.Tie as tie
 
 abbrev start : tie.After-row-shape → tie.Start
-start c = c .before .before .before .before .before .before
+start c = c .before .before .before .before .before .before .before
 
-known : (c : tie.After-row-shape) → c .row-shape .result ≡ shape-of (start c .args .reversion) (start c .args .steps - 1) (start c .args .row)
+known : (c : tie.After-row-shape) →
+    c .row-shape .result ≡ shapeOf (start c .args .at .reversion) (start c .args .at .steps - 1) (start c .args .at .row)
 known c =
     let s = start c in
-    laws.shape-known _ _ _ _ (s .pre .tables .reverting) (s .pre .tables .few) (s .pre .in-tree) (c .row-shape .ensures)
+    laws.shape-known (s .pre .tables .reversion-within-limit) (s .pre .tables .steps-within-limit) (s .pre .in-tree) (c .row-shape .ensures)
 
 room : (c : tie.After-row-shape) →
-    (c .row-shape .result .offset + c .row-shape .result .count ≤ node-count (start c .args .reversion) (start c .args .steps - 1))
-    × (node-count (start c .args .reversion) (start c .args .steps - 1) ≤ 121)
+    (c .row-shape .result .offset + c .row-shape .result .count ≤ nodeCount (start c .args .at .reversion) (start c .args .at .steps - 1))
+    × (nodeCount (start c .args .at .reversion) (start c .args .at .steps - 1) ≤ mostNodes)
 room c =
     let s = start c in
-    laws.shape-room _ _ _ _ (s .pre .tables .reverting) (s .pre .tables .few) (s .pre .in-tree) (c .row-shape .ensures)
+    laws.shape-room (s .pre .tables .reversion-within-limit) (s .pre .tables .steps-within-limit) (s .pre .in-tree) (c .row-shape .ensures)
 
 sub-row-shape : tie.Need-sub-row-shape
-sub-row-shape c = omega (arith, c .before .before .before .before .before .pre .in-tree)
+sub-row-shape c = omega (arith, c .before .before .before .before .before .before .pre .in-tree)
 
 row-shape-requires : tie.Need-row-shape-requires
 row-shape-requires c κs = search needs
@@ -44,7 +46,7 @@ part-fit-row-start : tie.Need-part-fit-row-start
 part-fit-row-start c = search needs
 
 part-fit-row-end : tie.Need-part-fit-row-end
-part-fit-row-end c = omega (arith, room (c .before), c .before .before .before .before .before .before .before .pre .tables .bounded .same)
+part-fit-row-end c = omega (arith, room (c .before), start (c .before) .pre .tables .factors-bounded .length-is)
 
 mul-fit-row-2 : tie.Need-mul-fit-row-2
 mul-fit-row-2 c = omega (arith, room (c .before .before))
@@ -56,15 +58,12 @@ part-fit-row-start-2 : tie.Need-part-fit-row-start-2
 part-fit-row-start-2 c = search needs
 
 part-fit-row-end-2 : tie.Need-part-fit-row-end-2
-part-fit-row-end-2 c = omega (arith, room (c .before .before), c .before .before .before .before .before .before .before .before .pre .tables .downs-long)
+part-fit-row-end-2 c = omega (arith, room (c .before .before), start (c .before .before) .pre .tables .downs-length)
 
 fit-row-requires : tie.Need-fit-row-requires
 fit-row-requires c κs =
     let shaped = c .before .before .before .before .before .before in
-    let s = start shaped in
-    laws.shaped-ready (s .args .reversion) (s .args .steps) (s .args .row) (s .args .quote)
-    (s .args .factors .now) (s .args .downs .now) (s .args .discounts .now) (s .args .prices .now) (s .args .sums .now) (s .pre)
-    (shaped .row-shape .result) (known shaped)
+    laws.shaped-ready (start shaped .pre) (known shaped)
 
 same-length : tie.Need-same-length
 same-length c = search needs
@@ -79,24 +78,7 @@ returns : tie.Need-returns
 returns c =
     let fitted = c .before .before .before .before .before .before in
     let shaped = fitted .before .before .before .before .before .before .before in
-    let s = start shaped in (
-      laws.shaped-tested (s .args .reversion) (s .args .steps) (s .args .row) (s .args .quote)
-          (s .args .factors .now) (s .args .downs .now) (s .args .discounts .now) (s .args .prices .now) (s .args .sums .now) (s .pre)
-          (shaped .row-shape .result) (known shaped) _ (fitted .fit-row .ensures .0),
-      (
-        (
-          λ t. laws.shaped-filled (s .args .reversion) (s .args .steps) (s .args .row) (s .args .quote)
-              (s .args .factors .now) (s .args .downs .now) (s .args .discounts .now) (s .args .prices .now) (s .args .sums .now) (s .pre)
-              (shaped .row-shape .result) (known shaped) _ (fitted .fit-row .ensures .1 .0 .0 t),
-          laws.shaped-kept (s .args .reversion) (s .args .steps) (s .args .row) (s .args .quote)
-              (s .args .factors .now) (s .args .downs .now) (s .args .discounts .now) (s .args .prices .now) (s .args .sums .now) (s .pre)
-              (shaped .row-shape .result) (known shaped) _ (fitted .fit-row .ensures .1 .0 .1),
-        ),
-        laws.shaped-stepped (s .args .reversion) (s .args .steps) (s .args .row) (s .args .quote)
-            (s .args .factors .now) (s .args .downs .now) (s .args .discounts .now) (s .args .prices .now) (s .args .sums .now) (s .pre)
-            (shaped .row-shape .result) (known shaped) (fitted .fit-row .result) _ (fitted .fit-row .ensures .1 .1),
-      ),
-    )
+    laws.shaped-fitted (start shaped .pre) (known shaped) (fitted .fit-row .ensures)
 
 pub tree-row-spec : {M : Type 1} → statement M
 tree-row-spec =

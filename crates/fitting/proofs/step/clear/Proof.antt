@@ -1,11 +1,11 @@
 -- `fitting::step/clear` meets its contract.
 -- Assumes nothing.
-use mathlib.Core.Path.{_≡_, refl, sym, ap, _∙_}
+use mathlib.Core.Path.{refl}
 use native.Mathlib.Omega.{arith}
 use borrow.Author.Needs.{needs}
-use Prim.Native.Nat.{ℕ, _+_, _-_, _*_, _/_, _≤_, _<_}
+use Prim.Native.Nat.{_-_, _≤_}
 use lib.ListN.{length}
-use Rattle.arithmetic.proofs.RowLaws.{Filled, filled-start, filled-next, filled-all, each-none, each-more, each-fails}
+use Rattle.arithmetic.proofs.RowLaws.{Filled, filled-start, filled-next, filled-all}
 use Rattle.fitting.proofs.step.clear.Statement.{statement}
 use Rattle.fitting.proofs.step.clear.Tie as tie
 

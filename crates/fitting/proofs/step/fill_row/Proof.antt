@@ -2,12 +2,12 @@
 -- Assumes nothing.
 use mathlib.Core.Path.{_≡_, sym, _∙_}
 use mathlib.Core.Bool.{true}
-use Prim.Native.Nat.{ℕ, _-_}
+use Prim.Native.Nat.{ℕ, _-_, _<_}
 use native.Mathlib.Omega.{arith}
 use lib.ListN.{length}
 use borrow.Author.Needs.{needs}
 use borrow.Author.Tests.{not-true, not-false}
-use Rattle.limits.specs.Limits.{is-discount}
+use Rattle.limits.specs.Limits.{isDiscount}
 use Rattle.fitting.proofs.StepRows.{never}
 use Rattle.fitting.proofs.NodeLoop as laws
 use Rattle.fitting.proofs.step.fill_row.Statement.{statement}
@@ -23,6 +23,9 @@ abbrev μ-loop : tie.MeasureT-loop
 abbrev start : tie.In-loop Inv-loop μ-loop → tie.Start Inv-loop μ-loop
 start c = c .before .before .before .before .before .before .before
 
+abbrev ended : tie.After-loop Inv-loop μ-loop → tie.Start Inv-loop μ-loop
+ended c = c .before .before .before .before .before .before .before
+
 abbrev looped : tie.Else1 Inv-loop μ-loop → tie.In-loop Inv-loop μ-loop
 looped c = c .before .before .before
 
@@ -32,8 +35,12 @@ quotient c =
     laws.ratio (s .args .quote) (s .args .factors .now) (s .args .z) (looped c .before .loop .k)
 
 -- the discount of this node is accepted
-accepted : (c : tie.Else1 Inv-loop μ-loop) → is-discount (quotient c) ≡ true
+accepted : (c : tie.Else1 Inv-loop μ-loop) → isDiscount (quotient c) ≡ true
 accepted c = sym (c .before .is-discount .ensures) ∙ not-false _ (c .if1 .left)
+
+-- the node is one of the row
+inside : (c : tie.In-loop Inv-loop μ-loop) → c .before .loop .k < length (start c .args .prices .now)
+inside c = omega arith
 
 loop-holds : tie.Need-loop-holds Inv-loop μ-loop
 loop-holds c = let s = c .before .before .before .before .before in laws.stepping-start _ _ _ _ _ _ _ (s .pre .2)
@@ -43,16 +50,13 @@ mul-discount c = search needs
 
 shared-slice-read-discount : tie.Need-shared-slice-read-discount Inv-loop μ-loop
 shared-slice-read-discount c =
-    let s = start (c .before) in
-    laws.factor-there _ _ _ _ _ _ _ (s .pre .0) _ _ _ (c .before .before .loop .inv) (omega arith)
+    let l = c .before in
+    laws.factor-there (start l .pre .0) (l .before .loop .inv) (inside l)
 
 mul-discount-2 : tie.Need-mul-discount-2 Inv-loop μ-loop
 mul-discount-2 c =
-    let s = start (c .before) in
-    omega (
-      arith,
-      laws.quoted-fits _ _ _ _ _ _ _ (s .pre .0) _ _ _ (c .before .before .loop .inv) (omega arith),
-    )
+    let l = c .before in
+    omega (arith, laws.quoted-fits (start l .pre .0) (l .before .loop .inv) (inside l))
 
 div-discount : tie.Need-div-discount Inv-loop μ-loop
 div-discount c = omega (arith, start (c .before) .pre .1)
@@ -65,13 +69,13 @@ same-length c = c .before .before .before .before .loop .inv .filled .same
 
 same-length-2 : tie.Need-same-length-2 Inv-loop μ-loop
 same-length-2 c =
-    let s = start (c .before .before .before) in
-    laws.sums-length _ _ _ _ _ _ _ (s .pre .0) _ _ _ (c .before .before .before .before .loop .inv)
+    let l = c .before .before .before in
+    laws.sums-length (start l .pre .0) (l .before .loop .inv)
 
 returns : tie.Need-returns Inv-loop μ-loop
 returns c =
-    let s = start (c .before .before .before) in (
-      laws.stepping-fails _ _ _ _ _ _ _ (s .pre .0) _ _ _ (c .before .before .before .before .loop .inv) (omega arith)
+    let l = c .before .before .before in (
+      laws.stepping-fails (start l .pre .0) (l .before .loop .inv) (inside l)
           (sym (c .before .is-discount .ensures) ∙ not-true _ (c .if1 .taken)),
       (λ e. never e, λ e. never e),
     )
@@ -81,11 +85,8 @@ mul-discounts c = search needs
 
 slice-write-discounts : tie.Need-slice-write-discounts Inv-loop μ-loop
 slice-write-discounts c =
-    let s = start (c .before .before .before) in
-    omega (
-      arith,
-      laws.discounts-length _ _ _ _ _ _ _ (s .pre .0) _ _ _ (c .before .before .before .before .loop .inv),
-    )
+    let l = looped c in
+    omega (arith, laws.discounts-length (start l .pre .0) (l .before .loop .inv))
 
 mul-spread-node : tie.Need-mul-spread-node Inv-loop μ-loop
 mul-spread-node c = search needs
@@ -95,16 +96,14 @@ shared-slice-read-spread-node c = search needs
 
 mul-spread-node-2 : tie.Need-mul-spread-node-2 Inv-loop μ-loop
 mul-spread-node-2 c =
-    let s = start (c .before .before .before .before) in
-    omega (
-      arith,
-      laws.product-fits _ _ _ _ _ _ _ (s .pre .0) _ _ _ (c .before .before .before .before .before .loop .inv) (omega arith) (accepted (c .before)),
-    )
+    let l = looped (c .before) in
+    omega (arith, laws.product-fits (start l .pre .0) (l .before .loop .inv) (inside l) (accepted (c .before)))
 
 spread-node-requires : tie.Need-spread-node-requires Inv-loop μ-loop
 spread-node-requires c κs =
-    let s = start (c .before .before .before .before .before) in
-    laws.spread-asks _ _ _ _ _ _ _ (s .pre .0) _ _ _ (c .before .before .before .before .before .before .loop .inv) (omega arith) (accepted (c .before .before))
+    let passed = c .before .before in
+    let l = looped passed in
+    laws.spread-asks (start l .pre .0) (l .before .loop .inv) (inside l) (accepted passed)
 
 add-k : tie.Need-add-k Inv-loop μ-loop
 add-k c = search needs
@@ -114,29 +113,23 @@ loop-less c = search needs
 
 loop-again : tie.Need-loop-again Inv-loop μ-loop
 loop-again c =
-    let place = c .before .before .before .before .before in
-    let s = start (looped place) in
-    laws.stepping-next _ _ _ _ _ _ _ (s .pre .0) _ _ _ (looped place .before .loop .inv) (omega arith) (accepted place)
-    _ (c .before .before .spread-node .ensures)
+    let passed = c .before .before .before .before .before in
+    let l = looped passed in
+    laws.stepping-next (start l .pre .0) (l .before .loop .inv) (inside l) (accepted passed) _ (c .before .before .spread-node .ensures)
 
 same-length-3 : tie.Need-same-length-3 Inv-loop μ-loop
 same-length-3 c = c .before .loop .inv .filled .same
 
 same-length-4 : tie.Need-same-length-4 Inv-loop μ-loop
-same-length-4 c =
-    let s = c .before .before .before .before .before .before .before in
-    laws.sums-length _ _ _ _ _ _ _ (s .pre .0) _ _ _ (c .before .loop .inv)
+same-length-4 c = laws.sums-length (ended c .pre .0) (c .before .loop .inv)
 
 returns-2 : tie.Need-returns-2 Inv-loop μ-loop
 returns-2 c =
-    let s = c .before .before .before .before .before .before .before in
+    let s = ended c in
     let g = c .before .loop .inv in
     let e : c .before .loop .k ≡ length (s .args .prices .now) = omega (arith, g .within) in (
-      laws.stepping-good _ _ _ _ _ _ _ (s .pre .0) _ _ _ g e,
-      (
-        λ _. laws.stepping-filled _ _ _ _ _ _ _ (s .pre .0) _ _ _ g e,
-        λ _. laws.stepping-spread _ _ _ _ _ _ _ (s .pre .0) _ _ _ g e,
-      ),
+      laws.stepping-good (s .pre .0) g e,
+      (λ _. laws.stepping-filled (s .pre .0) g e, λ _. laws.stepping-spread (s .pre .0) g e),
     )
 
 pub fill-row-spec : {M : Type 1} → statement M

@@ -7,6 +7,13 @@ use borrow.Author.Needs.{needs}
 use Rattle.fitting.proofs.step.scatter.Statement.{statement}
 use Rattle.fitting.proofs.step.scatter.Tie as tie
 
+-- the places before the first addition and after it
+abbrev first : tie.After-add-at → tie.Start
+first c = c .before .before .before .before
+
+abbrev second : tie.After-add-at2 → tie.After-add-at
+second c = c .before .before .before .before
+
 add-add-at : tie.Need-add-add-at
 add-add-at c = search needs
 
@@ -14,14 +21,10 @@ array-read-add-at : tie.Need-array-read-add-at
 array-read-add-at c = search needs
 
 mul-add-at : tie.Need-mul-add-at
-mul-add-at c =
-    let s = c .before .before .before in
-    omega (arith, laws.up-small (s .args .branch) _ (s .pre .1) (s .pre .2))
+mul-add-at c = omega (arith, laws.up-small (c .before .before .before .pre))
 
 add-at-requires : tie.Need-add-at-requires
-add-at-requires c κs =
-    let s = c .before .before .before in
-    laws.up-fits (s .args .branch) _ (s .pre .1) (s .pre .2) (s .args .next .now) (s .pre .0) (s .pre .3)
+add-at-requires c κs = laws.up-fits (c .before .before .before .pre)
 
 add-add-at-2 : tie.Need-add-add-at-2
 add-add-at-2 c = search needs
@@ -30,42 +33,34 @@ array-read-add-at-2 : tie.Need-array-read-add-at-2
 array-read-add-at-2 c = search needs
 
 mul-add-at-2 : tie.Need-mul-add-at-2
-mul-add-at-2 c =
-    let s = c .before .before .before .before .before .before .before in
-    omega (arith, laws.middle-small (s .args .branch) _ (s .pre .1) (s .pre .2))
+mul-add-at-2 c = omega (arith, laws.middle-small (first (c .before .before .before) .pre))
 
 add-at-requires-2 : tie.Need-add-at-requires-2
 add-at-requires-2 c κs =
-    let s = c .before .before .before .before .before .before .before in
-    let add-at = c .before .before .before .add-at in
-    laws.middle-fits (s .args .branch) _ (s .pre .1) (s .pre .2) (s .args .next .now) (s .pre .0) (s .pre .3) _ (add-at .ensures)
+    let up = c .before .before .before in
+    laws.middle-fits (first up .pre) (up .add-at .ensures)
 
 array-read-add-at-3 : tie.Need-array-read-add-at-3
 array-read-add-at-3 c = search needs
 
 mul-add-at-3 : tie.Need-mul-add-at-3
-mul-add-at-3 c =
-    let s = c .before .before .before .before .before .before .before .before .before .before .before in
-    omega (arith, laws.down-small (s .args .branch) _ (s .pre .1) (s .pre .2))
+mul-add-at-3 c = omega (arith, laws.down-small (first (second (c .before .before .before)) .pre))
 
 add-at-requires-3 : tie.Need-add-at-requires-3
 add-at-requires-3 c κs =
-    let s = c .before .before .before .before .before .before .before .before .before .before .before in
-    let add-at = c .before .before .before .before .before .before .before .add-at in
-    let add-at2 = c .before .before .before .add-at2 in
-    laws.down-fits (s .args .branch) _ (s .pre .1) (s .pre .2) (s .args .next .now) (s .pre .0) (s .pre .3)
-    _ (add-at .ensures) _ (add-at2 .ensures)
+    let middle = c .before .before .before in
+    let up = second middle in
+    laws.down-fits (first up .pre) (up .add-at .ensures) (middle .add-at2 .ensures)
 
 same-length : tie.Need-same-length
 same-length c = search needs
 
 returns : tie.Need-returns
 returns c =
-    let s = c .before .before .before .before .before .before .before .before .before .before .before .before .before .before in
-    let add-at = c .before .before .before .before .before .before .before .before .before .before .add-at in
-    let add-at2 = c .before .before .before .before .before .before .add-at2 in
-    let add-at3 = c .before .before .add-at3 in
-    added-thrice (s .args .next .now) _ _ _ _ _ _ _ _ _ (add-at .ensures) (add-at2 .ensures) (add-at3 .ensures)
+    let down = c .before .before in
+    let middle = down .before .before .before .before in
+    let up = second middle in
+    added-thrice (first up .args .next .now) _ _ _ _ _ _ _ _ _ (up .add-at .ensures) (middle .add-at2 .ensures) (down .add-at3 .ensures)
 
 pub scatter-spec : {M : Type 1} → statement M
 scatter-spec =

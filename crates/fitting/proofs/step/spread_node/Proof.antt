@@ -10,9 +10,8 @@ row-branch-requires c κs = search needs
 
 scatter-requires : tie.Need-scatter-requires
 scatter-requires c κs =
-    let s = c .before .before .before .before in
-    let e = c .before .row-branch .ensures in
-    (rw e (s .pre .0), rw e (s .pre .1), s .pre .2, s .pre .3)
+    let branched = c .before in
+    rw (branched .row-branch .ensures) (branched .before .before .before .pre)
 
 same-length : tie.Need-same-length
 same-length c = search needs

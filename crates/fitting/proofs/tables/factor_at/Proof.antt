@@ -1,7 +1,5 @@
 -- `fitting::tables/factor_at` meets its contract.
 -- Assumes nothing.
-use mathlib.Core.Path.{_≡_, refl, sym, ap, _∙_}
-use native.Mathlib.Omega.{arith}
 use Rattle.fitting.proofs.TableFit as laws
 use borrow.Author.Needs.{needs}
 use Rattle.fitting.proofs.tables.factor_at.Statement.{statement}
@@ -14,13 +12,13 @@ factor-requires : tie.Need-factor-requires
 factor-requires c κs = search needs
 
 returns : tie.Need-returns
-returns c = laws.below-value _ _ _ _ (c .before .before .pre .1) (c .before .if1 .taken) (c .factor .ensures)
+returns c = laws.below-value _ _ _ (c .before .before .pre .1) (c .before .if1 .taken) (c .factor .ensures)
 
 factor-requires-2 : tie.Need-factor-requires-2
 factor-requires-2 c κs = search needs
 
 returns-2 : tie.Need-returns-2
-returns-2 c = laws.above-value _ _ _ _ (c .before .before .pre .1) (c .before .if1 .left) (c .before .before .pre .2) (c .factor2 .ensures)
+returns-2 c = laws.above-value _ _ _ (c .before .before .pre .1) (c .before .if1 .left) (c .before .before .pre .2) (c .factor2 .ensures)
 
 pub factor-at-spec : {M : Type 1} → statement M
 factor-at-spec =

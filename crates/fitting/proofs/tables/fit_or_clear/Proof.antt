@@ -1,13 +1,29 @@
 -- `fitting::tables/fit_or_clear` meets its contract.
 -- Assumes nothing.
-use mathlib.Core.Path.{_≡_, refl, sym, ap, _∙_}
+use mathlib.Core.Path.{_≡_, sym, _∙_}
+use Prim.Native.Nat.{suc}
 use native.Mathlib.Omega.{arith}
-use Prim.Native.Nat.{ℕ, _+_, _-_, _*_, _/_, _≤_, _<_}
 use lib.ListN.{length}
+use Rattle.lattice.specs.Shape.{rowStart}
 use Rattle.fitting.proofs.TableFit as laws
 use borrow.Author.Needs.{needs}
 use Rattle.fitting.proofs.tables.fit_or_clear.Statement.{statement}
 use Rattle.fitting.proofs.tables.fit_or_clear.Tie as tie
+
+abbrev start : tie.After-state-prices-needed → tie.Start
+start c = c .before .before .before .before .before .before .before .before
+
+abbrev sized : tie.After-fit-rows → tie.After-state-prices-needed
+sized c = c .before .before .before .before
+
+-- the sizes of the needed parts
+discounts-size : (c : tie.After-state-prices-needed) →
+    c .before .discounts-needed .result .value ≡ rowStart (start c .args .reversion) (length (start c .args .quotes .now))
+discounts-size c = laws.needed-discounts (start c .pre .tables) (c .before .discounts-needed .ensures)
+
+prices-size : (c : tie.After-state-prices-needed) →
+    c .state-prices-needed .result .value ≡ rowStart (start c .args .reversion) (suc (length (start c .args .quotes .now)))
+prices-size c = laws.needed-prices (start c .pre .tables) (c .state-prices-needed .ensures)
 
 discounts-needed-requires : tie.Need-discounts-needed-requires
 discounts-needed-requires c κs = search needs
@@ -16,7 +32,7 @@ state-prices-needed-requires : tie.Need-state-prices-needed-requires
 state-prices-needed-requires c κs = search needs
 
 fit-rows-requires : tie.Need-fit-rows-requires
-fit-rows-requires c κs = c .before .before .before .before .before .before .before .before .before .before .before .pre
+fit-rows-requires c κs = start (c .before .before .before) .pre
 
 same-length : tie.Need-same-length
 same-length c = search needs
@@ -29,18 +45,18 @@ same-length-3 c = search needs
 
 returns : tie.Need-returns
 returns c =
-    let w = c .before .before .before .before .before .before .before .fit-rows .ensures .1 .0 (c .if1 .taken) in
-    (sym (c .if1 .taken) ∙ c .before .before .before .before .before .before .before .fit-rows .ensures .0, (w .0, w .1))
+    let rows = c .before .before .before .before .before .before .before .fit-rows in
+    record { tested = sym (c .if1 .taken) ∙ rows .ensures .0; memories = rows .ensures .1 .0 (c .if1 .taken) }
 
 clear-front-requires : tie.Need-clear-front-requires
 clear-front-requires c κs =
-    let s = c .before .before .before .before .before .before .before .before .before .before .before .before .before .before .before .before .before .before .before .before in
-    let k : length (c .before .before .before .before .before .before .before .before .fit-rows .last .1 .1 .1 .1 .0) ≡ length (s .args .discounts .now) = search needs in omega (arith, laws.needed-discounts (s .args .reversion) (length (s .args .quotes .now)) _ (s .pre .0 .some) (s .pre .0 .few) (s .pre .0 .reverting) (c .before .before .before .before .before .before .before .before .before .before .before .before .before .discounts-needed .ensures), s .pre .3, k)
+    let fitted = c .before .before .before .before .before .before .before .before in
+    omega (arith, discounts-size (sized fitted), start (sized fitted) .pre .room-discounts, fitted .fit-rows .kept .1 .1 .1 .1 .0)
 
 clear-front-requires-2 : tie.Need-clear-front-requires-2
 clear-front-requires-2 c κs =
-    let s = c .before .before .before .before .before .before .before .before .before .before .before .before .before .before .before .before .before .before .before .before .before .before .before .before in
-    let k : length (c .before .before .before .before .before .before .before .before .before .before .before .before .fit-rows .last .1 .1 .1 .1 .1 .0) ≡ length (s .args .prices .now) = search needs in omega (arith, laws.needed-prices (s .args .reversion) (length (s .args .quotes .now)) _ (s .pre .0 .some) (s .pre .0 .few) (s .pre .0 .reverting) (c .before .before .before .before .before .before .before .before .before .before .before .before .before .before .before .before .state-prices-needed .ensures), s .pre .4, k)
+    let fitted = c .before .before .before .before .before .before .before .before .before .before .before .before in
+    omega (arith, prices-size (sized fitted), start (sized fitted) .pre .room-prices, fitted .fit-rows .kept .1 .1 .1 .1 .1 .0)
 
 same-length-4 : tie.Need-same-length-4
 same-length-4 c = search needs
@@ -53,13 +69,15 @@ same-length-6 c = search needs
 
 returns-2 : tie.Need-returns-2
 returns-2 c =
-    let s = c .before .before .before .before .before .before .before .before .before .before .before .before .before .before .before .before .before .before .before .before .before .before .before .before .before .before .before in (
-      sym (c .before .before .before .before .before .before .before .before .if1 .left) ∙ c .before .before .before .before .before .before .before .before .before .before .before .before .before .before .before .fit-rows .ensures .0,
-      (
-        laws.wiped _ _ _ _ _ (laws.needed-discounts (s .args .reversion) (length (s .args .quotes .now)) _ (s .pre .0 .some) (s .pre .0 .few) (s .pre .0 .reverting) (c .before .before .before .before .before .before .before .before .before .before .before .before .before .before .before .before .before .before .before .before .discounts-needed .ensures)) (c .before .before .before .before .before .before .clear-front .ensures) (c .before .before .before .before .before .before .before .before .before .before .before .before .before .before .before .fit-rows .ensures .1 .1 .0),
-        laws.wiped _ _ _ _ _ (laws.needed-prices (s .args .reversion) (length (s .args .quotes .now)) _ (s .pre .0 .some) (s .pre .0 .few) (s .pre .0 .reverting) (c .before .before .before .before .before .before .before .before .before .before .before .before .before .before .before .before .before .before .before .state-prices-needed .ensures)) (c .before .before .clear-front2 .ensures) (c .before .before .before .before .before .before .before .before .before .before .before .before .before .before .before .fit-rows .ensures .1 .1 .1),
-      ),
-    )
+    let cleared = c .before .before .before .before .before .before in
+    let rejected = cleared .before .before in
+    let fitted = rejected .before .before .before .before .before .before .before in
+    record {
+      tested = sym (rejected .if1 .left) ∙ fitted .fit-rows .ensures .0;
+      memories =
+          laws.cleared (fitted .fit-rows .ensures .1 .1) (discounts-size (sized fitted)) (prices-size (sized fitted))
+          (cleared .clear-front .ensures) (c .before .before .clear-front2 .ensures);
+    }
 
 pub fit-or-clear-spec : {M : Type 1} → statement M
 fit-or-clear-spec =

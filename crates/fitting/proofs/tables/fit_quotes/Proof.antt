@@ -1,52 +1,47 @@
 -- `fitting::tables/fit_quotes` meets its contract.
 -- Assumes nothing.
-use mathlib.Core.Path.{_≡_, refl, sym, ap, _∙_}
+use Prim.Native.Nat.{_+_, _≤_}
 use native.Mathlib.Omega.{arith}
-use Prim.Native.Nat.{ℕ, _+_, _-_, _*_, _/_, _≤_, _<_}
-use lib.ListN.{length, length-take}
-use Rattle.lattice.proofs.Sizes.{half-within}
+use lib.ListN.{length-take}
+use Rattle.limits.specs.Limits.{mostSteps}
 use Rattle.fitting.proofs.TableFit as laws
 use borrow.Author.Needs.{needs}
 use Rattle.fitting.proofs.tables.fit_quotes.Statement.{statement}
 use Rattle.fitting.proofs.tables.fit_quotes.Tie as tie
 
+-- the widest row's count fits the tables
+small : (s : tie.Start) → s .args .grid .widest + 1 ≤ mostSteps
+small s = laws.widest-small (s .pre)
+
 mul-count : tie.Need-mul-count
-mul-count c =
-    let s = c .before .before .before in
-    omega (arith, s .pre .widest, s .pre .few, half-within (s .args .reversion) (length (s .args .quotes .now) - 1))
+mul-count c = omega (arith, small (c .before .before .before .before))
 
 add-count : tie.Need-add-count
-add-count c =
-    let s = c .before .before .before in
-    omega (arith, s .pre .widest, s .pre .few, half-within (s .args .reversion) (length (s .args .quotes .now) - 1))
+add-count c = omega (arith, small (c .before .before .before .before))
 
 array-borrow-prefix-factors : tie.Need-array-borrow-prefix-factors
-array-borrow-prefix-factors c =
-    let s = c .before .before .before in
-    omega (arith, s .pre .widest, s .pre .few, half-within (s .args .reversion) (length (s .args .quotes .now) - 1))
+array-borrow-prefix-factors c = omega (arith, small (c .before .before .before .before))
 
 slice-aggregate-fit-tables : tie.Need-slice-aggregate-fit-tables
-slice-aggregate-fit-tables c =
-    let s = c .before .before .before .before in
-    simp length-take (omega (arith, s .pre .widest, s .pre .few, half-within (s .args .reversion) (length (s .args .quotes .now) - 1)))
+slice-aggregate-fit-tables c = simp length-take (omega (arith, small (c .before .before .before .before .before)))
 
 array-borrow-prefix-downs : tie.Need-array-borrow-prefix-downs
-array-borrow-prefix-downs c =
-    let s = c .before .before .before .before in
-    omega (arith, s .pre .widest, s .pre .few, half-within (s .args .reversion) (length (s .args .quotes .now) - 1))
+array-borrow-prefix-downs c = omega (arith, small (c .before .before .before .before .before))
 
 slice-aggregate-fit-tables-2 : tie.Need-slice-aggregate-fit-tables-2
-slice-aggregate-fit-tables-2 c =
-    let s = c .before .before .before .before .before in
-    simp length-take (omega (arith, s .pre .widest, s .pre .few, half-within (s .args .reversion) (length (s .args .quotes .now) - 1)))
+slice-aggregate-fit-tables-2 c = simp length-take (omega (arith, small (c .before .before .before .before .before .before)))
 
 slice-aggregate-fit-tables-3 : tie.Need-slice-aggregate-fit-tables-3
 slice-aggregate-fit-tables-3 c = search needs
 
 fit-tables-requires : tie.Need-fit-tables-requires
 fit-tables-requires c κs =
-    let s = c .before .before .before .before .before .before .before .before in
-    (s .pre, simp length-take (omega (arith, s .pre .widest, s .pre .few, half-within (s .args .reversion) (length (s .args .quotes .now) - 1))), simp length-take (omega (arith, s .pre .widest, s .pre .few, half-within (s .args .reversion) (length (s .args .quotes .now) - 1))), omega arith)
+    let s = c .before .before .before .before .before .before .before .before .before in (
+      s .pre,
+      simp length-take (omega (arith, small s)),
+      simp length-take (omega (arith, small s)),
+      omega arith,
+    )
 
 same-length : tie.Need-same-length
 same-length c = search needs
@@ -55,7 +50,9 @@ same-length-2 : tie.Need-same-length-2
 same-length-2 c = search needs
 
 returns : tie.Need-returns
-returns c = laws.as-number (c .before .before .before .before .before .before .before .before .fit-tables .result) _ _ _ _ _ _ _ _ _ 0 (laws.cause-none _ (c .if1 .taken)) (c .before .before .before .before .before .before .before .before .fit-tables .ensures .0) (c .before .before .before .before .before .before .before .before .fit-tables .ensures .1 .0) (c .before .before .before .before .before .before .before .before .fit-tables .ensures .1 .1)
+returns c =
+    let fitted = c .before .before .before .before .before .before .before .before .fit-tables .ensures in
+    (laws.number-none (fitted .tested) (c .if1 .taken), laws.fitted-as (fitted .tested) (fitted .memories))
 
 same-length-3 : tie.Need-same-length-3
 same-length-3 c = search needs
@@ -64,7 +61,9 @@ same-length-4 : tie.Need-same-length-4
 same-length-4 c = search needs
 
 returns-2 : tie.Need-returns-2
-returns-2 c = laws.as-number (c .before .before .before .before .before .before .before .before .fit-tables .result) _ _ _ _ _ _ _ _ _ 9 (laws.cause-nine _ (c .if1 .left)) (c .before .before .before .before .before .before .before .before .fit-tables .ensures .0) (c .before .before .before .before .before .before .before .before .fit-tables .ensures .1 .0) (c .before .before .before .before .before .before .before .before .fit-tables .ensures .1 .1)
+returns-2 c =
+    let fitted = c .before .before .before .before .before .before .before .before .fit-tables .ensures in
+    (laws.number-nine (fitted .tested) (c .if1 .left), laws.fitted-as (fitted .tested) (fitted .memories))
 
 pub fit-quotes-spec : {M : Type 1} → statement M
 fit-quotes-spec =

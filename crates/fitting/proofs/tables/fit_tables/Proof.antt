@@ -1,36 +1,38 @@
 -- `fitting::tables/fit_tables` meets its contract.
 -- Assumes nothing.
-use mathlib.Core.Path.{_≡_, refl, sym, ap, _∙_}
+use mathlib.Core.Path.{_∙_}
 use native.Mathlib.Omega.{arith}
-use Prim.Native.Nat.{ℕ, _+_, _-_, _*_, _/_, _≤_, _<_}
-use lib.ListN.{length}
-use Rattle.arithmetic.specs.Row.{row, values, each}
 use Rattle.fitting.proofs.TableFit as laws
-use Rattle.lattice.proofs.Sizes.{half-within}
-use Rattle.factor.specs.Factor.{factor}
-use Rattle.lattice.specs.RateTree.{node-at}
 use borrow.Author.Needs.{needs}
 use Rattle.fitting.proofs.tables.fit_tables.Statement.{statement}
 use Rattle.fitting.proofs.tables.fit_tables.Tie as tie
 
+abbrev start : tie.After-fill-factors → tie.Start
+start c = c .before .before .before .before .before .before .before .before
+
 fill-factors-requires : tie.Need-fill-factors-requires
 fill-factors-requires c κs =
     let s = c .before .before .before .before .before .before .before in
-    (omega (arith, s .pre .0 .widest, s .pre .0 .few, half-within (s .args .reversion) (length (s .args .quotes .now) - 1)), s .pre .0 .narrow, s .pre .1)
+    (omega (arith, laws.widest-small (s .pre .0)), s .pre .0 .spacing-within-one, s .pre .1)
 
 down-probabilities-requires : tie.Need-down-probabilities-requires
 down-probabilities-requires c κs = search needs
 
 fit-or-clear-requires : tie.Need-fit-or-clear-requires
 fit-or-clear-requires c κs =
-    let s = c .before .before .before .before .before .before .before .before .before .before .before .before .before .before .before .before .before .before .before in (
-      laws.tables-of (s .args .reversion) (s .args .spacing) (s .args .widest) (s .args .quotes .now) (length (s .args .discounts .now)) (length (s .args .prices .now)) (s .pre .0) _ (c .before .before .before .before .before .before .before .before .before .before .before .fill-factors .ensures ∙ ap (λ (n : ℕ). row n (λ k. factor (node-at (s .args .widest) k) (s .args .spacing))) (s .pre .1)) (s .args .downs .now) _ (s .pre .2) (c .before .before .before .before .before .before .before .down-probabilities .ensures .1),
-      s .pre .0 .least,
-      s .pre .0 .most,
-      s .pre .0 .room-discounts,
-      s .pre .0 .room-prices,
-      s .pre .3,
-    )
+    let known = c .before .before .before .before .before .before .before in
+    let filled = known .before .before .before .before in
+    let s = start filled in
+    let ready = s .pre .0 in
+    record {
+      tables = laws.tables-of ready _ (s .pre .1) (filled .fill-factors .ensures) (s .args .downs .now) (s .pre .2)
+          (known .down-probabilities .ensures .1);
+      quotes-least = ready .quotes-least;
+      quotes-most = ready .quotes-most;
+      room-discounts = ready .room-discounts;
+      room-prices = ready .room-prices;
+      room-sums = s .pre .3;
+    }
 
 same-length : tie.Need-same-length
 same-length c = search needs
@@ -49,8 +51,13 @@ same-length-5 c = search needs
 
 returns : tie.Need-returns
 returns c =
-    let s = c .before .before .before .before .before .before .before .before .before .before .before .before .before .before .before .before .before .before .before .before .before .before .before .before .before .before in
-    laws.answer-same (s .args .reversion) (s .args .spacing) (s .args .widest) (s .args .quotes .now) (length (s .args .discounts .now)) (length (s .args .prices .now)) (s .pre .0) _ (c .before .before .before .before .before .before .before .before .before .before .before .before .before .before .before .before .before .before .fill-factors .ensures ∙ ap (λ (n : ℕ). row n (λ k. factor (node-at (s .args .widest) k) (s .args .spacing))) (s .pre .1)) (c .before .before .before .before .before .before .fit-or-clear .result) _ _ _ _ (c .before .before .before .before .before .before .fit-or-clear .ensures .0) (c .before .before .before .before .before .before .fit-or-clear .ensures .1 .0) (c .before .before .before .before .before .before .fit-or-clear .ensures .1 .1)
+    let fitted = c .before .before .before .before .before .before in
+    let filled = fitted .before .before .before .before .before .before .before .before .before .before .before .before in
+    let s = start filled in
+    record {
+      tested = fitted .fit-or-clear .ensures .tested ∙ laws.accepted-same (s .pre .0) _ (s .pre .1) (filled .fill-factors .ensures);
+      memories = laws.fitted-same (s .pre .0) _ (s .pre .1) (filled .fill-factors .ensures) (fitted .fit-or-clear .ensures .memories);
+    }
 
 pub fit-tables-spec : {M : Type 1} → statement M
 fit-tables-spec =

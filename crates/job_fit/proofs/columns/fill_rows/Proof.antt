@@ -2,7 +2,7 @@
 -- Assumes nothing.
 use mathlib.Core.Path.{_≡_, refl}
 use Prim.Native.Nat.{ℕ, _+_, _-_, _≤_}
-use lib.ListN.{length}
+use lib.ListN.{length, length-set}
 use Rattle.arithmetic.proofs.RowLaws.{Filled, filled-start, filled-next}
 use Rattle.job_fit.proofs.ColumnLaws as laws
 use borrow.Author.Needs.{needs}
@@ -39,7 +39,7 @@ loop-again : tie.Need-loop-again Inv-loop μ-loop
 loop-again c =
     let l = c .before .loop in
     let next = filled-next (c .before .before .args .rows .now) (l .rows) (λ (k : ℕ). k + 1) (l .index) (l .index + 1) (l .inv .2) (omega arith) refl in
-    (omega arith, next .same, next)
+    (omega arith, simp length-set (l .inv .1), next)
 
 same-length : tie.Need-same-length Inv-loop μ-loop
 same-length c = c .before .loop .inv .1

@@ -1,12 +1,15 @@
 -- `pricing::rows::option_row` meets its contract: the loop fills both rows from their lowest node.
 -- Assumes nothing.
-use mathlib.Core.Path.{ap}
-use Prim.Native.Nat.{ℕ, _+_, _-_, _≤_}
+use mathlib.Core.Path.{_≡_, ap}
+use mathlib.Core.List.{List}
+use Prim.Native.Nat.{ℕ, _+_, _-_, _≤_, _<_, _^_}
 use native.Mathlib.Omega.{arith}
 use lib.ListN.{length}
 use denote.Ref.{now}
+use Rattle.arithmetic.specs.Row.{values}
 use Rattle.exercise.specs.Terms.{side}
-use Rattle.pricing.specs.Rows.{bond-values, option-values}
+use Rattle.row_branches.specs.RowBranches.{branchTotal}
+use Rattle.pricing.specs.Rows.{bondValues, optionValues, Limited, Later}
 use Rattle.pricing.proofs.RowSteps.{branch-inside, branch-whole, branch-limited, branch-rolled, option-from-roll}
 use Rattle.pricing.proofs.RowSteps.{Rows-state, rows-start, rows-next, rows-done}
 use borrow.Author.Needs.{needs}
@@ -14,13 +17,13 @@ use Rattle.pricing.proofs.rows.option_row.Statement.{statement}
 use Rattle.pricing.proofs.rows.option_row.Tie as tie
 
 abbrev Inv-loop : tie.InvT-loop
-Inv-loop bond₀ option₀ bonds options downs discounts next flow terms listed top₀ k₀ bond option top k =
+Inv-loop right downs discounts bonds options bond₀ option₀ terms top₀ k₀ bond option top k =
     (k ≤ length discounts)
-    × Rows-state bond₀ bond option₀ option (bond-values bonds downs discounts next flow)
-    (option-values (side (terms .call)) (terms .strike) listed bonds options downs discounts next flow) top k
+    × Rows-state bond₀ bond option₀ option (bondValues bonds downs discounts (right .next) (right .flow))
+    (optionValues (side (right .terms .call)) (right .terms .strike) (right .listed) bonds options downs discounts (right .next) (right .flow)) top k
 
 abbrev μ-loop : tie.MeasureT-loop
-μ-loop bond₀ option₀ bonds options downs discounts next flow terms listed top₀ k₀ bond option top k = length discounts - k
+μ-loop right downs discounts bonds options bond₀ option₀ terms top₀ k₀ bond option top k = length discounts - k
 
 loop-holds : tie.Need-loop-holds Inv-loop μ-loop
 loop-holds c = (omega arith, rows-start _ _ _ _)
@@ -28,63 +31,73 @@ loop-holds c = (omega arith, rows-start _ _ _ _)
 row-branch-requires : tie.Need-row-branch-requires Inv-loop μ-loop
 row-branch-requires c κs = search needs
 
+-- an index of the row is far below the most
+short : (c : tie.In-loop Inv-loop μ-loop) → c .before .loop .k < 2 ^ 63
+short c = omega arith
+
 mul-discount : tie.Need-mul-discount Inv-loop μ-loop
 mul-discount c = omega arith
 
 shared-slice-read-discount : tie.Need-shared-slice-read-discount Inv-loop μ-loop
 shared-slice-read-discount c = omega arith
 
+-- where the node's branch is known
+abbrev start : tie.After-shared-slice-known5 Inv-loop μ-loop → tie.Start Inv-loop μ-loop
+start c = c .before .before .before .before .before .before .before .before .before .before .before
+
+-- what the roll of a row asks
+rolls : (c : tie.After-shared-slice-known5 Inv-loop μ-loop) (later : List ℕ) → Later later (start c .args .right .next) →
+    let branch = c .before .row-branch .result in
+    (branch .low + 2 < length later) × (branchTotal branch ≡ 600000000) × Limited later (branch .low + 3)
+rolls c later l =
+    let ready = start c .pre .0 in
+    let e = c .before .row-branch .ensures in (
+      branch-inside _ _ later _ _ ready l (omega arith) _ e,
+      branch-whole _ _ later _ _ ready l (omega arith) _ e,
+      branch-limited _ _ later _ _ ready l (omega arith) _ e,
+    )
+
+discounted : (c : tie.After-shared-slice-known5 Inv-loop μ-loop) → values (now (start c .args .discounts)) (c .before .before .before .loop .k) ≤ 1100000000
+discounted c = start c .pre .0 .discounted (c .before .before .before .loop .k) (omega arith)
+
 roll-node-requires : tie.Need-roll-node-requires Inv-loop μ-loop
 roll-node-requires c κs =
-    let s = c .before .before .before .before .before .before .before .before .before .before in
-    let e = c .before .row-branch .ensures in (
-      branch-inside _ _ (now (s .args .bonds)) _ _ (s .pre .0) (s .pre .1) (omega arith) _ e,
-      branch-whole _ _ (now (s .args .bonds)) _ _ (s .pre .0) (s .pre .1) (omega arith) _ e,
-      branch-limited _ _ (now (s .args .bonds)) _ _ (s .pre .0) (s .pre .1) (omega arith) _ e,
-      s .pre .0 .discounted (c .before .before .before .loop .k) (omega arith),
-    )
+    let asks = rolls c _ (start c .pre .1) in
+    (asks .0, asks .1, asks .2, discounted c)
 
 add-value : tie.Need-add-value Inv-loop μ-loop
 add-value c =
-    let flow = c .before .before .before .before .before .before .before .before .before .before .before .pre .5 in
-    omega (arith, c .roll-node .ensures .1)
+    let flow = start (c .before .before) .pre .5 in
+    omega (arith, c .before .roll-node .ensures .1)
 
 roll-node-requires-2 : tie.Need-roll-node-requires-2 Inv-loop μ-loop
 roll-node-requires-2 c κs =
-    let s = c .before .before .before .before .before .before .before .before .before .before .before in
-    let e = c .before .before .row-branch .ensures in (
-      branch-inside _ _ (now (s .args .options)) _ _ (s .pre .0) (s .pre .2) (omega arith) _ e,
-      branch-whole _ _ (now (s .args .options)) _ _ (s .pre .0) (s .pre .2) (omega arith) _ e,
-      branch-limited _ _ (now (s .args .options)) _ _ (s .pre .0) (s .pre .2) (omega arith) _ e,
-      s .pre .0 .discounted (c .before .before .before .before .loop .k) (omega arith),
-    )
+    let node = c .before .before in
+    let asks = rolls node _ (start node .pre .2) in
+    (asks .0, asks .1, asks .2, discounted node)
 
 held-value-requires : tie.Need-held-value-requires Inv-loop μ-loop
 held-value-requires c κs = search needs
 
+-- both rows have a place for the node
+room : (c : tie.After-held-value Inv-loop μ-loop) →
+    let l = c .before .before .before .before .before .before .before .loop in (l .k < length (l .bond)) × (l .k < length (l .option))
+room c =
+    let node = c .before .before .before .before in
+    let l = node .before .before .before .loop in
+    (omega (arith, l .inv .1 .bond-filled .same, start node .pre .3), omega (arith, l .inv .1 .option-filled .same, start node .pre .4))
+
 mul-bond : tie.Need-mul-bond Inv-loop μ-loop
-mul-bond c =
-    let held = c .before .before .before .before .before .before .loop .inv .1 .bond-filled .same in
-    let room = c .before .before .before .before .before .before .before .before .before .before .before .before .before .pre .3 in
-    omega arith
+mul-bond c = let at = room c .0 in omega arith
 
 slice-write-bond : tie.Need-slice-write-bond Inv-loop μ-loop
-slice-write-bond c =
-    let held = c .before .before .before .before .before .before .loop .inv .1 .bond-filled .same in
-    let room = c .before .before .before .before .before .before .before .before .before .before .before .before .before .pre .3 in
-    omega arith
+slice-write-bond c = room c .0
 
 mul-option : tie.Need-mul-option Inv-loop μ-loop
-mul-option c =
-    let held = c .before .before .before .before .before .before .loop .inv .1 .option-filled .same in
-    let room = c .before .before .before .before .before .before .before .before .before .before .before .before .before .pre .4 in
-    omega arith
+mul-option c = let at = room c .1 in omega arith
 
 slice-write-option : tie.Need-slice-write-option Inv-loop μ-loop
-slice-write-option c =
-    let held = c .before .before .before .before .before .before .loop .inv .1 .option-filled .same in
-    let room = c .before .before .before .before .before .before .before .before .before .before .before .before .before .pre .4 in
-    omega arith
+slice-write-option c = room c .1
 
 larger-requires : tie.Need-larger-requires Inv-loop μ-loop
 larger-requires c κs = search needs
@@ -93,24 +106,25 @@ larger-requires-2 : tie.Need-larger-requires-2 Inv-loop μ-loop
 larger-requires-2 c κs = search needs
 
 add-k : tie.Need-add-k Inv-loop μ-loop
-add-k c = omega arith
+add-k c = let small = short (c .before .before .before .before .before .before .before .before) in omega arith
 
 loop-less : tie.Need-loop-less Inv-loop μ-loop
 loop-less c = omega arith
 
 loop-again : tie.Need-loop-again Inv-loop μ-loop
 loop-again c =
-    let s = c .before .before .before .before .before .before .before .before .before .before .before .before .before .before .before in
-    let l = c .before .before .before .before .before .before .before .before .loop in
-    let e = c .before .before .before .before .before .before .row-branch .ensures in
-    let b = ap (λ (x : ℕ). x + s .args .flow)
-    (branch-rolled _ _ _ _ _ (s .pre .0) (s .pre .1) (omega arith) _ e _ (c .before .before .before .before .roll-node .ensures .0)) in
-    let o = branch-rolled _ _ _ _ _ (s .pre .0) (s .pre .2) (omega arith) _ e _ (c .before .before .before .roll-node2 .ensures .0) in (
+    let held = c .before .before in
+    let rolled = held .before .before .before in
+    let node = rolled .before in
+    let s = start node in
+    let right = s .args .right in
+    let l = node .before .before .before .loop in
+    let e = node .before .row-branch .ensures in
+    let b = ap (λ (x : ℕ). x + right .flow) (branch-rolled _ _ _ _ _ (s .pre .0) (s .pre .1) (omega arith) _ e _ (rolled .roll-node .ensures .0)) in
+    let o = branch-rolled _ _ _ _ _ (s .pre .0) (s .pre .2) (omega arith) _ e _ (held .before .roll-node2 .ensures .0) in (
       omega arith,
-      rows-next _ (l .bond) _ (l .option) _ _ (l .top) (l .k) _ _ _ _ (l .inv .1)
-          (omega (arith, l .inv .1 .bond-filled .same, s .pre .3)) (omega (arith, l .inv .1 .option-filled .same, s .pre .4)) b
-          (option-from-roll (side (s .args .terms .call)) (s .args .terms .strike) (s .args .listed) _ _ _ _ _ _ _ _ _ _ b o
-          (c .before .before .held-value .ensures))
+      rows-next _ (l .bond) _ (l .option) _ _ (l .top) (l .k) _ _ _ _ (l .inv .1) (room held .0) (room held .1) b
+          (option-from-roll (side (right .terms .call)) (right .terms .strike) (right .listed) _ _ _ _ _ _ _ _ _ _ b o (held .held-value .ensures))
           (c .before .larger .ensures) (c .larger2 .ensures),
     )
 

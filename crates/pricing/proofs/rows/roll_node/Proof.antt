@@ -4,18 +4,18 @@ use mathlib.Core.Path.{refl}
 use Prim.Native.Nat.{_*_, _/_, _≤_}
 use native.Mathlib.Omega.{arith}
 use denote.Ref.{now}
-use Rattle.arithmetic.specs.Rounding.{down}
+use Rattle.arithmetic.specs.Rounding.{roundDown}
 use Rattle.arithmetic.specs.Row.{values}
-use Rattle.pricing.specs.Rows.{branch-sum, branch-roll}
+use Rattle.pricing.specs.Rows.{branchSum, branchRoll}
 use Rattle.pricing.proofs.NodeLaws.{sum-fits, product-fits}
 use borrow.Author.Needs.{needs}
 use Rattle.pricing.proofs.rows.roll_node.Statement.{statement}
 use Rattle.pricing.proofs.rows.roll_node.Tie as tie
 
-sum : (s : tie.Start) → branch-sum (s .args .branch) (values (now (s .args .later))) ≤ 4800000000000000000
+sum : (s : tie.Start) → branchSum (s .args .branch) (values (now (s .args .later))) ≤ 4800000000000000000
 sum s = sum-fits _ _ _ _ _ _ _ (s .pre .1) (s .pre .2 _ (omega arith)) (s .pre .2 _ (omega arith)) (s .pre .2 _ (omega arith)) (s .pre .3)
 
-product : (s : tie.Start) → branch-sum (s .args .branch) (values (now (s .args .later))) / 600000000 * s .args .discount ≤ 8800000000000000000
+product : (s : tie.Start) → branchSum (s .args .branch) (values (now (s .args .later))) / 600000000 * s .args .discount ≤ 8800000000000000000
 product s = product-fits _ _ _ _ _ _ _ (s .pre .1) (s .pre .2 _ (omega arith)) (s .pre .2 _ (omega arith)) (s .pre .2 _ (omega arith)) (s .pre .3)
 
 array-read-sum : tie.Need-array-read-sum
@@ -70,7 +70,7 @@ mul-result : tie.Need-mul-result
 mul-result c = omega (arith, product (c .before .before .before .before))
 
 returns : tie.Need-returns
-unfolding branch-roll down
+unfolding branchRoll roundDown
 returns c = (refl, omega (arith, product (c .before .before .before .before)))
 
 pub roll-node-spec : {M : Type 1} → statement M

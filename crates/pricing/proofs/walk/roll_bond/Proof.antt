@@ -3,22 +3,22 @@
 use mathlib.Core.Path.{_∙_}
 use Prim.Native.Nat.{_-_, _≤_, _<_}
 use native.Mathlib.Omega.{arith}
-use Rattle.pricing.proofs.WalkStates.{Bonds, bonds-first, bond-rolled}
-use Rattle.pricing.proofs.WalkTurns.{turn-limited, turn-inside, turn-over, turn-next}
+use denote.Ref.{now}
+use Rattle.pricing.proofs.WalkStates.{Bonds, bonds-first, bond-rolled, bonds-inside}
+use Rattle.pricing.proofs.WalkTurns.{turn-steppable, turn-limited, turn-over, turn-next}
 use borrow.Author.Needs.{needs}
 use Rattle.pricing.proofs.walk.roll_bond.Statement.{statement}
 use Rattle.pricing.proofs.walk.roll_bond.Tie as tie
 
 abbrev Inv-loop : tie.InvT-loop
-Inv-loop steps reversion last downs discounts flows bond₀ other₀ row₀ bond other row = (last ≤ row) × Bonds steps reversion discounts flows row bond
+Inv-loop tree last downs discounts flows bond₀ other₀ row₀ bond other row =
+    (last ≤ row) × Bonds (tree .steps) (tree .reversion) discounts flows row bond
 
 abbrev μ-loop : tie.MeasureT-loop
-μ-loop steps reversion last downs discounts flows bond₀ other₀ row₀ bond other row = row
+μ-loop tree last downs discounts flows bond₀ other₀ row₀ bond other row = row
 
 flow-of-requires : tie.Need-flow-of-requires Inv-loop μ-loop
-flow-of-requires c κs =
-    let s = c .before .before .before in
-    omega (arith, s .pre .0 .paid .count)
+flow-of-requires c κs = omega (arith, c .before .before .before .pre .0 .paid .count)
 
 fill-row-requires : tie.Need-fill-row-requires Inv-loop μ-loop
 fill-row-requires c κs = search needs
@@ -28,115 +28,109 @@ empty-row-requires c κs = search needs
 
 loop-holds : tie.Need-loop-holds Inv-loop μ-loop
 loop-holds c =
-    let s = c .before .before .before .before .before .before .before in
-    let flow-of = c .before .before .before .flow-of in
-    let fill-row = c .before .fill-row in
-    (s .pre .1, bonds-first _ _ _ _ (s .pre .0 .tree) (s .pre .0 .paid) _ (λ k h. fill-row .ensures k (omega arith) ∙ flow-of .ensures))
+    let filled = c .before in
+    let flow = filled .before .before in
+    let s = flow .before .before .before .before in
+    (s .pre .1, bonds-first _ _ _ _ (s .pre .0 .tree) (s .pre .0 .paid) _ (λ k h. filled .fill-row .ensures k (omega arith) ∙ flow .flow-of .ensures))
+
+-- where the loop goes on
+abbrev start : tie.In-loop Inv-loop μ-loop → tie.Start Inv-loop μ-loop
+start c = c .before .before .before .before .before .before .before .before .before
 
 sub-row : tie.Need-sub-row Inv-loop μ-loop
 sub-row c = omega arith
 
+some : (c : tie.In-loop Inv-loop μ-loop) → 0 < c .before .loop .row
+some c = omega (arith, c .loop-test .taken)
+
+row-step-at-requires : tie.Need-row-step-at-requires Inv-loop μ-loop
+row-step-at-requires c κs =
+    let s = start c in
+    omega (arith, s .pre .0 .paid .count, bonds-inside _ _ _ _ (c .before .loop .row) _ (c .before .loop .inv .1))
+
 bond-step-requires : tie.Need-bond-step-requires Inv-loop μ-loop
 bond-step-requires c κs =
-    let s = c .before .before .before .before .before .before .before .before .before .before .before in
-    let l = c .before .before .before .loop in
-    let loop-test = c .before .before .loop-test in
-    let some : 0 < l .row = omega (arith, loop-test .taken) in (
-      s .pre .0,
-      turn-inside _ _ _ _ _ (s .pre .0) (l .row) (l .bond) some (l .inv .1),
-      turn-limited _ _ _ _ _ (s .pre .0) (l .row) (l .bond) some (l .inv .1),
+    let stepped = c .before .before in
+    let in-loop = stepped .before in
+    let l = in-loop .before .loop in
+    let ready = start in-loop .pre .0 in
+    let e = stepped .row-step-at .ensures in (
+      turn-steppable _ _ _ _ _ ready (l .row) (l .bond) (some in-loop) (l .inv .1) _ e,
+      turn-limited _ _ _ _ _ ready (l .row) (l .bond) (some in-loop) (l .inv .1) _ e,
     )
 
 returns : tie.Need-returns Inv-loop μ-loop
 returns c =
-    let s = c .before .before .before .before .before .before .before .before .before .before .before .before .before in
-    let l = c .before .before .before .before .before .loop in
-    let loop-test = c .before .before .before .before .loop-test in
-    let bond-step = c .before .bond-step in
-    let if1 = c .if1 in
-    let some : 0 < l .row = omega (arith, loop-test .taken) in
-    turn-over _ _ _ _ _ (s .pre .0) (l .row) (l .bond) some (l .inv .1) _ _ (bond-step .ensures) (s .args .last) _
-    (loop-test .taken) (if1 .taken)
+    let stepped = c .before .before .before .before in
+    let in-loop = stepped .before in
+    let l = in-loop .before .loop in
+    turn-over _ _ _ _ _ (start in-loop .pre .0) (l .row) (l .bond) (some in-loop) (l .inv .1) _ (stepped .row-step-at .ensures) _ _
+    (c .before .bond-step .ensures) (start in-loop .args .last) _ (in-loop .loop-test .taken) (c .if1 .taken)
+
+-- where the first row of the turn has passed: it stands in the other row
+abbrev in-turn : tie.Else1 Inv-loop μ-loop → tie.In-loop Inv-loop μ-loop
+in-turn c = c .before .before .before .before .before
+
+first : (c : tie.Else1 Inv-loop μ-loop) →
+    let a = start (in-turn c) .args in
+    Bonds (a .tree .steps) (a .tree .reversion) (now (a .discounts)) (now (a .flows)) (in-turn c .before .loop .row - 1)
+    (c .before .bond-step .last .1 .1 .1 .1 .0)
+first c =
+    let l = in-turn c .before .loop in
+    turn-next _ _ _ _ _ (start (in-turn c) .pre .0) (l .row) (l .bond) (some (in-turn c)) (l .inv .1) _
+    (c .before .before .before .before .row-step-at .ensures) _ _ (c .before .bond-step .ensures) (c .if1 .left)
 
 returns-2 : tie.Need-returns-2 Inv-loop μ-loop
 returns-2 c =
-    let s = c .before .before .before .before .before .before .before .before .before .before .before .before .before .before in
-    let l = c .before .before .before .before .before .before .loop in
-    let loop-test = c .before .before .before .before .before .loop-test in
-    let bond-step = c .before .before .bond-step in
-    let if1 = c .before .if1 in
-    let if2 = c .if2 in
-    let some : 0 < l .row = omega (arith, loop-test .taken) in
-    let first = turn-next _ _ _ _ _ (s .pre .0) (l .row) (l .bond) some (l .inv .1) _ _ (bond-step .ensures) (if1 .left) in
-    bond-rolled _ _ _ _ (s .pre .0 .tree) (s .pre .0 .paid) (s .args .last) _ _ (if2 .taken) first
+    let s = start (in-turn (c .before)) in
+    bond-rolled _ _ _ _ (s .pre .0 .tree) (s .pre .0 .paid) (s .args .last) _ _ (c .if2 .taken) (first (c .before))
+
+-- where the turn goes on to its second row
+again : (c : tie.Else2 Inv-loop μ-loop) → start (in-turn (c .before)) .args .last < in-turn (c .before) .before .loop .row - 1
+again c = omega (arith, in-turn (c .before) .loop-test .taken, c .if2 .left)
 
 sub-row-2 : tie.Need-sub-row-2 Inv-loop μ-loop
-sub-row-2 c =
-    let loop-test = c .before .before .before .before .before .loop-test in
-    let if2 = c .if2 in
-    omega (arith, loop-test .taken, if2 .left)
+sub-row-2 c = omega (arith, again c)
+
+row-step-at-requires-2 : tie.Need-row-step-at-requires-2 Inv-loop μ-loop
+row-step-at-requires-2 c κs =
+    omega (arith, start (in-turn (c .before)) .pre .0 .paid .count, bonds-inside _ _ _ _ _ _ (first (c .before)))
 
 bond-step-requires-2 : tie.Need-bond-step-requires-2 Inv-loop μ-loop
 bond-step-requires-2 c κs =
-    let s = c .before .before .before .before .before .before .before .before .before .before .before .before .before .before .before .before in
-    let l = c .before .before .before .before .before .before .before .before .loop in
-    let loop-test = c .before .before .before .before .before .before .before .loop-test in
-    let bond-step = c .before .before .before .before .bond-step in
-    let if1 = c .before .before .before .if1 in
-    let if2 = c .before .before .if2 in
-    let some : 0 < l .row = omega (arith, loop-test .taken) in
-    let first = turn-next _ _ _ _ _ (s .pre .0) (l .row) (l .bond) some (l .inv .1) _ _ (bond-step .ensures) (if1 .left) in
-    let again : 0 < l .row - 1 = omega (arith, loop-test .taken, if2 .left) in (
-      s .pre .0,
-      turn-inside _ _ _ _ _ (s .pre .0) _ _ again first,
-      turn-limited _ _ _ _ _ (s .pre .0) _ _ again first,
+    let stepped = c .before .before in
+    let second = stepped .before in
+    let ready = start (in-turn (second .before)) .pre .0 in
+    let e = stepped .row-step-at2 .ensures in (
+      turn-steppable _ _ _ _ _ ready _ _ (omega (arith, again second)) (first (second .before)) _ e,
+      turn-limited _ _ _ _ _ ready _ _ (omega (arith, again second)) (first (second .before)) _ e,
     )
 
 returns-3 : tie.Need-returns-3 Inv-loop μ-loop
 returns-3 c =
-    let s = c .before .before .before .before .before .before .before .before .before .before .before .before .before .before .before .before .before .before in
-    let l = c .before .before .before .before .before .before .before .before .before .before .loop in
-    let loop-test = c .before .before .before .before .before .before .before .before .before .loop-test in
-    let bond-step = c .before .before .before .before .before .before .bond-step in
-    let if1 = c .before .before .before .before .before .if1 in
-    let if2 = c .before .before .before .before .if2 in
-    let bond-step2 = c .before .bond-step2 in
-    let if3 = c .if3 in
-    let some : 0 < l .row = omega (arith, loop-test .taken) in
-    let first = turn-next _ _ _ _ _ (s .pre .0) (l .row) (l .bond) some (l .inv .1) _ _ (bond-step .ensures) (if1 .left) in
-    let again : 0 < l .row - 1 = omega (arith, loop-test .taken, if2 .left) in
-    turn-over _ _ _ _ _ (s .pre .0) _ _ again first _ _ (bond-step2 .ensures) (s .args .last) _
-    (omega (arith, loop-test .taken, if2 .left)) (if3 .taken)
+    let stepped = c .before .before .before .before in
+    let second = stepped .before in
+    let s = start (in-turn (second .before)) in
+    turn-over _ _ _ _ _ (s .pre .0) _ _ (omega (arith, again second)) (first (second .before)) _ (stepped .row-step-at2 .ensures) _ _
+    (c .before .bond-step2 .ensures) (s .args .last) _ (again second) (c .if3 .taken)
 
 loop-less : tie.Need-loop-less Inv-loop μ-loop
-loop-less c =
-    let loop-test = c .before .before .before .before .before .before .before .before .before .loop-test in
-    omega (arith, loop-test .taken)
+loop-less c = omega (arith, again (c .before .before .before .before .before))
 
 loop-again : tie.Need-loop-again Inv-loop μ-loop
 loop-again c =
-    let s = c .before .before .before .before .before .before .before .before .before .before .before .before .before .before .before .before .before .before in
-    let l = c .before .before .before .before .before .before .before .before .before .before .loop in
-    let loop-test = c .before .before .before .before .before .before .before .before .before .loop-test in
-    let bond-step = c .before .before .before .before .before .before .bond-step in
-    let if1 = c .before .before .before .before .before .if1 in
-    let if2 = c .before .before .before .before .if2 in
-    let bond-step2 = c .before .bond-step2 in
-    let if3 = c .if3 in
-    let some : 0 < l .row = omega (arith, loop-test .taken) in
-    let first = turn-next _ _ _ _ _ (s .pre .0) (l .row) (l .bond) some (l .inv .1) _ _ (bond-step .ensures) (if1 .left) in
-    let again : 0 < l .row - 1 = omega (arith, loop-test .taken, if2 .left) in (
-      omega (arith, loop-test .taken, if2 .left),
-      turn-next _ _ _ _ _ (s .pre .0) _ _ again first _ _ (bond-step2 .ensures) (if3 .left),
+    let stepped = c .before .before .before .before in
+    let second = stepped .before in (
+      omega (arith, again second),
+      turn-next _ _ _ _ _ (start (in-turn (second .before)) .pre .0) _ _ (omega (arith, again second)) (first (second .before)) _
+          (stepped .row-step-at2 .ensures) _ _ (c .before .bond-step2 .ensures) (c .if3 .left),
     )
 
 returns-4 : tie.Need-returns-4 Inv-loop μ-loop
 returns-4 c =
-    let s = c .before .before .before .before .before .before .before .before .before in
     let l = c .before .loop in
-    let loop-test = c .loop-test in
-    bond-rolled _ _ _ _ (s .pre .0 .tree) (s .pre .0 .paid) (s .args .last) (l .row) (l .bond)
-    (omega (arith, l .inv .0, loop-test .left)) (l .inv .1)
+    let s = c .before .before .before .before .before .before .before .before .before in
+    bond-rolled _ _ _ _ (s .pre .0 .tree) (s .pre .0 .paid) (s .args .last) (l .row) (l .bond) (omega (arith, l .inv .0, c .loop-test .left)) (l .inv .1)
 
 pub roll-bond-spec : {M : Type 1} → statement M
 roll-bond-spec =
@@ -149,10 +143,12 @@ roll-bond-spec =
     empty-row-requires
     loop-holds
     sub-row
+    row-step-at-requires
     bond-step-requires
     returns
     returns-2
     sub-row-2
+    row-step-at-requires-2
     bond-step-requires-2
     returns-3
     loop-less

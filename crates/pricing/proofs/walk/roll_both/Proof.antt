@@ -1,32 +1,44 @@
 -- `pricing::walk::roll_both` meets its contract.
 -- Assumes nothing.
 use Rattle.pricing_laws.specs.Schedule.{marked}
-use Rattle.pricing.proofs.WalkStates.{late-refused, rolled-through}
+use Rattle.pricing.proofs.WalkStates.{late-refused, rolled-through, rolled-answer}
 use borrow.Author.Needs.{needs}
 use Rattle.pricing.proofs.walk.roll_both.Statement.{statement}
 use Rattle.pricing.proofs.walk.roll_both.Tie as tie
 
+empty-row-requires : tie.Need-empty-row-requires
+empty-row-requires c κs = search needs
+
+-- where the bond was rolled back to the option's last row
+abbrev start : tie.After-roll-bond → tie.Start
+start c = c .before .before .before .before .before .before .before
+
 roll-bond-requires : tie.Need-roll-bond-requires
-roll-bond-requires c κs = search needs
+roll-bond-requires c κs =
+    let s = c .before .before .before .before .before .before in
+    (s .pre .0, s .pre .1 .last-inside)
+
+over-requires : tie.Need-over-requires
+over-requires c κs = search needs
 
 returns : tie.Need-returns
 unfolding marked
 returns c =
-    let s = c .before .before .before .before .before .before .before in
-    late-refused _ _ _ _ (s .pre .0 .tree) (s .pre .0 .paid) _ _ _ (s .pre .1) _ _ _ _ (c .before .roll-bond .ensures) (c .if1 .taken)
+    let rolled = c .before .before in
+    let s = start rolled in
+    rolled-answer (c .over .result) (c .over .ensures)
+    (late-refused _ _ _ _ (s .pre .0 .tree) (s .pre .0 .paid) _ _ _ (s .pre .1 .last-inside) _ _ (rolled .roll-bond .ensures) (c .before .if1 .taken))
 
 roll-option-requires : tie.Need-roll-option-requires
 roll-option-requires c κs =
-    let s = c .before .before .before .before .before .before .before .before .before in (
-      s .pre .0,
-      s .pre .1,
-      s .pre .2,
-      s .pre .3,
-      rolled-through _ _ _ _ _ _ _ (c .before .before .if1 .left) (c .before .before .before .roll-bond .ensures),
-    )
+    let rolled = c .before .before in
+    let s = start rolled in
+    (s .pre .0, s .pre .1, rolled-through _ _ _ _ _ _ _ (c .before .if1 .left) (rolled .roll-bond .ensures))
 
 returns-2 : tie.Need-returns-2
 returns-2 c = search needs
 
 pub roll-both-spec : {M : Type 1} → statement M
-roll-both-spec = tie.close (tie.spec roll-bond-requires returns roll-option-requires returns-2)
+roll-both-spec =
+    tie.close
+    (tie.spec empty-row-requires roll-bond-requires over-requires returns roll-option-requires returns-2)

@@ -1,187 +1,155 @@
 -- `pricing::walk::roll_option` meets its contract: bond and option stand at the row that the loop has reached, two rows a turn.
 -- Assumes nothing.
-use mathlib.Core.Path.{_≡_, refl}
-use Prim.Native.Nat.{_-_, _≤_, _<_}
+use Prim.Native.Nat.{_-_, _<_}
 use native.Mathlib.Omega.{arith}
 use denote.Ref.{now}
-use Rattle.pricing_laws.specs.Schedule.{marked}
-use Rattle.exercise.specs.Terms.{side}
-use Rattle.pricing.proofs.WalkStates.{Bonds, Options, bonds-from, options-first, both-rolled}
-use Rattle.pricing.proofs.WalkTurns.{turn-limited, turn-inside, turn-options-limited, turn-both-over, turn-both-next}
+use Rattle.pricing.proofs.WalkStates.{rolled-answer}
+use Rattle.pricing.proofs.WalkTurns.{Both, both-first, both-done, both-before, turn-both-ready, turn-both-over, turn-both-next}
 use borrow.Author.Needs.{needs}
 use Rattle.pricing.proofs.walk.roll_option.Statement.{statement}
 use Rattle.pricing.proofs.walk.roll_option.Tie as tie
 
 abbrev Inv-loop : tie.InvT-loop
-Inv-loop steps reversion terms last marks downs discounts flows bond₀ option₀ bonds₀ options₀ row₀ bond option bonds options row =
-    (row ≤ last)
-    × Bonds steps reversion discounts flows row bond
-    × Options steps reversion discounts flows (side (terms .call)) (terms .strike) (marked last marks) row option
+Inv-loop tree terms marks downs discounts flows bond₀ option₀ bonds₀ options₀ row₀ bond option bonds options row =
+    Both (tree .steps) (tree .reversion) discounts flows terms marks row bond option
 
 abbrev μ-loop : tie.MeasureT-loop
-μ-loop steps reversion terms last marks downs discounts flows bond₀ option₀ bonds₀ options₀ row₀ bond option bonds options row = row
-
-exercise-row-requires : tie.Need-exercise-row-requires Inv-loop μ-loop
-exercise-row-requires c κs = search needs
+μ-loop tree terms marks downs discounts flows bond₀ option₀ bonds₀ options₀ row₀ bond option bonds options row = row
 
 empty-row-requires : tie.Need-empty-row-requires Inv-loop μ-loop
 empty-row-requires c κs = search needs
 
+slice-aggregate-exercise-row : tie.Need-slice-aggregate-exercise-row Inv-loop μ-loop
+slice-aggregate-exercise-row c = search needs
+
+exercise-row-requires : tie.Need-exercise-row-requires Inv-loop μ-loop
+exercise-row-requires c κs = search needs
+
 empty-row-requires-2 : tie.Need-empty-row-requires-2 Inv-loop μ-loop
 empty-row-requires-2 c κs = search needs
 
+empty-row-requires-3 : tie.Need-empty-row-requires-3 Inv-loop μ-loop
+empty-row-requires-3 c κs = search needs
+
 loop-holds : tie.Need-loop-holds Inv-loop μ-loop
-unfolding marked
 loop-holds c =
-    let s = c .before .before .before .before .before .before .before .before .before .before in
-    let exercise-row = c .before .before .exercise-row in
-    let held = bonds-from _ _ _ _ (s .pre .0 .tree) (s .pre .0 .paid) (s .args .last) _ (s .pre .1) (s .pre .4) in (
-      omega arith,
-      held,
-      options-first _ _ _ _ (s .pre .0 .tree) (s .pre .0 .paid) _ _ (marked (s .args .last) (now (s .args .marks)))
-          (s .pre .1) _ (exercise-row .last .1 .1 .0) (s .pre .3) held (λ k h. exercise-row .ensures k (omega arith)),
-    )
+    let exercised = c .before .before .before in
+    let s = exercised .before .before .before .before .before .before .before .before .before in
+    both-first _ _ _ _ _ (s .pre .0) (s .args .terms) _ (s .pre .1) _ _ (s .pre .2) (λ k h. exercised .exercise-row .ensures k (search needs))
+
+-- where the loop goes on
+abbrev start : tie.In-loop Inv-loop μ-loop → tie.Start Inv-loop μ-loop
+start c = c .before .before .before .before .before .before .before .before .before .before .before .before .before .before
 
 sub-row : tie.Need-sub-row Inv-loop μ-loop
 sub-row c = omega arith
 
-shared-slice-read-option-step : tie.Need-shared-slice-read-option-step Inv-loop μ-loop
-shared-slice-read-option-step c =
-    let s = c .before .before .before .before .before .before .before .before .before .before .before .before .before in
-    let l = c .before .before .loop in
-    let loop-test = c .before .loop-test in
-    omega (arith, s .pre .2, l .inv .0, loop-test .taken)
+option-step-at-requires : tie.Need-option-step-at-requires Inv-loop μ-loop
+option-step-at-requires c κs =
+    let l = c .before .loop in
+    both-before _ _ _ _ _ (start c .pre .0) _ _ (start c .pre .1) (l .row) (l .bond) (l .option) (c .loop-test .taken) (l .inv)
 
 option-step-requires : tie.Need-option-step-requires Inv-loop μ-loop
-unfolding marked
 option-step-requires c κs =
-    let s = c .before .before .before .before .before .before .before .before .before .before .before .before .before .before .before .before .before in
-    let l = c .before .before .before .before .before .before .loop in
-    let loop-test = c .before .before .before .before .before .loop-test in
-    let some = loop-test .taken in (
-      s .pre .0,
-      turn-inside _ _ _ _ _ (s .pre .0) (l .row) (l .bond) some (l .inv .1),
-      turn-limited _ _ _ _ _ (s .pre .0) (l .row) (l .bond) some (l .inv .1),
-      turn-options-limited _ _ _ _ _ (s .pre .0) _ _ _ (s .pre .1) (l .row) (l .bond) (l .option) some (l .inv .1) (l .inv .2),
-    )
+    let stepped = c .before .before .before .before in
+    let in-loop = stepped .before in
+    let l = in-loop .before .loop in
+    turn-both-ready _ _ _ _ _ (start in-loop .pre .0) _ _ (start in-loop .pre .1) (l .row) (l .bond) (l .option) (in-loop .loop-test .taken) (l .inv) _
+    (stepped .option-step-at .ensures)
+
+over-requires : tie.Need-over-requires Inv-loop μ-loop
+over-requires c κs = search needs
+
+-- where the first row of the turn was rolled
+abbrev in-turn : tie.After-option-step Inv-loop μ-loop → tie.In-loop Inv-loop μ-loop
+in-turn c = c .before .before .before .before .before .before
 
 returns : tie.Need-returns Inv-loop μ-loop
-unfolding marked
 returns c =
-    let far = c .before .before .before .before .before .before .before .before .before .before .before .before in
-    let s = far .before .before .before .before .before .before .before in
-    let l = c .before .before .before .before .before .before .before .before .loop in
-    let loop-test = c .before .before .before .before .before .before .before .loop-test in
-    let option-step = c .before .option-step in
-    let if1 = c .if1 in
-    let some = loop-test .taken in
-    turn-both-over _ _ _ _ _ (s .pre .0) _ _ _ (s .pre .1) (l .row) (l .bond) (l .option) some (l .inv .1) (l .inv .2)
-    _ refl _ _ _ (option-step .ensures) _ _ (if1 .taken)
+    let rolled = c .before .before in
+    let in-loop = in-turn rolled in
+    let l = in-loop .before .loop in
+    rolled-answer (c .over .result) (c .over .ensures)
+    (turn-both-over _ _ _ _ _ (start in-loop .pre .0) _ _ (start in-loop .pre .1) (l .row) (l .bond) (l .option) (in-loop .loop-test .taken) (l .inv) _
+    (rolled .before .before .before .before .before .option-step-at .ensures) _ _ _ (rolled .option-step .ensures) (c .before .if1 .taken))
+
+-- where it has passed: it stands in the other two rows
+first : (c : tie.Else1 Inv-loop μ-loop) →
+    let rolled = c .before in
+    let a = start (in-turn rolled) .args in
+    Both (a .tree .steps) (a .tree .reversion) (now (a .discounts)) (now (a .flows)) (a .terms) (now (a .marks)) (in-turn rolled .before .loop .row - 1)
+    (rolled .option-step .last .1 .1 .1 .1 .1 .0) (rolled .option-step .last .1 .1 .1 .1 .1 .1 .0)
+first c =
+    let rolled = c .before in
+    let in-loop = in-turn rolled in
+    let l = in-loop .before .loop in
+    turn-both-next _ _ _ _ _ (start in-loop .pre .0) _ _ (start in-loop .pre .1) (l .row) (l .bond) (l .option) (in-loop .loop-test .taken) (l .inv) _
+    (rolled .before .before .before .before .before .option-step-at .ensures) _ _ _ (rolled .option-step .ensures) (c .if1 .left)
+
+at-root-requires : tie.Need-at-root-requires Inv-loop μ-loop
+at-root-requires c κs = search needs
 
 returns-2 : tie.Need-returns-2 Inv-loop μ-loop
-unfolding marked
 returns-2 c =
-    let far = c .before .before .before .before .before .before .before .before .before .before .before .before in
-    let s = far .before .before .before .before .before .before .before .before in
-    let l = c .before .before .before .before .before .before .before .before .before .loop in
-    let loop-test = c .before .before .before .before .before .before .before .before .loop-test in
-    let option-step = c .before .before .option-step in
-    let if1 = c .before .if1 in
-    let if2 = c .if2 in
-    let some = loop-test .taken in
-    let first =
-    turn-both-next _ _ _ _ _ (s .pre .0) _ _ _ (s .pre .1) (l .row) (l .bond) (l .option) some (l .inv .1) (l .inv .2)
-    _ refl _ _ _ (option-step .ensures) (if1 .left) in
-    both-rolled _ _ _ _ (s .pre .0 .tree) (s .pre .0 .paid) _ _ _ (s .pre .1) _ _ _ (if2 .taken) (first .0) (first .1)
+    let last = c .before .before .before in
+    let s = start (in-turn (last .before .before)) in
+    rolled-answer (c .at-root .result) (c .at-root .ensures)
+    (both-done _ _ _ _ _ (s .pre .0) _ _ (s .pre .1) _ _ _ (last .if2 .taken) (first (last .before)))
+
+-- where the turn goes on to its second row
+again : (c : tie.Else2 Inv-loop μ-loop) → 0 < in-turn (c .before .before) .before .loop .row - 1
+again c = omega (arith, in-turn (c .before .before) .loop-test .taken, c .if2 .left)
 
 sub-row-2 : tie.Need-sub-row-2 Inv-loop μ-loop
-sub-row-2 c =
-    let loop-test = c .before .before .before .before .before .before .before .before .loop-test in
-    let if2 = c .if2 in
-    omega (arith, loop-test .taken, if2 .left)
+sub-row-2 c = again c
 
-shared-slice-read-option-step-2 : tie.Need-shared-slice-read-option-step-2 Inv-loop μ-loop
-shared-slice-read-option-step-2 c =
-    let far = c .before .before .before .before .before .before .before .before .before .before .before .before in
-    let s = far .before .before .before .before .before .before .before .before .before in
-    let l = c .before .before .before .before .before .before .before .before .before .before .loop in
-    let loop-test = c .before .before .before .before .before .before .before .before .before .loop-test in
-    let if2 = c .before .if2 in
-    omega (arith, s .pre .2, l .inv .0, loop-test .taken, if2 .left)
+option-step-at-requires-2 : tie.Need-option-step-at-requires-2 Inv-loop μ-loop
+option-step-at-requires-2 c κs =
+    let s = start (in-turn (c .before .before)) in
+    both-before _ _ _ _ _ (s .pre .0) _ _ (s .pre .1) _ _ _ (again c) (first (c .before))
 
 option-step-requires-2 : tie.Need-option-step-requires-2 Inv-loop μ-loop
-unfolding marked
 option-step-requires-2 c κs =
-    let far = c .before .before .before .before .before .before .before .before .before .before .before .before in
-    let s = far .before .before .before .before .before .before .before .before .before .before .before .before .before in
-    let l = c .before .before .before .before .before .before .before .before .before .before .before .before .before .before .loop in
-    let loop-test = c .before .before .before .before .before .before .before .before .before .before .before .before .before .loop-test in
-    let option-step = c .before .before .before .before .before .before .before .option-step in
-    let if1 = c .before .before .before .before .before .before .if1 in
-    let if2 = c .before .before .before .before .before .if2 in
-    let some = loop-test .taken in
-    let first =
-    turn-both-next _ _ _ _ _ (s .pre .0) _ _ _ (s .pre .1) (l .row) (l .bond) (l .option) some (l .inv .1) (l .inv .2)
-    _ refl _ _ _ (option-step .ensures) (if1 .left) in
-    let again : 0 < l .row - 1 = omega (arith, loop-test .taken, if2 .left) in (
-      s .pre .0,
-      turn-inside _ _ _ _ _ (s .pre .0) _ _ again (first .0),
-      turn-limited _ _ _ _ _ (s .pre .0) _ _ again (first .0),
-      turn-options-limited _ _ _ _ _ (s .pre .0) _ _ _ (s .pre .1) _ _ _ again (first .0) (first .1),
-    )
+    let stepped = c .before .before .before .before in
+    let second = stepped .before in
+    let s = start (in-turn (second .before .before)) in
+    turn-both-ready _ _ _ _ _ (s .pre .0) _ _ (s .pre .1) _ _ _ (again second) (first (second .before)) _ (stepped .option-step-at2 .ensures)
+
+over-requires-2 : tie.Need-over-requires-2 Inv-loop μ-loop
+over-requires-2 c κs = search needs
 
 returns-3 : tie.Need-returns-3 Inv-loop μ-loop
-unfolding marked
 returns-3 c =
-    let far = c .before .before .before .before .before .before .before .before .before .before .before .before in
-    let s = far .before .before .before .before .before .before .before .before .before .before .before .before .before .before .before in
-    let l = c .before .before .before .before .before .before .before .before .before .before .before .before .before .before .before .before .loop in
-    let loop-test = c .before .before .before .before .before .before .before .before .before .before .before .before .before .before .before .loop-test in
-    let option-step = c .before .before .before .before .before .before .before .before .before .option-step in
-    let if1 = c .before .before .before .before .before .before .before .before .if1 in
-    let if2 = c .before .before .before .before .before .before .before .if2 in
-    let option-step2 = c .before .option-step2 in
-    let if3 = c .if3 in
-    let some = loop-test .taken in
-    let first =
-    turn-both-next _ _ _ _ _ (s .pre .0) _ _ _ (s .pre .1) (l .row) (l .bond) (l .option) some (l .inv .1) (l .inv .2)
-    _ refl _ _ _ (option-step .ensures) (if1 .left) in
-    let again : 0 < l .row - 1 = omega (arith, loop-test .taken, if2 .left) in
-    turn-both-over _ _ _ _ _ (s .pre .0) _ _ _ (s .pre .1) _ _ _ again (first .0) (first .1) _ refl _ _ _ (option-step2 .ensures) _ _ (if3 .taken)
+    let rolled = c .before .before in
+    let stepped = rolled .before .before .before .before .before in
+    let second = stepped .before in
+    let s = start (in-turn (second .before .before)) in
+    rolled-answer (c .over2 .result) (c .over2 .ensures)
+    (turn-both-over _ _ _ _ _ (s .pre .0) _ _ (s .pre .1) _ _ _ (again second) (first (second .before)) _ (stepped .option-step-at2 .ensures) _ _ _
+    (rolled .option-step2 .ensures) (c .before .if3 .taken))
 
 loop-less : tie.Need-loop-less Inv-loop μ-loop
-loop-less c =
-    let loop-test = c .before .before .before .before .before .before .before .before .before .before .before .before .before .before .before .loop-test in
-    omega (arith, loop-test .taken)
+loop-less c = omega (arith, again (c .before .before .before .before .before .before .before))
 
 loop-again : tie.Need-loop-again Inv-loop μ-loop
-unfolding marked
 loop-again c =
-    let far = c .before .before .before .before .before .before .before .before .before .before .before .before in
-    let s = far .before .before .before .before .before .before .before .before .before .before .before .before .before .before .before in
-    let l = c .before .before .before .before .before .before .before .before .before .before .before .before .before .before .before .before .loop in
-    let loop-test = c .before .before .before .before .before .before .before .before .before .before .before .before .before .before .before .loop-test in
-    let option-step = c .before .before .before .before .before .before .before .before .before .option-step in
-    let if1 = c .before .before .before .before .before .before .before .before .if1 in
-    let if2 = c .before .before .before .before .before .before .before .if2 in
-    let option-step2 = c .before .option-step2 in
-    let if3 = c .if3 in
-    let some = loop-test .taken in
-    let first =
-    turn-both-next _ _ _ _ _ (s .pre .0) _ _ _ (s .pre .1) (l .row) (l .bond) (l .option) some (l .inv .1) (l .inv .2)
-    _ refl _ _ _ (option-step .ensures) (if1 .left) in
-    let again : 0 < l .row - 1 = omega (arith, loop-test .taken, if2 .left) in
-    let second = turn-both-next _ _ _ _ _ (s .pre .0) _ _ _ (s .pre .1) _ _ _ again (first .0) (first .1) _ refl _ _ _ (option-step2 .ensures) (if3 .left) in
-    (omega (arith, l .inv .0), second .0, second .1)
+    let rolled = c .before in
+    let stepped = rolled .before .before .before .before .before in
+    let second = stepped .before in
+    let s = start (in-turn (second .before .before)) in
+    turn-both-next _ _ _ _ _ (s .pre .0) _ _ (s .pre .1) _ _ _ (again second) (first (second .before)) _ (stepped .option-step-at2 .ensures) _ _ _
+    (rolled .option-step2 .ensures) (c .if3 .left)
+
+at-root-requires-2 : tie.Need-at-root-requires-2 Inv-loop μ-loop
+at-root-requires-2 c κs = search needs
 
 returns-4 : tie.Need-returns-4 Inv-loop μ-loop
-unfolding marked
 returns-4 c =
-    let s = c .before .before .before .before .before .before .before .before .before .before .before .before in
-    let l = c .before .loop in
-    let loop-test = c .loop-test in
-    both-rolled _ _ _ _ (s .pre .0 .tree) (s .pre .0 .paid) _ _ _ (s .pre .1) (l .row) (l .bond) (l .option)
-    (omega (arith, loop-test .left)) (l .inv .1) (l .inv .2)
+    let ended = c .before .before .before in
+    let l = ended .before .loop in
+    let s = ended .before .before .before .before .before .before .before .before .before .before .before .before .before .before in
+    rolled-answer (c .at-root2 .result) (c .at-root2 .ensures)
+    (both-done _ _ _ _ _ (s .pre .0) _ _ (s .pre .1) (l .row) (l .bond) (l .option) (omega (arith, ended .loop-test .left)) (l .inv))
 
 pub roll-option-spec : {M : Type 1} → statement M
 roll-option-spec =
@@ -189,19 +157,25 @@ roll-option-spec =
     (tie.spec
     Inv-loop
     μ-loop
-    exercise-row-requires
     empty-row-requires
+    slice-aggregate-exercise-row
+    exercise-row-requires
     empty-row-requires-2
+    empty-row-requires-3
     loop-holds
     sub-row
-    shared-slice-read-option-step
+    option-step-at-requires
     option-step-requires
+    over-requires
     returns
+    at-root-requires
     returns-2
     sub-row-2
-    shared-slice-read-option-step-2
+    option-step-at-requires-2
     option-step-requires-2
+    over-requires-2
     returns-3
     loop-less
     loop-again
+    at-root-requires-2
     returns-4)

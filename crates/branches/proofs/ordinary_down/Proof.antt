@@ -1,13 +1,11 @@
--- `branches::inner` meets its contract.
+-- `branches::ordinary_down` meets its contract.
 -- Assumes nothing.
-use mathlib.Core.Path.{refl, sym, ap, _∙_}
+use mathlib.Core.Path.{refl}
 use native.Mathlib.Omega.{arith}
-use Rattle.lattice.specs.Branching.{up-at, middle-at, down-at}
-use lib.IntN.{natAbs}
+use Rattle.lattice.specs.Branching.{downFormula}
 use Rattle.lattice.proofs.Formulas as formulas
-use borrow.Author.Needs.{needs}
-use Rattle.branches.proofs.inner.Statement.{statement}
-use Rattle.branches.proofs.inner.Tie as tie
+use Rattle.branches.proofs.ordinary_down.Statement.{statement}
+use Rattle.branches.proofs.ordinary_down.Tie as tie
 
 mul-result : tie.Need-mul-result
 mul-result c = omega (arith, formulas.square-within (c .args .z) (c .pre))
@@ -25,9 +23,9 @@ add-result-2 : tie.Need-add-result-2
 add-result-2 c = omega (arith, formulas.square-within (c .args .z) (c .pre))
 
 returns : tie.Need-returns
-unfolding down-at
+unfolding downFormula
 returns c = refl
 
-pub inner-spec : {M : Type 1} → statement M
-inner-spec =
+pub ordinary-down-spec : {M : Type 1} → statement M
+ordinary-down-spec =
     tie.close (tie.spec mul-result mul-result-2 add-result mul-result-3 add-result-2 returns)

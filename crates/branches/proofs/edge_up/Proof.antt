@@ -1,13 +1,12 @@
--- `branches::stay` meets its contract.
+-- `branches::edge_up` meets its contract.
 -- Assumes nothing.
-use mathlib.Core.Path.{refl, sym, ap, _∙_}
+use mathlib.Core.Path.{sym, ap}
 use native.Mathlib.Omega.{arith}
-use Rattle.lattice.specs.Branching.{up-at, middle-at, down-at}
+use Rattle.lattice.specs.Branching.{upFormula}
 use lib.IntN.{natAbs}
 use Rattle.lattice.proofs.Formulas as formulas
-use borrow.Author.Needs.{needs}
-use Rattle.branches.proofs.stay.Statement.{statement}
-use Rattle.branches.proofs.stay.Tie as tie
+use Rattle.branches.proofs.edge_up.Statement.{statement}
+use Rattle.branches.proofs.edge_up.Tie as tie
 
 mul-result : tie.Need-mul-result
 mul-result c = omega (arith, formulas.square-within (c .args .z) (c .pre))
@@ -22,11 +21,11 @@ mul-result-3 : tie.Need-mul-result-3
 mul-result-3 c = omega (arith, formulas.square-within (c .args .z) (c .pre))
 
 sub-result : tie.Need-sub-result
-sub-result c = omega (arith, formulas.stay-whole (c .args .z))
+sub-result c = omega (arith, formulas.edge-up-whole (c .args .z))
 
 returns : tie.Need-returns
-unfolding up-at
-returns c = sym (ap natAbs (formulas.pos-minus _ _ (formulas.stay-whole (c .args .z))))
+unfolding upFormula
+returns c = sym (ap natAbs (formulas.pos-minus _ _ (formulas.edge-up-whole (c .args .z))))
 
-pub stay-spec : {M : Type 1} → statement M
-stay-spec = tie.close (tie.spec mul-result mul-result-2 add-result mul-result-3 sub-result returns)
+pub edge-up-spec : {M : Type 1} → statement M
+edge-up-spec = tie.close (tie.spec mul-result mul-result-2 add-result mul-result-3 sub-result returns)

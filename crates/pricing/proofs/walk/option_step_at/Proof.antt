@@ -1,0 +1,25 @@
+-- `pricing::walk::option_step_at` meets its contract.
+-- Assumes nothing.
+use mathlib.Core.Path.{ap}
+use lib.Dec.{eqb}
+use lib.ListN.{getD}
+use borrow.Author.Needs.{needs}
+use Rattle.pricing.specs.declared.walk.RowStep.{RowStep}
+use Rattle.pricing.specs.declared.walk.OptionStep.{OptionStep}
+use Rattle.pricing.proofs.walk.option_step_at.Statement.{statement}
+use Rattle.pricing.proofs.walk.option_step_at.Tie as tie
+
+row-step-at-requires : tie.Need-row-step-at-requires
+row-step-at-requires c κs = search needs
+
+shared-slice-read-t8 : tie.Need-shared-slice-read-t8
+shared-slice-read-t8 c = search needs
+
+returns : tie.Need-returns
+returns c =
+    let a = c .before .before .before .before .args in
+    ap {B = OptionStep} (λ (at : RowStep). record { at = at; terms = a .terms; listed = eqb (getD (a .marks .now) (a .row) 0) 1 })
+    (c .before .row-step-at .ensures)
+
+pub option-step-at-spec : {M : Type 1} → statement M
+option-step-at-spec = tie.close (tie.spec row-step-at-requires shared-slice-read-t8 returns)
