@@ -1,0 +1,5 @@
+pub mod SeriesFalls
+pub mod Squares
+pub mod Sides
+pub mod Within
+pub mod Answers
