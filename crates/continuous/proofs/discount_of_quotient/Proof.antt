@@ -14,7 +14,7 @@ found : (c : tie.After-factor) → c .factor .result .value ≡ series (c .befor
 found c = series-of-node _ _ _ (c .factor .ensures) (omega arith)
 
 returns : tie.Need-returns
-returns c = sym (quotient-refused _ _ (c .if1 .taken))
+returns c = sym (quotient-refused _ _ (omega arith))
 
 factor-requires : tie.Need-factor-requires
 factor-requires c κs = search needs

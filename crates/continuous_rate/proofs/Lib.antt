@@ -1,0 +1,4 @@
+pub mod LeastLaws
+pub mod Window
+pub mod Candidates
+pub mod RateLaws

@@ -1,0 +1,93 @@
+-- The sign of the continuous rate, and the answer by its causes.
+-- Assumes nothing.
+use mathlib.Core.Path.{_≡_, refl, sym, _∙_, ap, subst}
+use mathlib.Core.Bool.{Bool, true, false}
+use mathlib.Core.Logic.{_≢_}
+use Prim.Native.Nat.{ℕ, zero, suc, _+_, _-_, _*_, _≤_, _<_}
+use native.Mathlib.Omega.{arith}
+use borrow.Author.Tests.{lt-ltb, le-ltb}
+use lib.Dec.{ltb}
+use lib.IntN.{ℤ, pos, negsuc, negℤ, natAbs}
+use lib.Signed.{ltZ}
+use Rattle.arithmetic.specs.Rounding.{one}
+use Rattle.arithmetic.proofs.Numbers.{by-order, by-equal}
+use Rattle.limits.specs.Limits.{isDiscount}
+use Rattle.step_rate.specs.StepRate.{stepRate, refusedRate, answeredRate}
+use Rattle.step_rate.proofs.RateLaws.{rate-negative, rate-positive}
+use Rattle.continuous.proofs.Sides.{at-zero}
+use Rattle.continuous_rate.specs.Least.{firstLeast}
+use Rattle.continuous_rate.specs.ContinuousRate.{distance, continuousRate, continuousRateAnswer}
+use Rattle.continuous_rate.specs.Search.{sideMiss}
+use Rattle.continuous_rate.proofs.LeastLaws.{least-within, least-only}
+use Rattle.continuous_rate.proofs.Candidates.{rate-above, rate-below}
+
+-- ---- the sign
+
+-- two numbers of one sign: below 0 together, and above it
+pub record SameSign (y z : ℤ) : Type 0 where
+  pub negative : ltZ y (pos 0) ≡ ltZ z (pos 0)
+  pub positive : ltZ (pos 0) y ≡ ltZ (pos 0) z
+
+whole-sign : (n : ℕ) → pos n ≢ pos 0 → (ltZ (pos n) (pos 0) ≡ false) × (ltZ (pos 0) (pos n) ≡ true)
+whole-sign zero h = absurd (h refl)
+whole-sign (suc n) h = (le-ltb (suc n) 0 (omega arith), lt-ltb 0 (suc n) (omega arith))
+
+negative-sign : (n : ℕ) → negℤ (pos n) ≢ pos 0 → (ltZ (negℤ (pos n)) (pos 0) ≡ true) × (ltZ (pos 0) (negℤ (pos n)) ≡ false)
+negative-sign zero h = absurd (h refl)
+negative-sign (suc n) h = (refl, refl)
+
+-- a discount of one is met at 0, and has the rate 0
+met : sideMiss one false 0 ≡ 0
+unfolding distance
+met = rw (at-zero false) refl
+
+at-one : continuousRate one ≡ pos 0
+at-one = rate-above one 0 (omega arith) (least-only (sideMiss one false) one 0 (omega arith) nothing-less (λ k l. none k l))
+  where
+    nothing-less : (k : ℕ) → k ≤ one → sideMiss one false 0 ≤ sideMiss one false k
+    nothing-less k l = omega (arith, met)
+
+    none : (k : ℕ) → k < 0 → sideMiss one false 0 < sideMiss one false k
+    none k l = omega arith
+
+-- wherever the rate is not zero, its sign is the step rate's
+pub rate-sign : (v : ℕ) → 0 < v → continuousRate v ≢ pos 0 → SameSign (continuousRate v) (stepRate v)
+rate-sign v p h = by-order v one at-most above
+  where
+    at-most : v ≤ one → SameSign (continuousRate v) (stepRate v)
+    at-most l =
+        let q = firstLeast (sideMiss v false) one in
+        let e : continuousRate v ≡ pos (4 * q) = rate-above v q l refl in
+        let s = whole-sign (4 * q) (subst (λ (y : ℤ). y ≢ pos 0) e h) in
+        by-equal v one
+        (λ (same : v ≡ one). absurd (h (ap continuousRate same ∙ at-one)))
+        (λ other. record {
+          negative = ap (λ (y : ℤ). ltZ y (pos 0)) e ∙ s .0 ∙ sym (rate-negative v p ∙ le-ltb one v l);
+          positive = ap (λ (y : ℤ). ltZ (pos 0) y) e ∙ s .1 ∙ sym (rate-positive v p ∙ lt-ltb v one (omega arith));
+        })
+
+    above : one < v → SameSign (continuousRate v) (stepRate v)
+    above l =
+        let q = firstLeast (sideMiss v true) one in
+        let e : continuousRate v ≡ negℤ (pos (4 * q)) = rate-below v q (omega arith) refl in
+        let s = negative-sign (4 * q) (subst (λ (y : ℤ). y ≢ pos 0) e h) in
+        record {
+          negative = ap (λ (y : ℤ). ltZ y (pos 0)) e ∙ s .0 ∙ sym (rate-negative v p ∙ lt-ltb one v l);
+          positive = ap (λ (y : ℤ). ltZ (pos 0) y) e ∙ s .1 ∙ sym (rate-positive v p ∙ le-ltb v one (omega arith));
+        }
+
+-- ---- the answer, by its causes
+
+module _ (v : ℕ) where
+  pub answer-refused : isDiscount v ≡ false → continuousRateAnswer v ≡ refusedRate
+  unfolding continuousRateAnswer
+  answer-refused e = rw e
+
+  -- an accepted discount has number 0 and its continuous rate
+  pub answer-known : isDiscount v ≡ true → continuousRateAnswer v ≡ answeredRate (continuousRate v)
+  unfolding continuousRateAnswer
+  answer-known e = rw e
+
+-- the nearest quotient fits
+pub quotient-fits : (v q : ℕ) (below : Bool) → q ≡ firstLeast (sideMiss v below) one → 4 * q ≤ 4000000000
+quotient-fits v q below e = omega (arith, e, least-within (sideMiss v below) one)
