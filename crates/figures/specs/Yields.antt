@@ -1,0 +1,28 @@
+-- Worked figures of request (i) of document 02, about the definitions that the contracts cite.
+-- Assumes nothing.
+use mathlib.Core.Path.{_≡_}
+use Prim.Native.Nat.{ℕ, _≤_}
+use lib.IntN.{pos, negsuc}
+use Rattle.arithmetic.specs.Answers.{refused, answered}
+use Rattle.step_rate.specs.StepRate as rate
+use Rattle.continuous.specs.Continuous.{continuousDiscount, continuousAnswer}
+use Rattle.continuous_rate.specs.ContinuousRate.{continuousRateAnswer}
+
+pub record Yields : Type 0 where
+  -- y at the ends of its limit, and beyond them
+  pub greatest-amount : continuousAnswer (pos 4000000000) ≡ answered 18315638
+  pub least-amount : continuousAnswer (negsuc 3999999999) ≡ answered 54598149590
+  pub beyond-greatest : continuousAnswer (pos 4000000001) ≡ refused 7
+  pub beyond-least : continuousAnswer (negsuc 4000000000) ≡ refused 7
+  -- a greater y may have a greater P
+  pub before-rise : continuousDiscount (pos 158991016) ≡ 853004017
+  pub after-rise : continuousDiscount (pos 158991020) ≡ 853004021
+  -- a discount that a lower y than the one where P passes it meets best
+  pub rate-by-scan : continuousRateAnswer 484106437 ≡ rate.answeredRate (pos 725450480)
+  -- every discount that no P goes below, those about one, and the first with a rate below 0
+  pub lowest-discounts : (v : ℕ) → 1 ≤ v → v ≤ 18315638 → continuousRateAnswer v ≡ rate.answeredRate (pos 3999999988)
+  pub about-one : (v : ℕ) → 999999998 ≤ v → v ≤ 1000000002 → continuousRateAnswer v ≡ rate.answeredRate (pos 0)
+  pub first-below : continuousRateAnswer 1000000003 ≡ rate.answeredRate (negsuc 3)
+  -- no node discounts
+  pub rate-of-nothing : continuousRateAnswer 0 ≡ rate.refusedRate
+  pub rate-too-high : continuousRateAnswer 1100000001 ≡ rate.refusedRate
