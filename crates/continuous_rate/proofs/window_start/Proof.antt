@@ -1,7 +1,6 @@
 -- `continuous_rate::window_start` meets its contract.
 -- Assumes nothing.
 use native.Mathlib.Omega.{arith}
-use borrow.Author.Needs.{needs}
 use Rattle.continuous_rate.proofs.window_start.Statement.{statement}
 use Rattle.continuous_rate.proofs.window_start.Tie as tie
 
@@ -9,7 +8,7 @@ returns : tie.Need-returns
 returns c = omega arith
 
 returns-2 : tie.Need-returns-2
-returns-2 c = search needs
+returns-2 c = omega arith
 
 pub window-start-spec : {M : Type 1} → statement M
 window-start-spec = tie.close (tie.spec returns returns-2)
