@@ -99,7 +99,7 @@ def malformed():
     yield plain[:20] + b'\x05\x00\x07' + plain[24:]
     yield plain[:20] + b'\x05\x01\x08' + plain[23:]
     yield plain[:20] + b'\x07' + plain[21:]
-    yield plain[:20] + b'\x09' + plain[21:]
+    yield plain[:20] + b'\x0c' + plain[21:]
     yield job(quotes=FOUR, flows=[ONE] * 3)
     yield job(quotes=FOUR, flows=[ONE] * 5)
     yield job(n=5, quotes=FOUR, flows=[ONE] * 5)
