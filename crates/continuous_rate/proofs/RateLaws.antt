@@ -1,7 +1,7 @@
 -- The sign of the continuous rate, and the answer by its causes.
 -- Assumes nothing.
 use mathlib.Core.Path.{_≡_, refl, sym, _∙_, ap, subst}
-use mathlib.Core.Bool.{Bool, true, false}
+use mathlib.Core.Bool.{Bool, true, false, not, cond}
 use mathlib.Core.Logic.{_≢_}
 use Prim.Native.Nat.{ℕ, zero, suc, _+_, _-_, _*_, _≤_, _<_}
 use native.Mathlib.Omega.{arith}
@@ -12,21 +12,19 @@ use lib.Signed.{ltZ}
 use Rattle.arithmetic.specs.Rounding.{one}
 use Rattle.arithmetic.proofs.Numbers.{by-order, by-equal}
 use Rattle.limits.specs.Limits.{isDiscount}
-use Rattle.step_rate.specs.StepRate.{stepRate, refusedRate, answeredRate}
+use Rattle.limits.proofs.LimitLaws.{discount-least, discount-most}
+use Rattle.step_rate.specs.StepRate.{stepRate, rateAnswer, refusedRate, answeredRate}
+use Rattle.step_rate.specs.declared.Rate.{Rate}
 use Rattle.step_rate.proofs.RateLaws.{rate-negative, rate-positive}
+use Rattle.step_rate.proofs.RateLaws as step
 use Rattle.continuous.proofs.Sides.{at-zero}
 use Rattle.continuous_rate.specs.Least.{firstLeast}
-use Rattle.continuous_rate.specs.ContinuousRate.{distance, continuousRate, continuousRateAnswer}
+use Rattle.continuous_rate.specs.ContinuousRate.{distance, continuousRate, continuousRateAnswer, Nearest, SameSign}
 use Rattle.continuous_rate.specs.Search.{sideMiss}
 use Rattle.continuous_rate.proofs.LeastLaws.{least-within, least-only}
-use Rattle.continuous_rate.proofs.Candidates.{rate-above, rate-below}
+use Rattle.continuous_rate.proofs.Candidates.{rate-nearest, rate-only, rate-above, rate-below}
 
 -- ---- the sign
-
--- two numbers of one sign: below 0 together, and above it
-pub record SameSign (y z : ℤ) : Type 0 where
-  pub negative : ltZ y (pos 0) ≡ ltZ z (pos 0)
-  pub positive : ltZ (pos 0) y ≡ ltZ (pos 0) z
 
 whole-sign : (n : ℕ) → pos n ≢ pos 0 → (ltZ (pos n) (pos 0) ≡ false) × (ltZ (pos 0) (pos n) ≡ true)
 whole-sign zero h = absurd (h refl)
@@ -87,6 +85,30 @@ module _ (v : ℕ) where
   pub answer-known : isDiscount v ≡ true → continuousRateAnswer v ≡ answeredRate (continuousRate v)
   unfolding continuousRateAnswer
   answer-known e = rw e
+
+-- an answer with number 0 is of a discount within its limits
+known-discount : (v : ℕ) → continuousRateAnswer v .number ≡ 0 → isDiscount v ≡ true
+unfolding continuousRateAnswer
+known-discount v = by-known (isDiscount v)
+  where
+    by-known : (b : Bool) → cond (not b) refusedRate (answeredRate (continuousRate v)) .number ≡ 0 → b ≡ true
+    by-known true e = refl
+    by-known false e = let none : ⊥ = omega arith in absurd none
+
+-- what request (i) says, of an accepted answer
+module _ (v : ℕ) (accepted : continuousRateAnswer v .number ≡ 0) where
+  pub answer-nearest : Nearest v (continuousRateAnswer v .value)
+  answer-nearest = rw (answer-known v (known-discount v accepted)) (rate-nearest v)
+
+  pub answer-only : (y : ℤ) → Nearest v y → y ≡ continuousRateAnswer v .value
+  answer-only y n = rw (answer-known v (known-discount v accepted)) (rate-only v y n)
+
+  pub answer-sign : continuousRateAnswer v .value ≢ pos 0 → SameSign (continuousRateAnswer v .value) (rateAnswer v .value)
+  answer-sign h =
+      let d = known-discount v accepted in
+      let p = discount-least v d in
+      let e : continuousRateAnswer v .value ≡ continuousRate v = ap (λ (r : Rate). r .value) (answer-known v d) in
+      rw (e, step.answer-known v p (discount-most v d)) (rate-sign v p (subst (λ (y : ℤ). y ≢ pos 0) e h))
 
 -- the nearest quotient fits
 pub quotient-fits : (v q : ℕ) (below : Bool) → q ≡ firstLeast (sideMiss v below) one → 4 * q ≤ 4000000000

@@ -5,7 +5,7 @@ use Prim.Native.Nat.{ℕ, _+_, _-_, _*_, _/_, _%_, _≤_}
 use mathlib.Core.Bool.{cond, not}
 use lib.Dec.{T, eqb}
 use lib.IntN.{ℤ, pos, negsuc, natAbs}
-use lib.Signed.{leZ}
+use lib.Signed.{leZ, ltZ}
 use Rattle.limits.specs.Limits.{isDiscount}
 use Rattle.step_rate.specs.StepRate.{refusedRate, answeredRate}
 use Rattle.step_rate.specs.declared.Rate.{Rate}
@@ -41,3 +41,8 @@ pub record Nearest (v : ℕ) (y : ℤ) : Type 0 where
   pub smaller :
       (z : ℤ) → natAbs z ≤ amountLimit → distance (continuousDiscount z) v ≡ distance (continuousDiscount y) v → natAbs z ≡ natAbs y →
       T (leZ y z)
+
+-- two numbers of one sign: below 0 together, and above it
+pub record SameSign (y z : ℤ) : Type 0 where
+  pub negative : ltZ y (pos 0) ≡ ltZ z (pos 0)
+  pub positive : ltZ (pos 0) y ≡ ltZ (pos 0) z
