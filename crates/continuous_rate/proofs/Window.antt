@@ -5,13 +5,15 @@ use mathlib.Core.Bool.{true, false}
 use Prim.Native.Nat.{ℕ, _+_, _-_, _≤_, _<_}
 use native.Mathlib.Nat.{le-trans, le-refl, le-of-lt}
 use native.Mathlib.Omega.{arith}
+use borrow.Author.Tests.{le-leb, leb-true, leb-false}
 use Rattle.arithmetic.specs.Rounding.{one}
 use Rattle.arithmetic.proofs.Numbers.{by-order}
 use Rattle.continuous.specs.Continuous.{sideDiscount}
-use Rattle.continuous.proofs.Sides.{hundred-lower, next-higher}
+use Rattle.limits.specs.Limits.{mostDiscount}
+use Rattle.continuous.proofs.Sides.{hundred-lower, next-higher, at-zero, below-end}
 use Rattle.continuous_rate.specs.Least.{firstLeast}
 use Rattle.continuous_rate.specs.ContinuousRate.{distance}
-use Rattle.continuous_rate.specs.Search.{sideMiss, windowMiss, FallsPast, RisesPast}
+use Rattle.continuous_rate.specs.Search.{sideMiss, windowMiss, before, Passes}
 use Rattle.continuous_rate.proofs.LeastLaws.{least-within, least-low, least-first, least-only, least-moves, least-stays}
 
 -- of two discounts on one side of v, the farther one
@@ -22,6 +24,52 @@ farther-above a b v h g = omega arith
 farther-below : (a b v : ℕ) → b ≤ v → a < b → distance b v < distance a v
 unfolding distance
 farther-below a b v h g = omega arith
+
+-- ---- where the discounts pass v
+
+-- above 0: at least v at the quotient q, and below v at the next one, where there is one
+pub record FallsPast (v q : ℕ) : Type 0 where
+  pub top : q ≤ one
+  pub passed : v ≤ sideDiscount q false
+  pub next : q < one → sideDiscount (q + 1) false < v
+
+-- below 0: at most v at the quotient q, and above v at the next one
+pub record RisesPast (v q : ℕ) : Type 0 where
+  pub inside : q < one
+  pub reached : sideDiscount q true ≤ v
+  pub next : v < sideDiscount (q + 1) true
+
+pub falls-past : (v q : ℕ) → Passes v false q → FallsPast v q
+unfolding before
+falls-past v q p =
+    record {
+      top = p .top;
+      passed = leb-true v (sideDiscount q false) (p .here);
+      next = λ l. leb-false v (sideDiscount (q + 1) false) (p .next l);
+    }
+
+-- the last quotient's discount is above every node's
+pub rises-past : (v q : ℕ) → v ≤ mostDiscount → Passes v true q → RisesPast v q
+unfolding before
+rises-past v q m p = record { inside = inside; reached = reached; next = leb-false (sideDiscount (q + 1) true) v (p .next inside) }
+  where
+    reached : sideDiscount q true ≤ v
+    reached = leb-true (sideDiscount q true) v (p .here)
+
+    inside : q < one
+    inside = by-order one q (λ l. let e : q ≡ one = omega (arith, p .top) in absurd (none (rw e at reached))) (λ l. l)
+      where
+        none : sideDiscount one true ≤ v → ⊥
+        none h = omega (arith, below-end)
+
+-- and both sides start at one
+pub starts-above : (v : ℕ) → v ≤ one → before v false 0 ≡ true
+unfolding before
+starts-above v l = le-leb v (sideDiscount 0 false) (omega (arith, at-zero false))
+
+pub starts-below : (v : ℕ) → one ≤ v → before v true 0 ≡ true
+unfolding before
+starts-below v l = le-leb (sideDiscount 0 true) v (omega (arith, at-zero true))
 
 -- ---- above 0: the quotients from 100 before the passing one to 101 after it, as far as there are such
 
@@ -38,8 +86,8 @@ module _ (v q from count : ℕ) (crossing : FallsPast v q) (start : from ≡ q -
       let e : from + (k - from) ≡ k = omega arith in
       subst (λ (x : ℕ). sideMiss v false best ≤ sideMiss v false x) e (least-low (windowMiss v from) count (k - from) (omega arith))
 
-  before : (k : ℕ) → k < from → sideMiss v false best < sideMiss v false k
-  before k h =
+  earlier : (k : ℕ) → k < from → sideMiss v false best < sideMiss v false k
+  earlier k h =
       omega (
         arith,
         near q (omega arith) inside,
@@ -57,10 +105,10 @@ module _ (v q from count : ℕ) (crossing : FallsPast v q) (start : from ≡ q -
       )
 
   low : (k : ℕ) → k ≤ one → sideMiss v false best ≤ sideMiss v false k
-  low k l = by-order from k (λ a. by-order k (from + count) (λ b. near k a b) (λ b. le-of-lt (after k l b))) (λ a. le-of-lt (before k a))
+  low k l = by-order from k (λ a. by-order k (from + count) (λ b. near k a b) (λ b. le-of-lt (after k l b))) (λ a. le-of-lt (earlier k a))
 
   first : (k : ℕ) → k < best → sideMiss v false best < sideMiss v false k
-  first k l = by-order from k within (λ a. before k a)
+  first k l = by-order from k within (λ a. earlier k a)
     where
       within : from ≤ k → sideMiss v false best < sideMiss v false k
       within a =

@@ -1,7 +1,9 @@
 -- Where the discounts of either side of 0 pass a given one, and how far they are from it.
 -- Assumes nothing.
+use mathlib.Core.Path.{_≡_}
 use Prim.Native.Nat.{ℕ, _+_, _≤_, _<_}
 use mathlib.Core.Bool.{Bool, true, false}
+use lib.Dec.{leb}
 use Rattle.arithmetic.specs.Rounding.{one}
 use Rattle.continuous.specs.Continuous.{sideDiscount}
 use Rattle.continuous_rate.specs.ContinuousRate.{distance}
@@ -14,14 +16,13 @@ sideMiss v below = λ q. distance (sideDiscount q below) v
 abbrev pub windowMiss : ℕ → ℕ → ℕ → ℕ
 windowMiss v from = λ k. distance (sideDiscount (from + k) false) v
 
--- above 0: at least v at the quotient q, and below v at the next one, where there is one
-pub record FallsPast (v q : ℕ) : Type 0 where
-  pub top : q ≤ one
-  pub passed : v ≤ sideDiscount q false
-  pub next : q < one → sideDiscount (q + 1) false < v
+-- the discounts of one side, which start at one, have not passed v at the quotient q
+unfoldable pub before : ℕ → Bool → ℕ → Bool
+before v true q = leb (sideDiscount q true) v
+before v false q = leb v (sideDiscount q false)
 
--- below 0: at most v at the quotient q, and above v at the next one
-pub record RisesPast (v q : ℕ) : Type 0 where
-  pub inside : q < one
-  pub reached : sideDiscount q true ≤ v
-  pub next : v < sideDiscount (q + 1) true
+-- they have not passed v at the quotient q, and have at the next one, where there is one
+pub record Passes (v : ℕ) (below : Bool) (q : ℕ) : Type 0 where
+  pub top : q ≤ one
+  pub here : before v below q ≡ true
+  pub next : q < one → before v below (q + 1) ≡ false

@@ -7,7 +7,7 @@ ghost use Rattle.limits.specs.Limits.{mostDiscount};
 ghost use Rattle.continuous.specs.Continuous.{sideDiscount};
 ghost use Rattle.continuous_rate.specs.Least.{firstLeast};
 ghost use Rattle.continuous_rate.specs.ContinuousRate.{continuousRateAnswer};
-ghost use Rattle.continuous_rate.specs.Search.{sideMiss, windowMiss, FallsPast, RisesPast};
+ghost use Rattle.continuous_rate.specs.Search.{sideMiss, windowMiss, before, Passes};
 use step_rate::Rate;
 
 const ONE: u64 = 1_000_000_000;
@@ -32,34 +32,28 @@ fn side_miss(discount: u64, below: bool, quotient: u64) -> u64
     found - discount
 }
 
-// A quotient at which the discounts above zero pass the given one, by halving an interval.
-fn falls_past(discount: u64) -> u64
-    requires { ⌜ discount ≤ one ⌝ }
-    ensures { λ r. ⌜ FallsPast discount r ⌝ }
+// Whether the discounts of one side, which start at one, have not passed the given one at a quotient.
+fn is_before(discount: u64, below: bool, quotient: u64) -> bool
+    requires { ⌜ quotient ≤ one ⌝ }
+    ensures { λ r. ⌜ r ≡ before discount below quotient ⌝ }
+{
+    let found = side_discount(quotient, below);
+    if below {
+        return found <= discount;
+    }
+    discount <= found
+}
+
+// A quotient at which the discounts of one side pass the given one, by halving an interval.
+fn passing(discount: u64, below: bool) -> u64
+    requires { ⌜ before discount below 0 ≡ true ⌝ }
+    ensures { λ r. ⌜ Passes discount below r ⌝ }
 {
     let mut low: u64 = 0;
     let mut high: u64 = ONE + 1;
     while 1 < high - low {
         let middle = low + (high - low) / 2;
-        if discount <= side_discount(middle, false) {
-            low = middle;
-        } else {
-            high = middle;
-        }
-    }
-    low
-}
-
-// The quotient at which the discounts below zero pass the given one.
-fn rises_past(discount: u64) -> u64
-    requires { ⌜ (one ≤ discount) × (discount ≤ mostDiscount) ⌝ }
-    ensures { λ r. ⌜ RisesPast discount r ⌝ }
-{
-    let mut low: u64 = 0;
-    let mut high: u64 = ONE;
-    while 1 < high - low {
-        let middle = low + (high - low) / 2;
-        if side_discount(middle, true) <= discount {
+        if is_before(discount, below, middle) {
             low = middle;
         } else {
             high = middle;
@@ -113,7 +107,7 @@ fn nearest_above(discount: u64) -> u64
     requires { ⌜ discount ≤ one ⌝ }
     ensures { λ r. ⌜ r ≡ firstLeast (sideMiss discount false) one ⌝ }
 {
-    let place = falls_past(discount);
+    let place = passing(discount, false);
     let from = window_start(place);
     nearest_between(discount, from, window_end(place) - from)
 }
@@ -123,7 +117,7 @@ fn nearest_below(discount: u64) -> u64
     requires { ⌜ (one ≤ discount) × (discount ≤ mostDiscount) ⌝ }
     ensures { λ r. ⌜ r ≡ firstLeast (sideMiss discount true) one ⌝ }
 {
-    let place = rises_past(discount);
+    let place = passing(discount, true);
     if side_miss(discount, true, place + 1) < side_miss(discount, true, place) {
         return place + 1;
     }

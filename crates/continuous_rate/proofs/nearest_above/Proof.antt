@@ -4,12 +4,12 @@ use mathlib.Core.Path.{_≡_, _∙_}
 use Prim.Native.Nat.{_+_, _-_}
 use native.Mathlib.Omega.{arith}
 use borrow.Author.Needs.{needs}
-use Rattle.continuous_rate.proofs.Window.{above-window}
+use Rattle.continuous_rate.proofs.Window.{falls-past, starts-above, above-window}
 use Rattle.continuous_rate.proofs.nearest_above.Statement.{statement}
 use Rattle.continuous_rate.proofs.nearest_above.Tie as tie
 
-falls-past-requires : tie.Need-falls-past-requires
-falls-past-requires c κs = search needs
+passing-requires : tie.Need-passing-requires
+passing-requires c κs = starts-above (c .args .discount) (c .pre)
 
 window-start-requires : tie.Need-window-start-requires
 window-start-requires c κs = search needs
@@ -32,13 +32,13 @@ returns c =
     let s = w .before .window-start .ensures in
     let join : from + (end - from) ≡ end = omega (arith, e, s) in
     c .nearest-between .ensures
-    ∙ above-window _ _ from (end - from) (w .before .before .falls-past .ensures) s (rw join (e .0)) (rw join (e .1)) (rw join (e .2))
+    ∙ above-window _ _ from (end - from) (falls-past _ _ (w .before .before .passing .ensures)) s (rw join (e .0)) (rw join (e .1)) (rw join (e .2))
 
 pub nearest-above-spec : {M : Type 1} → statement M
 nearest-above-spec =
     tie.close
     (tie.spec
-    falls-past-requires
+    passing-requires
     window-start-requires
     window-end-requires
     sub-nearest-between
