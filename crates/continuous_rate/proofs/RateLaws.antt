@@ -1,4 +1,4 @@
--- The sign of the continuous rate, and the answer by its causes.
+-- The sign of the continuous rate, the answer by its causes, and what a caller learns from it.
 -- Assumes nothing.
 use mathlib.Core.Path.{_≡_, refl, sym, _∙_, ap, subst}
 use mathlib.Core.Bool.{Bool, true, false, not, cond}
@@ -9,8 +9,12 @@ use borrow.Author.Tests.{lt-ltb, le-ltb}
 use lib.Dec.{ltb}
 use lib.IntN.{ℤ, pos, negsuc, negℤ, natAbs}
 use lib.Signed.{ltZ}
+use mir.Syntax.{w64}
+use mir.Val.{toZ, ofZ}
+use mir.Facts.{toZ-ofZ}
 use Rattle.arithmetic.specs.Rounding.{one}
 use Rattle.arithmetic.proofs.Numbers.{by-order, by-equal}
+use Rattle.arithmetic.proofs.Signed.{fits-by-size}
 use Rattle.limits.specs.Limits.{isDiscount}
 use Rattle.limits.proofs.LimitLaws.{discount-least, discount-most}
 use Rattle.step_rate.specs.StepRate.{stepRate, rateAnswer, refusedRate, answeredRate}
@@ -113,3 +117,16 @@ module _ (v : ℕ) (accepted : continuousRateAnswer v .number ≡ 0) where
 -- the nearest quotient fits
 pub quotient-fits : (v q : ℕ) (below : Bool) → q ≡ firstLeast (sideMiss v below) one → 4 * q ≤ 4000000000
 quotient-fits v q below e = omega (arith, e, least-within (sideMiss v below) one)
+
+-- the value of any answer is at most four times one in size, and is the same when read back from its bits
+module _ (v : ℕ) (r : Rate) (e : r ≡ continuousRateAnswer v) where
+  pub value-bound : natAbs (r .value) ≤ 4 * one
+  unfolding continuousRateAnswer
+  value-bound = subst (λ (q : Rate). natAbs (q .value) ≤ 4 * one) (sym e) (by-known (isDiscount v))
+    where
+      by-known : (b : Bool) → natAbs (cond (not b) refusedRate (answeredRate (continuousRate v)) .value) ≤ 4 * one
+      by-known true = omega (arith, rate-nearest v .within)
+      by-known false = omega arith
+
+  pub value-back : toZ w64 (ofZ w64 (r .value)) ≡ r .value
+  value-back = toZ-ofZ (fits-by-size (r .value) (omega (arith, value-bound)))
