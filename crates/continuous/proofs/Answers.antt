@@ -17,7 +17,7 @@ use Rattle.arithmetic.specs.declared.Answer.{Answer}
 use Rattle.factor.specs.Series.{term, series}
 use Rattle.factor.specs.Factor.{sideFactor, sideAnswer}
 use Rattle.factor.proofs.FactorLaws.{side-accepted}
-use Rattle.continuous.specs.Continuous.{amountLimit, quotient, fourthPower, sideDiscount, continuousDiscount, continuousAnswer, quotientAnswer}
+use Rattle.continuous.specs.Continuous.{amountLimit, quarterOf, fourthPower, sideDiscount, continuousDiscount, continuousAnswer, quotientAnswer}
 use Rattle.continuous.proofs.Sides.{quotient-most}
 
 module _ (q : ℕ) (below : Bool) where
@@ -43,9 +43,9 @@ module _ (y : ℤ) where
   amount-accepted l = rw (le-ltb amountLimit (natAbs y) l)
 
   -- by the quotient and the side
-  pub amount-side : natAbs y ≤ amountLimit → quotientAnswer (quotient y) (ltZ y (pos 0)) ≡ continuousAnswer y
+  pub amount-side : natAbs y ≤ amountLimit → quotientAnswer (quarterOf y) (ltZ y (pos 0)) ≡ continuousAnswer y
   unfolding continuousDiscount
-  amount-side l = quotient-accepted (quotient y) (ltZ y (pos 0)) (quotient-most y l) ∙ sym (amount-accepted l)
+  amount-side l = quotient-accepted (quarterOf y) (ltZ y (pos 0)) (quotient-most y l) ∙ sym (amount-accepted l)
 
 -- F of y at or above 0, and below it
 pub discount-above : (m : ℕ) → continuousDiscount (pos m) ≡ sideDiscount (roundDown m 4) false

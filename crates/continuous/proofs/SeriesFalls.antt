@@ -6,10 +6,11 @@ use Prim.Native.Nat.{ℕ, zero, suc, _+_, _*_, _≤_, _<_}
 use native.Mathlib.Nat.{le-trans, le-refl, mul-le-mul, mul-le-mul-left, mul-le-mul-right, mul-pos, le-of-mul-le-mul-left, le-dest}
 use native.Mathlib.Omega.{arith}
 use lib.Dec.{lit≤}
+use Rattle.arithmetic.specs.Within.{Within}
 use Rattle.arithmetic.specs.Rounding.{one}
 use Rattle.arithmetic.specs.Sum.{sum}
 use Rattle.arithmetic.proofs.Numbers.{cross}
-use Rattle.factor.specs.Series.{term, even, odd, series, falling, exactTerm, scale, SeriesWithin}
+use Rattle.factor.specs.Series.{term, even, odd, series, falling, exactTerm, scale}
 use Rattle.factor.proofs.SeriesLaws.{exact-next, exact-zero, exact-whole, series-within}
 
 suc-positive : (k : ℕ) → 0 < suc k
@@ -141,7 +142,7 @@ alternating-falls p q low high =
     (omega (arith, exact-whole p (le-trans low high), exact-whole q high, fell, near p (le-trans low high) .below, near q high .above))
     scale-positive
   where
-    near : (y : ℕ) → y ≤ one → SeriesWithin scale 14 (series false (term y)) (series false (exactTerm y))
+    near : (y : ℕ) → y ≤ one → Within 14 scale (series false (term y)) (series false (exactTerm y))
     near y h = series-within y false h
 
     fell :

@@ -13,12 +13,12 @@ use Rattle.arithmetic.proofs.SumLaws.{sum-shift, sum-le, sum-grow}
 use Rattle.factor.specs.Series.{term, even, odd, series}
 use Rattle.factor.proofs.SeriesLaws.{term-zero, term-falls, term-grows, rounded-whole}
 use Rattle.factor.proofs.Bounds.{sum-least, alternating-within-one, series-bounds}
-use Rattle.continuous.specs.Continuous.{amountLimit, quotient, square, fourthPower, sideDiscount}
+use Rattle.continuous.specs.Continuous.{amountLimit, quarterOf, squareDown, fourthPower, sideDiscount}
 use Rattle.continuous.proofs.SeriesFalls.{alternating-falls}
 use Rattle.continuous.proofs.Squares.{fourth-grows, fourth-climbs, fourth-most, fourth-least, line-squared}
 
 -- the quotient of a y within the limit is at most one
-pub quotient-most : (y : ℤ) → natAbs y ≤ amountLimit → quotient y ≤ one
+pub quotient-most : (y : ℤ) → natAbs y ≤ amountLimit → quarterOf y ≤ one
 unfolding roundDown
 quotient-most y h = omega arith
 
@@ -62,8 +62,8 @@ pub above-line : (q : ℕ) → 2 * q ≤ one → one ≤ sideDiscount q false + 
 unfolding sideDiscount fourthPower
 above-line q h =
     let s : ℕ = series false (term q) in
-    let first : one ≤ square s + 2 * q = line-squared (series false (term q)) q (omega arith) (alternating-line q (omega arith)) in
-    omega (arith, line-squared (square (series false (term q))) (2 * q) h first)
+    let first : one ≤ squareDown s + 2 * q = line-squared (series false (term q)) q (omega arith) (alternating-line q (omega arith)) in
+    omega (arith, line-squared (squareDown (series false (term q))) (2 * q) h first)
 
 -- ---- y below 0
 
@@ -92,15 +92,15 @@ below-least q = fourth-least (series true (term q)) (sum-least q)
 -- ---- both sides meet at one
 
 pub at-zero : (below : Bool) → sideDiscount 0 below ≡ one
-unfolding sideDiscount fourthPower square series sum term roundDown
+unfolding sideDiscount fourthPower squareDown series sum term roundDown
 at-zero true = refl
 at-zero false = refl
 
 -- the ends of the limit
 pub above-end : sideDiscount one false ≡ 18315638
-unfolding sideDiscount fourthPower square series sum term roundDown
+unfolding sideDiscount fourthPower squareDown series sum term roundDown
 above-end = refl
 
 pub below-end : sideDiscount one true ≡ 54598149590
-unfolding sideDiscount fourthPower square series sum term roundDown
+unfolding sideDiscount fourthPower squareDown series sum term roundDown
 below-end = refl

@@ -7,11 +7,12 @@ use native.Mathlib.Nat.{le-trans, mul-le-mul, mul-le-mul-left, lt-of-not-le, not
 use native.Mathlib.Omega.{arith}
 use lib.IntN.{ℤ, pos, natAbs}
 use lib.Signed.{ltZ}
+use Rattle.arithmetic.specs.Within.{Within}
 use Rattle.arithmetic.specs.Rounding.{one, roundDown}
-use Rattle.factor.specs.Series.{term, series, exactTerm, scale, SeriesWithin}
+use Rattle.factor.specs.Series.{term, series, exactTerm, scale}
 use Rattle.factor.proofs.SeriesLaws.{series-within}
 use Rattle.factor.proofs.Bounds.{series-bounds}
-use Rattle.continuous.specs.Continuous.{amountLimit, quotient, square, fourthPower, sideDiscount, continuousDiscount, exactPower, powerScale}
+use Rattle.continuous.specs.Continuous.{amountLimit, quarterOf, squareDown, fourthPower, sideDiscount, continuousDiscount, exactPower, powerScale}
 use Rattle.continuous.proofs.Sides.{quotient-most}
 
 -- a square below n² has a root below n
@@ -20,16 +21,16 @@ root-below a n h = lt-of-not-le (λ (g : n ≤ a). not-le-of-lt h (mul-le-mul g 
 
 -- the fourth power in billionths times one³: what the two divisions lose
 module _ (s : ℕ) (small : fourthPower s ≤ 2000000000) where
-  first-below : square s < 1414213564
-  unfolding fourthPower square roundDown
+  first-below : squareDown s < 1414213564
+  unfolding fourthPower squareDown roundDown
   first-below = root-below (s * s / one) 1414213564 (omega (arith, small))
 
   root-size : s < 1189207116
-  unfolding square roundDown
+  unfolding squareDown roundDown
   root-size = root-below s 1189207116 (omega (arith, first-below))
 
   square-size : s * s ≤ 1414213564000000000
-  unfolding square roundDown
+  unfolding squareDown roundDown
   square-size = omega (arith, first-below)
 
   cube-size : s * s * s ≤ 1681792831000000000000000000
@@ -38,13 +39,13 @@ module _ (s : ℕ) (small : fourthPower s ≤ 2000000000) where
       omega (arith, mul-le-mul (mul-le-mul h h) h)
 
   lost-low : 1000000000000000000000000000 * fourthPower s ≤ s * s * (s * s)
-  unfolding fourthPower square roundDown
+  unfolding fourthPower squareDown roundDown
   lost-low =
       let h : one * (s * s / one) ≤ s * s = omega arith in
       omega (arith, mul-le-mul h h)
 
   lost-high : s * s * (s * s) ≤ 1000000000000000000000000000 * (fourthPower s + 4)
-  unfolding fourthPower square roundDown
+  unfolding fourthPower squareDown roundDown
   lost-high =
       let h : s * s ≤ one * (s * s / one) + one = omega arith in
       omega (arith, mul-le-mul h h, first-below)
@@ -72,7 +73,7 @@ power-least w t x h =
     rw (pow-four x, pow-four w) (le-trans (omega arith) (mul-le-mul (mul-le-mul h h) (mul-le-mul h h)))
 
 -- a value within 14 of an exact one, which is held times w: its fourth power is held times w ^ 4 × one ^ 3
-power-within : (w s x : ℕ) → 14 ≤ s → SeriesWithin w 14 s x → fourthPower s ≤ 2000000000 → SeriesWithin (w ^ 4 * one ^ 3) 100 (fourthPower s) (x ^ 4)
+power-within : (w s x : ℕ) → 14 ≤ s → Within 14 w s x → fourthPower s ≤ 2000000000 → Within 100 (w ^ 4 * one ^ 3) (fourthPower s) (x ^ 4)
 power-within w s x least near small =
     record {
       above =
@@ -80,12 +81,12 @@ power-within w s x least near small =
           let e′ : r + 14 ≡ s = omega arith in
           let scaled : w * (r + 14) ≡ w * s = ap (λ (z : ℕ). w * z) e′ in
           omega (arith, mul-le-mul-left (w ^ 4) (below s small r e′), power-least w r x (omega (arith, near .above)));
-      below = le-trans (power-most w (s + 14) x (near .below)) (omega (arith, mul-le-mul-left (w ^ 4) (above s small)));
+      below = le-trans (power-most w (s + 14) x (omega (arith, near .below))) (omega (arith, mul-le-mul-left (w ^ 4) (above s small)));
     }
 
 side-within :
     (q : ℕ) (b : Bool) → q ≤ one → sideDiscount q b ≤ 2000000000 →
-    SeriesWithin (scale ^ 4 * one ^ 3) 100 (sideDiscount q b) (series b (exactTerm q) ^ 4)
+    Within 100 (scale ^ 4 * one ^ 3) (sideDiscount q b) (series b (exactTerm q) ^ 4)
 unfolding sideDiscount
 side-within q b h small =
     power-within scale (series b (term q)) (series b (exactTerm q)) (omega (arith, series-bounds q b h .0)) (series-within q b h) small
@@ -93,6 +94,6 @@ side-within q b h small =
 -- the law of request (i): a P in range is within 100 of the fourth power of the exact series
 pub continuous-within :
     (y : ℤ) → natAbs y ≤ amountLimit → continuousDiscount y ≤ 2000000000 →
-    SeriesWithin powerScale 100 (continuousDiscount y) (exactPower y)
+    Within 100 powerScale (continuousDiscount y) (exactPower y)
 unfolding continuousDiscount exactPower powerScale
-continuous-within y limit small = side-within (quotient y) (ltZ y (pos 0)) (quotient-most y limit) small
+continuous-within y limit small = side-within (quarterOf y) (ltZ y (pos 0)) (quotient-most y limit) small

@@ -15,16 +15,16 @@ abbrev pub amountLimit : ℕ
 amountLimit = 4000000000
 
 -- q, the magnitude of y divided by 4, down
-abbrev pub quotient : ℤ → ℕ
-quotient y = roundDown (natAbs y) 4
+abbrev pub quarterOf : ℤ → ℕ
+quarterOf y = roundDown (natAbs y) 4
 
 -- squared, and divided by one, down
-unfoldable pub square : ℕ → ℕ
-square s = roundDown (s * s) one
+unfoldable pub squareDown : ℕ → ℕ
+squareDown s = roundDown (s * s) one
 
 -- squared twice
 unfoldable pub fourthPower : ℕ → ℕ
-fourthPower s = square (square s)
+fourthPower s = squareDown (squareDown s)
 
 -- document 01's series at q, alternating at or above 0 and all positive below, squared twice
 unfoldable pub sideDiscount : ℕ → Bool → ℕ
@@ -32,11 +32,11 @@ sideDiscount q below = fourthPower (series below (term q))
 
 -- F of y, before any range test
 unfoldable pub continuousDiscount : ℤ → ℕ
-continuousDiscount y = sideDiscount (quotient y) (ltZ y (pos 0))
+continuousDiscount y = sideDiscount (quarterOf y) (ltZ y (pos 0))
 
 -- the fourth power of the same series in exact fractions, times its denominator
 unfoldable pub exactPower : ℤ → ℕ
-exactPower y = series (ltZ y (pos 0)) (exactTerm (quotient y)) ^ 4
+exactPower y = series (ltZ y (pos 0)) (exactTerm (quarterOf y)) ^ 4
 
 unfoldable pub powerScale : ℕ
 powerScale = scale ^ 4 * one ^ 3

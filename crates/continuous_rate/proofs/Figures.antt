@@ -17,7 +17,7 @@ use Rattle.limits.specs.Limits.{mostDiscount}
 use Rattle.limits.proofs.LimitLaws.{from-one-holds}
 use Rattle.step_rate.specs.StepRate.{refusedRate, answeredRate}
 use Rattle.factor.specs.Series.{term, series}
-use Rattle.continuous.specs.Continuous.{square, fourthPower, sideDiscount}
+use Rattle.continuous.specs.Continuous.{squareDown, fourthPower, sideDiscount}
 use Rattle.continuous.proofs.Sides.{hundred-lower, at-zero}
 use Rattle.continuous_rate.specs.Least.{firstLeast}
 use Rattle.continuous_rate.specs.ContinuousRate.{distance, continuousRate, continuousRateAnswer}
@@ -48,15 +48,15 @@ rate-too-high = refl
 -- ---- the lowest discount of all, 18,315,638, stands first at the quotient 999,999,997
 
 lowest-here : sideDiscount 999999997 false ≡ 18315638
-unfolding sideDiscount fourthPower square series sum term roundDown
+unfolding sideDiscount fourthPower squareDown series sum term roundDown
 lowest-here = refl
 
 higher-before : each 100 (λ k. ltb 18315638 (sideDiscount (999999897 + k) false)) ≡ true
-unfolding each sideDiscount fourthPower square series sum term roundDown
+unfolding each sideDiscount fourthPower squareDown series sum term roundDown
 higher-before = refl
 
 not-lower-after : each 4 (λ k. leb 18315638 (sideDiscount (999999997 + k) false)) ≡ true
-unfolding each sideDiscount fourthPower square series sum term roundDown
+unfolding each sideDiscount fourthPower squareDown series sum term roundDown
 not-lower-after = refl
 
 before : (k : ℕ) → k < 999999997 → 18315638 < sideDiscount k false
@@ -97,19 +97,19 @@ abbrev scanned : ℕ → ℕ
 scanned = windowMiss 484106437 181362521
 
 passed : FallsPast 484106437 181362621
-unfolding sideDiscount fourthPower square series sum term roundDown
+unfolding sideDiscount fourthPower squareDown series sum term roundDown
 passed = record { top = lit≤ tt; passed = lit≤ tt; next = λ h. lit≤ tt }
 
 scanned-best : scanned 99 ≡ 1
-unfolding distance sideDiscount fourthPower square series sum term roundDown
+unfolding distance sideDiscount fourthPower squareDown series sum term roundDown
 scanned-best = refl
 
 scanned-first : each 99 (λ k. ltb 1 (scanned k)) ≡ true
-unfolding each distance sideDiscount fourthPower square series sum term roundDown
+unfolding each distance sideDiscount fourthPower squareDown series sum term roundDown
 scanned-first = refl
 
 scanned-low : each 202 (λ k. leb 1 (scanned k)) ≡ true
-unfolding each distance sideDiscount fourthPower square series sum term roundDown
+unfolding each distance sideDiscount fourthPower squareDown series sum term roundDown
 scanned-low = refl
 
 pub rate-by-scan : continuousRateAnswer 484106437 ≡ answeredRate (pos 725450480)
@@ -127,15 +127,15 @@ rate-by-scan = accepted 484106437 _ (lit≤ tt) (lit≤ tt) (rate-above 48410643
 -- ---- about one
 
 next-above : sideDiscount 1 false ≡ 999999996
-unfolding sideDiscount fourthPower square series sum term roundDown
+unfolding sideDiscount fourthPower squareDown series sum term roundDown
 next-above = refl
 
 next-below : sideDiscount 1 true ≡ 1000000004
-unfolding sideDiscount fourthPower square series sum term roundDown
+unfolding sideDiscount fourthPower squareDown series sum term roundDown
 next-below = refl
 
 later-above : each 100 (λ k. leb (sideDiscount (1 + k) false) 999999996) ≡ true
-unfolding each sideDiscount fourthPower square series sum term roundDown
+unfolding each sideDiscount fourthPower squareDown series sum term roundDown
 later-above = refl
 
 lower-later : (k : ℕ) → 1 ≤ k → k ≤ one → sideDiscount k false ≤ 999999996

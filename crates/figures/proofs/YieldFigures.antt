@@ -5,7 +5,7 @@ use lib.Ieee.{round}
 use Rattle.arithmetic.specs.Rounding.{roundDown, roundUp}
 use Rattle.arithmetic.specs.Sum.{sum}
 use Rattle.factor.specs.Series.{term, series}
-use Rattle.continuous.specs.Continuous.{square, fourthPower, sideDiscount, continuousDiscount}
+use Rattle.continuous.specs.Continuous.{squareDown, fourthPower, sideDiscount, continuousDiscount}
 use Rattle.figure.specs.Figure.{billionthsOf, beyond}
 use Rattle.quotes.specs.Quotes.{loneAnswer}
 use Rattle.continuous.proofs.Figures as discounts
@@ -13,7 +13,7 @@ use Rattle.continuous_rate.proofs.Figures as rates
 use Rattle.figures.specs.Yields.{Yields}
 
 pub yields : Yields
-unfolding loneAnswer round billionthsOf beyond continuousDiscount sideDiscount fourthPower square series sum term roundDown roundUp
+unfolding loneAnswer round billionthsOf beyond continuousDiscount sideDiscount fourthPower squareDown series sum term roundDown roundUp
 yields =
     record {
       greatest-amount = discounts.greatest-amount;

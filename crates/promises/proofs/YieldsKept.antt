@@ -7,27 +7,27 @@ use native.Mathlib.Omega.{arith}
 use Rattle.arithmetic.specs.declared.Answer.{Answer}
 use Rattle.arithmetic.specs.Answers.{refused}
 use Rattle.arithmetic.specs.Frequency.{listed}
+use Rattle.arithmetic.specs.Within.{Within}
 use Rattle.arithmetic.proofs.Numbers.{by-test}
-use Rattle.factor.specs.Series as factor
 use Rattle.continuous.specs.Continuous.{powerScale, exactPower}
 use Rattle.continuous_rate.proofs.RateLaws.{answer-nearest, answer-only, answer-sign}
 use Rattle.figure.specs.Figure.{billionthsOf}
 use Rattle.quotes.specs.declared.Point.{Point}
 use Rattle.quotes.specs.Quotes.{rowKnown, yieldAmount, kindAnswer, loneAnswer}
 use Rattle.quotes.proofs.YieldLaws.{yield-within}
-use Rattle.promises.specs.Promises.{Near, YieldPromises}
+use Rattle.promises.specs.Promises.{YieldPromises}
 
 module _ (f : ℕ) (p : Point) where
   -- what is promised of an answer, of which a refusal says nothing
   abbrev promised : Answer → Type 0
-  promised a = a .number ≡ 0 → Near powerScale 100 (a .value) (exactPower (yieldAmount f (p .row) (billionthsOf (p .figure))))
+  promised a = a .number ≡ 0 → Within 100 powerScale (a .value) (exactPower (yieldAmount f (p .row) (billionthsOf (p .figure))))
 
   of-refused : (n : ℕ) → promised (refused (suc n))
   of-refused n e = let none : ⊥ = omega arith in absurd none
 
   of-kind : promised (kindAnswer f 9 p)
   unfolding kindAnswer
-  of-kind e = let w = yield-within f (p .row) (p .figure) e in record { above = w .above; below = w .below }
+  of-kind e = yield-within f (p .row) (p .figure) e
 
   yields-near : promised (loneAnswer f 9 p)
   unfolding loneAnswer

@@ -214,7 +214,7 @@ pub record PricePromises : Type 0 where
 pub record YieldPromises : Type 0 where
   -- P of a yearly yield is within 100 of the fourth power of the exact series at a quarter of y, held times its denominator
   pub yields-near : (f : ℕ) (p : Point) → loneAnswer f 9 p .number ≡ 0 →
-      Near powerScale 100 (loneAnswer f 9 p .value) (exactPower (yieldAmount f (p .row) (billionthsOf (p .figure))))
+      Within 100 powerScale (loneAnswer f 9 p .value) (exactPower (yieldAmount f (p .row) (billionthsOf (p .figure))))
   -- a node's continuous rate is the y that request (i) names, which nothing else is
   pub rates-nearest : (v : ℕ) → continuousRateAnswer v .number ≡ 0 → Nearest v (continuousRateAnswer v .value)
   pub rates-alone : (v : ℕ) → continuousRateAnswer v .number ≡ 0 → (y : ℤ) → Nearest v y → y ≡ continuousRateAnswer v .value

@@ -9,12 +9,12 @@ use borrow.Author.Tests.{ltb-true}
 use lib.IntN.{ℤ, pos, negsuc, negℤ, natAbs, _*ℤ_}
 use lib.Signed.{ltZ}
 use lib.Ieee.{Float}
+use Rattle.arithmetic.specs.Within.{Within}
 use Rattle.arithmetic.specs.declared.Answer.{Answer}
 use Rattle.arithmetic.specs.Answers.{refused, answered}
 use Rattle.arithmetic.specs.Rounding.{roundDown, roundUp, roundDownSigned}
 use Rattle.arithmetic.proofs.Numbers.{by-order}
 use Rattle.arithmetic.proofs.RoundingLaws.{down-rounds, up-exact}
-use Rattle.factor.specs.Series.{SeriesWithin}
 use Rattle.continuous.specs.Continuous.{amountLimit, continuousDiscount, continuousAnswer, exactPower, powerScale}
 use Rattle.continuous.proofs.Within.{continuous-within}
 use Rattle.continuous.proofs.Answers.{amount-refused, amount-accepted}
@@ -73,7 +73,7 @@ accepted-amount y h =
 
 ranged-within :
     (y : ℤ) → rangedAnswer (continuousAnswer y .value) .number ≡ 0 →
-    SeriesWithin powerScale 100 (rangedAnswer (continuousAnswer y .value) .value) (exactPower y)
+    Within 100 powerScale (rangedAnswer (continuousAnswer y .value) .value) (exactPower y)
 ranged-within y e =
     let r = accepted-ranged (continuousAnswer y .value) e in
     let a = accepted-amount y (r .1) in
@@ -82,7 +82,7 @@ ranged-within y e =
 -- P of a yearly yield is within 100 of the fourth power of the exact series at a quarter of y
 pub yield-within :
     (f t : ℕ) (x : Float) → quoteAnswer f t (YearlyYield x) .number ≡ 0 →
-    SeriesWithin powerScale 100 (quoteAnswer f t (YearlyYield x) .value) (exactPower (yieldAmount f t (billionthsOf x)))
+    Within 100 powerScale (quoteAnswer f t (YearlyYield x) .value) (exactPower (yieldAmount f t (billionthsOf x)))
 unfolding quoteAnswer figureAnswer yieldDiscount
 yield-within f t x = by-figure (beyond x)
   where
@@ -91,6 +91,6 @@ yield-within f t x = by-figure (beyond x)
 
     by-figure :
         (b : Bool) → cond b (refused 7) (rangedAnswer (continuousAnswer y .value)) .number ≡ 0 →
-        SeriesWithin powerScale 100 (cond b (refused 7) (rangedAnswer (continuousAnswer y .value)) .value) (exactPower y)
+        Within 100 powerScale (cond b (refused 7) (rangedAnswer (continuousAnswer y .value)) .value) (exactPower y)
     by-figure true e = let none : ⊥ = omega arith in absurd none
     by-figure false e = ranged-within y e
