@@ -176,20 +176,25 @@ payoffs-known count nodes greatest e =
     counted true p q = eqb-true count nodes p
     counted false p q = absurd (omega arith)
 
+-- the number x that code works out from the answers of the row and of its node count
+pub record Found (n b : ℕ) (discounts : List ℕ) (i : ℕ) (payoffs : List ℕ) (bound nodes : Answer) (g p x : ℕ) : Type 0 where
+  pub row-bound : bound ≡ statePriceErrorBoundAnswer n b discounts i
+  pub row-nodes : nodes ≡ nodeCountAnswer b i
+  pub highest : g ≡ greatestOf payoffs
+  pub of-payoffs : p ≡ payoffsCause (length payoffs) (nodes .value) g
+  pub lowest : x ≡ lowestCause (bound .number) p
+
 module _ (n b : ℕ) (discounts : List ℕ) (i : ℕ) (payoffs : List ℕ) where
-  -- the number that code works out from the answers of the row and of its node count
-  module _ (bound nodes : Answer) (eb : bound ≡ statePriceErrorBoundAnswer n b discounts i) (en : nodes ≡ nodeCountAnswer b i)
-      (g : ℕ) (eg : g ≡ greatestOf payoffs) (p : ℕ) (ep : p ≡ payoffsCause (length payoffs) (nodes .value) g)
-      (x : ℕ) (ex : x ≡ lowestCause (bound .number) p) where
+  module _ (bound nodes : Answer) (g p x : ℕ) (f : Found n b discounts i payoffs bound nodes g p x) where
     row-number : bound .number ≡ boundCause n b discounts i
-    row-number = ap (λ (a : Answer). a .number) eb ∙ answer-number n b discounts i
+    row-number = ap (λ (a : Answer). a .number) (f .row-bound) ∙ answer-number n b discounts i
 
     payoffs-number : p ≡ payoffsCause (length payoffs) (nodeCountAnswer b i .value) (greatestOf payoffs)
-    payoffs-number = ep ∙ rw (en, eg)
+    payoffs-number = f .of-payoffs ∙ rw (f .row-nodes, f .highest)
 
     pub number-is : x ≡ valuationCause n b discounts i payoffs
     unfolding valuationCause
-    number-is = ex ∙ rw (row-number, payoffs-number)
+    number-is = f .lowest ∙ rw (row-number, payoffs-number)
 
     pub refused-number : (x ≡ 0 → ⊥) → (a : Answer) → a ≡ refused x → a ≡ valuationErrorBoundAnswer n b discounts i payoffs
     unfolding valuationErrorBoundAnswer
@@ -198,28 +203,29 @@ module _ (n b : ℕ) (discounts : List ℕ) (i : ℕ) (payoffs : List ℕ) where
     -- what number 0 tells
     module _ (z : x ≡ 0) where
       none : (bound .number ≡ 0) × (p ≡ 0)
-      none = lowest-none (bound .number) p (sym ex ∙ z)
+      none = lowest-none (bound .number) p (sym (f .lowest) ∙ z)
 
       lent : Lent n b discounts i
       lent = not-refused n b discounts i (sym row-number ∙ none .0)
 
       known : (length payoffs ≡ nodes .value) × (g ≤ valueLimit)
-      known = payoffs-known (length payoffs) (nodes .value) g (sym ep ∙ none .1)
+      known = payoffs-known (length payoffs) (nodes .value) g (sym (f .of-payoffs) ∙ none .1)
 
       counted : length payoffs ≡ nodeCount b i
       counted =
           known .0
-          ∙ row-value b i (nodeCount b i) nodes en (lent .tree .reversion-within-limit) (omega (arith, lent .present, lent .tree .steps-within-limit))
+          ∙ row-value b i (nodeCount b i) nodes (f .row-nodes) (lent .tree .reversion-within-limit)
+          (omega (arith, lent .present, lent .tree .steps-within-limit))
 
       pub none-sizes : (g ≤ valueLimit) × (bound .value ≤ 1000000)
-      none-sizes = (known .1, omega (arith, ap (λ (a : Answer). a .value) eb, bound-most n b discounts i))
+      none-sizes = (known .1, omega (arith, ap (λ (a : Answer). a .value) (f .row-bound), bound-most n b discounts i))
 
       pub bound-found : (y : ℕ) → y ≡ valuationBound g (bound .value) → answered y ≡ valuationErrorBoundAnswer n b discounts i payoffs
       unfolding valuationErrorBoundAnswer valuationErrorBound rateTree
       bound-found y ey =
-          let value = ap (λ (a : Answer). a .value) eb ∙ answer-value n b discounts i (sym row-number ∙ none .0) in
+          let value = ap (λ (a : Answer). a .value) (f .row-bound) ∙ answer-value n b discounts i (sym row-number ∙ none .0) in
           let same : y ≡ valuationBound (greatest (nodeCount b i) (values payoffs)) (statePriceErrorBound (rateTree b) (stored b discounts) i) =
-          ey ∙ rw (eg, counted, value) refl in
+          ey ∙ rw (f .highest, counted, value) refl in
           rw (sym number-is ∙ z) (ap (λ (v : ℕ). answered v) same)
 
   -- payoffs on a row of an accepted tree, as many as its nodes and none above the limit, are given a bound

@@ -1,7 +1,7 @@
 -- `curve::all_convert` meets its contract.
 -- Assumes nothing.
 use mathlib.Core.Path.{_≡_, sym, _∙_, ap}
-use mathlib.Core.Bool.{true}
+use mathlib.Core.Bool.{Bool, true}
 use Prim.Native.Nat.{ℕ, _-_, _≤_}
 use native.Mathlib.Omega.{arith}
 use lib.ListN.{length}
@@ -25,12 +25,20 @@ loop-holds c = (search needs, each-none _)
 answer-at-requires : tie.Need-answer-at-requires Inv-loop μ-loop
 answer-at-requires c κs = omega arith
 
+-- where the quote's answer is known
+abbrev start : tie.After-answer-at Inv-loop μ-loop → tie.Start Inv-loop μ-loop
+start c = c .before .before .before .before .before
+
+abbrev test : tie.After-answer-at Inv-loop μ-loop → ℕ → Bool
+test c = let a = start c .args in convertsAt (a .frequency) (a .kinds .now) (a .figures .now)
+
 returns : tie.Need-returns Inv-loop μ-loop
 returns c =
-    let a = c .before .before .before .before .before .before .before .args in
-    let i = c .before .before .before .before .loop .i in
-    sym (each-fails (length (a .kinds .now)) i (convertsAt (a .frequency) (a .kinds .now) (a .figures .now)) (c .before .before .before .loop-test .taken)
-    (refuses (a .frequency) (a .kinds .now) (a .figures .now) i (c .before .before .answer-at .result) (c .before .before .answer-at .ensures) (c .if1 .taken)))
+    let answered = c .before .before in
+    let a = start answered .args in
+    let i = answered .before .before .loop .i in
+    sym (each-fails (length (a .kinds .now)) i (test answered) (answered .before .loop-test .taken)
+    (refuses (a .frequency) (a .kinds .now) (a .figures .now) i (answered .answer-at .result) (answered .answer-at .ensures) (c .if1 .taken)))
 
 add-i : tie.Need-add-i Inv-loop μ-loop
 add-i c = search needs
@@ -40,19 +48,20 @@ loop-less c = search needs
 
 loop-again : tie.Need-loop-again Inv-loop μ-loop
 loop-again c =
-    let a = c .before .before .before .before .before .before .before .args in
-    let i = c .before .before .before .before .loop .i in
-    let answer = c .before .before .answer-at .result in (
+    let answered = c .before .before in
+    let a = start answered .args in
+    let l = answered .before .before .loop in (
       search needs,
-      each-more i (convertsAt (a .frequency) (a .kinds .now) (a .figures .now)) (c .before .before .before .before .loop .inv .1)
-          (converts (a .frequency) (a .kinds .now) (a .figures .now) i answer (c .before .before .answer-at .ensures) (c .if1 .left)),
+      each-more (l .i) (test answered) (l .inv .1)
+          (converts (a .frequency) (a .kinds .now) (a .figures .now) (l .i) (answered .answer-at .result) (answered .answer-at .ensures) (c .if1 .left)),
     )
 
 returns-2 : tie.Need-returns-2 Inv-loop μ-loop
 returns-2 c =
     let a = c .before .before .before .before .args in
-    let same : c .before .loop .i ≡ length (a .kinds .now) = omega arith in
-    sym (c .before .loop .inv .1) ∙ ap (λ (n : ℕ). each n (convertsAt (a .frequency) (a .kinds .now) (a .figures .now))) same
+    let l = c .before .loop in
+    let same : l .i ≡ length (a .kinds .now) = omega arith in
+    sym (l .inv .1) ∙ ap (λ (n : ℕ). each n (convertsAt (a .frequency) (a .kinds .now) (a .figures .now))) same
 
 pub all-convert-spec : {M : Type 1} → statement M
 all-convert-spec =

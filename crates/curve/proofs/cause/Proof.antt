@@ -1,7 +1,7 @@
 -- `curve::cause` meets its contract.
 -- Assumes nothing.
 use mathlib.Core.Path.{_≡_, sym, _∙_}
-use mathlib.Core.Bool.{true}
+use mathlib.Core.Bool.{Bool, true, false}
 use borrow.Author.Tests.{not-true, not-false}
 use Rattle.arithmetic.specs.Frequency.{listed}
 use Rattle.limits.specs.Limits.{isSteps}
@@ -18,7 +18,11 @@ returns : tie.Need-returns
 returns c =
     sym (number-frequency _ _ _ _ _ _ (sym (c .before .is-listed .ensures) ∙ not-true (c .before .is-listed .result) (c .if1 .taken)))
 
-known : (c : tie.Else1) → listed (c .before .before .before .before .before .args .frequency) ≡ true
+-- what a test that has passed says, by the place behind it
+abbrev start : tie.Else1 → tie.Start
+start c = c .before .before .before .before .before
+
+known : (c : tie.Else1) → listed (start c .args .frequency) ≡ true
 known c = sym (c .before .is-listed .ensures) ∙ not-false (c .before .is-listed .result) (c .if1 .left)
 
 is-steps-requires : tie.Need-is-steps-requires
@@ -27,44 +31,50 @@ is-steps-requires c κs = search needs
 returns-2 : tie.Need-returns-2
 returns-2 c = sym (number-steps _ _ _ _ _ _ (known (c .before .before)) (sym (c .before .is-steps .ensures) ∙ not-true _ (c .if2 .taken)))
 
-few : (c : tie.Else2) → isSteps (c .before .before .before .before .before .before .before .args .steps) ≡ true
+abbrev listed-at : tie.Else2 → tie.Else1
+listed-at c = c .before .before
+
+few : (c : tie.Else2) → isSteps (start (listed-at c) .args .steps) ≡ true
 few c = sym (c .before .is-steps .ensures) ∙ not-false _ (c .if2 .left)
 
 is-in-place-requires : tie.Need-is-in-place-requires
 is-in-place-requires c κs = search needs
 
+abbrev test : tie.After-is-in-place → Bool
+test c = let a = start (listed-at (c .before)) .args in inPlace (a .steps) (a .rows .now) (a .kinds .now) (a .figures .now) (a .room)
+
+misplaced : (c : tie.Then3) → test (c .before) ≡ false
+misplaced c = sym (c .before .is-in-place .ensures) ∙ not-true (c .before .is-in-place .result) (c .if3 .taken)
+
 returns-3 : tie.Need-returns-3
 returns-3 c =
-    let p = c .before in
-    let s = p .before in
-    sym (number-place _ _ _ _ _ _ (known (s .before .before)) (few s) (sym (p .is-in-place .ensures) ∙ not-true (p .is-in-place .result) (c .if3 .taken)))
+    let e = c .before .before in
+    sym (number-place _ _ _ _ _ _ (known (listed-at e)) (few e) (misplaced c))
 
-abbrev start : tie.Else3 → tie.Start
-start c = c .before .before .before .before .before .before .before .before .before
-
-placed :
-    (c : tie.Else3) →
-    inPlace (start c .args .steps) (start c .args .rows .now) (start c .args .kinds .now) (start c .args .figures .now) (start c .args .room) ≡ true
+placed : (c : tie.Else3) → test (c .before) ≡ true
 placed c = sym (c .before .is-in-place .ensures) ∙ not-false (c .before .is-in-place .result) (c .if3 .left)
+
+abbrev counted : tie.Else3 → tie.Else2
+counted c = c .before .before
 
 all-convert-requires : tie.Need-all-convert-requires
 all-convert-requires c κs =
-    let a = start c .args in
+    let a = start (listed-at (counted c)) .args in
     placed-figures (a .steps) (a .rows .now) (a .kinds .now) (a .figures .now) (a .room) (placed c)
     ∙ sym (placed-kinds (a .steps) (a .rows .now) (a .kinds .now) (a .figures .now) (a .room) (placed c))
 
 returns-4 : tie.Need-returns-4
 returns-4 c =
     let q = c .before in
-    let s = q .before .before .before in
-    sym (number-quotes _ _ _ _ _ _ (known (s .before .before)) (few s) (placed (q .before))
+    let e = counted (q .before) in
+    sym (number-quotes _ _ _ _ _ _ (known (listed-at e)) (few e) (placed (q .before))
     (sym (q .all-convert .ensures) ∙ not-true (q .all-convert .result) (c .if4 .taken)))
 
 returns-5 : tie.Need-returns-5
 returns-5 c =
     let q = c .before in
-    let s = q .before .before .before in
-    sym (number-accepted _ _ _ _ _ _ (known (s .before .before)) (few s) (placed (q .before))
+    let e = counted (q .before) in
+    sym (number-accepted _ _ _ _ _ _ (known (listed-at e)) (few e) (placed (q .before))
     (sym (q .all-convert .ensures) ∙ not-false (q .all-convert .result) (c .if4 .left)))
 
 pub cause-spec : {M : Type 1} → statement M

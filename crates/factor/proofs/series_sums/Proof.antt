@@ -4,6 +4,7 @@ use mathlib.Core.Path.{_≡_}
 use Prim.Native.Nat.{_+_, _-_, _*_, _≤_}
 use native.Mathlib.Omega.{arith}
 use borrow.Author.Needs.{needs}
+use Rattle.arithmetic.specs.Rounding.{one}
 use Rattle.factor.specs.Series.{term}
 use Rattle.factor.proofs.SeriesLaws.{term-most}
 use Rattle.factor.proofs.SumsLaws.{divisor-positive, next-is, Summed, summed-start, summed-next, latest-most, even-most, odd-most}
@@ -16,16 +17,27 @@ Inv-loop y divisors last₀ even₀ odd₀ pair₀ last even odd pair = (pair �
 abbrev μ-loop : tie.MeasureT-loop
 μ-loop y divisors last₀ even₀ odd₀ pair₀ last even odd pair = 6 - pair
 
--- the two terms of a turn
-first-is :
-    (c : tie.After-next-term Inv-loop μ-loop) →
-    c .next-term .result ≡ term (c .before .before .before .before .args .y) (2 * c .before .before .loop .pair + 1)
-first-is c = next-is _ (c .before .before .before .divisors .ensures) _ (omega arith) _ _ _ (c .before .before .loop .inv .1 .latest) (c .next-term .ensures)
+-- where the first term of a turn is found
+abbrev divided : tie.After-next-term Inv-loop μ-loop → tie.After-divisors Inv-loop μ-loop
+divided c = c .before .before .before
+
+abbrev start : tie.After-next-term Inv-loop μ-loop → tie.Start Inv-loop μ-loop
+start c = divided c .before
+
+-- the two terms of a turn, each at most one
+first-is : (c : tie.After-next-term Inv-loop μ-loop) → c .next-term .result ≡ term (start c .args .y) (2 * c .before .before .loop .pair + 1)
+first-is c = next-is _ (divided c .divisors .ensures) _ (omega arith) _ _ _ (c .before .before .loop .inv .1 .latest) (c .next-term .ensures)
+
+first-most : (c : tie.After-next-term Inv-loop μ-loop) → c .next-term .result ≤ one
+first-most c = omega (arith, first-is c, term-most _ (2 * c .before .before .loop .pair + 1) (start c .pre))
 
 second-is :
     (c : tie.After-next-term2 Inv-loop μ-loop) →
-    c .next-term2 .result ≡ term (c .before .before .before .before .before .args .y) (2 * c .before .before .before .loop .pair + 1 + 1)
-second-is c = next-is _ (c .before .before .before .before .divisors .ensures) _ (omega arith) _ _ _ (first-is (c .before)) (c .next-term2 .ensures)
+    c .next-term2 .result ≡ term (start (c .before) .args .y) (2 * c .before .before .before .loop .pair + 1 + 1)
+second-is c = next-is _ (divided (c .before) .divisors .ensures) _ (omega arith) _ _ _ (first-is (c .before)) (c .next-term2 .ensures)
+
+second-most : (c : tie.After-next-term2 Inv-loop μ-loop) → c .next-term2 .result ≤ one
+second-most c = omega (arith, second-is c, term-most _ (2 * c .before .before .before .loop .pair + 1 + 1) (start (c .before) .pre))
 
 divisors-requires : tie.Need-divisors-requires Inv-loop μ-loop
 divisors-requires c κs = search needs
@@ -43,11 +55,12 @@ array-read-next-term : tie.Need-array-read-next-term Inv-loop μ-loop
 array-read-next-term c = search needs
 
 next-term-requires : tie.Need-next-term-requires Inv-loop μ-loop
-next-term-requires c κs = (
-  latest-most _ _ _ _ _ (c .before .before .before .pre) (c .before .loop .inv .1),
-  c .before .before .before .pre,
-  divisor-positive _ (c .before .before .divisors .ensures) _ (omega arith),
-)
+next-term-requires c κs =
+    let s = c .before .before .before in (
+      latest-most _ _ _ _ _ (s .pre) (c .before .loop .inv .1),
+      s .pre,
+      divisor-positive _ (c .before .before .divisors .ensures) _ (omega arith),
+    )
 
 mul-next-term-3 : tie.Need-mul-next-term-3 Inv-loop μ-loop
 mul-next-term-3 c = search needs
@@ -62,29 +75,17 @@ array-read-next-term-2 : tie.Need-array-read-next-term-2 Inv-loop μ-loop
 array-read-next-term-2 c = search needs
 
 next-term-requires-2 : tie.Need-next-term-requires-2 Inv-loop μ-loop
-next-term-requires-2 c κs = (
-  omega (arith, first-is c, term-most _ (2 * c .before .before .loop .pair + 1) (c .before .before .before .before .pre)),
-  c .before .before .before .before .pre,
-  divisor-positive _ (c .before .before .before .divisors .ensures) _ (omega arith),
-)
+next-term-requires-2 c κs = (first-most c, start c .pre, divisor-positive _ (divided c .divisors .ensures) _ (omega arith))
 
 add-odd : tie.Need-add-odd Inv-loop μ-loop
 add-odd c =
-    omega (
-      arith,
-      first-is (c .before),
-      term-most _ (2 * c .before .before .before .loop .pair + 1) (c .before .before .before .before .before .pre),
-      odd-most _ _ _ _ _ (c .before .before .before .before .before .pre) (c .before .before .before .loop .inv .1),
-    )
+    let first = c .before in
+    omega (arith, first-most first, odd-most _ _ _ _ _ (start first .pre) (first .before .before .loop .inv .1))
 
 add-even : tie.Need-add-even Inv-loop μ-loop
 add-even c =
-    omega (
-      arith,
-      second-is c,
-      term-most _ (2 * c .before .before .before .loop .pair + 1 + 1) (c .before .before .before .before .before .pre),
-      even-most _ _ _ _ _ (c .before .before .before .before .before .pre) (c .before .before .before .loop .inv .1),
-    )
+    let first = c .before in
+    omega (arith, second-most c, even-most _ _ _ _ _ (start first .pre) (first .before .before .loop .inv .1))
 
 add-pair : tie.Need-add-pair Inv-loop μ-loop
 add-pair c = search needs
@@ -97,8 +98,9 @@ loop-again c = (omega arith, summed-next _ _ _ _ _ _ _ (c .before .before .befor
 
 returns : tie.Need-returns Inv-loop μ-loop
 returns c =
-    let six : c .before .loop .pair ≡ 6 = omega arith in
-    (rw six at (c .before .loop .inv .1 .even-sum), rw six at (c .before .loop .inv .1 .odd-sum))
+    let l = c .before .loop in
+    let six : l .pair ≡ 6 = omega arith in
+    (rw six at (l .inv .1 .even-sum), rw six at (l .inv .1 .odd-sum))
 
 pub series-sums-spec : {M : Type 1} → statement M
 series-sums-spec =

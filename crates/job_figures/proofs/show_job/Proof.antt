@@ -1,7 +1,8 @@
 -- `job_figures::show_job` is safe and ends.
 -- Assumes nothing.
 use native.Mathlib.Omega.{arith}
-use mathlib.Core.Path.{sym, _∙_}
+use mathlib.Core.Path.{_≡_, sym, _∙_}
+use lib.ListN.{length, take}
 use Rattle.job_record.proofs.ReadLaws.{lent-length}
 use borrow.Author.Needs.{needs}
 use Rattle.job_figures.proofs.show_job.Statement.{statement}
@@ -10,43 +11,48 @@ use Rattle.job_figures.proofs.show_job.Tie as tie
 show-head-requires : tie.Need-show-head-requires
 show-head-requires c κs = search needs
 
+-- where the columns are copied
+abbrev start : tie.After-flows → tie.Start
+start c = c .before .before .before .before
+
+-- each column's first entries are as many as the steps
+kinds-lent : (c : tie.After-flows) → let job = start c .args .job in length (take (job .steps) (job .kinds)) ≡ job .steps
+kinds-lent c = let sound = start c .pre in lent-length _ _ _ (sound .kinds) (sound .steps)
+
+figures-lent : (c : tie.After-flows) → let job = start c .args .job in length (take (job .steps) (job .figures)) ≡ job .steps
+figures-lent c = let sound = start c .pre in lent-length _ _ _ (sound .figures) (sound .steps)
+
+flows-lent : (c : tie.After-flows) → let job = start c .args .job in length (take (job .steps) (job .flows)) ≡ job .steps
+flows-lent c = let sound = start c .pre in lent-length _ _ _ (sound .flows) (sound .steps)
+
 array-share-prefix-kinds : tie.Need-array-share-prefix-kinds
 array-share-prefix-kinds c =
-    let sound = c .before .before .before .before .pre in
+    let sound = start c .pre in
     omega (arith, sound .kinds .size, sound .steps)
 
 slice-aggregate-show-rows : tie.Need-slice-aggregate-show-rows
-slice-aggregate-show-rows c =
-    let sound = c .before .before .before .before .before .pre in
-    sym (lent-length _ _ _ (sound .kinds) (sound .steps))
+slice-aggregate-show-rows c = sym (kinds-lent (c .before))
 
 array-share-prefix-figures : tie.Need-array-share-prefix-figures
 array-share-prefix-figures c =
-    let sound = c .before .before .before .before .before .pre in
+    let sound = start (c .before) .pre in
     omega (arith, sound .figures .size, sound .steps)
 
 slice-aggregate-show-rows-2 : tie.Need-slice-aggregate-show-rows-2
-slice-aggregate-show-rows-2 c =
-    let sound = c .before .before .before .before .before .before .pre in
-    sym (lent-length _ _ _ (sound .figures) (sound .steps))
+slice-aggregate-show-rows-2 c = sym (figures-lent (c .before .before))
 
 array-share-prefix-flows : tie.Need-array-share-prefix-flows
 array-share-prefix-flows c =
-    let sound = c .before .before .before .before .before .before .pre in
+    let sound = start (c .before .before) .pre in
     omega (arith, sound .flows .size, sound .steps)
 
 slice-aggregate-show-rows-3 : tie.Need-slice-aggregate-show-rows-3
-slice-aggregate-show-rows-3 c =
-    let sound = c .before .before .before .before .before .before .before .pre in
-    sym (lent-length _ _ _ (sound .flows) (sound .steps))
+slice-aggregate-show-rows-3 c = sym (flows-lent (c .before .before .before))
 
 show-rows-requires : tie.Need-show-rows-requires
 show-rows-requires c κs =
-    let sound = c .before .before .before .before .before .before .before .pre in
-    let kinds = lent-length _ _ _ (sound .kinds) (sound .steps) in
-    let figures = lent-length _ _ _ (sound .figures) (sound .steps) in
-    let flows = lent-length _ _ _ (sound .flows) (sound .steps) in
-    (figures ∙ sym kinds, flows ∙ sym kinds)
+    let copied = c .before .before .before in
+    (figures-lent copied ∙ sym (kinds-lent copied), flows-lent copied ∙ sym (kinds-lent copied))
 
 show-option-requires : tie.Need-show-option-requires
 show-option-requires c κs = search needs

@@ -16,6 +16,10 @@ returns c =
     let s = c .before .before .before in
     laws.fit-refused (s .args .job) (c .if1 .taken) (s .args .discounts .now) (s .args .state-prices .now)
 
+-- where rows and figures are made
+abbrev start : tie.After-figures-of → tie.Start
+start c = c .before .before .before .before .before .before .before
+
 rows-of-requires : tie.Need-rows-of-requires
 rows-of-requires c κs = search needs
 
@@ -27,15 +31,15 @@ array-share-prefix-rows c = search needs
 
 slice-aggregate-fit : tie.Need-slice-aggregate-fit
 slice-aggregate-fit c =
-    let s = c .before .before .before .before .before .before .before .before in
-    laws.lent-column (c .before .before .rows-of .result) (s .args .job .steps) (search needs)
+    let made = c .before in
+    laws.lent-column (made .before .rows-of .result) (start made .args .job .steps) (search needs)
 
 array-share-prefix-kinds : tie.Need-array-share-prefix-kinds
-array-share-prefix-kinds c = omega (arith, kinds-size (c .before .before .before .before .before .before .before .before))
+array-share-prefix-kinds c = omega (arith, kinds-size (start (c .before)))
 
 slice-aggregate-fit-2 : tie.Need-slice-aggregate-fit-2
 slice-aggregate-fit-2 c =
-    let s = c .before .before .before .before .before .before .before .before .before in
+    let s = start (c .before .before) in
     laws.lent-column (s .args .job .kinds) (s .args .job .steps) (omega (arith, kinds-size s))
 
 array-share-prefix-figures : tie.Need-array-share-prefix-figures
@@ -43,8 +47,8 @@ array-share-prefix-figures c = search needs
 
 slice-aggregate-fit-3 : tie.Need-slice-aggregate-fit-3
 slice-aggregate-fit-3 c =
-    let s = c .before .before .before .before .before .before .before .before .before .before in
-    laws.lent-column (c .before .before .before .figures-of .result) (s .args .job .steps) (search needs)
+    let made = c .before .before .before in
+    laws.lent-column (made .figures-of .result) (start made .args .job .steps) (search needs)
 
 fit-requires : tie.Need-fit-requires
 fit-requires c κs = search needs
@@ -57,11 +61,11 @@ same-length-2 c = search needs
 
 returns-2 : tie.Need-returns-2
 returns-2 c =
-    let s = c .before .before .before .before .before .before .before .before .before .before .before .before .before .before .before .before .before in
-    let rows = c .before .before .before .before .before .before .before .before .before .before .before .rows-of .ensures .1 in
-    let figures = c .before .before .before .before .before .before .before .before .before .before .figures-of .ensures .1 in
-    let fit = c .before .before .before .before .fit .ensures in
-    laws.fit-made (s .args .job) (omega arith) _ _ rows figures (s .args .discounts .now) (s .args .state-prices .now) _ _ _
+    let fitted = c .before .before .before .before in
+    let made = fitted .before .before .before .before .before .before in
+    let a = start made .args in
+    let fit = fitted .fit .ensures in
+    laws.fit-made (a .job) (omega arith) _ _ (made .before .rows-of .ensures .1) (made .figures-of .ensures .1) (a .discounts .now) (a .state-prices .now) _ _ _
     (fit .0) (fit .1 .0) (fit .1 .1)
 
 pub fit-of-record-spec : {M : Type 1} → statement M

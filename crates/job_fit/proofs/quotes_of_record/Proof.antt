@@ -14,6 +14,10 @@ kinds-size s = search needs
 returns : tie.Need-returns
 returns c = laws.quotes-refused (c .before .before .args .job) (c .if1 .taken) (c .before .before .args .quotes .now)
 
+-- where rows and figures are made
+abbrev start : tie.After-figures-of → tie.Start
+start c = c .before .before .before .before .before .before
+
 rows-of-requires : tie.Need-rows-of-requires
 rows-of-requires c κs = search needs
 
@@ -25,15 +29,15 @@ array-share-prefix-rows c = search needs
 
 slice-aggregate-convert : tie.Need-slice-aggregate-convert
 slice-aggregate-convert c =
-    let s = c .before .before .before .before .before .before .before in
-    laws.lent-column (c .before .before .rows-of .result) (s .args .job .steps) (search needs)
+    let made = c .before in
+    laws.lent-column (made .before .rows-of .result) (start made .args .job .steps) (search needs)
 
 array-share-prefix-kinds : tie.Need-array-share-prefix-kinds
-array-share-prefix-kinds c = let s = c .before .before .before .before .before .before .before in omega (arith, kinds-size s)
+array-share-prefix-kinds c = omega (arith, kinds-size (start (c .before)))
 
 slice-aggregate-convert-2 : tie.Need-slice-aggregate-convert-2
 slice-aggregate-convert-2 c =
-    let s = c .before .before .before .before .before .before .before .before in
+    let s = start (c .before .before) in
     laws.lent-column (s .args .job .kinds) (s .args .job .steps) (omega (arith, kinds-size s))
 
 array-share-prefix-figures : tie.Need-array-share-prefix-figures
@@ -41,8 +45,8 @@ array-share-prefix-figures c = search needs
 
 slice-aggregate-convert-3 : tie.Need-slice-aggregate-convert-3
 slice-aggregate-convert-3 c =
-    let s = c .before .before .before .before .before .before .before .before .before in
-    laws.lent-column (c .before .before .before .figures-of .result) (s .args .job .steps) (search needs)
+    let made = c .before .before .before in
+    laws.lent-column (made .figures-of .result) (start made .args .job .steps) (search needs)
 
 convert-requires : tie.Need-convert-requires
 convert-requires c κs = search needs
@@ -52,11 +56,11 @@ same-length c = search needs
 
 returns-2 : tie.Need-returns-2
 returns-2 c =
-    let s = c .before .before .before .before .before .before .before .before .before .before .before .before .before in
-    let rows = c .before .before .before .before .before .before .before .before .rows-of .ensures .1 in
-    let figures = c .before .before .before .before .before .before .before .figures-of .ensures .1 in
-    let quotes = c .before .before .convert .ensures in
-    laws.quotes-made (s .args .job) (omega arith) _ _ rows figures (s .args .quotes .now) _ _ (quotes .0) (quotes .1)
+    let converted = c .before .before in
+    let made = converted .before .before .before .before .before in
+    let a = start made .args in
+    let quotes = converted .convert .ensures in
+    laws.quotes-made (a .job) (omega arith) _ _ (made .before .rows-of .ensures .1) (made .figures-of .ensures .1) (a .quotes .now) _ _ (quotes .0) (quotes .1)
 
 pub quotes-of-record-spec : {M : Type 1} → statement M
 quotes-of-record-spec =

@@ -11,11 +11,16 @@ read-requires c κs = search needs
 refused-requires : tie.Need-refused-requires
 refused-requires c κs = search needs
 
+-- where the record is read
+abbrev start : tie.After-read → tie.Start
+start c = c .before .before .before .before
+
 returns : tie.Need-returns
 returns c =
-    let a = c .before .before .before .before .before .before .before .args in
-    let read = c .before .before .before .read in
-    laws.bytes-refused (a .job .now) (a .discounts .now) (a .state-prices .now) (read .result) (read .ensures .0) (c .before .if1 .taken) _
+    let refusing = c .before in
+    let reading = refusing .before .before in
+    let a = start reading .args in
+    laws.bytes-refused (a .job .now) (a .discounts .now) (a .state-prices .now) (reading .read .result) (reading .read .ensures .0) (refusing .if1 .taken) _
     (c .refused .ensures)
 
 prices-of-record-requires : tie.Need-prices-of-record-requires
@@ -29,11 +34,12 @@ same-length-2 c = search needs
 
 returns-2 : tie.Need-returns-2
 returns-2 c =
-    let a = c .before .before .before .before .before .before .before .before .before .before .before .before .before .args in
-    let read = c .before .before .before .before .before .before .before .before .before .read in
-    laws.bytes-made (a .job .now) (a .discounts .now) (a .state-prices .now) (read .result) (read .ensures .0)
-    (c .before .before .before .before .before .before .before .if1 .left) _ _ _
-    (c .before .before .before .before .prices-of-record .ensures)
+    let priced = c .before .before .before .before in
+    let accepted = priced .before .before .before in
+    let reading = accepted .before .before in
+    let a = start reading .args in
+    laws.bytes-made (a .job .now) (a .discounts .now) (a .state-prices .now) (reading .read .result) (reading .read .ensures .0) (accepted .if1 .left) _ _ _
+    (priced .prices-of-record .ensures)
 
 pub prices-of-job-spec : {M : Type 1} → statement M
 prices-of-job-spec =

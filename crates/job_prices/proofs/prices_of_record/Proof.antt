@@ -29,15 +29,27 @@ lowest-cause-requires c κs = search needs
 refused-requires : tie.Need-refused-requires
 refused-requires c κs = search needs
 
+-- where the lowest cause is known: the record is fitted, in memories of the function's own
+abbrev fitted : tie.After-lowest-cause → tie.After-fit-of-record
+fitted c = c .before .before .before .before
+
+abbrev memories : tie.After-lowest-cause → tie.After-state-prices
+memories c = fitted c .before .before .before
+
+abbrev start : tie.After-lowest-cause → tie.Start
+start c = memories c .before .before .before .before
+
 returns : tie.Need-returns
 returns c =
-    let a = c .before .before .before .before .before .before .before .before .before .before .before .before .before .args in
-    let fit = c .before .before .before .before .before .before .fit-of-record in
-    let own-d = c .before .before .before .before .before .before .before .before .before .before .discounts in
-    let own-p = c .before .before .before .before .before .before .before .before .before .state-prices in
+    let refusing = c .before in
+    let found = refusing .before in
+    let a = start found .args in
+    let fit = fitted found .fit-of-record in
+    let own-d = memories found .before .discounts in
+    let own-p = memories found .state-prices in
     laws.record-refused (a .job) (own-d .result) (own-p .result) _ _ (fit .result) (own-d .ensures) (own-p .ensures) (fit .ensures)
-    (a .discounts .now) (a .state-prices .now) _ _ (c .before .before .before .memory-cause .ensures) (c .before .before .lowest-cause .ensures) _
-    (c .refused .ensures) (c .before .if1 .taken)
+    (a .discounts .now) (a .state-prices .now) _ _ (found .before .memory-cause .ensures) (found .lowest-cause .ensures) _
+    (c .refused .ensures) (refusing .if1 .taken)
 
 discounts-needed-requires : tie.Need-discounts-needed-requires
 discounts-needed-requires c κs = search needs
@@ -45,20 +57,22 @@ discounts-needed-requires c κs = search needs
 state-prices-needed-requires : tie.Need-state-prices-needed-requires
 state-prices-needed-requires c κs = search needs
 
+-- where no cause refuses the record and both counts are known
 held : (c : tie.After-state-prices-needed) →
-    let a = c .before .before .before .before .before .before .before .before .before .before .before .before .before .before .args in
-    let fit = c .before .before .before .before .before .before .before .fit-of-record .last in
+    let found = c .before .before .before in
+    let a = start found .args in
+    let fit = fitted found .fit-of-record .last in
     laws.Held (a .job) (c .before .discounts-needed .result .value) (c .state-prices-needed .result .value) (fit .1 .0) (fit .1 .1 .0)
     (a .discounts .now) (a .state-prices .now)
 held c =
-    let a = c .before .before .before .before .before .before .before .before .before .before .before .before .before .before .args in
-    let fit = c .before .before .before .before .before .before .before .fit-of-record in
-    let own-d = c .before .before .before .before .before .before .before .before .before .before .before .discounts in
-    let own-p = c .before .before .before .before .before .before .before .before .before .before .state-prices in
-    let memory = c .before .before .before .before .memory-cause .ensures in
-    let cause = c .before .before .before .lowest-cause .ensures in
+    let accepted = c .before .before in
+    let found = accepted .before in
+    let a = start found .args in
+    let fit = fitted found .fit-of-record in
+    let own-d = memories found .before .discounts in
+    let own-p = memories found .state-prices in
     laws.held (a .job) (own-d .result) (own-p .result) _ _ (fit .result) (own-d .ensures) (own-p .ensures) (fit .ensures)
-    (a .discounts .now) (a .state-prices .now) _ _ memory cause (c .before .before .if1 .left)
+    (a .discounts .now) (a .state-prices .now) _ _ (found .before .memory-cause .ensures) (found .lowest-cause .ensures) (accepted .if1 .left)
     (c .before .discounts-needed .result) (c .state-prices-needed .result) (c .before .discounts-needed .ensures) (c .state-prices-needed .ensures)
 
 array-share-prefix-fitted-discounts : tie.Need-array-share-prefix-fitted-discounts
@@ -84,8 +98,8 @@ same-length-2 c = search needs
 
 returns-2 : tie.Need-returns-2
 returns-2 c =
-    laws.record-made _ _ _ _ _ _ _ (held (c .before .before .before .before .before .before .before .before .before)) _ _ _
-    (c .before .before .before .before .prices-of-tree .ensures)
+    let priced = c .before .before .before .before in
+    laws.record-made _ _ _ _ _ _ _ (held (priced .before .before .before .before .before)) _ _ _ (priced .prices-of-tree .ensures)
 
 pub prices-of-record-spec : {M : Type 1} → statement M
 prices-of-record-spec =

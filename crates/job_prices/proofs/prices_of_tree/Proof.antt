@@ -2,41 +2,57 @@
 -- Assumes nothing.
 use mathlib.Core.Path.{_≡_, sym, _∙_}
 use native.Mathlib.Omega.{arith}
+use Prim.Native.Nat.{ℕ}
 use lib.ListN.{length}
 use Rattle.job_fit.specs.RecordFit.{jobFlows}
 use Rattle.job_fit.proofs.FitLaws.{lent-column}
 use borrow.Author.Needs.{needs}
-use Rattle.job_prices.specs.JobPrices.{treeNumber}
+use Rattle.job_prices.specs.declared.JobPrices.{JobPrices}
+use Rattle.job_prices.specs.JobPrices.{treeNumber, treePrices}
 use Rattle.job_prices.proofs.PriceLaws as laws
 use Rattle.job_prices.proofs.prices_of_tree.Statement.{statement}
 use Rattle.job_prices.proofs.prices_of_tree.Tie as tie
+
+-- where the flows are lent
+abbrev start : tie.After-flows → tie.Start
+start c = c .before .before .before .before .before
 
 flows-size : (s : tie.Start) → length (s .args .job .flows) ≡ 255
 flows-size s = search needs
 
 array-share-prefix-flows : tie.Need-array-share-prefix-flows
-array-share-prefix-flows c = let s = c .before .before .before .before .before in omega (arith, flows-size s, s .pre .0)
+array-share-prefix-flows c = omega (arith, flows-size (start c), start c .pre .0)
 
 slice-aggregate-tree-prices : tie.Need-slice-aggregate-tree-prices
 slice-aggregate-tree-prices c =
-    let s = c .before .before .before .before .before .before in
+    let s = start (c .before) in
     lent-column (s .args .job .flows) (s .args .job .steps) (omega (arith, flows-size s, s .pre .0))
 
 tree-prices-requires : tie.Need-tree-prices-requires
 tree-prices-requires c κs = search needs
 
-number-is : (c : tie.After-tree-prices) →
-    let a = c .before .before .before .before .before .before .before .args in
-    c .tree-prices .result .number ≡ treeNumber (a .job .steps) (a .job .reversion) (a .fitted-discounts .now) (jobFlows (a .job)) (a .job .option)
+abbrev number : tie.Start → ℕ
+number s = let a = s .args in treeNumber (a .job .steps) (a .job .reversion) (a .fitted-discounts .now) (jobFlows (a .job)) (a .job .option)
+
+abbrev prices : tie.Start → JobPrices
+prices s = let a = s .args in treePrices (a .job .steps) (a .job .reversion) (a .fitted-discounts .now) (jobFlows (a .job)) (a .job .option)
+
+-- where the tree is priced
+abbrev priced-from : tie.After-tree-prices → tie.Start
+priced-from c = start (c .before .before)
+
+number-is : (c : tie.After-tree-prices) → c .tree-prices .result .number ≡ number (priced-from c)
 number-is c =
-    let a = c .before .before .before .before .before .before .before .args in
+    let a = priced-from c .args in
     laws.tree-number (a .job .steps) (a .job .reversion) (a .fitted-discounts .now) (jobFlows (a .job)) (a .job .option) _ (c .tree-prices .ensures)
 
 returns : tie.Need-returns
 returns c =
-    let s = c .before .before .before .before .before .before .before .before .before in
-    laws.left-refused _ _ (s .args .fitted-discounts .now) (s .args .fitted-prices .now) (s .args .discounts .now) (s .args .state-prices .now) _
-    (c .before .before .tree-prices .ensures) (λ z. c .if1 .taken (number-is (c .before .before) ∙ z))
+    let priced = c .before .before in
+    let s = priced-from priced in
+    let a = s .args in
+    laws.left-refused (number s) (prices s) (a .fitted-discounts .now) (a .fitted-prices .now) (a .discounts .now) (a .state-prices .now) _
+    (priced .tree-prices .ensures) (λ z. c .if1 .taken (number-is priced ∙ z))
 
 place-requires : tie.Need-place-requires
 place-requires c κs = search needs
@@ -52,12 +68,14 @@ same-length-2 c = search needs
 
 returns-2 : tie.Need-returns-2
 returns-2 c =
-    let s = c .before .before .before .before .before .before .before .before .before .before .before .before .before .before .before .before .before in
-    let before = c .before .before .before .before .before .before .before .before .before .before in
-    let accepted = c .before .before .before .before .before .before .before .before .if1 .left in
-    laws.left-placed _ _ (s .args .fitted-discounts .now) (s .args .fitted-prices .now) (s .args .discounts .now) (s .args .state-prices .now) _
-    (before .tree-prices .ensures) _ _ (sym (number-is before) ∙ accepted)
-    (c .before .before .before .before .before .before .place .ensures) (c .before .before .place2 .ensures)
+    let placed-prices = c .before .before in
+    let placed-discounts = placed-prices .before .before .before .before in
+    let accepted = placed-discounts .before .before in
+    let priced = accepted .before .before in
+    let s = priced-from priced in
+    let a = s .args in
+    laws.left-placed (number s) (prices s) (a .fitted-discounts .now) (a .fitted-prices .now) (a .discounts .now) (a .state-prices .now) _
+    (priced .tree-prices .ensures) _ _ (sym (number-is priced) ∙ accepted .if1 .left) (placed-discounts .place .ensures) (placed-prices .place2 .ensures)
 
 pub prices-of-tree-spec : {M : Type 1} → statement M
 prices-of-tree-spec =

@@ -1,6 +1,12 @@
 -- `jobs::head_formed` meets its contract.
 -- Assumes nothing.
-use Rattle.job_record.specs.Form.{headFormed}
+use mathlib.Core.Path.{_≡_}
+use mathlib.Core.Bool.{true}
+use mathlib.Core.List.{List}
+use Prim.Native.Nat.{ℕ}
+use denote.Ref.{now}
+use Rattle.job_record.specs.declared.Tags.the-variants.{Only}
+use Rattle.job_record.specs.Form.{fieldAt, frequencyAt, stepsAt, reversionAt, headFormed}
 use Rattle.job_record.proofs.Answers.{passed, failed}
 use borrow.Author.Needs.{needs}
 use Rattle.jobs.proofs.head_formed.Statement.{statement}
@@ -13,6 +19,13 @@ returns : tie.Need-returns
 unfolding headFormed
 returns c = simp (failed (c .before .field-at .ensures) (c .if1 .taken))
 
+-- the bytes, and what a test that has passed says of them
+abbrev bytes : tie.Else1 → List ℕ
+bytes c = now (c .before .before .before .args .bytes)
+
+frequency : (c : tie.Else1) → fieldAt (bytes c) frequencyAt (Only 1) 1 ≡ true
+frequency c = passed (c .before .field-at .ensures) (c .if1 .left)
+
 field-at-requires-2 : tie.Need-field-at-requires-2
 field-at-requires-2 c κs = search needs
 
@@ -20,9 +33,12 @@ returns-2 : tie.Need-returns-2
 unfolding headFormed
 returns-2 c =
     simp (
-      passed (c .before .before .before .field-at .ensures) (c .before .before .if1 .left),
+      frequency (c .before .before),
       failed (c .before .field-at2 .ensures) (c .if2 .taken),
     )
+
+steps : (c : tie.Else2) → fieldAt (bytes (c .before .before)) stepsAt (Only 2) 1 ≡ true
+steps c = passed (c .before .field-at2 .ensures) (c .if2 .left)
 
 field-at-requires-3 : tie.Need-field-at-requires-3
 field-at-requires-3 c κs = search needs
@@ -30,11 +46,15 @@ field-at-requires-3 c κs = search needs
 returns-3 : tie.Need-returns-3
 unfolding headFormed
 returns-3 c =
+    let second = c .before .before in
     simp (
-      passed (c .before .before .before .before .before .field-at .ensures) (c .before .before .before .before .if1 .left),
-      passed (c .before .before .before .field-at2 .ensures) (c .before .before .if2 .left),
+      frequency (second .before .before),
+      steps second,
       failed (c .before .field-at3 .ensures) (c .if3 .taken),
     )
+
+reversion : (c : tie.Else3) → fieldAt (bytes (c .before .before .before .before)) reversionAt (Only 3) 2 ≡ true
+reversion c = passed (c .before .field-at3 .ensures) (c .if3 .left)
 
 field-at-requires-4 : tie.Need-field-at-requires-4
 field-at-requires-4 c κs = search needs
@@ -42,10 +62,12 @@ field-at-requires-4 c κs = search needs
 returns-4 : tie.Need-returns-4
 unfolding headFormed
 returns-4 c =
+    let third = c .before in
+    let second = third .before .before in
     simp (
-      passed (c .before .before .before .before .before .before .field-at .ensures) (c .before .before .before .before .before .if1 .left),
-      passed (c .before .before .before .before .field-at2 .ensures) (c .before .before .before .if2 .left),
-      passed (c .before .before .field-at3 .ensures) (c .before .if3 .left),
+      frequency (second .before .before),
+      steps second,
+      reversion third,
     )
     (c .field-at4 .ensures)
 

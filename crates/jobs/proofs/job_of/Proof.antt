@@ -6,7 +6,7 @@ use Prim.Native.Nat.{_≤_}
 use native.Mathlib.Omega.{arith}
 use lib.ListN.{length}
 use denote.Ref.{now}
-use Rattle.job_record.specs.Form.{mostJobSteps, quotesAt, restAt}
+use Rattle.job_record.specs.Form.{mostJobSteps, quotesAt, restAt, stepsOf}
 use Rattle.job_record.specs.Reader.{jobOf}
 use Rattle.job_record.proofs.Forms.{well-body, well-length, body-rest}
 use Rattle.jobs.proofs.job_of.Statement.{statement}
@@ -32,49 +32,72 @@ data-from-requires : tie.Need-data-from-requires
 data-from-requires c κs = omega (arith, known (c .before .before))
 
 data-from-requires-2 : tie.Need-data-from-requires-2
-data-from-requires-2 c κs = omega (arith, known (c .before .before .before), c .before .before .after-fields .ensures .0)
+data-from-requires-2 c κs =
+    let flows-at = c .before .before in
+    omega (arith, known (flows-at .before), flows-at .after-fields .ensures .0)
 
 after-fields-requires-2 : tie.Need-after-fields-requires-2
-after-fields-requires-2 c κs = omega (arith, known (c .before .before .before .before), c .before .before .before .after-fields .ensures .0)
+after-fields-requires-2 c κs =
+    let flows-at = c .before .before .before in
+    omega (arith, known (flows-at .before), flows-at .after-fields .ensures .0)
+
+-- where the rows are read
+abbrev flows-found : tie.After-after-fields2 → tie.After-after-fields
+flows-found c = c .before .before .before .before
+
+abbrev counted : tie.After-after-fields2 → tie.After-number
+counted c = flows-found c .before
+
+abbrev start : tie.After-after-fields2 → tie.Start
+start c = counted c .before .before
 
 -- the place of what follows the flows
-rest-place : (c : tie.After-after-fields2) → c .after-fields2 .result ≡ restAt quotesAt (c .before .before .before .before .before .number .result)
-rest-place c = rw (c .before .before .before .before .after-fields .ensures .0) at (c .after-fields2 .ensures .0)
+rest-place : (c : tie.After-after-fields2) → c .after-fields2 .result ≡ restAt quotesAt (counted c .number .result)
+rest-place c = rw (flows-found c .after-fields .ensures .0) at (c .after-fields2 .ensures .0)
+
+-- the record is long enough for each of its fields
+long : (c : tie.After-after-fields2) →
+    let bytes = now (start c .args .bytes) in restAt quotesAt (stepsOf bytes) ≤ length bytes
+long c = well-length _ (start c .pre)
 
 option-at-requires : tie.Need-option-at-requires
 option-at-requires c κs =
-    let formed = body-rest _ quotesAt _ (well-body _ (c .before .before .before .before .before .before .before .pre)) in
-    (c .after-fields2 .ensures .1, rw (rest-place c, c .before .before .before .before .before .number .ensures .0) formed)
+    let formed = body-rest _ quotesAt _ (well-body _ (start c .pre)) in
+    (c .after-fields2 .ensures .1, rw (rest-place c, counted c .number .ensures .0) formed)
 
 add-number-2 : tie.Need-add-number-2
 add-number-2 c = search needs
 
 number-requires-2 : tie.Need-number-requires-2
-number-requires-2 c κs = omega (arith, well-length _ (c .before .before .before .before .before .before .before .before .pre))
+number-requires-2 c κs = omega (arith, long (c .before))
 
 add-number-3 : tie.Need-add-number-3
 add-number-3 c = search needs
 
 number-requires-3 : tie.Need-number-requires-3
-number-requires-3 c κs = omega (arith, well-length _ (c .before .before .before .before .before .before .before .before .before .pre))
+number-requires-3 c κs = omega (arith, long (c .before .before))
 
 add-number-4 : tie.Need-add-number-4
 add-number-4 c = search needs
 
 number-requires-4 : tie.Need-number-requires-4
-number-requires-4 c κs = omega (arith, well-length _ (c .before .before .before .before .before .before .before .before .before .before .pre))
+number-requires-4 c κs = omega (arith, long (c .before .before .before))
 
 returns : tie.Need-returns
 unfolding jobOf
 returns c =
+    let optioned = c .before .before .before in
+    let rest-found = optioned .before in
+    let flows-read = rest-found .before in
+    let figures-read = flows-read .before in
     simp (
-      c .before .before .before .before .before .before .before .tags-from .ensures,
-      c .before .before .before .before .before .before .data-from .ensures,
-      c .before .before .before .before .before .data-from2 .ensures,
-      c .before .before .before .option-at .ensures,
-      rest-place (c .before .before .before .before),
-      c .before .before .before .before .before .before .before .before .after-fields .ensures .0,
-      c .before .before .before .before .before .before .before .before .before .number .ensures .0,
+      figures-read .before .tags-from .ensures,
+      figures-read .data-from .ensures,
+      flows-read .data-from2 .ensures,
+      optioned .option-at .ensures,
+      rest-place rest-found,
+      flows-found rest-found .after-fields .ensures .0,
+      counted rest-found .number .ensures .0,
       c .before .before .number2 .ensures .0,
       c .before .number3 .ensures .0,
       c .number4 .ensures .0,

@@ -2,8 +2,8 @@
 -- Assumes nothing.
 use mathlib.Core.Path.{sym}
 use borrow.Author.Needs.{needs}
-use Rattle.sheet_laws.proofs.FittedLaws as fits
 use Rattle.sheet_laws.proofs.SheetLaws as laws
+use Rattle.record_sheet.proofs.DrawLaws.{Drawn, drawn}
 use Rattle.record_sheet.proofs.draw.Statement.{statement}
 use Rattle.record_sheet.proofs.draw.Tie as tie
 
@@ -22,58 +22,52 @@ discounts-needed-requires c κs = tt
 state-prices-needed-requires : tie.Need-state-prices-needed-requires
 state-prices-needed-requires c κs = tt
 
+-- where the quotes are converted and both counts are known
+abbrev converted : tie.After-state-prices-needed → tie.After-quotes-of-record
+converted c = c .before .before .before
+
+abbrev start : tie.After-state-prices-needed → tie.Start
+start c = converted c .before .before .before .before .before .before
+
+known : (c : tie.After-state-prices-needed) →
+    let a = start c .args in
+    Drawn (a .job) (converted c .quotes-of-record .last .1 .0) (a .discounts .now) (a .state-prices .now) (c .before .discounts-needed .result .value)
+    (c .state-prices-needed .result .value)
+known c =
+    let s = start c in
+    let own = converted c .before .before .quotes in
+    drawn (s .args .job) _ _ (s .pre .0 .0) (own .result) _ (own .ensures) (converted c .quotes-of-record .ensures .1) _ _
+    (c .before .discounts-needed .ensures) (c .state-prices-needed .ensures)
+
 array-share-prefix-quotes : tie.Need-array-share-prefix-quotes
-array-share-prefix-quotes c =
-    let s = c .before .before .before .before .before .before .before .before .before .before in
-    let own = c .before .before .before .before .before .before .quotes in
-    fits.quotes-end (s .args .job) _ _ (s .pre .0 .0) (own .result) _ (own .ensures) (c .before .before .before .before .quotes-of-record .ensures .1)
+array-share-prefix-quotes c = known (c .before) .quotes-end
 
 slice-aggregate-put-sheet : tie.Need-slice-aggregate-put-sheet
-slice-aggregate-put-sheet c =
-    let s = c .before .before .before .before .before .before .before .before .before .before .before in
-    let own = c .before .before .before .before .before .before .before .quotes in
-    fits.quotes-count (s .args .job) _ _ (s .pre .0 .0) (own .result) _ (own .ensures) (c .before .before .before .before .before .quotes-of-record .ensures .1)
+slice-aggregate-put-sheet c = known (c .before .before) .quotes-count
 
 slice-aggregate-put-sheet-2 : tie.Need-slice-aggregate-put-sheet-2
-slice-aggregate-put-sheet-2 c =
-    let s = c .before .before .before .before .before .before .before .before .before .before .before .before in
-    let needed = c .before .before .before .before .discounts-needed in
-    let all = c .before .before .before .state-prices-needed in
-    fits.discounts-count (s .args .job) _ _ (s .pre .0 .0) (needed .result) (all .result) (needed .ensures) (all .ensures)
+slice-aggregate-put-sheet-2 c = known (c .before .before .before) .discounts-count
 
 slice-aggregate-put-sheet-3 : tie.Need-slice-aggregate-put-sheet-3
-slice-aggregate-put-sheet-3 c =
-    let s = c .before .before .before .before .before .before .before .before .before .before .before .before .before in
-    let needed = c .before .before .before .before .before .discounts-needed in
-    let all = c .before .before .before .before .state-prices-needed in
-    fits.prices-count (s .args .job) _ _ (s .pre .0 .0) (needed .result) (all .result) (needed .ensures) (all .ensures)
+slice-aggregate-put-sheet-3 c = known (c .before .before .before .before) .prices-count
 
 put-sheet-requires : tie.Need-put-sheet-requires
 put-sheet-requires c κs =
-    let s = c .before .before .before .before .before .before .before .before .before .before .before .before .before in
-    let own = c .before .before .before .before .before .before .before .before .before .quotes in
-    let converted = c .before .before .before .before .before .before .before .quotes-of-record .ensures .1 in
-    let needed = c .before .before .before .before .before .discounts-needed in
-    let all = c .before .before .before .before .state-prices-needed in
-    let quoted = sym (fits.quotes-count (s .args .job) _ _ (s .pre .0 .0) (own .result) _ (own .ensures) converted) in
-    let stored = fits.stored (s .args .job) _ _ (s .pre .0 .0) (needed .result) (all .result) (needed .ensures) (all .ensures) in
-    let summed = fits.summed (s .args .job) _ _ (s .pre .0 .0) (needed .result) (all .result) (needed .ensures) (all .ensures) in
-    ((stored, quoted, s .pre .0 .1), summed)
+    let counted = c .before .before .before .before in
+    let k = known counted in
+    ((k .stored, sym (k .quotes-count), start counted .pre .0 .1), k .summed)
 
 same-length : tie.Need-same-length
 same-length c = search needs
 
 returns : tie.Need-returns
 returns c =
-    let s = c .before .before .before .before .before .before .before .before .before .before .before .before .before .before .before .before in
-    let own = c .before .before .before .before .before .before .before .before .before .before .before .before .quotes in
-    let converted = c .before .before .before .before .before .before .before .before .before .before .quotes-of-record .ensures .1 in
-    let needed = c .before .before .before .before .before .before .before .before .discounts-needed in
-    let all = c .before .before .before .before .before .before .before .state-prices-needed in
-    let quotes = fits.quotes-are (s .args .job) _ _ (s .pre .0 .0) (own .result) _ (own .ensures) converted in
-    let discounts = fits.discounts-are (s .args .job) _ _ (s .pre .0 .0) (needed .result) (all .result) (needed .ensures) (all .ensures) in
-    let prices = fits.prices-are (s .args .job) _ _ (s .pre .0 .0) (needed .result) (all .result) (needed .ensures) (all .ensures) in
-    laws.text-put (s .args .job) _ _ _ (s .args .prices) quotes discounts prices (s .pre .1) (s .args .out .now) _ _ _ (c .before .before .put-sheet .ensures)
+    let put = c .before .before in
+    let counted = put .before .before .before .before .before in
+    let s = start counted in
+    let k = known counted in
+    laws.text-put (s .args .job) _ _ _ (s .args .prices) (k .quotes-are) (k .discounts-are) (k .prices-are) (s .pre .1) (s .args .out .now) _ _ _
+    (put .put-sheet .ensures)
 
 pub draw-spec : {M : Type 1} → statement M
 draw-spec =

@@ -1,8 +1,15 @@
 -- `record_sheet::sheet_of_record` meets its contract.
 -- Assumes nothing.
-use mathlib.Core.Path.{sym, _∙_}
+use mathlib.Core.Path.{_≡_, sym, _∙_}
+use Prim.Native.Nat.{_≤_}
 use native.Mathlib.Omega.{arith}
+use lib.ListN.{length}
 use borrow.Author.Needs.{needs}
+use Rattle.limits.specs.Limits.{mostDiscounts, mostStatePrices}
+use Rattle.job_prices.specs.JobPrices.{recordPrices}
+use Rattle.sheet_room.specs.Room.{sheetRoom}
+use Rattle.sheet_laws.specs.Stored.{Fitted}
+use Rattle.sheet_laws.specs.WholeJob.{jobNumber}
 use Rattle.sheet_laws.proofs.FittedLaws as fits
 use Rattle.sheet_laws.proofs.SheetLaws as laws
 use Rattle.record_sheet.proofs.AnswerLaws as answers
@@ -33,22 +40,35 @@ lowest-cause-requires c κs = tt
 refused-requires : tie.Need-refused-requires
 refused-requires c κs = tt
 
+-- where the record is priced, in memories of the largest tree
+abbrev memories : tie.After-prices-of-record → tie.After-state-prices
+memories c = c .before .before .before
+
+abbrev start : tie.After-prices-of-record → tie.Start
+start c = memories c .before .before .before
+
+largest : (c : tie.After-prices-of-record) → c .prices-of-record .result ≡ recordPrices (start c .args .job) mostDiscounts mostStatePrices
+largest c =
+    let own-d = memories c .before .discounts in
+    let own-p = memories c .state-prices in
+    fits.prices-largest (start c .args .job) (own-d .result) (own-p .result) (own-d .ensures) (own-p .ensures) _ (c .prices-of-record .ensures .0)
+
+-- where the lowest cause is known
+abbrev priced : tie.After-lowest-cause → tie.After-prices-of-record
+priced c = c .before .before .before .before
+
+number-is : (c : tie.After-lowest-cause) →
+    let a = start (priced c) .args in
+    c .lowest-cause .result ≡ jobNumber (a .job) (length (a .out .now))
+number-is c =
+    let a = start (priced c) .args in
+    laws.cause-is (a .job) _ (largest (priced c)) (a .out .now) _ _ (c .before .room-cause .ensures) (c .lowest-cause .ensures)
+
 returns : tie.Need-returns
 returns c =
-    let s = c .before .before .before .before .before .before .before .before .before .before .before .before in
-    let discounts = c .before .before .before .before .before .before .before .before .before .before .discounts in
-    let state-prices = c .before .before .before .before .before .before .before .before .before .state-prices in
-    let prices-of-record = c .before .before .before .before .before .before .prices-of-record in
-    let room-cause = c .before .before .before .room-cause in
-    let lowest-cause = c .before .before .lowest-cause in
-    let if1 = c .before .if1 in
-    let a = s .args in
-    let own-d = discounts in
-    let own-p = state-prices in
-    let prices = prices-of-record in
-    let largest = fits.prices-largest (a .job) (own-d .result) (own-p .result) (own-d .ensures) (own-p .ensures) (prices .result) (prices .ensures .0) in
-    let number = laws.cause-is (a .job) (prices .result) largest (a .out .now) _ _ (room-cause .ensures) (lowest-cause .ensures) in
-    answers.refused-by _ _ _ (a .out .now) _ (c .refused .ensures) number (if1 .taken)
+    let refusing = c .before in
+    let a = start (priced (refusing .before)) .args in
+    answers.refused-by _ _ _ (a .out .now) _ (c .refused .ensures) (number-is (refusing .before)) (refusing .if1 .taken)
 
 slice-aggregate-draw : tie.Need-slice-aggregate-draw
 slice-aggregate-draw c = search needs
@@ -56,31 +76,36 @@ slice-aggregate-draw c = search needs
 slice-aggregate-draw-2 : tie.Need-slice-aggregate-draw-2
 slice-aggregate-draw-2 c = search needs
 
+-- where no cause refuses the job
+no-cause : (c : tie.Else1) → priced (c .before) .prices-of-record .result .number ≡ 0
+no-cause c =
+    let found = c .before in
+    let a = start (priced found) .args in
+    laws.priced-none (a .job) _ (largest (priced found)) (a .out .now) _ _ (found .before .room-cause .ensures) (found .lowest-cause .ensures) (c .if1 .left)
+
+room : (c : tie.Else1) → sheetRoom ≤ length (start (priced (c .before)) .args .out .now)
+room c =
+    let found = c .before in
+    let a = start (priced found) .args in
+    laws.room-given (a .job) _ (largest (priced found)) (a .out .now) _ _ (found .before .room-cause .ensures) (found .lowest-cause .ensures) (c .if1 .left)
+
+fitted : (c : tie.Else1) →
+    let p = priced (c .before) in
+    Fitted (start p .args .job) (p .prices-of-record .last .1 .0) (p .prices-of-record .last .1 .1 .0)
+fitted c =
+    let p = priced (c .before) in
+    let job = start p .args .job in
+    let own-d = memories p .before .discounts in
+    let own-p = memories p .state-prices in
+    let left = p .prices-of-record .ensures .1 in
+    fits.fitted job (own-d .result) (own-p .result) (own-d .ensures) (own-p .ensures) _ _ (sym (laws.prices-number-is job _ (largest p)) ∙ no-cause c)
+    (left .0) (left .1)
+
 draw-requires : tie.Need-draw-requires
 draw-requires c κs =
-    let s = c .before .before .before .before .before .before .before .before .before .before .before .before .before .before in
-    let discounts = c .before .before .before .before .before .before .before .before .before .before .before .before .discounts in
-    let state-prices = c .before .before .before .before .before .before .before .before .before .before .before .state-prices in
-    let prices-of-record = c .before .before .before .before .before .before .before .before .prices-of-record in
-    let room-cause = c .before .before .before .before .before .room-cause in
-    let lowest-cause = c .before .before .before .before .lowest-cause in
-    let if1 = c .before .before .before .if1 in
-    let a = s .args in
-    let own-d = discounts in
-    let own-p = state-prices in
-    let prices = prices-of-record in
-    let room = room-cause .ensures in
-    let cause = lowest-cause .ensures in
-    let accepted = if1 .left in
-    let largest = fits.prices-largest (a .job) (own-d .result) (own-p .result) (own-d .ensures) (own-p .ensures) (prices .result) (prices .ensures .0) in
-    let priced = laws.priced-none (a .job) (prices .result) largest (a .out .now) _ _ room cause accepted in
-    let none = sym (laws.prices-number-is (a .job) (prices .result) largest) ∙ priced in
-    let fitted = fits.fitted (a .job) (own-d .result) (own-p .result) (own-d .ensures) (own-p .ensures) _ _ none (prices .ensures .1 .0)
-    (prices .ensures .1 .1) in (
-      (fitted, laws.room-given (a .job) (prices .result) largest (a .out .now) _ _ room cause accepted),
-      laws.prices-known (a .job) (prices .result) largest
-          priced,
-    )
+    let accepted = c .before .before .before in
+    let p = priced (accepted .before) in
+    ((fitted accepted, room accepted), laws.prices-known (start p .args .job) _ (largest p) (no-cause accepted))
 
 sub-t23 : tie.Need-sub-t23
 sub-t23 c = omega (arith, c .before .before .draw .ensures .place)
@@ -90,21 +115,10 @@ same-length c = search needs
 
 returns-2 : tie.Need-returns-2
 returns-2 c =
-    let s = c .before .before .before .before .before .before .before .before .before .before .before .before .before .before .before .before .before in
-    let discounts = c .before .before .before .before .before .before .before .before .before .before .before .before .before .before .before .discounts in
-    let state-prices = c .before .before .before .before .before .before .before .before .before .before .before .before .before .before .state-prices in
-    let prices-of-record = c .before .before .before .before .before .before .before .before .before .before .before .prices-of-record in
-    let room-cause = c .before .before .before .before .before .before .before .before .room-cause in
-    let lowest-cause = c .before .before .before .before .before .before .before .lowest-cause in
-    let if1 = c .before .before .before .before .before .before .if1 in
-    let draw = c .before .before .draw in
-    let a = s .args in
-    let own-d = discounts in
-    let own-p = state-prices in
-    let prices = prices-of-record in
-    let largest = fits.prices-largest (a .job) (own-d .result) (own-p .result) (own-d .ensures) (own-p .ensures) (prices .result) (prices .ensures .0) in
-    let number = laws.cause-is (a .job) (prices .result) largest (a .out .now) _ _ (room-cause .ensures) (lowest-cause .ensures) in
-    answers.sheet-put _ _ (a .out .now) _ _ (sym number ∙ if1 .left) (draw .ensures)
+    let drawn = c .before .before in
+    let accepted = drawn .before .before .before .before in
+    let found = accepted .before in
+    answers.sheet-put _ _ (start (priced found) .args .out .now) _ _ (sym (number-is found) ∙ accepted .if1 .left) (drawn .draw .ensures)
 
 pub sheet-of-record-spec : {M : Type 1} → statement M
 sheet-of-record-spec =

@@ -1,11 +1,12 @@
 -- `text::node_line` meets its contract: the line with the discount's step rate, or the lower of both causes.
 -- Assumes nothing.
-use mathlib.Core.Path.{ap, _∙_}
+use mathlib.Core.Path.{_≡_, ap, _∙_}
 use lib.ListN.{length}
 use mir.Facts.{toZ-ofZ}
 use borrow.Author.Needs.{needs}
 use Rattle.step_rate.specs.declared.Rate.{Rate}
 use Rattle.step_rate.proofs.RateLaws.{value-back}
+use Rattle.text_laws.specs.Lines.{nodeNumber}
 use Rattle.text_laws.proofs.LineLaws.{node-cause, node-room-known, node-refused, node-put}
 use Rattle.text.proofs.node_line.Statement.{statement}
 use Rattle.text.proofs.node_line.Tie as tie
@@ -19,43 +20,42 @@ line-number-requires c κs = search needs
 lowest-cause-requires : tie.Need-lowest-cause-requires
 lowest-cause-requires c κs = search needs
 
+-- where both causes are known: the lower of them
+abbrev rated : tie.After-lowest-cause → tie.After-of-discount
+rated c = c .before .before
+
+abbrev start : tie.After-lowest-cause → tie.Start
+start c = rated c .before .before
+
+cause : (c : tie.After-lowest-cause) → let a = start c .args in c .lowest-cause .result ≡ nodeNumber (length (a .out .now)) (a .end) (a .discount)
+cause c =
+    let a = start c .args in
+    node-cause (length (a .out .now)) (a .end) (a .discount) _ _ _ (rated c .of-discount .ensures) (c .before .line-number .ensures)
+    (c .lowest-cause .ensures)
+
 returns : tie.Need-returns
 returns c =
-    let s = c .before .before .before .before .before in
-    let of-discount = c .before .before .before .of-discount in
-    let line-number = c .before .before .line-number in
-    let lowest-cause = c .before .lowest-cause in
-    let if1 = c .if1 in
-    let e = node-cause (length (s .args .out .now)) (s .args .end) (s .args .discount) _ _ _ (of-discount .ensures) (line-number .ensures)
-    (lowest-cause .ensures) in
-    node-refused (s .args .out .now) (s .args .end) (s .args .row) (s .args .discount) _ _ e (if1 .taken)
+    let a = start (c .before) .args in
+    node-refused (a .out .now) (a .end) (a .row) (a .discount) _ _ (cause (c .before)) (c .if1 .taken)
 
 put-node-requires : tie.Need-put-node-requires
 put-node-requires c κs =
-    let s = c .before .before .before .before .before .before .before in
-    let of-discount = c .before .before .before .before .before .of-discount in
-    let line-number = c .before .before .before .before .line-number in
-    let lowest-cause = c .before .before .before .lowest-cause in
-    let if1 = c .before .before .if1 in
-    let e = node-cause (length (s .args .out .now)) (s .args .end) (s .args .discount) _ _ _ (of-discount .ensures) (line-number .ensures)
-    (lowest-cause .ensures) in
-    node-room-known _ _ (s .args .discount) _ e (if1 .left)
+    let accepted = c .before .before in
+    node-room-known _ _ (start (accepted .before) .args .discount) _ (cause (accepted .before)) (accepted .if1 .left)
 
 same-length : tie.Need-same-length
 same-length c = search needs
 
 returns-2 : tie.Need-returns-2
 returns-2 c =
-    let s = c .before .before .before .before .before .before .before .before .before .before in
-    let of-discount = c .before .before .before .before .before .before .before .before .of-discount in
-    let line-number = c .before .before .before .before .before .before .before .line-number in
-    let lowest-cause = c .before .before .before .before .before .before .lowest-cause in
-    let if1 = c .before .before .before .before .before .if1 in
-    let put-node = c .before .before .put-node in
-    let e = node-cause (length (s .args .out .now)) (s .args .end) (s .args .discount) _ _ _ (of-discount .ensures) (line-number .ensures)
-    (lowest-cause .ensures) in
-    let r = value-back (s .args .discount) (of-discount .result) (of-discount .ensures) ∙ ap (λ (r : Rate). r .value) (of-discount .ensures) in
-    node-put (s .args .out .now) (s .args .end) (s .args .row) (s .args .discount) _ _ e (if1 .left) _ r (rw (toZ-ofZ (s .fits .node)) at (put-node .ensures))
+    let noded = c .before .before in
+    let accepted = noded .before .before .before in
+    let s = start (accepted .before) in
+    let a = s .args in
+    let rate = rated (accepted .before) .of-discount in
+    let r = value-back (a .discount) (rate .result) (rate .ensures) ∙ ap (λ (r : Rate). r .value) (rate .ensures) in
+    node-put (a .out .now) (a .end) (a .row) (a .discount) _ _ (cause (accepted .before)) (accepted .if1 .left) _ r
+    (rw (toZ-ofZ (s .fits .node)) at (noded .put-node .ensures))
 
 pub node-line-spec : {M : Type 1} → statement M
 node-line-spec =

@@ -18,18 +18,23 @@ put-fraction-requires c κs =
 power-of-ten-requires : tie.Need-power-of-ten-requires
 power-of-ten-requires c κs = search needs
 
-power : (c : tie.After-power-of-ten) → c .power-of-ten .result ≡ 10 ^ c .before .before .before .before .before .before .before .args .decimals
-power c =
-    let s = c .before .before .before .before .before .before .before in
-    c .power-of-ten .ensures ∙ power-listed (s .args .decimals) (s .pre .0)
+-- where the whole part is found
+abbrev fraction-put : tie.After-power-of-ten → tie.After-put-fraction
+fraction-put c = c .before .before .before .before
+
+abbrev start : tie.After-power-of-ten → tie.Start
+start c = fraction-put c .before .before .before
+
+power : (c : tie.After-power-of-ten) → c .power-of-ten .result ≡ 10 ^ start c .args .decimals
+power c = c .power-of-ten .ensures ∙ power-listed (start c .args .decimals) (start c .pre .0)
 
 div-put-natural : tie.Need-div-put-natural
-div-put-natural c = omega (arith, power c, ten-pos (c .before .before .before .before .before .before .before .args .decimals))
+div-put-natural c = omega (arith, power c, ten-pos (start c .args .decimals))
 
 put-natural-requires : tie.Need-put-natural-requires
 put-natural-requires c κs =
-    let s = c .before .before .before .before .before .before .before in
-    let p = c .before .before .before .before .put-fraction .ensures in
+    let s = start c in
+    let p = fraction-put c .put-fraction .ensures in
     rw (power c) (omega (arith, p .place, decimal-length (s .args .decimals) (s .args .number)), omega (arith, p .place, p .within, p .same))
 
 same-length : tie.Need-same-length
@@ -37,10 +42,10 @@ same-length c = search needs
 
 returns : tie.Need-returns
 returns c =
-    let s = c .before .before .before .before .before .before .before .before .before .before in
-    let fraction = c .before .before .before .before .before .before .before .put-fraction .ensures in
-    let whole = rw (power (c .before .before .before)) at (c .before .before .put-natural .ensures) in
-    rw (decimal-parts (s .args .decimals) (s .args .number)) (put-before fraction whole)
+    let divided = c .before .before .before in
+    let s = start divided in
+    let whole = rw (power divided) at (c .before .before .put-natural .ensures) in
+    rw (decimal-parts (s .args .decimals) (s .args .number)) (put-before (fraction-put divided .put-fraction .ensures) whole)
 
 pub put-decimal-spec : {M : Type 1} → statement M
 put-decimal-spec = tie.close (tie.spec put-fraction-requires power-of-ten-requires div-put-natural put-natural-requires same-length returns)

@@ -19,37 +19,44 @@ line-number-requires c κs = search needs
 returns : tie.Need-returns
 returns c =
     let s = c .before .before .before in
-    let line-number = c .before .line-number in
-    let if1 = c .if1 in
-    line-refused (s .args .out .now) (s .args .end) _ (line-number .result) (line-number .ensures) (if1 .taken)
+    line-refused (s .args .out .now) (s .args .end) _ (c .before .line-number .result) (c .before .line-number .ensures) (c .if1 .taken)
+
+-- where the line fits
+abbrev start : tie.Else1 → tie.Start
+start c = c .before .before .before
+
+room : (c : tie.Else1) → (128 ≤ start c .args .end) × (start c .args .end ≤ length (start c .args .out .now))
+room c =
+    let a = start c .args in
+    room-known (length (a .out .now)) (a .end) (sym (c .before .line-number .ensures) ∙ c .if1 .left)
 
 put-bounded-requires : tie.Need-put-bounded-requires
-put-bounded-requires c κs =
-    let s = c .before .before .before .before in
-    let line-number = c .before .before .line-number in
-    let if1 = c .before .if1 in
-    let r = room-known (length (s .args .out .now)) (s .args .end) (sym (line-number .ensures) ∙ if1 .left) in
-    (omega arith, r .1)
+put-bounded-requires c κs = (omega (arith, room (c .before) .0), room (c .before) .1)
+
+-- where a field is put, and the room that it leaves
+abbrev fits-at : tie.After-put-bounded → tie.Else1
+fits-at c = c .before .before
 
 total-put : (c : tie.After-put-bounded) → (75 ≤ c .put-bounded .result) × (c .put-bounded .result ≤ length (c .put-bounded .last .0))
 total-put c =
-    let s = c .before .before .before .before .before in
-    let line-number = c .before .before .before .line-number in
-    let if1 = c .before .before .if1 in
-    let r = room-known (length (s .args .out .now)) (s .args .end) (sym (line-number .ensures) ∙ if1 .left) in
-    room-left 53 75 (c .put-bounded .ensures) (omega arith)
+    let s = start (fits-at c) in
+    room-left 53 75 (c .put-bounded .ensures) (omega (arith, room (fits-at c) .0))
     (bounded-room (s .args .total) (s .args .bound) (s .fits .total .fits) (s .fits .bound .fits))
 
 put-field-requires : tie.Need-put-field-requires
 put-field-requires c κs =
-    let s = c .before .before .before .before .before .before .before .before in
-    let r = total-put (c .before .before .before) in
+    let totalled = c .before .before .before in
+    let s = start (fits-at totalled) in
+    let r = total-put totalled in
     (omega arith, omega (arith, field-room 9 (s .args .quote) 32 (s .fits .quote .fits)), r .1)
+
+abbrev total-at : tie.After-put-field → tie.After-put-bounded
+total-at c = c .before .before .before .before
 
 quote-put : (c : tie.After-put-field) → (44 ≤ c .put-field .result) × (c .put-field .result ≤ length (c .put-field .last .0))
 quote-put c =
-    let s = c .before .before .before .before .before .before .before .before .before in
-    let r = total-put (c .before .before .before .before) in
+    let s = start (fits-at (total-at c)) in
+    let r = total-put (total-at c) in
     room-left 31 44 (c .put-field .ensures) (omega arith) (field-room 9 (s .args .quote) 32 (s .fits .quote .fits))
 
 slice-aggregate-put-label : tie.Need-slice-aggregate-put-label
@@ -64,15 +71,12 @@ same-length c = search needs
 returns-2 : tie.Need-returns-2
 unfolding rowLine
 returns-2 c =
-    let s = c .before .before .before .before .before .before .before .before .before .before .before .before .before .before .before .before in
-    let line-number = c .before .before .before .before .before .before .before .before .before .before .before .before .before .before .line-number in
-    let if1 = c .before .before .before .before .before .before .before .before .before .before .before .before .before .if1 in
-    let put-bounded = c .before .before .before .before .before .before .before .before .before .before .before .put-bounded in
-    let put-field = c .before .before .before .before .before .before .before .put-field in
-    let put-label = c .before .before .put-label in
-    let r = room-known (length (s .args .out .now)) (s .args .end) (sym (line-number .ensures) ∙ if1 .left) in
-    let put = laws.put-label rowWord _ (put-before (put-bounded .ensures) (put-field .ensures)) (put-label .ensures) in
-    line-put (s .args .out .now) (s .args .end) _ (r .0) put
+    let labelled = c .before .before in
+    let quoted = labelled .before .before .before .before .before in
+    let totalled = total-at quoted in
+    let a = start (fits-at totalled) .args in
+    let fields = put-before (totalled .put-bounded .ensures) (quoted .put-field .ensures) in
+    line-put (a .out .now) (a .end) _ (room (fits-at totalled) .0) (laws.put-label rowWord _ fields (labelled .put-label .ensures))
 
 pub row-line-spec : {M : Type 1} → statement M
 row-line-spec =

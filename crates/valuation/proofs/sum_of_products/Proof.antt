@@ -30,14 +30,15 @@ mul-total-2 c = search needs
 shared-slice-read-total-2 : tie.Need-shared-slice-read-total-2 Inv-loop μ-loop
 shared-slice-read-total-2 c = search needs
 
+-- where both numbers are read
+abbrev start : tie.After-shared-slice-known2 Inv-loop μ-loop → tie.Start Inv-loop μ-loop
+start c = c .before .before .before .before
+
 -- the next sum fits 64 bits
-small : (c : tie.After-shared-slice-known2 Inv-loop μ-loop) →
-    c .before .before .before .loop .total
-    + values (c .before .before .before .before .args .prices .now) (c .before .before .before .loop .index)
-    * values (c .before .before .before .before .args .payoffs .now) (c .before .before .before .loop .index)
-    ≤ 16000000800000000000
+small : (c : tie.After-shared-slice-known2 Inv-loop μ-loop) → let a = start c .args in
+    let l = c .before .before .before .loop in l .total + values (a .prices .now) (l .index) * values (a .payoffs .now) (l .index) ≤ 16000000800000000000
 small c =
-    let s = c .before .before .before .before in
+    let s = start c in
     laws.product-small (s .args .prices .now) (s .args .payoffs .now) (s .pre .0) (s .pre .1) (s .pre .2)
     _ _ (omega arith) (c .before .before .before .loop .inv .1 .sums)
 

@@ -5,8 +5,27 @@ use Rattle.valuation.proofs.EntryLaws as laws
 use Rattle.valuation.proofs.valuation_error_bound.Statement.{statement}
 use Rattle.valuation.proofs.valuation_error_bound.Tie as tie
 
+-- where the number is known
+abbrev counted : tie.After-lowest-cause → tie.After-node-count
+counted c = c .before .before .before
+
+abbrev bounded : tie.After-lowest-cause → tie.After-state-price-error-bound
+bounded c = counted c .before
+
 abbrev start : tie.After-lowest-cause → tie.Start
-start c = c .before .before .before .before .before .before .before
+start c = bounded c .before .before .before
+
+found : (c : tie.After-lowest-cause) → let a = start c .args in
+    laws.Found (a .steps) (a .reversion) (a .discounts .now) (a .row) (a .payoffs .now) (bounded c .state-price-error-bound .result)
+    (counted c .node-count .result) (c .before .before .greatest-of .result) (c .before .payoffs-cause .result) (c .lowest-cause .result)
+found c =
+    record {
+      row-bound = bounded c .state-price-error-bound .ensures;
+      row-nodes = counted c .node-count .ensures;
+      highest = c .before .before .greatest-of .ensures;
+      of-payoffs = c .before .payoffs-cause .ensures;
+      lowest = c .lowest-cause .ensures;
+    }
 
 state-price-error-bound-requires : tie.Need-state-price-error-bound-requires
 state-price-error-bound-requires c κs = search needs
@@ -27,31 +46,13 @@ refused-requires : tie.Need-refused-requires
 refused-requires c κs = search needs
 
 returns : tie.Need-returns
-returns c =
-    let l = c .before .before in
-    let s = start l in
-    laws.refused-number _ _ _ _ (s .args .payoffs .now)
-    _ _ (l .before .before .before .before .state-price-error-bound .ensures) (l .before .before .before .node-count .ensures)
-    _ (l .before .before .greatest-of .ensures) _ (l .before .payoffs-cause .ensures) _ (l .lowest-cause .ensures)
-    (c .before .if1 .taken) _ (c .refused .ensures)
+returns c = laws.refused-number _ _ _ _ _ _ _ _ _ _ (found (c .before .before)) (c .before .if1 .taken) _ (c .refused .ensures)
 
 bound-of-value-requires : tie.Need-bound-of-value-requires
-bound-of-value-requires c κs =
-    let l = c .before in
-    let s = start l in
-    laws.none-sizes _ _ _ _ (s .args .payoffs .now)
-    _ _ (l .before .before .before .before .state-price-error-bound .ensures) (l .before .before .before .node-count .ensures)
-    _ (l .before .before .greatest-of .ensures) _ (l .before .payoffs-cause .ensures) _ (l .lowest-cause .ensures)
-    (c .if1 .left)
+bound-of-value-requires c κs = laws.none-sizes _ _ _ _ _ _ _ _ _ _ (found (c .before)) (c .if1 .left)
 
 returns-2 : tie.Need-returns-2
-returns-2 c =
-    let l = c .before .before in
-    let s = start l in
-    laws.bound-found _ _ _ _ (s .args .payoffs .now)
-    _ _ (l .before .before .before .before .state-price-error-bound .ensures) (l .before .before .before .node-count .ensures)
-    _ (l .before .before .greatest-of .ensures) _ (l .before .payoffs-cause .ensures) _ (l .lowest-cause .ensures)
-    (c .before .if1 .left) _ (c .bound-of-value .ensures)
+returns-2 c = laws.bound-found _ _ _ _ _ _ _ _ _ _ (found (c .before .before)) (c .before .if1 .left) _ (c .bound-of-value .ensures)
 
 pub valuation-error-bound-spec : {M : Type 1} → statement M
 valuation-error-bound-spec =

@@ -1,7 +1,7 @@
 -- `pricing::rows::bond_row` meets its contract: the loop fills the row from its lowest node.
 -- Assumes nothing.
 use mathlib.Core.Path.{ap}
-use Prim.Native.Nat.{ℕ, _+_, _-_, _≤_}
+use Prim.Native.Nat.{ℕ, _+_, _-_, _≤_, _<_}
 use native.Mathlib.Omega.{arith}
 use lib.ListN.{length}
 use denote.Ref.{now}
@@ -30,9 +30,13 @@ mul-roll-node c = omega arith
 shared-slice-read-roll-node : tie.Need-shared-slice-read-roll-node Inv-loop μ-loop
 shared-slice-read-roll-node c = omega arith
 
+-- where the node's branch is known
+abbrev start : tie.After-shared-slice-known4 Inv-loop μ-loop → tie.Start Inv-loop μ-loop
+start c = c .before .before .before .before .before .before .before .before
+
 roll-node-requires : tie.Need-roll-node-requires Inv-loop μ-loop
 roll-node-requires c κs =
-    let s = c .before .before .before .before .before .before .before .before in
+    let s = start c in
     let e = c .before .row-branch .ensures in (
       branch-inside _ _ (now (s .args .later)) _ _ (s .pre .0) (s .pre .1) (omega arith) _ e,
       branch-whole _ _ (now (s .args .later)) _ _ (s .pre .0) (s .pre .1) (omega arith) _ e,
@@ -41,19 +45,19 @@ roll-node-requires c κs =
     )
 
 add-value : tie.Need-add-value Inv-loop μ-loop
-add-value c = omega (arith, c .roll-node .ensures .1, c .before .before .before .before .before .before .before .before .before .pre .3)
+add-value c = omega (arith, c .roll-node .ensures .1, start (c .before) .pre .3)
+
+-- the row has a place for the node
+room : (c : tie.After-roll-node Inv-loop μ-loop) → let l = c .before .before .before .before .loop in l .k < length (l .row)
+room c =
+    let l = c .before .before .before .before .loop in
+    omega (arith, l .inv .1 .filled .same, start (c .before) .pre .2)
 
 mul-row : tie.Need-mul-row Inv-loop μ-loop
-mul-row c =
-    let s = c .before .before .before .before .before .before .before .before .before in
-    let loop = c .before .before .before .before .loop in
-    omega (arith, loop .inv .1 .filled .same, s .pre .2)
+mul-row c = let at = room c in omega arith
 
 slice-write-row : tie.Need-slice-write-row Inv-loop μ-loop
-slice-write-row c =
-    let s = c .before .before .before .before .before .before .before .before .before in
-    let loop = c .before .before .before .before .loop in
-    omega (arith, loop .inv .1 .filled .same, s .pre .2)
+slice-write-row c = room c
 
 larger-requires : tie.Need-larger-requires Inv-loop μ-loop
 larger-requires c κs = search needs
@@ -66,17 +70,13 @@ loop-less c = omega arith
 
 loop-again : tie.Need-loop-again Inv-loop μ-loop
 loop-again c =
-    let p9 = c .before .before .before .before .before .before .before .before .before in
-    let loop = c .before .before .before .before .before .loop in
-    let row-branch = c .before .before .before .row-branch in
-    let roll-node = c .before .roll-node in
-    let s = p9 .before in
-    let l = loop in (
+    let rolled = c .before in
+    let node = rolled .before in
+    let s = start node in
+    let l = node .before .before .before .loop in
+    let b = branch-rolled _ _ _ _ _ (s .pre .0) (s .pre .1) (omega arith) _ (node .before .row-branch .ensures) _ (rolled .roll-node .ensures .0) in (
       omega arith,
-      row-next _ (l .row) _ (l .top) (l .k) _ _ (l .inv .1) (omega (arith, l .inv .1 .filled .same, s .pre .2))
-          (ap (λ (x : ℕ). x + s .args .flow)
-          (branch-rolled _ _ _ _ _ (s .pre .0) (s .pre .1) (omega arith) _ (row-branch .ensures) _ (roll-node .ensures .0)))
-          (c .larger .ensures),
+      row-next _ (l .row) _ (l .top) (l .k) _ _ (l .inv .1) (room rolled) (ap (λ (x : ℕ). x + s .args .flow) b) (c .larger .ensures),
     )
 
 same-length : tie.Need-same-length Inv-loop μ-loop

@@ -14,10 +14,15 @@ use native.Mathlib.Omega.{arith}
 use Rattle.record_sheet.proofs.lines.put_row.Statement.{statement}
 use Rattle.record_sheet.proofs.lines.put_row.Tie as tie
 
-part-is : (c : tie.After-row-view) → c .row-view .result .now ≡ rowPart (c .before .before .before .before .before .args .tree .reversion)
-    (c .before .before .before .before .before .args .state-prices .now) (suc (c .before .before .before .before .before .args .before))
+-- where the row's part is shown
+abbrev start : tie.After-row-view → tie.Start
+start c = c .before .before .before .before .before
+
+part-is : (c : tie.After-row-view) →
+    let a = start c .args in
+    c .row-view .result .now ≡ rowPart (a .tree .reversion) (a .state-prices .now) (suc (a .before))
 part-is c =
-    let s = c .before .before .before .before .before in
+    let s = start c in
     let a = s .args in
     rw (← add-one (a .before))
     (laws.shown (a .discounts) (a .state-prices) StatePrices (a .tree .steps) (a .tree .reversion) (a .before + 1) (c .row-view .result) (s .pre .1)
@@ -30,7 +35,7 @@ row-view-requires : tie.Need-row-view-requires
 row-view-requires c κs = search needs
 
 row-total-requires : tie.Need-row-total-requires
-row-total-requires c κs = rw (part-is c) (c .before .before .before .before .before .pre .3)
+row-total-requires c κs = rw (part-is c) (start c .pre .3)
 
 state-price-error-bound-requires : tie.Need-state-price-error-bound-requires
 state-price-error-bound-requires c κs = search needs
@@ -47,22 +52,32 @@ row-line-requires c κs = search needs
 same-length : tie.Need-same-length
 same-length c = search needs
 
+-- where the sum and the allowance are known
+total-is : (c : tie.After-row-total) →
+    let a = start (c .before) .args in
+    c .row-total .result ≡ sumOf (rowPart (a .tree .reversion) (a .state-prices .now) (suc (a .before)))
+total-is c = c .row-total .ensures ∙ ap sumOf (part-is (c .before))
+
+allowance-is : (c : tie.After-state-price-error-bound) →
+    let a = start (c .before .before) .args in
+    c .state-price-error-bound .result ≡ statePriceErrorBoundAnswer (a .tree .steps) (a .tree .reversion) (a .discounts .now) (suc (a .before))
+allowance-is c =
+    let a = start (c .before .before) .args in
+    subst
+    (λ (i : ℕ). c .state-price-error-bound .result ≡ statePriceErrorBoundAnswer (a .tree .steps) (a .tree .reversion) (a .discounts .now) i)
+    (add-one (a .before)) (c .state-price-error-bound .ensures)
+
 returns : tie.Need-returns
 returns c =
-    let s = c .before .before .before .before .before .before .before .before .before .before .before .before in
-    let shared-slice-known = c .before .before .before .before .before .before .before .before .before .before .shared-slice-known in
-    let row-total = c .before .before .before .before .before .before .row-total in
-    let p6 = c .before .before .before .before .before .before in
-    let state-price-error-bound = c .before .before .before .before .before .state-price-error-bound in
-    let row-line = c .before .before .row-line in
-    let a = s .args in
-    let pre = s .pre in
+    let drawn = c .before .before in
+    let bounded = drawn .before .before .before in
+    let viewed = bounded .before .before in
+    let a = start viewed .args in
+    let pre = start viewed .pre in
+    let quotes = viewed .before .before .before .shared-slice-known in
     laws.row-line-stands (a .tree .steps) (a .tree .reversion) (a .quotes .now) (a .discounts .now) (a .state-prices .now) (a .before) (a .end)
-    (row-total .result) (a .out .now) _ (state-price-error-bound .result)
-    (row-total .ensures ∙ ap sumOf (part-is (p6 .before))) (subst
-    (λ (i : ℕ). state-price-error-bound .result ≡ statePriceErrorBoundAnswer (a .tree .steps) (a .tree .reversion) (a .discounts .now) i) (add-one (a .before))
-    (state-price-error-bound .ensures))
-    (omega (arith, pre .0, pre .1 .lent .steps-within-limit)) (shared-slice-known .given (a .before) .fits) (search needs) (pre .4) (pre .5) (row-line .ensures)
+    (bounded .before .row-total .result) (a .out .now) _ (bounded .state-price-error-bound .result) (total-is (bounded .before)) (allowance-is bounded)
+    (omega (arith, pre .0, pre .1 .lent .steps-within-limit)) (quotes .given (a .before) .fits) (search needs) (pre .4) (pre .5) (drawn .row-line .ensures)
 
 pub put-row-spec : {M : Type 1} → statement M
 put-row-spec =

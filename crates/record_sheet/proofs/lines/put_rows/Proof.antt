@@ -1,6 +1,7 @@
 -- `record_sheet::lines::put_rows` meets its contract.
 -- Assumes nothing.
 use Prim.Native.Nat.{ℕ, suc, _+_, _-_, _*_, _≤_, _<_}
+use mathlib.Core.List.{List}
 use lib.ListN.{length}
 use Rattle.sheet_laws.specs.TreeSheet.{lineOfRow}
 use Rattle.node_lines.proofs.LineLoop.{Progress, begun, gone, ended}
@@ -17,40 +18,40 @@ Inv-loop out₀ end steps reversion quotes discounts state-prices start₀ left�
 abbrev μ-loop : tie.MeasureT-loop
 μ-loop out₀ end steps reversion quotes discounts state-prices start₀ left₀ out start left = left
 
-fits : (c : tie.After-shared-slice-known3 Inv-loop μ-loop) (i : ℕ) → i < c .before .before .before .before .args .steps → 128 * i + length
-    (lineOfRow (c .before .before .before .before .args .steps) (c .before .before .before .before .args .reversion)
-    (c .before .before .before .before .args .quotes .now) (c .before .before .before .before .args .discounts .now)
-    (c .before .before .before .before .args .state-prices .now) i) ≤ 128 * suc i
+abbrev line : tie.Start Inv-loop μ-loop → ℕ → List ℕ
+line s = lineOfRow (s .args .steps) (s .args .reversion) (s .args .quotes .now) (s .args .discounts .now) (s .args .state-prices .now)
+
+-- where the loop begins
+abbrev start : tie.After-shared-slice-known3 Inv-loop μ-loop → tie.Start Inv-loop μ-loop
+start c = c .before .before .before .before
+
+fits : (c : tie.After-shared-slice-known3 Inv-loop μ-loop) (i : ℕ) → i < start c .args .steps → 128 * i + length (line (start c) i) ≤ 128 * suc i
 fits c =
-    let s = c .before .before .before .before in
-    let shared-slice-known = c .before .before .shared-slice-known in
+    let s = start c in
     let a = s .args in
     laws.rows-fit (a .steps) (a .reversion) (a .quotes .now) (a .discounts .now) (a .state-prices .now) (s .pre .0 .0 .lent .steps-within-limit)
-    (λ j. shared-slice-known .given j .fits) (s .pre .1)
+    (λ j. c .before .before .shared-slice-known .given j .fits) (s .pre .1)
 
 loop-holds : tie.Need-loop-holds Inv-loop μ-loop
 loop-holds c =
-    let s = c .before .before .before .before in
-    (let a = s .args in begun (lineOfRow (a .steps) (a .reversion) (a .quotes .now) (a .discounts .now) (a .state-prices .now)) (λ (i : ℕ). 128 * i)
-    (a .steps) (fits c) (a .out .now) (a .end) (s .pre .0 .2))
+    let s = start c in
+    begun (line s) (λ (i : ℕ). 128 * i) (s .args .steps) (fits c) (s .args .out .now) (s .args .end) (s .pre .0 .2)
 
 sub-left : tie.Need-sub-left Inv-loop μ-loop
 sub-left c = search needs
 
 put-row-requires : tie.Need-put-row-requires Inv-loop μ-loop
 put-row-requires c κs =
-    let s = c .before .before .before .before .before .before .before in
-    let loop = c .before .before .loop in
-    let l = loop in
-    let p = l .inv in
-    let pre = s .pre in (
+    let looping = c .before .before in
+    let pre = start (looping .before) .pre in
+    let l = looping .loop in
+    let p = l .inv in (
       omega (arith, p .upto),
       pre .0 .0,
       pre .0 .1,
       pre .1 (l .left - 1) (omega (arith, p .upto)),
       omega (arith, p .enough),
-      omega
-          (arith, p .below, p .same, pre .0 .3),
+      omega (arith, p .below, p .same, pre .0 .3),
     )
 
 loop-less : tie.Need-loop-less Inv-loop μ-loop
@@ -58,23 +59,21 @@ loop-less c = search needs
 
 loop-again : tie.Need-loop-again Inv-loop μ-loop
 loop-again c =
-    let s = c .before .before .before .before .before .before .before .before .before .before in
-    let p5 = c .before .before .before .before .before in
-    let loop = c .before .before .before .before .before .loop in
-    let put-row = c .before .before .put-row in
-    (let a = s .args in gone (lineOfRow (a .steps) (a .reversion) (a .quotes .now) (a .discounts .now) (a .state-prices .now)) (λ (i : ℕ). 128 * i)
-    (a .steps) (fits (p5 .before)) (a .out .now) (a .end) (loop .inv) (omega arith) (put-row .ensures))
+    let put = c .before .before in
+    let looping = put .before .before .before in
+    let s = start (looping .before) in
+    gone (line s) (λ (i : ℕ). 128 * i) (s .args .steps) (fits (looping .before)) (s .args .out .now) (s .args .end) (looping .loop .inv) (omega arith)
+    (put .put-row .ensures)
 
 same-length : tie.Need-same-length Inv-loop μ-loop
-same-length c = (c .before .loop .inv .same)
+same-length c = c .before .loop .inv .same
 
 returns : tie.Need-returns Inv-loop μ-loop
 returns c =
-    let s = c .before .before .before .before .before .before in
-    let p1 = c .before in
-    let loop = c .before .loop in
-    (let a = s .args in ended (lineOfRow (a .steps) (a .reversion) (a .quotes .now) (a .discounts .now) (a .state-prices .now)) (λ (i : ℕ). 128 * i)
-    (a .steps) (fits (p1 .before)) (a .out .now) (a .end) (loop .inv) (omega arith) (s .pre .0 .3))
+    let looping = c .before in
+    let s = start (looping .before) in
+    ended (line s) (λ (i : ℕ). 128 * i) (s .args .steps) (fits (looping .before)) (s .args .out .now) (s .args .end) (looping .loop .inv) (omega arith)
+    (s .pre .0 .3)
 
 pub put-rows-spec : {M : Type 1} → statement M
 put-rows-spec =
