@@ -105,12 +105,13 @@ static void must_be_equal(const struct work *w, const struct result *x, const st
     exit(1);
 }
 
-/* Any curve, and a bond and an option of which some are refused. */
+/* Any curve, quoted by rates or by yields, and a bond and an option of which some are refused. */
 static struct work any_work(int i)
 {
     static const uint64_t reversions[] = {0, 1, 31, 83, 500, 1000, 1840, 1841, 6000}, frequencies[] = {12, 4, 2, 1};
     struct work w = work_of(1 + (size_t)(uniform() * 60), reversions[i % 9], uniform() * 0.1 - 0.02, uniform() * 0.002 - 0.0005);
     w.f = frequencies[i % 4];
+    memset(w.kinds, i % 3 ? 6 : 9, w.n);
     w.kind = i % 50 ? 1 + (uint64_t)(i / 4 % 4) : 5;
     w.s = (uint64_t)(uniform() * 40000);
     w.expiry = (size_t)(uniform() * (double)(w.n + 1));
@@ -136,7 +137,22 @@ static void compare_results(void)
         bonds += x.bond.number == 0;
         options += x.option.number == 0;
     }
-    printf("results of library and plain C equal on %d curves; accepted: %d fits, %d bonds, %d options\n\n", CURVES, fits, bonds, options);
+    printf("results of library and plain C equal on %d curves; accepted: %d fits, %d bonds, %d options\n", CURVES, fits, bonds, options);
+}
+
+/* Continuous rates of discounts over the whole range and beyond it. */
+static void compare_rates(void)
+{
+    for (int i = 0; i < CURVES; i++) {
+        const uint64_t discount = i < 10 ? (uint64_t)i : (uint64_t)(uniform() * 1.101e9);
+        const struct mixegorta_rate x = mixegorta_continuous_rate(discount);
+        const struct plain_rate y = plain_continuous_rate(discount);
+        if (x.number == y.number && x.value == y.value)
+            continue;
+        fprintf(stderr, "DIFFERENT continuous rates of %llu: %lld and %lld\n", (unsigned long long)discount, (long long)x.value, (long long)y.value);
+        exit(1);
+    }
+    printf("continuous rates equal on %d discounts\n\n", CURVES);
 }
 
 static double now(void)
@@ -213,6 +229,45 @@ static void against_plain_c(int turns)
             line_against_plain_c(shown[i], rows[k].name, rows[k].parts, turns);
 }
 
+typedef int64_t (*rate_of)(uint64_t);
+
+static int64_t rate_by_library(uint64_t discount)
+{
+    return mixegorta_continuous_rate(discount).value;
+}
+
+static int64_t rate_by_plain_c(uint64_t discount)
+{
+    return plain_continuous_rate(discount).value;
+}
+
+static volatile int64_t last_rate;
+
+static double rate_microseconds(rate_of rate, uint64_t discount)
+{
+    const double start = now();
+    for (uint64_t i = 0; i < 20; i++)
+        last_rate = rate(discount + i);
+    return (now() - start) / 20;
+}
+
+/* One continuous rate, of 20 discounts one after the other. */
+static void rates(int turns)
+{
+    static const uint64_t discounts[] = {400000000, 900000000, 995000000, ONE - 40, 1005000000};
+    static double first[MOST_TURNS], second[MOST_TURNS], ratio[MOST_TURNS];
+    printf("\none continuous rate               library        plain C      ratio\n");
+    for (int k = 0; k < 5; k++) {
+        for (int i = 0; i < turns; i++) {
+            first[i] = rate_microseconds(rate_by_library, discounts[k]);
+            second[i] = rate_microseconds(rate_by_plain_c, discounts[k]);
+            ratio[i] = first[i] / second[i];
+        }
+        printf("discount %.9f %12s %8.2f us    %8.2f us     %6.2f\n", (double)discounts[k] / ONE, "", median(first, turns),
+               median(second, turns), median(ratio, turns));
+    }
+}
+
 #define SIZES 4
 
 /* Every size in each turn, so that a busy machine slows them alike. */
@@ -287,7 +342,9 @@ int main(int argc, char **argv)
     if (turns < 1 || turns > MOST_TURNS)
         return fprintf(stderr, "turns: 1 to %d\n", MOST_TURNS), 2;
     compare_results();
+    compare_rates();
     against_plain_c(turns);
+    rates(turns);
     growth(turns);
     against_quantlib(turns / 4 + 1);
     return 0;

@@ -1,4 +1,4 @@
-/* Document 01's fit, bond and option, written straight down. All sums fit 64 bits once the limits are checked. */
+/* Document 01's fit, bond and option, and document 02's continuous rate, written straight down. All sums fit 64 bits once the limits are checked. */
 #include "plain.h"
 #include <math.h>
 #include <string.h>
@@ -68,10 +68,51 @@ static int refused_figure(double x, int64_t *out)
     return 0;
 }
 
+/* The terms of the series at an amount up to one, those of even and of odd places. */
+struct sums {
+    uint64_t even, odd;
+};
+
+static inline struct sums series(uint64_t amount)
+{
+    static const uint64_t divisors[13] = {0, ONE, 2ull * ONE, 3ull * ONE, 4ull * ONE, 5ull * ONE, 6ull * ONE, 7ull * ONE,
+                                          8ull * ONE, 9ull * ONE, 10ull * ONE, 11ull * ONE, 12ull * ONE};
+    uint64_t term = ONE;
+    struct sums out = {ONE, 0};
+    for (int k = 1; k <= 12; k++) {
+        term = term * amount / divisors[k];
+        if (k % 2)
+            out.odd += term;
+        else
+            out.even += term;
+    }
+    return out;
+}
+
+/* F of four times a quotient, or of as much below zero: the second square may need more than 64 bits. */
+static uint64_t continuous(uint64_t quotient, int below)
+{
+    const struct sums s = series(quotient);
+    const uint64_t root = below ? s.even + s.odd : s.even - s.odd, square = root * root / ONE;
+    return square <= UINT32_MAX ? square * square / ONE : (uint64_t)((wide)square * square / ONE);
+}
+
+static int yield_discount(uint64_t f, uint64_t t, int64_t figure, int64_t *out)
+{
+    const int64_t product = (int64_t)t * figure, divisor = (int64_t)f;
+    const int64_t y = product / divisor - (product % divisor < 0);
+    if (y > 4ll * ONE || y < -4ll * ONE)
+        return 7;
+    *out = (int64_t)continuous((uint64_t)(y < 0 ? -y : y) / 4, y < 0);
+    return 0;
+}
+
 static uint64_t quote(uint64_t f, uint64_t t, uint8_t kind, double x, uint64_t *out)
 {
     int64_t figure;
-    if (refused_figure(x, &figure) || (kind != 5 && kind != 6))
+    if (refused_figure(x, &figure) || (kind != 5 && kind != 6 && kind != 9))
+        return 7;
+    if (kind == 9 && yield_discount(f, t, figure, &figure))
         return 7;
     if (kind == 6) {
         const int64_t divisor = (int64_t)(f * ONE) + (int64_t)t * figure;
@@ -100,21 +141,37 @@ static uint64_t spacing(uint64_t f, uint64_t s)
 /* Factors of nodes -w to w. */
 static void factors(uint64_t *table, size_t w, uint64_t h)
 {
-    static const uint64_t divisors[13] = {0, ONE, 2ull * ONE, 3ull * ONE, 4ull * ONE, 5ull * ONE, 6ull * ONE, 7ull * ONE,
-                                          8ull * ONE, 9ull * ONE, 10ull * ONE, 11ull * ONE, 12ull * ONE};
     for (size_t j = 0; j <= w; j++) {
-        const uint64_t y = j * h;
-        uint64_t term = ONE, even = ONE, odd = 0;
-        for (int k = 1; k <= 12; k++) {
-            term = term * y / divisors[k];
-            if (k % 2)
-                odd += term;
-            else
-                even += term;
-        }
-        table[w - j] = even + odd;
-        table[w + j] = even - odd;
+        const struct sums s = series(j * h);
+        table[w - j] = s.even + s.odd;
+        table[w + j] = s.even - s.odd;
     }
+}
+
+/* Halves down to where the discounts pass this one, then tries the quotients about it: over a hundred of them a discount falls. */
+struct plain_rate plain_continuous_rate(uint64_t discount)
+{
+    if (discount == 0 || discount > DISCOUNT_LIMIT)
+        return (struct plain_rate){9, 0};
+    const int below = discount > ONE;
+    uint64_t low = 0, high = (uint64_t)ONE + 1;
+    while (high - low > 1) {
+        const uint64_t middle = low + (high - low) / 2, found = continuous(middle, below);
+        if (below ? found <= discount : found >= discount)
+            low = middle;
+        else
+            high = middle;
+    }
+    const uint64_t about = below ? 0 : 100, first = low < about ? 0 : low - about, last = low + about + 1 < ONE ? low + about + 1 : ONE;
+    uint64_t best = first, least = UINT64_MAX;
+    for (uint64_t q = first; q <= last; q++) {
+        const uint64_t found = continuous(q, below), miss = found < discount ? discount - found : found - discount;
+        if (miss < least) {
+            least = miss;
+            best = q;
+        }
+    }
+    return (struct plain_rate){0, below ? -4 * (int64_t)best : 4 * (int64_t)best};
 }
 
 /* One row: its discounts, and the next row's state prices. */

@@ -1,4 +1,4 @@
-/* Document 01's fit, bond and option in plain C. */
+/* Document 01's fit, bond and option, and document 02's continuous rate, in plain C. */
 #ifndef PLAIN_H
 #define PLAIN_H
 #include <stddef.h>
@@ -12,6 +12,11 @@ struct plain_prices {
     struct plain_price bond, option;
 };
 
+struct plain_rate {
+    uint64_t number;
+    int64_t value;
+};
+
 uint64_t plain_fit(uint64_t f, size_t n, uint64_t b, uint64_t s, const uint64_t *rows, const uint8_t *kinds,
                    const double *figures, uint64_t *discounts, uint64_t *state_prices);
 struct plain_price plain_bond(size_t n, uint64_t b, const uint64_t *discounts, const uint64_t *flows);
@@ -19,5 +24,6 @@ struct plain_price plain_option(size_t n, uint64_t b, const uint64_t *discounts,
                                 size_t expiry, uint64_t strike);
 struct plain_prices plain_bond_and_option(size_t n, uint64_t b, const uint64_t *discounts, const uint64_t *flows, uint64_t kind,
                                           size_t expiry, uint64_t strike);
+struct plain_rate plain_continuous_rate(uint64_t discount);
 
 #endif

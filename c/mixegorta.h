@@ -29,7 +29,7 @@
  *    6  a length, row or node that is not in       12  a value above 8,000,000,000, or weighed state
  *       the tree; a memory too short                   prices that sum above 2,000,000,100
  *    7  unknown quote kind; a figure that is NaN, infinite or beyond +-10; a rate whose divisor is 0 or less;
- *       a quoted discount outside 100,000,000 to 2,000,000,000
+ *       a yield x row / frequency beyond +-4; a quoted discount outside 100,000,000 to 2,000,000,000
  *
  * Memory. A slice is a pointer followed by its count of elements, never of bytes. The pointer is aligned for its type and points to
  * that many elements; with count 0 it may be NULL. All of them are initialised, those that a call only writes too: any numbers
@@ -74,6 +74,7 @@ extern "C" {
 /* Quote kinds. */
 #define MIXEGORTA_DISCOUNT_FACTOR 5
 #define MIXEGORTA_YEARLY_RATE 6
+#define MIXEGORTA_YEARLY_YIELD 9
 
 /* Row kinds. */
 #define MIXEGORTA_DISCOUNTS 1
@@ -159,12 +160,12 @@ struct mixegorta_branches mixegorta_branches(uint64_t reversion, size_t row, int
 
 /* ---- Level one: quotes, the fit, its rows and rates. */
 
-/* The discount of one quoted point. kind: 5 or 6; point.row: 1 to 60. No memory is touched.
+/* The discount of one quoted point. kind: 5, 6 or 9; point.row: 1 to 60. No memory is touched.
  * Refusals: 2 frequency, 6 the point's row, 7 kind, figure or discount. */
 struct mixegorta_answer mixegorta_quote_discount(uint64_t frequency, uint8_t kind, struct mixegorta_point point);
 
-/* The discounts of the quotes of rows 1 to n. rows, kinds, figures: n elements each; rows are 1, 2 .. n; kinds are 5 or 6; figures
- * -10 to 10. discounts: at least n elements. Returns the number. 0: the first n elements of discounts are the quoted discounts and
+/* The discounts of the quotes of rows 1 to n. rows, kinds, figures: n elements each; rows are 1, 2 .. n; kinds are 5, 6 or 9;
+ * figures -10 to 10. discounts: at least n elements. Returns the number. 0: the first n elements of discounts are the quoted discounts and
  * the others are as they were. Refusals leave discounts as it was: 2 frequency, 3 steps, 6 a count or a row, 7 a quote. */
 uint64_t mixegorta_curve_discounts(uint64_t frequency, size_t steps, const uint64_t *rows, size_t rows_len,
                                    const uint8_t *kinds, size_t kinds_len, const double *figures, size_t figures_len,
@@ -187,6 +188,11 @@ struct mixegorta_row_range mixegorta_row_range(const uint64_t *discounts, size_t
 
 /* The rate of one step, in billionths, of a discount from 1 to 1,100,000,000. No memory is touched. Refusal: 9. */
 struct mixegorta_rate mixegorta_step_rate(uint64_t discount);
+
+/* The continuously compounded rate over one step, in billionths, of a discount from 1 to 1,100,000,000: of all whole numbers within
+ * +-4,000,000,000 whose discount is nearest, the one of least magnitude, and of two such the smaller. No memory is touched.
+ * Refusal: 9. */
+struct mixegorta_rate mixegorta_continuous_rate(uint64_t discount);
 
 /* How far below the exact ones the fitted state prices of a row may be in sum, in billionths, from the tree's discounts. discounts:
  * at least as many as needed, each needed one 1 to 1,100,000,000; only read. row: 0 to n.

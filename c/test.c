@@ -174,6 +174,31 @@ static void quotes(void) {
     CHECK(refused(mixegorta_quote_discount(12, MIXEGORTA_YEARLY_RATE, point), 7));
 }
 
+static void yields(void) {
+    struct mixegorta_point point = {1, 0.000000007}; /* 7 / 2 is 3, whose quarter is 0 */
+    CHECK(answered(mixegorta_quote_discount(2, MIXEGORTA_YEARLY_YIELD, point), ONE));
+    point.figure = -0.000000007; /* -7 / 2 is -4, down */
+    CHECK(answered(mixegorta_quote_discount(2, MIXEGORTA_YEARLY_YIELD, point), 1000000004));
+    point.figure = 4.0; /* within its limit, its discount out of range */
+    CHECK(refused(mixegorta_quote_discount(1, MIXEGORTA_YEARLY_YIELD, point), 7));
+    struct mixegorta_rate rate = mixegorta_continuous_rate(484106437);
+    CHECK(rate.number == 0 && rate.value == 725450480);
+    rate = mixegorta_continuous_rate(1);
+    CHECK(rate.number == 0 && rate.value == INT64_C(3999999988));
+    rate = mixegorta_continuous_rate(18315638);
+    CHECK(rate.number == 0 && rate.value == INT64_C(3999999988));
+    for (uint64_t discount = 999999998; discount <= 1000000002; discount++) {
+        rate = mixegorta_continuous_rate(discount);
+        CHECK(rate.number == 0 && rate.value == 0);
+    }
+    rate = mixegorta_continuous_rate(1000000003);
+    CHECK(rate.number == 0 && rate.value == -4);
+    rate = mixegorta_continuous_rate(0);
+    CHECK(rate.number == 9 && rate.value == 0);
+    rate = mixegorta_continuous_rate(MIXEGORTA_MAX_NODE_DISCOUNT + 1);
+    CHECK(rate.number == 9 && rate.value == 0);
+}
+
 static uint64_t curve(uint64_t frequency, size_t steps, size_t count, size_t room) {
     reset();
     return mixegorta_curve_discounts(frequency, steps, rows, count, kinds, count, figures, count, discounts, room);
@@ -535,6 +560,7 @@ int main(void) {
     shapes();
     branches();
     quotes();
+    yields();
     curves();
     example();
     rates();

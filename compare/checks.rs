@@ -1,15 +1,17 @@
 // What is compared of one input. A difference panics.
 use crate::engine;
-use crate::exact::Exact;
+use crate::exact::{near_fourth_power, Exact};
 use crate::inputs::Case;
 use crate::natural::Natural;
-use crate::rules::{self, Curve, Fitted, Outcome, Tree, ONE};
+use crate::rules::{self, Curve, Fitted, Outcome, Tree, DISCOUNT_LIMIT, ONE};
 use std::collections::BTreeMap;
 use std::fmt;
 
 const UNTOUCHED: u64 = 0xA5A5_5A5A_DEAD_BEEF;
 const GUARD: usize = 4;
 const REPRICED_WITHIN: u64 = 300;
+const YIELD_WITHIN: u64 = 100;
+const RATES_OF_A_CASE: usize = 8;
 
 #[derive(Default)]
 pub struct Tally {
@@ -58,7 +60,7 @@ pub fn all(case: &Case, tally: &mut Tally) {
             laws_of_fit(case, fitted, tally);
             prices(case, &fitted.discounts, "on a fit", tally);
         }
-        None => rates(&case.lent),
+        None => rates(&case.lent, tally),
     }
     prices(case, &case.lent, "on lent", tally);
     weighing(case, fitted.as_ref(), tally);
@@ -98,7 +100,13 @@ fn quotes(case: &Case, tally: &mut Tally) {
     let Curve { rows, kinds, figures } = curve;
     for i in 0..rows.len().min(kinds.len()).min(figures.len()) {
         let rules = rules::lone_quote(f, rows[i], kinds[i], figures[i]);
-        agree("quote", engine::lone_quote(f, rows[i], kinds[i], figures[i]), rules, tally);
+        let entry = if kinds[i] == 9 { "quote, a yield" } else { "quote" };
+        let quoted = agree(entry, engine::lone_quote(f, rows[i], kinds[i], figures[i]), rules, tally);
+        if let (9, Some(discount)) = (kinds[i], quoted) {
+            let y = rules::yield_amount(f, rows[i], figures[i]).expect("a yield with a discount");
+            assert!(near_fourth_power(y, discount, YIELD_WITHIN), "yield {}: {discount} is further than 100 from the exact one", figures[i]);
+            tally.exact("discounts of yields");
+        }
     }
     let length = case.fit.discounts_length.min(case.fit.tree.steps.saturating_add(3)).min(70);
     let mut memory = vec![UNTOUCHED; length + GUARD];
@@ -156,7 +164,36 @@ fn views(case: &Case, tally: &mut Tally) {
     *tally.results.entry("row range, 1: empty").or_default().entry(rules.is_none() as u64).or_default() += 1;
 }
 
-fn rates(discounts: &[u64]) {
+/// The figures of document 02, and every discount within 3,000 of 1, of one and of 1.1 × one.
+pub fn rates_at_borders(tally: &mut Tally) {
+    let figures = [
+        (0, Err(9)), (1, Ok(3_999_999_988)), (18_315_638, Ok(3_999_999_988)), (484_106_437, Ok(725_450_480)), (999_999_997, Ok(4)),
+        (999_999_998, Ok(0)), (1_000_000_002, Ok(0)), (1_000_000_003, Ok(-4)), (DISCOUNT_LIMIT + 1, Err(9)), (u64::MAX, Err(9)),
+    ];
+    for (discount, rate) in figures {
+        assert_eq!(engine::continuous_rate(discount), rate, "continuous rate of {discount}: library left, document right");
+    }
+    for border in [1, ONE, DISCOUNT_LIMIT] {
+        for discount in border.saturating_sub(3_000)..=border + 3_000 {
+            continuous_rate(discount, tally);
+        }
+    }
+}
+
+/// Where the rate is not 0, its sign is the step rate's.
+fn continuous_rate(discount: u64, tally: &mut Tally) {
+    let rate = engine::continuous_rate(discount);
+    assert_eq!(rate, rules::continuous_rate(discount), "continuous rate of {discount}: library left, every quotient right");
+    tally.result("continuous rate", &rate);
+    if let (Ok(rate), Ok(step)) = (rate, rules::step_rate(discount)) {
+        assert!(rate == 0 || (rate < 0) == (step < 0), "sign of the continuous rate of {discount}");
+    }
+}
+
+fn rates(discounts: &[u64], tally: &mut Tally) {
+    for v in discounts.iter().step_by(discounts.len() / RATES_OF_A_CASE + 1) {
+        continuous_rate(*v, tally);
+    }
     for v in discounts {
         let rate = rules::step_rate(*v);
         assert_eq!(engine::step_rate(*v), rate, "step rate of {v}: library left, rules right");
@@ -168,7 +205,7 @@ fn rates(discounts: &[u64]) {
 
 fn laws_of_fit(case: &Case, fitted: &Fitted, tally: &mut Tally) {
     let tree = case.fit.tree;
-    rates(&fitted.discounts);
+    rates(&fitted.discounts, tally);
     let rows = Exact::new(tree, &fitted.discounts);
     let exact = rows.state_prices();
     for t in 1..=tree.steps {

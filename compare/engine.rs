@@ -75,6 +75,7 @@ extern "C" {
         steps: usize, reversion: u64, row: usize,
     ) -> RowRange;
     fn mixegorta_step_rate(discount: u64) -> Rate;
+    fn mixegorta_continuous_rate(discount: u64) -> Rate;
     fn mixegorta_state_price_error_bound(steps: usize, reversion: u64, discounts: *const u64, discount_count: usize, row: usize) -> Answer;
     fn mixegorta_bond_price(
         steps: usize, reversion: u64, discounts: *const u64, discount_count: usize, flows: *const u64, flow_count: usize,
@@ -181,6 +182,11 @@ pub fn row_range(discounts: &[u64], state_prices: &[u64], kind: u64, tree: &Tree
 
 pub fn step_rate(discount: u64) -> Outcome<i64> {
     let rate = unsafe { mixegorta_step_rate(discount) };
+    outcome(rate.number, rate.value)
+}
+
+pub fn continuous_rate(discount: u64) -> Outcome<i64> {
+    let rate = unsafe { mixegorta_continuous_rate(discount) };
     outcome(rate.number, rate.value)
 }
 

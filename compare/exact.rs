@@ -1,7 +1,36 @@
-// The exact pricer of document 01, multiplied out: with m = 600,000,000 × one, a value with k rows left to
+// Exact discounts of yields, and the exact pricer of document 01, multiplied out: with m = 600,000,000 × one, a value with k rows left to
 // its last row is held times m^k, and an exact state price of row i times m^i. It is fed what document 01 lists alone.
 use crate::natural::Natural;
 use crate::rules::{Contract, Tree, ONE, WHOLE};
+
+/// The exact series at an amount, times 12! × one^11.
+fn series(amount: u64, alternating: bool) -> Natural {
+    let (mut even, mut odd) = (Natural::zero(), Natural::zero());
+    for k in 0..=12u64 {
+        let mut term = Natural::from((k + 1..=12).product());
+        for place in 0..12 {
+            term = term.times(if place < k { amount } else { ONE });
+        }
+        let sum = if k % 2 == 0 { &mut even } else { &mut odd };
+        *sum = sum.plus(&term);
+    }
+    if alternating { even.less(&odd) } else { even.plus(&odd) }
+}
+
+/// Whether a discount is within so many billionths of the fourth power of the exact series at a quarter of y. That power is held times
+/// 12!^4 × one^47: four series, and one³ by which the power of an amount is divided.
+pub fn near_fourth_power(y: i64, discount: u64, within: u64) -> bool {
+    let series = series(y.unsigned_abs() / 4, y >= 0);
+    let square = series.product(&series);
+    let mut scale = Natural::from(1);
+    for _ in 0..4 {
+        scale = scale.times((1..=12).product());
+    }
+    for _ in 0..47 {
+        scale = scale.times(ONE);
+    }
+    scale.times(discount).distance(&square.product(&square)) <= scale.times(within)
+}
 
 pub struct Exact<'a> {
     tree: Tree,

@@ -112,13 +112,17 @@ fn factors(r: &mut Random, shape: &str, frequency: u64, n: usize) -> Vec<f64> {
 }
 
 fn curve(r: &mut Random, shape: &str, frequency: u64, n: usize) -> Curve {
-    let quoting = r.below(3);
+    let quoting = r.pick(&[Some(5), Some(6), Some(9), None]);
     let coarse = r.chance(10);
     let mut made = Curve { rows: (1..=n as u64).collect(), kinds: Vec::new(), figures: Vec::new() };
     for (t, factor) in (1..).zip(factors(r, shape, frequency, n)) {
-        let as_rate = quoting == 1 || (quoting == 2 && r.chance(50));
-        let figure = if as_rate { (1.0 / factor - 1.0) * frequency as f64 / t as f64 } else { factor };
-        made.kinds.push(if as_rate { 6 } else { 5 });
+        let kind = quoting.unwrap_or_else(|| r.pick(&[5, 6, 9]));
+        let figure = match kind {
+            5 => factor,
+            6 => (1.0 / factor - 1.0) * frequency as f64 / t as f64,
+            _ => -factor.ln() * frequency as f64 / t as f64,
+        };
+        made.kinds.push(kind);
         made.figures.push(if coarse { (figure * 4_096.0).round() / 4_096.0 } else { figure });
     }
     made
@@ -232,6 +236,23 @@ fn strange_figure(r: &mut Random) -> f64 {
     }
 }
 
+/// A yield whose y is about the limit, about where its discount leaves the range, or about 0.
+fn strange_yield(r: &mut Random, frequency: u64, row: u64) -> f64 {
+    let about = r.pick(&[4_000_000_000, -4_000_000_000, 2_302_585_093, -693_147_180, 0, 10_000_000_000, -10_000_000_000]);
+    let y = about + r.within(0, 12) as i64 - 6;
+    let figure = y as f64 * frequency as f64 / row.max(1) as f64;
+    (figure.round() + r.pick(&[0.0, 0.0, 0.5, -0.5])) / ONE as f64
+}
+
+fn spoil_by_yield(r: &mut Random, frequency: u64, curve: &mut Curve) {
+    let count = curve.rows.len().min(curve.kinds.len()).min(curve.figures.len());
+    if count > 0 {
+        let place = r.below(count);
+        curve.kinds[place] = 9;
+        curve.figures[place] = if r.chance(80) { strange_yield(r, frequency, curve.rows[place]) } else { strange_figure(r) };
+    }
+}
+
 fn spoil<T>(r: &mut Random, list: &mut Vec<T>, made: T) {
     if !list.is_empty() {
         let place = r.below(list.len());
@@ -241,7 +262,7 @@ fn spoil<T>(r: &mut Random, list: &mut Vec<T>, made: T) {
 
 fn damage(r: &mut Random, case: &mut Case) {
     let (huge, n) = (u64::MAX, case.fit.tree.steps);
-    match r.below(24) {
+    match r.below(27) {
         0 => case.fit.frequency = r.pick(&[0, 3, 5, 6, 11, 13, 255, huge, 1 << 32]),
         1 => case.fit.tree.steps = r.pick(&[0, 61, 62, 255, 1 << 32, usize::MAX]),
         2 => case.fit.tree.reversion = r.pick(&[6_001, 65_535, 1 << 32, huge]),
@@ -250,7 +271,7 @@ fn damage(r: &mut Random, case: &mut Case) {
         5 => resize(r, &mut case.fit.curve.kinds, 5),
         6 => resize(r, &mut case.fit.curve.figures, 0.5),
         7 => { let row = r.pick(&[0, 1, 2, 60, 61, huge]); spoil(r, &mut case.fit.curve.rows, row) }
-        8 => { let kind = r.pick(&[0, 4, 5, 6, 7, 255]); spoil(r, &mut case.fit.curve.kinds, kind) }
+        8 => { let kind = r.pick(&[0, 4, 5, 6, 7, 8, 9, 10, 255]); spoil(r, &mut case.fit.curve.kinds, kind) }
         9..=11 => { let figure = strange_figure(r); spoil(r, &mut case.fit.curve.figures, figure) }
         12 => case.fit.discounts_length = case.fit.discounts_length.saturating_sub(r.within(1, 50) as usize),
         13 => case.fit.state_prices_length = case.fit.state_prices_length.saturating_sub(r.within(1, 50) as usize),
@@ -263,6 +284,7 @@ fn damage(r: &mut Random, case: &mut Case) {
         20 => resize(r, &mut case.lent, ONE),
         21 => case.row = r.pick(&[n.wrapping_add(1), n, 60, 61, usize::MAX]),
         22 => spoil_weighing(r, case),
+        23..=25 => spoil_by_yield(r, case.fit.frequency, &mut case.fit.curve),
         _ => strange_view(r, case),
     }
 }

@@ -1,4 +1,4 @@
-// Compares the library with document 01's rules and with the exact pricer on random inputs.
+// Compares the library with the rules of documents 01 and 02 and with the exact pricer on random inputs.
 mod checks;
 mod engine;
 mod exact;
@@ -20,6 +20,7 @@ fn main() {
     let (count, seed) = (argument(1, 20_000), argument(2, 1));
     natural::check();
     let mut tally = Tally::default();
+    checks::rates_at_borders(&mut tally);
     for own in seed..seed + count {
         let case = inputs::case(&mut inputs::Random::new(own));
         let compared = panic::catch_unwind(panic::AssertUnwindSafe(|| checks::all(&case, &mut tally)));

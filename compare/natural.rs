@@ -47,6 +47,15 @@ impl Natural {
         out
     }
 
+    pub fn product(&self, other: &Natural) -> Natural {
+        let mut out = Natural::zero();
+        for limb in other.limbs.iter().rev() {
+            out.limbs.insert(0, 0);
+            out.add_times(self, *limb);
+        }
+        out
+    }
+
     pub fn plus(&self, other: &Natural) -> Natural {
         let mut out = self.clone();
         out.add_times(other, 1);
@@ -111,4 +120,7 @@ pub fn check() {
     let power = Natural { limbs: vec![0, 0, 0, 1] };
     assert_eq!(power.less(&Natural::from(1)).limbs, vec![u64::MAX; 3]);
     assert_eq!(power.less(&Natural::from(1)).plus(&Natural::from(1)), power);
+    assert_eq!(limbs.product(&Natural::from(u64::MAX)), limbs.times(u64::MAX));
+    assert_eq!(power.product(&limbs).limbs, vec![0, 0, 0, u64::MAX - 4, 4]);
+    assert_eq!(limbs.product(&limbs), limbs.times(u64::MAX).times(5));
 }

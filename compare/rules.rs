@@ -1,4 +1,4 @@
-// Document 01's rules in 128-bit numbers, written from the document. Amounts are billionths.
+// The rules of document 01, as the requests of document 02 changed them, in 128-bit numbers, written from the documents. Amounts are billionths.
 
 pub const ONE: u64 = 1_000_000_000;
 pub const WHOLE: u64 = 600_000_000;
@@ -7,6 +7,8 @@ pub const VALUE_LIMIT: u64 = 8 * ONE;
 pub const FLOW_LIMIT: u64 = 2 * ONE;
 pub const STRIKE_LIMIT: u64 = 4 * ONE;
 pub const STATE_PRICES_LIMIT: u128 = 2_000_000_100;
+pub const QUOTE_RANGE: std::ops::RangeInclusive<u64> = 100_000_000..=2_000_000_000;
+const FOURFOLD_LIMIT: i128 = 4 * ONE as i128;
 
 pub type Outcome<T> = Result<T, u64>;
 
@@ -142,10 +144,24 @@ pub fn quote(frequency: u64, row: u64, kind: u8, x: f64) -> Outcome<u64> {
             lowest(&[(7, divisor <= 0)])?;
             one * one * frequency / divisor
         }
+        9 => continuous(amount(frequency, row, figure)?) as i128,
         _ => return Err(7),
     };
-    lowest(&[(7, discount < 100_000_000 || discount > 2_000_000_000)])?;
-    Ok(discount as u64)
+    let discount = u64::try_from(discount).unwrap_or(0);
+    lowest(&[(7, !QUOTE_RANGE.contains(&discount))])?;
+    Ok(discount)
+}
+
+/// y of a yearly yield. Down of a negative one is away from zero.
+fn amount(frequency: i128, row: u64, figure: i128) -> Outcome<i64> {
+    let y = (figure * row as i128).div_euclid(frequency);
+    lowest(&[(7, y < -FOURFOLD_LIMIT || y > FOURFOLD_LIMIT)])?;
+    Ok(y as i64)
+}
+
+/// y of a quote of kind 9.
+pub fn yield_amount(frequency: u64, row: u64, x: f64) -> Outcome<i64> {
+    amount(frequency as i128, row, figure(x)?)
 }
 
 pub fn lone_quote(frequency: u64, row: u64, kind: u8, x: f64) -> Outcome<u64> {
@@ -192,14 +208,26 @@ pub fn spacing(frequency: u64, volatility: u64) -> u64 {
     low as u64
 }
 
-pub fn factor(node: i64, spacing: u64) -> u64 {
-    let y = node.unsigned_abs() as u128 * spacing as u128;
-    let (mut term, mut total) = (ONE as i128, ONE as i128);
+/// The series at an amount up to one, where no product passes 64 bits.
+fn series(amount: u64, alternating: bool) -> u64 {
+    assert!(amount <= ONE);
+    let (mut term, mut even, mut odd) = (ONE, ONE, 0);
     for k in 1..=12 {
-        term = (term as u128 * y / (k as u128 * ONE as u128)) as i128;
-        total += if node >= 0 && k % 2 == 1 { -term } else { term };
+        term = term * amount / (k * ONE);
+        *if k % 2 == 0 { &mut even } else { &mut odd } += term;
     }
-    total as u64
+    if alternating { even - odd } else { even + odd }
+}
+
+pub fn factor(node: i64, spacing: u64) -> u64 {
+    series(node.unsigned_abs() * spacing, node >= 0)
+}
+
+/// F of y: P before any range test.
+pub fn continuous(y: i64) -> u64 {
+    let root = series(y.unsigned_abs() / 4, y >= 0) as u128;
+    let square = root * root / ONE as u128;
+    (square * square / ONE as u128) as u64
 }
 
 pub struct Fitted {
@@ -267,6 +295,48 @@ pub fn step_rate(discount: u64) -> Outcome<i64> {
     lowest(&[(9, discount < 1 || discount > DISCOUNT_LIMIT)])?;
     let size = nearest(ONE.abs_diff(discount) as u128 * ONE as u128, discount as u128) as i64;
     Ok(if discount > ONE { -size } else { size })
+}
+
+/// A quotient, below 0 for negative amounts, whose discount is not below this one while the next one's is; or the last of all.
+fn crossing(discount: u64) -> i64 {
+    let (mut low, mut high) = (-(ONE as i64), ONE as i64 + 1);
+    while high - low > 1 {
+        let middle = (low + high) / 2;
+        if continuous(4 * middle) >= discount {
+            low = middle;
+        } else {
+            high = middle;
+        }
+    }
+    low
+}
+
+/// A discount falls from a quotient to a greater one, give or take this: a P up to 1.2 × one is within 100 of the exact one, and those of
+/// negative amounts never turn. Over all quotients it rises by 4 at most.
+const TURN: u64 = 200;
+
+/// The continuous rate by trying every quotient about the crossing, to both sides, until none can be as near. Whole y of one quotient have
+/// one discount; the least of them is four times the quotient.
+pub fn continuous_rate(discount: u64) -> Outcome<i64> {
+    lowest(&[(9, discount < 1 || discount > DISCOUNT_LIMIT)])?;
+    let judged = |quotient: i64| (continuous(4 * quotient).abs_diff(discount), (4 * quotient).unsigned_abs(), 4 * quotient);
+    let start = crossing(discount);
+    let mut best = judged(start);
+    let mut improves = |found: (u64, u64, i64)| {
+        best = best.min(found);
+        found.0 <= best.0 + TURN
+    };
+    for quotient in start + 1..=ONE as i64 {
+        if !improves(judged(quotient)) {
+            break;
+        }
+    }
+    for quotient in (-(ONE as i64)..start).rev() {
+        if !improves(judged(quotient)) {
+            break;
+        }
+    }
+    Ok(best.2)
 }
 
 // Prices

@@ -21,7 +21,7 @@ MAX_STATE_PRICES = 3_721
 MAX_JOB = 4_700
 SHEET_ROOM = 468_736
 
-DISCOUNT_FACTOR, YEARLY_RATE = 5, 6
+DISCOUNT_FACTOR, YEARLY_RATE, YEARLY_YIELD = 5, 6, 9
 DISCOUNTS, STATE_PRICES = 1, 2
 EUROPEAN_CALL, EUROPEAN_PUT, AMERICAN_CALL, AMERICAN_PUT = 1, 2, 3, 4
 
@@ -107,6 +107,7 @@ DECLARATIONS = {
     "fit": (U64, [U64, SIZE, U64, U64, *_QUOTES, U64S, SIZE, U64S, SIZE]),
     "row_range": (CRowRange, [U64S, SIZE, U64S, SIZE, U64, SIZE, U64, SIZE]),
     "step_rate": (CRate, [U64]),
+    "continuous_rate": (CRate, [U64]),
     "state_price_error_bound": (CAnswer, [SIZE, U64, U64S, SIZE, SIZE]),
     "bond_price": (CPrice, [SIZE, U64, U64S, SIZE, U64S, SIZE]),
     "option_price": (CPrice, [SIZE, U64, U64S, SIZE, U64S, SIZE, U64, SIZE, U64]),
@@ -257,6 +258,11 @@ def row_range(discounts, state_prices, kind, steps, reversion, row):
 def step_rate(discount):
     """The signed rate of one step, in billionths, of a discount."""
     return _value(_library.mixegorta_step_rate(_u64(discount)))
+
+
+def continuous_rate(discount):
+    """The signed, continuously compounded rate over one step, in billionths, of a discount."""
+    return _value(_library.mixegorta_continuous_rate(_u64(discount)))
 
 
 def state_price_error_bound(steps, reversion, discounts, row):

@@ -81,6 +81,14 @@ class Test(unittest.TestCase):
         self.assertEqual(m.step_rate(1_000_000_001), -1)
         self.refused(9, m.step_rate, 0)
 
+    def test_yields_and_continuous_rates(self):
+        self.assertEqual(m.quote_discount(2, (1, m.YEARLY_YIELD, 0.000000007)), ONE)
+        self.assertEqual(m.quote_discount(2, (1, m.YEARLY_YIELD, -0.000000007)), 1_000_000_004)
+        self.refused(7, m.quote_discount, 2, (1, m.YEARLY_YIELD, 8.1))
+        self.assertEqual(m.continuous_rate(484_106_437), 725_450_480)
+        self.assertEqual(m.continuous_rate(1_000_000_003), -4)
+        self.refused(9, m.continuous_rate, 0)
+
     def test_curve(self):
         self.assertEqual(list(m.curve_discounts(4, 3, falling(0.98, 3))), [980_000_000, 960_400_000, 941_192_000])
         self.refused(6, m.curve_discounts, 4, 2, falling(0.98, 3))

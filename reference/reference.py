@@ -1,10 +1,11 @@
 #!/usr/bin/env python3
-"""Document 01 in whole numbers and fractions, written from the document alone.
+"""Document 01, as the requests of document 02 changed it, in whole numbers and
+fractions, written from the two documents alone.
 
     reference.py < job > sheet
 
-Words are those of the document: f, n, b, s, J, w, h, U, Z, P. Amounts are
-billionths. Every rule returns its value or raises Refused with its number.
+Words are those of the documents: f, n, b, s, J, w, h, U, Z, P, R, y, q, F. Amounts
+are billionths. Every rule returns its value or raises Refused with its number.
 """
 import struct
 import sys
@@ -20,6 +21,7 @@ DISCOUNT_LIMIT = 1_100_000_000
 FLOW_LIMIT = 2 * ONE
 STRIKE_LIMIT = 4 * ONE
 WEIGHED_LIMIT = 2_000_000_100
+FOURFOLD_LIMIT = 4 * ONE
 CALLS = (1, 3)
 AMERICAN = (3, 4)
 
@@ -28,6 +30,11 @@ class Refused(Exception):
     def __init__(self, number):
         super().__init__(number)
         self.number = number
+
+
+def refuse_if(wrong, number):
+    if wrong:
+        raise Refused(number)
 
 
 # Rounding
@@ -41,6 +48,36 @@ def nearest(x):
     x = Fraction(x)
     size = (2 * abs(x.numerator) + x.denominator) // (2 * x.denominator)
     return size if x >= 0 else -size
+
+
+# The series, and discounts by continuous compounding
+
+def series(x, alternating):
+    term = total = ONE
+    for k in range(1, 13):
+        term = term * x // (k * ONE)
+        total += -term if alternating and k % 2 else term
+    return total
+
+
+def exact_series(x, alternating):
+    term = total = Fraction(ONE)
+    for k in range(1, 13):
+        term = term * x / (k * ONE)
+        total += -term if alternating and k % 2 else term
+    return total
+
+
+def continuous(y):
+    """F of y: P before any range test."""
+    root = series(abs(y) // 4, y >= 0)
+    square = root * root // ONE
+    return square * square // ONE
+
+
+def exact_continuous(y):
+    """What a P in range is within 100 of."""
+    return exact_series(abs(y) // 4, y >= 0) ** 4 / ONE ** 3
 
 
 # Quotes
@@ -61,18 +98,19 @@ def whole_billionths(pattern):
 
 
 def quote(f, row, kind, pattern):
-    if kind not in (5, 6):
-        raise Refused(7)
+    refuse_if(kind not in (5, 6, 9), 7)
     figure = whole_billionths(pattern)
     if kind == 5:
         p = figure
-    else:
+    elif kind == 6:
         divisor = f * ONE + row * figure
-        if divisor <= 0:
-            raise Refused(7)
+        refuse_if(divisor <= 0, 7)
         p = ONE * ONE * f // divisor
-    if not 100_000_000 <= p <= 2_000_000_000:
-        raise Refused(7)
+    else:
+        y = figure * row // f
+        refuse_if(abs(y) > FOURFOLD_LIMIT, 7)
+        p = continuous(y)
+    refuse_if(not 100_000_000 <= p <= 2_000_000_000, 7)
     return p
 
 
@@ -120,12 +158,7 @@ def spacing(f, s):
 
 
 def factor(j, h):
-    y = abs(j) * h
-    term = total = ONE
-    for k in range(1, 13):
-        term = term * y // (k * ONE)
-        total += -term if j >= 0 and k % 2 else term
-    return total
+    return series(abs(j) * h, j >= 0)
 
 
 def fit(n, b, h, quotes):
@@ -150,6 +183,35 @@ def fit(n, b, h, quotes):
 
 def step_rate(discount):
     return nearest(Fraction((ONE - discount) * ONE, discount))
+
+
+def crossing(discount):
+    """Some k with F(4k) at the discount or above it and F(4k + 4) below it, or the last k of all."""
+    low, high = -ONE, ONE + 1
+    while high - low > 1:
+        middle = (low + high) // 2
+        low, high = (middle, high) if continuous(4 * middle) >= discount else (low, middle)
+    return low
+
+
+def continuous_rate(discount):
+    """All y of one q share one F, and 4q or -4q is the least of them. F falls as y grows, give or take
+    200: up to 1.2 x one it is within 100 of the exact one, and below y = 0 it never turns. So past an F
+    that is further from the discount than the best by more than 200 no y is as near."""
+    refuse_if(not 1 <= discount <= DISCOUNT_LIMIT, 9)
+
+    def judged(k):
+        return abs(continuous(4 * k) - discount), abs(4 * k), 4 * k
+
+    start = crossing(discount)
+    best = judged(start)
+    for way in (range(start + 1, ONE + 1), range(start - 1, -ONE - 1, -1)):
+        for k in way:
+            found = judged(k)
+            best = min(best, found)
+            if found[0] > best[0] + 200:
+                break
+    return best[2]
 
 
 # Prices
@@ -281,7 +343,7 @@ def read(job):
     fields = Fields(job)
     f, n = fields.number(0x01, 1), fields.number(0x02, 1)
     b, s = fields.number(0x03, 2), fields.number(0x04, 4)
-    quotes = [fields.take((0x05, 0x06), 8) for _ in range(n)]
+    quotes = [fields.take((0x05, 0x06, 0x09), 8) for _ in range(n)]
     quotes = [(kind, int.from_bytes(data, 'big')) for kind, data in quotes]
     flows = [fields.number(0x07, 4) for _ in range(n)]
     option = None
@@ -291,11 +353,6 @@ def read(job):
     if fields.at != len(job):
         raise Refused(1)
     return f, n, b, s, quotes, flows, option
-
-
-def refuse_if(wrong, number):
-    if wrong:
-        raise Refused(number)
 
 
 def amount(x):

@@ -162,7 +162,7 @@ class Jobs(unittest.TestCase):
                      ':2: frequency 256 does not fit its field: 0 to 255')
 
     def test_what_is_lacking_is_named(self):
-        self.refused('', ': no frequency is given', ': no reversion is given', ': no volatility is given', ': no discount or rate is given')
+        self.refused('', ': no frequency is given', ': no reversion is given', ': no volatility is given', ': no discount, rate or yield is given')
         self.refused(START + 'rate 0.01 x 2\n', ': 2 steps need 2 flows, one for each row; 0 given')
         self.refused(START + 'rate 0.01 x 2\nsteps 3\nflow 1 x 3\n', ':5: 3 steps need 3 quotes, one for each row; 2 given')
         self.refused(START + 'rate 0.01 x 200\nrate 0.01 x 200\nflow 0 x 200\nflow 0 x 200\n', ': 400 quotes do not fit a job: at most 255')

@@ -1,6 +1,6 @@
 #!/usr/bin/env python3
-"""The jobs of this crate and what the reader must give of each, worked out from document 01's list of fields alone: a walk from field to
-field, which knows nothing of places.
+"""The jobs of this crate and what the reader must give of each, worked out from the fields that document 01 and request (i) of document 02
+list, alone: a walk from field to field, which knows nothing of places.
 
     vectors.py    writes the files stdin and stdout beside itself
 """
@@ -38,7 +38,7 @@ def read(job):
         raise Malformed
     walk = Walk(job)
     f, n, b, s = walk.number(1, 1), walk.number(2, 1), walk.number(3, 2), walk.number(4, 4)
-    quotes = [walk.field([5, 6], 8) for _ in range(n)]
+    quotes = [walk.field([5, 6, 9], 8) for _ in range(n)]
     flows = [walk.number(7, 4) for _ in range(n)]
     lines = ["job 0 %d %d %d %d" % (f, n, b, s)]
     lines += ["row %d %d %d" % (kind, int.from_bytes(figure, "big"), flow) for (kind, figure), flow in zip(quotes, flows)]
@@ -69,7 +69,7 @@ def fields(n, option):
     number = lambda width: random.choice([0, 256 ** width - 1, random.randrange(256 ** width)]).to_bytes(width, "big")
     figure = lambda: random.choice(SPECIAL + [random.getrandbits(64)] * 8).to_bytes(8, "big")
     parts = [field(1, number(1)), field(2, bytes([n])), field(3, number(2)), field(4, number(4))]
-    parts += [field(random.choice([5, 6]), figure()) for _ in range(n)]
+    parts += [field(random.choice([5, 6, 9]), figure()) for _ in range(n)]
     parts += [field(7, number(4)) for _ in range(n)]
     return parts + ([field(8, number(1) + number(1) + number(4))] if option else [])
 

@@ -1,5 +1,5 @@
 #!/usr/bin/env python3
-"""The outside vectors of this crate, worked out in exact fractions from document 01 alone.
+"""The outside vectors of this crate, worked out in exact fractions from documents 01 and 02 alone.
 
     vectors.py tables    the tables of src/main.rt
     vectors.py stdout    what the program must write
@@ -29,6 +29,15 @@ def figure(bits):
     return 0, nearest(Fraction(x) * ONE)
 
 
+def continuous(y):
+    """P of y before any range test"""
+    q, term, root = abs(y) // 4, ONE, ONE
+    for k in range(1, 13):
+        term = math.floor(Fraction(term * q, k * ONE))
+        root += -term if y >= 0 and k % 2 == 1 else term
+    return (root * root // ONE) ** 2 // ONE
+
+
 def discount(frequency, kind, row, bits):
     """(number, value) of a lone point"""
     if frequency not in (1, 2, 4, 12):
@@ -36,10 +45,15 @@ def discount(frequency, kind, row, bits):
     if not 1 <= row <= 60:
         return 6, 0
     number, r = figure(bits)
-    if number or kind not in (5, 6):
+    if number or kind not in (5, 6, 9):
         return 7, 0
     if kind == 5:
         p = r
+    elif kind == 9:
+        y = math.floor(Fraction(r * row, frequency))
+        if not -4 * ONE <= y <= 4 * ONE:
+            return 7, 0
+        p = continuous(y)
     else:
         divisor = frequency * ONE + row * r
         if divisor <= 0:
@@ -53,6 +67,15 @@ def rate(v):
     if not 1 <= v <= 1_100_000_000:
         return 9, 0
     return 0, nearest(Fraction((ONE - v) * ONE, v))
+
+
+def continuous_rate(v):
+    """(number, value) of a continuous rate, among all y of 3,000 quotients to either side of the logarithm"""
+    if not 1 <= v <= 1_100_000_000:
+        return 9, 0
+    about = min(round(-math.log(v / ONE) * ONE / 4), ONE)
+    near = (4 * k for k in range(max(about - 3_000, -ONE), min(about + 3_000, ONE) + 1))
+    return 0, min(near, key=lambda y: (abs(continuous(y) - v), abs(y), y))
 
 
 def curve(frequency, steps, last_row, kind, bits, kind_count, room):
@@ -93,7 +116,7 @@ PATTERNS = [
 POINTS = [
     (1, 6, 1, -0.0025), (1, 5, 1, 2.0), (1, 5, 1, 2.0000000006), (1, 5, 60, 0.1), (1, 5, 1, 0.0999999994), (4, 5, 1, -0.5), (12, 5, 7, 1.0025), (2, 5, 30, 0.0),
     (1, 6, 1, -0.5), (1, 6, 1, -0.500000001), (1, 6, 1, 9.0), (1, 6, 1, 9.000000001), (1, 6, 1, -1.0), (12, 6, 60, -0.2), (12, 6, 60, -0.1), (12, 6, 60, 10.0),
-    (3, 6, 61, math.nan), (0, 5, 1, 1.0), (13, 5, 1, 1.0), (1, 5, 0, 1.0), (1, 5, 61, math.inf), (2, 9, 1, 1.0), (2, 0, 1, 1.0), (2, 255, 60, 1.0),
+    (3, 6, 61, math.nan), (0, 5, 1, 1.0), (13, 5, 1, 1.0), (1, 5, 0, 1.0), (1, 5, 61, math.inf), (2, 7, 1, 1.0), (2, 0, 1, 1.0), (2, 255, 60, 1.0),
     (1, 5, 1, math.nan), (1, 6, 1, -math.inf), (1, 6, 1, 10.000000000000002), (4, 6, 60, 0.03), (2, 6, 7, -0.00000000049), (12, 6, 1, -0.000000001), (1, 6, 60, 0.15), (1, 6, 60, 0.150000001),
 ] + [(random.choice((1, 2, 4, 12)), 6, random.randrange(1, 61), random.uniform(-0.02, 0.12)) for _ in range(8)]
 
@@ -102,12 +125,26 @@ DISCOUNTS = [
     500_000_000, 666_666_667, 999_999_998, 1_000_000_002, 1_000_500_000, 950_000_000, 10, 7,
 ] + [random.randrange(1, 1_100_000_001) for _ in range(16)]
 
+PATTERNS += [pattern(random.uniform(-10, 10) * 10 ** random.randrange(-8, 1)) for _ in range(24)]
+
+# y of 3 and -4, the limit and beyond it, where P leaves its range, and others
+POINTS += [
+    (2, 9, 1, 7e-9), (2, 9, 1, -7e-9), (1, 9, 1, 4.0), (1, 9, 1, -4.0), (1, 9, 1, 4.000000001), (12, 9, 60, 0.8), (12, 9, 60, -0.8), (1, 9, 60, -10.0),
+    (1, 9, 1, 2.302585083), (1, 9, 1, 2.302585084), (1, 9, 1, -0.693147195), (1, 9, 1, -0.693147196), (1, 9, 1, math.nan), (2, 9, 3, math.inf), (12, 9, 1, 10.0), (12, 9, 1, 10.000000000000002),
+    (1, 9, 1, -0.0), (4, 9, 7, 0.0375), (1, 9, 60, -0.0115), (12, 9, 60, 0.4), (3, 9, 1, 0.05), (1, 9, 61, 0.05), (12, 9, 59, -0.0025), (4, 9, 3, -0.000000001),
+]
+DISCOUNTS += [
+    18_315_637, 18_315_638, 18_315_639, 999_999_996, 999_999_997, 999_999_999, 1_000_000_003, 1_000_000_004, 484_106_437, 853_004_019, 853_004_020, 1_099_999_999,
+    367_879_441, 135_335_283, 49_787_068, 20_000_000, 1_000_000_005, 1_000_000_006, 1_050_000_000, 990_049_834, 904_837_418, 740_818_221, 606_530_660, 1_001_000_500,
+]
+
 # frequency, steps, row of the third point, kind and figure of the first, kinds lent, room lent
 FACTOR, BAD = pattern(0.96), NAN
 CURVES = [
     (1, 3, 3, 5, FACTOR, 3, 5), (2, 3, 3, 6, pattern(-0.0025), 3, 3), (1, 3, 3, 5, BAD, 3, 5), (1, 3, 2, 5, BAD, 3, 5), (1, 3, 4, 5, FACTOR, 3, 5),
     (1, 3, 3, 5, BAD, 2, 5), (1, 3, 3, 5, FACTOR, 3, 2), (1, 3, 3, 5, BAD, 3, 0), (1, 2, 3, 5, FACTOR, 3, 5), (1, 4, 3, 5, FACTOR, 3, 5),
     (1, 0, 9, 5, BAD, 3, 5), (1, 61, 9, 5, BAD, 3, 5), (5, 61, 9, 5, BAD, 3, 0), (12, 3, 3, 7, FACTOR, 3, 4), (4, 3, 3, 5, pattern(2.5), 3, 5),
+    (1, 3, 3, 9, pattern(0.04), 3, 5), (4, 3, 3, 9, pattern(-0.0025), 3, 4), (1, 3, 3, 9, pattern(4.000000001), 3, 5), (2, 3, 3, 9, BAD, 3, 3), (2, 3, 3, 8, FACTOR, 3, 5),
 ]
 
 
@@ -138,9 +175,9 @@ if sys.argv[1:] == ["tables"]:
     table("KINDS_LENT", "usize", [c[5] for c in CURVES])
     table("PLACES_LENT", "usize", [c[6] for c in CURVES])
 else:
-    assert len(PATTERNS) == len(POINTS) == len(DISCOUNTS) == 40 and len(CURVES) == 15
+    assert len(PATTERNS) == len(POINTS) == len(DISCOUNTS) == 64 and len(CURVES) == 20
     for bits, (f, k, t, x), v in zip(PATTERNS, POINTS, DISCOUNTS):
-        print(told(figure(bits)), told(discount(f, k, t, pattern(x))), told(rate(v)), sep=", ")
+        print(told(figure(bits)), told(discount(f, k, t, pattern(x))), told(rate(v)), told(continuous_rate(v)), sep=", ")
     for c in CURVES:
         number, memory = curve(*c)
         print(number, *memory)

@@ -1,5 +1,5 @@
 #!/usr/bin/env python3
-"""The jobs of this crate and the sheet of each, worked out by reference/reference.py from document 01 alone.
+"""The jobs of this crate and the sheet of each, worked out by reference/reference.py from documents 01 and 02 alone.
 
     vectors.py    writes the files stdin and stdout beside itself
 
@@ -44,6 +44,10 @@ def rates(n, first, slope=0.0):
     return [(6, first + slope * t) for t in range(1, n + 1)]
 
 
+def yields(n, first, slope=0.0):
+    return [(9, first + slope * t) for t in range(1, n + 1)]
+
+
 def factors(n, step):
     return [(5, step ** t) for t in range(1, n + 1)]
 
@@ -74,6 +78,10 @@ def good():
     yield 0, job(f=1, s=0, quotes=factors(4, 0.999), flows=[2 * ONE] * 4, option=(3, 4, 0))
     yield 0, job(f=1, s=0, quotes=[(5, 1.1)], flows=[2 * ONE], option=(4, 1, 4 * ONE))
     yield 0, job(f=1, b=6_000, s=50_000, quotes=factors(13, 0.93), option=(4, 7, ONE))
+    yield 0, job(f=1, b=1_000, s=10_000, quotes=yields(5, 0.032, 0.006), option=(3, 4, ONE))
+    yield 0, job(f=12, b=83, s=8_000, quotes=yields(24, 0.02, 0.0003), option=(4, 18, 2 * ONE))
+    yield 0, job(f=4, b=0, s=800, quotes=yields(9, -0.0025), option=(2, 9, ONE))
+    yield 0, job(f=2, b=500, s=5_000, quotes=[(9, 0.02), (6, 0.02), (5, 0.97), (9, -0.0), (9, 0.005)], option=(1, 3, ONE))
 
 
 def malformed():
@@ -99,7 +107,7 @@ def malformed():
     yield plain[:20] + b'\x05\x00\x07' + plain[24:]
     yield plain[:20] + b'\x05\x01\x08' + plain[23:]
     yield plain[:20] + b'\x07' + plain[21:]
-    yield plain[:20] + b'\x09' + plain[21:]
+    yield plain[:20] + b'\x0c' + plain[21:]
     yield job(quotes=FOUR, flows=[ONE] * 3)
     yield job(quotes=FOUR, flows=[ONE] * 5)
     yield job(n=5, quotes=FOUR, flows=[ONE] * 5)
@@ -123,6 +131,13 @@ def each_cause():
         for pattern in (NAN, NAN | 1 << 63, INFINITY, INFINITY | 1 << 63, INFINITY + 1, reference.pattern_of(10.0) + 1,
                         reference.pattern_of(-10.0) + 1, reference.pattern_of(1e300)):
             yield 7, job(quotes=FOUR[:3] + [(kind, pattern)])
+    for pattern in (NAN, NAN | 1 << 63, INFINITY, INFINITY | 1 << 63, reference.pattern_of(10.0) + 1, reference.pattern_of(-10.0) + 1):
+        yield 7, job(f=12, quotes=yields(3, 0.03) + [(9, pattern)])
+    # y of exactly four times one, to either side, and one more: within the limit it is the discount that is out of range.
+    for figure in (4.0, -4.0, 4.000000001, -4.000000001):
+        yield 7, job(f=1, quotes=[(9, figure)])
+    for figure in (0.8, -0.8, 10.0, -10.0):
+        yield 7, job(f=12, quotes=yields(59, 0.03) + [(9, figure)])
     yield 7, job(f=1, quotes=[(6, -1.0)])
     yield 7, job(f=1, quotes=[(6, 0.01), (6, -0.5)])
     yield 7, job(f=1, quotes=[(6, 0.01), (6, -0.6)])
@@ -170,6 +185,9 @@ def pairs():
     yield 5, job(f=1, s=50_001, quotes=factors(14, 0.95), option=(0, 0, 0))
     yield 7, job(f=1, s=50_000, quotes=factors(12, 0.95) + strange)
     yield 7, job(quotes=[(5, 1.2)] + strange)
+    yield 7, job(f=1, s=50_000, quotes=yields(12, 0.05) + [(9, NAN)], option=(0, 0, 0))
+    yield 8, job(f=1, s=50_000, quotes=yields(13, -0.2)[:2] + yields(13, 0.05)[2:], flows=[3 * ONE] * 13)
+    yield 9, job(f=1, quotes=[(9, -0.1)], option=(0, 0, 0))
     yield 7, job(quotes=FOUR[:3] + strange, flows=[3 * ONE, 0, 0, 0])
     yield 8, job(f=1, s=50_000, quotes=[(5, 1.2)] + factors(12, 0.95))
     yield 8, job(f=1, s=50_000, quotes=factors(13, 0.95), flows=[3 * ONE] * 13, option=(0, 0, 0))
@@ -198,6 +216,16 @@ def borders():
                          (-half, 'row 1 1.000977517 1.000977516 4'), (reference.pattern_of(-half) - 1, 'row 1 1.000977516 1.000977516 4')):
         yield on_the_border(0, line, job(f=1, s=0, quotes=[(6, figure)]))
     yield on_the_border(0, 'node 0 0 0.327680000 205.1757813', job(f=1, s=0, quotes=[(5, 0.32768)]))
+    # Yields whose y is rounded down, away from zero below it; and the last in range, to either side.
+    for figure, line in ((7e-9, 'row 1 1.000000000 0.999999998 4'), (-7e-9, 'row 1 1.000000004 1.000000003 4'), (-8e-9, 'row 1 1.000000004 1.000000003 4'),
+                         (8e-9, 'row 1 0.999999996 0.999999996 4'), (-0.0, 'row 1 1.000000000 0.999999998 4')):
+        yield on_the_border(0, line, job(f=2, s=0, quotes=[(9, figure)]))
+    yield on_the_border(0, 'row 1 0.100000001 0.099999999 4', job(f=1, s=0, quotes=[(9, 2.302585083)]))
+    yield 7, job(f=1, s=0, quotes=[(9, 2.302585084)])
+    yield 9, job(f=1, s=0, quotes=[(9, -0.693147195)])
+    yield 7, job(f=1, s=0, quotes=[(9, -0.693147196)])
+    yield on_the_border(0, 'node 0 0 1.099999997 -9.0909088', job(f=1, s=0, quotes=[(9, -0.095310191)]))
+    yield 9, job(f=1, s=0, quotes=[(9, -0.095310192)])
     yield on_the_border(0, 'row 1 0.545454545 0.545454543 4', job(f=12, s=0, quotes=[(6, ten)]))
     yield 7, job(f=12, s=0, quotes=[(6, ten + 1)])
     # No volatility gives a product of exactly one: these two come nearest, 151 below and 1,100 above. So steep a tree is refused with 9.

@@ -111,6 +111,7 @@ fn value_of(answer: raw::Answer) -> Result<u64, Refusal> {
 pub enum Quote {
     DiscountFactor(f64),
     YearlyRate(f64),
+    YearlyYield(f64),
 }
 
 impl Quote {
@@ -118,12 +119,15 @@ impl Quote {
         match self {
             Quote::DiscountFactor(_) => 5,
             Quote::YearlyRate(_) => 6,
+            Quote::YearlyYield(_) => 9,
         }
     }
 
     fn figure(self) -> f64 {
         match self {
-            Quote::DiscountFactor(figure) | Quote::YearlyRate(figure) => figure,
+            Quote::DiscountFactor(figure)
+            | Quote::YearlyRate(figure)
+            | Quote::YearlyYield(figure) => figure,
         }
     }
 }
@@ -362,6 +366,12 @@ pub fn row_view<'a>(
 /// The signed rate of one step, in billionths, of a discount from 1 to 1,100,000,000.
 pub fn step_rate(discount: u64) -> Result<i64, Refusal> {
     let rate = unsafe { raw::mixegorta_step_rate(discount) };
+    accepted(rate.number, rate.value)
+}
+
+/// The signed, continuously compounded rate over one step, in billionths, of a discount from 1 to 1,100,000,000.
+pub fn continuous_rate(discount: u64) -> Result<i64, Refusal> {
+    let rate = unsafe { raw::mixegorta_continuous_rate(discount) };
     accepted(rate.number, rate.value)
 }
 

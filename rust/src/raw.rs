@@ -97,6 +97,7 @@ extern "C" {
         row: usize,
     ) -> RowRange;
     pub fn mixegorta_step_rate(discount: u64) -> Rate;
+    pub fn mixegorta_continuous_rate(discount: u64) -> Rate;
     pub fn mixegorta_state_price_error_bound(
         steps: usize,
         reversion: u64,

@@ -86,6 +86,17 @@ fn quotes_and_rates() {
 }
 
 #[test]
+fn yields_and_continuous_rates() {
+    let of_yield = |figure| quote_discount(2, 1, Quote::YearlyYield(figure));
+    assert_eq!(of_yield(0.000000007), Ok(1_000_000_000));
+    assert_eq!(of_yield(-0.000000007), Ok(1_000_000_004));
+    assert_eq!(of_yield(8.1), Err(Refusal::QUOTE));
+    assert_eq!(continuous_rate(484_106_437), Ok(725_450_480));
+    assert_eq!(continuous_rate(1_000_000_003), Ok(-4));
+    assert_eq!(continuous_rate(0), Err(Refusal::DISCOUNT));
+}
+
+#[test]
 fn curve_into_memory() {
     let mut memory = [PATTERN; 4];
     assert_eq!(

@@ -70,6 +70,13 @@ pub up-monotone : (a b d : ℕ) → 0 < d → a ≤ b → roundUp a d ≤ roundU
 unfolding roundUp
 up-monotone a b d p h = div-monotone (a + (d - 1)) (b + (d - 1)) d p (omega arith)
 
+pub up-exact : (q d : ℕ) → 0 < d → roundUp (d * q) d ≡ q
+unfolding roundUp
+up-exact q d h =
+    le-antisymm
+    (let l : (d * q + (d - 1)) / d < suc q = div-lt-iff-lt-mul h .1 (omega arith) in omega arith)
+    (le-div-iff-mul-le h .1 (omega arith))
+
 -- divided by at least as much as it is multiplied by, up leaves no more than before
 pub up-shrinks : (g a : ℕ) → g ≤ one → roundUp (g * a) one ≤ a
 unfolding roundUp

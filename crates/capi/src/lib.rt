@@ -12,6 +12,7 @@ ghost use Rattle.lattice.specs.Entries.{
 ghost use Rattle.quotes.specs.Quotes.{loneAnswer};
 ghost use Rattle.curve.specs.Curve.{curveNumber, curveMemory};
 ghost use Rattle.step_rate.specs.StepRate.{rateAnswer};
+ghost use Rattle.continuous_rate.specs.ContinuousRate.{continuousRateAnswer};
 ghost use Rattle.fitting.specs.Entry.{fitNumber, discountsAfter, pricesAfter};
 ghost use Rattle.row_view.specs.RowView.{rangeByNumber};
 ghost use Rattle.state_price_bound.specs.ErrorBound.{statePriceErrorBoundAnswer};
@@ -149,6 +150,13 @@ pub extern "C" fn mixegorta_step_rate(discount: u64) -> Rate
     ensures { λ r. ⌜ r ≡ rateAnswer discount ⌝ }
 {
     step_rate::of_discount(discount)
+}
+
+#[no_mangle]
+pub extern "C" fn mixegorta_continuous_rate(discount: u64) -> Rate
+    ensures { λ r. ⌜ r ≡ continuousRateAnswer discount ⌝ }
+{
+    continuous_rate::of_discount(discount)
 }
 
 #[no_mangle]

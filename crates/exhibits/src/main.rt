@@ -1,5 +1,6 @@
-// Document 002's exhibit 2 and the state prices it prints for exhibit 3, each figure held against its printed digits within the units that
-// document 01 names; and refusals that document 01 gives as run figures. What must be printed is worked out apart by reference.py.
+// Document 002's exhibit 2, and exhibit 3 from the document's own yields: its state prices and its rates, which are continuous. Each figure is
+// held against its printed digits within the units that document 01 names, exhibit 3's rates within one. Then refusals that document 01 gives
+// as run figures. What must be printed is worked out apart by reference.py.
 ghost use Prim.Native.Nat.{_≤_};
 
 // A value times a scale, against a printed figure in units: met where they differ by at most so many units.
@@ -26,13 +27,25 @@ fn compare(value: u64, scale: u64, printed: u64, unit: u64, units: u64)
     io::write_all(1, b" met");
 }
 
-// The rate of a node before the fit, in hundredths of a percent.
+// A rate in hundredths of a percent.
 fn rate(value: u64, printed: u64)
     requires { ⌜ printed ≤ 10000 ⌝ }
 {
     io::write_all(1, b"rate");
     compare(value, 1, printed, 100_000, 1);
     io::write_all(1, b"\n");
+}
+
+// The continuous rate of a node's discount.
+fn node_rate(discount: u64, printed: u64)
+    requires { ⌜ printed ≤ 10000 ⌝ }
+{
+    let found = continuous_rate::of_discount(discount);
+    if found.value < 0 {
+        io::write_all(1, b"rate below zero\n");
+        return;
+    }
+    rate(found.value as u64, printed);
 }
 
 // The probabilities of a node of row 2, in thousandths.
@@ -75,10 +88,23 @@ fn exhibit_two() {
     branch(-2, 87, 26, 887);
 }
 
+// Nodes A to I as the tree stores them, each row's lowest first.
+fn exhibit_three_rates(discounts: &[u64; 9]) {
+    node_rate(discounts[0], 382);
+    node_rate(discounts[1], 347);
+    node_rate(discounts[2], 520);
+    node_rate(discounts[3], 693);
+    node_rate(discounts[4], 279);
+    node_rate(discounts[5], 452);
+    node_rate(discounts[6], 625);
+    node_rate(discounts[7], 798);
+    node_rate(discounts[8], 971);
+}
+
 fn exhibit_three() {
     let rows: [u64; 3] = [1, 2, 3];
-    let kinds: [u8; 3] = [5, 5, 5];
-    let figures: [f64; 3] = [0.9624852963759188, 0.9137188421361854, 0.858483548293492];
+    let kinds: [u8; 3] = [9, 9, 9];
+    let figures: [f64; 3] = [0.0382364894294364, 0.04511618369644845, 0.05086258738130052];
     let mut discounts = [0u64; 9];
     let mut prices = [0u64; 14];
     let fitted = fitting::fit(
@@ -101,6 +127,7 @@ fn exhibit_three() {
     price(prices[6], 4737);
     price(prices[7], 1997);
     price(prices[8], 183);
+    exhibit_three_rates(&discounts);
 }
 
 fn lone() {

@@ -1,1 +1,1 @@
-// The starred figures of document 01, as one joint statement about the definitions of every layer: no code.
+// The starred figures of document 01 and the worked figures of document 02, each as one joint statement about definitions: no code.

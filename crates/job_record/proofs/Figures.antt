@@ -21,10 +21,14 @@ pub example-written : encode exampleJob ≡ example
 unfolding field joined optionField encode numberBytes
 example-written = refl
 
--- a rate in the quote's place, and a tag that is no kind
+-- a rate or a yield in the quote's place, and a tag that is no kind
 pub rate-read : readingOf (jobWith (quoteOf 6)) ≡ acceptedReading (recordWith 6)
 unfolding numberAt isKind fieldAt fieldsFrom headFormed restFormed bodyFormed wellFormed padded optionAt jobOf readingOf row overlay each
 rate-read = refl
+
+pub yield-read : readingOf (jobWith (quoteOf 9)) ≡ acceptedReading (recordWith 9)
+unfolding numberAt isKind fieldAt fieldsFrom headFormed restFormed bodyFormed wellFormed padded optionAt jobOf readingOf row overlay each
+yield-read = refl
 
 pub other-refused : readingOf (jobWith (quoteOf 7)) ≡ malformed
 unfolding numberAt isKind fieldAt fieldsFrom headFormed restFormed bodyFormed wellFormed readingOf each

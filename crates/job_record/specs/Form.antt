@@ -37,9 +37,9 @@ afterFields from width count = from + (width + fieldHead) * count
 abbrev pub farthest : ℕ
 farthest = afterFields mostBytes mostWidth mostJobSteps
 
--- the kinds of quotes: 5 a discount factor, 6 a simple yearly rate
+-- the kinds of quotes: 5 a discount factor, 6 a simple yearly rate, 9 a yearly yield
 unfoldable pub isKind : ℕ → Bool
-isKind tag = eqb tag 5 || eqb tag 6
+isKind tag = eqb tag 5 || eqb tag 6 || eqb tag 9
 
 -- a tag is among those asked for
 abbrev pub hasTag : Tags → ℕ → Bool

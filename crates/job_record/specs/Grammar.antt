@@ -23,7 +23,7 @@ unfoldable pub joined : ℕ → (ℕ → List ℕ) → List ℕ
 joined zero part = []
 joined (suc n) part = joined n part ++ part n
 
--- a quote: 05 or 06, 8 bytes of float
+-- a quote: 05, 06 or 09, 8 bytes of float
 abbrev pub quoteField : Job → ℕ → List ℕ
 quoteField job i = field (values (job .kinds) i) (numberBytes 8 (values (job .figures) i))
 

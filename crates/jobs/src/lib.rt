@@ -66,7 +66,10 @@ fn is_kind(tag: u8) -> bool
     if tag == 5 {
         return true;
     }
-    tag == 6
+    if tag == 6 {
+        return true;
+    }
+    tag == 9
 }
 
 // Whether a tag is among those asked for.

@@ -6,6 +6,7 @@ use Rattle.promises.proofs.TreeKept.{tree-kept}
 use Rattle.promises.proofs.RowsKept.{engine-kept, exact-kept, bound-kept, priced-kept}
 use Rattle.promises.proofs.PayoffsKept.{payoffs-kept}
 use Rattle.promises.proofs.FitStored.{fit-unaltered}
+use Rattle.promises.proofs.YieldsKept.{yields-kept}
 
 pub prices-kept : PricePromises
 prices-kept =
@@ -27,4 +28,4 @@ prices-kept =
     }
 
 pub promises-kept : Promises
-promises-kept = record { tree = tree-kept; prices = prices-kept }
+promises-kept = record { tree = tree-kept; prices = prices-kept; yields = yields-kept }

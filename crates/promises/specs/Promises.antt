@@ -1,8 +1,9 @@
--- What the engine promises (document 01): the demands on branching, rates and fit, and the accuracy of every price. Each line is about the
+-- What the engine promises (documents 01 and 02): the demands on branching, rates and fit, and the accuracy of every price. Each line is about the
 -- answer that an entry's contract gives, where its number is 0. m is 600,000,000 × one; the exact pricer's values are held times powers of m.
 -- Assumes nothing.
 use mathlib.Core.Path.{_≡_}
 use mathlib.Core.List.{List, [], _∷_}
+use mathlib.Core.Logic.{_≢_}
 use Prim.Native.Nat.{ℕ, suc, _+_, _-_, _*_, _/_, _^_, _≤_, _<_, max}
 use lib.Dec.{ltb}
 use lib.Ieee.{Float}
@@ -25,6 +26,11 @@ use Rattle.spacing.specs.Spacing.{spacingAnswer}
 use Rattle.factor.specs.Series.{scale}
 use Rattle.factor.specs.Factor.{exactFactor, nodeAnswer}
 use Rattle.step_rate.specs.StepRate.{rateAnswer}
+use Rattle.continuous.specs.Continuous.{powerScale, exactPower}
+use Rattle.continuous_rate.specs.ContinuousRate.{continuousRateAnswer, Nearest, SameSign}
+use Rattle.figure.specs.Figure.{billionthsOf}
+use Rattle.quotes.specs.declared.Point.{Point}
+use Rattle.quotes.specs.Quotes.{yieldAmount, loneAnswer}
 use Rattle.curve.specs.Curve.{discountAt}
 use Rattle.fitting.specs.Entry.{fitNumber, fitDiscount, fitPrice, fitMemory, fitDiscounts, fitPrices}
 use Rattle.fit_laws.specs.StatePrices.{exactStatePrice}
@@ -203,7 +209,21 @@ pub record PricePromises : Type 0 where
       Unaltered f n b s kinds figures (fitMemory 0 (fitDiscounts f n b s kinds figures) d) r
       (take (nodeCount b r) (drop (rowStart b r) (fitMemory 0 (fitPrices f n b s kinds figures) q)))
 
--- Both together, undivided.
+-- ---- yields by continuous compounding (document 02, request (i))
+
+pub record YieldPromises : Type 0 where
+  -- P of a yearly yield is within 100 of the fourth power of the exact series at a quarter of y, held times its denominator
+  pub yields-near : (f : ℕ) (p : Point) → loneAnswer f 9 p .number ≡ 0 →
+      Within 100 powerScale (loneAnswer f 9 p .value) (exactPower (yieldAmount f (p .row) (billionthsOf (p .figure))))
+  -- a node's continuous rate is the y that request (i) names, which nothing else is
+  pub rates-nearest : (v : ℕ) → continuousRateAnswer v .number ≡ 0 → Nearest v (continuousRateAnswer v .value)
+  pub rates-alone : (v : ℕ) → continuousRateAnswer v .number ≡ 0 → (y : ℤ) → Nearest v y → y ≡ continuousRateAnswer v .value
+  -- wherever it is not zero, its sign is the step rate's
+  pub rates-signed : (v : ℕ) → continuousRateAnswer v .number ≡ 0 → continuousRateAnswer v .value ≢ pos 0 →
+      SameSign (continuousRateAnswer v .value) (rateAnswer v .value)
+
+-- All together, undivided.
 pub record Promises : Type 0 where
   pub tree : TreePromises
   pub prices : PricePromises
+  pub yields : YieldPromises

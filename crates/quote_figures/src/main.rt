@@ -1,11 +1,11 @@
-// Floats, lone points, step rates and curves, whose answers were worked out apart, in exact fractions (vectors.py).
+// Floats, lone points, both rates of discounts and curves, whose answers were worked out apart, in exact fractions (vectors.py).
 ghost use Prim.Native.Nat.{_≤_, _<_};
 ghost use lib.IntN.{natAbs};
 ghost use lib.ListN.{length};
 use arithmetic::Answer;
 use quotes::Point;
 
-const PATTERNS: [u64; 40] = [
+const PATTERNS: [u64; 64] = [
     0xBF647AE147AE147B,
     0x3F50000000000000,
     0x8000000000000000,
@@ -46,9 +46,33 @@ const PATTERNS: [u64; 40] = [
     0x3FD771F1D994B270,
     0x3E80701448876AA8,
     0x3ECA2E852844E8EA,
+    0xBE99467039EC30AE,
+    0x3F0D1C2075D6DE39,
+    0x3ECD03090C534A7F,
+    0x3F8751EC1B24B7CD,
+    0xBFE24A82A30BB58C,
+    0x3F471DF456973173,
+    0xBF056E756BC58ADE,
+    0x3FED8D5682E5FFA0,
+    0xBE8231F478E2406D,
+    0xBE8EA04A8A6AA36A,
+    0xBF4A8E7164772E3E,
+    0x3EC6F833194C0946,
+    0xBF133E6C35277E2F,
+    0x3ED4C2C3ABBDD065,
+    0x3EADA672F5058849,
+    0x3E50EE185224CF78,
+    0xBEE27F51A9612091,
+    0x3FE5FD44B5512484,
+    0x3EDC59519A0D9D5E,
+    0x3F4635D18548A30C,
+    0x3F5CEB415F6801C3,
+    0xBEE46EC9BD3B55B1,
+    0x3EE43BE585180151,
+    0xBFC8F867E480A8C0,
 ];
 
-const FREQUENCIES: [u64; 40] = [
+const FREQUENCIES: [u64; 64] = [
     1,
     1,
     1,
@@ -89,9 +113,33 @@ const FREQUENCIES: [u64; 40] = [
     12,
     2,
     1,
+    2,
+    2,
+    1,
+    1,
+    1,
+    12,
+    12,
+    1,
+    1,
+    1,
+    1,
+    1,
+    1,
+    2,
+    12,
+    12,
+    1,
+    4,
+    1,
+    12,
+    3,
+    1,
+    12,
+    4,
 ];
 
-const KINDS: [u8; 40] = [
+const KINDS: [u8; 64] = [
     6,
     5,
     5,
@@ -113,7 +161,7 @@ const KINDS: [u8; 40] = [
     5,
     5,
     5,
-    9,
+    7,
     0,
     255,
     5,
@@ -132,9 +180,33 @@ const KINDS: [u8; 40] = [
     6,
     6,
     6,
+    9,
+    9,
+    9,
+    9,
+    9,
+    9,
+    9,
+    9,
+    9,
+    9,
+    9,
+    9,
+    9,
+    9,
+    9,
+    9,
+    9,
+    9,
+    9,
+    9,
+    9,
+    9,
+    9,
+    9,
 ];
 
-const ROWS: [u64; 40] = [
+const ROWS: [u64; 64] = [
     1,
     1,
     1,
@@ -175,9 +247,33 @@ const ROWS: [u64; 40] = [
     20,
     18,
     2,
+    1,
+    1,
+    1,
+    1,
+    1,
+    60,
+    60,
+    60,
+    1,
+    1,
+    1,
+    1,
+    1,
+    3,
+    1,
+    1,
+    1,
+    7,
+    60,
+    60,
+    1,
+    61,
+    59,
+    3,
 ];
 
-const FIGURES: [u64; 40] = [
+const FIGURES: [u64; 64] = [
     0xBF647AE147AE147B,
     0x4000000000000000,
     0x4000000000149DA8,
@@ -218,9 +314,33 @@ const FIGURES: [u64; 40] = [
     0x3FB9804492733119,
     0x3FA91B9B60023F8E,
     0x3FAE4BFBE3950B52,
+    0x3E3E1094D643F784,
+    0xBE3E1094D643F784,
+    0x4010000000000000,
+    0xC010000000000000,
+    0x4010000000112E0C,
+    0x3FE999999999999A,
+    0xBFE999999999999A,
+    0xC024000000000000,
+    0x40026BB1BA5DF087,
+    0x40026BB1BA804C9F,
+    0xBFE62E4306BADA31,
+    0xBFE62E4307444A90,
+    0x7FF8000000000000,
+    0x7FF0000000000000,
+    0x4024000000000000,
+    0x4024000000000001,
+    0x8000000000000000,
+    0x3FA3333333333333,
+    0xBF878D4FDF3B645A,
+    0x3FD999999999999A,
+    0x3FA999999999999A,
+    0x3FA999999999999A,
+    0xBF647AE147AE147B,
+    0xBE112E0BE826D695,
 ];
 
-const DISCOUNTS: [u64; 40] = [
+const DISCOUNTS: [u64; 64] = [
     0,
     1,
     2,
@@ -261,17 +381,41 @@ const DISCOUNTS: [u64; 40] = [
     806415239,
     985402268,
     393961920,
+    18315637,
+    18315638,
+    18315639,
+    999999996,
+    999999997,
+    999999999,
+    1000000003,
+    1000000004,
+    484106437,
+    853004019,
+    853004020,
+    1099999999,
+    367879441,
+    135335283,
+    49787068,
+    20000000,
+    1000000005,
+    1000000006,
+    1050000000,
+    990049834,
+    904837418,
+    740818221,
+    606530660,
+    1001000500,
 ];
 
-const CURVE_FREQUENCIES: [u64; 15] = [1, 2, 1, 1, 1, 1, 1, 1, 1, 1, 1, 1, 5, 12, 4];
+const CURVE_FREQUENCIES: [u64; 20] = [1, 2, 1, 1, 1, 1, 1, 1, 1, 1, 1, 1, 5, 12, 4, 1, 4, 1, 2, 2];
 
-const CURVE_STEPS: [usize; 15] = [3, 3, 3, 3, 3, 3, 3, 3, 2, 4, 0, 61, 61, 3, 3];
+const CURVE_STEPS: [usize; 20] = [3, 3, 3, 3, 3, 3, 3, 3, 2, 4, 0, 61, 61, 3, 3, 3, 3, 3, 3, 3];
 
-const LAST_ROWS: [u64; 15] = [3, 3, 3, 2, 4, 3, 3, 3, 3, 3, 9, 9, 9, 3, 3];
+const LAST_ROWS: [u64; 20] = [3, 3, 3, 2, 4, 3, 3, 3, 3, 3, 9, 9, 9, 3, 3, 3, 3, 3, 3, 3];
 
-const FIRST_KINDS: [u8; 15] = [5, 6, 5, 5, 5, 5, 5, 5, 5, 5, 5, 5, 5, 7, 5];
+const FIRST_KINDS: [u8; 20] = [5, 6, 5, 5, 5, 5, 5, 5, 5, 5, 5, 5, 5, 7, 5, 9, 9, 9, 9, 8];
 
-const FIRST_FIGURES: [u64; 15] = [
+const FIRST_FIGURES: [u64; 20] = [
     0x3FEEB851EB851EB8,
     0xBF647AE147AE147B,
     0x7FF8000000000000,
@@ -287,11 +431,16 @@ const FIRST_FIGURES: [u64; 15] = [
     0x7FF8000000000000,
     0x3FEEB851EB851EB8,
     0x4004000000000000,
+    0x3FA47AE147AE147B,
+    0xBF647AE147AE147B,
+    0x4010000000112E0C,
+    0x7FF8000000000000,
+    0x3FEEB851EB851EB8,
 ];
 
-const KINDS_LENT: [usize; 15] = [3, 3, 3, 3, 3, 2, 3, 3, 3, 3, 3, 3, 3, 3, 3];
+const KINDS_LENT: [usize; 20] = [3, 3, 3, 3, 3, 2, 3, 3, 3, 3, 3, 3, 3, 3, 3, 3, 3, 3, 3, 3];
 
-const PLACES_LENT: [usize; 15] = [5, 3, 5, 5, 5, 5, 2, 0, 5, 5, 5, 5, 0, 4, 5];
+const PLACES_LENT: [usize; 20] = [5, 3, 5, 5, 5, 5, 2, 0, 5, 5, 5, 5, 0, 4, 5, 5, 4, 5, 3, 5];
 
 fn print_refusal(number: u64) {
     io::write_all(1, b"refused ");
@@ -339,15 +488,22 @@ fn show_rate(discount: u64) {
     print_signed(rate.number, rate.value);
 }
 
-// A figure, a discount and a rate, on a line.
+fn show_continuous_rate(discount: u64) {
+    let rate = continuous_rate::of_discount(discount);
+    print_signed(rate.number, rate.value);
+}
+
+// A figure, a discount and a discount's two rates, on a line.
 fn show_line(i: usize)
-    requires { ⌜ i < 40 ⌝ }
+    requires { ⌜ i < 64 ⌝ }
 {
     show_figure(PATTERNS[i]);
     io::write_all(1, b", ");
     show_point(FREQUENCIES[i], KINDS[i], ROWS[i], FIGURES[i]);
     io::write_all(1, b", ");
     show_rate(DISCOUNTS[i]);
+    io::write_all(1, b", ");
+    show_continuous_rate(DISCOUNTS[i]);
     io::write_all(1, b"\n");
 }
 
@@ -420,7 +576,7 @@ fn show_curve(
 }
 
 fn show_case(i: usize)
-    requires { ⌜ i < 15 ⌝ }
+    requires { ⌜ i < 20 ⌝ }
 {
     show_curve(
         CURVE_FREQUENCIES[i],
@@ -435,7 +591,7 @@ fn show_case(i: usize)
 
 fn show_curves() {
     let mut i = 0usize;
-    while i < 15 {
+    while i < 20 {
         show_case(i);
         i += 1;
     }
@@ -443,7 +599,7 @@ fn show_curves() {
 
 fn main() {
     let mut i = 0usize;
-    while i < 40 {
+    while i < 64 {
         show_line(i);
         i += 1;
     }

@@ -1,3 +1,4 @@
 pub mod Divisor
 pub mod QuoteLaws
+pub mod YieldLaws
 pub mod Figures

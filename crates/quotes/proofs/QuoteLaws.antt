@@ -18,9 +18,10 @@ use Rattle.figure.specs.Figure.{beyond, billionthsOf, figureOf}
 use Rattle.figure.proofs.FigureLaws.{number-accepted, number-refused, value-accepted}
 use Rattle.quotes.specs.declared.Point.{Point}
 use Rattle.quotes.specs.declared.Quote.{Quote}
-use Rattle.quotes.specs.declared.Quote.the-variants.{DiscountFactor, YearlyRate}
+use Rattle.quotes.specs.declared.Quote.the-variants.{DiscountFactor, YearlyRate, YearlyYield}
 use Rattle.arithmetic.specs.Frequency.{listed}
-use Rattle.quotes.specs.Quotes.{rowKnown, inRange, factorDiscount, rateDiscount, rangedAnswer, figureAnswer, quoteAnswer, kindAnswer, loneAnswer}
+use Rattle.quotes.specs.Quotes.{rowKnown, inRange, factorDiscount, rateDiscount, yieldDiscount}
+use Rattle.quotes.specs.Quotes.{rangedAnswer, figureAnswer, quoteAnswer, kindAnswer, loneAnswer}
 
 true≢false : true ≡ false → ⊥
 true≢false q = let z : _≡_ {A = ℕ} 0 1 = cc in omega arith
@@ -149,12 +150,14 @@ module _ (P : Answer → Type 0) (of-ranged : (p : ℕ) → P (rangedAnswer p)) 
   unfolding quoteAnswer
   by-quote f t (DiscountFactor x) = by-figure x factorDiscount
   by-quote f t (YearlyRate x) = by-figure x (rateDiscount f t)
+  by-quote f t (YearlyYield x) = by-figure x (yieldDiscount f t)
 
   by-kind : (f kind : ℕ) (p : Point) → P (kindAnswer f kind p)
   unfolding kindAnswer
   by-kind f kind p =
       by-test (eqb kind 5) P _ _ (λ h. by-quote f (p .row) (DiscountFactor (p .figure)))
-      (λ h. by-test (eqb kind 6) P _ _ (λ h. by-quote f (p .row) (YearlyRate (p .figure))) (λ h. of-refused))
+      (λ h. by-test (eqb kind 6) P _ _ (λ h. by-quote f (p .row) (YearlyRate (p .figure)))
+      (λ h. by-test (eqb kind 9) P _ _ (λ h. by-quote f (p .row) (YearlyYield (p .figure))) (λ h. of-refused)))
 
 pub lone-told : (f kind : ℕ) (p : Point) → Told (loneAnswer f kind p)
 unfolding loneAnswer

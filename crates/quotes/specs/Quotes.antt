@@ -1,4 +1,4 @@
--- What a quoted point gives (document 01, Quotes): its discount P in billionths, or a refusal.
+-- What a quoted point gives (document 01, Quotes; document 02, request (i)): its discount P in billionths, or a refusal.
 -- Assumes nothing.
 use Prim.Native.Nat.{ℕ, zero, suc, _*_}
 use mathlib.Core.Bool.{Bool, not, cond, _&&_}
@@ -8,11 +8,12 @@ use lib.Ieee.{Float}
 use Rattle.arithmetic.specs.declared.Answer.{Answer}
 use Rattle.arithmetic.specs.Answers.{refused, answered}
 use Rattle.arithmetic.specs.Frequency.{listed}
-use Rattle.arithmetic.specs.Rounding.{one, roundDown}
+use Rattle.arithmetic.specs.Rounding.{one, roundDown, roundDownSigned}
+use Rattle.continuous.specs.Continuous.{continuousAnswer}
 use Rattle.figure.specs.Figure.{billionthsOf, beyond}
 use Rattle.quotes.specs.declared.Point.{Point}
 use Rattle.quotes.specs.declared.Quote.{Quote}
-use Rattle.quotes.specs.declared.Quote.the-variants.{DiscountFactor, YearlyRate}
+use Rattle.quotes.specs.declared.Quote.the-variants.{DiscountFactor, YearlyRate, YearlyYield}
 
 -- the row of a lone point: 1 to 60
 unfoldable pub rowKnown : ℕ → Bool
@@ -39,6 +40,16 @@ unfoldable pub rateDiscount : ℕ → ℕ → ℤ → ℕ
 unfolding quotient
 rateDiscount f t r = quotient (one * one * f) (pos (f * one) +ℤ pos t *ℤ r)
 
+-- y of a yearly yield of r billionths for row t: r × t / f, down
+unfoldable pub yieldAmount : ℕ → ℕ → ℤ → ℤ
+unfolding roundDownSigned
+yieldAmount f t r = roundDownSigned (pos t *ℤ r) f
+
+-- P of a yearly yield: F of y; 0, which is out of range, where y is beyond its limit
+unfoldable pub yieldDiscount : ℕ → ℕ → ℤ → ℕ
+unfolding yieldAmount continuousAnswer
+yieldDiscount f t r = continuousAnswer (yieldAmount f t r) .value
+
 -- P, or refusal 7 outside its range
 unfoldable pub rangedAnswer : ℕ → Answer
 unfolding inRange
@@ -51,9 +62,10 @@ figureAnswer x discount = cond (beyond x) (refused 7) (rangedAnswer (discount (b
 
 -- a quote for row t, kind by kind
 unfoldable pub quoteAnswer : ℕ → ℕ → Quote → Answer
-unfolding figureAnswer factorDiscount rateDiscount
+unfolding figureAnswer factorDiscount rateDiscount yieldDiscount
 quoteAnswer f t (DiscountFactor x) = figureAnswer x factorDiscount
 quoteAnswer f t (YearlyRate x) = figureAnswer x (rateDiscount f t)
+quoteAnswer f t (YearlyYield x) = figureAnswer x (yieldDiscount f t)
 
 -- a point whose kind is told by its number; refusal 7 for an unknown kind
 unfoldable pub kindAnswer : ℕ → ℕ → Point → Answer
@@ -61,7 +73,8 @@ unfolding quoteAnswer
 kindAnswer f kind p =
     cond (eqb kind 5) (quoteAnswer f (p .row) (DiscountFactor (p .figure)))
     (cond (eqb kind 6) (quoteAnswer f (p .row) (YearlyRate (p .figure)))
-    (refused 7))
+    (cond (eqb kind 9) (quoteAnswer f (p .row) (YearlyYield (p .figure)))
+    (refused 7)))
 
 -- a lone point, the lowest refusal first
 unfoldable pub loneAnswer : ℕ → ℕ → Point → Answer

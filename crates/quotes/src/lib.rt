@@ -3,7 +3,8 @@ ghost use mathlib.Core.Path.{_≡_};
 ghost use Prim.Native.Nat.{_≤_};
 ghost use lib.IntN.{natAbs};
 ghost use Rattle.arithmetic.specs.Answers.{refused};
-ghost use Rattle.quotes.specs.Quotes.{rateDiscount, factorDiscount, rangedAnswer, figureAnswer, quoteAnswer, kindAnswer, loneAnswer};
+ghost use Rattle.continuous.specs.Continuous.{continuousAnswer};
+ghost use Rattle.quotes.specs.Quotes.{factorDiscount, rateDiscount, yieldDiscount, rangedAnswer, figureAnswer, quoteAnswer, kindAnswer, loneAnswer};
 use arithmetic::Answer;
 
 const ONE: u64 = 1_000_000_000;
@@ -15,10 +16,11 @@ pub struct Point {
     pub figure: f64,
 }
 
-// A figure by its kind: a discount factor (kind 5) or a simple yearly rate (kind 6).
+// A figure by its kind: a discount factor (kind 5), a simple yearly rate (kind 6) or a yearly yield by continuous compounding (kind 9).
 pub enum Quote {
     DiscountFactor(f64),
     YearlyRate(f64),
+    YearlyYield(f64),
 }
 
 fn refusal(cause: u64) -> Answer
@@ -85,20 +87,53 @@ fn of_rate(frequency: u64, row: u64, figure: f64) -> Answer
     of_billionths(frequency, row, rate.value)
 }
 
+// The discount of an amount by continuous compounding.
+fn of_amount(amount: i64) -> Answer
+    ensures { λ r. ⌜ r ≡ rangedAnswer (continuousAnswer amount .value) ⌝ }
+{
+    let discount = continuous::discount(amount);
+    ranged(discount.value)
+}
+
+// The discount of a yearly yield in billionths. Its amount is rounded down, so away from zero below it.
+fn of_yearly(frequency: u64, row: u64, rate: i64) -> Answer
+    requires { ⌜ (1 ≤ frequency) × (frequency ≤ 12) × (row ≤ 60) × (natAbs rate ≤ 10000000000) ⌝ }
+    ensures { λ r. ⌜ r ≡ rangedAnswer (yieldDiscount frequency row rate) ⌝ }
+{
+    let size = row * arithmetic::magnitude(rate);
+    if rate < 0 {
+        return of_amount(-(((size + (frequency - 1)) / frequency) as i64));
+    }
+    of_amount((size / frequency) as i64)
+}
+
+// The discount of a yearly yield.
+fn of_yield(frequency: u64, row: u64, figure: f64) -> Answer
+    requires { ⌜ (1 ≤ frequency) × (frequency ≤ 12) × (row ≤ 60) ⌝ }
+    ensures { λ r. ⌜ r ≡ figureAnswer figure (yieldDiscount frequency row) ⌝ }
+{
+    let rate = figure::billionths(figure);
+    if rate.number != 0 {
+        return refusal(7);
+    }
+    of_yearly(frequency, row, rate.value)
+}
+
 // The discount of a quote for a row, case by case.
 fn of_quote(frequency: u64, row: u64, quote: Quote) -> Answer
-    requires { ⌜ (frequency ≤ 12) × (row ≤ 60) ⌝ }
+    requires { ⌜ (1 ≤ frequency) × (frequency ≤ 12) × (row ≤ 60) ⌝ }
     ensures { λ r. ⌜ r ≡ quoteAnswer frequency row quote ⌝ }
 {
     match quote {
         Quote::DiscountFactor(x) => of_factor(x),
         Quote::YearlyRate(x) => of_rate(frequency, row, x),
+        Quote::YearlyYield(x) => of_yield(frequency, row, x),
     }
 }
 
 // The discount of a point whose kind is told by its number.
 fn of_point(frequency: u64, kind: u8, point: Point) -> Answer
-    requires { ⌜ (frequency ≤ 12) × (point .row ≤ 60) ⌝ }
+    requires { ⌜ (1 ≤ frequency) × (frequency ≤ 12) × (point .row ≤ 60) ⌝ }
     ensures { λ r. ⌜ r ≡ kindAnswer frequency kind point ⌝ }
 {
     let row = point.row;
@@ -108,6 +143,9 @@ fn of_point(frequency: u64, kind: u8, point: Point) -> Answer
     }
     if kind == 6 {
         return of_quote(frequency, row, Quote::YearlyRate(figure));
+    }
+    if kind == 9 {
+        return of_quote(frequency, row, Quote::YearlyYield(figure));
     }
     refusal(7)
 }

@@ -6,10 +6,10 @@ use Rattle.quote_figures.proofs.main.Statement.{statement}
 use Rattle.quote_figures.proofs.main.Tie as tie
 
 abbrev Inv-loop : tie.InvT-loop
-Inv-loop i₀ i = i ≤ 40
+Inv-loop i₀ i = i ≤ 64
 
 abbrev μ-loop : tie.MeasureT-loop
-μ-loop i₀ i = 40 - i
+μ-loop i₀ i = 64 - i
 
 loop-holds : tie.Need-loop-holds Inv-loop μ-loop
 loop-holds c = omega arith

@@ -6,10 +6,10 @@ use Rattle.quote_figures.proofs.show_curves.Statement.{statement}
 use Rattle.quote_figures.proofs.show_curves.Tie as tie
 
 abbrev Inv-loop : tie.InvT-loop
-Inv-loop i₀ i = i ≤ 15
+Inv-loop i₀ i = i ≤ 20
 
 abbrev μ-loop : tie.MeasureT-loop
-μ-loop i₀ i = 15 - i
+μ-loop i₀ i = 20 - i
 
 loop-holds : tie.Need-loop-holds Inv-loop μ-loop
 loop-holds c = omega arith

@@ -48,7 +48,8 @@ returns-3 c =
 of-point-requires : tie.Need-of-point-requires
 of-point-requires c κs =
     let l = c .before .before in
-    (listed-small (l .before .before .args .frequency) (known l) .1, c .if3 .left)
+    let f = listed-small (l .before .before .args .frequency) (known l) in
+    (f .0, f .1, c .if3 .left)
 
 returns-4 : tie.Need-returns-4
 returns-4 c =

@@ -1,8 +1,9 @@
 -- `quotes::of_point` meets its contract.
 -- Assumes nothing.
+use mathlib.Core.Path.{_≡_}
 use borrow.Author.Tests.{eq-eqb, ne-eqb}
-use Rattle.quotes.specs.Quotes.{kindAnswer}
 use borrow.Author.Needs.{needs}
+use Rattle.quotes.specs.Quotes.{kindAnswer}
 use Rattle.quotes.proofs.of_point.Statement.{statement}
 use Rattle.quotes.proofs.of_point.Tie as tie
 
@@ -20,14 +21,33 @@ returns-2 : tie.Need-returns-2
 unfolding kindAnswer
 returns-2 c = simp (ne-eqb _ 5 (c .before .before .if1 .left), eq-eqb _ 6 (c .before .if2 .taken)) (c .of-quote2 .ensures)
 
-refusal-requires : tie.Need-refusal-requires
-refusal-requires c κs = search needs
+of-quote-requires-3 : tie.Need-of-quote-requires-3
+of-quote-requires-3 c κs = search needs
 
 returns-3 : tie.Need-returns-3
 unfolding kindAnswer
-returns-3 c = simp (ne-eqb _ 5 (c .before .before .if1 .left), ne-eqb _ 6 (c .before .if2 .left)) (c .refusal .ensures)
+returns-3 c =
+    simp (ne-eqb _ 5 (c .before .before .before .if1 .left), ne-eqb _ 6 (c .before .before .if2 .left), eq-eqb _ 9 (c .before .if3 .taken))
+    (c .of-quote3 .ensures)
+
+refusal-requires : tie.Need-refusal-requires
+refusal-requires c κs = search needs
+
+returns-4 : tie.Need-returns-4
+unfolding kindAnswer
+returns-4 c =
+    simp (ne-eqb _ 5 (c .before .before .before .if1 .left), ne-eqb _ 6 (c .before .before .if2 .left), ne-eqb _ 9 (c .before .if3 .left))
+    (c .refusal .ensures)
 
 pub of-point-spec : {M : Type 1} → statement M
 of-point-spec =
     tie.close
-    (tie.spec of-quote-requires returns of-quote-requires-2 returns-2 refusal-requires returns-3)
+    (tie.spec
+    of-quote-requires
+    returns
+    of-quote-requires-2
+    returns-2
+    of-quote-requires-3
+    returns-3
+    refusal-requires
+    returns-4)

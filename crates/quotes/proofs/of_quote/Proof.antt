@@ -18,6 +18,12 @@ enum-known-quote-2 c = search needs
 of-rate-requires : tie.Need-of-rate-requires
 of-rate-requires c κs = search needs
 
+enum-known-quote-3 : tie.Need-enum-known-quote-3
+enum-known-quote-3 c = search needs
+
+of-yield-requires : tie.Need-of-yield-requires
+of-yield-requires c κs = search needs
+
 returns : tie.Need-returns
 unfolding quoteAnswer
 returns c =
@@ -30,6 +36,12 @@ returns-2 c =
     let a = c .before .before .before .before .args in
     c .of-rate .ensures ∙ sym (ap (quoteAnswer (a .frequency) (a .row)) (c .before .before .quote2 .given .1))
 
+returns-3 : tie.Need-returns-3
+unfolding quoteAnswer
+returns-3 c =
+    let a = c .before .before .before .before .args in
+    c .of-yield .ensures ∙ sym (ap (quoteAnswer (a .frequency) (a .row)) (c .before .before .quote3 .given .1))
+
 pub of-quote-spec : {M : Type 1} → statement M
 of-quote-spec =
     tie.close
@@ -38,5 +50,8 @@ of-quote-spec =
     of-factor-requires
     enum-known-quote-2
     of-rate-requires
+    enum-known-quote-3
+    of-yield-requires
     returns
-    returns-2)
+    returns-2
+    returns-3)

@@ -1,0 +1,5 @@
+pub mod LeastLaws
+pub mod Window
+pub mod Candidates
+pub mod RateLaws
+pub mod Figures

@@ -1,0 +1,46 @@
+-- `continuous_rate::nearest_above` meets its contract.
+-- Assumes nothing.
+use mathlib.Core.Path.{_≡_, _∙_}
+use Prim.Native.Nat.{_+_, _-_}
+use native.Mathlib.Omega.{arith}
+use borrow.Author.Needs.{needs}
+use Rattle.continuous_rate.proofs.Window.{falls-past, starts-above, above-window}
+use Rattle.continuous_rate.proofs.nearest_above.Statement.{statement}
+use Rattle.continuous_rate.proofs.nearest_above.Tie as tie
+
+passing-requires : tie.Need-passing-requires
+passing-requires c κs = starts-above (c .args .discount) (c .pre)
+
+window-start-requires : tie.Need-window-start-requires
+window-start-requires c κs = search needs
+
+window-end-requires : tie.Need-window-end-requires
+window-end-requires c κs = search needs
+
+sub-nearest-between : tie.Need-sub-nearest-between
+sub-nearest-between c = search needs
+
+nearest-between-requires : tie.Need-nearest-between-requires
+nearest-between-requires c κs = search needs
+
+returns : tie.Need-returns
+returns c =
+    let w = c .before in
+    let from = w .before .window-start .result in
+    let end = w .window-end .result in
+    let e = w .window-end .ensures in
+    let s = w .before .window-start .ensures in
+    let join : from + (end - from) ≡ end = omega (arith, e, s) in
+    c .nearest-between .ensures
+    ∙ above-window _ _ from (end - from) (falls-past _ _ (w .before .before .passing .ensures)) s (rw join (e .0)) (rw join (e .1)) (rw join (e .2))
+
+pub nearest-above-spec : {M : Type 1} → statement M
+nearest-above-spec =
+    tie.close
+    (tie.spec
+    passing-requires
+    window-start-requires
+    window-end-requires
+    sub-nearest-between
+    nearest-between-requires
+    returns)

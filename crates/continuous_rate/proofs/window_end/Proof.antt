@@ -1,0 +1,18 @@
+-- `continuous_rate::window_end` meets its contract.
+-- Assumes nothing.
+use native.Mathlib.Omega.{arith}
+use borrow.Author.Needs.{needs}
+use Rattle.continuous_rate.proofs.window_end.Statement.{statement}
+use Rattle.continuous_rate.proofs.window_end.Tie as tie
+
+add-result : tie.Need-add-result
+add-result c = search needs
+
+returns : tie.Need-returns
+returns c = (omega arith, omega arith, λ h. omega arith)
+
+returns-2 : tie.Need-returns-2
+returns-2 c = (omega arith, omega arith, λ h. let none : ⊥ = omega arith in absurd none)
+
+pub window-end-spec : {M : Type 1} → statement M
+window-end-spec = tie.close (tie.spec add-result returns returns-2)

@@ -1,0 +1,147 @@
+// A node's continuous rate over its step, with its sign, from the step's discount.
+ghost use mathlib.Core.Path.{_≡_};
+ghost use mathlib.Core.Bool.{true, false};
+ghost use Prim.Native.Nat.{_+_, _-_, _≤_, _<_};
+ghost use Rattle.arithmetic.specs.Rounding.{one};
+ghost use Rattle.limits.specs.Limits.{mostDiscount};
+ghost use Rattle.continuous.specs.Continuous.{sideDiscount};
+ghost use Rattle.continuous_rate.specs.Least.{firstLeast};
+ghost use Rattle.continuous_rate.specs.ContinuousRate.{continuousRateAnswer};
+ghost use Rattle.continuous_rate.specs.Search.{sideMiss, windowMiss, before, Passes};
+use step_rate::Rate;
+
+const ONE: u64 = 1_000_000_000;
+
+fn side_discount(quotient: u64, below: bool) -> u64
+    requires { ⌜ quotient ≤ one ⌝ }
+    ensures { λ r. ⌜ r ≡ sideDiscount quotient below ⌝ }
+{
+    let answer = continuous::discount_of_quotient(quotient, below);
+    answer.value
+}
+
+// How far the discount of a quotient is from the given one.
+fn side_miss(discount: u64, below: bool, quotient: u64) -> u64
+    requires { ⌜ quotient ≤ one ⌝ }
+    ensures { λ r. ⌜ r ≡ sideMiss discount below quotient ⌝ }
+{
+    let found = side_discount(quotient, below);
+    if found < discount {
+        return discount - found;
+    }
+    found - discount
+}
+
+// Whether the discounts of one side, which start at one, have not passed the given one at a quotient.
+fn is_before(discount: u64, below: bool, quotient: u64) -> bool
+    requires { ⌜ quotient ≤ one ⌝ }
+    ensures { λ r. ⌜ r ≡ before discount below quotient ⌝ }
+{
+    let found = side_discount(quotient, below);
+    if below {
+        return found <= discount;
+    }
+    discount <= found
+}
+
+// A quotient at which the discounts of one side pass the given one, by halving an interval.
+fn passing(discount: u64, below: bool) -> u64
+    requires { ⌜ before discount below 0 ≡ true ⌝ }
+    ensures { λ r. ⌜ Passes discount below r ⌝ }
+{
+    let mut low: u64 = 0;
+    let mut high: u64 = ONE + 1;
+    while 1 < high - low {
+        let middle = low + (high - low) / 2;
+        if is_before(discount, below, middle) {
+            low = middle;
+        } else {
+            high = middle;
+        }
+    }
+    low
+}
+
+// Of the quotients above zero from the first on, `count` more, the first whose discount is nearest.
+fn nearest_between(discount: u64, from: u64, count: u64) -> u64
+    requires { ⌜ from + count ≤ one ⌝ }
+    ensures { λ r. ⌜ r ≡ from + firstLeast (windowMiss discount from) count ⌝ }
+{
+    let mut best = from;
+    let mut least = side_miss(discount, false, from);
+    let mut k: u64 = 0;
+    while k < count {
+        k += 1;
+        let miss = side_miss(discount, false, from + k);
+        if miss < least {
+            best = from + k;
+            least = miss;
+        }
+    }
+    best
+}
+
+// A quotient less 100, or 0.
+fn window_start(quotient: u64) -> u64
+    ensures { λ r. ⌜ r ≡ quotient - 100 ⌝ }
+{
+    if quotient < 100 {
+        return 0;
+    }
+    quotient - 100
+}
+
+// A quotient and 101, at most one.
+fn window_end(quotient: u64) -> u64
+    requires { ⌜ quotient ≤ one ⌝ }
+    ensures { λ r. ⌜ (quotient ≤ r) × (r ≤ one) × (r < one → quotient + 101 ≤ r) ⌝ }
+{
+    if quotient < 999_999_899 {
+        return quotient + 101;
+    }
+    ONE
+}
+
+// The first quotient above zero whose discount is nearest. Discounts do not fall at every quotient, but over a hundred they do.
+fn nearest_above(discount: u64) -> u64
+    requires { ⌜ discount ≤ one ⌝ }
+    ensures { λ r. ⌜ r ≡ firstLeast (sideMiss discount false) one ⌝ }
+{
+    let place = passing(discount, false);
+    let from = window_start(place);
+    nearest_between(discount, from, window_end(place) - from)
+}
+
+// The first quotient below zero whose discount is nearest.
+fn nearest_below(discount: u64) -> u64
+    requires { ⌜ (one ≤ discount) × (discount ≤ mostDiscount) ⌝ }
+    ensures { λ r. ⌜ r ≡ firstLeast (sideMiss discount true) one ⌝ }
+{
+    let place = passing(discount, true);
+    if side_miss(discount, true, place + 1) < side_miss(discount, true, place) {
+        return place + 1;
+    }
+    place
+}
+
+// The continuous rate of a discount. Refusal 9: the discount is 0 or above 1.1.
+pub fn of_discount(discount: u64) -> Rate
+    ensures { λ r. ⌜ r ≡ continuousRateAnswer discount ⌝ }
+{
+    if !limits::is_discount(discount) {
+        return Rate {
+            number: 9,
+            value: 0,
+        };
+    }
+    if discount > ONE {
+        return Rate {
+            number: 0,
+            value: -((4 * nearest_below(discount)) as i64),
+        };
+    }
+    Rate {
+        number: 0,
+        value: (4 * nearest_above(discount)) as i64,
+    }
+}
