@@ -49,7 +49,14 @@ pub fn exercise_value(terms: Terms, bond: u64) -> u64
     excess(terms.strike, bond)
 }
 
-// Before expiry: the larger of roll and exercise on a row that is listed, the roll on any other.
+// At expiry, of a bond that holds the row's flow: the exercise value without it. Where the flow is more than the bond, on 0.
+pub fn expiry_value(terms: Terms, bond: u64, flow: u64) -> u64
+    ensures { λ r. ⌜ r ≡ exercise (side (terms .call)) (terms .strike) (bond - flow) ⌝ }
+{
+    exercise_value(terms, excess(bond, flow))
+}
+
+// Before expiry, of a bond without the row's flow: the larger of roll and exercise on a row that is listed, the roll on any other.
 pub fn held_value(terms: Terms, listed: bool, roll: u64, bond: u64) -> u64
     ensures { λ r. ⌜ r ≡ heldOrExercised listed roll (exercise (side (terms .call)) (terms .strike) bond) ⌝ }
 {

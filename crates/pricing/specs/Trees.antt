@@ -69,9 +69,9 @@ rolledAt b discounts i later = roll (rateTree b) (stored b discounts) rollRoundi
 abbrev pub bondStep : ℕ → List ℕ → ℕ → ℕ → List ℕ → ℕ → ℕ
 bondStep b discounts flow i later k = rolledAt b discounts i later k + flow
 
-abbrev pub optionStep : Side → ℕ → Bool → ℕ → List ℕ → ℕ → ℕ → List ℕ → List ℕ → ℕ → ℕ
-optionStep side strike listed b discounts flow i bonds options k =
-    heldOrExercised listed (rolledAt b discounts i options k) (exercise side strike (bondStep b discounts flow i bonds k))
+abbrev pub optionStep : Side → ℕ → Bool → ℕ → List ℕ → ℕ → List ℕ → List ℕ → ℕ → ℕ
+optionStep side strike listed b discounts i bonds options k =
+    heldOrExercised listed (rolledAt b discounts i options k) (exercise side strike (rolledAt b discounts i bonds k))
 
 -- the bond rolled back to row i: 12 where a value on the way is above the limit, else the row
 pub record BondRolled (n b : ℕ) (discounts flows : List ℕ) (i : ℕ) (number : ℕ) (row : List ℕ) : Type 0 where

@@ -81,7 +81,8 @@ pub(crate) struct RowRight {
     pub(crate) listed: bool,
 }
 
-// Rolls bond and option back by one row together, each node's branch worked out once for both. Gives the greatest value of the two rows.
+// Rolls bond and option back by one row together, each node's branch worked out once for both. The option is exercised on the bond before the
+// row's flow is added. Gives the greatest value of the two rows.
 pub(crate) fn option_row(
     right: RowRight,
     downs: &[u64],
@@ -96,7 +97,7 @@ pub(crate) fn option_row(
     ensures { λ r. ⌜ FilledRows (now (bond .exit)) (now (option .exit)) (length (now (discounts .entry)))
         (bondValues (now (bonds .entry)) (now (downs .entry)) (now (discounts .entry)) (right .next) (right .flow))
         (optionValues (side (right .terms .call)) (right .terms .strike) (right .listed)
-        (now (bonds .entry)) (now (options .entry)) (now (downs .entry)) (now (discounts .entry)) (right .next) (right .flow)) r ⌝ }
+        (now (bonds .entry)) (now (options .entry)) (now (downs .entry)) (now (discounts .entry)) (right .next)) r ⌝ }
 {
     let terms = right.terms;
     let mut top: u64 = 0;
@@ -104,13 +105,14 @@ pub(crate) fn option_row(
     while k < discounts.len() {
         let branch = row_branches::row_branch(downs, right.next, k);
         let discount = discounts[k];
-        let value = roll_node(branch, bonds, discount) + right.flow;
+        let bare = roll_node(branch, bonds, discount);
         let held = exercise::held_value(
             terms,
             right.listed,
             roll_node(branch, options, discount),
-            value,
+            bare,
         );
+        let value = bare + right.flow;
         bond[k] = value;
         option[k] = held;
         top = arithmetic::larger(top, arithmetic::larger(value, held));
@@ -119,15 +121,15 @@ pub(crate) fn option_row(
     top
 }
 
-// The exercise values of a row of the bond.
-pub(crate) fn exercise_row(terms: Terms, bond: &[u64], option: &mut [u64])
+// The exercise values of a row of the bond, which holds the row's flow.
+pub(crate) fn exercise_row(terms: Terms, flow: u64, bond: &[u64], option: &mut [u64])
     requires { ⌜ length (now option) ≡ length (now bond) ⌝ }
     ensures { λ _. ⌜ Holds (now (option .exit)) (length (now (option .entry)))
-        (λ k. exercise (side (terms .call)) (terms .strike) (values (now (bond .entry)) k)) ⌝ }
+        (λ k. exercise (side (terms .call)) (terms .strike) (values (now (bond .entry)) k - flow)) ⌝ }
 {
     let mut k: usize = 0;
     while k < option.len() {
-        option[k] = exercise::exercise_value(terms, bond[k]);
+        option[k] = exercise::expiry_value(terms, bond[k], flow);
         k += 1;
     }
 }

@@ -132,7 +132,7 @@ fn option_step(
     ensures { λ r. ⌜ FilledRows (now (bond .exit)) (now (option .exit)) (nodeCount (right .at .reversion) (right .at .row))
         (bondStep (right .at .reversion) (now (discounts .entry)) (right .at .flow) (right .at .row) (now (bonds .entry)))
         (optionStep (side (right .terms .call)) (right .terms .strike) (right .listed) (right .at .reversion)
-        (now (discounts .entry)) (right .at .flow) (right .at .row) (now (bonds .entry)) (now (options .entry))) r ⌝ }
+        (now (discounts .entry)) (right .at .row) (now (bonds .entry)) (now (options .entry))) r ⌝ }
 {
     let at = right.at;
     let terms = right.terms;
@@ -224,7 +224,7 @@ fn roll_option(
         (marked (terms .last) (now (marks .entry))) r ⌝ }
 {
     let mut option = rows::empty_row();
-    rows::exercise_row(terms, bond, &mut option);
+    rows::exercise_row(terms, flow_of(flows, terms.last), bond, &mut option);
     let mut bonds = rows::empty_row();
     let mut options = rows::empty_row();
     let mut row = terms.last;
