@@ -1,6 +1,6 @@
 -- The walk back through an accepted tree: what the code holds at each row.
 -- Assumes nothing.
-use mathlib.Core.Path.{_≡_, refl, sym, ap₂, _∙_, subst}
+use mathlib.Core.Path.{_≡_, refl, sym, ap, ap₂, _∙_, subst}
 use mathlib.Core.Bool.{Bool}
 use mathlib.Core.List.{List}
 use Prim.Native.Nat.{ℕ, zero, suc, _+_, _-_, _≤_, _<_, max}
@@ -205,7 +205,7 @@ module _ (n b : ℕ) (discounts flows : List ℕ) (a : Accepted n b discounts) (
           ∙ greatest-max (nodeCount b (r - 1)) (values bond) (values option)
 
       pub both-next : found ≤ valueLimit → Bonds n b discounts flows (r - 1) bond × Right (r - 1) option
-      unfolding Options rateTree rolledAt bond-found option-found
+      unfolding Bonds Options rateTree rolledAt bond-found option-found
       both-next o = (
         bonds-next r bonds some sb bond (filled .bond-held) bond-found refl (omega (arith, found-is)),
         back.option-step n (On (rateTree b)) (top b) great the-roll local (flowAt flows) side strike rows (r - 1) (values options)
@@ -226,7 +226,7 @@ module _ (n b : ℕ) (discounts flows : List ℕ) (a : Accepted n b discounts) (
           )
 
       over-option : valueLimit < option-found → valueLimit < optionPeak n b discounts flows side strike rows
-      unfolding Options rateTree rolledAt greatestValue optionValue optionPeak option-found
+      unfolding Bonds Options rateTree rolledAt greatestValue optionValue optionPeak option-found
       over-option h =
           let e : 0 + (r - 1) ≡ r - 1 = omega arith in
           let w = greatestValue (rateTree b) (optionValue n b discounts flows side strike rows) in
