@@ -100,19 +100,20 @@ pub(crate) fn option_row(
         (now (bonds .entry)) (now (options .entry)) (now (downs .entry)) (now (discounts .entry)) (right .next)) r ⌝ }
 {
     let terms = right.terms;
+    let call = terms.call;
+    let strike = terms.strike;
+    let listed = right.listed;
+    let next = right.next;
+    let flow = right.flow;
     let mut top: u64 = 0;
     let mut k: usize = 0;
     while k < discounts.len() {
-        let branch = row_branches::row_branch(downs, right.next, k);
+        let branch = row_branches::row_branch(downs, next, k);
         let discount = discounts[k];
         let bare = roll_node(branch, bonds, discount);
-        let held = exercise::held_value(
-            terms,
-            right.listed,
-            roll_node(branch, options, discount),
-            bare,
-        );
-        let value = bare + right.flow;
+        let roll = roll_node(branch, options, discount);
+        let held = exercise::held_value(call, strike, listed, roll, bare);
+        let value = bare + flow;
         bond[k] = value;
         option[k] = held;
         top = arithmetic::larger(top, arithmetic::larger(value, held));
@@ -127,9 +128,11 @@ pub(crate) fn exercise_row(terms: Terms, flow: u64, bond: &[u64], option: &mut [
     ensures { λ _. ⌜ Holds (now (option .exit)) (length (now (option .entry)))
         (λ k. exercise (side (terms .call)) (terms .strike) (values (now (bond .entry)) k - flow)) ⌝ }
 {
+    let call = terms.call;
+    let strike = terms.strike;
     let mut k: usize = 0;
     while k < option.len() {
-        option[k] = exercise::expiry_value(terms, bond[k], flow);
+        option[k] = exercise::expiry_value(call, strike, bond[k], flow);
         k += 1;
     }
 }

@@ -15,8 +15,8 @@ exercise-value-requires c κs = search needs
 
 returns : tie.Need-returns
 returns c =
-    let terms = c .before .before .args .terms in
-    c .exercise-value .ensures ∙ ap (exercise (side (terms .call)) (terms .strike)) (c .before .excess .ensures)
+    let a = c .before .before .args in
+    c .exercise-value .ensures ∙ ap (exercise (side (a .call)) (a .strike)) (c .before .excess .ensures)
 
 pub expiry-value-spec : {M : Type 1} → statement M
 expiry-value-spec = tie.close (tie.spec excess-requires exercise-value-requires returns)

@@ -12,11 +12,11 @@ use Rattle.pricing.proofs.rows.exercise_row.Statement.{statement}
 use Rattle.pricing.proofs.rows.exercise_row.Tie as tie
 
 abbrev Inv-loop : tie.InvT-loop
-Inv-loop terms flow bond option₀ k₀ option k =
-    (k ≤ length option₀) × Filled option₀ option (λ (j : ℕ). exercise (side (terms .call)) (terms .strike) (values bond j - flow)) k
+Inv-loop flow bond option₀ call strike k₀ option k =
+    (k ≤ length option₀) × Filled option₀ option (λ (j : ℕ). exercise (side call) strike (values bond j - flow)) k
 
 abbrev μ-loop : tie.MeasureT-loop
-μ-loop terms flow bond option₀ k₀ option k = length option₀ - k
+μ-loop flow bond option₀ call strike k₀ option k = length option₀ - k
 
 loop-holds : tie.Need-loop-holds Inv-loop μ-loop
 loop-holds c = (omega arith, filled-start _ _)

@@ -17,13 +17,13 @@ use Rattle.pricing.proofs.rows.option_row.Statement.{statement}
 use Rattle.pricing.proofs.rows.option_row.Tie as tie
 
 abbrev Inv-loop : tie.InvT-loop
-Inv-loop right downs discounts bonds options bond₀ option₀ terms top₀ k₀ bond option top k =
+Inv-loop downs discounts bonds options bond₀ option₀ call strike listed next flow top₀ k₀ bond option top k =
     (k ≤ length discounts)
-    × Rows-state bond₀ bond option₀ option (bondValues bonds downs discounts (right .next) (right .flow))
-    (optionValues (side (right .terms .call)) (right .terms .strike) (right .listed) bonds options downs discounts (right .next)) top k
+    × Rows-state bond₀ bond option₀ option (bondValues bonds downs discounts next flow)
+    (optionValues (side call) strike listed bonds options downs discounts next) top k
 
 abbrev μ-loop : tie.MeasureT-loop
-μ-loop right downs discounts bonds options bond₀ option₀ terms top₀ k₀ bond option top k = length discounts - k
+μ-loop downs discounts bonds options bond₀ option₀ call strike listed next flow top₀ k₀ bond option top k = length discounts - k
 
 loop-holds : tie.Need-loop-holds Inv-loop μ-loop
 loop-holds c = (omega arith, rows-start _ _ _ _)
@@ -75,16 +75,16 @@ held-value-requires : tie.Need-held-value-requires Inv-loop μ-loop
 held-value-requires c κs = search needs
 
 -- where both rolls are known
-abbrev at-node : tie.After-struct-known Inv-loop μ-loop → tie.After-shared-slice-known5 Inv-loop μ-loop
-at-node c = c .before .before .before .before
+abbrev at-node : tie.After-held-value Inv-loop μ-loop → tie.After-shared-slice-known5 Inv-loop μ-loop
+at-node c = c .before .before .before
 
 add-value : tie.Need-add-value Inv-loop μ-loop
 add-value c =
     let flow = start (at-node c) .pre .5 in
-    omega (arith, c .before .before .before .roll-node .ensures .1)
+    omega (arith, c .before .before .roll-node .ensures .1)
 
 -- both rows have a place for the node
-room : (c : tie.After-struct-known Inv-loop μ-loop) →
+room : (c : tie.After-held-value Inv-loop μ-loop) →
     let l = at-node c .before .before .before .loop in (l .k < length (l .bond)) × (l .k < length (l .option))
 room c =
     let node = at-node c in
@@ -123,11 +123,11 @@ loop-again c =
     let right = s .args .right in
     let l = node .before .before .before .loop in
     let e = node .before .row-branch .ensures in
-    let bare = branch-rolled _ _ _ _ _ (s .pre .0) (s .pre .1) (omega arith) _ e _ (rolled .before .before .before .roll-node .ensures .0) in
-    let o = branch-rolled _ _ _ _ _ (s .pre .0) (s .pre .2) (omega arith) _ e _ (rolled .before .before .roll-node2 .ensures .0) in (
+    let bare = branch-rolled _ _ _ _ _ (s .pre .0) (s .pre .1) (omega arith) _ e _ (rolled .before .before .roll-node .ensures .0) in
+    let o = branch-rolled _ _ _ _ _ (s .pre .0) (s .pre .2) (omega arith) _ e _ (rolled .before .roll-node2 .ensures .0) in (
       omega arith,
       rows-next _ (l .bond) _ (l .option) _ _ (l .top) (l .k) _ _ _ _ (l .inv .1) (room rolled .0) (room rolled .1) (ap (λ (x : ℕ). x + right .flow) bare)
-          (option-from-roll (side (right .terms .call)) (right .terms .strike) (right .listed) _ _ _ _ _ _ _ _ _ bare o (rolled .before .held-value .ensures))
+          (option-from-roll (side (right .terms .call)) (right .terms .strike) (right .listed) _ _ _ _ _ _ _ _ _ bare o (rolled .held-value .ensures))
           (c .before .larger .ensures) (c .larger2 .ensures),
     )
 
