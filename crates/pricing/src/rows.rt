@@ -77,7 +77,8 @@ pub(crate) fn bond_row(
 pub(crate) struct RowRight {
     pub(crate) next: usize,
     pub(crate) flow: u64,
-    pub(crate) terms: Terms,
+    pub(crate) call: bool,
+    pub(crate) strike: u64,
     pub(crate) listed: bool,
 }
 
@@ -96,12 +97,11 @@ pub(crate) fn option_row(
         × (length (now discounts) ≤ length (now bond)) × (length (now discounts) ≤ length (now option)) × (right .flow ≤ mostFlow) ⌝ }
     ensures { λ r. ⌜ FilledRows (now (bond .exit)) (now (option .exit)) (length (now (discounts .entry)))
         (bondValues (now (bonds .entry)) (now (downs .entry)) (now (discounts .entry)) (right .next) (right .flow))
-        (optionValues (side (right .terms .call)) (right .terms .strike) (right .listed)
+        (optionValues (side (right .call)) (right .strike) (right .listed)
         (now (bonds .entry)) (now (options .entry)) (now (downs .entry)) (now (discounts .entry)) (right .next)) r ⌝ }
 {
-    let terms = right.terms;
-    let call = terms.call;
-    let strike = terms.strike;
+    let call = right.call;
+    let strike = right.strike;
     let listed = right.listed;
     let next = right.next;
     let flow = right.flow;

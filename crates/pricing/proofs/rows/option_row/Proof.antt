@@ -43,7 +43,7 @@ shared-slice-read-discount c = omega arith
 
 -- where the node's branch is known
 abbrev start : tie.After-shared-slice-known5 Inv-loop μ-loop → tie.Start Inv-loop μ-loop
-start c = c .before .before .before .before .before .before .before .before .before .before .before
+start c = c .before .before .before .before .before .before .before .before .before .before
 
 -- what the roll of a row asks
 rolls : (c : tie.After-shared-slice-known5 Inv-loop μ-loop) (later : List ℕ) → Later later (start c .args .right .next) →
@@ -127,7 +127,7 @@ loop-again c =
     let o = branch-rolled _ _ _ _ _ (s .pre .0) (s .pre .2) (omega arith) _ e _ (rolled .before .roll-node2 .ensures .0) in (
       omega arith,
       rows-next _ (l .bond) _ (l .option) _ _ (l .top) (l .k) _ _ _ _ (l .inv .1) (room rolled .0) (room rolled .1) (ap (λ (x : ℕ). x + right .flow) bare)
-          (option-from-roll (side (right .terms .call)) (right .terms .strike) (right .listed) _ _ _ _ _ _ _ _ _ bare o (rolled .held-value .ensures))
+          (option-from-roll (side (right .call)) (right .strike) (right .listed) _ _ _ _ _ _ _ _ _ bare o (rolled .held-value .ensures))
           (c .before .larger .ensures) (c .larger2 .ensures),
     )
 
