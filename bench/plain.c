@@ -1,4 +1,4 @@
-/* Document 01's fit, bond and option, and document 02's continuous rate, written straight down. All sums fit 64 bits once the limits are checked. */
+/* The fit, bond and option of document 01 as document 02 changed it, and 02's continuous rate, written straight down. All sums fit 64 bits once the limits are checked. */
 #include "plain.h"
 #include <math.h>
 #include <string.h>
@@ -344,10 +344,11 @@ static uint64_t exercise(struct right right, uint64_t bond)
     return right.strike > bond ? right.strike - bond : 0;
 }
 
-static void exercise_row(struct right right, size_t count, const uint64_t *bond, uint64_t *option)
+/* The row's flow stays with the seller of the bond. */
+static void exercise_row(struct right right, size_t count, const uint64_t *bond, uint64_t flow, uint64_t *option)
 {
     for (size_t k = 0; k < count; k++)
-        option[k] = exercise(right, bond[k]);
+        option[k] = exercise(right, bond[k] - flow);
 }
 
 /* A row of bond and option from the rows after it. */
@@ -357,11 +358,11 @@ static int roll_both(size_t w, size_t next, const struct branch *p, const uint64
     int above = 0;
     for (size_t k = 0; k <= 2 * w; k++) {
         const size_t low = lowest(w, next, k);
-        const uint64_t value = rolled(&p[k], bonds + low, discounts[k]) + flow, kept = rolled(&p[k], options + low, discounts[k]);
-        const uint64_t now = right.american ? exercise(right, value) : 0;
-        bond[k] = value;
+        const uint64_t bare = rolled(&p[k], bonds + low, discounts[k]), kept = rolled(&p[k], options + low, discounts[k]);
+        const uint64_t now = right.american ? exercise(right, bare) : 0;
+        bond[k] = bare + flow;
         option[k] = kept > now ? kept : now;
-        above |= (value > VALUE_LIMIT ? BOND_ABOVE : 0) | (option[k] > VALUE_LIMIT ? OPTION_ABOVE : 0);
+        above |= (bond[k] > VALUE_LIMIT ? BOND_ABOVE : 0) | (option[k] > VALUE_LIMIT ? OPTION_ABOVE : 0);
     }
     return above;
 }
@@ -376,7 +377,7 @@ struct plain_prices plain_bond_and_option(size_t n, uint64_t b, const uint64_t *
     const uint64_t number = rows_refused(n, b, discounts, flows, &start);
     if (number)
         return (struct plain_prices){refused(number), refused(number)};
-    const int listed = kind >= 1 && kind <= 4 && expiry <= n && strike <= STRIKE_LIMIT;
+    const int listed = kind >= 1 && kind <= 4 && expiry < n && strike <= STRIKE_LIMIT;
     uint64_t other = listed ? 0 : 11;
     const struct right right = {kind == 1 || kind == 3, kind >= 3, strike};
     const size_t widest = half_width(b, n - 1), last = 2 * half_width(b, n) + 1;
@@ -384,8 +385,6 @@ struct plain_prices plain_bond_and_option(size_t n, uint64_t b, const uint64_t *
     int at = 0;
     for (size_t k = 0; k < last; k++)
         bonds[at][k] = flows[n - 1];
-    if (expiry == n)
-        exercise_row(right, last, bonds[at], options[at]);
     for (size_t i = n; i-- > 0; at = !at) {
         const size_t w = half_width(b, i), next = half_width(b, i + 1), from = widest - w;
         const uint64_t flow = i ? flows[i - 1] : 0;
@@ -400,7 +399,7 @@ struct plain_prices plain_bond_and_option(size_t n, uint64_t b, const uint64_t *
         if (above & BOND_ABOVE)
             return (struct plain_prices){refused(12), refused(other)};
         if (i == expiry)
-            exercise_row(right, 2 * w + 1, bonds[!at], options[!at]);
+            exercise_row(right, 2 * w + 1, bonds[!at], flow, options[!at]);
         bound = next_bound(discounts + start, 2 * w + 1, bound);
     }
     const struct plain_price bond = {0, bonds[at][0], bound};

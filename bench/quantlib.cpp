@@ -36,6 +36,7 @@ class CouponBond : public Asset {
     double step_;
 };
 
+// Exercised on the bond before its row's flow is added: that flow stays with the seller.
 class AmericanCall : public Asset {
   public:
     AmericanCall(ext::shared_ptr<CouponBond> bond, double strike) : bond_(std::move(bond)), strike_(strike) {}
@@ -43,10 +44,10 @@ class AmericanCall : public Asset {
   protected:
     void postAdjustValuesImpl() override {
         bond_->partialRollback(time());
-        bond_->adjustValues();
         const Array &bond = bond_->values();
         for (Size k = 0; k < values_.size(); k++)
             values_[k] = std::max(values_[k], bond[k] - strike_);
+        bond_->adjustValues();
     }
 
   private:

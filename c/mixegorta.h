@@ -207,7 +207,8 @@ struct mixegorta_answer mixegorta_state_price_error_bound(size_t steps, uint64_t
 struct mixegorta_price mixegorta_bond_price(size_t steps, uint64_t reversion, const uint64_t *discounts, size_t discounts_len,
                                             const uint64_t *flows, size_t flows_len);
 
-/* The price at row 0 of an option on that bond. kind: 1 to 4; expiry: row 0 to n; strike: 0 to 4,000,000,000.
+/* The price at row 0 of an option on that bond. kind: 1 to 4; expiry: row 0 to n - 1; strike: 0 to 4,000,000,000. Exercise is on the
+ * bond without the flow of its row, which stays with the seller.
  * Refusals: those of the bond, and 11 kind, expiry or strike, before 12. */
 struct mixegorta_price mixegorta_option_price(size_t steps, uint64_t reversion, const uint64_t *discounts,
                                               size_t discounts_len, const uint64_t *flows, size_t flows_len, uint64_t kind,

@@ -1,4 +1,4 @@
-/* The figures of the scope (document 01) and every refusal, through the C header. Exit status 1 where a check fails. */
+/* The figures of the scope (document 01) and its requests (02), and every refusal, through the C header. Exit status 1 where a check fails. */
 #include "mixegorta.h"
 
 #include <math.h>
@@ -222,7 +222,7 @@ static void curves(void) {
     CHECK(mixegorta_curve_discounts(4, 3, NULL, 0, NULL, 0, NULL, 0, NULL, 0) == 6);
 }
 
-/* The job that the scope prints whole: one yearly step, no reversion, no volatility. */
+/* The tree and bond that the scope prints, one yearly step without reversion and volatility; an option for today, since row 1 is the last. */
 static void example(void) {
     const uint64_t flow[] = {ONE}, payoffs[] = {ONE, ONE, ONE};
     rows[0] = 1;
@@ -237,9 +237,10 @@ static void example(void) {
     CHECK(sum(prices + 1, 3) == 1002499999);
     CHECK(answered(mixegorta_state_price_error_bound(1, 0, discounts, 1, 1), 4));
     CHECK(priced(mixegorta_bond_price(1, 0, discounts, 1, flow, 1), 1002500000, 3));
-    CHECK(priced(mixegorta_option_price(1, 0, discounts, 1, flow, 1, MIXEGORTA_AMERICAN_PUT, 1, 1010000000), 10025000, 3));
-    struct mixegorta_bond_and_option both = mixegorta_bond_and_option(1, 0, discounts, 1, flow, 1, MIXEGORTA_AMERICAN_PUT, 1, 1010000000);
-    CHECK(priced(both.bond, 1002500000, 3) && priced(both.option, 10025000, 3));
+    CHECK(priced(mixegorta_option_price(1, 0, discounts, 1, flow, 1, MIXEGORTA_AMERICAN_PUT, 0, 1010000000), 7500000, 3));
+    struct mixegorta_bond_and_option both = mixegorta_bond_and_option(1, 0, discounts, 1, flow, 1, MIXEGORTA_AMERICAN_PUT, 0, 1010000000);
+    CHECK(priced(both.bond, 1002500000, 3) && priced(both.option, 7500000, 3));
+    CHECK(unpriced(mixegorta_option_price(1, 0, discounts, 1, flow, 1, MIXEGORTA_AMERICAN_PUT, 1, 1010000000), 11));
     CHECK(answered(mixegorta_value_by_state_prices(prices + 1, 3, payoffs, 3), 1002499999));
     CHECK(answered(mixegorta_valuation_error_bound(1, 0, discounts, 1, 1, payoffs, 3), 5));
 }
@@ -331,8 +332,8 @@ static void limits(void) {
     CHECK(fit(12, 1, 0, MIXEGORTA_MAX_VOLATILITY + 1) == 5);
     uint64_t discount[] = {MIXEGORTA_MAX_NODE_DISCOUNT}, flow[] = {MIXEGORTA_MAX_FLOW};
     CHECK(priced(mixegorta_bond_price(1, 0, discount, 1, flow, 1), 2200000000, 3));
-    struct mixegorta_price put = mixegorta_option_price(1, 0, discount, 1, flow, 1, MIXEGORTA_EUROPEAN_PUT, 1, MIXEGORTA_MAX_STRIKE);
-    CHECK(priced(put, 2200000000, 3));
+    struct mixegorta_price put = mixegorta_option_price(1, 0, discount, 1, flow, 1, MIXEGORTA_EUROPEAN_PUT, 0, MIXEGORTA_MAX_STRIKE);
+    CHECK(priced(put, 1800000000, 3));
     uint64_t row[] = {MIXEGORTA_MAX_STATE_PRICE_SUM}, payoff[] = {ONE};
     CHECK(answered(mixegorta_value_by_state_prices(row, 1, payoff, 1), MIXEGORTA_MAX_STATE_PRICE_SUM));
     row[0] = ONE;
@@ -384,6 +385,22 @@ static void price_refusals(void) {
     CHECK(unpriced(mixegorta_bond_price(2, 0, flat, 4, flows, 2), 9));
 }
 
+/* The coupon of the exercise day stays with the seller: on row 1 these bonds are worth 1, 1.1 and 0.99 without their coupon of 0.1. On the
+ * last row the bond has been repaid. */
+static void exercise_days(void) {
+    const uint64_t flat[4] = {ONE, ONE, ONE, ONE}, flows[2] = {100000000, ONE}, later[3] = {100000000, 100000000, ONE};
+    CHECK(priced(mixegorta_option_price(2, 0, flat, 4, flows, 2, MIXEGORTA_EUROPEAN_CALL, 1, 900000000), 100000000, 6));
+    CHECK(priced(mixegorta_option_price(2, 0, flat, 4, flows, 2, MIXEGORTA_AMERICAN_CALL, 1, 900000000), 200000000, 6));
+    CHECK(priced(mixegorta_option_price(2, 0, flat, 4, flows, 2, MIXEGORTA_EUROPEAN_PUT, 1, 1050000000), 50000000, 6));
+    CHECK(priced(mixegorta_option_price(2, 0, flat, 4, flows, 2, MIXEGORTA_AMERICAN_PUT, 1, 1050000000), 50000000, 6));
+    for (uint64_t kind = 1; kind <= 4; kind++) CHECK(unpriced(mixegorta_option_price(2, 0, flat, 4, flows, 2, kind, 2, 900000000), 11));
+    uint64_t tree[9] = {900000000, ONE, ONE, ONE, ONE, ONE, ONE, ONE, ONE};
+    CHECK(priced(mixegorta_option_price(3, 0, tree, 9, later, 3, MIXEGORTA_AMERICAN_CALL, 2, ONE), 90000000, 9));
+    tree[0] = ONE;
+    tree[1] = tree[2] = tree[3] = 900000000;
+    CHECK(priced(mixegorta_option_price(3, 0, tree, 9, later, 3, MIXEGORTA_AMERICAN_PUT, 2, 1050000000), 60000000, 9));
+}
+
 /* Both prices at once: each is what its own entry answers. */
 static bool each_its_own(size_t steps, const uint64_t *lent, size_t lent_len, const uint64_t *flows, size_t flows_len, uint64_t kind,
                          size_t expiry, uint64_t strike, uint64_t bond, uint64_t option) {
@@ -398,7 +415,8 @@ static void bond_and_option(void) {
     uint64_t flat[9], flows[3] = {0, ONE, MIXEGORTA_MAX_FLOW};
     for (size_t i = 0; i < 9; i++) flat[i] = ONE;
     for (uint64_t kind = 1; kind <= 4; kind++)
-        for (size_t expiry = 0; expiry <= 3; expiry++) CHECK(each_its_own(3, flat, 9, flows, 3, kind, expiry, ONE, 0, 0));
+        for (size_t expiry = 0; expiry <= 3; expiry++)
+            CHECK(each_its_own(3, flat, 9, flows, 3, kind, expiry, ONE, 0, expiry < 3 ? 0 : 11));
     CHECK(each_its_own(3, flat, 9, flows, 3, 5, 1, ONE, 0, 11));
     CHECK(each_its_own(3, flat, 9, flows, 3, 1, 4, ONE, 0, 11));
     CHECK(each_its_own(3, flat, 9, flows, 3, 1, 1, MIXEGORTA_MAX_STRIKE + 1, 0, 11));
@@ -417,15 +435,16 @@ static void value_limits(void) {
     for (size_t i = 0; i < 25; i++) flat[i] = ONE;
     for (size_t i = 0; i < 5; i++) flows[i] = MIXEGORTA_MAX_FLOW;
     CHECK(unpriced(mixegorta_bond_price(5, 0, flat, 25, flows, 5), 12));
-    CHECK(unpriced(mixegorta_option_price(5, 0, flat, 25, flows, 5, 1, 5, 0), 12));
-    CHECK(each_its_own(5, flat, 25, flows, 5, 1, 5, 0, 12, 12));
-    CHECK(each_its_own(5, flat, 25, flows, 5, 5, 5, 0, 12, 11));
+    CHECK(unpriced(mixegorta_option_price(5, 0, flat, 25, flows, 5, 1, 4, 0), 12));
+    CHECK(each_its_own(5, flat, 25, flows, 5, 1, 4, 0, 12, 12));
+    CHECK(each_its_own(5, flat, 25, flows, 5, 5, 4, 0, 12, 11));
+    CHECK(each_its_own(5, flat, 25, flows, 5, 1, 5, 0, 12, 11));
     flows[0] = 0;
     CHECK(priced(mixegorta_bond_price(5, 0, flat, 25, flows, 5), MIXEGORTA_MAX_VALUE, 15));
-    uint64_t high[64], nothing[8] = {0}; /* a strike of 4 grows above 8 in eight steps */
-    for (size_t i = 0; i < 64; i++) high[i] = MIXEGORTA_MAX_NODE_DISCOUNT;
-    CHECK(each_its_own(8, high, 64, nothing, 8, MIXEGORTA_EUROPEAN_PUT, 8, MIXEGORTA_MAX_STRIKE, 0, 12));
-    CHECK(each_its_own(8, high, 64, nothing, 8, MIXEGORTA_EUROPEAN_PUT, 7, MIXEGORTA_MAX_STRIKE, 0, 0));
+    uint64_t high[81], nothing[9] = {0}; /* a strike of 4 grows above 8 in eight steps */
+    for (size_t i = 0; i < 81; i++) high[i] = MIXEGORTA_MAX_NODE_DISCOUNT;
+    CHECK(each_its_own(9, high, 81, nothing, 9, MIXEGORTA_EUROPEAN_PUT, 8, MIXEGORTA_MAX_STRIKE, 0, 12));
+    CHECK(each_its_own(9, high, 81, nothing, 9, MIXEGORTA_EUROPEAN_PUT, 7, MIXEGORTA_MAX_STRIKE, 0, 0));
 }
 
 static void values(void) {
@@ -467,16 +486,16 @@ static void bounds(void) {
     CHECK(refused(mixegorta_state_price_error_bound(2, 0, flat, 4, 0), 9));
 }
 
-/* The job that the scope prints whole; without its option, its last nine bytes, it is still a job. */
+/* The scope's job with an option for today; without its option, its last nine bytes, it is still a job. */
 static const uint8_t example_job[] = {1, 0, 1, 1, 2, 0, 1, 1, 3, 0, 2, 0, 0, 4, 0, 4, 0, 0, 0, 0,
                                       5, 0, 8, 0x3F, 0xF0, 0x0A, 0x3D, 0x70, 0xA3, 0xD7, 0x0A,
-                                      7, 0, 4, 0x3B, 0x9A, 0xCA, 0x00, 8, 0, 6, 4, 1, 0x3C, 0x33, 0x60, 0x80};
+                                      7, 0, 4, 0x3B, 0x9A, 0xCA, 0x00, 8, 0, 6, 4, 0, 0x3C, 0x33, 0x60, 0x80};
 enum { JOB = sizeof example_job, OPTION = 9 };
 static const char example_sheet[] = "node 0 0 1.002500000 -0.2493766\n"
                                     "row 1 1.002500000 1.002499999 4\n"
                                     "bond 1.002500000 3\n"
-                                    "option 0.010025000 3\n";
-static const size_t option_line = sizeof "option 0.010025000 3\n" - 1;
+                                    "option 0.007500000 3\n";
+static const size_t option_line = sizeof "option 0.007500000 3\n" - 1;
 
 static uint8_t out[MIXEGORTA_SHEET_ROOM + SPARE];
 
@@ -553,6 +572,7 @@ static void refused_jobs(void) {
     CHECK(unprinted(altered(23, "\x3F\xF3\x33\x33\x33\x33\x33\x33", 8, room), 9)); /* 1.2 */
     CHECK(unprinted(altered(34, "\x77\x35\x94\x01", 4, room), 10));
     CHECK(unprinted(altered(41, "\5", 1, room), 11));
+    CHECK(unprinted(altered(42, "\1", 1, room), 11)); /* the scope's own job: its option expires on the last row */
     CHECK(unprinted(altered(42, "\2", 1, room), 11));
 }
 
@@ -569,6 +589,7 @@ int main(void) {
     limits();
     repricing();
     price_refusals();
+    exercise_days();
     bond_and_option();
     value_limits();
     values();

@@ -12,6 +12,12 @@ const GUARD: usize = 4;
 const REPRICED_WITHIN: u64 = 300;
 const YIELD_WITHIN: u64 = 100;
 const RATES_OF_A_CASE: usize = 8;
+const EXERCISED: [&str; 4] = [
+    "European calls, exercised on a flow",
+    "European puts, exercised on a flow",
+    "American calls, exercised on a flow",
+    "American puts, exercised on a flow",
+];
 
 #[derive(Default)]
 pub struct Tally {
@@ -44,7 +50,7 @@ impl fmt::Display for Tally {
         }
         writeln!(f, "held against exact fractions, multiplied out")?;
         for (what, count) in &self.exact {
-            writeln!(f, "  {what:<34}{count}")?;
+            writeln!(f, "  {what:<38}{count}")?;
         }
         Ok(())
     }
@@ -262,6 +268,9 @@ fn prices(case: &Case, discounts: &[u64], on: &'static str, tally: &mut Tally) {
     within(&rows, tree.steps, option, &rows.option(flows, contract), "option");
     at_most_three_a_step(&tree, discounts, option.1);
     tally.exact(["European call prices", "European put prices", "American call prices", "American put prices"][contract.kind as usize - 1]);
+    if tree.exercised_on_a_flow(discounts, flows, contract) {
+        tally.exact(EXERCISED[contract.kind as usize - 1]);
+    }
 }
 
 fn weighing(case: &Case, fitted: Option<&Fitted>, tally: &mut Tally) {

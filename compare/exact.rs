@@ -1,7 +1,7 @@
 // Exact discounts of yields, and the exact pricer of document 01, multiplied out: with m = 600,000,000 × one, a value with k rows left to
 // its last row is held times m^k, and an exact state price of row i times m^i. It is fed what document 01 lists alone.
 use crate::natural::Natural;
-use crate::rules::{Contract, Tree, ONE, WHOLE};
+use crate::rules::{flow_of, Contract, Tree, ONE, WHOLE};
 
 /// The exact series at an amount, times 12! × one^11.
 fn series(amount: u64, alternating: bool) -> Natural {
@@ -69,7 +69,7 @@ impl<'a> Exact<'a> {
         let n = self.tree.steps;
         let mut rows = vec![vec![Natural::from(flows[n - 1]); self.tree.node_count(n)]];
         for i in (0..n).rev() {
-            let flow = self.held(if i == 0 { 0 } else { flows[i - 1] }, n - i);
+            let flow = self.held(flow_of(flows, i), n - i);
             let rolled = self.roll(i, rows.last().unwrap());
             rows.push(rolled.iter().map(|v| v.plus(&flow)).collect());
         }
@@ -82,13 +82,13 @@ impl<'a> Exact<'a> {
         self.bond_rows(flows)[0][0].clone()
     }
 
-    /// The option's exact price times m^n.
+    /// The option's exact price times m^n. Exercise is on this pricer's own bond, without the flow of its row.
     pub fn option(&self, flows: &[u64], contract: &Contract) -> Natural {
         let bonds = self.bond_rows(flows);
         let exercised = |i: usize| -> Vec<Natural> {
-            let strike = self.held(contract.strike, self.tree.steps - i);
-            let now = |bond: &Natural| if contract.call() { bond.less(&strike) } else { strike.less(bond) };
-            bonds[i].iter().map(now).collect()
+            let (strike, flow) = (self.held(contract.strike, self.tree.steps - i), self.held(flow_of(flows, i), self.tree.steps - i));
+            let now = |bare: Natural| if contract.call() { bare.less(&strike) } else { strike.less(&bare) };
+            bonds[i].iter().map(|bond| now(bond.less(&flow))).collect()
         };
         let mut row = exercised(contract.expiry);
         for i in (0..contract.expiry).rev() {

@@ -142,7 +142,13 @@ fn lent(r: &mut Random, needed: usize) -> Vec<u64> {
     (0..needed + extra).map(|_| r.within(low, high)).collect()
 }
 
+/// Level coupons and the principal, as a desk has them, or any flows.
 fn flows(r: &mut Random, n: usize) -> Vec<u64> {
+    if r.chance(25) {
+        let mut made = vec![r.within(1, ONE / 10); n];
+        made[n - 1] += ONE;
+        return made;
+    }
     let most = match r.below(6) {
         0 => 0,
         1 => FLOW_LIMIT,
@@ -191,8 +197,8 @@ pub fn case(r: &mut Random) -> Case {
         discounts_length: needed + if r.chance(50) { 0 } else { r.below(40) },
         state_prices_length: tree.state_prices_needed() + if r.chance(50) { 0 } else { r.below(40) },
     };
-    let strike = r.pick(&[3 * ONE, STRIKE_LIMIT, 3 * ONE / 2, 3 * ONE / 2, 1]);
-    let contract = Contract { kind: r.within(1, 4), expiry: r.below(tree.steps + 1), strike: r.within(0, strike) };
+    let strikes = r.pick(&[(0, 3 * ONE), (0, STRIKE_LIMIT), (0, 3 * ONE / 2), (9 * ONE / 10, 11 * ONE / 10), (0, 1)]);
+    let contract = Contract { kind: r.within(1, 4), expiry: r.below(tree.steps), strike: r.within(strikes.0, strikes.1) };
     let half = tree.half_width(row);
     let mut made = Case {
         shape,
@@ -278,7 +284,7 @@ fn damage(r: &mut Random, case: &mut Case) {
         14 => resize(r, &mut case.flows, ONE),
         15 => { let flow = r.pick(&[FLOW_LIMIT, FLOW_LIMIT + 1, 1 << 32, huge]); spoil(r, &mut case.flows, flow) }
         16 => case.contract.kind = r.pick(&[0, 5, 256, 257, huge]),
-        17 => case.contract.expiry = r.pick(&[n.wrapping_add(1), 61, 1 << 32, usize::MAX]),
+        17 => case.contract.expiry = r.pick(&[n, n, n.wrapping_add(1), 61, 1 << 32, usize::MAX]),
         18 => case.contract.strike = r.pick(&[STRIKE_LIMIT, STRIKE_LIMIT + 1, huge]),
         19 => { let discount = r.pick(&[0, DISCOUNT_LIMIT + 1, ONE + 1, huge]); spoil(r, &mut case.lent, discount) }
         20 => resize(r, &mut case.lent, ONE),

@@ -358,7 +358,7 @@ impl Contract {
     }
 
     fn wrong(&self, steps: usize) -> bool {
-        !(1..=4).contains(&self.kind) || self.expiry > steps || self.strike > STRIKE_LIMIT
+        !(1..=4).contains(&self.kind) || self.expiry >= steps || self.strike > STRIKE_LIMIT
     }
 
     fn exercise(&self, bond: u64) -> u64 {
@@ -368,6 +368,11 @@ impl Contract {
             self.strike.saturating_sub(bond)
         }
     }
+}
+
+/// The flow of a row; row 0 has none.
+pub fn flow_of(flows: &[u64], row: usize) -> u64 {
+    if row == 0 { 0 } else { flows[row - 1] }
 }
 
 fn limited(values: Vec<u64>) -> Outcome<Vec<u64>> {
@@ -389,9 +394,8 @@ impl Tree {
     fn bond_rows(&self, discounts: &[u64], flows: &[u64]) -> Outcome<Vec<Vec<u64>>> {
         let mut rows = vec![limited(vec![flows[self.steps - 1]; self.node_count(self.steps)])?];
         for i in (0..self.steps).rev() {
-            let flow = if i == 0 { 0 } else { flows[i - 1] };
             let rolled = self.roll(discounts, i, rows.last().unwrap());
-            rows.push(limited(rolled.iter().map(|v| v + flow).collect())?);
+            rows.push(limited(rolled.iter().map(|v| v + flow_of(flows, i)).collect())?);
         }
         rows.reverse();
         Ok(rows)
@@ -417,20 +421,34 @@ impl Tree {
         Ok((self.bond_rows(discounts, flows)?[0][0], self.price_bound(discounts)))
     }
 
+    /// The option's value at row 0, and whether exercise gives some node's value on a row with a flow. That flow stays with the seller of
+    /// the bond: exercise is on the bond without it.
+    fn option_value(&self, discounts: &[u64], flows: &[u64], contract: &Contract) -> Outcome<(u64, bool)> {
+        let bonds = self.bond_rows(discounts, flows)?;
+        let exercised = |i: usize| bonds[i].iter().map(|bond| contract.exercise(*bond - flow_of(flows, i))).collect::<Vec<u64>>();
+        let mut row = limited(exercised(contract.expiry))?;
+        let mut on_a_flow = flow_of(flows, contract.expiry) > 0 && row.iter().any(|now| *now > 0);
+        for i in (0..contract.expiry).rev() {
+            let rolled = self.roll(discounts, i, &row);
+            row = rolled.clone();
+            if contract.american() {
+                row = rolled.iter().zip(exercised(i)).map(|(rolled, now)| (*rolled).max(now)).collect();
+            }
+            on_a_flow |= flow_of(flows, i) > 0 && row != rolled;
+            row = limited(row)?;
+        }
+        Ok((row[0], on_a_flow))
+    }
+
+    /// Whether a priced option is exercised at some node of a row with a flow.
+    pub fn exercised_on_a_flow(&self, discounts: &[u64], flows: &[u64], contract: &Contract) -> bool {
+        self.option_value(discounts, flows, contract).map_or(false, |found| found.1)
+    }
+
     pub fn option(&self, discounts: &[u64], flows: &[u64], contract: &Contract) -> Outcome<(u64, u64)> {
         lowest(&self.lent_causes(discounts, flows.len() != self.steps))?;
         lowest(&[(10, flows.iter().any(|flow| *flow > FLOW_LIMIT)), (11, contract.wrong(self.steps))])?;
-        let bonds = self.bond_rows(discounts, flows)?;
-        let exercised = |i: usize| bonds[i].iter().map(|bond| contract.exercise(*bond)).collect::<Vec<u64>>();
-        let mut row = limited(exercised(contract.expiry))?;
-        for i in (0..contract.expiry).rev() {
-            row = self.roll(discounts, i, &row);
-            if contract.american() {
-                row = row.iter().zip(exercised(i)).map(|(rolled, now)| (*rolled).max(now)).collect();
-            }
-            row = limited(row)?;
-        }
-        Ok((row[0], self.price_bound(discounts)))
+        Ok((self.option_value(discounts, flows, contract)?.0, self.price_bound(discounts)))
     }
 
     fn state_price_bound_of(&self, discounts: &[u64], row: usize) -> u128 {

@@ -278,7 +278,8 @@ def bond_price(steps, reversion, discounts, flows):
 
 
 def option_price(steps, reversion, discounts, flows, kind, expiry, strike):
-    """Price and error bound, at row 0, of an option on that bond."""
+    """Price and error bound, at row 0, of an option on that bond. expiry is a row, 0 to n - 1; exercise is on the bond without the flow of its row,
+    which stays with the seller."""
     return _price(_library.mixegorta_option_price(_u64(steps), _u64(reversion), *_lent("Q", discounts), *_lent("Q", flows),
                                                   _u64(kind), _u64(expiry), _u64(strike)))
 

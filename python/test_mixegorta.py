@@ -1,4 +1,4 @@
-"""The figures of the scope (document 01), refusals and memories, through the Python module."""
+"""The figures of the scope (document 01) and its requests (02), refusals and memories, through the Python module."""
 import ctypes
 import math
 import os
@@ -13,8 +13,8 @@ import mixegorta as m
 from mixegorta import ONE, Branches, Point, Price
 
 PATTERN = 0xA5A5A5A5A5A5A5A5
-EXAMPLE = bytes.fromhex("01000101 02000101 0300020000 04000400000000 0500083FF00A3D70A3D70A 0700043B9ACA00 08000604013C336080")
-SHEET = "node 0 0 1.002500000 -0.2493766\nrow 1 1.002500000 1.002499999 4\nbond 1.002500000 3\noption 0.010025000 3\n"
+EXAMPLE = bytes.fromhex("01000101 02000101 0300020000 04000400000000 0500083FF00A3D70A3D70A 0700043B9ACA00 08000604003C336080")
+SHEET = "node 0 0 1.002500000 -0.2493766\nrow 1 1.002500000 1.002499999 4\nbond 1.002500000 3\noption 0.007500000 3\n"
 
 
 def falling(part, steps):
@@ -105,9 +105,10 @@ class Test(unittest.TestCase):
         self.assertIsNone(tree.row(3, 0))
         self.assertEqual(tree.state_price_error_bound(1), 4)
         self.assertEqual(tree.bond_price([ONE]), Price(1_002_500_000, 3))
-        self.assertEqual(tree.option_price([ONE], m.AMERICAN_PUT, 1, 1_010_000_000), Price(10_025_000, 3))
-        both = tree.bond_and_option([ONE], m.AMERICAN_PUT, 1, 1_010_000_000)
-        self.assertEqual(both, (Price(1_002_500_000, 3), Price(10_025_000, 3)))
+        self.assertEqual(tree.option_price([ONE], m.AMERICAN_PUT, 0, 1_010_000_000), Price(7_500_000, 3))
+        both = tree.bond_and_option([ONE], m.AMERICAN_PUT, 0, 1_010_000_000)
+        self.assertEqual(both, (Price(1_002_500_000, 3), Price(7_500_000, 3)))
+        self.refused(11, tree.option_price, [ONE], m.AMERICAN_PUT, 1, 1_010_000_000)
         self.assertEqual(tree.value(1, [ONE] * 3), Price(1_002_499_999, 5))
         self.refused(6, tree.value, 2, [ONE] * 3)
 
@@ -152,6 +153,14 @@ class Test(unittest.TestCase):
         self.assertEqual(m.row_range(flat, [ONE] * 9, m.STATE_PRICES, 2, 0, 2), range(4, 9))
         self.assertIsNone(m.row_range(flat, [ONE] * 8, m.DISCOUNTS, 2, 0, 1))
 
+    def test_the_coupon_of_the_exercise_day(self):
+        """It stays with the seller: on row 1 the bond is worth 1 without its coupon of 0.1."""
+        flat, flows = [ONE] * 4, [100_000_000, ONE]
+        for kind, strike, price in ((m.EUROPEAN_CALL, 900_000_000, 100_000_000), (m.AMERICAN_CALL, 900_000_000, 200_000_000),
+                                    (m.EUROPEAN_PUT, 1_050_000_000, 50_000_000), (m.AMERICAN_PUT, 1_050_000_000, 50_000_000)):
+            self.assertEqual(m.option_price(2, 0, flat, flows, kind, 1, strike), Price(price, 6))
+            self.refused(11, m.option_price, 2, 0, flat, flows, kind, 2, strike)
+
     def test_bond_and_option(self):
         def both(*arguments):
             prices = m.bond_and_option(*arguments)
@@ -162,7 +171,8 @@ class Test(unittest.TestCase):
         flat, flows, call = [ONE] * 4, [0, ONE], (m.EUROPEAN_CALL, 1, 900_000_000)
         self.assertEqual(both(2, 0, flat, flows, *call), (Price(ONE, 6), Price(100_000_000, 6)))
         self.assertEqual(both(2, 0, flat, flows, 5, 1, ONE), (Price(ONE, 6), 11))
-        self.assertEqual(both(8, 0, [1_100_000_000] * 64, [0] * 8, m.EUROPEAN_PUT, 8, 4 * ONE), (Price(0, 40), 12))
+        self.assertEqual(both(2, 0, flat, flows, m.EUROPEAN_CALL, 2, 900_000_000), (Price(ONE, 6), 11))
+        self.assertEqual(both(9, 0, [1_100_000_000] * 81, [0] * 9, m.EUROPEAN_PUT, 8, 4 * ONE), (Price(0, 47), 12))
         self.assertEqual(both(2, 0, flat[1:], flows, *call), (6, 6))
         self.assertEqual(both(5, 0, [ONE] * 25, [2 * ONE] * 5, *call), (12, 12))
         self.assertEqual(both(5, 0, [ONE] * 25, [2 * ONE] * 5, 5, 1, ONE), (12, 11))
@@ -172,6 +182,7 @@ class Test(unittest.TestCase):
     def test_sheet(self):
         self.assertEqual(m.sheet(EXAMPLE), SHEET)
         self.assertEqual(m.sheet(bytearray(EXAMPLE[:-9])), "".join(SHEET.splitlines(True)[:3]))
+        self.refused(11, m.sheet, EXAMPLE[:42] + b"\1" + EXAMPLE[43:])  # the scope's own job: its option expires on the last row
         for job in (b"", EXAMPLE[:-1], EXAMPLE + b"\0", EXAMPLE.ljust(m.MAX_JOB + 1, b"\0"), bytes(range(256))):
             self.refused(1, m.sheet, job)
         for job in ("text", 47, None):

@@ -227,13 +227,17 @@ def within_limit(row):
     return row
 
 
+def flow_of(flows, i):
+    """flows[t] is the flow of row t + 1; row 0 has none."""
+    return flows[i - 1] if i else 0
+
+
 def bond_rows(n, b, discounts, flows):
-    """Bond values on rows 0 to n; flows[t] is the flow of row t + 1."""
+    """Bond values on rows 0 to n."""
     rows = [None] * n + [within_limit({j: flows[n - 1] for j in nodes(b, n)})]
     for i in range(n - 1, -1, -1):
-        flow = flows[i - 1] if i else 0
         roll = rolled(b, discounts[i], rows[i + 1])
-        rows[i] = within_limit({j: roll[j] + flow for j in roll})
+        rows[i] = within_limit({j: roll[j] + flow_of(flows, i) for j in roll})
     return rows
 
 
@@ -241,13 +245,19 @@ def exercise(kind, strike, bond):
     return max(bond - strike if kind in CALLS else strike - bond, 0)
 
 
+def exercise_row(kind, strike, bonds, flows, i):
+    """Exercise values of row i: the day's flow stays with the seller of the bond."""
+    return {j: exercise(kind, strike, v - flow_of(flows, i)) for j, v in bonds[i].items()}
+
+
 def option_value(n, b, discounts, flows, kind, expiry, strike):
     bonds = bond_rows(n, b, discounts, flows)
-    row = within_limit({j: exercise(kind, strike, v) for j, v in bonds[expiry].items()})
+    row = within_limit(exercise_row(kind, strike, bonds, flows, expiry))
     for i in range(expiry - 1, -1, -1):
         row = rolled(b, discounts[i], row)
         if kind in AMERICAN:
-            row = {j: max(v, exercise(kind, strike, bonds[i][j])) for j, v in row.items()}
+            now = exercise_row(kind, strike, bonds, flows, i)
+            row = {j: max(v, now[j]) for j, v in row.items()}
         within_limit(row)
     return row[0]
 
@@ -291,17 +301,18 @@ def exact_bond_rows(n, b, discounts, flows):
     rows = [None] * n + [{j: Fraction(flows[n - 1]) for j in nodes(b, n)}]
     for i in range(n - 1, -1, -1):
         roll = exact_roll(b, discounts[i], rows[i + 1])
-        rows[i] = {j: roll[j] + (flows[i - 1] if i else 0) for j in roll}
+        rows[i] = {j: roll[j] + flow_of(flows, i) for j in roll}
     return rows
 
 
 def exact_option(n, b, discounts, flows, kind, expiry, strike):
     bonds = exact_bond_rows(n, b, discounts, flows)
-    row = {j: exercise(kind, strike, v) for j, v in bonds[expiry].items()}
+    row = exercise_row(kind, strike, bonds, flows, expiry)
     for i in range(expiry - 1, -1, -1):
         row = exact_roll(b, discounts[i], row)
         if kind in AMERICAN:
-            row = {j: max(v, exercise(kind, strike, bonds[i][j])) for j, v in row.items()}
+            now = exercise_row(kind, strike, bonds, flows, i)
+            row = {j: max(v, now[j]) for j, v in row.items()}
     return row[0]
 
 
@@ -377,7 +388,7 @@ def lines(job):
     refuse_if(any(flow > FLOW_LIMIT for flow in flows), 10)
     if option:
         kind, expiry, strike = option
-        refuse_if(kind not in (1, 2, 3, 4) or expiry > n or strike > STRIKE_LIMIT, 11)
+        refuse_if(kind not in (1, 2, 3, 4) or expiry >= n or strike > STRIKE_LIMIT, 11)
     bond = bond_rows(n, b, discounts, flows)[0][0]
     out = ['node %d %d %s %s' % (i, j, amount(v), percent(step_rate(v)))
            for i, row in enumerate(discounts) for j, v in sorted(row.items())]

@@ -86,6 +86,53 @@ class ContinuousRates(unittest.TestCase):
             self.assertTrue(found == 0 or (found < 0) == (reference.step_rate(discount) < 0))
 
 
+def option_job(n, flows, kind, expiry, strike):
+    """A job whose discounts are all one, with an option."""
+    fields = [(1, 1, 1), (2, 1, n), (3, 2, 0), (4, 4, 0)] + [(5, 8, reference.pattern_of(1.0))] * n + [(7, 4, flow) for flow in flows]
+    job = b''.join(bytes([tag, 0, length]) + number.to_bytes(length, 'big') for tag, length, number in fields)
+    return job + bytes([8, 0, 6, kind, expiry]) + strike.to_bytes(4, 'big')
+
+
+class ExerciseDay(unittest.TestCase):
+    """n = 2, b = 0, all discounts one; the bond is worth 1.1 today, 1 and the coupon of 0.1 on row 1."""
+    LEVEL = [{j: ONE for j in reference.nodes(0, i)} for i in range(2)]
+    FLOWS = [100_000_000, ONE]
+
+    def priced(self, flows, kind, expiry, strike):
+        """The option's price, which with these discounts is the exact one too."""
+        price = reference.option_value(2, 0, self.LEVEL, flows, kind, expiry, strike)
+        self.assertEqual(reference.exact_option(2, 0, self.LEVEL, flows, kind, expiry, strike), price)
+        return price
+
+    def test_the_seller_keeps_it(self):
+        for kind, expiry, strike, price in ((1, 1, 900_000_000, 100_000_000), (3, 1, 900_000_000, 200_000_000), (3, 0, 900_000_000, 200_000_000),
+                                            (2, 1, 1_050_000_000, 50_000_000), (4, 1, 1_050_000_000, 50_000_000), (4, 0, 1_050_000_000, 0),
+                                            (2, 1, ONE, 0), (1, 1, ONE, 0)):
+            self.assertEqual(self.priced(self.FLOWS, kind, expiry, strike), price, (kind, expiry, strike))
+
+    def test_on_rows_before_the_expiry(self):
+        """Coupons of 0.1 on rows 1 and 2, one on row 3; both options are best exercised on row 1, where the bond without its coupon is 1.1 and 0.99."""
+        for kind, discounts, strike, price in ((3, (900_000_000, ONE, ONE), ONE, 90_000_000), (4, (ONE, 900_000_000, ONE), 1_050_000_000, 60_000_000)):
+            tree = [{j: discount for j in reference.nodes(0, i)} for i, discount in enumerate(discounts)]
+            for rule in (reference.option_value, reference.exact_option):
+                self.assertEqual(rule(3, 0, tree, [100_000_000, 100_000_000, ONE], kind, 2, strike), price)
+
+    def test_without_coupons_nothing_changes(self):
+        self.assertEqual([self.priced([0, ONE], kind, 1, 900_000_000) for kind in (1, 2, 3, 4)], [100_000_000, 0, 100_000_000, 0])
+
+    def test_expiry_at_the_last_row(self):
+        for kind in (1, 2, 3, 4):
+            for n, expiry, number in ((2, 0, 0), (2, 1, 0), (2, 2, 11), (2, 3, 11), (1, 0, 0), (1, 1, 11)):
+                sheet = reference.sheet(option_job(n, self.FLOWS[-n:], kind, expiry, 900_000_000))
+                self.assertEqual(sheet == b'refused 11\n', number == 11, (kind, n, expiry))
+
+    def test_the_job_of_document_01(self):
+        job = bytes.fromhex('01000101' '02000101' '0300020000' '04000400000000' '0500083FF00A3D70A3D70A' '0700043B9ACA00' '08000604013C336080')
+        self.assertEqual(reference.sheet(job), b'refused 11\n')
+        today = job[:42] + b'\x00' + job[43:]
+        self.assertEqual(reference.sheet(today).splitlines()[2:], [b'bond 1.002500000 3', b'option 0.007500000 3'])
+
+
 class Jobs(unittest.TestCase):
     JOB = ('01000101' '02000101' '0300020000' '04000400000000' '%s0008%016X' '0700043B9ACA00')
 

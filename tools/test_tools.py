@@ -20,7 +20,7 @@ import reference
 EXAMPLES = sorted((ROOT / 'examples').glob('*.txt'))
 PICTURES = sorted((ROOT / 'docs/pictures').glob('*.svg'))
 DOCUMENT_JOB = bytes.fromhex('01000101 02000101 0300020000 04000400000000 0500083FF00A3D70A3D70A 0700043B9ACA00 08000604013C336080')
-DOCUMENT_SHEET = b'node 0 0 1.002500000 -0.2493766\nrow 1 1.002500000 1.002499999 4\nbond 1.002500000 3\noption 0.010025000 3\n'
+TODAY_SHEET = b'node 0 0 1.002500000 -0.2493766\nrow 1 1.002500000 1.002499999 4\nbond 1.002500000 3\noption 0.007500000 3\n'
 SVG = '{http://www.w3.org/2000/svg}'
 POSITIVE, NEGATIVE = '#0072B2', '#D55E00'
 START = 'frequency 4\nreversion 0\nvolatility 5000\n'
@@ -49,9 +49,11 @@ class Examples(unittest.TestCase):
         self.assertGreaterEqual(len(PICTURES), 2)
 
     def test_the_example_of_the_document(self):
-        path = ROOT / 'examples/one-step.txt'
-        self.assertEqual(run('job', '', str(path)).stdout, DOCUMENT_JOB)
-        self.assertEqual(path.with_suffix('.sheet').read_bytes(), DOCUMENT_SHEET)
+        today = DOCUMENT_JOB[:42] + b'\x00' + DOCUMENT_JOB[43:]
+        for name, job, sheet in (('one-step', DOCUMENT_JOB, b'refused 11\n'), ('one-step-today', today, TODAY_SHEET)):
+            path = ROOT / f'examples/{name}.txt'
+            self.assertEqual(run('job', '', str(path)).stdout, job)
+            self.assertEqual(path.with_suffix('.sheet').read_bytes(), sheet)
 
     def test_sheets_are_those_of_the_texts(self):
         for path in EXAMPLES:
@@ -106,7 +108,7 @@ class Jobs(unittest.TestCase):
                  (7, text_of(quotes=['rate 10.5'])), (7, text_of(quotes=['rate nan'])), (7, text_of(quotes=['discount -inf'])),
                  (8, text_of(frequency=1, volatility=50_000, quotes=['rate 0.05 x 13'], flows=['flow 0 x 13'])),
                  (9, text_of(quotes=['discount 1.2'])), (10, text_of(flows=['flow 2.000000001'])),
-                 (11, text_of(option='option american call 2 1')), (11, text_of(option='option american call 1 4.000000001')),
+                 (11, text_of(option='option american call 1 1')), (11, text_of(option='option american call 0 4.000000001')),
                  (12, text_of(quotes=['discount 0.99 x 5'], flows=['flow 2 x 5'])))
         for number, text in cases:
             with self.subTest(number=number, text=text):
@@ -196,7 +198,7 @@ class Drawing(unittest.TestCase):
                 yield float(mark.find(SVG + 'title').text.split()[-1].rstrip('%')), down
 
     def sheets(self):
-        return [path.with_suffix('.sheet').read_bytes() for path in EXAMPLES if path.stem != 'refused']
+        return [path.with_suffix('.sheet').read_bytes() for path in EXAMPLES if path.stem not in ('refused', 'one-step')]
 
     def test_marks_of_the_examples(self):
         for sheet in self.sheets():

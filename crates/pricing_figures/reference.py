@@ -1,4 +1,4 @@
-"""What pricing_figures must write, from document 01 alone: whole numbers for the engine, fractions for the exact pricer.
+"""What pricing_figures must write, from documents 01 and 02 alone: whole numbers for the engine, fractions for the exact pricer.
 
     python3 reference.py > stdout
 
@@ -46,27 +46,32 @@ def exact_roll(b, later, j, d):
     return sum(p * later[k] for k, p in branch(b, j)) * Fraction(d, 600000000 * ONE)
 
 
+def flow_of(flows, i):
+    return flows[i - 1] if i > 0 else 0
+
+
 def bonds(n, b, tree, flows, roll):
     values = [None] * (n + 1)
     w = half_width(b, n)
     values[n] = {j: flows[n - 1] for j in range(-w, w + 1)}
     for i in range(n - 1, -1, -1):
-        flow = flows[i - 1] if i > 0 else 0
-        values[i] = {j: roll(b, values[i + 1], j, d) + flow for j, d in tree[i].items()}
+        values[i] = {j: roll(b, values[i + 1], j, d) + flow_of(flows, i) for j, d in tree[i].items()}
     return values
 
 
-def options(b, tree, bond, kind, expiry, strike, roll):
-    def exercise(x):
+def options(b, tree, flows, bond, kind, expiry, strike, roll):
+    def exercise(i, j):
+        """on the bond without the flow of its row"""
+        x = bond[i][j] - flow_of(flows, i)
         return max(x - strike if kind in (1, 3) else strike - x, 0)
 
     values = [None] * (expiry + 1)
-    values[expiry] = {j: exercise(x) for j, x in bond[expiry].items()}
+    values[expiry] = {j: exercise(expiry, j) for j in bond[expiry]}
     for i in range(expiry - 1, -1, -1):
         values[i] = {}
         for j, d in tree[i].items():
             held = roll(b, values[i + 1], j, d)
-            values[i][j] = held if kind in (1, 2) else max(held, exercise(bond[i][j]))
+            values[i][j] = held if kind in (1, 2) else max(held, exercise(i, j))
     return values
 
 
@@ -90,7 +95,7 @@ def price(n, b, discounts, flows, terms=None):
         return 10, 0, 0
     if terms is not None:
         kind, expiry, strike = terms
-        if not 1 <= kind <= 4 or expiry > n or strike > 4 * ONE:
+        if not 1 <= kind <= 4 or expiry >= n or strike > 4 * ONE:
             return 11, 0, 0
     tree = rows(n, b, discounts)
     found = bonds(n, b, tree, flows, engine_roll)
@@ -98,8 +103,8 @@ def price(n, b, discounts, flows, terms=None):
     held = list(found)
     if terms is not None:
         kind, expiry, strike = terms
-        found = options(b, tree, found, kind, expiry, strike, engine_roll)
-        exact = options(b, tree, exact, kind, expiry, strike, exact_roll)
+        found = options(b, tree, flows, found, kind, expiry, strike, engine_roll)
+        exact = options(b, tree, flows, exact, kind, expiry, strike, exact_roll)
         held += found
     if any(x > 8 * ONE for row in held for x in row.values()):
         return 12, 0, 0
@@ -124,11 +129,12 @@ def tree(n, b, discounts, flows):
     for kind in range(1, 5):
         option(n, b, discounts, flows, kind, 0, 900000000)
         option(n, b, discounts, flows, kind, n // 2, 500000000)
-        option(n, b, discounts, flows, kind, n, 30000000)
+        option(n, b, discounts, flows, kind, n - 1, 30000000)
 
 
 bond(1, 0, [1002500000], [ONE])
 option(1, 0, [1002500000], [ONE], 4, 1, 1010000000)
+option(1, 0, [1002500000], [ONE], 4, 0, 1010000000)
 discounts = [930000000 + k * 7919003 % 150000001 for k in range(3600)]
 flows = [20000000 + k * 31415927 % 80000009 for k in range(60)]
 for n, b in ((1, 0), (3, 0), (60, 0), (4, 1000), (12, 1840), (12, 1841), (30, 100), (60, 6000)):
@@ -136,9 +142,17 @@ for n, b in ((1, 0), (3, 0), (60, 0), (4, 1000), (12, 1840), (12, 1841), (30, 10
 
 most = [2 * ONE] * 4
 bond(4, 0, [ONE] * 16, most)
-option(4, 0, [ONE] * 16, most, 3, 4, 0)
+option(4, 0, [ONE] * 16, most, 3, 3, 0)
 bond(4, 0, [ONE + 1] + [ONE] * 15, most)
 option(4, 0, [ONE + 1] + [ONE] * 15, most, 2, 0, 4000000000)
+
+coupon = [100000000, ONE]
+for kind, expiry, strike in ((1, 1, 900000000), (3, 1, 900000000), (2, 1, 1050000000), (4, 1, 1050000000), (1, 2, 900000000), (4, 2, 1050000000)):
+    option(2, 0, [ONE] * 4, coupon, kind, expiry, strike)
+
+coupons = [100000000, 100000000, ONE]
+option(3, 0, [900000000] + [ONE] * 8, coupons, 3, 2, ONE)
+option(3, 0, [ONE] + [900000000] * 3 + [ONE] * 5, coupons, 4, 2, 1050000000)
 
 steep = [1100000000] * 36
 late = [0] + [2 * ONE] * 5
@@ -160,5 +174,6 @@ option(2, 0, discounts, over, 0, 1, 0)
 option(2, 0, discounts, flows[:2], 0, 1, 0)
 option(2, 0, discounts, flows[:2], 5, 1, 0)
 option(2, 0, discounts, flows[:2], 1, 3, 0)
-option(2, 0, discounts, flows[:2], 1, 2, 4000000001)
-option(2, 0, discounts, flows[:2], 2, 2, 4000000000)
+option(2, 0, discounts, flows[:2], 1, 2, 0)
+option(2, 0, discounts, flows[:2], 1, 1, 4000000001)
+option(2, 0, discounts, flows[:2], 2, 1, 4000000000)

@@ -16,6 +16,7 @@ import reference
 
 ONE = reference.ONE
 EXAMPLE = bytes.fromhex('01000101' '02000101' '0300020000' '04000400000000' '0500083FF00A3D70A3D70A' '0700043B9ACA00' '08000604013C336080')
+TODAY = EXAMPLE[:42] + b'\x00' + EXAMPLE[43:]
 NAN, INFINITY = 0x7FF8000000000000, 0x7FF0000000000000
 MOST_WIDE_JOBS = 2
 
@@ -57,31 +58,45 @@ WIDE_FLOWS = [20_000_000] * 59 + [ONE + 20_000_000]
 
 
 def good():
-    yield 0, EXAMPLE
+    yield 0, TODAY
     yield 0, job(f=12, b=0, s=10_000, quotes=rates(60, 0.02, 0.0002), flows=WIDE_FLOWS, option=(4, 48, 1_400_000_000))
     yield 0, job(f=12, b=83, s=10_000, quotes=rates(60, 0.03), flows=WIDE_FLOWS, option=(3, 36, 1_300_000_000))
-    yield 0, job(f=4, b=6_000, s=12_000, quotes=factors(60, 0.991), flows=WIDE_FLOWS, option=(4, 60, 1_000_000_000))
+    yield 0, job(f=4, b=6_000, s=12_000, quotes=factors(60, 0.991), flows=WIDE_FLOWS, option=(4, 59, 1_000_000_000))
     yield 0, job(f=2, b=1_840, s=9_999, quotes=factors(20, 0.985), option=(3, 19, 1_000_000_000))
     yield 0, job(f=2, b=1_841, s=9_999, quotes=factors(20, 0.985), option=(3, 19, 1_000_000_000))
     yield 0, job(f=1, b=1_000, s=10_000, quotes=rates(8, -0.0025), option=(3, 5, 1_100_000_000))
-    yield 0, job(f=4, b=0, s=800, quotes=rates(9, -0.0025), option=(2, 9, 1_000_000_000))
+    yield 0, job(f=4, b=0, s=800, quotes=rates(9, -0.0025), option=(2, 8, 1_000_000_000))
     yield 0, job(f=12, b=0, s=10_000, quotes=rates(12, 0.01, 0.003))
     yield 0, job(f=1, b=100, s=15_000, quotes=rates(5, 0.04), option=(1, 3, 1_000_000_000))
     yield 0, job(f=1, b=100, s=15_000, quotes=rates(5, 0.04), option=(2, 3, 1_200_000_000))
     yield 0, job(f=1, b=100, s=15_000, quotes=rates(5, 0.04), option=(4, 0, 2_000_000_000))
-    yield 0, job(f=1, b=100, s=15_000, quotes=rates(5, 0.04), option=(1, 5, 0))
-    yield 0, job(f=2, s=0, quotes=factors(3, 0.98), option=(2, 3, 4 * ONE))
-    yield 0, job(f=12, s=50_000, quotes=[(6, 0.05)], option=(4, 1, ONE))
+    yield 0, job(f=1, b=100, s=15_000, quotes=rates(5, 0.04), option=(1, 4, 0))
+    yield 0, job(f=2, s=0, quotes=factors(3, 0.98), option=(2, 2, 4 * ONE))
+    yield 0, job(f=12, s=50_000, quotes=[(6, 0.05)], option=(4, 0, ONE))
     yield 0, job(f=1, s=50_000, quotes=rates(3, 0.1), flows=[0] * 3, option=(1, 2, 0))
     yield 0, job(f=1, s=10_000, quotes=[(5, 1.0), (6, 0.0), (5, 0.97), (6, -0.0)])
     yield 0, job(f=1, s=0, quotes=[(5, 0.1)], flows=[2 * ONE])
-    yield 0, job(f=1, s=0, quotes=factors(4, 0.999), flows=[2 * ONE] * 4, option=(3, 4, 0))
-    yield 0, job(f=1, s=0, quotes=[(5, 1.1)], flows=[2 * ONE], option=(4, 1, 4 * ONE))
+    yield 0, job(f=1, s=0, quotes=factors(4, 0.999), flows=[2 * ONE] * 4, option=(3, 3, 0))
+    yield 0, job(f=1, s=0, quotes=[(5, 1.1)], flows=[2 * ONE], option=(4, 0, 4 * ONE))
     yield 0, job(f=1, b=6_000, s=50_000, quotes=factors(13, 0.93), option=(4, 7, ONE))
     yield 0, job(f=1, b=1_000, s=10_000, quotes=yields(5, 0.032, 0.006), option=(3, 4, ONE))
     yield 0, job(f=12, b=83, s=8_000, quotes=yields(24, 0.02, 0.0003), option=(4, 18, 2 * ONE))
-    yield 0, job(f=4, b=0, s=800, quotes=yields(9, -0.0025), option=(2, 9, ONE))
+    yield 0, job(f=4, b=0, s=800, quotes=yields(9, -0.0025), option=(2, 8, ONE))
     yield 0, job(f=2, b=500, s=5_000, quotes=[(9, 0.02), (6, 0.02), (5, 0.97), (9, -0.0), (9, 0.005)], option=(1, 3, ONE))
+
+
+def exercise_days():
+    """Options that are exercised on a coupon's row, on their expiry and before it. The fit puts the bond without its coupon at 1.000000002 there, then
+    at 1.1, then at 0.990000005."""
+    coupon, flows = [100_000_000, ONE], [100_000_000, 100_000_000, ONE]
+    for kind, strike, line in ((1, 900_000_000, 'option 0.100000002 6'), (2, 1_050_000_000, 'option 0.049999998 6'), (3, 900_000_000, 'option 0.200000002 6'),
+                               (4, 1_050_000_000, 'option 0.049999998 6')):
+        yield on_the_border(0, line, job(f=1, s=0, quotes=[(5, 1.0)] * 2, flows=coupon, option=(kind, 1, strike)))
+        yield 11, job(f=1, s=0, quotes=[(5, 1.0)] * 2, flows=coupon, option=(kind, 2, strike))
+    yield on_the_border(0, 'option 0.090000000 9', job(f=1, s=0, quotes=[(5, 0.9)] * 3, flows=flows, option=(3, 2, ONE)))
+    yield on_the_border(0, 'option 0.059999995 9', job(f=1, s=0, quotes=[(5, 1.0), (5, 0.9), (5, 0.9)], flows=flows, option=(4, 2, 1_050_000_000)))
+    for kind in (1, 2, 3, 4):
+        yield 0, job(f=2, b=500, s=8_000, quotes=rates(12, 0.044, 0.0006), flows=[25_000_000] * 11 + [ONE + 25_000_000], option=(kind, 11, ONE))
 
 
 def malformed():
@@ -156,16 +171,18 @@ def each_cause():
     yield 10, job(quotes=FOUR, flows=[0xFFFFFFFF, 0, 0, 0])
     for kind in (0, 5, 255):
         yield 11, job(quotes=FOUR, option=(kind, 2, ONE))
-    for expiry in (5, 255):
+    yield 11, EXAMPLE
+    for expiry in (4, 5, 255):
         yield 11, job(quotes=FOUR, option=(1, expiry, ONE))
+    yield 11, job(quotes=FOUR[:1], option=(2, 1, ONE))
     for strike in (4 * ONE + 1, 0xFFFFFFFF):
         yield 11, job(quotes=FOUR, option=(2, 2, strike))
     yield 12, job(f=1, s=0, quotes=factors(5, 0.999), flows=[2 * ONE] * 5)
     yield 12, job(f=1, s=0, quotes=factors(5, 0.999), flows=[2 * ONE] * 5, option=(2, 1, ONE))
-    rising = [(5, 0.5 * 1.0999 ** t) for t in range(9)]
-    yield 12, job(f=1, s=0, quotes=rising, flows=[0] * 9, option=(2, 9, 4 * ONE))
-    yield 12, job(f=1, s=0, quotes=rising, flows=[0] * 9, option=(4, 9, 4 * ONE))
-    yield 0, job(f=1, s=0, quotes=rising, flows=[0] * 9, option=(2, 8, 4 * ONE - 500_000_000))
+    rising = [(5, 0.5 * 1.0999 ** t) for t in range(10)]
+    yield 12, job(f=1, s=0, quotes=rising, flows=[0] * 10, option=(2, 9, 4 * ONE))
+    yield 12, job(f=1, s=0, quotes=rising, flows=[0] * 10, option=(4, 9, 4 * ONE))
+    yield 0, job(f=1, s=0, quotes=rising, flows=[0] * 10, option=(2, 8, 4 * ONE - 500_000_000))
     low = [(5, 0.101)] + [(5, 0.1)] * 5
     yield 12, job(f=1, s=0, quotes=low, flows=[2 * ONE] * 6)
     yield 12, job(f=1, s=0, quotes=low, flows=[2 * ONE] * 6, option=(4, 0, ONE))
@@ -195,7 +212,9 @@ def pairs():
     yield 9, job(quotes=[(5, 1.2)], option=(0, 0, 0))
     yield 9, job(quotes=[(5, 1.2)] * 5, flows=[2 * ONE] * 5)
     yield 10, job(quotes=FOUR, flows=[0, 0, 0, 3 * ONE], option=(0, 2, ONE))
+    yield 10, job(quotes=FOUR, flows=[0, 0, 0, 3 * ONE], option=(1, 4, ONE))
     yield 10, job(quotes=factors(6, 0.99), flows=[2 * ONE] * 5 + [3 * ONE])
+    yield 11, job(quotes=factors(6, 0.999), flows=[2 * ONE] * 6, option=(1, 6, ONE))
     yield 11, job(quotes=factors(6, 0.999), flows=[2 * ONE] * 6, option=(1, 7, ONE))
     yield 11, job(quotes=factors(6, 0.999), flows=[2 * ONE] * 6, option=(5, 1, ONE))
 
@@ -237,17 +256,19 @@ def borders():
     # A bond and a call of exactly 8, then a bond of one billionth more.
     level, flow = [(5, 1.0)] * 4, 1_999_999_960
     yield on_the_border(0, 'bond 8.000000000 14', job(f=1, s=0, quotes=level, flows=[flow] + [2 * ONE] * 3))
-    yield on_the_border(0, 'option 8.000000000 14', job(f=1, s=0, quotes=level, flows=[flow] + [2 * ONE] * 3, option=(1, 1, 0)))
+    for kind, expiry in ((1, 0), (3, 3)):
+        yield on_the_border(0, 'option 8.000000000 14', job(f=1, s=0, quotes=level, flows=[flow] + [2 * ONE] * 3, option=(kind, expiry, 0)))
     yield 12, job(f=1, s=0, quotes=level, flows=[flow + 1] + [2 * ONE] * 3)
     # A put of exactly 8 on row 1, its bond 0; the next strike gives more.
-    rising = [(5, 0.5 * 1.0994 ** t) for t in range(9)]
+    rising = [(5, 0.5 * 1.0994 ** t) for t in range(10)]
     for kind in (2, 4):
-        yield on_the_border(0, 'option 4.000000000 23', job(f=1, s=0, quotes=rising, flows=[0] * 9, option=(kind, 9, 3_748_384_118)))
-        yield 12, job(f=1, s=0, quotes=rising, flows=[0] * 9, option=(kind, 9, 3_748_384_119))
+        yield on_the_border(0, 'option 4.000000000 27', job(f=1, s=0, quotes=rising, flows=[0] * 10, option=(kind, 9, 3_748_384_118)))
+        yield 12, job(f=1, s=0, quotes=rising, flows=[0] * 10, option=(kind, 9, 3_748_384_119))
 
 
 def jobs():
     yield from good()
+    yield from exercise_days()
     yield from ((1, made) for made in malformed())
     yield from each_cause()
     yield from pairs()

@@ -14,8 +14,8 @@
 //! let bond = tree.bond_price(&flows)?;
 //! assert_eq!((bond.value, bond.bound), (1_002_500_000, 3));
 //!
-//! let put = OptionTerms { kind: OptionKind::AmericanPut, expiry: 1, strike: 1_010_000_000 };
-//! assert_eq!(tree.option_price(&flows, put)?.value, 10_025_000);
+//! let put = OptionTerms { kind: OptionKind::AmericanPut, expiry: 0, strike: 1_010_000_000 };
+//! assert_eq!(tree.option_price(&flows, put)?.value, 7_500_000);
 //! # Ok::<(), mixegorta::Refusal>(())
 //! ```
 
@@ -184,7 +184,8 @@ pub enum OptionKind {
     AmericanPut = 4,
 }
 
-/// An option on a bond: expiry is a row, 0 to n; the strike is 0 to 4,000,000,000 billionths.
+/// An option on a bond: expiry is a row, 0 to n - 1; the strike is 0 to 4,000,000,000 billionths. Exercise is on the bond without the flow of its
+/// row, which stays with the seller.
 #[derive(Clone, Copy, Debug, PartialEq, Eq)]
 pub struct OptionTerms {
     pub kind: OptionKind,

@@ -1,4 +1,4 @@
-//! The figures of the scope (document 01), refusals and memories, through the safe functions.
+//! The figures of the scope (document 01) and its requests (02), refusals and memories, through the safe functions.
 use mixegorta::*;
 
 const PATTERN: u64 = 0xA5A5_A5A5_A5A5_A5A5;
@@ -144,16 +144,18 @@ fn printed_example() {
     );
     let put = OptionTerms {
         kind: OptionKind::AmericanPut,
-        expiry: 1,
+        expiry: 0,
         strike: 1_010_000_000,
     };
     assert_eq!(
         tree.option_price(&[ONE], put),
         Ok(Price {
-            value: 10_025_000,
+            value: 7_500_000,
             bound: 3
         })
     );
+    let last = OptionTerms { expiry: 1, ..put };
+    assert_eq!(tree.option_price(&[ONE], last), Err(Refusal::OPTION));
     let both = tree.bond_and_option(&[ONE], put);
     assert_eq!(both.bond, tree.bond_price(&[ONE]));
     assert_eq!(both.option, tree.option_price(&[ONE], put));
@@ -269,11 +271,13 @@ fn prices_on_lent_discounts() {
             bound: 6
         })
     );
-    let late = OptionTerms { expiry: 3, ..call };
-    assert_eq!(
-        option_price(2, 0, &flat, &[0, ONE], late),
-        Err(Refusal::OPTION)
-    );
+    for expiry in [2, 3] {
+        let late = OptionTerms { expiry, ..call };
+        assert_eq!(
+            option_price(2, 0, &flat, &[0, ONE], late),
+            Err(Refusal::OPTION)
+        );
+    }
     assert_eq!(
         value_by_state_prices(&[ONE, ONE, 100], &[ONE, 2 * ONE, 3 * ONE]),
         Ok(3 * ONE + 300)
@@ -300,6 +304,39 @@ fn prices_on_lent_discounts() {
     );
 }
 
+/// On row 1 the bond is worth 1 without its coupon of 0.1.
+#[test]
+fn the_coupon_of_the_exercise_day_stays_with_the_seller() {
+    let price = |kind, expiry, strike| {
+        let terms = OptionTerms {
+            kind,
+            expiry,
+            strike,
+        };
+        option_price(2, 0, &[ONE; 4], &[100_000_000, ONE], terms).map(|price| price.value)
+    };
+    assert_eq!(
+        price(OptionKind::EuropeanCall, 1, 900_000_000),
+        Ok(100_000_000)
+    );
+    assert_eq!(
+        price(OptionKind::AmericanCall, 1, 900_000_000),
+        Ok(200_000_000)
+    );
+    assert_eq!(
+        price(OptionKind::EuropeanPut, 1, 1_050_000_000),
+        Ok(50_000_000)
+    );
+    assert_eq!(
+        price(OptionKind::AmericanPut, 1, 1_050_000_000),
+        Ok(50_000_000)
+    );
+    assert_eq!(
+        price(OptionKind::EuropeanCall, 2, 900_000_000),
+        Err(Refusal::OPTION)
+    );
+}
+
 #[test]
 fn bond_and_option_at_once() {
     let flat = [ONE; 4];
@@ -316,7 +353,7 @@ fn bond_and_option_at_once() {
         (both.bond, both.option)
     };
     assert_eq!(both(&flat, call), (Ok(price(ONE)), Ok(price(100_000_000))));
-    let late = OptionTerms { expiry: 3, ..call };
+    let late = OptionTerms { expiry: 2, ..call };
     assert_eq!(both(&flat, late), (Ok(price(ONE)), Err(Refusal::OPTION)));
     let short = Err(Refusal::LENGTH_OR_ROW);
     assert_eq!(both(&flat[1..], call), (short, short));
@@ -332,21 +369,21 @@ fn an_option_above_the_limit_leaves_the_bond() {
         expiry: 8,
         strike: 4 * ONE,
     };
-    let both = bond_and_option(8, 0, &[1_100_000_000; 64], &[0; 8], put);
+    let both = bond_and_option(9, 0, &[1_100_000_000; 81], &[0; 9], put);
     assert_eq!(both.bond.map(|bond| bond.value), Ok(0));
     assert_eq!(both.option, Err(Refusal::VALUE));
 }
 
-/// The job that the scope prints whole: one yearly step, a discount factor of 1.0025, an American put.
+/// The scope's job with an option for today: one yearly step, a discount factor of 1.0025, an American put.
 const EXAMPLE: [u8; 47] = [
     1, 0, 1, 1, 2, 0, 1, 1, 3, 0, 2, 0, 0, 4, 0, 4, 0, 0, 0, 0, 5, 0, 8, 0x3F, 0xF0, 0x0A, 0x3D,
-    0x70, 0xA3, 0xD7, 0x0A, 7, 0, 4, 0x3B, 0x9A, 0xCA, 0x00, 8, 0, 6, 4, 1, 0x3C, 0x33, 0x60, 0x80,
+    0x70, 0xA3, 0xD7, 0x0A, 7, 0, 4, 0x3B, 0x9A, 0xCA, 0x00, 8, 0, 6, 4, 0, 0x3C, 0x33, 0x60, 0x80,
 ];
 const WITHOUT_OPTION: usize = EXAMPLE.len() - 9;
 const SHEET: &str = "node 0 0 1.002500000 -0.2493766
 row 1 1.002500000 1.002499999 4
 bond 1.002500000 3
-option 0.010025000 3
+option 0.007500000 3
 ";
 
 #[test]
@@ -371,6 +408,7 @@ fn sheets_of_jobs() {
     assert_eq!(with(16, 1), Refusal::VOLATILITY);
     assert_eq!(with(23, 0x7F), Refusal::QUOTE);
     assert_eq!(with(34, 0xFF), Refusal::FLOW);
+    assert_eq!(with(42, 1), Refusal::OPTION);
     assert_eq!(with(42, 2), Refusal::OPTION);
 }
 

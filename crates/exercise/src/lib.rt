@@ -40,21 +40,28 @@ fn excess(x: u64, y: u64) -> u64
 }
 
 // Bond less strike for a call, strike less bond for a put, at least 0.
-pub fn exercise_value(terms: Terms, bond: u64) -> u64
-    ensures { λ r. ⌜ r ≡ exercise (side (terms .call)) (terms .strike) bond ⌝ }
+pub fn exercise_value(call: bool, strike: u64, bond: u64) -> u64
+    ensures { λ r. ⌜ r ≡ exercise (side call) strike bond ⌝ }
 {
-    if terms.call {
-        return excess(bond, terms.strike);
+    if call {
+        return excess(bond, strike);
     }
-    excess(terms.strike, bond)
+    excess(strike, bond)
 }
 
-// Before expiry: the larger of roll and exercise on a row that is listed, the roll on any other.
-pub fn held_value(terms: Terms, listed: bool, roll: u64, bond: u64) -> u64
-    ensures { λ r. ⌜ r ≡ heldOrExercised listed roll (exercise (side (terms .call)) (terms .strike) bond) ⌝ }
+// At expiry, of a bond that holds the row's flow: the exercise value without it. Where the flow is more than the bond, on 0.
+pub fn expiry_value(call: bool, strike: u64, bond: u64, flow: u64) -> u64
+    ensures { λ r. ⌜ r ≡ exercise (side call) strike (bond - flow) ⌝ }
+{
+    exercise_value(call, strike, excess(bond, flow))
+}
+
+// Before expiry, of a bond without the row's flow: the larger of roll and exercise on a row that is listed, the roll on any other.
+pub fn held_value(call: bool, strike: u64, listed: bool, roll: u64, bond: u64) -> u64
+    ensures { λ r. ⌜ r ≡ heldOrExercised listed roll (exercise (side call) strike bond) ⌝ }
 {
     if listed {
-        return arithmetic::larger(roll, exercise_value(terms, bond));
+        return arithmetic::larger(roll, exercise_value(call, strike, bond));
     }
     roll
 }

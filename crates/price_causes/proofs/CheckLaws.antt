@@ -5,9 +5,9 @@ use mathlib.Core.Bool.{Bool, true, false, cond, _&&_}
 use mathlib.Core.List.{List}
 use Prim.Native.Nat.{ℕ, suc, _≤_, _<_}
 use native.Mathlib.Omega.{arith}
-use lib.Dec.{eqb, leb}
+use lib.Dec.{eqb, leb, ltb}
 use lib.ListN.{length}
-use borrow.Author.Tests.{le-leb, lt-leb, leb-true, eq-eqb, ne-eqb, eqb-true}
+use borrow.Author.Tests.{le-leb, lt-leb, leb-true, eq-eqb, ne-eqb, eqb-true, lt-ltb, le-ltb, ltb-true}
 use Rattle.arithmetic.specs.Row.{values, each, between}
 use Rattle.arithmetic.proofs.RowLaws.{each-holds}
 use Rattle.arithmetic.proofs.BetweenLaws.{and-left, and-right, between-most}
@@ -58,24 +58,24 @@ module _ (n kind expiry strike : ℕ) where
     kind-above h = sym (rw (le-leb 1 kind some, lt-leb kind 4 h))
 
     module _ (few : kind ≤ 4) where
-      pub expiry-past : n < expiry → 11 ≡ optionCause n kind expiry strike
+      pub expiry-past : n ≤ expiry → 11 ≡ optionCause n kind expiry strike
       unfolding optionCause
-      expiry-past h = sym (rw (le-leb 1 kind some, le-leb kind 4 few, lt-leb expiry n h))
+      expiry-past h = sym (rw (le-leb 1 kind some, le-leb kind 4 few, le-ltb expiry n h))
 
-      module _ (in-tree : expiry ≤ n) where
+      module _ (in-tree : expiry < n) where
         pub strike-above : mostStrike < strike → 11 ≡ optionCause n kind expiry strike
         unfolding optionCause
-        strike-above h = sym (rw (le-leb 1 kind some, le-leb kind 4 few, le-leb expiry n in-tree, lt-leb strike mostStrike h))
+        strike-above h = sym (rw (le-leb 1 kind some, le-leb kind 4 few, lt-ltb expiry n in-tree, lt-leb strike mostStrike h))
 
         pub option-passed : strike ≤ mostStrike → 0 ≡ optionCause n kind expiry strike
         unfolding optionCause
-        option-passed h = sym (rw (le-leb 1 kind some, le-leb kind 4 few, le-leb expiry n in-tree, le-leb strike mostStrike h))
+        option-passed h = sym (rw (le-leb 1 kind some, le-leb kind 4 few, lt-ltb expiry n in-tree, le-leb strike mostStrike h))
 
-pub option-accepted : (n kind expiry strike : ℕ) → optionCause n kind expiry strike ≡ 0 → (expiry ≤ n) × (strike ≤ mostStrike)
+pub option-accepted : (n kind expiry strike : ℕ) → optionCause n kind expiry strike ≡ 0 → (expiry < n) × (strike ≤ mostStrike)
 unfolding optionCause
 option-accepted n kind expiry strike e =
-    let p = cond-zero-else (leb 1 kind && leb kind 4 && leb expiry n && leb strike mostStrike) 0 10 e in
-    let most = leb 1 kind && leb kind 4 && leb expiry n in (
-      leb-true expiry n (and-right (leb 1 kind && leb kind 4) (leb expiry n) (and-left most (leb strike mostStrike) (p .0))),
+    let p = cond-zero-else (leb 1 kind && leb kind 4 && ltb expiry n && leb strike mostStrike) 0 10 e in
+    let most = leb 1 kind && leb kind 4 && ltb expiry n in (
+      ltb-true expiry n (and-right (leb 1 kind && leb kind 4) (ltb expiry n) (and-left most (leb strike mostStrike) (p .0))),
       leb-true strike mostStrike (and-right most (leb strike mostStrike) (p .0)),
     )

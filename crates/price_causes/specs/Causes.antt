@@ -4,7 +4,7 @@ use mathlib.Core.Path.{_≡_}
 use Prim.Native.Nat.{ℕ, _≤_, _<_}
 use mathlib.Core.Bool.{cond, _&&_}
 use mathlib.Core.List.{List}
-use lib.Dec.{eqb, leb}
+use lib.Dec.{eqb, leb, ltb}
 use lib.ListN.{length}
 use Rattle.arithmetic.specs.Row.{values, each, between}
 
@@ -19,9 +19,9 @@ mostStrike = 4000000000
 unfoldable pub flowsCause : ℕ → List ℕ → ℕ
 flowsCause n flows = cond (eqb (length flows) n) (cond (each (length flows) (between 0 mostFlow (values flows))) 0 10) 6
 
--- 11: kind, expiry or strike outside its limit
+-- 11: kind, expiry or strike outside its limit; on row n the bond has been repaid, so expiry is 0 to n − 1
 unfoldable pub optionCause : ℕ → ℕ → ℕ → ℕ → ℕ
-optionCause n kind expiry strike = cond (leb 1 kind && leb kind 4 && leb expiry n && leb strike mostStrike) 0 11
+optionCause n kind expiry strike = cond (leb 1 kind && leb kind 4 && ltb expiry n && leb strike mostStrike) 0 11
 
 -- flows after the causes were tested
 pub record AcceptedFlows (n : ℕ) (flows : List ℕ) : Type 0 where

@@ -25,7 +25,7 @@ pub fn option_cause(steps: usize, kind: u64, expiry: usize, strike: u64) -> u64
     if 4 < kind {
         return 11;
     }
-    if steps < expiry {
+    if steps <= expiry {
         return 11;
     }
     if 4_000_000_000 < strike {

@@ -124,7 +124,7 @@ module _ (n b : ℕ) (discounts flows : List ℕ) where
     option-within-bound =
         rw (option-given .value, option-given .bound)
         (kind-accurate (rateTree b) (rate-tree-sound b (option-tree .reversion-within-limit)) (stored b discounts) n (within-limit option-tree) (flowAt flows)
-        kind expiry strike (option-accepted n kind expiry strike (first-none _ _ (causes .1) .0) .0))
+        kind expiry strike (omega (arith, option-accepted n kind expiry strike (first-none _ _ (causes .1) .0) .0)))
 
     pub option-bound-a-step :
         ((k : ℕ) → k < discountsNeeded n b → values discounts k ≤ one) → optionPrice n b discounts flows kind expiry strike .bound ≤ 3 * n

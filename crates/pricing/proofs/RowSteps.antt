@@ -89,11 +89,11 @@ rows-done bond₀ bond option₀ option f g top k n s e =
       found = s .found ∙ ap (λ (m : ℕ). greatest m (λ j. max (f j) (g j))) e;
     }
 
--- the option's value from the bond's value and the option's roll, as the code has them
+-- the option's value from the two rolls, as the code has them
 pub option-from-roll :
-    (side : Side) (strike : ℕ) (listed : Bool) (bonds options downs discounts : List ℕ) (next flow k bond roll r : ℕ) →
-    bond ≡ rolledRow bonds downs discounts next k + flow → roll ≡ rolledRow options downs discounts next k →
+    (side : Side) (strike : ℕ) (listed : Bool) (bonds options downs discounts : List ℕ) (next k bond roll r : ℕ) →
+    bond ≡ rolledRow bonds downs discounts next k → roll ≡ rolledRow options downs discounts next k →
     r ≡ heldOrExercised listed roll (exercise side strike bond) →
-    r ≡ optionValues side strike listed bonds options downs discounts next flow k
-option-from-roll side strike listed bonds options downs discounts next flow k bond roll r eb eo er =
+    r ≡ optionValues side strike listed bonds options downs discounts next k
+option-from-roll side strike listed bonds options downs discounts next k bond roll r eb eo er =
     er ∙ ap₂ (λ (x y : ℕ). heldOrExercised listed x (exercise side strike y)) eo eb

@@ -68,9 +68,9 @@ module _ (n b i : ℕ) (discounts : List ℕ) (a : Accepted n b discounts) (hi :
         pub part-option :
             (side : Side) (strike : ℕ) (listed : Bool) (bonds options bond option : List ℕ) (top : ℕ) →
             FilledRows bond option (length part) (bondValues bonds table part (s .next) flow)
-            (optionValues side strike listed bonds options table part (s .next) flow) top →
+            (optionValues side strike listed bonds options table part (s .next)) top →
             FilledRows bond option (nodeCount b i) (bondStep b discounts flow i bonds)
-            (optionStep side strike listed b discounts flow i bonds options) top
+            (optionStep side strike listed b discounts i bonds options) top
         part-option side strike listed bonds options bond option top h =
             rows.option-row-is n b i hi discounts a flow side strike listed bonds options bond option top
             (rw (table-is, part-is, next-is) at h)

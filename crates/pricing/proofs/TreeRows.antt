@@ -106,16 +106,16 @@ module _ (n b i : ℕ) (hi : i < n) (discounts : List ℕ) (a : Accepted n b dis
 
     module _ (side : Side) (strike : ℕ) (listed : Bool) (bonds options : List ℕ) where
       abbrev code-option : ℕ → ℕ
-      code-option = optionValues side strike listed bonds options table-part discount-part (nodeCount b (suc i)) flow
+      code-option = optionValues side strike listed bonds options table-part discount-part (nodeCount b (suc i))
 
-      option-value-is : (k : ℕ) → k < nodeCount b i → code-option k ≡ optionStep side strike listed b discounts flow i bonds options k
+      option-value-is : (k : ℕ) → k < nodeCount b i → code-option k ≡ optionStep side strike listed b discounts i bonds options k
       option-value-is k l =
-          ap₂ (λ (x y : ℕ). heldOrExercised listed x (exercise side strike y)) (rolled-is options k l) (bond-value-is bonds k l)
+          ap₂ (λ (x y : ℕ). heldOrExercised listed x (exercise side strike y)) (rolled-is options k l) (rolled-is bonds k l)
 
       pub option-row-is :
           (bond option : List ℕ) (top : ℕ) → FilledRows bond option (length discount-part) (code-bond bonds) code-option top →
           FilledRows bond option (nodeCount b i) (bondStep b discounts flow i bonds)
-          (optionStep side strike listed b discounts flow i bonds options) top
+          (optionStep side strike listed b discounts i bonds options) top
       option-row-is bond option top s =
           record {
             bond-held = λ k l. s .bond-held k (rw discount-part-length l) ∙ bond-value-is bonds k l;

@@ -1,6 +1,6 @@
 -- The walk back through an accepted tree: what the code holds at each row.
 -- Assumes nothing.
-use mathlib.Core.Path.{_≡_, refl, sym, ap₂, _∙_, subst}
+use mathlib.Core.Path.{_≡_, refl, sym, ap, ap₂, _∙_, subst}
 use mathlib.Core.Bool.{Bool}
 use mathlib.Core.List.{List}
 use Prim.Native.Nat.{ℕ, zero, suc, _+_, _-_, _≤_, _<_, max}
@@ -152,14 +152,17 @@ module _ (n b : ℕ) (discounts flows : List ℕ) (a : Accepted n b discounts) (
     -- on the last row: the exercise values
     pub options-first :
         (bonds l : List ℕ) → strike ≤ 4000000000 → Bonds n b discounts flows (rows .last) bonds →
-        Holds l 121 (λ k. exercise side strike (values bonds k)) → Right (rows .last) l
+        Holds l 121 (λ k. exercise side strike (values bonds k - flowAt flows (rows .last))) → Right (rows .last) l
     unfolding Bonds Options rateTree
     options-first bonds l hs s h =
         back.option-first n (On (rateTree b)) (top b) great the-roll local (flowAt flows) side strike rows (values bonds) (values l) s value-is
-        (λ k hk. rw (value-is k hk) (exercise-limited side strike (values bonds k) hs
-        (back.bond-limit n (On (rateTree b)) (top b) great the-roll local (flowAt flows) (rows .last) (values bonds) s k hk)))
+        (λ k hk. rw (value-is k hk) (exercise-limited side strike (values bonds k - flowAt flows (rows .last)) hs (less-flow _ _
+        (back.bond-limit n (On (rateTree b)) (top b) great the-roll local (flowAt flows) (rows .last) (values bonds) s k hk))))
       where
-        value-is : (k : ℕ) → k < nodeCount b (rows .last) → values l k ≡ exercise side strike (values bonds k)
+        less-flow : (x y : ℕ) → x ≤ valueLimit → x - y ≤ valueLimit
+        less-flow x y h = omega arith
+
+        value-is : (k : ℕ) → k < nodeCount b (rows .last) → values l k ≡ exercise side strike (values bonds k - flowAt flows (rows .last))
         value-is k hk = h k (narrow (rows .last) k hl hk)
 
     pub options-limited : (i : ℕ) (later : List ℕ) → Right i later → Limited later (nodeCount b i)
@@ -171,7 +174,7 @@ module _ (n b : ℕ) (discounts flows : List ℕ) (a : Accepted n b discounts) (
     module _ (r : ℕ) (bonds options : List ℕ) (some : 0 < r) (sb : Bonds n b discounts flows r bonds) (so : Right r options)
         (listed : Bool) (el : listed ≡ rows .listed (r - 1)) (bond option : List ℕ) (found : ℕ)
         (filled : FilledRows bond option (nodeCount b (r - 1)) (bondStep b discounts (flowAt flows (r - 1)) (r - 1) bonds)
-        (optionStep side strike listed b discounts (flowAt flows (r - 1)) (r - 1) bonds options) found) where
+        (optionStep side strike listed b discounts (r - 1) bonds options) found) where
       options-before : Right (suc (r - 1)) options
       options-before = let e : r ≡ suc (r - 1) = omega arith in subst (λ (x : ℕ). Right x options) e so
 
@@ -181,11 +184,11 @@ module _ (n b : ℕ) (discounts flows : List ℕ) (a : Accepted n b discounts) (
 
       option-value-is :
           (k : ℕ) → k < nodeCount b (r - 1) →
-          values option k ≡ heldOrExercised (rows .listed (r - 1)) (rolledAt b discounts (r - 1) options k) (exercise side strike (values bond k))
+          values option k
+          ≡ heldOrExercised (rows .listed (r - 1)) (rolledAt b discounts (r - 1) options k) (exercise side strike (rolledAt b discounts (r - 1) bonds k))
       option-value-is k h =
           filled .option-held k h
-          ∙ ap₂ (λ (t : Bool) (x : ℕ). heldOrExercised t (rolledAt b discounts (r - 1) options k) (exercise side strike x))
-          el (sym (filled .bond-held k h))
+          ∙ ap (λ (t : Bool). heldOrExercised t (rolledAt b discounts (r - 1) options k) (exercise side strike (rolledAt b discounts (r - 1) bonds k))) el
 
       bond-found : ℕ
       bond-found = greatest (nodeCount b (r - 1)) (values bond)
@@ -202,11 +205,11 @@ module _ (n b : ℕ) (discounts flows : List ℕ) (a : Accepted n b discounts) (
           ∙ greatest-max (nodeCount b (r - 1)) (values bond) (values option)
 
       pub both-next : found ≤ valueLimit → Bonds n b discounts flows (r - 1) bond × Right (r - 1) option
-      unfolding Options rateTree rolledAt bond-found option-found
+      unfolding Bonds Options rateTree rolledAt bond-found option-found
       both-next o = (
         bonds-next r bonds some sb bond (filled .bond-held) bond-found refl (omega (arith, found-is)),
         back.option-step n (On (rateTree b)) (top b) great the-roll local (flowAt flows) side strike rows (r - 1) (values options)
-            before-last options-before (values bond) (bonds-held r bonds some sb bond (filled .bond-held)) (values option) option-value-is
+            before-last options-before (values bonds) (before r bonds some sb bond (filled .bond-held)) (values option) option-value-is
             option-found refl (omega (arith, found-is)),
       )
 
@@ -223,14 +226,14 @@ module _ (n b : ℕ) (discounts flows : List ℕ) (a : Accepted n b discounts) (
           )
 
       over-option : valueLimit < option-found → valueLimit < optionPeak n b discounts flows side strike rows
-      unfolding Options rateTree rolledAt greatestValue optionValue optionPeak option-found
+      unfolding Bonds Options rateTree rolledAt greatestValue optionValue optionPeak option-found
       over-option h =
           let e : 0 + (r - 1) ≡ r - 1 = omega arith in
           let w = greatestValue (rateTree b) (optionValue n b discounts flows side strike rows) in
           omega (
             arith,
             back.option-over n (On (rateTree b)) (top b) great the-roll local (flowAt flows) side strike rows (r - 1) (values options)
-                before-last options-before (values bond) (bonds-held r bonds some sb bond (filled .bond-held)) (values option) option-value-is
+                before-last options-before (values bonds) (before r bonds some sb bond (filled .bond-held)) (values option) option-value-is
                 option-found refl h,
             rw e at (peak-grows w (rows .last) 0 (r - 1) (omega (arith, before-last))),
           )

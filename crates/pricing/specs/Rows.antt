@@ -32,9 +32,9 @@ abbrev pub bondValues : List ℕ → List ℕ → List ℕ → ℕ → ℕ → �
 bondValues later downs discounts next flow k = rolledRow later downs discounts next k + flow
 
 -- a row of the option, from the later rows of bond and option
-abbrev pub optionValues : Side → ℕ → Bool → List ℕ → List ℕ → List ℕ → List ℕ → ℕ → ℕ → ℕ → ℕ
-optionValues side strike listed bonds options downs discounts next flow k =
-    heldOrExercised listed (rolledRow options downs discounts next k) (exercise side strike (bondValues bonds downs discounts next flow k))
+abbrev pub optionValues : Side → ℕ → Bool → List ℕ → List ℕ → List ℕ → List ℕ → ℕ → ℕ → ℕ
+optionValues side strike listed bonds options downs discounts next k =
+    heldOrExercised listed (rolledRow options downs discounts next k) (exercise side strike (rolledRow bonds downs discounts next k))
 
 -- What the code asks of a row.
 pub record Rollable (downs discounts : List ℕ) (next : ℕ) : Type 0 where

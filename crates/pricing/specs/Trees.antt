@@ -20,7 +20,6 @@ use Rattle.exercise.specs.declared.Terms.{Terms}
 use Rattle.lent_tree.specs.LentTree.{stored, Accepted}
 use Rattle.price_bound.specs.PriceBound.{treeErrorBound}
 use Rattle.price_causes.specs.Causes.{mostFlow, mostStrike, AcceptedFlows}
-use Rattle.pricing.specs.declared.walk.RowStep.{RowStep}
 use Rattle.pricing.specs.declared.walk.OptionStep.{OptionStep}
 use Rattle.pricing.specs.declared.walk.Rolled.{Rolled}
 use Rattle.pricing.specs.Prices.{flowAt, treeCause, bondValue, optionValue, optionLimit}
@@ -41,19 +40,25 @@ pub record Ready (n b : ℕ) (downs discounts flows : List ℕ) : Type 0 where
   pub paid : AcceptedFlows n flows
   pub table : downs ≡ downTable n b
 
--- row i with its flow, and with an option's right on it
-abbrev pub rowStepAt : ℕ → ℕ → List ℕ → ℕ → RowStep
-rowStepAt n b flows i = record { steps = n; reversion = b; row = i; flow = flowAt flows i }
-
+-- row i with its flow and an option's right on it
 abbrev pub optionStepAt : ℕ → ℕ → List ℕ → Terms → List ℕ → ℕ → OptionStep
-optionStepAt n b flows terms marks i = record { at = rowStepAt n b flows i; terms = terms; listed = eqb (values marks i) 1 }
+optionStepAt n b flows terms marks i =
+    record {
+      steps = n;
+      reversion = b;
+      row = i;
+      flow = flowAt flows i;
+      call = terms .call;
+      strike = terms .strike;
+      listed = eqb (values marks i) 1;
+    }
 
--- a row of an accepted tree, which may be rolled into
-pub record Steppable (at : RowStep) (downs discounts : List ℕ) : Type 0 where
-  pub tree : Accepted (at .steps) (at .reversion) discounts
-  pub table : downs ≡ downTable (at .steps) (at .reversion)
-  pub inside : at .row < at .steps
-  pub flow-most : at .flow ≤ mostFlow
+-- row i of an accepted tree, which may be rolled into
+pub record Steppable (n b i flow : ℕ) (downs discounts : List ℕ) : Type 0 where
+  pub tree : Accepted n b discounts
+  pub table : downs ≡ downTable n b
+  pub inside : i < n
+  pub flow-most : flow ≤ mostFlow
 
 -- an option that a tree of n steps may have, with a mark for each row before its last
 pub record Exercisable (terms : Terms) (n : ℕ) (marks : List ℕ) : Type 0 where
@@ -69,9 +74,9 @@ rolledAt b discounts i later = roll (rateTree b) (stored b discounts) rollRoundi
 abbrev pub bondStep : ℕ → List ℕ → ℕ → ℕ → List ℕ → ℕ → ℕ
 bondStep b discounts flow i later k = rolledAt b discounts i later k + flow
 
-abbrev pub optionStep : Side → ℕ → Bool → ℕ → List ℕ → ℕ → ℕ → List ℕ → List ℕ → ℕ → ℕ
-optionStep side strike listed b discounts flow i bonds options k =
-    heldOrExercised listed (rolledAt b discounts i options k) (exercise side strike (bondStep b discounts flow i bonds k))
+abbrev pub optionStep : Side → ℕ → Bool → ℕ → List ℕ → ℕ → List ℕ → List ℕ → ℕ → ℕ
+optionStep side strike listed b discounts i bonds options k =
+    heldOrExercised listed (rolledAt b discounts i options k) (exercise side strike (rolledAt b discounts i bonds k))
 
 -- the bond rolled back to row i: 12 where a value on the way is above the limit, else the row
 pub record BondRolled (n b : ℕ) (discounts flows : List ℕ) (i : ℕ) (number : ℕ) (row : List ℕ) : Type 0 where

@@ -77,11 +77,13 @@ pub(crate) fn bond_row(
 pub(crate) struct RowRight {
     pub(crate) next: usize,
     pub(crate) flow: u64,
-    pub(crate) terms: Terms,
+    pub(crate) call: bool,
+    pub(crate) strike: u64,
     pub(crate) listed: bool,
 }
 
-// Rolls bond and option back by one row together, each node's branch worked out once for both. Gives the greatest value of the two rows.
+// Rolls bond and option back by one row together, each node's branch worked out once for both. The option is exercised on the bond before the
+// row's flow is added. Gives the greatest value of the two rows.
 pub(crate) fn option_row(
     right: RowRight,
     downs: &[u64],
@@ -95,22 +97,23 @@ pub(crate) fn option_row(
         × (length (now discounts) ≤ length (now bond)) × (length (now discounts) ≤ length (now option)) × (right .flow ≤ mostFlow) ⌝ }
     ensures { λ r. ⌜ FilledRows (now (bond .exit)) (now (option .exit)) (length (now (discounts .entry)))
         (bondValues (now (bonds .entry)) (now (downs .entry)) (now (discounts .entry)) (right .next) (right .flow))
-        (optionValues (side (right .terms .call)) (right .terms .strike) (right .listed)
-        (now (bonds .entry)) (now (options .entry)) (now (downs .entry)) (now (discounts .entry)) (right .next) (right .flow)) r ⌝ }
+        (optionValues (side (right .call)) (right .strike) (right .listed)
+        (now (bonds .entry)) (now (options .entry)) (now (downs .entry)) (now (discounts .entry)) (right .next)) r ⌝ }
 {
-    let terms = right.terms;
+    let call = right.call;
+    let strike = right.strike;
+    let listed = right.listed;
+    let next = right.next;
+    let flow = right.flow;
     let mut top: u64 = 0;
     let mut k: usize = 0;
     while k < discounts.len() {
-        let branch = row_branches::row_branch(downs, right.next, k);
+        let branch = row_branches::row_branch(downs, next, k);
         let discount = discounts[k];
-        let value = roll_node(branch, bonds, discount) + right.flow;
-        let held = exercise::held_value(
-            terms,
-            right.listed,
-            roll_node(branch, options, discount),
-            value,
-        );
+        let bare = roll_node(branch, bonds, discount);
+        let roll = roll_node(branch, options, discount);
+        let held = exercise::held_value(call, strike, listed, roll, bare);
+        let value = bare + flow;
         bond[k] = value;
         option[k] = held;
         top = arithmetic::larger(top, arithmetic::larger(value, held));
@@ -119,15 +122,17 @@ pub(crate) fn option_row(
     top
 }
 
-// The exercise values of a row of the bond.
-pub(crate) fn exercise_row(terms: Terms, bond: &[u64], option: &mut [u64])
+// The exercise values of a row of the bond, which holds the row's flow.
+pub(crate) fn exercise_row(terms: Terms, flow: u64, bond: &[u64], option: &mut [u64])
     requires { ⌜ length (now option) ≡ length (now bond) ⌝ }
     ensures { λ _. ⌜ Holds (now (option .exit)) (length (now (option .entry)))
-        (λ k. exercise (side (terms .call)) (terms .strike) (values (now (bond .entry)) k)) ⌝ }
+        (λ k. exercise (side (terms .call)) (terms .strike) (values (now (bond .entry)) k - flow)) ⌝ }
 {
+    let call = terms.call;
+    let strike = terms.strike;
     let mut k: usize = 0;
     while k < option.len() {
-        option[k] = exercise::exercise_value(terms, bond[k]);
+        option[k] = exercise::expiry_value(call, strike, bond[k], flow);
         k += 1;
     }
 }

@@ -15,7 +15,6 @@ ghost use Rattle.pricing.specs.Trees.{
   Ready,
   Exercisable,
   Steppable,
-  rowStepAt,
   optionStepAt,
   bondStep,
   optionStep,
@@ -29,18 +28,14 @@ pub(crate) struct Tree {
     pub(crate) reversion: u64,
 }
 
-// A row of a tree, with its flow.
-struct RowStep {
+// A row of a tree with its flow, and an option's right on it.
+struct OptionStep {
     steps: usize,
     reversion: u64,
     row: usize,
     flow: u64,
-}
-
-// A row of a tree, and an option's right on it.
-struct OptionStep {
-    at: RowStep,
-    terms: Terms,
+    call: bool,
+    strike: u64,
     listed: bool,
 }
 
@@ -71,49 +66,44 @@ fn part(memory: &[u64], start: usize, count: usize) -> &[u64]
     &memory[start..end]
 }
 
-fn row_step_at(tree: Tree, flows: &[u64], row: usize) -> RowStep
-    requires { ⌜ row ≤ length (now flows) ⌝ }
-    ensures { λ r. ⌜ r ≡ rowStepAt (tree .steps) (tree .reversion) (now (flows .entry)) row ⌝ }
-{
-    RowStep {
-        steps: tree.steps,
-        reversion: tree.reversion,
-        row,
-        flow: flow_of(flows, row),
-    }
-}
-
 fn option_step_at(tree: Tree, flows: &[u64], terms: Terms, marks: &[u8], row: usize) -> OptionStep
     requires { ⌜ (row ≤ length (now flows)) × (row < length (now marks)) ⌝ }
     ensures { λ r. ⌜ r ≡ optionStepAt (tree .steps) (tree .reversion) (now (flows .entry)) terms (now (marks .entry)) row ⌝ }
 {
     OptionStep {
-        at: row_step_at(tree, flows, row),
-        terms,
+        steps: tree.steps,
+        reversion: tree.reversion,
+        row,
+        flow: flow_of(flows, row),
+        call: terms.call,
+        strike: terms.strike,
         listed: marks[row] == 1,
     }
 }
 
 // The bond one row back, with the row's flow. Gives the row's greatest value.
 fn bond_step(
-    at: RowStep,
+    tree: Tree,
+    row: usize,
+    flow: u64,
     downs: &[u64],
     discounts: &[u64],
     later: &[u64; 121],
     bond: &mut [u64; 121],
 ) -> u64
-    requires { ⌜ Steppable at (now downs) (now discounts) × Limited (now later) (nodeCount (at .reversion) (at .row + 1)) ⌝ }
-    ensures { λ r. ⌜ FilledRow (now (bond .exit)) (nodeCount (at .reversion) (at .row))
-        (bondStep (at .reversion) (now (discounts .entry)) (at .flow) (at .row) (now (later .entry))) r ⌝ }
+    requires { ⌜ Steppable (tree .steps) (tree .reversion) row flow (now downs) (now discounts)
+        × Limited (now later) (nodeCount (tree .reversion) (row + 1)) ⌝ }
+    ensures { λ r. ⌜ FilledRow (now (bond .exit)) (nodeCount (tree .reversion) row)
+        (bondStep (tree .reversion) (now (discounts .entry)) flow row (now (later .entry))) r ⌝ }
 {
-    let shape = lattice::row_shape(at.reversion, at.steps, at.row);
+    let shape = lattice::row_shape(tree.reversion, tree.steps, row);
     rows::bond_row(
         bond,
         later,
         part(downs, shape.offset, shape.count),
         part(discounts, shape.start, shape.count),
         shape.next,
-        at.flow,
+        flow,
     )
 }
 
@@ -127,20 +117,20 @@ fn option_step(
     bond: &mut [u64; 121],
     option: &mut [u64; 121],
 ) -> u64
-    requires { ⌜ Steppable (right .at) (now downs) (now discounts) × Limited (now bonds) (nodeCount (right .at .reversion) (right .at .row + 1))
-        × Limited (now options) (nodeCount (right .at .reversion) (right .at .row + 1)) ⌝ }
-    ensures { λ r. ⌜ FilledRows (now (bond .exit)) (now (option .exit)) (nodeCount (right .at .reversion) (right .at .row))
-        (bondStep (right .at .reversion) (now (discounts .entry)) (right .at .flow) (right .at .row) (now (bonds .entry)))
-        (optionStep (side (right .terms .call)) (right .terms .strike) (right .listed) (right .at .reversion)
-        (now (discounts .entry)) (right .at .flow) (right .at .row) (now (bonds .entry)) (now (options .entry))) r ⌝ }
+    requires { ⌜ Steppable (right .steps) (right .reversion) (right .row) (right .flow) (now downs) (now discounts)
+        × Limited (now bonds) (nodeCount (right .reversion) (right .row + 1))
+        × Limited (now options) (nodeCount (right .reversion) (right .row + 1)) ⌝ }
+    ensures { λ r. ⌜ FilledRows (now (bond .exit)) (now (option .exit)) (nodeCount (right .reversion) (right .row))
+        (bondStep (right .reversion) (now (discounts .entry)) (right .flow) (right .row) (now (bonds .entry)))
+        (optionStep (side (right .call)) (right .strike) (right .listed) (right .reversion)
+        (now (discounts .entry)) (right .row) (now (bonds .entry)) (now (options .entry))) r ⌝ }
 {
-    let at = right.at;
-    let terms = right.terms;
-    let shape = lattice::row_shape(at.reversion, at.steps, at.row);
+    let shape = lattice::row_shape(right.reversion, right.steps, right.row);
     let row = RowRight {
         next: shape.next,
-        flow: at.flow,
-        terms,
+        flow: right.flow,
+        call: right.call,
+        strike: right.strike,
         listed: right.listed,
     };
     rows::option_row(
@@ -171,8 +161,8 @@ pub(crate) fn roll_bond(
     let mut row = tree.steps;
     while last < row {
         row -= 1;
-        let at = row_step_at(tree, flows, row);
-        if limits::VALUE_LIMIT < bond_step(at, downs, discounts, bond, &mut other) {
+        let flow = flow_of(flows, row);
+        if limits::VALUE_LIMIT < bond_step(tree, row, flow, downs, discounts, bond, &mut other) {
             return 12;
         }
         if row == last {
@@ -180,8 +170,8 @@ pub(crate) fn roll_bond(
             return 0;
         }
         row -= 1;
-        let before = row_step_at(tree, flows, row);
-        if limits::VALUE_LIMIT < bond_step(before, downs, discounts, &other, bond) {
+        let before = flow_of(flows, row);
+        if limits::VALUE_LIMIT < bond_step(tree, row, before, downs, discounts, &other, bond) {
             return 12;
         }
     }
@@ -224,7 +214,7 @@ fn roll_option(
         (marked (terms .last) (now (marks .entry))) r ⌝ }
 {
     let mut option = rows::empty_row();
-    rows::exercise_row(terms, bond, &mut option);
+    rows::exercise_row(terms, flow_of(flows, terms.last), bond, &mut option);
     let mut bonds = rows::empty_row();
     let mut options = rows::empty_row();
     let mut row = terms.last;

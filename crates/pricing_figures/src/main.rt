@@ -1,4 +1,4 @@
-// Prices of trees of several shapes, held against reference.py, which works them out from document 01 alone.
+// Prices of trees of several shapes, held against reference.py, which works them out from documents 01 and 02 alone.
 use pricing::Price;
 ghost use Prim.Native.Nat.{_≤_, _<_};
 
@@ -61,8 +61,15 @@ fn option(
     show(pricing::option_price(steps, reversion, discounts, flows, kind, expiry, strike));
 }
 
-// Options of a kind that expire at the first row, on the way and at the last row.
-fn options(steps: usize, reversion: u64, discounts: &[u64], flows: &[u64], kind: u64) {
+// Options of a kind that expire at the first row, on the way and one row before the bond's last.
+fn options(
+    steps: usize,
+    latest: usize,
+    reversion: u64,
+    discounts: &[u64],
+    flows: &[u64],
+    kind: u64,
+) {
     option(steps, reversion, discounts, flows, kind, 0, 900_000_000);
     option(
         steps,
@@ -73,36 +80,37 @@ fn options(steps: usize, reversion: u64, discounts: &[u64], flows: &[u64], kind:
         steps / 2,
         500_000_000,
     );
-    option(steps, reversion, discounts, flows, kind, steps, 30_000_000);
+    option(steps, reversion, discounts, flows, kind, latest, 30_000_000);
 }
 
-fn tree(steps: usize, reversion: u64, discounts: &[u64], all_flows: &[u64]) {
+fn tree(steps: usize, latest: usize, reversion: u64, discounts: &[u64], all_flows: &[u64]) {
     let flows = first(all_flows, steps);
     bond(steps, reversion, discounts, flows);
-    options(steps, reversion, discounts, flows, 1);
-    options(steps, reversion, discounts, flows, 2);
-    options(steps, reversion, discounts, flows, 3);
-    options(steps, reversion, discounts, flows, 4);
+    options(steps, latest, reversion, discounts, flows, 1);
+    options(steps, latest, reversion, discounts, flows, 2);
+    options(steps, latest, reversion, discounts, flows, 3);
+    options(steps, latest, reversion, discounts, flows, 4);
 }
 
 // Trees that grow to their last row, and trees that are capped on the way.
 fn trees(discounts: &[u64], flows: &[u64]) {
-    tree(1, 0, discounts, flows);
-    tree(3, 0, discounts, flows);
-    tree(60, 0, discounts, flows);
-    tree(4, 1000, discounts, flows);
-    tree(12, 1840, discounts, flows);
-    tree(12, 1841, discounts, flows);
-    tree(30, 100, discounts, flows);
-    tree(60, 6000, discounts, flows);
+    tree(1, 0, 0, discounts, flows);
+    tree(3, 2, 0, discounts, flows);
+    tree(60, 59, 0, discounts, flows);
+    tree(4, 3, 1000, discounts, flows);
+    tree(12, 11, 1840, discounts, flows);
+    tree(12, 11, 1841, discounts, flows);
+    tree(30, 29, 100, discounts, flows);
+    tree(60, 59, 6000, discounts, flows);
 }
 
-// The job of document 01.
+// The job of document 01, whose option expires on the bond's last row, and the same with an option for today.
 fn example() {
     let discounts = [1_002_500_000u64];
     let flows = [1_000_000_000u64];
     bond(1, 0, &discounts, &flows);
     option(1, 0, &discounts, &flows, 4, 1, 1_010_000_000);
+    option(1, 0, &discounts, &flows, 4, 0, 1_010_000_000);
 }
 
 // Values of 8 × one, and of one billionth more, at row 0 alone.
@@ -110,11 +118,36 @@ fn limits() {
     let level = [1_000_000_000u64; 16];
     let most = [2_000_000_000u64; 4];
     bond(4, 0, &level, &most);
-    option(4, 0, &level, &most, 3, 4, 0);
+    option(4, 0, &level, &most, 3, 3, 0);
     let mut above = [1_000_000_000u64; 16];
     above[0] = 1_000_000_001;
     bond(4, 0, &above, &most);
     option(4, 0, &above, &most, 2, 0, 4_000_000_000);
+}
+
+// A coupon on the expiry row, which stays with the seller: calls and puts on a bond of 1 without it.
+fn exercise_days() {
+    let level = [1_000_000_000u64; 4];
+    let flows = [100_000_000u64, 1_000_000_000];
+    option(2, 0, &level, &flows, 1, 1, 900_000_000);
+    option(2, 0, &level, &flows, 3, 1, 900_000_000);
+    option(2, 0, &level, &flows, 2, 1, 1_050_000_000);
+    option(2, 0, &level, &flows, 4, 1, 1_050_000_000);
+    option(2, 0, &level, &flows, 1, 2, 900_000_000);
+    option(2, 0, &level, &flows, 4, 2, 1_050_000_000);
+}
+
+// Options that are best exercised on a coupon's row before their expiry.
+fn earlier_days() {
+    let flows = [100_000_000u64, 100_000_000, 1_000_000_000];
+    let mut low = [1_000_000_000u64; 9];
+    low[0] = 900_000_000;
+    option(3, 0, &low, &flows, 3, 2, 1_000_000_000);
+    let mut later = [1_000_000_000u64; 9];
+    later[1] = 900_000_000;
+    later[2] = 900_000_000;
+    later[3] = 900_000_000;
+    option(3, 0, &later, &flows, 4, 2, 1_050_000_000);
 }
 
 // A bond that passes the limit on a row before its last, and an option that expires earlier.
@@ -163,8 +196,9 @@ fn number_refusals(discounts: &[u64], flows: &[u64]) {
     option(2, 0, discounts, flows, 0, 1, 0);
     option(2, 0, discounts, flows, 5, 1, 0);
     option(2, 0, discounts, flows, 1, 3, 0);
-    option(2, 0, discounts, flows, 1, 2, 4_000_000_001);
-    option(2, 0, discounts, flows, 2, 2, 4_000_000_000);
+    option(2, 0, discounts, flows, 1, 2, 0);
+    option(2, 0, discounts, flows, 1, 1, 4_000_000_001);
+    option(2, 0, discounts, flows, 2, 1, 4_000_000_000);
 }
 
 fn main() {
@@ -175,6 +209,8 @@ fn main() {
     example();
     trees(&discounts, &flows);
     limits();
+    exercise_days();
+    earlier_days();
     steep();
     tree_refusals(&discounts, &flows);
     number_refusals(&discounts, first(&flows, 2));

@@ -8,7 +8,7 @@ use native.Mathlib.Omega.{arith}
 use Rattle.arithmetic.specs.Rounding.{one}
 use Rattle.arithmetic.specs.Within.{Within}
 use Rattle.arithmetic.proofs.RoundingLaws.{up-ge, up-shrinks}
-use Rattle.pricing_laws.specs.Pricer.{rounded, fractions, bondFrom, bond, Side, exerciseRow, Schedule, optionFrom, option}
+use Rattle.pricing_laws.specs.Pricer.{rounded, fractions, bondFrom, bareBondFrom, bond, bareBond, Side, exerciseRow, Schedule, optionFrom, option}
 use Rattle.pricing_laws.specs.Pricer.{errorBoundFrom, errorBound}
 use Rattle.pricing_laws.proofs.Near.{Near, near-flow, near-exercise, near-held}
 
@@ -27,23 +27,44 @@ module _ {Node : Type 0} (n unit : ℕ) (Stands : ℕ → Node → Type 0) (roll
   -- The bond, for any distances by row that cover each roll.
   module _ (l u : ℕ → ℕ) (cover-above : (i : ℕ) → i < n → greatest i * l (suc i) + above i ≤ one * l i)
       (cover-below : (i : ℕ) → i < n → greatest i * u (suc i) + below i ≤ one * u i) (flow : ℕ → ℕ) where
+    -- a row without its flow, from the row after it
+    rolled-near :
+        (s i : ℕ) → i + suc s ≡ n →
+        ((k : Node) → Stands (suc i) k →
+        Near (l (suc i)) (u (suc i)) (unit ^ s) (bondFrom (rounded roll) flow s (suc i) k) (bondFrom (fractions unit exact) flow s (suc i) k)) →
+        (k : Node) → Stands i k →
+        Near (l i) (u i) (unit ^ suc s) (bareBondFrom (rounded roll) flow (suc s) i k) (bareBondFrom (fractions unit exact) flow (suc s) i k)
+    unfolding bareBondFrom
+    rolled-near s i e later k hk =
+        rw pow-suc
+        (close .roll-near i (omega arith) (bondFrom (rounded roll) flow s (suc i)) (bondFrom (fractions unit exact) flow s (suc i))
+        (l (suc i)) (u (suc i)) (l i) (u i) (unit ^ s) (cover-above i (omega arith)) (cover-below i (omega arith)) later k hk)
+
     bond-near :
         (s i : ℕ) → i + s ≡ n → (k : Node) → Stands i k →
         Near (l i) (u i) (unit ^ s) (bondFrom (rounded roll) flow s i k) (bondFrom (fractions unit exact) flow s i k)
-    unfolding bondFrom
+    unfolding bondFrom bareBondFrom
     bond-near zero i e k hk = record { above = omega arith; below = omega arith }
-    bond-near (suc s) i e k hk =
-        near-flow _ _ _ _ _ (flow i)
-        (rw pow-suc
-        (close .roll-near i (omega arith) (bondFrom (rounded roll) flow s (suc i)) (bondFrom (fractions unit exact) flow s (suc i))
-        (l (suc i)) (u (suc i)) (l i) (u i) (unit ^ s) (cover-above i (omega arith)) (cover-below i (omega arith))
-        (bond-near s (suc i) (omega arith)) k hk))
+    bond-near (suc s) i e k hk = near-flow _ _ _ _ _ (flow i) (rolled-near s i e (bond-near s (suc i) (omega arith)) k hk)
+
+    bare-near :
+        (s i : ℕ) → i + s ≡ n → (k : Node) → Stands i k →
+        Near (l i) (u i) (unit ^ s) (bareBondFrom (rounded roll) flow s i k) (bareBondFrom (fractions unit exact) flow s i k)
+    unfolding bareBondFrom
+    bare-near zero i e k hk = record { above = omega arith; below = omega arith }
+    bare-near (suc s) i e k hk = rolled-near s i e (bond-near s (suc i) (omega arith)) k hk
 
     pub bond-row :
         (i : ℕ) → i ≤ n → (k : Node) → Stands i k →
         Near (l i) (u i) (unit ^ (n - i)) (bond (rounded roll) flow n i k) (bond (fractions unit exact) flow n i k)
     unfolding bond
     bond-row i h k hk = bond-near (n - i) i (omega arith) k hk
+
+    bare-row :
+        (i : ℕ) → i ≤ n → (k : Node) → Stands i k →
+        Near (l i) (u i) (unit ^ (n - i)) (bareBond (rounded roll) flow n i k) (bareBond (fractions unit exact) flow n i k)
+    unfolding bareBond
+    bare-row i h k hk = bare-near (n - i) i (omega arith) k hk
 
   -- The option, for any distance by row that covers each roll both ways.
   module _ (a : ℕ → ℕ) (cover-above : (i : ℕ) → i < n → greatest i * a (suc i) + above i ≤ one * a i)
@@ -53,7 +74,7 @@ module _ {Node : Type 0} (n unit : ℕ) (Stands : ℕ → Node → Type 0) (roll
         Near (a i) (a i) (unit ^ (n - i)) (exerciseRow (rounded roll) flow n side strike i k) (exerciseRow (fractions unit exact) flow n side strike i k)
     unfolding exerciseRow
     exercise-near i h k hk =
-        near-exercise side (a i) (unit ^ (n - i)) _ _ strike (bond-row a a cover-above cover-below flow i h k hk)
+        near-exercise side (a i) (unit ^ (n - i)) _ _ strike (bare-row a a cover-above cover-below flow i h k hk)
 
     option-near :
         (listed : ℕ → Bool) (s i : ℕ) → i + s ≤ n → (k : Node) → Stands i k →

@@ -5,11 +5,11 @@ use mathlib.Core.Path.{_≡_, sym, ap, ap₂, _∙_}
 use Prim.Native.Nat.{ℕ, suc, _+_, _-_, _≤_, _<_}
 use native.Mathlib.Nat.{le-refl}
 use native.Mathlib.Omega.{arith}
-use Rattle.pricing_laws.specs.Pricer.{rounded, bond, Side, exercise, exerciseRow, Schedule, heldOrExercised, option}
+use Rattle.pricing_laws.specs.Pricer.{rounded, bond, bareBond, Side, exercise, exerciseRow, Schedule, heldOrExercised, option}
 use Rattle.limits.specs.Limits.{valueLimit}
 use Rattle.pricing_laws.specs.Peak.{peak}
 use Rattle.pricing_laws.proofs.Peaks.{peak-last, peak-before, row-in-peak}
-use Rattle.pricing_laws.proofs.Recurrences.{bond-last, bond-before, option-last, option-before}
+use Rattle.pricing_laws.proofs.Recurrences.{bond-last, bond-before, bare-bond-before, bond-of-bare, option-last, option-before}
 
 -- What the laws use of the greatest value of a row.
 pub record Greatest {Node : Type 0} (Stands : ℕ → Node → Type 0) (top : ℕ → (Node → ℕ) → ℕ) : Type 0 where
@@ -110,19 +110,24 @@ module _ {Node : Type 0} (n : ℕ) (Stands : ℕ → Node → Type 0) (top : ℕ
           s .within-limit,
         )
 
+    -- the exercise value, from what the code holds: the bond less the row's flow, or the bond before its flow is added
     exercise-held :
-        (i : ℕ) (v : Node → ℕ) → ((k : Node) → Stands i k → v k ≡ bond (rounded roll) flow n i k) → (k : Node) → Stands i k →
-        exercise side strike (v k) ≡ exerciseRow (rounded roll) flow n side strike i k
+        (i : ℕ) (k : Node) (x : ℕ) → x ≡ bareBond (rounded roll) flow n i k → exercise side strike x ≡ exerciseRow (rounded roll) flow n side strike i k
     unfolding exerciseRow
-    exercise-held i v h k hk = ap (exercise side strike) (h k hk)
+    exercise-held i k x e = ap (exercise side strike) e
+
+    exercise-less-flow :
+        (i : ℕ) (k : Node) (x : ℕ) → x ≡ bond (rounded roll) flow n i k →
+        exercise side strike (x - flow i) ≡ exerciseRow (rounded roll) flow n side strike i k
+    exercise-less-flow i k x e = exercise-held i k (x - flow i) (omega (arith, e, bond-of-bare (rounded roll) flow n i k))
 
     -- at expiry: the exercise values, none above the limit
     pub option-first :
-        (v w : Node → ℕ) → Bonds (rows .last) v → ((k : Node) → Stands (rows .last) k → w k ≡ exercise side strike (v k)) →
+        (v w : Node → ℕ) → Bonds (rows .last) v → ((k : Node) → Stands (rows .last) k → w k ≡ exercise side strike (v k - flow (rows .last))) →
         ((k : Node) → Stands (rows .last) k → w k ≤ valueLimit) → Options (rows .last) w
     option-first v w s step h =
         let held : (k : Node) → Stands (rows .last) k → w k ≡ option (rounded roll) flow n side strike rows (rows .last) k
-        = λ k hk. step k hk ∙ exercise-held (rows .last) v (s .held) k hk ∙ sym (option-last (rounded roll) flow n side strike rows k) in
+        = λ k hk. step k hk ∙ exercise-less-flow (rows .last) k (v k) (s .held k hk) ∙ sym (option-last (rounded roll) flow n side strike rows k) in
         record {
           before-last = le-refl _;
           held = held;
@@ -135,17 +140,21 @@ module _ {Node : Type 0} (n : ℕ) (Stands : ℕ → Node → Type 0) (top : ℕ
               );
         }
 
-    -- one row back, with the bond's row
-    module _ (i : ℕ) (v : Node → ℕ) (hi : i < rows .last) (s : Options (suc i) v) (bonds : Node → ℕ)
-        (bs : (k : Node) → Stands i k → bonds k ≡ bond (rounded roll) flow n i k) (w : Node → ℕ)
-        (step : (k : Node) → Stands i k → w k ≡ heldOrExercised (rows .listed i) (roll i v k) (exercise side strike (bonds k)))
+    -- one row back, with the bond's later row
+    module _ (i : ℕ) (v : Node → ℕ) (hi : i < rows .last) (s : Options (suc i) v) (bonds : Node → ℕ) (bs : Bonds (suc i) bonds) (w : Node → ℕ)
+        (step : (k : Node) → Stands i k → w k ≡ heldOrExercised (rows .listed i) (roll i v k) (exercise side strike (roll i bonds k)))
         (found : ℕ) (ef : found ≡ top i w) where
+      bare-held : (k : Node) → Stands i k → roll i bonds k ≡ bareBond (rounded roll) flow n i k
+      bare-held k hk =
+          local .roll-same i bonds (bond (rounded roll) flow n (suc i)) (bs .held) k hk
+          ∙ sym (bare-bond-before (rounded roll) flow n i (omega (arith, bs .in-tree)) k)
+
       option-held : (k : Node) → Stands i k → w k ≡ option (rounded roll) flow n side strike rows i k
       option-held k hk =
           step k hk
           ∙ ap₂ (heldOrExercised (rows .listed i))
           (local .roll-same i v (option (rounded roll) flow n side strike rows (suc i)) (s .held) k hk)
-          (exercise-held i bonds bs k hk)
+          (exercise-held i k (roll i bonds k) (bare-held k hk))
           ∙ sym (option-before (rounded roll) flow n side strike rows i hi k)
 
       found-option : found ≡ option-top i

@@ -2,7 +2,7 @@
 -- Assumes nothing.
 use mathlib.Core.Path.{_≡_, refl, _∙_}
 use mathlib.Core.Bool.{Bool, true, false, cond}
-use Prim.Native.Nat.{ℕ, suc, _+_, _-_, _*_, _/_, _^_, _<_, max}
+use Prim.Native.Nat.{ℕ, zero, suc, _+_, _-_, _*_, _/_, _^_, _<_, max}
 use native.Mathlib.Nat.{sub-self}
 use native.Mathlib.Omega.{arith}
 use lib.Dec.{leb}
@@ -29,6 +29,15 @@ module _ {Node : Type 0} (p : Pricer Node) (flow : ℕ → ℕ) (n : ℕ) where
   pub bare-bond-before : (i : ℕ) → i < n → (k : Node) → bareBond p flow n i k ≡ p .roll i (bond p flow n (suc i)) k
   unfolding bareBond bareBondFrom bond
   bare-bond-before i h k = let e : n - i ≡ suc (n - suc i) = omega arith in rw e
+
+  -- with its flow it is the bond, at row n too, where nothing is left without it
+  bare-bond-at : (s i : ℕ) (k : Node) → n - i ≡ s → bond p flow n i k ≡ bareBond p flow n i k + p .held (n - i) (flow i)
+  unfolding bareBond bareBondFrom bond bondFrom
+  bare-bond-at zero i k e = rw e (omega arith)
+  bare-bond-at (suc s) i k e = rw e
+
+  pub bond-of-bare : (i : ℕ) (k : Node) → bond p flow n i k ≡ bareBond p flow n i k + p .held (n - i) (flow i)
+  bond-of-bare i k = bare-bond-at (n - i) i k refl
 
   module _ (side : Side) (strike : ℕ) (rows : Schedule) where
     -- at expiry: the exercise value
@@ -86,10 +95,17 @@ module _ (t : Tree) (discount : ℕ → ℕ → ℕ) (flow : ℕ → ℕ) (n : �
   unfolding roll nodeRoll roundDown
   engine-bond-before i h k = bond-before (engine t discount) flow n i h k
 
+  pub engine-bare-before :
+      (i : ℕ) → i < n → (k : ℕ) →
+      bareBond (engine t discount) flow n i k
+      ≡ outgoing (t .step i) (bond (engine t discount) flow n (suc i)) k / 600000000 * discount i k / one
+  unfolding roll nodeRoll roundDown
+  engine-bare-before i h k = bare-bond-before (engine t discount) flow n i h k
+
   module _ (side : Side) (strike expiry : ℕ) where
     pub engine-option-last :
         (rows : Schedule) (k : ℕ) →
-        option (engine t discount) flow n side strike rows (rows .last) k ≡ exercise side strike (bond (engine t discount) flow n (rows .last) k)
+        option (engine t discount) flow n side strike rows (rows .last) k ≡ exercise side strike (bareBond (engine t discount) flow n (rows .last) k)
     unfolding exerciseRow
     engine-option-last rows k = option-last (engine t discount) flow n side strike rows k
 
@@ -104,7 +120,7 @@ module _ (t : Tree) (discount : ℕ → ℕ → ℕ) (flow : ℕ → ℕ) (n : �
         (i : ℕ) → i < expiry → (k : ℕ) →
         option (engine t discount) flow n side strike (american expiry) i k
         ≡ max (outgoing (t .step i) (option (engine t discount) flow n side strike (american expiry) (suc i)) k / 600000000 * discount i k / one)
-        (exercise side strike (bond (engine t discount) flow n i k))
+        (exercise side strike (bareBond (engine t discount) flow n i k))
     unfolding american heldOrExercised roll nodeRoll roundDown exerciseRow
     engine-american-before i h k = option-before (engine t discount) flow n side strike (american expiry) i h k
 
@@ -120,11 +136,17 @@ module _ (t : Tree) (discount : ℕ → ℕ → ℕ) (flow : ℕ → ℕ) (n : �
   unfolding exactRoll
   exact-bond-before i h k = bond-before (exact t discount) flow n i h k
 
+  pub exact-bare-before :
+      (i : ℕ) → i < n → (k : ℕ) →
+      bareBond (exact t discount) flow n i k ≡ discount i k * outgoing (t .step i) (bond (exact t discount) flow n (suc i)) k
+  unfolding exactRoll
+  exact-bare-before i h k = bare-bond-before (exact t discount) flow n i h k
+
   module _ (side : Side) (strike expiry : ℕ) where
     pub exact-option-last :
         (rows : Schedule) (k : ℕ) →
         option (exact t discount) flow n side strike rows (rows .last) k
-        ≡ exercise side (strike * unit ^ (n - rows .last)) (bond (exact t discount) flow n (rows .last) k)
+        ≡ exercise side (strike * unit ^ (n - rows .last)) (bareBond (exact t discount) flow n (rows .last) k)
     unfolding exerciseRow
     exact-option-last rows k = option-last (exact t discount) flow n side strike rows k
 
@@ -139,7 +161,7 @@ module _ (t : Tree) (discount : ℕ → ℕ → ℕ) (flow : ℕ → ℕ) (n : �
         (i : ℕ) → i < expiry → (k : ℕ) →
         option (exact t discount) flow n side strike (american expiry) i k
         ≡ max (discount i k * outgoing (t .step i) (option (exact t discount) flow n side strike (american expiry) (suc i)) k)
-        (exercise side (strike * unit ^ (n - i)) (bond (exact t discount) flow n i k))
+        (exercise side (strike * unit ^ (n - i)) (bareBond (exact t discount) flow n i k))
     unfolding american heldOrExercised exactRoll exerciseRow
     exact-american-before i h k = option-before (exact t discount) flow n side strike (american expiry) i h k
 

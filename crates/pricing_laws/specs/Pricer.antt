@@ -64,9 +64,9 @@ heldOrExercised false roll now = roll
 
 -- The option on a bond that ends at row n.
 module _ {Node : Type 0} (p : Pricer Node) (flow : ℕ → ℕ) (n : ℕ) (side : Side) (strike : ℕ) where
-  -- the exercise value at row i: on the bond with the flow of its row
+  -- the exercise value at row i: on the bond without the flow of its row, which stays with the seller (document 02, request (ii))
   unfoldable pub exerciseRow : ℕ → Node → ℕ
-  exerciseRow i = λ k. exercise side (p .held (n - i) strike) (bond p flow n i k)
+  exerciseRow i = λ k. exercise side (p .held (n - i) strike) (bareBond p flow n i k)
 
   -- at row i, with s rows left to expiry
   unfoldable pub optionFrom : (ℕ → Bool) → ℕ → ℕ → Node → ℕ

@@ -18,6 +18,7 @@ module _ (t : Tree) (discount : ℕ → ℕ → ℕ) (flow : ℕ → ℕ) (n : �
       record {
         bond-last = rows.engine-bond-last t discount flow n;
         bond-before = rows.engine-bond-before t discount flow n;
+        bare-before = rows.engine-bare-before t discount flow n;
         option-last = rows.engine-option-last t discount flow n side strike expiry;
         european-before = rows.engine-european-before t discount flow n side strike expiry;
         american-before = rows.engine-american-before t discount flow n side strike expiry;
@@ -28,6 +29,7 @@ module _ (t : Tree) (discount : ℕ → ℕ → ℕ) (flow : ℕ → ℕ) (n : �
       record {
         bond-last = rows.exact-bond-last t discount flow n;
         bond-before = rows.exact-bond-before t discount flow n;
+        bare-before = rows.exact-bare-before t discount flow n;
         option-last = rows.exact-option-last t discount flow n side strike expiry;
         european-before = rows.exact-european-before t discount flow n side strike expiry;
         american-before = rows.exact-american-before t discount flow n side strike expiry;

@@ -35,7 +35,7 @@ use Rattle.curve.specs.Curve.{discountAt}
 use Rattle.fitting.specs.Entry.{fitNumber, fitDiscount, fitPrice, fitMemory, fitDiscounts, fitPrices}
 use Rattle.fit_laws.specs.StatePrices.{exactStatePrice}
 use Rattle.state_price_bound.specs.ErrorBound.{statePriceErrorBoundAnswer}
-use Rattle.pricing_laws.specs.Pricer.{Side, Schedule, bond, exercise, option, payoffValue}
+use Rattle.pricing_laws.specs.Pricer.{Side, Schedule, bond, bareBond, exercise, option, payoffValue}
 use Rattle.pricing_laws.specs.Schedule.{european, american, sideOf, scheduleOf}
 use Rattle.pricing_laws.specs.TreePricer.{engine, exact, greatestDiscount, priceErrorBound}
 use Rattle.pricing.specs.Prices.{flowAt, bondPrice, optionPrice}
@@ -117,37 +117,42 @@ pub record Unaltered (f n b s : ℕ) (kinds : List ℕ) (figures : List Float) (
   pub prices-kept : (k : ℕ) → k < nodeCount b r → values prices k ≡ fitPrice f n b s kinds figures r k
 
 -- The engine row by row: the sum of probability × later value, divided by 600,000,000, down; then × discount / one, down. Row n is its flow,
--- an earlier row the rolled value plus its flow. At expiry the exercise value; earlier, European rolls, American takes the larger.
+-- an earlier row the rolled value plus its flow; without its flow the bond is the rolled value. At expiry the exercise value, on the bond without the
+-- flow of its row; earlier, European rolls, American takes the larger.
 pub record EngineRows (t : Tree) (discount : ℕ → ℕ → ℕ) (flow : ℕ → ℕ) (n : ℕ) (side : Side) (strike expiry : ℕ) : Type 0 where
   pub bond-last : (k : ℕ) → bond (engine t discount) flow n n k ≡ flow n
   pub bond-before : (i : ℕ) → i < n → (k : ℕ) →
       bond (engine t discount) flow n i k
       ≡ outgoing (t .step i) (bond (engine t discount) flow n (suc i)) k / 600000000 * discount i k / one + flow i
+  pub bare-before : (i : ℕ) → i < n → (k : ℕ) →
+      bareBond (engine t discount) flow n i k ≡ outgoing (t .step i) (bond (engine t discount) flow n (suc i)) k / 600000000 * discount i k / one
   pub option-last : (rows : Schedule) (k : ℕ) →
-      option (engine t discount) flow n side strike rows (rows .last) k ≡ exercise side strike (bond (engine t discount) flow n (rows .last) k)
+      option (engine t discount) flow n side strike rows (rows .last) k ≡ exercise side strike (bareBond (engine t discount) flow n (rows .last) k)
   pub european-before : (i : ℕ) → i < expiry → (k : ℕ) →
       option (engine t discount) flow n side strike (european expiry) i k
       ≡ outgoing (t .step i) (option (engine t discount) flow n side strike (european expiry) (suc i)) k / 600000000 * discount i k / one
   pub american-before : (i : ℕ) → i < expiry → (k : ℕ) →
       option (engine t discount) flow n side strike (american expiry) i k
       ≡ max (outgoing (t .step i) (option (engine t discount) flow n side strike (american expiry) (suc i)) k / 600000000 * discount i k / one)
-      (exercise side strike (bond (engine t discount) flow n i k))
+      (exercise side strike (bareBond (engine t discount) flow n i k))
 
 -- The exact pricer, row i held times m^(n − i): it rounds nothing.
 pub record ExactRows (t : Tree) (discount : ℕ → ℕ → ℕ) (flow : ℕ → ℕ) (n : ℕ) (side : Side) (strike expiry : ℕ) : Type 0 where
   pub bond-last : (k : ℕ) → bond (exact t discount) flow n n k ≡ flow n
   pub bond-before : (i : ℕ) → i < n → (k : ℕ) →
       bond (exact t discount) flow n i k ≡ discount i k * outgoing (t .step i) (bond (exact t discount) flow n (suc i)) k + flow i * unit ^ (n - i)
+  pub bare-before : (i : ℕ) → i < n → (k : ℕ) →
+      bareBond (exact t discount) flow n i k ≡ discount i k * outgoing (t .step i) (bond (exact t discount) flow n (suc i)) k
   pub option-last : (rows : Schedule) (k : ℕ) →
       option (exact t discount) flow n side strike rows (rows .last) k
-      ≡ exercise side (strike * unit ^ (n - rows .last)) (bond (exact t discount) flow n (rows .last) k)
+      ≡ exercise side (strike * unit ^ (n - rows .last)) (bareBond (exact t discount) flow n (rows .last) k)
   pub european-before : (i : ℕ) → i < expiry → (k : ℕ) →
       option (exact t discount) flow n side strike (european expiry) i k
       ≡ discount i k * outgoing (t .step i) (option (exact t discount) flow n side strike (european expiry) (suc i)) k
   pub american-before : (i : ℕ) → i < expiry → (k : ℕ) →
       option (exact t discount) flow n side strike (american expiry) i k
       ≡ max (discount i k * outgoing (t .step i) (option (exact t discount) flow n side strike (american expiry) (suc i)) k)
-      (exercise side (strike * unit ^ (n - i)) (bond (exact t discount) flow n i k))
+      (exercise side (strike * unit ^ (n - i)) (bareBond (exact t discount) flow n i k))
   pub payoff-last : (payoff : ℕ → ℕ) (i k : ℕ) → payoffValue (exact t discount) payoff 0 i k ≡ payoff k
   pub payoff-before : (payoff : ℕ → ℕ) (s i k : ℕ) →
       payoffValue (exact t discount) payoff (suc s) i k ≡ discount i k * outgoing (t .step i) (payoffValue (exact t discount) payoff s (suc i)) k

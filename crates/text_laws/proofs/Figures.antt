@@ -1,4 +1,4 @@
--- The sheet of document 01's job, line by line, and the starred rate, computed.
+-- The sheet of document 01's job with an option for today, line by line, and the starred rate, computed.
 -- Assumes nothing.
 use mathlib.Core.Path.{_≡_, refl}
 use mathlib.Core.List.{[], _∷_}
@@ -31,8 +31,8 @@ pub bond-figure : bondLine 1002500000 3 ≡ 98 ∷ 111 ∷ 110 ∷ 100 ∷ 32 �
 unfolding natural naturalWithin lastDigits decimal signedDecimal priceLine
 bond-figure = refl
 
--- `option 0.010025000 3`
-pub option-figure : optionLine 10025000 3 ≡ 111 ∷ 112 ∷ 116 ∷ 105 ∷ 111 ∷ 110 ∷ 32 ∷ 48 ∷ 46 ∷ 48 ∷ 49 ∷ 48 ∷ 48 ∷ 50 ∷ 53 ∷ 48 ∷ 48 ∷ 48 ∷ 32 ∷ 51 ∷ 10 ∷ []
+-- `option 0.007500000 3`
+pub option-figure : optionLine 7500000 3 ≡ 111 ∷ 112 ∷ 116 ∷ 105 ∷ 111 ∷ 110 ∷ 32 ∷ 48 ∷ 46 ∷ 48 ∷ 48 ∷ 55 ∷ 53 ∷ 48 ∷ 48 ∷ 48 ∷ 48 ∷ 48 ∷ 32 ∷ 51 ∷ 10 ∷ []
 unfolding natural naturalWithin lastDigits decimal signedDecimal priceLine
 option-figure = refl
 

@@ -1,6 +1,5 @@
 -- `quotes::of_point` meets its contract.
 -- Assumes nothing.
-use mathlib.Core.Path.{_≡_}
 use borrow.Author.Tests.{eq-eqb, ne-eqb}
 use borrow.Author.Needs.{needs}
 use Rattle.quotes.specs.Quotes.{kindAnswer}

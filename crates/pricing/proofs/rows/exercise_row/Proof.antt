@@ -12,23 +12,23 @@ use Rattle.pricing.proofs.rows.exercise_row.Statement.{statement}
 use Rattle.pricing.proofs.rows.exercise_row.Tie as tie
 
 abbrev Inv-loop : tie.InvT-loop
-Inv-loop terms bond option₀ k₀ option k =
-    (k ≤ length option₀) × Filled option₀ option (λ (j : ℕ). exercise (side (terms .call)) (terms .strike) (values bond j)) k
+Inv-loop flow bond option₀ call strike k₀ option k =
+    (k ≤ length option₀) × Filled option₀ option (λ (j : ℕ). exercise (side call) strike (values bond j - flow)) k
 
 abbrev μ-loop : tie.MeasureT-loop
-μ-loop terms bond option₀ k₀ option k = length option₀ - k
+μ-loop flow bond option₀ call strike k₀ option k = length option₀ - k
 
 loop-holds : tie.Need-loop-holds Inv-loop μ-loop
 loop-holds c = (omega arith, filled-start _ _)
 
-mul-exercise-value : tie.Need-mul-exercise-value Inv-loop μ-loop
-mul-exercise-value c = search needs
+mul-expiry-value : tie.Need-mul-expiry-value Inv-loop μ-loop
+mul-expiry-value c = search needs
 
-shared-slice-read-exercise-value : tie.Need-shared-slice-read-exercise-value Inv-loop μ-loop
-shared-slice-read-exercise-value c = omega (arith, c .before .before .loop .inv .1 .same, c .before .before .before .before .before .pre)
+shared-slice-read-expiry-value : tie.Need-shared-slice-read-expiry-value Inv-loop μ-loop
+shared-slice-read-expiry-value c = omega (arith, c .before .before .loop .inv .1 .same, c .before .before .before .before .before .pre)
 
-exercise-value-requires : tie.Need-exercise-value-requires Inv-loop μ-loop
-exercise-value-requires c κs = search needs
+expiry-value-requires : tie.Need-expiry-value-requires Inv-loop μ-loop
+expiry-value-requires c κs = search needs
 
 mul-option : tie.Need-mul-option Inv-loop μ-loop
 mul-option c = search needs
@@ -45,7 +45,7 @@ loop-less c = omega (arith, c .before .before .before .loop .inv .1 .same)
 loop-again : tie.Need-loop-again Inv-loop μ-loop
 loop-again c =
     let l = c .before .before .before .loop in
-    (omega (arith, l .inv .1 .same), filled-next _ _ _ _ _ (l .inv .1) (omega arith) (c .exercise-value .ensures))
+    (omega (arith, l .inv .1 .same), filled-next _ _ _ _ _ (l .inv .1) (omega arith) (c .expiry-value .ensures))
 
 same-length : tie.Need-same-length Inv-loop μ-loop
 same-length c = c .before .loop .inv .1 .same
@@ -60,9 +60,9 @@ exercise-row-spec =
     Inv-loop
     μ-loop
     loop-holds
-    mul-exercise-value
-    shared-slice-read-exercise-value
-    exercise-value-requires
+    mul-expiry-value
+    shared-slice-read-expiry-value
+    expiry-value-requires
     mul-option
     slice-write-option
     add-k

@@ -17,13 +17,13 @@ use Rattle.pricing.proofs.rows.option_row.Statement.{statement}
 use Rattle.pricing.proofs.rows.option_row.Tie as tie
 
 abbrev Inv-loop : tie.InvT-loop
-Inv-loop right downs discounts bonds options bond₀ option₀ terms top₀ k₀ bond option top k =
+Inv-loop downs discounts bonds options bond₀ option₀ call strike listed next flow top₀ k₀ bond option top k =
     (k ≤ length discounts)
-    × Rows-state bond₀ bond option₀ option (bondValues bonds downs discounts (right .next) (right .flow))
-    (optionValues (side (right .terms .call)) (right .terms .strike) (right .listed) bonds options downs discounts (right .next) (right .flow)) top k
+    × Rows-state bond₀ bond option₀ option (bondValues bonds downs discounts next flow)
+    (optionValues (side call) strike listed bonds options downs discounts next) top k
 
 abbrev μ-loop : tie.MeasureT-loop
-μ-loop right downs discounts bonds options bond₀ option₀ terms top₀ k₀ bond option top k = length discounts - k
+μ-loop downs discounts bonds options bond₀ option₀ call strike listed next flow top₀ k₀ bond option top k = length discounts - k
 
 loop-holds : tie.Need-loop-holds Inv-loop μ-loop
 loop-holds c = (omega arith, rows-start _ _ _ _)
@@ -43,7 +43,7 @@ shared-slice-read-discount c = omega arith
 
 -- where the node's branch is known
 abbrev start : tie.After-shared-slice-known5 Inv-loop μ-loop → tie.Start Inv-loop μ-loop
-start c = c .before .before .before .before .before .before .before .before .before .before .before
+start c = c .before .before .before .before .before .before .before .before .before .before
 
 -- what the roll of a row asks
 rolls : (c : tie.After-shared-slice-known5 Inv-loop μ-loop) (later : List ℕ) → Later later (start c .args .right .next) →
@@ -65,25 +65,29 @@ roll-node-requires c κs =
     let asks = rolls c _ (start c .pre .1) in
     (asks .0, asks .1, asks .2, discounted c)
 
-add-value : tie.Need-add-value Inv-loop μ-loop
-add-value c =
-    let flow = start (c .before .before) .pre .5 in
-    omega (arith, c .before .roll-node .ensures .1)
-
 roll-node-requires-2 : tie.Need-roll-node-requires-2 Inv-loop μ-loop
 roll-node-requires-2 c κs =
-    let node = c .before .before in
+    let node = c .before in
     let asks = rolls node _ (start node .pre .2) in
     (asks .0, asks .1, asks .2, discounted node)
 
 held-value-requires : tie.Need-held-value-requires Inv-loop μ-loop
 held-value-requires c κs = search needs
 
+-- where both rolls are known
+abbrev at-node : tie.After-held-value Inv-loop μ-loop → tie.After-shared-slice-known5 Inv-loop μ-loop
+at-node c = c .before .before .before
+
+add-value : tie.Need-add-value Inv-loop μ-loop
+add-value c =
+    let flow = start (at-node c) .pre .5 in
+    omega (arith, c .before .before .roll-node .ensures .1)
+
 -- both rows have a place for the node
 room : (c : tie.After-held-value Inv-loop μ-loop) →
-    let l = c .before .before .before .before .before .before .before .loop in (l .k < length (l .bond)) × (l .k < length (l .option))
+    let l = at-node c .before .before .before .loop in (l .k < length (l .bond)) × (l .k < length (l .option))
 room c =
-    let node = c .before .before .before .before in
+    let node = at-node c in
     let l = node .before .before .before .loop in
     (omega (arith, l .inv .1 .bond-filled .same, start node .pre .3), omega (arith, l .inv .1 .option-filled .same, start node .pre .4))
 
@@ -106,25 +110,24 @@ larger-requires-2 : tie.Need-larger-requires-2 Inv-loop μ-loop
 larger-requires-2 c κs = search needs
 
 add-k : tie.Need-add-k Inv-loop μ-loop
-add-k c = let small = short (c .before .before .before .before .before .before .before .before) in omega arith
+add-k c = let small = short (at-node (c .before .before) .before .before) in omega arith
 
 loop-less : tie.Need-loop-less Inv-loop μ-loop
 loop-less c = omega arith
 
 loop-again : tie.Need-loop-again Inv-loop μ-loop
 loop-again c =
-    let held = c .before .before in
-    let rolled = held .before .before .before in
-    let node = rolled .before in
+    let rolled = c .before .before in
+    let node = at-node rolled in
     let s = start node in
     let right = s .args .right in
     let l = node .before .before .before .loop in
     let e = node .before .row-branch .ensures in
-    let b = ap (λ (x : ℕ). x + right .flow) (branch-rolled _ _ _ _ _ (s .pre .0) (s .pre .1) (omega arith) _ e _ (rolled .roll-node .ensures .0)) in
-    let o = branch-rolled _ _ _ _ _ (s .pre .0) (s .pre .2) (omega arith) _ e _ (held .before .roll-node2 .ensures .0) in (
+    let bare = branch-rolled _ _ _ _ _ (s .pre .0) (s .pre .1) (omega arith) _ e _ (rolled .before .before .roll-node .ensures .0) in
+    let o = branch-rolled _ _ _ _ _ (s .pre .0) (s .pre .2) (omega arith) _ e _ (rolled .before .roll-node2 .ensures .0) in (
       omega arith,
-      rows-next _ (l .bond) _ (l .option) _ _ (l .top) (l .k) _ _ _ _ (l .inv .1) (room held .0) (room held .1) b
-          (option-from-roll (side (right .terms .call)) (right .terms .strike) (right .listed) _ _ _ _ _ _ _ _ _ _ b o (held .held-value .ensures))
+      rows-next _ (l .bond) _ (l .option) _ _ (l .top) (l .k) _ _ _ _ (l .inv .1) (room rolled .0) (room rolled .1) (ap (λ (x : ℕ). x + right .flow) bare)
+          (option-from-roll (side (right .call)) (right .strike) (right .listed) _ _ _ _ _ _ _ _ _ bare o (rolled .held-value .ensures))
           (c .before .larger .ensures) (c .larger2 .ensures),
     )
 
@@ -148,9 +151,9 @@ option-row-spec =
     mul-discount
     shared-slice-read-discount
     roll-node-requires
-    add-value
     roll-node-requires-2
     held-value-requires
+    add-value
     mul-bond
     slice-write-bond
     mul-option

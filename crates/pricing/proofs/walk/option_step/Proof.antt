@@ -14,7 +14,7 @@ row-shape-requires c κs = search needs
 
 -- where the row's shape is known
 abbrev start : tie.After-row-shape → tie.Start
-start c = c .before .before .before .before .before
+start c = c .before .before .before
 
 part-requires : tie.Need-part-requires
 part-requires c κs =

@@ -1,16 +1,16 @@
 -- `pricing::walk::option_step_at` meets its contract.
 -- Assumes nothing.
 use mathlib.Core.Path.{ap}
+use Prim.Native.Nat.{ℕ}
 use lib.Dec.{eqb}
 use lib.ListN.{getD}
 use borrow.Author.Needs.{needs}
-use Rattle.pricing.specs.declared.walk.RowStep.{RowStep}
 use Rattle.pricing.specs.declared.walk.OptionStep.{OptionStep}
 use Rattle.pricing.proofs.walk.option_step_at.Statement.{statement}
 use Rattle.pricing.proofs.walk.option_step_at.Tie as tie
 
-row-step-at-requires : tie.Need-row-step-at-requires
-row-step-at-requires c κs = search needs
+flow-of-requires : tie.Need-flow-of-requires
+flow-of-requires c κs = search needs
 
 shared-slice-read-t8 : tie.Need-shared-slice-read-t8
 shared-slice-read-t8 c = search needs
@@ -18,8 +18,17 @@ shared-slice-read-t8 c = search needs
 returns : tie.Need-returns
 returns c =
     let a = c .before .before .before .before .args in
-    ap {B = OptionStep} (λ (at : RowStep). record { at = at; terms = a .terms; listed = eqb (getD (a .marks .now) (a .row) 0) 1 })
-    (c .before .row-step-at .ensures)
+    ap {B = OptionStep}
+    (λ (flow : ℕ). record {
+      steps = a .tree .steps;
+      reversion = a .tree .reversion;
+      row = a .row;
+      flow = flow;
+      call = a .terms .call;
+      strike = a .terms .strike;
+      listed = eqb (getD (a .marks .now) (a .row) 0) 1;
+    })
+    (c .before .flow-of .ensures)
 
 pub option-step-at-spec : {M : Type 1} → statement M
-option-step-at-spec = tie.close (tie.spec row-step-at-requires shared-slice-read-t8 returns)
+option-step-at-spec = tie.close (tie.spec flow-of-requires shared-slice-read-t8 returns)

@@ -43,8 +43,8 @@ sub-row c = omega arith
 some : (c : tie.In-loop Inv-loop μ-loop) → 0 < c .before .loop .row
 some c = omega (arith, c .loop-test .taken)
 
-row-step-at-requires : tie.Need-row-step-at-requires Inv-loop μ-loop
-row-step-at-requires c κs =
+flow-of-requires-2 : tie.Need-flow-of-requires-2 Inv-loop μ-loop
+flow-of-requires-2 c κs =
     let s = start c in
     omega (arith, s .pre .0 .paid .count, bonds-inside _ _ _ _ (c .before .loop .row) _ (c .before .loop .inv .1))
 
@@ -54,7 +54,7 @@ bond-step-requires c κs =
     let in-loop = stepped .before in
     let l = in-loop .before .loop in
     let ready = start in-loop .pre .0 in
-    let e = stepped .row-step-at .ensures in (
+    let e = stepped .flow-of2 .ensures in (
       turn-steppable _ _ _ _ _ ready (l .row) (l .bond) (some in-loop) (l .inv .1) _ e,
       turn-limited _ _ _ _ _ ready (l .row) (l .bond) (some in-loop) (l .inv .1) _ e,
     )
@@ -64,7 +64,7 @@ returns c =
     let stepped = c .before .before .before .before in
     let in-loop = stepped .before in
     let l = in-loop .before .loop in
-    turn-over _ _ _ _ _ (start in-loop .pre .0) (l .row) (l .bond) (some in-loop) (l .inv .1) _ (stepped .row-step-at .ensures) _ _
+    turn-over _ _ _ _ _ (start in-loop .pre .0) (l .row) (l .bond) (some in-loop) (l .inv .1) _ (stepped .flow-of2 .ensures) _ _
     (c .before .bond-step .ensures) (start in-loop .args .last) _ (in-loop .loop-test .taken) (c .if1 .taken)
 
 -- where the first row of the turn has passed: it stands in the other row
@@ -74,11 +74,11 @@ in-turn c = c .before .before .before .before .before
 first : (c : tie.Else1 Inv-loop μ-loop) →
     let a = start (in-turn c) .args in
     Bonds (a .tree .steps) (a .tree .reversion) (now (a .discounts)) (now (a .flows)) (in-turn c .before .loop .row - 1)
-    (c .before .bond-step .last .1 .1 .1 .1 .0)
+    (c .before .bond-step .last .1 .1 .1 .1 .1 .1 .0)
 first c =
     let l = in-turn c .before .loop in
     turn-next _ _ _ _ _ (start (in-turn c) .pre .0) (l .row) (l .bond) (some (in-turn c)) (l .inv .1) _
-    (c .before .before .before .before .row-step-at .ensures) _ _ (c .before .bond-step .ensures) (c .if1 .left)
+    (c .before .before .before .before .flow-of2 .ensures) _ _ (c .before .bond-step .ensures) (c .if1 .left)
 
 returns-2 : tie.Need-returns-2 Inv-loop μ-loop
 returns-2 c =
@@ -92,8 +92,8 @@ again c = omega (arith, in-turn (c .before) .loop-test .taken, c .if2 .left)
 sub-row-2 : tie.Need-sub-row-2 Inv-loop μ-loop
 sub-row-2 c = omega (arith, again c)
 
-row-step-at-requires-2 : tie.Need-row-step-at-requires-2 Inv-loop μ-loop
-row-step-at-requires-2 c κs =
+flow-of-requires-3 : tie.Need-flow-of-requires-3 Inv-loop μ-loop
+flow-of-requires-3 c κs =
     omega (arith, start (in-turn (c .before)) .pre .0 .paid .count, bonds-inside _ _ _ _ _ _ (first (c .before)))
 
 bond-step-requires-2 : tie.Need-bond-step-requires-2 Inv-loop μ-loop
@@ -101,7 +101,7 @@ bond-step-requires-2 c κs =
     let stepped = c .before .before in
     let second = stepped .before in
     let ready = start (in-turn (second .before)) .pre .0 in
-    let e = stepped .row-step-at2 .ensures in (
+    let e = stepped .flow-of3 .ensures in (
       turn-steppable _ _ _ _ _ ready _ _ (omega (arith, again second)) (first (second .before)) _ e,
       turn-limited _ _ _ _ _ ready _ _ (omega (arith, again second)) (first (second .before)) _ e,
     )
@@ -111,7 +111,7 @@ returns-3 c =
     let stepped = c .before .before .before .before in
     let second = stepped .before in
     let s = start (in-turn (second .before)) in
-    turn-over _ _ _ _ _ (s .pre .0) _ _ (omega (arith, again second)) (first (second .before)) _ (stepped .row-step-at2 .ensures) _ _
+    turn-over _ _ _ _ _ (s .pre .0) _ _ (omega (arith, again second)) (first (second .before)) _ (stepped .flow-of3 .ensures) _ _
     (c .before .bond-step2 .ensures) (s .args .last) _ (again second) (c .if3 .taken)
 
 loop-less : tie.Need-loop-less Inv-loop μ-loop
@@ -123,7 +123,7 @@ loop-again c =
     let second = stepped .before in (
       omega (arith, again second),
       turn-next _ _ _ _ _ (start (in-turn (second .before)) .pre .0) _ _ (omega (arith, again second)) (first (second .before)) _
-          (stepped .row-step-at2 .ensures) _ _ (c .before .bond-step2 .ensures) (c .if3 .left),
+          (stepped .flow-of3 .ensures) _ _ (c .before .bond-step2 .ensures) (c .if3 .left),
     )
 
 returns-4 : tie.Need-returns-4 Inv-loop μ-loop
@@ -143,12 +143,12 @@ roll-bond-spec =
     empty-row-requires
     loop-holds
     sub-row
-    row-step-at-requires
+    flow-of-requires-2
     bond-step-requires
     returns
     returns-2
     sub-row-2
-    row-step-at-requires-2
+    flow-of-requires-3
     bond-step-requires-2
     returns-3
     loop-less

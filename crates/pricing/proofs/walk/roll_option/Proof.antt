@@ -1,8 +1,12 @@
 -- `pricing::walk::roll_option` meets its contract: bond and option stand at the row that the loop has reached, two rows a turn.
 -- Assumes nothing.
-use Prim.Native.Nat.{_-_, _<_}
+use mathlib.Core.Path.{ap, _∙_}
+use Prim.Native.Nat.{ℕ, _-_, _<_}
 use native.Mathlib.Omega.{arith}
 use denote.Ref.{now}
+use Rattle.arithmetic.specs.Row.{values}
+use Rattle.pricing_laws.specs.Pricer.{exercise}
+use Rattle.exercise.specs.Terms.{side}
 use Rattle.pricing.proofs.WalkStates.{rolled-answer}
 use Rattle.pricing.proofs.WalkTurns.{Both, both-first, both-done, both-before, turn-both-ready, turn-both-over, turn-both-next}
 use borrow.Author.Needs.{needs}
@@ -19,6 +23,11 @@ abbrev μ-loop : tie.MeasureT-loop
 empty-row-requires : tie.Need-empty-row-requires Inv-loop μ-loop
 empty-row-requires c κs = search needs
 
+flow-of-requires : tie.Need-flow-of-requires Inv-loop μ-loop
+flow-of-requires c κs =
+    let s = c .before .before .before .before .before in
+    omega (arith, s .pre .0 .paid .count, s .pre .1 .last-inside)
+
 slice-aggregate-exercise-row : tie.Need-slice-aggregate-exercise-row Inv-loop μ-loop
 slice-aggregate-exercise-row c = search needs
 
@@ -34,12 +43,15 @@ empty-row-requires-3 c κs = search needs
 loop-holds : tie.Need-loop-holds Inv-loop μ-loop
 loop-holds c =
     let exercised = c .before .before .before in
-    let s = exercised .before .before .before .before .before .before .before .before .before in
-    both-first _ _ _ _ _ (s .pre .0) (s .args .terms) _ (s .pre .1) _ _ (s .pre .2) (λ k h. exercised .exercise-row .ensures k (search needs))
+    let flow = exercised .before .before .before .before in
+    let s = flow .before .before .before .before .before .before in
+    let value = exercise (side (s .args .terms .call)) (s .args .terms .strike) in
+    both-first _ _ _ _ _ (s .pre .0) (s .args .terms) _ (s .pre .1) _ _ (s .pre .2)
+    (λ k h. exercised .exercise-row .ensures k (search needs) ∙ ap (λ (x : ℕ). value (values (now (s .args .bond)) k - x)) (flow .flow-of .ensures))
 
 -- where the loop goes on
 abbrev start : tie.In-loop Inv-loop μ-loop → tie.Start Inv-loop μ-loop
-start c = c .before .before .before .before .before .before .before .before .before .before .before .before .before .before
+start c = c .before .before .before .before .before .before .before .before .before .before .before .before .before .before .before
 
 sub-row : tie.Need-sub-row Inv-loop μ-loop
 sub-row c = omega arith
@@ -147,7 +159,7 @@ returns-4 : tie.Need-returns-4 Inv-loop μ-loop
 returns-4 c =
     let ended = c .before .before .before in
     let l = ended .before .loop in
-    let s = ended .before .before .before .before .before .before .before .before .before .before .before .before .before .before in
+    let s = ended .before .before .before .before .before .before .before .before .before .before .before .before .before .before .before in
     rolled-answer (c .at-root2 .result) (c .at-root2 .ensures)
     (both-done _ _ _ _ _ (s .pre .0) _ _ (s .pre .1) (l .row) (l .bond) (l .option) (omega (arith, ended .loop-test .left)) (l .inv))
 
@@ -158,6 +170,7 @@ roll-option-spec =
     Inv-loop
     μ-loop
     empty-row-requires
+    flow-of-requires
     slice-aggregate-exercise-row
     exercise-row-requires
     empty-row-requires-2
