@@ -96,11 +96,6 @@ unfolding sideDiscount fourthPower squareDown series sum term roundDown
 at-zero true = refl
 at-zero false = refl
 
--- the ends of the limit
-pub above-end : sideDiscount one false ≡ 18315638
-unfolding sideDiscount fourthPower squareDown series sum term roundDown
-above-end = refl
-
 pub below-end : sideDiscount one true ≡ 54598149590
 unfolding sideDiscount fourthPower squareDown series sum term roundDown
 below-end = refl

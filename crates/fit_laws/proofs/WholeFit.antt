@@ -5,8 +5,8 @@ use Prim.Native.Nat.{ℕ, zero, suc, _+_, _-_, _*_, _/_, _≤_, _<_}
 use native.Mathlib.Omega.{arith}
 use Rattle.arithmetic.specs.Sum.{sum}
 use Rattle.arithmetic.specs.Rounding.{one}
-use Rattle.limits.specs.Limits.{mostSteps}
-use Rattle.fit_laws.specs.Bounds.{leastQuote, mostQuote, leastFactor, mostFactor, leastRowSum, mostRowSum}
+use Rattle.limits.specs.Limits.{mostSteps, leastQuote, mostQuote}
+use Rattle.fit_laws.specs.Bounds.{leastFactor, mostFactor, leastRowSum, mostRowSum}
 use Rattle.fit_laws.specs.Step.{normaliser, discount, nextPrice}
 use Rattle.tree.specs.Tree.{Tree, Sound}
 use Rattle.fit_laws.specs.StatePrices.{statePrice, fittedPrice, fittedDiscount}

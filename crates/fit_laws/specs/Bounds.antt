@@ -2,13 +2,6 @@
 -- Assumes nothing.
 use Prim.Native.Nat.{ℕ}
 
--- a converted quote is from 0.1 to 2: any other is refused with 7
-abbrev pub leastQuote : ℕ
-leastQuote = 100000000
-
-abbrev pub mostQuote : ℕ
-mostQuote = 2000000000
-
 -- a factor is a power of e with an exponent from −1 to 1, since cause 8 was tested: from 0.3678.. to 2.7182.., with room for the series' rounding
 abbrev pub leastFactor : ℕ
 leastFactor = 360000000

@@ -24,11 +24,10 @@ use Rattle.lattice.proofs.RateTreeLaws.{start-is}
 use Rattle.lattice.proofs.TreeEntries.{by-tree}
 use Rattle.spacing.specs.Spacing.{spacing, spacingAnswer}
 use Rattle.arithmetic.specs.Frequency.{listed}
-use Rattle.limits.specs.Limits.{mostSteps, isSteps}
+use Rattle.limits.specs.Limits.{mostSteps, isSteps, leastQuote, mostQuote}
 use Rattle.curve.specs.Curve.{discountAt, convertsAt, inPlace, curveNumber, curveMemory}
 use Rattle.curve.proofs.CurveLaws.{curve-range, curve-stored}
 use Rattle.fitting.specs.declared.causes.Plan.{Plan}
-use Rattle.fit_laws.specs.Bounds.{leastQuote, mostQuote}
 use Rattle.fitting.specs.Fit.{curveDiscount, curvePrice, curveAccepted, rowsOrZeros, TreeFitted}
 use Rattle.fitting.specs.Preconditions.{QuotesReady}
 use Rattle.fitting.specs.Entry.{quotesOf, earlyCause, lateCause, fitNumber, fitMemory, fitDiscounts, fitPrices, discountsAfter, pricesAfter}

@@ -9,12 +9,12 @@ use lib.ListN.{length, set}
 use Rattle.arithmetic.specs.Rounding.{one}
 use Rattle.arithmetic.specs.Row.{row, values, each}
 use Rattle.arithmetic.proofs.RowLaws.{Filled, filled-start, filled-next, filled-all, row-cong, length-row, each-none, each-more, each-fails}
-use Rattle.limits.specs.Limits.{mostDiscount, isDiscount}
+use Rattle.limits.specs.Limits.{mostDiscount, isDiscount, mostQuote}
 use Rattle.tree.specs.Tree.{chance, incoming}
 use Rattle.tree.proofs.StepLaws.{incoming-none}
 use Rattle.row_branches.specs.RowBranches.{rowBranch, rowTransition}
 use Rattle.fit_laws.specs.Step.{carried}
-use Rattle.fit_laws.specs.Bounds.{mostQuote, mostFactor, mostRowSum}
+use Rattle.fit_laws.specs.Bounds.{mostFactor, mostRowSum}
 use Rattle.fitting.specs.Preconditions.{StepReady, SpreadReady}
 use Rattle.fitting.proofs.StepRows.{AtNode, quoted-small, node-asks, sums-small, product-most, amount-most, sums-next}
 

@@ -16,7 +16,7 @@ use Rattle.arithmetic.specs.Row.{each}
 use Rattle.arithmetic.proofs.Numbers.{by-equal}
 use Rattle.arithmetic.proofs.RowLaws.{values-row, length-row}
 use Rattle.tree.specs.Tree.{Sound, unit}
-use Rattle.limits.specs.Limits.{mostSteps}
+use Rattle.limits.specs.Limits.{mostSteps, leastQuote, mostQuote}
 use Rattle.lattice.specs.Shape.{halfWidth, nodeCount}
 use Rattle.lattice.specs.RateTree.{node, rateTree}
 use Rattle.lattice.proofs.Sizes.{half-within, half-later}
@@ -28,7 +28,7 @@ use Rattle.curve.proofs.CurveLaws.{curve-range}
 use Rattle.fit_laws.specs.StatePrices.{acceptedRow, exactStatePrice, statePriceErrorBound}
 use Rattle.fit_laws.proofs.Shortfall.{state-below, state-price-shortfall}
 use Rattle.fit_laws.proofs.WholeFit.{Curve, fitted-is-state, quotes-repriced}
-use Rattle.fit_laws.specs.Bounds.{leastQuote, mostQuote, leastFactor, mostFactor}
+use Rattle.fit_laws.specs.Bounds.{leastFactor, mostFactor}
 use Rattle.fitting.specs.Fit.{quoted, curveAccepted, nodeFactor}
 use Rattle.fitting.specs.Entry.{quotesOf, earlyCause, lateCause, fitNumber, fitDiscount, fitPrice}
 use Rattle.fitting.specs.Plans.{Numbers}

@@ -8,22 +8,13 @@ use Rattle.arithmetic.specs.Rounding.{one}
 use Rattle.arithmetic.specs.Sum.{sum}
 use Rattle.arithmetic.specs.Row.{values}
 use Rattle.tree.specs.Tree.{Inside, Total, probabilityTotal}
-use Rattle.limits.specs.Limits.{mostSteps, mostReversion, mostNodes}
+use Rattle.limits.specs.Limits.{mostSteps, mostReversion, mostNodes, leastQuote, mostQuote}
 use Rattle.lattice.specs.Shape.{halfWidth, nodeCount, rowStart}
 use Rattle.lattice.specs.Branching.{downProbability}
 use Rattle.lattice.specs.RateTree.{node}
 use Rattle.row_branches.specs.declared.RowBranch.{RowBranch}
 use Rattle.row_branches.specs.RowBranches.{branchTotal, rowTransition}
-use Rattle.fit_laws.specs.Bounds.{
-  leastQuote,
-  mostQuote,
-  leastFactor,
-  mostFactor,
-  leastRowSum,
-  mostRowSum,
-  mostCarried,
-  mostIncoming,
-}
+use Rattle.fit_laws.specs.Bounds.{leastFactor, mostFactor, leastRowSum, mostRowSum, mostCarried, mostIncoming}
 use Rattle.fitting.specs.Rows.{rowPrices}
 
 -- the factors of a row of n nodes, within the bounds of the series

@@ -2,7 +2,7 @@
 -- Assumes nothing.
 use mathlib.Core.Path.{_≡_, refl}
 use Prim.Native.Nat.{ℕ, zero, suc, _+_, _-_, _*_, _/_, _≤_, _<_, min}
-use native.Mathlib.Nat.{mul-suc, suc-mul, mul-le-mul, mul-le-mul-right, add-mul, one-mul, div-add-mod', mod-lt, div-le-self, pos-of-ne-zero, mul-zero, le-refl}
+use native.Mathlib.Nat.{mul-suc, suc-mul, mul-le-mul, mul-le-mul-right, add-mul, one-mul, div-add-mod', mod-lt, pos-of-ne-zero, mul-zero, le-refl}
 use native.Mathlib.Omega.{arith}
 use borrow.Author.Tests.{eq-eqb, ne-eqb}
 use Rattle.arithmetic.specs.Sum.{sum}
@@ -21,10 +21,6 @@ highest-within b = simp add-mul (omega (arith, div-add-mod' 1840 b, one-mul b))
 pub highest-positive : (b : ℕ) → 0 < highestNode b
 unfolding highestNode
 highest-positive b = omega arith
-
-pub highest-small : (b : ℕ) → highestNode b ≤ 1841
-unfolding highestNode
-highest-small b = omega (arith, div-le-self 1840 b)
 
 -- below J every z is at most 1,840
 pub below-highest : (b j : ℕ) → j < highestNode b → j * b ≤ 1840

@@ -18,6 +18,13 @@ mostReversion = 6000
 abbrev pub mostDiscount : ℕ
 mostDiscount = 1100000000
 
+-- P, a quoted discount: 0.1 to 2
+abbrev pub leastQuote : ℕ
+leastQuote = 100000000
+
+abbrev pub mostQuote : ℕ
+mostQuote = 2000000000
+
 -- 8 × one: no value, payoff or price may be above it
 abbrev pub valueLimit : ℕ
 valueLimit = 8000000000
@@ -31,6 +38,10 @@ mostDiscounts = 3600
 
 abbrev pub mostStatePrices : ℕ
 mostStatePrices = 3721
+
+-- the most that state prices of a row may sum to where they are weighed: two, and what a fit may be above its quote
+abbrev pub sumLimit : ℕ
+sumLimit = 2000000100
 
 -- whether a number is within its limits
 abbrev pub isSteps : ℕ → Bool

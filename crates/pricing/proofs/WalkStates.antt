@@ -16,7 +16,7 @@ use Rattle.lattice.specs.Shape.{nodeCount}
 use Rattle.lattice.specs.RateTree.{rateTree}
 use Rattle.lattice.proofs.Sizes.{count-within, count-positive}
 use Rattle.lattice.proofs.RateTreeLaws.{rate-tree-sound}
-use Rattle.pricing_laws.specs.Pricer.{rounded, bond, Side, Schedule, exercise, heldOrExercised}
+use Rattle.pricing_laws.specs.Pricer.{bond, Side, Schedule, exercise, heldOrExercised}
 use Rattle.pricing_laws.specs.TreePricer.{rollRounding, roll}
 use Rattle.pricing_laws.specs.Peak.{peak, greatestValue}
 use Rattle.pricing_laws.proofs.Peaks.{peak-grows}
@@ -95,12 +95,6 @@ module _ (n b : ℕ) (discounts flows : List ℕ) (a : Accepted n b discounts) (
     inside : r - 1 < n
     unfolding Bonds
     inside = omega (arith, s .in-tree)
-
-    pub bonds-held : (k : ℕ) → k < nodeCount b (r - 1) → values l k ≡ bond (rounded the-roll) (flowAt flows) n (r - 1) k
-    unfolding Bonds rateTree rolledAt
-    bonds-held =
-        back.bond-held n (On (rateTree b)) (top b) great the-roll local (flowAt flows) (r - 1) (values later) inside before (values l) h
-        (top b (r - 1) (values l)) refl
 
     module _ (found : ℕ) (ef : found ≡ greatest (nodeCount b (r - 1)) (values l)) where
       pub bonds-over : valueLimit < found → valueLimit < peak (greatestValue (rateTree b) (bondValue n b discounts flows)) n (r - 1)

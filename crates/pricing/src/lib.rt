@@ -9,6 +9,7 @@ use exercise::Terms;
 ghost use mathlib.Core.Path.{_≡_};
 ghost use Prim.Native.Nat.{_≤_};
 ghost use lib.ListN.{take};
+ghost use Rattle.limits.specs.Limits.{mostSteps, mostReversion};
 ghost use Rattle.lattice.specs.Shape.{nodeCount};
 ghost use Rattle.pricing_laws.specs.Schedule.{marked};
 ghost use Rattle.exercise.specs.Terms.{side};
@@ -51,7 +52,7 @@ fn refused(number: u64) -> Price
 
 // The table of down-probabilities, worked out once for all rows.
 fn table_of(steps: usize, reversion: u64) -> [u64; 121]
-    requires { ⌜ (steps ≤ 60) × (reversion ≤ 6000) ⌝ }
+    requires { ⌜ (steps ≤ mostSteps) × (reversion ≤ mostReversion) ⌝ }
     ensures { λ r. ⌜ take (nodeCount reversion steps) r ≡ downTable steps reversion ⌝ }
 {
     let widest = lattice::half_width(reversion, steps).value as usize;

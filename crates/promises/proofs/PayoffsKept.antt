@@ -26,8 +26,8 @@ use Rattle.arithmetic.specs.Row.{greatestOf}
 use Rattle.lent_tree.specs.LentTree.{stored}
 use Rattle.valuation_laws.specs.Valuation.{valueByStatePrices, valuationErrorBound, exactPrice}
 use Rattle.valuation_laws.proofs.ValuationLaws.{value-below, value-short}
-use Rattle.limits.specs.Limits.{valueLimit}
-use Rattle.valuation.specs.Entries.{sumLimit, valueOf, fitARow, valueByStatePricesAnswer, valuationCause, valuationErrorBoundAnswer}
+use Rattle.limits.specs.Limits.{valueLimit, sumLimit}
+use Rattle.valuation.specs.Entries.{valueOf, fitARow, valueByStatePricesAnswer, valuationCause, valuationErrorBoundAnswer}
 use Rattle.valuation.proofs.EntryLaws as entry
 use Rattle.promises.specs.Promises.{ShortOf, Unaltered}
 use Rattle.promises.proofs.StatePricesKept.{fitted-prices}

@@ -168,9 +168,3 @@ lone-told f kind p =
 ranged-seventh : (p : ℕ) → Seventh (rangedAnswer p)
 unfolding rangedAnswer Seventh
 ranged-seventh p = by-test (inRange p) Seventh (answered p) (refused 7) (λ h. inl refl) (λ h. inr refl)
-
-pub lone-seventh :
-    (f kind : ℕ) (p : Point) → listed f ≡ true → rowKnown (p .row) ≡ true →
-    (loneAnswer f kind p .number ≡ 0) ⊎ (loneAnswer f kind p .number ≡ 7)
-unfolding Seventh
-lone-seventh f kind p h r = rw (lone-kind f kind p h r) (by-kind Seventh ranged-seventh (inr refl) f kind p)

@@ -9,19 +9,20 @@ use Rattle.arithmetic.specs.declared.Answer.{Answer}
 use Rattle.arithmetic.specs.Answers.{refused, answered}
 use Rattle.arithmetic.specs.Frequency.{listed}
 use Rattle.arithmetic.specs.Rounding.{one, roundDown, roundDownSigned}
+use Rattle.limits.specs.Limits.{leastQuote, mostQuote, isSteps}
 use Rattle.continuous.specs.Continuous.{continuousAnswer}
 use Rattle.figure.specs.Figure.{billionthsOf, beyond}
 use Rattle.quotes.specs.declared.Point.{Point}
 use Rattle.quotes.specs.declared.Quote.{Quote}
 use Rattle.quotes.specs.declared.Quote.the-variants.{DiscountFactor, YearlyRate, YearlyYield}
 
--- the row of a lone point: 1 to 60
+-- the row of a lone point, within the limits of n
 unfoldable pub rowKnown : ℕ → Bool
-rowKnown t = leb 1 t && leb t 60
+rowKnown t = isSteps t
 
 -- the range of P
 unfoldable pub inRange : ℕ → Bool
-inRange p = leb 100000000 p && leb p 2000000000
+inRange p = leb leastQuote p && leb p mostQuote
 
 -- P of a discount factor of r billionths; 0, which is out of range, where it is negative
 unfoldable pub factorDiscount : ℤ → ℕ

@@ -2,6 +2,7 @@
 ghost use mathlib.Core.Path.{_≡_};
 ghost use Prim.Native.Nat.{_≤_};
 ghost use lib.IntN.{natAbs};
+ghost use Rattle.limits.specs.Limits.{mostSteps};
 ghost use Rattle.arithmetic.specs.Answers.{refused};
 ghost use Rattle.continuous.specs.Continuous.{continuousAnswer};
 ghost use Rattle.quotes.specs.Quotes.{factorDiscount, rateDiscount, yieldDiscount, rangedAnswer, figureAnswer, quoteAnswer, kindAnswer, loneAnswer};
@@ -65,7 +66,7 @@ fn of_factor(figure: f64) -> Answer
 
 // The discount of a yearly rate in billionths.
 fn of_billionths(frequency: u64, row: u64, rate: i64) -> Answer
-    requires { ⌜ (frequency ≤ 12) × (row ≤ 60) × (natAbs rate ≤ 10000000000) ⌝ }
+    requires { ⌜ (frequency ≤ 12) × (row ≤ mostSteps) × (natAbs rate ≤ 10000000000) ⌝ }
     ensures { λ r. ⌜ r ≡ rangedAnswer (rateDiscount frequency row rate) ⌝ }
 {
     let divisor = (frequency * ONE) as i64 + (row as i64) * rate;
@@ -77,7 +78,7 @@ fn of_billionths(frequency: u64, row: u64, rate: i64) -> Answer
 
 // The discount of a yearly rate.
 fn of_rate(frequency: u64, row: u64, figure: f64) -> Answer
-    requires { ⌜ (frequency ≤ 12) × (row ≤ 60) ⌝ }
+    requires { ⌜ (frequency ≤ 12) × (row ≤ mostSteps) ⌝ }
     ensures { λ r. ⌜ r ≡ figureAnswer figure (rateDiscount frequency row) ⌝ }
 {
     let rate = figure::billionths(figure);
@@ -97,7 +98,7 @@ fn of_amount(amount: i64) -> Answer
 
 // The discount of a yearly yield in billionths. Its amount is rounded down, so away from zero below it.
 fn of_yearly(frequency: u64, row: u64, rate: i64) -> Answer
-    requires { ⌜ (1 ≤ frequency) × (frequency ≤ 12) × (row ≤ 60) × (natAbs rate ≤ 10000000000) ⌝ }
+    requires { ⌜ (1 ≤ frequency) × (frequency ≤ 12) × (row ≤ mostSteps) × (natAbs rate ≤ 10000000000) ⌝ }
     ensures { λ r. ⌜ r ≡ rangedAnswer (yieldDiscount frequency row rate) ⌝ }
 {
     let size = row * arithmetic::magnitude(rate);
@@ -109,7 +110,7 @@ fn of_yearly(frequency: u64, row: u64, rate: i64) -> Answer
 
 // The discount of a yearly yield.
 fn of_yield(frequency: u64, row: u64, figure: f64) -> Answer
-    requires { ⌜ (1 ≤ frequency) × (frequency ≤ 12) × (row ≤ 60) ⌝ }
+    requires { ⌜ (1 ≤ frequency) × (frequency ≤ 12) × (row ≤ mostSteps) ⌝ }
     ensures { λ r. ⌜ r ≡ figureAnswer figure (yieldDiscount frequency row) ⌝ }
 {
     let rate = figure::billionths(figure);
@@ -121,7 +122,7 @@ fn of_yield(frequency: u64, row: u64, figure: f64) -> Answer
 
 // The discount of a quote for a row, case by case.
 fn of_quote(frequency: u64, row: u64, quote: Quote) -> Answer
-    requires { ⌜ (1 ≤ frequency) × (frequency ≤ 12) × (row ≤ 60) ⌝ }
+    requires { ⌜ (1 ≤ frequency) × (frequency ≤ 12) × (row ≤ mostSteps) ⌝ }
     ensures { λ r. ⌜ r ≡ quoteAnswer frequency row quote ⌝ }
 {
     match quote {
@@ -133,7 +134,7 @@ fn of_quote(frequency: u64, row: u64, quote: Quote) -> Answer
 
 // The discount of a point whose kind is told by its number.
 fn of_point(frequency: u64, kind: u8, point: Point) -> Answer
-    requires { ⌜ (1 ≤ frequency) × (frequency ≤ 12) × (point .row ≤ 60) ⌝ }
+    requires { ⌜ (1 ≤ frequency) × (frequency ≤ 12) × (point .row ≤ mostSteps) ⌝ }
     ensures { λ r. ⌜ r ≡ kindAnswer frequency kind point ⌝ }
 {
     let row = point.row;

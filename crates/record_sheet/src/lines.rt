@@ -3,6 +3,7 @@ ghost use mathlib.Core.Path.{_≡_};
 ghost use Prim.Native.Nat.{suc, _+_, _*_, _≤_, _<_};
 ghost use lib.ListN.{length};
 ghost use Rattle.arithmetic.specs.Row.{sumOf};
+ghost use Rattle.limits.specs.Limits.{sumLimit};
 ghost use Rattle.text_laws.specs.Put.{Put};
 ghost use Rattle.sheet_laws.specs.TreeSheet.{rowPart, nodeLines, lineOfRow, rowLines, optionLines, priceLines, treeSheet};
 ghost use Rattle.sheet_laws.specs.Stored.{Drawing, Stored, Summed};
@@ -18,7 +19,7 @@ struct Tree {
 }
 
 fn row_total(row: &[u64]) -> u64
-    requires { ⌜ sumOf (now row) ≤ 2000000100 ⌝ }
+    requires { ⌜ sumOf (now row) ≤ sumLimit ⌝ }
     ensures { λ r. ⌜ r ≡ sumOf (now (row .entry)) ⌝ }
 {
     let mut sum = 0u64;
@@ -109,7 +110,7 @@ fn put_row<'a>(
     before: usize,
 ) -> usize
     requires { ⌜ (before < tree .steps) × Stored (tree .steps) (tree .reversion) (now discounts) (now «state_prices») × (length (now quotes) ≡ tree .steps) ×
-        (sumOf (rowPart (tree .reversion) (now «state_prices») (suc before)) ≤ 2000000100) × (128 ≤ end) × (end ≤ length (now out)) ⌝ }
+        (sumOf (rowPart (tree .reversion) (now «state_prices») (suc before)) ≤ sumLimit) × (128 ≤ end) × (end ≤ length (now out)) ⌝ }
     ensures { λ r. ⌜ Put (now (out .entry)) end (lineOfRow (tree .steps) (tree .reversion) (now (quotes .entry)) (now (discounts .entry))
         (now («state_prices» .entry)) before) r (now (out .exit)) ⌝ }
 {

@@ -6,7 +6,7 @@ use mathlib.Core.List.{List}
 use mathlib.Core.Path.{_≡_}
 use lib.ListN.{length, take}
 use Rattle.arithmetic.specs.Row.{sumOf}
-use Rattle.limits.specs.Limits.{mostDiscounts, mostStatePrices}
+use Rattle.limits.specs.Limits.{mostSteps, mostReversion, mostDiscounts, mostStatePrices, sumLimit}
 use Rattle.lattice.specs.Shape.{discountsNeeded, statePricesNeeded}
 use Rattle.job_record.specs.declared.Job.{Job}
 use Rattle.job_fit.specs.RecordFit.{jobDiscounts, jobStatePrices, recordFit}
@@ -16,8 +16,8 @@ use Rattle.sheet_laws.specs.TreeSheet.{rowPart}
 -- a tree within its limits, and a memory of just its node discounts, each accepted
 pub record Lent (n b : ℕ) (discounts : List ℕ) : Type 0 where
   pub steps-positive : 0 < n
-  pub steps-within-limit : n ≤ 60
-  pub reversion-within-limit : b ≤ 6000
+  pub steps-within-limit : n ≤ mostSteps
+  pub reversion-within-limit : b ≤ mostReversion
   pub size : length discounts ≡ discountsNeeded n b
   pub accepted : acceptedNodes discounts ≡ true
 
@@ -35,7 +35,7 @@ pub record Stored (n b : ℕ) (discounts prices : List ℕ) : Type 0 where
 
 -- each row's state prices have a sum that a fit gives
 abbrev pub Summed : ℕ → ℕ → List ℕ → Type 0
-Summed n b prices = (i : ℕ) → i < n → sumOf (rowPart b prices (suc i)) ≤ 2000000100
+Summed n b prices = (i : ℕ) → i < n → sumOf (rowPart b prices (suc i)) ≤ sumLimit
 
 -- a record whose fit is accepted, and memories of the largest tree with the fit at their start
 pub record Fitted (job : Job) (discounts prices : List ℕ) : Type 0 where

@@ -15,7 +15,7 @@ use Rattle.arithmetic.specs.Answers.{refused, answered, lowestCause}
 use Rattle.arithmetic.specs.declared.Answer.{Answer}
 use Rattle.arithmetic.proofs.CauseLaws.{lowest-first, lowest-none}
 use Rattle.arithmetic.proofs.SumLaws.{sum-grow, sum-suc, sum-next, sum-weigh-le, greatest-ge}
-use Rattle.limits.specs.Limits.{mostNodes, valueLimit, limitCause}
+use Rattle.limits.specs.Limits.{mostNodes, valueLimit, limitCause, sumLimit}
 use Rattle.limits.proofs.LimitLaws.{limit-kept, limit-accepted}
 use Rattle.lattice.specs.Shape.{nodeCount}
 use Rattle.lattice.specs.Entries.{nodeCountAnswer}
@@ -28,7 +28,7 @@ use Rattle.state_price_bound.specs.ErrorBound.{boundCause, statePriceErrorBound
 use Rattle.state_price_bound.proofs.Meaning.{answer-number, answer-value}
 use Rattle.state_price_bound.proofs.BoundLaws.{Lent, not-refused, row-there, bound-most}
 use Rattle.valuation_laws.specs.Valuation.{valueByStatePrices, valuationBound, valuationErrorBound}
-use Rattle.valuation.specs.Entries.{sumLimit, sumOfProducts, valueOf, fitARow, valueByStatePricesAnswer}
+use Rattle.valuation.specs.Entries.{sumOfProducts, valueOf, fitARow, valueByStatePricesAnswer}
 use Rattle.valuation.specs.Entries.{payoffsCause, valuationCause, valuationErrorBoundAnswer}
 
 -- ---- the running sum

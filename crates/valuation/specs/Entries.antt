@@ -9,16 +9,12 @@ use Rattle.arithmetic.specs.Sum.{sum}
 use Rattle.arithmetic.specs.Row.{values, sumOf, greatestOf}
 use Rattle.arithmetic.specs.declared.Answer.{Answer}
 use Rattle.arithmetic.specs.Answers.{refused, answered, lowestCause}
-use Rattle.limits.specs.Limits.{mostNodes, valueLimit, limitCause}
+use Rattle.limits.specs.Limits.{mostNodes, valueLimit, limitCause, sumLimit}
 use Rattle.lattice.specs.RateTree.{rateTree}
 use Rattle.lattice.specs.Entries.{nodeCountAnswer}
 use Rattle.lent_tree.specs.LentTree.{stored}
 use Rattle.state_price_bound.specs.ErrorBound.{boundCause}
 use Rattle.valuation_laws.specs.Valuation.{valueByStatePrices, valuationErrorBound}
-
--- state prices may not sum above it
-abbrev pub sumLimit : ℕ
-sumLimit = 2000000100
 
 -- the sum of state price × payoff
 unfoldable pub sumOfProducts : List ℕ → List ℕ → ℕ

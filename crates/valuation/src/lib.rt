@@ -5,9 +5,9 @@ ghost use Prim.Native.Nat.{_≤_};
 ghost use lib.Dec.{ltb};
 ghost use lib.ListN.{length};
 ghost use Rattle.arithmetic.specs.Row.{greatestOf, sumOf};
-ghost use Rattle.limits.specs.Limits.{valueLimit};
+ghost use Rattle.limits.specs.Limits.{valueLimit, sumLimit};
 ghost use Rattle.valuation_laws.specs.Valuation.{valuationBound};
-ghost use Rattle.valuation.specs.Entries.{sumLimit, sumOfProducts, payoffsCause, valueByStatePricesAnswer, valuationErrorBoundAnswer};
+ghost use Rattle.valuation.specs.Entries.{sumOfProducts, payoffsCause, valueByStatePricesAnswer, valuationErrorBoundAnswer};
 
 const ONE: u64 = 1_000_000_000;
 
