@@ -18,7 +18,7 @@ use Rattle.pricing_laws.specs.Schedule.{sideOf, scheduleOf}
 use Rattle.pricing_laws.specs.TreePricer.{rollRounding, rollLoss, nodeRoll, roll, exactRoll, engine, exact, greatestDiscount, priceErrorBound}
 use Rattle.pricing_laws.proofs.Near.{near-average, near-discount}
 use Rattle.pricing_laws.proofs.Accuracy.{Close, bond-within, option-within, bond-below, loss-a-step}
-use Rattle.pricing_laws.proofs.Recurrences.{schedule-last}
+use Rattle.pricing_laws.proofs.Dates.{schedule-last}
 use Rattle.pricing_laws.proofs.Backward.{Greatest, Local}
 
 -- node k is one of row i
