@@ -26,6 +26,9 @@ unfolding termsOf
 last-is kind expiry strike = refl
 
 module _ (kind expiry strike : ℕ) (terms : Terms) (e : terms ≡ termsOf kind expiry strike) where
+  pub side-found : side (terms .call) ≡ sideOf kind
+  side-found = ap (λ (t : Terms). side (t .call)) e ∙ side-is kind expiry strike
+
   pub strike-found : terms .strike ≡ strike
   strike-found = ap (λ (t : Terms). t .strike) e ∙ strike-is kind expiry strike
 

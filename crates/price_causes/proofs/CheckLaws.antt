@@ -1,6 +1,6 @@
 -- The causes by the tests that the code makes, and what a cause of 0 gives.
 -- Assumes nothing.
-use mathlib.Core.Path.{_≡_, refl, sym}
+use mathlib.Core.Path.{_≡_, refl, sym, _∙_}
 use mathlib.Core.Bool.{Bool, true, false, cond, _&&_}
 use mathlib.Core.List.{List}
 use Prim.Native.Nat.{ℕ, suc, _≤_, _<_}
@@ -9,6 +9,7 @@ use lib.Dec.{eqb, leb, ltb}
 use lib.ListN.{length}
 use borrow.Author.Tests.{le-leb, lt-leb, leb-true, eq-eqb, ne-eqb, eqb-true, lt-ltb, le-ltb, ltb-true}
 use Rattle.arithmetic.specs.Row.{values, each, between}
+use Rattle.arithmetic.proofs.Numbers.{by-order}
 use Rattle.arithmetic.proofs.RowLaws.{each-holds}
 use Rattle.arithmetic.proofs.BetweenLaws.{and-left, and-right, between-most}
 use Rattle.price_causes.specs.Causes.{mostFlow, mostStrike, flowsCause, optionCause, termsCause, AcceptedFlows}
@@ -106,3 +107,11 @@ module _ (side strike : ℕ) where
   terms-accepted e =
       let p = cond-zero-else (leb 1 side && leb side 2 && leb strike mostStrike) 0 10 e in
       leb-true strike mostStrike (and-right (leb 1 side && leb side 2) (leb strike mostStrike) (p .0))
+
+-- a known kind whose expiry is below n is judged by its strike alone, as a dated option of either side
+pub kind-terms :
+    (n kind expiry strike side : ℕ) → 1 ≤ kind → kind ≤ 4 → expiry < n → 1 ≤ side → side ≤ 2 → optionCause n kind expiry strike ≡ termsCause side strike
+kind-terms n kind expiry strike side some few inside low high =
+    by-order strike mostStrike
+    (λ h. sym (option-passed n kind expiry strike some few inside h) ∙ terms-passed side strike low high h)
+    (λ h. sym (strike-above n kind expiry strike some few inside h) ∙ terms-above side strike low high h)
