@@ -1,7 +1,6 @@
 -- What the tests of a job's form say of its bytes.
 -- Assumes nothing.
-use Prim.Native.Nat.{ℕ, zero, suc, _+_, _≤_, _<_}
-use native.Mathlib.Numerals.{add-one}
+use Prim.Native.Nat.{ℕ, _+_, _≤_, _<_}
 use native.Mathlib.Omega.{arith}
 use mathlib.Core.Bool.{Bool, true, false, _&&_, _||_}
 use mathlib.Core.List.{List}
@@ -11,7 +10,7 @@ use lib.ListN.{length, getD}
 use lib.Dec.{leb}
 use Rattle.arithmetic.specs.Row.{each}
 use Rattle.arithmetic.proofs.Numbers.{by-equal}
-use Rattle.arithmetic.proofs.RowLaws.{each-none, each-more, each-fails, each-holds}
+use Rattle.arithmetic.proofs.RowLaws.{each-none, each-more, each-all, each-fails, each-holds}
 use Rattle.job_record.specs.Bytes.{Bytes, numberAt}
 use Rattle.job_record.specs.Form.{
   mostBytes,
@@ -64,11 +63,6 @@ module _ (s : List ℕ) (o : ℕ) (tags : Tags) (k : ℕ) (h : fieldAt s o tags 
 pub field-tag : (s : List ℕ) (o tag k : ℕ) → fieldAt s o (Only tag) k ≡ true → getD s o 0 ≡ tag
 field-tag s o tag k h = eqb-true _ _ (field-has s o (Only tag) k h)
 
--- a test that holds of each number below n
-all-each : (n : ℕ) (p : ℕ → Bool) → ((k : ℕ) → k < n → p k ≡ true) → each n p ≡ true
-all-each zero p h = each-none p
-all-each (suc n) p h = rw (← add-one n) (each-more n p (all-each n p (λ k l. h k (omega arith))) (h n (omega arith)))
-
 -- several fields: none, one more, one that is not there, and each of them
 module _ (s : List ℕ) (from : ℕ) (tags : Tags) (width : ℕ) where
   pub fields-none : fieldsFrom s from tags width 0 ≡ true
@@ -97,7 +91,7 @@ module _ (s : List ℕ) (from : ℕ) (tags : Tags) (width : ℕ) where
     pub each-fields :
         ((i : ℕ) → i < count → fieldAt s (afterFields from width i) tags width ≡ true) → fieldsFrom s from tags width count ≡ true
     unfolding fieldsFrom
-    each-fields h = all-each count (λ j. fieldAt s (afterFields from width j) tags width) h
+    each-fields h = each-all count (λ j. fieldAt s (afterFields from width j) tags width) h
 
 -- the fields of the head
 module _ (s : List ℕ) (h : headFormed s ≡ true) where
