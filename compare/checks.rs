@@ -312,7 +312,7 @@ fn prices(case: &Case, discounts: &[u64], entries: &Entries, tally: &mut Tally) 
     let pair = engine::bond_and_option(&tree, discounts, flows, contract);
     both(pair, bond, of_kind, ["both, bond priced", "both, bond refused"], tally);
     let pair = engine::bond_and_dated_option(&tree, discounts, flows, dated);
-    both(pair, bond, of_dates, ["both dated, priced", "both dated, refused"], tally);
+    both(pair, bond, of_dates, ["dated, bond priced", "dated, bond refused"], tally);
     let bond = agree(entries.bond, engine::bond(&tree, discounts, flows), bond, tally);
     let of_kind = agree(entries.option, engine::option(&tree, discounts, flows, contract), of_kind, tally);
     let of_dates = agree(entries.dated, engine::dated_option(&tree, discounts, flows, dated), of_dates, tally);
