@@ -319,19 +319,17 @@ fn prices(case: &Case, discounts: &[u64], entries: &Entries, tally: &mut Tally) 
     one_right_twice(case, discounts, tally);
     bounds(case, discounts, tally);
     if let Some(bond) = bond {
-        exact_prices(case, discounts, [Some(bond), of_kind, of_dates], tally);
+        exact_prices(case, discounts, bond, [of_kind, of_dates], tally);
     }
 }
 
-/// What was priced of bond, option by kind and dated option, each against the exact pricer.
-fn exact_prices(case: &Case, discounts: &[u64], priced: [Option<(u64, u64)>; 3], tally: &mut Tally) {
+/// A bond, and what was priced of option by kind and dated option, each against the exact pricer.
+fn exact_prices(case: &Case, discounts: &[u64], bond: (u64, u64), options: [Option<(u64, u64)>; 2], tally: &mut Tally) {
     let (tree, contract, dated) = (case.fit.tree, &case.contract, &case.dated);
     let exact = ExactBond::new(tree, discounts, &case.flows);
-    if let Some(bond) = priced[0] {
-        within(&exact, bond, exact.price(), "bond");
-        at_most_three_a_step(&tree, discounts, bond.1);
-        tally.exact("bond prices");
-    }
+    within(&exact, bond, exact.price(), "bond");
+    at_most_three_a_step(&tree, discounts, bond.1);
+    tally.exact("bond prices");
     let mut option_within = |option: &DatedOption, price: (u64, u64), called: Called| {
         within(&exact, price, &exact.option(option), called.0);
         at_most_three_a_step(&tree, discounts, price.1);
@@ -340,11 +338,11 @@ fn exact_prices(case: &Case, discounts: &[u64], priced: [Option<(u64, u64)>; 3],
             tally.exact(called.1);
         }
     };
-    if let Some(price) = priced[1] {
+    if let Some(price) = options[0] {
         let list = contract.dated(tree.steps).expect("the list of a priced kind");
         option_within(&list, price, KINDS[contract.kind as usize - 1]);
     }
-    if let Some(price) = priced[2] {
+    if let Some(price) = options[1] {
         option_within(dated, price, DATED[dated.side as usize - 1]);
     }
 }
