@@ -691,6 +691,35 @@ static void refused_jobs(void) {
     CHECK(unprinted(altered(42, "\2", 1, room), 11));
 }
 
+/* The example job with other bytes in place of its option. */
+static struct mixegorta_written with_option(const char *bytes, size_t count) {
+    uint8_t job[2 * JOB];
+    memcpy(job, example_job, JOB - OPTION);
+    memcpy(job + JOB - OPTION, bytes, count);
+    return sheet(job, JOB - OPTION + count, MIXEGORTA_SHEET_ROOM);
+}
+
+#define WITH_OPTION(text) with_option(text, sizeof(text) - 1)
+#define BY_KIND "\x08\0\6\4\0\x3C\x33\x60\x80"
+#define PUT_TERMS "\2\x3C\x33\x60\x80"
+#define BY_DATES "\x0A\0\6" PUT_TERMS "\0"
+
+/* The same put by its list, row 0 alone, in field 0A; then lists that are empty, reach row 1 or do not rise. */
+static void dated_jobs(void) {
+    const size_t room = MIXEGORTA_SHEET_ROOM, size = sizeof example_sheet - 1;
+    CHECK(printed(WITH_OPTION(BY_KIND), size, room));
+    CHECK(printed(WITH_OPTION(BY_DATES), size, room));
+    CHECK(unprinted(WITH_OPTION("\x0A\0\5" PUT_TERMS), 13));
+    CHECK(unprinted(WITH_OPTION("\x0A\0\6" PUT_TERMS "\1"), 13));
+    CHECK(unprinted(WITH_OPTION("\x0A\0\7" PUT_TERMS "\0\0"), 13));
+    CHECK(unprinted(WITH_OPTION("\x0A\0\5\3\x3C\x33\x60\x80"), 11));
+    CHECK(unprinted(WITH_OPTION("\x0A\0\5\2\xEE\x6B\x28\x01"), 11)); /* a strike above its limit */
+    CHECK(unprinted(WITH_OPTION("\x0A\0\4\2\x3C\x33\x60"), 1));
+    CHECK(unprinted(WITH_OPTION(BY_KIND BY_DATES), 1));
+    CHECK(unprinted(WITH_OPTION(BY_DATES BY_KIND), 1));
+    CHECK(unprinted(WITH_OPTION(BY_DATES BY_DATES), 1));
+}
+
 int main(void) {
     shapes();
     branches();
@@ -715,6 +744,7 @@ int main(void) {
     sheets();
     malformed_jobs();
     refused_jobs();
+    dated_jobs();
     printf("C: %u checks, %u failed\n", checks, failures);
     return failures != 0;
 }

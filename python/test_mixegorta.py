@@ -237,6 +237,18 @@ class Test(unittest.TestCase):
             with self.assertRaises(TypeError):
                 m.sheet(job)
 
+    def test_sheets_of_jobs_with_dates(self):
+        """The same put by its list, row 0 alone, in field 0A; then lists that are empty, reach row 1 or do not rise."""
+        def job(side, dates):
+            return EXAMPLE[:-9] + bytes([10, 0, 5 + len(dates), side]) + EXAMPLE[-4:] + bytes(dates)
+
+        self.assertEqual(m.sheet(job(m.PUT, [0])), SHEET)
+        for dates in ([], [1], [0, 0]):
+            self.refused(13, m.sheet, job(m.PUT, dates))
+            self.refused(11, m.sheet, job(3, dates))
+        self.refused(1, m.sheet, EXAMPLE[:-9] + bytes([10, 0, 4, m.PUT]) + EXAMPLE[-4:-1])
+        self.refused(1, m.sheet, EXAMPLE + job(m.PUT, [0])[-9:])
+
     def test_room_of_a_sheet(self):
         out = array("B", [0xA5]) * (m.SHEET_ROOM + 2)
         size = m.sheet_into(EXAMPLE, out)
@@ -264,7 +276,7 @@ class Test(unittest.TestCase):
             at += 2 + size
         with open(os.path.join(cases, "stdout"), encoding="ascii") as file:
             self.assertEqual("".join(printed), file.read())
-        self.assertEqual(numbers, {1, 2, 3, 4, 5, 7, 8, 9, 10, 11, 12})  # no job gives 6: its rows are in place
+        self.assertEqual(numbers, {1, 2, 3, 4, 5, 7, 8, 9, 10, 11, 12, 13})  # no job gives 6: its rows are in place
 
     def test_numbers_that_do_not_fit(self):
         for call in ((m.step_rate, -1), (m.step_rate, 2**64), (m.branches, 0, 1, 2**63), (m.bond_price, 1, 0, [-1], [0]),

@@ -508,6 +508,25 @@ fn sheets_of_jobs() {
     assert_eq!(with(42, 2), Refusal::OPTION);
 }
 
+/// The same put by its list, row 0 alone, in field 0A; then lists that are empty, reach row 1 or do not rise.
+#[test]
+fn sheets_of_jobs_with_dates() {
+    let sheet_with = |option: &[u8]| sheet(&[&EXAMPLE[..WITHOUT_OPTION], option].concat());
+    let dated = |side: u8, dates: &[u8]| {
+        let head = [10, 0, 5 + dates.len() as u8, side, 0x3C, 0x33, 0x60, 0x80];
+        [&head, dates].concat()
+    };
+    assert_eq!(sheet_with(&dated(2, &[0])).as_deref(), Ok(SHEET));
+    for dates in [&[][..], &[1], &[0, 0]] {
+        assert_eq!(sheet_with(&dated(2, dates)), Err(Refusal::DATES));
+        assert_eq!(sheet_with(&dated(3, dates)), Err(Refusal::OPTION));
+    }
+    let short = [10, 0, 4, 2, 0x3C, 0x33, 0x60];
+    assert_eq!(sheet_with(&short), Err(Refusal::JOB));
+    let twice = [&EXAMPLE[WITHOUT_OPTION..], &dated(2, &[0])].concat();
+    assert_eq!(sheet_with(&twice), Err(Refusal::JOB));
+}
+
 #[test]
 fn room_of_a_sheet() {
     let mut out = vec![0xA5; SHEET_ROOM + 2];
