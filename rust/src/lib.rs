@@ -81,7 +81,7 @@ impl Refusal {
             8 => "the nodes are too far apart",
             9 => "a node discount is 0 or above 1,100,000,000",
             10 => "a flow is above 2,000,000,000",
-            11 => "the option's kind, expiry or strike is outside its limit",
+            11 => "the option's kind, side, expiry or strike is outside its limit",
             12 => "a value is above 8,000,000,000, or state prices sum above 2,000,000,100",
             13 => "the exercise dates are none, not strictly rising, or reach the last row",
             _ => "not listed",
