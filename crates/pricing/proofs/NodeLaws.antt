@@ -27,4 +27,3 @@ nearest-by-half a h =
 -- both divisions of the roll
 pub rolled-nearest : (a d : ℕ) → ((a + 300000000) / 600000000 * d + 500000000) / 1000000000 ≡ nearest (nearest a probabilityTotal * d) one
 rolled-nearest a d = nearest-by-half ((a + 300000000) / 600000000 * d) 500000000 ∙ ap (λ (x : ℕ). nearest (x * d) one) (nearest-by-half a 300000000)
-
