@@ -150,6 +150,7 @@ class ExerciseDay(unittest.TestCase):
     def test_the_job_of_document_01(self):
         job = bytes.fromhex('01000101' '02000101' '0300020000' '04000400000000' '0500083FF00A3D70A3D70A' '0700043B9ACA00' '08000604013C336080')
         self.assertEqual(reference.sheet(job), b'refused 11\n')
+        self.assertEqual(reference.sheet(job[:-9]), b'node 0 0 1.002500000 -0.2493766\nrow 1 1.002500000 1.002499999 4\nbond 1.002500000 2\n')
         today = job[:42] + b'\x00' + job[43:]
         self.assertEqual(reference.sheet(today).splitlines()[2:], [b'bond 1.002500000 2', b'option 0.007500000 2'])
 
@@ -264,7 +265,7 @@ class Rolling(unittest.TestCase):
         self.assertEqual(reference.weighing_allowance(0, discounts, 1, [ONE] * 3), 5)
 
     def test_the_limit_comes_after_rounding(self):
-        """Past 8 x one the bond of row 1 times the discount has 0.488, 0.5 and 0.998 billionths more; rounded down all three were priced."""
+        """Past 8 x one the bond of row 1 times the discount has 0.488, 0.5 and 0.998 billionths more; rounded down, each would be within it."""
         for value, discount, number in ((7_999_936_001, 1_000_008_000, 0), (7_746_425_600, 1_032_734_375, 12), (7_999_996_001, 1_000_000_500, 12)):
             tree, flows = level_tree(discount, ONE, ONE, ONE), [value - 6 * ONE, 2 * ONE, 2 * ONE, 2 * ONE]
             self.assertEqual(value * discount // ONE, 8 * ONE)

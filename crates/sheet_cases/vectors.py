@@ -66,6 +66,7 @@ WIDE_FLOWS = [20_000_000] * 59 + [ONE + 20_000_000]
 
 def good():
     yield 0, TODAY
+    yield on_the_border(0, 'bond 1.002500000 2', EXAMPLE[:-9])
     yield 0, job(f=12, b=0, s=10_000, quotes=rates(60, 0.02, 0.0002), flows=WIDE_FLOWS, option=(4, 48, 1_400_000_000))
     yield 0, job(f=12, b=83, s=10_000, quotes=rates(60, 0.03), flows=WIDE_FLOWS, option=(3, 36, 1_300_000_000))
     yield 0, job(f=4, b=6_000, s=12_000, quotes=factors(60, 0.991), flows=WIDE_FLOWS, option=(4, 59, 1_000_000_000))
@@ -266,7 +267,7 @@ def borders():
     for kind, expiry in ((1, 0), (3, 3)):
         yield on_the_border(0, 'option 8.000000000 10', job(f=1, s=0, quotes=level, flows=[flow] + [2 * ONE] * 3, option=(kind, expiry, 0)))
     yield 12, job(f=1, s=0, quotes=level, flows=[flow + 1] + [2 * ONE] * 3)
-    # A put of exactly 8 on row 1, its bond 0; the next strike gives more, which rolls that are rounded down would not.
+    # A put of exactly 8 on row 1, its bond 0; the next strike gives more, and by rolls rounded down would not.
     rising = [(5, 0.5 * 1.0994 ** t) for t in range(10)]
     for kind in (2, 4):
         yield on_the_border(0, 'option 4.000000000 19', job(f=1, s=0, quotes=rising, flows=[0] * 10, option=(kind, 9, 3_748_384_116)))
