@@ -128,6 +128,13 @@ module _ (number : ℕ) (prices : JobPrices) (part₁ part₂ d p : List ℕ) (r
   left-placed after-d after-p z ed ep =
       (e, (ed ∙ sym (fits.memory-placed number part₁ d z), ep ∙ sym (fits.memory-placed number part₂ p z)))
 
+-- a cause that was found is the number: it is given, and both memories are as they were
+pub found-left : (cause number : ℕ) (bond : Price) (present : Bool) (option : Price) (part₁ part₂ d p : List ℕ) → cause ≡ number → (cause ≡ 0 → ⊥) →
+    (r : JobPrices) → r ≡ refusedPrices cause → Left number (pricesOf number bond present option) part₁ part₂ d p r d p
+found-left cause number bond present option part₁ part₂ d p found nz r e =
+    left-refused number _ part₁ part₂ d p r
+    (e ∙ ap refusedPrices found ∙ prices-refused number bond present option (λ z. nz (found ∙ z))) (λ z. nz (found ∙ z))
+
 module _ (n b : ℕ) (discounts flows : List ℕ) (option : OptionRecord) (r : JobPrices) (e : r ≡ treePrices n b discounts flows option) where
   pub tree-number : r .number ≡ treeNumber n b discounts flows option
   unfolding treePrices
@@ -161,15 +168,12 @@ module _ (job : Job) (lent-d lent-p : List ℕ) (form : ℕ) (ef : form ≡ opti
   unfolding recordNumber firstCause
   form-found = rw (← ef, ne-eqb form 0 nz)
 
-  form-given : refusedPrices form ≡ recordPrices job (length lent-d) (length lent-p)
-  unfolding recordPrices
-  form-given = ap refusedPrices form-found ∙ prices-refused _ _ _ _ (λ z. nz (form-found ∙ z))
-
   pub form-refused : (r : JobPrices) → r ≡ refusedPrices form → Record job lent-d lent-p r lent-d lent-p
-  form-refused r e = left-refused _ _ (jobDiscounts job) (jobStatePrices job) lent-d lent-p r (e ∙ form-given) (λ z. nz (form-found ∙ z))
+  unfolding recordPrices
+  form-refused = found-left form _ _ _ _ _ _ lent-d lent-p form-found nz
 
-module _ (job : Job) (formed : optionForm (job .option .tag) (job .option .count) ≡ 0) (d₀ p₀ d p : List ℕ) (fitted : ℕ) (ld : length d₀ ≡ mostDiscounts) (lp : length p₀ ≡ mostStatePrices)
-    (fit : fits.Fitted job d₀ p₀ fitted d p) (lent-d lent-p : List ℕ) (memory cause : ℕ)
+module _ (job : Job) (formed : optionForm (job .option .tag) (job .option .count) ≡ 0) (d₀ p₀ d p : List ℕ) (fitted : ℕ)
+    (ld : length d₀ ≡ mostDiscounts) (lp : length p₀ ≡ mostStatePrices) (fit : fits.Fitted job d₀ p₀ fitted d p) (lent-d lent-p : List ℕ) (memory cause : ℕ)
     (em : memory ≡ memoryCause (job .steps) (job .reversion) (length lent-d) (length lent-p)) (ec : cause ≡ lowestCause fitted memory) where
   fitted-is : fitted ≡ recordFit job mostDiscounts mostStatePrices
   fitted-is = fit .0 ∙ rw (ld, lp)
@@ -182,14 +186,9 @@ module _ (job : Job) (formed : optionForm (job .option .tag) (job .option .count
   unfolding recordNumber firstCause
   cause-found nz = rw (eq-eqb _ 0 formed, ← cause-is, ne-eqb cause 0 nz)
 
-  cause-given : (nz : cause ≡ 0 → ⊥) → refusedPrices cause ≡ recordPrices job (length lent-d) (length lent-p)
-  unfolding recordPrices
-  cause-given nz =
-      ap refusedPrices (cause-found nz) ∙ prices-refused _ _ _ _ (λ z. nz (cause-found nz ∙ z))
-
   pub record-refused : (r : JobPrices) → r ≡ refusedPrices cause → (cause ≡ 0 → ⊥) → Record job lent-d lent-p r lent-d lent-p
-  record-refused r e nz =
-      left-refused _ _ (jobDiscounts job) (jobStatePrices job) lent-d lent-p r (e ∙ cause-given nz) (λ z. nz (cause-found nz ∙ z))
+  unfolding recordPrices
+  record-refused r e nz = found-left cause _ _ _ _ _ _ lent-d lent-p (cause-found nz) nz r e
 
   module _ (z : cause ≡ 0) where
     number-is : treeNumber (job .steps) (job .reversion) (jobDiscounts job) (jobFlows job) (job .option) ≡ recordNumber job (length lent-d) (length lent-p)
@@ -270,12 +269,9 @@ module _ (bytes d p : List ℕ) (q : Reading) (e : q ≡ readingOf bytes) where
     unfolding bytesNumber firstCause
     read-found = rw (← number-read, ne-eqb (q .number) 0 nz)
 
-    read-given : refusedPrices (q .number) ≡ bytesPrices bytes (length d) (length p)
-    unfolding bytesPrices
-    read-given = ap refusedPrices read-found ∙ prices-refused _ _ _ _ (λ z. nz (read-found ∙ z))
-
     pub bytes-refused : (r : JobPrices) → r ≡ refusedPrices (q .number) → Bytes bytes d p r d p
-    bytes-refused r er = left-refused _ _ _ _ d p r (er ∙ read-given) (λ z. nz (read-found ∙ z))
+    unfolding bytesPrices
+    bytes-refused = found-left (q .number) _ _ _ _ _ _ d p read-found nz
 
   module _ (z : q .number ≡ 0) where
     bytes-number : recordNumber (readingOf bytes .job) (length d) (length p) ≡ bytesNumber bytes (length d) (length p)

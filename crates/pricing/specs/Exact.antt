@@ -1,5 +1,6 @@
 -- The exact pricer (document 01, Prices): fed n, b, the node discounts, and flows, kind, expiry and strike, or side, listed rows and strike
--- (document 02, request (iii)), or a row and its payoffs. It rounds nothing and refuses nothing. With m = 600,000,000 × one its price at row 0 is held times m^n, for payoffs on row t times m^t.
+-- (document 02, request (iii)), or a row and its payoffs. It rounds nothing and refuses nothing. With m = 600,000,000 × one its price at row 0
+-- is held times m^n, for payoffs on row t times m^t.
 -- Assumes nothing.
 use Prim.Native.Nat.{ℕ}
 use mathlib.Core.List.{List}

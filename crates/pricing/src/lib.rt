@@ -244,15 +244,7 @@ pub fn bond_and_dated_option(
     let about_dates = exercise_dates::dates_cause(steps, dates);
     let cause = arithmetic::lowest_cause(about_terms, about_dates);
     let terms = exercise_dates::terms_on(side, dates, strike);
-    both_prices(
-        steps,
-        reversion,
-        discounts,
-        flows,
-        cause,
-        terms,
-        dates,
-    )
+    both_prices(steps, reversion, discounts, flows, cause, terms, dates)
 }
 
 // The price at row 0 of an option on that bond, and its error bound. Kinds 1 European call, 2 European put, 3 American call, 4 American put.

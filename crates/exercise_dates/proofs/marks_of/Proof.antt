@@ -40,11 +40,10 @@ loop-again : tie.Need-loop-again Inv-loop μ-loop
 loop-again c =
     let at-loop = c .before .before .before in
     let filled = at-loop .loop .inv .1 in
-    let dates = now (at-loop .before .args .dates) in
-    (
+    let dates = now (at-loop .before .args .dates) in (
       omega arith,
       ⊎-elim (λ w. rw (w .1) (marking-hit dates _ _ filled (values dates (at-loop .loop .k)) refl (w .0 .taken)))
-      (λ w. rw (w .1) (marking-past dates _ _ filled (values dates (at-loop .loop .k)) refl (w .0 .left))) (c .if1 .came),
+          (λ w. rw (w .1) (marking-past dates _ _ filled (values dates (at-loop .loop .k)) refl (w .0 .left))) (c .if1 .came),
     )
 
 returns : tie.Need-returns Inv-loop μ-loop

@@ -21,7 +21,7 @@ returns c =
     let a = c .before .before .before .before .before .args in (
       ap (λ (r : BondAndOption). r .bond) both,
       ap (λ (r : BondAndOption). r .option) both
-      ∙ laws.tagged-kind (a .steps) (a .reversion) (a .discounts .now) (a .flows .now) (a .option) (c .before .if1 .taken),
+          ∙ laws.tagged-kind (a .steps) (a .reversion) (a .discounts .now) (a .flows .now) (a .option) (c .before .if1 .taken),
     )
 
 dates-size : (s : tie.Start) → length (s .args .option .dates) ≡ mostDates
@@ -48,7 +48,7 @@ returns-2 c =
     let a = listed .before .before .before .before .args in (
       ap (λ (r : BondAndOption). r .bond) both,
       ap (λ (r : BondAndOption). r .option) both
-      ∙ laws.tagged-list (a .steps) (a .reversion) (a .discounts .now) (a .flows .now) (a .option) (listed .if1 .left),
+          ∙ laws.tagged-list (a .steps) (a .reversion) (a .discounts .now) (a .flows .now) (a .option) (listed .if1 .left),
     )
 
 pub both-of-spec : {M : Type 1} → statement M
