@@ -40,7 +40,8 @@ def shown_share(share):
 
 
 def shown_row(row, frequency):
-    return f'row {row} ({row / frequency:.4g} year{"s" * (row != frequency)})'
+    when = f'{row / frequency:.4g} year{"s" * (row != frequency)}' if row else 'today'
+    return f'row {row} ({when})'
 
 
 def option_words(reference, terms, frequency):

@@ -6,6 +6,7 @@
     const note = document.getElementById('note');
     const ring = document.getElementById('ring');
     const reach = 26;
+    const gap = 48;
     let chosen = null;
     let pinned = false;
 
@@ -50,14 +51,16 @@
             ...tree.branches[node.number].map(([end, share]) => [`to node ${signed(String(end))}`, share])]);
     }
 
+    // Beside the node, clear of a rate above it; in a small window at the edge that is further from the node.
     function put(node) {
-        const [box, edge, screen] = [svg.getBoundingClientRect(), scroll.getBoundingClientRect(), svg.getScreenCTM()];
-        const at = new DOMPoint(node.x, node.y).matrixTransform(screen);
-        const [x, y] = [at.x - edge.left + scroll.scrollLeft, at.y - edge.top];
-        const right = x - scroll.scrollLeft < scroll.clientWidth / 2;
-        const left = right ? x + 20 : x - 20 - note.offsetWidth;
-        const most = scroll.scrollLeft + scroll.clientWidth - note.offsetWidth;
-        note.style.left = `${Math.max(scroll.scrollLeft, Math.min(left, most))}px`;
+        const [box, edge] = [svg.getBoundingClientRect(), scroll.getBoundingClientRect()];
+        const at = new DOMPoint(node.x, node.y).matrixTransform(svg.getScreenCTM());
+        note.className = at.y > window.innerHeight / 2 ? 'upper' : '';
+        note.style.left = note.style.top = '';
+        if (getComputedStyle(note).position === 'fixed') return;
+        const [x, y] = [at.x - edge.left, at.y - edge.top];
+        const left = x < scroll.clientWidth / 2 ? x + gap : x - gap - note.offsetWidth;
+        note.style.left = `${left + scroll.scrollLeft}px`;
         note.style.top = `${Math.max(0, Math.min(y - note.offsetHeight / 2, box.height - note.offsetHeight))}px`;
     }
 
@@ -68,7 +71,7 @@
         if (!node) return;
         ring.setAttribute('cx', node.x);
         ring.setAttribute('cy', node.y);
-        ring.setAttribute('r', node.size * 1.3 + 4);
+        ring.setAttribute('r', node.size + 4);
         describe(node);
         put(node);
     }

@@ -101,4 +101,4 @@ def tree_page(drawing):
 
 def refusal_page(number):
     cause, advice = sheets.refusal_words(number)
-    return filled(f'Refused {number}', f'<h1 class="below">Refused {number}</h1>\n' + paragraph(f'{cause}.') + '\n' + paragraph(f'What to do: {advice}.'))
+    return filled(f'Refused {number}', f'<h1 class="below">Refused {number}</h1>\n' + paragraph(f'{cause[0].upper()}{cause[1:]}.') + '\n' + paragraph(f'What to do: {advice}.'))

@@ -15,7 +15,7 @@ WIDTH, RIGHT, TOP, JOB_LINE, PLOT_HEIGHT = 1040, 28, 104, 22, 440
 LIST_COLUMNS, LIST_LINE = 4, 15
 MOST_LABELLED_ROWS, MOST_TICKS = 4, 12
 EDGE, EDGE_OF_LABELS, LABEL_HEIGHT = 24, 64, 17
-LARGEST_MARK, SMALLEST_MARK, SMALLEST_PART = 14, 1.2, 0.15
+LARGEST_MARK, SMALLEST_MARK, SMALLEST_PART = 14, 0.9, 0.15
 STEP_NAMES = {1: 'yearly', 2: 'half-yearly', 4: 'quarterly', 12: 'monthly'}
 
 Frame = namedtuple('Frame', 'left right top bottom lowest highest last_row')
@@ -78,7 +78,7 @@ class Drawing:
         widest = [self.place(node)[1] for node in self.sheet.rows[-1]]
         upwards = (max(widest) - min(widest)) / max(1, len(widest) - 1) or across
         if self.job:
-            return min(LARGEST_MARK, 0.5 * across, 0.75 * upwards)
+            return min(LARGEST_MARK, 0.5 * across, 1.5 * upwards)
         return max(1.3, min(6.5, 0.27 * min(across, upwards)))
 
     def mark_size(self, node):

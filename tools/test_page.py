@@ -27,7 +27,7 @@ MARKS = '''[...document.querySelectorAll('.node')].map(mark => {
 NOTE = '''(() => {
     const note = document.getElementById('note');
     const box = note.getBoundingClientRect();
-    return {hidden: note.hidden, text: note.textContent, left: box.left, right: box.right,
+    return {hidden: note.hidden, text: note.textContent, left: box.left, right: box.right, top: box.top, bottom: box.bottom,
             kinds: [...note.querySelectorAll('dd[class]')].map(entry => entry.className),
             colours: [...note.querySelectorAll('dd[class]')].map(entry => getComputedStyle(entry).color)};
 })()'''
@@ -79,12 +79,17 @@ class Pages(unittest.TestCase):
         path.write_text('\n'.join(lines))
         return path
 
+    def check_place(self, note, mark, width, height):
+        """The numbers stand in the window and not on their node."""
+        self.assertTrue(not note['hidden'] and note['left'] >= 0 and note['right'] <= width and note['top'] >= 0 and note['bottom'] <= height, note)
+        self.assertFalse(note['left'] < mark['x'] < note['right'] and note['top'] < mark['y'] < note['bottom'], (note, mark))
+
     def check_node(self, value, mark, line):
         """Pointed at, a node tells the numbers of its line, with colour, shape and sign by its rate."""
         _, row, number, discount, rate = line
         self.browser.point(mark['x'], mark['y'])
         note, below = value(NOTE), rate.startswith('-')
-        self.assertFalse(note['hidden'])
+        self.check_place(note, mark, 1120, 900)
         for words in (f'Row {row}, node {number}'.replace('-', '\u2212'), discount, f'{"■" if below else "●"} {rate} %'.replace('-', '\u2212')):
             self.assertIn(words, note['text'])
         self.assertEqual((mark['shape'], mark['colour']), ('rect', BELOW) if below else ('circle', ABOVE))
@@ -131,16 +136,17 @@ class Pages(unittest.TestCase):
             self.assertIn(words, value(NOTE)['text'])
         self.assertAlmostEqual((other['width'] / first['width']) ** 2, 0.165, delta=0.01)
 
-    def test_a_tap_on_a_small_window(self):
+    def test_taps_on_a_small_window(self):
         path = ROOT / 'examples/negative-curve.txt'
         value = self.opened(drawn(path.with_suffix('.sheet').read_bytes(), '--page', '--job', path), width=390, height=800, touch=True)
-        mark = value(MARKS)[4]
-        self.browser.tap(mark['x'], mark['y'])
-        note = value(NOTE)
-        self.assertIn('Row 2, node \u22122', note['text'])
-        self.assertTrue(not note['hidden'] and note['left'] >= 0 and note['right'] <= 390, note)
         self.assertLessEqual(value('document.documentElement.scrollWidth'), 390)
-        self.browser.tap(mark['x'], mark['y'] - 150)
+        shown = [mark for mark in value(MARKS) if mark['x'] < 370]
+        self.assertGreater(len(shown), 8)
+        for mark in shown:
+            self.browser.tap(mark['x'], mark['y'])
+            self.check_place(value(NOTE), mark, 390, 800)
+        self.assertIn('Row 2, node 2', value(NOTE)['text'])
+        self.browser.tap(shown[0]['x'], shown[0]['y'] - 100)
         self.assertTrue(value(NOTE)['hidden'])
 
     def test_the_arrow_keys(self):
