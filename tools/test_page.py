@@ -85,14 +85,13 @@ class Pages(unittest.TestCase):
         self.assertFalse(note['left'] < mark['x'] < note['right'] and note['top'] < mark['y'] < note['bottom'], (note, mark))
 
     def check_node(self, value, mark, line):
-        """Pointed at, a node tells the numbers of its line, with colour, shape and sign by its rate."""
+        """Pointed at, a node tells the numbers of its line, with colour, shape and sign of the text by its rate."""
         _, row, number, discount, rate = line
         self.browser.point(mark['x'], mark['y'])
         note, below = value(NOTE), rate.startswith('-')
         self.check_place(note, mark, 1120, 900)
         for words in (f'Row {row}, node {number}'.replace('-', '\u2212'), discount, f'{"■" if below else "●"} {rate} %'.replace('-', '\u2212')):
             self.assertIn(words, note['text'])
-        self.assertEqual((mark['shape'], mark['colour']), ('rect', BELOW) if below else ('circle', ABOVE))
         self.assertEqual(set(note['kinds']), {'below' if below else 'above'})
 
     def check_page(self, path, *arguments):
@@ -102,7 +101,8 @@ class Pages(unittest.TestCase):
         marks = value(MARKS)
         self.assertEqual(len(marks), len(lines))
         frame = value("(() => { const box = document.getElementById('tree').getBoundingClientRect(); return [box.left, box.right, box.top, box.bottom]; })()")
-        for mark in marks:
+        for mark, line in zip(marks, lines):
+            self.assertEqual((mark['shape'], mark['colour']), ('rect', BELOW) if line[4].startswith('-') else ('circle', ABOVE))
             self.assertTrue(mark['width'] > 1 and frame[0] < mark['x'] < frame[1] and frame[2] < mark['y'] < frame[3], mark)
         for k in range(0, len(lines), len(lines) // MOST_POINTED_AT + 1):
             self.check_node(value, marks[k], lines[k])
