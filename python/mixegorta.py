@@ -13,6 +13,8 @@ import os
 from array import array
 from collections import namedtuple
 
+__version__ = "0.6.0"
+
 ONE = 1_000_000_000
 PROBABILITY_ONE = 600_000_000
 MAX_STEPS = 60
