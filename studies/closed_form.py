@@ -184,6 +184,8 @@ def limit_table():
         strike, wanted = at_the_money(terms, a)
         found = [difference(float_tree.call(f, terms, a, VOLATILITY, YIELD, strike), wanted) for f in frequencies]
         rows.append([f'{a * 100:g}%', *(shown(value, 1) for value in found)])
+        if a:
+            rows.append([f'{a * 100:g}%, the step alone', *(shown(step_difference(terms, f, a), 1) for f in frequencies)])
     return common.table(['reversion', *(f'{f} a year' for f in frequencies)], rows)
 
 

@@ -15,7 +15,7 @@ STEP_NAMES = {1: 'yearly', 2: 'half-yearly', 4: 'quarterly', 12: 'monthly'}
 def library():
     try:
         import mixegorta
-    except OSError as missing:
+    except (ImportError, OSError) as missing:
         sys.exit(f'no library ({missing}): run tools/library first')
     return mixegorta
 
