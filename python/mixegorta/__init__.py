@@ -15,11 +15,11 @@ The shared object is that of the package, or in a source folder ../target/libmix
 """
 from ._engine import (AMERICAN_CALL, AMERICAN_PUT, CALL, DISCOUNT_FACTOR, DISCOUNTS, EUROPEAN_CALL, EUROPEAN_PUT, MAX_DISCOUNTS, MAX_JOB,
                       MAX_NODES, MAX_STATE_PRICES, MAX_STEPS, PROBABILITY_ONE, PUT, SHEET_ROOM, STATE_PRICES, YEARLY_RATE, YEARLY_YIELD,
-                      BondAndOption, Branches, Point, Price, bond_and_dated_option, bond_and_option, bond_price, branches,
+                      BondAndOption, Branches, Curve, Point, Price, bond_and_dated_option, bond_and_option, bond_price, branches,
                       continuous_rate, curve_discounts, dated_option_price, discounts_needed, fit_into, half_width, node_count,
                       option_price, quote_discount, row_range, row_start, sheet, sheet_into, state_price_error_bound,
                       state_prices_needed, step_rate, valuation_error_bound, value_by_state_prices)
-from ._tree import Tree
+from ._tree import Tree, fit_trees
 from .amounts import ONE, Amount, Amounts, InexactAmount, billionths
 from .refusals import (CAUSES, ExerciseDatesOutOfOrder, FlowTooLarge, MalformedJob, NodeDiscountOutOfRange, NodesTooFarApart, NotInTree,
                        OptionTermsOutOfRange, QuoteOutOfRange, Refused, ReversionTooLarge, StepsOutOfRange, UnknownFrequency,
@@ -35,7 +35,7 @@ __all__ = [
     "CAUSES", "Refused", "MalformedJob", "UnknownFrequency", "StepsOutOfRange", "ReversionTooLarge", "VolatilityTooLarge", "NotInTree",
     "QuoteOutOfRange", "NodesTooFarApart", "NodeDiscountOutOfRange", "FlowTooLarge", "OptionTermsOutOfRange", "ValueTooLarge",
     "ExerciseDatesOutOfOrder",
-    "Point", "Branches", "Price", "BondAndOption", "Tree",
+    "Point", "Curve", "Branches", "Price", "BondAndOption", "Tree", "fit_trees",
     "half_width", "node_count", "row_start", "discounts_needed", "state_prices_needed", "branches",
     "quote_discount", "curve_discounts", "fit_into", "row_range", "step_rate", "continuous_rate", "state_price_error_bound",
     "bond_price", "option_price", "bond_and_option", "dated_option_price", "bond_and_dated_option", "value_by_state_prices",

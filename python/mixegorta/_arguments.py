@@ -4,36 +4,39 @@ Nothing is judged here but what would make a call unsafe: ctypes would cut a num
 import ctypes
 import operator
 from array import array
+from itertools import accumulate
 from typing import Any, Callable, Dict, Iterable, Iterator, List, Optional, Tuple
 
 from ._library import F64, U8, U64
 from .amounts import Amount, billionths
 
 ELEMENTS: Dict[str, Any] = {"B": U8, "Q": U64, "d": F64}
+SIZES = {code: ctypes.sizeof(kind) for code, kind in ELEMENTS.items()}
 FORMATS = {"B": "B", "Q": "QLN", "d": "d"}
+ORDERS = ("", "@", "=", "<")
 
 
 class Slice:
-    """Numbers in memory that a call may be handed; lent where someone else may write them meanwhile."""
+    """Numbers in memory that a call may be handed; lent where someone else may write them meanwhile. values keeps them alive."""
 
-    __slots__ = ("values", "elements", "count", "lent")
+    __slots__ = ("values", "code", "address", "count", "lent")
 
-    def __init__(self, values: Any, elements: Any, count: int, lent: bool) -> None:
-        self.values, self.elements, self.count, self.lent = values, elements, count, lent
+    def __init__(self, values: Any, code: str, address: int, count: int, lent: bool = False) -> None:
+        self.values, self.code, self.address, self.count, self.lent = values, code, address, count, lent
 
     def __iter__(self) -> Iterator[int]:
         return iter(self.values)
 
+    def first(self, count: int) -> "Slice":
+        """The first so many of the numbers."""
+        return Slice(self.values, self.code, self.address, count, self.lent)
+
     def overlaps(self, other: "Slice") -> bool:
         """Whether both have bytes in common."""
-        (start, stop), (other_start, other_stop) = self._place(), other._place()
-        return start < other_stop and other_start < stop
+        return self.address < other._end() and other.address < self._end()
 
-    def _place(self) -> Tuple[int, int]:
-        if not self.count:
-            return 0, 0
-        start = ctypes.addressof(self.elements)
-        return start, start + ctypes.sizeof(self.elements)
+    def _end(self) -> int:
+        return self.address + self.count * SIZES[self.code]
 
 
 def whole(name: str, number: int, low: int, high: int) -> int:
@@ -60,7 +63,14 @@ def amount(name: str, given: Amount) -> int:
 def own_memory(count: int, code: str = "Q") -> Slice:
     """Zeros that nobody else knows of."""
     elements = (ELEMENTS[code] * count)()
-    return Slice(memoryview(elements).cast("B").cast(code), elements, count, False)
+    return Slice(memoryview(elements).cast("B").cast(code), code, ctypes.addressof(elements), count)
+
+
+def own_memories(counts: List[int]) -> List[Slice]:
+    """Such zeros for each count, in one block."""
+    block = own_memory(sum(counts))
+    starts = accumulate(counts, initial=0)
+    return [Slice(block.values[start:start + count], "Q", block.address + 8 * start, count) for start, count in zip(starts, counts)]
 
 
 def amounts(name: str, values: Iterable[Amount]) -> Slice:
@@ -114,15 +124,14 @@ def _copied(name: str, code: str, values: Iterable[Any], convert: Callable[[str,
     if isinstance(values, str):
         raise TypeError(f"{name}: a str is not a list of numbers")
     try:
-        listed: List[Any] = list(values)
+        listed = values if isinstance(values, (list, tuple)) else list(values)
     except TypeError:
         raise TypeError(f"{name}: {values!r} is not a list of numbers") from None
     try:
         kept = array(code, listed)
     except (TypeError, OverflowError):
         kept = array(code, [convert(f"{name}[{place}]", value) for place, value in enumerate(listed)])
-    elements = (ELEMENTS[code] * len(kept)).from_buffer(kept) if kept else None
-    return Slice(kept, elements, len(kept), False)
+    return Slice(kept, code, *kept.buffer_info())
 
 
 def _lent(code: str, values: Any) -> Optional[Slice]:
@@ -135,16 +144,13 @@ def _lent(code: str, values: Any) -> Optional[Slice]:
         view = memoryview(values)
     except TypeError:
         return None
-    kind = ELEMENTS[code]
-    if view.ndim != 1 or not view.c_contiguous or view.itemsize != ctypes.sizeof(kind) or view.format[-1] not in FORMATS[code]:
+    order, kind = view.format[:-1], view.format[-1]
+    if view.ndim != 1 or not view.c_contiguous or order not in ORDERS or kind not in FORMATS[code] or view.itemsize != SIZES[code]:
         return None
-    if view.format[:-1] not in ("", "@", "=", "<"):
+    address = _address(view) if view.nbytes else 0
+    if address % SIZES[code]:
         return None
-    count = len(view)
-    address = _address(view) if count else 0
-    if address % view.itemsize:
-        return None
-    return Slice(view, (kind * count).from_address(address) if count else None, count, not isinstance(view.obj, bytes))
+    return Slice(view, code, address, len(view), not isinstance(view.obj, bytes))
 
 
 class _Buffer(ctypes.Structure):

@@ -1,6 +1,6 @@
 """The engine's functions: each is one call of the proved shared object."""
 from array import array
-from typing import TYPE_CHECKING, Any, Iterable, NamedTuple, Optional, Tuple, Union
+from typing import TYPE_CHECKING, Any, Iterable, Iterator, NamedTuple, Optional, Tuple, Union
 
 from ._arguments import Slice, amount, amounts, dates as exercise_dates, job_bytes, memory, own_memory, quotes, u64, whole
 from ._faults import call, refusal
@@ -57,7 +57,30 @@ class BondAndOption(NamedTuple):
 
 
 PointLike = Union[Point, Tuple[int, int, float]]
-Points = Iterable[PointLike]
+
+
+class Curve:
+    """Points made ready once for many fits; it may stand wherever points are asked for."""
+
+    def __init__(self, points: Iterable[PointLike]) -> None:
+        self._columns = quotes(points)
+
+    def __iter__(self) -> Iterator[Point]:
+        return map(Point, *self._columns)
+
+    def __len__(self) -> int:
+        return self._columns[0].count
+
+    def __repr__(self) -> str:
+        return f"Curve({list(self)})"
+
+
+Points = Union[Curve, Iterable[PointLike]]
+
+
+def columns(points: Points) -> Tuple[Slice, Slice, Slice]:
+    """Rows, kinds and figures of points."""
+    return points._columns if isinstance(points, Curve) else quotes(points)
 
 
 def _accepted(number: int, name: str, given: Tuple[Any, ...]) -> None:
@@ -154,9 +177,9 @@ def quote_discount(frequency: int, point: PointLike) -> int:
 
 def curve_discounts(frequency: int, steps: int, points: Points) -> "array[int]":
     """The discounts of rows 1 to n, from n points, as array('Q')."""
-    columns = quotes(points)
-    discounts = own_memory(columns[0].count)
-    given = u64("frequency", frequency), u64("steps", steps), *columns, discounts
+    quoted = columns(points)
+    discounts = own_memory(quoted[0].count)
+    given = u64("frequency", frequency), u64("steps", steps), *quoted, discounts
     _accepted(call("curve_discounts", *given), "curve_discounts", given)
     return array("Q", discounts.values.tobytes())
 
@@ -167,12 +190,8 @@ def fit_into(frequency: int, steps: int, reversion: int, volatility: int, points
     leaves zeros in the parts that the tree needs; any other leaves both as they were. Nothing past those parts ever changes."""
     memories = memory("discounts", "Q", discounts), memory("state_prices", "Q", state_prices)
     _apart(discounts=memories[0], state_prices=memories[1])
-    _fit(frequency, steps, reversion, volatility, points, *memories)
-
-
-def _fit(frequency: int, steps: int, reversion: int, volatility: int, points: Points, discounts: Slice, state_prices: Slice) -> None:
     given = (u64("frequency", frequency), u64("steps", steps), u64("reversion", reversion), u64("volatility", volatility),
-             *quotes(points), discounts, state_prices)
+             *columns(points), *memories)
     _accepted(call("fit", *given), "fit", given)
 
 

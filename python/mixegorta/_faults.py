@@ -1,10 +1,11 @@
 """Which argument a refusal is about. Asked only after the engine has refused, and the engine itself is asked again, of parts of the
 call, so that no limit stands here."""
 import struct
-from typing import Any, Callable, Dict, Optional, Tuple, Union
+from array import array
+from typing import Any, Callable, Dict, List, Optional, Tuple, Union
 
 from ._arguments import Slice, amounts, own_memory, quotes
-from ._library import DECLARATIONS, LOCKED, UNLOCKED, CPoint
+from ._library import DECLARATIONS, FIT_EACH, FIT_FIELDS, LOCKED, UNLOCKED, CPoint
 from .amounts import ONE
 from .refusals import CLASSES, Refused
 
@@ -12,17 +13,32 @@ Given = Dict[str, Any]
 Place = Tuple[Optional[str], Optional[int]]
 
 
-def call(name: str, *given: Any) -> Any:
-    """What the engine answers. The interpreter's lock is given up where the call has memory and all of it is the call's own."""
-    flat, memories, lent = [], 0, False
+def _flat(given: Tuple[Any, ...]) -> List[Any]:
+    """The arguments as ctypes takes them: a slice is its address and its count."""
+    flat: List[Any] = []
     for argument in given:
         if isinstance(argument, Slice):
-            flat += [argument.elements, argument.count]
-            memories += 1
-            lent = lent or argument.lent
+            flat += argument.address, argument.count
         else:
             flat.append(argument)
-    return (LOCKED if lent or not memories else UNLOCKED)[name](*flat)
+    return flat
+
+
+def call(name: str, *given: Any) -> Any:
+    """What the engine answers. The interpreter's lock is given up where the call has memory and all of it is the call's own."""
+    memories = [argument.lent for argument in given if isinstance(argument, Slice)]
+    return (UNLOCKED if memories and not any(memories) else LOCKED)[name](*_flat(given))
+
+
+def fit_each(fits: List[Tuple[Any, ...]]) -> List[int]:
+    """The numbers of many fits, whose memories are the calls' own. The lock is given up once for all of them where the shared object can."""
+    if not FIT_EACH:
+        return [call("fit", *given) for given in fits]
+    calls = array("Q")
+    for given in fits:
+        calls.extend(_flat(given) + [0])
+    FIT_EACH(calls.buffer_info()[0], len(fits))
+    return calls[FIT_FIELDS - 1::FIT_FIELDS].tolist()
 
 
 def refusal(number: int, name: str, given: Tuple[Any, ...]) -> Refused:
@@ -119,7 +135,7 @@ def _unfitted_row(given: Given) -> int:
     discounts, state_prices = (own_memory(_needed(name, given)) for name in ("discounts_needed", "state_prices_needed"))
     while high - low > 1:
         steps = (low + high) // 2
-        columns = [Slice(given[name].values, given[name].elements, steps, False) for name in ("rows", "kinds", "figures")]
+        columns = [given[name].first(steps) for name in ("rows", "kinds", "figures")]
         if call("fit", given["frequency"], steps, given["reversion"], given["volatility"], *columns, discounts, state_prices):
             high = steps
         else:

@@ -87,17 +87,28 @@ def _path() -> str:
     raise ImportError("mixegorta finds no libmixegorta.so: run tools/library, or pip install ./python, or set MIXEGORTA_LIBRARY to its path")
 
 
+def _parameter_types(parameters: Parameters) -> List[Any]:
+    """The types that ctypes is told: a pointer is an address."""
+    types: List[Any] = []
+    for kind in parameters.values():
+        types += [ctypes.c_void_p, SIZE] if kind in (U8S, U64S, F64S) else [kind]
+    return types
+
+
 def _functions(library: Any) -> Dict[str, Any]:
     functions = {}
     for name, (result, parameters) in DECLARATIONS.items():
         functions[name] = getattr(library, "mixegorta_" + name)
-        types: List[Any] = []
-        for kind in parameters.values():
-            types += [kind, SIZE] if kind in (U8S, U64S, F64S) else [kind]
-        functions[name].restype, functions[name].argtypes = result, types
+        functions[name].restype, functions[name].argtypes = result, _parameter_types(parameters)
     return functions
 
 
 PATH = _path()
 LOCKED = _functions(ctypes.PyDLL(PATH))
 UNLOCKED = _functions(ctypes.CDLL(PATH))
+# The package's shared object has a loop over fits beside the proved functions, which another may lack. Each of them is laid out as in
+# fit_each.c: the arguments of the fit and a number for its answer, 64 bits each.
+FIT_EACH: Any = getattr(ctypes.CDLL(PATH), "mixegorta_fit_each", None)
+FIT_FIELDS = len(_parameter_types(DECLARATIONS["fit"][1])) + 1
+if FIT_EACH:
+    FIT_EACH.restype, FIT_EACH.argtypes = None, [ctypes.c_void_p, SIZE]
