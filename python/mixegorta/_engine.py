@@ -85,7 +85,12 @@ def columns(points: Points) -> Tuple[Slice, Slice, Slice]:
 
 def _accepted(number: int, name: str, given: Tuple[Any, ...]) -> None:
     if number:
-        raise refusal(number, name, given)
+        refused = refusal(number, name, given)
+        # whoever handles it may resize what was lent, though the traceback still holds this call
+        for argument in given:
+            if isinstance(argument, Slice) and argument.lent:
+                argument.values.release()
+        raise refused
 
 
 def _value(name: str, *given: Any) -> int:

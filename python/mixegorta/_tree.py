@@ -16,10 +16,13 @@ Terms = Tuple[int, int, int, int, engine.Points]
 AT_ONCE = 32
 
 
-@lru_cache
 def _sizes(steps: int, reversion: int) -> Tuple[int, int]:
     """How many discounts and state prices a tree has; none where there is no such tree."""
-    size = u64("steps", steps), u64("reversion", reversion)
+    return _known_sizes(u64("steps", steps), u64("reversion", reversion))
+
+
+@lru_cache
+def _known_sizes(*size: int) -> Tuple[int, int]:
     return call("discounts_needed", *size).value, call("state_prices_needed", *size).value
 
 
@@ -41,9 +44,10 @@ class Tree:
     def _prepare(self, frequency: int, steps: int, reversion: int, volatility: int, points: engine.Points, discounts: Slice,
                  state_prices: Slice) -> Tuple[Any, ...]:
         """The arguments of the tree's fit."""
-        self.frequency, self.steps, self.reversion, self.volatility = frequency, steps, reversion, volatility
+        self.frequency, self.steps = u64("frequency", frequency), u64("steps", steps)
+        self.reversion, self.volatility = u64("reversion", reversion), u64("volatility", volatility)
         self._discounts, self._state_prices = discounts, state_prices
-        return (u64("frequency", frequency), steps, reversion, u64("volatility", volatility), *engine.columns(points), discounts, state_prices)
+        return self.frequency, self.steps, self.reversion, self.volatility, *engine.columns(points), discounts, state_prices
 
     def __repr__(self) -> str:
         return f"<Tree frequency={self.frequency} steps={self.steps} reversion={self.reversion} volatility={self.volatility}>"

@@ -145,6 +145,12 @@ class Buffers(unittest.TestCase):
         lent = array("Q", FLAT)
         m.bond_price(2, 0, lent, [0, 0])
         lent.append(0)
+        try:
+            m.bond_price(3, 0, lent, [0, 0])
+        except m.Refused:
+            lent.append(0)
+        with self.assertRaises(m.Refused):
+            m.bond_price(3, 0, memoryview(lent), [0, 0])
 
     def test_views_of_a_tree(self):
         tree = m.Tree(1, 2, 0, 0, CURVE)
@@ -196,6 +202,15 @@ class Trees(unittest.TestCase):
                 self.assertEqual(repr(found), repr(refusal))
         self.assertEqual(len(list(m.fit_trees(terms))), len(terms))
         self.assertEqual(list(m.fit_trees([])), [])
+
+    def test_numbers_of_a_tree(self):
+        m.Tree(1, 2, 0, 0, CURVE)
+        for function in (m.Tree, lambda *term: list(m.fit_trees([term]))):
+            for name, *numbers in (("steps", 1, 2.0, 0, 0), ("reversion", 1, 2, 0.0, 0), ("frequency", 1.0, 2, 0, 0), ("volatility", 1, 2, 0, 0.0)):
+                with self.assertRaisesRegex(TypeError, f"^{name}: "):
+                    function(*numbers, CURVE)
+        if numpy:
+            self.assertEqual(repr(m.Tree(*numpy.array([1, 2, 0, 0]), CURVE)), repr(m.Tree(1, 2, 0, 0, CURVE)))
 
 
 if __name__ == "__main__":
