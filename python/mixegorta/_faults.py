@@ -14,11 +14,11 @@ Place = Tuple[Optional[str], Optional[int]]
 
 
 def _flat(given: Tuple[Any, ...]) -> List[Any]:
-    """The arguments as ctypes takes them: a slice is its address and its count."""
+    """The arguments as ctypes takes them: a slice is its address, none where it is empty, and its count."""
     flat: List[Any] = []
     for argument in given:
         if isinstance(argument, Slice):
-            flat += argument.address, argument.count
+            flat += argument.address if argument.count else 0, argument.count
         else:
             flat.append(argument)
     return flat

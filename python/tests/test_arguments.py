@@ -141,6 +141,12 @@ class Buffers(unittest.TestCase):
         with self.assertRaises(ValueError):
             m.sheet_into(memoryview(out)[:10], out)
 
+    def test_empty_ones_have_no_address(self):
+        for empty in ([], array("Q"), b"", memoryview(array("Q"))):
+            with recorded() as calls, self.assertRaises(m.Refused):
+                m.bond_price(2, 0, FLAT, empty)
+            self.assertEqual(calls[0][2][4:], (0, 0))
+
     def test_a_lent_array_is_whole_again(self):
         lent = array("Q", FLAT)
         m.bond_price(2, 0, lent, [0, 0])
@@ -165,7 +171,8 @@ class Buffers(unittest.TestCase):
 class Lock(unittest.TestCase):
     def test_kept_where_a_caller_lends_and_given_up_elsewhere(self):
         tree, lent, copied = m.Tree(1, 2, 0, 0, CURVE), array("Q", [0, ONE]), [0, ONE]
-        calls = (("fit", False, m.Tree, 1, 2, 0, 0, CURVE), ("bond_price", False, tree.bond_price, copied), ("bond_price", True, tree.bond_price, lent),
+        calls = (("fit", False, m.Tree, 1, 2, 0, 0, CURVE),
+                 ("bond_price", False, tree.bond_price, copied), ("bond_price", True, tree.bond_price, lent),
                  ("bond_price", False, m.bond_price, 2, 0, FLAT, copied), ("bond_price", True, m.bond_price, 2, 0, tree.discounts, copied),
                  ("dated_option_price", False, tree.dated_option_price, copied, m.CALL, b"\1", ONE),
                  ("dated_option_price", True, tree.dated_option_price, copied, m.CALL, bytearray([1]), ONE),

@@ -74,7 +74,7 @@ class Test(unittest.TestCase):
             with backend() as (module, folder), mock.patch.dict(os.environ, change):
                 with self.assertRaisesRegex(SystemExit, "^mixegorta cannot be built: " + words + "[^\n]*$"):
                     module.build_wheel(folder)
-        with backend() as (module, folder), mock.patch.object(module, "ROOT", module.ROOT / "nowhere"), mock.patch("shutil.which", lambda name: name == "cc"):
+        with backend() as (module, folder), mock.patch.object(module, "ROOT", module.ROOT / "nowhere"), mock.patch("shutil.which", lambda name: None):
             with self.assertRaisesRegex(SystemExit, "^mixegorta cannot be built: there is no archive [^\n]*$"):
                 module.archive()
 
