@@ -12,28 +12,35 @@
 #define MOST_STEPS 60
 #define MOST_DISCOUNTS 3600
 #define MOST_PRICES 3721
+#define MOST_DATES 256
 #define MOST_TURNS 1001
 #define CURVES 2000
 
 struct work {
-    uint64_t f, b, s, kind, strike;
-    size_t n, expiry;
+    uint64_t f, b, s, kind, side, strike;
+    size_t n, expiry, dates_count;
     uint64_t rows[MOST_STEPS], flows[MOST_STEPS];
-    uint8_t kinds[MOST_STEPS];
+    uint8_t kinds[MOST_STEPS], dates[MOST_DATES];
     double figures[MOST_STEPS];
 };
 
 struct result {
     uint64_t number, discounts[MOST_DISCOUNTS], prices[MOST_PRICES];
-    struct plain_price bond, option;
-    struct plain_prices both;
+    struct plain_price bond, option, dated;
+    struct plain_prices both, both_dated;
 };
 
-enum part { FIT = 1, BOND = 2, OPTION = 4, BOTH = 8, WHOLE_JOB = FIT | BOTH, ALL = 15 };
+enum part { FIT = 1, BOND = 2, OPTION = 4, BOTH = 8, DATED = 16, BOTH_DATED = 32, WHOLE_JOB = FIT | BOTH, ALL = 63 };
 
 static struct plain_price of_library(struct mixegorta_price p)
 {
     const struct plain_price out = {p.number, p.value, p.bound};
+    return out;
+}
+
+static struct plain_prices both_of_library(struct mixegorta_bond_and_option both)
+{
+    const struct plain_prices out = {of_library(both.bond), of_library(both.option)};
     return out;
 }
 
@@ -46,12 +53,15 @@ static void by_library(const struct work *w, struct result *r, int parts)
         r->bond = of_library(mixegorta_bond_price(w->n, w->b, r->discounts, MOST_DISCOUNTS, w->flows, w->n));
     if (parts & OPTION)
         r->option = of_library(mixegorta_option_price(w->n, w->b, r->discounts, MOST_DISCOUNTS, w->flows, w->n, w->kind, w->expiry, w->strike));
-    if (parts & BOTH) {
-        const struct mixegorta_bond_and_option both =
-            mixegorta_bond_and_option(w->n, w->b, r->discounts, MOST_DISCOUNTS, w->flows, w->n, w->kind, w->expiry, w->strike);
-        r->both.bond = of_library(both.bond);
-        r->both.option = of_library(both.option);
-    }
+    if (parts & BOTH)
+        r->both = both_of_library(
+            mixegorta_bond_and_option(w->n, w->b, r->discounts, MOST_DISCOUNTS, w->flows, w->n, w->kind, w->expiry, w->strike));
+    if (parts & DATED)
+        r->dated = of_library(mixegorta_dated_option_price(w->n, w->b, r->discounts, MOST_DISCOUNTS, w->flows, w->n, w->side, w->dates,
+                                                           w->dates_count, w->strike));
+    if (parts & BOTH_DATED)
+        r->both_dated = both_of_library(mixegorta_bond_and_dated_option(w->n, w->b, r->discounts, MOST_DISCOUNTS, w->flows, w->n, w->side,
+                                                                        w->dates, w->dates_count, w->strike));
 }
 
 static void by_plain_c(const struct work *w, struct result *r, int parts)
@@ -64,6 +74,10 @@ static void by_plain_c(const struct work *w, struct result *r, int parts)
         r->option = plain_option(w->n, w->b, r->discounts, w->flows, w->kind, w->expiry, w->strike);
     if (parts & BOTH)
         r->both = plain_bond_and_option(w->n, w->b, r->discounts, w->flows, w->kind, w->expiry, w->strike);
+    if (parts & DATED)
+        r->dated = plain_dated_option(w->n, w->b, r->discounts, w->flows, w->side, w->dates, w->dates_count, w->strike);
+    if (parts & BOTH_DATED)
+        r->both_dated = plain_bond_and_dated_option(w->n, w->b, r->discounts, w->flows, w->side, w->dates, w->dates_count, w->strike);
 }
 
 static double uniform(void)
@@ -73,10 +87,19 @@ static double uniform(void)
     return (double)(state >> 11) / 9007199254740992.0;
 }
 
-/* Monthly steps, a rising curve quoted as rates, a coupon bond and an American call on it. */
+/* Exercise dates: every so many rows from a first one, up to the last. */
+static void list_dates(struct work *w, size_t first, size_t every, size_t last)
+{
+    w->dates_count = 0;
+    for (size_t row = first; row <= last; row += every)
+        w->dates[w->dates_count++] = (uint8_t)row;
+}
+
+/* Monthly steps, a rising curve quoted as rates, a coupon bond, an American call on it, and a call of every third row to the same expiry. */
 static struct work work_of(size_t n, uint64_t b, double level, double slope)
 {
-    struct work w = {.f = 12, .b = b, .s = 8000, .kind = 3, .strike = ONE, .n = n, .expiry = n - n / 5};
+    struct work w = {.f = 12, .b = b, .s = 8000, .kind = 3, .side = 1, .strike = ONE, .n = n, .expiry = n - n / 5};
+    list_dates(&w, w.expiry % 3, 3, w.expiry);
     for (size_t t = 1; t <= n; t++) {
         w.rows[t - 1] = t;
         w.kinds[t - 1] = 6;
@@ -91,21 +114,49 @@ static int same_price(const struct plain_price *x, const struct plain_price *y)
     return x->number == y->number && x->value == y->value && x->bound == y->bound;
 }
 
+static int same_prices(const struct plain_price *bond, const struct plain_price *option, const struct plain_prices *both)
+{
+    return same_price(bond, &both->bond) && same_price(option, &both->option);
+}
+
+static void show(const char *name, const struct plain_price *p)
+{
+    fprintf(stderr, ", %s %llu %llu %llu", name, (unsigned long long)p->number, (unsigned long long)p->value, (unsigned long long)p->bound);
+}
+
 /* All that two workers write and answer, and both prices at once against each alone. */
 static void must_be_equal(const struct work *w, const struct result *x, const struct result *y)
 {
-    if (memcmp(x, y, sizeof *x) == 0 && same_price(&x->bond, &x->both.bond) && same_price(&x->option, &x->both.option))
+    if (memcmp(x, y, sizeof *x) == 0 && same_prices(&x->bond, &x->option, &x->both) && same_prices(&x->bond, &x->dated, &x->both_dated))
         return;
-    fprintf(stderr, "DIFFERENT at n = %zu, b = %llu\n", w->n, (unsigned long long)w->b);
-    for (const struct result *r = x; r; r = r == x ? y : NULL)
-        fprintf(stderr, "fit %llu, bond %llu %llu, option %llu %llu, both %llu %llu, %llu %llu\n", (unsigned long long)r->number,
-                (unsigned long long)r->bond.number, (unsigned long long)r->bond.value, (unsigned long long)r->option.number,
-                (unsigned long long)r->option.value, (unsigned long long)r->both.bond.number, (unsigned long long)r->both.bond.value,
-                (unsigned long long)r->both.option.number, (unsigned long long)r->both.option.value);
+    fprintf(stderr, "DIFFERENT at n = %zu, b = %llu", w->n, (unsigned long long)w->b);
+    for (const struct result *r = x; r; r = r == x ? y : NULL) {
+        fprintf(stderr, "\nfit %llu", (unsigned long long)r->number);
+        show("bond", &r->bond);
+        show("option", &r->option);
+        show("dated", &r->dated);
+        show("both", &r->both.bond);
+        show("and", &r->both.option);
+        show("both dated", &r->both_dated.bond);
+        show("and", &r->both_dated.option);
+    }
+    fprintf(stderr, "\n");
     exit(1);
 }
 
-/* Any curve, quoted by rates or by yields, and a bond and an option of which some are refused. */
+/* Any dates below n; some lists reach n, some repeat a row, some are empty. */
+static void any_dates(struct work *w, int i)
+{
+    const size_t first = (size_t)(uniform() * (double)w->n);
+    list_dates(w, first, 1 + (size_t)(uniform() * 6), w->n - (i % 10 ? 1 : 0));
+    if (i % 11 == 0)
+        w->dates[w->dates_count++] = (uint8_t)first;
+    if (i % 40 == 0)
+        w->dates_count = 0;
+    w->side = i % 50 ? 1 + (uint64_t)(i / 4 % 2) : 3;
+}
+
+/* Any curve, quoted by rates or by yields, and a bond and options of which some are refused. */
 static struct work any_work(int i)
 {
     static const uint64_t reversions[] = {0, 1, 31, 83, 500, 1000, 1840, 1841, 6000}, frequencies[] = {12, 4, 2, 1};
@@ -118,6 +169,7 @@ static struct work any_work(int i)
     w.strike = (uint64_t)(uniform() * (i % 5 ? 2e9 : 4.1e9));
     for (size_t t = 0; i % 7 == 0 && t < w.n; t++)
         w.flows[t] = (uint64_t)(uniform() * (i % 3 ? 8e9 / (double)w.n : 2.01e9));
+    any_dates(&w, i);
     return w;
 }
 
@@ -125,7 +177,7 @@ static struct work any_work(int i)
 static void compare_results(void)
 {
     static struct result x, y;
-    int fits = 0, bonds = 0, options = 0;
+    int fits = 0, bonds = 0, options = 0, dated = 0;
     for (int i = 0; i < CURVES; i++) {
         const struct work w = any_work(i);
         memset(&x, 0, sizeof x);
@@ -136,8 +188,10 @@ static void compare_results(void)
         fits += x.number == 0;
         bonds += x.bond.number == 0;
         options += x.option.number == 0;
+        dated += x.dated.number == 0;
     }
-    printf("results of library and plain C equal on %d curves; accepted: %d fits, %d bonds, %d options\n", CURVES, fits, bonds, options);
+    printf("results of library and plain C equal on %d curves; accepted: %d fits, %d bonds, %d options, %d dated options\n", CURVES, fits,
+           bonds, options, dated);
 }
 
 /* Continuous rates of discounts over the whole range and beyond it. */
@@ -219,14 +273,39 @@ static void against_plain_c(int turns)
 {
     static const uint64_t reversions[] = {0, 31, 83, 500, 1000, 1840, 6000}, shown[] = {0, 83, 1000};
     static const struct { const char *name; int parts; } rows[] = {
-        {"fit", FIT}, {"bond and option", BOTH}, {"bond", BOND}, {"American option", OPTION}};
+        {"fit", FIT}, {"bond and option", BOTH}, {"bond", BOND}, {"American option", OPTION}, {"dated option", DATED}};
     printf("n = 60                            library        plain C      ratio\n");
     for (int i = 0; i < 7; i++)
         line_against_plain_c(reversions[i], "fit, bond and option", WHOLE_JOB, turns);
     printf("\nn = 60, its parts                 library        plain C      ratio\n");
     for (int i = 0; i < 3; i++)
-        for (int k = 0; k < 4; k++)
+        for (int k = 0; k < 5; k++)
             line_against_plain_c(shown[i], rows[k].name, rows[k].parts, turns);
+}
+
+/* The library with dates in place of an option's kind. */
+static void by_dates(const struct work *w, struct result *r, int parts)
+{
+    by_library(w, r, parts & OPTION ? (parts & ~OPTION) | DATED : parts);
+}
+
+/* One right by its list, every row to the expiry, and by its kind. */
+static void dates_against_kind(int turns)
+{
+    static struct result x;
+    static const uint64_t reversions[] = {0, 83, 1000};
+    printf("\nn = 60, every row to the expiry   by dates       American     ratio\n");
+    for (int i = 0; i < 3; i++) {
+        struct work w = work_of(60, reversions[i], 0.02, 0.0003);
+        list_dates(&w, 0, 1, w.expiry);
+        const struct timing t = side_by_side(by_dates, by_library, &w, OPTION, turns, 20);
+        by_library(&w, &x, ALL);
+        if (!same_price(&x.dated, &x.option)) {
+            fprintf(stderr, "DIFFERENT by dates and by kind at b = %llu\n", (unsigned long long)w.b);
+            exit(1);
+        }
+        printf("b = %-5llu %-22s %8.1f us    %8.1f us     %6.2f\n", (unsigned long long)w.b, "option", t.first, t.second, t.ratio);
+    }
 }
 
 typedef int64_t (*rate_of)(uint64_t);
@@ -344,6 +423,7 @@ int main(int argc, char **argv)
     compare_results();
     compare_rates();
     against_plain_c(turns);
+    dates_against_kind(turns);
     rates(turns);
     growth(turns);
     against_quantlib(turns / 4 + 1);

@@ -333,8 +333,14 @@ struct plain_price plain_bond(size_t n, uint64_t b, const uint64_t *discounts, c
 }
 
 struct right {
-    int call, american;
+    int call;
     uint64_t strike;
+};
+
+/* The last row of exercise, and a mark on every row of exercise before it. */
+struct schedule {
+    size_t last;
+    uint8_t marks[MOST_STEPS];
 };
 
 static uint64_t exercise(struct right right, uint64_t bond)
@@ -353,13 +359,13 @@ static void exercise_row(struct right right, size_t count, const uint64_t *bond,
 
 /* A row of bond and option from the rows after it. */
 static int roll_both(size_t w, size_t next, const struct branch *p, const uint64_t *discounts, const uint64_t *bonds,
-                     const uint64_t *options, uint64_t flow, struct right right, uint64_t *bond, uint64_t *option)
+                     const uint64_t *options, uint64_t flow, struct right right, int marked, uint64_t *bond, uint64_t *option)
 {
     int above = 0;
     for (size_t k = 0; k <= 2 * w; k++) {
         const size_t low = lowest(w, next, k);
         const uint64_t bare = rolled(&p[k], bonds + low, discounts[k]), kept = rolled(&p[k], options + low, discounts[k]);
-        const uint64_t now = right.american ? exercise(right, bare) : 0;
+        const uint64_t now = marked ? exercise(right, bare) : 0;
         bond[k] = bare + flow;
         option[k] = kept > now ? kept : now;
         above |= (bond[k] > VALUE_LIMIT ? BOND_ABOVE : 0) | (option[k] > VALUE_LIMIT ? OPTION_ABOVE : 0);
@@ -367,9 +373,9 @@ static int roll_both(size_t w, size_t next, const struct branch *p, const uint64
     return above;
 }
 
-/* One roll. An option that is refused is rolled no further; its bond goes on. */
-struct plain_prices plain_bond_and_option(size_t n, uint64_t b, const uint64_t *discounts, const uint64_t *flows, uint64_t kind,
-                                          size_t expiry, uint64_t strike)
+/* One roll. An option that is refused, by a number handed in or by its values, is rolled no further; its bond goes on. */
+static struct plain_prices roll_to_today(size_t n, uint64_t b, const uint64_t *discounts, const uint64_t *flows, struct right right,
+                                         const struct schedule *schedule, uint64_t other)
 {
     uint64_t bonds[2][MOST_NODES], options[2][MOST_NODES], bound = 0;
     struct branch p[MOST_NODES];
@@ -377,28 +383,26 @@ struct plain_prices plain_bond_and_option(size_t n, uint64_t b, const uint64_t *
     const uint64_t number = rows_refused(n, b, discounts, flows, &start);
     if (number)
         return (struct plain_prices){refused(number), refused(number)};
-    const int listed = kind >= 1 && kind <= 4 && expiry < n && strike <= STRIKE_LIMIT;
-    uint64_t other = listed ? 0 : 11;
-    const struct right right = {kind == 1 || kind == 3, kind >= 3, strike};
-    const size_t widest = half_width(b, n - 1), last = 2 * half_width(b, n) + 1;
+    const size_t widest = half_width(b, n - 1), count = 2 * half_width(b, n) + 1;
     branches(p, b, widest);
     int at = 0;
-    for (size_t k = 0; k < last; k++)
+    for (size_t k = 0; k < count; k++)
         bonds[at][k] = flows[n - 1];
     for (size_t i = n; i-- > 0; at = !at) {
         const size_t w = half_width(b, i), next = half_width(b, i + 1), from = widest - w;
         const uint64_t flow = i ? flows[i - 1] : 0;
         int above;
         start -= 2 * w + 1;
-        if (i < expiry && !other)
-            above = roll_both(w, next, p + from, discounts + start, bonds[at], options[at], flow, right, bonds[!at], options[!at]);
+        if (i < schedule->last && !other)
+            above = roll_both(w, next, p + from, discounts + start, bonds[at], options[at], flow, right, schedule->marks[i], bonds[!at],
+                              options[!at]);
         else
             above = roll_bond(w, next, p + from, discounts + start, bonds[at], flow, bonds[!at]);
         if (above && !other)
             other = 12;
         if (above & BOND_ABOVE)
             return (struct plain_prices){refused(12), refused(other)};
-        if (i == expiry)
+        if (i == schedule->last)
             exercise_row(right, 2 * w + 1, bonds[!at], flow, options[!at]);
         bound = next_bound(discounts + start, 2 * w + 1, bound);
     }
@@ -406,8 +410,50 @@ struct plain_prices plain_bond_and_option(size_t n, uint64_t b, const uint64_t *
     return (struct plain_prices){bond, other ? refused(other) : (struct plain_price){0, options[at][0], bound}};
 }
 
+struct plain_prices plain_bond_and_option(size_t n, uint64_t b, const uint64_t *discounts, const uint64_t *flows, uint64_t kind,
+                                          size_t expiry, uint64_t strike)
+{
+    const int listed = kind >= 1 && kind <= 4 && expiry < n && expiry < MOST_STEPS && strike <= STRIKE_LIMIT;
+    struct schedule schedule = {0};
+    if (listed) {
+        schedule.last = expiry;
+        memset(schedule.marks, kind >= 3, expiry);
+    }
+    return roll_to_today(n, b, discounts, flows, (struct right){kind == 1 || kind == 3, strike}, &schedule, listed ? 0 : 11);
+}
+
+/* A list that is empty, does not rise or reaches row n has no schedule. */
+static uint64_t schedule_of(size_t n, const uint8_t *dates, size_t count, struct schedule *schedule)
+{
+    if (!count || dates[count - 1] >= n || dates[count - 1] >= MOST_STEPS)
+        return 13;
+    for (size_t k = 1; k < count; k++)
+        if (dates[k - 1] >= dates[k])
+            return 13;
+    for (size_t k = 0; k + 1 < count; k++)
+        schedule->marks[dates[k]] = 1;
+    schedule->last = dates[count - 1];
+    return 0;
+}
+
+struct plain_prices plain_bond_and_dated_option(size_t n, uint64_t b, const uint64_t *discounts, const uint64_t *flows, uint64_t side,
+                                                const uint8_t *dates, size_t count, uint64_t strike)
+{
+    struct schedule schedule = {0};
+    uint64_t other = side < 1 || side > 2 || strike > STRIKE_LIMIT ? 11 : 0;
+    if (!other)
+        other = schedule_of(n, dates, count, &schedule);
+    return roll_to_today(n, b, discounts, flows, (struct right){side == 1, strike}, &schedule, other);
+}
+
 struct plain_price plain_option(size_t n, uint64_t b, const uint64_t *discounts, const uint64_t *flows, uint64_t kind,
                                 size_t expiry, uint64_t strike)
 {
     return plain_bond_and_option(n, b, discounts, flows, kind, expiry, strike).option;
+}
+
+struct plain_price plain_dated_option(size_t n, uint64_t b, const uint64_t *discounts, const uint64_t *flows, uint64_t side,
+                                      const uint8_t *dates, size_t count, uint64_t strike)
+{
+    return plain_bond_and_dated_option(n, b, discounts, flows, side, dates, count, strike).option;
 }

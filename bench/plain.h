@@ -1,4 +1,4 @@
-/* Document 01's fit, bond and option, and document 02's continuous rate, in plain C. */
+/* Document 01's fit, bond and option, and document 02's continuous rate and dated option, in plain C. */
 #ifndef PLAIN_H
 #define PLAIN_H
 #include <stddef.h>
@@ -24,6 +24,10 @@ struct plain_price plain_option(size_t n, uint64_t b, const uint64_t *discounts,
                                 size_t expiry, uint64_t strike);
 struct plain_prices plain_bond_and_option(size_t n, uint64_t b, const uint64_t *discounts, const uint64_t *flows, uint64_t kind,
                                           size_t expiry, uint64_t strike);
+struct plain_price plain_dated_option(size_t n, uint64_t b, const uint64_t *discounts, const uint64_t *flows, uint64_t side,
+                                      const uint8_t *dates, size_t count, uint64_t strike);
+struct plain_prices plain_bond_and_dated_option(size_t n, uint64_t b, const uint64_t *discounts, const uint64_t *flows, uint64_t side,
+                                                const uint8_t *dates, size_t count, uint64_t strike);
 struct plain_rate plain_continuous_rate(uint64_t discount);
 
 #endif

@@ -12,7 +12,7 @@
  * row after row, the lowest node of a row first: discounts for rows 0 to n - 1, state prices for rows 0 to n.
  *
  * Arguments. Any numbers may be passed: a call gives its full answer, or the number of a refusal with every other field 0.
- * Where several refusals apply, the lowest number is given.
+ * Where several refusals apply, the lowest number is given, with one exception: 13 is tried before 12.
  *
  *   reversion   reversion per step (yearly reversion times step length) in ten-thousandths, 0 to 6,000
  *   steps       n, 1 to 60
@@ -25,11 +25,12 @@
  *    2  frequency is not listed                     8  (half width of row n - 1) x spacing is above one
  *    3  steps outside 1 to 60                       9  a node discount is 0 or above 1,100,000,000
  *    4  reversion above 6,000                      10  a flow is above 2,000,000,000
- *    5  volatility above 50,000                    11  option kind, expiry or strike outside its limit
+ *    5  volatility above 50,000                    11  option kind, side, expiry or strike outside its limit
  *    6  a length, row or node that is not in       12  a value above 8,000,000,000, or weighed state
  *       the tree; a memory too short                   prices that sum above 2,000,000,100
  *    7  unknown quote kind; a figure that is NaN, infinite or beyond +-10; a rate whose divisor is 0 or less;
  *       a yield x row / frequency beyond +-4; a quoted discount outside 100,000,000 to 2,000,000,000
+ *   13  exercise dates that are none, not strictly rising, or reach row n
  *
  * Memory. A slice is a pointer followed by its count of elements, never of bytes. The pointer is aligned for its type and points to
  * that many elements; with count 0 it may be NULL. All of them are initialised, those that a call only writes too: any numbers
@@ -85,6 +86,10 @@ extern "C" {
 #define MIXEGORTA_EUROPEAN_PUT 2
 #define MIXEGORTA_AMERICAN_CALL 3
 #define MIXEGORTA_AMERICAN_PUT 4
+
+/* Sides of an option on listed dates. */
+#define MIXEGORTA_CALL 1
+#define MIXEGORTA_PUT 2
 
 /* A number with its value; value is 0 where refused. */
 struct mixegorta_answer {
@@ -220,6 +225,22 @@ struct mixegorta_bond_and_option mixegorta_bond_and_option(size_t steps, uint64_
                                                            size_t discounts_len, const uint64_t *flows, size_t flows_len,
                                                            uint64_t kind, size_t expiry, uint64_t strike);
 
+/* The price at row 0 of an option on that bond which may be exercised on listed rows. side: 1 call, 2 put; dates: the rows, one to n of
+ * them, strictly rising, each 0 to n - 1; strike: 0 to 4,000,000,000. On the last listed row the option is worth its exercise value, on
+ * earlier ones the larger of that and of what holding it is worth, on every other row what holding it is worth. Exercise is on the bond
+ * without the flow of its row. A European kind is the list of its expiry alone, an American kind that of every row from 0 to its expiry.
+ * Refusals: those of the bond, 11 side or strike, and 13 dates, after 11 and before 12. */
+struct mixegorta_price mixegorta_dated_option_price(size_t steps, uint64_t reversion, const uint64_t *discounts,
+                                                    size_t discounts_len, const uint64_t *flows, size_t flows_len,
+                                                    uint64_t side, const uint8_t *dates, size_t dates_len, uint64_t strike);
+
+/* Bond and dated option in one roll: `bond` is what mixegorta_bond_price answers and `option` what mixegorta_dated_option_price
+ * answers. */
+struct mixegorta_bond_and_option mixegorta_bond_and_dated_option(size_t steps, uint64_t reversion, const uint64_t *discounts,
+                                                                 size_t discounts_len, const uint64_t *flows,
+                                                                 size_t flows_len, uint64_t side, const uint8_t *dates,
+                                                                 size_t dates_len, uint64_t strike);
+
 /* What payoffs on a row are worth by the row's state prices. Both counts are equal, odd and at most 121. payoffs: each 0 to
  * 8,000,000,000; state prices: their sum at most 2,000,000,100. Refusals: 6 the counts, 12 payoffs, sum or value. */
 struct mixegorta_answer mixegorta_value_by_state_prices(const uint64_t *state_prices, size_t state_prices_len,
@@ -234,10 +255,11 @@ struct mixegorta_answer mixegorta_valuation_error_bound(size_t steps, uint64_t r
 
 /* ---- A whole job: its bytes in, its sheet out. */
 
-/* The sheet of a job: its tree, its bond and its option as lines of ASCII, each ended by a newline; docs/MANUAL.md gives both formats.
- * out: at least 468,736 bytes, whatever the job. 0: the sheet is the last `size` bytes of out, from out + out_len - size on, without a
- * zero byte behind it; the bytes before it are as they were. Refusals leave out as it was: 1 the job's form, 2 to 5 and 7 to 9 its fit,
- * 6 out too short, 10 a flow, 11 kind, expiry or strike, 12 a value on the way. */
+/* The sheet of a job: its tree, its bond and its option, of a kind (field 08) or on listed dates (field 0A in its place), as lines of
+ * ASCII, each ended by a newline; docs/MANUAL.md gives both formats. out: at least 468,736 bytes, whatever the job. 0: the sheet is the
+ * last `size` bytes of out, from out + out_len - size on, without a zero byte behind it; the bytes before it are as they were. Refusals
+ * leave out as it was: 1 the job's form, 2 to 5 and 7 to 9 its fit, 6 out too short, 10 a flow, 11 kind, side, expiry or strike, 13 dates,
+ * before 12 a value on the way. */
 struct mixegorta_written mixegorta_sheet(const uint8_t *job, size_t job_len, uint8_t *out, size_t out_len);
 
 #ifdef __cplusplus

@@ -401,14 +401,18 @@ static void exercise_days(void) {
     CHECK(priced(mixegorta_option_price(3, 0, tree, 9, later, 3, MIXEGORTA_AMERICAN_PUT, 2, 1050000000), 60000000, 9));
 }
 
-/* Both prices at once: each is what its own entry answers. */
+/* Both prices at once have these numbers, and each is what its own entry answers. */
+static bool agree(struct mixegorta_bond_and_option both, struct mixegorta_price bond, struct mixegorta_price option, uint64_t bond_number,
+                  uint64_t option_number) {
+    return both.bond.number == bond_number && both.option.number == option_number && same_price(both.bond, bond) &&
+           same_price(both.option, option);
+}
+
 static bool each_its_own(size_t steps, const uint64_t *lent, size_t lent_len, const uint64_t *flows, size_t flows_len, uint64_t kind,
                          size_t expiry, uint64_t strike, uint64_t bond, uint64_t option) {
-    struct mixegorta_bond_and_option both =
-        mixegorta_bond_and_option(steps, 0, lent, lent_len, flows, flows_len, kind, expiry, strike);
-    return both.bond.number == bond && both.option.number == option &&
-           same_price(both.bond, mixegorta_bond_price(steps, 0, lent, lent_len, flows, flows_len)) &&
-           same_price(both.option, mixegorta_option_price(steps, 0, lent, lent_len, flows, flows_len, kind, expiry, strike));
+    return agree(mixegorta_bond_and_option(steps, 0, lent, lent_len, flows, flows_len, kind, expiry, strike),
+                 mixegorta_bond_price(steps, 0, lent, lent_len, flows, flows_len),
+                 mixegorta_option_price(steps, 0, lent, lent_len, flows, flows_len, kind, expiry, strike), bond, option);
 }
 
 static void bond_and_option(void) {
@@ -445,6 +449,117 @@ static void value_limits(void) {
     for (size_t i = 0; i < 81; i++) high[i] = MIXEGORTA_MAX_NODE_DISCOUNT;
     CHECK(each_its_own(9, high, 81, nothing, 9, MIXEGORTA_EUROPEAN_PUT, 8, MIXEGORTA_MAX_STRIKE, 0, 12));
     CHECK(each_its_own(9, high, 81, nothing, 9, MIXEGORTA_EUROPEAN_PUT, 7, MIXEGORTA_MAX_STRIKE, 0, 0));
+}
+
+/* A note of six steps, whose nodes have their row's discount. It pays 0.05 on rows 2 and 4 and 1.05 on row 6, and is worth
+ * 1.05 on row 4, 1.1 on row 3, 1.078 on row 2, 1.0152 on row 1 and 0.91368 on row 0, each without the flow of its row. */
+enum { NOTE_STEPS = 6, NOTE_DISCOUNTS = NOTE_STEPS * NOTE_STEPS };
+static uint64_t note_discounts[NOTE_DISCOUNTS];
+static uint64_t note_flows[NOTE_STEPS];
+
+static void write_note(void) {
+    const uint64_t row_discounts[NOTE_STEPS] = {900000000, 900000000, 980000000, ONE, ONE, ONE};
+    const uint64_t coupons[NOTE_STEPS] = {0, 50000000, 0, 50000000, 0, 1050000000};
+    for (size_t row = 0; row < NOTE_STEPS; row++)
+        for (size_t i = row * row; i < (row + 1) * (row + 1); i++) note_discounts[i] = row_discounts[row];
+    memcpy(note_flows, coupons, sizeof coupons);
+}
+
+static struct mixegorta_price note_option(uint64_t side, const uint8_t *dates, size_t count, uint64_t strike) {
+    return mixegorta_dated_option_price(NOTE_STEPS, 0, note_discounts, NOTE_DISCOUNTS, note_flows, NOTE_STEPS, side, dates, count,
+                                        strike);
+}
+
+/* Of the coupon days the call is best exercised on row 2, the put on row 4; of all rows the call on row 3, the put on row 0. */
+static void callable_notes(void) {
+    const uint8_t coupon_days[] = {2, 4}, all[] = {0, 1, 2, 3, 4};
+    const uint64_t put_strike = 1100000000;
+    write_note();
+    struct mixegorta_price bond = mixegorta_bond_price(NOTE_STEPS, 0, note_discounts, NOTE_DISCOUNTS, note_flows, NOTE_STEPS);
+    CHECK(priced(bond, 913680000, bond.bound) && bond.bound > 0);
+    CHECK(priced(note_option(MIXEGORTA_CALL, coupon_days, 2, ONE), 63180000, bond.bound));
+    CHECK(priced(note_option(MIXEGORTA_CALL, coupon_days, 1, ONE), 63180000, bond.bound));
+    CHECK(priced(note_option(MIXEGORTA_CALL, coupon_days + 1, 1, ONE), 39690000, bond.bound));
+    CHECK(priced(note_option(MIXEGORTA_CALL, all + 3, 1, ONE), 79380000, bond.bound));
+    CHECK(priced(note_option(MIXEGORTA_CALL, all, 5, ONE), 79380000, bond.bound));
+    CHECK(priced(note_option(MIXEGORTA_PUT, coupon_days, 2, put_strike), 39690000, bond.bound));
+    CHECK(priced(note_option(MIXEGORTA_PUT, coupon_days, 1, put_strike), 17820000, bond.bound));
+    CHECK(priced(note_option(MIXEGORTA_PUT, all, 5, put_strike), 186320000, bond.bound));
+    struct mixegorta_bond_and_option both = mixegorta_bond_and_dated_option(
+        NOTE_STEPS, 0, note_discounts, NOTE_DISCOUNTS, note_flows, NOTE_STEPS, MIXEGORTA_CALL, coupon_days, 2, ONE);
+    CHECK(agree(both, bond, note_option(MIXEGORTA_CALL, coupon_days, 2, ONE), 0, 0));
+}
+
+/* The list of a kind: expiry alone, or every row from 0 to expiry. Gives its count. */
+static size_t list_of_kind(uint64_t kind, size_t expiry, uint8_t *dates) {
+    size_t first = kind <= MIXEGORTA_EUROPEAN_PUT ? expiry : 0;
+    for (size_t row = first; row <= expiry; row++) dates[row - first] = (uint8_t)row;
+    return expiry - first + 1;
+}
+
+/* A kind and its list give one answer; on the last row, where the bond has been repaid, a kind gives 11 and its list 13. */
+static void kinds_and_lists(void) {
+    enum { STEPS = MIXEGORTA_MAX_STEPS };
+    uint64_t flows[STEPS];
+    uint8_t dates[STEPS + 1];
+    falling_curve(0.995);
+    CHECK(fit(4, STEPS, 1000, 10000) == 0);
+    for (size_t i = 0; i < STEPS; i++) flows[i] = i + 1 < STEPS ? 5000000 : ONE;
+    for (uint64_t kind = 1; kind <= 4; kind++)
+        for (size_t expiry = 0; expiry <= STEPS; expiry++) {
+            size_t count = list_of_kind(kind, expiry, dates);
+            struct mixegorta_price listed = mixegorta_dated_option_price(STEPS, 1000, discounts, discounts_size, flows, STEPS,
+                                                                         2 - kind % 2, dates, count, ONE);
+            struct mixegorta_price of_kind =
+                mixegorta_option_price(STEPS, 1000, discounts, discounts_size, flows, STEPS, kind, expiry, ONE);
+            if (expiry < STEPS)
+                CHECK(of_kind.number == 0 && same_price(listed, of_kind));
+            else
+                CHECK(unpriced(of_kind, 11) && unpriced(listed, 13));
+        }
+}
+
+/* Bond and option of five steps without reversion, by the numbers they are refused with. */
+static bool five_steps(const uint64_t *lent, const uint64_t *flows, uint64_t side, const uint8_t *dates, size_t count, uint64_t strike,
+                       uint64_t bond, uint64_t option) {
+    return agree(mixegorta_bond_and_dated_option(5, 0, lent, 25, flows, 5, side, dates, count, strike),
+                 mixegorta_bond_price(5, 0, lent, 25, flows, 5),
+                 mixegorta_dated_option_price(5, 0, lent, 25, flows, 5, side, dates, count, strike), bond, option);
+}
+
+/* Lists that are none, do not rise, or reach row 5. */
+static const uint8_t last[] = {5}, equal[] = {1, 1}, falling[] = {3, 1}, past[] = {1, 61, 255}, zero_rows[4672];
+static const struct {
+    const uint8_t *rows;
+    size_t count;
+} bad_lists[] = {{NULL, 0}, {last, 1}, {equal, 2}, {falling, 2}, {past, 3}, {zero_rows, sizeof zero_rows}};
+
+/* The dates come after side and strike, and before a bond above the limit. */
+static void date_refusals(void) {
+    const uint8_t good[] = {1, 4};
+    uint64_t flat[25], flows[5];
+    for (size_t i = 0; i < 25; i++) flat[i] = ONE;
+    for (size_t i = 0; i < 5; i++) flows[i] = MIXEGORTA_MAX_FLOW;
+    for (uint64_t side = MIXEGORTA_CALL; side <= MIXEGORTA_PUT; side++) {
+        uint64_t bond = side == MIXEGORTA_CALL ? 12 : 0;
+        flows[0] = bond == 12 ? MIXEGORTA_MAX_FLOW : 0;
+        CHECK(five_steps(flat, flows, side, good, 1, ONE, bond, bond));
+        CHECK(five_steps(flat, flows, side, good, 2, MIXEGORTA_MAX_STRIKE, bond, bond));
+        for (size_t i = 0; i < sizeof bad_lists / sizeof bad_lists[0]; i++) {
+            CHECK(five_steps(flat, flows, side, bad_lists[i].rows, bad_lists[i].count, ONE, bond, 13));
+            CHECK(five_steps(flat, flows, side, bad_lists[i].rows, bad_lists[i].count, MIXEGORTA_MAX_STRIKE + 1, bond, 11));
+            CHECK(five_steps(flat, flows, 0, bad_lists[i].rows, bad_lists[i].count, ONE, bond, 11));
+        }
+        CHECK(five_steps(flat, flows, 3, good, 2, ONE, bond, 11));
+        CHECK(five_steps(flat, flows, UINT64_MAX, good, 2, ONE, bond, 11));
+    }
+    flows[0] = MIXEGORTA_MAX_FLOW + 1;
+    CHECK(five_steps(flat, flows, 0, NULL, 0, ONE, 10, 10));
+    flat[24] = 0;
+    CHECK(five_steps(flat, flows, 0, NULL, 0, ONE, 9, 9));
+    CHECK(unpriced(mixegorta_dated_option_price(5, 0, flat, 24, flows, 5, 0, NULL, 0, ONE), 6));
+    CHECK(unpriced(mixegorta_dated_option_price(5, 6001, NULL, 0, NULL, 0, 0, NULL, 0, ONE), 4));
+    CHECK(unpriced(mixegorta_dated_option_price(0, 6001, NULL, 0, NULL, 0, 0, NULL, 0, ONE), 3));
 }
 
 static void values(void) {
@@ -576,6 +691,35 @@ static void refused_jobs(void) {
     CHECK(unprinted(altered(42, "\2", 1, room), 11));
 }
 
+/* The example job with other bytes in place of its option. */
+static struct mixegorta_written with_option(const char *bytes, size_t count) {
+    uint8_t job[2 * JOB];
+    memcpy(job, example_job, JOB - OPTION);
+    memcpy(job + JOB - OPTION, bytes, count);
+    return sheet(job, JOB - OPTION + count, MIXEGORTA_SHEET_ROOM);
+}
+
+#define WITH_OPTION(text) with_option(text, sizeof(text) - 1)
+#define BY_KIND "\x08\0\6\4\0\x3C\x33\x60\x80"
+#define PUT_TERMS "\2\x3C\x33\x60\x80"
+#define BY_DATES "\x0A\0\6" PUT_TERMS "\0"
+
+/* The same put by its list, row 0 alone, in field 0A; then lists that are empty, reach row 1 or do not rise. */
+static void dated_jobs(void) {
+    const size_t room = MIXEGORTA_SHEET_ROOM, size = sizeof example_sheet - 1;
+    CHECK(printed(WITH_OPTION(BY_KIND), size, room));
+    CHECK(printed(WITH_OPTION(BY_DATES), size, room));
+    CHECK(unprinted(WITH_OPTION("\x0A\0\5" PUT_TERMS), 13));
+    CHECK(unprinted(WITH_OPTION("\x0A\0\6" PUT_TERMS "\1"), 13));
+    CHECK(unprinted(WITH_OPTION("\x0A\0\7" PUT_TERMS "\0\0"), 13));
+    CHECK(unprinted(WITH_OPTION("\x0A\0\5\3\x3C\x33\x60\x80"), 11));
+    CHECK(unprinted(WITH_OPTION("\x0A\0\5\2\xEE\x6B\x28\x01"), 11)); /* a strike above its limit */
+    CHECK(unprinted(WITH_OPTION("\x0A\0\4\2\x3C\x33\x60"), 1));
+    CHECK(unprinted(WITH_OPTION(BY_KIND BY_DATES), 1));
+    CHECK(unprinted(WITH_OPTION(BY_DATES BY_KIND), 1));
+    CHECK(unprinted(WITH_OPTION(BY_DATES BY_DATES), 1));
+}
+
 int main(void) {
     shapes();
     branches();
@@ -592,11 +736,15 @@ int main(void) {
     exercise_days();
     bond_and_option();
     value_limits();
+    callable_notes();
+    kinds_and_lists();
+    date_refusals();
     values();
     bounds();
     sheets();
     malformed_jobs();
     refused_jobs();
+    dated_jobs();
     printf("C: %u checks, %u failed\n", checks, failures);
     return failures != 0;
 }

@@ -1,9 +1,9 @@
 // What is compared of one input. A difference panics.
 use crate::engine;
-use crate::exact::{near_fourth_power, Exact};
+use crate::exact::{near_fourth_power, Exact, ExactBond};
 use crate::inputs::Case;
 use crate::natural::Natural;
-use crate::rules::{self, Curve, Fitted, Outcome, Tree, DISCOUNT_LIMIT, ONE};
+use crate::rules::{self, Curve, DatedOption, Fitted, Outcome, Tree, CALL, DISCOUNT_LIMIT, FLOW_LIMIT, ONE, PUT};
 use std::collections::BTreeMap;
 use std::fmt;
 
@@ -12,12 +12,26 @@ const GUARD: usize = 4;
 const REPRICED_WITHIN: u64 = 300;
 const YIELD_WITHIN: u64 = 100;
 const RATES_OF_A_CASE: usize = 8;
-const EXERCISED: [&str; 4] = [
-    "European calls, exercised on a flow",
-    "European puts, exercised on a flow",
-    "American calls, exercised on a flow",
-    "American puts, exercised on a flow",
+/// What options are called: prices of them, and those that are exercised on a flow.
+type Called = (&'static str, &'static str);
+const KINDS: [Called; 4] = [
+    ("European call prices", "European calls, exercised on a flow"),
+    ("European put prices", "European puts, exercised on a flow"),
+    ("American call prices", "American calls, exercised on a flow"),
+    ("American put prices", "American puts, exercised on a flow"),
 ];
+const DATED: [Called; 2] = [
+    ("dated call prices", "dated calls, exercised on a flow"),
+    ("dated put prices", "dated puts, exercised on a flow"),
+];
+/// The entries of prices, by where their discounts come from.
+struct Entries {
+    bond: &'static str,
+    option: &'static str,
+    dated: &'static str,
+}
+const ON_A_FIT: Entries = Entries { bond: "bond on a fit", option: "option on a fit", dated: "dated on a fit" };
+const ON_LENT: Entries = Entries { bond: "bond on lent", option: "option on lent", dated: "dated on lent" };
 
 #[derive(Default)]
 pub struct Tally {
@@ -34,6 +48,13 @@ impl Tally {
 
     fn exact(&mut self, what: &'static str) {
         *self.exact.entry(what).or_default() += 1;
+    }
+
+    /// How many dated options were compared, and how many of them were priced.
+    pub fn dated_options(&self) -> (u64, u64) {
+        let of = |entries: &Entries| self.results.get(entries.dated).into_iter().flatten();
+        let found = || of(&ON_A_FIT).chain(of(&ON_LENT));
+        (found().map(|(_, count)| count).sum(), found().filter(|(number, _)| **number == 0).map(|(_, count)| count).sum())
     }
 }
 
@@ -64,11 +85,11 @@ pub fn all(case: &Case, tally: &mut Tally) {
     match &fitted {
         Some(fitted) => {
             laws_of_fit(case, fitted, tally);
-            prices(case, &fitted.discounts, "on a fit", tally);
+            prices(case, &fitted.discounts, &ON_A_FIT, tally);
         }
         None => rates(&case.lent, tally),
     }
-    prices(case, &case.lent, "on lent", tally);
+    prices(case, &case.lent, &ON_LENT, tally);
     weighing(case, fitted.as_ref(), tally);
 }
 
@@ -186,6 +207,19 @@ pub fn rates_at_borders(tally: &mut Tally) {
     }
 }
 
+/// The figures of document 02: five steps, all discounts one, flows of two, so that the bond passes its limit. A bad list comes before that.
+pub fn dates_by_hand() {
+    let (tree, flows) = (Tree { steps: 5, reversion: 0 }, [FLOW_LIMIT; 5]);
+    let discounts = vec![ONE; tree.discounts_needed()];
+    for (dates, number) in [(vec![1], 12), (vec![5], 13), (vec![1, 1], 13), (vec![], 13)] {
+        for side in [CALL, PUT] {
+            let option = DatedOption { side, strike: ONE, dates: dates.clone() };
+            assert_eq!(engine::dated_option(&tree, &discounts, &flows, &option), Err(number), "dates {dates:?}");
+            assert_eq!(engine::bond_and_dated_option(&tree, &discounts, &flows, &option), (Err(12), Err(number)), "dates {dates:?}");
+        }
+    }
+}
+
 /// Where the rate is not 0, its sign is the step rate's.
 fn continuous_rate(discount: u64, tally: &mut Tally) {
     let rate = engine::continuous_rate(discount);
@@ -236,10 +270,10 @@ fn laws_of_fit(case: &Case, fitted: &Fitted, tally: &mut Tally) {
 
 // Demand 3
 
-fn within(rows: &Exact, n: usize, priced: (u64, u64), exact: &Natural, what: &str) {
+fn within(bond: &ExactBond, priced: (u64, u64), exact: &Natural, what: &str) {
     let (price, bound) = priced;
-    let distance = rows.held(price, n).distance(exact);
-    assert!(distance <= rows.held(bound, n), "{what}: {price} is further than {bound} from the exact price");
+    let distance = bond.held(price).distance(exact);
+    assert!(distance <= bond.held(bound), "{what}: {price} is further than {bound} from the exact price");
 }
 
 fn at_most_three_a_step(tree: &Tree, discounts: &[u64], bound: u64) {
@@ -247,29 +281,69 @@ fn at_most_three_a_step(tree: &Tree, discounts: &[u64], bound: u64) {
     assert!(shown.iter().any(|v| *v > ONE) || bound <= 3 * tree.steps as u64, "bound {bound} above three a step");
 }
 
-fn prices(case: &Case, discounts: &[u64], on: &'static str, tally: &mut Tally) {
+/// The answers of both at once, of which each must be what its own entry gives.
+fn both(found: engine::Both, bond: Outcome<(u64, u64)>, option: Outcome<(u64, u64)>, names: [&'static str; 2], tally: &mut Tally) {
+    assert_eq!(found, (bond, option), "{}: library left, rules right", names[0]);
+    tally.result(names[bond.is_err() as usize], &option);
+}
+
+/// The same rights by a kind and by its list: one whole answer.
+fn one_right_twice(case: &Case, discounts: &[u64], tally: &mut Tally) {
     let (tree, flows, contract) = (case.fit.tree, &case.flows, &case.contract);
-    let (bond_name, option_name) = if on == "on lent" { ("bond on lent", "option on lent") } else { ("bond on a fit", "option on a fit") };
-    let (bond_rules, option_rules) = (tree.bond(discounts, flows), tree.option(discounts, flows, contract));
-    let both = engine::bond_and_option(&tree, discounts, flows, contract);
-    assert_eq!(both, (bond_rules, option_rules), "bond and option: library left, rules right");
-    tally.result(if both.0.is_ok() { "both, bond priced" } else { "both, bond refused" }, &both.1);
-    let bond = agree(bond_name, engine::bond(&tree, discounts, flows), bond_rules, tally);
-    let option = agree(option_name, engine::option(&tree, discounts, flows, contract), option_rules, tally);
-    agree("state price bound", engine::state_price_bound(&tree, discounts, case.row), tree.state_price_bound(discounts, case.row), tally);
-    let bound = tree.weighing_bound(discounts, case.row, &case.payoffs);
-    agree("weighing bound", engine::weighing_bound(&tree, discounts, case.row, &case.payoffs), bound, tally);
-    let Some(bond) = bond else { return };
-    let rows = Exact::new(tree, discounts);
-    within(&rows, tree.steps, bond, &rows.bond(flows), "bond");
+    let Some(list) = contract.dated(tree.steps) else { return };
+    let (kind, dated) = (engine::option(&tree, discounts, flows, contract), engine::dated_option(&tree, discounts, flows, &list));
+    assert_eq!(dated, kind, "a list left, its kind right");
+    let pairs = (engine::bond_and_option(&tree, discounts, flows, contract), engine::bond_and_dated_option(&tree, discounts, flows, &list));
+    assert_eq!(pairs.1, pairs.0, "bond and option: a list left, its kind right");
+    tally.result("kind and its list", &kind);
+}
+
+fn bounds(case: &Case, discounts: &[u64], tally: &mut Tally) {
+    let (tree, row, payoffs) = (case.fit.tree, case.row, &case.payoffs);
+    agree("state price bound", engine::state_price_bound(&tree, discounts, row), tree.state_price_bound(discounts, row), tally);
+    let bound = tree.weighing_bound(discounts, row, payoffs);
+    agree("weighing bound", engine::weighing_bound(&tree, discounts, row, payoffs), bound, tally);
+}
+
+fn prices(case: &Case, discounts: &[u64], entries: &Entries, tally: &mut Tally) {
+    let (tree, flows, contract, dated) = (case.fit.tree, &case.flows, &case.contract, &case.dated);
+    let bond = tree.bond(discounts, flows);
+    let (of_kind, of_dates) = (tree.option(discounts, flows, contract), tree.dated_option(discounts, flows, dated));
+    let pair = engine::bond_and_option(&tree, discounts, flows, contract);
+    both(pair, bond, of_kind, ["both, bond priced", "both, bond refused"], tally);
+    let pair = engine::bond_and_dated_option(&tree, discounts, flows, dated);
+    both(pair, bond, of_dates, ["dated, bond priced", "dated, bond refused"], tally);
+    let bond = agree(entries.bond, engine::bond(&tree, discounts, flows), bond, tally);
+    let of_kind = agree(entries.option, engine::option(&tree, discounts, flows, contract), of_kind, tally);
+    let of_dates = agree(entries.dated, engine::dated_option(&tree, discounts, flows, dated), of_dates, tally);
+    one_right_twice(case, discounts, tally);
+    bounds(case, discounts, tally);
+    if let Some(bond) = bond {
+        exact_prices(case, discounts, bond, [of_kind, of_dates], tally);
+    }
+}
+
+/// A bond, and what was priced of option by kind and dated option, each against the exact pricer.
+fn exact_prices(case: &Case, discounts: &[u64], bond: (u64, u64), options: [Option<(u64, u64)>; 2], tally: &mut Tally) {
+    let (tree, contract, dated) = (case.fit.tree, &case.contract, &case.dated);
+    let exact = ExactBond::new(tree, discounts, &case.flows);
+    within(&exact, bond, exact.price(), "bond");
     at_most_three_a_step(&tree, discounts, bond.1);
     tally.exact("bond prices");
-    let Some(option) = option else { return };
-    within(&rows, tree.steps, option, &rows.option(flows, contract), "option");
-    at_most_three_a_step(&tree, discounts, option.1);
-    tally.exact(["European call prices", "European put prices", "American call prices", "American put prices"][contract.kind as usize - 1]);
-    if tree.exercised_on_a_flow(discounts, flows, contract) {
-        tally.exact(EXERCISED[contract.kind as usize - 1]);
+    let mut option_within = |option: &DatedOption, price: (u64, u64), called: Called| {
+        within(&exact, price, &exact.option(option), called.0);
+        at_most_three_a_step(&tree, discounts, price.1);
+        tally.exact(called.0);
+        if tree.exercised_on_a_flow(discounts, &case.flows, option) {
+            tally.exact(called.1);
+        }
+    };
+    if let Some(price) = options[0] {
+        let list = contract.dated(tree.steps).expect("the list of a priced kind");
+        option_within(&list, price, KINDS[contract.kind as usize - 1]);
+    }
+    if let Some(price) = options[1] {
+        option_within(dated, price, DATED[dated.side as usize - 1]);
     }
 }
 

@@ -1,5 +1,5 @@
 // The library, as its C header declares it.
-use crate::rules::{Contract, Curve, FitInput, Outcome, Tree};
+use crate::rules::{Contract, Curve, DatedOption, FitInput, Outcome, Tree};
 use std::ptr;
 
 #[repr(C)]
@@ -87,6 +87,14 @@ extern "C" {
     fn mixegorta_bond_and_option(
         steps: usize, reversion: u64, discounts: *const u64, discount_count: usize, flows: *const u64, flow_count: usize,
         kind: u64, expiry: usize, strike: u64,
+    ) -> BondAndOption;
+    fn mixegorta_dated_option_price(
+        steps: usize, reversion: u64, discounts: *const u64, discount_count: usize, flows: *const u64, flow_count: usize,
+        side: u64, dates: *const u8, date_count: usize, strike: u64,
+    ) -> Price;
+    fn mixegorta_bond_and_dated_option(
+        steps: usize, reversion: u64, discounts: *const u64, discount_count: usize, flows: *const u64, flow_count: usize,
+        side: u64, dates: *const u8, date_count: usize, strike: u64,
     ) -> BondAndOption;
     fn mixegorta_value_by_state_prices(state_prices: *const u64, state_price_count: usize, payoffs: *const u64, payoff_count: usize) -> Answer;
     fn mixegorta_valuation_error_bound(
@@ -208,11 +216,32 @@ pub fn option(tree: &Tree, discounts: &[u64], flows: &[u64], c: &Contract) -> Ou
     })
 }
 
+pub fn dated_option(tree: &Tree, discounts: &[u64], flows: &[u64], o: &DatedOption) -> Outcome<(u64, u64)> {
+    priced(unsafe {
+        mixegorta_dated_option_price(
+            tree.steps, tree.reversion, start(discounts), discounts.len(), start(flows), flows.len(), o.side, start(&o.dates),
+            o.dates.len(), o.strike,
+        )
+    })
+}
+
 /// The bond's outcome and the option's, from one call.
-pub fn bond_and_option(tree: &Tree, discounts: &[u64], flows: &[u64], c: &Contract) -> (Outcome<(u64, u64)>, Outcome<(u64, u64)>) {
+pub type Both = (Outcome<(u64, u64)>, Outcome<(u64, u64)>);
+
+pub fn bond_and_option(tree: &Tree, discounts: &[u64], flows: &[u64], c: &Contract) -> Both {
     let both = unsafe {
         mixegorta_bond_and_option(
             tree.steps, tree.reversion, start(discounts), discounts.len(), start(flows), flows.len(), c.kind, c.expiry, c.strike,
+        )
+    };
+    (priced(both.bond), priced(both.option))
+}
+
+pub fn bond_and_dated_option(tree: &Tree, discounts: &[u64], flows: &[u64], o: &DatedOption) -> Both {
+    let both = unsafe {
+        mixegorta_bond_and_dated_option(
+            tree.steps, tree.reversion, start(discounts), discounts.len(), start(flows), flows.len(), o.side, start(&o.dates),
+            o.dates.len(), o.strike,
         )
     };
     (priced(both.bond), priced(both.option))

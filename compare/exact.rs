@@ -1,7 +1,7 @@
 // Exact discounts of yields, and the exact pricer of document 01, multiplied out: with m = 600,000,000 × one, a value with k rows left to
 // its last row is held times m^k, and an exact state price of row i times m^i. It is fed what document 01 lists alone.
 use crate::natural::Natural;
-use crate::rules::{flow_of, Contract, Tree, ONE, WHOLE};
+use crate::rules::{flow_of, DatedOption, Tree, CALL, ONE, WHOLE};
 
 /// The exact series at an amount, times 12! × one^11.
 fn series(amount: u64, alternating: bool) -> Natural {
@@ -65,41 +65,6 @@ impl<'a> Exact<'a> {
         (-w..=w).map(rolled).collect()
     }
 
-    fn bond_rows(&self, flows: &[u64]) -> Vec<Vec<Natural>> {
-        let n = self.tree.steps;
-        let mut rows = vec![vec![Natural::from(flows[n - 1]); self.tree.node_count(n)]];
-        for i in (0..n).rev() {
-            let flow = self.held(flow_of(flows, i), n - i);
-            let rolled = self.roll(i, rows.last().unwrap());
-            rows.push(rolled.iter().map(|v| v.plus(&flow)).collect());
-        }
-        rows.reverse();
-        rows
-    }
-
-    /// The bond's exact price times m^n.
-    pub fn bond(&self, flows: &[u64]) -> Natural {
-        self.bond_rows(flows)[0][0].clone()
-    }
-
-    /// The option's exact price times m^n. Exercise is on this pricer's own bond, without the flow of its row.
-    pub fn option(&self, flows: &[u64], contract: &Contract) -> Natural {
-        let bonds = self.bond_rows(flows);
-        let exercised = |i: usize| -> Vec<Natural> {
-            let (strike, flow) = (self.held(contract.strike, self.tree.steps - i), self.held(flow_of(flows, i), self.tree.steps - i));
-            let now = |bare: Natural| if contract.call() { bare.less(&strike) } else { strike.less(&bare) };
-            bonds[i].iter().map(|bond| now(bond.less(&flow))).collect()
-        };
-        let mut row = exercised(contract.expiry);
-        for i in (0..contract.expiry).rev() {
-            row = self.roll(i, &row);
-            if contract.american() {
-                row = row.into_iter().zip(exercised(i)).map(|(rolled, now)| rolled.max(now)).collect();
-            }
-        }
-        row[0].clone()
-    }
-
     /// The exact price, times m^row, of payoffs on a row.
     pub fn payoffs(&self, row: usize, payoffs: &[u64]) -> Natural {
         let mut values: Vec<Natural> = payoffs.iter().map(|x| Natural::from(*x)).collect();
@@ -125,5 +90,55 @@ impl<'a> Exact<'a> {
             rows.push(later);
         }
         rows
+    }
+}
+
+/// A bond's exact values on rows 0 to n, row i times m^(n−i), and the options on it.
+pub struct ExactBond<'a> {
+    rows: Exact<'a>,
+    flows: &'a [u64],
+    values: Vec<Vec<Natural>>,
+}
+
+impl<'a> ExactBond<'a> {
+    pub fn new(tree: Tree, discounts: &'a [u64], flows: &'a [u64]) -> ExactBond<'a> {
+        let (rows, n) = (Exact::new(tree, discounts), tree.steps);
+        let mut values = vec![vec![Natural::from(flows[n - 1]); tree.node_count(n)]];
+        for i in (0..n).rev() {
+            let flow = rows.held(flow_of(flows, i), n - i);
+            let rolled = rows.roll(i, values.last().unwrap());
+            values.push(rolled.iter().map(|v| v.plus(&flow)).collect());
+        }
+        values.reverse();
+        ExactBond { rows, flows, values }
+    }
+
+    /// An amount as prices of row 0 are held: times m^n.
+    pub fn held(&self, amount: u64) -> Natural {
+        self.rows.held(amount, self.rows.tree.steps)
+    }
+
+    pub fn price(&self) -> &Natural {
+        &self.values[0][0]
+    }
+
+    /// Exercise values of a row, on the bond without the flow of that row.
+    fn exercised(&self, option: &DatedOption, row: usize) -> Vec<Natural> {
+        let left = self.rows.tree.steps - row;
+        let (strike, flow) = (self.rows.held(option.strike, left), self.rows.held(flow_of(self.flows, row), left));
+        let now = |bare: Natural| if option.side == CALL { bare.less(&strike) } else { strike.less(&bare) };
+        self.values[row].iter().map(|bond| now(bond.less(&flow))).collect()
+    }
+
+    /// The option's exact price, which is fed the list.
+    pub fn option(&self, option: &DatedOption) -> Natural {
+        let mut row = self.exercised(option, option.last());
+        for i in (0..option.last()).rev() {
+            row = self.rows.roll(i, &row);
+            if option.listed(i) {
+                row = row.into_iter().zip(self.exercised(option, i)).map(|(rolled, now)| rolled.max(now)).collect();
+            }
+        }
+        row[0].clone()
     }
 }

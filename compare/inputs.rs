@@ -1,5 +1,5 @@
 // Random inputs: curves and trees as a desk has them, and ones with something wrong.
-use crate::rules::{spacing, Contract, Curve, FitInput, Tree, DISCOUNT_LIMIT, FLOW_LIMIT, ONE, STRIKE_LIMIT, VALUE_LIMIT};
+use crate::rules::{spacing, Contract, Curve, DatedOption, FitInput, Tree, DISCOUNT_LIMIT, FLOW_LIMIT, ONE, STRIKE_LIMIT, VALUE_LIMIT};
 
 pub struct Random(u64);
 
@@ -45,6 +45,7 @@ pub struct Case {
     pub lent: Vec<u64>,
     pub flows: Vec<u64>,
     pub contract: Contract,
+    pub dated: DatedOption,
     pub row: usize,
     pub node: i64,
     pub row_kind: u64,
@@ -162,6 +163,38 @@ fn flows(r: &mut Random, n: usize) -> Vec<u64> {
     made
 }
 
+/// Rows that rise and stay below n: any, every few, every one to some row, or one alone.
+fn dates(r: &mut Random, n: usize) -> Vec<u8> {
+    let some = r.below(n) as u8;
+    let chance = r.within(5, 95);
+    match r.below(5) {
+        0 => vec![some],
+        1 => (0..=some).collect(),
+        2 => (some..n as u8).step_by(r.within(1, 6) as usize).collect(),
+        _ => (0..n as u8).filter(|row| *row == some || r.chance(chance)).collect(),
+    }
+}
+
+/// Dates that are empty, do not rise, reach row n, or are more than a tree has rows.
+fn wrong_dates(r: &mut Random, n: usize, mut dates: Vec<u8>) -> Vec<u8> {
+    let (reached, count) = (n.min(255) as u8, r.within(62, 5_000) as usize);
+    match r.below(9) {
+        0 => return Vec::new(),
+        1 => dates.push(reached),
+        2 => dates.push(255),
+        3 => dates.extend(dates.last().copied()),
+        4 => dates = (0..=reached).collect(),
+        5 => dates = (0..=255).collect(),
+        6 => dates = vec![r.below(60) as u8; count],
+        7 => dates = (0..r.within(2, 300)).map(|_| r.bits() as u8).collect(),
+        _ => {
+            let place = r.below(dates.len() + 1);
+            dates.insert(place, r.below(60) as u8);
+        }
+    }
+    dates
+}
+
 fn payoffs(r: &mut Random, count: usize) -> Vec<u64> {
     let most = r.pick(&[0, 1, 1_000, ONE, 4 * ONE, VALUE_LIMIT]);
     if r.chance(15) {
@@ -199,6 +232,7 @@ pub fn case(r: &mut Random) -> Case {
     };
     let strikes = r.pick(&[(0, 3 * ONE), (0, STRIKE_LIMIT), (0, 3 * ONE / 2), (9 * ONE / 10, 11 * ONE / 10), (0, 1)]);
     let contract = Contract { kind: r.within(1, 4), expiry: r.below(tree.steps), strike: r.within(strikes.0, strikes.1) };
+    let dated = DatedOption { side: r.within(1, 2), strike: r.within(strikes.0, strikes.1), dates: dates(r, tree.steps) };
     let half = tree.half_width(row);
     let mut made = Case {
         shape,
@@ -206,6 +240,7 @@ pub fn case(r: &mut Random) -> Case {
         lent: lent(r, needed),
         flows: flows(r, tree.steps),
         contract,
+        dated,
         row,
         node: r.within(0, 2 * half as u64) as i64 - half,
         row_kind: r.within(1, 2),
@@ -268,7 +303,7 @@ fn spoil<T>(r: &mut Random, list: &mut Vec<T>, made: T) {
 
 fn damage(r: &mut Random, case: &mut Case) {
     let (huge, n) = (u64::MAX, case.fit.tree.steps);
-    match r.below(27) {
+    match r.below(31) {
         0 => case.fit.frequency = r.pick(&[0, 3, 5, 6, 11, 13, 255, huge, 1 << 32]),
         1 => case.fit.tree.steps = r.pick(&[0, 61, 62, 255, 1 << 32, usize::MAX]),
         2 => case.fit.tree.reversion = r.pick(&[6_001, 65_535, 1 << 32, huge]),
@@ -291,7 +326,16 @@ fn damage(r: &mut Random, case: &mut Case) {
         21 => case.row = r.pick(&[n.wrapping_add(1), n, 60, 61, usize::MAX]),
         22 => spoil_weighing(r, case),
         23..=25 => spoil_by_yield(r, case.fit.frequency, &mut case.fit.curve),
+        26..=28 => case.dated.dates = wrong_dates(r, n, std::mem::take(&mut case.dated.dates)),
+        29 => spoil_dated(r, &mut case.dated),
         _ => strange_view(r, case),
+    }
+}
+
+fn spoil_dated(r: &mut Random, dated: &mut DatedOption) {
+    match r.below(2) {
+        0 => dated.side = r.pick(&[0, 3, 4, 255, 256, 257, 1 << 32, u64::MAX]),
+        _ => dated.strike = r.pick(&[STRIKE_LIMIT, STRIKE_LIMIT + 1, u64::MAX]),
     }
 }
 

@@ -21,6 +21,7 @@ fn main() {
     natural::check();
     let mut tally = Tally::default();
     checks::rates_at_borders(&mut tally);
+    checks::dates_by_hand();
     for own in seed..seed + count {
         let case = inputs::case(&mut inputs::Random::new(own));
         let compared = panic::catch_unwind(panic::AssertUnwindSafe(|| checks::all(&case, &mut tally)));
@@ -31,5 +32,7 @@ fn main() {
         }
     }
     println!("{tally}");
+    let (dated, priced) = tally.dated_options();
+    println!("{dated} dated options compared, {priced} of them priced and held against the exact pricer");
     println!("{count} inputs from seed {seed}: every result equal, every bound kept");
 }

@@ -12,7 +12,7 @@ const FOURFOLD_LIMIT: i128 = 4 * ONE as i128;
 
 pub type Outcome<T> = Result<T, u64>;
 
-/// The lowest number whose cause applies.
+/// The lowest number whose cause applies. Where 13 and 12 both do, 13 is tried in an earlier call.
 pub fn lowest(causes: &[(u64, bool)]) -> Outcome<()> {
     match causes.iter().filter(|c| c.1).map(|c| c.0).min() {
         Some(number) => Err(number),
@@ -341,6 +341,7 @@ pub fn continuous_rate(discount: u64) -> Outcome<i64> {
 
 // Prices
 
+/// An option by its kind.
 #[derive(Clone, Copy, Debug)]
 pub struct Contract {
     pub kind: u64,
@@ -349,20 +350,52 @@ pub struct Contract {
 }
 
 impl Contract {
-    pub fn call(&self) -> bool {
-        self.kind == 1 || self.kind == 3
-    }
-
-    pub fn american(&self) -> bool {
-        self.kind == 3 || self.kind == 4
-    }
-
     fn wrong(&self, steps: usize) -> bool {
         !(1..=4).contains(&self.kind) || self.expiry >= steps || self.strike > STRIKE_LIMIT
     }
 
+    /// The same rights by a list: the expiry alone, or every row from 0 to it. None where no list means the same.
+    pub fn dated(&self, steps: usize) -> Option<DatedOption> {
+        if !(1..=4).contains(&self.kind) || self.expiry >= steps {
+            return None;
+        }
+        let last = u8::try_from(self.expiry).ok()?;
+        let first = if self.kind >= 3 { 0 } else { last };
+        Some(DatedOption { side: if self.kind % 2 == 1 { CALL } else { PUT }, strike: self.strike, dates: (first..=last).collect() })
+    }
+}
+
+pub const CALL: u64 = 1;
+pub const PUT: u64 = 2;
+
+/// The right to buy or to sell at the strike on the listed rows.
+#[derive(Clone, Debug)]
+pub struct DatedOption {
+    pub side: u64,
+    pub strike: u64,
+    pub dates: Vec<u8>,
+}
+
+impl DatedOption {
+    fn wrong(&self) -> bool {
+        ![CALL, PUT].contains(&self.side) || self.strike > STRIKE_LIMIT
+    }
+
+    fn dates_wrong(&self, steps: usize) -> bool {
+        let rising = self.dates.windows(2).all(|pair| pair[0] < pair[1]);
+        !rising || self.dates.last().map_or(true, |last| *last as usize >= steps)
+    }
+
+    pub fn last(&self) -> usize {
+        self.dates[self.dates.len() - 1] as usize
+    }
+
+    pub fn listed(&self, row: usize) -> bool {
+        self.dates.iter().any(|date| *date as usize == row)
+    }
+
     fn exercise(&self, bond: u64) -> u64 {
-        if self.call() {
+        if self.side == CALL {
             bond.saturating_sub(self.strike)
         } else {
             self.strike.saturating_sub(bond)
@@ -423,15 +456,15 @@ impl Tree {
 
     /// The option's value at row 0, and whether exercise gives some node's value on a row with a flow. That flow stays with the seller of
     /// the bond: exercise is on the bond without it.
-    fn option_value(&self, discounts: &[u64], flows: &[u64], contract: &Contract) -> Outcome<(u64, bool)> {
+    fn option_value(&self, discounts: &[u64], flows: &[u64], option: &DatedOption) -> Outcome<(u64, bool)> {
         let bonds = self.bond_rows(discounts, flows)?;
-        let exercised = |i: usize| bonds[i].iter().map(|bond| contract.exercise(*bond - flow_of(flows, i))).collect::<Vec<u64>>();
-        let mut row = limited(exercised(contract.expiry))?;
-        let mut on_a_flow = flow_of(flows, contract.expiry) > 0 && row.iter().any(|now| *now > 0);
-        for i in (0..contract.expiry).rev() {
+        let exercised = |i: usize| bonds[i].iter().map(|bond| option.exercise(*bond - flow_of(flows, i))).collect::<Vec<u64>>();
+        let mut row = limited(exercised(option.last()))?;
+        let mut on_a_flow = flow_of(flows, option.last()) > 0 && row.iter().any(|now| *now > 0);
+        for i in (0..option.last()).rev() {
             let rolled = self.roll(discounts, i, &row);
             row = rolled.clone();
-            if contract.american() {
+            if option.listed(i) {
                 row = rolled.iter().zip(exercised(i)).map(|(rolled, now)| (*rolled).max(now)).collect();
             }
             on_a_flow |= flow_of(flows, i) > 0 && row != rolled;
@@ -441,14 +474,23 @@ impl Tree {
     }
 
     /// Whether a priced option is exercised at some node of a row with a flow.
-    pub fn exercised_on_a_flow(&self, discounts: &[u64], flows: &[u64], contract: &Contract) -> bool {
-        self.option_value(discounts, flows, contract).map_or(false, |found| found.1)
+    pub fn exercised_on_a_flow(&self, discounts: &[u64], flows: &[u64], option: &DatedOption) -> bool {
+        self.option_value(discounts, flows, option).map_or(false, |found| found.1)
+    }
+
+    fn option_causes(&self, discounts: &[u64], flows: &[u64], wrong: bool, dates_wrong: bool) -> Outcome<()> {
+        lowest(&self.lent_causes(discounts, flows.len() != self.steps))?;
+        lowest(&[(10, flows.iter().any(|flow| *flow > FLOW_LIMIT)), (11, wrong), (13, dates_wrong)])
+    }
+
+    pub fn dated_option(&self, discounts: &[u64], flows: &[u64], option: &DatedOption) -> Outcome<(u64, u64)> {
+        self.option_causes(discounts, flows, option.wrong(), option.dates_wrong(self.steps))?;
+        Ok((self.option_value(discounts, flows, option)?.0, self.price_bound(discounts)))
     }
 
     pub fn option(&self, discounts: &[u64], flows: &[u64], contract: &Contract) -> Outcome<(u64, u64)> {
-        lowest(&self.lent_causes(discounts, flows.len() != self.steps))?;
-        lowest(&[(10, flows.iter().any(|flow| *flow > FLOW_LIMIT)), (11, contract.wrong(self.steps))])?;
-        Ok((self.option_value(discounts, flows, contract)?.0, self.price_bound(discounts)))
+        self.option_causes(discounts, flows, contract.wrong(self.steps), false)?;
+        self.dated_option(discounts, flows, &contract.dated(self.steps).expect("the list of an accepted kind"))
     }
 
     fn state_price_bound_of(&self, discounts: &[u64], row: usize) -> u128 {

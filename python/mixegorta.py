@@ -1,8 +1,9 @@
 """A Hull-White trinomial rate tree in whole billionths, over the proved shared object.
 
 Amounts are whole billionths: ONE is 1,000,000,000. Any whole numbers may be passed: a call gives its full answer or raises Refused
-with the engine's number (c/mixegorta.h lists them). A number beyond the 64 bits of its parameter raises OverflowError. Slices are
-any sequence of whole numbers; array('Q') is lent without a copy, and what the engine writes goes to array('Q'), a sheet to array('B').
+with the engine's number (c/mixegorta.h lists them). A number beyond the bits of its parameter, 8 for a quote kind or an exercise date and
+64 for any other, raises OverflowError. Slices are whole numbers in any iterable; array('Q'), and array('B') for dates, is lent without a
+copy, and what the engine writes goes to array('Q'), a sheet to array('B').
 
 The shared object is found by the environment variable MIXEGORTA_LIBRARY, else at ../target/libmixegorta.so beside this folder.
 """
@@ -24,6 +25,7 @@ SHEET_ROOM = 468_736
 DISCOUNT_FACTOR, YEARLY_RATE, YEARLY_YIELD = 5, 6, 9
 DISCOUNTS, STATE_PRICES = 1, 2
 EUROPEAN_CALL, EUROPEAN_PUT, AMERICAN_CALL, AMERICAN_PUT = 1, 2, 3, 4
+CALL, PUT = 1, 2
 
 Point = namedtuple("Point", "row kind figure")
 Branches = namedtuple("Branches", "lowest up middle down")
@@ -41,8 +43,9 @@ CAUSES = {
     8: "the nodes are too far apart",
     9: "a node discount is 0 or above 1,100,000,000",
     10: "a flow is above 2,000,000,000",
-    11: "the option's kind, expiry or strike is outside its limit",
+    11: "the option's kind, side, expiry or strike is outside its limit",
     12: "a value is above 8,000,000,000, or state prices sum above 2,000,000,100",
+    13: "the exercise dates are none, not strictly rising, or reach the last row",
 }
 
 
@@ -112,6 +115,8 @@ DECLARATIONS = {
     "bond_price": (CPrice, [SIZE, U64, U64S, SIZE, U64S, SIZE]),
     "option_price": (CPrice, [SIZE, U64, U64S, SIZE, U64S, SIZE, U64, SIZE, U64]),
     "bond_and_option": (CBondAndOption, [SIZE, U64, U64S, SIZE, U64S, SIZE, U64, SIZE, U64]),
+    "dated_option_price": (CPrice, [SIZE, U64, U64S, SIZE, U64S, SIZE, U64, U8S, SIZE, U64]),
+    "bond_and_dated_option": (CBondAndOption, [SIZE, U64, U64S, SIZE, U64S, SIZE, U64, U8S, SIZE, U64]),
     "value_by_state_prices": (CAnswer, [U64S, SIZE, U64S, SIZE]),
     "valuation_error_bound": (CAnswer, [SIZE, U64, U64S, SIZE, SIZE, U64S, SIZE]),
     "sheet": (CWritten, [U8S, SIZE, U8S, SIZE]),
@@ -186,6 +191,10 @@ def _price(price):
 def _price_or_refusal(price):
     """The Price, or the Refused that its own call would raise."""
     return Price(price.value, price.bound) if price.number == 0 else Refused(price.number)
+
+
+def _both(prices):
+    return BondAndOption(_price_or_refusal(prices.bond), _price_or_refusal(prices.option))
 
 
 # ---- the shape of a tree
@@ -287,9 +296,22 @@ def option_price(steps, reversion, discounts, flows, kind, expiry, strike):
 def bond_and_option(steps, reversion, discounts, flows, kind, expiry, strike):
     """Bond and option in one roll, as BondAndOption(bond, option). Nothing is raised for a refusal: each of the two is a Price, or the
     Refused that its own function would raise."""
-    both = _library.mixegorta_bond_and_option(_u64(steps), _u64(reversion), *_lent("Q", discounts), *_lent("Q", flows),
-                                              _u64(kind), _u64(expiry), _u64(strike))
-    return BondAndOption(_price_or_refusal(both.bond), _price_or_refusal(both.option))
+    return _both(_library.mixegorta_bond_and_option(_u64(steps), _u64(reversion), *_lent("Q", discounts), *_lent("Q", flows),
+                                                    _u64(kind), _u64(expiry), _u64(strike)))
+
+
+def dated_option_price(steps, reversion, discounts, flows, side, dates, strike):
+    """Price and error bound, at row 0, of an option on that bond which may be exercised on listed rows. side is CALL or PUT; dates are rows,
+    strictly rising, each 0 to n - 1, at least one, as bytes or whole numbers. On the last of them the option is worth its exercise value, on
+    earlier ones the larger of that and of holding it."""
+    return _price(_library.mixegorta_dated_option_price(_u64(steps), _u64(reversion), *_lent("Q", discounts), *_lent("Q", flows),
+                                                        _u64(side), *_lent("B", dates), _u64(strike)))
+
+
+def bond_and_dated_option(steps, reversion, discounts, flows, side, dates, strike):
+    """Bond and dated option in one roll, as bond_and_option gives them."""
+    return _both(_library.mixegorta_bond_and_dated_option(_u64(steps), _u64(reversion), *_lent("Q", discounts), *_lent("Q", flows),
+                                                          _u64(side), *_lent("B", dates), _u64(strike)))
 
 
 def value_by_state_prices(state_prices, payoffs):
@@ -332,6 +354,13 @@ class Tree:
     def bond_and_option(self, flows, kind, expiry, strike):
         """Bond and option in one roll; each is a Price, or the Refused that its own function would raise."""
         return bond_and_option(self.steps, self.reversion, self.discounts, flows, kind, expiry, strike)
+
+    def dated_option_price(self, flows, side, dates, strike):
+        return dated_option_price(self.steps, self.reversion, self.discounts, flows, side, dates, strike)
+
+    def bond_and_dated_option(self, flows, side, dates, strike):
+        """Bond and dated option in one roll, as bond_and_option gives them."""
+        return bond_and_dated_option(self.steps, self.reversion, self.discounts, flows, side, dates, strike)
 
     def value(self, row, payoffs):
         """What payoffs on a row are worth: never above the exact price, and at most the bound below it."""

@@ -161,12 +161,15 @@ class Test(unittest.TestCase):
             self.assertEqual(m.option_price(2, 0, flat, flows, kind, 1, strike), Price(price, 6))
             self.refused(11, m.option_price, 2, 0, flat, flows, kind, 2, strike)
 
+    def both(self, together, option, *arguments):
+        """Bond and option, a refusal as its number: together they are what each function answers alone."""
+        alone = self.alone(m.bond_price, *arguments[:4]), self.alone(option, *arguments)
+        self.assertEqual(tuple(getattr(price, "number", price) for price in together(*arguments)), alone)
+        return alone
+
     def test_bond_and_option(self):
         def both(*arguments):
-            prices = m.bond_and_option(*arguments)
-            alone = self.alone(m.bond_price, *arguments[:4]), self.alone(m.option_price, *arguments)
-            self.assertEqual(tuple(getattr(price, "number", price) for price in prices), alone)
-            return alone
+            return self.both(m.bond_and_option, m.option_price, *arguments)
 
         flat, flows, call = [ONE] * 4, [0, ONE], (m.EUROPEAN_CALL, 1, 900_000_000)
         self.assertEqual(both(2, 0, flat, flows, *call), (Price(ONE, 6), Price(100_000_000, 6)))
@@ -179,6 +182,51 @@ class Test(unittest.TestCase):
         refusal = m.bond_and_option(2, 0, flat, flows, 5, 1, ONE).option
         self.assertIsInstance(refusal, m.Refused)
 
+    def test_a_note_callable_on_coupon_days(self):
+        """Nodes have their row's discount: without the flow of its row the note is worth 1.05 on row 4, 1.1 on row 3, 1.078 on row 2, 1.0152 on
+        row 1 and 0.91368 on row 0."""
+        row_discounts = (900_000_000, 900_000_000, 980_000_000, ONE, ONE, ONE)
+        discounts = [discount for row, discount in enumerate(row_discounts) for _ in range(2 * row + 1)]
+        flows = [0, 50_000_000, 0, 50_000_000, 0, 1_050_000_000]
+        bond = m.bond_price(6, 0, discounts, flows)
+        self.assertEqual(bond.value, 913_680_000)
+        for side, strike, dates, value in ((m.CALL, ONE, b"\2\4", 63_180_000), (m.CALL, ONE, [2, 4], 63_180_000),
+                                           (m.CALL, ONE, (4,), 39_690_000), (m.CALL, ONE, range(5), 79_380_000),
+                                           (m.PUT, 1_100_000_000, array("B", [2, 4]), 39_690_000),
+                                           (m.PUT, 1_100_000_000, bytearray([2]), 17_820_000)):
+            both = self.both(m.bond_and_dated_option, m.dated_option_price, 6, 0, discounts, flows, side, dates, strike)
+            self.assertEqual(both, (bond, Price(value, bond.bound)))
+        self.assertEqual(m.dated_option_price(6, 0, discounts, flows, m.CALL, (row for row in (2, 4)), ONE).value, 63_180_000)
+
+    def test_a_kind_is_a_list(self):
+        steps, strike = 12, 90_000_000
+        tree = m.Tree(4, steps, 1000, 10000, falling(0.99, steps))
+        flows = [9_000_000 + row for row in range(1, steps + 1)]
+        for kind, side in ((m.EUROPEAN_CALL, m.CALL), (m.EUROPEAN_PUT, m.PUT), (m.AMERICAN_CALL, m.CALL), (m.AMERICAN_PUT, m.PUT)):
+            lists = [range(expiry if kind <= m.EUROPEAN_PUT else 0, expiry + 1) for expiry in range(steps + 1)]
+            for expiry, dates in enumerate(lists[:-1]):
+                self.assertEqual(tree.dated_option_price(flows, side, dates, strike), tree.option_price(flows, kind, expiry, strike))
+                self.assertEqual(tree.bond_and_dated_option(flows, side, dates, strike), tree.bond_and_option(flows, kind, expiry, strike))
+            self.refused(11, tree.option_price, flows, kind, steps, strike)
+            self.refused(13, tree.dated_option_price, flows, side, lists[-1], strike)
+
+    def test_refused_dates(self):
+        """The dates are judged after side and strike, and before a bond above the limit."""
+        def both(flow, *terms):
+            return self.both(m.bond_and_dated_option, m.dated_option_price, 5, 0, [ONE] * 25, [flow] * 5, *terms)
+
+        high, bond = 2 * ONE, Price(5 * ONE, 15)
+        self.assertEqual(both(high, m.CALL, [1], ONE), (12, 12))
+        self.assertEqual(both(ONE, m.CALL, [1], ONE), (bond, Price(3 * ONE, 15)))
+        for dates in ([5], [1, 1], [], b"", [3, 1], [1, 255], bytes(4672)):
+            self.assertEqual(both(high, m.PUT, dates, ONE), (12, 13))
+            self.assertEqual(both(ONE, m.PUT, dates, ONE), (bond, 13))
+            self.assertEqual(both(high, m.PUT, dates, 4 * ONE + 1), (12, 11))
+            self.assertEqual(both(high, 3, dates, ONE), (12, 11))
+            self.assertEqual(both(high + 1, 0, dates, 4 * ONE + 1), (10, 10))
+        self.assertEqual(both(ONE, 2**64 - 1, [1], ONE), (bond, 11))
+        self.assertEqual(str(m.Refused(13)), "refused 13: the exercise dates are none, not strictly rising, or reach the last row")
+
     def test_sheet(self):
         self.assertEqual(m.sheet(EXAMPLE), SHEET)
         self.assertEqual(m.sheet(bytearray(EXAMPLE[:-9])), "".join(SHEET.splitlines(True)[:3]))
@@ -188,6 +236,18 @@ class Test(unittest.TestCase):
         for job in ("text", 47, None):
             with self.assertRaises(TypeError):
                 m.sheet(job)
+
+    def test_sheets_of_jobs_with_dates(self):
+        """The same put by its list, row 0 alone, in field 0A; then lists that are empty, reach row 1 or do not rise."""
+        def job(side, dates):
+            return EXAMPLE[:-9] + bytes([10, 0, 5 + len(dates), side]) + EXAMPLE[-4:] + bytes(dates)
+
+        self.assertEqual(m.sheet(job(m.PUT, [0])), SHEET)
+        for dates in ([], [1], [0, 0]):
+            self.refused(13, m.sheet, job(m.PUT, dates))
+            self.refused(11, m.sheet, job(3, dates))
+        self.refused(1, m.sheet, EXAMPLE[:-9] + bytes([10, 0, 4, m.PUT]) + EXAMPLE[-4:-1])
+        self.refused(1, m.sheet, EXAMPLE + job(m.PUT, [0])[-9:])
 
     def test_room_of_a_sheet(self):
         out = array("B", [0xA5]) * (m.SHEET_ROOM + 2)
@@ -216,15 +276,19 @@ class Test(unittest.TestCase):
             at += 2 + size
         with open(os.path.join(cases, "stdout"), encoding="ascii") as file:
             self.assertEqual("".join(printed), file.read())
-        self.assertEqual(numbers, {1, 2, 3, 4, 5, 7, 8, 9, 10, 11, 12})  # no job gives 6: its rows are in place
+        self.assertEqual(numbers, {1, 2, 3, 4, 5, 7, 8, 9, 10, 11, 12, 13})  # no job gives 6: its rows are in place
 
     def test_numbers_that_do_not_fit(self):
         for call in ((m.step_rate, -1), (m.step_rate, 2**64), (m.branches, 0, 1, 2**63), (m.bond_price, 1, 0, [-1], [0]),
-                     (m.quote_discount, 1, (1, 256, 1.0)), (m.half_width, 0, 2**64)):
+                     (m.quote_discount, 1, (1, 256, 1.0)), (m.half_width, 0, 2**64),
+                     *((m.dated_option_price, 1, 0, [ONE], [0], side, dates, 0)
+                       for side, dates in ((m.CALL, [256]), (m.CALL, [-1]), (2**64, [0]), (-1, [0])))):
             with self.assertRaises(OverflowError):
                 call[0](*call[1:])
-        with self.assertRaises(TypeError):
-            m.step_rate(1.0)
+        for call in ((m.step_rate, 1.0), (m.dated_option_price, 1, 0, [ONE], [0], m.CALL, [0.0], 0),
+                     (m.dated_option_price, 1, 0, [ONE], [0], m.CALL, "0", 0)):
+            with self.assertRaises(TypeError):
+                call[0](*call[1:])
 
 
 if __name__ == "__main__":

@@ -9,6 +9,7 @@ are billionths. Every rule returns its value or raises Refused with its number.
 """
 import struct
 import sys
+from collections import namedtuple
 from fractions import Fraction
 from math import isqrt
 
@@ -22,8 +23,8 @@ FLOW_LIMIT = 2 * ONE
 STRIKE_LIMIT = 4 * ONE
 WEIGHED_LIMIT = 2_000_000_100
 FOURFOLD_LIMIT = 4 * ONE
-CALLS = (1, 3)
-AMERICAN = (3, 4)
+CALL, PUT = 1, 2
+CALLS, AMERICAN = (1, 3), (3, 4)
 
 
 class Refused(Exception):
@@ -241,25 +242,57 @@ def bond_rows(n, b, discounts, flows):
     return rows
 
 
-def exercise(kind, strike, bond):
-    return max(bond - strike if kind in CALLS else strike - bond, 0)
+# An option as a job names it by a kind, and as any option is: the right to buy or sell at the strike on the listed rows.
+Kind = namedtuple('Kind', 'kind expiry strike')
+Option = namedtuple('Option', 'side strike dates')
 
 
-def exercise_row(kind, strike, bonds, flows, i):
+def option_of_kind(kind, expiry, strike):
+    """European: the expiry alone. American: every row from 0 to it."""
+    return Option(CALL if kind in CALLS else PUT, strike, list(range(expiry + 1)) if kind in AMERICAN else [expiry])
+
+
+def dates_wrong(n, dates):
+    rising = all(earlier < later for earlier, later in zip(dates, dates[1:]))
+    return not dates or not rising or dates[-1] >= n
+
+
+def accepted_option(n, terms):
+    """The option of a Kind or an Option. A kind's expiry is judged by 11, any other list by 13."""
+    if isinstance(terms, Kind):
+        refuse_if(terms.kind not in (1, 2, 3, 4) or terms.expiry >= n or terms.strike > STRIKE_LIMIT, 11)
+        return option_of_kind(*terms)
+    refuse_if(terms.side not in (CALL, PUT) or terms.strike > STRIKE_LIMIT, 11)
+    refuse_if(dates_wrong(n, terms.dates), 13)
+    return terms
+
+
+def exercise(option, bond):
+    return max(bond - option.strike if option.side == CALL else option.strike - bond, 0)
+
+
+def exercise_row(option, bonds, flows, i):
     """Exercise values of row i: the day's flow stays with the seller of the bond."""
-    return {j: exercise(kind, strike, v - flow_of(flows, i)) for j, v in bonds[i].items()}
+    return {j: exercise(option, v - flow_of(flows, i)) for j, v in bonds[i].items()}
 
 
-def option_value(n, b, discounts, flows, kind, expiry, strike):
-    bonds = bond_rows(n, b, discounts, flows)
-    row = within_limit(exercise_row(kind, strike, bonds, flows, expiry))
-    for i in range(expiry - 1, -1, -1):
-        row = rolled(b, discounts[i], row)
-        if kind in AMERICAN:
-            now = exercise_row(kind, strike, bonds, flows, i)
+def option_rows(b, discounts, flows, bonds, option, roll):
+    """Option values on rows 0 to the last listed one."""
+    last = option.dates[-1]
+    rows = [exercise_row(option, bonds, flows, last)]
+    for i in range(last - 1, -1, -1):
+        row = roll(b, discounts[i], rows[-1])
+        if i in option.dates:
+            now = exercise_row(option, bonds, flows, i)
             row = {j: max(v, now[j]) for j, v in row.items()}
-        within_limit(row)
-    return row[0]
+        rows.append(row)
+    return rows[::-1]
+
+
+def option_value(n, b, discounts, flows, option):
+    bonds = bond_rows(n, b, discounts, flows)
+    rows = [within_limit(row) for row in option_rows(b, discounts, flows, bonds, option, rolled)]
+    return rows[0][0]
 
 
 def price_allowance(discounts):
@@ -305,15 +338,9 @@ def exact_bond_rows(n, b, discounts, flows):
     return rows
 
 
-def exact_option(n, b, discounts, flows, kind, expiry, strike):
+def exact_option(n, b, discounts, flows, option):
     bonds = exact_bond_rows(n, b, discounts, flows)
-    row = exercise_row(kind, strike, bonds, flows, expiry)
-    for i in range(expiry - 1, -1, -1):
-        row = exact_roll(b, discounts[i], row)
-        if kind in AMERICAN:
-            now = exercise_row(kind, strike, bonds, flows, i)
-            row = {j: max(v, now[j]) for j, v in row.items()}
-    return row[0]
+    return option_rows(b, discounts, flows, bonds, option, exact_roll)[0][0]
 
 
 def exact_payoffs(b, discounts, row, payoffs):
@@ -333,36 +360,43 @@ class Fields:
     def tag(self):
         return self.job[self.at] if self.at < len(self.job) else None
 
-    def take(self, tags, length):
-        """The tag and data of the next field, which must be one of the tags and have the length."""
-        end = self.at + 3 + length
+    def take(self, tags, lengths):
+        """The tag and data of the next field, which must be one of the tags and have one of the lengths."""
         head = self.job[self.at:self.at + 3]
-        if end > len(self.job) or head[0] not in tags or head[1] * 256 + head[2] != length:
-            raise Refused(1)
+        refuse_if(len(head) < 3 or head[0] not in tags, 1)
+        length = head[1] * 256 + head[2]
+        end = self.at + 3 + length
+        refuse_if(length not in lengths or end > len(self.job), 1)
         data = self.job[self.at + 3:end]
         self.at = end
         return head[0], data
 
     def number(self, tag, length):
-        return int.from_bytes(self.take((tag,), length)[1], 'big')
+        return int.from_bytes(self.take((tag,), (length,))[1], 'big')
+
+    def option(self):
+        """A Kind from 08, an Option from 0A, or None where neither stands."""
+        if self.tag() == 0x08:
+            data = self.take((0x08,), (6,))[1]
+            return Kind(data[0], data[1], int.from_bytes(data[2:], 'big'))
+        if self.tag() == 0x0A:
+            data = self.take((0x0A,), range(5, LONGEST_JOB))[1]
+            return Option(data[0], int.from_bytes(data[1:5], 'big'), list(data[5:]))
+        return None
 
 
 def read(job):
-    """f, n, b, s, quotes as (kind, pattern), flows, option as (kind, expiry, strike) or None."""
+    """f, n, b, s, quotes as (kind, pattern), flows, option."""
     if len(job) > LONGEST_JOB:
         raise Refused(1)
     fields = Fields(job)
     f, n = fields.number(0x01, 1), fields.number(0x02, 1)
     b, s = fields.number(0x03, 2), fields.number(0x04, 4)
-    quotes = [fields.take((0x05, 0x06, 0x09), 8) for _ in range(n)]
+    quotes = [fields.take((0x05, 0x06, 0x09), (8,)) for _ in range(n)]
     quotes = [(kind, int.from_bytes(data, 'big')) for kind, data in quotes]
     flows = [fields.number(0x07, 4) for _ in range(n)]
-    option = None
-    if fields.tag() == 0x08:
-        data = fields.take((0x08,), 6)[1]
-        option = data[0], data[1], int.from_bytes(data[2:], 'big')
-    if fields.at != len(job):
-        raise Refused(1)
+    option = fields.option()
+    refuse_if(fields.at != len(job), 1)
     return f, n, b, s, quotes, flows, option
 
 
@@ -375,8 +409,8 @@ def percent(rate):
 
 
 def lines(job):
-    """The sheet's lines; causes are judged over the whole job, lowest number first."""
-    f, n, b, s, quoted, flows, option = read(job)
+    """The sheet's lines; causes are judged over the whole job, lowest number first but for 13, which is tried before 12."""
+    f, n, b, s, quoted, flows, terms = read(job)
     refuse_if(f not in (1, 2, 4, 12), 2)
     refuse_if(not 1 <= n <= 60, 3)
     refuse_if(b > 6_000, 4)
@@ -386,9 +420,7 @@ def lines(job):
     refuse_if(half_width(b, n - 1) * h > ONE, 8)
     discounts, prices = fit(n, b, h, quotes)
     refuse_if(any(flow > FLOW_LIMIT for flow in flows), 10)
-    if option:
-        kind, expiry, strike = option
-        refuse_if(kind not in (1, 2, 3, 4) or expiry >= n or strike > STRIKE_LIMIT, 11)
+    option = terms and accepted_option(n, terms)
     bond = bond_rows(n, b, discounts, flows)[0][0]
     out = ['node %d %d %s %s' % (i, j, amount(v), percent(step_rate(v)))
            for i, row in enumerate(discounts) for j, v in sorted(row.items())]
@@ -398,7 +430,7 @@ def lines(job):
     allowance = price_allowance(discounts)
     out.append('bond %s %d' % (amount(bond), allowance))
     if option:
-        price = option_value(n, b, discounts, flows, kind, expiry, strike)
+        price = option_value(n, b, discounts, flows, option)
         out.append('option %s %d' % (amount(price), allowance))
     return out
 

@@ -86,22 +86,43 @@ class ContinuousRates(unittest.TestCase):
             self.assertTrue(found == 0 or (found < 0) == (reference.step_rate(discount) < 0))
 
 
-def option_job(n, flows, kind, expiry, strike):
-    """A job whose discounts are all one, with an option."""
-    fields = [(1, 1, 1), (2, 1, n), (3, 2, 0), (4, 4, 0)] + [(5, 8, reference.pattern_of(1.0))] * n + [(7, 4, flow) for flow in flows]
-    job = b''.join(bytes([tag, 0, length]) + number.to_bytes(length, 'big') for tag, length, number in fields)
-    return job + bytes([8, 0, 6, kind, expiry]) + strike.to_bytes(4, 'big')
+def field(tag, data):
+    return bytes([tag]) + len(data).to_bytes(2, 'big') + data
+
+
+def of_kind(kind, expiry, strike):
+    return field(0x08, bytes([kind, expiry]) + strike.to_bytes(4, 'big'))
+
+
+def dated(side, strike, dates):
+    return field(0x0A, bytes([side]) + strike.to_bytes(4, 'big') + bytes(dates))
+
+
+def job_of(n, flows, *options, f=1):
+    """A job whose quotes are all one, with any fields of options."""
+    numbers = [(1, 1, f), (2, 1, n), (3, 2, 0), (4, 4, 0)] + [(5, 8, reference.pattern_of(1.0))] * n + [(7, 4, flow) for flow in flows]
+    return b''.join(field(tag, number.to_bytes(length, 'big')) for tag, length, number in numbers) + b''.join(options)
+
+
+def level_tree(*discounts):
+    """One discount a row, without reversion."""
+    return [{j: discount for j in reference.nodes(0, i)} for i, discount in enumerate(discounts)]
+
+
+def price_of(n, discounts, flows, terms):
+    """What an entry for options gives after the causes about the tree and the flows."""
+    return reference.option_value(n, 0, discounts, flows, reference.accepted_option(n, terms))
 
 
 class ExerciseDay(unittest.TestCase):
     """n = 2, b = 0, all discounts one; the bond is worth 1.1 today, 1 and the coupon of 0.1 on row 1."""
-    LEVEL = [{j: ONE for j in reference.nodes(0, i)} for i in range(2)]
+    LEVEL = level_tree(ONE, ONE)
     FLOWS = [100_000_000, ONE]
 
     def priced(self, flows, kind, expiry, strike):
         """The option's price, which with these discounts is the exact one too."""
-        price = reference.option_value(2, 0, self.LEVEL, flows, kind, expiry, strike)
-        self.assertEqual(reference.exact_option(2, 0, self.LEVEL, flows, kind, expiry, strike), price)
+        price = price_of(2, self.LEVEL, flows, reference.Kind(kind, expiry, strike))
+        self.assertEqual(reference.exact_option(2, 0, self.LEVEL, flows, reference.option_of_kind(kind, expiry, strike)), price)
         return price
 
     def test_the_seller_keeps_it(self):
@@ -113,9 +134,9 @@ class ExerciseDay(unittest.TestCase):
     def test_on_rows_before_the_expiry(self):
         """Coupons of 0.1 on rows 1 and 2, one on row 3; both options are best exercised on row 1, where the bond without its coupon is 1.1 and 0.99."""
         for kind, discounts, strike, price in ((3, (900_000_000, ONE, ONE), ONE, 90_000_000), (4, (ONE, 900_000_000, ONE), 1_050_000_000, 60_000_000)):
-            tree = [{j: discount for j in reference.nodes(0, i)} for i, discount in enumerate(discounts)]
             for rule in (reference.option_value, reference.exact_option):
-                self.assertEqual(rule(3, 0, tree, [100_000_000, 100_000_000, ONE], kind, 2, strike), price)
+                option = reference.option_of_kind(kind, 2, strike)
+                self.assertEqual(rule(3, 0, level_tree(*discounts), [100_000_000, 100_000_000, ONE], option), price)
 
     def test_without_coupons_nothing_changes(self):
         self.assertEqual([self.priced([0, ONE], kind, 1, 900_000_000) for kind in (1, 2, 3, 4)], [100_000_000, 0, 100_000_000, 0])
@@ -123,7 +144,7 @@ class ExerciseDay(unittest.TestCase):
     def test_expiry_at_the_last_row(self):
         for kind in (1, 2, 3, 4):
             for n, expiry, number in ((2, 0, 0), (2, 1, 0), (2, 2, 11), (2, 3, 11), (1, 0, 0), (1, 1, 11)):
-                sheet = reference.sheet(option_job(n, self.FLOWS[-n:], kind, expiry, 900_000_000))
+                sheet = reference.sheet(job_of(n, self.FLOWS[-n:], of_kind(kind, expiry, 900_000_000)))
                 self.assertEqual(sheet == b'refused 11\n', number == 11, (kind, n, expiry))
 
     def test_the_job_of_document_01(self):
@@ -133,6 +154,68 @@ class ExerciseDay(unittest.TestCase):
         self.assertEqual(reference.sheet(today).splitlines()[2:], [b'bond 1.002500000 3', b'option 0.007500000 3'])
 
 
+class ExerciseDates(unittest.TestCase):
+    def test_the_lists_of_the_kinds(self):
+        lists = [(1, [3]), (2, [3]), (1, [0, 1, 2, 3]), (2, [0, 1, 2, 3])]
+        self.assertEqual([reference.option_of_kind(kind, 3, ONE) for kind in (1, 2, 3, 4)], [(side, ONE, dates) for side, dates in lists])
+        self.assertEqual([reference.option_of_kind(kind, 0, ONE).dates for kind in (1, 4)], [[0], [0]])
+
+    def test_each_row_by_hand(self):
+        """Coupons of 0.1 on rows 1 and 2, one on row 3. The bond without its coupon is 1.08, 1.1 and 1 on rows 0 to 2 of the first tree, and 1.09,
+        0.99 and 1 on those of the second."""
+        calls = level_tree(900_000_000, ONE, ONE), 1, ONE
+        puts = level_tree(ONE, 900_000_000, ONE), 2, 1_050_000_000
+        for (tree, side, strike), dates, price in (
+                (calls, [2], 0), (calls, [1], 90_000_000), (calls, [0], 80_000_000), (calls, [0, 2], 80_000_000), (calls, [1, 2], 90_000_000),
+                (calls, [0, 1], 90_000_000), (calls, [0, 1, 2], 90_000_000), (puts, [2], 45_000_000), (puts, [1], 60_000_000), (puts, [0], 0),
+                (puts, [0, 2], 45_000_000), (puts, [1, 2], 60_000_000), (puts, [0, 1], 60_000_000), (puts, [0, 1, 2], 60_000_000)):
+            for rule in (reference.option_value, reference.exact_option):
+                found = rule(3, 0, tree, [100_000_000, 100_000_000, ONE], reference.Option(side, strike, dates))
+                self.assertEqual(found, price, (side, dates))
+
+    def test_the_figures_of_the_request(self):
+        """n = 5, all discounts one, flows of two: the bond passes its limit, and a bad list is tried before that."""
+        tree, flows = level_tree(*[ONE] * 5), [2 * ONE] * 5
+        for dates, number in (([1], 12), ([5], 13), ([1, 1], 13), ([], 13), ([4], 12), ([0, 4, 3], 13), ([255], 13), ([0, 1, 2, 3, 4], 12),
+                              (range(256), 13)):
+            for side in (1, 2):
+                self.assertEqual(refusal(price_of, 5, tree, flows, reference.Option(side, ONE, list(dates))), number, dates)
+                self.assertEqual(reference.sheet(job_of(5, flows, dated(side, ONE, dates))), b'refused %d\n' % number)
+
+    def test_what_comes_before_13(self):
+        for flow, side, strike, number in ((2 * ONE, 1, 4 * ONE + 1, 11), (2 * ONE, 0, ONE, 11), (2 * ONE, 3, ONE, 11), (2 * ONE + 1, 3, ONE, 10),
+                                           (2 * ONE, 2, 4 * ONE, 13), (0, 1, 0, 13)):
+            self.assertEqual(reference.sheet(job_of(5, [flow] * 5, dated(side, strike, [1, 1]))), b'refused %d\n' % number)
+
+    def test_kinds_keep_their_number(self):
+        flows = [100_000_000, ONE]
+        for kind in (1, 2, 3, 4):
+            self.assertEqual(reference.sheet(job_of(2, flows, of_kind(kind, 2, ONE))), b'refused 11\n')
+        for dates in ([2], [0, 1, 2]):
+            self.assertEqual(reference.sheet(job_of(2, flows, dated(1, ONE, dates))), b'refused 13\n')
+
+    def test_kinds_and_lists_that_mean_the_same(self):
+        flows = [60_000_000, 50_000_000, 0, ONE + 40_000_000]
+        for kind in (1, 2, 3, 4):
+            for expiry in range(4):
+                for strike in (0, 900_000_000, 1_050_000_000, 4 * ONE):
+                    option = reference.option_of_kind(kind, expiry, strike)
+                    sheet = reference.sheet(job_of(4, flows, dated(*option)))
+                    self.assertIn(b'option', sheet)
+                    self.assertEqual(sheet, reference.sheet(job_of(4, flows, of_kind(kind, expiry, strike))))
+
+    def test_within_the_allowance_of_the_exact_price(self):
+        chosen = random.Random(4)
+        for _ in range(60):
+            n, b = chosen.randint(1, 9), chosen.choice((0, 700, 1_841))
+            tree = [{j: chosen.randint(850_000_000, 1_100_000_000) for j in reference.nodes(b, i)} for i in range(n)]
+            flows = [chosen.randint(0, 300_000_000) for _ in range(n)]
+            dates = sorted(chosen.sample(range(n), chosen.randint(1, n)))
+            option = reference.Option(chosen.choice((1, 2)), chosen.randint(0, ONE), dates)
+            distance = reference.option_value(n, b, tree, flows, option) - reference.exact_option(n, b, tree, flows, option)
+            self.assertLessEqual(abs(distance), reference.price_allowance(tree))
+
+
 class Jobs(unittest.TestCase):
     JOB = ('01000101' '02000101' '0300020000' '04000400000000' '%s0008%016X' '0700043B9ACA00')
 
@@ -140,7 +223,24 @@ class Jobs(unittest.TestCase):
         sheet = reference.sheet(bytes.fromhex(self.JOB % ('09', reference.pattern_of(0.0))))
         self.assertEqual(sheet.splitlines()[0], b'node 0 0 1.000000000 0.0000000')
         self.assertEqual(reference.sheet(bytes.fromhex(self.JOB % ('09', reference.pattern_of(4.0)))), b'refused 7\n')
-        self.assertEqual(reference.sheet(bytes.fromhex(self.JOB % ('0A', reference.pattern_of(0.0)))), b'refused 1\n')
+        for tag in ('08', '0A'):
+            self.assertEqual(reference.sheet(bytes.fromhex(self.JOB % (tag, reference.pattern_of(0.0)))), b'refused 1\n')
+
+
+    def test_tag_0a(self):
+        one, kind, listed = ONE.to_bytes(4, 'big'), of_kind(1, 1, ONE), dated(1, ONE, [1])
+        for options, number in (((listed,), 0), ((kind,), 0), ((kind, listed), 1), ((listed, kind), 1), ((listed, listed), 1), ((kind, kind), 1),
+                                ((field(0x0A, b''),), 1), ((field(0x0A, b'\x01' + one[:3]),), 1), ((field(0x0A, b'\x01' + one),), 13),
+                                ((field(0x0A, b'\x03' + one),), 11), ((listed[:-1],), 1), ((listed + b'\x00',), 1), ((field(0x10, listed[3:]),), 1)):
+            sheet = reference.sheet(job_of(2, [0, ONE], *options))
+            self.assertEqual(sheet if number else sheet[:4], b'refused %d\n' % number if number else b'node', options)
+
+    def test_form_comes_first(self):
+        for f, count, length, number in ((1, 4_672, 4_700, 3), (3, 4_672, 4_700, 2), (1, 4_673, 4_701, 1)):
+            job = job_of(0, [], dated(9, 0xFFFFFFFF, [7] * count), f=f)
+            self.assertEqual((len(job), reference.sheet(job)), (length, b'refused %d\n' % number))
+        long = job_of(3, [0, 0, ONE], dated(1, ONE, [0] * 4_600))
+        self.assertEqual(reference.sheet(long), b'refused 13\n')
 
 
 if __name__ == '__main__':

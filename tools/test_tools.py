@@ -94,6 +94,19 @@ class Jobs(unittest.TestCase):
             job = run('job', text_of(option=f'option {name} 1 1')).stdout
             self.assertEqual(reference.read(job)[6], (kind, 1, reference.ONE))
 
+    def test_dated_options(self):
+        for words, option in (('dated put 1.01 2 4 6', (2, 1_010_000_000, [2, 4, 6])), ('DATED Call 0 255 0 0', (1, 0, [255, 0, 0])), ('dated put 1', (2, 10 ** 9, [])),
+                              (f'dated call 1 {"7 " * 4_500}', (1, 10 ** 9, [7] * 4_500))):
+            self.assertEqual(reference.read(run('job', text_of(option=f'option {words}')).stdout)[6], option)
+
+    def test_kinds_and_dates_that_mean_the_same(self):
+        note = dict(quotes=['rate 0.04 x 6'], flows=['flow 0.05 x 5', 'flow 1.05'])
+        for kind, dates in (('european call 4 1.02', 'dated call 1.02 4'), ('european put 4 1.02', 'dated put 1.02 4'),
+                            ('american call 3 1.02', 'dated call 1.02 0 1 2 3'), ('american put 5 1.02', 'dated put 1.02 0 1 2 3 4 5')):
+            sheets = [sheet_of(text_of(option=f'option {words}', **note)) for words in (kind, dates)]
+            self.assertIn(b'option', sheets[0])
+            self.assertEqual(*sheets)
+
     def test_amounts_are_exact(self):
         for word, expected in (('0.1', 100_000_000), ('0.000000001', 1), ('4.294967295', 4_294_967_295), ('1.', 10 ** 9), ('007', None)):
             made = run('job', text_of(flows=[f'flow {word}']))
@@ -109,7 +122,10 @@ class Jobs(unittest.TestCase):
                  (8, text_of(frequency=1, volatility=50_000, quotes=['rate 0.05 x 13'], flows=['flow 0 x 13'])),
                  (9, text_of(quotes=['discount 1.2'])), (10, text_of(flows=['flow 2.000000001'])),
                  (11, text_of(option='option american call 1 1')), (11, text_of(option='option american call 0 4.000000001')),
-                 (12, text_of(quotes=['discount 0.99 x 5'], flows=['flow 2 x 5'])))
+                 (12, text_of(quotes=['discount 0.99 x 5'], flows=['flow 2 x 5'])),
+                 (13, text_of(quotes=['discount 0.999 x 5'], flows=['flow 2 x 5'], option='option dated put 1')),
+                 (13, text_of(option='option dated call 1 1')), (13, text_of(quotes=['discount 0.99 x 5'], flows=['flow 1 x 5'], option='option dated call 1 2 2')),
+                 (11, text_of(option='option dated call 4.000000001 1')), (1, text_of(option='option dated call 1' + ' 0' * 4_700)))
         for number, text in cases:
             with self.subTest(number=number, text=text):
                 self.assertEqual(sheet_of(text), b'refused %d\n' % number)
@@ -141,7 +157,14 @@ class Jobs(unittest.TestCase):
                 ('steps 1.5', "steps is a whole number, not '1.5'"),
                 ('steps', 'write `steps NUMBER`'),
                 ('option american put 1', 'write `option STYLE KIND EXPIRY STRIKE`, for example `option american put 8 1.01`'),
-                ('option asian put 1 1', 'an option is european or american, call or put, not asian put'),
+                ('option', 'write `option STYLE KIND EXPIRY STRIKE`, for example `option american put 8 1.01`'),
+                ('option dated put', 'write `option dated KIND STRIKE ROWS`, for example `option dated put 1.01 2 4 6`'),
+                ('option dated 2 1', 'a dated option is call or put, not 2'),
+                ('option dated put 5 1', 'strike 5 does not fit its field: 0 to 4.294967295'),
+                ('option dated put 1 256', 'a row of exercise 256 does not fit its field: 0 to 255'),
+                ('option dated put 1 1.5', "a row of exercise is a whole number, not '1.5'"),
+                ('option dated put 1' + ' 0' * 65_531, '65531 rows of exercise do not fit their field: at most 65530'),
+                ('option asian put 1 1', 'an option is european, american or dated, call or put, not asian put'),
                 ('option american put -1 1', 'expiry -1 does not fit its field: 0 to 255'),
                 ('option american put 1 5', 'strike 5 does not fit its field: 0 to 4.294967295'),
                 ('strike 1', "unknown entry 'strike'")):
@@ -244,7 +267,7 @@ class Drawing(unittest.TestCase):
                     self.assertLess(set(words[1:]), set(shown))
 
     def test_a_refusal_is_drawn(self):
-        for number in range(1, 13):
+        for number in range(1, 14):
             made = run('draw', f'refused {number}\n')
             self.assertEqual(made.returncode, 1)
             texts = [part.text for part in ElementTree.fromstring(made.stdout).iter(SVG + 'text')]

@@ -1,13 +1,15 @@
 #!/usr/bin/env python3
-"""The jobs of this crate and what the reader must give of each, worked out from the fields that document 01 and request (i) of document 02
-list, alone: a walk from field to field, which knows nothing of places.
+"""The jobs of this crate and what the reader must give of each, worked out from the fields that document 01 and requests (i) and (iii) of
+document 02 list, alone: a walk from field to field, which knows nothing of places.
 
     vectors.py    writes the files stdin and stdout beside itself
 """
 import os, random, struct
 
 random.seed(1994)
-EXAMPLE = bytes.fromhex("01000101" "02000101" "0300020000" "04000400000000" "0500083FF00A3D70A3D70A" "0700043B9ACA00" "08000604013C336080")
+PLAIN = bytes.fromhex("01000101" "02000101" "0300020000" "04000400000000" "0500083FF00A3D70A3D70A" "0700043B9ACA00")
+EXAMPLE = PLAIN + bytes.fromhex("08000604013C336080")
+DATED = PLAIN + bytes.fromhex("0A0008" "023C336080" "020406")
 
 
 class Malformed(Exception):
@@ -18,18 +20,35 @@ class Walk:
     def __init__(self, job):
         self.left = job
 
-    def field(self, tags, width):
-        """tag and data of the next field, which must have one of the tags and this width"""
+    def any_field(self):
+        """tag and data of the next field"""
         if len(self.left) < 3:
             raise Malformed
         tag, length = struct.unpack(">BH", self.left[:3])
         content, self.left = self.left[3:3 + length], self.left[3 + length:]
-        if tag not in tags or length != width or len(content) != width:
+        if len(content) != length:
+            raise Malformed
+        return tag, content
+
+    def field(self, tags, width):
+        """the same of one that must have one of the tags and this width"""
+        tag, content = self.any_field()
+        if tag not in tags or len(content) != width:
             raise Malformed
         return tag, content
 
     def number(self, tag, width):
         return int.from_bytes(self.field([tag], width)[1], "big")
+
+
+def option(tag, content):
+    """tag, kind or side, expiry, strike, number of dates, dates"""
+    if tag == 8 and len(content) == 6:
+        return [8, *struct.unpack(">BBI", content), 0]
+    if tag == 10 and len(content) >= 5:
+        side, strike = struct.unpack(">BI", content[:5])
+        return [10, side, 0, strike, len(content) - 5, *content[5:]]
+    raise Malformed
 
 
 def read(job):
@@ -43,8 +62,7 @@ def read(job):
     lines = ["job 0 %d %d %d %d" % (f, n, b, s)]
     lines += ["row %d %d %d" % (kind, int.from_bytes(figure, "big"), flow) for (kind, figure), flow in zip(quotes, flows)]
     if walk.left:
-        content = walk.field([8], 6)[1]
-        lines.append("option %d %d %d" % struct.unpack(">BBI", content))
+        lines.append(" ".join(["option", *map(str, option(*walk.any_field()))]))
     if walk.left:
         raise Malformed
     return lines
@@ -64,9 +82,17 @@ def field(tag, content):
 SPECIAL = [0x7FF8000000000000, 0x7FF0000000000001, 0xFFFFFFFFFFFFFFFF, 0x8000000000000000, 0x7FF0000000000000, 0xFFF0000000000000, 1, 0]
 
 
+def number(width):
+    return random.choice([0, 256 ** width - 1, random.randrange(256 ** width)]).to_bytes(width, "big")
+
+
+def dated(count):
+    """a list of so many dates, in any order"""
+    return field(10, number(1) + number(4) + bytes(random.randrange(256) for _ in range(count)))
+
+
 def fields(n, option):
     """the fields of a job of n steps, with any numbers"""
-    number = lambda width: random.choice([0, 256 ** width - 1, random.randrange(256 ** width)]).to_bytes(width, "big")
     figure = lambda: random.choice(SPECIAL + [random.getrandbits(64)] * 8).to_bytes(8, "big")
     parts = [field(1, number(1)), field(2, bytes([n])), field(3, number(2)), field(4, number(4))]
     parts += [field(random.choice([5, 6, 9]), figure()) for _ in range(n)]
@@ -100,7 +126,7 @@ def jobs():
             swapped[i], swapped[k] = swapped[k], swapped[i]
             yield b"".join(swapped)
     # tags that are no part of this form
-    for tag in [0, 9, 10, 11, 16, 255]:
+    for tag in [0, 9, 11, 16, 255]:
         yield b"".join(fields(1, False)) + field(tag, bytes(6))
         yield b"".join(fields(1, True)) + field(tag, bytes(1))
     # about the greatest length, and past it
@@ -109,6 +135,45 @@ def jobs():
         yield longest + bytes(length - len(longest))
     yield bytes(random.randrange(256) for _ in range(4701))
     yield bytes(5000)
+    yield from dated_jobs()
+
+
+def dated_jobs():
+    """with a list of dates"""
+    yield DATED
+    plain = lambda n: b"".join(fields(n, False))
+    for n in [0, 1, 3, 60]:
+        for count in [0, 1, 2, 7, 60]:
+            yield plain(n) + dated(count)
+    # any side: whether it is a call or a put is not judged here
+    for side in [0, 1, 2, 3, 255]:
+        yield PLAIN + field(10, bytes([side]) + number(4) + bytes([1, 2]))
+    # fewer bytes than side and strike, and just these
+    for width in range(6):
+        yield PLAIN + field(10, bytes(range(width)))
+    # a length that is not that of the bytes
+    for wrong in [0, 1, 4, 5, 6, 7, 9, 10, 264, 2056, 65535]:
+        yield PLAIN + b"\x0A" + struct.pack(">H", wrong) + DATED[len(PLAIN) + 3:]
+    # both options, and either twice
+    kind = EXAMPLE[len(PLAIN):]
+    for first in [kind, dated(0), dated(3)]:
+        for second in [kind, dated(0), dated(3), b"\0", b"\x0A"]:
+            yield PLAIN + first + second
+    # a list before the flows, before the quotes and in front
+    for place in [0, 20, len(PLAIN) - 7]:
+        yield PLAIN[:place] + dated(2) + PLAIN[place:]
+    # cut short, and each byte one higher, one lower, and another
+    for k in range(len(PLAIN), len(DATED)):
+        yield DATED[:k]
+    for k in range(len(PLAIN), len(DATED)):
+        for other in sorted({(DATED[k] + 1) % 256, (DATED[k] - 1) % 256, random.randrange(256)} - {DATED[k]}):
+            yield DATED[:k] + bytes([other]) + DATED[k + 1:]
+    # as many dates as 4,700 bytes have room for, and one more
+    for n in [0, 1, 60, 255]:
+        start = plain(n)
+        room = 4700 - len(start) - 3 - 5
+        yield start + dated(room)
+        yield start + dated(room + 1)
 
 
 if __name__ == "__main__":

@@ -59,19 +59,20 @@ def bonds(n, b, tree, flows, roll):
     return values
 
 
-def options(b, tree, flows, bond, kind, expiry, strike, roll):
+def options(b, tree, flows, bond, side, dates, strike, roll):
     def exercise(i, j):
         """on the bond without the flow of its row"""
         x = bond[i][j] - flow_of(flows, i)
-        return max(x - strike if kind in (1, 3) else strike - x, 0)
+        return max(x - strike if side == 1 else strike - x, 0)
 
-    values = [None] * (expiry + 1)
-    values[expiry] = {j: exercise(expiry, j) for j in bond[expiry]}
-    for i in range(expiry - 1, -1, -1):
+    last = dates[-1]
+    values = [None] * (last + 1)
+    values[last] = {j: exercise(last, j) for j in bond[last]}
+    for i in range(last - 1, -1, -1):
         values[i] = {}
         for j, d in tree[i].items():
             held = roll(b, values[i + 1], j, d)
-            values[i][j] = held if kind in (1, 2) else max(held, exercise(i, j))
+            values[i][j] = max(held, exercise(i, j)) if i in dates else held
     return values
 
 
@@ -80,6 +81,19 @@ def error_bound(tree):
     for row in reversed(tree):
         bound = -(-max(row.values()) * bound // ONE) + 3
     return bound
+
+
+def kind_terms(n, kind, expiry, strike):
+    """cause, side, dates and strike: a kind's dates are its expiry alone, or every row from 0 to it"""
+    wrong = not 1 <= kind <= 4 or expiry >= n or strike > 4 * ONE
+    return 11 if wrong else 0, 2 - kind % 2, list(range(expiry + 1)) if kind > 2 else [expiry], strike
+
+
+def dated_terms(n, side, dates, strike):
+    if side not in (1, 2) or strike > 4 * ONE:
+        return 11, side, dates, strike
+    wrong = not dates or dates != sorted(set(dates)) or dates[-1] >= n
+    return 13 if wrong else 0, side, dates, strike
 
 
 def price(n, b, discounts, flows, terms=None):
@@ -93,18 +107,15 @@ def price(n, b, discounts, flows, terms=None):
         return 9, 0, 0
     if any(f > 2 * ONE for f in flows):
         return 10, 0, 0
-    if terms is not None:
-        kind, expiry, strike = terms
-        if not 1 <= kind <= 4 or expiry >= n or strike > 4 * ONE:
-            return 11, 0, 0
+    if terms is not None and terms[0] != 0:
+        return terms[0], 0, 0
     tree = rows(n, b, discounts)
     found = bonds(n, b, tree, flows, engine_roll)
     exact = bonds(n, b, tree, flows, exact_roll)
     held = list(found)
     if terms is not None:
-        kind, expiry, strike = terms
-        found = options(b, tree, flows, found, kind, expiry, strike, engine_roll)
-        exact = options(b, tree, flows, exact, kind, expiry, strike, exact_roll)
+        found = options(b, tree, flows, found, *terms[1:], engine_roll)
+        exact = options(b, tree, flows, exact, *terms[1:], exact_roll)
         held += found
     if any(x > 8 * ONE for row in held for x in row.values()):
         return 12, 0, 0
@@ -121,7 +132,11 @@ def bond(n, b, discounts, flows):
 
 
 def option(n, b, discounts, flows, kind, expiry, strike):
-    print("option", n, b, kind, expiry, strike, *price(n, b, discounts, flows, (kind, expiry, strike)))
+    print("option", n, b, kind, expiry, strike, *price(n, b, discounts, flows, kind_terms(n, kind, expiry, strike)))
+
+
+def dated(n, b, discounts, flows, side, dates, strike):
+    print("dated", n, b, side, len(dates), strike, *price(n, b, discounts, flows, dated_terms(n, side, dates, strike)))
 
 
 def tree(n, b, discounts, flows):
@@ -130,6 +145,16 @@ def tree(n, b, discounts, flows):
         option(n, b, discounts, flows, kind, 0, 900000000)
         option(n, b, discounts, flows, kind, n // 2, 500000000)
         option(n, b, discounts, flows, kind, n - 1, 30000000)
+    for side in (1, 2):
+        dated(n, b, discounts, flows, side, [0], 900000000)
+        dated(n, b, discounts, flows, side, list(range(n // 2)), 500000000)
+        dated(n, b, discounts, flows, side, list(range(1, 60, 3))[:n // 3], 500000000)
+        dated(n, b, discounts, flows, side, [n - 1], 30000000)
+
+
+def five_lists(discounts, flows, side, strike):
+    for dates in ([2], [1], [0], [0, 2], [1, 2]):
+        dated(3, 0, discounts, flows, side, dates, strike)
 
 
 bond(1, 0, [1002500000], [ONE])
@@ -143,28 +168,43 @@ for n, b in ((1, 0), (3, 0), (60, 0), (4, 1000), (12, 1840), (12, 1841), (30, 10
 most = [2 * ONE] * 4
 bond(4, 0, [ONE] * 16, most)
 option(4, 0, [ONE] * 16, most, 3, 3, 0)
+dated(4, 0, [ONE] * 16, most, 1, [0, 3], 0)
 bond(4, 0, [ONE + 1] + [ONE] * 15, most)
 option(4, 0, [ONE + 1] + [ONE] * 15, most, 2, 0, 4000000000)
+dated(4, 0, [ONE + 1] + [ONE] * 15, most, 2, [0], 4000000000)
 
 coupon = [100000000, ONE]
 for kind, expiry, strike in ((1, 1, 900000000), (3, 1, 900000000), (2, 1, 1050000000), (4, 1, 1050000000), (1, 2, 900000000), (4, 2, 1050000000)):
     option(2, 0, [ONE] * 4, coupon, kind, expiry, strike)
 
 coupons = [100000000, 100000000, ONE]
-option(3, 0, [900000000] + [ONE] * 8, coupons, 3, 2, ONE)
-option(3, 0, [ONE] + [900000000] * 3 + [ONE] * 5, coupons, 4, 2, 1050000000)
+low, later = [900000000] + [ONE] * 8, [ONE] + [900000000] * 3 + [ONE] * 5
+option(3, 0, low, coupons, 3, 2, ONE)
+five_lists(low, coupons, 1, ONE)
+option(3, 0, later, coupons, 4, 2, 1050000000)
+five_lists(later, coupons, 2, 1050000000)
 
 steep = [1100000000] * 36
 late = [0] + [2 * ONE] * 5
 bond(6, 0, steep, late)
 option(6, 0, steep, late, 2, 1, 0)
+dated(6, 0, steep, late, 2, [1], 0)
 bond(6, 0, [1] * 4 + steep[4:], late)
+
+twos, long = [2 * ONE] * 5, [7] * 256
+for dates in ([1], [5], [1, 1], [], [4, 3], [0, 255], long):
+    dated(5, 0, [ONE] * 25, twos, 1, dates, ONE)
+dated(5, 0, [ONE] * 25, twos, 1, [5], 4000000001)
+dated(5, 0, [ONE] * 25, twos, 3, [], 0)
+dated(5, 0, [ONE] * 25, twos, 0, [1], 0)
 
 bond(0, 0, discounts, [])
 bond(61, 7000, discounts, flows)
 bond(2, 6001, discounts, flows)
 bond(2, 0, discounts, flows[:3])
 bond(2, 0, discounts[:3], flows[:2])
+dated(61, 0, discounts, flows, 1, long, 0)
+dated(2, 0, discounts[:3], flows[:2], 1, [2], 0)
 
 over = [2 * ONE + 1, 0]
 bond(2, 0, [ONE, ONE, ONE, 0], over)
@@ -177,3 +217,5 @@ option(2, 0, discounts, flows[:2], 1, 3, 0)
 option(2, 0, discounts, flows[:2], 1, 2, 0)
 option(2, 0, discounts, flows[:2], 1, 1, 4000000001)
 option(2, 0, discounts, flows[:2], 2, 1, 4000000000)
+dated(2, 0, discounts, over, 1, [2], 0)
+dated(2, 0, discounts, flows[:2], 2, [1], 4000000000)

@@ -25,8 +25,16 @@ def field(tag, data):
     return struct.pack('>BH', tag, len(data)) + data
 
 
-def job(f=4, n=None, b=0, s=5_000, quotes=(), flows=None, option=None):
-    """A job in good form; a quote is (kind, float) or (kind, 64 bits)."""
+def of_kind(kind, expiry, strike):
+    return field(8, struct.pack('>BBI', kind, expiry, strike))
+
+
+def dated(side, strike, dates):
+    return field(10, struct.pack('>BI', side, strike) + bytes(dates))
+
+
+def job(f=4, n=None, b=0, s=5_000, quotes=(), flows=None, option=None, dates=None):
+    """A job in good form; a quote is (kind, float) or (kind, 64 bits). With dates the option is (side, strike), else (kind, expiry, strike)."""
     n = len(quotes) if n is None else n
     flows = [50_000_000] * (n - 1) + [ONE + 50_000_000] if flows is None else flows
     out = field(1, bytes([f])) + field(2, bytes([n])) + field(3, struct.pack('>H', b)) + field(4, struct.pack('>I', s))
@@ -35,10 +43,9 @@ def job(f=4, n=None, b=0, s=5_000, quotes=(), flows=None, option=None):
         out += field(kind, struct.pack('>Q', pattern))
     for flow in flows:
         out += field(7, struct.pack('>I', flow))
-    if option:
-        kind, expiry, strike = option
-        out += field(8, struct.pack('>BBI', kind, expiry, strike))
-    return out
+    if dates is not None:
+        return out + dated(*option, dates)
+    return out + (of_kind(*option) if option else b'')
 
 
 def rates(n, first, slope=0.0):
@@ -115,7 +122,7 @@ def malformed():
     yield plain[:-1]
     yield plain + b'\x00'
     yield whole + b'\x08'
-    yield whole + field(8, struct.pack('>BBI', 1, 2, ONE))
+    yield whole + of_kind(1, 2, ONE)
     yield plain[4:8] + plain[:4] + plain[8:]
     yield plain[:20] + plain[20 + 44:] + plain[20:20 + 44]
     yield b'\x01\x00\x02\x04\x04' + plain[4:]
@@ -266,6 +273,89 @@ def borders():
         yield 12, job(f=1, s=0, quotes=rising, flows=[0] * 10, option=(kind, 9, 3_748_384_119))
 
 
+def dated_options():
+    """Rows that may be exercised on one by one: coupon days, today, the last row before the bond's, all of them; on growing and on capped trees."""
+    level, yearly = [(5, 1.0)] * 2, rates(12, 0.044, 0.0006)
+    note = [0, 50_000_000] * 5 + [0, ONE + 50_000_000]
+    for side, strike in ((1, ONE), (2, 1_050_000_000), (1, 0), (2, 4 * ONE)):
+        for dates in ([2, 4, 6, 8, 10], [10], [0, 10], [1, 3, 5, 7, 9, 11], [0], [11], [0, 11], range(12)):
+            yield 0, job(f=4, b=500, s=8_000, quotes=yearly, flows=note, option=(side, strike), dates=dates)
+    yield 0, job(f=12, b=83, s=10_000, quotes=rates(60, 0.03), flows=WIDE_FLOWS, option=(1, 1_300_000_000), dates=range(5, 60, 6))
+    yield 0, job(f=4, b=6_000, s=12_000, quotes=factors(60, 0.991), flows=WIDE_FLOWS, option=(2, ONE), dates=range(60))
+    yield 0, job(f=4, b=0, s=800, quotes=rates(9, -0.0025), option=(2, ONE), dates=[3, 4, 8])
+    yield 0, job(f=1, s=50_000, quotes=[(6, 0.05)], option=(1, ONE), dates=[0])
+    # The bond without its coupon is 1.000000002 on row 1 and 1.100000002 today.
+    for side, strike, dates, line in ((1, 900_000_000, [1], 'option 0.100000002 6'), (1, 900_000_000, [0], 'option 0.200000002 6'),
+                                      (2, 1_050_000_000, [0, 1], 'option 0.049999998 6'), (2, 1_050_000_000, [0], 'option 0.000000000 6')):
+        yield on_the_border(0, line, job(f=1, s=0, quotes=level, flows=[100_000_000, ONE], option=(side, strike), dates=dates))
+
+
+def one_right_twice():
+    """The same rights by 08 and by 0A, whose sheets must be equal."""
+    for kind, expiry, strike in ((1, 3, ONE), (2, 3, 1_200_000_000), (3, 3, ONE), (4, 3, 1_200_000_000), (1, 0, 0), (4, 0, 2 * ONE), (3, 4, 0), (2, 4, 4 * ONE)):
+        side, _, dates = reference.option_of_kind(kind, expiry, strike)
+        made = [job(f=1, b=100, s=15_000, quotes=rates(5, 0.04), option=(kind, expiry, strike)),
+                job(f=1, b=100, s=15_000, quotes=rates(5, 0.04), option=(side, strike), dates=dates)]
+        if reference.sheet(made[0]) != reference.sheet(made[1]):
+            raise SystemExit('a kind and its list differ: %s' % made[1].hex())
+        yield from ((0, one) for one in made)
+
+
+def malformed_dates():
+    plain, kind, dates = job(quotes=FOUR), of_kind(1, 2, ONE), dated(1, ONE, [1, 2])
+    yield from (plain + first + second for first in (kind, dates) for second in (kind, dates))
+    for size in range(5):
+        yield plain + field(10, struct.pack('>BI', 1, ONE)[:size])
+    yield plain + dates[:-1]
+    yield plain + dates + b'\x03'
+    yield plain + dates[:2] + bytes([dates[2] - 1]) + dates[3:]
+    yield plain + dates[:2] + bytes([dates[2] + 1]) + dates[3:]
+    yield plain + dates[:1] + b'\x01' + dates[2:]
+    yield plain[:-7] + dates
+    yield plain + field(16, dates[3:])
+    yield job(quotes=FOUR, flows=[ONE] * 3) + dates
+    yield plain[:20] + dates + plain[20:]
+    # One byte more than the longest job.
+    yield job(n=0, quotes=[], flows=[], option=(1, ONE), dates=[0] * 4_673)
+    yield job(quotes=FOUR, option=(1, ONE), dates=bytes(4_601))
+
+
+def wrong_dates():
+    for dates in ([], [4], [5], [255], [1, 1], [0, 0], [2, 1], [0, 1, 3, 2], [0, 1, 2, 2], [0, 1, 2, 3, 4], [4, 1], [3, 255], [1, 0, 2],
+                  range(62), range(256), [2] * 300, range(255, -1, -1), bytes(4_600)):
+        yield 13, job(quotes=FOUR, option=(1, ONE), dates=dates)
+    yield 13, job(quotes=FOUR[:1], option=(2, ONE), dates=[1])
+    yield 13, job(f=12, s=8_000, b=500, quotes=rates(60, 0.03), option=(2, ONE), dates=range(61))
+    for side in (0, 3, 4, 255):
+        yield 11, job(quotes=FOUR, option=(side, ONE), dates=[1, 2])
+    for strike in (4 * ONE + 1, 0xFFFFFFFF):
+        yield 11, job(quotes=FOUR, option=(2, strike), dates=[1, 2])
+
+
+def order_of_dates():
+    """13 is tried after 11 and before 12; form comes first, and every lower number before 13."""
+    much, listed = [2 * ONE] * 5, dict(quotes=[(5, 1.0)] * 5, f=1, s=0)
+    for dates, number in (([1], 12), ([5], 13), ([1, 1], 13), ([], 13)):
+        yield number, job(flows=much, option=(2, ONE), dates=dates, **listed)
+    yield 11, job(flows=much, option=(2, 4 * ONE + 1), dates=[5], **listed)
+    yield 11, job(flows=much, option=(3, ONE), dates=[], **listed)
+    yield 10, job(flows=[3 * ONE] * 5, option=(3, ONE), dates=[1, 1], **listed)
+    yield 9, job(quotes=[(5, 1.2)], option=(1, ONE), dates=[1])
+    yield 8, job(f=1, s=50_000, quotes=factors(13, 0.95), option=(1, ONE), dates=[])
+    yield 7, job(quotes=[(5, NAN)], option=(1, ONE), dates=[])
+    yield 5, job(s=50_001, quotes=FOUR, option=(1, ONE), dates=[4])
+    yield 4, job(b=6_001, quotes=FOUR, option=(1, ONE), dates=[4])
+    yield 3, job(quotes=factors(61, 0.995), option=(1, ONE), dates=range(62))
+    yield 3, job(n=0, quotes=[], flows=[], option=(1, ONE), dates=bytes(4_672))
+    yield 2, job(f=3, n=0, quotes=[], flows=[], option=(3, 0xFFFFFFFF), dates=[9] * 4_672)
+    yield 3, job(n=0, quotes=[], flows=[], option=(1, ONE), dates=[])
+    # A put of exactly 8 on row 1, on a row that is listed and on one that is not; the next strike gives more.
+    rising = [(5, 0.5 * 1.0994 ** t) for t in range(10)]
+    for dates in ([9], [0, 1, 9]):
+        yield on_the_border(0, 'option 4.000000000 27', job(f=1, s=0, quotes=rising, flows=[0] * 10, option=(2, 3_748_384_118), dates=dates))
+        yield 12, job(f=1, s=0, quotes=rising, flows=[0] * 10, option=(2, 3_748_384_119), dates=dates)
+
+
 def jobs():
     yield from good()
     yield from exercise_days()
@@ -273,6 +363,11 @@ def jobs():
     yield from each_cause()
     yield from pairs()
     yield from borders()
+    yield from dated_options()
+    yield from one_right_twice()
+    yield from ((1, made) for made in malformed_dates())
+    yield from wrong_dates()
+    yield from order_of_dates()
 
 
 def number_of(sheet):
@@ -290,7 +385,7 @@ def main():
         count += 1
         stdin += struct.pack('>H', len(made)) + made
         stdout += sheet
-    if wide > MOST_WIDE_JOBS or numbers != {0, 1, 2, 3, 4, 5, 7, 8, 9, 10, 11, 12}:
+    if wide > MOST_WIDE_JOBS or numbers != {0, 1, 2, 3, 4, 5, 7, 8, 9, 10, 11, 12, 13}:
         raise SystemExit('too wide or a number missing')
     for name, content in (('stdin', stdin), ('stdout', stdout)):
         with open(os.path.join(HERE, name), 'wb') as file:

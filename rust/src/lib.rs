@@ -44,7 +44,8 @@ pub const MAX_JOB: usize = 4_700;
 /// Room for the sheet of every job in bytes.
 pub const SHEET_ROOM: usize = 468_736;
 
-/// Why a call was refused: the engine's number, as `c/mixegorta.h` lists them. Lowest number first where several apply.
+/// Why a call was refused: the engine's number, as `c/mixegorta.h` lists them. Where several apply the lowest is given, save that 13 is
+/// tried before 12.
 #[derive(Clone, Copy, Debug, PartialEq, Eq, PartialOrd, Ord, Hash)]
 pub struct Refusal(u64);
 
@@ -61,6 +62,7 @@ impl Refusal {
     pub const FLOW: Refusal = Refusal(10);
     pub const OPTION: Refusal = Refusal(11);
     pub const VALUE: Refusal = Refusal(12);
+    pub const DATES: Refusal = Refusal(13);
 
     /// The engine's number.
     pub fn number(self) -> u64 {
@@ -79,8 +81,9 @@ impl Refusal {
             8 => "the nodes are too far apart",
             9 => "a node discount is 0 or above 1,100,000,000",
             10 => "a flow is above 2,000,000,000",
-            11 => "the option's kind, expiry or strike is outside its limit",
+            11 => "the option's kind, side, expiry or strike is outside its limit",
             12 => "a value is above 8,000,000,000, or state prices sum above 2,000,000,100",
+            13 => "the exercise dates are none, not strictly rising, or reach the last row",
             _ => "not listed",
         }
     }
@@ -190,6 +193,22 @@ pub enum OptionKind {
 pub struct OptionTerms {
     pub kind: OptionKind,
     pub expiry: usize,
+    pub strike: u64,
+}
+
+/// What an option on listed dates gives the right to: to buy the bond, or to sell it.
+#[derive(Clone, Copy, Debug, PartialEq, Eq)]
+pub enum Side {
+    Call = 1,
+    Put = 2,
+}
+
+/// An option that may be exercised on listed rows: `dates` are strictly rising, each 0 to n - 1, at least one. On the last of them the option is
+/// worth its exercise value, on earlier ones the larger of that and of holding it. Strike and exercise are as in [`OptionTerms`].
+#[derive(Clone, Copy, Debug, PartialEq, Eq)]
+pub struct DatedTerms<'a> {
+    pub side: Side,
+    pub dates: &'a [u8],
     pub strike: u64,
 }
 
@@ -404,6 +423,13 @@ fn priced(price: raw::Price) -> Result<Price, Refusal> {
     )
 }
 
+fn each_priced(both: raw::BondAndOption) -> BondAndOption {
+    BondAndOption {
+        bond: priced(both.bond),
+        option: priced(both.option),
+    }
+}
+
 /// The price at row 0 of the bond with these flows of rows 1 to n.
 pub fn bond_price(
     steps: usize,
@@ -454,7 +480,7 @@ pub fn bond_and_option(
     flows: &[u64],
     terms: OptionTerms,
 ) -> BondAndOption {
-    let both = unsafe {
+    each_priced(unsafe {
         raw::mixegorta_bond_and_option(
             steps,
             reversion,
@@ -466,11 +492,55 @@ pub fn bond_and_option(
             terms.expiry,
             terms.strike,
         )
-    };
-    BondAndOption {
-        bond: priced(both.bond),
-        option: priced(both.option),
-    }
+    })
+}
+
+/// The price at row 0 of an option on that bond which may be exercised on listed rows.
+pub fn dated_option_price(
+    steps: usize,
+    reversion: u64,
+    discounts: &[u64],
+    flows: &[u64],
+    terms: DatedTerms,
+) -> Result<Price, Refusal> {
+    priced(unsafe {
+        raw::mixegorta_dated_option_price(
+            steps,
+            reversion,
+            discounts.as_ptr(),
+            discounts.len(),
+            flows.as_ptr(),
+            flows.len(),
+            terms.side as u64,
+            terms.dates.as_ptr(),
+            terms.dates.len(),
+            terms.strike,
+        )
+    })
+}
+
+/// Bond and dated option in one roll: what [`bond_price`] and [`dated_option_price`] answer.
+pub fn bond_and_dated_option(
+    steps: usize,
+    reversion: u64,
+    discounts: &[u64],
+    flows: &[u64],
+    terms: DatedTerms,
+) -> BondAndOption {
+    each_priced(unsafe {
+        raw::mixegorta_bond_and_dated_option(
+            steps,
+            reversion,
+            discounts.as_ptr(),
+            discounts.len(),
+            flows.as_ptr(),
+            flows.len(),
+            terms.side as u64,
+            terms.dates.as_ptr(),
+            terms.dates.len(),
+            terms.strike,
+        )
+    })
 }
 
 /// What payoffs on a row are worth by the row's state prices.

@@ -135,6 +135,30 @@ extern "C" {
         expiry: usize,
         strike: u64,
     ) -> BondAndOption;
+    pub fn mixegorta_dated_option_price(
+        steps: usize,
+        reversion: u64,
+        discounts: *const u64,
+        discounts_len: usize,
+        flows: *const u64,
+        flows_len: usize,
+        side: u64,
+        dates: *const u8,
+        dates_len: usize,
+        strike: u64,
+    ) -> Price;
+    pub fn mixegorta_bond_and_dated_option(
+        steps: usize,
+        reversion: u64,
+        discounts: *const u64,
+        discounts_len: usize,
+        flows: *const u64,
+        flows_len: usize,
+        side: u64,
+        dates: *const u8,
+        dates_len: usize,
+        strike: u64,
+    ) -> BondAndOption;
     pub fn mixegorta_value_by_state_prices(
         state_prices: *const u64,
         state_prices_len: usize,

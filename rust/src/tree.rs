@@ -1,6 +1,6 @@
 //! A fitted tree with memories of its own.
 
-use crate::{BondAndOption, Branches, Curve, OptionTerms, Price, Refusal, RowKind};
+use crate::{BondAndOption, Branches, Curve, DatedTerms, OptionTerms, Price, Refusal, RowKind};
 
 /// A tree that was fitted to a curve and not refused.
 #[derive(Clone, Debug, PartialEq, Eq)]
@@ -94,6 +94,16 @@ impl Tree {
     /// Bond and option in one roll, each priced or refused by itself.
     pub fn bond_and_option(&self, flows: &[u64], terms: OptionTerms) -> BondAndOption {
         crate::bond_and_option(self.steps, self.reversion, &self.discounts, flows, terms)
+    }
+
+    /// The price of an option on that bond which may be exercised on listed rows.
+    pub fn dated_option_price(&self, flows: &[u64], terms: DatedTerms) -> Result<Price, Refusal> {
+        crate::dated_option_price(self.steps, self.reversion, &self.discounts, flows, terms)
+    }
+
+    /// Bond and dated option in one roll, each priced or refused by itself.
+    pub fn bond_and_dated_option(&self, flows: &[u64], terms: DatedTerms) -> BondAndOption {
+        crate::bond_and_dated_option(self.steps, self.reversion, &self.discounts, flows, terms)
     }
 
     /// What payoffs on a row are worth: never above the exact price, and at most the bound below it.

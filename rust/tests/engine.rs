@@ -374,6 +374,102 @@ fn an_option_above_the_limit_leaves_the_bond() {
     assert_eq!(both.option, Err(Refusal::VALUE));
 }
 
+/// A note of six steps, whose nodes have their row's discount: without the flow of its row it is worth 1.05 on row 4, 1.1 on row 3, 1.078 on
+/// row 2, 1.0152 on row 1 and 0.91368 on row 0.
+fn note() -> (Vec<u64>, [u64; 6]) {
+    let rows = [900_000_000, 900_000_000, 980_000_000, ONE, ONE, ONE];
+    let nodes = rows.iter().zip((1..).step_by(2));
+    let discounts = nodes.flat_map(|(&discount, count)| vec![discount; count]);
+    let flows = [0, 50_000_000, 0, 50_000_000, 0, 1_050_000_000];
+    (discounts.collect(), flows)
+}
+
+#[test]
+fn a_note_callable_on_coupon_days() {
+    let (discounts, flows) = note();
+    let bond = bond_price(6, 0, &discounts, &flows);
+    assert_eq!(bond.map(|bond| bond.value), Ok(913_680_000));
+    let price = |side, dates: &[u8], strike| {
+        let terms = DatedTerms {
+            side,
+            dates,
+            strike,
+        };
+        let both = bond_and_dated_option(6, 0, &discounts, &flows, terms);
+        let option = dated_option_price(6, 0, &discounts, &flows, terms);
+        assert_eq!((both.bond, both.option), (bond, option));
+        option.map(|option| option.value)
+    };
+    assert_eq!(price(Side::Call, &[2, 4], ONE), Ok(63_180_000));
+    assert_eq!(price(Side::Call, &[4], ONE), Ok(39_690_000));
+    assert_eq!(price(Side::Call, &[0, 1, 2, 3, 4], ONE), Ok(79_380_000));
+    assert_eq!(price(Side::Put, &[2, 4], 1_100_000_000), Ok(39_690_000));
+    assert_eq!(price(Side::Put, &[2], 1_100_000_000), Ok(17_820_000));
+}
+
+#[test]
+fn a_kind_is_a_list() {
+    let steps = 12;
+    let tree = Tree::fit(4, steps, 1_000, 10_000, &falling(0.99, steps)).unwrap();
+    let flows: Vec<u64> = (1..=steps).map(|row| 9_000_000 + row as u64).collect();
+    let kinds = [
+        (OptionKind::EuropeanCall, Side::Call),
+        (OptionKind::EuropeanPut, Side::Put),
+        (OptionKind::AmericanCall, Side::Call),
+        (OptionKind::AmericanPut, Side::Put),
+    ];
+    let rows: Vec<u8> = (0..=steps as u8).collect();
+    for expiry in 0..=steps {
+        for (kind, side) in kinds {
+            let european = matches!(kind, OptionKind::EuropeanCall | OptionKind::EuropeanPut);
+            let dates = &rows[if european { expiry } else { 0 }..=expiry];
+            let strike = 90_000_000;
+            let listed = tree.bond_and_dated_option(
+                &flows,
+                DatedTerms {
+                    side,
+                    dates,
+                    strike,
+                },
+            );
+            let terms = OptionTerms {
+                kind,
+                expiry,
+                strike,
+            };
+            if expiry < steps {
+                assert_eq!(listed, tree.bond_and_option(&flows, terms));
+                assert!(listed.option.is_ok());
+            } else {
+                assert_eq!(listed.option, Err(Refusal::DATES));
+                assert_eq!(tree.option_price(&flows, terms), Err(Refusal::OPTION));
+            }
+        }
+    }
+}
+
+/// The dates are judged after the strike, and before a bond above the limit.
+#[test]
+fn refused_dates() {
+    let number = |flow, dates: &[u8], strike| {
+        let terms = DatedTerms {
+            side: Side::Call,
+            dates,
+            strike,
+        };
+        dated_option_price(5, 0, &[ONE; 25], &[flow; 5], terms).map(|option| option.value)
+    };
+    assert_eq!(number(2 * ONE, &[1], ONE), Err(Refusal::VALUE));
+    assert_eq!(number(ONE, &[1], ONE), Ok(3 * ONE));
+    for dates in [&[][..], &[5], &[1, 1], &[3, 1], &[1, 255], &[0; 4_672]] {
+        for flow in [ONE, 2 * ONE] {
+            assert_eq!(number(flow, dates, ONE), Err(Refusal::DATES));
+            assert_eq!(number(flow, dates, 4 * ONE + 1), Err(Refusal::OPTION));
+        }
+        assert_eq!(number(2 * ONE + 1, dates, 4 * ONE + 1), Err(Refusal::FLOW));
+    }
+}
+
 /// The scope's job with an option for today: one yearly step, a discount factor of 1.0025, an American put.
 const EXAMPLE: [u8; 47] = [
     1, 0, 1, 1, 2, 0, 1, 1, 3, 0, 2, 0, 0, 4, 0, 4, 0, 0, 0, 0, 5, 0, 8, 0x3F, 0xF0, 0x0A, 0x3D,
@@ -412,6 +508,25 @@ fn sheets_of_jobs() {
     assert_eq!(with(42, 2), Refusal::OPTION);
 }
 
+/// The same put by its list, row 0 alone, in field 0A; then lists that are empty, reach row 1 or do not rise.
+#[test]
+fn sheets_of_jobs_with_dates() {
+    let sheet_with = |option: &[u8]| sheet(&[&EXAMPLE[..WITHOUT_OPTION], option].concat());
+    let dated = |side: u8, dates: &[u8]| {
+        let head = [10, 0, 5 + dates.len() as u8, side, 0x3C, 0x33, 0x60, 0x80];
+        [&head, dates].concat()
+    };
+    assert_eq!(sheet_with(&dated(2, &[0])).as_deref(), Ok(SHEET));
+    for dates in [&[][..], &[1], &[0, 0]] {
+        assert_eq!(sheet_with(&dated(2, dates)), Err(Refusal::DATES));
+        assert_eq!(sheet_with(&dated(3, dates)), Err(Refusal::OPTION));
+    }
+    let short = [10, 0, 4, 2, 0x3C, 0x33, 0x60];
+    assert_eq!(sheet_with(&short), Err(Refusal::JOB));
+    let twice = [&EXAMPLE[WITHOUT_OPTION..], &dated(2, &[0])].concat();
+    assert_eq!(sheet_with(&twice), Err(Refusal::JOB));
+}
+
 #[test]
 fn room_of_a_sheet() {
     let mut out = vec![0xA5; SHEET_ROOM + 2];
@@ -436,5 +551,10 @@ fn a_refusal_says_its_number() {
     assert_eq!(
         refusal.to_string(),
         "refused 9: a node discount is 0 or above 1,100,000,000"
+    );
+    assert_eq!(Refusal::DATES.number(), 13);
+    assert_eq!(
+        Refusal::DATES.to_string(),
+        "refused 13: the exercise dates are none, not strictly rising, or reach the last row"
     );
 }

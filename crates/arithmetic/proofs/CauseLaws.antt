@@ -1,6 +1,6 @@
 -- Laws of the lowest of two causes.
 -- Assumes nothing.
-use mathlib.Core.Path.{_≡_, _∙_}
+use mathlib.Core.Path.{_≡_, sym, _∙_}
 use Prim.Native.Nat.{ℕ, _≤_, _<_}
 use native.Mathlib.Omega.{arith}
 use borrow.Author.Tests.{eq-eqb, ne-eqb}
@@ -25,6 +25,10 @@ module _ (a b : ℕ) where
       pub lowest-more : b ≤ a → b ≡ lowestCause a b
       unfolding lowestCause
       lowest-more h = rw (ne-eqb a 0 na, ne-eqb b 0 nb) (omega arith)
+
+-- with no second cause, the first
+pub lowest-alone : (a b : ℕ) → b ≡ 0 → a ≡ lowestCause a b
+lowest-alone a b zb = by-equal a 0 (λ za. za ∙ sym zb ∙ lowest-first a b za) (λ na. lowest-second a b na zb)
 
 -- no lowest cause, no cause
 pub lowest-none : (a b : ℕ) → lowestCause a b ≡ 0 → (a ≡ 0) × (b ≡ 0)

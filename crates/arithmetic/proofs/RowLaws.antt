@@ -138,6 +138,11 @@ pub each-more : (n : ℕ) (p : ℕ → Bool) → each n p ≡ true → p n ≡ t
 unfolding each
 each-more n p a b = rw (add-one n, a, b)
 
+-- a test that holds of each number below n
+pub each-all : (n : ℕ) (p : ℕ → Bool) → ((k : ℕ) → k < n → p k ≡ true) → each n p ≡ true
+each-all zero p h = each-none p
+each-all (suc n) p h = rw (← add-one n) (each-more n p (each-all n p (λ k l. h k (omega arith))) (h n (omega arith)))
+
 pub each-fails : (n k : ℕ) (p : ℕ → Bool) → k < n → p k ≡ false → each n p ≡ false
 unfolding each
 each-fails zero k p h e = absurd (none h)

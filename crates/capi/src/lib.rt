@@ -16,7 +16,7 @@ ghost use Rattle.continuous_rate.specs.ContinuousRate.{continuousRateAnswer};
 ghost use Rattle.fitting.specs.Entry.{fitNumber, discountsAfter, pricesAfter};
 ghost use Rattle.row_view.specs.RowView.{rangeByNumber};
 ghost use Rattle.state_price_bound.specs.ErrorBound.{statePriceErrorBoundAnswer};
-ghost use Rattle.pricing.specs.Prices.{bondPrice, optionPrice, bondAndOption};
+ghost use Rattle.pricing.specs.Prices.{bondPrice, optionPrice, bondAndOption, datedPrice, bondAndDatedOption};
 ghost use Rattle.valuation.specs.Entries.{valueByStatePricesAnswer, valuationErrorBoundAnswer};
 ghost use Rattle.sheet_laws.specs.WholeJob.{sheetNumber, sheetText, sheetMemory};
 ghost use Rattle.record_sheet.specs.Answers.{answerOf};
@@ -213,6 +213,36 @@ pub extern "C" fn mixegorta_bond_and_option(
     ensures { λ r. ⌜ r ≡ bondAndOption steps reversion (now (discounts .entry)) (now (flows .entry)) kind expiry strike ⌝ }
 {
     pricing::bond_and_option(steps, reversion, discounts, flows, kind, expiry, strike)
+}
+
+#[no_mangle]
+pub extern "C" fn mixegorta_dated_option_price(
+    steps: usize,
+    reversion: u64,
+    discounts: &[u64],
+    flows: &[u64],
+    side: u64,
+    dates: &[u8],
+    strike: u64,
+) -> Price
+    ensures { λ r. ⌜ r ≡ datedPrice steps reversion (now (discounts .entry)) (now (flows .entry)) side (now (dates .entry)) strike ⌝ }
+{
+    pricing::dated_option_price(steps, reversion, discounts, flows, side, dates, strike)
+}
+
+#[no_mangle]
+pub extern "C" fn mixegorta_bond_and_dated_option(
+    steps: usize,
+    reversion: u64,
+    discounts: &[u64],
+    flows: &[u64],
+    side: u64,
+    dates: &[u8],
+    strike: u64,
+) -> BondAndOption
+    ensures { λ r. ⌜ r ≡ bondAndDatedOption steps reversion (now (discounts .entry)) (now (flows .entry)) side (now (dates .entry)) strike ⌝ }
+{
+    pricing::bond_and_dated_option(steps, reversion, discounts, flows, side, dates, strike)
 }
 
 #[no_mangle]

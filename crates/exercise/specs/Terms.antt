@@ -1,10 +1,8 @@
 -- The kinds of option as the code holds them.
 -- Assumes nothing.
-use mathlib.Core.Bool.{Bool, true, false, cond, _||_}
-use mathlib.Core.List.{List}
+use mathlib.Core.Bool.{Bool, true, false, _||_}
 use Prim.Native.Nat.{ℕ}
-use lib.Dec.{eqb, ltb}
-use lib.ListN.{replicate}
+use lib.Dec.{eqb}
 use Rattle.pricing_laws.specs.Pricer.{Side, call, put}
 use Rattle.exercise.specs.declared.Terms.{Terms}
 
@@ -15,7 +13,3 @@ side false = put
 -- kinds 1 and 3 are calls
 unfoldable pub termsOf : ℕ → ℕ → ℕ → Terms
 termsOf kind expiry strike = record { call = eqb kind 1 || eqb kind 3; strike = strike; last = expiry }
-
--- rows 0 to 60; kinds 3 and 4 may be exercised before expiry on each
-unfoldable pub marksOf : ℕ → List ℕ
-marksOf kind = replicate 61 (cond (ltb kind 3) 0 1)

@@ -1,8 +1,8 @@
-// The value of one node of an option, and the rows on which each kind may be exercised.
+// The value of one node of an option, and the terms of each kind.
 ghost use mathlib.Core.Path.{_≡_};
 ghost use Prim.Native.Nat.{_-_};
 ghost use Rattle.pricing_laws.specs.Pricer.{exercise, heldOrExercised};
-ghost use Rattle.exercise.specs.Terms.{side, termsOf, marksOf};
+ghost use Rattle.exercise.specs.Terms.{side, termsOf};
 
 // An option's side, its strike and the last row on which it may be exercised.
 pub struct Terms {
@@ -20,16 +20,6 @@ pub fn terms_of(kind: u64, expiry: usize, strike: u64) -> Terms
         strike,
         last: expiry,
     }
-}
-
-// A mark for each row, 1 where a kind may be exercised on it before expiry.
-pub fn marks_of(kind: u64) -> [u8; 61]
-    ensures { λ r. ⌜ r ≡ marksOf kind ⌝ }
-{
-    if kind < 3 {
-        return [0; 61];
-    }
-    [1; 61]
 }
 
 // The difference, or 0 where it would be below 0.

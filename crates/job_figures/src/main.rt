@@ -2,7 +2,7 @@
 // works the output out apart, field after field.
 ghost use mathlib.Core.Path.{_≡_};
 ghost use lib.ListN.{length};
-ghost use Rattle.job_record.specs.Grammar.{SoundJob};
+ghost use Rattle.job_record.specs.Grammar.{SoundOption, SoundJob};
 use job_record::Job;
 use job_record::OptionRecord;
 
@@ -47,14 +47,30 @@ fn show_rows(kinds: &[u8], figures: &[u64], flows: &[u64])
     }
 }
 
-fn show_option(option: OptionRecord) {
-    if option.tag != 0 {
-        write(b"option");
-        write_number(option.kind);
-        write_number(option.expiry);
-        write_number(option.strike);
-        write(b"\n");
+fn show_dates(dates: &[u8]) {
+    let mut i = 0usize;
+    while i < dates.len() {
+        write_number(wide(dates[i]));
+        i += 1;
     }
+}
+
+fn show_option(option: OptionRecord)
+    requires { ⌜ SoundOption option ⌝ }
+{
+    if option.tag == 0 {
+        return;
+    }
+    let count = option.count;
+    let dates = option.dates;
+    write(b"option");
+    write_number(option.tag);
+    write_number(option.kind);
+    write_number(option.expiry);
+    write_number(option.strike);
+    write_number(count as u64);
+    show_dates(&dates[..count]);
+    write(b"\n");
 }
 
 fn show_job(number: u64, job: Job)

@@ -5,19 +5,22 @@ use mathlib.Core.Bool.{Bool, true, false}
 use mathlib.Core.List.{List}
 use Prim.Native.Nat.{ℕ}
 use native.Mathlib.Omega.{arith}
+use lib.Dec.{eqb}
 use borrow.Author.Tests.{eq-eqb, ne-eqb}
 use Rattle.lattice.specs.Entries.{memoryCause}
 use Rattle.arithmetic.proofs.CauseLaws.{lowest-none}
-use Rattle.arithmetic.proofs.Numbers.{by-equal}
+use Rattle.arithmetic.proofs.Numbers.{by-equal, by-test}
 use Rattle.limits.specs.Limits.{mostDiscounts, mostStatePrices}
 use Rattle.limits.proofs.LimitLaws.{limit-kept, limit-accepted}
 use Rattle.pricing.proofs.Accuracy.{first-none}
-use Rattle.pricing.specs.Prices.{firstCause, bondPeak, optionLimit, priced, bondPrice, optionPrice}
+use Rattle.pricing_laws.specs.Pricer.{Side, Schedule}
+use Rattle.pricing.specs.declared.Price.{Price}
+use Rattle.pricing.specs.Prices.{firstCause, bondPeak, optionLimit, priced, scheduledPrice, bondPrice, optionPrice, datedPrice}
 use Rattle.job_record.specs.declared.Job.{Job}
 use Rattle.job_record.specs.declared.OptionRecord.{OptionRecord}
 use Rattle.job_record.specs.Reader.{readingOf}
 use Rattle.job_fit.specs.RecordFit.{jobFlows, jobDiscounts, recordFit}
-use Rattle.job_prices.specs.JobPrices.{hasOption, treeNumber, jobBond, recordNumber, bytesNumber}
+use Rattle.job_prices.specs.JobPrices.{hasOption, taggedOption, treeNumber, jobBond, recordNumber, bytesNumber}
 
 first-both : (cause later : ℕ) → cause ≡ 0 → later ≡ 0 → firstCause cause later ≡ 0
 unfolding firstCause
@@ -29,16 +32,23 @@ priced-number number price bound =
     by-equal number 0 (λ z. rw (eq-eqb number 0 z) (sym z)) (λ nz. rw (ne-eqb number 0 nz))
 
 -- an option that is priced has a bond that is
-pub option-judges : (n b : ℕ) (discounts flows : List ℕ) (kind expiry strike : ℕ) →
-    optionPrice n b discounts flows kind expiry strike .number ≡ 0 → bondPrice n b discounts flows .number ≡ 0
-unfolding optionPrice bondPrice optionLimit
-option-judges n b discounts flows kind expiry strike z =
+scheduled-judges : (n b : ℕ) (discounts flows : List ℕ) (side : Side) (strike : ℕ) (rows : Schedule) (cause : ℕ) →
+    scheduledPrice n b discounts flows side strike rows cause .number ≡ 0 → bondPrice n b discounts flows .number ≡ 0
+unfolding bondPrice optionLimit
+scheduled-judges n b discounts flows side strike rows cause z =
     let option = first-none _ _ (sym (priced-number _ _ _) ∙ z) in
     let late = limit-accepted _ (first-none _ _ (option .1) .1) in
     priced-number _ _ _ ∙ first-both _ _ (option .0) (sym (limit-kept (bondPeak n b discounts flows) (omega arith)))
 
+pub option-judges : (n b : ℕ) (discounts flows : List ℕ) (option : OptionRecord) →
+    taggedOption n b discounts flows option .number ≡ 0 → bondPrice n b discounts flows .number ≡ 0
+unfolding taggedOption optionPrice datedPrice
+option-judges n b discounts flows option =
+    by-test (eqb (option .tag) 8) (λ (p : Price). p .number ≡ 0 → bondPrice n b discounts flows .number ≡ 0) _ _
+    (λ t. scheduled-judges n b discounts flows _ _ _ _) (λ t. scheduled-judges n b discounts flows _ _ _ _)
+
 module _ (n b : ℕ) (discounts flows : List ℕ) (option : OptionRecord) (z : treeNumber n b discounts flows option ≡ 0) where
-  pub tree-option : hasOption option ≡ true → optionPrice n b discounts flows (option .kind) (option .expiry) (option .strike) .number ≡ 0
+  pub tree-option : hasOption option ≡ true → taggedOption n b discounts flows option .number ≡ 0
   unfolding treeNumber
   tree-option e = rw e at z
 
@@ -47,7 +57,7 @@ module _ (n b : ℕ) (discounts flows : List ℕ) (option : OptionRecord) (z : t
   tree-bond = by (hasOption option) refl
     where
       by : (t : Bool) → hasOption option ≡ t → bondPrice n b discounts flows .number ≡ 0
-      by true e = option-judges n b discounts flows _ _ _ (tree-option e)
+      by true e = option-judges n b discounts flows option (tree-option e)
       by false e = rw e at z
 
 -- each part of a record that is priced without a cause, in lent memories of so many numbers
@@ -56,12 +66,12 @@ pub record AcceptedRecord (job : Job) (discounts prices : ℕ) : Type 0 where
   pub room : memoryCause (job .steps) (job .reversion) discounts prices ≡ 0
   pub bond : jobBond job .number ≡ 0
   pub option-priced : hasOption (job .option) ≡ true →
-      optionPrice (job .steps) (job .reversion) (jobDiscounts job) (jobFlows job) (job .option .kind) (job .option .expiry) (job .option .strike) .number ≡ 0
+      taggedOption (job .steps) (job .reversion) (jobDiscounts job) (jobFlows job) (job .option) .number ≡ 0
 
 pub record-accepted : (job : Job) (discounts prices : ℕ) → recordNumber job discounts prices ≡ 0 → AcceptedRecord job discounts prices
 unfolding recordNumber
 record-accepted job discounts prices z =
-    let parts = first-none _ _ z in
+    let parts = first-none _ _ (first-none _ _ z .1) in
     let early = lowest-none _ _ (parts .0) in
     record { fit = early .0; room = early .1; bond = tree-bond _ _ _ _ (job .option) (parts .1); option-priced = tree-option _ _ _ _ (job .option) (parts .1) }
 

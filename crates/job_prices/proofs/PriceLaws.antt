@@ -3,15 +3,15 @@
 use mathlib.Core.Path.{_≡_, refl, sym, ap, _∙_, subst}
 use mathlib.Core.Bool.{Bool, true, false}
 use mathlib.Core.List.{List}
-use Prim.Native.Nat.{ℕ, _≤_}
+use Prim.Native.Nat.{ℕ, _≤_, _<_}
 use native.Mathlib.Omega.{arith}
-use borrow.Author.Tests.{eq-eqb, ne-eqb}
+use borrow.Author.Tests.{eq-eqb, ne-eqb, le-leb, lt-leb}
 use lib.ListN.{length, take}
 use Rattle.arithmetic.specs.Answers.{lowestCause}
 use Rattle.arithmetic.specs.Row.{values, place}
 use Rattle.arithmetic.specs.declared.Answer.{Answer}
 use Rattle.arithmetic.proofs.CauseLaws.{lowest-none}
-use Rattle.arithmetic.proofs.Numbers.{by-equal}
+use Rattle.arithmetic.proofs.Numbers.{by-equal, by-order}
 use Rattle.arithmetic.proofs.PlaceLaws.{filled-place, length-place, place-front}
 use Rattle.arithmetic.proofs.RowLaws.{Filled, row-of}
 use Rattle.limits.specs.Limits.{mostDiscounts, mostStatePrices}
@@ -22,15 +22,16 @@ use Rattle.fitting.proofs.CauseLaws.{memory-none}
 use Rattle.fitting.proofs.FittedTree.{fit-placed}
 use Rattle.pricing.specs.declared.Price.{Price}
 use Rattle.pricing.specs.declared.BondAndOption.{BondAndOption}
-use Rattle.pricing.specs.Prices.{refusedPrice, firstCause, bondPrice, bondAndOption}
+use Rattle.pricing.specs.Prices.{refusedPrice, firstCause, bondPrice, optionPrice, datedPrice}
 use Rattle.job_record.specs.declared.OptionRecord.{OptionRecord}
 use Rattle.job_record.specs.declared.Job.{Job}
 use Rattle.job_record.specs.declared.Reading.{Reading}
+use Rattle.job_record.specs.Form.{mostDates}
 use Rattle.job_record.specs.Reader.{readingOf}
 use Rattle.job_fit.specs.RecordFit.{jobFlows, jobDiscounts, jobStatePrices, recordFit, memoryAfter}
 use Rattle.job_fit.proofs.FitLaws as fits
 use Rattle.job_prices.specs.declared.JobPrices.{JobPrices}
-use Rattle.job_prices.specs.JobPrices.{treeNumber, refusedPrices, pricesOf, treePrices}
+use Rattle.job_prices.specs.JobPrices.{optionForm, optionDates, taggedOption, treeNumber, refusedPrices, pricesOf, treePrices}
 use Rattle.job_prices.specs.JobPrices.{recordNumber, recordPrices, bytesNumber, bytesPrices}
 
 pub all-placed : (l₀ l part : List ℕ) (i : ℕ) → Filled l₀ l (values part) i → i ≡ length part → length part ≤ length l₀ → l ≡ place l₀ 0 part
@@ -64,10 +65,52 @@ module _ (n b : ℕ) (discounts flows : List ℕ) (option : OptionRecord) (r : J
   without-option bond z eb e = e ∙ rw (eb, eq-eqb (option .tag) 0 z)
 
   pub with-option : (both : BondAndOption) → (option .tag ≡ 0 → ⊥) →
-      both ≡ bondAndOption n b discounts flows (option .kind) (option .expiry) (option .strike) →
+      both .bond ≡ bondPrice n b discounts flows → both .option ≡ taggedOption n b discounts flows option →
       r ≡ pricesOf (both .option .number) (both .bond) true (both .option) → r ≡ treePrices n b discounts flows option
   unfolding treePrices treeNumber
-  with-option both nz eb e = e ∙ rw (eb, ne-eqb (option .tag) 0 nz)
+  with-option both nz eb eo e = e ∙ rw (eb, eo, ne-eqb (option .tag) 0 nz)
+
+-- ---- the option by its tag
+
+module _ (n b : ℕ) (discounts flows : List ℕ) (option : OptionRecord) where
+  pub tagged-kind : option .tag ≡ 8 →
+      optionPrice n b discounts flows (option .kind) (option .expiry) (option .strike) ≡ taggedOption n b discounts flows option
+  unfolding taggedOption
+  tagged-kind e = rw (eq-eqb (option .tag) 8 e)
+
+  pub tagged-list : (option .tag ≡ 8 → ⊥) →
+      datedPrice n b discounts flows (option .kind) (optionDates option) (option .strike) ≡ taggedOption n b discounts flows option
+  unfolding taggedOption
+  tagged-list other = rw (ne-eqb (option .tag) 8 other)
+
+-- ---- the form of an option
+
+module _ (tag count : ℕ) where
+  pub form-long : mostDates < count → 1 ≡ optionForm tag count
+  unfolding optionForm
+  form-long h = rw (lt-leb count mostDates h)
+
+  module _ (few : count ≤ mostDates) where
+    pub form-none : tag ≡ 0 → 0 ≡ optionForm tag count
+    unfolding optionForm
+    form-none e = rw (le-leb count mostDates few, eq-eqb tag 0 e)
+
+    module _ (some : tag ≡ 0 → ⊥) where
+      pub form-kind : tag ≡ 8 → 0 ≡ optionForm tag count
+      unfolding optionForm
+      form-kind e = rw (le-leb count mostDates few, ne-eqb tag 0 some, eq-eqb tag 8 e)
+
+      module _ (other : tag ≡ 8 → ⊥) where
+        pub form-list : tag ≡ 10 → 0 ≡ optionForm tag count
+        unfolding optionForm
+        form-list e = rw (le-leb count mostDates few, ne-eqb tag 0 some, ne-eqb tag 8 other, eq-eqb tag 10 e)
+
+        pub form-other : (tag ≡ 10 → ⊥) → 1 ≡ optionForm tag count
+        unfolding optionForm
+        form-other neither = rw (le-leb count mostDates few, ne-eqb tag 0 some, ne-eqb tag 8 other, ne-eqb tag 10 neither)
+
+  pub form-few : optionForm tag count ≡ 0 → count ≤ mostDates
+  form-few z = by-order count mostDates (λ h. h) (λ h. absurd (omega (arith, form-long h)))
 
 -- ---- what a call leaves
 
@@ -85,6 +128,13 @@ module _ (number : ℕ) (prices : JobPrices) (part₁ part₂ d p : List ℕ) (r
   left-placed after-d after-p z ed ep =
       (e, (ed ∙ sym (fits.memory-placed number part₁ d z), ep ∙ sym (fits.memory-placed number part₂ p z)))
 
+-- a cause that was found is the number: it is given, and both memories are as they were
+pub found-left : (cause number : ℕ) (bond : Price) (present : Bool) (option : Price) (part₁ part₂ d p : List ℕ) → cause ≡ number → (cause ≡ 0 → ⊥) →
+    (r : JobPrices) → r ≡ refusedPrices cause → Left number (pricesOf number bond present option) part₁ part₂ d p r d p
+found-left cause number bond present option part₁ part₂ d p found nz r e =
+    left-refused number _ part₁ part₂ d p r
+    (e ∙ ap refusedPrices found ∙ prices-refused number bond present option (λ z. nz (found ∙ z))) (λ z. nz (found ∙ z))
+
 module _ (n b : ℕ) (discounts flows : List ℕ) (option : OptionRecord) (r : JobPrices) (e : r ≡ treePrices n b discounts flows option) where
   pub tree-number : r .number ≡ treeNumber n b discounts flows option
   unfolding treePrices
@@ -95,6 +145,7 @@ module _ (n b : ℕ) (discounts flows : List ℕ) (option : OptionRecord) (r : J
 -- an accepted fit: so many numbers at the start of two memories are its tree, the lent memories hold it, and what is left to test is the tree
 pub record Held (job : Job) (needed all : ℕ) (d p lent-d lent-p : List ℕ) : Type 0 where
   pub steps-within-limit : job .steps ≤ 255
+  pub dates-few : job .option .count ≤ mostDates
   pub discounts-are : take needed d ≡ jobDiscounts job
   pub prices-are : take all p ≡ jobStatePrices job
   pub discounts-size : length (jobDiscounts job) ≡ needed
@@ -111,8 +162,18 @@ abbrev pub Record : Job → List ℕ → List ℕ → JobPrices → List ℕ →
 Record job d p =
     Left (recordNumber job (length d) (length p)) (recordPrices job (length d) (length p)) (jobDiscounts job) (jobStatePrices job) d p
 
-module _ (job : Job) (d₀ p₀ d p : List ℕ) (fitted : ℕ) (ld : length d₀ ≡ mostDiscounts) (lp : length p₀ ≡ mostStatePrices)
-    (fit : fits.Fitted job d₀ p₀ fitted d p) (lent-d lent-p : List ℕ) (memory cause : ℕ)
+-- a record whose option has no job's form
+module _ (job : Job) (lent-d lent-p : List ℕ) (form : ℕ) (ef : form ≡ optionForm (job .option .tag) (job .option .count)) (nz : form ≡ 0 → ⊥) where
+  form-found : form ≡ recordNumber job (length lent-d) (length lent-p)
+  unfolding recordNumber firstCause
+  form-found = rw (← ef, ne-eqb form 0 nz)
+
+  pub form-refused : (r : JobPrices) → r ≡ refusedPrices form → Record job lent-d lent-p r lent-d lent-p
+  unfolding recordPrices
+  form-refused = found-left form _ _ _ _ _ _ lent-d lent-p form-found nz
+
+module _ (job : Job) (formed : optionForm (job .option .tag) (job .option .count) ≡ 0) (d₀ p₀ d p : List ℕ) (fitted : ℕ)
+    (ld : length d₀ ≡ mostDiscounts) (lp : length p₀ ≡ mostStatePrices) (fit : fits.Fitted job d₀ p₀ fitted d p) (lent-d lent-p : List ℕ) (memory cause : ℕ)
     (em : memory ≡ memoryCause (job .steps) (job .reversion) (length lent-d) (length lent-p)) (ec : cause ≡ lowestCause fitted memory) where
   fitted-is : fitted ≡ recordFit job mostDiscounts mostStatePrices
   fitted-is = fit .0 ∙ rw (ld, lp)
@@ -123,21 +184,16 @@ module _ (job : Job) (d₀ p₀ d p : List ℕ) (fitted : ℕ) (ld : length d₀
 
   cause-found : (cause ≡ 0 → ⊥) → cause ≡ recordNumber job (length lent-d) (length lent-p)
   unfolding recordNumber firstCause
-  cause-found nz = rw (← cause-is, ne-eqb cause 0 nz)
-
-  cause-given : (nz : cause ≡ 0 → ⊥) → refusedPrices cause ≡ recordPrices job (length lent-d) (length lent-p)
-  unfolding recordPrices
-  cause-given nz =
-      ap refusedPrices (cause-found nz) ∙ prices-refused _ _ _ _ (λ z. nz (cause-found nz ∙ z))
+  cause-found nz = rw (eq-eqb _ 0 formed, ← cause-is, ne-eqb cause 0 nz)
 
   pub record-refused : (r : JobPrices) → r ≡ refusedPrices cause → (cause ≡ 0 → ⊥) → Record job lent-d lent-p r lent-d lent-p
-  record-refused r e nz =
-      left-refused _ _ (jobDiscounts job) (jobStatePrices job) lent-d lent-p r (e ∙ cause-given nz) (λ z. nz (cause-found nz ∙ z))
+  unfolding recordPrices
+  record-refused r e nz = found-left cause _ _ _ _ _ _ lent-d lent-p (cause-found nz) nz r e
 
   module _ (z : cause ≡ 0) where
     number-is : treeNumber (job .steps) (job .reversion) (jobDiscounts job) (jobFlows job) (job .option) ≡ recordNumber job (length lent-d) (length lent-p)
     unfolding recordNumber firstCause
-    number-is = rw (← cause-is, eq-eqb cause 0 z)
+    number-is = rw (eq-eqb _ 0 formed, ← cause-is, eq-eqb cause 0 z)
 
     fit-none : fitted ≡ 0
     fit-none = lowest-none fitted memory (sym ec ∙ z) .0
@@ -167,6 +223,7 @@ module _ (job : Job) (d₀ p₀ d p : List ℕ) (fitted : ℕ) (ld : length d₀
         let long-p = ap length p-is ∙ length-place p₀ 0 (jobStatePrices job) (omega (arith, pl, pn, known .room-prices, lp)) in
         record {
           steps-within-limit = fits.steps-few job _ _ record-none;
+          dates-few = form-few _ _ formed;
           discounts-are = ap (take (needed .value)) d-is ∙ place-front d₀ (jobDiscounts job) (needed .value) dl;
           prices-are = ap (take (all .value)) p-is ∙ place-front p₀ (jobStatePrices job) (all .value) pl;
           discounts-size = dl;
@@ -186,8 +243,8 @@ module _ (job : Job) (needed all : ℕ) (d p lent-d lent-p : List ℕ) (h : Held
   pub prices-count : all ≡ length (take all p)
   prices-count = sym (h .prices-size) ∙ ap length (sym (h .prices-are))
 
-  pub tree-fits : (job .steps ≤ 255) × (length (take needed d) ≤ length lent-d) × (length (take all p) ≤ length lent-p)
-  tree-fits = (h .steps-within-limit, omega (arith, discounts-count, h .discounts-room), omega (arith, prices-count, h .prices-room))
+  pub tree-fits : (job .steps ≤ 255) × (job .option .count ≤ mostDates) × (length (take needed d) ≤ length lent-d) × (length (take all p) ≤ length lent-p)
+  tree-fits = (h .steps-within-limit, h .dates-few, omega (arith, discounts-count, h .discounts-room), omega (arith, prices-count, h .prices-room))
 
   pub record-made : (r : JobPrices) (after-d after-p : List ℕ) →
       Left (treeNumber (job .steps) (job .reversion) (take needed d) (jobFlows job) (job .option))
@@ -212,12 +269,9 @@ module _ (bytes d p : List ℕ) (q : Reading) (e : q ≡ readingOf bytes) where
     unfolding bytesNumber firstCause
     read-found = rw (← number-read, ne-eqb (q .number) 0 nz)
 
-    read-given : refusedPrices (q .number) ≡ bytesPrices bytes (length d) (length p)
-    unfolding bytesPrices
-    read-given = ap refusedPrices read-found ∙ prices-refused _ _ _ _ (λ z. nz (read-found ∙ z))
-
     pub bytes-refused : (r : JobPrices) → r ≡ refusedPrices (q .number) → Bytes bytes d p r d p
-    bytes-refused r er = left-refused _ _ _ _ d p r (er ∙ read-given) (λ z. nz (read-found ∙ z))
+    unfolding bytesPrices
+    bytes-refused = found-left (q .number) _ _ _ _ _ _ d p read-found nz
 
   module _ (z : q .number ≡ 0) where
     bytes-number : recordNumber (readingOf bytes .job) (length d) (length p) ≡ bytesNumber bytes (length d) (length p)

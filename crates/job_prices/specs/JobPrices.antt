@@ -1,16 +1,18 @@
 -- The prices of a job (document 01, Prices; When the engine declines): fit, bond and option, the lowest number of all, and the lent tree memories.
 -- Assumes nothing.
 use Prim.Native.Nat.{ℕ}
-use mathlib.Core.Bool.{Bool, false, cond, not}
+use mathlib.Core.Bool.{Bool, false, cond, not, _&&_, _||_}
 use mathlib.Core.List.{List}
-use lib.Dec.{eqb}
+use lib.Dec.{eqb, leb}
+use lib.ListN.{take}
 use Rattle.lattice.specs.Entries.{memoryCause}
 use Rattle.arithmetic.specs.Answers.{lowestCause}
 use Rattle.limits.specs.Limits.{mostDiscounts, mostStatePrices}
 use Rattle.pricing.specs.declared.Price.{Price}
-use Rattle.pricing.specs.Prices.{refusedPrice, firstCause, bondPrice, optionPrice}
+use Rattle.pricing.specs.Prices.{refusedPrice, firstCause, bondPrice, optionPrice, datedPrice}
 use Rattle.job_record.specs.declared.OptionRecord.{OptionRecord}
 use Rattle.job_record.specs.declared.Job.{Job}
+use Rattle.job_record.specs.Form.{mostDates}
 use Rattle.job_record.specs.Reader.{readingOf}
 use Rattle.job_fit.specs.RecordFit.{jobFlows, jobDiscounts, recordFit}
 use Rattle.job_prices.specs.declared.JobPrices.{JobPrices}
@@ -19,12 +21,25 @@ use Rattle.job_prices.specs.declared.JobPrices.{JobPrices}
 abbrev pub hasOption : OptionRecord → Bool
 hasOption option = not (eqb (option .tag) 0)
 
+-- 1: no job's bytes give another tag than 0, 8 or 10, or more dates than a job has room for
+unfoldable pub optionForm : ℕ → ℕ → ℕ
+optionForm tag count = cond (leb count mostDates && (eqb tag 0 || (eqb tag 8 || eqb tag 10))) 0 1
+
+-- the rows that an option lists
+abbrev pub optionDates : OptionRecord → List ℕ
+optionDates option = take (option .count) (option .dates)
+
+-- an option by its tag: 8 has a kind and an expiry, 10 a side and listed rows
+unfoldable pub taggedOption : ℕ → ℕ → List ℕ → List ℕ → OptionRecord → Price
+taggedOption n b discounts flows option =
+    cond (eqb (option .tag) 8) (optionPrice n b discounts flows (option .kind) (option .expiry) (option .strike))
+    (datedPrice n b discounts flows (option .kind) (optionDates option) (option .strike))
+
 -- the option of a tree whose discounts are lent; zeros for none
 abbrev pub treeOption : ℕ → ℕ → List ℕ → List ℕ → OptionRecord → Price
-treeOption n b discounts flows option =
-    cond (hasOption option) (optionPrice n b discounts flows (option .kind) (option .expiry) (option .strike)) (refusedPrice 0)
+treeOption n b discounts flows option = cond (hasOption option) (taggedOption n b discounts flows option) (refusedPrice 0)
 
--- causes 10 to 12: the number of the option, which judges all that the bond's does; of the bond where there is none
+-- causes 10 to 13: the number of the option, which judges all that the bond's does; of the bond where there is none
 unfoldable pub treeNumber : ℕ → ℕ → List ℕ → List ℕ → OptionRecord → ℕ
 treeNumber n b discounts flows option =
     cond (hasOption option) (treeOption n b discounts flows option .number) (bondPrice n b discounts flows .number)
@@ -43,12 +58,13 @@ treePrices n b discounts flows option =
     pricesOf (treeNumber n b discounts flows option) (bondPrice n b discounts flows) (hasOption option) (treeOption n b discounts flows option)
 
 module _ (job : Job) where
-  -- 1, then the lowest of causes 2 to 9 and of 6 for lent memories of so many numbers, then causes 10 to 12
+  -- 1, then the lowest of causes 2 to 9 and of 6 for lent memories of so many numbers, then causes 10 to 13
   unfoldable pub recordNumber : ℕ → ℕ → ℕ
   recordNumber discounts prices =
-      firstCause
+      firstCause (optionForm (job .option .tag) (job .option .count))
+      (firstCause
       (lowestCause (recordFit job mostDiscounts mostStatePrices) (memoryCause (job .steps) (job .reversion) discounts prices))
-      (treeNumber (job .steps) (job .reversion) (jobDiscounts job) (jobFlows job) (job .option))
+      (treeNumber (job .steps) (job .reversion) (jobDiscounts job) (jobFlows job) (job .option)))
 
   abbrev pub jobBond : Price
   jobBond = bondPrice (job .steps) (job .reversion) (jobDiscounts job) (jobFlows job)

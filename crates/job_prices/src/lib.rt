@@ -6,6 +6,7 @@ ghost use mathlib.Core.Path.{_≡_};
 ghost use Prim.Native.Nat.{_≤_};
 ghost use lib.ListN.{length};
 ghost use Rattle.job_fit.specs.RecordFit.{jobFlows, jobDiscounts, jobStatePrices, memoryAfter};
+ghost use Rattle.job_record.specs.Form.{mostDates};
 ghost use Rattle.job_record.specs.Reader.{readingOf};
 ghost use Rattle.job_prices.specs.JobPrices.{
   treeNumber,
@@ -34,7 +35,7 @@ fn prices_of_tree(
     discounts: &mut [u64],
     state_prices: &mut [u64],
 ) -> JobPrices
-    requires { ⌜ (job .steps ≤ 255) × (length (now «fitted_discounts») ≤ length (now discounts))
+    requires { ⌜ (job .steps ≤ 255) × (job .option .count ≤ mostDates) × (length (now «fitted_discounts») ≤ length (now discounts))
         × (length (now «fitted_prices») ≤ length (now «state_prices»)) ⌝ }
     ensures answer { λ r. ⌜ r ≡ treePrices (job .steps) (job .reversion) (now («fitted_discounts» .entry)) (jobFlows job) (job .option) ⌝ }
     ensures discounted { λ _. ⌜ now (discounts .exit) ≡ memoryAfter
@@ -61,9 +62,9 @@ fn prices_of_tree(
     prices
 }
 
-// The prices of a record, its tree at the start of both lent memories. 1 a record with more than 255 steps; then the lowest of the causes of
-// its fit and of 6 for a memory that is too short; then the option's number where there is an option, else the bond's. Any refusal leaves
-// both memories as they were.
+// The prices of a record, its tree at the start of both lent memories. 1 a record that no job's bytes give, by its steps or its option's form; then
+// the lowest of the causes of its fit and of 6 for a memory that is too short; then the option's number where there is an option, else the bond's.
+// Any refusal leaves both memories as they were.
 pub fn prices_of_record(job: Job, discounts: &mut [u64], state_prices: &mut [u64]) -> JobPrices
     ensures answer { λ r. ⌜ r ≡ recordPrices job (length (now (discounts .entry))) (length (now («state_prices» .entry))) ⌝ }
     ensures discounted { λ _. ⌜ now (discounts .exit) ≡ memoryAfter
@@ -71,6 +72,11 @@ pub fn prices_of_record(job: Job, discounts: &mut [u64], state_prices: &mut [u64
     ensures priced { λ _. ⌜ now («state_prices» .exit) ≡ memoryAfter
         (recordNumber job (length (now (discounts .entry))) (length (now («state_prices» .entry)))) (jobStatePrices job) (now («state_prices» .entry)) ⌝ }
 {
+    let option = job.option;
+    let form = priced::option_form(option.tag, option.count);
+    if form != 0 {
+        return priced::refused(form);
+    }
     let mut fitted_discounts = memories::discounts();
     let mut fitted_prices = memories::state_prices();
     let fitted = job_fit::fit_of_record(job, &mut fitted_discounts, &mut fitted_prices);

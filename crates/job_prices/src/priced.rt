@@ -1,8 +1,12 @@
 // The prices of a tree whose discounts are lent.
 ghost use mathlib.Core.Path.{_≡_};
-ghost use Rattle.job_prices.specs.JobPrices.{refusedPrices, pricesOf, treePrices};
+ghost use Prim.Native.Nat.{_≤_};
+ghost use Rattle.job_record.specs.Form.{mostDates};
+ghost use Rattle.pricing.specs.Prices.{bondPrice};
+ghost use Rattle.job_prices.specs.JobPrices.{refusedPrices, pricesOf, optionForm, taggedOption, treePrices};
 use crate::JobPrices;
 use job_record::OptionRecord;
+use pricing::BondAndOption;
 use pricing::Price;
 
 fn no_price() -> Price
@@ -40,6 +44,56 @@ fn prices_of(number: u64, bond: Price, has_option: bool, option: Price) -> JobPr
     }
 }
 
+// The cause about the form of a record's option: 1 for a tag or a number of dates that no job's bytes give.
+pub(crate) fn option_form(tag: u64, count: usize) -> u64
+    ensures { λ r. ⌜ r ≡ optionForm tag count ⌝ }
+{
+    if job_record::MOST_DATES < count {
+        return 1;
+    }
+    if tag == 0 {
+        return 0;
+    }
+    if tag == 8 {
+        return 0;
+    }
+    if tag == 10 {
+        return 0;
+    }
+    1
+}
+
+// The bond and the option on it, by the option's tag.
+fn both_of(
+    steps: usize,
+    reversion: u64,
+    discounts: &[u64],
+    flows: &[u64],
+    option: OptionRecord,
+) -> BondAndOption
+    requires { ⌜ option .count ≤ mostDates ⌝ }
+    ensures bond { λ r. ⌜ r .bond ≡ bondPrice steps reversion (now (discounts .entry)) (now (flows .entry)) ⌝ }
+    ensures option { λ r. ⌜ r .option ≡ taggedOption steps reversion (now (discounts .entry)) (now (flows .entry)) option ⌝ }
+{
+    let kind = option.kind;
+    let strike = option.strike;
+    if option.tag == 8 {
+        let expiry = option.expiry as usize;
+        return pricing::bond_and_option(steps, reversion, discounts, flows, kind, expiry, strike);
+    }
+    let dates = option.dates;
+    let count = option.count;
+    pricing::bond_and_dated_option(
+        steps,
+        reversion,
+        discounts,
+        flows,
+        kind,
+        &dates[..count],
+        strike,
+    )
+}
+
 // The bond and, where there is one, the option, whose number then decides.
 pub(crate) fn tree_prices(
     steps: usize,
@@ -48,20 +102,13 @@ pub(crate) fn tree_prices(
     flows: &[u64],
     option: OptionRecord,
 ) -> JobPrices
+    requires { ⌜ option .count ≤ mostDates ⌝ }
     ensures { λ r. ⌜ r ≡ treePrices steps reversion (now (discounts .entry)) (now (flows .entry)) option ⌝ }
 {
     if option.tag == 0 {
         let bond = pricing::bond_price(steps, reversion, discounts, flows);
         return prices_of(bond.number, bond, false, no_price());
     }
-    let both = pricing::bond_and_option(
-        steps,
-        reversion,
-        discounts,
-        flows,
-        option.kind,
-        option.expiry as usize,
-        option.strike,
-    );
+    let both = both_of(steps, reversion, discounts, flows, option);
     prices_of(both.option.number, both.bond, true, both.option)
 }

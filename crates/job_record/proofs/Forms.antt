@@ -1,21 +1,21 @@
 -- What the tests of a job's form say of its bytes.
 -- Assumes nothing.
-use Prim.Native.Nat.{ℕ, zero, suc, _+_, _≤_, _<_}
-use native.Mathlib.Numerals.{add-one}
+use Prim.Native.Nat.{ℕ, _+_, _≤_, _<_}
 use native.Mathlib.Omega.{arith}
-use mathlib.Core.Bool.{Bool, true, false, _&&_}
+use mathlib.Core.Bool.{Bool, true, false, _&&_, _||_}
 use mathlib.Core.List.{List}
-use mathlib.Core.Path.{_≡_}
+use mathlib.Core.Path.{_≡_, refl}
 use borrow.Author.Tests.{leb-true, eqb-true, ne-eqb, lt-leb, le-leb}
 use lib.ListN.{length, getD}
-use lib.Dec.{eqb, leb}
+use lib.Dec.{leb}
 use Rattle.arithmetic.specs.Row.{each}
 use Rattle.arithmetic.proofs.Numbers.{by-equal}
-use Rattle.arithmetic.proofs.RowLaws.{each-none, each-more, each-fails, each-holds}
+use Rattle.arithmetic.proofs.RowLaws.{each-none, each-more, each-all, each-fails, each-holds}
 use Rattle.job_record.specs.Bytes.{Bytes, numberAt}
 use Rattle.job_record.specs.Form.{
   mostBytes,
   mostJobSteps,
+  mostDates,
   dataAt,
   afterField,
   afterFields,
@@ -30,6 +30,11 @@ use Rattle.job_record.specs.Form.{
   flowsAt,
   restAt,
   optionWidth,
+  listHead,
+  bytesLeft,
+  datesLeft,
+  kindFormed,
+  listFormed,
   headFormed,
   restFormed,
   bodyFormed,
@@ -57,11 +62,6 @@ module _ (s : List ℕ) (o : ℕ) (tags : Tags) (k : ℕ) (h : fieldAt s o tags 
 
 pub field-tag : (s : List ℕ) (o tag k : ℕ) → fieldAt s o (Only tag) k ≡ true → getD s o 0 ≡ tag
 field-tag s o tag k h = eqb-true _ _ (field-has s o (Only tag) k h)
-
--- a test that holds of each number below n
-all-each : (n : ℕ) (p : ℕ → Bool) → ((k : ℕ) → k < n → p k ≡ true) → each n p ≡ true
-all-each zero p h = each-none p
-all-each (suc n) p h = rw (← add-one n) (each-more n p (all-each n p (λ k l. h k (omega arith))) (h n (omega arith)))
 
 -- several fields: none, one more, one that is not there, and each of them
 module _ (s : List ℕ) (from : ℕ) (tags : Tags) (width : ℕ) where
@@ -91,7 +91,7 @@ module _ (s : List ℕ) (from : ℕ) (tags : Tags) (width : ℕ) where
     pub each-fields :
         ((i : ℕ) → i < count → fieldAt s (afterFields from width i) tags width ≡ true) → fieldsFrom s from tags width count ≡ true
     unfolding fieldsFrom
-    each-fields h = all-each count (λ j. fieldAt s (afterFields from width j) tags width) h
+    each-fields h = each-all count (λ j. fieldAt s (afterFields from width j) tags width) h
 
 -- the fields of the head
 module _ (s : List ℕ) (h : headFormed s ≡ true) where
@@ -118,21 +118,54 @@ module _ (s : List ℕ) (h : headFormed s ≡ true) where
   pub head-whole : quotesAt ≤ length s
   head-whole = field-whole s volatilityAt (Only 4) 4 head-volatility
 
--- where there is an option, it ends the job
+-- where there is an option 08, it ends the job
+module _ (s : List ℕ) (o : ℕ) (h : kindFormed s o ≡ true) where
+  pub kind-field : fieldAt s o (Only 8) optionWidth ≡ true
+  unfolding kindFormed
+  kind-field = first (fieldAt s o (Only 8) optionWidth) _ h
+
+  pub kind-ends : length s ≡ afterField o optionWidth
+  unfolding kindFormed
+  kind-ends = eqb-true _ _ (second (fieldAt s o (Only 8) optionWidth) h)
+
+  pub kind-tag : getD s o 0 ≡ 8
+  kind-tag = field-tag s o 8 optionWidth kind-field
+
+-- where there is a list of dates 0A, it has side and strike
+module _ (s : List ℕ) (o : ℕ) (h : listFormed s o ≡ true) where
+  pub list-head : afterField o listHead ≤ length s
+  unfolding listFormed
+  list-head = leb-true _ _ (first (leb (afterField o listHead) (length s)) _ h)
+
+  pub list-field : fieldAt s o (Only 10) (bytesLeft s o) ≡ true
+  unfolding listFormed
+  list-field = second (leb (afterField o listHead) (length s)) h
+
+  pub list-tag : getD s o 0 ≡ 10
+  list-tag = field-tag s o 10 (bytesLeft s o) list-field
+
+-- the three ways to end a job, told by its length and the tag
 module _ (s : List ℕ) (o : ℕ) (h : restFormed s o ≡ true) where
   module _ (other : length s ≡ o → ⊥) where
-    rest-parts : (fieldAt s o (Only 8) optionWidth && eqb (length s) (afterField o optionWidth)) ≡ true
+    rest-either : (kindFormed s o || listFormed s o) ≡ true
     unfolding restFormed
-    rest-parts = rw (ne-eqb _ _ other) at h
+    rest-either = rw (ne-eqb _ _ other) at h
 
-    pub rest-option : fieldAt s o (Only 8) optionWidth ≡ true
-    rest-option = first (fieldAt s o (Only 8) optionWidth) _ rest-parts
+    rest-by {ℓ} : {X : Type ℓ} (t : Bool) → kindFormed s o ≡ t → (kindFormed s o ≡ true → X) → (listFormed s o ≡ true → X) → X
+    rest-by true e kind list = kind e
+    rest-by false e kind list = list (rw e at rest-either)
 
-    pub rest-length : length s ≡ afterField o optionWidth
-    rest-length = eqb-true _ _ (second (fieldAt s o (Only 8) optionWidth) rest-parts)
+    pub rest-kind : getD s o 0 ≡ 8 → kindFormed s o ≡ true
+    rest-kind tag = rest-by (kindFormed s o) refl (λ k. k) (λ l. let none : ⊥ = omega (arith, list-tag s o l) in absurd none)
+
+    pub rest-list : (getD s o 0 ≡ 8 → ⊥) → listFormed s o ≡ true
+    rest-list unlike = rest-by (kindFormed s o) refl (λ k. absurd (unlike (kind-tag s o k))) (λ l. l)
+
+    rest-more : o ≤ length s
+    rest-more = rest-by (kindFormed s o) refl (λ k. omega (arith, kind-ends s o k)) (λ l. omega (arith, list-head s o l))
 
   pub rest-from : o ≤ length s
-  rest-from = by-equal (length s) o (λ same. omega arith) (λ other. omega (arith, rest-length other))
+  rest-from = by-equal (length s) o (λ same. omega arith) rest-more
 
 -- the quotes, the flows and what follows these
 module _ (s : List ℕ) (quotes n : ℕ) (h : bodyFormed s quotes n ≡ true) where
@@ -175,6 +208,10 @@ module _ (s : List ℕ) (h : wellFormed s ≡ true) where
 -- a job of bytes has at most 255 steps
 pub steps-few : (s : List ℕ) → Bytes s → stepsOf s ≤ mostJobSteps
 steps-few s b = omega (arith, number-bound s b (dataAt stepsAt) 1)
+
+-- and no more dates than a record has places for
+pub dates-few : (s : List ℕ) → wellFormed s ≡ true → datesLeft s (restAt quotesAt (stepsOf s)) ≤ mostDates
+dates-few s h = omega (arith, well-short s h)
 
 -- the answer, by the test that fails first
 module _ (s : List ℕ) (quotes n : ℕ) where

@@ -1,6 +1,7 @@
 pub mod Numbers
 pub mod Answers
 pub mod Forms
+pub mod Options
 pub mod Columns
 pub mod Pieces
 pub mod Written

@@ -7,11 +7,13 @@ use mathlib.Core.Bool.{true}
 use mathlib.Core.List.{List, [], _∷_, _++_}
 use mathlib.Core.Path.{_≡_, refl, sym, ap, _∙_}
 use lib.ListN.{length, getD, take, drop, take-append-drop, length-drop}
-use lib.Seq.{take-add, drop-drop, take-suc, drop-cons, getD-drop, length-take-le}
+use lib.Seq.{take-add, take-all, drop-drop, take-suc, drop-cons, getD-drop, getD-take, length-take-le}
 use lib.Arith.{digits-div, digits-mod}
+use Rattle.arithmetic.specs.Row.{row}
+use Rattle.arithmetic.proofs.RowLaws.{row-of}
 use Rattle.job_record.specs.Bytes.{Bytes, numberAt, numberBytes}
-use Rattle.job_record.specs.Form.{dataAt, afterFields, fieldAt, fieldsFrom}
-use Rattle.job_record.specs.Reader.{tagOf, dataOf}
+use Rattle.job_record.specs.Form.{dataAt, afterField, afterFields, fieldAt, fieldsFrom}
+use Rattle.job_record.specs.Reader.{tagOf, dataOf, dateOf}
 use Rattle.job_record.specs.Grammar.{field, joined}
 use Rattle.job_record.specs.declared.Tags.{Tags}
 use Rattle.job_record.specs.declared.Tags.the-variants.{Only}
@@ -27,6 +29,13 @@ join-rest a o s = ap (λ (l : List ℕ). take a (drop o s) ++ l) (sym (drop-drop
 
 pub byte-piece : (s : List ℕ) (o : ℕ) → o < length s → take 1 (drop o s) ≡ getD s o 0 ∷ []
 byte-piece s o h = rw (drop-cons s o 0 h)
+
+-- n bytes, one after the other
+pub bytes-piece : (s : List ℕ) (o n : ℕ) → o + n ≤ length s → row n (dateOf s o) ≡ take n (drop o s)
+bytes-piece s o n h =
+    sym
+    (row-of (take n (drop o s)) n (dateOf s o) (length-take-le n (drop o s) (simp length-drop (omega arith)))
+    (λ k below. getD-take n (drop o s) k 0 below ∙ getD-drop o s k 0))
 
 -- the number in k bytes is written as these
 pub digits-piece : (s : List ℕ) → Bytes s → (o k : ℕ) → o + k ≤ length s → numberBytes k (numberAt s o k) ≡ take k (drop o s)
@@ -67,6 +76,10 @@ module _ (s : List ℕ) (b : Bytes s) (o tag k : ℕ) (h : fieldAt s o (Only tag
 
   pub only-field : field tag (numberBytes k (numberAt s (dataAt o) k)) ≡ take (k + 3) (drop o s)
   only-field = rw (field-tag s o tag k h) at (number-field s b o (Only tag) k h)
+
+  -- one that ends the bytes
+  pub last-piece : length s ≡ afterField o k → field tag (take k (drop (dataAt o) s)) ≡ drop o s
+  last-piece long = only-piece ∙ take-all (k + 3) (drop o s) (simp length-drop (omega arith))
 
 -- parts of one size, one after the other
 joined-piece :

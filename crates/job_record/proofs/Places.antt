@@ -8,8 +8,8 @@ use mathlib.Core.Bool.{true}
 use mathlib.Core.List.{List, [], _∷_, _++_, append-assoc, append-nil}
 use mathlib.Core.Path.{_≡_, refl, sym, ap, _∙_}
 use borrow.Author.Tests.{le-leb, eq-eqb}
-use lib.ListN.{length, getD, length-append}
-use lib.Seq.{getD-at}
+use lib.ListN.{length, getD, length-append, List·getD-append}
+use lib.Seq.{getD-at, getD-append-add}
 use lib.Arith.{lt-of-le-ne}
 use Rattle.job_record.specs.Bytes.{numberAt, numberBytes}
 use Rattle.job_record.specs.Form.{dataAt, hasTag, fieldAt}
@@ -47,6 +47,12 @@ at-second s o a b h =
 
 pub at-byte : (s : List ℕ) (o x : ℕ) (l : List ℕ) → At s o (x ∷ l) → getD s o 0 ≡ x
 at-byte s o x l h = rw (h .split) (getD-at (h .front) x (l ++ h .rest) 0 o (h .place))
+
+-- each entry of the list
+pub at-entry : (s : List ℕ) (o : ℕ) (l : List ℕ) (k : ℕ) → k < length l → At s o l → getD s (o + k) 0 ≡ getD l k 0
+at-entry s o l k inside h =
+    rw (h .split)
+    (rw (h .place) at (getD-append-add (h .front) (l ++ h .rest) k 0) ∙ List·getD-append l (h .rest) 0 k inside)
 
 pub at-within : (s : List ℕ) (o : ℕ) (l : List ℕ) → At s o l → o + length l ≤ length s
 at-within s o l h = rw (h .split) (simp length-append (omega (arith, h .place)))

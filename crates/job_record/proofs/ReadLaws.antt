@@ -1,22 +1,22 @@
 -- Reading by the grammar, and what callers use of a job that was read.
 -- Assumes nothing.
-use Prim.Native.Nat.{ℕ, _^_, _<_}
+use Prim.Native.Nat.{ℕ, _^_, _≤_}
 use native.Mathlib.Nat.{not-suc-le-zero}
 use native.Mathlib.Omega.{arith}
 use mathlib.Core.Bool.{Bool, true, false}
 use mathlib.Core.List.{List}
 use mathlib.Core.Path.{_≡_, refl, sym, ap, _∙_}
-use lib.ListN.{length, take, replicate, length-replicate, length-take}
+use lib.ListN.{length, take, length-take}
 use Rattle.arithmetic.proofs.Numbers.{by-equal}
-use Rattle.arithmetic.proofs.RowLaws.{zeros}
 use Rattle.job_record.specs.Bytes.{Bytes}
 use Rattle.job_record.specs.Form.{mostJobSteps, wellFormed}
 use Rattle.job_record.specs.Reader.{jobOf, noJob, acceptedReading, malformed, readingOf}
 use Rattle.job_record.specs.Grammar.{encode, Column, SoundJob, Encodes, ReadsAs}
 use Rattle.job_record.specs.declared.Job.{Job}
 use Rattle.job_record.specs.declared.Reading.{Reading}
+use Rattle.job_record.proofs.Columns.{zeros-column}
 use Rattle.job_record.proofs.Forms.{well-short}
-use Rattle.job_record.proofs.Written.{written, read-sound}
+use Rattle.job_record.proofs.Written.{written, no-option-sound, read-sound}
 use Rattle.job_record.proofs.Reread.{encode-formed, encode-read}
 
 -- number 1 with a record
@@ -35,7 +35,7 @@ module _ (s : List ℕ) where
 -- a record's bytes are accepted, and give that record
 encoded-by : (s : List ℕ) (job : Job) → Encodes s job → encode job ≡ s → readingOf s ≡ acceptedReading job
 encoded-by s job e same =
-    let formed : wellFormed s ≡ true = rw same at (encode-formed job (e .sound)) in
+    let formed : wellFormed s ≡ true = rw same at (encode-formed job (e .sound) (rw (← same) at (e .short))) in
     let read : jobOf s ≡ job = rw same at (encode-read job (e .sound)) in
     reading-well s formed ∙ ap acceptedReading read
 
@@ -47,10 +47,6 @@ pub read-encodes : (s : List ℕ) → Bytes s → wellFormed s ≡ true → Enco
 read-encodes s b h = record { sound = read-sound s b h; fields = written s b h; short = well-short s h }
 
 -- zeros are a sound record
-zeros-column : (bound : ℕ) → 0 < bound → Column (replicate mostJobSteps 0) 0 bound
-zeros-column bound positive =
-    record { size = length-replicate {A = ℕ} mostJobSteps 0; below = λ k. rw (zeros mostJobSteps k) positive; after = λ k past. zeros mostJobSteps k }
-
 zeros-sound : SoundJob noJob
 unfolding noJob
 zeros-sound =
@@ -59,11 +55,11 @@ zeros-sound =
       steps = omega arith;
       reversion = omega arith;
       volatility = omega arith;
-      kinds = zeros-column 256 (omega arith);
+      kinds = zeros-column mostJobSteps 256 (omega arith);
       kind = λ k below. absurd (not-suc-le-zero below);
-      figures = zeros-column (256 ^ 8) (omega arith);
-      flows = zeros-column (256 ^ 4) (omega arith);
-      option = record { kind = omega arith; expiry = omega arith; strike = omega arith; absent = λ e. refl };
+      figures = zeros-column mostJobSteps (256 ^ 8) (omega arith);
+      flows = zeros-column mostJobSteps (256 ^ 4) (omega arith);
+      option = no-option-sound;
     }
 
 module _ (s : List ℕ) (b : Bytes s) where
@@ -114,6 +110,6 @@ pub encode-once : (job other : Job) → SoundJob job → SoundJob other → enco
 encode-once job other a c same = sym (encode-read job a) ∙ ap jobOf same ∙ encode-read other c
 
 -- the part of a column that a caller lends: its n entries
-module _ (l : List ℕ) (n bound : ℕ) (column : Column l n bound) (few : n < 256) where
+module _ (places : ℕ) (l : List ℕ) (n bound : ℕ) (column : Column places l n bound) (few : n ≤ places) where
   pub lent-length : length (take n l) ≡ n
   lent-length = simp length-take (omega (arith, column .size))

@@ -1,17 +1,21 @@
 -- The bytes of a record are accepted, and give that record.
 -- Assumes nothing.
 use Prim.Native.Nat.{ℕ, _+_, _*_, _^_, _≤_, _<_}
+use native.Mathlib.Nat.{add-zero}
 use native.Mathlib.Omega.{arith}
-use mathlib.Core.Bool.{Bool, true, false, cond}
-use mathlib.Core.List.{List, [], _++_}
+use mathlib.Core.Bool.{true, or-true}
+use mathlib.Core.List.{List, _++_}
 use mathlib.Core.Path.{_≡_, refl, sym, ap, _∙_}
-use borrow.Author.Tests.{le-leb, eq-eqb, ne-eqb, eqb-true, eqb-false}
-use lib.ListN.{length, length-append}
-use lib.Dec.{eqb}
+use borrow.Author.Tests.{le-leb, eq-eqb, ne-eqb}
+use lib.ListN.{length, getD, take, length-append}
+use lib.Seq.{getD-take, length-take-le}
+use Rattle.arithmetic.proofs.Numbers.{by-equal}
 use Rattle.arithmetic.specs.Row.{values}
 use Rattle.job_record.specs.Bytes.{numberAt, numberBytes}
 use Rattle.job_record.specs.Form.{
   mostBytes,
+  mostJobSteps,
+  mostDates,
   dataAt,
   afterField,
   afterFields,
@@ -28,27 +32,37 @@ use Rattle.job_record.specs.Form.{
   kindAt,
   expiryAt,
   strikeAt,
+  sideAt,
+  listStrikeAt,
+  datesAt,
   optionWidth,
+  listHead,
+  bytesLeft,
+  datesLeft,
+  kindFormed,
+  listFormed,
   headFormed,
   restFormed,
   bodyFormed,
   stepsOf,
   wellFormed,
 }
-use Rattle.job_record.specs.Reader.{padded, tagOf, dataOf, noOption, optionAt, jobOf}
-use Rattle.job_record.specs.Grammar.{field, joined, quoteField, flowField, optionData, optionField, encode, SoundOption, SoundJob}
+use Rattle.job_record.specs.Reader.{padded, tagOf, dataOf, dateOf, kindOptionAt, listOptionAt, optionAt, jobOf}
+use Rattle.job_record.specs.Grammar.{field, joined, quoteField, flowField, kindData, listData, optionField, encode, Column, SoundOption, SoundJob}
 use Rattle.job_record.specs.declared.Tags.{Tags}
 use Rattle.job_record.specs.declared.Tags.the-variants.{AnyKind, Only}
 use Rattle.job_record.specs.declared.OptionRecord.{OptionRecord}
 use Rattle.job_record.specs.declared.Job.{Job}
 use Rattle.job_record.proofs.Answers.{both}
 use Rattle.job_record.proofs.Forms.{each-fields}
-use Rattle.job_record.proofs.Columns.{column-padded}
+use Rattle.job_record.proofs.Options.{option-none, option-kind, option-list, field-kind, field-list, field-none}
+use Rattle.job_record.proofs.Columns.{column-padded, column-zeros}
 use Rattle.job_record.proofs.Places.{
   At,
   at-all,
   at-first,
   at-second,
+  at-entry,
   at-number,
   at-body,
   at-tag,
@@ -94,26 +108,31 @@ module _ (s : List ℕ) (from : ℕ) (tag number : ℕ → ℕ) (width n : ℕ) 
   numbers-read : ((i : ℕ) → number i < 256 ^ width) → (i : ℕ) → i < n → dataOf s from width i ≡ number i
   numbers-read fits i below = number-read s (afterFields from width i) (tag i) width (number i) (one-at i below) (fits i)
 
-option-width : (option : OptionRecord) → length (optionData option) ≡ optionWidth
-option-width option = simp (length-append, digits-length)
-
--- an option that is there, where it ends the list
-module _ (s : List ℕ) (o : ℕ) (option : OptionRecord) (h : At s o (field 8 (optionData option))) (e : length s ≡ o + length (field 8 (optionData option))) where
-  ends : length s ≡ afterField o optionWidth
-  ends = omega (arith, e, field-size 8 (optionData option), option-width option)
+-- a field that ends the list: where it stands, and its length
+module _ (s : List ℕ) (o tag : ℕ) (body : List ℕ) (h : At s o (field tag body)) (e : length s ≡ o + length (field tag body)) where
+  ends : length s ≡ afterField o (length body)
+  ends = omega (arith, e, field-size tag body)
 
   more : length s ≡ o → ⊥
   more same = omega (arith, ends)
 
-  rest-present : restFormed s o ≡ true
-  unfolding restFormed
-  rest-present =
-      let small : length (optionData option) < 65536 = rw (option-width option) (omega arith) in
-      let formed = at-field s o 8 (optionData option) h (Only 8) refl small in
-      rw (ne-eqb (length s) o more) (both (rw (option-width option) at formed) (eq-eqb _ _ ends))
+  formed : length body < 65536 → fieldAt s o (Only tag) (length body) ≡ true
+  formed = at-field s o tag body h (Only tag) (eq-eqb tag tag refl)
 
-  at-kind : At s (kindAt o) (optionData option)
-  at-kind = at-body s o 8 (optionData option) h
+-- an option 08 that ends the list
+module _ (s : List ℕ) (o : ℕ) (option : OptionRecord) (h : At s o (field 8 (kindData option))) (e : length s ≡ o + length (field 8 (kindData option))) where
+  kind-width : length (kindData option) ≡ optionWidth
+  kind-width = simp (length-append, digits-length)
+
+  kind-formed : restFormed s o ≡ true
+  unfolding restFormed kindFormed
+  kind-formed =
+      let whole = formed s o 8 (kindData option) h e (rw kind-width (omega arith)) in
+      let last = rw kind-width at (ends s o 8 (kindData option) h e) in
+      rw (ne-eqb (length s) o (more s o 8 (kindData option) h e), rw kind-width at whole, eq-eqb (length s) (afterField o optionWidth) last)
+
+  at-kind : At s (kindAt o) (kindData option)
+  at-kind = at-body s o 8 (kindData option) h
 
   at-expiry : At s (expiryAt o) (numberBytes 1 (option .expiry) ++ numberBytes 4 (option .strike))
   at-expiry = rw (digits-length 1 (option .kind)) at (at-second s (kindAt o) (numberBytes 1 (option .kind)) _ at-kind)
@@ -121,50 +140,118 @@ module _ (s : List ℕ) (o : ℕ) (option : OptionRecord) (h : At s o (field 8 (
   at-strike : At s (strikeAt o) (numberBytes 4 (option .strike))
   at-strike = rw (digits-length 1 (option .expiry)) at (at-second s (expiryAt o) (numberBytes 1 (option .expiry)) _ at-expiry)
 
-  option-present : SoundOption option → optionAt s o ≡ record { tag = 8; kind = option .kind; expiry = option .expiry; strike = option .strike }
-  unfolding optionAt
-  option-present r =
+  kind-same : option .tag ≡ 8 → SoundOption option → kindOptionAt s o ≡ option
+  unfolding kindOptionAt
+  kind-same tag r =
+      let unlisted : Column mostDates (option .dates) 0 256 = rw (r .no-list tag) at (r .dates) in
       rw (
-        ne-eqb (length s) o more,
         at-number s (kindAt o) 1 (option .kind) (r .kind) (at-first s (kindAt o) (numberBytes 1 (option .kind)) _ at-kind),
         at-number s (expiryAt o) 1 (option .expiry) (r .expiry) (at-first s (expiryAt o) (numberBytes 1 (option .expiry)) _ at-expiry),
         at-number s (strikeAt o) 4 (option .strike) (r .strike) at-strike,
+        column-zeros mostDates (option .dates) 256 unlisted,
+        ← tag,
+        ← r .no-list tag,
       )
 
+  kind-read : option .tag ≡ 8 → SoundOption option → optionAt s o ≡ option
+  kind-read tag r =
+      option-kind s o (more s o 8 (kindData option) h e) (at-tag s o 8 (kindData option) h) ∙ kind-same tag r
+
+-- an option 0A that ends the list
+module _
+    (s : List ℕ)
+    (o : ℕ)
+    (option : OptionRecord)
+    (r : SoundOption option)
+    (h : At s o (field 10 (listData option)))
+    (e : length s ≡ o + length (field 10 (listData option))) where
+  dates-length : length (take (option .count) (option .dates)) ≡ option .count
+  dates-length = length-take-le (option .count) (option .dates) (rw (r .dates .size) (r .few))
+
+  list-width : length (listData option) ≡ listHead + option .count
+  list-width = simp (length-append, digits-length, dates-length) (omega arith)
+
+  list-ends : length s ≡ datesAt o + option .count
+  list-ends = omega (arith, ends s o 10 (listData option) h e, list-width)
+
+  width-left : length (listData option) ≡ bytesLeft s o
+  width-left = omega (arith, list-ends, list-width)
+
+  count-left : datesLeft s o ≡ option .count
+  count-left = omega (arith, list-ends)
+
+  list-formed : restFormed s o ≡ true
+  unfolding restFormed listFormed
+  list-formed =
+      let whole = formed s o 10 (listData option) h e (omega (arith, r .few, list-width)) in
+      rw (
+        ne-eqb (length s) o (more s o 10 (listData option) h e),
+        le-leb (afterField o listHead) (length s) (omega (arith, list-ends)),
+        rw width-left at whole,
+      )
+      (or-true (kindFormed s o))
+
+  at-side : At s (sideAt o) (listData option)
+  at-side = at-body s o 10 (listData option) h
+
+  at-list-strike : At s (listStrikeAt o) (numberBytes 4 (option .strike) ++ take (option .count) (option .dates))
+  at-list-strike = rw (digits-length 1 (option .kind)) at (at-second s (sideAt o) (numberBytes 1 (option .kind)) _ at-side)
+
+  at-dates : At s (datesAt o) (take (option .count) (option .dates))
+  at-dates = rw (digits-length 4 (option .strike)) at (at-second s (listStrikeAt o) (numberBytes 4 (option .strike)) _ at-list-strike)
+
+  date-read : (k : ℕ) → k < option .count → dateOf s (datesAt o) k ≡ values (option .dates) k
+  date-read k below =
+      at-entry s (datesAt o) (take (option .count) (option .dates)) k (rw dates-length below) at-dates
+      ∙ getD-take (option .count) (option .dates) k 0 below
+
+  dates-read : padded mostDates (option .count) (dateOf s (datesAt o)) ≡ option .dates
+  dates-read = column-padded mostDates (option .dates) (option .count) 256 (dateOf s (datesAt o)) (r .dates) date-read
+
+  list-same : option .tag ≡ 10 → listOptionAt s o ≡ option
+  unfolding listOptionAt
+  list-same tag =
+      rw (
+        at-number s (sideAt o) 1 (option .kind) (r .kind) (at-first s (sideAt o) (numberBytes 1 (option .kind)) _ at-side),
+        at-number s (listStrikeAt o) 4 (option .strike) (r .strike) (at-first s (listStrikeAt o) (numberBytes 4 (option .strike)) _ at-list-strike),
+        count-left,
+        dates-read,
+        ← tag,
+        ← r .no-expiry tag,
+      )
+
+  list-read : option .tag ≡ 10 → optionAt s o ≡ option
+  list-read tag =
+      let named : getD s o 0 ≡ 10 = at-tag s o 10 (listData option) h in
+      option-list s o (more s o 10 (listData option) h e) (λ eight. omega (arith, named)) ∙ list-same tag
+
 -- an option that is not there
-module _ (s : List ℕ) (o : ℕ) (e : length s ≡ o + 0) where
-  rest-absent : restFormed s o ≡ true
-  unfolding restFormed
-  rest-absent = rw (eq-eqb (length s) o (omega arith))
+none-formed : (s : List ℕ) (o : ℕ) → length s ≡ o → restFormed s o ≡ true
+unfolding restFormed
+none-formed s o same = rw (eq-eqb (length s) o same)
 
-  option-none : optionAt s o ≡ noOption
-  unfolding optionAt
-  option-none = rw (eq-eqb (length s) o (omega arith))
-
-module _ (s : List ℕ) (o : ℕ) (option : OptionRecord) (h : At s o (optionField option)) (e : length s ≡ o + length (optionField option)) where
-  rest-by : (t : Bool) → eqb (option .tag) 8 ≡ t → restFormed s o ≡ true
-  unfolding optionField
-  rest-by true p = rest-present s o option (rw p at h) (rw p at e)
-  rest-by false p = rest-absent s o (rw p at e)
-
+-- whichever it is
+module _
+    (s : List ℕ)
+    (o : ℕ)
+    (option : OptionRecord)
+    (r : SoundOption option)
+    (h : At s o (optionField option))
+    (e : length s ≡ o + length (optionField option)) where
   rest-written : restFormed s o ≡ true
-  rest-written = rest-by (eqb (option .tag) 8) refl
+  rest-written =
+      by-equal (option .tag) 8 (λ tag. kind-formed s o option (rw (field-kind option tag) at h) (rw (field-kind option tag) at e))
+      (λ unlike.
+      by-equal (option .tag) 10 (λ tag. list-formed s o option r (rw (field-list option unlike tag) at h) (rw (field-list option unlike tag) at e))
+      (λ neither. none-formed s o (rw (field-none option unlike neither) at e ∙ add-zero o)))
 
-  option-by : (t : Bool) → eqb (option .tag) 8 ≡ t → SoundOption option → optionAt s o ≡ option
-  unfolding optionField
-  option-by true p r = option-present s o option (rw p at h) (rw p at e) r ∙ rw (eqb-true (option .tag) 8 p)
-  option-by false p r = option-none s o (rw p at e) ∙ sym (r .absent (eqb-false (option .tag) 8 p))
-
-  option-read : SoundOption option → optionAt s o ≡ option
-  option-read = option-by (eqb (option .tag) 8) refl
-
-option-short : (option : OptionRecord) → length (optionField option) ≤ afterField 0 optionWidth
-unfolding optionField
-option-short option = go (eqb (option .tag) 8)
-  where
-    go : (t : Bool) → length (cond t (field 8 (optionData option)) []) ≤ afterField 0 optionWidth
-    go true = simp (field-size, option-width) (omega arith)
-    go false = omega arith
+  option-read : optionAt s o ≡ option
+  option-read =
+      by-equal (option .tag) 8 (λ tag. kind-read s o option (rw (field-kind option tag) at h) (rw (field-kind option tag) at e) tag r)
+      (λ unlike.
+      by-equal (option .tag) 10
+      (λ tag. list-read s o option r (rw (field-list option unlike tag) at h) (rw (field-list option unlike tag) at e) tag)
+      (λ neither. option-none s o (rw (field-none option unlike neither) at e ∙ add-zero o) ∙ sym (r .absent unlike neither)))
 
 -- the quotes, the flows and the option of a record
 abbrev quotesOf : Job → List ℕ
@@ -214,25 +301,25 @@ module _ (s : List ℕ) (from : ℕ) (job : Job) (h : At s from (bodyOf job)) (e
         both (fields-formed s from (values (job .kinds)) (values (job .figures)) 8 (job .steps) at-quotes AnyKind (omega arith) (r .kind))
         (both
         (fields-formed s (flowsAt from (job .steps)) (λ i. 7) (values (job .flows)) 4 (job .steps) at-flows (Only 7) (omega arith) (λ i below. refl))
-        (rest-written s (restAt from (job .steps)) (job .option) at-rest rest-size))
+        (rest-written s (restAt from (job .steps)) (job .option) (r .option) at-rest rest-size))
 
-    kinds-read : padded (job .steps) (tagOf s from 8) ≡ job .kinds
+    kinds-read : padded mostJobSteps (job .steps) (tagOf s from 8) ≡ job .kinds
     kinds-read =
-        column-padded (job .kinds) (job .steps) _ (tagOf s from 8) (r .kinds)
+        column-padded mostJobSteps (job .kinds) (job .steps) _ (tagOf s from 8) (r .kinds)
         (tags-read s from (values (job .kinds)) (values (job .figures)) 8 (job .steps) at-quotes)
 
-    figures-read : padded (job .steps) (dataOf s from 8) ≡ job .figures
+    figures-read : padded mostJobSteps (job .steps) (dataOf s from 8) ≡ job .figures
     figures-read =
-        column-padded (job .figures) (job .steps) _ (dataOf s from 8) (r .figures)
+        column-padded mostJobSteps (job .figures) (job .steps) _ (dataOf s from 8) (r .figures)
         (numbers-read s from (values (job .kinds)) (values (job .figures)) 8 (job .steps) at-quotes (r .figures .below))
 
-    flows-read : padded (job .steps) (dataOf s (flowsAt from (job .steps)) 4) ≡ job .flows
+    flows-read : padded mostJobSteps (job .steps) (dataOf s (flowsAt from (job .steps)) 4) ≡ job .flows
     flows-read =
-        column-padded (job .flows) (job .steps) _ (dataOf s (flowsAt from (job .steps)) 4) (r .flows)
+        column-padded mostJobSteps (job .flows) (job .steps) _ (dataOf s (flowsAt from (job .steps)) 4) (r .flows)
         (numbers-read s (flowsAt from (job .steps)) (λ i. 7) (values (job .flows)) 4 (job .steps) at-flows (r .flows .below))
 
     rest-read : optionAt s (restAt from (job .steps)) ≡ job .option
-    rest-read = option-read s (restAt from (job .steps)) (job .option) at-rest rest-size (r .option)
+    rest-read = option-read s (restAt from (job .steps)) (job .option) (r .option) at-rest rest-size
 
 module _ (job : Job) where
   -- f, n, b and s
@@ -313,16 +400,12 @@ module _ (job : Job) where
     steps-read : stepsOf (encode job) ≡ job .steps
     steps-read = number-read (encode job) stepsAt 2 1 (job .steps) steps-field (r .steps)
 
-    -- no record passes the limit: 255 steps and an option make 4,619 bytes
-    pub encode-short : length (encode job) ≤ mostBytes
-    encode-short =
-        omega (arith, rest-size (encode job) quotesAt job at-body-of encode-size, option-short (job .option), r .steps)
-
-    pub encode-formed : wellFormed (encode job) ≡ true
+    -- a record with many steps and many dates passes the limit
+    pub encode-formed : length (encode job) ≤ mostBytes → wellFormed (encode job) ≡ true
     unfolding wellFormed
-    encode-formed =
+    encode-formed short =
         rw steps-read
-        (both (le-leb (length (encode job)) mostBytes encode-short)
+        (both (le-leb (length (encode job)) mostBytes short)
         (both head-written (body-written (encode job) quotesAt job at-body-of encode-size r)))
 
     pub encode-read : jobOf (encode job) ≡ job

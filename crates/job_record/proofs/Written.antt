@@ -5,14 +5,12 @@ use native.Mathlib.Omega.{arith}
 use mathlib.Core.Bool.{true}
 use mathlib.Core.List.{List, _++_}
 use mathlib.Core.Path.{_≡_, refl, sym, ap, _∙_}
-use borrow.Author.Tests.{eq-eqb, ne-eqb}
-use lib.ListN.{length, take, drop, length-drop, drop-of-length-le}
-use lib.Seq.{take-all}
+use lib.ListN.{length, take, drop, drop-of-length-le}
 use Rattle.arithmetic.specs.Row.{values}
-use Rattle.arithmetic.proofs.Numbers.{by-equal}
 use Rattle.job_record.specs.Bytes.{Bytes, numberAt, numberBytes}
 use Rattle.job_record.specs.Form.{
   mostJobSteps,
+  mostDates,
   dataAt,
   afterField,
   afterFields,
@@ -27,14 +25,22 @@ use Rattle.job_record.specs.Form.{
   kindAt,
   expiryAt,
   strikeAt,
+  sideAt,
+  listStrikeAt,
+  datesAt,
   optionWidth,
+  listHead,
+  bytesLeft,
+  datesLeft,
+  kindFormed,
+  listFormed,
   headFormed,
   restFormed,
   bodyFormed,
   stepsOf,
   wellFormed,
 }
-use Rattle.job_record.specs.Reader.{padded, tagOf, dataOf, optionAt, jobOf}
+use Rattle.job_record.specs.Reader.{padded, tagOf, dataOf, dateOf, noOption, kindOptionAt, listOptionAt, optionAt, jobOf}
 use Rattle.job_record.specs.Grammar.{field, joined, optionField, encode, Column, SoundOption, SoundJob}
 use Rattle.job_record.specs.declared.Tags.the-variants.{AnyKind, Only}
 use Rattle.job_record.proofs.Numbers.{number-bound}
@@ -46,96 +52,154 @@ use Rattle.job_record.proofs.Forms.{
   head-steps,
   head-reversion,
   head-volatility,
-  rest-option,
-  rest-length,
+  kind-field,
+  kind-ends,
+  list-head,
+  list-field,
   body-quotes,
   body-flows,
   body-rest,
   well-head,
   well-body,
   steps-few,
+  dates-few,
 }
-use Rattle.job_record.proofs.Columns.{padded-at, padded-column}
-use Rattle.job_record.proofs.Pieces.{join, join-rest, digits-piece, only-piece, only-field, fields-piece}
+use Rattle.job_record.proofs.Options.{by-option, field-none}
+use Rattle.job_record.proofs.Columns.{padded-at, padded-take, padded-column, zeros-column}
+use Rattle.job_record.proofs.Pieces.{join, join-rest, bytes-piece, digits-piece, last-piece, only-field, fields-piece}
+
+-- zeros are a sound option
+pub no-option-sound : SoundOption noOption
+no-option-sound =
+    record {
+      kind = omega arith;
+      expiry = omega arith;
+      strike = omega arith;
+      few = omega arith;
+      dates = zeros-column mostDates 256 (omega arith);
+      no-list = λ e. refl;
+      no-expiry = λ e. refl;
+      absent = λ e f. refl;
+    }
 
 module _ (s : List ℕ) (b : Bytes s) where
-  -- kind, expiry and strike are the option's data
-  option-data :
+  -- kind, expiry and strike are the data of 08
+  kind-data :
       (o : ℕ) → length s ≡ afterField o optionWidth
       → numberBytes 1 (numberAt s (kindAt o) 1) ++ (numberBytes 1 (numberAt s (expiryAt o) 1) ++ numberBytes 4 (numberAt s (strikeAt o) 4))
       ≡ take optionWidth (drop (dataAt o) s)
-  option-data o long =
+  kind-data o long =
       rw (digits-piece s b (kindAt o) 1 (omega arith), digits-piece s b (expiryAt o) 1 (omega arith), digits-piece s b (strikeAt o) 4 (omega arith))
       (ap (λ (l : List ℕ). take 1 (drop (kindAt o) s) ++ l) (join 1 4 (expiryAt o) s) ∙ join 1 (1 + 4) (kindAt o) s)
 
-  -- the option, or nothing
-  option-piece : (o : ℕ) → restFormed s o ≡ true → optionField (optionAt s o) ≡ drop o s
-  unfolding optionAt optionField
-  option-piece o h =
-      by-equal (length s) o (λ same. rw (eq-eqb _ _ same) (sym (drop-of-length-le s {i = o} (omega arith))))
-      (λ other.
-      let long : length s ≡ afterField o optionWidth = rest-length s o h other in
-      rw (ne-eqb _ _ other)
-      (ap (field 8) (option-data o long)
-      ∙ only-piece s b o 8 optionWidth (rest-option s o h other)
-      ∙ take-all (optionWidth + 3) (drop o s) (simp length-drop (omega arith))))
+  -- side, strike and n dates are the data of 0A
+  list-data :
+      (o n : ℕ) → n ≤ mostDates → datesAt o + n ≤ length s
+      → numberBytes 1 (numberAt s (sideAt o) 1)
+      ++ (numberBytes 4 (numberAt s (listStrikeAt o) 4) ++ take n (padded mostDates n (dateOf s (datesAt o))))
+      ≡ take (1 + (4 + n)) (drop (dataAt o) s)
+  list-data o n few long =
+      rw (
+        digits-piece s b (sideAt o) 1 (omega arith),
+        digits-piece s b (listStrikeAt o) 4 (omega arith),
+        padded-take mostDates n (dateOf s (datesAt o)) few,
+        bytes-piece s (datesAt o) n long,
+      )
+      (ap (λ (l : List ℕ). take 1 (drop (sideAt o) s) ++ l) (join 4 n (listStrikeAt o) s) ∙ join 1 (4 + n) (sideAt o) s)
 
-  option-sound : (o : ℕ) → SoundOption (optionAt s o)
-  unfolding optionAt
-  option-sound o =
-      by-equal (length s) o
-      (λ same. rw (eq-eqb _ _ same) (record { kind = omega arith; expiry = omega arith; strike = omega arith; absent = λ e. refl }))
-      (λ other.
-      rw (ne-eqb _ _ other)
-      (record {
+  -- each option is its bytes, and nothing is none
+  kind-piece : (o : ℕ) → kindFormed s o ≡ true → optionField (kindOptionAt s o) ≡ drop o s
+  unfolding optionField kindOptionAt
+  kind-piece o h = ap (field 8) (kind-data o (kind-ends s o h)) ∙ last-piece s b o 8 optionWidth (kind-field s o h) (kind-ends s o h)
+
+  list-piece : (o : ℕ) → datesLeft s o ≤ mostDates → listFormed s o ≡ true → optionField (listOptionAt s o) ≡ drop o s
+  unfolding optionField listOptionAt
+  list-piece o few h =
+      let head : afterField o listHead ≤ length s = list-head s o h in
+      let size : 1 + (4 + datesLeft s o) ≡ bytesLeft s o = omega arith in
+      ap (field 10) (list-data o (datesLeft s o) few (omega arith) ∙ ap (λ (k : ℕ). take k (drop (dataAt o) s)) size)
+      ∙ last-piece s b o 10 (bytesLeft s o) (list-field s o h) (omega arith)
+
+  none-piece : (o : ℕ) → length s ≡ o → optionField noOption ≡ drop o s
+  none-piece o same = field-none noOption (λ e. omega arith) (λ e. omega arith) ∙ sym (drop-of-length-le s {i = o} (omega arith))
+
+  option-piece : (o : ℕ) → datesLeft s o ≤ mostDates → restFormed s o ≡ true → optionField (optionAt s o) ≡ drop o s
+  option-piece o few h = by-option s o (λ option. optionField option ≡ drop o s) h (none-piece o) (kind-piece o) (list-piece o few)
+
+  kind-sound : (o : ℕ) → SoundOption (kindOptionAt s o)
+  unfolding kindOptionAt
+  kind-sound o =
+      record {
         kind = number-bound s b (kindAt o) 1;
         expiry = number-bound s b (expiryAt o) 1;
         strike = number-bound s b (strikeAt o) 4;
-        absent = λ e. absurd (e refl);
-      }))
+        few = omega arith;
+        dates = zeros-column mostDates 256 (omega arith);
+        no-list = λ e. refl;
+        no-expiry = λ e. let none : ⊥ = omega arith in absurd none;
+        absent = λ e f. absurd (e refl);
+      }
+
+  list-sound : (o : ℕ) → datesLeft s o ≤ mostDates → SoundOption (listOptionAt s o)
+  unfolding listOptionAt
+  list-sound o few =
+      record {
+        kind = number-bound s b (sideAt o) 1;
+        expiry = omega arith;
+        strike = number-bound s b (listStrikeAt o) 4;
+        few = few;
+        dates = padded-column mostDates (datesLeft s o) (dateOf s (datesAt o)) 256 few (omega arith) (λ k below. b (datesAt o + k));
+        no-list = λ e. let none : ⊥ = omega arith in absurd none;
+        no-expiry = λ e. refl;
+        absent = λ e f. absurd (f refl);
+      }
+
+  option-sound : (o : ℕ) → datesLeft s o ≤ mostDates → restFormed s o ≡ true → SoundOption (optionAt s o)
+  option-sound o few h = by-option s o SoundOption h (λ same. no-option-sound) (λ kind. kind-sound o) (λ list. list-sound o few)
 
   -- the columns of fields that stand from any place on
   module _ (from width n : ℕ) (few : n ≤ mostJobSteps) where
-    tags-column : Column (padded n (tagOf s from width)) n 256
-    tags-column = padded-column n (tagOf s from width) 256 few (omega arith) (λ k below. b (afterFields from width k))
+    tags-column : Column mostJobSteps (padded mostJobSteps n (tagOf s from width)) n 256
+    tags-column = padded-column mostJobSteps n (tagOf s from width) 256 few (omega arith) (λ k below. b (afterFields from width k))
 
-    numbers-column : 0 < 256 ^ width → Column (padded n (dataOf s from width)) n (256 ^ width)
+    numbers-column : 0 < 256 ^ width → Column mostJobSteps (padded mostJobSteps n (dataOf s from width)) n (256 ^ width)
     numbers-column positive =
-        padded-column n (dataOf s from width) (256 ^ width) few positive (λ k below. number-bound s b (dataAt (afterFields from width k)) width)
+        padded-column mostJobSteps n (dataOf s from width) (256 ^ width) few positive
+        (λ k below. number-bound s b (dataAt (afterFields from width k)) width)
 
   -- the quotes, the flows and the option, from any place on
-  module _ (quotes n : ℕ) (few : n ≤ mostJobSteps) (h : bodyFormed s quotes n ≡ true) where
+  module _ (quotes n : ℕ) (few : n ≤ mostJobSteps) (listed : datesLeft s (restAt quotes n) ≤ mostDates) (h : bodyFormed s quotes n ≡ true) where
     quotes-piece :
-        joined n (λ i. field (values (padded n (tagOf s quotes 8)) i) (numberBytes 8 (values (padded n (dataOf s quotes 8)) i)))
+        joined n (λ i. field (values (padded mostJobSteps n (tagOf s quotes 8)) i) (numberBytes 8 (values (padded mostJobSteps n (dataOf s quotes 8)) i)))
         ≡ take ((8 + 3) * n) (drop quotes s)
     quotes-piece =
         fields-piece s b quotes AnyKind 8 n (body-quotes s quotes n h) _
-        (λ i below. rw (padded-at n (tagOf s quotes 8) i few below, padded-at n (dataOf s quotes 8) i few below))
+        (λ i below. rw (padded-at mostJobSteps n (tagOf s quotes 8) i few below, padded-at mostJobSteps n (dataOf s quotes 8) i few below))
 
     flow-tag : (i : ℕ) → i < n → tagOf s (flowsAt quotes n) 4 i ≡ 7
     flow-tag i below =
         field-tag s (afterFields (flowsAt quotes n) 4 i) 7 4 (fields-each s (flowsAt quotes n) (Only 7) 4 n (body-flows s quotes n h) i below)
 
     flows-piece :
-        joined n (λ i. field 7 (numberBytes 4 (values (padded n (dataOf s (flowsAt quotes n) 4)) i)))
+        joined n (λ i. field 7 (numberBytes 4 (values (padded mostJobSteps n (dataOf s (flowsAt quotes n) 4)) i)))
         ≡ take ((4 + 3) * n) (drop (flowsAt quotes n) s)
     flows-piece =
         fields-piece s b (flowsAt quotes n) (Only 7) 4 n (body-flows s quotes n h) _
-        (λ i below. rw (padded-at n (dataOf s (flowsAt quotes n) 4) i few below, flow-tag i below))
+        (λ i below. rw (padded-at mostJobSteps n (dataOf s (flowsAt quotes n) 4) i few below, flow-tag i below))
 
     body-piece :
-        joined n (λ i. field (values (padded n (tagOf s quotes 8)) i) (numberBytes 8 (values (padded n (dataOf s quotes 8)) i)))
-        ++ (joined n (λ i. field 7 (numberBytes 4 (values (padded n (dataOf s (flowsAt quotes n) 4)) i)))
+        joined n (λ i. field (values (padded mostJobSteps n (tagOf s quotes 8)) i) (numberBytes 8 (values (padded mostJobSteps n (dataOf s quotes 8)) i)))
+        ++ (joined n (λ i. field 7 (numberBytes 4 (values (padded mostJobSteps n (dataOf s (flowsAt quotes n) 4)) i)))
         ++ optionField (optionAt s (restAt quotes n)))
         ≡ drop quotes s
     body-piece =
-        rw (quotes-piece, flows-piece, option-piece (restAt quotes n) (body-rest s quotes n h))
+        rw (quotes-piece, flows-piece, option-piece (restAt quotes n) listed (body-rest s quotes n h))
         (ap (λ (l : List ℕ). take ((8 + 3) * n) (drop quotes s) ++ l) (join-rest ((4 + 3) * n) (flowsAt quotes n) s)
         ∙ join-rest ((8 + 3) * n) quotes s)
 
-    quote-kind : (k : ℕ) → k < n → isKind (values (padded n (tagOf s quotes 8)) k) ≡ true
+    quote-kind : (k : ℕ) → k < n → isKind (values (padded mostJobSteps n (tagOf s quotes 8)) k) ≡ true
     quote-kind k below =
-        rw (padded-at n (tagOf s quotes 8) k few below)
+        rw (padded-at mostJobSteps n (tagOf s quotes 8) k few below)
         (field-has s (afterFields quotes 8 k) AnyKind 8 (fields-each s quotes AnyKind 8 n (body-quotes s quotes n h) k below))
 
   -- the fields of the head, and the rest of the job
@@ -158,7 +222,7 @@ module _ (s : List ℕ) (b : Bytes s) where
   module _ (h : wellFormed s ≡ true) where
     pub written : encode (jobOf s) ≡ s
     unfolding encode jobOf
-    written = rw (body-piece quotesAt (stepsOf s) (steps-few s b) (well-body s h)) (head-piece (well-head s h))
+    written = rw (body-piece quotesAt (stepsOf s) (steps-few s b) (dates-few s h) (well-body s h)) (head-piece (well-head s h))
 
     pub read-sound : SoundJob (jobOf s)
     unfolding jobOf
@@ -169,8 +233,8 @@ module _ (s : List ℕ) (b : Bytes s) where
           reversion = number-bound s b (dataAt reversionAt) 2;
           volatility = number-bound s b (dataAt volatilityAt) 4;
           kinds = tags-column quotesAt 8 (stepsOf s) (steps-few s b);
-          kind = quote-kind quotesAt (stepsOf s) (steps-few s b) (well-body s h);
+          kind = quote-kind quotesAt (stepsOf s) (steps-few s b) (dates-few s h) (well-body s h);
           figures = numbers-column quotesAt 8 (stepsOf s) (steps-few s b) (omega arith);
           flows = numbers-column (flowsAt quotesAt (stepsOf s)) 4 (stepsOf s) (steps-few s b) (omega arith);
-          option = option-sound (restAt quotesAt (stepsOf s));
+          option = option-sound (restAt quotesAt (stepsOf s)) (dates-few s h) (body-rest s quotesAt (stepsOf s) (well-body s h));
         }

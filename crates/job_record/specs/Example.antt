@@ -1,9 +1,10 @@
--- The job that document 01 prints (Job and sheet).
+-- The job that document 01 prints (Job and sheet), and the same with a list of dates (document 02, named exercise dates).
 -- Assumes nothing.
-use Prim.Native.Nat.{ℕ, _-_}
+use Prim.Native.Nat.{ℕ, _+_, _-_}
 use mathlib.Core.List.{List, [], _∷_, _++_}
-use lib.ListN.{replicate}
-use Rattle.job_record.specs.Form.{mostJobSteps}
+use lib.ListN.{length, replicate}
+use Rattle.job_record.specs.Form.{mostJobSteps, mostDates, listHead}
+use Rattle.job_record.specs.declared.OptionRecord.{OptionRecord}
 use Rattle.job_record.specs.declared.Job.{Job}
 
 -- 01000101 02000101 0300020000 04000400000000
@@ -25,15 +26,28 @@ exampleFlow = 7 ∷ 0 ∷ 4 ∷ 59 ∷ 154 ∷ 202 ∷ 0 ∷ []
 abbrev pub exampleOption : List ℕ
 exampleOption = 8 ∷ 0 ∷ 6 ∷ 4 ∷ 1 ∷ 60 ∷ 51 ∷ 96 ∷ 128 ∷ []
 
-abbrev pub jobWith : List ℕ → List ℕ
-jobWith quote = exampleHead ++ (quote ++ (exampleFlow ++ exampleOption))
+-- 0A, the length of side, strike and dates, 023C336080, the dates
+abbrev pub listOf : List ℕ → List ℕ
+listOf dates = 10 ∷ 0 ∷ (listHead + length dates) ∷ 2 ∷ 60 ∷ 51 ∷ 96 ∷ 128 ∷ dates
+
+abbrev pub jobWith : List ℕ → List ℕ → List ℕ
+jobWith quote option = exampleHead ++ (quote ++ (exampleFlow ++ option))
 
 abbrev pub example : List ℕ
-example = jobWith exampleQuote
+example = jobWith exampleQuote exampleOption
 
--- yearly steps, one of them, no reversion, no volatility; the float of 1.0025 under a tag; one; an American put at 1.01, to row 1
-abbrev pub recordWith : ℕ → Job
-recordWith tag =
+-- an American put at 1.01, to row 1
+abbrev pub examplePut : OptionRecord
+examplePut = record { tag = 8; kind = 4; expiry = 1; strike = 1010000000; count = 0; dates = replicate mostDates 0 }
+
+-- a put at 1.01 on listed rows
+abbrev pub listedPut : List ℕ → OptionRecord
+listedPut dates =
+    record { tag = 10; kind = 2; expiry = 0; strike = 1010000000; count = length dates; dates = dates ++ replicate (mostDates - length dates) 0 }
+
+-- yearly steps, one of them, no reversion, no volatility; the float of 1.0025 under a tag; one; an option
+abbrev pub recordWith : ℕ → OptionRecord → Job
+recordWith tag option =
     record {
       frequency = 1;
       steps = 1;
@@ -42,8 +56,8 @@ recordWith tag =
       kinds = tag ∷ replicate (mostJobSteps - 1) 0;
       figures = 4607193677799085834 ∷ replicate (mostJobSteps - 1) 0;
       flows = 1000000000 ∷ replicate (mostJobSteps - 1) 0;
-      option = record { tag = 8; kind = 4; expiry = 1; strike = 1010000000 };
+      option = option;
     }
 
 abbrev pub exampleJob : Job
-exampleJob = recordWith 5
+exampleJob = recordWith 5 examplePut

@@ -1,6 +1,6 @@
--- The form of a job by places (document 01, Job and sheet): each field stands where the one before it ends.
+-- The form of a job by places (document 01, Job and sheet; document 02, named exercise dates): each field stands where the one before it ends.
 -- Assumes nothing.
-use Prim.Native.Nat.{ℕ, _+_, _*_}
+use Prim.Native.Nat.{ℕ, _+_, _-_, _*_}
 use mathlib.Core.List.{List}
 use mathlib.Core.Bool.{Bool, _&&_, _||_}
 use lib.ListN.{length, getD}
@@ -17,6 +17,10 @@ mostBytes = 4700
 -- as many steps as one byte can say: the places of a record for quotes and for flows
 abbrev pub mostJobSteps : ℕ
 mostJobSteps = 255
+
+-- as many dates as a job has room for: its 4,700 bytes less the head's 20, a field's 3, and 5 of side and strike
+abbrev pub mostDates : ℕ
+mostDates = 4672
 
 -- one byte of tag and two of length
 abbrev pub fieldHead : ℕ
@@ -91,16 +95,43 @@ strikeAt at = expiryAt at + 1
 abbrev pub optionWidth : ℕ
 optionWidth = 1 + 1 + 4
 
+-- in a list of dates: side in 1 byte, strike in 4, then one byte a date
+abbrev pub sideAt : ℕ → ℕ
+sideAt at = dataAt at
+
+abbrev pub listStrikeAt : ℕ → ℕ
+listStrikeAt at = sideAt at + 1
+
+abbrev pub datesAt : ℕ → ℕ
+datesAt at = listStrikeAt at + 4
+
+abbrev pub listHead : ℕ
+listHead = 1 + 4
+
+-- how many bytes stand after the head of a field, and after the strike of a list of dates
+abbrev pub bytesLeft : List ℕ → ℕ → ℕ
+bytesLeft s at = length s - dataAt at
+
+abbrev pub datesLeft : List ℕ → ℕ → ℕ
+datesLeft s at = length s - datesAt at
+
 -- 01 f, 02 n, 03 b, 04 s
 unfoldable pub headFormed : List ℕ → Bool
 headFormed s =
     fieldAt s frequencyAt (Only 1) 1
     && (fieldAt s stepsAt (Only 2) 1 && (fieldAt s reversionAt (Only 3) 2 && fieldAt s volatilityAt (Only 4) 4))
 
--- at most one option 08, and nothing after it
+-- one option 08, and nothing after it
+unfoldable pub kindFormed : List ℕ → ℕ → Bool
+kindFormed s at = fieldAt s at (Only 8) optionWidth && eqb (length s) (afterField at optionWidth)
+
+-- one list of dates 0A, with side and strike: its data are all the bytes that are left
+unfoldable pub listFormed : List ℕ → ℕ → Bool
+listFormed s at = leb (afterField at listHead) (length s) && fieldAt s at (Only 10) (bytesLeft s at)
+
+-- at most one option, 08 or 0A
 unfoldable pub restFormed : List ℕ → ℕ → Bool
-restFormed s at =
-    eqb (length s) at || (fieldAt s at (Only 8) optionWidth && eqb (length s) (afterField at optionWidth))
+restFormed s at = eqb (length s) at || (kindFormed s at || listFormed s at)
 
 -- from a place on: n quotes, n flows 07, at most one option
 unfoldable pub bodyFormed : List ℕ → ℕ → ℕ → Bool

@@ -1,14 +1,15 @@
--- The grammar of a job (document 01, Job and sheet): the bytes of a record, field after field, and what reading has to do with them.
+-- The grammar of a job (document 01, Job and sheet; document 02, named exercise dates): the bytes of a record, field after field, and what
+-- reading has to do with them.
 -- Assumes nothing.
 use Prim.Native.Nat.{ℕ, zero, suc, _^_, _≤_, _<_}
 use mathlib.Core.List.{List, [], _∷_, _++_}
 use mathlib.Core.Bool.{true, cond}
 use mathlib.Core.Path.{_≡_}
-use lib.ListN.{length}
+use lib.ListN.{length, take}
 use lib.Dec.{eqb}
 use Rattle.arithmetic.specs.Row.{values}
 use Rattle.job_record.specs.Bytes.{numberBytes}
-use Rattle.job_record.specs.Form.{mostBytes, mostJobSteps, isKind}
+use Rattle.job_record.specs.Form.{mostBytes, mostJobSteps, mostDates, isKind}
 use Rattle.job_record.specs.Reader.{noOption, acceptedReading, malformed}
 use Rattle.job_record.specs.declared.OptionRecord.{OptionRecord}
 use Rattle.job_record.specs.declared.Job.{Job}
@@ -32,12 +33,17 @@ abbrev pub flowField : Job → ℕ → List ℕ
 flowField job i = field 7 (numberBytes 4 (values (job .flows) i))
 
 -- kind 1, expiry 1, strike 4
-abbrev pub optionData : OptionRecord → List ℕ
-optionData option = numberBytes 1 (option .kind) ++ (numberBytes 1 (option .expiry) ++ numberBytes 4 (option .strike))
+abbrev pub kindData : OptionRecord → List ℕ
+kindData option = numberBytes 1 (option .kind) ++ (numberBytes 1 (option .expiry) ++ numberBytes 4 (option .strike))
 
--- an option: 08
+-- side 1, strike 4, the listed dates
+abbrev pub listData : OptionRecord → List ℕ
+listData option = numberBytes 1 (option .kind) ++ (numberBytes 4 (option .strike) ++ take (option .count) (option .dates))
+
+-- an option: 08 or 0A
 unfoldable pub optionField : OptionRecord → List ℕ
-optionField option = cond (eqb (option .tag) 8) (field 8 (optionData option)) []
+optionField option =
+    cond (eqb (option .tag) 8) (field 8 (kindData option)) (cond (eqb (option .tag) 10) (field 10 (listData option)) [])
 
 -- in this order: f, n, b, s; n quotes; n flows; at most one option
 unfoldable pub encode : Job → List ℕ
@@ -48,18 +54,22 @@ encode job =
     ++ (field 4 (numberBytes 4 (job .volatility))
     ++ (joined (job .steps) (quoteField job) ++ (joined (job .steps) (flowField job) ++ optionField (job .option))))))
 
--- a column of a record holds its n entries, each below a bound, and zeros after them
-pub record Column (l : List ℕ) (n bound : ℕ) : Type 0 where
-  pub size : length l ≡ mostJobSteps
+-- a column of so many places of a record holds its n entries, each below a bound, and zeros after them
+pub record Column (places : ℕ) (l : List ℕ) (n bound : ℕ) : Type 0 where
+  pub size : length l ≡ places
   pub below : (k : ℕ) → values l k < bound
   pub after : (k : ℕ) → n ≤ k → values l k ≡ 0
 
--- each number of the option fits its place, and zeros stand for none
+-- each number of the option fits its place, a kind lists no dates, a list has no expiry, and zeros stand for no option
 pub record SoundOption (option : OptionRecord) : Type 0 where
   pub kind : option .kind < 256 ^ 1
   pub expiry : option .expiry < 256 ^ 1
   pub strike : option .strike < 256 ^ 4
-  pub absent : (option .tag ≡ 8 → ⊥) → option ≡ noOption
+  pub few : option .count ≤ mostDates
+  pub dates : Column mostDates (option .dates) (option .count) 256
+  pub no-list : option .tag ≡ 8 → option .count ≡ 0
+  pub no-expiry : option .tag ≡ 10 → option .expiry ≡ 0
+  pub absent : (option .tag ≡ 8 → ⊥) → (option .tag ≡ 10 → ⊥) → option ≡ noOption
 
 -- what every job's record meets: each number fits its field, each quote has a kind, nothing stands where the job says nothing
 pub record SoundJob (job : Job) : Type 0 where
@@ -67,10 +77,10 @@ pub record SoundJob (job : Job) : Type 0 where
   pub steps : job .steps < 256 ^ 1
   pub reversion : job .reversion < 256 ^ 2
   pub volatility : job .volatility < 256 ^ 4
-  pub kinds : Column (job .kinds) (job .steps) 256
+  pub kinds : Column mostJobSteps (job .kinds) (job .steps) 256
   pub kind : (k : ℕ) → k < job .steps → isKind (values (job .kinds) k) ≡ true
-  pub figures : Column (job .figures) (job .steps) (256 ^ 8)
-  pub flows : Column (job .flows) (job .steps) (256 ^ 4)
+  pub figures : Column mostJobSteps (job .figures) (job .steps) (256 ^ 8)
+  pub flows : Column mostJobSteps (job .flows) (job .steps) (256 ^ 4)
   pub option : SoundOption (job .option)
 
 -- the bytes are those of the record

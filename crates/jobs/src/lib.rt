@@ -2,11 +2,12 @@
 ghost use mathlib.Core.Path.{_≡_};
 ghost use mathlib.Core.Bool.{true};
 ghost use Prim.Native.Nat.{_+_, _*_, _^_, _≤_, _<_};
-ghost use lib.ListN.{length};
+ghost use lib.ListN.{length, replicate};
 ghost use Rattle.job_record.specs.Bytes.{mostWidth, numberAt};
-ghost use Rattle.job_record.specs.Form.{mostBytes, mostJobSteps, afterFields, farthest, restAt, isKind, hasTag};
-ghost use Rattle.job_record.specs.Form.{fieldAt, fieldsFrom, headFormed, restFormed, bodyFormed, wellFormed};
-ghost use Rattle.job_record.specs.Reader.{padded, tagOf, dataOf, optionAt, jobOf, noJob, readingOf};
+ghost use Rattle.job_record.specs.Form.{mostBytes, mostJobSteps, mostDates, afterField, afterFields, farthest, restAt, isKind, hasTag};
+ghost use Rattle.job_record.specs.Form.{optionWidth, datesAt, datesLeft};
+ghost use Rattle.job_record.specs.Form.{fieldAt, fieldsFrom, headFormed, kindFormed, listFormed, restFormed, bodyFormed, wellFormed};
+ghost use Rattle.job_record.specs.Reader.{padded, tagOf, dataOf, dateOf, noOption, kindOptionAt, listOptionAt, optionAt, jobOf, noJob, readingOf};
 ghost use Rattle.job_record.specs.Grammar.{ReadsAs};
 use job_record::Job;
 use job_record::OptionRecord;
@@ -31,6 +32,9 @@ const QUOTES_AT: usize = VOLATILITY_AT + FIELD_HEAD + 4;
 
 // Kind, expiry and strike.
 const OPTION_WIDTH: usize = 1 + 1 + 4;
+
+// Side and strike, before the dates.
+const LIST_HEAD: usize = 1 + 4;
 
 fn wide(x: u8) -> u64
     ensures { λ r. ⌜ r ≡ x ⌝ }
@@ -84,7 +88,7 @@ fn has_tag(tags: Tags, tag: u8) -> bool
 
 // Whether a whole field stands at a place: its tag, its length and as many bytes of data.
 fn field_at(bytes: &[u8], at: usize, tags: Tags, width: usize) -> bool
-    requires { ⌜ (at ≤ farthest) × (width ≤ mostWidth) ⌝ }
+    requires { ⌜ (at ≤ farthest) × (width ≤ mostBytes) ⌝ }
     ensures { λ r. ⌜ r ≡ fieldAt (now (bytes .entry)) at tags width ⌝ }
 {
     if bytes.len() < at + FIELD_HEAD + width {
@@ -126,23 +130,46 @@ fn head_formed(bytes: &[u8]) -> bool
     field_at(bytes, VOLATILITY_AT, Tags::Only(4), 4)
 }
 
-// Whether nothing, or one option and nothing after it, stands from a place on.
-fn rest_formed(bytes: &[u8], at: usize) -> bool
+// Whether one option of a kind, and nothing after it, stands from a place on.
+fn kind_formed(bytes: &[u8], at: usize) -> bool
     requires { ⌜ at ≤ farthest ⌝ }
-    ensures { λ r. ⌜ r ≡ restFormed (now (bytes .entry)) at ⌝ }
+    ensures { λ r. ⌜ r ≡ kindFormed (now (bytes .entry)) at ⌝ }
 {
-    if bytes.len() == at {
-        return true;
-    }
     if !field_at(bytes, at, Tags::Only(8), OPTION_WIDTH) {
         return false;
     }
     bytes.len() == at + FIELD_HEAD + OPTION_WIDTH
 }
 
+// Whether one list of dates stands from a place on: all the bytes that are left are its data.
+fn list_formed(bytes: &[u8], at: usize) -> bool
+    requires { ⌜ (at ≤ farthest) × (length (now bytes) ≤ mostBytes) ⌝ }
+    ensures { λ r. ⌜ r ≡ listFormed (now (bytes .entry)) at ⌝ }
+{
+    let data_at = at + FIELD_HEAD;
+    if bytes.len() < data_at + LIST_HEAD {
+        return false;
+    }
+    field_at(bytes, at, Tags::Only(10), bytes.len() - data_at)
+}
+
+// Whether nothing, or one option and nothing after it, stands from a place on.
+fn rest_formed(bytes: &[u8], at: usize) -> bool
+    requires { ⌜ (at ≤ farthest) × (length (now bytes) ≤ mostBytes) ⌝ }
+    ensures { λ r. ⌜ r ≡ restFormed (now (bytes .entry)) at ⌝ }
+{
+    if bytes.len() == at {
+        return true;
+    }
+    if kind_formed(bytes, at) {
+        return true;
+    }
+    list_formed(bytes, at)
+}
+
 // Whether as many quotes and flows as there are steps, and at most one option, stand from a place on.
 fn body_formed(bytes: &[u8], quotes: usize, steps: usize) -> bool
-    requires { ⌜ (steps ≤ mostJobSteps) × (restAt quotes steps ≤ mostBytes) ⌝ }
+    requires { ⌜ (steps ≤ mostJobSteps) × (restAt quotes steps ≤ mostBytes) × (length (now bytes) ≤ mostBytes) ⌝ }
     ensures { λ r. ⌜ r ≡ bodyFormed (now (bytes .entry)) quotes steps ⌝ }
 {
     if !fields_from(bytes, quotes, Tags::AnyKind, 8, steps) {
@@ -171,7 +198,7 @@ fn well_formed(bytes: &[u8]) -> bool
 // The tags of `count` fields of one width from a place on.
 fn tags_from(bytes: &[u8], from: usize, width: usize, count: usize) -> [u8; job_record::MOST_STEPS]
     requires { ⌜ (from ≤ mostBytes) × (width ≤ mostWidth) × (count ≤ mostJobSteps) × (afterFields from width count ≤ length (now bytes)) ⌝ }
-    ensures { λ r. ⌜ r ≡ padded count (tagOf (now (bytes .entry)) from width) ⌝ }
+    ensures { λ r. ⌜ r ≡ padded mostJobSteps count (tagOf (now (bytes .entry)) from width) ⌝ }
 {
     let mut tags = [0u8; job_record::MOST_STEPS];
     let mut i: usize = 0;
@@ -185,7 +212,7 @@ fn tags_from(bytes: &[u8], from: usize, width: usize, count: usize) -> [u8; job_
 // The data of `count` fields of one width from a place on.
 fn data_from(bytes: &[u8], from: usize, width: usize, count: usize) -> [u64; job_record::MOST_STEPS]
     requires { ⌜ (from ≤ mostBytes) × (width ≤ mostWidth) × (count ≤ mostJobSteps) × (afterFields from width count ≤ length (now bytes)) ⌝ }
-    ensures { λ r. ⌜ r ≡ padded count (dataOf (now (bytes .entry)) from width) ⌝ }
+    ensures { λ r. ⌜ r ≡ padded mostJobSteps count (dataOf (now (bytes .entry)) from width) ⌝ }
 {
     let mut numbers = [0u64; job_record::MOST_STEPS];
     let mut i: usize = 0;
@@ -196,27 +223,91 @@ fn data_from(bytes: &[u8], from: usize, width: usize, count: usize) -> [u64; job
     numbers
 }
 
-// The option of a well-formed job, whose other fields end at a place.
-fn option_at(bytes: &[u8], at: usize) -> OptionRecord
-    requires { ⌜ (at ≤ farthest) × (restFormed (now bytes) at ≡ true) ⌝ }
-    ensures { λ r. ⌜ r ≡ optionAt (now (bytes .entry)) at ⌝ }
+// Zeros, made apart so that no proof above sees them one by one.
+fn no_dates() -> [u8; job_record::MOST_DATES]
+    ensures { λ r. ⌜ r ≡ replicate mostDates 0 ⌝ }
 {
-    if bytes.len() == at {
-        return OptionRecord {
-            tag: 0,
-            kind: 0,
-            expiry: 0,
-            strike: 0,
-        };
+    [0u8; job_record::MOST_DATES]
+}
+
+fn no_option() -> OptionRecord
+    ensures { λ r. ⌜ r ≡ noOption ⌝ }
+{
+    let dates = no_dates();
+    OptionRecord {
+        tag: 0,
+        kind: 0,
+        expiry: 0,
+        strike: 0,
+        count: 0,
+        dates,
     }
+}
+
+// The option of a kind whose field stands at a place.
+fn kind_option_at(bytes: &[u8], at: usize) -> OptionRecord
+    requires { ⌜ (at ≤ farthest) × (afterField at optionWidth ≤ length (now bytes)) ⌝ }
+    ensures { λ r. ⌜ r ≡ kindOptionAt (now (bytes .entry)) at ⌝ }
+{
     let kind_at = at + FIELD_HEAD;
     let expiry_at = kind_at + 1;
+    let dates = no_dates();
     OptionRecord {
         tag: 8,
         kind: number(bytes, kind_at, 1),
         expiry: number(bytes, expiry_at, 1),
         strike: number(bytes, expiry_at + 1, 4),
+        count: 0,
+        dates,
     }
+}
+
+// The `count` dates from a place on.
+fn dates_from(bytes: &[u8], from: usize, count: usize) -> [u8; job_record::MOST_DATES]
+    requires { ⌜ (count ≤ mostDates) × (from + count ≤ length (now bytes)) ⌝ }
+    ensures { λ r. ⌜ r ≡ padded mostDates count (dateOf (now (bytes .entry)) from) ⌝ }
+{
+    let mut dates = no_dates();
+    let mut i: usize = 0;
+    while i < count {
+        dates[i] = bytes[from + i];
+        i += 1;
+    }
+    dates
+}
+
+// The option with a list of dates whose field stands at a place, and ends the bytes.
+fn list_option_at(bytes: &[u8], at: usize) -> OptionRecord
+    requires { ⌜ (at ≤ farthest) × (datesAt at ≤ length (now bytes)) × (datesLeft (now bytes) at ≤ mostDates) ⌝ }
+    ensures { λ r. ⌜ r ≡ listOptionAt (now (bytes .entry)) at ⌝ }
+{
+    let side_at = at + FIELD_HEAD;
+    let strike_at = side_at + 1;
+    let dates_at = strike_at + 4;
+    let count = bytes.len() - dates_at;
+    let dates = dates_from(bytes, dates_at, count);
+    OptionRecord {
+        tag: 10,
+        kind: number(bytes, side_at, 1),
+        expiry: 0,
+        strike: number(bytes, strike_at, 4),
+        count,
+        dates,
+    }
+}
+
+// The option of a well-formed job, whose other fields end at a place.
+fn option_at(bytes: &[u8], at: usize) -> OptionRecord
+    requires { ⌜ (at ≤ farthest) × (restFormed (now bytes) at ≡ true) × (datesLeft (now bytes) at ≤ mostDates) ⌝ }
+    ensures { λ r. ⌜ r ≡ optionAt (now (bytes .entry)) at ⌝ }
+{
+    if bytes.len() == at {
+        return no_option();
+    }
+    if bytes[at] == 8 {
+        return kind_option_at(bytes, at);
+    }
+    list_option_at(bytes, at)
 }
 
 fn job_of(bytes: &[u8]) -> Job
@@ -244,6 +335,7 @@ fn job_of(bytes: &[u8]) -> Job
 fn no_job() -> Job
     ensures { λ r. ⌜ r ≡ noJob ⌝ }
 {
+    let option = no_option();
     Job {
         frequency: 0,
         steps: 0,
@@ -252,12 +344,7 @@ fn no_job() -> Job
         kinds: [0u8; job_record::MOST_STEPS],
         figures: [0u64; job_record::MOST_STEPS],
         flows: [0u64; job_record::MOST_STEPS],
-        option: OptionRecord {
-            tag: 0,
-            kind: 0,
-            expiry: 0,
-            strike: 0,
-        },
+        option,
     }
 }
 

@@ -1,6 +1,6 @@
 -- The causes by the tests that the code makes, and what a cause of 0 gives.
 -- Assumes nothing.
-use mathlib.Core.Path.{_≡_, refl, sym}
+use mathlib.Core.Path.{_≡_, refl, sym, _∙_}
 use mathlib.Core.Bool.{Bool, true, false, cond, _&&_}
 use mathlib.Core.List.{List}
 use Prim.Native.Nat.{ℕ, suc, _≤_, _<_}
@@ -9,9 +9,10 @@ use lib.Dec.{eqb, leb, ltb}
 use lib.ListN.{length}
 use borrow.Author.Tests.{le-leb, lt-leb, leb-true, eq-eqb, ne-eqb, eqb-true, lt-ltb, le-ltb, ltb-true}
 use Rattle.arithmetic.specs.Row.{values, each, between}
+use Rattle.arithmetic.proofs.Numbers.{by-order}
 use Rattle.arithmetic.proofs.RowLaws.{each-holds}
 use Rattle.arithmetic.proofs.BetweenLaws.{and-left, and-right, between-most}
-use Rattle.price_causes.specs.Causes.{mostFlow, mostStrike, flowsCause, optionCause, AcceptedFlows}
+use Rattle.price_causes.specs.Causes.{mostFlow, mostStrike, flowsCause, optionCause, termsCause, AcceptedFlows}
 
 -- where a cause of 0 was found, each test passed
 cond-zero-else : (p : Bool) (x m : ℕ) → cond p x (suc m) ≡ 0 → (p ≡ true) × (x ≡ 0)
@@ -79,3 +80,38 @@ option-accepted n kind expiry strike e =
       ltb-true expiry n (and-right (leb 1 kind && leb kind 4) (ltb expiry n) (and-left most (leb strike mostStrike) (p .0))),
       leb-true strike mostStrike (and-right most (leb strike mostStrike) (p .0)),
     )
+
+-- ---- a dated option's side and strike
+
+module _ (side strike : ℕ) where
+  pub side-below : side < 1 → 11 ≡ termsCause side strike
+  unfolding termsCause
+  side-below h = sym (rw (lt-leb 1 side h))
+
+  module _ (some : 1 ≤ side) where
+    pub side-above : 2 < side → 11 ≡ termsCause side strike
+    unfolding termsCause
+    side-above h = sym (rw (le-leb 1 side some, lt-leb side 2 h))
+
+    module _ (few : side ≤ 2) where
+      pub terms-above : mostStrike < strike → 11 ≡ termsCause side strike
+      unfolding termsCause
+      terms-above h = sym (rw (le-leb 1 side some, le-leb side 2 few, lt-leb strike mostStrike h))
+
+      pub terms-passed : strike ≤ mostStrike → 0 ≡ termsCause side strike
+      unfolding termsCause
+      terms-passed h = sym (rw (le-leb 1 side some, le-leb side 2 few, le-leb strike mostStrike h))
+
+  pub terms-accepted : termsCause side strike ≡ 0 → strike ≤ mostStrike
+  unfolding termsCause
+  terms-accepted e =
+      let p = cond-zero-else (leb 1 side && leb side 2 && leb strike mostStrike) 0 10 e in
+      leb-true strike mostStrike (and-right (leb 1 side && leb side 2) (leb strike mostStrike) (p .0))
+
+-- a known kind whose expiry is below n is judged by its strike alone, as a dated option of either side
+pub kind-terms :
+    (n kind expiry strike side : ℕ) → 1 ≤ kind → kind ≤ 4 → expiry < n → 1 ≤ side → side ≤ 2 → optionCause n kind expiry strike ≡ termsCause side strike
+kind-terms n kind expiry strike side some few inside low high =
+    by-order strike mostStrike
+    (λ h. sym (option-passed n kind expiry strike some few inside h) ∙ terms-passed side strike low high h)
+    (λ h. sym (strike-above n kind expiry strike some few inside h) ∙ terms-above side strike low high h)

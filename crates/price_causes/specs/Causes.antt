@@ -23,6 +23,10 @@ flowsCause n flows = cond (eqb (length flows) n) (cond (each (length flows) (bet
 unfoldable pub optionCause : ℕ → ℕ → ℕ → ℕ → ℕ
 optionCause n kind expiry strike = cond (leb 1 kind && leb kind 4 && ltb expiry n && leb strike mostStrike) 0 11
 
+-- 11 of a dated option: a side that is neither 1 nor 2, or a strike above its limit
+unfoldable pub termsCause : ℕ → ℕ → ℕ
+termsCause side strike = cond (leb 1 side && leb side 2 && leb strike mostStrike) 0 11
+
 -- flows after the causes were tested
 pub record AcceptedFlows (n : ℕ) (flows : List ℕ) : Type 0 where
   pub count : length flows ≡ n

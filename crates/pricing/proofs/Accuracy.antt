@@ -18,16 +18,20 @@ use Rattle.limits.specs.Limits.{limitCause}
 use Rattle.lent_tree.specs.LentTree.{stored, Accepted, discountsCause}
 use Rattle.lent_tree.proofs.LentLaws.{accepted}
 use Rattle.arithmetic.proofs.CauseLaws.{lowest-none}
-use Rattle.pricing_laws.specs.Schedule.{sideOf, scheduleOf}
+use Rattle.pricing_laws.specs.Pricer.{Side, Schedule, option}
+use Rattle.pricing_laws.specs.Schedule.{sideOf, scheduleOf, numberedSide, datedSchedule, datesCause}
+use Rattle.pricing_laws.specs.TreePricer.{exact}
+use Rattle.pricing_laws.proofs.Dates.{dates-accepted, schedule-last}
 use Rattle.price_bound.specs.PriceBound.{treeErrorBound}
 use Rattle.price_bound.proofs.BoundLaws.{discount-within}
-use Rattle.price_causes.specs.Causes.{flowsCause, optionCause}
+use Rattle.price_causes.specs.Causes.{flowsCause, optionCause, termsCause}
 use Rattle.price_causes.proofs.CheckLaws.{option-accepted}
 use Rattle.arithmetic.specs.Within.{Within}
-use Rattle.pricing_laws.proofs.PriceLaws.{Discounts-at-most, bond-accurate, bond-never-above, kind-accurate, error-bound-a-step}
+use Rattle.pricing_laws.proofs.PriceLaws.{Discounts-at-most, bond-accurate, bond-never-above, option-accurate, error-bound-a-step}
 use Rattle.pricing.specs.declared.Price.{Price}
-use Rattle.pricing.specs.Prices.{flowAt, bondValue, bondPeak, optionValue, optionLimit, treeCause, firstCause, priced, bondPrice, optionPrice}
-use Rattle.pricing.specs.Exact.{exactBond, exactOption}
+use Rattle.pricing.specs.Prices.{flowAt, bondValue, bondPeak, optionValue, optionLimit, treeCause, firstCause, priced, scheduledPrice}
+use Rattle.pricing.specs.Prices.{bondPrice, optionPrice, datedCause, datedPrice}
+use Rattle.pricing.specs.Exact.{exactBond, exactOption, exactDated}
 
 -- an answer with number 0 has the price, and no cause
 pub record Given (cause v e : ℕ) (answer : Price) : Type 0 where
@@ -55,7 +59,7 @@ first-none c later h = go (eqb c 0) refl h
     go false q z = absurd (eqb-false c 0 q z)
 
 -- no cause about the tree and its flows: the tree is accepted
-tree-lent : (n b : ℕ) (discounts flows : List ℕ) → treeCause n b discounts flows ≡ 0 → Accepted n b discounts
+pub tree-lent : (n b : ℕ) (discounts flows : List ℕ) → treeCause n b discounts flows ≡ 0 → Accepted n b discounts
 unfolding treeCause
 tree-lent n b discounts flows z = accepted n b discounts (lowest-none (discountsCause n b discounts) (flowsCause n flows) z .0)
 
@@ -65,9 +69,6 @@ unfolding rateTree stored discountsNeeded
 low-discounts n b discounts low i k hi hk = low (rowStart b i + k) (omega (arith, row-ends b i n hi))
 
 module _ (n b : ℕ) (discounts flows : List ℕ) where
-  abbrev the-limit : ℕ → ℕ → ℕ → ℕ
-  the-limit kind expiry strike = optionLimit n b discounts flows (sideOf kind) strike (scheduleOf kind expiry)
-
   within-limit : Accepted n b discounts → Discounts-at-most 1100000000 (rateTree b) (stored b discounts) n
   unfolding rateTree
   within-limit a i k hi hk = discount-within n b i hi discounts a k hk
@@ -99,34 +100,81 @@ module _ (n b : ℕ) (discounts flows : List ℕ) where
     unfolding treeErrorBound
     bond-bound-a-step low = rw (bond-given .bound) (error-bound-a-step (rateTree b) (stored b discounts) n (low-discounts n b discounts low))
 
-  module _ (kind expiry strike : ℕ) (h : optionPrice n b discounts flows kind expiry strike .number ≡ 0) where
-    pub option-given :
-        Given
-        (firstCause (treeCause n b discounts flows)
-        (firstCause (optionCause n kind expiry strike) (the-limit kind expiry strike)))
-        (optionValue n b discounts flows (sideOf kind) strike (scheduleOf kind expiry) 0 0) (treeErrorBound n b discounts)
-        (optionPrice n b discounts flows kind expiry strike)
-    unfolding optionPrice
-    option-given = given _ _ _ h
+  -- an option on any schedule that ends in the tree wherever the option itself has no cause
+  module _ (side : Side) (strike : ℕ) (rows : Schedule) (cause : ℕ) (ends : cause ≡ 0 → rows .last ≤ n)
+      (h : scheduledPrice n b discounts flows side strike rows cause .number ≡ 0) where
+    scheduled-given :
+        Given (firstCause (treeCause n b discounts flows) (firstCause cause (optionLimit n b discounts flows side strike rows)))
+        (optionValue n b discounts flows side strike rows 0 0) (treeErrorBound n b discounts) (scheduledPrice n b discounts flows side strike rows cause)
+    scheduled-given = given _ _ _ h
 
-    causes : (treeCause n b discounts flows ≡ 0) × (firstCause (optionCause n kind expiry strike)
-        (the-limit kind expiry strike) ≡ 0)
-    causes = first-none _ _ (option-given .none)
+    causes : (treeCause n b discounts flows ≡ 0) × (firstCause cause (optionLimit n b discounts flows side strike rows) ≡ 0)
+    causes = first-none _ _ (scheduled-given .none)
 
     option-tree : Accepted n b discounts
     option-tree = tree-lent n b discounts flows (causes .0)
 
-    -- an option's price, of each of the four kinds, is within the same bound
+    scheduled-within :
+        Within (scheduledPrice n b discounts flows side strike rows cause .bound) (unit ^ n) (scheduledPrice n b discounts flows side strike rows cause .value)
+        (option (exact (rateTree b) (stored b discounts)) (flowAt flows) n side strike rows 0 0)
+    unfolding optionValue treeErrorBound
+    scheduled-within =
+        rw (scheduled-given .value, scheduled-given .bound)
+        (option-accurate (rateTree b) (rate-tree-sound b (option-tree .reversion-within-limit)) (stored b discounts) n (within-limit option-tree) (flowAt flows)
+        side strike rows (ends (first-none _ _ (causes .1) .0)))
+
+    scheduled-a-step :
+        ((k : ℕ) → k < discountsNeeded n b → values discounts k ≤ one) → scheduledPrice n b discounts flows side strike rows cause .bound ≤ 3 * n
+    unfolding treeErrorBound
+    scheduled-a-step low = rw (scheduled-given .bound) (error-bound-a-step (rateTree b) (stored b discounts) n (low-discounts n b discounts low))
+
+  -- each of the four kinds
+  module _ (kind expiry strike : ℕ) (h : optionPrice n b discounts flows kind expiry strike .number ≡ 0) where
+    kind-ends : optionCause n kind expiry strike ≡ 0 → scheduleOf kind expiry .last ≤ n
+    kind-ends z = omega (arith, schedule-last kind expiry, option-accepted n kind expiry strike z .0)
+
+    pub option-given :
+        Given
+        (firstCause (treeCause n b discounts flows)
+        (firstCause (optionCause n kind expiry strike) (optionLimit n b discounts flows (sideOf kind) strike (scheduleOf kind expiry))))
+        (optionValue n b discounts flows (sideOf kind) strike (scheduleOf kind expiry) 0 0) (treeErrorBound n b discounts)
+        (optionPrice n b discounts flows kind expiry strike)
+    unfolding optionPrice
+    option-given = scheduled-given (sideOf kind) strike (scheduleOf kind expiry) (optionCause n kind expiry strike) kind-ends h
+
     pub option-within-bound :
         Within (optionPrice n b discounts flows kind expiry strike .bound) (unit ^ n) (optionPrice n b discounts flows kind expiry strike .value)
         (exactOption n b discounts flows kind expiry strike)
-    unfolding optionValue treeErrorBound exactOption
-    option-within-bound =
-        rw (option-given .value, option-given .bound)
-        (kind-accurate (rateTree b) (rate-tree-sound b (option-tree .reversion-within-limit)) (stored b discounts) n (within-limit option-tree) (flowAt flows)
-        kind expiry strike (omega (arith, option-accepted n kind expiry strike (first-none _ _ (causes .1) .0) .0)))
+    unfolding optionPrice exactOption
+    option-within-bound = scheduled-within (sideOf kind) strike (scheduleOf kind expiry) (optionCause n kind expiry strike) kind-ends h
 
     pub option-bound-a-step :
         ((k : ℕ) → k < discountsNeeded n b → values discounts k ≤ one) → optionPrice n b discounts flows kind expiry strike .bound ≤ 3 * n
-    unfolding treeErrorBound
-    option-bound-a-step low = rw (option-given .bound) (error-bound-a-step (rateTree b) (stored b discounts) n (low-discounts n b discounts low))
+    unfolding optionPrice
+    option-bound-a-step = scheduled-a-step (sideOf kind) strike (scheduleOf kind expiry) (optionCause n kind expiry strike) kind-ends h
+
+  -- an option on listed rows
+  module _ (side : ℕ) (dates : List ℕ) (strike : ℕ) (h : datedPrice n b discounts flows side dates strike .number ≡ 0) where
+    list-ends : datedCause n side dates strike ≡ 0 → datedSchedule dates .last ≤ n
+    unfolding datedCause datedSchedule
+    list-ends z = omega (arith, dates-accepted n dates (lowest-none (termsCause side strike) (datesCause n dates) z .1) .before-end)
+
+    pub dated-given :
+        Given
+        (firstCause (treeCause n b discounts flows)
+        (firstCause (datedCause n side dates strike) (optionLimit n b discounts flows (numberedSide side) strike (datedSchedule dates))))
+        (optionValue n b discounts flows (numberedSide side) strike (datedSchedule dates) 0 0) (treeErrorBound n b discounts)
+        (datedPrice n b discounts flows side dates strike)
+    unfolding datedPrice
+    dated-given = scheduled-given (numberedSide side) strike (datedSchedule dates) (datedCause n side dates strike) list-ends h
+
+    pub dated-within-bound :
+        Within (datedPrice n b discounts flows side dates strike .bound) (unit ^ n) (datedPrice n b discounts flows side dates strike .value)
+        (exactDated n b discounts flows side dates strike)
+    unfolding datedPrice exactDated
+    dated-within-bound = scheduled-within (numberedSide side) strike (datedSchedule dates) (datedCause n side dates strike) list-ends h
+
+    pub dated-bound-a-step :
+        ((k : ℕ) → k < discountsNeeded n b → values discounts k ≤ one) → datedPrice n b discounts flows side dates strike .bound ≤ 3 * n
+    unfolding datedPrice
+    dated-bound-a-step = scheduled-a-step (numberedSide side) strike (datedSchedule dates) (datedCause n side dates strike) list-ends h

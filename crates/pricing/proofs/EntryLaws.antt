@@ -13,7 +13,8 @@ use Rattle.arithmetic.specs.Row.{values}
 use Rattle.arithmetic.specs.Answers.{refused, answered, lowestCause}
 use Rattle.arithmetic.specs.declared.Answer.{Answer}
 use Rattle.arithmetic.proofs.CauseLaws.{lowest-none}
-use Rattle.limits.specs.Limits.{limitCause}
+use Rattle.arithmetic.proofs.Numbers.{by-equal}
+use Rattle.limits.specs.Limits.{mostSteps, limitCause}
 use Rattle.limits.proofs.LimitLaws.{limit-kept, limit-accepted}
 use Rattle.lattice.specs.Shape.{halfWidth, nodeCount}
 use Rattle.lattice.specs.RateTree.{rateTree}
@@ -24,23 +25,22 @@ use Rattle.lattice.proofs.TableLaws as tables
 use Rattle.lent_tree.specs.LentTree.{stored, Accepted, discountsCause}
 use Rattle.lent_tree.proofs.LentLaws.{accepted}
 use Rattle.pricing_laws.specs.Pricer.{Side, Schedule}
-use Rattle.pricing_laws.specs.Schedule.{sideOf, scheduleOf, marked}
+use Rattle.pricing_laws.specs.Schedule.{lastDate, datedSchedule, marked}
 use Rattle.pricing_laws.specs.TreePricer.{engine}
 use Rattle.pricing_laws.specs.Peak.{peak, greatestValue}
 use Rattle.pricing_laws.proofs.Schedules.{Alike, option-alike}
-use Rattle.exercise.specs.declared.Terms.{Terms}
-use Rattle.exercise.specs.Terms.{side, termsOf, marksOf}
-use Rattle.exercise.proofs.KindLaws.{side-is, kind-alike}
+use Rattle.exercise_dates.specs.Dates.{marksOf}
+use Rattle.exercise_dates.proofs.DateLaws.{dates-alike}
 use Rattle.price_bound.specs.PriceBound.{treeErrorBound, priceErrorBoundAnswer}
 use Rattle.price_bound.proofs.BoundLaws.{bound-number}
-use Rattle.price_causes.specs.Causes.{AcceptedFlows, flowsCause, optionCause}
+use Rattle.price_causes.specs.Causes.{AcceptedFlows, flowsCause}
 use Rattle.price_causes.proofs.CheckLaws.{flows-accepted}
 use Rattle.pricing.specs.declared.Price.{Price}
 use Rattle.pricing.specs.declared.BondAndOption.{BondAndOption}
 use Rattle.pricing.specs.declared.walk.Rolled.{Rolled}
 use Rattle.pricing.specs.Prices.{flowAt, treeCause, firstCause, refusedPrice, priced}
 use Rattle.pricing.specs.Prices.{bondPeak, acceptedBond, bondPrice}
-use Rattle.pricing.specs.Prices.{optionValue, optionPeak, optionLimit, acceptedOption, optionPrice}
+use Rattle.pricing.specs.Prices.{optionValue, optionPeak, optionLimit, acceptedOption, scheduledPrice}
 use Rattle.pricing.specs.Trees.{downTable, treeBound, BondRolled, BothRolled}
 use Rattle.pricing.proofs.TreeRows.{table-size}
 
@@ -201,38 +201,40 @@ module _ (n b : ℕ) (discounts flows : List ℕ) where
     option-alike-price e =
         ap₂ (λ (p : ℕ) (v : ℕ → ℕ → ℕ). priced (limitCause (max (bondPeak n b discounts flows) p)) (v 0 0) e) same-peak same-values
 
-  -- a kind: a cause about the tree, a cause about the option, or the price
-  module _ (kind expiry strike : ℕ) where
+  -- the answer by what the code found: a cause about the tree, a cause about the option, or the price
+  module _ (side : Side) (strike : ℕ) (rows : Schedule) (cause : ℕ) where
     pub option-tree-price :
-        (c : ℕ) → c ≡ treeCause n b discounts flows → (c ≡ 0 → ⊥) → refusedPrice c ≡ optionPrice n b discounts flows kind expiry strike
-    unfolding optionPrice
+        (c : ℕ) → c ≡ treeCause n b discounts flows → (c ≡ 0 → ⊥) → refusedPrice c ≡ scheduledPrice n b discounts flows side strike rows cause
     option-tree-price c e z = refused-first c _ _ _ _ e z
 
     module _ (z : treeCause n b discounts flows ≡ 0) where
-      pub option-cause-price :
-          (c : ℕ) → c ≡ optionCause n kind expiry strike → (c ≡ 0 → ⊥) → refusedPrice c ≡ optionPrice n b discounts flows kind expiry strike
-      unfolding optionPrice
-      option-cause-price c e nz = refused-first c _ _ _ _ e nz ∙ passed-first _ _ _ _ z
+      pub option-cause-price : (cause ≡ 0 → ⊥) → refusedPrice cause ≡ scheduledPrice n b discounts flows side strike rows cause
+      option-cause-price nz = refused-first cause _ _ _ _ refl nz ∙ passed-first _ _ _ _ z
 
-      module _ (e : ℕ) (eb : e ≡ treeErrorBound n b discounts) (none : optionCause n kind expiry strike ≡ 0) (few : expiry ≤ 60) where
-        kind-price-is :
-            acceptedOption n b discounts flows (sideOf kind) strike (scheduleOf kind expiry) e ≡ optionPrice n b discounts flows kind expiry strike
-        unfolding optionPrice
-        kind-price-is =
-            ap (acceptedOption n b discounts flows (sideOf kind) strike (scheduleOf kind expiry)) eb ∙ passed-first _ _ _ _ none ∙ passed-first _ _ _ _ z
+      pub option-price-is :
+          cause ≡ 0 → (e : ℕ) → e ≡ treeErrorBound n b discounts → (p : Price) → p ≡ acceptedOption n b discounts flows side strike rows e →
+          p ≡ scheduledPrice n b discounts flows side strike rows cause
+      option-price-is none e eb p ep =
+          ep ∙ ap (acceptedOption n b discounts flows side strike rows) eb ∙ passed-first _ _ _ _ none ∙ passed-first _ _ _ _ z
 
-        -- from the terms and marks that the code works with
-        pub option-price-is :
-            (terms : Terms) (marks : List ℕ) (p : Price) → terms ≡ termsOf kind expiry strike → marks ≡ marksOf kind →
-            p ≡ acceptedOption n b discounts flows (side (terms .call)) (terms .strike) (marked (terms .last) marks) e →
-            p ≡ optionPrice n b discounts flows kind expiry strike
-        unfolding termsOf
-        option-price-is terms marks p et em ep =
-            ep
-            ∙ ap₂ (λ (t : Terms) (m : List ℕ). acceptedOption n b discounts flows (side (t .call)) (t .strike) (marked (t .last) m) e) et em
-            ∙ ap (λ (s : Side). acceptedOption n b discounts flows s strike (marked expiry (marksOf kind)) e) (side-is kind expiry strike)
-            ∙ option-alike-price (sideOf kind) strike (marked expiry (marksOf kind)) (scheduleOf kind expiry) (kind-alike kind expiry few) e
-            ∙ kind-price-is
+  -- from the marks that the code works with
+  pub marked-price :
+      (side : Side) (strike last : ℕ) (marks dates : List ℕ) (e : ℕ) (p : Price) → lastDate dates ≤ mostSteps → last ≡ lastDate dates →
+      marks ≡ marksOf dates → p ≡ acceptedOption n b discounts flows side strike (marked last marks) e →
+      p ≡ acceptedOption n b discounts flows side strike (datedSchedule dates) e
+  marked-price side strike last marks dates e p few el em ep =
+      ep
+      ∙ ap₂ (λ (l : ℕ) (m : List ℕ). acceptedOption n b discounts flows side strike (marked l m) e) el em
+      ∙ option-alike-price side strike (marked (lastDate dates) (marksOf dates)) (datedSchedule dates) (dates-alike dates few) e
+
+  -- where a cause was found the rows do not matter
+  pub refused-alike :
+      (side : Side) (strike : ℕ) (rows other : Schedule) (cause : ℕ) → (treeCause n b discounts flows ≡ 0 → cause ≡ 0 → ⊥) →
+      scheduledPrice n b discounts flows side strike rows cause ≡ scheduledPrice n b discounts flows side strike other cause
+  refused-alike side strike rows other cause found =
+      by-equal (treeCause n b discounts flows) 0
+      (λ z. sym (option-cause-price side strike rows cause z (found z)) ∙ option-cause-price side strike other cause z (found z))
+      (λ nz. sym (option-tree-price side strike rows cause _ refl nz) ∙ option-tree-price side strike other cause _ refl nz)
 
 -- bond and option, each as it should be
 pub both-are : (r : BondAndOption) (bond option : Price) → r .bond ≡ bond → r .option ≡ option → r ≡ record { bond = bond; option = option }

@@ -6,3 +6,4 @@ pub mod WalkStates
 pub mod WalkTurns
 pub mod EntryLaws
 pub mod Accuracy
+pub mod OptionLaws

@@ -9,12 +9,12 @@ use Rattle.arithmetic.specs.Answers.{lowestCause}
 use Rattle.limits.specs.Limits.{limitCause}
 use Rattle.lattice.specs.RateTree.{rateTree}
 use Rattle.pricing_laws.specs.Pricer.{Side, Schedule, bond, option}
-use Rattle.pricing_laws.specs.Schedule.{sideOf, scheduleOf}
+use Rattle.pricing_laws.specs.Schedule.{sideOf, scheduleOf, numberedSide, datedSchedule, datesCause}
 use Rattle.pricing_laws.specs.TreePricer.{engine}
 use Rattle.pricing_laws.specs.Peak.{peak, greatestValue}
 use Rattle.lent_tree.specs.LentTree.{stored, discountsCause}
 use Rattle.price_bound.specs.PriceBound.{treeErrorBound}
-use Rattle.price_causes.specs.Causes.{flowsCause, optionCause}
+use Rattle.price_causes.specs.Causes.{flowsCause, optionCause, termsCause}
 use Rattle.pricing.specs.declared.Price.{Price}
 use Rattle.pricing.specs.declared.BondAndOption.{BondAndOption}
 
@@ -77,16 +77,31 @@ module _ (n b : ℕ) (discounts flows : List ℕ) (side : Side) (strike : ℕ) (
   abbrev pub acceptedOption : ℕ → Price
   acceptedOption bound = priced optionLimit (optionValue 0 0) bound
 
+  -- the answer, where the option itself has a cause or none: a cause about the tree comes first, 12 last
+  abbrev pub scheduledPrice : ℕ → Price
+  scheduledPrice cause =
+      priced (firstCause (treeCause n b discounts flows) (firstCause cause optionLimit)) (optionValue 0 0) (treeErrorBound n b discounts)
+
 -- the four kinds
 unfoldable pub optionPrice : ℕ → ℕ → List ℕ → List ℕ → ℕ → ℕ → ℕ → Price
 optionPrice n b discounts flows kind expiry strike =
-    priced
-    (firstCause (treeCause n b discounts flows)
-    (firstCause (optionCause n kind expiry strike)
-    (optionLimit n b discounts flows (sideOf kind) strike (scheduleOf kind expiry))))
-    (optionValue n b discounts flows (sideOf kind) strike (scheduleOf kind expiry) 0 0) (treeErrorBound n b discounts)
+    scheduledPrice n b discounts flows (sideOf kind) strike (scheduleOf kind expiry) (optionCause n kind expiry strike)
 
 -- both, each as its own entry answers
 abbrev pub bondAndOption : ℕ → ℕ → List ℕ → List ℕ → ℕ → ℕ → ℕ → BondAndOption
 bondAndOption n b discounts flows kind expiry strike =
     record { bond = bondPrice n b discounts flows; option = optionPrice n b discounts flows kind expiry strike }
+
+-- ---- an option on listed rows (document 02, request (iii))
+
+-- 11 for its side and strike, then 13 for its list
+unfoldable pub datedCause : ℕ → ℕ → List ℕ → ℕ → ℕ
+datedCause n side dates strike = lowestCause (termsCause side strike) (datesCause n dates)
+
+unfoldable pub datedPrice : ℕ → ℕ → List ℕ → List ℕ → ℕ → List ℕ → ℕ → Price
+datedPrice n b discounts flows side dates strike =
+    scheduledPrice n b discounts flows (numberedSide side) strike (datedSchedule dates) (datedCause n side dates strike)
+
+abbrev pub bondAndDatedOption : ℕ → ℕ → List ℕ → List ℕ → ℕ → List ℕ → ℕ → BondAndOption
+bondAndDatedOption n b discounts flows side dates strike =
+    record { bond = bondPrice n b discounts flows; option = datedPrice n b discounts flows side dates strike }

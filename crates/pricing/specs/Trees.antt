@@ -14,6 +14,7 @@ use Rattle.lattice.specs.Shape.{nodeCount}
 use Rattle.lattice.specs.Branching.{downProbability}
 use Rattle.lattice.specs.RateTree.{node, rateTree}
 use Rattle.pricing_laws.specs.Pricer.{Side, Schedule, exercise, heldOrExercised}
+use Rattle.pricing_laws.specs.Schedule.{lastDate}
 use Rattle.pricing_laws.specs.Peak.{peak, greatestValue}
 use Rattle.pricing_laws.specs.TreePricer.{rollRounding, roll}
 use Rattle.exercise.specs.declared.Terms.{Terms}
@@ -22,7 +23,8 @@ use Rattle.price_bound.specs.PriceBound.{treeErrorBound}
 use Rattle.price_causes.specs.Causes.{mostFlow, mostStrike, AcceptedFlows}
 use Rattle.pricing.specs.declared.walk.OptionStep.{OptionStep}
 use Rattle.pricing.specs.declared.walk.Rolled.{Rolled}
-use Rattle.pricing.specs.Prices.{flowAt, treeCause, bondValue, optionValue, optionLimit}
+use Rattle.pricing.specs.declared.BondAndOption.{BondAndOption}
+use Rattle.pricing.specs.Prices.{flowAt, treeCause, bondValue, bondPrice, optionValue, optionLimit, scheduledPrice}
 use Rattle.pricing.specs.Rows.{Holds}
 
 -- the down-probabilities of all nodes of row n
@@ -65,6 +67,17 @@ pub record Exercisable (terms : Terms) (n : ℕ) (marks : List ℕ) : Type 0 whe
   pub last-inside : terms .last ≤ n
   pub marked-rows : terms .last ≤ length marks
   pub strike-most : terms .strike ≤ mostStrike
+
+-- an option on listed rows that a tree of n steps may have
+pub record ExercisedOn (terms : Terms) (n : ℕ) (dates : List ℕ) : Type 0 where
+  pub last-listed : terms .last ≡ lastDate dates
+  pub before-end : lastDate dates < n
+  pub strike-within : terms .strike ≤ mostStrike
+
+-- bond and option as they are answered, where the option itself has this cause
+pub record BothPriced (n b : ℕ) (discounts flows : List ℕ) (side : Side) (strike : ℕ) (rows : Schedule) (cause : ℕ) (r : BondAndOption) : Type 0 where
+  pub bond-is : r .bond ≡ bondPrice n b discounts flows
+  pub option-is : r .option ≡ scheduledPrice n b discounts flows side strike rows cause
 
 -- a row rolled back from the values of the next one
 unfoldable pub rolledAt : ℕ → List ℕ → ℕ → List ℕ → ℕ → ℕ

@@ -11,7 +11,7 @@ ghost use Prim.Native.Nat.{_≤_};
 ghost use lib.ListN.{take};
 ghost use Rattle.limits.specs.Limits.{mostSteps, mostReversion};
 ghost use Rattle.lattice.specs.Shape.{nodeCount};
-ghost use Rattle.pricing_laws.specs.Schedule.{marked};
+ghost use Rattle.pricing_laws.specs.Schedule.{marked, datedSchedule};
 ghost use Rattle.exercise.specs.Terms.{side};
 ghost use Rattle.lent_tree.specs.LentTree.{Accepted};
 ghost use Rattle.price_causes.specs.Causes.{AcceptedFlows};
@@ -22,8 +22,10 @@ ghost use Rattle.pricing.specs.Prices.{
   bondPrice,
   optionPrice,
   bondAndOption,
+  datedPrice,
+  bondAndDatedOption,
 };
-ghost use Rattle.pricing.specs.Trees.{downTable, treeBound, Exercisable};
+ghost use Rattle.pricing.specs.Trees.{downTable, treeBound, Exercisable, ExercisedOn, BothPriced};
 
 // A price in billionths with its error bound; a refusal's number with zeros.
 #[repr(C)]
@@ -159,6 +161,45 @@ pub fn bond_price(steps: usize, reversion: u64, discounts: &[u64], flows: &[u64]
     accepted_bond(steps, reversion, discounts, flows, bound.value)
 }
 
+// Bond and option on these dates, where the option itself has a cause or none: a cause about the tree comes first.
+fn both_prices(
+    steps: usize,
+    reversion: u64,
+    discounts: &[u64],
+    flows: &[u64],
+    cause: u64,
+    terms: Terms,
+    dates: &[u8],
+) -> BondAndOption
+    requires { ⌜ (cause ≡ 0 → steps ≤ mostSteps → ExercisedOn terms steps (now dates)) ⌝ }
+    ensures { λ r. ⌜ BothPriced steps reversion (now (discounts .entry)) (now (flows .entry)) (side (terms .call)) (terms .strike)
+        (datedSchedule (now (dates .entry))) cause r ⌝ }
+{
+    let bound = tree_bound(steps, reversion, discounts, flows);
+    if bound.number != 0 {
+        return BondAndOption {
+            bond: refused(bound.number),
+            option: refused(bound.number),
+        };
+    }
+    if cause != 0 {
+        return BondAndOption {
+            bond: accepted_bond(steps, reversion, discounts, flows, bound.value),
+            option: refused(cause),
+        };
+    }
+    let marks = exercise_dates::marks_of(dates);
+    accepted_both(
+        steps,
+        reversion,
+        discounts,
+        flows,
+        terms,
+        &marks,
+        bound.value,
+    )
+}
+
 // The prices at row 0 of the bond and of an option on it, in one roll; each as the entry for it alone answers.
 pub fn bond_and_option(
     steps: usize,
@@ -171,31 +212,39 @@ pub fn bond_and_option(
 ) -> BondAndOption
     ensures { λ r. ⌜ r ≡ bondAndOption steps reversion (now (discounts .entry)) (now (flows .entry)) kind expiry strike ⌝ }
 {
-    let bound = tree_bound(steps, reversion, discounts, flows);
-    if bound.number != 0 {
-        return BondAndOption {
-            bond: refused(bound.number),
-            option: refused(bound.number),
-        };
-    }
     let cause = price_causes::option_cause(steps, kind, expiry, strike);
-    if cause != 0 {
-        return BondAndOption {
-            bond: accepted_bond(steps, reversion, discounts, flows, bound.value),
-            option: refused(cause),
-        };
-    }
-    let marks = exercise::marks_of(kind);
     let terms = exercise::terms_of(kind, expiry, strike);
-    accepted_both(
+    let dates = exercise_dates::dates_of_kind(kind, expiry);
+    let rows = dates.rows;
+    let count = dates.count;
+    both_prices(
         steps,
         reversion,
         discounts,
         flows,
+        cause,
         terms,
-        &marks,
-        bound.value,
+        &rows[..count],
     )
+}
+
+// The same for an option that may be exercised on the listed rows alone: side 1 a call, 2 a put.
+pub fn bond_and_dated_option(
+    steps: usize,
+    reversion: u64,
+    discounts: &[u64],
+    flows: &[u64],
+    side: u64,
+    dates: &[u8],
+    strike: u64,
+) -> BondAndOption
+    ensures { λ r. ⌜ r ≡ bondAndDatedOption steps reversion (now (discounts .entry)) (now (flows .entry)) side (now (dates .entry)) strike ⌝ }
+{
+    let about_terms = price_causes::terms_cause(side, strike);
+    let about_dates = exercise_dates::dates_cause(steps, dates);
+    let cause = arithmetic::lowest_cause(about_terms, about_dates);
+    let terms = exercise_dates::terms_on(side, dates, strike);
+    both_prices(steps, reversion, discounts, flows, cause, terms, dates)
 }
 
 // The price at row 0 of an option on that bond, and its error bound. Kinds 1 European call, 2 European put, 3 American call, 4 American put.
@@ -211,5 +260,21 @@ pub fn option_price(
     ensures { λ r. ⌜ r ≡ optionPrice steps reversion (now (discounts .entry)) (now (flows .entry)) kind expiry strike ⌝ }
 {
     let both = bond_and_option(steps, reversion, discounts, flows, kind, expiry, strike);
+    both.option
+}
+
+// The same for an option on listed rows: its value on the last of them is the exercise value, on earlier ones the larger of roll and exercise.
+pub fn dated_option_price(
+    steps: usize,
+    reversion: u64,
+    discounts: &[u64],
+    flows: &[u64],
+    side: u64,
+    dates: &[u8],
+    strike: u64,
+) -> Price
+    ensures { λ r. ⌜ r ≡ datedPrice steps reversion (now (discounts .entry)) (now (flows .entry)) side (now (dates .entry)) strike ⌝ }
+{
+    let both = bond_and_dated_option(steps, reversion, discounts, flows, side, dates, strike);
     both.option
 }

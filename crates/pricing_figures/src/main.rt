@@ -24,6 +24,38 @@ fn first(numbers: &[u64], count: usize) -> &[u64] {
     }
 }
 
+// Rows from a first one on, each so many after the one before.
+fn fill_dates(dates: &mut [u8], base: u8, step: u8)
+    requires { ⌜ (base ≤ 1) × (step ≤ 3) ⌝ }
+{
+    let mut place: usize = 0;
+    while place < dates.len() {
+        let k = (place % 60) as u8;
+        dates[place] = base + k * step;
+        place += 1;
+    }
+}
+
+// The first rows of a list of dates, or all where it has fewer.
+fn first_dates(dates: &[u8], count: usize) -> &[u8] {
+    let start = 0;
+    if count <= dates.len() {
+        &dates[start..count]
+    } else {
+        dates
+    }
+}
+
+// One row of a list of dates, or all where it has fewer.
+fn one_date(dates: &[u8], place: usize) -> &[u8] {
+    if place < dates.len() {
+        let end = place + 1;
+        &dates[place..end]
+    } else {
+        dates
+    }
+}
+
 fn number(n: u64) {
     io::write_all(1, b" ");
     io::print_decimal(1, n);
@@ -61,6 +93,24 @@ fn option(
     show(pricing::option_price(steps, reversion, discounts, flows, kind, expiry, strike));
 }
 
+fn dated(
+    steps: usize,
+    reversion: u64,
+    discounts: &[u64],
+    flows: &[u64],
+    side: u64,
+    dates: &[u8],
+    strike: u64,
+) {
+    io::write_all(1, b"dated");
+    number(steps as u64);
+    number(reversion);
+    number(side);
+    number(dates.len() as u64);
+    number(strike);
+    show(pricing::dated_option_price(steps, reversion, discounts, flows, side, dates, strike));
+}
+
 // Options of a kind that expire at the first row, on the way and one row before the bond's last.
 fn options(
     steps: usize,
@@ -83,6 +133,29 @@ fn options(
     option(steps, reversion, discounts, flows, kind, latest, 30_000_000);
 }
 
+// Dates of a side: today, every row of the first half, every third row, the last row before the bond's.
+fn dates_of_side(
+    steps: usize,
+    latest: usize,
+    reversion: u64,
+    discounts: &[u64],
+    flows: &[u64],
+    side: u64,
+) {
+    let mut every = [0u8; 60];
+    fill_dates(&mut every, 0, 1);
+    let mut thirds = [0u8; 20];
+    fill_dates(&mut thirds, 1, 3);
+    let today = first_dates(&every, 1);
+    let half = first_dates(&every, steps / 2);
+    let third = first_dates(&thirds, steps / 3);
+    let last = one_date(&every, latest);
+    dated(steps, reversion, discounts, flows, side, today, 900_000_000);
+    dated(steps, reversion, discounts, flows, side, half, 500_000_000);
+    dated(steps, reversion, discounts, flows, side, third, 500_000_000);
+    dated(steps, reversion, discounts, flows, side, last, 30_000_000);
+}
+
 fn tree(steps: usize, latest: usize, reversion: u64, discounts: &[u64], all_flows: &[u64]) {
     let flows = first(all_flows, steps);
     bond(steps, reversion, discounts, flows);
@@ -90,6 +163,8 @@ fn tree(steps: usize, latest: usize, reversion: u64, discounts: &[u64], all_flow
     options(steps, latest, reversion, discounts, flows, 2);
     options(steps, latest, reversion, discounts, flows, 3);
     options(steps, latest, reversion, discounts, flows, 4);
+    dates_of_side(steps, latest, reversion, discounts, flows, 1);
+    dates_of_side(steps, latest, reversion, discounts, flows, 2);
 }
 
 // Trees that grow to their last row, and trees that are capped on the way.
@@ -119,10 +194,12 @@ fn limits() {
     let most = [2_000_000_000u64; 4];
     bond(4, 0, &level, &most);
     option(4, 0, &level, &most, 3, 3, 0);
+    dated(4, 0, &level, &most, 1, &[0u8, 3], 0);
     let mut above = [1_000_000_000u64; 16];
     above[0] = 1_000_000_001;
     bond(4, 0, &above, &most);
     option(4, 0, &above, &most, 2, 0, 4_000_000_000);
+    dated(4, 0, &above, &most, 2, &[0u8], 4_000_000_000);
 }
 
 // A coupon on the expiry row, which stays with the seller: calls and puts on a bond of 1 without it.
@@ -137,17 +214,30 @@ fn exercise_days() {
     option(2, 0, &level, &flows, 4, 2, 1_050_000_000);
 }
 
+// The same bond with five lists of dates: one row after the other, then rows that leave one out.
+fn five_lists(discounts: &[u64], flows: &[u64], side: u64, strike: u64) {
+    let rows = [0u8, 1, 2];
+    let ends = [0u8, 2];
+    dated(3, 0, discounts, flows, side, one_date(&rows, 2), strike);
+    dated(3, 0, discounts, flows, side, one_date(&rows, 1), strike);
+    dated(3, 0, discounts, flows, side, one_date(&rows, 0), strike);
+    dated(3, 0, discounts, flows, side, &ends, strike);
+    dated(3, 0, discounts, flows, side, &rows[1..], strike);
+}
+
 // Options that are best exercised on a coupon's row before their expiry.
 fn earlier_days() {
     let flows = [100_000_000u64, 100_000_000, 1_000_000_000];
     let mut low = [1_000_000_000u64; 9];
     low[0] = 900_000_000;
     option(3, 0, &low, &flows, 3, 2, 1_000_000_000);
+    five_lists(&low, &flows, 1, 1_000_000_000);
     let mut later = [1_000_000_000u64; 9];
     later[1] = 900_000_000;
     later[2] = 900_000_000;
     later[3] = 900_000_000;
     option(3, 0, &later, &flows, 4, 2, 1_050_000_000);
+    five_lists(&later, &flows, 2, 1_050_000_000);
 }
 
 // A bond that passes the limit on a row before its last, and an option that expires earlier.
@@ -163,12 +253,30 @@ fn steep() {
     ];
     bond(6, 0, &steep, &flows);
     option(6, 0, &steep, &flows, 2, 1, 0);
+    dated(6, 0, &steep, &flows, 2, &[1u8], 0);
     let mut level = [1_100_000_000u64; 36];
     level[0] = 1;
     level[1] = 1;
     level[2] = 1;
     level[3] = 1;
     bond(6, 0, &level, &flows);
+}
+
+// A list that is not accepted comes before the bond's value, and after side and strike.
+fn order_of_dates() {
+    let level = [1_000_000_000u64; 25];
+    let most = [2_000_000_000u64; 5];
+    let none: [u8; 0] = [];
+    dated(5, 0, &level, &most, 1, &[1u8], 1_000_000_000);
+    dated(5, 0, &level, &most, 1, &[5u8], 1_000_000_000);
+    dated(5, 0, &level, &most, 1, &[1u8, 1], 1_000_000_000);
+    dated(5, 0, &level, &most, 1, &none, 1_000_000_000);
+    dated(5, 0, &level, &most, 1, &[4u8, 3], 1_000_000_000);
+    dated(5, 0, &level, &most, 1, &[0u8, 255], 1_000_000_000);
+    dated(5, 0, &level, &most, 1, &[7u8; 256], 1_000_000_000);
+    dated(5, 0, &level, &most, 1, &[5u8], 4_000_000_001);
+    dated(5, 0, &level, &most, 3, &none, 0);
+    dated(5, 0, &level, &most, 0, &[1u8], 0);
 }
 
 // The lower number where two causes apply.
@@ -178,6 +286,8 @@ fn tree_refusals(discounts: &[u64], flows: &[u64]) {
     bond(2, 6001, discounts, flows);
     bond(2, 0, discounts, first(flows, 3));
     bond(2, 0, first(discounts, 3), first(flows, 2));
+    dated(61, 0, discounts, flows, 1, &[7u8; 256], 0);
+    dated(2, 0, first(discounts, 3), first(flows, 2), 1, &[2u8], 0);
 }
 
 fn number_refusals(discounts: &[u64], flows: &[u64]) {
@@ -199,6 +309,8 @@ fn number_refusals(discounts: &[u64], flows: &[u64]) {
     option(2, 0, discounts, flows, 1, 2, 0);
     option(2, 0, discounts, flows, 1, 1, 4_000_000_001);
     option(2, 0, discounts, flows, 2, 1, 4_000_000_000);
+    dated(2, 0, discounts, &over, 1, &[2u8], 0);
+    dated(2, 0, discounts, flows, 2, &[1u8], 4_000_000_000);
 }
 
 fn main() {
@@ -212,6 +324,7 @@ fn main() {
     exercise_days();
     earlier_days();
     steep();
+    order_of_dates();
     tree_refusals(&discounts, &flows);
     number_refusals(&discounts, first(&flows, 2));
 }

@@ -1,5 +1,6 @@
 pub mod Near
 pub mod Accuracy
+pub mod Dates
 pub mod Recurrences
 pub mod PriceLaws
 pub mod Peaks

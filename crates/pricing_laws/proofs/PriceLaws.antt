@@ -14,11 +14,9 @@ use Rattle.arithmetic.proofs.SumLaws.{greatest-ge, greatest-le, greatest-cong}
 use Rattle.tree.specs.Tree.{Tree, Sound, probabilityTotal, unit}
 use Rattle.tree.proofs.StepLaws.{outgoing-cong}
 use Rattle.pricing_laws.specs.Pricer.{bond, Side, Schedule, option, errorBoundFrom, errorBound}
-use Rattle.pricing_laws.specs.Schedule.{sideOf, scheduleOf}
 use Rattle.pricing_laws.specs.TreePricer.{rollRounding, rollLoss, nodeRoll, roll, exactRoll, engine, exact, greatestDiscount, priceErrorBound}
 use Rattle.pricing_laws.proofs.Near.{near-average, near-discount}
 use Rattle.pricing_laws.proofs.Accuracy.{Close, bond-within, option-within, bond-below, loss-a-step}
-use Rattle.pricing_laws.proofs.Recurrences.{schedule-last}
 use Rattle.pricing_laws.proofs.Backward.{Greatest, Local}
 
 -- node k is one of row i
@@ -94,14 +92,6 @@ module _ (t : Tree) (sound : Sound t) (discount : ℕ → ℕ → ℕ) (n : ℕ)
       option-within n unit rollLoss (On t) _ _ _ _ _ (roll-close rollRounding 0 2 roll-rounds t sound discount n)
       (cost-covered t discount n rollLoss 0 hd (omega arith)) (cost-covered t discount n rollLoss 2 hd (omega arith)) flow side strike rows h 0
       (omega (arith, sound .root))
-
-  -- so for each of the four kinds
-  pub kind-accurate :
-      (kind expiry strike : ℕ) → expiry ≤ n →
-      Within (priceErrorBound t discount n 0) (unit ^ n)
-      (option (engine t discount) flow n (sideOf kind) strike (scheduleOf kind expiry) 0 0)
-      (option (exact t discount) flow n (sideOf kind) strike (scheduleOf kind expiry) 0 0)
-  kind-accurate kind expiry strike h = option-accurate (sideOf kind) strike (scheduleOf kind expiry) (omega (arith, schedule-last kind expiry))
 
 -- what the laws of a walk back use: the greatest value of a row, and that a roll is local
 pub row-greatest : (t : Tree) → Greatest (On t) (λ i v. greatest (t .nodes i) v)

@@ -1,18 +1,18 @@
 -- The definitions row by row, in document 01's words: for any pricer, then for the engine and for the exact pricer.
 -- Assumes nothing.
 use mathlib.Core.Path.{_≡_, refl, _∙_}
-use mathlib.Core.Bool.{Bool, true, false, cond}
+use mathlib.Core.Bool.{true, false}
 use Prim.Native.Nat.{ℕ, zero, suc, _+_, _-_, _*_, _/_, _^_, _<_, max}
 use native.Mathlib.Nat.{sub-self}
 use native.Mathlib.Omega.{arith}
-use lib.Dec.{leb}
 use Rattle.arithmetic.specs.Rounding.{one, roundDown, roundUp}
 use Rattle.tree.specs.Tree.{Tree, outgoing, unit}
 use Rattle.pricing_laws.specs.Pricer.{Pricer, bondFrom, bareBondFrom, bond, bareBond, errorBoundFrom, errorBound}
 use Rattle.pricing_laws.specs.Pricer.{Side, call, put, exercise, exerciseRow, Schedule, heldOrExercised}
 use Rattle.pricing_laws.specs.Pricer.{optionFrom, option, payoffValue}
-use Rattle.pricing_laws.specs.Schedule.{european, american, sideOf, scheduleOf}
+use Rattle.pricing_laws.specs.Schedule.{european, american, sideOf, kindDates, scheduleOf}
 use Rattle.pricing_laws.specs.TreePricer.{nodeRoll, roll, exactRoll, engine, exact, greatestDiscount, priceErrorBound}
+use Rattle.pricing_laws.proofs.Dates.{european-last, european-listed, american-last, american-listed}
 
 module _ {Node : Type 0} (p : Pricer Node) (flow : ℕ → ℕ) (n : ℕ) where
   -- row n is its flow
@@ -53,6 +53,19 @@ module _ {Node : Type 0} (p : Pricer Node) (flow : ℕ → ℕ) (n : ℕ) where
     unfolding option optionFrom
     option-before i h k = let e : rows .last - i ≡ suc (rows .last - suc i) = omega arith in rw e
 
+    module _ (i : ℕ) (h : i < rows .last) (k : Node) where
+      -- a listed row takes the larger
+      pub listed-before :
+          rows .listed i ≡ true →
+          option p flow n side strike rows i k ≡ max (p .roll i (option p flow n side strike rows (suc i)) k) (exerciseRow p flow n side strike i k)
+      unfolding heldOrExercised
+      listed-before e = option-before i h k ∙ rw e
+
+      -- any other the roll
+      pub unlisted-before : rows .listed i ≡ false → option p flow n side strike rows i k ≡ p .roll i (option p flow n side strike rows (suc i)) k
+      unfolding heldOrExercised
+      unlisted-before e = option-before i h k ∙ rw e
+
 module _ (loss : ℕ) (greatest : ℕ → ℕ) (n : ℕ) where
   pub error-bound-last : errorBound loss greatest n n ≡ 0
   unfolding errorBound errorBoundFrom
@@ -71,17 +84,8 @@ pub schedules :
     (expiry : ℕ) →
     (scheduleOf 1 expiry ≡ european expiry) × (scheduleOf 2 expiry ≡ european expiry)
     × (scheduleOf 3 expiry ≡ american expiry) × (scheduleOf 4 expiry ≡ american expiry)
-unfolding scheduleOf
+unfolding scheduleOf kindDates european american
 schedules expiry = (refl, refl, refl, refl)
-
--- both schedules of a kind end at expiry
-pub schedule-last : (kind expiry : ℕ) → scheduleOf kind expiry .last ≡ expiry
-unfolding scheduleOf european american
-schedule-last kind expiry = go (leb 3 kind)
-  where
-    go : (b : Bool) → cond b (american expiry) (european expiry) .last ≡ expiry
-    go true = refl
-    go false = refl
 
 -- The engine: sum of probability × later value, divided by 600,000,000, down; then × discount / one, down.
 module _ (t : Tree) (discount : ℕ → ℕ → ℕ) (flow : ℕ → ℕ) (n : ℕ) where
@@ -109,20 +113,36 @@ module _ (t : Tree) (discount : ℕ → ℕ → ℕ) (flow : ℕ → ℕ) (n : �
     unfolding exerciseRow
     engine-option-last rows k = option-last (engine t discount) flow n side strike rows k
 
+    pub engine-listed-before :
+        (rows : Schedule) (i : ℕ) → i < rows .last → rows .listed i ≡ true → (k : ℕ) →
+        option (engine t discount) flow n side strike rows i k
+        ≡ max (outgoing (t .step i) (option (engine t discount) flow n side strike rows (suc i)) k / 600000000 * discount i k / one)
+        (exercise side strike (bareBond (engine t discount) flow n i k))
+    unfolding roll nodeRoll roundDown exerciseRow
+    engine-listed-before rows i h e k = listed-before (engine t discount) flow n side strike rows i h k e
+
+    pub engine-unlisted-before :
+        (rows : Schedule) (i : ℕ) → i < rows .last → rows .listed i ≡ false → (k : ℕ) →
+        option (engine t discount) flow n side strike rows i k
+        ≡ outgoing (t .step i) (option (engine t discount) flow n side strike rows (suc i)) k / 600000000 * discount i k / one
+    unfolding roll nodeRoll roundDown
+    engine-unlisted-before rows i h e k = unlisted-before (engine t discount) flow n side strike rows i h k e
+
+    -- so European rolls before expiry, American takes the larger
     pub engine-european-before :
         (i : ℕ) → i < expiry → (k : ℕ) →
         option (engine t discount) flow n side strike (european expiry) i k
         ≡ outgoing (t .step i) (option (engine t discount) flow n side strike (european expiry) (suc i)) k / 600000000 * discount i k / one
-    unfolding european heldOrExercised roll nodeRoll roundDown
-    engine-european-before i h k = option-before (engine t discount) flow n side strike (european expiry) i h k
+    engine-european-before i h k =
+        engine-unlisted-before (european expiry) i (omega (arith, european-last expiry)) (european-listed expiry i h) k
 
     pub engine-american-before :
         (i : ℕ) → i < expiry → (k : ℕ) →
         option (engine t discount) flow n side strike (american expiry) i k
         ≡ max (outgoing (t .step i) (option (engine t discount) flow n side strike (american expiry) (suc i)) k / 600000000 * discount i k / one)
         (exercise side strike (bareBond (engine t discount) flow n i k))
-    unfolding american heldOrExercised roll nodeRoll roundDown exerciseRow
-    engine-american-before i h k = option-before (engine t discount) flow n side strike (american expiry) i h k
+    engine-american-before i h k =
+        engine-listed-before (american expiry) i (omega (arith, american-last expiry)) (american-listed expiry i (omega arith)) k
 
 -- The exact pricer: sum of probability × value, divided by 600,000,000, times discount, divided by one. Row i is held times m^(n - i).
 module _ (t : Tree) (discount : ℕ → ℕ → ℕ) (flow : ℕ → ℕ) (n : ℕ) where
@@ -150,20 +170,35 @@ module _ (t : Tree) (discount : ℕ → ℕ → ℕ) (flow : ℕ → ℕ) (n : �
     unfolding exerciseRow
     exact-option-last rows k = option-last (exact t discount) flow n side strike rows k
 
+    pub exact-listed-before :
+        (rows : Schedule) (i : ℕ) → i < rows .last → rows .listed i ≡ true → (k : ℕ) →
+        option (exact t discount) flow n side strike rows i k
+        ≡ max (discount i k * outgoing (t .step i) (option (exact t discount) flow n side strike rows (suc i)) k)
+        (exercise side (strike * unit ^ (n - i)) (bareBond (exact t discount) flow n i k))
+    unfolding exactRoll exerciseRow
+    exact-listed-before rows i h e k = listed-before (exact t discount) flow n side strike rows i h k e
+
+    pub exact-unlisted-before :
+        (rows : Schedule) (i : ℕ) → i < rows .last → rows .listed i ≡ false → (k : ℕ) →
+        option (exact t discount) flow n side strike rows i k
+        ≡ discount i k * outgoing (t .step i) (option (exact t discount) flow n side strike rows (suc i)) k
+    unfolding exactRoll
+    exact-unlisted-before rows i h e k = unlisted-before (exact t discount) flow n side strike rows i h k e
+
     pub exact-european-before :
         (i : ℕ) → i < expiry → (k : ℕ) →
         option (exact t discount) flow n side strike (european expiry) i k
         ≡ discount i k * outgoing (t .step i) (option (exact t discount) flow n side strike (european expiry) (suc i)) k
-    unfolding european heldOrExercised exactRoll
-    exact-european-before i h k = option-before (exact t discount) flow n side strike (european expiry) i h k
+    exact-european-before i h k =
+        exact-unlisted-before (european expiry) i (omega (arith, european-last expiry)) (european-listed expiry i h) k
 
     pub exact-american-before :
         (i : ℕ) → i < expiry → (k : ℕ) →
         option (exact t discount) flow n side strike (american expiry) i k
         ≡ max (discount i k * outgoing (t .step i) (option (exact t discount) flow n side strike (american expiry) (suc i)) k)
         (exercise side (strike * unit ^ (n - i)) (bareBond (exact t discount) flow n i k))
-    unfolding american heldOrExercised exactRoll exerciseRow
-    exact-american-before i h k = option-before (exact t discount) flow n side strike (american expiry) i h k
+    exact-american-before i h k =
+        exact-listed-before (american expiry) i (omega (arith, american-last expiry)) (american-listed expiry i (omega arith)) k
 
   -- payoffs on a row: the value on that row, and one row before
   pub exact-payoff-last : (payoff : ℕ → ℕ) (i k : ℕ) → payoffValue (exact t discount) payoff 0 i k ≡ payoff k

@@ -1,6 +1,8 @@
 -- The promises are kept.
 -- Assumes nothing.
-use Rattle.pricing.proofs.Accuracy.{bond-within-bound, bond-at-most-exact, bond-bound-a-step, option-within-bound, option-bound-a-step}
+use Rattle.pricing.proofs.Accuracy.{bond-within-bound, bond-at-most-exact, bond-bound-a-step}
+use Rattle.pricing.proofs.Accuracy.{option-within-bound, option-bound-a-step, dated-within-bound, dated-bound-a-step}
+use Rattle.pricing.proofs.OptionLaws.{kind-is-list}
 use Rattle.promises.specs.Promises.{Promises, PricePromises}
 use Rattle.promises.proofs.TreeKept.{tree-kept}
 use Rattle.promises.proofs.RowsKept.{engine-kept, exact-kept, bound-kept, priced-kept}
@@ -18,11 +20,12 @@ prices-kept =
       bond-accurate =
           λ n b discounts flows z.
           record { never-above = bond-at-most-exact n b discounts flows z; short = bond-within-bound n b discounts flows z .below };
-      option-accurate =
-          λ n b discounts flows kind expiry strike z.
-          option-within-bound n b discounts flows kind expiry strike z;
+      option-accurate = option-within-bound;
+      dated-accurate = dated-within-bound;
+      kinds-are-lists = kind-is-list;
       bond-a-step = bond-bound-a-step;
       option-a-step = option-bound-a-step;
+      dated-a-step = dated-bound-a-step;
       payoffs-accurate = payoffs-kept;
       fit-stored = fit-unaltered;
     }

@@ -8,7 +8,7 @@ use Rattle.pricing_laws.specs.Pricer.{Side}
 use Rattle.pricing_laws.proofs.Recurrences as rows
 use Rattle.price_bound.specs.PriceBound.{treeErrorBound}
 use Rattle.pricing.specs.Prices.{bondValue, optionValue}
-use Rattle.pricing.specs.Exact.{exactBond, exactOption}
+use Rattle.pricing.specs.Exact.{exactBond, exactOption, exactDated}
 use Rattle.pricing.proofs.Accuracy as prices
 use Rattle.promises.specs.Promises.{EngineRows, ExactRows, BoundRows, PricedByRows}
 
@@ -20,6 +20,8 @@ module _ (t : Tree) (discount : ℕ → ℕ → ℕ) (flow : ℕ → ℕ) (n : �
         bond-before = rows.engine-bond-before t discount flow n;
         bare-before = rows.engine-bare-before t discount flow n;
         option-last = rows.engine-option-last t discount flow n side strike expiry;
+        listed-before = rows.engine-listed-before t discount flow n side strike expiry;
+        unlisted-before = rows.engine-unlisted-before t discount flow n side strike expiry;
         european-before = rows.engine-european-before t discount flow n side strike expiry;
         american-before = rows.engine-american-before t discount flow n side strike expiry;
       }
@@ -31,6 +33,8 @@ module _ (t : Tree) (discount : ℕ → ℕ → ℕ) (flow : ℕ → ℕ) (n : �
         bond-before = rows.exact-bond-before t discount flow n;
         bare-before = rows.exact-bare-before t discount flow n;
         option-last = rows.exact-option-last t discount flow n side strike expiry;
+        listed-before = rows.exact-listed-before t discount flow n side strike expiry;
+        unlisted-before = rows.exact-unlisted-before t discount flow n side strike expiry;
         european-before = rows.exact-european-before t discount flow n side strike expiry;
         american-before = rows.exact-american-before t discount flow n side strike expiry;
         payoff-last = rows.exact-payoff-last t discount flow n;
@@ -41,13 +45,16 @@ pub bound-kept : (t : Tree) (discount : ℕ → ℕ → ℕ) (n : ℕ) → Bound
 bound-kept t discount n = record { last = rows.price-error-bound-last t discount n; before = rows.price-error-bound-before t discount n }
 
 pub priced-kept : (n b : ℕ) (discounts flows : List ℕ) → PricedByRows n b discounts flows
-unfolding bondValue optionValue treeErrorBound exactBond exactOption
+unfolding bondValue optionValue treeErrorBound exactBond exactOption exactDated
 priced-kept n b discounts flows =
     record {
       bond-is = λ z. prices.bond-given n b discounts flows z .value;
       bond-bound = λ z. prices.bond-given n b discounts flows z .bound;
       option-is = λ kind expiry strike z. prices.option-given n b discounts flows kind expiry strike z .value;
       option-bound = λ kind expiry strike z. prices.option-given n b discounts flows kind expiry strike z .bound;
+      dated-is = λ side dates strike z. prices.dated-given n b discounts flows side dates strike z .value;
+      dated-bound = λ side dates strike z. prices.dated-given n b discounts flows side dates strike z .bound;
       exact-bond-is = refl;
       exact-option-is = λ kind expiry strike. refl;
+      exact-dated-is = λ side dates strike. refl;
     }

@@ -2,6 +2,7 @@
 -- answer that an entry's contract gives, where its number is 0. m is 600,000,000 × one; the exact pricer's values are held times powers of m.
 -- Assumes nothing.
 use mathlib.Core.Path.{_≡_}
+use mathlib.Core.Bool.{true, false}
 use mathlib.Core.List.{List, [], _∷_}
 use mathlib.Core.Logic.{_≢_}
 use Prim.Native.Nat.{ℕ, suc, _+_, _-_, _*_, _/_, _^_, _≤_, _<_, max}
@@ -36,10 +37,10 @@ use Rattle.fitting.specs.Entry.{fitNumber, fitDiscount, fitPrice, fitMemory, fi
 use Rattle.fit_laws.specs.StatePrices.{exactStatePrice}
 use Rattle.state_price_bound.specs.ErrorBound.{statePriceErrorBoundAnswer}
 use Rattle.pricing_laws.specs.Pricer.{Side, Schedule, bond, bareBond, exercise, option, payoffValue}
-use Rattle.pricing_laws.specs.Schedule.{european, american, sideOf, scheduleOf}
+use Rattle.pricing_laws.specs.Schedule.{european, american, sideOf, scheduleOf, kindSide, kindDates, numberedSide, datedSchedule}
 use Rattle.pricing_laws.specs.TreePricer.{engine, exact, greatestDiscount, priceErrorBound}
-use Rattle.pricing.specs.Prices.{flowAt, bondPrice, optionPrice}
-use Rattle.pricing.specs.Exact.{exactBond, exactOption, exactPayoff}
+use Rattle.pricing.specs.Prices.{flowAt, bondPrice, optionPrice, datedPrice}
+use Rattle.pricing.specs.Exact.{exactBond, exactOption, exactDated, exactPayoff}
 use Rattle.valuation.specs.Entries.{valueByStatePricesAnswer, valuationErrorBoundAnswer}
 
 -- ---- branching, spacing, factors, rates and fit
@@ -117,8 +118,8 @@ pub record Unaltered (f n b s : ℕ) (kinds : List ℕ) (figures : List Float) (
   pub prices-kept : (k : ℕ) → k < nodeCount b r → values prices k ≡ fitPrice f n b s kinds figures r k
 
 -- The engine row by row: the sum of probability × later value, divided by 600,000,000, down; then × discount / one, down. Row n is its flow,
--- an earlier row the rolled value plus its flow; without its flow the bond is the rolled value. At expiry the exercise value, on the bond without the
--- flow of its row; earlier, European rolls, American takes the larger.
+-- an earlier row the rolled value plus its flow; without its flow the bond is the rolled value. On an option's last row the exercise value, on the bond
+-- without the flow of its row; earlier, listed rows take the larger of roll and exercise and the rest roll. So European rolls, American takes the larger.
 pub record EngineRows (t : Tree) (discount : ℕ → ℕ → ℕ) (flow : ℕ → ℕ) (n : ℕ) (side : Side) (strike expiry : ℕ) : Type 0 where
   pub bond-last : (k : ℕ) → bond (engine t discount) flow n n k ≡ flow n
   pub bond-before : (i : ℕ) → i < n → (k : ℕ) →
@@ -128,6 +129,13 @@ pub record EngineRows (t : Tree) (discount : ℕ → ℕ → ℕ) (flow : ℕ �
       bareBond (engine t discount) flow n i k ≡ outgoing (t .step i) (bond (engine t discount) flow n (suc i)) k / 600000000 * discount i k / one
   pub option-last : (rows : Schedule) (k : ℕ) →
       option (engine t discount) flow n side strike rows (rows .last) k ≡ exercise side strike (bareBond (engine t discount) flow n (rows .last) k)
+  pub listed-before : (rows : Schedule) (i : ℕ) → i < rows .last → rows .listed i ≡ true → (k : ℕ) →
+      option (engine t discount) flow n side strike rows i k
+      ≡ max (outgoing (t .step i) (option (engine t discount) flow n side strike rows (suc i)) k / 600000000 * discount i k / one)
+      (exercise side strike (bareBond (engine t discount) flow n i k))
+  pub unlisted-before : (rows : Schedule) (i : ℕ) → i < rows .last → rows .listed i ≡ false → (k : ℕ) →
+      option (engine t discount) flow n side strike rows i k
+      ≡ outgoing (t .step i) (option (engine t discount) flow n side strike rows (suc i)) k / 600000000 * discount i k / one
   pub european-before : (i : ℕ) → i < expiry → (k : ℕ) →
       option (engine t discount) flow n side strike (european expiry) i k
       ≡ outgoing (t .step i) (option (engine t discount) flow n side strike (european expiry) (suc i)) k / 600000000 * discount i k / one
@@ -146,6 +154,13 @@ pub record ExactRows (t : Tree) (discount : ℕ → ℕ → ℕ) (flow : ℕ →
   pub option-last : (rows : Schedule) (k : ℕ) →
       option (exact t discount) flow n side strike rows (rows .last) k
       ≡ exercise side (strike * unit ^ (n - rows .last)) (bareBond (exact t discount) flow n (rows .last) k)
+  pub listed-before : (rows : Schedule) (i : ℕ) → i < rows .last → rows .listed i ≡ true → (k : ℕ) →
+      option (exact t discount) flow n side strike rows i k
+      ≡ max (discount i k * outgoing (t .step i) (option (exact t discount) flow n side strike rows (suc i)) k)
+      (exercise side (strike * unit ^ (n - i)) (bareBond (exact t discount) flow n i k))
+  pub unlisted-before : (rows : Schedule) (i : ℕ) → i < rows .last → rows .listed i ≡ false → (k : ℕ) →
+      option (exact t discount) flow n side strike rows i k
+      ≡ discount i k * outgoing (t .step i) (option (exact t discount) flow n side strike rows (suc i)) k
   pub european-before : (i : ℕ) → i < expiry → (k : ℕ) →
       option (exact t discount) flow n side strike (european expiry) i k
       ≡ discount i k * outgoing (t .step i) (option (exact t discount) flow n side strike (european expiry) (suc i)) k
@@ -174,10 +189,18 @@ pub record PricedByRows (n b : ℕ) (discounts flows : List ℕ) : Type 0 where
       ≡ option (engine (rateTree b) (stored b discounts)) (flowAt flows) n (sideOf kind) strike (scheduleOf kind expiry) 0 0
   pub option-bound : (kind expiry strike : ℕ) → optionPrice n b discounts flows kind expiry strike .number ≡ 0 →
       optionPrice n b discounts flows kind expiry strike .bound ≡ priceErrorBound (rateTree b) (stored b discounts) n 0
+  pub dated-is : (side : ℕ) (dates : List ℕ) (strike : ℕ) → datedPrice n b discounts flows side dates strike .number ≡ 0 →
+      datedPrice n b discounts flows side dates strike .value
+      ≡ option (engine (rateTree b) (stored b discounts)) (flowAt flows) n (numberedSide side) strike (datedSchedule dates) 0 0
+  pub dated-bound : (side : ℕ) (dates : List ℕ) (strike : ℕ) → datedPrice n b discounts flows side dates strike .number ≡ 0 →
+      datedPrice n b discounts flows side dates strike .bound ≡ priceErrorBound (rateTree b) (stored b discounts) n 0
   pub exact-bond-is : exactBond n b discounts flows ≡ bond (exact (rateTree b) (stored b discounts)) (flowAt flows) n 0 0
   pub exact-option-is : (kind expiry strike : ℕ) →
       exactOption n b discounts flows kind expiry strike
       ≡ option (exact (rateTree b) (stored b discounts)) (flowAt flows) n (sideOf kind) strike (scheduleOf kind expiry) 0 0
+  pub exact-dated-is : (side : ℕ) (dates : List ℕ) (strike : ℕ) →
+      exactDated n b discounts flows side dates strike
+      ≡ option (exact (rateTree b) (stored b discounts)) (flowAt flows) n (numberedSide side) strike (datedSchedule dates) 0 0
 
 -- Prices on any accepted tree, whoever lent its discounts; and payoffs valued by fitted state prices, unaltered since.
 pub record PricePromises : Type 0 where
@@ -195,12 +218,22 @@ pub record PricePromises : Type 0 where
       optionPrice n b discounts flows kind expiry strike .number ≡ 0 →
       Within (optionPrice n b discounts flows kind expiry strike .bound) (unit ^ n) (optionPrice n b discounts flows kind expiry strike .value)
       (exactOption n b discounts flows kind expiry strike)
+  -- options on listed rows (document 02, request (iii)); a kind and its list give one whole answer wherever expiry is below n
+  pub dated-accurate : (n b : ℕ) (discounts flows : List ℕ) (side : ℕ) (dates : List ℕ) (strike : ℕ) →
+      datedPrice n b discounts flows side dates strike .number ≡ 0 →
+      Within (datedPrice n b discounts flows side dates strike .bound) (unit ^ n) (datedPrice n b discounts flows side dates strike .value)
+      (exactDated n b discounts flows side dates strike)
+  pub kinds-are-lists : (n b : ℕ) (discounts flows : List ℕ) (kind expiry strike : ℕ) → 1 ≤ kind → kind ≤ 4 → expiry < n →
+      optionPrice n b discounts flows kind expiry strike ≡ datedPrice n b discounts flows (kindSide kind) (kindDates kind expiry) strike
   -- at most 3 billionths a step
   pub bond-a-step : (n b : ℕ) (discounts flows : List ℕ) → bondPrice n b discounts flows .number ≡ 0 → NoneAboveOne n b discounts →
       bondPrice n b discounts flows .bound ≤ 3 * n
   pub option-a-step : (n b : ℕ) (discounts flows : List ℕ) (kind expiry strike : ℕ) →
       optionPrice n b discounts flows kind expiry strike .number ≡ 0 → NoneAboveOne n b discounts →
       optionPrice n b discounts flows kind expiry strike .bound ≤ 3 * n
+  pub dated-a-step : (n b : ℕ) (discounts flows : List ℕ) (side : ℕ) (dates : List ℕ) (strike : ℕ) →
+      datedPrice n b discounts flows side dates strike .number ≡ 0 → NoneAboveOne n b discounts →
+      datedPrice n b discounts flows side dates strike .bound ≤ 3 * n
   -- whatever was fitted, payoffs valued by the fitted state prices of any row, against the exact price on the same fit's node discounts
   pub payoffs-accurate : (f n b s : ℕ) (rows kinds : List ℕ) (figures : List Float) (room-discounts room-prices : ℕ) →
       fitNumber f n b s rows kinds figures room-discounts room-prices ≡ 0 →

@@ -8,12 +8,11 @@ use Prim.Native.Nat.{ℕ, _≤_}
 use Rattle.arithmetic.proofs.CauseLaws.{lowest-none}
 use Rattle.limits.specs.Limits.{mostDiscounts, mostStatePrices}
 use Rattle.fitting.specs.Entry.{fitNumber}
-use Rattle.pricing.specs.Prices.{optionPrice}
 use Rattle.job_record.specs.declared.Job.{Job}
 use Rattle.job_record.specs.Reader.{readingOf}
 use Rattle.job_fit.specs.RecordFit.{jobRows, jobKinds, jobFigures, jobFlows, jobDiscounts}
 use Rattle.job_fit.proofs.FitLaws.{fit-none}
-use Rattle.job_prices.specs.JobPrices.{hasOption, jobBond}
+use Rattle.job_prices.specs.JobPrices.{hasOption, taggedOption, jobBond}
 use Rattle.pricing.proofs.Accuracy.{first-none}
 use Rattle.job_prices.proofs.Accepted.{record-accepted}
 use Rattle.sheet_room.specs.Room.{sheetRoom}
@@ -27,7 +26,7 @@ pub record AcceptedJob (job : Job) (room : ℕ) : Type 0 where
   pub room-enough : sheetRoom ≤ room
   pub bond : jobBond job .number ≡ 0
   pub option-priced : hasOption (job .option) ≡ true →
-      optionPrice (job .steps) (job .reversion) (jobDiscounts job) (jobFlows job) (job .option .kind) (job .option .expiry) (job .option .strike) .number ≡ 0
+      taggedOption (job .steps) (job .reversion) (jobDiscounts job) (jobFlows job) (job .option) .number ≡ 0
 
 pub sheet-accepted : (bytes : List ℕ) (room : ℕ) → sheetNumber bytes room ≡ 0 → (readingOf bytes .number ≡ 0) × (jobNumber (readingOf bytes .job) room ≡ 0)
 unfolding sheetNumber

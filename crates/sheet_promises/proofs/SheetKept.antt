@@ -3,9 +3,9 @@
 use mathlib.Core.Path.{_≡_, refl, ap, ap₂, _∙_}
 use mathlib.Core.Bool.{Bool, true, false, cond}
 use mathlib.Core.List.{List, [], _∷_}
-use Prim.Native.Nat.{ℕ, suc, _*_, _+_, _/_, _≤_, _<_}
+use Prim.Native.Nat.{ℕ, suc, _*_, _+_, _/_, _^_, _≤_, _<_}
 use native.Mathlib.Omega.{arith}
-use lib.Dec.{ltb}
+use lib.Dec.{eqb, ltb}
 use lib.IntN.{ℤ, pos}
 use lib.ListN.{length}
 use lib.Signed.{ltZ}
@@ -13,6 +13,8 @@ use Rattle.arithmetic.specs.Rounding.{one}
 use Rattle.arithmetic.specs.Row.{values}
 use Rattle.arithmetic.proofs.RowLaws.{values-row}
 use Rattle.arithmetic.proofs.PartLaws.{part-value}
+use Rattle.arithmetic.specs.Within.{Within}
+use Rattle.tree.specs.Tree.{unit}
 use Rattle.limits.specs.Limits.{mostDiscounts, mostStatePrices}
 use Rattle.lattice.specs.Shape.{halfWidth, nodeCount, rowStart}
 use Rattle.lattice.specs.RateTree.{nodeOfIndex, node}
@@ -25,10 +27,12 @@ use Rattle.step_rate.specs.declared.Rate.{Rate}
 use Rattle.step_rate.proofs.RateLaws.{answer-known}
 use Rattle.fitting.specs.Entry.{fitPrice}
 use Rattle.fitting.proofs.FittedTree.{fit-discounts-lent}
+use Rattle.pricing.specs.declared.Price.{Price}
+use Rattle.job_record.specs.declared.OptionRecord.{OptionRecord}
 use Rattle.job_record.specs.declared.Job.{Job}
 use Rattle.job_record.specs.Reader.{readingOf}
-use Rattle.job_fit.specs.RecordFit.{jobRows, jobKinds, jobFigures, jobQuotes, jobDiscounts, jobStatePrices}
-use Rattle.job_prices.specs.JobPrices.{hasOption, jobOption}
+use Rattle.job_fit.specs.RecordFit.{jobRows, jobKinds, jobFigures, jobQuotes, jobDiscounts, jobStatePrices, jobFlows}
+use Rattle.job_prices.specs.JobPrices.{hasOption, taggedOption, jobOption}
 use Rattle.text_laws.specs.Decimal.{signOf}
 use Rattle.text_laws.specs.Lines.{nodeLine, lineOfNode}
 use Rattle.text_laws.proofs.Signs.{sign-negative, sign-none}
@@ -39,7 +43,7 @@ use Rattle.sheet_laws.proofs.PartLaws.{part-size}
 use Rattle.sheet_laws.proofs.FittedLaws.{total-row}
 use Rattle.sheet_laws.proofs.Accepted.{AcceptedJob, sheet-accepted, job-accepted}
 use Rattle.promises.proofs.Kept.{promises-kept}
-use Rattle.sheet_promises.specs.SheetPromises.{NodeShown, RowShown, SheetShown, SheetPromises}
+use Rattle.sheet_promises.specs.SheetPromises.{NodeShown, RowShown, exactTagged, SheetShown, SheetPromises}
 
 -- the sign of a printed rate
 sign-shown : (v : ℕ) → rateAnswer v .number ≡ 0 → signOf (rateAnswer v .value) ≡ cond (ltb one v) (45 ∷ []) []
@@ -51,6 +55,21 @@ sign-shown v z = go (ltb one v) refl
     go : (t : Bool) → ltb one v ≡ t → signOf (rateAnswer v .value) ≡ cond t (45 ∷ []) []
     go true e = sign-negative (rateAnswer v .value) (told ∙ e)
     go false e = sign-none (rateAnswer v .value) (told ∙ e)
+
+-- an option that is priced is near its exact price, whichever tag it has
+tagged-near : (n b : ℕ) (discounts flows : List ℕ) (option : OptionRecord) → taggedOption n b discounts flows option .number ≡ 0 →
+    Within (taggedOption n b discounts flows option .bound) (unit ^ n) (taggedOption n b discounts flows option .value)
+    (exactTagged n b discounts flows option)
+unfolding taggedOption exactTagged
+tagged-near n b discounts flows option =
+    go (eqb (option .tag) 8) _ _ _ _ (promises-kept .prices .option-accurate n b discounts flows _ _ _)
+    (promises-kept .prices .dated-accurate n b discounts flows _ _ _)
+  where
+    go : (t : Bool) (p q : Price) (x y : ℕ) → (p .number ≡ 0 → Within (p .bound) (unit ^ n) (p .value) x) →
+        (q .number ≡ 0 → Within (q .bound) (unit ^ n) (q .value) y) → cond t p q .number ≡ 0 →
+        Within (cond t p q .bound) (unit ^ n) (cond t p q .value) (cond t x y)
+    go true p q x y near other z = near z
+    go false p q x y near other z = other z
 
 -- half of a row's node count is its half width
 half-of : (w : ℕ) → (2 * w + 1) / 2 ≡ w
@@ -127,7 +146,7 @@ module _ (job : Job) (room : ℕ) (known : AcceptedJob job room) where
         bond-given = known .bond;
         bond-near = promises-kept .prices .bond-accurate n b (jobDiscounts job) _ (known .bond);
         option-given = option-number;
-        option-near = λ e. rw e (promises-kept .prices .option-accurate n b (jobDiscounts job) _ _ _ _ (known .option-priced e));
+        option-near = λ e. rw e (tagged-near n b (jobDiscounts job) (jobFlows job) (job .option) (known .option-priced e));
       }
 
 -- every job whose sheet is not refused

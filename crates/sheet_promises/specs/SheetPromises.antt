@@ -5,7 +5,7 @@ use mathlib.Core.Path.{_≡_}
 use mathlib.Core.Bool.{true, cond}
 use mathlib.Core.List.{List, [], _∷_, _++_}
 use Prim.Native.Nat.{ℕ, suc, _^_, _<_}
-use lib.Dec.{ltb}
+use lib.Dec.{eqb, ltb}
 use Rattle.arithmetic.specs.Within.{Within}
 use Rattle.arithmetic.specs.Rounding.{one}
 use Rattle.arithmetic.specs.Row.{values, sumOf}
@@ -15,11 +15,12 @@ use Rattle.lattice.specs.RateTree.{node}
 use Rattle.lent_tree.specs.LentTree.{stored}
 use Rattle.step_rate.specs.StepRate.{rateAnswer}
 use Rattle.state_price_bound.specs.ErrorBound.{statePriceErrorBoundAnswer}
-use Rattle.pricing.specs.Exact.{exactBond, exactOption}
+use Rattle.pricing.specs.Exact.{exactBond, exactOption, exactDated}
+use Rattle.job_record.specs.declared.OptionRecord.{OptionRecord}
 use Rattle.job_record.specs.declared.Job.{Job}
 use Rattle.job_record.specs.Reader.{readingOf}
 use Rattle.job_fit.specs.RecordFit.{jobQuotes, jobDiscounts, jobStatePrices, jobFlows}
-use Rattle.job_prices.specs.JobPrices.{hasOption, jobBond, jobOption}
+use Rattle.job_prices.specs.JobPrices.{hasOption, optionDates, jobBond, jobOption}
 use Rattle.text_laws.specs.Decimal.{signOf}
 use Rattle.text_laws.specs.Lines.{nodeLine}
 use Rattle.node_lines.specs.Rows.{nodeText}
@@ -41,6 +42,12 @@ pub record RowShown (n b : ℕ) (quotes discounts prices : List ℕ) (i : ℕ) :
   pub bounded : statePriceErrorBoundAnswer n b discounts (suc i) .number ≡ 0
   pub repriced : Repriced (values quotes i) (sumOf (rowPart b prices (suc i)))
 
+-- the exact price of a job's option: of a kind and an expiry by tag 8, of a side and listed rows by tag 10
+unfoldable pub exactTagged : ℕ → ℕ → List ℕ → List ℕ → OptionRecord → ℕ
+exactTagged n b discounts flows option =
+    cond (eqb (option .tag) 8) (exactOption n b discounts flows (option .kind) (option .expiry) (option .strike))
+    (exactDated n b discounts flows (option .kind) (optionDates option) (option .strike))
+
 -- the sheet of a job
 pub record SheetShown (job : Job) (text : List ℕ) : Type 0 where
   pub lines :
@@ -58,7 +65,7 @@ pub record SheetShown (job : Job) (text : List ℕ) : Type 0 where
   pub option-near :
       hasOption (job .option) ≡ true →
       Within (jobOption job .bound) (unit ^ job .steps) (jobOption job .value)
-      (exactOption (job .steps) (job .reversion) (jobDiscounts job) (jobFlows job) (job .option .kind) (job .option .expiry) (job .option .strike))
+      (exactTagged (job .steps) (job .reversion) (jobDiscounts job) (jobFlows job) (job .option))
 
 -- of a job's bytes
 abbrev pub SheetPromises : List ℕ → Type 0

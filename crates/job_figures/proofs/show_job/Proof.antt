@@ -17,13 +17,13 @@ start c = c .before .before .before .before
 
 -- each column's first entries are as many as the steps
 kinds-lent : (c : tie.After-flows) → let job = start c .args .job in length (take (job .steps) (job .kinds)) ≡ job .steps
-kinds-lent c = let sound = start c .pre in lent-length _ _ _ (sound .kinds) (sound .steps)
+kinds-lent c = let sound = start c .pre in lent-length _ _ _ _ (sound .kinds) (omega (arith, sound .steps))
 
 figures-lent : (c : tie.After-flows) → let job = start c .args .job in length (take (job .steps) (job .figures)) ≡ job .steps
-figures-lent c = let sound = start c .pre in lent-length _ _ _ (sound .figures) (sound .steps)
+figures-lent c = let sound = start c .pre in lent-length _ _ _ _ (sound .figures) (omega (arith, sound .steps))
 
 flows-lent : (c : tie.After-flows) → let job = start c .args .job in length (take (job .steps) (job .flows)) ≡ job .steps
-flows-lent c = let sound = start c .pre in lent-length _ _ _ (sound .flows) (sound .steps)
+flows-lent c = let sound = start c .pre in lent-length _ _ _ _ (sound .flows) (omega (arith, sound .steps))
 
 array-share-prefix-kinds : tie.Need-array-share-prefix-kinds
 array-share-prefix-kinds c =

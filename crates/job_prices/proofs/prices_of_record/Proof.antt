@@ -1,9 +1,24 @@
 -- `job_prices::prices_of_record` meets its contract.
 -- Assumes nothing.
+use mathlib.Core.Path.{_≡_, sym, _∙_}
 use borrow.Author.Needs.{needs}
+use Rattle.job_prices.specs.JobPrices.{optionForm}
 use Rattle.job_prices.proofs.PriceLaws as laws
 use Rattle.job_prices.proofs.prices_of_record.Statement.{statement}
 use Rattle.job_prices.proofs.prices_of_record.Tie as tie
+
+option-form-requires : tie.Need-option-form-requires
+option-form-requires c κs = search needs
+
+refused-requires : tie.Need-refused-requires
+refused-requires c κs = search needs
+
+returns : tie.Need-returns
+returns c =
+    let refusing = c .before in
+    let formed = refusing .before in
+    let a = formed .before .before .before .before .args in
+    laws.form-refused (a .job) (a .discounts .now) (a .state-prices .now) _ (formed .option-form .ensures) (refusing .if1 .taken) _ (c .refused .ensures)
 
 discounts-requires : tie.Need-discounts-requires
 discounts-requires c κs = search needs
@@ -26,8 +41,8 @@ memory-cause-requires c κs = search needs
 lowest-cause-requires : tie.Need-lowest-cause-requires
 lowest-cause-requires c κs = search needs
 
-refused-requires : tie.Need-refused-requires
-refused-requires c κs = search needs
+refused-requires-2 : tie.Need-refused-requires-2
+refused-requires-2 c κs = search needs
 
 -- where the lowest cause is known: the record is fitted, in memories of the function's own
 abbrev fitted : tie.After-lowest-cause → tie.After-fit-of-record
@@ -36,20 +51,27 @@ fitted c = c .before .before .before .before
 abbrev memories : tie.After-lowest-cause → tie.After-state-prices
 memories c = fitted c .before .before .before
 
-abbrev start : tie.After-lowest-cause → tie.Start
-start c = memories c .before .before .before .before
+abbrev formed : tie.After-lowest-cause → tie.Else1
+formed c = memories c .before .before
 
-returns : tie.Need-returns
-returns c =
+abbrev start : tie.After-lowest-cause → tie.Start
+start c = formed c .before .before .before .before .before
+
+-- the option has a job's form
+form-none : (c : tie.After-lowest-cause) → let a = start c .args in optionForm (a .job .option .tag) (a .job .option .count) ≡ 0
+form-none c = sym (formed c .before .option-form .ensures) ∙ formed c .if1 .left
+
+returns-2 : tie.Need-returns-2
+returns-2 c =
     let refusing = c .before in
     let found = refusing .before in
     let a = start found .args in
     let fit = fitted found .fit-of-record in
     let own-d = memories found .before .discounts in
     let own-p = memories found .state-prices in
-    laws.record-refused (a .job) (own-d .result) (own-p .result) _ _ (fit .result) (own-d .ensures) (own-p .ensures) (fit .ensures)
+    laws.record-refused (a .job) (form-none found) (own-d .result) (own-p .result) _ _ (fit .result) (own-d .ensures) (own-p .ensures) (fit .ensures)
     (a .discounts .now) (a .state-prices .now) _ _ (found .before .memory-cause .ensures) (found .lowest-cause .ensures) _
-    (c .refused .ensures) (refusing .if1 .taken)
+    (c .refused2 .ensures) (refusing .if2 .taken)
 
 discounts-needed-requires : tie.Need-discounts-needed-requires
 discounts-needed-requires c κs = search needs
@@ -71,8 +93,8 @@ held c =
     let fit = fitted found .fit-of-record in
     let own-d = memories found .before .discounts in
     let own-p = memories found .state-prices in
-    laws.held (a .job) (own-d .result) (own-p .result) _ _ (fit .result) (own-d .ensures) (own-p .ensures) (fit .ensures)
-    (a .discounts .now) (a .state-prices .now) _ _ (found .before .memory-cause .ensures) (found .lowest-cause .ensures) (accepted .if1 .left)
+    laws.held (a .job) (form-none found) (own-d .result) (own-p .result) _ _ (fit .result) (own-d .ensures) (own-p .ensures) (fit .ensures)
+    (a .discounts .now) (a .state-prices .now) _ _ (found .before .memory-cause .ensures) (found .lowest-cause .ensures) (accepted .if2 .left)
     (c .before .discounts-needed .result) (c .state-prices-needed .result) (c .before .discounts-needed .ensures) (c .state-prices-needed .ensures)
 
 array-share-prefix-fitted-discounts : tie.Need-array-share-prefix-fitted-discounts
@@ -96,8 +118,8 @@ same-length c = search needs
 same-length-2 : tie.Need-same-length-2
 same-length-2 c = search needs
 
-returns-2 : tie.Need-returns-2
-returns-2 c =
+returns-3 : tie.Need-returns-3
+returns-3 c =
     let priced = c .before .before .before .before in
     laws.record-made _ _ _ _ _ _ _ (held (priced .before .before .before .before .before)) _ _ _ (priced .prices-of-tree .ensures)
 
@@ -105,6 +127,9 @@ pub prices-of-record-spec : {M : Type 1} → statement M
 prices-of-record-spec =
     tie.close
     (tie.spec
+    option-form-requires
+    refused-requires
+    returns
     discounts-requires
     state-prices-requires
     slice-aggregate-fit-of-record
@@ -112,8 +137,8 @@ prices-of-record-spec =
     fit-of-record-requires
     memory-cause-requires
     lowest-cause-requires
-    refused-requires
-    returns
+    refused-requires-2
+    returns-2
     discounts-needed-requires
     state-prices-needed-requires
     array-share-prefix-fitted-discounts
@@ -123,4 +148,4 @@ prices-of-record-spec =
     prices-of-tree-requires
     same-length
     same-length-2
-    returns-2)
+    returns-3)

@@ -8,7 +8,7 @@ use lib.ListN.{length}
 use denote.Ref.{now}
 use Rattle.job_record.specs.Form.{mostJobSteps, quotesAt, restAt, stepsOf}
 use Rattle.job_record.specs.Reader.{jobOf}
-use Rattle.job_record.proofs.Forms.{well-body, well-length, body-rest}
+use Rattle.job_record.proofs.Forms.{well-body, well-length, body-rest, dates-few}
 use Rattle.jobs.proofs.job_of.Statement.{statement}
 use Rattle.jobs.proofs.job_of.Tie as tie
 
@@ -63,7 +63,9 @@ long c = well-length _ (start c .pre)
 option-at-requires : tie.Need-option-at-requires
 option-at-requires c κs =
     let formed = body-rest _ quotesAt _ (well-body _ (start c .pre)) in
-    (c .after-fields2 .ensures .1, rw (rest-place c, counted c .number .ensures .0) formed)
+    let few = dates-few _ (start c .pre) in
+    let read = counted c .number .ensures .0 in
+    (c .after-fields2 .ensures .1, rw (rest-place c, read) formed, rw (rest-place c, read) few)
 
 add-number-2 : tie.Need-add-number-2
 add-number-2 c = search needs

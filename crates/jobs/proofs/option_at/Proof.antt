@@ -1,57 +1,44 @@
 -- `jobs::option_at` meets its contract.
 -- Assumes nothing.
 use borrow.Author.Needs.{needs}
-use borrow.Author.Tests.{eq-eqb, ne-eqb}
-use mathlib.Core.Path.{_≡_}
+use mathlib.Core.Path.{sym, _∙_}
 use native.Mathlib.Omega.{arith}
-use lib.ListN.{length}
-use denote.Ref.{now}
-use Rattle.job_record.specs.Form.{afterField, optionWidth}
-use Rattle.job_record.specs.Reader.{optionAt}
-use Rattle.job_record.proofs.Forms.{rest-length}
+use Rattle.job_record.proofs.Forms.{kind-ends, list-head, rest-kind, rest-list, rest-from}
+use Rattle.job_record.proofs.Options.{option-none, option-kind, option-list}
 use Rattle.jobs.proofs.option_at.Statement.{statement}
 use Rattle.jobs.proofs.option_at.Tie as tie
 
+no-option-requires : tie.Need-no-option-requires
+no-option-requires c κs = search needs
+
 returns : tie.Need-returns
-unfolding optionAt
-returns c = simp (eq-eqb _ _ (c .if1 .taken))
+returns c = c .no-option .ensures ∙ sym (option-none _ _ (c .before .if1 .taken))
 
--- the option ends the bytes
-ends : (c : tie.Else1) → length (now (c .before .before .args .bytes)) ≡ afterField (c .before .before .args .at) optionWidth
-ends c = rest-length _ _ (c .before .before .pre .1) (c .if1 .left)
+shared-slice-read-if2 : tie.Need-shared-slice-read-if2
+shared-slice-read-if2 c = omega (arith, rest-from _ _ (c .before .before .before .pre .1))
 
-add-kind-at : tie.Need-add-kind-at
-add-kind-at c = search needs
-
-add-expiry-at : tie.Need-add-expiry-at
-add-expiry-at c = search needs
-
-number-requires : tie.Need-number-requires
-number-requires c κs = omega (arith, ends c)
-
-number-requires-2 : tie.Need-number-requires-2
-number-requires-2 c κs = omega (arith, ends (c .before))
-
-add-number : tie.Need-add-number
-add-number c = search needs
-
-number-requires-3 : tie.Need-number-requires-3
-number-requires-3 c κs = omega (arith, ends (c .before .before))
+kind-option-at-requires : tie.Need-kind-option-at-requires
+kind-option-at-requires c κs =
+    omega (arith, kind-ends _ _ (rest-kind _ _ (c .before .before .before .before .pre .1) (c .before .before .if1 .left) (c .if2 .taken)))
 
 returns-2 : tie.Need-returns-2
-unfolding optionAt
-returns-2 c =
-    simp (ne-eqb _ _ (c .before .before .before .if1 .left), c .before .before .number .ensures .0, c .before .number2 .ensures .0, c .number3 .ensures .0)
+returns-2 c = c .kind-option-at .ensures ∙ sym (option-kind _ _ (c .before .before .before .if1 .left) (c .before .if2 .taken))
+
+list-option-at-requires : tie.Need-list-option-at-requires
+list-option-at-requires c κs =
+    omega (arith, list-head _ _ (rest-list _ _ (c .before .before .before .before .pre .1) (c .before .before .if1 .left) (c .if2 .left)))
+
+returns-3 : tie.Need-returns-3
+returns-3 c = c .list-option-at .ensures ∙ sym (option-list _ _ (c .before .before .before .if1 .left) (c .before .if2 .left))
 
 pub option-at-spec : {M : Type 1} → statement M
 option-at-spec =
     tie.close
     (tie.spec
+    no-option-requires
     returns
-    add-kind-at
-    add-expiry-at
-    number-requires
-    number-requires-2
-    add-number
-    number-requires-3
-    returns-2)
+    shared-slice-read-if2
+    kind-option-at-requires
+    returns-2
+    list-option-at-requires
+    returns-3)

@@ -1,9 +1,9 @@
 -- `jobs::rest_formed` meets its contract.
 -- Assumes nothing.
-use borrow.Author.Tests.{eq-eqb, ne-eqb}
-use Rattle.job_record.specs.Form.{restFormed}
-use Rattle.job_record.proofs.Answers.{passed, failed}
 use borrow.Author.Needs.{needs}
+use borrow.Author.Tests.{eq-eqb, ne-eqb}
+use mathlib.Core.Path.{sym, _∙_}
+use Rattle.job_record.specs.Form.{restFormed}
 use Rattle.jobs.proofs.rest_formed.Statement.{statement}
 use Rattle.jobs.proofs.rest_formed.Tie as tie
 
@@ -11,22 +11,22 @@ returns : tie.Need-returns
 unfolding restFormed
 returns c = simp (eq-eqb _ _ (c .if1 .taken))
 
-field-at-requires : tie.Need-field-at-requires
-field-at-requires c κs = search needs
+kind-formed-requires : tie.Need-kind-formed-requires
+kind-formed-requires c κs = search needs
 
 returns-2 : tie.Need-returns-2
 unfolding restFormed
-returns-2 c = simp (ne-eqb _ _ (c .before .before .if1 .left), failed (c .before .field-at .ensures) (c .if2 .taken))
+returns-2 c = simp (ne-eqb _ _ (c .before .before .if1 .left), sym (c .before .kind-formed .ensures) ∙ c .if2 .taken)
 
-add-result : tie.Need-add-result
-add-result c = search needs
-
-add-result-2 : tie.Need-add-result-2
-add-result-2 c = search needs
+list-formed-requires : tie.Need-list-formed-requires
+list-formed-requires c κs = search needs
 
 returns-3 : tie.Need-returns-3
 unfolding restFormed
-returns-3 c = simp (ne-eqb _ _ (c .before .before .if1 .left), passed (c .before .field-at .ensures) (c .if2 .left))
+returns-3 c =
+    simp (ne-eqb _ _ (c .before .before .before .if1 .left), sym (c .before .before .kind-formed .ensures) ∙ c .before .if2 .left)
+    (c .list-formed .ensures)
 
 pub rest-formed-spec : {M : Type 1} → statement M
-rest-formed-spec = tie.close (tie.spec returns field-at-requires returns-2 add-result add-result-2 returns-3)
+rest-formed-spec =
+    tie.close (tie.spec returns kind-formed-requires returns-2 list-formed-requires returns-3)

@@ -48,7 +48,7 @@ loop-again c =
 returns : tie.Need-returns Inv-loop μ-loop
 returns c =
     let end : c .before .loop .i ≡ c .before .before .before .args .count = omega arith in
-    filled-padded _ _ _ (rw end at (c .before .loop .inv .1))
+    filled-padded _ _ _ _ (rw end at (c .before .loop .inv .1))
 
 pub tags-from-spec : {M : Type 1} → statement M
 tags-from-spec =

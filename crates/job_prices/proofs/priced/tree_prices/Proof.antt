@@ -27,8 +27,8 @@ returns c =
     (bond .ensures)
     (c .prices-of .ensures ∙ none)
 
-bond-and-option-requires : tie.Need-bond-and-option-requires
-bond-and-option-requires c κs = search needs
+both-of-requires : tie.Need-both-of-requires
+both-of-requires c κs = search needs
 
 prices-of-requires-2 : tie.Need-prices-of-requires-2
 prices-of-requires-2 c κs = search needs
@@ -36,11 +36,12 @@ prices-of-requires-2 c κs = search needs
 returns-2 : tie.Need-returns-2
 returns-2 c =
     let a = c .before .before .before .before .before .before .args in
-    let both = c .before .bond-and-option in
-    laws.with-option (a .steps) (a .reversion) (a .discounts .now) (a .flows .now) (a .option) _ (both .result) (c .before .before .if1 .left) (both .ensures)
+    let both = c .before .both-of in
+    laws.with-option (a .steps) (a .reversion) (a .discounts .now) (a .flows .now) (a .option) _ (both .result) (c .before .before .if1 .left)
+    (both .ensures .0) (both .ensures .1)
     (c .prices-of2 .ensures)
 
 pub tree-prices-spec : {M : Type 1} → statement M
 tree-prices-spec =
     tie.close
-    (tie.spec bond-price-requires no-price-requires prices-of-requires returns bond-and-option-requires prices-of-requires-2 returns-2)
+    (tie.spec bond-price-requires no-price-requires prices-of-requires returns both-of-requires prices-of-requires-2 returns-2)

@@ -1,0 +1,36 @@
+-- Exercise dates as the code holds them.
+-- Assumes nothing.
+use Prim.Native.Nat.{ℕ, suc}
+use mathlib.Core.Bool.{cond}
+use mathlib.Core.List.{List, [], _∷_}
+use lib.Dec.{eqb, leb}
+use lib.ListN.{length}
+use Rattle.arithmetic.specs.Row.{row, values, overlay}
+use Rattle.limits.specs.Limits.{mostSteps}
+use Rattle.pricing_laws.specs.Schedule.{inDates, lastDate, kindDates}
+use Rattle.exercise.specs.declared.Terms.{Terms}
+use Rattle.exercise_dates.specs.declared.Dates.{Dates}
+
+-- rows 0 to 60
+abbrev pub rowsOfATree : ℕ
+rowsOfATree = suc mostSteps
+
+-- a mark for each row: 1 where it is listed
+unfoldable pub marksOf : List ℕ → List ℕ
+marksOf dates = row rowsOfATree (λ i. cond (inDates dates i) 1 0)
+
+-- the terms of a dated option: side 1 is a call, and its last row is the list's
+unfoldable pub datedTerms : ℕ → List ℕ → ℕ → Terms
+datedTerms side dates strike = record { call = eqb side 1; strike = strike; last = lastDate dates }
+
+-- a list in the first places of so many rows, zeros after it
+abbrev pub padded : List ℕ → Dates
+padded dates = record { count = length dates; rows = row rowsOfATree (overlay (length dates) (values dates) (λ k. 0)) }
+
+-- the list of a kind; none where no tree has the expiry
+unfoldable pub datesOfKind : ℕ → ℕ → Dates
+datesOfKind kind expiry = padded (cond (leb expiry mostSteps) (kindDates kind expiry) [])
+
+-- every row to expiry
+unfoldable pub datesTo : ℕ → List ℕ
+datesTo expiry = row rowsOfATree (λ i. cond (leb i expiry) i 0)

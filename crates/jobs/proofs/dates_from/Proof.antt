@@ -1,0 +1,64 @@
+-- `jobs::dates_from` meets its contract.
+-- Assumes nothing.
+use borrow.Author.Needs.{needs}
+use mathlib.Core.Path.{_≡_, refl}
+use Prim.Native.Nat.{_-_, _≤_}
+use native.Mathlib.Omega.{arith}
+use lib.ListN.{replicate}
+use Rattle.arithmetic.proofs.RowLaws.{Filled, filled-start, filled-next}
+use Rattle.job_record.specs.Form.{mostDates}
+use Rattle.job_record.specs.Reader.{dateOf}
+use Rattle.job_record.proofs.Columns.{filled-padded}
+use Rattle.jobs.proofs.dates_from.Statement.{statement}
+use Rattle.jobs.proofs.dates_from.Tie as tie
+
+abbrev Inv-loop : tie.InvT-loop
+Inv-loop bytes from count dates₀ i₀ dates i = (i ≤ count) × Filled (replicate mostDates 0) dates (dateOf bytes from) i
+
+abbrev μ-loop : tie.MeasureT-loop
+μ-loop bytes from count dates₀ i₀ dates i = count - i
+
+no-dates-requires : tie.Need-no-dates-requires Inv-loop μ-loop
+no-dates-requires c κs = search needs
+
+loop-holds : tie.Need-loop-holds Inv-loop μ-loop
+loop-holds c = (omega arith, rw (c .no-dates .ensures) (filled-start _ _))
+
+add-dates : tie.Need-add-dates Inv-loop μ-loop
+add-dates c = search needs
+
+shared-slice-read-dates : tie.Need-shared-slice-read-dates Inv-loop μ-loop
+shared-slice-read-dates c = search needs
+
+array-write-dates : tie.Need-array-write-dates Inv-loop μ-loop
+array-write-dates c = search needs
+
+add-i : tie.Need-add-i Inv-loop μ-loop
+add-i c = search needs
+
+loop-less : tie.Need-loop-less Inv-loop μ-loop
+loop-less c = search needs
+
+loop-again : tie.Need-loop-again Inv-loop μ-loop
+loop-again c = (omega arith, filled-next _ _ _ _ _ (c .before .before .loop .inv .1) (search needs) refl)
+
+returns : tie.Need-returns Inv-loop μ-loop
+returns c =
+    let end : c .before .loop .i ≡ c .before .before .before .before .args .count = omega arith in
+    filled-padded _ _ _ _ (rw end at (c .before .loop .inv .1))
+
+pub dates-from-spec : {M : Type 1} → statement M
+dates-from-spec =
+    tie.close
+    (tie.spec
+    Inv-loop
+    μ-loop
+    no-dates-requires
+    loop-holds
+    add-dates
+    shared-slice-read-dates
+    array-write-dates
+    add-i
+    loop-less
+    loop-again
+    returns)

@@ -1,0 +1,16 @@
+-- `pricing::dated_option_price` meets its contract.
+-- Assumes nothing.
+use mathlib.Core.Path.{ap}
+use Rattle.pricing.specs.declared.BondAndOption.{BondAndOption}
+use borrow.Author.Needs.{needs}
+use Rattle.pricing.proofs.dated_option_price.Statement.{statement}
+use Rattle.pricing.proofs.dated_option_price.Tie as tie
+
+bond-and-dated-option-requires : tie.Need-bond-and-dated-option-requires
+bond-and-dated-option-requires c κs = search needs
+
+returns : tie.Need-returns
+returns c = ap (λ (r : BondAndOption). r .option) (c .before .bond-and-dated-option .ensures)
+
+pub dated-option-price-spec : {M : Type 1} → statement M
+dated-option-price-spec = tie.close (tie.spec bond-and-dated-option-requires returns)
