@@ -1,29 +1,19 @@
 -- The loop of the series: two terms a turn, the even and the odd ones summed apart.
 -- Assumes nothing.
 use mathlib.Core.Path.{_≡_, refl, sym, _∙_, ap}
-use mathlib.Core.List.{List}
-use Prim.Native.Nat.{ℕ, _+_, _*_, _≤_, _<_}
+use Prim.Native.Nat.{ℕ, _+_, _*_, _≤_}
 use native.Mathlib.Numerals.{add-one}
 use native.Mathlib.Omega.{arith}
 use Rattle.arithmetic.specs.Rounding.{one, roundDown}
-use Rattle.arithmetic.specs.Row.{row, values}
 use Rattle.arithmetic.specs.Sum.{sum}
-use Rattle.arithmetic.proofs.RowLaws.{values-row}
 use Rattle.arithmetic.proofs.SumLaws.{sum-next, sum-most}
-use Rattle.factor.specs.Series.{divisor, term, even, odd}
+use Rattle.factor.specs.Series.{term, even, odd}
 use Rattle.factor.proofs.SeriesLaws.{term-zero, term-next, term-most}
 
--- a list that is the table has a divisor at each place
-module _ (table : List ℕ) (e : table ≡ row 12 divisor) (k : ℕ) (h : k < 12) where
-  divisor-at : values table k ≡ divisor k
-  divisor-at = ap (λ (l : List ℕ). values l k) e ∙ values-row 12 k divisor h
-
-  pub divisor-positive : 0 < values table k
-  divisor-positive = omega (arith, divisor-at)
-
-  -- and gives the next term
-  pub next-is : (y last next : ℕ) → last ≡ term y k → next ≡ roundDown (last * y) (values table k) → next ≡ term y (k + 1)
-  next-is y last next p q = q ∙ rw (p, divisor-at, add-one k) (sym (term-next y k))
+-- a term divided by k + 1 times one gives the next one
+pub next-is :
+    (y k last next divisor : ℕ) → last ≡ term y k → divisor ≡ (k + 1) * one → next ≡ roundDown (last * y) divisor → next ≡ term y (k + 1)
+next-is y k last next divisor p e q = q ∙ rw (p, e, add-one k) (sym (term-next y k))
 
 -- What the loop holds after some pairs of terms.
 pub record Summed (y last evens odds pairs : ℕ) : Type 0 where

@@ -5,10 +5,6 @@ use mathlib.Core.Bool.{Bool, true, false}
 use Rattle.arithmetic.specs.Rounding.{one, roundDown}
 use Rattle.arithmetic.specs.Sum.{sum}
 
--- divisor k of the table, from 0: k + 1 times one
-abbrev pub divisor : ℕ → ℕ
-divisor k = (k + 1) * one
-
 -- term 0 is one; term k is (term k-1) × y / (k × one), down
 unfoldable pub term : ℕ → ℕ → ℕ
 term y zero = one

@@ -2,36 +2,12 @@
 ghost use mathlib.Core.Path.{_≡_};
 ghost use Prim.Native.Nat.{_+_, _*_, _≤_, _<_, min};
 ghost use Rattle.arithmetic.specs.Rounding.{one, roundDown};
-ghost use Rattle.arithmetic.specs.Row.{row};
 ghost use Rattle.arithmetic.specs.Sum.{sum};
-ghost use Rattle.factor.specs.Series.{divisor, term, even, odd};
+ghost use Rattle.factor.specs.Series.{term, even, odd};
 ghost use Rattle.factor.specs.Factor.{sideAnswer, nodeAnswer};
 use arithmetic::Answer;
 
 const ONE: u64 = 1_000_000_000;
-
-// The divisors of the series: 1 to 12 times one.
-const DIVISORS: [u64; 12] = [
-    1_000_000_000,
-    2_000_000_000,
-    3_000_000_000,
-    4_000_000_000,
-    5_000_000_000,
-    6_000_000_000,
-    7_000_000_000,
-    8_000_000_000,
-    9_000_000_000,
-    10_000_000_000,
-    11_000_000_000,
-    12_000_000_000,
-];
-
-// A copy of the table, made once for a series: a constant table is built anew wherever it is indexed.
-fn divisors() -> [u64; 12]
-    ensures { λ r. ⌜ r ≡ row 12 divisor ⌝ }
-{
-    DIVISORS
-}
 
 fn next_term(last: u64, y: u64, divisor: u64) -> u64
     requires { ⌜ (last ≤ one) × (y ≤ one) × (0 < divisor) ⌝ }
@@ -50,14 +26,13 @@ fn series_sums(y: u64) -> Sums
     requires { ⌜ y ≤ one ⌝ }
     ensures { λ r. ⌜ (r .even ≡ sum 7 (even (term y))) × (r .odd ≡ sum 6 (odd (term y))) ⌝ }
 {
-    let divisors = divisors();
     let mut last = ONE;
     let mut even = ONE;
     let mut odd: u64 = 0;
-    let mut pair: usize = 0;
+    let mut pair: u64 = 0;
     while pair < 6 {
-        let next = next_term(last, y, divisors[2 * pair]);
-        last = next_term(next, y, divisors[2 * pair + 1]);
+        let next = next_term(last, y, (2 * pair + 1) * ONE);
+        last = next_term(next, y, (2 * pair + 2) * ONE);
         odd += next;
         even += last;
         pair += 1;

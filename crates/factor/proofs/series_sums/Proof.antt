@@ -1,32 +1,29 @@
 -- `factor::series_sums` meets its contract.
 -- Assumes nothing.
-use mathlib.Core.Path.{_≡_}
+use mathlib.Core.Path.{_≡_, refl}
 use Prim.Native.Nat.{_+_, _-_, _*_, _≤_}
 use native.Mathlib.Omega.{arith}
 use borrow.Author.Needs.{needs}
 use Rattle.arithmetic.specs.Rounding.{one}
 use Rattle.factor.specs.Series.{term}
 use Rattle.factor.proofs.SeriesLaws.{term-most}
-use Rattle.factor.proofs.SumsLaws.{divisor-positive, next-is, Summed, summed-start, summed-next, latest-most, even-most, odd-most}
+use Rattle.factor.proofs.SumsLaws.{next-is, Summed, summed-start, summed-next, latest-most, even-most, odd-most}
 use Rattle.factor.proofs.series_sums.Statement.{statement}
 use Rattle.factor.proofs.series_sums.Tie as tie
 
 abbrev Inv-loop : tie.InvT-loop
-Inv-loop y divisors last₀ even₀ odd₀ pair₀ last even odd pair = (pair ≤ 6) × Summed y last even odd pair
+Inv-loop y last₀ even₀ odd₀ pair₀ last even odd pair = (pair ≤ 6) × Summed y last even odd pair
 
 abbrev μ-loop : tie.MeasureT-loop
-μ-loop y divisors last₀ even₀ odd₀ pair₀ last even odd pair = 6 - pair
+μ-loop y last₀ even₀ odd₀ pair₀ last even odd pair = 6 - pair
 
--- where the first term of a turn is found
-abbrev divided : tie.After-next-term Inv-loop μ-loop → tie.After-divisors Inv-loop μ-loop
-divided c = c .before .before .before
-
+-- the entry, from where the first term of a turn is found
 abbrev start : tie.After-next-term Inv-loop μ-loop → tie.Start Inv-loop μ-loop
-start c = divided c .before
+start c = c .before .before .before
 
 -- the two terms of a turn, each at most one
 first-is : (c : tie.After-next-term Inv-loop μ-loop) → c .next-term .result ≡ term (start c .args .y) (2 * c .before .before .loop .pair + 1)
-first-is c = next-is _ (divided c .divisors .ensures) _ (omega arith) _ _ _ (c .before .before .loop .inv .1 .latest) (c .next-term .ensures)
+first-is c = next-is _ _ _ _ _ (c .before .before .loop .inv .1 .latest) refl (c .next-term .ensures)
 
 first-most : (c : tie.After-next-term Inv-loop μ-loop) → c .next-term .result ≤ one
 first-most c = omega (arith, first-is c, term-most _ (2 * c .before .before .loop .pair + 1) (start c .pre))
@@ -34,13 +31,10 @@ first-most c = omega (arith, first-is c, term-most _ (2 * c .before .before .loo
 second-is :
     (c : tie.After-next-term2 Inv-loop μ-loop) →
     c .next-term2 .result ≡ term (start (c .before) .args .y) (2 * c .before .before .before .loop .pair + 1 + 1)
-second-is c = next-is _ (divided (c .before) .divisors .ensures) _ (omega arith) _ _ _ (first-is (c .before)) (c .next-term2 .ensures)
+second-is c = next-is _ _ _ _ _ (first-is (c .before)) (omega arith) (c .next-term2 .ensures)
 
 second-most : (c : tie.After-next-term2 Inv-loop μ-loop) → c .next-term2 .result ≤ one
 second-most c = omega (arith, second-is c, term-most _ (2 * c .before .before .before .loop .pair + 1 + 1) (start (c .before) .pre))
-
-divisors-requires : tie.Need-divisors-requires Inv-loop μ-loop
-divisors-requires c κs = search needs
 
 loop-holds : tie.Need-loop-holds Inv-loop μ-loop
 loop-holds c = (omega arith, summed-start _)
@@ -48,34 +42,27 @@ loop-holds c = (omega arith, summed-start _)
 mul-next-term : tie.Need-mul-next-term Inv-loop μ-loop
 mul-next-term c = search needs
 
+add-next-term : tie.Need-add-next-term Inv-loop μ-loop
+add-next-term c = search needs
+
 mul-next-term-2 : tie.Need-mul-next-term-2 Inv-loop μ-loop
 mul-next-term-2 c = search needs
 
-array-read-next-term : tie.Need-array-read-next-term Inv-loop μ-loop
-array-read-next-term c = search needs
-
 next-term-requires : tie.Need-next-term-requires Inv-loop μ-loop
 next-term-requires c κs =
-    let s = c .before .before .before in (
-      latest-most _ _ _ _ _ (s .pre) (c .before .loop .inv .1),
-      s .pre,
-      divisor-positive _ (c .before .before .divisors .ensures) _ (omega arith),
-    )
+    let s = c .before .before in (latest-most _ _ _ _ _ (s .pre) (c .before .loop .inv .1), s .pre, omega arith)
 
 mul-next-term-3 : tie.Need-mul-next-term-3 Inv-loop μ-loop
 mul-next-term-3 c = search needs
 
-add-next-term : tie.Need-add-next-term Inv-loop μ-loop
-add-next-term c = search needs
+add-next-term-2 : tie.Need-add-next-term-2 Inv-loop μ-loop
+add-next-term-2 c = search needs
 
 mul-next-term-4 : tie.Need-mul-next-term-4 Inv-loop μ-loop
 mul-next-term-4 c = search needs
 
-array-read-next-term-2 : tie.Need-array-read-next-term-2 Inv-loop μ-loop
-array-read-next-term-2 c = search needs
-
 next-term-requires-2 : tie.Need-next-term-requires-2 Inv-loop μ-loop
-next-term-requires-2 c κs = (first-most c, start c .pre, divisor-positive _ (divided c .divisors .ensures) _ (omega arith))
+next-term-requires-2 c κs = (first-most c, start c .pre, omega arith)
 
 add-odd : tie.Need-add-odd Inv-loop μ-loop
 add-odd c =
@@ -108,16 +95,14 @@ series-sums-spec =
     (tie.spec
     Inv-loop
     μ-loop
-    divisors-requires
     loop-holds
     mul-next-term
+    add-next-term
     mul-next-term-2
-    array-read-next-term
     next-term-requires
     mul-next-term-3
-    add-next-term
+    add-next-term-2
     mul-next-term-4
-    array-read-next-term-2
     next-term-requires-2
     add-odd
     add-even
