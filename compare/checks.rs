@@ -3,7 +3,7 @@ use crate::engine;
 use crate::exact::{near_fourth_power, Exact, ExactBond};
 use crate::inputs::Case;
 use crate::natural::Natural;
-use crate::rules::{self, Curve, DatedOption, Fitted, Outcome, Tree, CALL, DISCOUNT_LIMIT, FLOW_LIMIT, ONE, PUT};
+use crate::rules::{self, Contract, Curve, DatedOption, Fitted, Outcome, Tree, CALL, DISCOUNT_LIMIT, FLOW_LIMIT, ONE, PUT};
 use std::collections::BTreeMap;
 use std::fmt;
 
@@ -38,6 +38,7 @@ pub struct Tally {
     results: BTreeMap<&'static str, BTreeMap<u64, u64>>,
     shapes: BTreeMap<&'static str, (u64, u64)>,
     exact: BTreeMap<&'static str, u64>,
+    rights: BTreeMap<&'static str, (u64, u64)>,
 }
 
 impl Tally {
@@ -68,6 +69,10 @@ impl fmt::Display for Tally {
         writeln!(f, "curves, of which fitted")?;
         for (shape, (all, fitted)) in &self.shapes {
             writeln!(f, "  {shape:<22}{all}, {fitted}")?;
+        }
+        writeln!(f, "pairs of options of which one has every right of the other, and costs more")?;
+        for (what, (pairs, dearer)) in &self.rights {
+            writeln!(f, "  {what:<26}{pairs}, {dearer}")?;
         }
         writeln!(f, "held against exact fractions, multiplied out")?;
         for (what, count) in &self.exact {
@@ -298,6 +303,26 @@ fn one_right_twice(case: &Case, discounts: &[u64], tally: &mut Tally) {
     tally.result("kind and its list", &kind);
 }
 
+/// Of two rights to one bond, side and strike, the one with every row of the other costs no less where both are priced.
+fn no_less(fewer: Outcome<(u64, u64)>, more: Outcome<(u64, u64)>, what: &'static str, tally: &mut Tally) {
+    let (Ok(fewer), Ok(more)) = (fewer, more) else { return };
+    assert!(fewer.0 <= more.0, "{what}: {} with fewer rows, {} with more", fewer.0, more.0);
+    let (pairs, dearer) = tally.rights.entry(what).or_default();
+    *pairs += 1;
+    *dearer += (fewer.0 < more.0) as u64;
+}
+
+fn more_rights(case: &Case, discounts: &[u64], tally: &mut Tally) {
+    let (tree, flows, contract) = (case.fit.tree, &case.flows, &case.contract);
+    let fewer = DatedOption { dates: case.fewer.clone(), ..case.dated };
+    let priced = |option: &DatedOption| engine::dated_option(&tree, discounts, flows, option);
+    no_less(priced(&fewer), priced(&case.dated), "lists, one in the other", tally);
+    let of_kind = |kind: u64| engine::option(&tree, discounts, flows, &Contract { kind, ..*contract });
+    if contract.kind <= 2 {
+        no_less(of_kind(contract.kind), of_kind(contract.kind + 2), "European and American", tally);
+    }
+}
+
 fn bounds(case: &Case, discounts: &[u64], tally: &mut Tally) {
     let (tree, row, payoffs) = (case.fit.tree, case.row, &case.payoffs);
     agree("state price bound", engine::state_price_bound(&tree, discounts, row), tree.state_price_bound(discounts, row), tally);
@@ -317,6 +342,7 @@ fn prices(case: &Case, discounts: &[u64], entries: &Entries, tally: &mut Tally) 
     let of_kind = agree(entries.option, engine::option(&tree, discounts, flows, contract), of_kind, tally);
     let of_dates = agree(entries.dated, engine::dated_option(&tree, discounts, flows, dated), of_dates, tally);
     one_right_twice(case, discounts, tally);
+    more_rights(case, discounts, tally);
     bounds(case, discounts, tally);
     if let Some(bond) = bond {
         exact_prices(case, discounts, bond, [of_kind, of_dates], tally);

@@ -46,6 +46,8 @@ pub struct Case {
     pub flows: Vec<u64>,
     pub contract: Contract,
     pub dated: DatedOption,
+    /// Some of the dated option's rows, and never none of them where it has any.
+    pub fewer: Vec<u8>,
     pub row: usize,
     pub node: i64,
     pub row_kind: u64,
@@ -195,6 +197,15 @@ fn wrong_dates(r: &mut Random, n: usize, mut dates: Vec<u8>) -> Vec<u8> {
     dates
 }
 
+fn some_of(r: &mut Random, dates: &[u8]) -> Vec<u8> {
+    let kept = r.pick(&[10, 50, 90]);
+    let some: Vec<u8> = dates.iter().copied().filter(|_| r.chance(kept)).collect();
+    if some.is_empty() && !dates.is_empty() {
+        return vec![r.pick(dates)];
+    }
+    some
+}
+
 fn payoffs(r: &mut Random, count: usize) -> Vec<u64> {
     let most = r.pick(&[0, 1, 1_000, ONE, 4 * ONE, VALUE_LIMIT]);
     if r.chance(15) {
@@ -233,6 +244,7 @@ pub fn case(r: &mut Random) -> Case {
     let strikes = r.pick(&[(0, 3 * ONE), (0, STRIKE_LIMIT), (0, 3 * ONE / 2), (9 * ONE / 10, 11 * ONE / 10), (0, 1)]);
     let contract = Contract { kind: r.within(1, 4), expiry: r.below(tree.steps), strike: r.within(strikes.0, strikes.1) };
     let dated = DatedOption { side: r.within(1, 2), strike: r.within(strikes.0, strikes.1), dates: dates(r, tree.steps) };
+    let fewer = some_of(r, &dated.dates);
     let half = tree.half_width(row);
     let mut made = Case {
         shape,
@@ -241,6 +253,7 @@ pub fn case(r: &mut Random) -> Case {
         flows: flows(r, tree.steps),
         contract,
         dated,
+        fewer,
         row,
         node: r.within(0, 2 * half as u64) as i64 - half,
         row_kind: r.within(1, 2),

@@ -81,6 +81,15 @@ option-accepted n kind expiry strike e =
       leb-true strike mostStrike (and-right most (leb strike mostStrike) (p .0)),
     )
 
+-- and the kind is one of the four
+pub kind-known : (n kind expiry strike : ℕ) → optionCause n kind expiry strike ≡ 0 → (1 ≤ kind) × (kind ≤ 4)
+unfolding optionCause
+kind-known n kind expiry strike e =
+    let p = cond-zero-else (leb 1 kind && leb kind 4 && ltb expiry n && leb strike mostStrike) 0 10 e in
+    let known = leb 1 kind && leb kind 4 in
+    let kinds = and-left known (ltb expiry n) (and-left (known && ltb expiry n) (leb strike mostStrike) (p .0)) in
+    (leb-true 1 kind (and-left (leb 1 kind) (leb kind 4) kinds), leb-true kind 4 (and-right (leb 1 kind) (leb kind 4) kinds))
+
 -- ---- a dated option's side and strike
 
 module _ (side strike : ℕ) where

@@ -7,3 +7,4 @@ pub mod WalkTurns
 pub mod EntryLaws
 pub mod Accuracy
 pub mod OptionLaws
+pub mod RightsLaws

@@ -5,15 +5,15 @@ use mathlib.Core.Bool.{Bool, true, false, cond, _&&_, _||_}
 use mathlib.Core.List.{List, [], _∷_}
 use mathlib.Core.Logic.{⊎-elim}
 use Prim.Native.Nat.{ℕ, zero, suc, _+_, _-_, _≤_, _<_}
-use native.Mathlib.Nat.{eq-or-lt-of-le, le-of-suc-le-suc}
+use native.Mathlib.Nat.{eq-or-lt-of-le, le-of-suc-le-suc, le-refl, add-zero}
 use native.Mathlib.Numerals.{add-one}
 use native.Mathlib.Omega.{arith}
 use lib.Dec.{eqb, leb, ltb}
 use lib.ListN.{length}
 use borrow.Author.Tests.{eq-eqb, ne-eqb, lt-ltb, le-ltb, ltb-true}
 use Rattle.arithmetic.specs.Row.{row, values}
-use Rattle.arithmetic.proofs.Numbers.{by-test}
-use Rattle.arithmetic.proofs.RowLaws.{length-row, values-row, each-none, each-all}
+use Rattle.arithmetic.proofs.Numbers.{by-equal, by-test}
+use Rattle.arithmetic.proofs.RowLaws.{length-row, values-row, each-none, each-all, each-holds}
 use Rattle.pricing_laws.specs.Pricer.{Schedule, call, put}
 use Rattle.pricing_laws.specs.Schedule.{among, inDates, lastDate, datedSchedule, rising, datesCause, numberedSide}
 use Rattle.pricing_laws.specs.Schedule.{everyRow, european, american, sideOf, kindDates, kindSide, scheduleOf}
@@ -33,6 +33,16 @@ among-entry dates (suc c) k h =
     (λ e. rw (eq-eqb (values dates k) (values dates c) (ap (values dates) e)) refl)
     (λ l. or-true (eqb (values dates k) (values dates c)) _ (among-entry dates c k l))
     (eq-or-lt-of-le (le-of-suc-le-suc h))
+
+-- and a row among the entries is one of them
+pub among-some : (dates : List ℕ) (c i : ℕ) → among dates c i ≡ true → (k : ℕ) × (k < c) × (i ≡ values dates k)
+unfolding among
+among-some dates zero i h = let z : _≡_ {A = ℕ} 0 1 = cc in absurd (omega arith)
+among-some dates (suc c) i h =
+    by-equal i (values dates c) (λ e. (c, omega arith, e))
+    (λ other.
+    let found = among-some dates c i (rw (ne-eqb i (values dates c) other) at h) in
+    (found .0, omega arith, found .2))
 
 -- one entry more: where it is the row, and where it is not
 pub among-hit : (dates : List ℕ) (c i : ℕ) → i ≡ values dates c → among dates (c + 1) i ≡ true
@@ -65,6 +75,22 @@ unfolding datesCause
 dates-accepted n dates h =
     let parts = and-parts (ltb 0 (length dates)) (rising dates) (ltb (lastDate dates) n) h in
     record { some = ltb-true 0 (length dates) (parts .0); rises = parts .1; before-end = ltb-true (lastDate dates) n (parts .2) }
+
+-- of a rising list no entry is above a later one
+rising-le : (dates : List ℕ) → rising dates ≡ true → (d k : ℕ) → k + d < length dates → values dates k ≤ values dates (k + d)
+unfolding rising
+rising-le dates h zero k l = rw (add-zero k) (le-refl (values dates k))
+rising-le dates h (suc d) k l =
+    let e : k + suc d ≡ (k + d) + 1 = omega arith in
+    let next =
+    ltb-true (values dates (k + d)) (values dates ((k + d) + 1))
+    (each-holds (length dates - 1) (k + d) (λ j. ltb (values dates j) (values dates (j + 1))) h (omega arith)) in
+    rw e (omega (arith, next, rising-le dates h d k (omega arith)))
+
+pub rising-last : (dates : List ℕ) → rising dates ≡ true → (k : ℕ) → k < length dates → values dates k ≤ lastDate dates
+rising-last dates h k l =
+    let e : k + (length dates - 1 - k) ≡ length dates - 1 = omega arith in
+    rw e at (rising-le dates h (length dates - 1 - k) k (omega arith))
 
 -- the cause by the tests that the code makes
 module _ (n : ℕ) (dates : List ℕ) where

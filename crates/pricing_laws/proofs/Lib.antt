@@ -6,3 +6,5 @@ pub mod PriceLaws
 pub mod Peaks
 pub mod Backward
 pub mod Schedules
+pub mod Rights
+pub mod MoreDates

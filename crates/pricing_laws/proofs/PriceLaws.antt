@@ -1,6 +1,6 @@
 -- The engine's prices against the exact ones, on every sound tree with discounts of at most 1,100,000,000.
 -- Assumes nothing.
-use mathlib.Core.Path.{_≡_}
+use mathlib.Core.Path.{_≡_, ap}
 use Prim.Native.Nat.{ℕ, zero, suc, _+_, _-_, _*_, _/_, _^_, _≤_, _<_}
 use native.Mathlib.Nat.{mul-assoc, mul-le-mul-right, le-refl}
 use native.Mathlib.Omega.{arith}
@@ -11,13 +11,14 @@ use Rattle.arithmetic.specs.Within.{Within}
 use Rattle.arithmetic.specs.Sum.{greatest}
 use Rattle.arithmetic.proofs.RoundingLaws.{down-rounds}
 use Rattle.arithmetic.proofs.SumLaws.{greatest-ge, greatest-le, greatest-cong}
-use Rattle.tree.specs.Tree.{Tree, Sound, probabilityTotal, unit}
-use Rattle.tree.proofs.StepLaws.{outgoing-cong}
+use Rattle.tree.specs.Tree.{Tree, Sound, outgoing, probabilityTotal, unit}
+use Rattle.tree.proofs.StepLaws.{outgoing-le}
 use Rattle.pricing_laws.specs.Pricer.{bond, Side, Schedule, option, errorBoundFrom, errorBound}
 use Rattle.pricing_laws.specs.TreePricer.{rollRounding, rollLoss, nodeRoll, roll, exactRoll, engine, exact, greatestDiscount, priceErrorBound}
 use Rattle.pricing_laws.proofs.Near.{near-average, near-discount}
 use Rattle.pricing_laws.proofs.Accuracy.{Close, bond-within, option-within, bond-below, loss-a-step}
 use Rattle.pricing_laws.proofs.Backward.{Greatest, Local}
+use Rattle.pricing_laws.proofs.Rights.{Monotone, monotone-local}
 
 -- node k is one of row i
 abbrev pub On : Tree → ℕ → ℕ → Type 0
@@ -51,13 +52,35 @@ roll-close divide over under rounds t sound discount n =
           (near-average divide over under rounds (t .step i) (t .nodes i) (t .nodes (suc i)) (sound .inside i) (sound .total i) v x l u M near k hk));
     }
 
+-- the sum over the branches of a node keeps order
+expected-monotone : (t : Tree) → Sound t → Monotone (On t) (λ i v k. outgoing (t .step i) v k)
+expected-monotone t sound =
+    record { roll-le = λ i v w h k hk. outgoing-le (t .step i) (t .nodes i) (t .nodes (suc i)) (sound .inside i) v w k hk h }
+
+-- so does the roll, under any rounding
+pub roll-monotone :
+    (divide : ℕ → ℕ → ℕ) (over under : ℕ) → Rounds divide over under → (t : Tree) → Sound t → (discount : ℕ → ℕ → ℕ) →
+    Monotone (On t) (roll t discount divide)
+unfolding roll nodeRoll
+roll-monotone divide over under rounds t sound discount =
+    record {
+      roll-le = λ i v w h k hk.
+          let sums = expected-monotone t sound .roll-le i v w h k hk in
+          rounds .monotone _ _ one (omega arith)
+          (mul-le-mul-right (discount i k) (rounds .monotone _ _ probabilityTotal (omega arith) sums));
+    }
+
+-- and so the engine's, whatever its rounding
+pub engine-monotone : (t : Tree) → Sound t → (discount : ℕ → ℕ → ℕ) → Monotone (On t) (engine t discount .roll)
+engine-monotone t sound discount = roll-monotone rollRounding _ _ roll-rounds t sound discount
+
 -- a roll depends on the values of the next row's nodes alone
 pub roll-same :
     (t : Tree) → Sound t → (discount : ℕ → ℕ → ℕ) (divide : ℕ → ℕ → ℕ) (i : ℕ) (v w : ℕ → ℕ) → ((j : ℕ) → j < t .nodes (suc i) → v j ≡ w j) →
     (k : ℕ) → k < t .nodes i → roll t discount divide i v k ≡ roll t discount divide i w k
 unfolding roll nodeRoll
 roll-same t sound discount divide i v w h k hk =
-    rw (outgoing-cong (t .step i) (t .nodes i) (t .nodes (suc i)) (sound .inside i) v w k hk h)
+    ap (λ (s : ℕ). divide (divide s probabilityTotal * discount i k) one) (monotone-local (On t) _ (expected-monotone t sound) .roll-same i v w h k hk)
 
 -- a loss a step covers the two roundings, where 2,100,000,000 times the rounding's halves are at most twice the loss in billionths
 cost-covered :

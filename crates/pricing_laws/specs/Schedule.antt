@@ -1,6 +1,7 @@
 -- The rows on which an option may be exercised (documents 01, Prices, and 02, request (iii)): a list of rows, and the four kinds as special lists.
 -- Assumes nothing.
-use Prim.Native.Nat.{ℕ, zero, suc, _+_, _-_}
+use Prim.Native.Nat.{ℕ, zero, suc, _+_, _-_, _<_}
+use mathlib.Core.Path.{_≡_}
 use mathlib.Core.Bool.{Bool, false, cond, _&&_, _||_}
 use mathlib.Core.List.{List, [], _∷_}
 use lib.Dec.{eqb, leb, ltb}
@@ -30,6 +31,10 @@ rising dates = each (length dates - 1) (λ k. ltb (values dates k) (values dates
 -- 13: a list that is empty, not strictly rising, or reaches row n
 unfoldable pub datesCause : ℕ → List ℕ → ℕ
 datesCause n dates = cond (ltb 0 (length dates) && (rising dates && ltb (lastDate dates) n)) 0 13
+
+-- every row of one list is in another: each entry of the one is some entry of the other (document 02, request (v))
+abbrev pub Contained : List ℕ → List ℕ → Type 0
+Contained few many = (k : ℕ) → k < length few → (j : ℕ) × (j < length many) × (values few k ≡ values many j)
 
 -- the side of a dated option: 1 call, 2 put
 unfoldable pub numberedSide : ℕ → Side

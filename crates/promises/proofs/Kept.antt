@@ -3,6 +3,7 @@
 use Rattle.pricing.proofs.Accuracy.{bond-within-bound, bond-at-most-exact, bond-bound-a-step}
 use Rattle.pricing.proofs.Accuracy.{option-within-bound, option-bound-a-step, dated-within-bound, dated-bound-a-step}
 use Rattle.pricing.proofs.OptionLaws.{kind-is-list}
+use Rattle.pricing.proofs.RightsLaws.{dates-no-less, american-no-less, kind-no-more, kind-no-less}
 use Rattle.promises.specs.Promises.{Promises, PricePromises}
 use Rattle.promises.proofs.TreeKept.{tree-kept}
 use Rattle.promises.proofs.RowsKept.{engine-kept, exact-kept, bound-kept, priced-kept}
@@ -23,6 +24,10 @@ prices-kept =
       option-accurate = option-within-bound;
       dated-accurate = dated-within-bound;
       kinds-are-lists = kind-is-list;
+      dates-no-less = dates-no-less;
+      american-no-less = american-no-less;
+      kind-no-more = kind-no-more;
+      kind-no-less = kind-no-less;
       bond-a-step = bond-bound-a-step;
       option-a-step = option-bound-a-step;
       dated-a-step = dated-bound-a-step;

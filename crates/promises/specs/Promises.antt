@@ -37,7 +37,7 @@ use Rattle.fitting.specs.Entry.{fitNumber, fitDiscount, fitPrice, fitMemory, fi
 use Rattle.fit_laws.specs.StatePrices.{exactStatePrice}
 use Rattle.state_price_bound.specs.ErrorBound.{statePriceErrorBoundAnswer}
 use Rattle.pricing_laws.specs.Pricer.{Side, Schedule, bond, bareBond, exercise, option, payoffValue}
-use Rattle.pricing_laws.specs.Schedule.{european, american, sideOf, scheduleOf, kindSide, kindDates, numberedSide, datedSchedule}
+use Rattle.pricing_laws.specs.Schedule.{european, american, sideOf, scheduleOf, kindSide, kindDates, numberedSide, datedSchedule, Contained}
 use Rattle.pricing_laws.specs.TreePricer.{engine, exact, greatestDiscount, priceErrorBound}
 use Rattle.pricing.specs.Prices.{flowAt, bondPrice, optionPrice, datedPrice}
 use Rattle.pricing.specs.Exact.{exactBond, exactOption, exactDated, exactPayoff}
@@ -225,6 +225,21 @@ pub record PricePromises : Type 0 where
       (exactDated n b discounts flows side dates strike)
   pub kinds-are-lists : (n b : ℕ) (discounts flows : List ℕ) (kind expiry strike : ℕ) → 1 ≤ kind → kind ≤ 4 → expiry < n →
       optionPrice n b discounts flows kind expiry strike ≡ datedPrice n b discounts flows (kindSide kind) (kindDates kind expiry) strike
+  -- more rights cost no less (document 02, request (v)), in the engine's own billionths: on one tree, bond, side and strike, where both are priced
+  pub dates-no-less : (n b : ℕ) (discounts flows : List ℕ) (side strike : ℕ) (few many : List ℕ) →
+      datedPrice n b discounts flows side few strike .number ≡ 0 → datedPrice n b discounts flows side many strike .number ≡ 0 → Contained few many →
+      datedPrice n b discounts flows side few strike .value ≤ datedPrice n b discounts flows side many strike .value
+  -- kind 3 against 1 and 4 against 2, of one expiry; no other kind has both priced
+  pub american-no-less : (n b : ℕ) (discounts flows : List ℕ) (kind expiry strike : ℕ) →
+      optionPrice n b discounts flows kind expiry strike .number ≡ 0 → optionPrice n b discounts flows (kind + 2) expiry strike .number ≡ 0 →
+      optionPrice n b discounts flows kind expiry strike .value ≤ optionPrice n b discounts flows (kind + 2) expiry strike .value
+  -- a kind against a list of its side, either way
+  pub kind-no-more : (n b : ℕ) (discounts flows : List ℕ) (kind expiry strike : ℕ) → optionPrice n b discounts flows kind expiry strike .number ≡ 0 →
+      (dates : List ℕ) → datedPrice n b discounts flows (kindSide kind) dates strike .number ≡ 0 → Contained (kindDates kind expiry) dates →
+      optionPrice n b discounts flows kind expiry strike .value ≤ datedPrice n b discounts flows (kindSide kind) dates strike .value
+  pub kind-no-less : (n b : ℕ) (discounts flows : List ℕ) (kind expiry strike : ℕ) → optionPrice n b discounts flows kind expiry strike .number ≡ 0 →
+      (dates : List ℕ) → datedPrice n b discounts flows (kindSide kind) dates strike .number ≡ 0 → Contained dates (kindDates kind expiry) →
+      datedPrice n b discounts flows (kindSide kind) dates strike .value ≤ optionPrice n b discounts flows kind expiry strike .value
   -- at most 3 billionths a step
   pub bond-a-step : (n b : ℕ) (discounts flows : List ℕ) → bondPrice n b discounts flows .number ≡ 0 → NoneAboveOne n b discounts →
       bondPrice n b discounts flows .bound ≤ 3 * n

@@ -120,12 +120,6 @@ module _ (t : Transition) (n m : ℕ) (inside : Inside t n m) (v w : ℕ → ℕ
         mul-le-mul-left (t .up k) (h (t .low k + 2) a),
       )
 
-  pub outgoing-cong : ((j : ℕ) → j < m → v j ≡ w j) → outgoing t v k ≡ outgoing t w k
-  unfolding outgoing
-  outgoing-cong h =
-      let a = inside k hk in
-      rw (h (t .low k) (omega arith), h (t .low k + 1) (omega arith), h (t .low k + 2) a)
-
 -- the sum of one value on all branches
 pub outgoing-same :
     (t : Transition) (n m : ℕ) → Inside t n m → Total t n → (v : ℕ → ℕ) (a k : ℕ) → k < n → ((j : ℕ) → j < m → v j ≡ a) →
