@@ -10,3 +10,4 @@ pub mod PlaceLaws
 pub mod CauseLaws
 pub mod BetweenLaws
 pub mod PartLaws
+pub mod PaddedLaws

@@ -40,3 +40,7 @@ between low high f k = leb low (f k) && leb (f k) high
 -- the first n values of f, and those of g after them
 unfoldable pub overlay : ℕ → (ℕ → ℕ) → (ℕ → ℕ) → ℕ → ℕ
 overlay n f g k = cond (ltb k n) (f k) (g k)
+
+-- f 0, .., f (n - 1) in so many places, zeros after them
+unfoldable pub padded : ℕ → ℕ → (ℕ → ℕ) → List ℕ
+padded places n f = row places (overlay n f (λ k. 0))

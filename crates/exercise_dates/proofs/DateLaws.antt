@@ -7,12 +7,13 @@ use Prim.Native.Nat.{ℕ, suc, _+_, _-_, _≤_, _<_}
 use native.Mathlib.Numerals.{add-one}
 use native.Mathlib.Omega.{arith}
 use lib.Dec.{eqb, leb, ltb}
-use lib.ListN.{length, take, set, replicate, length-set, length-take, length-replicate, List·getD-eq-default}
-use lib.Seq.{ext-getD, getD-set-same, getD-set-other, getD-take}
+use lib.ListN.{length, take, set, replicate, length-set, length-replicate, List·getD-eq-default}
+use lib.Seq.{getD-set-same, getD-set-other}
 use borrow.Author.Tests.{lt-ltb, le-ltb, lt-leb, le-leb, leb-true}
-use Rattle.arithmetic.specs.Row.{row, values, each, overlay}
+use Rattle.arithmetic.specs.Row.{row, values, each, overlay, padded}
 use Rattle.arithmetic.proofs.Numbers.{by-order, by-equal, by-test}
-use Rattle.arithmetic.proofs.RowLaws.{length-row, values-row, row-of, row-cong, each-none, each-more, each-fails, each-holds, each-all, zeros}
+use Rattle.arithmetic.proofs.RowLaws.{length-row, values-row, row-of, each-none, each-more, each-fails, each-holds, each-all, zeros}
+use Rattle.arithmetic.proofs.PaddedLaws.{padded-of, padded-length, padded-take}
 use Rattle.limits.specs.Limits.{mostSteps}
 use Rattle.pricing_laws.specs.Pricer.{call, put}
 use Rattle.pricing_laws.specs.Schedule.{among, inDates, lastDate, datedSchedule, rising, numberedSide, everyRow, kindDates, marked}
@@ -21,7 +22,7 @@ use Rattle.pricing_laws.proofs.Schedules.{Alike}
 use Rattle.exercise.specs.declared.Terms.{Terms}
 use Rattle.exercise.specs.Terms.{side}
 use Rattle.exercise_dates.specs.declared.Dates.{Dates}
-use Rattle.exercise_dates.specs.Dates.{rowsOfATree, marksOf, datedTerms, padded, datesOfKind, datesTo}
+use Rattle.exercise_dates.specs.Dates.{rowsOfATree, marksOf, datedTerms, held, datesOfKind, datesTo}
 
 -- ---- a list is tested from its start: the first k rows rise
 
@@ -135,23 +136,9 @@ module _ (number : ℕ) (dates : List ℕ) (strike : ℕ) (terms : Terms) (e : t
 
 -- ---- the list of a kind
 
-overlay-at : (l : List ℕ) (k : ℕ) → k < length l → overlay (length l) (values l) (λ j. 0) k ≡ values l k
-unfolding overlay
-overlay-at l k h = rw (lt-ltb k (length l) h)
-
-overlay-past : (l : List ℕ) (k : ℕ) → length l ≤ k → overlay (length l) (values l) (λ j. 0) k ≡ 0
-unfolding overlay
-overlay-past l k h = rw (le-ltb k (length l) h)
-
--- what stands in the first places of a padded list is the list
-pub padded-front : (l : List ℕ) → length l ≤ rowsOfATree → take (length l) (padded l .rows) ≡ l
-padded-front l few =
-    let f : ℕ → ℕ = overlay (length l) (values l) (λ j. 0) in
-    let size : length (take (length l) (row rowsOfATree f)) ≡ length l = simp length-take (omega (arith, length-row rowsOfATree f)) in
-    ext-getD 0 (take (length l) (row rowsOfATree f)) l size
-    (λ k h.
-    let inside : k < length l = rw size at h in
-    getD-take (length l) (row rowsOfATree f) k 0 inside ∙ values-row rowsOfATree k f (omega arith) ∙ overlay-at l k inside)
+-- what stands in the first places is the list
+held-front : (l : List ℕ) → length l ≤ rowsOfATree → take (length l) (held l .rows) ≡ l
+held-front l few = padded-take rowsOfATree (length l) (values l) few ∙ sym (row-of l (length l) (values l) refl (λ k h. refl))
 
 kind-size : (kind expiry : ℕ) → expiry ≤ mostSteps → length (kindDates kind expiry) ≤ rowsOfATree
 unfolding kindDates
@@ -161,47 +148,49 @@ kind-size kind expiry few =
 
 -- the kind's list, as it is handed on
 module _ (kind expiry : ℕ) (few : expiry ≤ mostSteps) (dates : Dates) (e : dates ≡ datesOfKind kind expiry) where
-  list-is : dates ≡ padded (kindDates kind expiry)
+  list-is : dates ≡ held (kindDates kind expiry)
   unfolding datesOfKind
   list-is = e ∙ rw (le-leb expiry mostSteps few)
 
   pub kind-list : take (dates .count) (dates .rows) ≡ kindDates kind expiry
-  kind-list = ap (λ (d : Dates). take (d .count) (d .rows)) list-is ∙ padded-front (kindDates kind expiry) (kind-size kind expiry few)
+  kind-list = ap (λ (d : Dates). take (d .count) (d .rows)) list-is ∙ held-front (kindDates kind expiry) (kind-size kind expiry few)
 
 -- its places, whatever the expiry
 pub list-room : (kind expiry : ℕ) (dates : Dates) → dates ≡ datesOfKind kind expiry → dates .count ≤ length (dates .rows)
 unfolding datesOfKind
 list-room kind expiry dates e =
     rw e
-    (by-test (leb expiry mostSteps) (λ (l : List ℕ). padded l .count ≤ length (padded l .rows)) (kindDates kind expiry) []
+    (by-test (leb expiry mostSteps) (λ (l : List ℕ). held l .count ≤ length (held l .rows)) (kindDates kind expiry) []
     (λ t. room (kindDates kind expiry) (kind-size kind expiry (leb-true expiry mostSteps t))) (λ t. room [] (omega arith)))
   where
-    room : (l : List ℕ) → length l ≤ rowsOfATree → padded l .count ≤ length (padded l .rows)
-    room l h = omega (arith, length-row rowsOfATree (overlay (length l) (values l) (λ j. 0)))
+    room : (l : List ℕ) → length l ≤ rowsOfATree → held l .count ≤ length (held l .rows)
+    room l h = omega (arith, padded-length rowsOfATree (length l) (values l))
 
 -- what the code gives for it: no list, expiry alone, or every row
 module _ (kind expiry : ℕ) where
   pub no-list : mostSteps < expiry → _≡_ {A = Dates} (record { count = 0; rows = replicate rowsOfATree 0 }) (datesOfKind kind expiry)
-  unfolding datesOfKind row overlay
+  unfolding datesOfKind padded row overlay
   no-list many = rw (lt-leb expiry mostSteps many)
 
   module _ (few : expiry ≤ mostSteps) where
     pub alone-list :
         kind < 3 → _≡_ {A = Dates} (record { count = 1; rows = expiry ∷ replicate mostSteps 0 }) (datesOfKind kind expiry)
-    unfolding datesOfKind kindDates row overlay
+    unfolding datesOfKind kindDates padded row overlay
     alone-list european = rw (le-leb expiry mostSteps few, lt-leb 3 kind european)
 
-    every-padded : datesTo expiry ≡ padded (everyRow expiry) .rows
+    every-padded : datesTo expiry ≡ held (everyRow expiry) .rows
     unfolding datesTo
     every-padded =
         let size = length-row (suc expiry) (λ i. i) in
-        row-cong rowsOfATree (λ i. cond (leb i expiry) i 0) (overlay (length (everyRow expiry)) (values (everyRow expiry)) (λ j. 0))
+        let to : ℕ → ℕ = λ i. cond (leb i expiry) i 0 in
+        padded-of rowsOfATree (row rowsOfATree to) (length (everyRow expiry)) (values (everyRow expiry)) (length-row rowsOfATree to)
         (λ k h.
-        by-order k expiry
-        (λ inside.
-        rw (le-leb k expiry inside)
-        (sym (overlay-at (everyRow expiry) k (omega (arith, size)) ∙ values-row (suc expiry) k (λ i. i) (omega arith))))
-        (λ past. rw (lt-leb k expiry past) (sym (overlay-past (everyRow expiry) k (omega (arith, size))))))
+        values-row rowsOfATree k to (omega (arith, size)) ∙ rw (le-leb k expiry (omega (arith, size)))
+        (sym (values-row (suc expiry) k (λ i. i) (omega (arith, size)))))
+        (λ k past.
+        by-order rowsOfATree k
+        (λ outside. List·getD-eq-default (row rowsOfATree to) 0 (rw (length-row rowsOfATree to) outside))
+        (λ inside. values-row rowsOfATree k to inside ∙ rw (lt-leb k expiry (omega (arith, size)))))
 
     pub every-list :
         (rows : List ℕ) → 3 ≤ kind → rows ≡ datesTo expiry → _≡_ {A = Dates} (record { count = expiry + 1; rows = rows }) (datesOfKind kind expiry)

@@ -5,7 +5,7 @@ use mathlib.Core.Bool.{cond}
 use mathlib.Core.List.{List, [], _∷_}
 use lib.Dec.{eqb, leb}
 use lib.ListN.{length}
-use Rattle.arithmetic.specs.Row.{row, values, overlay}
+use Rattle.arithmetic.specs.Row.{row, values, padded}
 use Rattle.limits.specs.Limits.{mostSteps}
 use Rattle.pricing_laws.specs.Schedule.{inDates, lastDate, kindDates}
 use Rattle.exercise.specs.declared.Terms.{Terms}
@@ -24,12 +24,12 @@ unfoldable pub datedTerms : ℕ → List ℕ → ℕ → Terms
 datedTerms side dates strike = record { call = eqb side 1; strike = strike; last = lastDate dates }
 
 -- a list in the first places of so many rows, zeros after it
-abbrev pub padded : List ℕ → Dates
-padded dates = record { count = length dates; rows = row rowsOfATree (overlay (length dates) (values dates) (λ k. 0)) }
+abbrev pub held : List ℕ → Dates
+held dates = record { count = length dates; rows = padded rowsOfATree (length dates) (values dates) }
 
 -- the list of a kind; none where no tree has the expiry
 unfoldable pub datesOfKind : ℕ → ℕ → Dates
-datesOfKind kind expiry = padded (cond (leb expiry mostSteps) (kindDates kind expiry) [])
+datesOfKind kind expiry = held (cond (leb expiry mostSteps) (kindDates kind expiry) [])
 
 -- every row to expiry
 unfoldable pub datesTo : ℕ → List ℕ

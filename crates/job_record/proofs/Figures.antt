@@ -5,11 +5,11 @@ use native.Mathlib.Omega.{arith}
 use mathlib.Core.List.{List, [], _∷_, _++_}
 use mathlib.Core.Path.{_≡_, refl, sym, ap}
 use lib.ListN.{length}
-use Rattle.arithmetic.specs.Row.{row, overlay, each}
+use Rattle.arithmetic.specs.Row.{row, overlay, each, padded}
 use Rattle.job_record.specs.Bytes.{numberBytes, numberAt}
 use Rattle.job_record.specs.Form.{mostBytes, mostDates, isKind, fieldAt, fieldsFrom}
 use Rattle.job_record.specs.Form.{headFormed, kindFormed, listFormed, restFormed, bodyFormed, wellFormed}
-use Rattle.job_record.specs.Reader.{padded, dateOf, kindOptionAt, listOptionAt, optionAt, jobOf, acceptedReading, malformed, readingOf}
+use Rattle.job_record.specs.Reader.{dateOf, kindOptionAt, listOptionAt, optionAt, jobOf, acceptedReading, malformed, readingOf}
 use Rattle.job_record.specs.Grammar.{field, joined, optionField, encode}
 use Rattle.job_record.specs.Example.{
   exampleHead,

@@ -10,7 +10,7 @@ use borrow.Author.Tests.{le-leb, eq-eqb, ne-eqb}
 use lib.ListN.{length, getD, take, length-append}
 use lib.Seq.{getD-take, length-take-le}
 use Rattle.arithmetic.proofs.Numbers.{by-equal}
-use Rattle.arithmetic.specs.Row.{values}
+use Rattle.arithmetic.specs.Row.{values, padded}
 use Rattle.job_record.specs.Bytes.{numberAt, numberBytes}
 use Rattle.job_record.specs.Form.{
   mostBytes,
@@ -47,7 +47,7 @@ use Rattle.job_record.specs.Form.{
   stepsOf,
   wellFormed,
 }
-use Rattle.job_record.specs.Reader.{padded, tagOf, dataOf, dateOf, kindOptionAt, listOptionAt, optionAt, jobOf}
+use Rattle.job_record.specs.Reader.{tagOf, dataOf, dateOf, kindOptionAt, listOptionAt, optionAt, jobOf}
 use Rattle.job_record.specs.Grammar.{field, joined, quoteField, flowField, kindData, listData, optionField, encode, Column, SoundOption, SoundJob}
 use Rattle.job_record.specs.declared.Tags.{Tags}
 use Rattle.job_record.specs.declared.Tags.the-variants.{AnyKind, Only}

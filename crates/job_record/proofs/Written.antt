@@ -6,7 +6,7 @@ use mathlib.Core.Bool.{true}
 use mathlib.Core.List.{List, _++_}
 use mathlib.Core.Path.{_≡_, refl, sym, ap, _∙_}
 use lib.ListN.{length, take, drop, drop-of-length-le}
-use Rattle.arithmetic.specs.Row.{values}
+use Rattle.arithmetic.specs.Row.{values, padded}
 use Rattle.job_record.specs.Bytes.{Bytes, numberAt, numberBytes}
 use Rattle.job_record.specs.Form.{
   mostJobSteps,
@@ -40,7 +40,7 @@ use Rattle.job_record.specs.Form.{
   stepsOf,
   wellFormed,
 }
-use Rattle.job_record.specs.Reader.{padded, tagOf, dataOf, dateOf, noOption, kindOptionAt, listOptionAt, optionAt, jobOf}
+use Rattle.job_record.specs.Reader.{tagOf, dataOf, dateOf, noOption, kindOptionAt, listOptionAt, optionAt, jobOf}
 use Rattle.job_record.specs.Grammar.{field, joined, optionField, encode, Column, SoundOption, SoundJob}
 use Rattle.job_record.specs.declared.Tags.the-variants.{AnyKind, Only}
 use Rattle.job_record.proofs.Numbers.{number-bound}
@@ -65,7 +65,8 @@ use Rattle.job_record.proofs.Forms.{
   dates-few,
 }
 use Rattle.job_record.proofs.Options.{by-option, field-none}
-use Rattle.job_record.proofs.Columns.{padded-at, padded-take, padded-column, zeros-column}
+use Rattle.arithmetic.proofs.PaddedLaws.{padded-at, padded-take}
+use Rattle.job_record.proofs.Columns.{padded-column, zeros-column}
 use Rattle.job_record.proofs.Pieces.{join, join-rest, bytes-piece, digits-piece, last-piece, only-field, fields-piece}
 
 -- zeros are a sound option

@@ -5,17 +5,13 @@ use mathlib.Core.List.{List}
 use mathlib.Core.Bool.{cond}
 use lib.ListN.{length, getD, replicate}
 use lib.Dec.{eqb}
-use Rattle.arithmetic.specs.Row.{row, overlay}
+use Rattle.arithmetic.specs.Row.{padded}
 use Rattle.job_record.specs.Bytes.{numberAt}
 use Rattle.job_record.specs.Form.{mostJobSteps, mostDates, dataAt, afterFields, frequencyAt, reversionAt, volatilityAt, quotesAt}
 use Rattle.job_record.specs.Form.{flowsAt, restAt, kindAt, expiryAt, strikeAt, sideAt, listStrikeAt, datesAt, datesLeft, stepsOf, wellFormed}
 use Rattle.job_record.specs.declared.OptionRecord.{OptionRecord}
 use Rattle.job_record.specs.declared.Job.{Job}
 use Rattle.job_record.specs.declared.Reading.{Reading}
-
--- f 0, .., f (n - 1) in so many places of a record, zeros after them
-unfoldable pub padded : ℕ → ℕ → (ℕ → ℕ) → List ℕ
-padded places n f = row places (overlay n f (λ k. 0))
 
 -- of the fields of one width from a place on: tag and data of the i-th
 abbrev pub tagOf : List ℕ → ℕ → ℕ → ℕ → ℕ

@@ -10,7 +10,8 @@ use Rattle.arithmetic.proofs.RowLaws.{Filled, filled-start, filled-next}
 use Rattle.job_record.specs.Bytes.{numberAt}
 use Rattle.job_record.specs.Form.{mostJobSteps, dataAt}
 use Rattle.job_record.specs.Reader.{dataOf}
-use Rattle.job_record.proofs.Columns.{filled-padded, field-within}
+use Rattle.arithmetic.proofs.PaddedLaws.{filled-padded}
+use Rattle.job_record.proofs.Columns.{field-within}
 use Rattle.jobs.proofs.data_from.Statement.{statement}
 use Rattle.jobs.proofs.data_from.Tie as tie
 

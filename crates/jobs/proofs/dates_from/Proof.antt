@@ -8,7 +8,7 @@ use lib.ListN.{replicate}
 use Rattle.arithmetic.proofs.RowLaws.{Filled, filled-start, filled-next}
 use Rattle.job_record.specs.Form.{mostDates}
 use Rattle.job_record.specs.Reader.{dateOf}
-use Rattle.job_record.proofs.Columns.{filled-padded}
+use Rattle.arithmetic.proofs.PaddedLaws.{filled-padded}
 use Rattle.jobs.proofs.dates_from.Statement.{statement}
 use Rattle.jobs.proofs.dates_from.Tie as tie
 

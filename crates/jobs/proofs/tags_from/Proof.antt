@@ -9,7 +9,8 @@ use denote.Ref.{now}
 use Rattle.arithmetic.proofs.RowLaws.{Filled, filled-start, filled-next}
 use Rattle.job_record.specs.Form.{mostJobSteps}
 use Rattle.job_record.specs.Reader.{tagOf}
-use Rattle.job_record.proofs.Columns.{filled-padded, field-within}
+use Rattle.arithmetic.proofs.PaddedLaws.{filled-padded}
+use Rattle.job_record.proofs.Columns.{field-within}
 use Rattle.jobs.proofs.tags_from.Statement.{statement}
 use Rattle.jobs.proofs.tags_from.Tie as tie
 
