@@ -253,9 +253,11 @@ static size_t lowest(size_t w, size_t next, size_t k)
     return k == 0 ? 0 : k == 2 * w ? k - 2 : k - 1;
 }
 
+/* Both divisions to the nearest, halves up. */
 static uint64_t rolled(const struct branch *p, const uint64_t *later, uint64_t discount)
 {
-    return (p->down * later[0] + p->middle * later[1] + p->up * later[2]) / WHOLE * discount / ONE;
+    const uint64_t sum = p->down * later[0] + p->middle * later[1] + p->up * later[2];
+    return ((sum + WHOLE / 2) / WHOLE * discount + ONE / 2) / ONE;
 }
 
 enum { BOND_ABOVE = 1, OPTION_ABOVE = 2 };
@@ -295,7 +297,7 @@ static uint64_t next_bound(const uint64_t *discounts, size_t count, uint64_t bou
     uint64_t greatest = 0;
     for (size_t k = 0; k < count; k++)
         greatest = discounts[k] > greatest ? discounts[k] : greatest;
-    return (greatest * bound + ONE - 1) / ONE + 3;
+    return (greatest * bound + ONE - 1) / ONE + 2;
 }
 
 static const struct plain_price none = {0, 0, 0};

@@ -103,7 +103,7 @@ struct mixegorta_rate {
     int64_t value;
 };
 
-/* A price and its error bound, both in billionths: the exact price is at most `bound` away. Both are 0 where refused. */
+/* A price and its error bound, both in billionths: the exact price is at most `bound` above or below. Both are 0 where refused. */
 struct mixegorta_price {
     uint64_t number;
     uint64_t value;
@@ -205,7 +205,8 @@ struct mixegorta_rate mixegorta_continuous_rate(uint64_t discount);
 struct mixegorta_answer mixegorta_state_price_error_bound(size_t steps, uint64_t reversion, const uint64_t *discounts,
                                                           size_t discounts_len, size_t row);
 
-/* ---- Level two: prices on any discounts, a fit's or the caller's own. Memories are only read. */
+/* ---- Level two: prices on any discounts, a fit's or the caller's own. Memories are only read. Bonds and options are rolled back with
+ * every division to the nearest, halves up; where no discount is above one, their bound is at most 2 a step. */
 
 /* The price of a bond at row 0. discounts: as above. flows: n elements, those of rows 1 to n, each 0 to 2,000,000,000.
  * Refusals: 3 steps, 4 reversion, 6 discounts too few or flows not n, 9 a discount, 10 a flow, 12 a value on the way. */

@@ -236,10 +236,10 @@ static void example(void) {
     CHECK(rate.number == 0 && rate.value == -2493766);
     CHECK(sum(prices + 1, 3) == 1002499999);
     CHECK(answered(mixegorta_state_price_error_bound(1, 0, discounts, 1, 1), 4));
-    CHECK(priced(mixegorta_bond_price(1, 0, discounts, 1, flow, 1), 1002500000, 3));
-    CHECK(priced(mixegorta_option_price(1, 0, discounts, 1, flow, 1, MIXEGORTA_AMERICAN_PUT, 0, 1010000000), 7500000, 3));
+    CHECK(priced(mixegorta_bond_price(1, 0, discounts, 1, flow, 1), 1002500000, 2));
+    CHECK(priced(mixegorta_option_price(1, 0, discounts, 1, flow, 1, MIXEGORTA_AMERICAN_PUT, 0, 1010000000), 7500000, 2));
     struct mixegorta_bond_and_option both = mixegorta_bond_and_option(1, 0, discounts, 1, flow, 1, MIXEGORTA_AMERICAN_PUT, 0, 1010000000);
-    CHECK(priced(both.bond, 1002500000, 3) && priced(both.option, 7500000, 3));
+    CHECK(priced(both.bond, 1002500000, 2) && priced(both.option, 7500000, 2));
     CHECK(unpriced(mixegorta_option_price(1, 0, discounts, 1, flow, 1, MIXEGORTA_AMERICAN_PUT, 1, 1010000000), 11));
     CHECK(answered(mixegorta_value_by_state_prices(prices + 1, 3, payoffs, 3), 1002499999));
     CHECK(answered(mixegorta_valuation_error_bound(1, 0, discounts, 1, 1, payoffs, 3), 5));
@@ -331,9 +331,9 @@ static void limits(void) {
     CHECK(fit(12, 1, 0, MIXEGORTA_MAX_VOLATILITY) == 0);
     CHECK(fit(12, 1, 0, MIXEGORTA_MAX_VOLATILITY + 1) == 5);
     uint64_t discount[] = {MIXEGORTA_MAX_NODE_DISCOUNT}, flow[] = {MIXEGORTA_MAX_FLOW};
-    CHECK(priced(mixegorta_bond_price(1, 0, discount, 1, flow, 1), 2200000000, 3));
+    CHECK(priced(mixegorta_bond_price(1, 0, discount, 1, flow, 1), 2200000000, 2));
     struct mixegorta_price put = mixegorta_option_price(1, 0, discount, 1, flow, 1, MIXEGORTA_EUROPEAN_PUT, 0, MIXEGORTA_MAX_STRIKE);
-    CHECK(priced(put, 1800000000, 3));
+    CHECK(priced(put, 1800000000, 2));
     uint64_t row[] = {MIXEGORTA_MAX_STATE_PRICE_SUM}, payoff[] = {ONE};
     CHECK(answered(mixegorta_value_by_state_prices(row, 1, payoff, 1), MIXEGORTA_MAX_STATE_PRICE_SUM));
     row[0] = ONE;
@@ -362,10 +362,10 @@ static void repricing(void) {
 
 static void price_refusals(void) {
     uint64_t flat[4] = {ONE, ONE, ONE, ONE}, flows[2] = {0, ONE};
-    CHECK(priced(mixegorta_bond_price(2, 0, flat, 4, flows, 2), ONE, 6));
-    CHECK(priced(mixegorta_option_price(2, 0, flat, 4, flows, 2, MIXEGORTA_EUROPEAN_CALL, 1, 900000000), 100000000, 6));
-    CHECK(priced(mixegorta_option_price(2, 0, flat, 4, flows, 2, MIXEGORTA_EUROPEAN_PUT, 1, 900000000), 0, 6));
-    CHECK(priced(mixegorta_option_price(2, 0, flat, 4, flows, 2, MIXEGORTA_AMERICAN_CALL, 0, 0), ONE, 6));
+    CHECK(priced(mixegorta_bond_price(2, 0, flat, 4, flows, 2), ONE, 4));
+    CHECK(priced(mixegorta_option_price(2, 0, flat, 4, flows, 2, MIXEGORTA_EUROPEAN_CALL, 1, 900000000), 100000000, 4));
+    CHECK(priced(mixegorta_option_price(2, 0, flat, 4, flows, 2, MIXEGORTA_EUROPEAN_PUT, 1, 900000000), 0, 4));
+    CHECK(priced(mixegorta_option_price(2, 0, flat, 4, flows, 2, MIXEGORTA_AMERICAN_CALL, 0, 0), ONE, 4));
     CHECK(unpriced(mixegorta_bond_price(0, 6001, NULL, 0, NULL, 0), 3));
     CHECK(unpriced(mixegorta_bond_price(2, 6001, NULL, 0, NULL, 0), 4));
     CHECK(unpriced(mixegorta_bond_price(2, 0, NULL, 0, NULL, 0), 6));
@@ -385,20 +385,44 @@ static void price_refusals(void) {
     CHECK(unpriced(mixegorta_bond_price(2, 0, flat, 4, flows, 2), 9));
 }
 
+static struct mixegorta_price one_step(uint64_t flow, uint64_t discount) { return mixegorta_bond_price(1, 0, &discount, 1, &flow, 1); }
+
+/* The values of row 1 are tenths of a flow of 10. Their mean, a sixth of the outer two and four times the middle one, goes by the
+ * discount of row 0. */
+static struct mixegorta_price two_steps(uint64_t low, uint64_t middle, uint64_t high, uint64_t root) {
+    const uint64_t tenth = ONE / 10, flows[2] = {0, 10};
+    const uint64_t tree[4] = {root, low * tenth, middle * tenth, high * tenth};
+    return mixegorta_bond_price(2, 0, tree, 4, flows, 2);
+}
+
+/* Both divisions of a roll go to the nearest, halves up, each on its own. */
+static void rolls(void) {
+    CHECK(priced(one_step(1, ONE / 2 - 1), 0, 2));
+    CHECK(priced(one_step(1, ONE / 2), 1, 2));
+    CHECK(priced(one_step(3, ONE / 2), 2, 2));
+    CHECK(priced(one_step(5, ONE / 2), 3, 2));
+    CHECK(priced(two_steps(4, 4, 6, ONE), 4, 4));
+    CHECK(priced(two_steps(5, 2, 2, ONE), 3, 4));
+    CHECK(priced(two_steps(4, 4, 7, ONE), 5, 4));
+    CHECK(priced(two_steps(5, 2, 2, ONE / 2), 2, 3));                    /* the whole quotient is 1.25 */
+    CHECK(priced(two_steps(4, 4, 6, MIXEGORTA_MAX_NODE_DISCOUNT), 4, 5)); /* 4.77 */
+    CHECK(priced(two_steps(4, 4, 7, MIXEGORTA_MAX_NODE_DISCOUNT), 6, 5)); /* 4.95 */
+}
+
 /* The coupon of the exercise day stays with the seller: on row 1 these bonds are worth 1, 1.1 and 0.99 without their coupon of 0.1. On the
  * last row the bond has been repaid. */
 static void exercise_days(void) {
     const uint64_t flat[4] = {ONE, ONE, ONE, ONE}, flows[2] = {100000000, ONE}, later[3] = {100000000, 100000000, ONE};
-    CHECK(priced(mixegorta_option_price(2, 0, flat, 4, flows, 2, MIXEGORTA_EUROPEAN_CALL, 1, 900000000), 100000000, 6));
-    CHECK(priced(mixegorta_option_price(2, 0, flat, 4, flows, 2, MIXEGORTA_AMERICAN_CALL, 1, 900000000), 200000000, 6));
-    CHECK(priced(mixegorta_option_price(2, 0, flat, 4, flows, 2, MIXEGORTA_EUROPEAN_PUT, 1, 1050000000), 50000000, 6));
-    CHECK(priced(mixegorta_option_price(2, 0, flat, 4, flows, 2, MIXEGORTA_AMERICAN_PUT, 1, 1050000000), 50000000, 6));
+    CHECK(priced(mixegorta_option_price(2, 0, flat, 4, flows, 2, MIXEGORTA_EUROPEAN_CALL, 1, 900000000), 100000000, 4));
+    CHECK(priced(mixegorta_option_price(2, 0, flat, 4, flows, 2, MIXEGORTA_AMERICAN_CALL, 1, 900000000), 200000000, 4));
+    CHECK(priced(mixegorta_option_price(2, 0, flat, 4, flows, 2, MIXEGORTA_EUROPEAN_PUT, 1, 1050000000), 50000000, 4));
+    CHECK(priced(mixegorta_option_price(2, 0, flat, 4, flows, 2, MIXEGORTA_AMERICAN_PUT, 1, 1050000000), 50000000, 4));
     for (uint64_t kind = 1; kind <= 4; kind++) CHECK(unpriced(mixegorta_option_price(2, 0, flat, 4, flows, 2, kind, 2, 900000000), 11));
     uint64_t tree[9] = {900000000, ONE, ONE, ONE, ONE, ONE, ONE, ONE, ONE};
-    CHECK(priced(mixegorta_option_price(3, 0, tree, 9, later, 3, MIXEGORTA_AMERICAN_CALL, 2, ONE), 90000000, 9));
+    CHECK(priced(mixegorta_option_price(3, 0, tree, 9, later, 3, MIXEGORTA_AMERICAN_CALL, 2, ONE), 90000000, 6));
     tree[0] = ONE;
     tree[1] = tree[2] = tree[3] = 900000000;
-    CHECK(priced(mixegorta_option_price(3, 0, tree, 9, later, 3, MIXEGORTA_AMERICAN_PUT, 2, 1050000000), 60000000, 9));
+    CHECK(priced(mixegorta_option_price(3, 0, tree, 9, later, 3, MIXEGORTA_AMERICAN_PUT, 2, 1050000000), 60000000, 6));
 }
 
 /* Both prices at once have these numbers, and each is what its own entry answers. */
@@ -434,6 +458,14 @@ static void bond_and_option(void) {
     CHECK(each_its_own(3, flat, 9, flows, 3, 5, 1, ONE, 9, 9));
 }
 
+/* A bond of four steps that is worth so much on row 1, then by the discount of row 0. */
+static struct mixegorta_price from_row_one(uint64_t value, uint64_t discount) {
+    const uint64_t most = MIXEGORTA_MAX_FLOW, flows[4] = {value - 3 * most, most, most, most};
+    uint64_t tree[16] = {discount};
+    for (size_t i = 1; i < 16; i++) tree[i] = ONE;
+    return mixegorta_bond_price(4, 0, tree, 16, flows, 4);
+}
+
 static void value_limits(void) {
     uint64_t flat[25], flows[5];
     for (size_t i = 0; i < 25; i++) flat[i] = ONE;
@@ -444,7 +476,11 @@ static void value_limits(void) {
     CHECK(each_its_own(5, flat, 25, flows, 5, 5, 4, 0, 12, 11));
     CHECK(each_its_own(5, flat, 25, flows, 5, 1, 5, 0, 12, 11));
     flows[0] = 0;
-    CHECK(priced(mixegorta_bond_price(5, 0, flat, 25, flows, 5), MIXEGORTA_MAX_VALUE, 15));
+    CHECK(priced(mixegorta_bond_price(5, 0, flat, 25, flows, 5), MIXEGORTA_MAX_VALUE, 10));
+    /* Judged after rounding: past the limit these have 0.488, 0.5 and 0.998 billionths. */
+    CHECK(priced(from_row_one(7999936001, 1000008000), MIXEGORTA_MAX_VALUE, 9));
+    CHECK(unpriced(from_row_one(7746425600, 1032734375), 12));
+    CHECK(unpriced(from_row_one(7999996001, 1000000500), 12));
     uint64_t high[81], nothing[9] = {0}; /* a strike of 4 grows above 8 in eight steps */
     for (size_t i = 0; i < 81; i++) high[i] = MIXEGORTA_MAX_NODE_DISCOUNT;
     CHECK(each_its_own(9, high, 81, nothing, 9, MIXEGORTA_EUROPEAN_PUT, 8, MIXEGORTA_MAX_STRIKE, 0, 12));
@@ -608,9 +644,9 @@ static const uint8_t example_job[] = {1, 0, 1, 1, 2, 0, 1, 1, 3, 0, 2, 0, 0, 4, 
 enum { JOB = sizeof example_job, OPTION = 9 };
 static const char example_sheet[] = "node 0 0 1.002500000 -0.2493766\n"
                                     "row 1 1.002500000 1.002499999 4\n"
-                                    "bond 1.002500000 3\n"
-                                    "option 0.007500000 3\n";
-static const size_t option_line = sizeof "option 0.007500000 3\n" - 1;
+                                    "bond 1.002500000 2\n"
+                                    "option 0.007500000 2\n";
+static const size_t option_line = sizeof "option 0.007500000 2\n" - 1;
 
 static uint8_t out[MIXEGORTA_SHEET_ROOM + SPARE];
 
@@ -733,6 +769,7 @@ int main(void) {
     limits();
     repricing();
     price_refusals();
+    rolls();
     exercise_days();
     bond_and_option();
     value_limits();

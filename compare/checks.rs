@@ -4,6 +4,7 @@ use crate::exact::{near_fourth_power, Exact, ExactBond};
 use crate::inputs::Case;
 use crate::natural::Natural;
 use crate::rules::{self, Contract, Curve, DatedOption, Fitted, Outcome, Tree, CALL, DISCOUNT_LIMIT, FLOW_LIMIT, ONE, PUT};
+use std::cmp::Ordering;
 use std::collections::BTreeMap;
 use std::fmt;
 
@@ -33,12 +34,45 @@ struct Entries {
 const ON_A_FIT: Entries = Entries { bond: "bond on a fit", option: "option on a fit", dated: "dated on a fit" };
 const ON_LENT: Entries = Entries { bond: "bond on lent", option: "option on lent", dated: "dated on lent" };
 
+/// How many prices lie on which side of their exact ones, and the greatest part of an error bound that one of them used.
+#[derive(Default)]
+struct Sides {
+    above: u64,
+    below: u64,
+    equal: u64,
+    thousandths: u64,
+}
+
+impl Sides {
+    /// A price, its exact one and its bound, all held alike.
+    fn count(&mut self, price: &Natural, exact: &Natural, bound: &Natural) {
+        match price.cmp(exact) {
+            Ordering::Greater => self.above += 1,
+            Ordering::Less => self.below += 1,
+            Ordering::Equal => self.equal += 1,
+        }
+        let used = price.distance(exact).times(1_000);
+        while bound.times(self.thousandths + 1) <= used {
+            self.thousandths += 1;
+        }
+    }
+}
+
+impl fmt::Display for Sides {
+    fn fmt(&self, f: &mut fmt::Formatter) -> fmt::Result {
+        let (whole, tenth) = (self.thousandths / 10, self.thousandths % 10);
+        write!(f, "{} above, {} below, {} equal; greatest share of a bound used {whole}.{tenth} %", self.above, self.below, self.equal)
+    }
+}
+
 #[derive(Default)]
 pub struct Tally {
     results: BTreeMap<&'static str, BTreeMap<u64, u64>>,
     shapes: BTreeMap<&'static str, (u64, u64)>,
     exact: BTreeMap<&'static str, u64>,
     rights: BTreeMap<&'static str, (u64, u64)>,
+    bonds: Sides,
+    options: Sides,
 }
 
 impl Tally {
@@ -49,6 +83,10 @@ impl Tally {
 
     fn exact(&mut self, what: &'static str) {
         *self.exact.entry(what).or_default() += 1;
+    }
+
+    pub fn bonds_on_both_sides(&self) -> bool {
+        self.bonds.above > 0 && self.bonds.below > 0
     }
 
     /// How many dated options were compared, and how many of them were priced.
@@ -78,7 +116,9 @@ impl fmt::Display for Tally {
         for (what, count) in &self.exact {
             writeln!(f, "  {what:<38}{count}")?;
         }
-        Ok(())
+        writeln!(f, "prices and their exact ones")?;
+        writeln!(f, "  {:<22}{}", "bonds", self.bonds)?;
+        writeln!(f, "  {:<22}{}", "options", self.options)
     }
 }
 
@@ -225,6 +265,36 @@ pub fn dates_by_hand() {
     }
 }
 
+/// Rolls that end in one half, which goes up. One step: the flow by the discount. Two: three values from a flow of 10, whose mean is a sixth
+/// of the outer two and four times the middle one, by the discount of row 0; each division is rounded on its own.
+pub fn rolls_by_hand() {
+    let half = ONE / 2;
+    for (flow, discount, price) in [(1, half - 1, 0), (1, half, 1), (2, half, 1), (3, half, 2), (5, half, 3), (5, half - 1, 2)] {
+        let tree = Tree { steps: 1, reversion: 0 };
+        assert_eq!(engine::bond(&tree, &[discount], &[flow]), Ok((price, 2)), "flow {flow}, discount {discount}");
+    }
+    for (tenths, root, price, bound) in [
+        ([1, 0, 1], ONE, 0, 4), ([1, 0, 2], ONE, 1, 4), ([5, 2, 2], ONE, 3, 4), ([2, 2, 5], ONE, 3, 4), ([3, 4, 2], ONE, 4, 4),
+        ([1, 0, 2], half, 1, 3), ([5, 2, 2], half, 2, 3), ([4, 4, 6], DISCOUNT_LIMIT, 4, 5), ([4, 4, 7], DISCOUNT_LIMIT, 6, 5),
+    ] {
+        let tree = Tree { steps: 2, reversion: 0 };
+        let [low, middle, high] = tenths.map(|tenth: u64| (tenth * ONE / 10).max(1));
+        assert_eq!(engine::bond(&tree, &[root, low, middle, high], &[0, 10]), Ok((price, bound)), "values {tenths:?}, discount {root}");
+    }
+}
+
+/// The limit is judged after rounding: past 8 × one these bonds have 0.488, 0.5 and 0.998 billionths more.
+pub fn limit_by_hand() {
+    let tree = Tree { steps: 4, reversion: 0 };
+    let figures = [(7_999_936_001, 1_000_008_000, Ok(8 * ONE)), (7_746_425_600, 1_032_734_375, Err(12)), (7_999_996_001, 1_000_000_500, Err(12))];
+    for (value, discount, price) in figures {
+        let mut discounts = vec![ONE; tree.discounts_needed()];
+        discounts[0] = discount;
+        let flows = [value - 3 * FLOW_LIMIT, FLOW_LIMIT, FLOW_LIMIT, FLOW_LIMIT];
+        assert_eq!(engine::bond(&tree, &discounts, &flows).map(|bond| bond.0), price, "value {value}, discount {discount}");
+    }
+}
+
 /// Where the rate is not 0, its sign is the step rate's.
 fn continuous_rate(discount: u64, tally: &mut Tally) {
     let rate = engine::continuous_rate(discount);
@@ -275,15 +345,16 @@ fn laws_of_fit(case: &Case, fitted: &Fitted, tally: &mut Tally) {
 
 // Demand 3
 
-fn within(bond: &ExactBond, priced: (u64, u64), exact: &Natural, what: &str) {
-    let (price, bound) = priced;
-    let distance = bond.held(price).distance(exact);
-    assert!(distance <= bond.held(bound), "{what}: {price} is further than {bound} from the exact price");
+/// A price within its bound on either side of the exact one.
+fn within(bond: &ExactBond, priced: (u64, u64), exact: &Natural, what: &str, sides: &mut Sides) {
+    let (price, bound) = (bond.held(priced.0), bond.held(priced.1));
+    assert!(price.distance(exact) <= bound, "{what}: {} is further than {} from the exact price", priced.0, priced.1);
+    sides.count(&price, exact, &bound);
 }
 
-fn at_most_three_a_step(tree: &Tree, discounts: &[u64], bound: u64) {
+fn at_most_two_a_step(tree: &Tree, discounts: &[u64], bound: u64) {
     let shown = &discounts[..tree.discounts_needed()];
-    assert!(shown.iter().any(|v| *v > ONE) || bound <= 3 * tree.steps as u64, "bound {bound} above three a step");
+    assert!(shown.iter().any(|v| *v > ONE) || bound <= 2 * tree.steps as u64, "bound {bound} above two a step");
 }
 
 /// The answers of both at once, of which each must be what its own entry gives.
@@ -353,12 +424,12 @@ fn prices(case: &Case, discounts: &[u64], entries: &Entries, tally: &mut Tally) 
 fn exact_prices(case: &Case, discounts: &[u64], bond: (u64, u64), options: [Option<(u64, u64)>; 2], tally: &mut Tally) {
     let (tree, contract, dated) = (case.fit.tree, &case.contract, &case.dated);
     let exact = ExactBond::new(tree, discounts, &case.flows);
-    within(&exact, bond, exact.price(), "bond");
-    at_most_three_a_step(&tree, discounts, bond.1);
+    within(&exact, bond, exact.price(), "bond", &mut tally.bonds);
+    at_most_two_a_step(&tree, discounts, bond.1);
     tally.exact("bond prices");
     let mut option_within = |option: &DatedOption, price: (u64, u64), called: Called| {
-        within(&exact, price, &exact.option(option), called.0);
-        at_most_three_a_step(&tree, discounts, price.1);
+        within(&exact, price, &exact.option(option), called.0, &mut tally.options);
+        at_most_two_a_step(&tree, discounts, price.1);
         tally.exact(called.0);
         if tree.exercised_on_a_flow(discounts, &case.flows, option) {
             tally.exact(called.1);

@@ -131,18 +131,20 @@ fn curve(r: &mut Random, shape: &str, frequency: u64, n: usize) -> Curve {
     made
 }
 
+/// Discounts of any range, or quarters of one, by which rolls often end in one half.
 fn lent(r: &mut Random, needed: usize) -> Vec<u64> {
-    let (low, high) = match r.below(7) {
-        0 => (ONE, ONE),
-        1 => (950_000_000, ONE),
-        2 => (ONE, DISCOUNT_LIMIT),
-        3 => (1, 1_000),
-        4 => (1, DISCOUNT_LIMIT),
-        5 => (DISCOUNT_LIMIT - 3, DISCOUNT_LIMIT),
-        _ => (900_000_000, 1_050_000_000),
+    let (grain, low, high) = match r.below(8) {
+        0 => (1, ONE, ONE),
+        1 => (1, 950_000_000, ONE),
+        2 => (1, ONE, DISCOUNT_LIMIT),
+        3 => (1, 1, 1_000),
+        4 => (1, 1, DISCOUNT_LIMIT),
+        5 => (1, DISCOUNT_LIMIT - 3, DISCOUNT_LIMIT),
+        6 => (ONE / 4, 1, 4),
+        _ => (1, 900_000_000, 1_050_000_000),
     };
     let extra = if r.chance(30) { r.below(9) } else { 0 };
-    (0..needed + extra).map(|_| r.within(low, high)).collect()
+    (0..needed + extra).map(|_| grain * r.within(low, high)).collect()
 }
 
 /// Level coupons and the principal, as a desk has them, or any flows.

@@ -24,6 +24,7 @@ fn up(numerator: u128, denominator: u128) -> u128 {
     numerator / denominator + (numerator % denominator > 0) as u128
 }
 
+/// Halves up.
 fn nearest(numerator: u128, denominator: u128) -> u128 {
     (2 * numerator + denominator) / (2 * denominator)
 }
@@ -414,12 +415,13 @@ fn limited(values: Vec<u64>) -> Outcome<Vec<u64>> {
 }
 
 impl Tree {
+    /// Two divisions, each to nearest on its own.
     fn roll(&self, discounts: &[u64], row: usize, later: &[u64]) -> Vec<u64> {
         let (w, next) = (self.half_width(row), self.half_width(row + 1));
         let shown = self.row(discounts, row);
         let rolled = |j: i64| {
             let sum: u128 = self.branches(j).iter().map(|(t, p)| *p as u128 * later[(t + next) as usize] as u128).sum();
-            (sum / WHOLE as u128 * shown[(j + w) as usize] as u128 / ONE as u128) as u64
+            nearest(nearest(sum, WHOLE as u128) * shown[(j + w) as usize] as u128, ONE as u128) as u64
         };
         (-w..=w).map(rolled).collect()
     }
@@ -435,7 +437,7 @@ impl Tree {
     }
 
     fn price_bound(&self, discounts: &[u64]) -> u64 {
-        let step = |later: u128, row: usize| up(self.greatest(discounts, row) * later, ONE as u128) + 3;
+        let step = |later: u128, row: usize| up(self.greatest(discounts, row) * later, ONE as u128) + 2;
         (0..self.steps).rev().fold(0, step) as u64
     }
 

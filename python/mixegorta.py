@@ -282,7 +282,7 @@ def state_price_error_bound(steps, reversion, discounts, row):
 # ---- level two
 
 def bond_price(steps, reversion, discounts, flows):
-    """Price and error bound, at row 0, of the bond with these flows of rows 1 to n."""
+    """Price and error bound, at row 0, of the bond with these flows of rows 1 to n. The exact price is at most the bound above or below."""
     return _price(_library.mixegorta_bond_price(_u64(steps), _u64(reversion), *_lent("Q", discounts), *_lent("Q", flows)))
 
 

@@ -14,7 +14,7 @@ from mixegorta import ONE, Branches, Point, Price
 
 PATTERN = 0xA5A5A5A5A5A5A5A5
 EXAMPLE = bytes.fromhex("01000101 02000101 0300020000 04000400000000 0500083FF00A3D70A3D70A 0700043B9ACA00 08000604003C336080")
-SHEET = "node 0 0 1.002500000 -0.2493766\nrow 1 1.002500000 1.002499999 4\nbond 1.002500000 3\noption 0.007500000 3\n"
+SHEET = "node 0 0 1.002500000 -0.2493766\nrow 1 1.002500000 1.002499999 4\nbond 1.002500000 2\noption 0.007500000 2\n"
 
 
 def falling(part, steps):
@@ -104,10 +104,10 @@ class Test(unittest.TestCase):
         self.assertIsNone(tree.row(m.DISCOUNTS, 1))
         self.assertIsNone(tree.row(3, 0))
         self.assertEqual(tree.state_price_error_bound(1), 4)
-        self.assertEqual(tree.bond_price([ONE]), Price(1_002_500_000, 3))
-        self.assertEqual(tree.option_price([ONE], m.AMERICAN_PUT, 0, 1_010_000_000), Price(7_500_000, 3))
+        self.assertEqual(tree.bond_price([ONE]), Price(1_002_500_000, 2))
+        self.assertEqual(tree.option_price([ONE], m.AMERICAN_PUT, 0, 1_010_000_000), Price(7_500_000, 2))
         both = tree.bond_and_option([ONE], m.AMERICAN_PUT, 0, 1_010_000_000)
-        self.assertEqual(both, (Price(1_002_500_000, 3), Price(7_500_000, 3)))
+        self.assertEqual(both, (Price(1_002_500_000, 2), Price(7_500_000, 2)))
         self.refused(11, tree.option_price, [ONE], m.AMERICAN_PUT, 1, 1_010_000_000)
         self.assertEqual(tree.value(1, [ONE] * 3), Price(1_002_499_999, 5))
         self.refused(6, tree.value, 2, [ONE] * 3)
@@ -140,8 +140,8 @@ class Test(unittest.TestCase):
 
     def test_prices_on_lent_discounts(self):
         flat = array("Q", [ONE] * 4)
-        self.assertEqual(m.bond_price(2, 0, flat, (0, ONE)), Price(ONE, 6))
-        self.assertEqual(m.option_price(2, 0, flat, (0, ONE), m.EUROPEAN_CALL, 1, 900_000_000), Price(100_000_000, 6))
+        self.assertEqual(m.bond_price(2, 0, flat, (0, ONE)), Price(ONE, 4))
+        self.assertEqual(m.option_price(2, 0, flat, (0, ONE), m.EUROPEAN_CALL, 1, 900_000_000), Price(100_000_000, 4))
         self.refused(6, m.bond_price, 2, 0, (), ())
         self.refused(9, m.bond_price, 2, 0, [0] * 4, [2 * ONE + 1, 0])
         self.refused(10, m.bond_price, 2, 0, flat, [2 * ONE + 1, 0])
@@ -153,12 +153,22 @@ class Test(unittest.TestCase):
         self.assertEqual(m.row_range(flat, [ONE] * 9, m.STATE_PRICES, 2, 0, 2), range(4, 9))
         self.assertIsNone(m.row_range(flat, [ONE] * 8, m.DISCOUNTS, 2, 0, 1))
 
+    def test_rolls_to_the_nearest(self):
+        """Halves go up. The values of row 1 are tenths of a flow of 10; their mean is a sixth of the outer two and four times the middle one."""
+        for flow, discount, price in ((1, ONE // 2 - 1, 0), (1, ONE // 2, 1), (3, ONE // 2, 2), (5, ONE // 2, 3)):
+            self.assertEqual(m.bond_price(1, 0, [discount], [flow]), Price(price, 2))
+        for tenths, root, price in (((4, 4, 6), ONE, Price(4, 4)), ((5, 2, 2), ONE, Price(3, 4)), ((4, 4, 7), ONE, Price(5, 4)),
+                                    ((5, 2, 2), ONE // 2, Price(2, 3)), ((4, 4, 6), 1_100_000_000, Price(4, 5))):
+            discounts = [root] + [tenth * ONE // 10 for tenth in tenths]
+            self.assertEqual(m.bond_price(2, 0, discounts, [0, 10]), price)
+            self.assertEqual(m.dated_option_price(2, 0, discounts, [0, 10], m.CALL, [1], 0), price)
+
     def test_the_coupon_of_the_exercise_day(self):
         """It stays with the seller: on row 1 the bond is worth 1 without its coupon of 0.1."""
         flat, flows = [ONE] * 4, [100_000_000, ONE]
         for kind, strike, price in ((m.EUROPEAN_CALL, 900_000_000, 100_000_000), (m.AMERICAN_CALL, 900_000_000, 200_000_000),
                                     (m.EUROPEAN_PUT, 1_050_000_000, 50_000_000), (m.AMERICAN_PUT, 1_050_000_000, 50_000_000)):
-            self.assertEqual(m.option_price(2, 0, flat, flows, kind, 1, strike), Price(price, 6))
+            self.assertEqual(m.option_price(2, 0, flat, flows, kind, 1, strike), Price(price, 4))
             self.refused(11, m.option_price, 2, 0, flat, flows, kind, 2, strike)
 
     def both(self, together, option, *arguments):
@@ -172,10 +182,10 @@ class Test(unittest.TestCase):
             return self.both(m.bond_and_option, m.option_price, *arguments)
 
         flat, flows, call = [ONE] * 4, [0, ONE], (m.EUROPEAN_CALL, 1, 900_000_000)
-        self.assertEqual(both(2, 0, flat, flows, *call), (Price(ONE, 6), Price(100_000_000, 6)))
-        self.assertEqual(both(2, 0, flat, flows, 5, 1, ONE), (Price(ONE, 6), 11))
-        self.assertEqual(both(2, 0, flat, flows, m.EUROPEAN_CALL, 2, 900_000_000), (Price(ONE, 6), 11))
-        self.assertEqual(both(9, 0, [1_100_000_000] * 81, [0] * 9, m.EUROPEAN_PUT, 8, 4 * ONE), (Price(0, 47), 12))
+        self.assertEqual(both(2, 0, flat, flows, *call), (Price(ONE, 4), Price(100_000_000, 4)))
+        self.assertEqual(both(2, 0, flat, flows, 5, 1, ONE), (Price(ONE, 4), 11))
+        self.assertEqual(both(2, 0, flat, flows, m.EUROPEAN_CALL, 2, 900_000_000), (Price(ONE, 4), 11))
+        self.assertEqual(both(9, 0, [1_100_000_000] * 81, [0] * 9, m.EUROPEAN_PUT, 8, 4 * ONE), (Price(0, 33), 12))
         self.assertEqual(both(2, 0, flat[1:], flows, *call), (6, 6))
         self.assertEqual(both(5, 0, [ONE] * 25, [2 * ONE] * 5, *call), (12, 12))
         self.assertEqual(both(5, 0, [ONE] * 25, [2 * ONE] * 5, 5, 1, ONE), (12, 11))
@@ -215,9 +225,9 @@ class Test(unittest.TestCase):
         def both(flow, *terms):
             return self.both(m.bond_and_dated_option, m.dated_option_price, 5, 0, [ONE] * 25, [flow] * 5, *terms)
 
-        high, bond = 2 * ONE, Price(5 * ONE, 15)
+        high, bond = 2 * ONE, Price(5 * ONE, 10)
         self.assertEqual(both(high, m.CALL, [1], ONE), (12, 12))
-        self.assertEqual(both(ONE, m.CALL, [1], ONE), (bond, Price(3 * ONE, 15)))
+        self.assertEqual(both(ONE, m.CALL, [1], ONE), (bond, Price(3 * ONE, 10)))
         for dates in ([5], [1, 1], [], b"", [3, 1], [1, 255], bytes(4672)):
             self.assertEqual(both(high, m.PUT, dates, ONE), (12, 13))
             self.assertEqual(both(ONE, m.PUT, dates, ONE), (bond, 13))

@@ -44,10 +44,16 @@ def up(numerator, denominator):
     return -(-numerator // denominator)
 
 
+def half_up(numerator, denominator):
+    """Nearest of a quotient without a sign."""
+    whole, rest = divmod(numerator, denominator)
+    return whole + 1 if 2 * rest >= denominator else whole
+
+
 def nearest(x):
     """Halves away from zero."""
     x = Fraction(x)
-    size = (2 * abs(x.numerator) + x.denominator) // (2 * x.denominator)
+    size = half_up(abs(x.numerator), x.denominator)
     return size if x >= 0 else -size
 
 
@@ -218,8 +224,9 @@ def continuous_rate(discount):
 # Prices
 
 def rolled(b, discounts, later):
-    return {j: sum(p * later[k] for k, p in branches(b, j)) // D * discounts[j] // ONE
-            for j in discounts}
+    """Two divisions, each to nearest on its own."""
+    means = {j: half_up(sum(p * later[k] for k, p in branches(b, j)), D) for j in discounts}
+    return {j: half_up(means[j] * discounts[j], ONE) for j in discounts}
 
 
 def within_limit(row):
@@ -298,7 +305,7 @@ def option_value(n, b, discounts, flows, option):
 def price_allowance(discounts):
     allowance = 0
     for row in reversed(discounts):
-        allowance = up(max(row.values()) * allowance, ONE) + 3
+        allowance = up(max(row.values()) * allowance, ONE) + 2
     return allowance
 
 

@@ -150,8 +150,9 @@ class ExerciseDay(unittest.TestCase):
     def test_the_job_of_document_01(self):
         job = bytes.fromhex('01000101' '02000101' '0300020000' '04000400000000' '0500083FF00A3D70A3D70A' '0700043B9ACA00' '08000604013C336080')
         self.assertEqual(reference.sheet(job), b'refused 11\n')
+        self.assertEqual(reference.sheet(job[:-9]), b'node 0 0 1.002500000 -0.2493766\nrow 1 1.002500000 1.002499999 4\nbond 1.002500000 2\n')
         today = job[:42] + b'\x00' + job[43:]
-        self.assertEqual(reference.sheet(today).splitlines()[2:], [b'bond 1.002500000 3', b'option 0.007500000 3'])
+        self.assertEqual(reference.sheet(today).splitlines()[2:], [b'bond 1.002500000 2', b'option 0.007500000 2'])
 
 
 class ExerciseDates(unittest.TestCase):
@@ -214,6 +215,78 @@ class ExerciseDates(unittest.TestCase):
             option = reference.Option(chosen.choice((1, 2)), chosen.randint(0, ONE), dates)
             distance = reference.option_value(n, b, tree, flows, option) - reference.exact_option(n, b, tree, flows, option)
             self.assertLessEqual(abs(distance), reference.price_allowance(tree))
+
+
+class Rolling(unittest.TestCase):
+    def one_step(self, flow, discount):
+        """The mean is the flow itself, so that the second division alone rounds."""
+        return reference.bond_rows(1, 0, level_tree(discount), [flow])[0][0]
+
+    def two_steps(self, values, root):
+        """The three values of row 1 from a flow of 10, then the price by the discount of row 0. Without reversion the mean is a sixth of
+        lowest, highest and four times the middle."""
+        tree = [{0: root}, {j: max(value * ONE // 10, 1) for j, value in zip((-1, 0, 1), values)}]
+        rows = reference.bond_rows(2, 0, tree, [0, 10])
+        self.assertEqual([rows[1][j] for j in (-1, 0, 1)], values)
+        return rows[0][0]
+
+    def test_the_second_division(self):
+        half = ONE // 2
+        for flow, discount, price in ((0, half, 0), (1, half - 1, 0), (1, half, 1), (2, half, 1), (3, half, 2), (5, half, 3), (5, half - 1, 2), (7, half, 4),
+                                      (1, 1, 0), (2 * ONE, 1, 2), (ONE + 1, ONE + 1, ONE + 2), (half, ONE + 1, half + 1), (half - 1, ONE + 1, half - 1)):
+            self.assertEqual(self.one_step(flow, discount), price, (flow, discount))
+
+    def test_the_first_division(self):
+        for values, price in (([0, 0, 0], 0), ([1, 0, 1], 0), ([1, 0, 2], 1), ([2, 0, 1], 1), ([0, 1, 0], 1), ([5, 2, 2], 3), ([2, 2, 4], 2), ([2, 2, 5], 3),
+                              ([3, 4, 2], 4), ([1, 3, 2], 3), ([0, 3, 2], 2), ([7, 10, 4], 9)):
+            self.assertEqual(self.two_steps(values, ONE), price, values)
+
+    def test_each_on_its_own(self):
+        """The whole quotients are 0.25, 4.77, 1.25 and 4.95: rounded once they would be 0, 5, 1 and 5."""
+        for values, root, price in (([1, 0, 2], 500_000_000, 1), ([4, 4, 6], 1_100_000_000, 4), ([5, 2, 2], 500_000_000, 2), ([4, 4, 7], 1_100_000_000, 6)):
+            self.assertEqual(self.two_steps(values, root), price, (values, root))
+
+    def test_options_roll_alike(self):
+        """A call at strike 0 on row 1 is the bond."""
+        tree = [{0: 500_000_000}, {-1: 100_000_000, 0: 1, 1: 200_000_000}]
+        self.assertEqual(reference.option_value(2, 0, tree, [0, 10], reference.Option(1, 0, [1])), 1)
+
+    def test_two_a_step(self):
+        for discounts, allowance in (([ONE], 2), ([1], 2), ([1_100_000_000], 2), ([ONE] * 3, 6), ([ONE] * 60, 120), ([900_000_000] * 4, 8), ([500_000_000] * 5, 4),
+                                     ([1_100_000_000] * 4, 11), ([ONE, ONE, 1_100_000_000], 6), ([1_100_000_000, ONE, ONE], 7), ([999_999_999] * 60, 120)):
+            self.assertEqual(reference.price_allowance(level_tree(*discounts)), allowance, discounts)
+
+    def test_state_prices_and_weighing_stay_down(self):
+        """Sixths of 999,999,995 are 166,666,665.8 and, four of them, 666,666,663.3; the allowance is the node counts, one and three."""
+        discounts, prices = reference.fit(1, 0, 0, [999_999_995])
+        self.assertEqual([prices[1][j] for j in (-1, 0, 1)], [166_666_665, 666_666_663, 166_666_665])
+        self.assertEqual(reference.state_price_allowance(0, discounts, 1), 4)
+        self.assertEqual([reference.weighing([price], [1]) for price in (500_000_000, 999_999_999, ONE)], [0, 0, 1])
+        self.assertEqual(reference.weighing_allowance(0, discounts, 1, [ONE] * 3), 5)
+
+    def test_the_limit_comes_after_rounding(self):
+        """Past 8 x one the bond of row 1 times the discount has 0.488, 0.5 and 0.998 billionths more; rounded down, each would be within it."""
+        for value, discount, number in ((7_999_936_001, 1_000_008_000, 0), (7_746_425_600, 1_032_734_375, 12), (7_999_996_001, 1_000_000_500, 12)):
+            tree, flows = level_tree(discount, ONE, ONE, ONE), [value - 6 * ONE, 2 * ONE, 2 * ONE, 2 * ONE]
+            self.assertEqual(value * discount // ONE, 8 * ONE)
+            self.assertEqual(refusal(reference.bond_rows, 4, 0, tree, flows), number, (value, discount))
+            flows[0] -= 1
+            self.assertEqual(reference.bond_rows(4, 0, tree, flows)[0][0], 8 * ONE if discount == 1_000_000_500 else 8 * ONE - 1)
+
+    def test_on_either_side_of_the_exact_price(self):
+        chosen, above, below = random.Random(6), 0, 0
+        for _ in range(120):
+            n, b = chosen.randint(1, 9), chosen.choice((0, 700, 1_841))
+            most = chosen.choice((ONE, 1_100_000_000))
+            tree = [{j: chosen.randint(850_000_000, most) for j in reference.nodes(b, i)} for i in range(n)]
+            flows = [chosen.randint(0, 300_000_000) for _ in range(n)]
+            exact, allowance = reference.exact_bond_rows(n, b, tree, flows)[0][0], reference.price_allowance(tree)
+            price = reference.bond_rows(n, b, tree, flows)[0][0]
+            self.assertLessEqual(abs(price - exact), allowance)
+            if most == ONE:
+                self.assertLessEqual(allowance, 2 * n)
+            above, below = above + (price > exact), below + (price < exact)
+        self.assertGreater(min(above, below), 30)
 
 
 class Jobs(unittest.TestCase):

@@ -20,7 +20,7 @@ import reference
 EXAMPLES = sorted((ROOT / 'examples').glob('*.txt'))
 PICTURES = sorted((ROOT / 'docs/pictures').glob('*.svg'))
 DOCUMENT_JOB = bytes.fromhex('01000101 02000101 0300020000 04000400000000 0500083FF00A3D70A3D70A 0700043B9ACA00 08000604013C336080')
-TODAY_SHEET = b'node 0 0 1.002500000 -0.2493766\nrow 1 1.002500000 1.002499999 4\nbond 1.002500000 3\noption 0.007500000 3\n'
+TODAY_SHEET = b'node 0 0 1.002500000 -0.2493766\nrow 1 1.002500000 1.002499999 4\nbond 1.002500000 2\noption 0.007500000 2\n'
 SVG = '{http://www.w3.org/2000/svg}'
 POSITIVE, NEGATIVE = '#0072B2', '#D55E00'
 START = 'frequency 4\nreversion 0\nvolatility 5000\n'
@@ -275,11 +275,11 @@ class Drawing(unittest.TestCase):
             self.assertNotIn('unknown', texts[1])
 
     def test_what_is_no_sheet(self):
-        node, row, bond = 'node 0 0 1.000000000 0.0000000\n', 'row 1 1.000000000 1.000000000 4\n', 'bond 1.000000000 3\n'
+        node, row, bond = 'node 0 0 1.000000000 0.0000000\n', 'row 1 1.000000000 1.000000000 4\n', 'bond 1.000000000 2\n'
         self.assertEqual(run('draw', node + row + bond).returncode, 0)
         for text in ('', node, node + row, row + bond, node + bond, bond + node + row, node + node + row + bond, node + row + bond + bond,
                      node.replace('0 0', '0 1') + row + bond, node.replace('0 0', '1 0') + row + bond, node + row + bond + 'refused 1\n',
-                     'refused 1\nrefused 2\n', 'refused x\n', 'refused ' + '1' * 5_000, node.replace(' 0.0', ' ' + '9' * 400 + '.0') + row + bond, node + row + 'bond 1 3\n', b'\xff\n'):
+                     'refused 1\nrefused 2\n', 'refused x\n', 'refused ' + '1' * 5_000, node.replace(' 0.0', ' ' + '9' * 400 + '.0') + row + bond, node + row + 'bond 1 2\n', b'\xff\n'):
             made = run('draw', text)
             self.assertEqual((made.returncode, made.stdout), (2, b''), text)
             self.assertTrue(made.stderr.startswith(b'no sheet: '), made.stderr)

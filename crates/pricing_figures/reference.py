@@ -2,7 +2,7 @@
 
     python3 reference.py > stdout
 
-Each price is also held against its exact price: within its error bound, a bond never above.
+Each price is also held against its exact price: within its error bound, and bonds lie on both sides of it.
 """
 from fractions import Fraction
 
@@ -38,8 +38,14 @@ def needed(n, b):
     return sum(2 * half_width(b, i) + 1 for i in range(n))
 
 
+def nearest(a, d):
+    """halves up"""
+    return (a + d // 2) // d
+
+
 def engine_roll(b, later, j, d):
-    return sum(p * later[k] for k, p in branch(b, j)) // 600000000 * d // ONE
+    mean = nearest(sum(p * later[k] for k, p in branch(b, j)), 600000000)
+    return nearest(mean * d, ONE)
 
 
 def exact_roll(b, later, j, d):
@@ -79,7 +85,7 @@ def options(b, tree, flows, bond, side, dates, strike, roll):
 def error_bound(tree):
     bound = 0
     for row in reversed(tree):
-        bound = -(-max(row.values()) * bound // ONE) + 3
+        bound = -(-max(row.values()) * bound // ONE) + 2
     return bound
 
 
@@ -94,6 +100,10 @@ def dated_terms(n, side, dates, strike):
         return 11, side, dates, strike
     wrong = not dates or dates != sorted(set(dates)) or dates[-1] >= n
     return 13 if wrong else 0, side, dates, strike
+
+
+# On which sides of their exact prices bonds lay: -1 below, 1 above, 0 neither.
+sides = set()
 
 
 def price(n, b, discounts, flows, terms=None):
@@ -121,9 +131,10 @@ def price(n, b, discounts, flows, terms=None):
         return 12, 0, 0
     bound = error_bound(tree)
     assert abs(found[0][0] - exact[0][0]) <= bound
-    assert terms is not None or found[0][0] <= exact[0][0]
+    if terms is None:
+        sides.add((found[0][0] > exact[0][0]) - (found[0][0] < exact[0][0]))
     if all(d <= ONE for row in tree for d in row.values()):
-        assert bound <= 3 * n
+        assert bound <= 2 * n
     return 0, found[0][0], bound
 
 
@@ -219,3 +230,4 @@ option(2, 0, discounts, flows[:2], 1, 1, 4000000001)
 option(2, 0, discounts, flows[:2], 2, 1, 4000000000)
 dated(2, 0, discounts, over, 1, [2], 0)
 dated(2, 0, discounts, flows[:2], 2, [1], 4000000000)
+assert {-1, 1} <= sides

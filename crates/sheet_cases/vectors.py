@@ -66,6 +66,7 @@ WIDE_FLOWS = [20_000_000] * 59 + [ONE + 20_000_000]
 
 def good():
     yield 0, TODAY
+    yield on_the_border(0, 'bond 1.002500000 2', EXAMPLE[:-9])
     yield 0, job(f=12, b=0, s=10_000, quotes=rates(60, 0.02, 0.0002), flows=WIDE_FLOWS, option=(4, 48, 1_400_000_000))
     yield 0, job(f=12, b=83, s=10_000, quotes=rates(60, 0.03), flows=WIDE_FLOWS, option=(3, 36, 1_300_000_000))
     yield 0, job(f=4, b=6_000, s=12_000, quotes=factors(60, 0.991), flows=WIDE_FLOWS, option=(4, 59, 1_000_000_000))
@@ -94,14 +95,14 @@ def good():
 
 def exercise_days():
     """Options that are exercised on a coupon's row, on their expiry and before it. The fit puts the bond without its coupon at 1.000000002 there, then
-    at 1.1, then at 0.990000005."""
+    at 1.1, then at 0.990000006."""
     coupon, flows = [100_000_000, ONE], [100_000_000, 100_000_000, ONE]
-    for kind, strike, line in ((1, 900_000_000, 'option 0.100000002 6'), (2, 1_050_000_000, 'option 0.049999998 6'), (3, 900_000_000, 'option 0.200000002 6'),
-                               (4, 1_050_000_000, 'option 0.049999998 6')):
+    for kind, strike, line in ((1, 900_000_000, 'option 0.100000002 4'), (2, 1_050_000_000, 'option 0.049999998 4'), (3, 900_000_000, 'option 0.200000002 4'),
+                               (4, 1_050_000_000, 'option 0.049999998 4')):
         yield on_the_border(0, line, job(f=1, s=0, quotes=[(5, 1.0)] * 2, flows=coupon, option=(kind, 1, strike)))
         yield 11, job(f=1, s=0, quotes=[(5, 1.0)] * 2, flows=coupon, option=(kind, 2, strike))
-    yield on_the_border(0, 'option 0.090000000 9', job(f=1, s=0, quotes=[(5, 0.9)] * 3, flows=flows, option=(3, 2, ONE)))
-    yield on_the_border(0, 'option 0.059999995 9', job(f=1, s=0, quotes=[(5, 1.0), (5, 0.9), (5, 0.9)], flows=flows, option=(4, 2, 1_050_000_000)))
+    yield on_the_border(0, 'option 0.090000000 6', job(f=1, s=0, quotes=[(5, 0.9)] * 3, flows=flows, option=(3, 2, ONE)))
+    yield on_the_border(0, 'option 0.059999994 6', job(f=1, s=0, quotes=[(5, 1.0), (5, 0.9), (5, 0.9)], flows=flows, option=(4, 2, 1_050_000_000)))
     for kind in (1, 2, 3, 4):
         yield 0, job(f=2, b=500, s=8_000, quotes=rates(12, 0.044, 0.0006), flows=[25_000_000] * 11 + [ONE + 25_000_000], option=(kind, 11, ONE))
 
@@ -262,15 +263,25 @@ def borders():
     yield 9, job(quotes=factors(3, 0.99) + [(5, 1.063870138)])
     # A bond and a call of exactly 8, then a bond of one billionth more.
     level, flow = [(5, 1.0)] * 4, 1_999_999_960
-    yield on_the_border(0, 'bond 8.000000000 14', job(f=1, s=0, quotes=level, flows=[flow] + [2 * ONE] * 3))
+    yield on_the_border(0, 'bond 8.000000000 10', job(f=1, s=0, quotes=level, flows=[flow] + [2 * ONE] * 3))
     for kind, expiry in ((1, 0), (3, 3)):
-        yield on_the_border(0, 'option 8.000000000 14', job(f=1, s=0, quotes=level, flows=[flow] + [2 * ONE] * 3, option=(kind, expiry, 0)))
+        yield on_the_border(0, 'option 8.000000000 10', job(f=1, s=0, quotes=level, flows=[flow] + [2 * ONE] * 3, option=(kind, expiry, 0)))
     yield 12, job(f=1, s=0, quotes=level, flows=[flow + 1] + [2 * ONE] * 3)
-    # A put of exactly 8 on row 1, its bond 0; the next strike gives more.
+    # A put of exactly 8 on row 1, its bond 0; the next strike gives more, and by rolls rounded down would not.
     rising = [(5, 0.5 * 1.0994 ** t) for t in range(10)]
     for kind in (2, 4):
-        yield on_the_border(0, 'option 4.000000000 27', job(f=1, s=0, quotes=rising, flows=[0] * 10, option=(kind, 9, 3_748_384_118)))
-        yield 12, job(f=1, s=0, quotes=rising, flows=[0] * 10, option=(kind, 9, 3_748_384_119))
+        yield on_the_border(0, 'option 4.000000000 19', job(f=1, s=0, quotes=rising, flows=[0] * 10, option=(kind, 9, 3_748_384_116)))
+        yield 12, job(f=1, s=0, quotes=rising, flows=[0] * 10, option=(kind, 9, 3_748_384_117))
+
+
+def halves():
+    """Rolls that end in one half, which goes up: a flow by a discount of 0.5, then the mean of 1,062, 973 and 893 on row 1, which is 974.5."""
+    for flow, line in ((1, 'bond 0.000000001 2'), (2, 'bond 0.000000001 2'), (3, 'bond 0.000000002 2'), (5, 'bond 0.000000003 2')):
+        yield on_the_border(0, line, job(f=1, s=0, quotes=[(5, 0.5)], flows=[flow]))
+    mean = dict(f=1, s=50_000, quotes=[(5, 1.0), (5, 0.9)], flows=[0, 1_083])
+    yield on_the_border(0, 'bond 0.000000975 4', job(**mean))
+    yield on_the_border(0, 'option 0.000000975 4', job(option=(1, 1, 0), **mean))
+    yield on_the_border(0, 'option 0.000000975 4', job(option=(1, 0), dates=[1], **mean))
 
 
 def dated_options():
@@ -285,8 +296,8 @@ def dated_options():
     yield 0, job(f=4, b=0, s=800, quotes=rates(9, -0.0025), option=(2, ONE), dates=[3, 4, 8])
     yield 0, job(f=1, s=50_000, quotes=[(6, 0.05)], option=(1, ONE), dates=[0])
     # The bond without its coupon is 1.000000002 on row 1 and 1.100000002 today.
-    for side, strike, dates, line in ((1, 900_000_000, [1], 'option 0.100000002 6'), (1, 900_000_000, [0], 'option 0.200000002 6'),
-                                      (2, 1_050_000_000, [0, 1], 'option 0.049999998 6'), (2, 1_050_000_000, [0], 'option 0.000000000 6')):
+    for side, strike, dates, line in ((1, 900_000_000, [1], 'option 0.100000002 4'), (1, 900_000_000, [0], 'option 0.200000002 4'),
+                                      (2, 1_050_000_000, [0, 1], 'option 0.049999998 4'), (2, 1_050_000_000, [0], 'option 0.000000000 4')):
         yield on_the_border(0, line, job(f=1, s=0, quotes=level, flows=[100_000_000, ONE], option=(side, strike), dates=dates))
 
 
@@ -352,8 +363,8 @@ def order_of_dates():
     # A put of exactly 8 on row 1, on a row that is listed and on one that is not; the next strike gives more.
     rising = [(5, 0.5 * 1.0994 ** t) for t in range(10)]
     for dates in ([9], [0, 1, 9]):
-        yield on_the_border(0, 'option 4.000000000 27', job(f=1, s=0, quotes=rising, flows=[0] * 10, option=(2, 3_748_384_118), dates=dates))
-        yield 12, job(f=1, s=0, quotes=rising, flows=[0] * 10, option=(2, 3_748_384_119), dates=dates)
+        yield on_the_border(0, 'option 4.000000000 19', job(f=1, s=0, quotes=rising, flows=[0] * 10, option=(2, 3_748_384_116), dates=dates))
+        yield 12, job(f=1, s=0, quotes=rising, flows=[0] * 10, option=(2, 3_748_384_117), dates=dates)
 
 
 def jobs():
@@ -363,6 +374,7 @@ def jobs():
     yield from each_cause()
     yield from pairs()
     yield from borders()
+    yield from halves()
     yield from dated_options()
     yield from one_right_twice()
     yield from ((1, made) for made in malformed_dates())

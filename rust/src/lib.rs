@@ -12,7 +12,7 @@
 //!
 //! let flows = [ONE];
 //! let bond = tree.bond_price(&flows)?;
-//! assert_eq!((bond.value, bond.bound), (1_002_500_000, 3));
+//! assert_eq!((bond.value, bond.bound), (1_002_500_000, 2));
 //!
 //! let put = OptionTerms { kind: OptionKind::AmericanPut, expiry: 0, strike: 1_010_000_000 };
 //! assert_eq!(tree.option_price(&flows, put)?.value, 7_500_000);
@@ -212,7 +212,7 @@ pub struct DatedTerms<'a> {
     pub strike: u64,
 }
 
-/// A price in billionths; the exact price is at most `bound` away.
+/// A price in billionths; the exact price is at most `bound` above or below.
 #[derive(Clone, Copy, Debug, PartialEq, Eq)]
 pub struct Price {
     pub value: u64,

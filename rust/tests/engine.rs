@@ -139,7 +139,7 @@ fn printed_example() {
         tree.bond_price(&[ONE]),
         Ok(Price {
             value: 1_002_500_000,
-            bound: 3
+            bound: 2
         })
     );
     let put = OptionTerms {
@@ -151,7 +151,7 @@ fn printed_example() {
         tree.option_price(&[ONE], put),
         Ok(Price {
             value: 7_500_000,
-            bound: 3
+            bound: 2
         })
     );
     let last = OptionTerms { expiry: 1, ..put };
@@ -239,7 +239,7 @@ fn prices_on_lent_discounts() {
         bond_price(2, 0, &flat, &[0, ONE]),
         Ok(Price {
             value: ONE,
-            bound: 6
+            bound: 4
         })
     );
     assert_eq!(
@@ -268,7 +268,7 @@ fn prices_on_lent_discounts() {
         option_price(2, 0, &flat, &[0, ONE], call),
         Ok(Price {
             value: 100_000_000,
-            bound: 6
+            bound: 4
         })
     );
     for expiry in [2, 3] {
@@ -302,6 +302,30 @@ fn prices_on_lent_discounts() {
         row_view(&flat, &[ONE; 8], RowKind::Discounts, 2, 0, 1),
         None
     );
+}
+
+/// Halves go up. The values of row 1 are tenths of a flow of 10; their mean is a sixth of the outer two and four times the middle one.
+#[test]
+fn rolls_to_the_nearest() {
+    let half = ONE / 2;
+    for (flow, discount, value) in [(1, half - 1, 0), (1, half, 1), (3, half, 2), (5, half, 3)] {
+        let price = Price { value, bound: 2 };
+        assert_eq!(bond_price(1, 0, &[discount], &[flow]), Ok(price));
+    }
+    for (tenths, root, value, bound) in [
+        ([4, 4, 6], ONE, 4, 4),
+        ([5, 2, 2], ONE, 3, 4),
+        ([4, 4, 7], ONE, 5, 4),
+        ([5, 2, 2], half, 2, 3),
+        ([4, 4, 6], 1_100_000_000, 4, 5),
+    ] {
+        let [low, middle, high] = tenths.map(|tenth: u64| tenth * ONE / 10);
+        let price = Price { value, bound };
+        assert_eq!(
+            bond_price(2, 0, &[root, low, middle, high], &[0, 10]),
+            Ok(price)
+        );
+    }
 }
 
 /// On row 1 the bond is worth 1 without its coupon of 0.1.
@@ -345,7 +369,7 @@ fn bond_and_option_at_once() {
         expiry: 1,
         strike: 900_000_000,
     };
-    let price = |value| Price { value, bound: 6 };
+    let price = |value| Price { value, bound: 4 };
     let both = |discounts: &[u64], terms| {
         let both = bond_and_option(2, 0, discounts, &[0, ONE], terms);
         assert_eq!(both.bond, bond_price(2, 0, discounts, &[0, ONE]));
@@ -478,8 +502,8 @@ const EXAMPLE: [u8; 47] = [
 const WITHOUT_OPTION: usize = EXAMPLE.len() - 9;
 const SHEET: &str = "node 0 0 1.002500000 -0.2493766
 row 1 1.002500000 1.002499999 4
-bond 1.002500000 3
-option 0.007500000 3
+bond 1.002500000 2
+option 0.007500000 2
 ";
 
 #[test]

@@ -18,7 +18,7 @@ fn bound_step(steps: usize, reversion: u64, row: usize, discounts: &[u64], later
     let start = shape.start;
     let end = start + shape.count;
     let greatest = arithmetic::greatest_of(&discounts[start..end]);
-    (greatest * later + 999_999_999) / 1_000_000_000 + 3
+    (greatest * later + 999_999_999) / 1_000_000_000 + 2
 }
 
 fn error_bound(steps: usize, reversion: u64, discounts: &[u64]) -> u64

@@ -27,7 +27,7 @@ use Rattle.price_bound.proofs.BoundLaws.{discount-within}
 use Rattle.price_causes.specs.Causes.{flowsCause, optionCause, termsCause}
 use Rattle.price_causes.proofs.CheckLaws.{option-accepted}
 use Rattle.arithmetic.specs.Within.{Within}
-use Rattle.pricing_laws.proofs.PriceLaws.{Discounts-at-most, bond-accurate, bond-never-above, option-accurate, error-bound-a-step}
+use Rattle.pricing_laws.proofs.PriceLaws.{Discounts-at-most, bond-accurate, option-accurate, error-bound-a-step}
 use Rattle.pricing.specs.declared.Price.{Price}
 use Rattle.pricing.specs.Prices.{flowAt, bondValue, bondPeak, optionValue, optionLimit, treeCause, firstCause, priced, scheduledPrice}
 use Rattle.pricing.specs.Prices.{bondPrice, optionPrice, datedCause, datedPrice}
@@ -82,21 +82,15 @@ module _ (n b : ℕ) (discounts flows : List ℕ) where
     bond-tree : Accepted n b discounts
     bond-tree = tree-lent n b discounts flows (first-none _ _ (bond-given .none) .0)
 
-    -- a bond's price is within its error bound of the exact price, and never above it
+    -- a bond's price is within its error bound of the exact price
     pub bond-within-bound : Within (bondPrice n b discounts flows .bound) (unit ^ n) (bondPrice n b discounts flows .value) (exactBond n b discounts flows)
     unfolding bondValue treeErrorBound exactBond
     bond-within-bound =
         rw (bond-given .value, bond-given .bound)
         (bond-accurate (rateTree b) (rate-tree-sound b (bond-tree .reversion-within-limit)) (stored b discounts) n (within-limit bond-tree) (flowAt flows))
 
-    pub bond-at-most-exact : bondPrice n b discounts flows .value * unit ^ n ≤ exactBond n b discounts flows
-    unfolding bondValue exactBond
-    bond-at-most-exact =
-        rw (bond-given .value)
-        (bond-never-above (rateTree b) (rate-tree-sound b (bond-tree .reversion-within-limit)) (stored b discounts) n (within-limit bond-tree) (flowAt flows))
-
-    -- where no discount is above one, the bound is at most 3 a step
-    pub bond-bound-a-step : ((k : ℕ) → k < discountsNeeded n b → values discounts k ≤ one) → bondPrice n b discounts flows .bound ≤ 3 * n
+    -- where no discount is above one, the bound is at most 2 a step
+    pub bond-bound-a-step : ((k : ℕ) → k < discountsNeeded n b → values discounts k ≤ one) → bondPrice n b discounts flows .bound ≤ 2 * n
     unfolding treeErrorBound
     bond-bound-a-step low = rw (bond-given .bound) (error-bound-a-step (rateTree b) (stored b discounts) n (low-discounts n b discounts low))
 
@@ -124,7 +118,7 @@ module _ (n b : ℕ) (discounts flows : List ℕ) where
         side strike rows (ends (first-none _ _ (causes .1) .0)))
 
     scheduled-a-step :
-        ((k : ℕ) → k < discountsNeeded n b → values discounts k ≤ one) → scheduledPrice n b discounts flows side strike rows cause .bound ≤ 3 * n
+        ((k : ℕ) → k < discountsNeeded n b → values discounts k ≤ one) → scheduledPrice n b discounts flows side strike rows cause .bound ≤ 2 * n
     unfolding treeErrorBound
     scheduled-a-step low = rw (scheduled-given .bound) (error-bound-a-step (rateTree b) (stored b discounts) n (low-discounts n b discounts low))
 
@@ -149,7 +143,7 @@ module _ (n b : ℕ) (discounts flows : List ℕ) where
     option-within-bound = scheduled-within (sideOf kind) strike (scheduleOf kind expiry) (optionCause n kind expiry strike) kind-ends h
 
     pub option-bound-a-step :
-        ((k : ℕ) → k < discountsNeeded n b → values discounts k ≤ one) → optionPrice n b discounts flows kind expiry strike .bound ≤ 3 * n
+        ((k : ℕ) → k < discountsNeeded n b → values discounts k ≤ one) → optionPrice n b discounts flows kind expiry strike .bound ≤ 2 * n
     unfolding optionPrice
     option-bound-a-step = scheduled-a-step (sideOf kind) strike (scheduleOf kind expiry) (optionCause n kind expiry strike) kind-ends h
 
@@ -175,6 +169,6 @@ module _ (n b : ℕ) (discounts flows : List ℕ) where
     dated-within-bound = scheduled-within (numberedSide side) strike (datedSchedule dates) (datedCause n side dates strike) list-ends h
 
     pub dated-bound-a-step :
-        ((k : ℕ) → k < discountsNeeded n b → values discounts k ≤ one) → datedPrice n b discounts flows side dates strike .bound ≤ 3 * n
+        ((k : ℕ) → k < discountsNeeded n b → values discounts k ≤ one) → datedPrice n b discounts flows side dates strike .bound ≤ 2 * n
     unfolding datedPrice
     dated-bound-a-step = scheduled-a-step (numberedSide side) strike (datedSchedule dates) (datedCause n side dates strike) list-ends h

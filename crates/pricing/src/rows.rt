@@ -33,7 +33,7 @@ pub(crate) fn empty_row() -> [u64; 121]
     [0; MOST_NODES]
 }
 
-// The roll of a node along its branch: divided by 600,000,000, down; then discounted, down.
+// The roll of a node along its branch: divided by 600,000,000, nearest; then discounted, nearest.
 fn roll_node(branch: RowBranch, later: &[u64], discount: u64) -> u64
     requires { ⌜ (branch .low + 2 < length (now later)) × (branchTotal branch ≡ probabilityTotal)
         × Limited (now later) (branch .low + 3) × (discount ≤ mostDiscount) ⌝ }
@@ -44,7 +44,7 @@ fn roll_node(branch: RowBranch, later: &[u64], discount: u64) -> u64
     let sum = probabilities[0] * later[low + 2]
         + probabilities[1] * later[low + 1]
         + probabilities[2] * later[low];
-    sum / 600_000_000 * discount / 1_000_000_000
+    ((sum + 300_000_000) / 600_000_000 * discount + 500_000_000) / 1_000_000_000
 }
 
 // Rolls the bond back by one row and adds the row's flow. Gives the greatest value of the row.

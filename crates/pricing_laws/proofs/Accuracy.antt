@@ -3,7 +3,7 @@
 use mathlib.Core.Path.{_≡_}
 use mathlib.Core.Bool.{Bool}
 use Prim.Native.Nat.{ℕ, zero, suc, _+_, _-_, _*_, _^_, _≤_, _<_}
-use native.Mathlib.Nat.{pow-suc, sub-zero, mul-zero}
+use native.Mathlib.Nat.{pow-suc, sub-zero}
 use native.Mathlib.Omega.{arith}
 use Rattle.arithmetic.specs.Rounding.{one}
 use Rattle.arithmetic.specs.Within.{Within}
@@ -150,15 +150,3 @@ module _ {Node : Type 0} (n unit loss : ℕ) (Stands : ℕ → Node → Type 0) 
       (option-row n unit Stands roll exact greatest above below close (λ i. 2 * errorBound loss greatest n i)
       (λ i h. error-bound-covers loss greatest n i (above i) h (cost-above i h)) (λ i h. error-bound-covers loss greatest n i (below i) h (cost-below i h))
       flow side strike rows 0 (omega arith) h k hk))
-
-  -- where a roll never rounds up, no bond is above its exact price
-  pub bond-below :
-      ((i : ℕ) → above i ≡ 0) → (flow : ℕ → ℕ) (k : Node) → Stands 0 k →
-      bond (rounded roll) flow n 0 k * unit ^ n ≤ bond (fractions unit exact) flow n 0 k
-  bond-below never flow k hk =
-      let r =
-      bond-row n unit Stands roll exact greatest above below close (λ i. 0) (λ i. 2 * errorBound loss greatest n i)
-      (λ i h. omega (arith, never i, mul-zero (greatest i))) (λ i h. error-bound-covers loss greatest n i (below i) h (cost-below i h))
-      flow 0 (omega arith) k hk in
-      let s = rw sub-zero at r in
-      omega (arith, s .above)

@@ -9,14 +9,14 @@ use lib.Dec.{lit≤}
 use Rattle.arithmetic.specs.Rounding.{one, roundUp, Rounds}
 use Rattle.arithmetic.specs.Within.{Within}
 use Rattle.arithmetic.specs.Sum.{greatest}
-use Rattle.arithmetic.proofs.RoundingLaws.{down-rounds}
+use Rattle.arithmetic.proofs.RoundingLaws.{nearest-rounds}
 use Rattle.arithmetic.proofs.SumLaws.{greatest-ge, greatest-le, greatest-cong}
 use Rattle.tree.specs.Tree.{Tree, Sound, outgoing, probabilityTotal, unit}
 use Rattle.tree.proofs.StepLaws.{outgoing-le}
 use Rattle.pricing_laws.specs.Pricer.{bond, Side, Schedule, option, errorBoundFrom, errorBound}
 use Rattle.pricing_laws.specs.TreePricer.{rollRounding, rollLoss, nodeRoll, roll, exactRoll, engine, exact, greatestDiscount, priceErrorBound}
 use Rattle.pricing_laws.proofs.Near.{near-average, near-discount}
-use Rattle.pricing_laws.proofs.Accuracy.{Close, bond-within, option-within, bond-below, loss-a-step}
+use Rattle.pricing_laws.proofs.Accuracy.{Close, bond-within, option-within, loss-a-step}
 use Rattle.pricing_laws.proofs.Backward.{Greatest, Local}
 use Rattle.pricing_laws.proofs.Rights.{Monotone, monotone-local}
 
@@ -32,9 +32,9 @@ Discounts-at-most g t discount n = (i k : ℕ) → i < n → k < t .nodes i → 
 abbrev pub cost : ℕ → (ℕ → ℕ) → ℕ → ℕ
 cost halves greatest i = greatest i * halves + one * halves
 
--- the rounding of the engine's rolls, in half billionths: never above the exact quotient, and less than 2 below it
-pub roll-rounds : Rounds rollRounding 0 2
-roll-rounds = down-rounds
+-- the rounding of the engine's rolls, in half billionths: at most 1 from the exact quotient, either way
+pub roll-rounds : Rounds rollRounding 1 1
+roll-rounds = nearest-rounds
 
 -- One roll step, under any rounding: values near the exact ones give values near the exact ones.
 pub roll-close :
@@ -95,15 +95,8 @@ module _ (t : Tree) (sound : Sound t) (discount : ℕ → ℕ → ℕ) (n : ℕ)
   pub bond-accurate :
       Within (priceErrorBound t discount n 0) (unit ^ n) (bond (engine t discount) flow n 0 0) (bond (exact t discount) flow n 0 0)
   bond-accurate =
-      bond-within n unit rollLoss (On t) _ _ _ _ _ (roll-close rollRounding 0 2 roll-rounds t sound discount n)
-      (cost-covered t discount n rollLoss 0 hd (omega arith)) (cost-covered t discount n rollLoss 2 hd (omega arith)) flow 0
-      (omega (arith, sound .root))
-
-  -- and never above the exact price
-  pub bond-never-above : bond (engine t discount) flow n 0 0 * unit ^ n ≤ bond (exact t discount) flow n 0 0
-  bond-never-above =
-      bond-below n unit rollLoss (On t) _ _ _ _ _ (roll-close rollRounding 0 2 roll-rounds t sound discount n)
-      (cost-covered t discount n rollLoss 0 hd (omega arith)) (cost-covered t discount n rollLoss 2 hd (omega arith)) (λ i. omega arith) flow 0
+      bond-within n unit rollLoss (On t) _ _ _ _ _ (roll-close rollRounding 1 1 roll-rounds t sound discount n)
+      (cost-covered t discount n rollLoss 1 hd (omega arith)) (cost-covered t discount n rollLoss 1 hd (omega arith)) flow 0
       (omega (arith, sound .root))
 
   -- the option's price is within the same error bound, whatever its schedule
@@ -112,8 +105,8 @@ module _ (t : Tree) (sound : Sound t) (discount : ℕ → ℕ → ℕ) (n : ℕ)
       Within (priceErrorBound t discount n 0) (unit ^ n)
       (option (engine t discount) flow n side strike rows 0 0) (option (exact t discount) flow n side strike rows 0 0)
   option-accurate side strike rows h =
-      option-within n unit rollLoss (On t) _ _ _ _ _ (roll-close rollRounding 0 2 roll-rounds t sound discount n)
-      (cost-covered t discount n rollLoss 0 hd (omega arith)) (cost-covered t discount n rollLoss 2 hd (omega arith)) flow side strike rows h 0
+      option-within n unit rollLoss (On t) _ _ _ _ _ (roll-close rollRounding 1 1 roll-rounds t sound discount n)
+      (cost-covered t discount n rollLoss 1 hd (omega arith)) (cost-covered t discount n rollLoss 1 hd (omega arith)) flow side strike rows h 0
       (omega (arith, sound .root))
 
 -- what the laws of a walk back use: the greatest value of a row, and that a roll is local
@@ -131,7 +124,7 @@ roll-local t sound discount divide = record { roll-same = λ i v w h k hk. roll-
 -- at most so much over s rows, where no discount is above 1,100,000,000
 ceiling : ℕ → ℕ
 ceiling zero = 0
-ceiling (suc s) = 11 * ceiling s / 10 + 5
+ceiling (suc s) = 11 * ceiling s / 10 + 4
 
 ceiling-60 : ceiling 60 ≤ 1000000
 unfolding ceiling
@@ -141,7 +134,7 @@ ceiling-grows : (s r : ℕ) → s ≤ r → ceiling s ≤ ceiling r
 unfolding ceiling
 ceiling-grows s r h = le-ind (λ (m : ℕ). ceiling s ≤ ceiling m) (le-refl (ceiling s)) (λ m _ p. omega arith) r h
 
-ceiling-step : (g a c : ℕ) → g ≤ 1100000000 → a ≤ c → roundUp (g * a) one + 3 ≤ 11 * c / 10 + 5
+ceiling-step : (g a c : ℕ) → g ≤ 1100000000 → a ≤ c → roundUp (g * a) one + 2 ≤ 11 * c / 10 + 4
 unfolding roundUp
 ceiling-step g a c hg ha = omega (arith, mul-le-mul-right a hg)
 
@@ -158,9 +151,9 @@ module _ (t : Tree) (discount : ℕ → ℕ → ℕ) (n : ℕ) (hd : Discounts-a
   error-bound-small few i h =
       omega (arith, bound-ceiling (n - i) i (omega arith), ceiling-grows (n - i) 60 (omega arith), ceiling-60)
 
--- where no discount is above one: at most 3 a step
+-- where no discount is above one: at most 2 a step
 pub error-bound-a-step :
-    (t : Tree) (discount : ℕ → ℕ → ℕ) (n : ℕ) → Discounts-at-most one t discount n → priceErrorBound t discount n 0 ≤ 3 * n
+    (t : Tree) (discount : ℕ → ℕ → ℕ) (n : ℕ) → Discounts-at-most one t discount n → priceErrorBound t discount n 0 ≤ 2 * n
 unfolding greatestDiscount
 error-bound-a-step t discount n h =
-    loss-a-step 3 (greatestDiscount t discount) n (λ i hi. greatest-le (t .nodes i) (discount i) one (λ k l. h i k hi l))
+    loss-a-step 2 (greatestDiscount t discount) n (λ i hi. greatest-le (t .nodes i) (discount i) one (λ k l. h i k hi l))

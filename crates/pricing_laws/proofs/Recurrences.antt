@@ -5,7 +5,7 @@ use mathlib.Core.Bool.{true, false}
 use Prim.Native.Nat.{ℕ, zero, suc, _+_, _-_, _*_, _/_, _^_, _<_, max}
 use native.Mathlib.Nat.{sub-self}
 use native.Mathlib.Omega.{arith}
-use Rattle.arithmetic.specs.Rounding.{one, roundDown, roundUp}
+use Rattle.arithmetic.specs.Rounding.{one, nearest, roundUp}
 use Rattle.tree.specs.Tree.{Tree, outgoing, unit}
 use Rattle.pricing_laws.specs.Pricer.{Pricer, bondFrom, bareBondFrom, bond, bareBond, errorBoundFrom, errorBound}
 use Rattle.pricing_laws.specs.Pricer.{Side, call, put, exercise, exerciseRow, Schedule, heldOrExercised}
@@ -87,7 +87,7 @@ pub schedules :
 unfolding scheduleOf kindDates european american
 schedules expiry = (refl, refl, refl, refl)
 
--- The engine: sum of probability × later value, divided by 600,000,000, down; then × discount / one, down.
+-- The engine: sum of probability × later value, divided by 600,000,000, nearest; then × discount / one, nearest.
 module _ (t : Tree) (discount : ℕ → ℕ → ℕ) (flow : ℕ → ℕ) (n : ℕ) where
   pub engine-bond-last : (k : ℕ) → bond (engine t discount) flow n n k ≡ flow n
   engine-bond-last k = bond-last (engine t discount) flow n k
@@ -95,15 +95,15 @@ module _ (t : Tree) (discount : ℕ → ℕ → ℕ) (flow : ℕ → ℕ) (n : �
   pub engine-bond-before :
       (i : ℕ) → i < n → (k : ℕ) →
       bond (engine t discount) flow n i k
-      ≡ outgoing (t .step i) (bond (engine t discount) flow n (suc i)) k / 600000000 * discount i k / one + flow i
-  unfolding roll nodeRoll roundDown
+      ≡ nearest (nearest (outgoing (t .step i) (bond (engine t discount) flow n (suc i)) k) 600000000 * discount i k) one + flow i
+  unfolding roll nodeRoll
   engine-bond-before i h k = bond-before (engine t discount) flow n i h k
 
   pub engine-bare-before :
       (i : ℕ) → i < n → (k : ℕ) →
       bareBond (engine t discount) flow n i k
-      ≡ outgoing (t .step i) (bond (engine t discount) flow n (suc i)) k / 600000000 * discount i k / one
-  unfolding roll nodeRoll roundDown
+      ≡ nearest (nearest (outgoing (t .step i) (bond (engine t discount) flow n (suc i)) k) 600000000 * discount i k) one
+  unfolding roll nodeRoll
   engine-bare-before i h k = bare-bond-before (engine t discount) flow n i h k
 
   module _ (side : Side) (strike expiry : ℕ) where
@@ -116,30 +116,30 @@ module _ (t : Tree) (discount : ℕ → ℕ → ℕ) (flow : ℕ → ℕ) (n : �
     pub engine-listed-before :
         (rows : Schedule) (i : ℕ) → i < rows .last → rows .listed i ≡ true → (k : ℕ) →
         option (engine t discount) flow n side strike rows i k
-        ≡ max (outgoing (t .step i) (option (engine t discount) flow n side strike rows (suc i)) k / 600000000 * discount i k / one)
+        ≡ max (nearest (nearest (outgoing (t .step i) (option (engine t discount) flow n side strike rows (suc i)) k) 600000000 * discount i k) one)
         (exercise side strike (bareBond (engine t discount) flow n i k))
-    unfolding roll nodeRoll roundDown exerciseRow
+    unfolding roll nodeRoll exerciseRow
     engine-listed-before rows i h e k = listed-before (engine t discount) flow n side strike rows i h k e
 
     pub engine-unlisted-before :
         (rows : Schedule) (i : ℕ) → i < rows .last → rows .listed i ≡ false → (k : ℕ) →
         option (engine t discount) flow n side strike rows i k
-        ≡ outgoing (t .step i) (option (engine t discount) flow n side strike rows (suc i)) k / 600000000 * discount i k / one
-    unfolding roll nodeRoll roundDown
+        ≡ nearest (nearest (outgoing (t .step i) (option (engine t discount) flow n side strike rows (suc i)) k) 600000000 * discount i k) one
+    unfolding roll nodeRoll
     engine-unlisted-before rows i h e k = unlisted-before (engine t discount) flow n side strike rows i h k e
 
     -- so European rolls before expiry, American takes the larger
     pub engine-european-before :
         (i : ℕ) → i < expiry → (k : ℕ) →
         option (engine t discount) flow n side strike (european expiry) i k
-        ≡ outgoing (t .step i) (option (engine t discount) flow n side strike (european expiry) (suc i)) k / 600000000 * discount i k / one
+        ≡ nearest (nearest (outgoing (t .step i) (option (engine t discount) flow n side strike (european expiry) (suc i)) k) 600000000 * discount i k) one
     engine-european-before i h k =
         engine-unlisted-before (european expiry) i (omega (arith, european-last expiry)) (european-listed expiry i h) k
 
     pub engine-american-before :
         (i : ℕ) → i < expiry → (k : ℕ) →
         option (engine t discount) flow n side strike (american expiry) i k
-        ≡ max (outgoing (t .step i) (option (engine t discount) flow n side strike (american expiry) (suc i)) k / 600000000 * discount i k / one)
+        ≡ max (nearest (nearest (outgoing (t .step i) (option (engine t discount) flow n side strike (american expiry) (suc i)) k) 600000000 * discount i k) one)
         (exercise side strike (bareBond (engine t discount) flow n i k))
     engine-american-before i h k =
         engine-listed-before (american expiry) i (omega (arith, american-last expiry)) (american-listed expiry i (omega arith)) k
@@ -211,11 +211,11 @@ module _ (t : Tree) (discount : ℕ → ℕ → ℕ) (flow : ℕ → ℕ) (n : �
   unfolding payoffValue exactRoll
   exact-payoff-before payoff s i k = refl
 
--- The error bound: 0 at row n, then G × later bound / one, up, plus 3.
+-- The error bound: 0 at row n, then G × later bound / one, up, plus 2.
 module _ (t : Tree) (discount : ℕ → ℕ → ℕ) (n : ℕ) where
   pub price-error-bound-last : priceErrorBound t discount n n ≡ 0
-  price-error-bound-last = error-bound-last 3 (greatestDiscount t discount) n
+  price-error-bound-last = error-bound-last 2 (greatestDiscount t discount) n
 
   pub price-error-bound-before :
-      (i : ℕ) → i < n → priceErrorBound t discount n i ≡ roundUp (greatestDiscount t discount i * priceErrorBound t discount n (suc i)) one + 3
-  price-error-bound-before i h = error-bound-before 3 (greatestDiscount t discount) n i h
+      (i : ℕ) → i < n → priceErrorBound t discount n i ≡ roundUp (greatestDiscount t discount i * priceErrorBound t discount n (suc i)) one + 2
+  price-error-bound-before i h = error-bound-before 2 (greatestDiscount t discount) n i h

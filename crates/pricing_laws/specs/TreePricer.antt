@@ -1,18 +1,18 @@
 -- The engine and the exact pricer on any tree. A node is its index in the row; discounts by row and index.
 -- Assumes nothing.
 use Prim.Native.Nat.{ℕ, _*_}
-use Rattle.arithmetic.specs.Rounding.{one, roundDown}
+use Rattle.arithmetic.specs.Rounding.{one, nearest}
 use Rattle.arithmetic.specs.Sum.{greatest}
 use Rattle.tree.specs.Tree.{Tree, Transition, outgoing, probabilityTotal, unit}
 use Rattle.pricing_laws.specs.Pricer.{Pricer, rounded, fractions, errorBound}
 
--- the rounding of both divisions of a roll: down
+-- the rounding of both divisions of a roll: nearest, each for itself (document 02, request (vi))
 abbrev pub rollRounding : ℕ → ℕ → ℕ
-rollRounding = roundDown
+rollRounding = nearest
 
 -- what the error bound adds for the two divisions of a roll
 abbrev pub rollLoss : ℕ
-rollLoss = 3
+rollLoss = 2
 
 -- the roll of a node: the sum of probability × later value, divided by 600,000,000; then × discount, divided by one
 unfoldable pub nodeRoll : (ℕ → ℕ → ℕ) → Transition → (ℕ → ℕ) → ℕ → ℕ → ℕ

@@ -1,6 +1,6 @@
 -- The promises are kept.
 -- Assumes nothing.
-use Rattle.pricing.proofs.Accuracy.{bond-within-bound, bond-at-most-exact, bond-bound-a-step}
+use Rattle.pricing.proofs.Accuracy.{bond-within-bound, bond-bound-a-step}
 use Rattle.pricing.proofs.Accuracy.{option-within-bound, option-bound-a-step, dated-within-bound, dated-bound-a-step}
 use Rattle.pricing.proofs.OptionLaws.{kind-is-list}
 use Rattle.pricing.proofs.RightsLaws.{dates-no-less, american-no-less, kind-no-more, kind-no-less}
@@ -18,9 +18,7 @@ prices-kept =
       exact-rows = exact-kept;
       bound-rows = bound-kept;
       priced-by-rows = priced-kept;
-      bond-accurate =
-          λ n b discounts flows z.
-          record { never-above = bond-at-most-exact n b discounts flows z; short = bond-within-bound n b discounts flows z .below };
+      bond-accurate = bond-within-bound;
       option-accurate = option-within-bound;
       dated-accurate = dated-within-bound;
       kinds-are-lists = kind-is-list;

@@ -11,7 +11,7 @@ use lib.Ieee.{Float}
 use lib.IntN.{ℤ, pos, negℤ, natAbs, _+ℤ_, _*ℤ_}
 use lib.ListN.{length, take, drop}
 use lib.Signed.{ltZ}
-use Rattle.arithmetic.specs.Rounding.{one, roundUp}
+use Rattle.arithmetic.specs.Rounding.{one, nearest, roundUp}
 use Rattle.arithmetic.specs.Within.{Within}
 use Rattle.arithmetic.specs.Sum.{sum}
 use Rattle.arithmetic.specs.Row.{values}
@@ -117,31 +117,31 @@ pub record Unaltered (f n b s : ℕ) (kinds : List ℕ) (figures : List Float) (
   pub row-length : length prices ≡ nodeCount b r
   pub prices-kept : (k : ℕ) → k < nodeCount b r → values prices k ≡ fitPrice f n b s kinds figures r k
 
--- The engine row by row: the sum of probability × later value, divided by 600,000,000, down; then × discount / one, down. Row n is its flow,
+-- The engine row by row: the sum of probability × later value, divided by 600,000,000, nearest; then × discount / one, nearest. Row n is its flow,
 -- an earlier row the rolled value plus its flow; without its flow the bond is the rolled value. On an option's last row the exercise value, on the bond
 -- without the flow of its row; earlier, listed rows take the larger of roll and exercise and the rest roll. So European rolls, American takes the larger.
 pub record EngineRows (t : Tree) (discount : ℕ → ℕ → ℕ) (flow : ℕ → ℕ) (n : ℕ) (side : Side) (strike expiry : ℕ) : Type 0 where
   pub bond-last : (k : ℕ) → bond (engine t discount) flow n n k ≡ flow n
   pub bond-before : (i : ℕ) → i < n → (k : ℕ) →
       bond (engine t discount) flow n i k
-      ≡ outgoing (t .step i) (bond (engine t discount) flow n (suc i)) k / 600000000 * discount i k / one + flow i
+      ≡ nearest (nearest (outgoing (t .step i) (bond (engine t discount) flow n (suc i)) k) 600000000 * discount i k) one + flow i
   pub bare-before : (i : ℕ) → i < n → (k : ℕ) →
-      bareBond (engine t discount) flow n i k ≡ outgoing (t .step i) (bond (engine t discount) flow n (suc i)) k / 600000000 * discount i k / one
+      bareBond (engine t discount) flow n i k ≡ nearest (nearest (outgoing (t .step i) (bond (engine t discount) flow n (suc i)) k) 600000000 * discount i k) one
   pub option-last : (rows : Schedule) (k : ℕ) →
       option (engine t discount) flow n side strike rows (rows .last) k ≡ exercise side strike (bareBond (engine t discount) flow n (rows .last) k)
   pub listed-before : (rows : Schedule) (i : ℕ) → i < rows .last → rows .listed i ≡ true → (k : ℕ) →
       option (engine t discount) flow n side strike rows i k
-      ≡ max (outgoing (t .step i) (option (engine t discount) flow n side strike rows (suc i)) k / 600000000 * discount i k / one)
+      ≡ max (nearest (nearest (outgoing (t .step i) (option (engine t discount) flow n side strike rows (suc i)) k) 600000000 * discount i k) one)
       (exercise side strike (bareBond (engine t discount) flow n i k))
   pub unlisted-before : (rows : Schedule) (i : ℕ) → i < rows .last → rows .listed i ≡ false → (k : ℕ) →
       option (engine t discount) flow n side strike rows i k
-      ≡ outgoing (t .step i) (option (engine t discount) flow n side strike rows (suc i)) k / 600000000 * discount i k / one
+      ≡ nearest (nearest (outgoing (t .step i) (option (engine t discount) flow n side strike rows (suc i)) k) 600000000 * discount i k) one
   pub european-before : (i : ℕ) → i < expiry → (k : ℕ) →
       option (engine t discount) flow n side strike (european expiry) i k
-      ≡ outgoing (t .step i) (option (engine t discount) flow n side strike (european expiry) (suc i)) k / 600000000 * discount i k / one
+      ≡ nearest (nearest (outgoing (t .step i) (option (engine t discount) flow n side strike (european expiry) (suc i)) k) 600000000 * discount i k) one
   pub american-before : (i : ℕ) → i < expiry → (k : ℕ) →
       option (engine t discount) flow n side strike (american expiry) i k
-      ≡ max (outgoing (t .step i) (option (engine t discount) flow n side strike (american expiry) (suc i)) k / 600000000 * discount i k / one)
+      ≡ max (nearest (nearest (outgoing (t .step i) (option (engine t discount) flow n side strike (american expiry) (suc i)) k) 600000000 * discount i k) one)
       (exercise side strike (bareBond (engine t discount) flow n i k))
 
 -- The exact pricer, row i held times m^(n − i): it rounds nothing.
@@ -172,11 +172,11 @@ pub record ExactRows (t : Tree) (discount : ℕ → ℕ → ℕ) (flow : ℕ →
   pub payoff-before : (payoff : ℕ → ℕ) (s i k : ℕ) →
       payoffValue (exact t discount) payoff (suc s) i k ≡ discount i k * outgoing (t .step i) (payoffValue (exact t discount) payoff s (suc i)) k
 
--- The price allowance, with G(i) the greatest discount of row i: 0 at row n, then G × later allowance / one, up, plus 3.
+-- The price allowance, with G(i) the greatest discount of row i: 0 at row n, then G × later allowance / one, up, plus 2.
 pub record BoundRows (t : Tree) (discount : ℕ → ℕ → ℕ) (n : ℕ) : Type 0 where
   pub last : priceErrorBound t discount n n ≡ 0
   pub before : (i : ℕ) → i < n →
-      priceErrorBound t discount n i ≡ roundUp (greatestDiscount t discount i * priceErrorBound t discount n (suc i)) one + 3
+      priceErrorBound t discount n i ≡ roundUp (greatestDiscount t discount i * priceErrorBound t discount n (suc i)) one + 2
 
 -- what is answered, and what it is held against, are these at row 0
 pub record PricedByRows (n b : ℕ) (discounts flows : List ℕ) : Type 0 where
@@ -212,7 +212,7 @@ pub record PricePromises : Type 0 where
   pub bound-rows : (t : Tree) (discount : ℕ → ℕ → ℕ) (n : ℕ) → BoundRows t discount n
   pub priced-by-rows : (n b : ℕ) (discounts flows : List ℕ) → PricedByRows n b discounts flows
   pub bond-accurate : (n b : ℕ) (discounts flows : List ℕ) → bondPrice n b discounts flows .number ≡ 0 →
-      ShortOf (bondPrice n b discounts flows .bound) (unit ^ n) (bondPrice n b discounts flows .value) (exactBond n b discounts flows)
+      Within (bondPrice n b discounts flows .bound) (unit ^ n) (bondPrice n b discounts flows .value) (exactBond n b discounts flows)
   -- the four kinds of option
   pub option-accurate : (n b : ℕ) (discounts flows : List ℕ) (kind expiry strike : ℕ) →
       optionPrice n b discounts flows kind expiry strike .number ≡ 0 →
@@ -240,15 +240,15 @@ pub record PricePromises : Type 0 where
   pub kind-no-less : (n b : ℕ) (discounts flows : List ℕ) (kind expiry strike : ℕ) → optionPrice n b discounts flows kind expiry strike .number ≡ 0 →
       (dates : List ℕ) → datedPrice n b discounts flows (kindSide kind) dates strike .number ≡ 0 → Contained dates (kindDates kind expiry) →
       datedPrice n b discounts flows (kindSide kind) dates strike .value ≤ optionPrice n b discounts flows kind expiry strike .value
-  -- at most 3 billionths a step
+  -- at most 2 billionths a step
   pub bond-a-step : (n b : ℕ) (discounts flows : List ℕ) → bondPrice n b discounts flows .number ≡ 0 → NoneAboveOne n b discounts →
-      bondPrice n b discounts flows .bound ≤ 3 * n
+      bondPrice n b discounts flows .bound ≤ 2 * n
   pub option-a-step : (n b : ℕ) (discounts flows : List ℕ) (kind expiry strike : ℕ) →
       optionPrice n b discounts flows kind expiry strike .number ≡ 0 → NoneAboveOne n b discounts →
-      optionPrice n b discounts flows kind expiry strike .bound ≤ 3 * n
+      optionPrice n b discounts flows kind expiry strike .bound ≤ 2 * n
   pub dated-a-step : (n b : ℕ) (discounts flows : List ℕ) (side : ℕ) (dates : List ℕ) (strike : ℕ) →
       datedPrice n b discounts flows side dates strike .number ≡ 0 → NoneAboveOne n b discounts →
-      datedPrice n b discounts flows side dates strike .bound ≤ 3 * n
+      datedPrice n b discounts flows side dates strike .bound ≤ 2 * n
   -- whatever was fitted, payoffs valued by the fitted state prices of any row, against the exact price on the same fit's node discounts
   pub payoffs-accurate : (f n b s : ℕ) (rows kinds : List ℕ) (figures : List Float) (room-discounts room-prices : ℕ) →
       fitNumber f n b s rows kinds figures room-discounts room-prices ≡ 0 →

@@ -26,7 +26,7 @@ use Rattle.text_laws.specs.Lines.{nodeLine}
 use Rattle.node_lines.specs.Rows.{nodeText}
 use Rattle.sheet_laws.specs.TreeSheet.{rowPart, nodeLines, rowLines, priceLines}
 use Rattle.sheet_laws.specs.WholeJob.{sheetText}
-use Rattle.promises.specs.Promises.{Repriced, ShortOf}
+use Rattle.promises.specs.Promises.{Repriced}
 
 -- the line of node k of row i: its discount and the step rate of that discount, whose sign in the bytes is a minus exactly where the discount
 -- is above one
@@ -59,7 +59,7 @@ pub record SheetShown (job : Job) (text : List ℕ) : Type 0 where
   pub rows : (i : ℕ) → i < job .steps → RowShown (job .steps) (job .reversion) (jobQuotes job) (jobDiscounts job) (jobStatePrices job) i
   pub bond-given : jobBond job .number ≡ 0
   pub bond-near :
-      ShortOf (jobBond job .bound) (unit ^ job .steps) (jobBond job .value)
+      Within (jobBond job .bound) (unit ^ job .steps) (jobBond job .value)
       (exactBond (job .steps) (job .reversion) (jobDiscounts job) (jobFlows job))
   pub option-given : hasOption (job .option) ≡ true → jobOption job .number ≡ 0
   pub option-near :

@@ -66,7 +66,7 @@ add-result-2 : tie.Need-add-result-2
 add-result-2 c = omega (arith, fits c)
 
 returns : tie.Need-returns
-returns c = ap (λ (g : ℕ). (g * c .before .before .before .before .before .args .later + 999999999) / 1000000000 + 3) (found c) ∙ bound-up _ 3
+returns c = ap (λ (g : ℕ). (g * c .before .before .before .before .before .args .later + 999999999) / 1000000000 + 2) (found c) ∙ bound-up _ 2
 
 pub bound-step-spec : {M : Type 1} → statement M
 bound-step-spec =

@@ -1,13 +1,11 @@
 -- `pricing::rows::roll_node` meets its contract: sum and product fit 64 bits.
 -- Assumes nothing.
-use mathlib.Core.Path.{refl}
-use Prim.Native.Nat.{_*_, _/_, _≤_}
+use Prim.Native.Nat.{_+_, _*_, _/_, _≤_}
 use native.Mathlib.Omega.{arith}
 use denote.Ref.{now}
-use Rattle.arithmetic.specs.Rounding.{roundDown}
 use Rattle.arithmetic.specs.Row.{values}
 use Rattle.pricing.specs.Rows.{branchSum, branchRoll}
-use Rattle.pricing.proofs.NodeLaws.{sum-fits, product-fits}
+use Rattle.pricing.proofs.NodeLaws.{sum-fits, product-fits, rolled-nearest}
 use borrow.Author.Needs.{needs}
 use Rattle.pricing.proofs.rows.roll_node.Statement.{statement}
 use Rattle.pricing.proofs.rows.roll_node.Tie as tie
@@ -15,7 +13,7 @@ use Rattle.pricing.proofs.rows.roll_node.Tie as tie
 sum : (s : tie.Start) → branchSum (s .args .branch) (values (now (s .args .later))) ≤ 4800000000000000000
 sum s = sum-fits _ _ _ _ _ _ _ (s .pre .1) (s .pre .2 _ (omega arith)) (s .pre .2 _ (omega arith)) (s .pre .2 _ (omega arith)) (s .pre .3)
 
-product : (s : tie.Start) → branchSum (s .args .branch) (values (now (s .args .later))) / 600000000 * s .args .discount ≤ 8800000000000000000
+product : (s : tie.Start) → (branchSum (s .args .branch) (values (now (s .args .later))) + 300000000) / 600000000 * s .args .discount ≤ 8800000000000000000
 product s = product-fits _ _ _ _ _ _ _ (s .pre .1) (s .pre .2 _ (omega arith)) (s .pre .2 _ (omega arith)) (s .pre .2 _ (omega arith)) (s .pre .3)
 
 array-read-sum : tie.Need-array-read-sum
@@ -66,12 +64,18 @@ mul-sum-6 c = omega (arith, sum (c .before .before .before .before))
 add-sum-4 : tie.Need-add-sum-4
 add-sum-4 c = omega (arith, sum (c .before .before .before .before))
 
+add-result : tie.Need-add-result
+add-result c = omega (arith, sum (c .before .before .before .before))
+
 mul-result : tie.Need-mul-result
 mul-result c = omega (arith, product (c .before .before .before .before))
 
+add-result-2 : tie.Need-add-result-2
+add-result-2 c = omega (arith, product (c .before .before .before .before))
+
 returns : tie.Need-returns
-unfolding branchRoll roundDown
-returns c = (refl, omega (arith, product (c .before .before .before .before)))
+unfolding branchRoll
+returns c = (rolled-nearest _ _, omega (arith, product (c .before .before .before .before)))
 
 pub roll-node-spec : {M : Type 1} → statement M
 roll-node-spec =
@@ -93,5 +97,7 @@ roll-node-spec =
     shared-slice-read-sum-3
     mul-sum-6
     add-sum-4
+    add-result
     mul-result
+    add-result-2
     returns)
