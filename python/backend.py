@@ -45,7 +45,7 @@ def archive():
 
 
 def shared_object():
-    """The bytes of the shared object, linked from the archive and the loop over its fits."""
+    """The bytes of the shared object, linked from the archive."""
     if sysconfig.get_platform() != "linux-x86_64":
         sys.exit("mixegorta cannot be built: the archive is for x86-64 Linux and this is " + sysconfig.get_platform() + ".")
     compiler = os.environ.get("CC", "cc").split()
@@ -54,8 +54,8 @@ def shared_object():
     source = archive()
     with tempfile.TemporaryDirectory() as folder:
         linked = pathlib.Path(folder) / "libmixegorta.so"
-        command = [*compiler, "-shared", "-fPIC", "-O2", "-nostartfiles", "-Wl,-z,defs", "-Wl,-soname,libmixegorta.so", "-o", linked,
-                   "-I", ROOT / "c", HERE / "fit_each.c", "-Wl,--whole-archive", source, "-Wl,--no-whole-archive", "-lc"]
+        command = [*compiler, "-shared", "-nostartfiles", "-Wl,-z,defs", "-Wl,-soname,libmixegorta.so", "-o", linked,
+                   "-Wl,--whole-archive", source, "-Wl,--no-whole-archive", "-lc"]
         done = subprocess.run(command, stdout=subprocess.PIPE, stderr=subprocess.STDOUT, text=True)
         if done.returncode:
             sys.exit(f"mixegorta cannot be built: {compiler[0]} did not link {source}: " + " ".join(done.stdout.split()))

@@ -19,7 +19,7 @@ from ._engine import (AMERICAN_CALL, AMERICAN_PUT, CALL, DISCOUNT_FACTOR, DISCOU
                       continuous_rate, curve_discounts, dated_option_price, discounts_needed, fit_into, half_width, node_count,
                       option_price, quote_discount, row_range, row_start, sheet, sheet_into, state_price_error_bound,
                       state_prices_needed, step_rate, valuation_error_bound, value_by_state_prices)
-from ._tree import Tree, fit_trees
+from ._tree import Tree
 from .amounts import ONE, Amount, Amounts, InexactAmount, billionths
 from .refusals import (CAUSES, ExerciseDatesOutOfOrder, FlowTooLarge, MalformedJob, NodeDiscountOutOfRange, NodesTooFarApart, NotInTree,
                        OptionTermsOutOfRange, QuoteOutOfRange, Refused, ReversionTooLarge, StepsOutOfRange, UnknownFrequency,
@@ -35,7 +35,7 @@ __all__ = [
     "CAUSES", "Refused", "MalformedJob", "UnknownFrequency", "StepsOutOfRange", "ReversionTooLarge", "VolatilityTooLarge", "NotInTree",
     "QuoteOutOfRange", "NodesTooFarApart", "NodeDiscountOutOfRange", "FlowTooLarge", "OptionTermsOutOfRange", "ValueTooLarge",
     "ExerciseDatesOutOfOrder",
-    "Point", "Curve", "Branches", "Price", "BondAndOption", "Tree", "fit_trees",
+    "Point", "Curve", "Branches", "Price", "BondAndOption", "Tree",
     "half_width", "node_count", "row_start", "discounts_needed", "state_prices_needed", "branches",
     "quote_discount", "curve_discounts", "fit_into", "row_range", "step_rate", "continuous_rate", "state_price_error_bound",
     "bond_price", "option_price", "bond_and_option", "dated_option_price", "bond_and_dated_option", "value_by_state_prices",

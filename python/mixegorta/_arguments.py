@@ -4,8 +4,7 @@ Nothing is judged here but what would make a call unsafe: ctypes would cut a num
 import ctypes
 import operator
 from array import array
-from itertools import accumulate
-from typing import Any, Callable, Dict, Iterable, Iterator, List, Optional, Tuple
+from typing import Any, Callable, Dict, Iterable, Iterator, Optional, Tuple
 
 from ._library import F64, U8, U64
 from .amounts import Amount, billionths
@@ -64,13 +63,6 @@ def own_memory(count: int, code: str = "Q") -> Slice:
     """Zeros that nobody else knows of."""
     elements = (ELEMENTS[code] * count)()
     return Slice(memoryview(elements).cast("B").cast(code), code, ctypes.addressof(elements), count)
-
-
-def own_memories(counts: List[int]) -> List[Slice]:
-    """Such zeros for each count, in one block."""
-    block = own_memory(sum(counts))
-    starts = accumulate(counts, initial=0)
-    return [Slice(block.values[start:start + count], "Q", block.address + 8 * start, count) for start, count in zip(starts, counts)]
 
 
 def amounts(name: str, values: Iterable[Amount]) -> Slice:

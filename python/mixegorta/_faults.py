@@ -1,11 +1,10 @@
 """Which argument a refusal is about. Asked only after the engine has refused, and the engine itself is asked again, of parts of the
 call, so that no limit stands here."""
 import struct
-from array import array
 from typing import Any, Callable, Dict, List, Optional, Tuple, Union
 
 from ._arguments import Slice, amounts, own_memory, quotes
-from ._library import DECLARATIONS, FIT_EACH, FIT_FIELDS, LOCKED, UNLOCKED, CPoint
+from ._library import DECLARATIONS, LOCKED, UNLOCKED, CPoint
 from .amounts import ONE
 from .refusals import CLASSES, Refused
 
@@ -28,17 +27,6 @@ def call(name: str, *given: Any) -> Any:
     """What the engine answers. The interpreter's lock is given up where the call has memory and all of it is the call's own."""
     memories = [argument.lent for argument in given if isinstance(argument, Slice)]
     return (UNLOCKED if memories and not any(memories) else LOCKED)[name](*_flat(given))
-
-
-def fit_each(fits: List[Tuple[Any, ...]]) -> List[int]:
-    """The numbers of many fits, whose memories are the calls' own. The lock is given up once for all of them where the shared object can."""
-    if not FIT_EACH:
-        return [call("fit", *given) for given in fits]
-    calls = array("Q")
-    for given in fits:
-        calls.extend(_flat(given) + [0])
-    FIT_EACH(calls.buffer_info()[0], len(fits))
-    return calls[FIT_FIELDS - 1::FIT_FIELDS].tolist()
 
 
 def refusal(number: int, name: str, given: Tuple[Any, ...]) -> Refused:

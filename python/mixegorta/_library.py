@@ -106,9 +106,3 @@ def _functions(library: Any) -> Dict[str, Any]:
 PATH = _path()
 LOCKED = _functions(ctypes.PyDLL(PATH))
 UNLOCKED = _functions(ctypes.CDLL(PATH))
-# The package's shared object has a loop over fits beside the proved functions, which another may lack. Each of them is laid out as in
-# fit_each.c: the arguments of the fit and a number for its answer, 64 bits each.
-FIT_EACH: Any = getattr(ctypes.CDLL(PATH), "mixegorta_fit_each", None)
-FIT_FIELDS = len(_parameter_types(DECLARATIONS["fit"][1])) + 1
-if FIT_EACH:
-    FIT_EACH.restype, FIT_EACH.argtypes = None, [ctypes.c_void_p, SIZE]

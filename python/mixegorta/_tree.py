@@ -1,19 +1,12 @@
 """A fitted tree with memories of its own."""
 from array import array
 from functools import lru_cache
-from itertools import islice
-from typing import Any, Iterable, Iterator, Optional, Tuple, Union
+from typing import Any, Iterable, Optional, Tuple
 
 from . import _engine as engine
-from ._arguments import Slice, own_memories, own_memory, u64
-from ._faults import call, fit_each, refusal
+from ._arguments import own_memory, u64
+from ._faults import call, refusal
 from .amounts import Amount, Amounts
-from .refusals import Refused
-
-Terms = Tuple[int, int, int, int, engine.Points]
-
-# so many of the largest take less than a millisecond: long beside the time in which a thread gets the lock back, and their memory stays near
-AT_ONCE = 32
 
 
 def _sizes(steps: int, reversion: int) -> Tuple[int, int]:
@@ -35,19 +28,14 @@ class Tree:
     volatility: int
 
     def __init__(self, frequency: int, steps: int, reversion: int, volatility: int, points: engine.Points) -> None:
+        self.frequency, self.steps = u64("frequency", frequency), u64("steps", steps)
+        self.reversion, self.volatility = u64("reversion", reversion), u64("volatility", volatility)
         # where no tree has this size both are empty, and the fit says why
-        given = self._prepare(frequency, steps, reversion, volatility, points, *map(own_memory, _sizes(steps, reversion)))
+        self._discounts, self._state_prices = map(own_memory, _sizes(steps, reversion))
+        given = (self.frequency, self.steps, self.reversion, self.volatility, *engine.columns(points), self._discounts, self._state_prices)
         number = call("fit", *given)
         if number:
             raise refusal(number, "fit", given)
-
-    def _prepare(self, frequency: int, steps: int, reversion: int, volatility: int, points: engine.Points, discounts: Slice,
-                 state_prices: Slice) -> Tuple[Any, ...]:
-        """The arguments of the tree's fit."""
-        self.frequency, self.steps = u64("frequency", frequency), u64("steps", steps)
-        self.reversion, self.volatility = u64("reversion", reversion), u64("volatility", volatility)
-        self._discounts, self._state_prices = discounts, state_prices
-        return self.frequency, self.steps, self.reversion, self.volatility, *engine.columns(points), discounts, state_prices
 
     def __repr__(self) -> str:
         return f"<Tree frequency={self.frequency} steps={self.steps} reversion={self.reversion} volatility={self.volatility}>"
@@ -107,15 +95,3 @@ class Tree:
         payoffs = list(payoffs)
         bound = engine.valuation_error_bound(self.steps, self.reversion, self._discounts, row, payoffs)
         return engine.Price(engine.value_by_state_prices(self.row(engine.STATE_PRICES, row) or (), payoffs), bound)
-
-
-def fit_trees(terms: Iterable[Terms]) -> Iterator[Union[Tree, Refused]]:
-    """Yields many trees, each from (frequency, steps, reversion, volatility, points) as Tree takes them: a Tree, or the Refused that Tree
-    would raise. They are fitted many at a time without the interpreter's lock, so that threads share the work."""
-    remaining = iter(terms)
-    while listed := list(islice(remaining, AT_ONCE)):
-        memories = iter(own_memories([size for _, steps, reversion, _, _ in listed for size in _sizes(steps, reversion)]))
-        trees = [Tree.__new__(Tree) for _ in listed]
-        fits = [tree._prepare(*one, next(memories), next(memories)) for tree, one in zip(trees, listed)]
-        for number, tree, given in zip(fit_each(fits), trees, fits):
-            yield refusal(number, "fit", given) if number else tree

@@ -187,7 +187,7 @@ class Lock(unittest.TestCase):
         wanted, found = m.Tree(1, 2, 0, 0, curve).bond_price([0, ONE]), []
 
         def work():
-            found.extend({tree.bond_price([0, ONE]) for tree in m.fit_trees((1, 2, 0, 0, curve) for _ in range(100))})
+            found.extend({m.Tree(1, 2, 0, 0, curve).bond_price([0, ONE]) for _ in range(100)})
 
         threads = [threading.Thread(target=work) for _ in range(4)]
         for thread in threads:
@@ -198,24 +198,16 @@ class Lock(unittest.TestCase):
 
 
 class Trees(unittest.TestCase):
-    def test_many_are_each_as_one(self):
-        terms = [(1, 2, reversion, volatility, points) for reversion in (0, 1000, 6001) for volatility in range(0, 50002, 5000)
-                 for points in (CURVE, tuple(CURVE), m.Curve(CURVE), [], [Point(1, 5, 0.9), Point(2, 5, 1.2)])]
-        for term, found in zip(terms, m.fit_trees(iter(terms))):
-            try:
-                wanted = m.Tree(*term)
-                self.assertEqual((found.discounts, found.state_prices, repr(found)), (wanted.discounts, wanted.state_prices, repr(wanted)))
-            except m.Refused as refusal:
-                self.assertEqual(repr(found), repr(refusal))
-        self.assertEqual(len(list(m.fit_trees(terms))), len(terms))
-        self.assertEqual(list(m.fit_trees([])), [])
+    def test_a_curve_is_its_points(self):
+        for points in (CURVE, tuple(CURVE), m.Curve(CURVE)):
+            tree, wanted = m.Tree(1, 2, 1000, 5000, points), m.Tree(1, 2, 1000, 5000, list(CURVE))
+            self.assertEqual((tree.discounts, tree.state_prices), (wanted.discounts, wanted.state_prices))
 
     def test_numbers_of_a_tree(self):
         m.Tree(1, 2, 0, 0, CURVE)
-        for function in (m.Tree, lambda *term: list(m.fit_trees([term]))):
-            for name, *numbers in (("steps", 1, 2.0, 0, 0), ("reversion", 1, 2, 0.0, 0), ("frequency", 1.0, 2, 0, 0), ("volatility", 1, 2, 0, 0.0)):
-                with self.assertRaisesRegex(TypeError, f"^{name}: "):
-                    function(*numbers, CURVE)
+        for name, *numbers in (("steps", 1, 2.0, 0, 0), ("reversion", 1, 2, 0.0, 0), ("frequency", 1.0, 2, 0, 0), ("volatility", 1, 2, 0, 0.0)):
+            with self.assertRaisesRegex(TypeError, f"^{name}: "):
+                m.Tree(*numbers, CURVE)
         if numpy:
             self.assertEqual(repr(m.Tree(*numpy.array([1, 2, 0, 0]), CURVE)), repr(m.Tree(1, 2, 0, 0, CURVE)))
 

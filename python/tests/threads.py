@@ -1,6 +1,6 @@
 """How long two threads take for 2,000 trees, measured against one thread: at most 0.6 of its time is wanted on two processors.
 
-Usage: python3 threads.py, where the package is installed. The trees are the largest, sixty steps without reversion, from fit_trees. Two
+Usage: python3 threads.py, where the package is installed. The trees are the largest, sixty steps without reversion. Two
 processes do the same work beside it, to show what the machine has to give; where they too take more than 0.55 of one thread's time, or
 there is one processor alone, nothing is judged. Prints the ratios; exit status 1 where the threads take too long."""
 import os
@@ -14,12 +14,7 @@ TREES, WANTED, IDLE = 2_000, 0.6, 0.55
 CURVE = m.Curve(m.Point(row, m.DISCOUNT_FACTOR, 0.997**row) for row in range(1, 61))
 
 
-def many(count):
-    for tree in m.fit_trees((12, 60, 0, 10_000 + place, CURVE) for place in range(count)):
-        assert isinstance(tree, m.Tree)
-
-
-def one_by_one(count):
+def fits(count):
     for place in range(count):
         m.Tree(12, 60, 0, 10_000 + place, CURVE)
 
@@ -61,12 +56,8 @@ def main():
     if len(os.sched_getaffinity(0)) < 2:
         print("skipped: there is one processor")
         return 0
-    if not m._library.FIT_EACH:
-        print("skipped: this shared object has no loop over fits; the one that pip installs has")
-        return 0
-    for name, work, rounds in (("one by one", one_by_one, 5), ("many at a time", many, 20)):
-        threads, processes = ratios(work, rounds)
-        print(f"{TREES} trees {name}: two threads take {threads:.2f} of one thread's time, two processes {processes:.2f}")
+    threads, processes = ratios(fits, 20)
+    print(f"{TREES} trees: two threads take {threads:.2f} of one thread's time, two processes {processes:.2f}")
     if threads > WANTED and processes > IDLE:
         print("skipped: the machine is busy")
     return 1 if threads > WANTED and processes <= IDLE else 0

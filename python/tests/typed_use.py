@@ -6,7 +6,7 @@ import mixegorta as m
 
 points = [m.Point(1, m.DISCOUNT_FACTOR, 0.97), m.Point(2, m.YEARLY_RATE, 0.032)]
 tree: m.Tree = m.Tree(1, 2, 0, 10_000, points)
-others = [each for each in m.fit_trees((1, 2, 0, volatility, m.Curve(points)) for volatility in (5_000, 6_000)) if isinstance(each, m.Tree)]
+others = [m.Tree(1, 2, 0, volatility, m.Curve(points)) for volatility in (5_000, 6_000)]
 bond: m.Price = tree.bond_price([Decimal("0.04"), "1.04"])
 same: m.Price = others[0].bond_price(array("Q", [40_000_000, 1_040_000_000]))
 lent: m.Price = m.bond_price(2, 0, tree.discounts, memoryview(array("Q", [0, m.ONE])))
