@@ -1,9 +1,9 @@
 /* Mixegorta for C: a Hull-White trinomial rate tree in whole billionths.
  *
- * Link with target/staticlib/libcapi.a or target/libmixegorta.so; tools/library builds both. The archive needs memcpy and memset
- * of the C library and nothing else: no function here allocates, keeps a pointer, calls back, prints or reads global state, so
- * any number of threads may call at once. During a call no other thread may write what the call is handed, nor read what the call
- * may write.
+ * Link with what `pkg-config --cflags --libs mixegorta` says, once `tools/install PREFIX` has put the library there, or with the
+ * archive itself, target/staticlib/libcapi.a. The archive needs memcpy and memset of the C library and nothing else: no function here
+ * allocates, keeps a pointer, calls back, prints or reads global state, so any number of threads may call at once. During a call no
+ * other thread may write what the call is handed, nor read what the call may write.
  *
  * Numbers. "One" is 1,000,000,000 billionths. Discounts, state prices, flows, strikes, payoffs, values and error bounds are
  * whole billionths; probabilities are whole numbers over 600,000,000.
@@ -46,6 +46,12 @@
 #ifdef __cplusplus
 extern "C" {
 #endif
+
+/* The version of header and library, in three numbers and as a text. The shared object's name for the loader carries the first. */
+#define MIXEGORTA_VERSION_MAJOR 0
+#define MIXEGORTA_VERSION_MINOR 6
+#define MIXEGORTA_VERSION_PATCH 0
+#define MIXEGORTA_VERSION "0.6.0"
 
 /* Billionths in one, and the whole of which probabilities are parts. */
 #define MIXEGORTA_ONE UINT64_C(1000000000)

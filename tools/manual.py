@@ -1,8 +1,9 @@
 #!/usr/bin/env python3
 """Runs the examples of docs/MANUAL.md and compares what each prints with the block after it.
 
-Usage: tools/manual.py, at the root, after tools/library has built the library. Blocks of Python follow on each other; a block of C or Rust
-is a program of its own. Needs a C compiler and cargo. Prints what differs; exit status 1 where anything does."""
+Usage: tools/manual.py [--installed], at the root, after tools/library has built the library. Blocks of Python follow on each other; a
+block of C or Rust is a program of its own. With --installed the blocks of Python alone, with the installed package. Needs a C compiler and
+cargo for the others. Prints what differs; exit status 1 where anything does."""
 import contextlib
 import io
 import os
@@ -48,14 +49,17 @@ def run_rust(code):
 
 
 def main():
+    installed = sys.argv[1:] == ["--installed"]
     FOLDER.mkdir(parents=True, exist_ok=True)
-    sys.path[:0] = [str(ROOT / "python"), str(ROOT / "reference")]
+    sys.path[:0] = [str(ROOT / "reference")] if installed else [str(ROOT / "python"), str(ROOT / "reference")]
     sys.dont_write_bytecode = True
     names, ran, same = {}, 0, True
-    run = {"python": lambda code: run_python(code, names), "c": run_c, "rust": run_rust}
+    run = {"python": lambda code: run_python(code, names)}
+    if not installed:
+        run.update(c=run_c, rust=run_rust)
     listed = blocks()
     for (language, code), (after, wanted) in zip(listed, listed[1:] + [("", "")]):
-        if language == "text":
+        if language == "text" or installed and language not in run:
             continue
         printed = run[language](code)
         ran += 1

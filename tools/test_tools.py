@@ -1,14 +1,17 @@
 #!/usr/bin/env python3
-"""Tests of tools/job and tools/draw, and that the examples' texts, sheets and pictures belong together.
+"""Tests of tools/job, tools/price and tools/draw, and that the examples' texts, sheets and pictures belong together.
 
     python3 tools/test_tools.py
 
-Sheets are worked out by reference/reference.py. Both tools stand outside the proved core.
+Sheets are worked out by reference/reference.py. The tools stand outside the proved core; tools/test_page.py tests pages in a browser.
 """
 import functools
+import os
 import pathlib
+import shutil
 import subprocess
 import sys
+import tempfile
 import unittest
 import xml.etree.ElementTree as ElementTree
 
@@ -66,8 +69,9 @@ class Examples(unittest.TestCase):
     def test_pictures_are_those_of_the_sheets(self):
         for path in PICTURES:
             with self.subTest(path.name):
-                sheet = (ROOT / 'examples' / path.name).with_suffix('.sheet').read_bytes()
-                self.assertEqual(run('draw', sheet).stdout, path.read_bytes())
+                example = (ROOT / 'examples' / path.name).with_suffix('.txt')
+                sheet = example.with_suffix('.sheet').read_bytes()
+                self.assertEqual(run('draw', sheet, '--job', str(example)).stdout, path.read_bytes())
 
     def test_what_the_comments_say(self):
         rates = {path.stem: [line.split()[4] for line in path.with_suffix('.sheet').read_text().splitlines() if line.startswith('node')]
@@ -197,6 +201,110 @@ class Jobs(unittest.TestCase):
         self.refused(b'\xff\xfe', ': not a text in UTF-8')
 
 
+class Pricing(unittest.TestCase):
+    """Programs in place of the proved one are small scripts, most of them the reference."""
+
+    def setUp(self):
+        folder = tempfile.TemporaryDirectory()
+        self.addCleanup(folder.cleanup)
+        self.folder = pathlib.Path(folder.name)
+        self.reference = self.program(f'exec "{sys.executable}" -B "{ROOT}/reference/reference.py"')
+
+    def program(self, script):
+        path = self.folder / f'program{len(list(self.folder.iterdir()))}'
+        path.write_text(f'#!/bin/sh\n{script}\n')
+        path.chmod(0o755)
+        return path
+
+    def file(self, content):
+        path = self.folder / f'file{len(list(self.folder.iterdir()))}'
+        path.write_bytes(content if isinstance(content, bytes) else content.encode())
+        return path
+
+    def price(self, *arguments, program=None, tools=ROOT / 'tools', path=os.environ['PATH'], **more):
+        settings = {'PATH': str(path), **({'MIXEGORTA_SHEET': str(program)} if program else {})}
+        return subprocess.run(['/bin/sh', str(tools / 'price'), *map(str, arguments)], env=settings, stderr=subprocess.PIPE, **{'stdout': subprocess.PIPE, **more})
+
+    def check_sentence(self, made, *words):
+        """Nothing is shown, and one line tells why."""
+        self.assertEqual((made.returncode, made.stdout or b''), (2, b''), made.stderr)
+        self.assertEqual(made.stderr.count(b'\n'), 1, made.stderr)
+        self.assertNotIn(b'Traceback', made.stderr)
+        for word in words:
+            self.assertIn(word, made.stderr.decode())
+
+    def test_texts_and_jobs_show_their_sheets(self):
+        for path in EXAMPLES:
+            with self.subTest(path.name):
+                sheet = path.with_suffix('.sheet').read_bytes()
+                job = self.file(run('job', path.read_bytes()).stdout)
+                for file in (path, job):
+                    made = self.price(file, program=self.reference)
+                    self.assertEqual((made.stdout, made.returncode), (sheet, int(sheet.startswith(b'refused'))))
+
+    @unittest.skipUnless((ROOT / 'target/bin/sheet').exists(), 'target/bin/sheet is not built: rt check sheet')
+    def test_the_proved_program(self):
+        for path in EXAMPLES:
+            self.assertEqual(self.price(path).stdout, path.with_suffix('.sheet').read_bytes(), path.name)
+
+    def test_refusals_are_explained(self):
+        for number in range(1, 14):
+            made = self.price(EXAMPLES[0], program=self.program(f'cat >/dev/null; echo refused {number}'))
+            self.assertEqual((made.returncode, made.stdout), (1, b'refused %d\n' % number))
+            self.assertRegex(made.stderr.decode(), rf'\Arefused {number}: [^\n]+\. What to do: [^\n]+\.\n\Z')
+            self.assertNotIn(b'unknown', made.stderr)
+        made = self.price(self.file(DOCUMENT_JOB[:-1]), program=self.reference)
+        self.assertEqual((made.returncode, made.stdout), (1, b'refused 1\n'))
+
+    def test_lost_output_of_the_program(self):
+        file = ROOT / 'examples/one-step-today.txt'
+        whole = TODAY_SHEET.decode()
+        for shown in ('', 'node 0 0', whole[:-1], whole[:-2], whole[:whole.index('option')], whole[:whole.index('bond')], 'refused 1', 'refused \n'):
+            made = self.price(file, program=self.program(f"cat >/dev/null; printf '%s' '{shown}'"))
+            self.check_sentence(made, 'output is lost')
+        self.check_sentence(self.price(file, program=self.program('kill -9 $$')), 'output is lost', 'signal 9')
+
+    def test_lost_output_of_the_tool(self):
+        file = ROOT / 'examples/one-step-today.txt'
+        with open('/dev/full', 'wb') as full:
+            self.check_sentence(self.price(file, program=self.reference, stdout=full), 'output is lost', 'No space')
+        come, gone = os.pipe()
+        os.close(come)
+        self.check_sentence(self.price(file, program=self.reference, stdout=gone), 'output is lost')
+        os.close(gone)
+        closed = subprocess.run(f'exec "{ROOT}/tools/price" "{file}" >&-', shell=True, env={**os.environ, 'MIXEGORTA_SHEET': str(self.reference)}, stderr=subprocess.PIPE)
+        self.check_sentence(closed, 'output is lost')
+
+    def test_files_that_cannot_be_priced(self):
+        for file, word in (('no-such-file', 'No such file'), (self.folder, 'Is a directory'), (self.file('flow x'), ':1: flow is a decimal'),
+                           (self.file(b'\xff\xfeq\0'), 'not a text in UTF-8'), (self.file('\xe9'.encode('latin-1')), 'not a text in UTF-8')):
+            self.check_sentence(self.price(file, program=self.reference), str(file), word)
+        self.check_sentence(self.price(), 'tools/price FILE')
+        self.check_sentence(self.price('a', 'b'), 'tools/price FILE')
+        self.assertIn(b'20 more lines are wrong', self.price(self.file('x\n' * 40), program=self.reference).stderr)
+
+    def test_a_program_that_is_missing(self):
+        shutil.copytree(ROOT / 'tools', self.folder / 'clone/tools')
+        file, tools = ROOT / 'examples/one-step.txt', self.folder / 'clone/tools'
+        commands = self.folder / 'commands'
+        commands.mkdir()
+        for name in ('python3', 'dirname', 'readlink'):
+            (commands / name).symlink_to(sys.executable if name == 'python3' else shutil.which(name))
+        self.check_sentence(self.price(file, tools=tools, path=commands), 'no Rattle kit', 'tools/job FILE | python3 reference/reference.py')
+        self.program('').rename(commands / 'rt')
+        self.check_sentence(self.price(file, tools=tools, path=commands), 'run `rt check sheet`')
+        self.check_sentence(self.price(file, program='no-such-program'), 'no-such-program', 'MIXEGORTA_SHEET')
+        self.check_sentence(self.price(file, program=self.file('no program')), 'does not run here', 'rt check sheet')
+        self.check_sentence(self.price(file, path=self.folder / 'nothing'), 'needs python3')
+
+    def test_other_tools_that_lose_output(self):
+        for tool, content in (('job', (ROOT / 'examples/one-step.txt').read_bytes()), ('draw', TODAY_SHEET), ('draw', b'refused 1\n')):
+            with open('/dev/full', 'wb') as full:
+                made = subprocess.run([sys.executable, '-B', str(ROOT / 'tools' / tool)], input=content, stdout=full, stderr=subprocess.PIPE)
+            self.assertIn(made.returncode, (1, 2))
+            self.assertRegex(made.stderr, rb'\Aoutput is lost: [^\n]*\n\Z')
+
+
 class Drawing(unittest.TestCase):
     def tree(self, sheet):
         made = run('draw', sheet)
@@ -265,6 +373,58 @@ class Drawing(unittest.TestCase):
                     self.assertTrue(any(f'{words[0].title()} {words[1]} (at most {words[2]} billionths' in text for text in shown))
                 elif words[0] == 'row':
                     self.assertLess(set(words[1:]), set(shown))
+
+    def test_a_job_beside_the_sheet(self):
+        for path in EXAMPLES:
+            sheet = path.with_suffix('.sheet').read_bytes()
+            if sheet.startswith(b'refused'):
+                continue
+            f, n, b, s, quoted, _, _ = reference.read(run('job', path.read_bytes()).stdout)
+            quotes = [reference.quote(f, row, *quote) for row, quote in enumerate(quoted, 1)]
+            _, prices = reference.fit(n, b, reference.spacing(f, s), quotes)
+            root = ElementTree.fromstring(run('draw', sheet, '--job', str(path)).stdout)
+            titles = [mark.find(SVG + 'title').text for mark in root.iter() if mark.get('class') == 'node']
+            lines = [line.split() for line in sheet.decode().splitlines() if line.startswith('node')]
+            self.assertEqual(len(titles), len(lines))
+            for title, (_, row, number, discount, rate) in zip(titles, lines):
+                billionths = int(rate.replace('.', '')) * f
+                self.assertEqual(title, f'row {row}, node {number}: discount {discount}, rate {rate}%; {float(f"{int(row) / f:.3f}"):g} years, '
+                                        f'{reference.percent(billionths)}% a year, state price {reference.amount(prices[int(row)][int(number)])}')
+            self.assertIn('years from today', [text.text for text in root.iter(SVG + 'text')])
+
+    def test_areas_are_state_prices(self):
+        path = ROOT / 'examples/negative-curve.txt'
+        root = ElementTree.fromstring(run('draw', path.with_suffix('.sheet').read_bytes(), '--job', str(path)).stdout)
+        marks = [(float(mark.find(SVG + 'title').text.split()[-1]), float(mark.get('width') or 2 * float(mark.get('r'))) ** 2)
+                 for mark in root.iter() if mark.get('class') == 'node' and mark.tag == SVG + 'rect']
+        for price, area in marks:
+            self.assertTrue(abs(area - marks[0][1] * price) < 5 or price < 0.0225, (price, area))
+
+    def test_jobs_as_bytes_and_of_other_sheets(self):
+        sheet, text = TODAY_SHEET, ROOT / 'examples/one-step-today.txt'
+        self.assertEqual(*(run('draw', sheet, '--page', '--job', str(path)).stdout for path in (text, text.with_suffix('.job'))))
+        for other, line in (('coupon-put', 1), ('one-step', 1), ('refused', 1)):
+            made = run('draw', sheet, '--job', str(ROOT / f'examples/{other}.txt'))
+            self.assertEqual((made.returncode, made.stdout), (2, b''))
+            self.assertIn(b"the sheet is not this job's: its line %d is " % line, made.stderr)
+        cheaper = run('draw', sheet.replace(b'0.007500000 2', b'0.007500001 2'), '--job', str(text))
+        self.assertIn(b'line 4', cheaper.stderr)
+        shorter = run('draw', sheet[:sheet.index(b'option')], '--job', str(text))
+        self.assertIn(b"line 4 is 'nothing'", shorter.stderr)
+
+    def test_pages(self):
+        for path in EXAMPLES:
+            sheet = path.with_suffix('.sheet').read_bytes()
+            page = run('draw', sheet, '--page', '--job', str(path))
+            self.assertEqual((page.returncode, page.stderr), (int(sheet.startswith(b'refused')), b''))
+            self.assertTrue(page.stdout.startswith(b'<!DOCTYPE html>'))
+            self.assertEqual(page.stdout.count(b'class="node"'), sheet.count(b'node'))
+            self.assertNotRegex(page.stdout, rb'(?i)(src|href)\s*=|@import|url\(')
+
+    def test_wrong_arguments(self):
+        for arguments in (('--job',), ('--sheet',), ('x',), ('--job', 'no-such-file')):
+            made = run('draw', TODAY_SHEET, *arguments)
+            self.assertEqual((made.returncode, made.stdout, made.stderr.count(b'\n')), (2, b'', 1))
 
     def test_a_refusal_is_drawn(self):
         for number in range(1, 14):

@@ -19,6 +19,8 @@
 //! # Ok::<(), mixegorta::Refusal>(())
 //! ```
 
+#![deny(missing_docs)]
+
 mod raw;
 mod tree;
 
@@ -27,6 +29,8 @@ pub use tree::Tree;
 use std::fmt;
 use std::ops::Range;
 
+/// The version of this crate, which is that of the header, the Python package and CHANGELOG.md.
+pub const VERSION: &str = env!("CARGO_PKG_VERSION");
 /// Billionths in one.
 pub const ONE: u64 = 1_000_000_000;
 /// The whole of which probabilities are parts.
@@ -50,18 +54,31 @@ pub const SHEET_ROOM: usize = 468_736;
 pub struct Refusal(u64);
 
 impl Refusal {
+    /// The job is malformed or longer than [`MAX_JOB`].
     pub const JOB: Refusal = Refusal(1);
+    /// The steps a year are not 1, 2, 4 or 12.
     pub const FREQUENCY: Refusal = Refusal(2);
+    /// The steps are outside 1 to [`MAX_STEPS`].
     pub const STEPS: Refusal = Refusal(3);
+    /// The reversion is above 6,000.
     pub const REVERSION: Refusal = Refusal(4);
+    /// The volatility is above 50,000.
     pub const VOLATILITY: Refusal = Refusal(5);
+    /// A length, row or node is not in the tree, or a memory is too short.
     pub const LENGTH_OR_ROW: Refusal = Refusal(6);
+    /// A quote's kind, figure or discount is outside its limits.
     pub const QUOTE: Refusal = Refusal(7);
+    /// The half width of row n - 1 times the node spacing is above one.
     pub const SPACING: Refusal = Refusal(8);
+    /// A node discount is 0 or above 1,100,000,000.
     pub const DISCOUNT: Refusal = Refusal(9);
+    /// A flow is above 2,000,000,000.
     pub const FLOW: Refusal = Refusal(10);
+    /// The option's kind, side, expiry or strike is outside its limit.
     pub const OPTION: Refusal = Refusal(11);
+    /// A value is above 8,000,000,000, or weighed state prices sum above 2,000,000,100.
     pub const VALUE: Refusal = Refusal(12);
+    /// The exercise dates are none, not strictly rising, or reach the last row.
     pub const DATES: Refusal = Refusal(13);
 
     /// The engine's number.
@@ -112,8 +129,11 @@ fn value_of(answer: raw::Answer) -> Result<u64, Refusal> {
 /// A quoted figure.
 #[derive(Clone, Copy, Debug, PartialEq)]
 pub enum Quote {
+    /// What one paid on the row is worth today.
     DiscountFactor(f64),
+    /// A simple yearly rate: 0.03 is 3 percent.
     YearlyRate(f64),
+    /// A yearly yield by continuous compounding: 0.03 is 3 percent.
     YearlyYield(f64),
 }
 
@@ -167,6 +187,7 @@ impl Curve {
         self.rows.len()
     }
 
+    /// Whether there are none.
     pub fn is_empty(&self) -> bool {
         self.rows.is_empty()
     }
@@ -175,15 +196,22 @@ impl Curve {
 /// Which of the two memories of a tree.
 #[derive(Clone, Copy, Debug, PartialEq, Eq)]
 pub enum RowKind {
+    /// The discounts of rows 0 to n - 1.
     Discounts = 1,
+    /// The state prices of rows 0 to n.
     StatePrices = 2,
 }
 
+/// The right to buy or to sell a bond, at expiry alone or on every row up to it.
 #[derive(Clone, Copy, Debug, PartialEq, Eq)]
 pub enum OptionKind {
+    /// To buy, at expiry.
     EuropeanCall = 1,
+    /// To sell, at expiry.
     EuropeanPut = 2,
+    /// To buy, on every row from 0 to expiry.
     AmericanCall = 3,
+    /// To sell, on every row from 0 to expiry.
     AmericanPut = 4,
 }
 
@@ -191,15 +219,20 @@ pub enum OptionKind {
 /// row, which stays with the seller.
 #[derive(Clone, Copy, Debug, PartialEq, Eq)]
 pub struct OptionTerms {
+    /// The right.
     pub kind: OptionKind,
+    /// The last row of exercise.
     pub expiry: usize,
+    /// What is paid for the bond, in billionths.
     pub strike: u64,
 }
 
 /// What an option on listed dates gives the right to: to buy the bond, or to sell it.
 #[derive(Clone, Copy, Debug, PartialEq, Eq)]
 pub enum Side {
+    /// To buy the bond.
     Call = 1,
+    /// To sell the bond.
     Put = 2,
 }
 
@@ -207,31 +240,50 @@ pub enum Side {
 /// worth its exercise value, on earlier ones the larger of that and of holding it. Strike and exercise are as in [`OptionTerms`].
 #[derive(Clone, Copy, Debug, PartialEq, Eq)]
 pub struct DatedTerms<'a> {
+    /// To buy or to sell.
     pub side: Side,
+    /// The rows of exercise.
     pub dates: &'a [u8],
+    /// What is paid for the bond, in billionths.
     pub strike: u64,
 }
 
 /// A price in billionths; the exact price is at most `bound` above or below.
 #[derive(Clone, Copy, Debug, PartialEq, Eq)]
 pub struct Price {
+    /// The price.
     pub value: u64,
+    /// The error bound.
     pub bound: u64,
+}
+
+/// As the sheet prints it: nine decimals, then the error bound in billionths.
+impl fmt::Display for Price {
+    fn fmt(&self, f: &mut fmt::Formatter<'_>) -> fmt::Result {
+        let (whole, part) = (self.value / ONE, self.value % ONE);
+        write!(f, "{whole}.{part:09} {}", self.bound)
+    }
 }
 
 /// A bond and an option on it, each priced or refused by itself.
 #[derive(Clone, Copy, Debug, PartialEq, Eq)]
 pub struct BondAndOption {
+    /// What the bond alone would give.
     pub bond: Result<Price, Refusal>,
+    /// What the option alone would give.
     pub option: Result<Price, Refusal>,
 }
 
 /// Where a node leads: to `lowest` and the two nodes above it, with probabilities over [`PROBABILITY_ONE`].
 #[derive(Clone, Copy, Debug, PartialEq, Eq)]
 pub struct Branches {
+    /// The lowest of the three nodes of the next row.
     pub lowest: i64,
+    /// How likely `lowest + 2` is.
     pub up: u64,
+    /// How likely `lowest + 1` is.
     pub middle: u64,
+    /// How likely `lowest` is.
     pub down: u64,
 }
 

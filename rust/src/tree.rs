@@ -41,10 +41,12 @@ impl Tree {
         Ok(tree)
     }
 
+    /// The steps n.
     pub fn steps(&self) -> usize {
         self.steps
     }
 
+    /// The reversion per step in ten-thousandths.
     pub fn reversion(&self) -> u64 {
         self.reversion
     }

@@ -582,3 +582,11 @@ fn a_refusal_says_its_number() {
         "refused 13: the exercise dates are none, not strictly rising, or reach the last row"
     );
 }
+
+#[test]
+fn a_refusal_is_an_error() {
+    let boxed: Box<dyn std::error::Error + Send + Sync> =
+        Box::new(half_width(6_001, 0).unwrap_err());
+    assert_eq!(boxed.to_string(), "refused 4: the reversion is above 6,000");
+    assert!(boxed.source().is_none());
+}

@@ -139,7 +139,8 @@ module _ (t : Tree) (discount : ℕ → ℕ → ℕ) (flow : ℕ → ℕ) (n : �
     pub engine-american-before :
         (i : ℕ) → i < expiry → (k : ℕ) →
         option (engine t discount) flow n side strike (american expiry) i k
-        ≡ max (nearest (nearest (outgoing (t .step i) (option (engine t discount) flow n side strike (american expiry) (suc i)) k) 600000000 * discount i k) one)
+        ≡ max
+        (nearest (nearest (outgoing (t .step i) (option (engine t discount) flow n side strike (american expiry) (suc i)) k) 600000000 * discount i k) one)
         (exercise side strike (bareBond (engine t discount) flow n i k))
     engine-american-before i h k =
         engine-listed-before (american expiry) i (omega (arith, american-last expiry)) (american-listed expiry i (omega arith)) k

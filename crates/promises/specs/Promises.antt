@@ -126,7 +126,8 @@ pub record EngineRows (t : Tree) (discount : ℕ → ℕ → ℕ) (flow : ℕ �
       bond (engine t discount) flow n i k
       ≡ nearest (nearest (outgoing (t .step i) (bond (engine t discount) flow n (suc i)) k) 600000000 * discount i k) one + flow i
   pub bare-before : (i : ℕ) → i < n → (k : ℕ) →
-      bareBond (engine t discount) flow n i k ≡ nearest (nearest (outgoing (t .step i) (bond (engine t discount) flow n (suc i)) k) 600000000 * discount i k) one
+      bareBond (engine t discount) flow n i k
+      ≡ nearest (nearest (outgoing (t .step i) (bond (engine t discount) flow n (suc i)) k) 600000000 * discount i k) one
   pub option-last : (rows : Schedule) (k : ℕ) →
       option (engine t discount) flow n side strike rows (rows .last) k ≡ exercise side strike (bareBond (engine t discount) flow n (rows .last) k)
   pub listed-before : (rows : Schedule) (i : ℕ) → i < rows .last → rows .listed i ≡ true → (k : ℕ) →

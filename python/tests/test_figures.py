@@ -7,9 +7,11 @@ import unittest
 from array import array
 
 HERE = os.path.dirname(os.path.abspath(__file__))
-sys.path[:0] = [HERE, os.path.join(HERE, "..", "tools")]
+ROOT = os.path.join(HERE, "..", "..")
+sys.path.append(os.path.join(ROOT, "tools"))
 import declarations
 import mixegorta as m
+from mixegorta import _library as c
 from mixegorta import ONE, Branches, Point, Price
 
 PATTERN = 0xA5A5A5A5A5A5A5A5
@@ -36,21 +38,22 @@ class Test(unittest.TestCase):
 
     def test_declarations_are_those_of_the_archive(self):
         functions, structs = declarations.exported()
-        numbers = {"u8": m.U8, "u64": m.U64, "i64": m.I64, "usize": m.SIZE, "f64": m.F64, "[u64; 3]": m.U64 * 3}
+        numbers = {"u8": c.U8, "u64": c.U64, "i64": c.I64, "usize": c.SIZE, "f64": c.F64, "[u64; 3]": c.U64 * 3}
 
         def result(kind):
-            return numbers.get(kind) or getattr(m, "C" + kind)
+            return numbers.get(kind) or getattr(c, "C" + kind)
 
         for name, fields in structs.items():
             self.assertEqual(result(name)._fields_, [(field, result(kind)) for field, kind in fields], name)
 
-        def parameters(kind):
+        def parameter(kind):
             if kind.startswith("&"):
-                return [ctypes.POINTER(numbers[kind.removeprefix("&").removeprefix("mut ").strip("[]")]), m.SIZE]
-            return [result(kind)]
+                return ctypes.POINTER(numbers[kind.removeprefix("&").removeprefix("mut ").strip("[]")])
+            return result(kind)
 
-        wanted = {name: (result(kind), sum((parameters(k) for _, k in taken), [])) for name, (taken, kind) in functions.items()}
-        self.assertEqual({"mixegorta_" + name: pair for name, pair in m.DECLARATIONS.items()}, wanted)
+        wanted = {name: (result(kind), [(n, parameter(k)) for n, k in taken]) for name, (taken, kind) in functions.items()}
+        given = {"mixegorta_" + name: (kind, list(parameters.items())) for name, (kind, parameters) in c.DECLARATIONS.items()}
+        self.assertEqual(given, wanted)
 
     def test_shapes(self):
         self.assertEqual([m.half_width(b, 60) for b in (1840, 1841, 1000)], [2, 1, 2])
@@ -272,7 +275,7 @@ class Test(unittest.TestCase):
 
     def test_sheets_of_the_listed_jobs(self):
         """The jobs of the crate sheet_cases, of every refusal, and their sheets, which the reference worked out."""
-        cases = os.path.join(HERE, "..", "crates", "sheet_cases")
+        cases = os.path.join(ROOT, "crates", "sheet_cases")
         with open(os.path.join(cases, "stdin"), "rb") as file:
             jobs = file.read()
         printed, numbers, at = [], set(), 0

@@ -1,0 +1,159 @@
+"""Arguments of calls: numbers that fit their parameters, and slices of memory, lent where they may be and copied where not.
+
+Nothing is judged here but what would make a call unsafe: ctypes would cut a number to its width in silence."""
+import ctypes
+import operator
+from array import array
+from typing import Any, Callable, Dict, Iterable, Iterator, Optional, Tuple
+
+from ._library import F64, U8, U64
+from .amounts import Amount, billionths
+
+ELEMENTS: Dict[str, Any] = {"B": U8, "Q": U64, "d": F64}
+SIZES = {code: ctypes.sizeof(kind) for code, kind in ELEMENTS.items()}
+FORMATS = {"B": "B", "Q": "QLN", "d": "d"}
+ORDERS = ("", "@", "=", "<")
+
+
+class Slice:
+    """Numbers in memory that a call may be handed; lent where someone else may write them meanwhile. values keeps them alive."""
+
+    __slots__ = ("values", "code", "address", "count", "lent")
+
+    def __init__(self, values: Any, code: str, address: int, count: int, lent: bool = False) -> None:
+        self.values, self.code, self.address, self.count, self.lent = values, code, address, count, lent
+
+    def __iter__(self) -> Iterator[int]:
+        return iter(self.values)
+
+    def first(self, count: int) -> "Slice":
+        """The first so many of the numbers."""
+        return Slice(self.values, self.code, self.address, count, self.lent)
+
+    def overlaps(self, other: "Slice") -> bool:
+        """Whether both have bytes in common."""
+        return self.address < other._end() and other.address < self._end()
+
+    def _end(self) -> int:
+        return self.address + self.count * SIZES[self.code]
+
+
+def whole(name: str, number: int, low: int, high: int) -> int:
+    """The number where it is a whole one within the bits of its parameter."""
+    try:
+        number = operator.index(number)
+    except TypeError:
+        raise TypeError(f"{name}: {number!r} is no whole number") from None
+    if not low <= number <= high:
+        raise OverflowError(f"{name}: {number} does not fit its parameter")
+    return number
+
+
+def u64(name: str, number: int) -> int:
+    """A whole number of 64 bits."""
+    return whole(name, number, 0, 2**64 - 1)
+
+
+def amount(name: str, given: Amount) -> int:
+    """An amount in billionths, as 64 bits."""
+    return u64(name, billionths(given, name))
+
+
+def own_memory(count: int, code: str = "Q") -> Slice:
+    """Zeros that nobody else knows of."""
+    elements = (ELEMENTS[code] * count)()
+    return Slice(memoryview(elements).cast("B").cast(code), code, ctypes.addressof(elements), count)
+
+
+def amounts(name: str, values: Iterable[Amount]) -> Slice:
+    """A slice of amounts that is only read."""
+    return _lent("Q", values) or _copied(name, "Q", values, amount)
+
+
+def dates(name: str, values: Iterable[int]) -> Slice:
+    """A slice of rows of 8 bits that is only read."""
+    return _lent("B", values) or _copied(name, "B", values, _u8)
+
+
+def job_bytes(name: str, job: Any) -> Slice:
+    """The bytes of any buffer, only read."""
+    try:
+        return _lent("B", job) or _copied(name, "B", bytes(memoryview(job)), _u8)
+    except TypeError:
+        raise TypeError(f"{name}: a job is bytes, or another buffer of them") from None
+
+
+def memory(name: str, code: str, values: Any) -> Slice:
+    """A slice that the engine may write."""
+    found = _lent(code, values)
+    if found is None or found.values.readonly:
+        raise TypeError(f"{name}: memory for the engine to write is a writable, contiguous buffer such as array({code!r})")
+    return found
+
+
+def quotes(points: Iterable[Any]) -> Tuple[Slice, Slice, Slice]:
+    """Rows, kinds and figures of points."""
+    listed = list(points)
+    if set(map(len, listed)) - {3}:
+        raise TypeError("points: each is a Point(row, kind, figure)")
+    rows, kinds, figures = zip(*listed) if listed else ((), (), ())
+    return _copied("points", "Q", rows, u64), _copied("points", "B", kinds, _u8), _copied("points", "d", figures, _figure)
+
+
+def _u8(name: str, number: int) -> int:
+    return whole(name, number, 0, 255)
+
+
+def _figure(name: str, figure: float) -> float:
+    try:
+        return array("d", [figure])[0]
+    except TypeError:
+        raise TypeError(f"{name}: {figure!r} is no float") from None
+
+
+def _copied(name: str, code: str, values: Iterable[Any], convert: Callable[[str, Any], Any]) -> Slice:
+    """A slice of the call's own; convert is asked where array itself does not take the numbers, and names the one at fault."""
+    if isinstance(values, str):
+        raise TypeError(f"{name}: a str is not a list of numbers")
+    try:
+        listed = values if isinstance(values, (list, tuple)) else list(values)
+    except TypeError:
+        raise TypeError(f"{name}: {values!r} is not a list of numbers") from None
+    try:
+        kept = array(code, listed)
+    except (TypeError, OverflowError):
+        kept = array(code, [convert(f"{name}[{place}]", value) for place, value in enumerate(listed)])
+    return Slice(kept, code, *kept.buffer_info())
+
+
+def _lent(code: str, values: Any) -> Optional[Slice]:
+    """The caller's own memory as a slice, where its type and layout fit. It cannot be resized while the slice lives."""
+    if isinstance(values, Slice):
+        return values
+    if isinstance(values, (list, tuple, range)):
+        return None
+    try:
+        view = memoryview(values)
+    except TypeError:
+        return None
+    order, kind = view.format[:-1], view.format[-1]
+    if view.ndim != 1 or not view.c_contiguous or order not in ORDERS or kind not in FORMATS[code] or view.itemsize != SIZES[code]:
+        return None
+    address = _address(view) if view.nbytes else 0
+    if address % SIZES[code]:
+        return None
+    return Slice(view, code, address, len(view), not isinstance(view.obj, bytes))
+
+
+class _Buffer(ctypes.Structure):
+    """Python's own record of a buffer, of which the first field is wanted: ctypes tells the address of writable ones alone."""
+    _fields_ = [("address", ctypes.c_void_p), ("object", ctypes.c_void_p), ("length", ctypes.c_ssize_t), ("itemsize", ctypes.c_ssize_t),
+                ("readonly", ctypes.c_int), ("ndim", ctypes.c_int), ("format", ctypes.c_void_p), ("shape", ctypes.c_void_p),
+                ("strides", ctypes.c_void_p), ("suboffsets", ctypes.c_void_p), ("internal", ctypes.c_void_p)]
+
+
+def _address(view: memoryview) -> int:
+    buffer = _Buffer()
+    ctypes.pythonapi.PyObject_GetBuffer(ctypes.py_object(view), ctypes.byref(buffer), ctypes.c_int(0))
+    ctypes.pythonapi.PyBuffer_Release(ctypes.byref(buffer))
+    return buffer.address or 0

@@ -1,0 +1,290 @@
+"""The engine's functions: each is one call of the proved shared object."""
+from array import array
+from typing import TYPE_CHECKING, Any, Iterable, Iterator, NamedTuple, Optional, Tuple, Union
+
+from ._arguments import Slice, amount, amounts, dates as exercise_dates, job_bytes, memory, own_memory, quotes, u64, whole
+from ._faults import call, refusal
+from ._library import CPoint
+from .amounts import Amount, Amounts
+from .refusals import Refused
+
+if TYPE_CHECKING:
+    from _typeshed import ReadableBuffer, WriteableBuffer
+
+PROBABILITY_ONE = 600_000_000
+MAX_STEPS = 60
+MAX_NODES = 121
+MAX_DISCOUNTS = 3_600
+MAX_STATE_PRICES = 3_721
+MAX_JOB = 4_700
+SHEET_ROOM = 468_736
+
+DISCOUNT_FACTOR, YEARLY_RATE, YEARLY_YIELD = 5, 6, 9
+DISCOUNTS, STATE_PRICES = 1, 2
+EUROPEAN_CALL, EUROPEAN_PUT, AMERICAN_CALL, AMERICAN_PUT = 1, 2, 3, 4
+CALL, PUT = 1, 2
+
+
+class Point(NamedTuple):
+    """A quote: its row, its kind and its figure, a float. kind is DISCOUNT_FACTOR, YEARLY_RATE or YEARLY_YIELD."""
+
+    row: int
+    kind: int
+    figure: float
+
+
+class Branches(NamedTuple):
+    """Where a node leads: to node lowest of the next row, down, and the two above it, middle and up, with probabilities over PROBABILITY_ONE."""
+
+    lowest: int
+    up: int
+    middle: int
+    down: int
+
+
+class Price(NamedTuple):
+    """A price and how far from the exact one it may be, both in billionths."""
+
+    value: int
+    bound: int
+
+
+class BondAndOption(NamedTuple):
+    """The prices of a bond and an option on it; each is a Price, or the Refused that its own function would raise."""
+
+    bond: Union[Price, Refused]
+    option: Union[Price, Refused]
+
+
+PointLike = Union[Point, Tuple[int, int, float]]
+
+
+class Curve:
+    """Points made ready once for many fits; it may stand wherever points are asked for."""
+
+    def __init__(self, points: Iterable[PointLike]) -> None:
+        self._columns = quotes(points)
+
+    def __iter__(self) -> Iterator[Point]:
+        return map(Point, *self._columns)
+
+    def __len__(self) -> int:
+        return self._columns[0].count
+
+    def __repr__(self) -> str:
+        return f"Curve({list(self)})"
+
+
+Points = Union[Curve, Iterable[PointLike]]
+
+
+def columns(points: Points) -> Tuple[Slice, Slice, Slice]:
+    """Rows, kinds and figures of points."""
+    return points._columns if isinstance(points, Curve) else quotes(points)
+
+
+def _accepted(number: int, name: str, given: Tuple[Any, ...]) -> None:
+    if number:
+        refused = refusal(number, name, given)
+        # whoever handles it may resize what was lent, though the traceback still holds this call
+        for argument in given:
+            if isinstance(argument, Slice) and argument.lent:
+                argument.values.release()
+        raise refused
+
+
+def _value(name: str, *given: Any) -> int:
+    answer = call(name, *given)
+    _accepted(answer.number, name, given)
+    return int(answer.value)
+
+
+def _price(name: str, *given: Any) -> Price:
+    answer = call(name, *given)
+    _accepted(answer.number, name, given)
+    return Price(answer.value, answer.bound)
+
+
+def _price_or_refusal(price: Any, name: str, given: Tuple[Any, ...]) -> Union[Price, Refused]:
+    return Price(price.value, price.bound) if price.number == 0 else refusal(price.number, name, given)
+
+
+def _both(name: str, option_name: str, *given: Any) -> BondAndOption:
+    answer = call(name, *given)
+    return BondAndOption(_price_or_refusal(answer.bond, "bond_price", given), _price_or_refusal(answer.option, option_name, given))
+
+
+def _tree(steps: int, reversion: int, discounts: Amounts) -> Tuple[int, int, Slice]:
+    return u64("steps", steps), u64("reversion", reversion), amounts("discounts", discounts)
+
+
+def _bond(steps: int, reversion: int, discounts: Amounts, flows: Amounts) -> Tuple[Any, ...]:
+    return *_tree(steps, reversion, discounts), amounts("flows", flows)
+
+
+def _option(kind: int, expiry: int, strike: Amount) -> Tuple[int, int, int]:
+    return u64("kind", kind), u64("expiry", expiry), amount("strike", strike)
+
+
+def _dated_option(side: int, dates: Iterable[int], strike: Amount) -> Tuple[int, Slice, int]:
+    return u64("side", side), exercise_dates("dates", dates), amount("strike", strike)
+
+
+def _apart(**memories: Slice) -> None:
+    (name, first), (other_name, second) = memories.items()
+    if first.overlaps(second):
+        raise ValueError(f"{name} and {other_name} need memories of their own")
+
+
+# ---- the shape of a tree
+
+def half_width(reversion: int, row: int) -> int:
+    """The half width of a row, 0 to 60."""
+    return _value("half_width", u64("reversion", reversion), u64("row", row))
+
+
+def node_count(reversion: int, row: int) -> int:
+    """The number of nodes of a row, 0 to 60."""
+    return _value("node_count", u64("reversion", reversion), u64("row", row))
+
+
+def row_start(reversion: int, row: int) -> int:
+    """The element at which a row, 0 to 60, starts in either memory."""
+    return _value("row_start", u64("reversion", reversion), u64("row", row))
+
+
+def discounts_needed(steps: int, reversion: int) -> int:
+    """How many discounts a tree has."""
+    return _value("discounts_needed", u64("steps", steps), u64("reversion", reversion))
+
+
+def state_prices_needed(steps: int, reversion: int) -> int:
+    """How many state prices a tree has."""
+    return _value("state_prices_needed", u64("steps", steps), u64("reversion", reversion))
+
+
+def branches(reversion: int, row: int, node: int) -> Branches:
+    """Where a node of a row, 0 to 59, leads, and how likely."""
+    given = u64("reversion", reversion), u64("row", row), whole("node", node, -(2**63), 2**63 - 1)
+    answer = call("branches", *given)
+    _accepted(answer.number, "branches", given)
+    return Branches(answer.lowest, *answer.probabilities)
+
+
+# ---- level one
+
+def quote_discount(frequency: int, point: PointLike) -> int:
+    """The discount of one Point(row, kind, figure)."""
+    row, kind, figure = Point(*point)
+    given = u64("frequency", frequency), whole("point", kind, 0, 255), CPoint(u64("point", row), figure)
+    return _value("quote_discount", *given)
+
+
+def curve_discounts(frequency: int, steps: int, points: Points) -> "array[int]":
+    """The discounts of rows 1 to n, from n points, as array('Q')."""
+    quoted = columns(points)
+    discounts = own_memory(quoted[0].count)
+    given = u64("frequency", frequency), u64("steps", steps), *quoted, discounts
+    _accepted(call("curve_discounts", *given), "curve_discounts", given)
+    return array("Q", discounts.values.tobytes())
+
+
+def fit_into(frequency: int, steps: int, reversion: int, volatility: int, points: Points, discounts: "WriteableBuffer",
+             state_prices: "WriteableBuffer") -> None:
+    """Fits a tree at the start of two memories: writable, contiguous buffers of 64-bit unsigned numbers, such as array('Q'). Refusal 9
+    leaves zeros in the parts that the tree needs; any other leaves both as they were. Nothing past those parts ever changes."""
+    memories = memory("discounts", "Q", discounts), memory("state_prices", "Q", state_prices)
+    _apart(discounts=memories[0], state_prices=memories[1])
+    given = (u64("frequency", frequency), u64("steps", steps), u64("reversion", reversion), u64("volatility", volatility),
+             *columns(points), *memories)
+    _accepted(call("fit", *given), "fit", given)
+
+
+def row_range(discounts: Amounts, state_prices: Amounts, kind: int, steps: int, reversion: int, row: int) -> Optional[range]:
+    """Where a row stands in the memory of its kind, as a range; None where refused."""
+    found = call("row_range", amounts("discounts", discounts), amounts("state_prices", state_prices), u64("kind", kind),
+                 u64("steps", steps), u64("reversion", reversion), u64("row", row))
+    return range(found.start, found.start + found.count) if found.count else None
+
+
+def step_rate(discount: Amount) -> int:
+    """The signed rate of one step, in billionths, of a discount."""
+    return _value("step_rate", amount("discount", discount))
+
+
+def continuous_rate(discount: Amount) -> int:
+    """The signed, continuously compounded rate over one step, in billionths, of a discount."""
+    return _value("continuous_rate", amount("discount", discount))
+
+
+def state_price_error_bound(steps: int, reversion: int, discounts: Amounts, row: int) -> int:
+    """How far below the exact ones the fitted state prices of a row may be in sum."""
+    return _value("state_price_error_bound", *_tree(steps, reversion, discounts), u64("row", row))
+
+
+# ---- level two
+
+def bond_price(steps: int, reversion: int, discounts: Amounts, flows: Amounts) -> Price:
+    """Price and error bound, at row 0, of the bond with these flows of rows 1 to n. The exact price is at most the bound above or below."""
+    return _price("bond_price", *_bond(steps, reversion, discounts, flows))
+
+
+def option_price(steps: int, reversion: int, discounts: Amounts, flows: Amounts, kind: int, expiry: int, strike: Amount) -> Price:
+    """Price and error bound, at row 0, of an option on that bond. expiry is a row, 0 to n - 1; exercise is on the bond without the flow of its row,
+    which stays with the seller."""
+    return _price("option_price", *_bond(steps, reversion, discounts, flows), *_option(kind, expiry, strike))
+
+
+def bond_and_option(steps: int, reversion: int, discounts: Amounts, flows: Amounts, kind: int, expiry: int,
+                    strike: Amount) -> BondAndOption:
+    """Bond and option in one roll, as BondAndOption(bond, option). Nothing is raised for a refusal: each of the two is a Price, or the
+    Refused that its own function would raise."""
+    return _both("bond_and_option", "option_price", *_bond(steps, reversion, discounts, flows), *_option(kind, expiry, strike))
+
+
+def dated_option_price(steps: int, reversion: int, discounts: Amounts, flows: Amounts, side: int, dates: Iterable[int],
+                       strike: Amount) -> Price:
+    """Price and error bound, at row 0, of an option on that bond which may be exercised on listed rows. side is CALL or PUT; dates are rows,
+    strictly rising, each 0 to n - 1, at least one, as bytes or whole numbers. On the last of them the option is worth its exercise value, on
+    earlier ones the larger of that and of holding it."""
+    return _price("dated_option_price", *_bond(steps, reversion, discounts, flows), *_dated_option(side, dates, strike))
+
+
+def bond_and_dated_option(steps: int, reversion: int, discounts: Amounts, flows: Amounts, side: int, dates: Iterable[int],
+                          strike: Amount) -> BondAndOption:
+    """Bond and dated option in one roll, as bond_and_option gives them."""
+    return _both("bond_and_dated_option", "dated_option_price", *_bond(steps, reversion, discounts, flows),
+                 *_dated_option(side, dates, strike))
+
+
+def value_by_state_prices(state_prices: Amounts, payoffs: Amounts) -> int:
+    """What payoffs on a row are worth by the row's state prices."""
+    return _value("value_by_state_prices", amounts("state_prices", state_prices), amounts("payoffs", payoffs))
+
+
+def valuation_error_bound(steps: int, reversion: int, discounts: Amounts, row: int, payoffs: Amounts) -> int:
+    """How far below the exact price that value may be, for the fitted state prices of a row."""
+    return _value("valuation_error_bound", *_tree(steps, reversion, discounts), u64("row", row), amounts("payoffs", payoffs))
+
+
+# ---- a whole job
+
+def sheet_into(job: "ReadableBuffer", out: "WriteableBuffer") -> int:
+    """Draws the sheet of a job, bytes, at the end of out, a writable buffer of at least SHEET_ROOM bytes such as array('B') or a bytearray;
+    gives the sheet's size. A refusal leaves out as it was."""
+    given = job_bytes("job", job), memory("out", "B", out)
+    _apart(job=given[0], out=given[1])
+    return _sheet(*given)
+
+
+def _sheet(job: Slice, out: Slice) -> int:
+    written = call("sheet", job, out)
+    _accepted(written.number, "sheet", (job, out))
+    return int(written.size)
+
+
+def sheet(job: "ReadableBuffer") -> str:
+    """The sheet of a job, bytes, as its lines, each ended by a newline."""
+    out = own_memory(SHEET_ROOM, "B")
+    size = _sheet(job_bytes("job", job), out)
+    return bytes(out.values[SHEET_ROOM - size:]).decode("ascii")

@@ -1,0 +1,167 @@
+"""Which argument a refusal is about. Asked only after the engine has refused, and the engine itself is asked again, of parts of the
+call, so that no limit stands here."""
+import struct
+from typing import Any, Callable, Dict, List, Optional, Tuple, Union
+
+from ._arguments import Slice, amounts, own_memory, quotes
+from ._library import DECLARATIONS, LOCKED, UNLOCKED, CPoint
+from .amounts import ONE
+from .refusals import CLASSES, Refused
+
+Given = Dict[str, Any]
+Place = Tuple[Optional[str], Optional[int]]
+
+
+def _flat(given: Tuple[Any, ...]) -> List[Any]:
+    """The arguments as ctypes takes them: a slice is its address, none where it is empty, and its count."""
+    flat: List[Any] = []
+    for argument in given:
+        if isinstance(argument, Slice):
+            flat += argument.address if argument.count else 0, argument.count
+        else:
+            flat.append(argument)
+    return flat
+
+
+def call(name: str, *given: Any) -> Any:
+    """What the engine answers. The interpreter's lock is given up where the call has memory and all of it is the call's own."""
+    memories = [argument.lent for argument in given if isinstance(argument, Slice)]
+    return (UNLOCKED if memories and not any(memories) else LOCKED)[name](*_flat(given))
+
+
+def refusal(number: int, name: str, given: Tuple[Any, ...]) -> Refused:
+    """The exception for a refused call."""
+    return CLASSES.get(number, Refused)(number, *_place(number, dict(zip(DECLARATIONS[name][1], given))))
+
+
+def _place(number: int, given: Given) -> Place:
+    if "job" in given:
+        return _place_in_job(number, given)
+    found = FINDERS.get(number, (None, None))
+    return found(given) if callable(found) else found
+
+
+def _place_in_job(number: int, given: Given) -> Place:
+    if number == 6:
+        return "out", None
+    if number not in (7, 9, 10):
+        return "job", None
+    return "job", _place(number, _fit_and_flows(bytes(given["job"])))[1]
+
+
+def _fit_and_flows(job: bytes) -> Given:
+    """The arguments of a well-formed job's fit and its flows."""
+    frequency, steps, reversion, volatility = struct.unpack_from(">3xB3xB3xH3xI", job)
+    fields = [job[20 + 11 * i:31 + 11 * i] for i in range(steps)]
+    points = [(row, *struct.unpack(">B2xd", field)) for row, field in enumerate(fields, 1)]
+    flows = [struct.unpack_from(">3xI", job, 20 + 11 * steps + 7 * i)[0] for i in range(steps)]
+    given = dict(zip(("rows", "kinds", "figures"), quotes(points)))
+    return {**given, "frequency": frequency, "steps": steps, "reversion": reversion, "volatility": volatility, "flows": amounts("flows", flows)}
+
+
+def _needed(name: str, given: Given) -> int:
+    return int(call(name, given["steps"], given["reversion"]).value)
+
+
+def _not_in_tree(given: Given) -> Place:
+    if "point" in given:
+        return "point", given["point"].row
+    if "rows" in given and (place := _misplaced(given)):
+        return place
+    if {"discounts", "reversion"} <= given.keys() and given["discounts"].count < _needed("discounts_needed", given):
+        return "discounts", None
+    if "rows" in given:
+        return "state_prices", None
+    if "flows" in given:
+        return "flows", None
+    if "payoffs" in given:
+        return _payoffs_not_in_tree(given), None
+    if "node" in given and call("branches", given["reversion"], given["row"], 0).number == 0:
+        return "node", None
+    return "row", None
+
+
+def _misplaced(given: Given) -> Optional[Place]:
+    """Points that are not as many as the steps, or the first of them that is not in its place."""
+    if given["rows"].count != given["steps"]:
+        return "points", None
+    return next((("points", place) for place, row in enumerate(given["rows"], 1) if row != place), None)
+
+
+def _payoffs_not_in_tree(given: Given) -> str:
+    if "row" in given:
+        bound = call("state_price_error_bound", given["steps"], given["reversion"], given["discounts"], given["row"])
+        return "row" if bound.number else "payoffs"
+    return "payoffs" if given["payoffs"].count != given["state_prices"].count else "state_prices"
+
+
+def _quote(given: Given) -> Place:
+    if "point" in given:
+        return "point", given["point"].row
+    for row, kind, figure in zip(given["rows"], given["kinds"], given["figures"]):
+        if call("quote_discount", given["frequency"], kind, CPoint(row, figure)).number:
+            return "points", row
+    return "points", None
+
+
+def _discount(given: Given) -> Place:
+    if "discount" in given:
+        return "discount", None
+    if "rows" in given:
+        return "points", _unfitted_row(given)
+    row = 0
+    for place, discount in enumerate(given["discounts"]):
+        row += call("row_start", given["reversion"], row + 1).value == place
+        if call("step_rate", discount).number:
+            return "discounts", row
+    return "discounts", None
+
+
+def _unfitted_row(given: Given) -> int:
+    """The least number of steps that cannot be fitted, which is the row of the quote that the fit fails to meet."""
+    low, high = 0, given["steps"]
+    discounts, state_prices = (own_memory(_needed(name, given)) for name in ("discounts_needed", "state_prices_needed"))
+    while high - low > 1:
+        steps = (low + high) // 2
+        columns = [given[name].first(steps) for name in ("rows", "kinds", "figures")]
+        if call("fit", given["frequency"], steps, given["reversion"], given["volatility"], *columns, discounts, state_prices):
+            high = steps
+        else:
+            low = steps
+    return int(high)
+
+
+def _flow(given: Given) -> Place:
+    unit = amounts("discounts", [ONE])
+    for row, flow in enumerate(given["flows"], 1):
+        if call("bond_price", 1, 0, unit, amounts("flows", [flow])).number == 10:
+            return "flows", row
+    return "flows", None
+
+
+def _option_terms(given: Given) -> Place:
+    """The first of kind or side, expiry and strike that is refused on a tree of one step."""
+    unit, flows = amounts("discounts", [ONE]), amounts("flows", [0])
+    if call("option_price", 1, 0, unit, flows, 1, 0, given["strike"]).number == 11:
+        return "strike", None
+    if "kind" not in given:
+        return "side", None
+    kind = call("option_price", 1, 0, unit, flows, given["kind"], 0, 0)
+    return "kind" if kind.number == 11 else "expiry", None
+
+
+def _value(given: Given) -> Place:
+    if "flows" in given:
+        bond = call("bond_price", *(given[name] for name in ("steps", "reversion", "discounts", "flows")))
+        return "flows" if bond.number == 12 else "strike", None
+    if "state_prices" in given:
+        nothing = amounts("payoffs", [0] * given["payoffs"].count)
+        if call("value_by_state_prices", given["state_prices"], nothing).number == 12:
+            return "state_prices", None
+    return "payoffs", None
+
+
+FINDERS: Dict[int, Union[Place, Callable[[Given], Place]]] = {
+    2: ("frequency", None), 3: ("steps", None), 4: ("reversion", None), 5: ("volatility", None), 6: _not_in_tree, 7: _quote,
+    8: ("volatility", None), 9: _discount, 10: _flow, 11: _option_terms, 12: _value, 13: ("dates", None),
+}

@@ -1,0 +1,97 @@
+"""A fitted tree with memories of its own."""
+from array import array
+from functools import lru_cache
+from typing import Any, Iterable, Optional, Tuple
+
+from . import _engine as engine
+from ._arguments import own_memory, u64
+from ._faults import call, refusal
+from .amounts import Amount, Amounts
+
+
+def _sizes(steps: int, reversion: int) -> Tuple[int, int]:
+    """How many discounts and state prices a tree has; none where there is no such tree."""
+    return _known_sizes(u64("steps", steps), u64("reversion", reversion))
+
+
+@lru_cache
+def _known_sizes(*size: int) -> Tuple[int, int]:
+    return call("discounts_needed", *size).value, call("state_prices_needed", *size).value
+
+
+class Tree:
+    """A fitted tree with memories of its own, which nobody writes once it is made: any number of threads may price on it."""
+
+    frequency: int
+    steps: int
+    reversion: int
+    volatility: int
+
+    def __init__(self, frequency: int, steps: int, reversion: int, volatility: int, points: engine.Points) -> None:
+        self.frequency, self.steps = u64("frequency", frequency), u64("steps", steps)
+        self.reversion, self.volatility = u64("reversion", reversion), u64("volatility", volatility)
+        # where no tree has this size both are empty, and the fit says why
+        self._discounts, self._state_prices = map(own_memory, _sizes(steps, reversion))
+        given = (self.frequency, self.steps, self.reversion, self.volatility, *engine.columns(points), self._discounts, self._state_prices)
+        number = call("fit", *given)
+        if number:
+            raise refusal(number, "fit", given)
+
+    def __repr__(self) -> str:
+        return f"<Tree frequency={self.frequency} steps={self.steps} reversion={self.reversion} volatility={self.volatility}>"
+
+    def __getstate__(self) -> Tuple[Tuple[int, int, int, int], bytes, bytes]:
+        return (self.frequency, self.steps, self.reversion, self.volatility), bytes(self.discounts), bytes(self.state_prices)
+
+    def __setstate__(self, state: Any) -> None:
+        (self.frequency, self.steps, self.reversion, self.volatility), discounts, state_prices = state
+        self._discounts, self._state_prices = (own_memory(len(kept) // 8) for kept in (discounts, state_prices))
+        self._discounts.values[:], self._state_prices.values[:] = (memoryview(kept).cast("Q") for kept in (discounts, state_prices))
+
+    @property
+    def discounts(self) -> memoryview:
+        """The discounts of rows 0 to n - 1, row after row, lowest node first: the tree's own memory, to be read and not written."""
+        view: memoryview = self._discounts.values.toreadonly()
+        return view
+
+    @property
+    def state_prices(self) -> memoryview:
+        """The state prices of rows 0 to n, row after row, lowest node first: the tree's own memory, to be read and not written."""
+        view: memoryview = self._state_prices.values.toreadonly()
+        return view
+
+    def row(self, kind: int, row: int) -> "Optional[array[int]]":
+        """The discounts or the state prices of a row, lowest node first, as array('Q'); None where the tree has no such row."""
+        place = engine.row_range(self._discounts, self._state_prices, kind, self.steps, self.reversion, row)
+        memory = self._discounts if kind == engine.DISCOUNTS else self._state_prices
+        return array("Q", memory.values[place.start:place.stop].tobytes()) if place else None
+
+    def state_price_error_bound(self, row: int) -> int:
+        """How far below the exact ones the state prices of a row may be in sum."""
+        return engine.state_price_error_bound(self.steps, self.reversion, self._discounts, row)
+
+    def bond_price(self, flows: Amounts) -> engine.Price:
+        """The bond with these flows of rows 1 to n, as the function bond_price gives it."""
+        return engine.bond_price(self.steps, self.reversion, self._discounts, flows)
+
+    def option_price(self, flows: Amounts, kind: int, expiry: int, strike: Amount) -> engine.Price:
+        """An option on that bond, as the function option_price gives it."""
+        return engine.option_price(self.steps, self.reversion, self._discounts, flows, kind, expiry, strike)
+
+    def bond_and_option(self, flows: Amounts, kind: int, expiry: int, strike: Amount) -> engine.BondAndOption:
+        """Bond and option in one roll; each is a Price, or the Refused that its own function would raise."""
+        return engine.bond_and_option(self.steps, self.reversion, self._discounts, flows, kind, expiry, strike)
+
+    def dated_option_price(self, flows: Amounts, side: int, dates: Iterable[int], strike: Amount) -> engine.Price:
+        """An option on that bond with listed rows of exercise, as the function dated_option_price gives it."""
+        return engine.dated_option_price(self.steps, self.reversion, self._discounts, flows, side, dates, strike)
+
+    def bond_and_dated_option(self, flows: Amounts, side: int, dates: Iterable[int], strike: Amount) -> engine.BondAndOption:
+        """Bond and dated option in one roll, as bond_and_option gives them."""
+        return engine.bond_and_dated_option(self.steps, self.reversion, self._discounts, flows, side, dates, strike)
+
+    def value(self, row: int, payoffs: Amounts) -> engine.Price:
+        """What payoffs on a row are worth: never above the exact price, and at most the bound below it."""
+        payoffs = list(payoffs)
+        bound = engine.valuation_error_bound(self.steps, self.reversion, self._discounts, row, payoffs)
+        return engine.Price(engine.value_by_state_prices(self.row(engine.STATE_PRICES, row) or (), payoffs), bound)

@@ -1,0 +1,100 @@
+"""The engine's refusals, one exception class for each number."""
+from typing import Dict, Optional, Type
+
+CAUSES: Dict[int, str] = {
+    1: "the job is malformed or longer than 4,700 bytes",
+    2: "the steps a year are not 1, 2, 4 or 12",
+    3: "the steps are outside 1 to 60",
+    4: "the reversion is above 6,000",
+    5: "the volatility is above 50,000",
+    6: "a length, row or node is not in the tree, or a memory is too short",
+    7: "a quote's kind, figure or discount is outside its limits",
+    8: "the nodes are too far apart",
+    9: "a node discount is 0 or above 1,100,000,000",
+    10: "a flow is above 2,000,000,000",
+    11: "the option's kind, side, expiry or strike is outside its limit",
+    12: "a value is above 8,000,000,000, or state prices sum above 2,000,000,100",
+    13: "the exercise dates are none, not strictly rising, or reach the last row",
+}
+
+
+class Refused(ValueError):
+    """A refusal of the engine.
+
+    number is the engine's. argument names the argument at fault. row is the row of the quote or flow at fault, or of the lent
+    discount; it is None where none of these is.
+    """
+
+    number: int
+    argument: Optional[str]
+    row: Optional[int]
+
+    def __init__(self, number: int, argument: Optional[str] = None, row: Optional[int] = None) -> None:
+        super().__init__(number, argument, row)
+        self.number, self.argument, self.row = number, argument, row
+
+    def __str__(self) -> str:
+        place = ", ".join(([self.argument] if self.argument else []) + ([f"row {self.row}"] if self.row is not None else []))
+        return f"refused {self.number}: {CAUSES.get(self.number, 'not listed')}" + (f" ({place})" if place else "")
+
+    def __repr__(self) -> str:
+        return f"{type(self).__name__}(number={self.number}, argument={self.argument!r}, row={self.row})"
+
+
+class MalformedJob(Refused):
+    """1: a job is malformed or longer than 4,700 bytes."""
+
+
+class UnknownFrequency(Refused):
+    """2: the steps a year are not 1, 2, 4 or 12."""
+
+
+class StepsOutOfRange(Refused):
+    """3: the steps are outside 1 to 60."""
+
+
+class ReversionTooLarge(Refused):
+    """4: the reversion is above 6,000."""
+
+
+class VolatilityTooLarge(Refused):
+    """5: the volatility is above 50,000."""
+
+
+class NotInTree(Refused):
+    """6: a length, row or node is not in the tree, or a memory is too short."""
+
+
+class QuoteOutOfRange(Refused):
+    """7: a quote's kind, figure or discount is outside its limits."""
+
+
+class NodesTooFarApart(Refused):
+    """8: the half width of the last row but one times the spacing of the nodes is above one."""
+
+
+class NodeDiscountOutOfRange(Refused):
+    """9: a node discount is 0 or above 1,100,000,000. Of a fit, row is that of the first quote to which no tree can be fitted."""
+
+
+class FlowTooLarge(Refused):
+    """10: a flow is above 2,000,000,000."""
+
+
+class OptionTermsOutOfRange(Refused):
+    """11: the option's kind, side, expiry or strike is outside its limit."""
+
+
+class ValueTooLarge(Refused):
+    """12: a value is above 8,000,000,000, or state prices sum above 2,000,000,100."""
+
+
+class ExerciseDatesOutOfOrder(Refused):
+    """13: the exercise dates are none, not strictly rising, or reach the last row."""
+
+
+CLASSES: Dict[int, Type[Refused]] = {
+    1: MalformedJob, 2: UnknownFrequency, 3: StepsOutOfRange, 4: ReversionTooLarge, 5: VolatilityTooLarge, 6: NotInTree,
+    7: QuoteOutOfRange, 8: NodesTooFarApart, 9: NodeDiscountOutOfRange, 10: FlowTooLarge, 11: OptionTermsOutOfRange,
+    12: ValueTooLarge, 13: ExerciseDatesOutOfOrder,
+}

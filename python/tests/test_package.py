@@ -1,0 +1,92 @@
+"""What a user of the package sees: names, words, version, and the sentences of a failed build."""
+import contextlib
+import copy
+import importlib.metadata
+import inspect
+import os
+import pickle
+import subprocess
+import sys
+import tempfile
+import unittest
+from unittest import mock
+
+import mixegorta as m
+
+PYTHON = os.path.join(os.path.dirname(os.path.abspath(__file__)), "..")
+CURVE = [m.Point(1, m.DISCOUNT_FACTOR, 1.0025)]
+
+
+@contextlib.contextmanager
+def backend():
+    with mock.patch.object(sys, "path", [PYTHON, *sys.path]), tempfile.TemporaryDirectory() as folder:
+        import backend as module
+        yield module, folder
+
+
+class Test(unittest.TestCase):
+    def test_names_and_docstrings(self):
+        listed = set(m.__all__)
+        found = {name for name, thing in vars(m).items() if not name.startswith("_") and not inspect.ismodule(thing)}
+        self.assertEqual(found, listed)
+        for name in listed:
+            thing = getattr(m, name)
+            if inspect.isfunction(thing) or inspect.isclass(thing):
+                self.assertTrue(thing.__doc__, name)
+                self.assertFalse(thing.__doc__.startswith(f"{name}("), name)
+            for method, member in vars(thing).items() if inspect.isclass(thing) else ():
+                if not method.startswith("_") and (inspect.isfunction(member) or isinstance(member, property)):
+                    self.assertTrue(member.__doc__, f"{name}.{method}")
+
+    def test_annotations(self):
+        functions = [thing for thing in map(m.__dict__.get, m.__all__) if inspect.isfunction(thing)]
+        for function in functions + [thing for name, thing in vars(m.Tree).items() if inspect.isfunction(thing)]:
+            signature = inspect.signature(function)
+            self.assertIsNot(signature.return_annotation, inspect.Signature.empty, function)
+            for parameter in signature.parameters.values():
+                self.assertTrue(parameter.name == "self" or parameter.annotation is not inspect.Parameter.empty, function)
+        self.assertTrue(os.path.exists(os.path.join(os.path.dirname(m.__file__), "py.typed")))
+
+    def test_words(self):
+        tree = m.Tree(1, 1, 0, 0, CURVE)
+        self.assertEqual(repr(tree), "<Tree frequency=1 steps=1 reversion=0 volatility=0>")
+        self.assertEqual(repr(m.Curve(CURVE)), "Curve([Point(row=1, kind=5, figure=1.0025)])")
+        self.assertEqual((list(m.Curve(iter(CURVE))), len(m.Curve([]))), (CURVE, 0))
+        self.assertEqual(repr(tree.bond_price([m.ONE])), "Price(value=1002500000, bound=2)")
+        self.assertEqual(repr(tree.bond_and_option(["3"], m.AMERICAN_PUT, 0, 0).bond), "FlowTooLarge(number=10, argument='flows', row=1)")
+
+    def test_a_tree_can_be_kept(self):
+        tree = m.Tree(1, 1, 0, 0, CURVE)
+        for kept in (pickle.loads(pickle.dumps(tree)), copy.deepcopy(tree)):
+            self.assertEqual((repr(kept), kept.discounts, kept.state_prices), (repr(tree), tree.discounts, tree.state_prices))
+            self.assertEqual(kept.bond_price([m.ONE]), tree.bond_price([m.ONE]))
+
+    def test_version(self):
+        self.assertRegex(m.__version__, r"^\d+\.\d+\.\d+$")
+        with backend() as (module, folder):
+            self.assertEqual(module.version(), m.__version__)
+        if not os.path.samefile(os.path.dirname(m.__file__), os.path.join(PYTHON, "mixegorta")):
+            self.assertEqual(importlib.metadata.version("mixegorta"), m.__version__)
+
+    def test_a_build_without_archive_kit_or_compiler_says_so(self):
+        for change, words in (({"MIXEGORTA_ARCHIVE_DIR": "/nowhere"}, "there is no archive /nowhere/libcapi.a"),
+                              ({"CC": "no-compiler"}, "there is no C compiler no-compiler")):
+            with backend() as (module, folder), mock.patch.dict(os.environ, change):
+                with self.assertRaisesRegex(SystemExit, "^mixegorta cannot be built: " + words + "[^\n]*$"):
+                    module.build_wheel(folder)
+        with backend() as (module, folder), mock.patch.object(module, "ROOT", module.ROOT / "nowhere"), mock.patch("shutil.which", lambda name: None):
+            with self.assertRaisesRegex(SystemExit, "^mixegorta cannot be built: there is no archive [^\n]*$"):
+                module.archive()
+
+    def test_an_import_without_shared_object_says_so(self):
+        with tempfile.TemporaryDirectory() as folder:
+            os.mkdir(os.path.join(folder, "mixegorta"))
+            for name in os.listdir(os.path.dirname(m.__file__)):
+                if name.endswith(".py"):
+                    os.symlink(os.path.join(os.path.dirname(os.path.abspath(m.__file__)), name), os.path.join(folder, "mixegorta", name))
+            done = subprocess.run([sys.executable, "-B", "-c", "import mixegorta"], cwd=folder, env={}, stderr=subprocess.PIPE, text=True)
+        self.assertRegex(done.stderr.splitlines()[-1], "^ImportError: mixegorta finds no libmixegorta.so: ")
+
+
+if __name__ == "__main__":
+    unittest.main()

@@ -1,0 +1,32 @@
+"""Uses that a type checker accepts, and uses that it must not: an `ignore` that nothing needs is an error of its own."""
+from array import array
+from decimal import Decimal
+
+import mixegorta as m
+
+points = [m.Point(1, m.DISCOUNT_FACTOR, 0.97), m.Point(2, m.YEARLY_RATE, 0.032)]
+tree: m.Tree = m.Tree(1, 2, 0, 10_000, points)
+others = [m.Tree(1, 2, 0, volatility, m.Curve(points)) for volatility in (5_000, 6_000)]
+bond: m.Price = tree.bond_price([Decimal("0.04"), "1.04"])
+same: m.Price = others[0].bond_price(array("Q", [40_000_000, 1_040_000_000]))
+lent: m.Price = m.bond_price(2, 0, tree.discounts, memoryview(array("Q", [0, m.ONE])))
+option: m.Price = tree.option_price([0, m.ONE], m.EUROPEAN_CALL, 1, "0.95")
+dated: m.Price = tree.dated_option_price([0, m.ONE], m.CALL, b"\0\1", Decimal("0.95"))
+m.fit_into(1, 2, 0, 0, points, array("Q", bytes(32)), memoryview(array("Q", bytes(72))))
+value: int = m.billionths("1.01") + bond.value
+both = tree.bond_and_option([0, m.ONE], m.AMERICAN_PUT, 2, "1.01")
+words: str = f"{both.option.argument} {both.option.row}" if isinstance(both.option, m.Refused) else f"{both.option.bound}"
+
+try:
+    tree.option_price([0, m.ONE], m.EUROPEAN_CALL, 1, 0.95)  # type: ignore[arg-type]
+except TypeError:
+    pass
+try:
+    tree.bond_price([0.04, 1.04])  # type: ignore[list-item]
+except TypeError:
+    pass
+try:
+    m.billionths(1.01)  # type: ignore[arg-type]
+except TypeError:
+    pass
+print(bond == same and words.startswith("expiry"))

@@ -1,0 +1,64 @@
+"""What the reference works out from a job beside its sheet: how long a step is, and the state price of each node.
+
+A sheet has no state prices. reference/reference.py works the job's own tree out by the same rules, apart from the engine, and a
+sheet is taken for the job's only if every line of it is the reference's own.
+"""
+import pathlib
+import sys
+from collections import namedtuple
+
+from streams import Stop
+
+REFERENCE = pathlib.Path(__file__).resolve().parent.parent / 'reference'
+OPTION_KINDS = {1: 'European call', 2: 'European put', 3: 'American call', 4: 'American put'}
+SIDES = {1: 'call', 2: 'put'}
+
+# State prices by row, each a list of texts from the lowest node up; branches by node, as pairs of an end and the text of its probability.
+JobTree = namedtuple('JobTree', 'frequency reversion volatility state_prices branches option')
+
+
+def the_reference():
+    sys.path.insert(0, str(REFERENCE))
+    try:
+        import reference
+    except ImportError:
+        raise Stop(f'--job needs {REFERENCE}/reference.py, which is not there: run tools/draw in a whole clone')
+    return reference
+
+
+def compared(wanted, sheet):
+    """Stops at the first line in which the sheet is not the job's."""
+    wanted, given = wanted.decode().splitlines(), sheet.decode().splitlines()
+    for number, (line, own) in enumerate(zip(given + ['nothing'], wanted + ['nothing']), 1):
+        if line != own:
+            raise Stop(f'the sheet is not this job\'s: its line {number} is {line!r}, and the job gives {own!r}')
+
+
+def shown_share(share):
+    """A probability over 600,000,000 in percent, to the nearest ten-thousandth."""
+    return f'{share / 6_000_000:.4f} %'
+
+
+def shown_row(row, frequency):
+    when = f'{row / frequency:.4g} year{"s" * (row != frequency)}' if row else 'today'
+    return f'row {row} ({when})'
+
+
+def option_words(reference, terms, frequency):
+    if terms is None:
+        return None
+    if isinstance(terms, reference.Kind):
+        return f'{OPTION_KINDS[terms.kind]}, expiry {shown_row(terms.expiry, frequency)}, strike {reference.amount(terms.strike)}'
+    return f'{SIDES[terms.side]} on rows {" ".join(map(str, terms.dates))}, strike {reference.amount(terms.strike)}'
+
+
+def job_tree(job, sheet):
+    """The job's tree, for the bytes of a sheet that is no refusal."""
+    reference = the_reference()
+    compared(reference.sheet(job), sheet)
+    f, n, b, s, quoted, _, terms = reference.read(job)
+    quotes = [reference.quote(f, row, kind, pattern) for row, (kind, pattern) in enumerate(quoted, 1)]
+    _, prices = reference.fit(n, b, reference.spacing(f, s), quotes)
+    state_prices = [[reference.amount(row[j]) for j in sorted(row)] for row in prices]
+    branches = {j: [(end, shown_share(share)) for end, share in reference.branches(b, j)] for j in reference.nodes(b, n - 1)}
+    return JobTree(f, b, s, state_prices, branches, option_words(reference, terms, f))
