@@ -1,6 +1,9 @@
+pub mod BranchesKept
+pub mod FitRowsKept
 pub mod StatePricesKept
 pub mod TreeKept
 pub mod RowsKept
+pub mod KindsKept
 pub mod PayoffsKept
 pub mod FitStored
 pub mod YieldsKept
