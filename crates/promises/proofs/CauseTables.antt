@@ -1,6 +1,6 @@
 -- The laws of a table of causes: laws of truth tables, and the combinations of causes that the entries' definitions make.
 -- Assumes nothing.
-use mathlib.Core.Path.{_≡_, refl, sym, _∙_, ap}
+use mathlib.Core.Path.{_≡_, refl, sym}
 use mathlib.Core.Bool.{Bool, true, false, not, cond, _&&_, false≢true}
 use mathlib.Core.List.{List, [], _∷_, _++_}
 use Prim.Native.Nat.{ℕ, zero, suc, _+_, _-_, _≤_, _<_, max}
@@ -8,8 +8,6 @@ use native.Mathlib.Nat.{le-trans, zero-add}
 use native.Mathlib.Omega.{arith}
 use borrow.Author.Tests.{eq-eqb, ne-eqb, eqb-true, ltb-true, ltb-false, leb-true, le-leb, lt-leb, lt-ltb, le-ltb}
 use lib.Dec.{eqb, leb, ltb}
-use Rattle.arithmetic.specs.Answers.{lowestCause}
-use Rattle.arithmetic.specs.declared.Answer.{Answer}
 use Rattle.arithmetic.specs.Answers.{refused, answered}
 use Rattle.arithmetic.proofs.Numbers.{by-order, by-equal}
 use Rattle.arithmetic.proofs.BetweenLaws.{and-left, and-right}
@@ -19,8 +17,7 @@ use Rattle.arithmetic.specs.Sum.{greatest}
 use Rattle.arithmetic.specs.Row.{each}
 use Rattle.pricing_laws.specs.Peak.{peakFrom, peak}
 use Rattle.pricing_laws.proofs.Peaks.{peak-grows, row-in-peak}
-use Rattle.pricing.specs.declared.Price.{Price}
-use Rattle.pricing.specs.Prices.{firstCause, priced, refusedPrice}
+use Rattle.pricing.specs.Prices.{firstCause, priced}
 use Rattle.promises.specs.Causes.{Cause, cause, firstOf}
 
 -- ---- tests

@@ -1,24 +1,19 @@
 -- The table of causes is kept.
 -- Assumes nothing.
-use mathlib.Core.Path.{_≡_, refl, sym, _∙_, ap, ap₂}
-use mathlib.Core.Bool.{Bool, true, false, not, cond, _&&_, _||_}
-use mathlib.Core.List.{List, [], _∷_}
-use Prim.Native.Nat.{ℕ, suc, _-_, _*_, _≤_, _<_}
-use lib.Dec.{eqb, leb, ltb}
+use mathlib.Core.Path.{_≡_, refl, _∙_}
+use mathlib.Core.Bool.{Bool, true, false, not, cond, _&&_}
+use mathlib.Core.List.{[], _∷_}
+use Prim.Native.Nat.{ℕ, _*_}
+use lib.Dec.{leb, ltb}
 use lib.Ieee.{Float}
 use lib.IntN.{ℤ, natAbs}
-use lib.ListN.{length}
-use Rattle.arithmetic.specs.Answers.{refused, answered, lowestCause}
-use Rattle.arithmetic.specs.declared.Answer.{Answer}
-use Rattle.arithmetic.specs.Frequency.{listed}
-use Rattle.limits.specs.Limits.{isSteps, isReversion, isDiscount, shapeCause}
+use Rattle.arithmetic.specs.Answers.{refused, answered}
+use Rattle.limits.specs.Limits.{isReversion, isDiscount, shapeCause}
 use Rattle.lattice.specs.Shape.{halfWidth, nodeCount, rowStart, discountsNeeded, statePricesNeeded}
-use Rattle.lattice.specs.Entries.{aboutRow, aboutTree, halfWidthAnswer, nodeCountAnswer, rowStartAnswer, discountsNeededAnswer, statePricesNeededAnswer}
+use Rattle.lattice.specs.Entries.{aboutRow, aboutTree}
 use Rattle.lattice.specs.Entries.{branchAnswer, branchOf, refusedBranch}
-use Rattle.lattice.specs.declared.Branches.{Branches}
 use Rattle.figure.specs.Figure.{beyond, billionthsOf, figureOf, refusedFigure, acceptedFigure}
-use Rattle.figure.specs.declared.Figure.{Figure}
-use Rattle.spacing.specs.Spacing.{spacing, spacingAnswer}
+use Rattle.spacing.specs.Spacing.{spacing}
 use Rattle.factor.specs.Factor.{nodeAnswer, factor}
 use Rattle.step_rate.specs.StepRate.{rateAnswer, stepRate, refusedRate, answeredRate}
 use Rattle.continuous.specs.Continuous.{continuousAnswer, continuousDiscount}

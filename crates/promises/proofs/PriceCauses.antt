@@ -3,23 +3,21 @@
 use mathlib.Core.Path.{_≡_, refl, sym, _∙_, ap, ap₂}
 use mathlib.Core.Bool.{Bool, true, false, not, cond, _&&_, and-assoc}
 use mathlib.Core.List.{List, [], _∷_, _++_}
-use Prim.Native.Nat.{ℕ, suc, _+_, _-_, _*_, _/_, _%_, _≤_, _<_, max}
+use Prim.Native.Nat.{ℕ, _+_, _-_, _*_, _/_, _%_, _≤_}
 use native.Mathlib.Omega.{arith}
-use borrow.Author.Tests.{eqb-true, leb-true, le-leb, lt-leb, le-ltb, lt-ltb}
+use borrow.Author.Tests.{leb-true, le-leb}
 use lib.Dec.{eqb, leb, ltb}
 use lib.ListN.{length}
 use Rattle.arithmetic.specs.Answers.{refused, answered, lowestCause}
-use Rattle.arithmetic.specs.declared.Answer.{Answer}
 use Rattle.arithmetic.specs.Rounding.{one}
-use Rattle.arithmetic.specs.Row.{values, each, between, sumOf, greatestOf}
-use Rattle.arithmetic.specs.Sum.{sum, greatest}
+use Rattle.arithmetic.specs.Row.{values, each, between, sumOf}
+use Rattle.arithmetic.specs.Sum.{sum}
 use Rattle.arithmetic.proofs.CauseLaws.{lowest-alone}
-use Rattle.arithmetic.proofs.Numbers.{by-order}
 use Rattle.arithmetic.proofs.BetweenLaws.{and-right}
 use Rattle.arithmetic.proofs.RowLaws.{each-cong}
-use Rattle.limits.specs.Limits.{isSteps, isReversion, isDiscount, shapeCause, allDiscounts, limitCause}
+use Rattle.limits.specs.Limits.{isSteps, isReversion, shapeCause, limitCause}
 use Rattle.lattice.specs.Shape.{nodeCount, rowStart, discountsNeeded}
-use Rattle.lattice.specs.Entries.{aboutRow, nodeCountAnswer}
+use Rattle.lattice.specs.Entries.{nodeCountAnswer}
 use Rattle.lattice.specs.RateTree.{rateTree}
 use Rattle.lattice.proofs.TreeEntries.{row-value}
 use Rattle.lent_tree.specs.LentTree.{acceptedDiscounts, discountsCause, stored}
@@ -27,13 +25,14 @@ use Rattle.fit_laws.specs.StatePrices.{statePriceErrorBound}
 use Rattle.state_price_bound.specs.ErrorBound.{rowCause, boundCause, statePriceErrorBoundAnswer}
 use Rattle.price_causes.specs.Causes.{flowsCause, optionCause, termsCause}
 use Rattle.price_bound.specs.PriceBound.{treeErrorBound, priceErrorBoundAnswer}
-use Rattle.pricing_laws.specs.Peak.{greatestValue, peak}
+use Rattle.pricing_laws.specs.Peak.{greatestValue}
 use Rattle.pricing_laws.specs.Pricer.{Side, Schedule}
 use Rattle.pricing_laws.specs.Schedule.{rising, lastDate, datesCause, sideOf, scheduleOf, numberedSide, datedSchedule}
-use Rattle.pricing.specs.Prices.{firstCause, treeCause, priced, bondValue, bondPeak, bondPrice, optionValue, optionPeak, optionLimit, optionPrice, datedCause, datedPrice}
-use Rattle.valuation_laws.specs.Valuation.{valueByStatePrices, valuationErrorBound}
+use Rattle.pricing.specs.Prices.{firstCause, treeCause, bondValue, bondPeak, bondPrice}
+use Rattle.pricing.specs.Prices.{optionValue, optionPeak, optionLimit, optionPrice, datedCause, datedPrice}
+use Rattle.valuation_laws.specs.Valuation.{valueByStatePrices}
 use Rattle.valuation.specs.Entries.{valueOf, fitARow, valueByStatePricesAnswer, payoffsCause, valuationCause, valuationErrorBoundAnswer}
-use Rattle.promises.specs.Causes.{Cause, cause, firstOf, treeCauses, lentCauses, flowCauses, discountsAccepted, flowsAccepted}
+use Rattle.promises.specs.Causes.{Cause, cause, firstOf, lentCauses, flowCauses, discountsAccepted, flowsAccepted}
 use Rattle.promises.specs.Causes.{optionAccepted, termsAccepted, datesAccepted, valuesAccepted, optionOver, payoffsAccepted}
 use Rattle.promises.proofs.CauseTables.{ltb-not, seven, numbered, first-append, number-of, number-priced, larger-above, greatest-above, peak-above}
 

@@ -3,29 +3,25 @@
 use mathlib.Core.Path.{_≡_, refl, sym, _∙_, ap, ap₂}
 use mathlib.Core.Bool.{Bool, true, false, not, cond, _&&_, _||_, and-true, and-assoc}
 use mathlib.Core.List.{List, [], _∷_}
-use Prim.Native.Nat.{ℕ, suc, _-_, _*_, _≤_, _<_}
-use native.Mathlib.Nat.{le-refl}
-use native.Mathlib.Omega.{arith}
-use borrow.Author.Tests.{eqb-true, leb-true, le-leb}
+use Prim.Native.Nat.{ℕ, suc, _-_, _*_}
 use lib.Dec.{eqb, leb, ltb}
 use lib.Ieee.{Float}
-use lib.IntN.{ℤ, natAbs}
+use lib.IntN.{ℤ}
 use lib.ListN.{length}
 use Rattle.arithmetic.specs.Answers.{refused, answered, lowestCause}
-use Rattle.arithmetic.specs.declared.Answer.{Answer}
 use Rattle.arithmetic.specs.Rounding.{one}
 use Rattle.arithmetic.specs.Row.{each}
 use Rattle.arithmetic.specs.Frequency.{listed}
-use Rattle.arithmetic.proofs.BetweenLaws.{and-left, and-right}
+use Rattle.arithmetic.proofs.BetweenLaws.{and-right}
 use Rattle.arithmetic.proofs.RowLaws.{length-row}
 use Rattle.limits.specs.Limits.{isSteps, isReversion, isDiscount, mostSteps, shapeCause}
-use Rattle.lattice.specs.Shape.{halfWidth, nodeCount, rowStart, discountsNeeded, statePricesNeeded}
+use Rattle.lattice.specs.Shape.{halfWidth, rowStart, discountsNeeded, statePricesNeeded}
 use Rattle.lattice.specs.Entries.{discountsNeededAnswer, statePricesNeededAnswer, aboutTree, memoryCause}
 use Rattle.lattice.specs.RateTree.{rateTree}
 use Rattle.figure.specs.Figure.{beyond, billionthsOf}
 use Rattle.quotes.specs.declared.Point.{Point}
 use Rattle.quotes.specs.Quotes.{rowKnown, inRange, factorDiscount, rateDiscount, yieldDiscount, rangedAnswer, figureAnswer, quoteAnswer, kindAnswer, loneAnswer}
-use Rattle.curve.specs.Curve.{placeAt, inPlace, answerAt, convertsAt, discountAt, curveNumber}
+use Rattle.curve.specs.Curve.{placeAt, inPlace, discountAt, curveNumber}
 use Rattle.spacing.specs.Spacing.{spacing, spacingAnswer}
 use Rattle.fit_laws.specs.StatePrices.{acceptedRow}
 use Rattle.fitting.specs.Fit.{curveAccepted}

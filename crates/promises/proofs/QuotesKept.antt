@@ -1,9 +1,9 @@
 -- The promises about figures and quotes are kept.
 -- Assumes nothing.
-use mathlib.Core.Path.{_≡_, refl, sym, _∙_, ap, subst}
+use mathlib.Core.Path.{_≡_, refl, sym, _∙_, subst}
 use mathlib.Core.Bool.{Bool, true, false, not, cond, true≢false}
 use mathlib.Core.List.{List}
-use Prim.Native.Nat.{ℕ, zero, suc, _*_, _/_, _≤_, _<_}
+use Prim.Native.Nat.{ℕ, zero, suc, _*_, _≤_, _<_}
 use native.Mathlib.Nat.{mul-comm}
 use native.Mathlib.Omega.{arith}
 use borrow.Author.Tests.{ltb-false}
@@ -24,12 +24,11 @@ use Rattle.quotes.specs.Quotes.{rowKnown, inRange, factorDiscount, quotient, ra
 use Rattle.quotes.proofs.QuoteLaws.{lone-told, range-bounds}
 use Rattle.curve.specs.Curve.{answerAt, curveNumber}
 use Rattle.curve.proofs.CurveLaws.{accepted}
-use Rattle.fitting.specs.Entry.{fitNumber}
 use Rattle.fitting.proofs.Promised.{fit-numbers}
 use Rattle.promises.specs.Causes.{isKind}
 use Rattle.promises.proofs.CauseTables.{none-first}
 use Rattle.promises.proofs.QuoteCauses.{lone-causes}
-use Rattle.promises.specs.Quoted.{Taken, OfRate, Ranged, Quoted, CurveQuoted, QuotePromises}
+use Rattle.promises.specs.Quoted.{Taken, OfRate, Quoted, CurveQuoted, QuotePromises}
 
 -- ---- a figure
 

@@ -3,11 +3,11 @@
 use mathlib.Core.Path.{_≡_, refl, sym, ap, ap₂, _∙_}
 use mathlib.Core.Bool.{Bool, true, false, not, cond, _&&_, and-true, and-assoc}
 use mathlib.Core.List.{List, [], _∷_}
-use Prim.Native.Nat.{ℕ, suc, _-_, _*_, _≤_, _<_}
+use Prim.Native.Nat.{ℕ, suc, _-_, _*_, _≤_}
 use native.Mathlib.Nat.{mul-le-mul, le-trans}
 use native.Mathlib.Omega.{arith}
-use borrow.Author.Tests.{eq-eqb, leb-true, le-leb, ltb-false}
-use lib.Dec.{eqb, leb, ltb}
+use borrow.Author.Tests.{leb-true, le-leb}
+use lib.Dec.{leb, ltb}
 use lib.Ieee.{Float}
 use Rattle.arithmetic.specs.Answers.{lowestCause}
 use Rattle.arithmetic.specs.Rounding.{one}
@@ -26,7 +26,7 @@ use Rattle.job_record.specs.declared.Job.{Job}
 use Rattle.job_record.specs.Form.{wellFormed}
 use Rattle.job_record.specs.Reader.{readingOf, jobOf, acceptedReading, malformed}
 use Rattle.job_record.specs.declared.Reading.{Reading}
-use Rattle.job_fit.specs.RecordFit.{jobRows, jobKinds, jobFigures, jobDiscounts, jobFlows, recordFit}
+use Rattle.job_fit.specs.RecordFit.{jobRows, jobKinds, jobFigures, recordFit}
 use Rattle.job_prices.specs.JobPrices.{hasOption, optionForm, treeNumber, jobBond, jobOption, recordNumber, recordPrices, bytesNumber, bytesPrices}
 use Rattle.job_prices.proofs.PriceLaws.{prices-number}
 use Rattle.sheet_room.specs.Room.{sheetRoom}
@@ -90,8 +90,12 @@ module _ (f n b s : ℕ) (rows kinds : List ℕ) (figures : List Float) (discoun
 
     largest : quotesPlaced n rows kinds figures && leb (rowStart b n) 3600 && leb (rowStart b (suc n)) 3721 ≡ quotesPlaced n rows kinds figures
     largest =
-        rw (le-leb (rowStart b n) 3600 (le-trans (start-most b n) (mul-le-mul most most)), le-leb (rowStart b (suc n)) 3721
-        (start-within b (suc n) (omega (arith, most))), and-true (quotesPlaced n rows kinds figures)) (and-true (quotesPlaced n rows kinds figures))
+        rw (
+          le-leb (rowStart b n) 3600 (le-trans (start-most b n) (mul-le-mul most most)),
+          le-leb (rowStart b (suc n)) 3721
+              (start-within b (suc n) (omega (arith, most))),
+          and-true (quotesPlaced n rows kinds figures),
+        ) (and-true (quotesPlaced n rows kinds figures))
 
     lengths : quotesPlaced n rows kinds figures && leb (rowStart b n) 3600 && leb (rowStart b (suc n)) 3721 && held
         ≡ quotesPlaced n rows kinds figures && leb (rowStart b n) discounts && leb (rowStart b (suc n)) prices
@@ -104,8 +108,10 @@ module _ (f n b s : ℕ) (rows kinds : List ℕ) (figures : List Float) (discoun
       ≡ fitNumber f n b s rows kinds figures discounts prices
   unfolding memoryCause firstOf tail held
   fit-lent =
-      rw (promises-kept .causes .fit f n b s rows kinds figures mostDiscounts mostStatePrices,
-      promises-kept .causes .fit f n b s rows kinds figures discounts prices)
+      rw (
+        promises-kept .causes .fit f n b s rows kinds figures mostDiscounts mostStatePrices,
+        promises-kept .causes .fit f n b s rows kinds figures discounts prices,
+      )
       (merged (listed f) (isSteps n) (isReversion b) (ltb 50000 s)
       (quotesPlaced n rows kinds figures && leb (rowStart b n) 3600 && leb (rowStart b (suc n)) 3721) (quotesConverted f n kinds figures)
       (ltb one (halfWidth b (n - 1) * spacing f s)) (not (everyNode b n (λ i k. isDiscount (fitDiscount f n b s kinds figures i k)))) held _ lengths)
