@@ -3,10 +3,14 @@
 mod parts;
 mod slots;
 
-use pricing::Price;
+use shelf_laws::Located;
+use shelf_laws::Part;
+use shelf_laws::Shelf;
+use shelf_laws::Shelved;
 ghost use mathlib.Core.Path.{_≡_};
-ghost use Rattle.shelf.specs.Shelf.{
+ghost use Rattle.shelf_laws.specs.Shelf.{
   emptySlots,
+  locatedTree,
   partOf,
   askNumber,
   askSlots,
@@ -17,38 +21,7 @@ ghost use Rattle.shelf.specs.Shelf.{
   nameCause,
   releaseSlots,
   releaseMemory,
-  shelfBond,
-  shelfOption,
-  shelfDated,
 };
-
-// What a shelf keeps of a name: status 0 no tree, 1 a tree that awaits a commit, 2 a fitted tree; then its steps and its reversion.
-#[repr(C)]
-pub struct Slot {
-    pub status: u64,
-    pub steps: usize,
-    pub reversion: u64,
-}
-
-// The slot of name k has index k - 1.
-#[repr(C)]
-pub struct Shelf {
-    pub slots: [Slot; 8],
-}
-
-// A call's number, 0 or a refusal's, and the shelf after the call.
-#[repr(C)]
-pub struct Shelved {
-    pub number: u64,
-    pub shelf: Shelf,
-}
-
-// Where a tree's discounts stand in the memory, and how many they are; zeros where there is no tree.
-#[repr(C)]
-pub struct Part {
-    pub start: usize,
-    pub count: usize,
-}
 
 fn refused(number: u64, shelf: Shelf) -> Shelved
     ensures { λ r. ⌜ (r .number ≡ number) × (r .shelf .slots ≡ shelf .slots) ⌝ }
@@ -65,11 +38,44 @@ pub fn empty_shelf() -> Shelf
     Shelf { slots }
 }
 
+fn no_tree() -> Located
+    ensures { λ r. ⌜ r ≡ record { status = 0; start = 0; count = 0; steps = 0; reversion = 0 } ⌝ }
+{
+    Located {
+        status: 0,
+        start: 0,
+        count: 0,
+        steps: 0,
+        reversion: 0,
+    }
+}
+
+// The tree of a name: where it stands and what it is; zeros for a name outside 1 to 8, one without a tree, or a shelf that no calls lead to.
+pub fn tree_of(shelf: Shelf, name: usize) -> Located
+    ensures { λ r. ⌜ r ≡ locatedTree (shelf .slots) name ⌝ }
+{
+    let status = slots::status_of(shelf, name);
+    if status == 0 {
+        return no_tree();
+    }
+    if 2 < status {
+        return no_tree();
+    }
+    let slot = slots::slot_at(shelf, name - 1);
+    Located {
+        status: slot.status,
+        start: slots::nodes_before(shelf, name - 1),
+        count: slots::nodes_of(slot),
+        steps: slot.steps,
+        reversion: slot.reversion,
+    }
+}
+
 // Where the discounts of a name's tree stand.
 pub fn part_of(shelf: Shelf, name: usize) -> Part
     ensures { λ r. ⌜ r ≡ partOf (shelf .slots) name ⌝ }
 {
-    let tree = slots::tree_of(shelf, name);
+    let tree = tree_of(shelf, name);
     Part {
         start: tree.start,
         count: tree.count,
@@ -119,7 +125,7 @@ pub fn commit(
     ensures memory { λ _. ⌜ now (memory .exit) ≡ commitMemory (shelf .slots) (now (memory .entry)) name frequency volatility
         (now (rows .entry)) (now (kinds .entry)) (now (figures .entry)) ⌝ }
 {
-    let tree = slots::tree_of(shelf, name);
+    let tree = tree_of(shelf, name);
     if tree.status != 1 {
         return refused(15, shelf);
     }
@@ -137,86 +143,11 @@ pub fn release(shelf: Shelf, memory: &mut [u64; 3600], name: usize) -> Shelved
     ensures slots { λ r. ⌜ r .shelf .slots ≡ releaseSlots (shelf .slots) name ⌝ }
     ensures memory { λ _. ⌜ now (memory .exit) ≡ releaseMemory (shelf .slots) (now (memory .entry)) name ⌝ }
 {
-    let tree = slots::tree_of(shelf, name);
+    let tree = tree_of(shelf, name);
     if tree.status == 0 {
         return refused(15, shelf);
     }
     parts::close_part(memory, tree.start, tree.count);
     let slot = slots::empty_slot();
     slots::replaced(shelf, name - 1, slot)
-}
-
-// The price at row 0 of the bond with these flows on a name's tree. 15 a name without a tree; then what `pricing::bond_price` answers for the
-// tree's discounts, 9 for a tree that awaits its commit.
-pub fn bond_price(shelf: Shelf, memory: &[u64; 3600], name: usize, flows: &[u64]) -> Price
-    ensures { λ r. ⌜ r ≡ shelfBond (shelf .slots) (now (memory .entry)) name (now (flows .entry)) ⌝ }
-{
-    let tree = slots::tree_of(shelf, name);
-    if tree.status == 0 {
-        return slots::no_price();
-    }
-    let numbers = &memory[..];
-    let start = tree.start;
-    let end = start + tree.count;
-    pricing::bond_price(tree.steps, tree.reversion, &numbers[start..end], flows)
-}
-
-// The same for an option by its kind, as `pricing::option_price` answers.
-pub fn option_price(
-    shelf: Shelf,
-    memory: &[u64; 3600],
-    name: usize,
-    flows: &[u64],
-    kind: u64,
-    expiry: usize,
-    strike: u64,
-) -> Price
-    ensures { λ r. ⌜ r ≡ shelfOption (shelf .slots) (now (memory .entry)) name (now (flows .entry)) kind expiry strike ⌝ }
-{
-    let tree = slots::tree_of(shelf, name);
-    if tree.status == 0 {
-        return slots::no_price();
-    }
-    let numbers = &memory[..];
-    let start = tree.start;
-    let end = start + tree.count;
-    pricing::option_price(
-        tree.steps,
-        tree.reversion,
-        &numbers[start..end],
-        flows,
-        kind,
-        expiry,
-        strike,
-    )
-}
-
-// The same for an option on listed rows, as `pricing::dated_option_price` answers.
-pub fn dated_option_price(
-    shelf: Shelf,
-    memory: &[u64; 3600],
-    name: usize,
-    flows: &[u64],
-    side: u64,
-    dates: &[u8],
-    strike: u64,
-) -> Price
-    ensures { λ r. ⌜ r ≡ shelfDated (shelf .slots) (now (memory .entry)) name (now (flows .entry)) side (now (dates .entry)) strike ⌝ }
-{
-    let tree = slots::tree_of(shelf, name);
-    if tree.status == 0 {
-        return slots::no_price();
-    }
-    let numbers = &memory[..];
-    let start = tree.start;
-    let end = start + tree.count;
-    pricing::dated_option_price(
-        tree.steps,
-        tree.reversion,
-        &numbers[start..end],
-        flows,
-        side,
-        dates,
-        strike,
-    )
 }

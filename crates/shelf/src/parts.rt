@@ -1,5 +1,5 @@
 // Parts of the memory: one is opened or closed by moving what stands behind it, and a tree is fitted in one.
-use crate::slots::Located;
+use shelf_laws::Located;
 ghost use mathlib.Core.Path.{_≡_};
 ghost use mathlib.Core.List.{_++_};
 ghost use Prim.Native.Nat.{_+_, _-_, _≤_};
@@ -7,7 +7,7 @@ ghost use lib.ListN.{length, take, drop};
 ghost use Rattle.arithmetic.specs.Row.{place};
 ghost use Rattle.limits.specs.Limits.{mostStatePrices};
 ghost use Rattle.fitting.specs.Entry.{fitNumber, fitMemory, fitDiscounts};
-ghost use Rattle.shelf.specs.Parts.{part, zeros, opened, closed};
+ghost use Rattle.shelf_laws.specs.Parts.{part, zeros, opened, closed};
 
 fn clear(part: &mut [u64])
     ensures { λ _. ⌜ now (part .exit) ≡ zeros (length (now (part .entry))) ⌝ }

@@ -1,13 +1,11 @@
 // The slots of a shelf: the nodes that they hold, and the tree of a name.
-use crate::Shelf;
-use crate::Shelved;
-use crate::Slot;
-use pricing::Price;
+use shelf_laws::Shelf;
+use shelf_laws::Shelved;
+use shelf_laws::Slot;
 ghost use mathlib.Core.Path.{_≡_};
 ghost use Prim.Native.Nat.{_≤_, _<_};
 ghost use lib.ListN.{set};
-ghost use Rattle.pricing.specs.Prices.{refusedPrice};
-ghost use Rattle.shelf.specs.Shelf.{
+ghost use Rattle.shelf_laws.specs.Shelf.{
   emptySlot,
   awaitingSlot,
   fittedSlot,
@@ -16,20 +14,10 @@ ghost use Rattle.shelf.specs.Shelf.{
   nodesBefore,
   statusOf,
   askNumber,
-  locatedTree,
 };
 
 // More nodes than the memory has.
 const TOO_MANY: usize = 3_601;
-
-// A name's tree: its status, where its discounts stand, how many they are, its steps and its reversion; zeros where there is none.
-pub(crate) struct Located {
-    pub(crate) status: u64,
-    pub(crate) start: usize,
-    pub(crate) count: usize,
-    pub(crate) steps: usize,
-    pub(crate) reversion: u64,
-}
 
 pub(crate) fn empty_slot() -> Slot
     ensures { λ r. ⌜ r ≡ emptySlot ⌝ }
@@ -61,17 +49,6 @@ pub(crate) fn fitted_slot(steps: usize, reversion: u64) -> Slot
     }
 }
 
-// The price of a name without a tree.
-pub(crate) fn no_price() -> Price
-    ensures { λ r. ⌜ r ≡ refusedPrice 15 ⌝ }
-{
-    Price {
-        number: 15,
-        value: 0,
-        bound: 0,
-    }
-}
-
 // The shelf with another slot, after a call that was accepted.
 pub(crate) fn replaced(shelf: Shelf, at: usize, slot: Slot) -> Shelved
     requires { ⌜ at < 8 ⌝ }
@@ -85,7 +62,7 @@ pub(crate) fn replaced(shelf: Shelf, at: usize, slot: Slot) -> Shelved
     }
 }
 
-fn slot_at(shelf: Shelf, at: usize) -> Slot
+pub(crate) fn slot_at(shelf: Shelf, at: usize) -> Slot
     requires { ⌜ at < 8 ⌝ }
     ensures { λ r. ⌜ r ≡ slotAt (shelf .slots) at ⌝ }
 {
@@ -93,7 +70,7 @@ fn slot_at(shelf: Shelf, at: usize) -> Slot
 }
 
 // The nodes of a slot's tree. A slot that no call leaves behind counts as more than the memory has.
-fn nodes_of(slot: Slot) -> usize
+pub(crate) fn nodes_of(slot: Slot) -> usize
     ensures { λ r. ⌜ r ≡ nodesOf slot ⌝ }
 {
     if slot.status == 0 {
@@ -125,7 +102,7 @@ pub(crate) fn nodes_before(shelf: Shelf, count: usize) -> usize
 }
 
 // A name's status; 3 where there is no such name, or the shelf holds more nodes than the memory has, which no calls lead to.
-fn status_of(shelf: Shelf, name: usize) -> u64
+pub(crate) fn status_of(shelf: Shelf, name: usize) -> u64
     ensures { λ r. ⌜ r ≡ statusOf (shelf .slots) name ⌝ }
 {
     if name == 0 {
@@ -157,37 +134,4 @@ pub(crate) fn ask_number(shelf: Shelf, name: usize, steps: usize, reversion: u64
         return 14;
     }
     0
-}
-
-fn no_tree() -> Located
-    ensures { λ r. ⌜ r ≡ record { status = 0; start = 0; count = 0; steps = 0; reversion = 0 } ⌝ }
-{
-    Located {
-        status: 0,
-        start: 0,
-        count: 0,
-        steps: 0,
-        reversion: 0,
-    }
-}
-
-// The tree of a name.
-pub(crate) fn tree_of(shelf: Shelf, name: usize) -> Located
-    ensures { λ r. ⌜ r ≡ locatedTree (shelf .slots) name ⌝ }
-{
-    let status = status_of(shelf, name);
-    if status == 0 {
-        return no_tree();
-    }
-    if 2 < status {
-        return no_tree();
-    }
-    let slot = slot_at(shelf, name - 1);
-    Located {
-        status: slot.status,
-        start: nodes_before(shelf, name - 1),
-        count: nodes_of(slot),
-        steps: slot.steps,
-        reversion: slot.reversion,
-    }
 }

@@ -8,9 +8,10 @@ use Rattle.arithmetic.proofs.Numbers.{by-order, by-equal}
 use Rattle.limits.specs.Limits.{shapeCause}
 use Rattle.lattice.specs.Shape.{discountsNeeded}
 use Rattle.pricing.specs.declared.Price.{Price}
-use Rattle.shelf.specs.Shelf.{room, held, statusOf, nameCause, locatedTree, shelfPrice}
-use Rattle.shelf.specs.Shelf.{askSlots, askMemory, commitNumber, commitSlots, commitMemory, releaseSlots, releaseMemory}
-use Rattle.shelf.proofs.NameLaws.{status-zero, status-high, status-broken, cause-none, ask-name, ask-full, ask-taken}
+use Rattle.shelf_laws.specs.Shelf.{room, held, statusOf, nameCause, locatedTree}
+use Rattle.shelf_prices.specs.ShelfPrices.{shelfPrice}
+use Rattle.shelf_laws.specs.Shelf.{askSlots, askMemory, commitNumber, commitSlots, commitMemory, releaseSlots, releaseMemory}
+use Rattle.shelf_laws.proofs.NameLaws.{status-zero, status-high, status-broken, cause-none, ask-name, ask-full, ask-taken}
 use Rattle.shelf_promises.specs.Model.{Seen, absent, Quoted, Pricing, statusSeen, heldBy}
 use Rattle.shelf_promises.specs.Model.{Call, asking, committing, releasing, pricing, locating, nameOf}
 use Rattle.shelf_promises.specs.Model.{deskStatus, deskCause, deskPrice, deskNumber, put, deskTaken}

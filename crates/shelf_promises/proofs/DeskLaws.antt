@@ -7,11 +7,12 @@ use native.Mathlib.Omega.{arith}
 use borrow.Author.Tests.{lt-ltb, le-ltb, eq-eqb, ne-eqb}
 use lib.ListN.{length, set, length-set, List·getD-eq-default}
 use Rattle.arithmetic.proofs.Numbers.{by-order, by-equal}
-use Rattle.shelf.specs.declared.Slot.{Slot}
-use Rattle.shelf.specs.Shelf.{room, slotAt, nodesOf, nodesBefore, held, statusOf, slotOf, discountsAt, discountsOf, nameCause, askNumber, shelfPrice}
-use Rattle.shelf.proofs.PartLaws.{part-length}
-use Rattle.shelf.proofs.SlotLaws.{nodes-none, by-slot, Sane, ends-before}
-use Rattle.shelf.proofs.NameLaws.{Known, known, status-zero, status-high, status-good, there, tree-sane}
+use Rattle.shelf_laws.specs.declared.Slot.{Slot}
+use Rattle.shelf_laws.specs.Shelf.{room, slotAt, nodesOf, nodesBefore, held, statusOf, slotOf, discountsAt, discountsOf, nameCause, askNumber}
+use Rattle.shelf_prices.specs.ShelfPrices.{shelfPrice}
+use Rattle.shelf_laws.proofs.PartLaws.{part-length}
+use Rattle.shelf_laws.proofs.SlotLaws.{nodes-none, by-slot, Sane, ends-before}
+use Rattle.shelf_laws.proofs.NameLaws.{Known, known, status-zero, status-high, status-good, there, tree-sane}
 use Rattle.pricing.specs.declared.Price.{Price}
 use Rattle.shelf_promises.specs.Model.{Seen, absent, Quoted, Pricing, Call, asking, committing, releasing, pricing}
 use Rattle.shelf_promises.specs.Model.{nodesSeen, statusSeen, stepsSeen, reversionSeen, discountsSeen, heldBy}

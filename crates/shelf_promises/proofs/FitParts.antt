@@ -17,7 +17,7 @@ use Rattle.lattice.specs.Entries.{memoryCause}
 use Rattle.lattice.proofs.EntryLaws.{tree-answered}
 use Rattle.lattice.proofs.Sizes.{start-within}
 use Rattle.fitting.specs.Entry.{earlyCause, fitNumber, fitMemory}
-use Rattle.shelf.specs.Parts.{zeros}
+use Rattle.shelf_laws.specs.Parts.{zeros}
 
 place-whole : (memory row : List ℕ) → length row ≡ length memory → place memory 0 row ≡ row
 unfolding place

@@ -8,9 +8,9 @@ use mathlib.Core.List.{List, [], _∷_, _++_}
 use native.Mathlib.Omega.{arith}
 use lib.ListN.{length, replicate, getD-replicate}
 use Rattle.arithmetic.proofs.Numbers.{by-order, by-equal}
-use Rattle.shelf.specs.declared.Slot.{Slot}
-use Rattle.shelf.specs.Shelf.{room, emptySlot, emptySlots, slotAt, nodesOf, nodesBefore, held, discountsAt}
-use Rattle.shelf.proofs.SlotLaws.{nodes-none}
+use Rattle.shelf_laws.specs.declared.Slot.{Slot}
+use Rattle.shelf_laws.specs.Shelf.{room, emptySlot, emptySlots, slotAt, nodesOf, nodesBefore, held, discountsAt}
+use Rattle.shelf_laws.proofs.SlotLaws.{nodes-none}
 use Rattle.shelf_promises.specs.Model.{ShelvedTree, Seen, absent, present, Quoted, unfittedTree, fittedTree, stepsSeen, reversionSeen}
 use Rattle.shelf_promises.specs.Model.{Call, asking, committing, releasing, pricing, locating, deskNumber, put, deskTaken, deskAfter, deskRun}
 use Rattle.shelf_promises.specs.History.{Kept, seenSlot, seen, numberOf, after, run, emptyShelf, Reached, askedIn, releasedIn}

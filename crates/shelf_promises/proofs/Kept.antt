@@ -1,9 +1,11 @@
 -- The promises of a shelf are kept.
 -- Assumes nothing.
 use mathlib.Core.Path.{_≡_, refl}
+use mathlib.Core.List.{List}
 use Prim.Native.Nat.{ℕ}
-use Rattle.shelf_promises.specs.Model.{Pricing, pricing, locating}
-use Rattle.shelf_promises.specs.History.{Kept, after}
+use Rattle.shelf_prices.specs.ShelfPrices.{shelfBondAndOption, shelfBondAndDated}
+use Rattle.shelf_promises.specs.Model.{Pricing, bond, option, dated, pricing, locating}
+use Rattle.shelf_promises.specs.History.{Kept, priceOf, after}
 use Rattle.shelf_promises.specs.ShelfPromises.{ShelfPromises}
 use Rattle.shelf_promises.proofs.DeskLaws.{held-seen, price-is}
 use Rattle.shelf_promises.proofs.Histories.{follows, valid, history-is, held-is, own-commit-is}
@@ -17,6 +19,18 @@ pricing-stays k name p = refl
 locating-stays : (k : Kept) (name : ℕ) → after k (locating name) ≡ k
 unfolding after
 locating-stays k name = refl
+
+kinds-pair : (k : Kept) (name : ℕ) (flows : List ℕ) (kind expiry strike : ℕ) →
+    shelfBondAndOption (k .slots) (k .memory) name flows kind expiry strike
+    ≡ record { bond = priceOf k name (bond flows); option = priceOf k name (option flows kind expiry strike) }
+unfolding priceOf
+kinds-pair k name flows kind expiry strike = refl
+
+lists-pair : (k : Kept) (name : ℕ) (flows : List ℕ) (side : ℕ) (dates : List ℕ) (strike : ℕ) →
+    shelfBondAndDated (k .slots) (k .memory) name flows side dates strike
+    ≡ record { bond = priceOf k name (bond flows); option = priceOf k name (dated flows side dates strike) }
+unfolding priceOf
+lists-pair k name flows side dates strike = refl
 
 pub shelf-kept : ShelfPromises
 shelf-kept =
@@ -42,6 +56,8 @@ shelf-kept =
       unfitted-priced = λ k r name t low high found e p. unfitted-is k (valid k r) name t low high found e p;
       fitted-priced = λ k r name t found f p e. fitted-is k (valid k r) name t found f p e;
       prices-accurate = λ k r name p z. accurate-is k (valid k r) name p z;
+      kinds-paired = kinds-pair;
+      lists-paired = lists-pair;
       parts-shown = λ k r name t low high found. parts-are k (valid k r) name t low high found;
       unreached-refused = λ k h name. broken-refused k h name;
       unreached-kept = λ k h call. broken-stays k h call;

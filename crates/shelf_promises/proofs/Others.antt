@@ -8,12 +8,12 @@ use lib.ListN.{length, set}
 use lib.Seq.{getD-set-same, getD-set-other}
 use Rattle.arithmetic.specs.Row.{place}
 use Rattle.arithmetic.proofs.Numbers.{by-order, by-equal}
-use Rattle.shelf.specs.Parts.{zeros, part, opened, closed}
-use Rattle.shelf.specs.declared.Slot.{Slot}
-use Rattle.shelf.specs.Shelf.{room, slotAt, nodesOf, nodesBefore, held, discountsAt}
-use Rattle.shelf.proofs.PartLaws.{part-opened-before, part-opened-new, part-opened-after, part-closed-before, part-closed-after}
-use Rattle.shelf.proofs.PartLaws.{part-written, part-written-before, part-written-after}
-use Rattle.shelf.proofs.SlotLaws.{ends-before}
+use Rattle.shelf_laws.specs.Parts.{zeros, part, opened, closed}
+use Rattle.shelf_laws.specs.declared.Slot.{Slot}
+use Rattle.shelf_laws.specs.Shelf.{room, slotAt, nodesOf, nodesBefore, held, discountsAt}
+use Rattle.shelf_laws.proofs.PartLaws.{part-opened-before, part-opened-new, part-opened-after, part-closed-before, part-closed-after}
+use Rattle.shelf_laws.proofs.PartLaws.{part-written, part-written-before, part-written-after}
+use Rattle.shelf_laws.proofs.SlotLaws.{ends-before}
 
 -- a shelf whose trees fit the memory
 pub record Sound (slots : List Slot) (m : List ℕ) : Type 0 where

@@ -22,7 +22,7 @@ use Rattle.pricing_laws.specs.Schedule.{rising, lastDate, datesCause}
 use Rattle.price_causes.specs.Causes.{mostFlow, mostStrike, flowsCause, optionCause, termsCause}
 use Rattle.pricing.specs.declared.Price.{Price}
 use Rattle.pricing.specs.Prices.{treeCause, firstCause, priced, bondPrice, optionPrice, datedCause, datedPrice, optionLimit}
-use Rattle.shelf.specs.Parts.{zeros}
+use Rattle.shelf_laws.specs.Parts.{zeros}
 use Rattle.shelf_promises.specs.Model.{Pricing, bond, option, dated, flowsOf, plainPrice}
 
 -- ---- numbers that are none of a cause's

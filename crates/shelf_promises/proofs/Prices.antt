@@ -19,9 +19,9 @@ use Rattle.pricing.specs.Prices.{refusedPrice, treeCause}
 use Rattle.pricing.proofs.Accuracy.{bond-within-bound, option-within-bound, dated-within-bound}
 use Rattle.pricing.proofs.Accuracy.{bond-bound-a-step, option-bound-a-step, dated-bound-a-step}
 use Rattle.promises.specs.Promises.{NoneAboveOne}
-use Rattle.shelf.specs.Parts.{part}
-use Rattle.shelf.specs.Shelf.{nameCause, partOf}
-use Rattle.shelf.proofs.EntryLaws.{part-found}
+use Rattle.shelf_laws.specs.Parts.{part}
+use Rattle.shelf_laws.specs.Shelf.{nameCause, partOf}
+use Rattle.shelf_laws.proofs.EntryLaws.{part-found}
 use Rattle.shelf_promises.specs.Model.{ShelvedTree, Seen, absent, present, Quoted, fitNumberOf, Pricing, bond, option, dated}
 use Rattle.shelf_promises.specs.Model.{flowsOf, plainPrice, exactOf, statusSeen, discountsSeen, committing}
 use Rattle.shelf_promises.specs.Model.{deskStatus, deskCause, deskPrice, deskNumber}

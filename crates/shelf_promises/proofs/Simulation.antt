@@ -13,13 +13,13 @@ use Rattle.arithmetic.proofs.Numbers.{by-equal}
 use Rattle.limits.specs.Limits.{shapeCause}
 use Rattle.lattice.specs.Shape.{discountsNeeded}
 use Rattle.fitting.proofs.FittedTree.{fit-discounts-length}
-use Rattle.shelf.specs.Parts.{zeros, opened, closed}
-use Rattle.shelf.specs.declared.Slot.{Slot}
-use Rattle.shelf.specs.Shelf.{room, emptySlot, awaitingSlot, fittedSlot, slotAt, nodesOf, nodesBefore, held, statusOf, slotOf, discountsAt, discountsOf}
-use Rattle.shelf.specs.Shelf.{nameCause, askNumber, askSlots, askMemory, commitNumber, commitSlots, commitPart, commitMemory, releaseSlots, releaseMemory}
-use Rattle.shelf.proofs.PartLaws.{part-length, length-opened, length-closed, length-written, place-self}
-use Rattle.shelf.proofs.SlotLaws.{nodes-none, nodes-tree, Sane, ends-before}
-use Rattle.shelf.proofs.NameLaws.{Known, known, cause-awaiting, there, place-fits, tree-sane, Asked, asked}
+use Rattle.shelf_laws.specs.Parts.{zeros, opened, closed}
+use Rattle.shelf_laws.specs.declared.Slot.{Slot}
+use Rattle.shelf_laws.specs.Shelf.{room, emptySlot, awaitingSlot, fittedSlot, slotAt, nodesOf, nodesBefore, held, statusOf, slotOf, discountsAt, discountsOf}
+use Rattle.shelf_laws.specs.Shelf.{nameCause, askNumber, askSlots, askMemory, commitNumber, commitSlots, commitPart, commitMemory, releaseSlots, releaseMemory}
+use Rattle.shelf_laws.proofs.PartLaws.{part-length, length-opened, length-closed, length-written, place-self}
+use Rattle.shelf_laws.proofs.SlotLaws.{nodes-none, nodes-tree, Sane, ends-before}
+use Rattle.shelf_laws.proofs.NameLaws.{Known, known, cause-awaiting, there, place-fits, tree-sane, Asked, asked}
 use Rattle.shelf_promises.specs.Model.{ShelvedTree, Seen, absent, present, Quoted, Pricing, unfittedTree, fittedTree, stepsSeen, reversionSeen}
 use Rattle.shelf_promises.specs.Model.{fitDiscountsOf, Call, asking, committing, releasing, pricing, locating}
 use Rattle.shelf_promises.specs.Model.{deskStatus, deskNumber, put, deskTaken, deskAfter}

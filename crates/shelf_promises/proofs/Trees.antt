@@ -14,8 +14,8 @@ use Rattle.lattice.specs.Shape.{discountsNeeded}
 use Rattle.lent_tree.specs.LentTree.{discountsCause}
 use Rattle.lent_tree.proofs.LentLaws.{accepted-shape}
 use Rattle.fitting.proofs.FittedTree.{fit-discounts-length, fit-discounts-lent}
-use Rattle.shelf.specs.Parts.{zeros}
-use Rattle.shelf.specs.Shelf.{room}
+use Rattle.shelf_laws.specs.Parts.{zeros}
+use Rattle.shelf_laws.specs.Shelf.{room}
 use Rattle.shelf_promises.specs.Model.{ShelvedTree, Seen, absent, present, Quoted, fitNumberOf, fitDiscountsOf, unfittedTree, fittedTree}
 use Rattle.shelf_promises.specs.Model.{statusSeen, stepsSeen, reversionSeen, heldBy, Call, asking, committing, releasing, pricing, locating}
 use Rattle.shelf_promises.specs.Model.{deskStatus, deskCause, deskNumber, put, deskTaken, deskAfter}

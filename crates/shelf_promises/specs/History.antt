@@ -8,9 +8,10 @@ use lib.Dec.{eqb}
 use lib.ListN.{length}
 use Rattle.lattice.specs.Shape.{discountsNeeded}
 use Rattle.pricing.specs.declared.Price.{Price}
-use Rattle.shelf.specs.declared.Slot.{Slot}
-use Rattle.shelf.specs.Shelf.{room, emptySlots, slotAt, nodesOf, discountsAt, slotOf, nameCause, shelfPrice}
-use Rattle.shelf.specs.Shelf.{askNumber, askSlots, askMemory, commitNumber, commitSlots, commitMemory, releaseSlots, releaseMemory}
+use Rattle.shelf_laws.specs.declared.Slot.{Slot}
+use Rattle.shelf_laws.specs.Shelf.{room, emptySlots, slotAt, nodesOf, discountsAt, slotOf, nameCause}
+use Rattle.shelf_prices.specs.ShelfPrices.{shelfPrice}
+use Rattle.shelf_laws.specs.Shelf.{askNumber, askSlots, askMemory, commitNumber, commitSlots, commitMemory, releaseSlots, releaseMemory}
 use Rattle.shelf_promises.specs.Model.{ShelvedTree, Seen, absent, present, Pricing, plainPrice}
 use Rattle.shelf_promises.specs.Model.{Call, asking, committing, releasing, pricing, locating}
 

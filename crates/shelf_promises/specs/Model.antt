@@ -13,8 +13,8 @@ use Rattle.fitting.specs.Entry.{fitNumber, fitDiscounts}
 use Rattle.pricing.specs.declared.Price.{Price}
 use Rattle.pricing.specs.Prices.{refusedPrice, bondPrice, optionPrice, datedPrice}
 use Rattle.pricing.specs.Exact.{exactBond, exactOption, exactDated}
-use Rattle.shelf.specs.Parts.{zeros}
-use Rattle.shelf.specs.Shelf.{room}
+use Rattle.shelf_laws.specs.Parts.{zeros}
+use Rattle.shelf_laws.specs.Shelf.{room}
 
 -- a tree on the shelf: whether it was fitted, its steps, its reversion, its discounts row after row
 pub record ShelvedTree : Type 0 where

@@ -14,10 +14,11 @@ use Rattle.lent_tree.specs.LentTree.{discountsCause}
 use Rattle.fitting.specs.Entry.{fitNumber}
 use Rattle.pricing.specs.Prices.{refusedPrice}
 use Rattle.promises.specs.Promises.{NoneAboveOne}
-use Rattle.shelf.specs.Parts.{zeros, part}
-use Rattle.shelf.specs.Shelf.{room, held, partOf}
+use Rattle.shelf_laws.specs.Parts.{zeros, part}
+use Rattle.shelf_laws.specs.Shelf.{room, held, partOf}
+use Rattle.shelf_prices.specs.ShelfPrices.{shelfBondAndOption, shelfBondAndDated}
 use Rattle.shelf_promises.specs.Model.{ShelvedTree, absent, present, Quoted, fitNumberOf, fitDiscountsOf, fittedTree}
-use Rattle.shelf_promises.specs.Model.{Pricing, flowsOf, plainPrice, exactOf, Call, asking, committing, releasing, pricing, locating, nameOf}
+use Rattle.shelf_promises.specs.Model.{Pricing, bond, option, dated, flowsOf, plainPrice, exactOf, Call, asking, committing, releasing, pricing, locating, nameOf}
 use Rattle.shelf_promises.specs.Model.{heldBy, deskPrice, deskNumber, deskAfter, deskRun}
 use Rattle.shelf_promises.specs.History.{Kept, seen, priceOf, numberOf, after, run, emptyShelf, Reached, askedIn, releasedIn}
 
@@ -125,6 +126,13 @@ pub record ShelfPromises : Type 0 where
       priceOf k name p .number ≡ 9 → ⊥
   -- demand 3 for bonds, kinds and date lists
   pub prices-accurate : (k : Kept) → Reached k → (name : ℕ) (p : Pricing) → priceOf k name p .number ≡ 0 → PricedTree k name p
+  -- bond and option in one roll are the two prices, for kinds and for date lists
+  pub kinds-paired : (k : Kept) (name : ℕ) (flows : List ℕ) (kind expiry strike : ℕ) →
+      shelfBondAndOption (k .slots) (k .memory) name flows kind expiry strike
+      ≡ record { bond = priceOf k name (bond flows); option = priceOf k name (option flows kind expiry strike) }
+  pub lists-paired : (k : Kept) (name : ℕ) (flows : List ℕ) (side : ℕ) (dates : List ℕ) (strike : ℕ) →
+      shelfBondAndDated (k .slots) (k .memory) name flows side dates strike
+      ≡ record { bond = priceOf k name (bond flows); option = priceOf k name (dated flows side dates strike) }
   -- where the discounts of a name's tree stand
   pub parts-shown : (k : Kept) → Reached k → (name : ℕ) (t : ShelvedTree) → 1 ≤ name → name ≤ 8 → seen k (name - 1) ≡ present t →
       part (k .memory) (partOf (k .slots) name .start) (partOf (k .slots) name .count) ≡ t .discounts

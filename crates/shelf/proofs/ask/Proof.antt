@@ -4,10 +4,10 @@ use mathlib.Core.Path.{_≡_, sym, _∙_}
 use Prim.Native.Nat.{_-_}
 use native.Mathlib.Omega.{arith}
 use Rattle.lattice.specs.Shape.{discountsNeeded}
-use Rattle.shelf.specs.Shelf.{askNumber}
-use Rattle.shelf.proofs.SlotLaws.{answer-value, answer-cause, ends-before}
-use Rattle.shelf.proofs.NameLaws.{Asked, asked}
-use Rattle.shelf.proofs.EntryLaws.{ask-slots-left, ask-memory-left, ask-slots, ask-memory}
+use Rattle.shelf_laws.specs.Shelf.{askNumber}
+use Rattle.shelf_laws.proofs.SlotLaws.{answer-value, answer-cause, ends-before}
+use Rattle.shelf_laws.proofs.NameLaws.{Asked, asked}
+use Rattle.shelf_laws.proofs.EntryLaws.{ask-slots-left, ask-memory-left, ask-slots, ask-memory}
 use borrow.Author.Needs.{needs}
 use Rattle.shelf.proofs.ask.Statement.{statement}
 use Rattle.shelf.proofs.ask.Tie as tie

@@ -2,8 +2,8 @@
 -- Assumes nothing.
 use mathlib.Core.Path.{_≡_, sym, _∙_}
 use native.Mathlib.Omega.{arith}
-use Rattle.shelf.proofs.NameLaws.{There}
-use Rattle.shelf.proofs.EntryLaws.{not-awaiting, awaiting, commit-15, memory-15, slots-left, commit-number, commit-memory, commit-slots}
+use Rattle.shelf_laws.proofs.NameLaws.{There}
+use Rattle.shelf_laws.proofs.EntryLaws.{not-awaiting, awaiting, commit-15, memory-15, slots-left, commit-number, commit-memory, commit-slots}
 use borrow.Author.Needs.{needs}
 use Rattle.shelf.proofs.commit.Statement.{statement}
 use Rattle.shelf.proofs.commit.Tie as tie

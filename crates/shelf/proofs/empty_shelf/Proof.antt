@@ -2,8 +2,8 @@
 -- Assumes nothing.
 use mathlib.Core.Path.{ap}
 use lib.ListN.{replicate}
-use Rattle.shelf.specs.declared.Slot.{Slot}
-use Rattle.shelf.specs.Shelf.{emptySlots}
+use Rattle.shelf_laws.specs.declared.Slot.{Slot}
+use Rattle.shelf_laws.specs.Shelf.{emptySlots}
 use borrow.Author.Needs.{needs}
 use Rattle.shelf.proofs.empty_shelf.Statement.{statement}
 use Rattle.shelf.proofs.empty_shelf.Tie as tie

@@ -1,6 +1,6 @@
 -- `shelf::part_of` meets its contract.
 -- Assumes nothing.
-use Rattle.shelf.proofs.EntryLaws.{part-is}
+use Rattle.shelf_laws.proofs.EntryLaws.{part-is}
 use borrow.Author.Needs.{needs}
 use Rattle.shelf.proofs.part_of.Statement.{statement}
 use Rattle.shelf.proofs.part_of.Tie as tie

@@ -2,8 +2,8 @@
 -- Assumes nothing.
 use mathlib.Core.Path.{sym, _∙_}
 use native.Mathlib.Omega.{arith}
-use Rattle.shelf.proofs.NameLaws.{none-found, There, tree-found}
-use Rattle.shelf.proofs.EntryLaws.{release-slots-left, release-memory-left, release-slots, release-memory}
+use Rattle.shelf_laws.proofs.NameLaws.{none-found, There, tree-found}
+use Rattle.shelf_laws.proofs.EntryLaws.{release-slots-left, release-memory-left, release-slots, release-memory}
 use borrow.Author.Needs.{needs}
 use Rattle.shelf.proofs.release.Statement.{statement}
 use Rattle.shelf.proofs.release.Tie as tie

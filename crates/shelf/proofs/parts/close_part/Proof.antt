@@ -8,9 +8,9 @@ use native.Mathlib.Omega.{arith}
 use borrow.Rule.Slice.PartMut.{mid-len}
 use Rattle.arithmetic.specs.Row.{place}
 use Rattle.arithmetic.proofs.RowLaws.{length-row}
-use Rattle.shelf.specs.Parts.{zeros, closed}
-use Rattle.shelf.proofs.Moves.{closed-is, rest-length}
-use Rattle.shelf.proofs.PartLaws.{part-back-to}
+use Rattle.shelf_laws.specs.Parts.{zeros, closed}
+use Rattle.shelf_laws.proofs.Moves.{closed-is, rest-length}
+use Rattle.shelf_laws.proofs.PartLaws.{part-back-to}
 use borrow.Author.Needs.{needs}
 use Rattle.shelf.proofs.parts.close_part.Statement.{statement}
 use Rattle.shelf.proofs.parts.close_part.Tie as tie

@@ -1,6 +1,6 @@
 -- `shelf::parts/fit_part` meets its contract.
 -- Assumes nothing.
-use Rattle.shelf.proofs.EntryLaws.{lent-number, lent-fitted}
+use Rattle.shelf_laws.proofs.EntryLaws.{lent-number, lent-fitted}
 use borrow.Author.Needs.{needs}
 use Rattle.shelf.proofs.parts.fit_part.Statement.{statement}
 use Rattle.shelf.proofs.parts.fit_part.Tie as tie

@@ -5,7 +5,7 @@ use Prim.Native.Nat.{_≤_, _-_, _+_}
 use mathlib.Core.List.{_++_}
 use lib.ListN.{length, take, drop, length-set}
 use native.Mathlib.Omega.{arith}
-use Rattle.shelf.proofs.Moves.{down-start, down-step, down-end}
+use Rattle.shelf_laws.proofs.Moves.{down-start, down-step, down-end}
 use borrow.Author.Needs.{needs}
 use Rattle.shelf.proofs.parts.move_down.Statement.{statement}
 use Rattle.shelf.proofs.parts.move_down.Tie as tie

@@ -5,7 +5,7 @@ use Prim.Native.Nat.{suc, _≤_, _-_, _+_}
 use mathlib.Core.List.{_++_}
 use lib.ListN.{length, take, drop, length-set}
 use native.Mathlib.Omega.{arith}
-use Rattle.shelf.proofs.Moves.{up-start, up-step}
+use Rattle.shelf_laws.proofs.Moves.{up-start, up-step}
 use borrow.Author.Needs.{needs}
 use Rattle.shelf.proofs.parts.move_up.Statement.{statement}
 use Rattle.shelf.proofs.parts.move_up.Tie as tie

@@ -7,9 +7,9 @@ use lib.ListN.{length, take, drop}
 use native.Mathlib.Omega.{arith}
 use Rattle.arithmetic.specs.Row.{place}
 use Rattle.arithmetic.proofs.RowLaws.{length-row}
-use Rattle.shelf.specs.Parts.{zeros, opened}
-use Rattle.shelf.proofs.Moves.{opened-is}
-use Rattle.shelf.proofs.PartLaws.{part-back-to, lent-count}
+use Rattle.shelf_laws.specs.Parts.{zeros, opened}
+use Rattle.shelf_laws.proofs.Moves.{opened-is}
+use Rattle.shelf_laws.proofs.PartLaws.{part-back-to, lent-count}
 use borrow.Author.Needs.{needs}
 use Rattle.shelf.proofs.parts.open_part.Statement.{statement}
 use Rattle.shelf.proofs.parts.open_part.Tie as tie

@@ -2,8 +2,8 @@
 -- Assumes nothing.
 use mathlib.Core.Path.{_≡_, sym, _∙_}
 use native.Mathlib.Omega.{arith}
-use Rattle.shelf.specs.Shelf.{statusOf}
-use Rattle.shelf.proofs.NameLaws.{ask-name, ask-refused, ask-14, ask-0, ask-fits}
+use Rattle.shelf_laws.specs.Shelf.{statusOf}
+use Rattle.shelf_laws.proofs.NameLaws.{ask-name, ask-refused, ask-14, ask-0, ask-fits}
 use borrow.Author.Needs.{needs}
 use Rattle.shelf.proofs.slots.ask_number.Statement.{statement}
 use Rattle.shelf.proofs.slots.ask_number.Tie as tie

@@ -3,8 +3,8 @@
 use mathlib.Core.Path.{_≡_, refl, ap, _∙_}
 use Prim.Native.Nat.{_≤_, _-_}
 use native.Mathlib.Omega.{arith}
-use Rattle.shelf.specs.Shelf.{slotAt, nodesBefore}
-use Rattle.shelf.proofs.SlotLaws.{before-more, before-most, nodes-most}
+use Rattle.shelf_laws.specs.Shelf.{slotAt, nodesBefore}
+use Rattle.shelf_laws.proofs.SlotLaws.{before-more, before-most, nodes-most}
 use borrow.Author.Needs.{needs}
 use Rattle.shelf.proofs.slots.nodes_before.Statement.{statement}
 use Rattle.shelf.proofs.slots.nodes_before.Tie as tie

@@ -1,7 +1,7 @@
 -- `shelf::slots/nodes_of` meets its contract.
 -- Assumes nothing.
 use mathlib.Core.Path.{sym}
-use Rattle.shelf.proofs.SlotLaws.{nodes-none, nodes-status, nodes-refused, nodes-answered}
+use Rattle.shelf_laws.proofs.SlotLaws.{nodes-none, nodes-status, nodes-refused, nodes-answered}
 use borrow.Author.Needs.{needs}
 use Rattle.shelf.proofs.slots.nodes_of.Statement.{statement}
 use Rattle.shelf.proofs.slots.nodes_of.Tie as tie

@@ -1,7 +1,7 @@
 -- `shelf::slots/slot_at` meets its contract.
 -- Assumes nothing.
 use mathlib.Core.Path.{refl}
-use Rattle.shelf.specs.Shelf.{slotAt}
+use Rattle.shelf_laws.specs.Shelf.{slotAt}
 use borrow.Author.Needs.{needs}
 use Rattle.shelf.proofs.slots.slot_at.Statement.{statement}
 use Rattle.shelf.proofs.slots.slot_at.Tie as tie

@@ -2,8 +2,8 @@
 -- Assumes nothing.
 use mathlib.Core.Path.{sym, ap, _∙_}
 use native.Mathlib.Omega.{arith}
-use Rattle.shelf.specs.declared.Slot.{Slot}
-use Rattle.shelf.proofs.NameLaws.{status-zero, status-high, status-broken, status-good}
+use Rattle.shelf_laws.specs.declared.Slot.{Slot}
+use Rattle.shelf_laws.proofs.NameLaws.{status-zero, status-high, status-broken, status-good}
 use borrow.Author.Needs.{needs}
 use Rattle.shelf.proofs.slots.status_of.Statement.{statement}
 use Rattle.shelf.proofs.slots.status_of.Tie as tie

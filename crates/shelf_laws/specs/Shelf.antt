@@ -12,12 +12,10 @@ use Rattle.arithmetic.specs.Row.{place}
 use Rattle.limits.specs.Limits.{mostStatePrices, shapeCause}
 use Rattle.lattice.specs.Shape.{discountsNeeded}
 use Rattle.fitting.specs.Entry.{fitNumber, fitMemory, fitDiscounts}
-use Rattle.pricing.specs.declared.Price.{Price}
-use Rattle.pricing.specs.Prices.{refusedPrice, bondPrice, optionPrice, datedPrice}
-use Rattle.shelf.specs.declared.Slot.{Slot}
-use Rattle.shelf.specs.declared.Part.{Part}
-use Rattle.shelf.specs.declared.slots.Located.{Located}
-use Rattle.shelf.specs.Parts.{part, opened, closed}
+use Rattle.shelf_laws.specs.declared.Slot.{Slot}
+use Rattle.shelf_laws.specs.declared.Part.{Part}
+use Rattle.shelf_laws.specs.declared.Located.{Located}
+use Rattle.shelf_laws.specs.Parts.{part, opened, closed}
 
 -- the nodes that the memory has
 abbrev pub room : ℕ
@@ -146,22 +144,3 @@ releaseSlots slots name = cond (eqb (nameCause slots name) 0) (set slots (name -
 unfoldable pub releaseMemory : List Slot → List ℕ → ℕ → List ℕ
 releaseMemory slots memory name =
     cond (eqb (nameCause slots name) 0) (closed memory (startOf slots name) (nodesOf (slotOf slots name))) memory
-
--- ---- pricing: 15 for the name, or what a plain entry answers for the tree's discounts
-
-unfoldable pub shelfPrice : (ℕ → ℕ → List ℕ → Price) → List Slot → List ℕ → ℕ → Price
-shelfPrice price slots memory name =
-    cond (eqb (nameCause slots name) 0)
-    (price (slotOf slots name .steps) (slotOf slots name .reversion) (discountsOf slots memory name))
-    (refusedPrice 15)
-
-abbrev pub shelfBond : List Slot → List ℕ → ℕ → List ℕ → Price
-shelfBond slots memory name flows = shelfPrice (λ n b discounts. bondPrice n b discounts flows) slots memory name
-
-abbrev pub shelfOption : List Slot → List ℕ → ℕ → List ℕ → ℕ → ℕ → ℕ → Price
-shelfOption slots memory name flows kind expiry strike =
-    shelfPrice (λ n b discounts. optionPrice n b discounts flows kind expiry strike) slots memory name
-
-abbrev pub shelfDated : List Slot → List ℕ → ℕ → List ℕ → ℕ → List ℕ → ℕ → Price
-shelfDated slots memory name flows side dates strike =
-    shelfPrice (λ n b discounts. datedPrice n b discounts flows side dates strike) slots memory name

@@ -10,7 +10,7 @@ use lib.Seq.{length-take-le, take-all, take-suc, drop-cons, append-snoc, getD-ap
 use lib.Seq.{take-append-le, take-take}
 use Rattle.arithmetic.specs.Row.{place}
 use Rattle.arithmetic.proofs.RowLaws.{length-row}
-use Rattle.shelf.specs.Parts.{zeros}
+use Rattle.shelf_laws.specs.Parts.{zeros}
 
 -- ---- upwards: `k` is the next place to move from, counted down
 module _ (m : List ℕ) (count : ℕ) (fits : count ≤ length m) where

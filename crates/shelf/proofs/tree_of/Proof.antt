@@ -2,10 +2,10 @@
 -- Assumes nothing.
 use mathlib.Core.Path.{_≡_, _∙_}
 use native.Mathlib.Omega.{arith}
-use Rattle.shelf.proofs.NameLaws.{Known, known, cause-there, cause-outside, located-none, located-is}
+use Rattle.shelf_laws.proofs.NameLaws.{Known, known, cause-there, cause-outside, located-none, located-is}
 use borrow.Author.Needs.{needs}
-use Rattle.shelf.proofs.slots.tree_of.Statement.{statement}
-use Rattle.shelf.proofs.slots.tree_of.Tie as tie
+use Rattle.shelf.proofs.tree_of.Statement.{statement}
+use Rattle.shelf.proofs.tree_of.Tie as tie
 
 -- the name has a tree
 told : (c : tie.Else2) → Known (c .before .before .before .args .shelf .slots) (c .before .before .before .args .name)

@@ -17,8 +17,8 @@ use Rattle.lattice.specs.Shape.{discountsNeeded}
 use Rattle.lattice.specs.Entries.{aboutTree}
 use Rattle.lattice.proofs.Sizes.{start-within}
 use Rattle.lattice.proofs.EntryLaws.{tree-number, tree-result}
-use Rattle.shelf.specs.declared.Slot.{Slot}
-use Rattle.shelf.specs.Shelf.{room, slotAt, nodesOf, nodesBefore}
+use Rattle.shelf_laws.specs.declared.Slot.{Slot}
+use Rattle.shelf_laws.specs.Shelf.{room, slotAt, nodesOf, nodesBefore}
 
 -- the nodes of a tree
 pub needed-most : (n b : ℕ) → shapeCause n b ≡ 0 → discountsNeeded n b ≤ 3721

@@ -10,7 +10,7 @@ use borrow.Rule.Slice.PartMut.{midOf, putMid, post-is, mid-len}
 use Rattle.arithmetic.specs.Row.{place}
 use Rattle.arithmetic.proofs.RowLaws.{length-row}
 use Rattle.arithmetic.proofs.PlaceLaws.{length-place}
-use Rattle.shelf.specs.Parts.{zeros, part, opened, closed}
+use Rattle.shelf_laws.specs.Parts.{zeros, part, opened, closed}
 
 -- ---- parts of a list that is put together
 pub part-length : (m : List ℕ) (a n : ℕ) → a + n ≤ length m → length (part m a n) ≡ n

@@ -1,15 +1,15 @@
--- `shelf::option_price` meets its contract.
+-- `shelf_prices::option_price` meets its contract.
 -- Assumes nothing.
 use Prim.Native.Nat.{ℕ}
 use mathlib.Core.Path.{_∙_}
 use mathlib.Core.List.{List}
 use native.Mathlib.Omega.{arith}
 use Rattle.pricing.specs.Prices.{optionPrice}
-use Rattle.shelf.proofs.NameLaws.{There, tree-found}
-use Rattle.shelf.proofs.EntryLaws.{price-none, price-there}
+use Rattle.shelf_laws.proofs.NameLaws.{There, tree-found}
+use Rattle.shelf_prices.proofs.PriceLaws.{price-none, price-there}
 use borrow.Author.Needs.{needs}
-use Rattle.shelf.proofs.option_price.Statement.{statement}
-use Rattle.shelf.proofs.option_price.Tie as tie
+use Rattle.shelf_prices.proofs.option_price.Statement.{statement}
+use Rattle.shelf_prices.proofs.option_price.Tie as tie
 
 -- the tree that is priced
 told : (c : tie.Else1) →

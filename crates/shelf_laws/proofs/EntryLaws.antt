@@ -13,17 +13,15 @@ use Rattle.arithmetic.proofs.Numbers.{by-equal}
 use Rattle.limits.specs.Limits.{mostStatePrices}
 use Rattle.lattice.specs.Shape.{discountsNeeded}
 use Rattle.fitting.specs.Entry.{fitNumber, fitMemory, fitDiscounts, discountsAfter}
-use Rattle.pricing.specs.declared.Price.{Price}
-use Rattle.pricing.specs.Prices.{refusedPrice}
-use Rattle.shelf.specs.declared.Slot.{Slot}
-use Rattle.shelf.specs.declared.Part.{Part}
-use Rattle.shelf.specs.declared.slots.Located.{Located}
-use Rattle.shelf.specs.Parts.{part, opened, closed}
-use Rattle.shelf.specs.Shelf.{emptySlot, awaitingSlot, fittedSlot, statusOf, slotOf, startOf, nodesOf, nameCause, discountsOf, locatedTree, partOf}
-use Rattle.shelf.specs.Shelf.{askNumber, askSlots, askMemory, releaseSlots, releaseMemory}
-use Rattle.shelf.specs.Shelf.{commitNumber, commitSlots, commitPart, commitMemory, shelfPrice}
-use Rattle.shelf.proofs.PartLaws.{part-back-to, lent-count, lent-part}
-use Rattle.shelf.proofs.NameLaws.{Known, cause-awaiting, located-is, none-found, There, tree-found}
+use Rattle.shelf_laws.specs.declared.Slot.{Slot}
+use Rattle.shelf_laws.specs.declared.Part.{Part}
+use Rattle.shelf_laws.specs.declared.Located.{Located}
+use Rattle.shelf_laws.specs.Parts.{part, opened, closed}
+use Rattle.shelf_laws.specs.Shelf.{emptySlot, awaitingSlot, fittedSlot, statusOf, slotOf, startOf, nodesOf, nameCause, discountsOf, locatedTree, partOf}
+use Rattle.shelf_laws.specs.Shelf.{askNumber, askSlots, askMemory, releaseSlots, releaseMemory}
+use Rattle.shelf_laws.specs.Shelf.{commitNumber, commitSlots, commitPart, commitMemory}
+use Rattle.shelf_laws.proofs.PartLaws.{part-back-to, lent-count, lent-part}
+use Rattle.shelf_laws.proofs.NameLaws.{Known, cause-awaiting, located-is, none-found, There, tree-found}
 
 -- ---- a fit on a part that was lent and has come back
 module _ (f n b s : ℕ) (rows kinds : List ℕ) (figures : List Float) (m prices : List ℕ) (at count r : ℕ)
@@ -143,17 +141,3 @@ module _ (slots : List Slot) (name f s : ℕ) (rows kinds : List ℕ) (figures :
       commit-slots z next after en ea =
           let t = awaiting slots name l e h .0 in
           ea ∙ ap (λ (x : Slot). set slots (name - 1) x) en ∙ rw (t .steps-is, t .reversion-is, ← er, eq-eqb r 0 z)
-
--- ---- pricing
-module _ (price : ℕ → ℕ → List ℕ → Price) (slots : List Slot) (m : List ℕ) (name : ℕ) (l : Located) (e : l ≡ locatedTree slots name) where
-  pub price-none : l .status ≡ 0 → refusedPrice 15 ≡ shelfPrice price slots m name
-  unfolding shelfPrice
-  price-none h = rw (none-found slots name l e h)
-
-  pub price-there : (l .status ≡ 0 → ⊥) →
-      price (l .steps) (l .reversion) (take (l .start + l .count - l .start) (drop (l .start) m)) ≡ shelfPrice price slots m name
-  unfolding shelfPrice
-  price-there h =
-      let t = tree-found slots name l e h in
-      ap (price (l .steps) (l .reversion)) (lent-part m (l .start) (l .count))
-      ∙ rw (t .steps-is, t .reversion-is, t .start-is, t .count-is, eq-eqb (nameCause slots name) 0 (t .cause))

@@ -10,10 +10,10 @@ use Rattle.arithmetic.specs.declared.Answer.{Answer}
 use Rattle.limits.specs.Limits.{shapeCause}
 use Rattle.lattice.specs.Shape.{discountsNeeded}
 use Rattle.lattice.specs.Entries.{aboutTree}
-use Rattle.shelf.specs.declared.Slot.{Slot}
-use Rattle.shelf.specs.declared.slots.Located.{Located}
-use Rattle.shelf.specs.Shelf.{room, slotAt, nodesOf, held, statusOf, slotOf, startOf, nameCause, locatedTree, askNumber}
-use Rattle.shelf.proofs.SlotLaws.{answer-cause, answer-shape, answer-value, needed-most, Sane, sane, before-most, ends-before}
+use Rattle.shelf_laws.specs.declared.Slot.{Slot}
+use Rattle.shelf_laws.specs.declared.Located.{Located}
+use Rattle.shelf_laws.specs.Shelf.{room, slotAt, nodesOf, held, statusOf, slotOf, startOf, nameCause, locatedTree, askNumber}
+use Rattle.shelf_laws.proofs.SlotLaws.{answer-cause, answer-shape, answer-value, needed-most, Sane, sane, before-most, ends-before}
 
 module _ (slots : List Slot) (name : ℕ) where
   pub status-zero : name ≡ 0 → statusOf slots name ≡ 3
