@@ -9,6 +9,7 @@ use native.Mathlib.Numerals.{add-one}
 use native.Mathlib.Nat.{add-zero, add-suc}
 use borrow.Author.Tests.{lt-ltb, le-ltb, eq-eqb, ne-eqb}
 use lib.Dec.{eqb}
+use lib.ListN.{length}
 use Rattle.arithmetic.specs.declared.Answer.{Answer}
 use Rattle.arithmetic.proofs.Numbers.{by-order, by-equal}
 use Rattle.limits.specs.Limits.{shapeCause}
@@ -18,7 +19,7 @@ use Rattle.lattice.specs.Entries.{aboutTree}
 use Rattle.lattice.proofs.Sizes.{start-within}
 use Rattle.lattice.proofs.EntryLaws.{tree-number, tree-result}
 use Rattle.shelf_laws.specs.declared.Slot.{Slot}
-use Rattle.shelf_laws.specs.Shelf.{room, slotAt, nodesOf, nodesBefore}
+use Rattle.shelf_laws.specs.Shelf.{room, emptySlots, slotAt, nodesOf, nodesBefore, held}
 
 -- the nodes of a tree
 pub needed-most : (n b : ℕ) → shapeCause n b ≡ 0 → discountsNeeded n b ≤ 3721
@@ -126,3 +127,13 @@ given number x y h = rw (eq-eqb number 0 h)
 
 pub left : {A : Type 0} (number : ℕ) (x y : A) → (number ≡ 0 → ⊥) → y ≡ cond (eqb number 0) x y
 left number x y h = rw (ne-eqb number 0 h)
+
+-- ---- the empty shelf: eight names, no node held
+
+pub empty-names : length emptySlots ≡ 8
+unfolding emptySlots
+empty-names = refl
+
+pub empty-held : held emptySlots ≡ 0
+unfolding emptySlots nodesBefore nodesOf slotAt
+empty-held = refl

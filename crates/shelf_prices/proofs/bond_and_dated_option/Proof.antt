@@ -26,10 +26,9 @@ no-prices-requires c κs = search needs
 
 returns : tie.Need-returns
 returns c =
-    let a = c .before .before .before .before .before .before .args in
     let tree = c .before .before .before .tree-of in
     c .no-prices .ensures
-    ∙ both-none (λ (n b : ℕ) (d : List ℕ). bondPrice n b d (a .flows .now)) (λ (n b : ℕ) (d : List ℕ). datedPrice n b d (a .flows .now) (a .side) (a .dates .now) (a .strike)) _ _ _ _ (tree .ensures) (search needs)
+    ∙ both-none _ _ _ _ _ _ (tree .ensures) (search needs)
 
 add-end : tie.Need-add-end
 add-end c = omega (arith, told (c .before .before) .fits)

@@ -26,10 +26,9 @@ no-price-requires c κs = search needs
 
 returns : tie.Need-returns
 returns c =
-    let a = c .before .before .before .before .before .args in
     let tree = c .before .before .before .tree-of in
     c .no-price .ensures
-    ∙ price-none (λ (n b : ℕ) (d : List ℕ). optionPrice n b d (a .flows .now) (a .kind) (a .expiry) (a .strike)) _ _ _ _ (tree .ensures) (search needs)
+    ∙ price-none _ _ _ _ _ (tree .ensures) (search needs)
 
 add-end : tie.Need-add-end
 add-end c = omega (arith, told (c .before .before) .fits)
