@@ -13,7 +13,7 @@ told : (c : tie.Else1) →
     let a = c .before .before .before .before .before .before .args in
     let tree = c .before .before .tree-of in
     There (a .shelf .slots) (a .name) (tree .result) (tree .ensures)
-told c = awaiting _ _ _ (c .before .before .tree-of .ensures) (search needs) .0
+told c = awaiting _ _ _ (c .before .before .tree-of .ensures) (omega arith) .0
 
 tree-of-requires : tie.Need-tree-of-requires
 tree-of-requires c κs = search needs
