@@ -236,14 +236,14 @@ fn views(case: &Case, tally: &mut Tally) {
     *tally.results.entry("row range, 1: empty").or_default().entry(rules.is_none() as u64).or_default() += 1;
 }
 
-/// The figures of document 02, and every discount within 3,000 of 1, of one and of 1.1 × one.
+/// Rates worked out by hand from request (i), and every discount within 3,000 of 1, of one and of 1.1 × one.
 pub fn rates_at_borders(tally: &mut Tally) {
     let figures = [
         (0, Err(9)), (1, Ok(3_999_999_988)), (18_315_638, Ok(3_999_999_988)), (484_106_437, Ok(725_450_480)), (999_999_997, Ok(4)),
         (999_999_998, Ok(0)), (1_000_000_002, Ok(0)), (1_000_000_003, Ok(-4)), (DISCOUNT_LIMIT + 1, Err(9)), (u64::MAX, Err(9)),
     ];
     for (discount, rate) in figures {
-        assert_eq!(engine::continuous_rate(discount), rate, "continuous rate of {discount}: library left, document right");
+        assert_eq!(engine::continuous_rate(discount), rate, "continuous rate of {discount}: library left, by hand right");
     }
     for border in [1, ONE, DISCOUNT_LIMIT] {
         for discount in border.saturating_sub(3_000)..=border + 3_000 {
@@ -252,7 +252,7 @@ pub fn rates_at_borders(tally: &mut Tally) {
     }
 }
 
-/// The figures of document 02: five steps, all discounts one, flows of two, so that the bond passes its limit. A bad list comes before that.
+/// Request (iii): five steps, all discounts one, flows of two, so that the bond passes its limit. A bad list comes before that.
 pub fn dates_by_hand() {
     let (tree, flows) = (Tree { steps: 5, reversion: 0 }, [FLOW_LIMIT; 5]);
     let discounts = vec![ONE; tree.discounts_needed()];
