@@ -1,7 +1,7 @@
 // What is compared of one input. A difference panics.
 use crate::engine;
 use crate::exact::{near_fourth_power, Exact, ExactBond};
-use crate::inputs::Case;
+use crate::inputs::{self, Case};
 use crate::natural::Natural;
 use crate::rules::{self, Contract, Curve, DatedOption, Fitted, Outcome, Tree, CALL, DISCOUNT_LIMIT, FLOW_LIMIT, ONE, PUT};
 use std::cmp::Ordering;
@@ -292,6 +292,32 @@ pub fn limit_by_hand() {
         discounts[0] = discount;
         let flows = [value - 3 * FLOW_LIMIT, FLOW_LIMIT, FLOW_LIMIT, FLOW_LIMIT];
         assert_eq!(engine::bond(&tree, &discounts, &flows).map(|bond| bond.0), price, "value {value}, discount {discount}");
+    }
+}
+
+/// A node discount of 1.1 × one is accepted and one billionth more is refused with 9, on row 0 and on row 1, whose state prices sum to two less
+/// than one.
+pub fn discount_limit_by_hand() {
+    let limit = Ok(DISCOUNT_LIMIT);
+    for (figures, last) in [(vec![1.1], limit), (vec![1.100000001], Err(9)), (vec![1.0, 1.099999998], limit), (vec![1.0, 1.099999999], Err(9))] {
+        let tree = Tree { steps: figures.len(), reversion: 0 };
+        let curve = Curve { rows: (1..=tree.steps as u64).collect(), kinds: vec![5; tree.steps], figures };
+        let (discounts_length, state_prices_length) = (tree.discounts_needed(), tree.state_prices_needed());
+        let input = rules::FitInput { frequency: 1, tree, volatility: 0, curve, discounts_length, state_prices_length };
+        let (mut discounts, mut state_prices) = (vec![UNTOUCHED; discounts_length], vec![UNTOUCHED; state_prices_length]);
+        let number = engine::fit(&input, &mut discounts, &mut state_prices);
+        let found = if number == 0 { Ok(discounts[discounts_length - 1]) } else { Err(number) };
+        assert_eq!(found, last, "fit of {:?}: library left, by hand right", input.curve.figures);
+        let ruled = input.fit().map(|fitted| fitted.discounts[discounts_length - 1]);
+        assert_eq!(ruled, last, "fit of {:?}: rules left, by hand right", input.curve.figures);
+    }
+}
+
+/// Numbers that would pass for valid ones if they were cut to 8, 16 or 32 bits, each number of a case alone.
+pub fn numbers_past_a_width(tally: &mut Tally) {
+    for case in inputs::widths() {
+        all(&case, tally);
+        rates(&case.lent, tally);
     }
 }
 

@@ -1,5 +1,5 @@
 #!/usr/bin/env python3
-"""Tests of tools/promises.py and tools/stack.py: what is wrong is found, and what is right is let through.
+"""Tests of tools/promises.py, tools/stack.py and reference/widths.py: what is wrong is found, and what is right is let through.
 
     python3 tools/test_checks.py
 """
@@ -8,9 +8,12 @@ import sys
 import tempfile
 import unittest
 
+ROOT = pathlib.Path(__file__).resolve().parent.parent
+sys.path.insert(0, str(ROOT / 'reference'))
 sys.dont_write_bytecode = True
 import promises
 import stack
+import widths
 
 SOURCE = '''ghost use lib.IntN.{
   natAbs,
@@ -139,6 +142,26 @@ class Stack(unittest.TestCase):
     def test_the_least_that_is_enough(self):
         self.assertIsNone(stack.least('/bin/cat', b'abc', b'ab'))
         self.assertLess(stack.least('/bin/cat', b'abc', b'abc'), stack.MOST)
+
+
+class Widths(unittest.TestCase):
+    HEADER = (ROOT / 'c/mixegorta.h').read_text(encoding='utf-8')
+
+    def test_the_header(self):
+        self.assertEqual(list(widths.faults(self.HEADER, 'same', 'same')), [])
+        self.assertEqual(len(widths.declared(self.HEADER)), len(widths.ENTRIES) + len(widths.WITHOUT_NUMBERS))
+
+    def test_what_the_table_lacks(self):
+        for old, new in (('mixegorta_step_rate(uint64_t discount);', 'mixegorta_step_rate(uint64_t discount, uint64_t version);'),
+                         ('mixegorta_step_rate(uint64_t discount);', 'mixegorta_yearly_rate(uint64_t discount);')):
+            self.assertEqual(self.HEADER.count(old), 1)
+            self.assertEqual(len(list(widths.faults(self.HEADER.replace(old, new), 'same', 'same'))), 1)
+        self.assertEqual(len(list(widths.faults(self.HEADER, 'one', 'other'))), 1)
+
+    def test_a_cut_that_would_not_show(self):
+        unread = widths.entry(lambda number: [1], ('number', 'number', 5))
+        with self.assertRaises(SystemExit):
+            list(widths.lines_of(unread))
 
 
 if __name__ == '__main__':
