@@ -17,7 +17,7 @@ static struct argument {
     uint64_t items[ROOM];
 } given[ARGUMENTS], wanted, found;
 
-static uint8_t bytes[2][ROOM];
+static uint8_t bytes[ROOM];
 static double figures[ROOM];
 static unsigned lines, failures;
 
@@ -56,9 +56,9 @@ static uint64_t number(size_t place) { return given[place].number; }
 
 #define LENT(place) given[place].items, given[place].count
 
-static const uint8_t *as_bytes(size_t place, size_t which) {
-    for (size_t i = 0; i < given[place].count; i++) bytes[which][i] = (uint8_t)given[place].items[i];
-    return bytes[which];
+static const uint8_t *as_bytes(size_t place) {
+    for (size_t i = 0; i < given[place].count; i++) bytes[i] = (uint8_t)given[place].items[i];
+    return bytes;
 }
 
 static const double *as_figures(size_t place) {
@@ -113,13 +113,14 @@ static void quote_discount(void) {
 }
 
 static void curve_discounts(void) {
-    uint64_t refused = mixegorta_curve_discounts(number(0), number(1), LENT(2), as_bytes(3, 0), given[3].count, as_figures(4), given[4].count, LENT(5));
+    uint64_t refused = mixegorta_curve_discounts(number(0), number(1), LENT(2), as_bytes(3), given[3].count, as_figures(4), given[4].count,
+                                                 LENT(5));
     answer(refused, NULL, 0);
     answer_memory(5, refused == 0 ? number(1) : 0);
 }
 
 static void fit(void) {
-    uint64_t refused = mixegorta_fit(number(0), number(1), number(2), number(3), LENT(4), as_bytes(5, 0), given[5].count, as_figures(6),
+    uint64_t refused = mixegorta_fit(number(0), number(1), number(2), number(3), LENT(4), as_bytes(5), given[5].count, as_figures(6),
                                      given[6].count, LENT(7), LENT(8));
     answer(refused, NULL, 0);
     answer_memory(7, refused == 0 ? mixegorta_discounts_needed(number(1), number(2)).value : 0);
@@ -148,11 +149,11 @@ static void bond_and_option(void) {
 }
 
 static void dated_option_price(void) {
-    answer_price(mixegorta_dated_option_price(number(0), number(1), LENT(2), LENT(3), number(4), as_bytes(5, 0), given[5].count, number(6)));
+    answer_price(mixegorta_dated_option_price(number(0), number(1), LENT(2), LENT(3), number(4), as_bytes(5), given[5].count, number(6)));
 }
 
 static void bond_and_dated_option(void) {
-    answer_both(mixegorta_bond_and_dated_option(number(0), number(1), LENT(2), LENT(3), number(4), as_bytes(5, 0), given[5].count, number(6)));
+    answer_both(mixegorta_bond_and_dated_option(number(0), number(1), LENT(2), LENT(3), number(4), as_bytes(5), given[5].count, number(6)));
 }
 
 static void value_by_state_prices(void) { answer_value(mixegorta_value_by_state_prices(LENT(0), LENT(1))); }
@@ -213,9 +214,22 @@ static size_t put_sheet(const uint8_t *job, size_t size, char *sheets, size_t en
     return end + w.size;
 }
 
+/* Whether zeros behind a well-formed job, so many that a cut size would lose them, make it malformed. */
+static bool malformed_when_longer(uint8_t *job, size_t size) {
+    static uint8_t room[MIXEGORTA_SHEET_ROOM];
+    const bool formed = mixegorta_sheet(job, size, room, sizeof room).number != 1;
+    for (size_t more = 1 << 8; more <= 1 << 16; more <<= 8) {
+        memset(job + size, 0, more);
+        if (!formed || mixegorta_sheet(job, size + more, room, sizeof room).number == 1) continue;
+        printf("not so: %zu zeros behind a job make it malformed\n", more);
+        return false;
+    }
+    return true;
+}
+
 static void sheet_cases(const char *jobs, const char *expected) {
     static char sheets[SHEETS], read[SHEETS];
-    static uint8_t job[1 << 16];
+    static uint8_t job[ROOM];
     FILE *in = fopen(jobs, "rb"), *out = fopen(expected, "rb");
     size_t end = 0;
     if (in == NULL || out == NULL) exit(2);
@@ -224,6 +238,7 @@ static void sheet_cases(const char *jobs, const char *expected) {
         if (fread(job, 1, size, in) != size) exit(2);
         end = put_sheet(job, size, sheets, end);
         lines++;
+        if (!malformed_when_longer(job, size)) failures++;
     }
     if (fread(read, 1, sizeof read, out) != end || memcmp(read, sheets, end) != 0) {
         failures++;

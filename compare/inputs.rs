@@ -343,7 +343,8 @@ fn damage(r: &mut Random, case: &mut Case) {
         23..=25 => spoil_by_yield(r, case.fit.frequency, &mut case.fit.curve),
         26..=28 => case.dated.dates = wrong_dates(r, n, std::mem::take(&mut case.dated.dates)),
         29 => spoil_dated(r, &mut case.dated),
-        30..=32 => { let (which, bits) = (r.below(NUMBERS), r.pick(&WIDTHS)); widen(case, which, bits) }
+        30..=31 => { let (which, bits) = (r.below(NUMBERS), r.pick(&WIDTHS)); widen(case, which, bits) }
+        32 => { let which = r.below(COUNTS); lengthen(case, which, 8) }
         _ => strange_view(r, case),
     }
 }
@@ -383,6 +384,31 @@ fn widen(case: &mut Case, which: usize, bits: u32) {
     }
 }
 
+/// The widths to which a count could be cut: more memory than these take no test has.
+const COUNT_WIDTHS: [u32; 2] = [8, 16];
+const COUNTS: usize = 10;
+
+/// Makes one list or memory of a case longer by what its count would lose if it were cut to so many bits; where more than needed may be lent, to a
+/// count that would be 0.
+fn lengthen(case: &mut Case, which: usize, bits: u32) {
+    let more = 1usize << bits;
+    fn longer<T: Copy>(list: &mut Vec<T>, more: usize, filler: T) {
+        list.resize(list.len() + more, filler);
+    }
+    match which {
+        0 => longer(&mut case.fit.curve.rows, more, 0),
+        1 => longer(&mut case.fit.curve.kinds, more, 5),
+        2 => longer(&mut case.fit.curve.figures, more, 0.5),
+        3 => longer(&mut case.flows, more, 0),
+        4 => longer(&mut case.dated.dates, more, 0),
+        5 => longer(&mut case.payoffs, more, 0),
+        6 => longer(&mut case.weighed, more, 0),
+        7 => case.lent.resize(case.lent.len().next_multiple_of(more), 0),
+        8 => case.fit.discounts_length = case.fit.discounts_length.next_multiple_of(more),
+        _ => case.fit.state_prices_length = case.fit.state_prices_length.next_multiple_of(more),
+    }
+}
+
 /// A case in good order, small enough that each of its numbers counts in some answer.
 pub fn steady() -> Case {
     let tree = Tree { steps: 3, reversion: 800 };
@@ -410,15 +436,16 @@ pub fn steady() -> Case {
     }
 }
 
-/// The steady case, then each number of it made wider by each width.
+/// The steady case, then each number of it made wider by each width, then each count.
 pub fn widths() -> Vec<Case> {
-    let wider = (0..NUMBERS).flat_map(|which| WIDTHS.map(|bits| (which, bits)));
-    let widened = wider.map(|(which, bits)| {
+    let changed = |change: fn(&mut Case, usize, u32), which: usize, bits: u32| {
         let mut case = steady();
-        widen(&mut case, which, bits);
+        change(&mut case, which, bits);
         case
-    });
-    std::iter::once(steady()).chain(widened).collect()
+    };
+    let widened = (0..NUMBERS).flat_map(|which| WIDTHS.map(|bits| changed(widen, which, bits)));
+    let longer = (0..COUNTS).flat_map(|which| COUNT_WIDTHS.map(|bits| changed(lengthen, which, bits)));
+    std::iter::once(steady()).chain(widened).chain(longer).collect()
 }
 
 fn spoil_dated(r: &mut Random, dated: &mut DatedOption) {

@@ -367,6 +367,14 @@ def order_of_dates():
         yield 12, job(f=1, s=0, quotes=rising, flows=[0] * 10, option=(2, 3_748_384_117), dates=dates)
 
 
+def greatest_discounts():
+    """A node discount of 1.1 and of one billionth more, on row 0 and on row 1, whose state prices sum to two less than one."""
+    for quotes, line in (([(5, 1.1)], 'node 0 0 1.100000000 -9.0909091'), ([(5, 1.0), (5, 1.099999998)], 'node 1 1 1.100000000 -9.0909091')):
+        yield on_the_border(0, line, job(f=1, s=0, quotes=quotes))
+    yield 9, job(f=1, s=0, quotes=[(5, 1.100000001)])
+    yield 9, job(f=1, s=0, quotes=[(5, 1.0), (5, 1.099999999)])
+
+
 def cliff(rise, s):
     """A curve that rises by the same part to 2 and falls to 0.1 on its last row."""
     quotes = [(5, figure) for figure in (rise ** t for t in range(1, 59)) if figure < 2] + [(5, 2.0), (5, 0.1)]
@@ -395,6 +403,7 @@ def jobs():
     yield from ((1, made) for made in malformed_dates())
     yield from wrong_dates()
     yield from order_of_dates()
+    yield from greatest_discounts()
     yield from cliffs()
 
 

@@ -58,7 +58,7 @@ def curve_discounts(frequency, steps, rows, kinds, figures, memory):
 
 
 def fit(frequency, steps, reversion, volatility, rows, kinds, figures, discounts, state_prices):
-    """What a fit writes; where it is refused, its memories must be as they were."""
+    """What a fit writes: all that is no longer the pattern. Where it is refused, its memories must be as they were."""
     quoted = points(rows, kinds, figures)
     if quoted is None:
         return None
@@ -67,9 +67,7 @@ def fit(frequency, steps, reversion, volatility, rows, kinds, figures, discounts
     except m.Refused:
         assert set(discounts) | set(state_prices) == {PATTERN}
         raise
-    needed = m.discounts_needed(steps, reversion), m.state_prices_needed(steps, reversion)
-    assert set(discounts[needed[0]:]) | set(state_prices[needed[1]:]) <= {PATTERN}
-    return [0, *discounts[:needed[0]], *state_prices[:needed[1]]]
+    return [0, *(number for number in chain(discounts, state_prices) if number != PATTERN)]
 
 
 def row_range(*given):
@@ -87,7 +85,7 @@ for name in ("half_width", "node_count", "row_start", "discounts_needed", "state
 def answer(name, given):
     """What a call answers, a refusal as its number; None where no arguments of this package say the same."""
     try:
-        return CALLS[name](*given)
+        return CALLS[name](*given) if name in CALLS else m.sheet(*given)
     except m.Refused as refusal:
         return [refusal.number]
 
@@ -122,6 +120,13 @@ class Test(unittest.TestCase):
                 wide = given[place] + 2**64 if isinstance(given[place], int) else [given[place][0] + 2**64, *given[place][1:]]
                 with self.subTest(name=name, place=place), self.assertRaises(OverflowError):
                     answer(name, given[:place] + [wide] + given[place + 1:])
+
+    def test_a_job_past_a_width(self):
+        """Bytes behind a whole job make it malformed, however many."""
+        job = bytes.fromhex("01000101 02000101 0300020000 04000400000000 0500083FF00A3D70A3D70A 0700043B9ACA00")
+        self.assertTrue(m.sheet(job).endswith("bond 1.002500000 2\n"))
+        for more in (2**8, 2**16):
+            self.assertEqual(answer("sheet", [job + bytes(more)]), [1])
 
     def test_bytes_past_8_bits(self):
         """Kinds of quotes and dates are bytes: 256 more would be cut in silence."""

@@ -279,6 +279,18 @@ fn numbers_past_a_width() {
     assert!(called.values().all(|lines| *lines > 3), "{called:?}");
 }
 
+/// Bytes behind a whole job make it malformed, however many.
+#[test]
+fn a_job_past_a_width() {
+    let cases = fs::read(path("crates/sheet_cases/stdin")).expect("the jobs");
+    let job = &cases[2..2 + cases[0] as usize * 256 + cases[1] as usize];
+    assert!(sheet(job).is_ok());
+    for more in [1 << 8, 1 << 16] {
+        let longer = [job, &vec![0; more]].concat();
+        assert_eq!(sheet(&longer), Err(Refusal::JOB));
+    }
+}
+
 #[test]
 fn sheets_of_every_case() {
     let jobs = fs::read(path("crates/sheet_cases/stdin")).expect("the jobs");
