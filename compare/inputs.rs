@@ -246,7 +246,6 @@ pub fn case(r: &mut Random) -> Case {
     let strikes = r.pick(&[(0, 3 * ONE), (0, STRIKE_LIMIT), (0, 3 * ONE / 2), (9 * ONE / 10, 11 * ONE / 10), (0, 1)]);
     let contract = Contract { kind: r.within(1, 4), expiry: r.below(tree.steps), strike: r.within(strikes.0, strikes.1) };
     let dated = DatedOption { side: r.within(1, 2), strike: r.within(strikes.0, strikes.1), dates: dates(r, tree.steps) };
-    let fewer = some_of(r, &dated.dates);
     let half = tree.half_width(row);
     let mut made = Case {
         shape,
@@ -255,7 +254,7 @@ pub fn case(r: &mut Random) -> Case {
         flows: flows(r, tree.steps),
         contract,
         dated,
-        fewer,
+        fewer: Vec::new(),
         row,
         node: r.within(0, 2 * half as u64) as i64 - half,
         row_kind: r.within(1, 2),
@@ -267,6 +266,8 @@ pub fn case(r: &mut Random) -> Case {
             damage(r, &mut made);
         }
     }
+    // Last, since damage to the dates may leave a good list of others.
+    made.fewer = some_of(r, &made.dated.dates);
     made
 }
 
