@@ -19,8 +19,9 @@ CALL = re.compile(r'(\w+)::(\w+\*?)')
 NAME = re.compile(r'[^\W\d][\w-]*')
 # Words of the language that a contract is written in.
 WORDS = {'requires', 'ensures'}
-# What the first error of a wrong edit must not be about: these say that a proof does not fit, not that a fact is false.
-HOLLOW = ('not in scope', 'has no `Need-', 'no occurrence', 'found no proof')
+# What the first error of a wrong edit must not be about: these say that a proof does not fit, not that a fact is false. The first are words of an error's
+# first line, whose further lines may use them of what they print; the last is what a search tells at its end.
+HOLLOW, ENDED = ('not in scope', 'has no `Need-', 'no occurrence'), 'found no proof'
 # An error with its further lines; where the prover told none, the notes on what its own search did not prove.
 ERROR = re.compile(r'^\S+: error.*\n?(?:^  .*\n?)*', re.M)
 NOTES = re.compile(r'^note: \S+:\d+:\d+:.*\n?(?:^(?:note:|  ).*\n?)*', re.M)
@@ -126,7 +127,9 @@ def faults_of_log(edit, log):
     error = first_error(log)
     if not error:
         return [f'{edit}: no error in its log']
-    return [f'{edit}: its first error says "{word}": {error.splitlines()[0][:240]}' for word in HOLLOW if word in error][:1]
+    line = error.splitlines()[0]
+    found = [word for word in HOLLOW if word in line] + [ENDED] * (ENDED in error)
+    return [f'{edit}: its first error says "{word}": {line[:240]}' for word in found[:1]]
 
 
 def logs(root):

@@ -103,6 +103,7 @@ class Promises(unittest.TestCase):
 
     def test_first_errors(self):
         self.assertEqual(promises.faults_of_log('a/b', FALSE_FACT), [])
+        self.assertEqual(promises.faults_of_log('a/b', FALSE_FACT.replace('but this has type', '`out` is not in scope here:')), [])
         for log, word in ((FALSE_FACT.replace('`omega`: the goal does not follow from what it read', '`<` is not in scope'), 'not in scope'),
                           (FALSE_FACT.replace('the goal does not follow', 'it has no `Need-returns-2`'), 'has no `Need-'),
                           (FALSE_FACT.replace('`omega`', '`rw`: no occurrence: `omega`'), 'no occurrence'),
