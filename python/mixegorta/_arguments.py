@@ -6,7 +6,7 @@ import operator
 from array import array
 from typing import Any, Callable, Dict, Iterable, Iterator, Optional, Tuple
 
-from ._library import F64, U8, U64
+from ._types import F64, U8, U64
 from .amounts import Amount, billionths
 
 ELEMENTS: Dict[str, Any] = {"B": U8, "Q": U64, "d": F64}

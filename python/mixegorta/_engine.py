@@ -3,21 +3,14 @@ from array import array
 from typing import TYPE_CHECKING, Any, Iterable, Iterator, NamedTuple, Optional, Tuple, Union
 
 from ._arguments import Slice, amount, amounts, dates as exercise_dates, job_bytes, memory, own_memory, quotes, u64, whole
+from ._declarations import CPoint
 from ._faults import call, refusal
-from ._library import CPoint
+from ._limits import SHEET_ROOM
 from .amounts import Amount, Amounts
 from .refusals import Refused
 
 if TYPE_CHECKING:
     from _typeshed import ReadableBuffer, WriteableBuffer
-
-PROBABILITY_ONE = 600_000_000
-MAX_STEPS = 60
-MAX_NODES = 121
-MAX_DISCOUNTS = 3_600
-MAX_STATE_PRICES = 3_721
-MAX_JOB = 4_700
-SHEET_ROOM = 468_736
 
 DISCOUNT_FACTOR, YEARLY_RATE, YEARLY_YIELD = 5, 6, 9
 DISCOUNTS, STATE_PRICES = 1, 2

@@ -4,8 +4,9 @@ import struct
 from typing import Any, Callable, Dict, List, Optional, Tuple, Union
 
 from ._arguments import Slice, amounts, own_memory, quotes
-from ._library import DECLARATIONS, LOCKED, UNLOCKED, CPoint
-from .amounts import ONE
+from ._declarations import DECLARATIONS, CPoint
+from ._library import LOCKED, UNLOCKED
+from ._limits import ONE
 from .refusals import CLASSES, Refused
 
 Given = Dict[str, Any]

@@ -3,7 +3,7 @@ import operator
 from decimal import Decimal, InvalidOperation
 from typing import Iterable, Union
 
-ONE = 1_000_000_000
+from ._limits import ONE
 
 Amount = Union[int, Decimal, str]
 Amounts = Iterable[Amount]
