@@ -54,8 +54,12 @@ extern "C" {
 /* The version of header and library, in three numbers and as a text. The shared object's name for the loader carries the first. */
 #define MIXEGORTA_VERSION_MAJOR 0
 #define MIXEGORTA_VERSION_MINOR 6
-#define MIXEGORTA_VERSION_PATCH 0
-#define MIXEGORTA_VERSION "0.6.0"
+#define MIXEGORTA_VERSION_PATCH 1
+#define MIXEGORTA_VERSION "0.6.1"
+
+/* The same as one number, which mixegorta_version() of this header's own library answers. */
+#define MIXEGORTA_VERSION_NUMBER \
+    (MIXEGORTA_VERSION_MAJOR * UINT64_C(1000000) + MIXEGORTA_VERSION_MINOR * UINT64_C(1000) + MIXEGORTA_VERSION_PATCH)
 
 /* Billionths in one, and the whole of which probabilities are parts. */
 #define MIXEGORTA_ONE UINT64_C(1000000000)
@@ -151,6 +155,9 @@ struct mixegorta_written {
     uint64_t number;
     size_t size;
 };
+
+/* The version of the library that is linked or loaded: MIXEGORTA_VERSION_NUMBER where it is this header's own. */
+uint64_t mixegorta_version(void);
 
 /* ---- The shape of a tree. No memory is touched. */
 

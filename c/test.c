@@ -757,6 +757,7 @@ static void dated_jobs(void) {
 }
 
 int main(void) {
+    CHECK(mixegorta_version() == MIXEGORTA_VERSION_NUMBER);
     shapes();
     branches();
     quotes();

@@ -55,6 +55,7 @@ static void sheet() {
 }
 
 int main() {
+    EXPECT(mixegorta_version() == MIXEGORTA_VERSION_NUMBER);
     shapes();
     quotes();
     prices();

@@ -13,7 +13,7 @@ so that no thread of Python's writes it; during any other call with memory it is
 
 The shared object is that of the package, or in a source folder ../target/libmixegorta.so; MIXEGORTA_LIBRARY names another.
 """
-__version__ = "0.6.0"
+__version__ = "0.6.1"
 
 from . import _limits, refusals
 from ._engine import (AMERICAN_CALL, AMERICAN_PUT, CALL, DISCOUNT_FACTOR, DISCOUNTS, EUROPEAN_CALL, EUROPEAN_PUT, PUT, STATE_PRICES,

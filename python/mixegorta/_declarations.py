@@ -55,6 +55,7 @@ class CWritten(ctypes.Structure):
 
 # each exported function with its result and its parameters
 DECLARATIONS: Dict[str, Tuple[Any, Dict[str, Any]]] = {
+    "version": (U64, {}),
     "half_width": (CAnswer, {"reversion": U64, "row": SIZE}),
     "node_count": (CAnswer, {"reversion": U64, "row": SIZE}),
     "row_start": (CAnswer, {"reversion": U64, "row": SIZE}),

@@ -236,6 +236,12 @@ pub struct Branches {
 // Why each `unsafe` below is sound: the archive asks that a slice's pointer is aligned and reaches its count of elements, and that
 // what it may write overlaps nothing else of the call. Rust's own references keep both, and empty slices are allowed.
 
+/// The version that the archive itself tells: 1,000,000 for each of its first number, 1,000 for each of its second, 1 for each of its
+/// third. The build refuses an archive that tells another than [`VERSION`].
+pub fn archive_version() -> u64 {
+    unsafe { raw::mixegorta_version() }
+}
+
 /// The half width of a row, 0 to 60.
 pub fn half_width(reversion: u64, row: usize) -> Result<u64, Refusal> {
     value_of(unsafe { raw::mixegorta_half_width(reversion, row) })

@@ -67,6 +67,7 @@ pub struct Written {
 }
 
 extern "C" {
+    pub fn mixegorta_version() -> u64;
     pub fn mixegorta_half_width(reversion: u64, row: usize) -> Answer;
     pub fn mixegorta_node_count(reversion: u64, row: usize) -> Answer;
     pub fn mixegorta_row_start(reversion: u64, row: usize) -> Answer;
