@@ -15,26 +15,14 @@ The shared object is that of the package, or in a source folder ../target/libmix
 """
 __version__ = "0.6.1"
 
-from . import _limits, refusals
-from ._engine import (AMERICAN_CALL, AMERICAN_PUT, CALL, DISCOUNT_FACTOR, DISCOUNTS, EUROPEAN_CALL, EUROPEAN_PUT, PUT, STATE_PRICES,
-                      YEARLY_RATE, YEARLY_YIELD, BondAndOption, Branches, Curve, Point, Price, bond_and_dated_option, bond_and_option,
-                      bond_price, branches, continuous_rate, curve_discounts, dated_option_price, discounts_needed, fit_into, half_width,
-                      node_count, option_price, quote_discount, row_range, row_start, sheet, sheet_into, state_price_error_bound,
-                      state_prices_needed, step_rate, valuation_error_bound, value_by_state_prices)
+from . import _engine, _limits, refusals
+from ._engine import *
 from ._limits import *
 from ._tree import Tree
 from .amounts import Amount, Amounts, InexactAmount, billionths
 from .refusals import *
 
-__all__ = [
-    "DISCOUNT_FACTOR", "YEARLY_RATE", "YEARLY_YIELD", "DISCOUNTS", "STATE_PRICES", "EUROPEAN_CALL", "EUROPEAN_PUT", "AMERICAN_CALL",
-    "AMERICAN_PUT", "CALL", "PUT",
-    "Amount", "Amounts", "InexactAmount", "billionths",
-    "Point", "Curve", "Branches", "Price", "BondAndOption", "Tree",
-    "half_width", "node_count", "row_start", "discounts_needed", "state_prices_needed", "branches",
-    "quote_discount", "curve_discounts", "fit_into", "row_range", "step_rate", "continuous_rate", "state_price_error_bound",
-    "bond_price", "option_price", "bond_and_option", "dated_option_price", "bond_and_dated_option", "value_by_state_prices",
-    "valuation_error_bound", "sheet_into", "sheet",
-]
+__all__ = ["Amount", "Amounts", "InexactAmount", "Tree", "billionths"]
+__all__ += _engine.__all__
 __all__ += _limits.__all__
 __all__ += refusals.__all__

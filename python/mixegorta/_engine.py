@@ -12,6 +12,16 @@ from .refusals import Refused
 if TYPE_CHECKING:
     from _typeshed import ReadableBuffer, WriteableBuffer
 
+__all__ = [
+    "DISCOUNT_FACTOR", "YEARLY_RATE", "YEARLY_YIELD", "DISCOUNTS", "STATE_PRICES", "EUROPEAN_CALL", "EUROPEAN_PUT", "AMERICAN_CALL",
+    "AMERICAN_PUT", "CALL", "PUT",
+    "Point", "Curve", "Branches", "Price", "BondAndOption",
+    "half_width", "node_count", "row_start", "discounts_needed", "state_prices_needed", "branches",
+    "quote_discount", "curve_discounts", "fit_into", "row_range", "step_rate", "continuous_rate", "state_price_error_bound",
+    "bond_price", "option_price", "bond_and_option", "dated_option_price", "bond_and_dated_option", "value_by_state_prices",
+    "valuation_error_bound", "sheet_into", "sheet",
+]
+
 DISCOUNT_FACTOR, YEARLY_RATE, YEARLY_YIELD = 5, 6, 9
 DISCOUNTS, STATE_PRICES = 1, 2
 EUROPEAN_CALL, EUROPEAN_PUT, AMERICAN_CALL, AMERICAN_PUT = 1, 2, 3, 4
