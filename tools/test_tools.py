@@ -284,6 +284,18 @@ class Pricing(unittest.TestCase):
         self.check_sentence(self.price('a', 'b'), 'tools/price FILE')
         self.assertIn(b'20 more lines are wrong', self.price(self.file('x\n' * 40), program=self.reference).stderr)
 
+    def test_a_zero_byte_makes_no_job_of_a_text(self):
+        text = EXAMPLES[0].read_bytes()
+        for content, line in ((text + b'\0', text.count(b'\n') + 1), (b'\0' + text, 1), (text.replace(b'\n', b'\0\n', 1), 1), (text.decode().encode('utf-16-le'), 1),
+                              (b'\0\0', 1)):
+            self.check_sentence(self.price(self.file(content), program=self.reference), f':{line}: a zero byte')
+        for damaged in (DOCUMENT_JOB[:9], DOCUMENT_JOB[4:], b'\xff' + DOCUMENT_JOB[1:]):
+            self.assertEqual(self.price(self.file(damaged), program=self.reference).stdout, b'refused 1\n')
+
+    def test_a_file_without_a_name(self):
+        self.check_sentence(self.price('', program=self.reference), "'': No such file")
+        self.assertEqual(run('job', '', '').stderr, b"'': No such file or directory\n")
+
     def test_a_program_that_is_missing(self):
         shutil.copytree(ROOT / 'tools', self.folder / 'clone/tools')
         file, tools = ROOT / 'examples/one-step.txt', self.folder / 'clone/tools'

@@ -7,7 +7,8 @@ for any other, raises OverflowError.
 Amounts are whole billionths: ONE is 1,000,000,000. Where they are asked for, a Decimal or a str such as "1.01" will do too and is
 converted by billionths(), which is exact or says so; a float is a TypeError. The figures of quotes are floats.
 
-Slices are numbers in any iterable. A contiguous buffer of the engine's own type, 64-bit unsigned numbers, or bytes for dates and jobs, is
+Slices are numbers in any iterable that has an order: a dict, a set and a str are TypeErrors, and so is an array of numpy's some of whose
+numbers are masked. A contiguous buffer of the engine's own type, 64-bit unsigned numbers, or bytes for dates and jobs, is
 lent without a copy: array, memoryview, numpy and ctypes arrays. During a call that is lent such a buffer the interpreter's lock is kept,
 so that no thread of Python's writes it; during any other call with memory it is given up.
 

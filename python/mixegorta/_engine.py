@@ -2,7 +2,8 @@
 from array import array
 from typing import TYPE_CHECKING, Any, Iterable, Iterator, NamedTuple, Optional, Tuple, Union
 
-from ._arguments import Slice, amount, amounts, dates as exercise_dates, job_bytes, memory, own_memory, quotes, u64, whole
+from ._arguments import Slice, amount, amounts, dates as exercise_dates, job_bytes, memory, own_memory, point as row_kind_and_figure
+from ._arguments import quotes, u64, whole
 from ._declarations import CPoint
 from ._faults import call, refusal
 from ._limits import SHEET_ROOM
@@ -178,7 +179,7 @@ def branches(reversion: int, row: int, node: int) -> Branches:
 
 def quote_discount(frequency: int, point: PointLike) -> int:
     """The discount of one Point(row, kind, figure)."""
-    row, kind, figure = Point(*point)
+    row, kind, figure = row_kind_and_figure("point", point)
     given = u64("frequency", frequency), whole("point", kind, 0, 255), CPoint(u64("point", row), figure)
     return _value("quote_discount", *given)
 
