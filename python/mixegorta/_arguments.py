@@ -5,7 +5,7 @@ import ctypes
 import operator
 from array import array
 from collections.abc import Mapping, Set
-from typing import Any, Callable, Dict, Iterable, Iterator, Optional, Sequence, Tuple
+from typing import Any, Callable, Dict, Iterable, Iterator, List, Optional, Sequence, Tuple
 
 from ._types import F64, U8, U64
 from .amounts import Amount, billionths, shown
@@ -14,6 +14,8 @@ ELEMENTS: Dict[str, Any] = {"B": U8, "Q": U64, "d": F64}
 SIZES = {code: ctypes.sizeof(kind) for code, kind in ELEMENTS.items()}
 FORMATS = {"B": "B", "Q": "QLN", "d": "d"}
 ORDERS = ("", "@", "=", "<")
+POINT = "Point(row, kind, figure)"
+Convert = Callable[[str, Any], Any]
 
 
 class Slice:
@@ -37,6 +39,12 @@ class Slice:
 
     def _end(self) -> int:
         return self.address + self.count * SIZES[self.code]
+
+
+class Memory(Slice):
+    """Numbers of the count that their parameter fixes, handed over by their address alone."""
+
+    __slots__ = ()
 
 
 def whole(name: str, number: int, low: int, high: int) -> int:
@@ -66,6 +74,12 @@ def own_memory(count: int, code: str = "Q") -> Slice:
     return Slice(memoryview(elements).cast("B").cast(code), code, ctypes.addressof(elements), count)
 
 
+def kept_memory(count: int) -> Memory:
+    """Zeros for a parameter that is a pointer to so many numbers."""
+    own = own_memory(count)
+    return Memory(own.values, own.code, own.address, own.count)
+
+
 def amounts(name: str, values: Iterable[Amount]) -> Slice:
     """A slice of amounts that is only read."""
     return _lent(name, "Q", values) or _copied(name, "Q", values, amount)
@@ -93,20 +107,31 @@ def memory(name: str, code: str, values: Any) -> Slice:
     return found
 
 
+def columns(name: str, form: str, records: Iterable[Any], fields: Sequence[Tuple[str, Convert]]) -> List[Slice]:
+    """The fields of records as columns of one length, each with its type and what converts it; form tells what a record is."""
+    listed = _listed(name, records)
+    if not all(isinstance(each, tuple) and len(each) == len(fields) for each in listed):
+        listed = [record(f"{name}[{place}]", form, each, len(fields)) for place, each in enumerate(listed)]
+    found = zip(*listed) if listed else ((),) * len(fields)
+    return [_copied(name, code, column, convert) for column, (code, convert) in zip(found, fields)]
+
+
+def record(name: str, form: str, given: Any, count: int) -> Tuple[Any, ...]:
+    """The fields of one record."""
+    if isinstance(given, (str, bytes, Mapping, Set)) or not hasattr(given, "__len__") or len(given) != count:
+        raise TypeError(f"{name}: {shown(given)} is no {form}")
+    return tuple(given)
+
+
 def quotes(points: Iterable[Any]) -> Tuple[Slice, Slice, Slice]:
     """Rows, kinds and figures of points."""
-    listed = _listed("points", points)
-    if not all(isinstance(each, tuple) and len(each) == 3 for each in listed):
-        listed = [point(f"points[{place}]", each) for place, each in enumerate(listed)]
-    rows, kinds, figures = zip(*listed) if listed else ((), (), ())
-    return _copied("points", "Q", rows, u64), _copied("points", "B", kinds, _u8), _copied("points", "d", figures, _figure)
+    rows, kinds, figures = columns("points", POINT, points, (("Q", u64), ("B", _u8), ("d", _figure)))
+    return rows, kinds, figures
 
 
 def point(name: str, given: Any) -> Tuple[Any, Any, Any]:
     """Row, kind and figure of a point."""
-    if isinstance(given, (str, bytes, Mapping, Set)) or not hasattr(given, "__len__") or len(given) != 3:
-        raise TypeError(f"{name}: {shown(given)} is no Point(row, kind, figure)")
-    row, kind, figure = given
+    row, kind, figure = record(name, POINT, given, 3)
     return row, kind, figure
 
 
@@ -121,7 +146,7 @@ def _figure(name: str, figure: float) -> float:
         raise TypeError(f"{name}: {shown(figure)} is no float") from None
 
 
-def _copied(name: str, code: str, values: Iterable[Any], convert: Callable[[str, Any], Any]) -> Slice:
+def _copied(name: str, code: str, values: Iterable[Any], convert: Convert) -> Slice:
     """A slice of the call's own; convert is asked where array itself does not take the numbers, and names the one at fault."""
     listed = _listed(name, values)
     try:

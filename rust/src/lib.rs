@@ -24,11 +24,13 @@
 mod limits;
 mod raw;
 mod refusals;
+mod shapes;
 mod tree;
 
 pub use limits::*;
 pub use tree::Tree;
 
+use shapes::column;
 use std::fmt;
 use std::ops::Range;
 
@@ -114,17 +116,17 @@ impl Curve {
     pub fn of_quotes(quotes: &[Quote]) -> Curve {
         Curve {
             rows: (1..=quotes.len() as u64).collect(),
-            kinds: quotes.iter().map(|q| q.kind()).collect(),
-            figures: quotes.iter().map(|q| q.figure()).collect(),
+            kinds: column(quotes, |quote| quote.kind()),
+            figures: column(quotes, |quote| quote.figure()),
         }
     }
 
     /// Quotes with rows of their own; the engine refuses one that is not in its place.
     pub fn of_points(points: &[(u64, Quote)]) -> Curve {
         Curve {
-            rows: points.iter().map(|p| p.0).collect(),
-            kinds: points.iter().map(|p| p.1.kind()).collect(),
-            figures: points.iter().map(|p| p.1.figure()).collect(),
+            rows: column(points, |point| point.0),
+            kinds: column(points, |point| point.1.kind()),
+            figures: column(points, |point| point.1.figure()),
         }
     }
 
