@@ -231,8 +231,8 @@ ENTRIES = [
     entry(value_by_state_prices, ('state_prices', 'exact', [160_000_000, 640_000_000, 160_000_000]), ('payoffs', 'exact', [ONE, ONE // 2, 2 * ONE])),
     entry(valuation_error_bound, STEPS, REVERSION, LEVEL, ('row', 'number', 3), ('payoffs', 'exact', [ONE] * 7)),
 ]
-# A job is bytes, and the room for its sheet has one size: crates/sheet_cases has both.
-WITHOUT_NUMBERS = {'sheet'}
+# A job is bytes, and the room for its sheet has one size: crates/sheet_cases has both. The version takes nothing.
+WITHOUT_NUMBERS = {'sheet', 'version'}
 
 
 # The lines
