@@ -112,7 +112,7 @@ def columns(name: str, form: str, records: Iterable[Any], fields: Sequence[Tuple
     listed = _listed(name, records)
     if not all(isinstance(each, tuple) and len(each) == len(fields) for each in listed):
         listed = [record(f"{name}[{place}]", form, each, len(fields)) for place, each in enumerate(listed)]
-    found = zip(*listed) if listed else ((),) * len(fields)
+    found: Iterable[Sequence[Any]] = zip(*listed) if listed else [()] * len(fields)
     return [_copied(name, code, column, convert) for column, (code, convert) in zip(found, fields)]
 
 
