@@ -138,7 +138,7 @@ struct mixegorta_node_branches {
     uint64_t probabilities[3];
 };
 
-/* A quoted point: the row, 1 to 60, and the figure, a discount factor or a yearly rate from -10 to 10. */
+/* A quoted point: the row, 1 to 60, and the figure, a discount factor, a simple yearly rate or a yearly yield, from -10 to 10. */
 struct mixegorta_point {
     uint64_t row;
     double figure;

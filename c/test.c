@@ -341,6 +341,21 @@ static void limits(void) {
     CHECK(answered(mixegorta_value_by_state_prices(row, 1, payoff, 1), MIXEGORTA_MAX_VALUE));
 }
 
+/* A fit takes a node discount of its limit and not one billionth more, on row 0 and on row 1, whose state prices sum to two less than one. */
+static void fitted_limit(void) {
+    struct mixegorta_point point = {1, 1.100000001};
+    CHECK(answered(mixegorta_quote_discount(1, MIXEGORTA_DISCOUNT_FACTOR, point), MIXEGORTA_MAX_NODE_DISCOUNT + 1));
+    falling_curve(1.1);
+    CHECK(fit(1, 1, 0, 0) == 0 && discounts[0] == MIXEGORTA_MAX_NODE_DISCOUNT);
+    figures[0] = 1.100000001;
+    CHECK(fit(1, 1, 0, 0) == 9 && zeros(discounts, 1) && zeros(prices, 4) && untouched_from(1, 4));
+    figures[0] = 1;
+    figures[1] = 1.099999998;
+    CHECK(fit(1, 2, 0, 0) == 0 && discounts[3] == MIXEGORTA_MAX_NODE_DISCOUNT);
+    figures[1] = 1.099999999;
+    CHECK(fit(1, 2, 0, 0) == 9 && zeros(discounts, 4) && zeros(prices, 9) && untouched_from(4, 9));
+}
+
 /* Every row of a fit reprices its quote by its state prices within 300. */
 static void repricing(void) {
     enum { STEPS = 60 };
@@ -768,6 +783,7 @@ int main(void) {
     fits();
     ranges();
     limits();
+    fitted_limit();
     repricing();
     price_refusals();
     rolls();

@@ -109,6 +109,15 @@ class Test(unittest.TestCase):
         with self.assertRaises(TypeError):
             m.fit_into(1, 1, 0, 0, curve, [0], [0] * 4)
 
+    def test_the_greatest_node_discount_of_a_fit(self):
+        """On row 1, too, whose state prices sum to two less than one."""
+        def points(*figures):
+            return [m.Point(row, m.DISCOUNT_FACTOR, figure) for row, figure in enumerate(figures, 1)]
+
+        for figures, beyond in (((1.1,), (1.100000001,)), ((1.0, 1.099999998), (1.0, 1.099999999))):
+            self.assertEqual(m.Tree(1, len(figures), 0, 0, points(*figures)).discounts[-1], 1_100_000_000)
+            self.refused(9, m.Tree, 1, len(beyond), 0, 0, points(*beyond))
+
     def test_every_row_reprices_its_quote(self):
         curve = falling(0.99, 60)
         tree = m.Tree(12, 60, 50, 10000, curve)

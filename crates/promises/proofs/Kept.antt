@@ -11,6 +11,8 @@ use Rattle.promises.proofs.KindsKept.{flows-kept, exercise-kept, listed
 use Rattle.promises.proofs.PayoffsKept.{weighed-kept, payoffs-kept}
 use Rattle.promises.proofs.FitStored.{fit-unaltered}
 use Rattle.promises.proofs.YieldsKept.{yields-kept}
+use Rattle.promises.proofs.QuotesKept.{quotes-kept}
+use Rattle.promises.proofs.CausesKept.{causes-kept}
 
 pub prices-kept : PricePromises
 prices-kept =
@@ -40,4 +42,4 @@ prices-kept =
     }
 
 pub promises-kept : Promises
-promises-kept = record { tree = tree-kept; prices = prices-kept; yields = yields-kept }
+promises-kept = record { quotes = quotes-kept; tree = tree-kept; prices = prices-kept; yields = yields-kept; causes = causes-kept }

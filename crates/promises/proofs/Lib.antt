@@ -1,3 +1,7 @@
+pub mod CauseTables
+pub mod QuoteCauses
+pub mod PriceCauses
+pub mod CausesKept
 pub mod BranchesKept
 pub mod FitRowsKept
 pub mod StatePricesKept
@@ -7,4 +11,5 @@ pub mod KindsKept
 pub mod PayoffsKept
 pub mod FitStored
 pub mod YieldsKept
+pub mod QuotesKept
 pub mod Kept

@@ -42,6 +42,8 @@ use Rattle.pricing_laws.specs.TreePricer.{engine, exact, greatestDiscount, pric
 use Rattle.pricing.specs.Prices.{flowAt, bondPrice, optionPrice, datedPrice}
 use Rattle.pricing.specs.Exact.{exactBond, exactOption, exactDated, exactPayoff}
 use Rattle.valuation.specs.Entries.{valueByStatePricesAnswer, valuationErrorBoundAnswer}
+use Rattle.promises.specs.Quoted.{QuotePromises}
+use Rattle.promises.specs.Causes.{CausePromises}
 
 -- ---- branching, spacing, factors, rates and fit
 
@@ -428,8 +430,10 @@ pub record YieldPromises : Type 0 where
   pub rates-signed : (v : ℕ) → continuousRateAnswer v .number ≡ 0 → continuousRateAnswer v .value ≢ pos 0 →
       SameSign (continuousRateAnswer v .value) (rateAnswer v .value)
 
--- All together, undivided.
+-- All together, undivided: with what a quote gives, and which entry gives which number.
 pub record Promises : Type 0 where
+  pub quotes : QuotePromises
   pub tree : TreePromises
   pub prices : PricePromises
   pub yields : YieldPromises
+  pub causes : CausePromises

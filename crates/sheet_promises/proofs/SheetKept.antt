@@ -48,6 +48,7 @@ use Rattle.sheet_laws.proofs.FittedLaws.{total-row}
 use Rattle.sheet_laws.proofs.Accepted.{AcceptedJob, sheet-accepted, job-accepted}
 use Rattle.promises.specs.Promises.{NoneAboveOne}
 use Rattle.promises.proofs.Kept.{promises-kept}
+use Rattle.sheet_promises.proofs.JobCausesKept.{job-causes-kept}
 use Rattle.sheet_promises.specs.SheetPromises.{NodeShown, RowShown, exactTagged, SheetShown, SheetPromises, PricesPromised, AllPromises}
 
 -- the sign of a printed rate
@@ -212,4 +213,5 @@ all-kept =
       records = record-kept;
       jobs = job-kept;
       sheets = λ bytes room z. (printed-whole bytes room z, sheet-kept bytes room z);
+      numbers = job-causes-kept;
     }

@@ -28,6 +28,7 @@ use Rattle.node_lines.specs.Rows.{nodeText}
 use Rattle.sheet_laws.specs.TreeSheet.{rowPart, nodeLines, rowLines, priceLines}
 use Rattle.sheet_laws.specs.WholeJob.{sheetNumber, sheetText, printedText}
 use Rattle.promises.specs.Promises.{Promises, Repriced, NoneAboveOne}
+use Rattle.sheet_promises.specs.JobCauses.{JobCauses}
 
 -- the line of node k of row i: its discount and the step rate of that discount, whose sign in the bytes is a minus exactly where the discount
 -- is above one
@@ -89,8 +90,8 @@ pub record PricesPromised (job : Job) (prices : JobPrices) : Type 0 where
   pub option-a-step :
       prices .«has_option» ≡ true → NoneAboveOne (job .steps) (job .reversion) (jobDiscounts job) → prices .option .bound ≤ 2 * job .steps
 
--- All together, undivided: tree, prices and yields; the prices of a record and of a job's bytes, in lent memories of so many numbers; the printed
--- bytes of the sheet, in a lent room of so many bytes.
+-- All together, undivided: quotes, tree, prices, yields and causes; the prices of a record and of a job's bytes, in lent memories of so many numbers; the
+-- printed bytes of the sheet, in a lent room of so many bytes; and the number that each of these has.
 pub record AllPromises : Type 0 where
   pub engine : Promises
   pub records : (job : Job) (discounts prices : ℕ) → recordPrices job discounts prices .number ≡ 0 →
@@ -98,3 +99,4 @@ pub record AllPromises : Type 0 where
   pub jobs : (bytes : List ℕ) (discounts prices : ℕ) → bytesPrices bytes discounts prices .number ≡ 0 →
       (readingOf bytes .number ≡ 0) × PricesPromised (readingOf bytes .job) (bytesPrices bytes discounts prices)
   pub sheets : (bytes : List ℕ) (room : ℕ) → sheetNumber bytes room ≡ 0 → (printedText bytes room ≡ sheetText bytes) × SheetPromises bytes
+  pub numbers : JobCauses
