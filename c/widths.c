@@ -81,7 +81,7 @@ static void answer_value(struct mixegorta_answer a) { answer(a.number, &a.value,
 static void answer_rate(struct mixegorta_rate r) { answer(r.number, (uint64_t[]){(uint64_t)r.value}, 1); }
 static void answer_price(struct mixegorta_price p) { answer(p.number, (uint64_t[]){p.value, p.bound}, 2); }
 
-static void answer_both(struct mixegorta_bond_and_option both) {
+static void answer_both(struct mixegorta_bond_and_option_prices both) {
     const struct mixegorta_price bond = both.bond, option = both.option;
     const uint64_t fields[] = {bond.number, bond.value, bond.bound, option.number, option.value, option.bound};
     for (size_t i = 0; i < 6; i++) add(&found, fields[i]);
@@ -102,7 +102,7 @@ static void discounts_needed(void) { answer_value(mixegorta_discounts_needed(num
 static void state_prices_needed(void) { answer_value(mixegorta_state_prices_needed(number(0), number(1))); }
 
 static void branches(void) {
-    struct mixegorta_branches b = mixegorta_branches(number(0), number(1), (int64_t)number(2));
+    struct mixegorta_node_branches b = mixegorta_branches(number(0), number(1), (int64_t)number(2));
     answer(b.number, (uint64_t[]){(uint64_t)b.lowest, b.probabilities[0], b.probabilities[1], b.probabilities[2]}, 4);
 }
 
@@ -128,7 +128,7 @@ static void fit(void) {
 }
 
 static void row_range(void) {
-    struct mixegorta_row_range r = mixegorta_row_range(LENT(0), LENT(1), number(2), number(3), number(4), number(5));
+    struct mixegorta_row_place r = mixegorta_row_range(LENT(0), LENT(1), number(2), number(3), number(4), number(5));
     add(&found, r.start);
     add(&found, r.count);
 }

@@ -231,7 +231,7 @@ ENTRIES = [
     entry(value_by_state_prices, ('state_prices', 'exact', [160_000_000, 640_000_000, 160_000_000]), ('payoffs', 'exact', [ONE, ONE // 2, 2 * ONE])),
     entry(valuation_error_bound, STEPS, REVERSION, LEVEL, ('row', 'number', 3), ('payoffs', 'exact', [ONE] * 7)),
 ]
-# A job is bytes, and the room for its sheet has one size: crates/sheet_cases has both. The version takes nothing.
+# A job is bytes, and the room for its sheet has one size: crates/sheet_cases has both. The version is asked for without arguments.
 WITHOUT_NUMBERS = {'sheet', 'version'}
 
 
@@ -305,7 +305,7 @@ def table():
 def declared(header):
     """The exports of the header by name, with the names of their arguments; the count that follows a pointer is none."""
     found = re.findall(r'\bmixegorta_(\w+)\(([^)]*)\);', re.sub(r'/\*.*?\*/', '', header, flags=re.S))
-    names = {name: [argument.split()[-1].lstrip('*') for argument in arguments.split(',')] for name, arguments in found}
+    names = {name: [argument.split()[-1].lstrip('*').partition('[')[0] for argument in arguments.split(',')] for name, arguments in found}
     return {name: [each for each in arguments if not each.endswith('_len')] for name, arguments in names.items()}
 
 
