@@ -6,15 +6,19 @@ use mathlib.Core.List.{List}
 use Prim.Native.Nat.{ℕ, suc, _+_, _-_, _*_, _/_, _≤_, _<_}
 use native.Mathlib.Nat.{mul-le-mul}
 use native.Mathlib.Omega.{arith}
-use lib.ListN.{length, take, drop}
+use lib.ListN.{length, take, drop, replicate}
 use lib.Dec.{eqb}
-use borrow.Author.Tests.{ne-eqb, eqb-true}
+use borrow.Author.Tests.{eq-eqb, ne-eqb, eqb-true}
 use Rattle.arithmetic.specs.Rounding.{one, roundUp}
 use Rattle.arithmetic.specs.Row.{values}
 use Rattle.arithmetic.specs.Sum.{greatest}
+use Rattle.arithmetic.specs.declared.Answer.{Answer}
 use Rattle.arithmetic.specs.Answers.{refused, answered}
+use Rattle.arithmetic.proofs.RowLaws.{Filled}
+use Rattle.arithmetic.proofs.PaddedLaws.{filled-padded}
 use Rattle.arithmetic.proofs.SumLaws.{greatest-le, greatest-cong}
 use Rattle.arithmetic.proofs.PartLaws.{part-is, part-value, part-length}
+use Rattle.limits.specs.Limits.{mostSteps}
 use Rattle.lattice.specs.Shape.{nodeCount, rowStart}
 use Rattle.lattice.specs.RateTree.{rateTree}
 use Rattle.lattice.specs.declared.RowShape.{RowShape}
@@ -25,7 +29,8 @@ use Rattle.lent_tree.specs.LentTree.{stored, Accepted, discountsCause}
 use Rattle.pricing_laws.specs.TreePricer.{rollLoss, greatestDiscount, priceErrorBound}
 use Rattle.pricing_laws.proofs.PriceLaws.{error-bound-small}
 use Rattle.pricing_laws.proofs.Recurrences.{error-bound-last, error-bound-before}
-use Rattle.price_bound.specs.PriceBound.{treeErrorBound, priceErrorBoundAnswer}
+use Rattle.price_bound.specs.declared.TreeBounds.{TreeBounds}
+use Rattle.price_bound.specs.PriceBound.{treeErrorBound, priceErrorBoundAnswer, greatestDiscounts, treeBoundsAnswer}
 
 pub discount-within :
     (n b i : ℕ) → i < n → (discounts : List ℕ) → Accepted n b discounts → (k : ℕ) → k < nodeCount b i → stored b discounts i k ≤ 1100000000
@@ -126,3 +131,41 @@ module _ (n b : ℕ) (discounts : List ℕ) where
           cond t (answered (treeErrorBound n b discounts)) (refused (discountsCause n b discounts)) .number ≡ discountsCause n b discounts
       go true e = sym (eqb-true (discountsCause n b discounts) 0 e)
       go false e = refl
+
+  -- the error bound with the greatest discounts of the rows
+  module _ (found : Answer) (e : found ≡ priceErrorBoundAnswer n b discounts) where
+    found-cause : found .number ≡ discountsCause n b discounts
+    found-cause = ap (λ (a : Answer). a .number) e ∙ bound-number
+
+    pub bounds-refused : (rows : List ℕ) → (found .number ≡ 0 → ⊥) → rows ≡ replicate mostSteps 0 →
+        _≡_ {A = TreeBounds} (record { number = found .number; bound = 0; greatest = rows }) (treeBoundsAnswer n b discounts)
+    unfolding treeBoundsAnswer
+    bounds-refused rows z h = rw (h, ← found-cause, ne-eqb (found .number) 0 z)
+
+    module _ (z : found .number ≡ 0) where
+      pub bounds-none : discountsCause n b discounts ≡ 0
+      bounds-none = sym found-cause ∙ z
+
+      found-value : found .value ≡ treeErrorBound n b discounts
+      unfolding priceErrorBoundAnswer
+      found-value = ap (λ (a : Answer). a .value) e ∙ rw (eq-eqb (discountsCause n b discounts) 0 bounds-none)
+
+      pub bounds-given : (rows : List ℕ) → rows ≡ greatestDiscounts n b discounts →
+          _≡_ {A = TreeBounds} (record { number = 0; bound = found .value; greatest = rows }) (treeBoundsAnswer n b discounts)
+      unfolding treeBoundsAnswer
+      bounds-given rows h = rw (h, found-value, eq-eqb (discountsCause n b discounts) 0 bounds-none)
+
+  -- what it says of an accepted tree
+  module _ (z : discountsCause n b discounts ≡ 0) where
+    pub bounds-bound : treeBoundsAnswer n b discounts .bound ≡ treeErrorBound n b discounts
+    unfolding treeBoundsAnswer
+    bounds-bound = rw (eq-eqb (discountsCause n b discounts) 0 z)
+
+    pub bounds-greatest : treeBoundsAnswer n b discounts .greatest ≡ greatestDiscounts n b discounts
+    unfolding treeBoundsAnswer
+    bounds-greatest = rw (eq-eqb (discountsCause n b discounts) 0 z)
+
+pub rows-filled : (n b : ℕ) (discounts l : List ℕ) → Filled (replicate mostSteps 0) l (greatestDiscount (rateTree b) (stored b discounts)) n →
+    l ≡ greatestDiscounts n b discounts
+unfolding greatestDiscounts
+rows-filled n b discounts l h = filled-padded mostSteps l n _ h

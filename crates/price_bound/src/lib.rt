@@ -1,12 +1,33 @@
-// How far the prices on a tree may be from the exact ones, from its lent discounts.
+// How far the prices on a tree may be from the exact ones, and the greatest discounts of its rows, from its lent discounts.
 use arithmetic::Answer;
 ghost use mathlib.Core.Path.{_≡_};
 ghost use Prim.Native.Nat.{_*_, _+_, _<_, _≤_};
 ghost use Rattle.arithmetic.specs.Rounding.{roundUp};
+ghost use lib.ListN.{replicate};
+ghost use Rattle.limits.specs.Limits.{mostSteps};
 ghost use Rattle.lattice.specs.RateTree.{rateTree};
 ghost use Rattle.lent_tree.specs.LentTree.{stored, Accepted};
 ghost use Rattle.pricing_laws.specs.TreePricer.{greatestDiscount, rollLoss};
-ghost use Rattle.price_bound.specs.PriceBound.{treeErrorBound, priceErrorBoundAnswer};
+ghost use Rattle.price_bound.specs.PriceBound.{treeErrorBound, priceErrorBoundAnswer, greatestDiscounts, treeBoundsAnswer};
+
+// What is known of a tree: its error bound, and the greatest discount of each row, 0 for rows that the tree has not; a refusal's number with zeros.
+#[repr(C)]
+pub struct TreeBounds {
+    pub number: u64,
+    pub bound: u64,
+    pub greatest: [u64; 60],
+}
+
+// The greatest discount of a row.
+fn row_greatest(steps: usize, reversion: u64, row: usize, discounts: &[u64]) -> u64
+    requires { ⌜ Accepted steps reversion (now discounts) × (row < steps) ⌝ }
+    ensures { λ r. ⌜ r ≡ greatestDiscount (rateTree reversion) (stored reversion (now (discounts .entry))) row ⌝ }
+{
+    let shape = lattice::row_shape(reversion, steps, row);
+    let start = shape.start;
+    let end = start + shape.count;
+    arithmetic::greatest_of(&discounts[start..end])
+}
 
 // The error bound of a row from the later one.
 fn bound_step(steps: usize, reversion: u64, row: usize, discounts: &[u64], later: u64) -> u64
@@ -14,10 +35,7 @@ fn bound_step(steps: usize, reversion: u64, row: usize, discounts: &[u64], later
     ensures { λ r. ⌜ r ≡ roundUp (greatestDiscount (rateTree reversion) (stored reversion (now (discounts .entry))) row * later) 1000000000
         + rollLoss ⌝ }
 {
-    let shape = lattice::row_shape(reversion, steps, row);
-    let start = shape.start;
-    let end = start + shape.count;
-    let greatest = arithmetic::greatest_of(&discounts[start..end]);
+    let greatest = row_greatest(steps, reversion, row, discounts);
     (greatest * later + 999_999_999) / 1_000_000_000 + 2
 }
 
@@ -48,5 +66,46 @@ pub fn price_error_bound(steps: usize, reversion: u64, discounts: &[u64]) -> Ans
     Answer {
         number: 0,
         value: error_bound(steps, reversion, discounts),
+    }
+}
+
+// Zeros, made apart so that no proof above sees them one by one.
+fn no_rows() -> [u64; 60]
+    ensures { λ r. ⌜ r ≡ replicate mostSteps 0 ⌝ }
+{
+    [0u64; 60]
+}
+
+fn greatest_rows(steps: usize, reversion: u64, discounts: &[u64]) -> [u64; 60]
+    requires { ⌜ Accepted steps reversion (now discounts) ⌝ }
+    ensures { λ r. ⌜ r ≡ greatestDiscounts steps reversion (now (discounts .entry)) ⌝ }
+{
+    let mut rows = no_rows();
+    let mut row: usize = 0;
+    while row < steps {
+        rows[row] = row_greatest(steps, reversion, row, discounts);
+        row += 1;
+    }
+    rows
+}
+
+// The same error bound with the greatest discounts of the rows; 3, 4, 6 or 9 where the tree is refused.
+pub fn tree_bounds(steps: usize, reversion: u64, discounts: &[u64]) -> TreeBounds
+    ensures { λ r. ⌜ r ≡ treeBoundsAnswer steps reversion (now (discounts .entry)) ⌝ }
+{
+    let found = price_error_bound(steps, reversion, discounts);
+    if found.number != 0 {
+        let none = no_rows();
+        return TreeBounds {
+            number: found.number,
+            bound: 0,
+            greatest: none,
+        };
+    }
+    let rows = greatest_rows(steps, reversion, discounts);
+    TreeBounds {
+        number: 0,
+        bound: found.value,
+        greatest: rows,
     }
 }
