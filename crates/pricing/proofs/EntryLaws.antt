@@ -29,8 +29,9 @@ use Rattle.pricing_laws.specs.Schedule.{lastDate, datedSchedule, marked}
 use Rattle.pricing_laws.specs.TreePricer.{engine}
 use Rattle.pricing_laws.specs.Peak.{peak, greatestValue}
 use Rattle.pricing_laws.proofs.Schedules.{Alike, option-alike}
+use Rattle.exercise.specs.declared.Terms.{Terms}
 use Rattle.exercise_dates.specs.Dates.{marksOf}
-use Rattle.exercise_dates.proofs.DateLaws.{dates-alike}
+use Rattle.exercise_dates.proofs.DateLaws.{dates-alike, marks-room}
 use Rattle.price_bound.specs.PriceBound.{treeErrorBound, priceErrorBoundAnswer}
 use Rattle.price_bound.proofs.BoundLaws.{bound-number}
 use Rattle.price_causes.specs.Causes.{AcceptedFlows, flowsCause}
@@ -38,10 +39,10 @@ use Rattle.price_causes.proofs.CheckLaws.{flows-accepted}
 use Rattle.pricing.specs.declared.Price.{Price}
 use Rattle.pricing.specs.declared.BondAndOption.{BondAndOption}
 use Rattle.pricing.specs.declared.walk.Rolled.{Rolled}
-use Rattle.pricing.specs.Prices.{flowAt, treeCause, firstCause, refusedPrice, priced}
+use Rattle.pricing.specs.Prices.{flowAt, treeCause, firstCause, refusedPrice, priced, withBound}
 use Rattle.pricing.specs.Prices.{bondPeak, acceptedBond, bondPrice}
 use Rattle.pricing.specs.Prices.{optionValue, optionPeak, optionLimit, acceptedOption, scheduledPrice}
-use Rattle.pricing.specs.Trees.{downTable, treeBound, BondRolled, BothRolled}
+use Rattle.pricing.specs.Trees.{downTable, treeBound, Exercisable, ExercisedOn, BondRolled, BothRolled}
 use Rattle.pricing.proofs.TreeRows.{table-size}
 
 -- what the lattice answers about row n
@@ -239,3 +240,65 @@ module _ (n b : ℕ) (discounts flows : List ℕ) where
 -- bond and option, each as it should be
 pub both-are : (r : BondAndOption) (bond option : Price) → r .bond ≡ bond → r .option ≡ option → r ≡ record { bond = bond; option = option }
 both-are r bond option eb eo = ap₂ {C = BondAndOption} (λ (x y : Price). record { bond = x; option = y }) eb eo
+
+-- an option on listed rows, with the marks that the code makes of them
+pub marks-exercisable : (terms : Terms) (n : ℕ) (dates marks : List ℕ) → ExercisedOn terms n dates → n ≤ mostSteps → marks ≡ marksOf dates →
+    Exercisable terms n marks
+marks-exercisable terms n dates marks on few e =
+    record {
+      last-inside = omega (arith, on .last-listed, on .before-end);
+      marked-rows = omega (arith, on .last-listed, marks-room dates marks e (omega (arith, on .before-end)));
+      strike-most = on .strike-within;
+    }
+
+-- ---- answers with an error bound that is handed in
+module _ (p : Price) (e : ℕ) where
+  pub bounded-left : (p .number ≡ 0 → ⊥) → p ≡ withBound p e
+  unfolding withBound
+  bounded-left z = rw (ne-eqb (p .number) 0 z)
+
+  pub bounded-given : p .number ≡ 0 → _≡_ {A = Price} (record { number = 0; value = p .value; bound = e }) (withBound p e)
+  unfolding withBound
+  bounded-given z = rw (eq-eqb (p .number) 0 z)
+
+bounded-priced : (cause v e bound : ℕ) → priced cause v bound ≡ withBound (priced cause v e) bound
+unfolding priced withBound
+bounded-priced cause v e bound =
+    by-equal cause 0
+    (λ (z : cause ≡ 0). rw (eq-eqb cause 0 z))
+    (λ (z : cause ≡ 0 → ⊥). rw (ne-eqb cause 0 z, ne-eqb cause 0 z))
+
+module _ (n b : ℕ) (discounts flows : List ℕ) (e : ℕ) where
+  -- no cause about a tree and its flows: both are accepted
+  module _ (z : treeCause n b discounts flows ≡ 0) where
+    no-causes : (discountsCause n b discounts ≡ 0) × (flowsCause n flows ≡ 0)
+    unfolding treeCause
+    no-causes = lowest-none (discountsCause n b discounts) (flowsCause n flows) z
+
+    pub cause-accepted : Accepted n b discounts
+    cause-accepted = accepted n b discounts (no-causes .0)
+
+    pub cause-paid : AcceptedFlows n flows
+    cause-paid = flows-accepted n flows (no-causes .1)
+
+  pub bond-bounded-cause : (c : ℕ) → c ≡ treeCause n b discounts flows → (c ≡ 0 → ⊥) → refusedPrice c ≡ withBound (bondPrice n b discounts flows) e
+  unfolding bondPrice
+  bond-bounded-cause c ec z = refused-first c _ _ _ e ec z ∙ bounded-priced _ _ _ e
+
+  pub bond-bounded-is : (p : Price) → p ≡ acceptedBond n b discounts flows e → treeCause n b discounts flows ≡ 0 →
+      p ≡ withBound (bondPrice n b discounts flows) e
+  unfolding bondPrice
+  bond-bounded-is p h z = h ∙ passed-first _ _ _ e z ∙ bounded-priced _ _ _ e
+
+  module _ (side : Side) (strike : ℕ) (rows : Schedule) (cause : ℕ) where
+    pub option-bounded-tree : (c : ℕ) → c ≡ treeCause n b discounts flows → (c ≡ 0 → ⊥) →
+        refusedPrice c ≡ withBound (scheduledPrice n b discounts flows side strike rows cause) e
+    option-bounded-tree c ec z = refused-first c _ _ _ e ec z ∙ bounded-priced _ _ _ e
+
+    module _ (z : treeCause n b discounts flows ≡ 0) where
+      pub option-bounded-cause : (cause ≡ 0 → ⊥) → refusedPrice cause ≡ withBound (scheduledPrice n b discounts flows side strike rows cause) e
+      option-bounded-cause nz = refused-first cause _ _ _ e refl nz ∙ passed-first _ _ _ e z ∙ bounded-priced _ _ _ e
+
+      pub option-bounded-is : cause ≡ 0 → (p : Price) → p ≡ acceptedOption n b discounts flows side strike rows e →
+          p ≡ withBound (scheduledPrice n b discounts flows side strike rows cause) e
+      option-bounded-is none p ep = ep ∙ passed-first _ _ _ e none ∙ passed-first _ _ _ e z ∙ bounded-priced _ _ _ e

@@ -39,6 +39,10 @@ refusedPrice number = record { number = number; value = 0; bound = 0 }
 unfoldable pub priced : ℕ → ℕ → ℕ → Price
 priced number price bound = cond (eqb number 0) (record { number = 0; value = price; bound = bound }) (refusedPrice number)
 
+-- a price that is given, with another error bound; a refusal as it is
+unfoldable pub withBound : Price → ℕ → Price
+withBound price bound = cond (eqb (price .number) 0) (record { number = 0; value = price .value; bound = bound }) price
+
 -- ---- the bond
 
 -- the engine's bond at node k of row i

@@ -24,6 +24,9 @@ ghost use Rattle.pricing.specs.Prices.{
   bondAndOption,
   datedPrice,
   bondAndDatedOption,
+  treeCause,
+  withBound,
+  scheduledPrice,
 };
 ghost use Rattle.pricing.specs.Trees.{downTable, treeBound, Exercisable, ExercisedOn, BothPriced};
 
@@ -277,4 +280,118 @@ pub fn dated_option_price(
 {
     let both = bond_and_dated_option(steps, reversion, discounts, flows, side, dates, strike);
     both.option
+}
+
+// ---- prices on a tree whose error bound is known already: the same answers, with the bound that is handed in
+
+// The first cause about a tree and its flows.
+fn tree_cause(steps: usize, reversion: u64, discounts: &[u64], flows: &[u64]) -> u64
+    ensures { λ r. ⌜ r ≡ treeCause steps reversion (now (discounts .entry)) (now (flows .entry)) ⌝ }
+{
+    let about_tree = lent_tree::discounts_cause(steps, reversion, discounts);
+    let about_flows = price_causes::flows_cause(steps, flows);
+    arithmetic::lowest_cause(about_tree, about_flows)
+}
+
+// As `bond_price`.
+pub fn bond_price_bounded(
+    steps: usize,
+    reversion: u64,
+    discounts: &[u64],
+    flows: &[u64],
+    bound: u64,
+) -> Price
+    ensures { λ r. ⌜ r ≡ withBound (bondPrice steps reversion (now (discounts .entry)) (now (flows .entry))) bound ⌝ }
+{
+    let cause = tree_cause(steps, reversion, discounts, flows);
+    if cause != 0 {
+        return refused(cause);
+    }
+    accepted_bond(steps, reversion, discounts, flows, bound)
+}
+
+// An option on these dates, where the option itself has a cause or none.
+fn option_bounded(
+    steps: usize,
+    reversion: u64,
+    discounts: &[u64],
+    flows: &[u64],
+    cause: u64,
+    terms: Terms,
+    dates: &[u8],
+    bound: u64,
+) -> Price
+    requires { ⌜ (cause ≡ 0 → steps ≤ mostSteps → ExercisedOn terms steps (now dates)) ⌝ }
+    ensures { λ r. ⌜ r ≡ withBound (scheduledPrice steps reversion (now (discounts .entry)) (now (flows .entry)) (side (terms .call)) (terms .strike)
+        (datedSchedule (now (dates .entry))) cause) bound ⌝ }
+{
+    let about_tree = tree_cause(steps, reversion, discounts, flows);
+    if about_tree != 0 {
+        return refused(about_tree);
+    }
+    if cause != 0 {
+        return refused(cause);
+    }
+    let marks = exercise_dates::marks_of(dates);
+    let both = accepted_both(steps, reversion, discounts, flows, terms, &marks, bound);
+    both.option
+}
+
+// As `option_price`.
+pub fn option_price_bounded(
+    steps: usize,
+    reversion: u64,
+    discounts: &[u64],
+    flows: &[u64],
+    kind: u64,
+    expiry: usize,
+    strike: u64,
+    bound: u64,
+) -> Price
+    ensures { λ r. ⌜ r ≡ withBound (optionPrice steps reversion (now (discounts .entry)) (now (flows .entry)) kind expiry strike) bound ⌝ }
+{
+    let cause = price_causes::option_cause(steps, kind, expiry, strike);
+    let terms = exercise::terms_of(kind, expiry, strike);
+    let dates = exercise_dates::dates_of_kind(kind, expiry);
+    let rows = dates.rows;
+    let count = dates.count;
+    option_bounded(
+        steps,
+        reversion,
+        discounts,
+        flows,
+        cause,
+        terms,
+        &rows[..count],
+        bound,
+    )
+}
+
+// As `dated_option_price`.
+pub fn dated_option_price_bounded(
+    steps: usize,
+    reversion: u64,
+    discounts: &[u64],
+    flows: &[u64],
+    side: u64,
+    dates: &[u8],
+    strike: u64,
+    bound: u64,
+) -> Price
+    ensures { λ r. ⌜ r ≡ withBound (datedPrice steps reversion (now (discounts .entry)) (now (flows .entry)) side (now (dates .entry)) strike) bound ⌝ }
+{
+    let of_terms = price_causes::terms_cause(side, strike);
+    let of_dates = exercise_dates::dates_cause(steps, dates);
+    let cause = arithmetic::lowest_cause(of_terms, of_dates);
+    let terms = exercise_dates::terms_on(side, dates, strike);
+    option_bounded(
+        steps,
+        reversion,
+        discounts,
+        flows,
+        cause,
+        terms,
+        dates,
+        bound,
+    )
 }
