@@ -38,8 +38,9 @@ use Rattle.price_causes.specs.Causes.{AcceptedFlows, flowsCause}
 use Rattle.price_causes.proofs.CheckLaws.{flows-accepted}
 use Rattle.pricing.specs.declared.Price.{Price}
 use Rattle.pricing.specs.declared.BondAndOption.{BondAndOption}
+use Rattle.pricing.specs.declared.BondAndOptionValues.{BondAndOptionValues}
 use Rattle.pricing.specs.declared.walk.Rolled.{Rolled}
-use Rattle.pricing.specs.Prices.{flowAt, treeCause, firstCause, refusedPrice, priced, withBound}
+use Rattle.pricing.specs.Prices.{flowAt, treeCause, firstCause, refusedPrice, priced, valueAlone}
 use Rattle.pricing.specs.Prices.{bondPeak, acceptedBond, bondPrice}
 use Rattle.pricing.specs.Prices.{optionValue, optionPeak, optionLimit, acceptedOption, scheduledPrice}
 use Rattle.pricing.specs.Trees.{downTable, treeBound, Exercisable, ExercisedOn, BondRolled, BothRolled}
@@ -241,6 +242,9 @@ module _ (n b : ℕ) (discounts flows : List ℕ) where
 pub both-are : (r : BondAndOption) (bond option : Price) → r .bond ≡ bond → r .option ≡ option → r ≡ record { bond = bond; option = option }
 both-are r bond option eb eo = ap₂ {C = BondAndOption} (λ (x y : Price). record { bond = x; option = y }) eb eo
 
+pub values-are : (r : BondAndOptionValues) (bond option : Answer) → r .bond ≡ bond → r .option ≡ option → r ≡ record { bond = bond; option = option }
+values-are r bond option eb eo = ap₂ {C = BondAndOptionValues} (λ (x y : Answer). record { bond = x; option = y }) eb eo
+
 -- an option on listed rows, with the marks that the code makes of them
 pub marks-exercisable : (terms : Terms) (n : ℕ) (dates marks : List ℕ) → ExercisedOn terms n dates → n ≤ mostSteps → marks ≡ marksOf dates →
     Exercisable terms n marks
@@ -251,24 +255,15 @@ marks-exercisable terms n dates marks on few e =
       strike-most = on .strike-within;
     }
 
--- ---- answers with an error bound that is handed in
-module _ (p : Price) (e : ℕ) where
-  pub bounded-left : (p .number ≡ 0 → ⊥) → p ≡ withBound p e
-  unfolding withBound
-  bounded-left z = rw (ne-eqb (p .number) 0 z)
-
-  pub bounded-given : p .number ≡ 0 → _≡_ {A = Price} (record { number = 0; value = p .value; bound = e }) (withBound p e)
-  unfolding withBound
-  bounded-given z = rw (eq-eqb (p .number) 0 z)
-
-bounded-priced : (cause v e bound : ℕ) → priced cause v bound ≡ withBound (priced cause v e) bound
-unfolding priced withBound
-bounded-priced cause v e bound =
+-- ---- values alone: a price without its error bound
+value-priced : (cause v e bound : ℕ) → valueAlone (priced cause v e) ≡ valueAlone (priced cause v bound)
+unfolding priced
+value-priced cause v e bound =
     by-equal cause 0
     (λ (z : cause ≡ 0). rw (eq-eqb cause 0 z))
-    (λ (z : cause ≡ 0 → ⊥). rw (ne-eqb cause 0 z, ne-eqb cause 0 z))
+    (λ (z : cause ≡ 0 → ⊥). rw (ne-eqb cause 0 z))
 
-module _ (n b : ℕ) (discounts flows : List ℕ) (e : ℕ) where
+module _ (n b : ℕ) (discounts flows : List ℕ) where
   -- no cause about a tree and its flows: both are accepted
   module _ (z : treeCause n b discounts flows ≡ 0) where
     no-causes : (discountsCause n b discounts ≡ 0) × (flowsCause n flows ≡ 0)
@@ -281,24 +276,26 @@ module _ (n b : ℕ) (discounts flows : List ℕ) (e : ℕ) where
     pub cause-paid : AcceptedFlows n flows
     cause-paid = flows-accepted n flows (no-causes .1)
 
-  pub bond-bounded-cause : (c : ℕ) → c ≡ treeCause n b discounts flows → (c ≡ 0 → ⊥) → refusedPrice c ≡ withBound (bondPrice n b discounts flows) e
+  pub bond-value-cause : (p : Price) (c : ℕ) → p ≡ refusedPrice c → c ≡ treeCause n b discounts flows → (c ≡ 0 → ⊥) →
+      valueAlone p ≡ valueAlone (bondPrice n b discounts flows)
   unfolding bondPrice
-  bond-bounded-cause c ec z = refused-first c _ _ _ e ec z ∙ bounded-priced _ _ _ e
+  bond-value-cause p c ep ec z = ap valueAlone (ep ∙ refused-first c _ _ _ 0 ec z) ∙ value-priced _ _ 0 _
 
-  pub bond-bounded-is : (p : Price) → p ≡ acceptedBond n b discounts flows e → treeCause n b discounts flows ≡ 0 →
-      p ≡ withBound (bondPrice n b discounts flows) e
+  pub bond-value-is : (p : Price) → p ≡ acceptedBond n b discounts flows 0 → treeCause n b discounts flows ≡ 0 →
+      valueAlone p ≡ valueAlone (bondPrice n b discounts flows)
   unfolding bondPrice
-  bond-bounded-is p h z = h ∙ passed-first _ _ _ e z ∙ bounded-priced _ _ _ e
+  bond-value-is p h z = ap valueAlone (h ∙ passed-first _ _ _ 0 z) ∙ value-priced _ _ 0 _
 
   module _ (side : Side) (strike : ℕ) (rows : Schedule) (cause : ℕ) where
-    pub option-bounded-tree : (c : ℕ) → c ≡ treeCause n b discounts flows → (c ≡ 0 → ⊥) →
-        refusedPrice c ≡ withBound (scheduledPrice n b discounts flows side strike rows cause) e
-    option-bounded-tree c ec z = refused-first c _ _ _ e ec z ∙ bounded-priced _ _ _ e
+    pub option-value-tree : (p : Price) (c : ℕ) → p ≡ refusedPrice c → c ≡ treeCause n b discounts flows → (c ≡ 0 → ⊥) →
+        valueAlone p ≡ valueAlone (scheduledPrice n b discounts flows side strike rows cause)
+    option-value-tree p c ep ec z = ap valueAlone (ep ∙ refused-first c _ _ _ 0 ec z) ∙ value-priced _ _ 0 _
 
     module _ (z : treeCause n b discounts flows ≡ 0) where
-      pub option-bounded-cause : (cause ≡ 0 → ⊥) → refusedPrice cause ≡ withBound (scheduledPrice n b discounts flows side strike rows cause) e
-      option-bounded-cause nz = refused-first cause _ _ _ e refl nz ∙ passed-first _ _ _ e z ∙ bounded-priced _ _ _ e
+      pub option-value-cause : (p : Price) → p ≡ refusedPrice cause → (cause ≡ 0 → ⊥) →
+          valueAlone p ≡ valueAlone (scheduledPrice n b discounts flows side strike rows cause)
+      option-value-cause p ep nz = ap valueAlone (ep ∙ refused-first cause _ _ _ 0 refl nz ∙ passed-first _ _ _ 0 z) ∙ value-priced _ _ 0 _
 
-      pub option-bounded-is : cause ≡ 0 → (p : Price) → p ≡ acceptedOption n b discounts flows side strike rows e →
-          p ≡ withBound (scheduledPrice n b discounts flows side strike rows cause) e
-      option-bounded-is none p ep = ep ∙ passed-first _ _ _ e none ∙ passed-first _ _ _ e z ∙ bounded-priced _ _ _ e
+      pub option-value-is : cause ≡ 0 → (p : Price) → p ≡ acceptedOption n b discounts flows side strike rows 0 →
+          valueAlone p ≡ valueAlone (scheduledPrice n b discounts flows side strike rows cause)
+      option-value-is none p ep = ap valueAlone (ep ∙ passed-first _ _ _ 0 none ∙ passed-first _ _ _ 0 z) ∙ value-priced _ _ 0 _

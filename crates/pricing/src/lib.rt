@@ -25,8 +25,9 @@ ghost use Rattle.pricing.specs.Prices.{
   datedPrice,
   bondAndDatedOption,
   treeCause,
-  withBound,
   scheduledPrice,
+  valueAlone,
+  bothValues,
 };
 ghost use Rattle.pricing.specs.Trees.{downTable, treeBound, Exercisable, ExercisedOn, BothPriced};
 
@@ -43,6 +44,12 @@ pub struct Price {
 pub struct BondAndOption {
     pub bond: Price,
     pub option: Price,
+}
+
+// The same without their error bounds.
+pub struct BondAndOptionValues {
+    pub bond: Answer,
+    pub option: Answer,
 }
 
 fn refused(number: u64) -> Price
@@ -282,7 +289,7 @@ pub fn dated_option_price(
     both.option
 }
 
-// ---- prices on a tree whose error bound is known already: the same answers, with the bound that is handed in
+// ---- values alone, for a caller who knows the tree's error bound: number and value of each price, which the bound does not enter
 
 // The first cause about a tree and its flows.
 fn tree_cause(steps: usize, reversion: u64, discounts: &[u64], flows: &[u64]) -> u64
@@ -293,25 +300,28 @@ fn tree_cause(steps: usize, reversion: u64, discounts: &[u64], flows: &[u64]) ->
     arithmetic::lowest_cause(about_tree, about_flows)
 }
 
+fn value_of(price: Price) -> Answer
+    ensures { λ r. ⌜ r ≡ valueAlone price ⌝ }
+{
+    Answer {
+        number: price.number,
+        value: price.value,
+    }
+}
+
 // As `bond_price`.
-pub fn bond_price_bounded(
-    steps: usize,
-    reversion: u64,
-    discounts: &[u64],
-    flows: &[u64],
-    bound: u64,
-) -> Price
-    ensures { λ r. ⌜ r ≡ withBound (bondPrice steps reversion (now (discounts .entry)) (now (flows .entry))) bound ⌝ }
+pub fn bond_value(steps: usize, reversion: u64, discounts: &[u64], flows: &[u64]) -> Answer
+    ensures { λ r. ⌜ r ≡ valueAlone (bondPrice steps reversion (now (discounts .entry)) (now (flows .entry))) ⌝ }
 {
     let cause = tree_cause(steps, reversion, discounts, flows);
     if cause != 0 {
-        return refused(cause);
+        return value_of(refused(cause));
     }
-    accepted_bond(steps, reversion, discounts, flows, bound)
+    value_of(accepted_bond(steps, reversion, discounts, flows, 0))
 }
 
-// An option on these dates, where the option itself has a cause or none.
-fn option_bounded(
+// Bond and option on these dates, where the option itself has a cause or none, with 0 for the error bound.
+fn both_unbounded(
     steps: usize,
     reversion: u64,
     discounts: &[u64],
@@ -319,26 +329,31 @@ fn option_bounded(
     cause: u64,
     terms: Terms,
     dates: &[u8],
-    bound: u64,
-) -> Price
+) -> BondAndOption
     requires { ⌜ (cause ≡ 0 → steps ≤ mostSteps → ExercisedOn terms steps (now dates)) ⌝ }
-    ensures { λ r. ⌜ r ≡ withBound (scheduledPrice steps reversion (now (discounts .entry)) (now (flows .entry)) (side (terms .call)) (terms .strike)
-        (datedSchedule (now (dates .entry))) cause) bound ⌝ }
+    ensures bond { λ r. ⌜ valueAlone (r .bond) ≡ valueAlone (bondPrice steps reversion (now (discounts .entry)) (now (flows .entry))) ⌝ }
+    ensures option { λ r. ⌜ valueAlone (r .option) ≡ valueAlone (scheduledPrice steps reversion (now (discounts .entry)) (now (flows .entry))
+        (side (terms .call)) (terms .strike) (datedSchedule (now (dates .entry))) cause) ⌝ }
 {
     let about_tree = tree_cause(steps, reversion, discounts, flows);
     if about_tree != 0 {
-        return refused(about_tree);
+        return BondAndOption {
+            bond: refused(about_tree),
+            option: refused(about_tree),
+        };
     }
     if cause != 0 {
-        return refused(cause);
+        return BondAndOption {
+            bond: accepted_bond(steps, reversion, discounts, flows, 0),
+            option: refused(cause),
+        };
     }
     let marks = exercise_dates::marks_of(dates);
-    let both = accepted_both(steps, reversion, discounts, flows, terms, &marks, bound);
-    both.option
+    accepted_both(steps, reversion, discounts, flows, terms, &marks, 0)
 }
 
-// As `option_price`.
-pub fn option_price_bounded(
+// As `bond_and_option`.
+pub fn bond_and_option_values(
     steps: usize,
     reversion: u64,
     discounts: &[u64],
@@ -346,16 +361,15 @@ pub fn option_price_bounded(
     kind: u64,
     expiry: usize,
     strike: u64,
-    bound: u64,
-) -> Price
-    ensures { λ r. ⌜ r ≡ withBound (optionPrice steps reversion (now (discounts .entry)) (now (flows .entry)) kind expiry strike) bound ⌝ }
+) -> BondAndOptionValues
+    ensures { λ r. ⌜ r ≡ bothValues (bondAndOption steps reversion (now (discounts .entry)) (now (flows .entry)) kind expiry strike) ⌝ }
 {
     let cause = price_causes::option_cause(steps, kind, expiry, strike);
     let terms = exercise::terms_of(kind, expiry, strike);
     let dates = exercise_dates::dates_of_kind(kind, expiry);
     let rows = dates.rows;
     let count = dates.count;
-    option_bounded(
+    let both = both_unbounded(
         steps,
         reversion,
         discounts,
@@ -363,12 +377,15 @@ pub fn option_price_bounded(
         cause,
         terms,
         &rows[..count],
-        bound,
-    )
+    );
+    BondAndOptionValues {
+        bond: value_of(both.bond),
+        option: value_of(both.option),
+    }
 }
 
-// As `dated_option_price`.
-pub fn dated_option_price_bounded(
+// As `bond_and_dated_option`.
+pub fn bond_and_dated_option_values(
     steps: usize,
     reversion: u64,
     discounts: &[u64],
@@ -376,22 +393,16 @@ pub fn dated_option_price_bounded(
     side: u64,
     dates: &[u8],
     strike: u64,
-    bound: u64,
-) -> Price
-    ensures { λ r. ⌜ r ≡ withBound (datedPrice steps reversion (now (discounts .entry)) (now (flows .entry)) side (now (dates .entry)) strike) bound ⌝ }
+) -> BondAndOptionValues
+    ensures { λ r. ⌜ r ≡ bothValues (bondAndDatedOption steps reversion (now (discounts .entry)) (now (flows .entry)) side (now (dates .entry)) strike) ⌝ }
 {
     let of_terms = price_causes::terms_cause(side, strike);
     let of_dates = exercise_dates::dates_cause(steps, dates);
     let cause = arithmetic::lowest_cause(of_terms, of_dates);
     let terms = exercise_dates::terms_on(side, dates, strike);
-    option_bounded(
-        steps,
-        reversion,
-        discounts,
-        flows,
-        cause,
-        terms,
-        dates,
-        bound,
-    )
+    let both = both_unbounded(steps, reversion, discounts, flows, cause, terms, dates);
+    BondAndOptionValues {
+        bond: value_of(both.bond),
+        option: value_of(both.option),
+    }
 }

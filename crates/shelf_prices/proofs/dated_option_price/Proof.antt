@@ -1,9 +1,10 @@
 -- `shelf_prices::dated_option_price` meets its contract.
 -- Assumes nothing.
 use Prim.Native.Nat.{ℕ}
-use mathlib.Core.Path.{_∙_}
+use mathlib.Core.Path.{ap, _∙_}
 use mathlib.Core.List.{List}
 use native.Mathlib.Omega.{arith}
+use Rattle.pricing.specs.declared.BondAndOptionValues.{BondAndOptionValues}
 use Rattle.pricing.specs.Prices.{datedPrice}
 use Rattle.shelf_laws.proofs.NameLaws.{There, tree-found}
 use Rattle.shelf_prices.proofs.PriceLaws.{price-none, price-there}
@@ -33,27 +34,32 @@ returns c =
 add-end : tie.Need-add-end
 add-end c = omega (arith, told (c .before .before) .fits)
 
-mul-dated-option-price : tie.Need-mul-dated-option-price
-mul-dated-option-price c = omega (arith, told (c .before .before) .fits)
+mul-bond-and-dated-option-values : tie.Need-mul-bond-and-dated-option-values
+mul-bond-and-dated-option-values c = omega (arith, told (c .before .before) .fits)
 
-sub-dated-option-price : tie.Need-sub-dated-option-price
-sub-dated-option-price c = search needs
+sub-bond-and-dated-option-values : tie.Need-sub-bond-and-dated-option-values
+sub-bond-and-dated-option-values c = search needs
 
-part-dated-option-price-start : tie.Need-part-dated-option-price-start
-part-dated-option-price-start c = search needs
+part-bond-and-dated-option-values-start : tie.Need-part-bond-and-dated-option-values-start
+part-bond-and-dated-option-values-start c = search needs
 
-part-dated-option-price-end : tie.Need-part-dated-option-price-end
-part-dated-option-price-end c = omega (arith, told (c .before .before) .fits)
+part-bond-and-dated-option-values-end : tie.Need-part-bond-and-dated-option-values-end
+part-bond-and-dated-option-values-end c = omega (arith, told (c .before .before) .fits)
 
-dated-option-price-requires : tie.Need-dated-option-price-requires
-dated-option-price-requires c κs = search needs
+bond-and-dated-option-values-requires : tie.Need-bond-and-dated-option-values-requires
+bond-and-dated-option-values-requires c κs = search needs
+
+carried-requires : tie.Need-carried-requires
+carried-requires c κs = search needs
 
 returns-2 : tie.Need-returns-2
 returns-2 c =
-    let a = c .before .before .before .before .before .before .before .before .before .args in
-    let tree = c .before .before .before .before .before .before .tree-of in
-    c .dated-option-price .ensures
-    ∙ price-there (λ (n b : ℕ) (d : List ℕ). datedPrice n b d (a .flows .now) (a .side) (a .dates .now) (a .strike)) _ _ _ _ (tree .ensures) (search needs)
+    let a = c .before .before .before .before .before .before .before .before .before .before .args in
+    let valued = c .before in
+    let tree = valued .before .before .before .before .before .before .tree-of in
+    price-there (λ (n b : ℕ) (d : List ℕ). datedPrice n b d (a .flows .now) (a .side) (a .dates .now) (a .strike))
+    _ _ _ _ (tree .ensures) (search needs)
+    _ (ap (λ (v : BondAndOptionValues). v .option) (valued .bond-and-dated-option-values .ensures)) _ (c .carried .ensures)
 
 pub dated-option-price-spec : {M : Type 1} → statement M
 dated-option-price-spec =
@@ -63,9 +69,10 @@ dated-option-price-spec =
     no-price-requires
     returns
     add-end
-    mul-dated-option-price
-    sub-dated-option-price
-    part-dated-option-price-start
-    part-dated-option-price-end
-    dated-option-price-requires
+    mul-bond-and-dated-option-values
+    sub-bond-and-dated-option-values
+    part-bond-and-dated-option-values-start
+    part-bond-and-dated-option-values-end
+    bond-and-dated-option-values-requires
+    carried-requires
     returns-2)

@@ -1,9 +1,10 @@
 -- `shelf_prices::option_price` meets its contract.
 -- Assumes nothing.
 use Prim.Native.Nat.{ℕ}
-use mathlib.Core.Path.{_∙_}
+use mathlib.Core.Path.{ap, _∙_}
 use mathlib.Core.List.{List}
 use native.Mathlib.Omega.{arith}
+use Rattle.pricing.specs.declared.BondAndOptionValues.{BondAndOptionValues}
 use Rattle.pricing.specs.Prices.{optionPrice}
 use Rattle.shelf_laws.proofs.NameLaws.{There, tree-found}
 use Rattle.shelf_prices.proofs.PriceLaws.{price-none, price-there}
@@ -33,27 +34,32 @@ returns c =
 add-end : tie.Need-add-end
 add-end c = omega (arith, told (c .before .before) .fits)
 
-mul-option-price : tie.Need-mul-option-price
-mul-option-price c = omega (arith, told (c .before .before) .fits)
+mul-bond-and-option-values : tie.Need-mul-bond-and-option-values
+mul-bond-and-option-values c = omega (arith, told (c .before .before) .fits)
 
-sub-option-price : tie.Need-sub-option-price
-sub-option-price c = search needs
+sub-bond-and-option-values : tie.Need-sub-bond-and-option-values
+sub-bond-and-option-values c = search needs
 
-part-option-price-start : tie.Need-part-option-price-start
-part-option-price-start c = search needs
+part-bond-and-option-values-start : tie.Need-part-bond-and-option-values-start
+part-bond-and-option-values-start c = search needs
 
-part-option-price-end : tie.Need-part-option-price-end
-part-option-price-end c = omega (arith, told (c .before .before) .fits)
+part-bond-and-option-values-end : tie.Need-part-bond-and-option-values-end
+part-bond-and-option-values-end c = omega (arith, told (c .before .before) .fits)
 
-option-price-requires : tie.Need-option-price-requires
-option-price-requires c κs = search needs
+bond-and-option-values-requires : tie.Need-bond-and-option-values-requires
+bond-and-option-values-requires c κs = search needs
+
+carried-requires : tie.Need-carried-requires
+carried-requires c κs = search needs
 
 returns-2 : tie.Need-returns-2
 returns-2 c =
-    let a = c .before .before .before .before .before .before .before .before .args in
-    let tree = c .before .before .before .before .before .before .tree-of in
-    c .option-price .ensures
-    ∙ price-there (λ (n b : ℕ) (d : List ℕ). optionPrice n b d (a .flows .now) (a .kind) (a .expiry) (a .strike)) _ _ _ _ (tree .ensures) (search needs)
+    let a = c .before .before .before .before .before .before .before .before .before .args in
+    let valued = c .before in
+    let tree = valued .before .before .before .before .before .before .tree-of in
+    price-there (λ (n b : ℕ) (d : List ℕ). optionPrice n b d (a .flows .now) (a .kind) (a .expiry) (a .strike))
+    _ _ _ _ (tree .ensures) (search needs)
+    _ (ap (λ (v : BondAndOptionValues). v .option) (valued .bond-and-option-values .ensures)) _ (c .carried .ensures)
 
 pub option-price-spec : {M : Type 1} → statement M
 option-price-spec =
@@ -63,9 +69,10 @@ option-price-spec =
     no-price-requires
     returns
     add-end
-    mul-option-price
-    sub-option-price
-    part-option-price-start
-    part-option-price-end
-    option-price-requires
+    mul-bond-and-option-values
+    sub-bond-and-option-values
+    part-bond-and-option-values-start
+    part-bond-and-option-values-end
+    bond-and-option-values-requires
+    carried-requires
     returns-2)
