@@ -38,7 +38,7 @@ static struct plain_price of_library(struct mixegorta_price p)
     return out;
 }
 
-static struct plain_prices both_of_library(struct mixegorta_bond_and_option both)
+static struct plain_prices both_of_library(struct mixegorta_bond_and_option_prices both)
 {
     const struct plain_prices out = {of_library(both.bond), of_library(both.option)};
     return out;

@@ -21,16 +21,20 @@
  *
  * Refusals, the field `number` or a returned uint64_t; 0 means that nothing was refused:
  *
- *    1  a job that is malformed or longer than 4,700 bytes
- *    2  frequency is not listed                     8  (half width of row n - 1) x spacing is above one
- *    3  steps outside 1 to 60                       9  a node discount is 0 or above 1,100,000,000
- *    4  reversion above 6,000                      10  a flow is above 2,000,000,000
- *    5  volatility above 50,000                    11  option kind, side, expiry or strike outside its limit
- *    6  a length, row or node that is not in       12  a value above 8,000,000,000, or weighed state
- *       the tree; a memory too short                   prices that sum above 2,000,000,100
- *    7  unknown quote kind; a figure that is NaN, infinite or beyond +-10; a rate whose divisor is 0 or less;
- *       a yield x row / frequency beyond +-4; a quoted discount outside 100,000,000 to 2,000,000,000
- *   13  exercise dates that are none, not strictly rising, or reach row n
+ *    1  the job is malformed or longer than 4,700 bytes
+ *    2  the steps a year are not 1, 2, 4 or 12
+ *    3  the steps are outside 1 to 60
+ *    4  the reversion is above 6,000
+ *    5  the volatility is above 50,000
+ *    6  a length, row or node is not in the tree, or a memory is too short
+ *    7  a quote's kind, figure or discount is outside its limits: an unknown kind; a figure that is NaN, infinite or beyond +-10; a
+ *       rate whose divisor is 0 or less; a yield x row / frequency beyond +-4; a discount outside 100,000,000 to 2,000,000,000
+ *    8  the nodes are too far apart: (half width of row n - 1) x spacing is above one
+ *    9  a node discount is 0 or above 1,100,000,000
+ *   10  a flow is above 2,000,000,000
+ *   11  the option's kind, side, expiry or strike is outside its limit
+ *   12  a value is above 8,000,000,000, or state prices sum above 2,000,000,100
+ *   13  the exercise dates are none, not strictly rising, or reach the last row, row n
  *
  * Memory. A slice is a pointer followed by its count of elements, never of bytes. The pointer is aligned for its type and points to
  * that many elements; with count 0 it may be NULL. All of them are initialised, those that a call only writes too: any numbers
@@ -50,8 +54,12 @@ extern "C" {
 /* The version of header and library, in three numbers and as a text. The shared object's name for the loader carries the first. */
 #define MIXEGORTA_VERSION_MAJOR 0
 #define MIXEGORTA_VERSION_MINOR 6
-#define MIXEGORTA_VERSION_PATCH 0
-#define MIXEGORTA_VERSION "0.6.0"
+#define MIXEGORTA_VERSION_PATCH 1
+#define MIXEGORTA_VERSION "0.6.1"
+
+/* The same as one number, which mixegorta_version() of this header's own library answers. */
+#define MIXEGORTA_VERSION_NUMBER \
+    (MIXEGORTA_VERSION_MAJOR * UINT64_C(1000000) + MIXEGORTA_VERSION_MINOR * UINT64_C(1000) + MIXEGORTA_VERSION_PATCH)
 
 /* Billionths in one, and the whole of which probabilities are parts. */
 #define MIXEGORTA_ONE UINT64_C(1000000000)
@@ -117,27 +125,27 @@ struct mixegorta_price {
 };
 
 /* A bond and an option on it, each with its own number. */
-struct mixegorta_bond_and_option {
+struct mixegorta_bond_and_option_prices {
     struct mixegorta_price bond;
     struct mixegorta_price option;
 };
 
 /* Where a node leads: to node `lowest` of the next row and the two nodes above it. probabilities[0] is up, to lowest + 2; [1] is
  * middle, to lowest + 1; [2] is down, to lowest. They sum to 600,000,000. All are 0 where refused. */
-struct mixegorta_branches {
+struct mixegorta_node_branches {
     uint64_t number;
     int64_t lowest;
     uint64_t probabilities[3];
 };
 
-/* A quoted point: the row, 1 to 60, and the figure, a discount factor or a yearly rate from -10 to 10. */
+/* A quoted point: the row, 1 to 60, and the figure, a discount factor, a simple yearly rate or a yearly yield, from -10 to 10. */
 struct mixegorta_point {
     uint64_t row;
     double figure;
 };
 
 /* A row's place in the memory of its kind: elements start to start + count - 1. A refusal is start 0 and count 0. */
-struct mixegorta_row_range {
+struct mixegorta_row_place {
     size_t start;
     size_t count;
 };
@@ -147,6 +155,9 @@ struct mixegorta_written {
     uint64_t number;
     size_t size;
 };
+
+/* The version of the library that is linked or loaded: MIXEGORTA_VERSION_NUMBER where it is this header's own. */
+uint64_t mixegorta_version(void);
 
 /* ---- The shape of a tree. No memory is touched. */
 
@@ -167,7 +178,7 @@ struct mixegorta_answer mixegorta_state_prices_needed(size_t steps, uint64_t rev
 
 /* Where a node leads and how likely. row: 0 to 59, since no branch leaves row 60; node: -w to w of that row.
  * Refusals: 4 reversion, 6 row or node. */
-struct mixegorta_branches mixegorta_branches(uint64_t reversion, size_t row, int64_t node);
+struct mixegorta_node_branches mixegorta_branches(uint64_t reversion, size_t row, int64_t node);
 
 /* ---- Level one: quotes, the fit, its rows and rates. */
 
@@ -184,8 +195,9 @@ uint64_t mixegorta_curve_discounts(uint64_t frequency, size_t steps, const uint6
 
 /* Fits a tree to the quotes of rows 1 to n, handed over as above. discounts and state_prices: at least as many elements as
  * mixegorta_discounts_needed and mixegorta_state_prices_needed say. Returns the number. 0: both memories hold the tree from their
- * start. 9: as many elements at the start of both as the tree needs are 0. Any other number, 2 to 8: both are as they were.
- * Elements past those that the tree needs never change. */
+ * start. Elements past those that the tree needs never change.
+ * Refusals: 2 frequency, 3 steps, 4 reversion, 5 volatility, 6 a count, a row or a memory too short, 7 a quote and 8 nodes too far
+ * apart leave both as they were; 9 a node discount puts zeros into as many elements at the start of both as the tree needs. */
 uint64_t mixegorta_fit(uint64_t frequency, size_t steps, uint64_t reversion, uint64_t volatility, const uint64_t *rows,
                        size_t rows_len, const uint8_t *kinds, size_t kinds_len, const double *figures, size_t figures_len,
                        uint64_t *discounts, size_t discounts_len, uint64_t *state_prices, size_t state_prices_len);
@@ -193,16 +205,17 @@ uint64_t mixegorta_fit(uint64_t frequency, size_t steps, uint64_t reversion, uin
 /* Where a row stands in the memory of its kind. kind: 1 discounts, row 0 to n - 1; 2 state prices, row 0 to n. Both memories must
  * be long enough for the tree, whichever is asked for; their elements are not read. A refusal, of an unknown kind too, has no
  * number: its count is 0, and an accepted row has at least one node. */
-struct mixegorta_row_range mixegorta_row_range(const uint64_t *discounts, size_t discounts_len, const uint64_t *state_prices,
+struct mixegorta_row_place mixegorta_row_range(const uint64_t *discounts, size_t discounts_len, const uint64_t *state_prices,
                                                size_t state_prices_len, uint64_t kind, size_t steps, uint64_t reversion,
                                                size_t row);
 
-/* The rate of one step, in billionths, of a discount from 1 to 1,100,000,000. No memory is touched. Refusal: 9. */
+/* The rate of one step, in billionths, of a discount from 1 to 1,100,000,000. No memory is touched.
+ * Refusal: 9 the discount. */
 struct mixegorta_rate mixegorta_step_rate(uint64_t discount);
 
 /* The continuously compounded rate over one step, in billionths, of a discount from 1 to 1,100,000,000: of all whole numbers within
  * +-4,000,000,000 whose discount is nearest, the one of least magnitude, and of two such the smaller. No memory is touched.
- * Refusal: 9. */
+ * Refusal: 9 the discount. */
 struct mixegorta_rate mixegorta_continuous_rate(uint64_t discount);
 
 /* How far below the exact ones the fitted state prices of a row may be in sum, in billionths, from the tree's discounts. discounts:
@@ -221,32 +234,34 @@ struct mixegorta_price mixegorta_bond_price(size_t steps, uint64_t reversion, co
 
 /* The price at row 0 of an option on that bond. kind: 1 to 4; expiry: row 0 to n - 1; strike: 0 to 4,000,000,000. Exercise is on the
  * bond without the flow of its row, which stays with the seller.
- * Refusals: those of the bond, and 11 kind, expiry or strike, before 12. */
+ * Refusals: those of mixegorta_bond_price, and 11 kind, expiry or strike, before 12. */
 struct mixegorta_price mixegorta_option_price(size_t steps, uint64_t reversion, const uint64_t *discounts,
                                               size_t discounts_len, const uint64_t *flows, size_t flows_len, uint64_t kind,
                                               size_t expiry, uint64_t strike);
 
 /* Bond and option in one roll: `bond` is what mixegorta_bond_price answers and `option` what mixegorta_option_price answers, so
- * where the option alone is refused the bond has its price. */
-struct mixegorta_bond_and_option mixegorta_bond_and_option(size_t steps, uint64_t reversion, const uint64_t *discounts,
-                                                           size_t discounts_len, const uint64_t *flows, size_t flows_len,
-                                                           uint64_t kind, size_t expiry, uint64_t strike);
+ * where the option alone is refused the bond has its price. Refusals: those of mixegorta_option_price. */
+struct mixegorta_bond_and_option_prices mixegorta_bond_and_option(size_t steps, uint64_t reversion, const uint64_t *discounts,
+                                                                  size_t discounts_len, const uint64_t *flows,
+                                                                  size_t flows_len, uint64_t kind, size_t expiry,
+                                                                  uint64_t strike);
 
 /* The price at row 0 of an option on that bond which may be exercised on listed rows. side: 1 call, 2 put; dates: the rows, one to n of
  * them, strictly rising, each 0 to n - 1; strike: 0 to 4,000,000,000. On the last listed row the option is worth its exercise value, on
  * earlier ones the larger of that and of what holding it is worth, on every other row what holding it is worth. Exercise is on the bond
  * without the flow of its row. A European kind is the list of its expiry alone, an American kind that of every row from 0 to its expiry.
- * Refusals: those of the bond, 11 side or strike, and 13 dates, after 11 and before 12. */
+ * Refusals: those of mixegorta_bond_price, 11 side or strike, and 13 dates, after 11 and before 12. */
 struct mixegorta_price mixegorta_dated_option_price(size_t steps, uint64_t reversion, const uint64_t *discounts,
                                                     size_t discounts_len, const uint64_t *flows, size_t flows_len,
                                                     uint64_t side, const uint8_t *dates, size_t dates_len, uint64_t strike);
 
 /* Bond and dated option in one roll: `bond` is what mixegorta_bond_price answers and `option` what mixegorta_dated_option_price
- * answers. */
-struct mixegorta_bond_and_option mixegorta_bond_and_dated_option(size_t steps, uint64_t reversion, const uint64_t *discounts,
-                                                                 size_t discounts_len, const uint64_t *flows,
-                                                                 size_t flows_len, uint64_t side, const uint8_t *dates,
-                                                                 size_t dates_len, uint64_t strike);
+ * answers. Refusals: those of mixegorta_dated_option_price. */
+struct mixegorta_bond_and_option_prices mixegorta_bond_and_dated_option(size_t steps, uint64_t reversion,
+                                                                        const uint64_t *discounts, size_t discounts_len,
+                                                                        const uint64_t *flows, size_t flows_len, uint64_t side,
+                                                                        const uint8_t *dates, size_t dates_len,
+                                                                        uint64_t strike);
 
 /* What payoffs on a row are worth by the row's state prices. Both counts are equal, odd and at most 121. payoffs: each 0 to
  * 8,000,000,000; state prices: their sum at most 2,000,000,100. Refusals: 6 the counts, 12 payoffs, sum or value. */

@@ -33,13 +33,13 @@ static bool same_price(struct mixegorta_price a, struct mixegorta_price b) {
     return a.number == b.number && a.value == b.value && a.bound == b.bound;
 }
 
-static bool ranged(struct mixegorta_row_range r, size_t start, size_t count) { return r.start == start && r.count == count; }
+static bool ranged(struct mixegorta_row_place r, size_t start, size_t count) { return r.start == start && r.count == count; }
 
-static bool branched(struct mixegorta_branches b, int64_t lowest, uint64_t up, uint64_t middle, uint64_t down) {
+static bool branched(struct mixegorta_node_branches b, int64_t lowest, uint64_t up, uint64_t middle, uint64_t down) {
     return b.number == 0 && b.lowest == lowest && b.probabilities[0] == up && b.probabilities[1] == middle && b.probabilities[2] == down;
 }
 
-static bool unbranched(struct mixegorta_branches b, uint64_t number) {
+static bool unbranched(struct mixegorta_node_branches b, uint64_t number) {
     return b.number == number && b.lowest == 0 && b.probabilities[0] == 0 && b.probabilities[1] == 0 && b.probabilities[2] == 0;
 }
 
@@ -140,7 +140,7 @@ static void branches(void) {
     for (uint64_t reversion = 0; reversion <= MIXEGORTA_MAX_REVERSION; reversion += 250) {
         int64_t width = (int64_t)mixegorta_half_width(reversion, 59).value;
         for (int64_t node = -width; node <= width; node++) {
-            struct mixegorta_branches b = mixegorta_branches(reversion, 59, node);
+            struct mixegorta_node_branches b = mixegorta_branches(reversion, 59, node);
             int64_t up = (int64_t)b.probabilities[0], middle = (int64_t)b.probabilities[1], down = (int64_t)b.probabilities[2];
             int64_t low = b.lowest - node;
             CHECK(up + middle + down == (int64_t)MIXEGORTA_PROBABILITY_ONE);
@@ -238,7 +238,7 @@ static void example(void) {
     CHECK(answered(mixegorta_state_price_error_bound(1, 0, discounts, 1, 1), 4));
     CHECK(priced(mixegorta_bond_price(1, 0, discounts, 1, flow, 1), 1002500000, 2));
     CHECK(priced(mixegorta_option_price(1, 0, discounts, 1, flow, 1, MIXEGORTA_AMERICAN_PUT, 0, 1010000000), 7500000, 2));
-    struct mixegorta_bond_and_option both = mixegorta_bond_and_option(1, 0, discounts, 1, flow, 1, MIXEGORTA_AMERICAN_PUT, 0, 1010000000);
+    struct mixegorta_bond_and_option_prices both = mixegorta_bond_and_option(1, 0, discounts, 1, flow, 1, MIXEGORTA_AMERICAN_PUT, 0, 1010000000);
     CHECK(priced(both.bond, 1002500000, 2) && priced(both.option, 7500000, 2));
     CHECK(unpriced(mixegorta_option_price(1, 0, discounts, 1, flow, 1, MIXEGORTA_AMERICAN_PUT, 1, 1010000000), 11));
     CHECK(answered(mixegorta_value_by_state_prices(prices + 1, 3, payoffs, 3), 1002499999));
@@ -292,7 +292,7 @@ static void fits(void) {
     CHECK(zeros(discounts, 1) && zeros(prices, 4) && untouched_from(1, 4));
 }
 
-static struct mixegorta_row_range range(uint64_t kind, size_t steps, uint64_t reversion, size_t row) {
+static struct mixegorta_row_place range(uint64_t kind, size_t steps, uint64_t reversion, size_t row) {
     return mixegorta_row_range(discounts, discounts_size, prices, prices_size, kind, steps, reversion, row);
 }
 
@@ -341,6 +341,21 @@ static void limits(void) {
     CHECK(answered(mixegorta_value_by_state_prices(row, 1, payoff, 1), MIXEGORTA_MAX_VALUE));
 }
 
+/* A fit takes a node discount of its limit and not one billionth more, on row 0 and on row 1, whose state prices sum to two less than one. */
+static void fitted_limit(void) {
+    struct mixegorta_point point = {1, 1.100000001};
+    CHECK(answered(mixegorta_quote_discount(1, MIXEGORTA_DISCOUNT_FACTOR, point), MIXEGORTA_MAX_NODE_DISCOUNT + 1));
+    falling_curve(1.1);
+    CHECK(fit(1, 1, 0, 0) == 0 && discounts[0] == MIXEGORTA_MAX_NODE_DISCOUNT);
+    figures[0] = 1.100000001;
+    CHECK(fit(1, 1, 0, 0) == 9 && zeros(discounts, 1) && zeros(prices, 4) && untouched_from(1, 4));
+    figures[0] = 1;
+    figures[1] = 1.099999998;
+    CHECK(fit(1, 2, 0, 0) == 0 && discounts[3] == MIXEGORTA_MAX_NODE_DISCOUNT);
+    figures[1] = 1.099999999;
+    CHECK(fit(1, 2, 0, 0) == 9 && zeros(discounts, 4) && zeros(prices, 9) && untouched_from(4, 9));
+}
+
 /* Every row of a fit reprices its quote by its state prices within 300. */
 static void repricing(void) {
     enum { STEPS = 60 };
@@ -349,7 +364,7 @@ static void repricing(void) {
     CHECK(mixegorta_curve_discounts(12, STEPS, rows, STEPS, kinds, STEPS, figures, STEPS, quoted, STEPS) == 0);
     CHECK(fit(12, STEPS, 50, 10000) == 0);
     for (size_t row = 1; row <= STEPS; row++) {
-        struct mixegorta_row_range r = range(MIXEGORTA_STATE_PRICES, STEPS, 50, row);
+        struct mixegorta_row_place r = range(MIXEGORTA_STATE_PRICES, STEPS, 50, row);
         uint64_t total = sum(prices + r.start, r.count);
         CHECK(total <= quoted[row - 1] + 300 && quoted[row - 1] <= total + 300);
         uint64_t payoffs[MIXEGORTA_MAX_NODES];
@@ -426,7 +441,7 @@ static void exercise_days(void) {
 }
 
 /* Both prices at once have these numbers, and each is what its own entry answers. */
-static bool agree(struct mixegorta_bond_and_option both, struct mixegorta_price bond, struct mixegorta_price option, uint64_t bond_number,
+static bool agree(struct mixegorta_bond_and_option_prices both, struct mixegorta_price bond, struct mixegorta_price option, uint64_t bond_number,
                   uint64_t option_number) {
     return both.bond.number == bond_number && both.option.number == option_number && same_price(both.bond, bond) &&
            same_price(both.option, option);
@@ -521,7 +536,7 @@ static void callable_notes(void) {
     CHECK(priced(note_option(MIXEGORTA_PUT, coupon_days, 2, put_strike), 39690000, bond.bound));
     CHECK(priced(note_option(MIXEGORTA_PUT, coupon_days, 1, put_strike), 17820000, bond.bound));
     CHECK(priced(note_option(MIXEGORTA_PUT, all, 5, put_strike), 186320000, bond.bound));
-    struct mixegorta_bond_and_option both = mixegorta_bond_and_dated_option(
+    struct mixegorta_bond_and_option_prices both = mixegorta_bond_and_dated_option(
         NOTE_STEPS, 0, note_discounts, NOTE_DISCOUNTS, note_flows, NOTE_STEPS, MIXEGORTA_CALL, coupon_days, 2, ONE);
     CHECK(agree(both, bond, note_option(MIXEGORTA_CALL, coupon_days, 2, ONE), 0, 0));
 }
@@ -757,6 +772,7 @@ static void dated_jobs(void) {
 }
 
 int main(void) {
+    CHECK(mixegorta_version() == MIXEGORTA_VERSION_NUMBER);
     shapes();
     branches();
     quotes();
@@ -767,6 +783,7 @@ int main(void) {
     fits();
     ranges();
     limits();
+    fitted_limit();
     repricing();
     price_refusals();
     rolls();

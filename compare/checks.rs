@@ -1,7 +1,7 @@
 // What is compared of one input. A difference panics.
 use crate::engine;
 use crate::exact::{near_fourth_power, Exact, ExactBond};
-use crate::inputs::Case;
+use crate::inputs::{self, Case};
 use crate::natural::Natural;
 use crate::rules::{self, Contract, Curve, DatedOption, Fitted, Outcome, Tree, CALL, DISCOUNT_LIMIT, FLOW_LIMIT, ONE, PUT};
 use std::cmp::Ordering;
@@ -236,14 +236,14 @@ fn views(case: &Case, tally: &mut Tally) {
     *tally.results.entry("row range, 1: empty").or_default().entry(rules.is_none() as u64).or_default() += 1;
 }
 
-/// The figures of document 02, and every discount within 3,000 of 1, of one and of 1.1 × one.
+/// Rates worked out by hand from request (i), and every discount within 3,000 of 1, of one and of 1.1 × one.
 pub fn rates_at_borders(tally: &mut Tally) {
     let figures = [
         (0, Err(9)), (1, Ok(3_999_999_988)), (18_315_638, Ok(3_999_999_988)), (484_106_437, Ok(725_450_480)), (999_999_997, Ok(4)),
         (999_999_998, Ok(0)), (1_000_000_002, Ok(0)), (1_000_000_003, Ok(-4)), (DISCOUNT_LIMIT + 1, Err(9)), (u64::MAX, Err(9)),
     ];
     for (discount, rate) in figures {
-        assert_eq!(engine::continuous_rate(discount), rate, "continuous rate of {discount}: library left, document right");
+        assert_eq!(engine::continuous_rate(discount), rate, "continuous rate of {discount}: library left, by hand right");
     }
     for border in [1, ONE, DISCOUNT_LIMIT] {
         for discount in border.saturating_sub(3_000)..=border + 3_000 {
@@ -252,7 +252,7 @@ pub fn rates_at_borders(tally: &mut Tally) {
     }
 }
 
-/// The figures of document 02: five steps, all discounts one, flows of two, so that the bond passes its limit. A bad list comes before that.
+/// Request (iii): five steps, all discounts one, flows of two, so that the bond passes its limit. A bad list comes before that.
 pub fn dates_by_hand() {
     let (tree, flows) = (Tree { steps: 5, reversion: 0 }, [FLOW_LIMIT; 5]);
     let discounts = vec![ONE; tree.discounts_needed()];
@@ -292,6 +292,32 @@ pub fn limit_by_hand() {
         discounts[0] = discount;
         let flows = [value - 3 * FLOW_LIMIT, FLOW_LIMIT, FLOW_LIMIT, FLOW_LIMIT];
         assert_eq!(engine::bond(&tree, &discounts, &flows).map(|bond| bond.0), price, "value {value}, discount {discount}");
+    }
+}
+
+/// A node discount of 1.1 × one is accepted and one billionth more is refused with 9, on row 0 and on row 1, whose state prices sum to two less
+/// than one.
+pub fn discount_limit_by_hand() {
+    let limit = Ok(DISCOUNT_LIMIT);
+    for (figures, last) in [(vec![1.1], limit), (vec![1.100000001], Err(9)), (vec![1.0, 1.099999998], limit), (vec![1.0, 1.099999999], Err(9))] {
+        let tree = Tree { steps: figures.len(), reversion: 0 };
+        let curve = Curve { rows: (1..=tree.steps as u64).collect(), kinds: vec![5; tree.steps], figures };
+        let (discounts_length, state_prices_length) = (tree.discounts_needed(), tree.state_prices_needed());
+        let input = rules::FitInput { frequency: 1, tree, volatility: 0, curve, discounts_length, state_prices_length };
+        let (mut discounts, mut state_prices) = (vec![UNTOUCHED; discounts_length], vec![UNTOUCHED; state_prices_length]);
+        let number = engine::fit(&input, &mut discounts, &mut state_prices);
+        let found = if number == 0 { Ok(discounts[discounts_length - 1]) } else { Err(number) };
+        assert_eq!(found, last, "fit of {:?}: library left, by hand right", input.curve.figures);
+        let ruled = input.fit().map(|fitted| fitted.discounts[discounts_length - 1]);
+        assert_eq!(ruled, last, "fit of {:?}: rules left, by hand right", input.curve.figures);
+    }
+}
+
+/// Numbers that would pass for valid ones if they were cut to 8, 16 or 32 bits, each number of a case alone.
+pub fn numbers_past_a_width(tally: &mut Tally) {
+    for case in inputs::widths() {
+        all(&case, tally);
+        rates(&case.lent, tally);
     }
 }
 

@@ -1,106 +1,12 @@
-// The library, as its C header declares it.
+// The library, by the declarations of the Rust crate, which tools/declarations.py writes.
 use crate::rules::{Contract, Curve, DatedOption, FitInput, Outcome, Tree};
 use std::ptr;
 
-#[repr(C)]
-#[derive(Clone, Copy)]
-struct Answer {
-    number: u64,
-    value: u64,
-}
+#[allow(dead_code)]
+#[path = "../rust/src/raw.rs"]
+mod raw;
 
-#[repr(C)]
-#[derive(Clone, Copy)]
-struct Rate {
-    number: u64,
-    value: i64,
-}
-
-#[repr(C)]
-#[derive(Clone, Copy)]
-struct Price {
-    number: u64,
-    value: u64,
-    bound: u64,
-}
-
-#[repr(C)]
-#[derive(Clone, Copy)]
-struct BondAndOption {
-    bond: Price,
-    option: Price,
-}
-
-#[repr(C)]
-#[derive(Clone, Copy)]
-struct Branches {
-    number: u64,
-    lowest: i64,
-    probabilities: [u64; 3],
-}
-
-#[repr(C)]
-#[derive(Clone, Copy)]
-struct RowRange {
-    start: usize,
-    count: usize,
-}
-
-#[repr(C)]
-#[derive(Clone, Copy)]
-struct Point {
-    row: u64,
-    figure: f64,
-}
-
-extern "C" {
-    fn mixegorta_half_width(reversion: u64, row: usize) -> Answer;
-    fn mixegorta_node_count(reversion: u64, row: usize) -> Answer;
-    fn mixegorta_row_start(reversion: u64, row: usize) -> Answer;
-    fn mixegorta_discounts_needed(steps: usize, reversion: u64) -> Answer;
-    fn mixegorta_state_prices_needed(steps: usize, reversion: u64) -> Answer;
-    fn mixegorta_branches(reversion: u64, row: usize, node: i64) -> Branches;
-    fn mixegorta_quote_discount(frequency: u64, kind: u8, point: Point) -> Answer;
-    fn mixegorta_curve_discounts(
-        frequency: u64, steps: usize, rows: *const u64, row_count: usize, kinds: *const u8, kind_count: usize,
-        figures: *const f64, figure_count: usize, discounts: *mut u64, discount_count: usize,
-    ) -> u64;
-    fn mixegorta_fit(
-        frequency: u64, steps: usize, reversion: u64, volatility: u64, rows: *const u64, row_count: usize,
-        kinds: *const u8, kind_count: usize, figures: *const f64, figure_count: usize, discounts: *mut u64,
-        discount_count: usize, state_prices: *mut u64, state_price_count: usize,
-    ) -> u64;
-    fn mixegorta_row_range(
-        discounts: *const u64, discount_count: usize, state_prices: *const u64, state_price_count: usize, kind: u64,
-        steps: usize, reversion: u64, row: usize,
-    ) -> RowRange;
-    fn mixegorta_step_rate(discount: u64) -> Rate;
-    fn mixegorta_continuous_rate(discount: u64) -> Rate;
-    fn mixegorta_state_price_error_bound(steps: usize, reversion: u64, discounts: *const u64, discount_count: usize, row: usize) -> Answer;
-    fn mixegorta_bond_price(
-        steps: usize, reversion: u64, discounts: *const u64, discount_count: usize, flows: *const u64, flow_count: usize,
-    ) -> Price;
-    fn mixegorta_option_price(
-        steps: usize, reversion: u64, discounts: *const u64, discount_count: usize, flows: *const u64, flow_count: usize,
-        kind: u64, expiry: usize, strike: u64,
-    ) -> Price;
-    fn mixegorta_bond_and_option(
-        steps: usize, reversion: u64, discounts: *const u64, discount_count: usize, flows: *const u64, flow_count: usize,
-        kind: u64, expiry: usize, strike: u64,
-    ) -> BondAndOption;
-    fn mixegorta_dated_option_price(
-        steps: usize, reversion: u64, discounts: *const u64, discount_count: usize, flows: *const u64, flow_count: usize,
-        side: u64, dates: *const u8, date_count: usize, strike: u64,
-    ) -> Price;
-    fn mixegorta_bond_and_dated_option(
-        steps: usize, reversion: u64, discounts: *const u64, discount_count: usize, flows: *const u64, flow_count: usize,
-        side: u64, dates: *const u8, date_count: usize, strike: u64,
-    ) -> BondAndOption;
-    fn mixegorta_value_by_state_prices(state_prices: *const u64, state_price_count: usize, payoffs: *const u64, payoff_count: usize) -> Answer;
-    fn mixegorta_valuation_error_bound(
-        steps: usize, reversion: u64, discounts: *const u64, discount_count: usize, row: usize, payoffs: *const u64, payoff_count: usize,
-    ) -> Answer;
-}
+use raw::*;
 
 /// An empty list is handed over as the null pointer.
 fn start<T>(list: &[T]) -> *const T {

@@ -105,7 +105,7 @@ fn factors(r: &mut Random, shape: &str, frequency: u64, n: usize) -> Vec<f64> {
     let mut one = |t: usize| match shape {
         "walk" => { current = (current * r.real(0.93, 1.06)).clamp(0.11, 1.9); current }
         "wild" => r.real(0.1, 2.0),
-        "edges" => r.pick(&[0.1, 2.0, 1.0, 0.5, 1.1, 1.1000000005]),
+        "edges" => r.pick(&[0.1, 2.0, 1.0, 0.5, 1.1, 1.1000000005, 1.100000001]),
         _ => {
             let rate = first + (last - first) * t as f64 / n as f64;
             f / (f + rate * t as f64).max(0.55 * f)
@@ -246,7 +246,6 @@ pub fn case(r: &mut Random) -> Case {
     let strikes = r.pick(&[(0, 3 * ONE), (0, STRIKE_LIMIT), (0, 3 * ONE / 2), (9 * ONE / 10, 11 * ONE / 10), (0, 1)]);
     let contract = Contract { kind: r.within(1, 4), expiry: r.below(tree.steps), strike: r.within(strikes.0, strikes.1) };
     let dated = DatedOption { side: r.within(1, 2), strike: r.within(strikes.0, strikes.1), dates: dates(r, tree.steps) };
-    let fewer = some_of(r, &dated.dates);
     let half = tree.half_width(row);
     let mut made = Case {
         shape,
@@ -255,7 +254,7 @@ pub fn case(r: &mut Random) -> Case {
         flows: flows(r, tree.steps),
         contract,
         dated,
-        fewer,
+        fewer: Vec::new(),
         row,
         node: r.within(0, 2 * half as u64) as i64 - half,
         row_kind: r.within(1, 2),
@@ -267,6 +266,8 @@ pub fn case(r: &mut Random) -> Case {
             damage(r, &mut made);
         }
     }
+    // Last, since damage to the dates may leave a good list of others.
+    made.fewer = some_of(r, &made.dated.dates);
     made
 }
 
@@ -318,7 +319,7 @@ fn spoil<T>(r: &mut Random, list: &mut Vec<T>, made: T) {
 
 fn damage(r: &mut Random, case: &mut Case) {
     let (huge, n) = (u64::MAX, case.fit.tree.steps);
-    match r.below(31) {
+    match r.below(34) {
         0 => case.fit.frequency = r.pick(&[0, 3, 5, 6, 11, 13, 255, huge, 1 << 32]),
         1 => case.fit.tree.steps = r.pick(&[0, 61, 62, 255, 1 << 32, usize::MAX]),
         2 => case.fit.tree.reversion = r.pick(&[6_001, 65_535, 1 << 32, huge]),
@@ -343,8 +344,109 @@ fn damage(r: &mut Random, case: &mut Case) {
         23..=25 => spoil_by_yield(r, case.fit.frequency, &mut case.fit.curve),
         26..=28 => case.dated.dates = wrong_dates(r, n, std::mem::take(&mut case.dated.dates)),
         29 => spoil_dated(r, &mut case.dated),
+        30..=31 => { let (which, bits) = (r.below(NUMBERS), r.pick(&WIDTHS)); widen(case, which, bits) }
+        32 => { let which = r.below(COUNTS); lengthen(case, which, 8) }
         _ => strange_view(r, case),
     }
+}
+
+/// The widths to which a number could be cut in silence.
+const WIDTHS: [u32; 3] = [8, 16, 32];
+const LONE_NUMBERS: usize = 13;
+const NUMBERS: usize = LONE_NUMBERS + 5 * 3;
+
+/// Adds to one number of a case what it would lose if it were cut to so many bits. Of a list the first, the middle or the last is changed.
+fn widen(case: &mut Case, which: usize, bits: u32) {
+    let (more, size) = (1u64 << bits, 1usize << bits);
+    let add = |number: &mut u64| *number = number.wrapping_add(more);
+    let add_size = |number: &mut usize| *number = number.wrapping_add(size);
+    match which {
+        0 => add(&mut case.fit.frequency),
+        1 => add_size(&mut case.fit.tree.steps),
+        2 => add(&mut case.fit.tree.reversion),
+        3 => add(&mut case.fit.volatility),
+        4 => add(&mut case.contract.kind),
+        5 => add_size(&mut case.contract.expiry),
+        6 => add(&mut case.contract.strike),
+        7 => add(&mut case.dated.side),
+        8 => add(&mut case.dated.strike),
+        9 => add_size(&mut case.row),
+        10 => case.node = case.node.wrapping_add(more as i64),
+        11 => case.node = case.node.wrapping_sub(more as i64),
+        12 => add(&mut case.row_kind),
+        _ => {
+            let lists = [&mut case.fit.curve.rows, &mut case.flows, &mut case.lent, &mut case.payoffs, &mut case.weighed];
+            let (list, part) = ((which - LONE_NUMBERS) / 3, (which - LONE_NUMBERS) % 3);
+            let length = lists[list].len();
+            if length > 0 {
+                add(&mut lists[list][part * (length - 1) / 2]);
+            }
+        }
+    }
+}
+
+/// The widths to which a count could be cut: more memory than these take no test has.
+const COUNT_WIDTHS: [u32; 2] = [8, 16];
+const COUNTS: usize = 10;
+
+/// Makes one list or memory of a case longer by what its count would lose if it were cut to so many bits; where more than needed may be lent, to a
+/// count that would be 0.
+fn lengthen(case: &mut Case, which: usize, bits: u32) {
+    let more = 1usize << bits;
+    fn longer<T: Copy>(list: &mut Vec<T>, more: usize, filler: T) {
+        list.resize(list.len() + more, filler);
+    }
+    match which {
+        0 => longer(&mut case.fit.curve.rows, more, 0),
+        1 => longer(&mut case.fit.curve.kinds, more, 5),
+        2 => longer(&mut case.fit.curve.figures, more, 0.5),
+        3 => longer(&mut case.flows, more, 0),
+        4 => longer(&mut case.dated.dates, more, 0),
+        5 => longer(&mut case.payoffs, more, 0),
+        6 => longer(&mut case.weighed, more, 0),
+        7 => case.lent.resize(case.lent.len().next_multiple_of(more), 0),
+        8 => case.fit.discounts_length = case.fit.discounts_length.next_multiple_of(more),
+        _ => case.fit.state_prices_length = case.fit.state_prices_length.next_multiple_of(more),
+    }
+}
+
+/// A case in good order, small enough that each of its numbers counts in some answer.
+pub fn steady() -> Case {
+    let tree = Tree { steps: 3, reversion: 800 };
+    let factors = [0.98, 0.03, 0.02];
+    Case {
+        shape: "widths",
+        fit: FitInput {
+            frequency: 2,
+            tree,
+            volatility: 10_000,
+            curve: Curve { rows: vec![1, 2, 3], kinds: vec![5, 6, 9], figures: factors.to_vec() },
+            discounts_length: tree.discounts_needed(),
+            state_prices_length: tree.state_prices_needed(),
+        },
+        lent: vec![ONE; tree.discounts_needed()],
+        flows: vec![ONE / 25, ONE / 25, ONE],
+        contract: Contract { kind: 2, expiry: 2, strike: 2 * ONE },
+        dated: DatedOption { side: 2, strike: 2 * ONE, dates: vec![1, 2] },
+        fewer: vec![2],
+        row: 3,
+        node: 1,
+        row_kind: 2,
+        payoffs: vec![ONE; tree.node_count(3)],
+        weighed: vec![ONE / 8; tree.node_count(3)],
+    }
+}
+
+/// The steady case, then each number of it made wider by each width, then each count.
+pub fn widths() -> Vec<Case> {
+    let changed = |change: fn(&mut Case, usize, u32), which: usize, bits: u32| {
+        let mut case = steady();
+        change(&mut case, which, bits);
+        case
+    };
+    let widened = (0..NUMBERS).flat_map(|which| WIDTHS.map(|bits| changed(widen, which, bits)));
+    let longer = (0..COUNTS).flat_map(|which| COUNT_WIDTHS.map(|bits| changed(lengthen, which, bits)));
+    std::iter::once(steady()).chain(widened).chain(longer).collect()
 }
 
 fn spoil_dated(r: &mut Random, dated: &mut DatedOption) {

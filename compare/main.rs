@@ -27,6 +27,8 @@ fn main() {
     checks::dates_by_hand();
     checks::rolls_by_hand();
     checks::limit_by_hand();
+    checks::discount_limit_by_hand();
+    checks::numbers_past_a_width(&mut tally);
     for own in seed..seed + count {
         let case = inputs::case(&mut inputs::Random::new(own));
         let compared = panic::catch_unwind(panic::AssertUnwindSafe(|| checks::all(&case, &mut tally)));

@@ -1,9 +1,11 @@
 """What `pip install ./python` calls: makes a wheel of the package and of its shared object, which is linked from the proved archive.
 
-Needs a C compiler and the archive target/staticlib/libcapi.a, or the Rattle kit to make it; no package of a registry, no network.
-MIXEGORTA_ARCHIVE_DIR names the archive's folder where that is not target/staticlib. Nothing is written beside the sources.
+Needs a C compiler and the archive target/staticlib/libcapi.a, no older than its crates, or the Rattle kit to make it; no package of a
+registry, no network. MIXEGORTA_ARCHIVE_DIR names the folder of an archive to take as it is, if it is of the package's version. Nothing is
+written beside the sources but the archive.
 """
 import base64
+import ctypes
 import hashlib
 import os
 import pathlib
@@ -31,17 +33,28 @@ def version():
 
 
 def archive():
-    """The proved archive; made where the kit is there and the archive is not."""
+    """The proved archive: the one that is named, else that of the repository, made anew where it is older than a crate."""
     folder = os.environ.get("MIXEGORTA_ARCHIVE_DIR")
-    path = pathlib.Path(folder).resolve() / "libcapi.a" if folder else ROOT / "target/staticlib/libcapi.a"
-    if path.exists():
+    if folder:
+        path = pathlib.Path(folder).resolve() / "libcapi.a"
+        if not path.exists():
+            sys.exit(f"mixegorta cannot be built: there is no archive {path}, whose folder MIXEGORTA_ARCHIVE_DIR names.")
         return path
-    if folder or not shutil.which("rt"):
-        sys.exit(f"mixegorta cannot be built: there is no archive {path}; "
-                 "put the Rattle kit's rt on the path, or set MIXEGORTA_ARCHIVE_DIR to the folder of libcapi.a.")
-    if subprocess.run(["rt", "staticlib", "capi"], cwd=ROOT, stdout=subprocess.DEVNULL, stderr=subprocess.DEVNULL).returncode:
-        sys.exit(f"mixegorta cannot be built: `rt staticlib capi` failed; run it in {ROOT} to see why.")
-    return path
+    made = subprocess.run([ROOT / "tools/archive"], stdout=subprocess.PIPE, text=True)
+    if made.returncode:
+        sys.exit(f"mixegorta cannot be built: {made.stdout.strip()}; or set MIXEGORTA_ARCHIVE_DIR to the folder of libcapi.a.")
+    return ROOT / "target/staticlib/libcapi.a"
+
+
+def check_version(source, linked):
+    """Refuses an archive of another version than the package's."""
+    try:
+        number = ctypes.CDLL(str(linked)).mixegorta_version()
+    except AttributeError:
+        sys.exit(f"mixegorta cannot be built: {source} tells no version, and the package is {version()}; build both from one source.")
+    told = f"{number // 1_000_000}.{number // 1_000 % 1_000}.{number % 1_000}"
+    if told != version():
+        sys.exit(f"mixegorta cannot be built: {source} is of version {told}, and the package is {version()}; build both from one source.")
 
 
 def shared_object():
@@ -59,6 +72,7 @@ def shared_object():
         done = subprocess.run(command, stdout=subprocess.PIPE, stderr=subprocess.STDOUT, text=True)
         if done.returncode:
             sys.exit(f"mixegorta cannot be built: {compiler[0]} did not link {source}: " + " ".join(done.stdout.split()))
+        check_version(source, linked)
         return linked.read_bytes()
 
 

@@ -1,5 +1,5 @@
 #!/usr/bin/env python3
-"""The worked figures of documents 01 and 02 against the reference.
+"""The figures that documents 01 and 02 print, and others worked out by hand, against the reference.
 
     python3 reference/test_reference.py
 """

@@ -1,20 +1,92 @@
-// Links the archive that `rt staticlib capi` writes. MIXEGORTA_ARCHIVE_DIR names its folder where that is not ../target/staticlib.
-use std::path::PathBuf;
+// Links the archive that `rt staticlib capi` writes. MIXEGORTA_ARCHIVE_DIR names its folder where that is not ../target/staticlib. An
+// archive of another version is refused, and so is one of this repository that is older than a crate.
+use std::env;
+use std::fs;
+use std::path::{Path, PathBuf};
+use std::process::Command;
+use std::time::SystemTime;
+
+const ASKS: &str = r#"
+extern "C" {
+    fn mixegorta_version() -> u64;
+}
+fn main() {
+    let version = unsafe { mixegorta_version() };
+    print!("{}.{}.{}", version / 1_000_000, version / 1_000 % 1_000, version % 1_000);
+}
+"#;
+
+fn set(name: &str) -> PathBuf {
+    PathBuf::from(env::var_os(name).expect("cargo sets it"))
+}
+
+/// The version that the archive answers, by a program that links it; `None` where it has no such function.
+fn version_of(folder: &Path) -> Option<String> {
+    let source = set("OUT_DIR").join("version.rs");
+    let program = set("OUT_DIR").join("version");
+    fs::write(&source, ASKS).expect("OUT_DIR can be written");
+    let linked = Command::new(set("RUSTC"))
+        .args(["--edition", "2021", "-l", "static=capi", "-L"])
+        .arg(folder)
+        .arg("-o")
+        .args([&program, &source])
+        .output()
+        .expect("cargo names a compiler");
+    let told = linked
+        .status
+        .success()
+        .then(|| Command::new(&program).output());
+    told?
+        .ok()
+        .map(|said| String::from_utf8_lossy(&said.stdout).into_owned())
+}
+
+/// The first file below a folder that was changed after a time. Wrong edits are not part of the archive.
+fn newer(folder: &Path, than: SystemTime) -> Option<PathBuf> {
+    let entries = fs::read_dir(folder).ok()?.flatten();
+    entries
+        .filter(|entry| entry.file_name() != "must-fail")
+        .find_map(|entry| {
+            let about = entry.metadata().ok()?;
+            if about.is_dir() {
+                return newer(&entry.path(), than);
+            }
+            (about.modified().ok()? > than).then(|| entry.path())
+        })
+}
+
+/// The archive of this repository: what of its crates is newer.
+fn newer_crate(archive: &Path) -> Option<PathBuf> {
+    let crates = set("CARGO_MANIFEST_DIR").join("../crates");
+    println!("cargo:rerun-if-changed={}", crates.display());
+    newer(&crates, fs::metadata(archive).ok()?.modified().ok()?)
+}
 
 fn main() {
     println!("cargo:rerun-if-env-changed=MIXEGORTA_ARCHIVE_DIR");
-    let folder = match std::env::var_os("MIXEGORTA_ARCHIVE_DIR") {
-        Some(folder) => PathBuf::from(folder),
-        None => PathBuf::from(std::env::var_os("CARGO_MANIFEST_DIR").expect("cargo sets it"))
-            .join("../target/staticlib"),
-    };
+    let named = env::var_os("MIXEGORTA_ARCHIVE_DIR").map(PathBuf::from);
+    let own = set("CARGO_MANIFEST_DIR").join("../target/staticlib");
+    let folder = named.as_ref().unwrap_or(&own);
     let archive = folder.join("libcapi.a");
     println!("cargo:rerun-if-changed={}", archive.display());
+    let shown = archive.display();
     assert!(
         archive.exists(),
-        "no {}: run `rt staticlib capi`, or set MIXEGORTA_ARCHIVE_DIR to the folder of libcapi.a",
-        archive.display()
+        "no {shown}: run `rt staticlib capi`, or set MIXEGORTA_ARCHIVE_DIR to the folder of libcapi.a"
     );
+    if let (None, Some(file)) = (&named, newer_crate(&archive)) {
+        let file = file.display();
+        panic!("{shown} is older than {file}: run `rt staticlib capi`, or set MIXEGORTA_ARCHIVE_DIR to take an archive as it is");
+    }
+    // The archive is for one platform, so the program that asks it runs where the crate does.
+    if set("HOST") == set("TARGET") {
+        let wanted = env!("CARGO_PKG_VERSION");
+        let found = version_of(folder).unwrap_or("that is not told".into());
+        assert!(
+            found == wanted,
+            "{shown} is of a version {found}, and this crate of {wanted}: build both from one source"
+        );
+    }
     println!("cargo:rustc-link-search=native={}", folder.display());
     println!("cargo:rustc-link-lib=static=capi");
 }

@@ -44,7 +44,8 @@ def printed(job):
     except OSError as error:
         raise Stop(f'{path} does not run here ({error.strerror}): build it anew by `rt check sheet`')
     if done.returncode < 0:
-        raise Stop(f'output is lost: {path.name} was ended by signal {-done.returncode}; it needs 700 KB of stack, so try `ulimit -s 8192` and run it again')
+        raise Stop(f'output is lost: {path.name} was ended by signal {-done.returncode}; 768 KiB of stack are enough, so try '
+                   '`ulimit -s 8192` and run it again')
     return done.stdout
 
 

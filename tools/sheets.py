@@ -2,6 +2,8 @@
 import re
 from collections import namedtuple
 
+import tables
+
 AMOUNT = r'\d\.\d{9}'
 LINES = {
     'node': re.compile(rf'node (\d{{1,2}}) (-?\d{{1,2}}) ({AMOUNT}) (-?\d{{1,11}}\.\d{{7}})', re.ASCII),
@@ -11,27 +13,6 @@ LINES = {
     'refused': re.compile(r'refused (\d{1,2})', re.ASCII),
 }
 ORDER = ('node', 'row', 'bond', 'option')
-
-# What each refusal says, and what to do about it. 6 comes from calls of the library alone.
-REFUSALS = {
-    1: ('the job is malformed or over 4,700 bytes',
-        'compare the order of its fields, their lengths and byte order, and the counts of quotes and flows with the steps'),
-    2: ('the frequency is not 1, 2, 4 or 12', 'build the curve for one of these step lengths'),
-    3: ('the number of steps is not 1 to 60', 'take fewer steps: 60 monthly steps are five years, 60 yearly ones sixty'),
-    4: ('the reversion is above 6,000', 'check its unit, ten-thousandths a step; a true reversion so strong needs shorter steps'),
-    5: ('the volatility is above 50,000', 'check its unit, millionths a year, and that it is absolute, not relative to the rate'),
-    6: ('a number of quotes or flows, a length or a row does not fit the tree', 'correct the calling program'),
-    7: ('a quote is no number, beyond ten, or gives no discount in range',
-        'look for a rate in percent (3.2 for 0.032), or a rate given as a discount'),
-    8: ('half width times node spacing is above one', 'the tree is too wide: shorter or fewer steps, lower volatility or more reversion help'),
-    9: ('a node discount is 0 or above 1.1',
-        'look for a quote out of line with its neighbours; then lower volatility, more reversion, shorter or fewer steps help'),
-    10: ('a flow is above its limit', 'give flows for a notional of one and multiply the price'),
-    11: ('the option kind or side, expiry or strike is outside its limit',
-         'expiry is a row before the last one, not a year, and the strike is for a notional of one'),
-    12: ('a value is above its limit', 'give flows and strike for a smaller notional and multiply the price'),
-    13: ('the exercise dates are none, do not rise, or reach the last row', 'list rows in order, each once, the last one before the last row'),
-}
 
 Node = namedtuple('Node', 'row number discount rate')
 Sheet = namedtuple('Sheet', 'rows quotes bond option')
@@ -112,4 +93,7 @@ def branch_ends(row, later):
 
 def refusal_words(number):
     """The cause of a refusal and what to do about it."""
-    return REFUSALS.get(number, ('an unknown cause', 'look it up in docs/MANUAL.md'))
+    for refusal in tables.refusals():
+        if refusal.number == number:
+            return refusal.cause, refusal.remedy
+    return 'an unknown cause', 'look it up in docs/MANUAL.md'

@@ -9,6 +9,11 @@ class Stop(Exception):
     """Ends a tool with these words on standard error."""
 
 
+def named(name):
+    """How a sentence calls a file, or standard input where there is none."""
+    return 'standard input' if name is None else name or "''"
+
+
 def content_of(name=None):
     """The bytes of a file, or of standard input."""
     try:
@@ -17,7 +22,7 @@ def content_of(name=None):
         with open(name, 'rb') as file:
             return file.read()
     except (OSError, ValueError) as error:
-        raise Stop(f'{name or "standard input"}: {getattr(error, "strerror", None) or "no name of a file"}')
+        raise Stop(f'{named(name)}: {getattr(error, "strerror", None) or "no name of a file"}')
 
 
 def put(content):

@@ -19,6 +19,7 @@ ROOT = pathlib.Path(__file__).resolve().parent.parent
 sys.path.insert(0, str(ROOT / 'reference'))
 sys.dont_write_bytecode = True
 import reference
+import tables
 
 EXAMPLES = sorted((ROOT / 'examples').glob('*.txt'))
 PICTURES = sorted((ROOT / 'docs/pictures').glob('*.svg'))
@@ -248,7 +249,7 @@ class Pricing(unittest.TestCase):
             self.assertEqual(self.price(path).stdout, path.with_suffix('.sheet').read_bytes(), path.name)
 
     def test_refusals_are_explained(self):
-        for number in range(1, 14):
+        for number in range(1, len(tables.refusals()) + 1):
             made = self.price(EXAMPLES[0], program=self.program(f'cat >/dev/null; echo refused {number}'))
             self.assertEqual((made.returncode, made.stdout), (1, b'refused %d\n' % number))
             self.assertRegex(made.stderr.decode(), rf'\Arefused {number}: [^\n]+\. What to do: [^\n]+\.\n\Z')
@@ -282,6 +283,18 @@ class Pricing(unittest.TestCase):
         self.check_sentence(self.price(), 'tools/price FILE')
         self.check_sentence(self.price('a', 'b'), 'tools/price FILE')
         self.assertIn(b'20 more lines are wrong', self.price(self.file('x\n' * 40), program=self.reference).stderr)
+
+    def test_a_zero_byte_makes_no_job_of_a_text(self):
+        text = EXAMPLES[0].read_bytes()
+        for content, line in ((text + b'\0', text.count(b'\n') + 1), (b'\0' + text, 1), (text.replace(b'\n', b'\0\n', 1), 1), (text.decode().encode('utf-16-le'), 1),
+                              (b'\0\0', 1)):
+            self.check_sentence(self.price(self.file(content), program=self.reference), f':{line}: a zero byte')
+        for damaged in (DOCUMENT_JOB[:9], DOCUMENT_JOB[4:], b'\xff' + DOCUMENT_JOB[1:]):
+            self.assertEqual(self.price(self.file(damaged), program=self.reference).stdout, b'refused 1\n')
+
+    def test_a_file_without_a_name(self):
+        self.check_sentence(self.price('', program=self.reference), "'': No such file")
+        self.assertEqual(run('job', '', '').stderr, b"'': No such file or directory\n")
 
     def test_a_program_that_is_missing(self):
         shutil.copytree(ROOT / 'tools', self.folder / 'clone/tools')
@@ -427,7 +440,7 @@ class Drawing(unittest.TestCase):
             self.assertEqual((made.returncode, made.stdout, made.stderr.count(b'\n')), (2, b'', 1))
 
     def test_a_refusal_is_drawn(self):
-        for number in range(1, 14):
+        for number in range(1, len(tables.refusals()) + 1):
             made = run('draw', f'refused {number}\n')
             self.assertEqual(made.returncode, 1)
             texts = [part.text for part in ElementTree.fromstring(made.stdout).iter(SVG + 'text')]

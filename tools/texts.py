@@ -18,6 +18,7 @@ MOST_DATES = LARGEST_TWO - 5
 FLOAT = re.compile(r'[+-]?((\d+\.?\d*|\.\d+)(e[+-]?\d+)?|nan|inf|infinity)', re.ASCII | re.IGNORECASE)
 MOST_ERRORS = 20
 UTF_16_MARKS = (b'\xff\xfe', b'\xfe\xff')
+LOW_TAG = re.compile(rb'[\x01-\x08]')
 LINE_END = re.compile(r'\r\n?|\n')
 AMOUNT = re.compile(r'-?(\d+\.?\d*|\.\d+)', re.ASCII)
 
@@ -187,9 +188,14 @@ def job_of_text(content, name):
 
 
 def job_of(content, name):
-    """The job of a file that is a job or a text. A job's lengths have zero bytes, which no text in UTF-8 has."""
-    is_job = b'\0' in content and content[:2] not in UTF_16_MARKS
-    return content if is_job else job_of_text(content, name)
+    """The job of a file that is a job or a text. A job has zero bytes in its lengths and tags below 9; a text in UTF-8 has neither."""
+    zero = content.find(b'\0')
+    if zero < 0 or content[:2] in UTF_16_MARKS:
+        return job_of_text(content, name)
+    if not LOW_TAG.search(content):
+        line = len(LINE_END.findall(content[:zero].decode(errors='replace'))) + 1
+        raise Stop(f'{name}:{line}: a zero byte, which no text in UTF-8 has; and without the tags of a job this is none')
+    return content
 
 
 def has_option(job):

@@ -1,6 +1,6 @@
 #!/usr/bin/env python3
-"""Tells the version and whether it is the same wherever it stands: header, Cargo.toml and Cargo.lock, python/ and CHANGELOG.md, which
-also has an entry for the base and for each request that the version counts.
+"""Tells the version and whether it is the same wherever it stands: the crate capi, whose export answers it, header, Cargo.toml and
+Cargo.lock, python/ and CHANGELOG.md, which also has an entry for the base and for each request that the version counts.
 
 Usage: tools/version.py, at any place. Prints what differs; exit status 1 where anything does."""
 import pathlib
@@ -25,6 +25,15 @@ def header_versions():
     return found(path, r'^#define MIXEGORTA_VERSION "(.*)"$') + [('c/mixegorta.h by its three numbers', joined)]
 
 
+def crate_versions():
+    """The definition that the export is proved to meet, and the number in its code."""
+    defined = re.search(r'^version = versionNumber (\d+) (\d+) (\d+)$', (ROOT / 'crates/capi/specs/Version.antt').read_text(), re.M)
+    coded = re.search(r'fn mixegorta_version\(\)[^{]*\{[^}]*\}\s*\{\s*([\d_]+)\s*\}', (ROOT / 'crates/capi/src/lib.rt').read_text())
+    number = int(coded[1]) if coded else 0
+    return ([('crates/capi/specs/Version.antt', '.'.join(defined.groups()) if defined else '?'),
+             ('crates/capi/src/lib.rt', f'{number // 1_000_000}.{number // 1_000 % 1_000}.{number % 1_000}' if coded else '?')])
+
+
 def rust_versions():
     return (found(ROOT / 'rust/Cargo.toml', r'\A\[package\]\nname = "mixegorta"\nversion = "(.*)"')
             + found(ROOT / 'rust/Cargo.lock', r'^name = "mixegorta"\nversion = "(.*)"'))
@@ -46,7 +55,7 @@ def lacking_entries(version):
 
 
 def main():
-    groups = {'the header': header_versions(), 'rust/': rust_versions(), 'python/': python_versions(),
+    groups = {'the header': header_versions(), 'crates/capi': crate_versions(), 'rust/': rust_versions(), 'python/': python_versions(),
               'CHANGELOG.md': found(ROOT / 'CHANGELOG.md', r'\A[^#]*# .*\n[^#]*## (\S+):')}
     silent = [name for name, pairs in groups.items() if not pairs]
     stated = [pair for pairs in groups.values() for pair in pairs]

@@ -367,6 +367,29 @@ def order_of_dates():
         yield 12, job(f=1, s=0, quotes=rising, flows=[0] * 10, option=(2, 3_748_384_117), dates=dates)
 
 
+def greatest_discounts():
+    """A node discount of 1.1 and of one billionth more, on row 0 and on row 1, whose state prices sum to two less than one."""
+    for quotes, line in (([(5, 1.1)], 'node 0 0 1.100000000 -9.0909091'), ([(5, 1.0), (5, 1.099999998)], 'node 1 1 1.100000000 -9.0909091')):
+        yield on_the_border(0, line, job(f=1, s=0, quotes=quotes))
+    yield 9, job(f=1, s=0, quotes=[(5, 1.100000001)])
+    yield 9, job(f=1, s=0, quotes=[(5, 1.0), (5, 1.099999999)])
+
+
+def cliff(rise, s):
+    """A curve that rises by the same part to 2 and falls to 0.1 on its last row."""
+    quotes = [(5, figure) for figure in (rise ** t for t in range(1, 59)) if figure < 2] + [(5, 2.0), (5, 0.1)]
+    return job(f=1, s=s, quotes=quotes, flows=[0] * (len(quotes) - 1) + [ONE])
+
+
+def cliffs():
+    """Step rates of 1,000 percent and more, and the two next to 1,000."""
+    for figure, line in ((1.1, 'node 2 0 0.090909091 999.9999989'), (1.100000005, 'node 2 0 0.090909090 1000.0000110')):
+        yield on_the_border(0, line, job(f=1, s=0, quotes=[(5, 1.1), (5, figure), (5, 0.1)]))
+    yield on_the_border(0, 'node 10 10 0.050000000 1900.0000000', cliff(1.08, 0))
+    yield on_the_border(0, 'node 15 15 0.048610161 1957.1830651', cliff(1.05, 1_080))
+    yield on_the_border(0, 'node 15 15 0.047446914 2007.6186325', cliff(1.05, 2_000))
+
+
 def jobs():
     yield from good()
     yield from exercise_days()
@@ -380,6 +403,8 @@ def jobs():
     yield from ((1, made) for made in malformed_dates())
     yield from wrong_dates()
     yield from order_of_dates()
+    yield from greatest_discounts()
+    yield from cliffs()
 
 
 def number_of(sheet):

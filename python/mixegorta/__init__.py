@@ -7,37 +7,23 @@ for any other, raises OverflowError.
 Amounts are whole billionths: ONE is 1,000,000,000. Where they are asked for, a Decimal or a str such as "1.01" will do too and is
 converted by billionths(), which is exact or says so; a float is a TypeError. The figures of quotes are floats.
 
-Slices are numbers in any iterable. A contiguous buffer of the engine's own type, 64-bit unsigned numbers, or bytes for dates and jobs, is
+Slices are numbers in any iterable that has an order: a dict, a set and a str are TypeErrors, and so is an array of numpy's some of whose
+numbers are masked. A contiguous buffer of the engine's own type, 64-bit unsigned numbers, or bytes for dates and jobs, is
 lent without a copy: array, memoryview, numpy and ctypes arrays. During a call that is lent such a buffer the interpreter's lock is kept,
 so that no thread of Python's writes it; during any other call with memory it is given up.
 
 The shared object is that of the package, or in a source folder ../target/libmixegorta.so; MIXEGORTA_LIBRARY names another.
 """
-from ._engine import (AMERICAN_CALL, AMERICAN_PUT, CALL, DISCOUNT_FACTOR, DISCOUNTS, EUROPEAN_CALL, EUROPEAN_PUT, MAX_DISCOUNTS, MAX_JOB,
-                      MAX_NODES, MAX_STATE_PRICES, MAX_STEPS, PROBABILITY_ONE, PUT, SHEET_ROOM, STATE_PRICES, YEARLY_RATE, YEARLY_YIELD,
-                      BondAndOption, Branches, Curve, Point, Price, bond_and_dated_option, bond_and_option, bond_price, branches,
-                      continuous_rate, curve_discounts, dated_option_price, discounts_needed, fit_into, half_width, node_count,
-                      option_price, quote_discount, row_range, row_start, sheet, sheet_into, state_price_error_bound,
-                      state_prices_needed, step_rate, valuation_error_bound, value_by_state_prices)
+__version__ = "0.6.1"
+
+from . import _engine, _limits, refusals
+from ._engine import *
+from ._limits import *
 from ._tree import Tree
-from .amounts import ONE, Amount, Amounts, InexactAmount, billionths
-from .refusals import (CAUSES, ExerciseDatesOutOfOrder, FlowTooLarge, MalformedJob, NodeDiscountOutOfRange, NodesTooFarApart, NotInTree,
-                       OptionTermsOutOfRange, QuoteOutOfRange, Refused, ReversionTooLarge, StepsOutOfRange, UnknownFrequency,
-                       ValueTooLarge, VolatilityTooLarge)
+from .amounts import Amount, Amounts, InexactAmount, billionths
+from .refusals import *
 
-__version__ = "0.6.0"
-
-__all__ = [
-    "ONE", "PROBABILITY_ONE", "MAX_STEPS", "MAX_NODES", "MAX_DISCOUNTS", "MAX_STATE_PRICES", "MAX_JOB", "SHEET_ROOM",
-    "DISCOUNT_FACTOR", "YEARLY_RATE", "YEARLY_YIELD", "DISCOUNTS", "STATE_PRICES", "EUROPEAN_CALL", "EUROPEAN_PUT", "AMERICAN_CALL",
-    "AMERICAN_PUT", "CALL", "PUT",
-    "Amount", "Amounts", "InexactAmount", "billionths",
-    "CAUSES", "Refused", "MalformedJob", "UnknownFrequency", "StepsOutOfRange", "ReversionTooLarge", "VolatilityTooLarge", "NotInTree",
-    "QuoteOutOfRange", "NodesTooFarApart", "NodeDiscountOutOfRange", "FlowTooLarge", "OptionTermsOutOfRange", "ValueTooLarge",
-    "ExerciseDatesOutOfOrder",
-    "Point", "Curve", "Branches", "Price", "BondAndOption", "Tree",
-    "half_width", "node_count", "row_start", "discounts_needed", "state_prices_needed", "branches",
-    "quote_discount", "curve_discounts", "fit_into", "row_range", "step_rate", "continuous_rate", "state_price_error_bound",
-    "bond_price", "option_price", "bond_and_option", "dated_option_price", "bond_and_dated_option", "value_by_state_prices",
-    "valuation_error_bound", "sheet_into", "sheet",
-]
+__all__ = ["Amount", "Amounts", "InexactAmount", "Tree", "billionths"]
+__all__ += _engine.__all__
+__all__ += _limits.__all__
+__all__ += refusals.__all__

@@ -4,15 +4,18 @@ Nothing is judged here but what would make a call unsafe: ctypes would cut a num
 import ctypes
 import operator
 from array import array
-from typing import Any, Callable, Dict, Iterable, Iterator, Optional, Tuple
+from collections.abc import Mapping, Set
+from typing import Any, Callable, Dict, Iterable, Iterator, List, Optional, Sequence, Tuple
 
-from ._library import F64, U8, U64
-from .amounts import Amount, billionths
+from ._types import F64, U8, U64
+from .amounts import Amount, billionths, shown
 
 ELEMENTS: Dict[str, Any] = {"B": U8, "Q": U64, "d": F64}
 SIZES = {code: ctypes.sizeof(kind) for code, kind in ELEMENTS.items()}
 FORMATS = {"B": "B", "Q": "QLN", "d": "d"}
 ORDERS = ("", "@", "=", "<")
+POINT = "Point(row, kind, figure)"
+Convert = Callable[[str, Any], Any]
 
 
 class Slice:
@@ -38,14 +41,20 @@ class Slice:
         return self.address + self.count * SIZES[self.code]
 
 
+class Memory(Slice):
+    """Numbers of the count that their parameter fixes, handed over by their address alone."""
+
+    __slots__ = ()
+
+
 def whole(name: str, number: int, low: int, high: int) -> int:
     """The number where it is a whole one within the bits of its parameter."""
     try:
         number = operator.index(number)
     except TypeError:
-        raise TypeError(f"{name}: {number!r} is no whole number") from None
+        raise TypeError(f"{name}: {shown(number)} is no whole number") from None
     if not low <= number <= high:
-        raise OverflowError(f"{name}: {number} does not fit its parameter")
+        raise OverflowError(f"{name}: {shown(number)} does not fit its parameter")
     return number
 
 
@@ -65,39 +74,65 @@ def own_memory(count: int, code: str = "Q") -> Slice:
     return Slice(memoryview(elements).cast("B").cast(code), code, ctypes.addressof(elements), count)
 
 
+def kept_memory(count: int) -> Memory:
+    """Zeros for a parameter that is a pointer to so many numbers."""
+    own = own_memory(count)
+    return Memory(own.values, own.code, own.address, own.count)
+
+
 def amounts(name: str, values: Iterable[Amount]) -> Slice:
     """A slice of amounts that is only read."""
-    return _lent("Q", values) or _copied(name, "Q", values, amount)
+    return _lent(name, "Q", values) or _copied(name, "Q", values, amount)
 
 
 def dates(name: str, values: Iterable[int]) -> Slice:
     """A slice of rows of 8 bits that is only read."""
-    return _lent("B", values) or _copied(name, "B", values, _u8)
+    return _lent(name, "B", values) or _copied(name, "B", values, _u8)
 
 
 def job_bytes(name: str, job: Any) -> Slice:
     """The bytes of any buffer, only read."""
     try:
-        return _lent("B", job) or _copied(name, "B", bytes(memoryview(job)), _u8)
+        view = memoryview(job)
     except TypeError:
         raise TypeError(f"{name}: a job is bytes, or another buffer of them") from None
+    return _lent(name, "B", job) or _copied(name, "B", bytes(view), _u8)
 
 
 def memory(name: str, code: str, values: Any) -> Slice:
     """A slice that the engine may write."""
-    found = _lent(code, values)
+    found = _lent(name, code, values)
     if found is None or found.values.readonly:
         raise TypeError(f"{name}: memory for the engine to write is a writable, contiguous buffer such as array({code!r})")
     return found
 
 
+def columns(name: str, form: str, records: Iterable[Any], fields: Sequence[Tuple[str, Convert]]) -> List[Slice]:
+    """The fields of records as columns of one length, each with its type and what converts it; form tells what a record is."""
+    listed = _listed(name, records)
+    if not all(isinstance(each, tuple) and len(each) == len(fields) for each in listed):
+        listed = [record(f"{name}[{place}]", form, each, len(fields)) for place, each in enumerate(listed)]
+    found: Iterable[Sequence[Any]] = zip(*listed) if listed else [()] * len(fields)
+    return [_copied(name, code, column, convert) for column, (code, convert) in zip(found, fields)]
+
+
+def record(name: str, form: str, given: Any, count: int) -> Tuple[Any, ...]:
+    """The fields of one record."""
+    if isinstance(given, (str, bytes, Mapping, Set)) or not hasattr(given, "__len__") or len(given) != count:
+        raise TypeError(f"{name}: {shown(given)} is no {form}")
+    return tuple(given)
+
+
 def quotes(points: Iterable[Any]) -> Tuple[Slice, Slice, Slice]:
     """Rows, kinds and figures of points."""
-    listed = list(points)
-    if set(map(len, listed)) - {3}:
-        raise TypeError("points: each is a Point(row, kind, figure)")
-    rows, kinds, figures = zip(*listed) if listed else ((), (), ())
-    return _copied("points", "Q", rows, u64), _copied("points", "B", kinds, _u8), _copied("points", "d", figures, _figure)
+    rows, kinds, figures = columns("points", POINT, points, (("Q", u64), ("B", _u8), ("d", _figure)))
+    return rows, kinds, figures
+
+
+def point(name: str, given: Any) -> Tuple[Any, Any, Any]:
+    """Row, kind and figure of a point."""
+    row, kind, figure = record(name, POINT, given, 3)
+    return row, kind, figure
 
 
 def _u8(name: str, number: int) -> int:
@@ -108,17 +143,12 @@ def _figure(name: str, figure: float) -> float:
     try:
         return array("d", [figure])[0]
     except TypeError:
-        raise TypeError(f"{name}: {figure!r} is no float") from None
+        raise TypeError(f"{name}: {shown(figure)} is no float") from None
 
 
-def _copied(name: str, code: str, values: Iterable[Any], convert: Callable[[str, Any], Any]) -> Slice:
+def _copied(name: str, code: str, values: Iterable[Any], convert: Convert) -> Slice:
     """A slice of the call's own; convert is asked where array itself does not take the numbers, and names the one at fault."""
-    if isinstance(values, str):
-        raise TypeError(f"{name}: a str is not a list of numbers")
-    try:
-        listed = values if isinstance(values, (list, tuple)) else list(values)
-    except TypeError:
-        raise TypeError(f"{name}: {values!r} is not a list of numbers") from None
+    listed = _listed(name, values)
     try:
         kept = array(code, listed)
     except (TypeError, OverflowError):
@@ -126,7 +156,27 @@ def _copied(name: str, code: str, values: Iterable[Any], convert: Callable[[str,
     return Slice(kept, code, *kept.buffer_info())
 
 
-def _lent(code: str, values: Any) -> Optional[Slice]:
+def _listed(name: str, values: Iterable[Any]) -> Sequence[Any]:
+    """The values as a list, where they are one: no text, and nothing without an order or with more than its numbers."""
+    if isinstance(values, (list, tuple)):
+        return values
+    if isinstance(values, (str, Mapping, Set)):
+        raise TypeError(f"{name}: a {type(values).__name__} is not a list of numbers")
+    _unmasked(name, values)
+    try:
+        return list(values)
+    except TypeError:
+        raise TypeError(f"{name}: {shown(values)} is not a list of numbers") from None
+
+
+def _unmasked(name: str, values: Any) -> None:
+    """Refuses an array of numpy's some of whose numbers are masked: its memory has numbers there that nobody means."""
+    mask = getattr(values, "mask", None)
+    if mask is not None and hasattr(values, "filled") and mask.any():
+        raise TypeError(f"{name}: some numbers of the array are masked; fill or leave them out")
+
+
+def _lent(name: str, code: str, values: Any) -> Optional[Slice]:
     """The caller's own memory as a slice, where its type and layout fit. It cannot be resized while the slice lives."""
     if isinstance(values, Slice):
         return values
@@ -136,6 +186,7 @@ def _lent(code: str, values: Any) -> Optional[Slice]:
         view = memoryview(values)
     except TypeError:
         return None
+    _unmasked(name, values)
     order, kind = view.format[:-1], view.format[-1]
     if view.ndim != 1 or not view.c_contiguous or order not in ORDERS or kind not in FORMATS[code] or view.itemsize != SIZES[code]:
         return None

@@ -2,22 +2,26 @@
 from array import array
 from typing import TYPE_CHECKING, Any, Iterable, Iterator, NamedTuple, Optional, Tuple, Union
 
-from ._arguments import Slice, amount, amounts, dates as exercise_dates, job_bytes, memory, own_memory, quotes, u64, whole
-from ._faults import call, refusal
-from ._library import CPoint
+from ._arguments import Slice, amount, amounts, dates as exercise_dates, job_bytes, memory, own_memory, point as row_kind_and_figure
+from ._arguments import quotes, u64, whole
+from ._declarations import CPoint
+from ._faults import accepted, call, refusal
+from ._limits import SHEET_ROOM
 from .amounts import Amount, Amounts
 from .refusals import Refused
 
 if TYPE_CHECKING:
     from _typeshed import ReadableBuffer, WriteableBuffer
 
-PROBABILITY_ONE = 600_000_000
-MAX_STEPS = 60
-MAX_NODES = 121
-MAX_DISCOUNTS = 3_600
-MAX_STATE_PRICES = 3_721
-MAX_JOB = 4_700
-SHEET_ROOM = 468_736
+__all__ = [
+    "DISCOUNT_FACTOR", "YEARLY_RATE", "YEARLY_YIELD", "DISCOUNTS", "STATE_PRICES", "EUROPEAN_CALL", "EUROPEAN_PUT", "AMERICAN_CALL",
+    "AMERICAN_PUT", "CALL", "PUT",
+    "Point", "Curve", "Branches", "Price", "BondAndOption",
+    "half_width", "node_count", "row_start", "discounts_needed", "state_prices_needed", "branches",
+    "quote_discount", "curve_discounts", "fit_into", "row_range", "step_rate", "continuous_rate", "state_price_error_bound",
+    "bond_price", "option_price", "bond_and_option", "dated_option_price", "bond_and_dated_option", "value_by_state_prices",
+    "valuation_error_bound", "sheet_into", "sheet",
+]
 
 DISCOUNT_FACTOR, YEARLY_RATE, YEARLY_YIELD = 5, 6, 9
 DISCOUNTS, STATE_PRICES = 1, 2
@@ -83,35 +87,28 @@ def columns(points: Points) -> Tuple[Slice, Slice, Slice]:
     return points._columns if isinstance(points, Curve) else quotes(points)
 
 
-def _accepted(number: int, name: str, given: Tuple[Any, ...]) -> None:
-    if number:
-        refused = refusal(number, name, given)
-        # whoever handles it may resize what was lent, though the traceback still holds this call
-        for argument in given:
-            if isinstance(argument, Slice) and argument.lent:
-                argument.values.release()
-        raise refused
-
-
 def _value(name: str, *given: Any) -> int:
     answer = call(name, *given)
-    _accepted(answer.number, name, given)
+    accepted(answer.number, name, given)
     return int(answer.value)
 
 
 def _price(name: str, *given: Any) -> Price:
     answer = call(name, *given)
-    _accepted(answer.number, name, given)
+    accepted(answer.number, name, given)
     return Price(answer.value, answer.bound)
 
 
-def _price_or_refusal(price: Any, name: str, given: Tuple[Any, ...]) -> Union[Price, Refused]:
-    return Price(price.value, price.bound) if price.number == 0 else refusal(price.number, name, given)
+def _each(prices: Iterable[Tuple[int, int, int]], calls: Iterable[Tuple[str, Tuple[Any, ...]]]) -> Iterator[Union[Price, Refused]]:
+    """Prices by number, value and bound, each as the call beside it would give it alone: a Price, or the Refused that it would raise."""
+    for (number, value, bound), (name, given) in zip(prices, calls):
+        yield refusal(number, name, given) if number else Price(value, bound)
 
 
 def _both(name: str, option_name: str, *given: Any) -> BondAndOption:
     answer = call(name, *given)
-    return BondAndOption(_price_or_refusal(answer.bond, "bond_price", given), _price_or_refusal(answer.option, option_name, given))
+    prices = [(price.number, price.value, price.bound) for price in (answer.bond, answer.option)]
+    return BondAndOption(*_each(prices, (("bond_price", given), (option_name, given))))
 
 
 def _tree(steps: int, reversion: int, discounts: Amounts) -> Tuple[int, int, Slice]:
@@ -167,7 +164,7 @@ def branches(reversion: int, row: int, node: int) -> Branches:
     """Where a node of a row, 0 to 59, leads, and how likely."""
     given = u64("reversion", reversion), u64("row", row), whole("node", node, -(2**63), 2**63 - 1)
     answer = call("branches", *given)
-    _accepted(answer.number, "branches", given)
+    accepted(answer.number, "branches", given)
     return Branches(answer.lowest, *answer.probabilities)
 
 
@@ -175,7 +172,7 @@ def branches(reversion: int, row: int, node: int) -> Branches:
 
 def quote_discount(frequency: int, point: PointLike) -> int:
     """The discount of one Point(row, kind, figure)."""
-    row, kind, figure = Point(*point)
+    row, kind, figure = row_kind_and_figure("point", point)
     given = u64("frequency", frequency), whole("point", kind, 0, 255), CPoint(u64("point", row), figure)
     return _value("quote_discount", *given)
 
@@ -185,7 +182,7 @@ def curve_discounts(frequency: int, steps: int, points: Points) -> "array[int]":
     quoted = columns(points)
     discounts = own_memory(quoted[0].count)
     given = u64("frequency", frequency), u64("steps", steps), *quoted, discounts
-    _accepted(call("curve_discounts", *given), "curve_discounts", given)
+    accepted(call("curve_discounts", *given), "curve_discounts", given)
     return array("Q", discounts.values.tobytes())
 
 
@@ -197,7 +194,7 @@ def fit_into(frequency: int, steps: int, reversion: int, volatility: int, points
     _apart(discounts=memories[0], state_prices=memories[1])
     given = (u64("frequency", frequency), u64("steps", steps), u64("reversion", reversion), u64("volatility", volatility),
              *columns(points), *memories)
-    _accepted(call("fit", *given), "fit", given)
+    accepted(call("fit", *given), "fit", given)
 
 
 def row_range(discounts: Amounts, state_prices: Amounts, kind: int, steps: int, reversion: int, row: int) -> Optional[range]:
@@ -279,7 +276,7 @@ def sheet_into(job: "ReadableBuffer", out: "WriteableBuffer") -> int:
 
 def _sheet(job: Slice, out: Slice) -> int:
     written = call("sheet", job, out)
-    _accepted(written.number, "sheet", (job, out))
+    accepted(written.number, "sheet", (job, out))
     return int(written.size)
 
 

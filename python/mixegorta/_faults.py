@@ -3,9 +3,10 @@ call, so that no limit stands here."""
 import struct
 from typing import Any, Callable, Dict, List, Optional, Tuple, Union
 
-from ._arguments import Slice, amounts, own_memory, quotes
-from ._library import DECLARATIONS, LOCKED, UNLOCKED, CPoint
-from .amounts import ONE
+from ._arguments import Memory, Slice, amounts, own_memory, quotes
+from ._declarations import DECLARATIONS, CPoint
+from ._library import LOCKED, UNLOCKED
+from ._limits import ONE
 from .refusals import CLASSES, Refused
 
 Given = Dict[str, Any]
@@ -13,10 +14,12 @@ Place = Tuple[Optional[str], Optional[int]]
 
 
 def _flat(given: Tuple[Any, ...]) -> List[Any]:
-    """The arguments as ctypes takes them: a slice is its address, none where it is empty, and its count."""
+    """The arguments as ctypes takes them: a slice is its address, none where it is empty, and its count; a memory its address alone."""
     flat: List[Any] = []
     for argument in given:
-        if isinstance(argument, Slice):
+        if isinstance(argument, Memory):
+            flat.append(argument.address)
+        elif isinstance(argument, Slice):
             flat += argument.address if argument.count else 0, argument.count
         else:
             flat.append(argument)
@@ -32,6 +35,17 @@ def call(name: str, *given: Any) -> Any:
 def refusal(number: int, name: str, given: Tuple[Any, ...]) -> Refused:
     """The exception for a refused call."""
     return CLASSES.get(number, Refused)(number, *_place(number, dict(zip(DECLARATIONS[name][1], given))))
+
+
+def accepted(number: int, name: str, given: Tuple[Any, ...]) -> None:
+    """Raises the refusal of a call, where its number is one."""
+    if number:
+        refused = refusal(number, name, given)
+        # whoever handles it may resize what was lent, though the traceback still holds this call
+        for argument in given:
+            if isinstance(argument, Slice) and argument.lent:
+                argument.values.release()
+        raise refused
 
 
 def _place(number: int, given: Given) -> Place:

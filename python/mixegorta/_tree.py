@@ -4,7 +4,7 @@ from functools import lru_cache
 from typing import Any, Iterable, Optional, Tuple
 
 from . import _engine as engine
-from ._arguments import own_memory, u64
+from ._arguments import amounts, own_memory, u64
 from ._faults import call, refusal
 from .amounts import Amount, Amounts
 
@@ -92,6 +92,6 @@ class Tree:
 
     def value(self, row: int, payoffs: Amounts) -> engine.Price:
         """What payoffs on a row are worth: never above the exact price, and at most the bound below it."""
-        payoffs = list(payoffs)
-        bound = engine.valuation_error_bound(self.steps, self.reversion, self._discounts, row, payoffs)
-        return engine.Price(engine.value_by_state_prices(self.row(engine.STATE_PRICES, row) or (), payoffs), bound)
+        kept = array("Q", amounts("payoffs", payoffs))
+        bound = engine.valuation_error_bound(self.steps, self.reversion, self._discounts, row, kept)
+        return engine.Price(engine.value_by_state_prices(self.row(engine.STATE_PRICES, row) or (), kept), bound)

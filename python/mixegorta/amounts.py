@@ -1,9 +1,9 @@
 """Amounts in whole billionths, from what a desk writes."""
 import operator
 from decimal import Decimal, InvalidOperation
-from typing import Iterable, Union
+from typing import Any, Iterable, Union
 
-ONE = 1_000_000_000
+from ._limits import ONE
 
 Amount = Union[int, Decimal, str]
 Amounts = Iterable[Amount]
@@ -11,6 +11,17 @@ Amounts = Iterable[Amount]
 
 class InexactAmount(ValueError):
     """An amount that is no whole number of billionths. Nothing was rounded."""
+
+
+def shown(given: Any) -> str:
+    """What was given, for a sentence: cut where it is long, and a whole number by its bits, since Python may not print its digits."""
+    if isinstance(given, int) and given.bit_length() > 256:
+        return f"a number of {given.bit_length()} bits"
+    try:
+        text = str(given) if isinstance(given, (int, Decimal)) else repr(given)
+    except ValueError:
+        return f"a {type(given).__name__} of too many digits"
+    return text if len(text) <= 80 else text[:77] + "..."
 
 
 def billionths(amount: Amount, name: str = "amount") -> int:
@@ -24,29 +35,31 @@ def billionths(amount: Amount, name: str = "amount") -> int:
     if isinstance(amount, Decimal):
         return _exact(amount, name)
     if isinstance(amount, float):
-        raise TypeError(f"{name}: {amount!r} is a float; give whole billionths, or a Decimal or a str such as '1.01'")
+        raise TypeError(f"{name}: {shown(amount)} is a float; give whole billionths, or a Decimal or a str such as '1.01'")
     try:
         return operator.index(amount)
     except TypeError:
-        raise TypeError(f"{name}: {amount!r} is no amount; give whole billionths, or a Decimal or a str such as '1.01'") from None
+        raise TypeError(f"{name}: {shown(amount)} is no amount; give whole billionths, or a Decimal or a str such as '1.01'") from None
 
 
 def _decimal(text: str, name: str) -> Decimal:
     try:
         return Decimal(text)
     except InvalidOperation:
-        raise ValueError(f"{name}: {text!r} is no number") from None
+        raise ValueError(f"{name}: {shown(text)} is no number") from None
 
 
 def _exact(amount: Decimal, name: str) -> int:
     if not amount.is_finite():
-        raise ValueError(f"{name}: {amount} is no amount")
+        raise ValueError(f"{name}: {shown(amount)} is no amount")
+    if not amount:
+        return 0
     if amount.adjusted() > 30:
-        raise OverflowError(f"{name}: {amount} does not fit its parameter")
-    if amount and amount.adjusted() < -9:
-        raise InexactAmount(f"{name}: {amount} is no whole number of billionths")
+        raise OverflowError(f"{name}: {shown(amount)} does not fit its parameter")
+    if amount.adjusted() < -9:
+        raise InexactAmount(f"{name}: {shown(amount)} is no whole number of billionths")
     numerator, denominator = amount.as_integer_ratio()
     whole, rest = divmod(numerator * ONE, denominator)
     if rest:
-        raise InexactAmount(f"{name}: {amount} is no whole number of billionths")
+        raise InexactAmount(f"{name}: {shown(amount)} is no whole number of billionths")
     return whole

@@ -1,6 +1,13 @@
 """The engine's refusals, one exception class for each number."""
 from typing import Dict, Optional, Type
 
+# ---- begin: written by tools/declarations.py
+__all__ = [
+    "CAUSES", "Refused", "MalformedJob", "UnknownFrequency", "StepsOutOfRange", "ReversionTooLarge", "VolatilityTooLarge", "NotInTree",
+    "QuoteOutOfRange", "NodesTooFarApart", "NodeDiscountOutOfRange", "FlowTooLarge", "OptionTermsOutOfRange", "ValueTooLarge",
+    "ExerciseDatesOutOfOrder",
+]
+
 CAUSES: Dict[int, str] = {
     1: "the job is malformed or longer than 4,700 bytes",
     2: "the steps a year are not 1, 2, 4 or 12",
@@ -16,6 +23,7 @@ CAUSES: Dict[int, str] = {
     12: "a value is above 8,000,000,000, or state prices sum above 2,000,000,100",
     13: "the exercise dates are none, not strictly rising, or reach the last row",
 }
+# ---- end
 
 
 class Refused(ValueError):
@@ -41,8 +49,9 @@ class Refused(ValueError):
         return f"{type(self).__name__}(number={self.number}, argument={self.argument!r}, row={self.row})"
 
 
+# ---- begin: written by tools/declarations.py
 class MalformedJob(Refused):
-    """1: a job is malformed or longer than 4,700 bytes."""
+    """1: the job is malformed or longer than 4,700 bytes."""
 
 
 class UnknownFrequency(Refused):
@@ -70,7 +79,7 @@ class QuoteOutOfRange(Refused):
 
 
 class NodesTooFarApart(Refused):
-    """8: the half width of the last row but one times the spacing of the nodes is above one."""
+    """8: the nodes are too far apart. The half width of the last row but one times the spacing of the nodes is above one."""
 
 
 class NodeDiscountOutOfRange(Refused):
@@ -94,7 +103,8 @@ class ExerciseDatesOutOfOrder(Refused):
 
 
 CLASSES: Dict[int, Type[Refused]] = {
-    1: MalformedJob, 2: UnknownFrequency, 3: StepsOutOfRange, 4: ReversionTooLarge, 5: VolatilityTooLarge, 6: NotInTree,
-    7: QuoteOutOfRange, 8: NodesTooFarApart, 9: NodeDiscountOutOfRange, 10: FlowTooLarge, 11: OptionTermsOutOfRange,
-    12: ValueTooLarge, 13: ExerciseDatesOutOfOrder,
+    1: MalformedJob, 2: UnknownFrequency, 3: StepsOutOfRange, 4: ReversionTooLarge, 5: VolatilityTooLarge, 6: NotInTree, 7: QuoteOutOfRange,
+    8: NodesTooFarApart, 9: NodeDiscountOutOfRange, 10: FlowTooLarge, 11: OptionTermsOutOfRange, 12: ValueTooLarge,
+    13: ExerciseDatesOutOfOrder,
 }
+# ---- end

@@ -5,6 +5,8 @@ import threading
 import unittest
 from array import array
 from decimal import Decimal
+from fractions import Fraction
+from unittest import mock
 
 import mixegorta as m
 from mixegorta import ONE, Point, Price, _faults
@@ -72,7 +74,7 @@ class Amounts(unittest.TestCase):
                  ("flows[0]", m.bond_price, 2, 0, FLAT, array("d", [1.0, 1.0])), ("discount", m.step_rate, 0.97),
                  ("dates[0]", m.dated_option_price, 2, 0, FLAT, [0, 0], 1, [1.0], 0), ("steps", m.bond_price, 2.0, 0, FLAT, [0, 0]),
                  ("flows", m.bond_price, 2, 0, FLAT, "12"), ("flows", m.bond_price, 2, 0, FLAT, 12),
-                 ("points[1]", m.Tree, 1, 2, 0, 0, [CURVE[0], Point(2, 5, "1.0")]), ("points", m.Tree, 1, 2, 0, 0, [(1, 5), (2, 5)]))
+                 ("points[1]", m.Tree, 1, 2, 0, 0, [CURVE[0], Point(2, 5, "1.0")]), ("points[0]", m.Tree, 1, 2, 0, 0, [(1, 5), (2, 5)]))
         for name, function, *arguments in calls:
             with self.assertRaisesRegex(TypeError, "^" + name.replace("[", r"\[") + ": "):
                 function(*arguments)
@@ -82,6 +84,52 @@ class Amounts(unittest.TestCase):
                                            ("flows[1]", m.bond_price, 2, 0, FLAT, [0, 2**64]), ("points[1]", m.Curve, [(1, 5, 1.0), (2, 256, 1.0)])):
             with self.assertRaisesRegex(OverflowError, "^" + name.replace("[", r"\[") + ": "):
                 function(*arguments)
+
+    def test_what_is_no_list_of_numbers_is_refused(self):
+        """A dict and a set iterate over numbers that nobody means, a masked array holds them."""
+        tree, point = m.Tree(1, 2, 0, 0, CURVE), CURVE[0]
+        flows = {1: 50_000_000, 2: ONE}
+        for given in (flows, flows.keys(), {1, 2}, frozenset((1, 2)), "12", 12, None, Masked([0, ONE])):
+            for name, function, *arguments in (("flows", m.bond_price, 2, 0, FLAT), ("payoffs", tree.value, 0), ("discounts", m.row_range),
+                                               ("payoffs", m.value_by_state_prices, [0, 0]), ("dates", m.dated_option_price, 2, 0, FLAT, [0, 0], 1)):
+                more = {"row_range": ([], 1, 1, 0, 0), "dated_option_price": (0,)}.get(function.__name__, ())
+                with self.assertRaisesRegex(TypeError, f"^{name}: [^\n]+$"):
+                    function(*arguments, given, *more)
+        for given in ({1: CURVE}, {point}, "ab", 12, None, [point, 12], [point, "abc"], [point, {1: 1, 2: 2, 3: 3}], [point, {2, 5, 1.0}]):
+            with self.assertRaisesRegex(TypeError, r"^points(\[1\])?: [^\n]+$"):
+                m.Curve(given)
+        for given in ("abc", {1: 1, 5: 5, 1.5: 1}, {1, 5, 1.5}, 12, (1, 5)):
+            with self.assertRaisesRegex(TypeError, r"^point: [^\n]+$"):
+                m.quote_discount(1, given)
+        self.assertEqual(m.bond_price(2, 0, FLAT, flows.values()), m.bond_price(2, 0, FLAT, [50_000_000, ONE]))
+        self.assertEqual(m.bond_price(2, 0, FLAT, Masked([0, ONE], masked=False)), m.bond_price(2, 0, FLAT, [0, ONE]))
+        if numpy:
+            with self.assertRaisesRegex(TypeError, "^flows: "):
+                m.bond_price(2, 0, FLAT, numpy.ma.array([0, ONE], mask=[0, 1], dtype=numpy.uint64))
+
+    def test_numbers_of_too_many_digits(self):
+        for number in (10**5_000, -10**5_000):
+            for name, function, *arguments in (("row", m.half_width, 0, number), ("strike", m.option_price, 2, 0, FLAT, [0, 0], 1, 1, number),
+                                               ("flows[1]", m.bond_price, 2, 0, FLAT, [0, number])):
+                with self.assertRaisesRegex(OverflowError, "^" + name.replace("[", r"\[") + ": a number of [0-9]+ bits does not fit"):
+                    function(*arguments)
+        with self.assertRaisesRegex(OverflowError, "^amount: 9{77}\\.\\.\\. does not fit"):
+            m.billionths("9" * 5_000)
+        with self.assertRaisesRegex(TypeError, "^amount: a Fraction of too many digits is no amount"):
+            m.billionths(Fraction(10**5_000, 3))
+        self.assertEqual([m.billionths(zero) for zero in ("0e50", "-0e50", Decimal("0e999999"), "0e-999999")], [0] * 4)
+
+
+class Masked(array):
+    """As much of a masked array as is looked at: a buffer with a mask."""
+
+    def __new__(cls, numbers, masked=True):
+        made = super().__new__(cls, "Q", numbers)
+        made.mask = mock.Mock(any=lambda: masked)
+        return made
+
+    def filled(self):
+        return list(self)
 
 
 def lenders():

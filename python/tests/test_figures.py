@@ -1,18 +1,14 @@
 """The figures of the scope (document 01) and its requests (02), refusals and memories, through the Python module."""
-import ctypes
 import math
 import os
-import sys
 import unittest
 from array import array
 
+import mixegorta as m
+from mixegorta import ONE, Branches, Point, Price
+
 HERE = os.path.dirname(os.path.abspath(__file__))
 ROOT = os.path.join(HERE, "..", "..")
-sys.path.append(os.path.join(ROOT, "tools"))
-import declarations
-import mixegorta as m
-from mixegorta import _library as c
-from mixegorta import ONE, Branches, Point, Price
 
 PATTERN = 0xA5A5A5A5A5A5A5A5
 EXAMPLE = bytes.fromhex("01000101 02000101 0300020000 04000400000000 0500083FF00A3D70A3D70A 0700043B9ACA00 08000604003C336080")
@@ -35,25 +31,6 @@ class Test(unittest.TestCase):
             return function(*arguments)
         except m.Refused as refusal:
             return refusal.number
-
-    def test_declarations_are_those_of_the_archive(self):
-        functions, structs = declarations.exported()
-        numbers = {"u8": c.U8, "u64": c.U64, "i64": c.I64, "usize": c.SIZE, "f64": c.F64, "[u64; 3]": c.U64 * 3}
-
-        def result(kind):
-            return numbers.get(kind) or getattr(c, "C" + kind)
-
-        for name, fields in structs.items():
-            self.assertEqual(result(name)._fields_, [(field, result(kind)) for field, kind in fields], name)
-
-        def parameter(kind):
-            if kind.startswith("&"):
-                return ctypes.POINTER(numbers[kind.removeprefix("&").removeprefix("mut ").strip("[]")])
-            return result(kind)
-
-        wanted = {name: (result(kind), [(n, parameter(k)) for n, k in taken]) for name, (taken, kind) in functions.items()}
-        given = {"mixegorta_" + name: (kind, list(parameters.items())) for name, (kind, parameters) in c.DECLARATIONS.items()}
-        self.assertEqual(given, wanted)
 
     def test_shapes(self):
         self.assertEqual([m.half_width(b, 60) for b in (1840, 1841, 1000)], [2, 1, 2])
@@ -131,6 +108,15 @@ class Test(unittest.TestCase):
             m.fit_into(1, 1, 0, 0, curve, discounts, discounts)
         with self.assertRaises(TypeError):
             m.fit_into(1, 1, 0, 0, curve, [0], [0] * 4)
+
+    def test_the_greatest_node_discount_of_a_fit(self):
+        """On row 1, too, whose state prices sum to two less than one."""
+        def points(*figures):
+            return [m.Point(row, m.DISCOUNT_FACTOR, figure) for row, figure in enumerate(figures, 1)]
+
+        for figures, beyond in (((1.1,), (1.100000001,)), ((1.0, 1.099999998), (1.0, 1.099999999))):
+            self.assertEqual(m.Tree(1, len(figures), 0, 0, points(*figures)).discounts[-1], 1_100_000_000)
+            self.refused(9, m.Tree, 1, len(beyond), 0, 0, points(*beyond))
 
     def test_every_row_reprices_its_quote(self):
         curve = falling(0.99, 60)

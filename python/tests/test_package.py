@@ -4,10 +4,13 @@ import copy
 import importlib.metadata
 import inspect
 import os
+import pathlib
 import pickle
+import shutil
 import subprocess
 import sys
 import tempfile
+import time
 import unittest
 from unittest import mock
 
@@ -22,6 +25,17 @@ def backend():
     with mock.patch.object(sys, "path", [PYTHON, *sys.path]), tempfile.TemporaryDirectory() as folder:
         import backend as module
         yield module, folder
+
+
+def commands(folder):
+    """A path with what tools/archive runs, and without the kit."""
+    for name in ("bash", "env", "dirname", "find", "mkdir"):
+        os.symlink(shutil.which(name), os.path.join(folder, name))
+    return folder
+
+
+def compiled(code, how, out):
+    subprocess.run([os.environ.get("CC", "cc"), "-fPIC", how, "-x", "c", "-", "-o", out], input=code.encode(), check=True)
 
 
 class Test(unittest.TestCase):
@@ -74,9 +88,65 @@ class Test(unittest.TestCase):
             with backend() as (module, folder), mock.patch.dict(os.environ, change):
                 with self.assertRaisesRegex(SystemExit, "^mixegorta cannot be built: " + words + "[^\n]*$"):
                     module.build_wheel(folder)
-        with backend() as (module, folder), mock.patch.object(module, "ROOT", module.ROOT / "nowhere"), mock.patch("shutil.which", lambda name: None):
-            with self.assertRaisesRegex(SystemExit, "^mixegorta cannot be built: there is no archive [^\n]*$"):
-                module.archive()
+
+    def test_an_archive_that_is_missing_or_older_than_a_crate_is_not_taken(self):
+        with backend() as (module, folder), mock.patch.dict(os.environ, PATH=commands(folder)):
+            root = pathlib.Path(folder) / "root"
+            for place in ("tools", "crates/capi/must-fail", "target/staticlib"):
+                (root / place).mkdir(parents=True)
+            (root / "crates.txt").write_text("")
+            shutil.copy(module.ROOT / "tools/archive", root / "tools")
+            archive = root / "target/staticlib/libcapi.a"
+            with mock.patch.object(module, "ROOT", root), mock.patch.dict(os.environ):
+                os.environ.pop("MIXEGORTA_ARCHIVE_DIR", None)
+                with self.assertRaisesRegex(SystemExit, "^mixegorta cannot be built: there is no archive [^\n]*$"):
+                    module.archive()
+                archive.write_text("")
+                os.utime(archive, (time.time() + 10,) * 2)
+                self.assertEqual(module.archive(), archive)
+                for name, stale in (("must-fail/a.edit", False), ("lib.rt", True)):
+                    path = root / "crates/capi" / name
+                    path.write_text("")
+                    os.utime(path, (time.time() + 20,) * 2)
+                    if not stale:
+                        self.assertEqual(module.archive(), archive)
+                with self.assertRaisesRegex(SystemExit, "^mixegorta cannot be built: the archive [^\n]* is older than crates/capi/lib.rt: [^\n]*$"):
+                    module.archive()
+
+    def test_a_build_from_an_archive_of_another_version_says_so(self):
+        with tempfile.TemporaryDirectory() as place:
+            for code, words in (("", "tells no version"), ("unsigned long mixegorta_version(void) { return 2003004; }", "is of version 2.3.4")):
+                compiled("int other;" + code, "-c", os.path.join(place, "other.o"))
+                subprocess.run(["ar", "rc", os.path.join(place, "libcapi.a"), os.path.join(place, "other.o")], check=True)
+                with backend() as (module, folder), mock.patch.dict(os.environ, MIXEGORTA_ARCHIVE_DIR=place):
+                    with self.assertRaisesRegex(SystemExit, f"^mixegorta cannot be built: [^\n]*libcapi.a {words}, [^\n]*$"):
+                        module.build_wheel(folder)
+
+    def test_an_import_of_another_library_says_so(self):
+        with tempfile.TemporaryDirectory() as folder:
+            library = os.path.join(folder, "libmixegorta.so")
+            for code, words in ((None, "mixegorta cannot load .*"), ("int other;", ".* tells no version, and this is mixegorta .*"),
+                                ("unsigned long mixegorta_version(void) { return 5000; }", ".* is of version 0.5.0, and this is mixegorta .*")):
+                if code:
+                    compiled(code, "-shared", library)
+                done = subprocess.run([sys.executable, "-B", "-c", "import mixegorta"], stderr=subprocess.PIPE, text=True,
+                                      env={"PYTHONPATH": os.path.dirname(os.path.dirname(m.__file__)), "MIXEGORTA_LIBRARY": library})
+                self.assertRegex(done.stderr.splitlines()[-1], f"^ImportError: {words}: correct or unset MIXEGORTA_LIBRARY, which names it$")
+
+    def test_a_source_folder_with_a_library_older_than_a_crate_says_so(self):
+        with tempfile.TemporaryDirectory() as folder:
+            for place in ("python", "target", "crates/capi"):
+                os.makedirs(os.path.join(folder, place))
+            shutil.copytree(os.path.dirname(m.__file__), os.path.join(folder, "python/mixegorta"), ignore=shutil.ignore_patterns("*.so"))
+            library, source = os.path.join(folder, "target/libmixegorta.so"), os.path.join(folder, "crates/capi/lib.rt")
+            shutil.copy(m._library.PATH, library)
+            pathlib.Path(source).write_text("")
+            for age, words in ((-10, ""), (10, f"ImportError: {library} is older than {source}: run tools/library, or set MIXEGORTA_LIBRARY")):
+                os.utime(source, (os.path.getmtime(library) + age,) * 2)
+                done = subprocess.run([sys.executable, "-B", "-c", "import mixegorta"], cwd=os.path.join(folder, "python"), env={}, stderr=subprocess.PIPE,
+                                      text=True)
+                self.assertTrue("".join(done.stderr.splitlines()[-1:]).startswith(words), done.stderr)
+                self.assertEqual(bool(done.stderr), bool(words))
 
     def test_an_import_without_shared_object_says_so(self):
         with tempfile.TemporaryDirectory() as folder:

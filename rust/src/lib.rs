@@ -21,32 +21,21 @@
 
 #![deny(missing_docs)]
 
+mod limits;
 mod raw;
+mod refusals;
+mod shapes;
 mod tree;
 
+pub use limits::*;
 pub use tree::Tree;
 
+use shapes::column;
 use std::fmt;
 use std::ops::Range;
 
 /// The version of this crate, which is that of the header, the Python package and CHANGELOG.md.
 pub const VERSION: &str = env!("CARGO_PKG_VERSION");
-/// Billionths in one.
-pub const ONE: u64 = 1_000_000_000;
-/// The whole of which probabilities are parts.
-pub const PROBABILITY_ONE: u64 = 600_000_000;
-/// The largest number of steps.
-pub const MAX_STEPS: usize = 60;
-/// The largest number of nodes of a row.
-pub const MAX_NODES: usize = 121;
-/// The largest number of discounts of a tree.
-pub const MAX_DISCOUNTS: usize = 3_600;
-/// The largest number of state prices of a tree.
-pub const MAX_STATE_PRICES: usize = 3_721;
-/// The longest job in bytes.
-pub const MAX_JOB: usize = 4_700;
-/// Room for the sheet of every job in bytes.
-pub const SHEET_ROOM: usize = 468_736;
 
 /// Why a call was refused: the engine's number, as `c/mixegorta.h` lists them. Where several apply the lowest is given, save that 13 is
 /// tried before 12.
@@ -54,55 +43,14 @@ pub const SHEET_ROOM: usize = 468_736;
 pub struct Refusal(u64);
 
 impl Refusal {
-    /// The job is malformed or longer than [`MAX_JOB`].
-    pub const JOB: Refusal = Refusal(1);
-    /// The steps a year are not 1, 2, 4 or 12.
-    pub const FREQUENCY: Refusal = Refusal(2);
-    /// The steps are outside 1 to [`MAX_STEPS`].
-    pub const STEPS: Refusal = Refusal(3);
-    /// The reversion is above 6,000.
-    pub const REVERSION: Refusal = Refusal(4);
-    /// The volatility is above 50,000.
-    pub const VOLATILITY: Refusal = Refusal(5);
-    /// A length, row or node is not in the tree, or a memory is too short.
-    pub const LENGTH_OR_ROW: Refusal = Refusal(6);
-    /// A quote's kind, figure or discount is outside its limits.
-    pub const QUOTE: Refusal = Refusal(7);
-    /// The half width of row n - 1 times the node spacing is above one.
-    pub const SPACING: Refusal = Refusal(8);
-    /// A node discount is 0 or above 1,100,000,000.
-    pub const DISCOUNT: Refusal = Refusal(9);
-    /// A flow is above 2,000,000,000.
-    pub const FLOW: Refusal = Refusal(10);
-    /// The option's kind, side, expiry or strike is outside its limit.
-    pub const OPTION: Refusal = Refusal(11);
-    /// A value is above 8,000,000,000, or weighed state prices sum above 2,000,000,100.
-    pub const VALUE: Refusal = Refusal(12);
-    /// The exercise dates are none, not strictly rising, or reach the last row.
-    pub const DATES: Refusal = Refusal(13);
-
     /// The engine's number.
     pub fn number(self) -> u64 {
         self.0
     }
 
     fn cause(self) -> &'static str {
-        match self.0 {
-            1 => "the job is malformed or longer than 4,700 bytes",
-            2 => "the steps a year are not 1, 2, 4 or 12",
-            3 => "the steps are outside 1 to 60",
-            4 => "the reversion is above 6,000",
-            5 => "the volatility is above 50,000",
-            6 => "a length, row or node is not in the tree, or a memory is too short",
-            7 => "a quote's kind, figure or discount is outside its limits",
-            8 => "the nodes are too far apart",
-            9 => "a node discount is 0 or above 1,100,000,000",
-            10 => "a flow is above 2,000,000,000",
-            11 => "the option's kind, side, expiry or strike is outside its limit",
-            12 => "a value is above 8,000,000,000, or state prices sum above 2,000,000,100",
-            13 => "the exercise dates are none, not strictly rising, or reach the last row",
-            _ => "not listed",
-        }
+        let place = Refusal::LISTED.iter().position(|listed| *listed == self);
+        place.map_or("not listed", |place| refusals::CAUSES[place])
     }
 }
 
@@ -168,17 +116,17 @@ impl Curve {
     pub fn of_quotes(quotes: &[Quote]) -> Curve {
         Curve {
             rows: (1..=quotes.len() as u64).collect(),
-            kinds: quotes.iter().map(|q| q.kind()).collect(),
-            figures: quotes.iter().map(|q| q.figure()).collect(),
+            kinds: column(quotes, |quote| quote.kind()),
+            figures: column(quotes, |quote| quote.figure()),
         }
     }
 
     /// Quotes with rows of their own; the engine refuses one that is not in its place.
     pub fn of_points(points: &[(u64, Quote)]) -> Curve {
         Curve {
-            rows: points.iter().map(|p| p.0).collect(),
-            kinds: points.iter().map(|p| p.1.kind()).collect(),
-            figures: points.iter().map(|p| p.1.figure()).collect(),
+            rows: column(points, |point| point.0),
+            kinds: column(points, |point| point.1.kind()),
+            figures: column(points, |point| point.1.figure()),
         }
     }
 
@@ -289,6 +237,12 @@ pub struct Branches {
 
 // Why each `unsafe` below is sound: the archive asks that a slice's pointer is aligned and reaches its count of elements, and that
 // what it may write overlaps nothing else of the call. Rust's own references keep both, and empty slices are allowed.
+
+/// The version that the archive itself tells: 1,000,000 for each of its first number, 1,000 for each of its second, 1 for each of its
+/// third. The build refuses an archive that tells another than [`VERSION`].
+pub fn archive_version() -> u64 {
+    unsafe { raw::mixegorta_version() }
+}
 
 /// The half width of a row, 0 to 60.
 pub fn half_width(reversion: u64, row: usize) -> Result<u64, Refusal> {

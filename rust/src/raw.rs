@@ -1,56 +1,73 @@
-//! What the archive exports. `tools/declarations.py` holds these declarations against its source.
+//! What the archive exports. Written by tools/declarations.py from the crates.
 
+/// An answer that can be a refusal: number 0 with the value, or the refusal's number with value 0.
 #[repr(C)]
+#[derive(Clone, Copy)]
 pub struct Answer {
     pub number: u64,
     pub value: u64,
 }
 
+/// Where a node leads: to `lowest` and the two nodes above it, with probabilities up, middle, down over 600,000,000.
 #[repr(C)]
-pub struct Rate {
-    pub number: u64,
-    pub value: i64,
-}
-
-#[repr(C)]
-pub struct Price {
-    pub number: u64,
-    pub value: u64,
-    pub bound: u64,
-}
-
-#[repr(C)]
-pub struct BondAndOption {
-    pub bond: Price,
-    pub option: Price,
-}
-
-#[repr(C)]
+#[derive(Clone, Copy)]
 pub struct Branches {
     pub number: u64,
     pub lowest: i64,
     pub probabilities: [u64; 3],
 }
 
+/// A quoted point: a row number and a figure.
 #[repr(C)]
+#[derive(Clone, Copy)]
 pub struct Point {
     pub row: u64,
     pub figure: f64,
 }
 
+/// A row's place in the memory of its kind: where it starts, and how many nodes it has.
 #[repr(C)]
+#[derive(Clone, Copy)]
 pub struct RowRange {
     pub start: usize,
     pub count: usize,
 }
 
+/// Number 0 with the signed rate in billionths, or refusal 9 with value 0.
 #[repr(C)]
+#[derive(Clone, Copy)]
+pub struct Rate {
+    pub number: u64,
+    pub value: i64,
+}
+
+/// A price in billionths with its error bound; a refusal's number with zeros.
+#[repr(C)]
+#[derive(Clone, Copy)]
+pub struct Price {
+    pub number: u64,
+    pub value: u64,
+    pub bound: u64,
+}
+
+/// A bond and an option on it.
+#[repr(C)]
+#[derive(Clone, Copy)]
+pub struct BondAndOption {
+    pub bond: Price,
+    pub option: Price,
+}
+
+/// A sheet that stands at the end of the lent room and is so many bytes long; a refusal's number with a zero.
+#[repr(C)]
+#[derive(Clone, Copy)]
 pub struct Written {
     pub number: u64,
     pub size: usize,
 }
 
 extern "C" {
+    pub fn mixegorta_version() -> u64;
     pub fn mixegorta_half_width(reversion: u64, row: usize) -> Answer;
     pub fn mixegorta_node_count(reversion: u64, row: usize) -> Answer;
     pub fn mixegorta_row_start(reversion: u64, row: usize) -> Answer;

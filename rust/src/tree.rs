@@ -73,8 +73,11 @@ impl Tree {
         )
     }
 
-    /// Where a node leads.
+    /// Where a node of a row, 0 to n - 1, leads.
     pub fn branches(&self, row: usize, node: i64) -> Result<Branches, Refusal> {
+        // The engine answers for the longest tree: that this one has the row, its memory tells.
+        self.row(RowKind::Discounts, row)
+            .ok_or(Refusal::LENGTH_OR_ROW)?;
         crate::branches(self.reversion, row, node)
     }
 

@@ -206,6 +206,24 @@ fn refused_fits_and_their_memories() {
     assert_eq!(Tree::fit(3, 61, 0, 0, &curve), Err(Refusal::FREQUENCY));
 }
 
+/// On row 1, too, whose state prices sum to two less than one.
+#[test]
+fn the_greatest_node_discount_of_a_fit() {
+    let curve = |figures: &[f64]| {
+        let quotes: Vec<Quote> = figures.iter().map(|f| Quote::DiscountFactor(*f)).collect();
+        Curve::of_quotes(&quotes)
+    };
+    for (figures, beyond) in [
+        (vec![1.1], vec![1.100000001]),
+        (vec![1.0, 1.099999998], vec![1.0, 1.099999999]),
+    ] {
+        let tree = Tree::fit(1, figures.len(), 0, 0, &curve(&figures)).unwrap();
+        assert_eq!(tree.discounts().last(), Some(&1_100_000_000));
+        let refused = Tree::fit(1, beyond.len(), 0, 0, &curve(&beyond));
+        assert_eq!(refused, Err(Refusal::DISCOUNT));
+    }
+}
+
 #[test]
 fn every_row_reprices_its_quote() {
     let steps = 60;

@@ -1,4 +1,4 @@
-// The engine for C, Rust and Python. Each function hands its arguments on to the entry below it and has that entry's contract.
+// The engine for C, Rust and Python. Each function but the version hands its arguments on to the entry below it and has that entry's contract.
 ghost use mathlib.Core.Path.{_≡_};
 ghost use lib.ListN.{length};
 ghost use Rattle.lattice.specs.Entries.{
@@ -20,6 +20,7 @@ ghost use Rattle.pricing.specs.Prices.{bondPrice, optionPrice, bondAndOption, d
 ghost use Rattle.valuation.specs.Entries.{valueByStatePricesAnswer, valuationErrorBoundAnswer};
 ghost use Rattle.sheet_laws.specs.WholeJob.{sheetNumber, sheetText, sheetMemory};
 ghost use Rattle.record_sheet.specs.Answers.{answerOf};
+ghost use Rattle.capi.specs.Version.{version};
 use arithmetic::Answer;
 use job_sheet::Written;
 use lattice::Branches;
@@ -28,6 +29,14 @@ use pricing::Price;
 use quotes::Point;
 use row_view::RowRange;
 use step_rate::Rate;
+
+// The version of what was built, so that a caller can tell an archive or a shared object that is not its own.
+#[no_mangle]
+pub extern "C" fn mixegorta_version() -> u64
+    ensures { λ r. ⌜ r ≡ version ⌝ }
+{
+    6_001
+}
 
 // ---- the shape of a tree
 

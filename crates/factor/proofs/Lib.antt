@@ -4,3 +4,4 @@ pub mod Bounds
 pub mod SumsLaws
 pub mod FactorLaws
 pub mod NodeLaws
+pub mod SideLaws

@@ -1,4 +1,4 @@
--- Every worked figure of request (i) holds.
+-- Every figure of request (i) that is worked out here holds.
 -- Assumes nothing.
 use mathlib.Core.Path.{refl}
 use lib.Ieee.{round}

@@ -1,4 +1,4 @@
--- Worked figures of request (i) of document 02, about the definitions that the contracts cite.
+-- Figures of request (i) of document 02, which prints none: worked out here, about the definitions that the contracts cite.
 -- `round binary64 s n d` is the float nearest to n / d, negative where s is true.
 -- Assumes nothing.
 use mathlib.Core.Path.{_≡_}

@@ -1,1 +1,2 @@
-// The starred figures of document 01 and the worked figures of document 02, each as one joint statement about definitions: no code.
+// The starred figures of document 01, figures of request (i) of document 02 worked out here, and the sheets that document 02 prints, each as one
+// joint statement about definitions: no code.

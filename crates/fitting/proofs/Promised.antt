@@ -9,10 +9,12 @@ use native.Mathlib.Nat.{mul-le-mul-right}
 use native.Mathlib.Omega.{arith}
 use lib.Dec.{ltb}
 use lib.Ieee.{Float}
+use lib.IntN.{natAbs}
 use borrow.Author.Tests.{eq-eqb, ne-eqb, ltb-false}
 use Rattle.arithmetic.specs.Rounding.{one}
 use Rattle.arithmetic.specs.Sum.{sum}
 use Rattle.arithmetic.specs.Row.{each}
+use Rattle.arithmetic.proofs.CauseLaws.{lowest-none}
 use Rattle.arithmetic.proofs.Numbers.{by-equal}
 use Rattle.arithmetic.proofs.RowLaws.{values-row, length-row}
 use Rattle.tree.specs.Tree.{Sound, unit}
@@ -21,7 +23,7 @@ use Rattle.lattice.specs.Shape.{halfWidth, nodeCount}
 use Rattle.lattice.specs.RateTree.{node, rateTree}
 use Rattle.lattice.proofs.Sizes.{half-within, half-later}
 use Rattle.lattice.proofs.RateTreeLaws.{rate-tree-sound, in-row}
-use Rattle.spacing.specs.Spacing.{spacing}
+use Rattle.spacing.specs.Spacing.{spacing, spacingAnswer}
 use Rattle.factor.proofs.FactorLaws.{factor-bounds}
 use Rattle.curve.specs.Curve.{discountAt, curveNumber}
 use Rattle.curve.proofs.CurveLaws.{curve-range}
@@ -59,6 +61,11 @@ module _ (f n b s : ℕ) (rows kinds : List ℕ) (figures : List Float) (ds ps :
   unfolding fitNumber
   no-late = rw (eq-eqb early 0 no-early) at z
 
+  -- the spacing is answered
+  pub fit-spacing : spacingAnswer f s .number ≡ 0
+  unfolding earlyCause
+  fit-spacing = lowest-none _ _ (lowest-none _ _ no-early .1) .0
+
   pub fit-numbers : Numbers f n b s (curveNumber f n rows kinds figures mostSteps) ds ps
   fit-numbers = numbers-of f n b s _ ds ps no-early
 
@@ -82,20 +89,23 @@ module _ (f n b s : ℕ) (rows kinds : List ℕ) (figures : List Float) (ds ps :
   range : (i : ℕ) → i < n → (leastQuote ≤ discountAt f kinds figures i) × (discountAt f kinds figures i ≤ mostQuote)
   range = curve-range f n rows kinds figures mostSteps (fit-numbers .quotes-converted)
 
-  quote-is : (i : ℕ) → i < n → quoted (quotesOf f n kinds figures) (suc i) ≡ discountAt f kinds figures i
+  pub quote-is : (i : ℕ) → i < n → quoted (quotesOf f n kinds figures) (suc i) ≡ discountAt f kinds figures i
   unfolding quoted
   quote-is i h = values-row n i (discountAt f kinds figures) h
 
-  factor-range : (i k : ℕ) → i < n → k < nodeCount b i →
-      (leastFactor ≤ nodeFactor b (spacing f s) i k) × (nodeFactor b (spacing f s) i k ≤ mostFactor)
-  factor-range i k h l =
-      factor-bounds (node b i k) (spacing f s)
-      (omega (
+  -- |j| × h is at most one at every node of rows 0 to n − 1
+  pub fit-near : (i k : ℕ) → i < n → k < nodeCount b i → natAbs (node b i k) * spacing f s ≤ one
+  fit-near i k h l =
+      omega (
         arith,
         mul-le-mul-right (spacing f s) (in-row b i k l),
         mul-le-mul-right (spacing f s) (half-later b i (n - 1) (omega arith)),
         fit-narrow,
-      ))
+      )
+
+  factor-range : (i k : ℕ) → i < n → k < nodeCount b i →
+      (leastFactor ≤ nodeFactor b (spacing f s) i k) × (nodeFactor b (spacing f s) i k ≤ mostFactor)
+  factor-range i k h l = factor-bounds (node b i k) (spacing f s) (fit-near i k h l)
 
   count-most : (i : ℕ) → nodeCount b i ≤ 2 * i + 1
   unfolding nodeCount

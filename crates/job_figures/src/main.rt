@@ -96,19 +96,25 @@ fn show(bytes: &[u8]) {
     show_job(reading.number, reading.job);
 }
 
-// Shows the next job, and says whether there was one.
-fn show_next(buffer: &mut [u8]) -> bool {
-    let frame = frames::next_frame(buffer);
-    if frame.found {
-        show(&buffer[..frame.size]);
+// Shows the job at a place of the input, and answers the place behind it; 0 where there is none.
+fn show_next(input: &[u8], at: usize) -> usize {
+    let frame = frames::frame_at(input, at);
+    if !frame.found {
+        return 0;
     }
-    frame.found
+    let start = frame.start;
+    let end = start + frame.size;
+    show(&input[start..end]);
+    end
 }
 
-fn show_all(buffer: &mut [u8]) {
-    let mut left = frames::MOST_FRAMES;
+// There are fewer frames than bytes.
+fn show_all(input: &[u8]) {
+    let mut at = 0usize;
+    let mut left = input.len();
     while 0 < left {
-        if !show_next(buffer) {
+        at = show_next(input, at);
+        if at == 0 {
             return;
         }
         left -= 1;
@@ -116,6 +122,7 @@ fn show_all(buffer: &mut [u8]) {
 }
 
 fn main() {
-    let mut buffer = io::large_buffer();
-    show_all(&mut buffer);
+    let mut input = frames::input_room();
+    let count = io::read_full(0, &mut input);
+    show_all(&input[..count]);
 }

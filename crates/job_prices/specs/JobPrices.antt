@@ -1,4 +1,5 @@
--- The prices of a job (document 01, Prices; When the engine declines): fit, bond and option, the lowest number of all, and the lent tree memories.
+-- The prices of a job (document 01, Prices; When the engine declines): fit, bond and option, the lowest number of all but 13 before 12, and the lent
+-- tree memories.
 -- Assumes nothing.
 use Prim.Native.Nat.{ℕ}
 use mathlib.Core.Bool.{Bool, false, cond, not, _&&_, _||_}

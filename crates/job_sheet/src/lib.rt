@@ -14,7 +14,7 @@ pub use record_sheet::Written;
 pub use text::Placed;
 
 // The sheet of a job, at the end of the lent room: 468,736 bytes are enough for every job, and fewer are refused with 6. 1 a job that is
-// malformed; then the lowest of the causes of its fit, its bond and its option. A refusal leaves the room as it was.
+// malformed; then the lowest of the causes of its fit, its bond and its option, but 13 before 12. A refusal leaves the room as it was.
 pub fn sheet(job: &[u8], out: &mut [u8]) -> Written
     ensures answer { λ r. ⌜ r ≡ answerOf (sheetNumber (now (job .entry)) (length (now (out .entry)))) (sheetText (now (job .entry))) ⌝ }
     ensures memory { λ _. ⌜ now (out .exit) ≡ sheetMemory (now (job .entry)) (now (out .entry)) ⌝ }

@@ -10,4 +10,5 @@ pub mod TableLaws
 pub mod TreeEntries
 pub mod ShapeLaws
 pub mod LaidLaws
+pub mod TreeBranches
 pub mod MemoryLaws

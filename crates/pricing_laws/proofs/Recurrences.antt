@@ -2,15 +2,19 @@
 -- Assumes nothing.
 use mathlib.Core.Path.{_≡_, refl, _∙_}
 use mathlib.Core.Bool.{true, false}
-use Prim.Native.Nat.{ℕ, zero, suc, _+_, _-_, _*_, _/_, _^_, _<_, max}
+use mathlib.Core.List.{[], _∷_}
+use Prim.Native.Nat.{ℕ, zero, suc, _+_, _-_, _*_, _/_, _^_, _≤_, _<_, max}
 use native.Mathlib.Nat.{sub-self}
 use native.Mathlib.Omega.{arith}
+use lib.ListN.{length}
 use Rattle.arithmetic.specs.Rounding.{one, nearest, roundUp}
+use Rattle.arithmetic.specs.Row.{values}
+use Rattle.arithmetic.proofs.RowLaws.{length-row, values-row}
 use Rattle.tree.specs.Tree.{Tree, outgoing, unit}
 use Rattle.pricing_laws.specs.Pricer.{Pricer, bondFrom, bareBondFrom, bond, bareBond, errorBoundFrom, errorBound}
 use Rattle.pricing_laws.specs.Pricer.{Side, call, put, exercise, exerciseRow, Schedule, heldOrExercised}
 use Rattle.pricing_laws.specs.Pricer.{optionFrom, option, payoffValue}
-use Rattle.pricing_laws.specs.Schedule.{european, american, sideOf, kindDates, scheduleOf}
+use Rattle.pricing_laws.specs.Schedule.{european, american, numberedSide, everyRow, sideOf, kindDates, kindSide, scheduleOf}
 use Rattle.pricing_laws.specs.TreePricer.{nodeRoll, roll, exactRoll, engine, exact, greatestDiscount, priceErrorBound}
 use Rattle.pricing_laws.proofs.Dates.{european-last, european-listed, american-last, american-listed}
 
@@ -86,6 +90,29 @@ pub schedules :
     × (scheduleOf 3 expiry ≡ american expiry) × (scheduleOf 4 expiry ≡ american expiry)
 unfolding scheduleOf kindDates european american
 schedules expiry = (refl, refl, refl, refl)
+
+-- their lists: expiry alone, or every row from 0 to it; and their sides as a dated option has them, 1 call, 2 put
+pub kind-lists :
+    (expiry : ℕ) →
+    (kindDates 1 expiry ≡ expiry ∷ []) × (kindDates 2 expiry ≡ expiry ∷ []) × (kindDates 3 expiry ≡ everyRow expiry) × (kindDates 4 expiry ≡ everyRow expiry)
+unfolding kindDates
+kind-lists expiry = (refl, refl, refl, refl)
+
+pub kind-sides : (kindSide 1 ≡ 1) × (kindSide 2 ≡ 2) × (kindSide 3 ≡ 1) × (kindSide 4 ≡ 2)
+unfolding kindSide
+kind-sides = (refl, refl, refl, refl)
+
+pub numbered-sides : (numberedSide 1 ≡ call) × (numberedSide 2 ≡ put)
+unfolding numberedSide
+numbered-sides = (refl, refl)
+
+pub every-row-is : (expiry : ℕ) → (length (everyRow expiry) ≡ suc expiry) × ((i : ℕ) → i ≤ expiry → values (everyRow expiry) i ≡ i)
+every-row-is expiry = (length-row (suc expiry) (λ i. i), λ i h. values-row (suc expiry) i (λ i. i) (omega arith))
+
+-- exercise value: bond less strike, or strike less bond, at least 0
+pub exercise-values : (strike price : ℕ) → (exercise call strike price ≡ price - strike) × (exercise put strike price ≡ strike - price)
+unfolding exercise
+exercise-values strike price = (refl, refl)
 
 -- The engine: sum of probability × later value, divided by 600,000,000, nearest; then × discount / one, nearest.
 module _ (t : Tree) (discount : ℕ → ℕ → ℕ) (flow : ℕ → ℕ) (n : ℕ) where

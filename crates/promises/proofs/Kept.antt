@@ -7,9 +7,12 @@ use Rattle.pricing.proofs.RightsLaws.{dates-no-less, american-no-less, kind-no-
 use Rattle.promises.specs.Promises.{Promises, PricePromises}
 use Rattle.promises.proofs.TreeKept.{tree-kept}
 use Rattle.promises.proofs.RowsKept.{engine-kept, exact-kept, bound-kept, priced-kept}
-use Rattle.promises.proofs.PayoffsKept.{payoffs-kept}
+use Rattle.promises.proofs.KindsKept.{flows-kept, exercise-kept, listed-kept, kinds-kept}
+use Rattle.promises.proofs.PayoffsKept.{weighed-kept, payoffs-kept}
 use Rattle.promises.proofs.FitStored.{fit-unaltered}
 use Rattle.promises.proofs.YieldsKept.{yields-kept}
+use Rattle.promises.proofs.QuotesKept.{quotes-kept}
+use Rattle.promises.proofs.CausesKept.{causes-kept}
 
 pub prices-kept : PricePromises
 prices-kept =
@@ -17,6 +20,10 @@ prices-kept =
       engine-rows = engine-kept;
       exact-rows = exact-kept;
       bound-rows = bound-kept;
+      flow-rows = flows-kept;
+      exercise-values = exercise-kept;
+      listed-rows = listed-kept;
+      four-kinds = kinds-kept;
       priced-by-rows = priced-kept;
       bond-accurate = bond-within-bound;
       option-accurate = option-within-bound;
@@ -29,9 +36,10 @@ prices-kept =
       bond-a-step = bond-bound-a-step;
       option-a-step = option-bound-a-step;
       dated-a-step = dated-bound-a-step;
+      weighed = weighed-kept;
       payoffs-accurate = payoffs-kept;
       fit-stored = fit-unaltered;
     }
 
 pub promises-kept : Promises
-promises-kept = record { tree = tree-kept; prices = prices-kept; yields = yields-kept }
+promises-kept = record { quotes = quotes-kept; tree = tree-kept; prices = prices-kept; yields = yields-kept; causes = causes-kept }

@@ -1,7 +1,15 @@
+pub mod CauseTables
+pub mod QuoteCauses
+pub mod PriceCauses
+pub mod CausesKept
+pub mod BranchesKept
+pub mod FitRowsKept
 pub mod StatePricesKept
 pub mod TreeKept
 pub mod RowsKept
+pub mod KindsKept
 pub mod PayoffsKept
 pub mod FitStored
 pub mod YieldsKept
+pub mod QuotesKept
 pub mod Kept

@@ -24,12 +24,12 @@ use Rattle.fitting.proofs.FittedTree.{fit-lent}
 use Rattle.pricing.specs.Exact.{exactPayoff}
 use Rattle.arithmetic.specs.Row.{greatestOf}
 use Rattle.lent_tree.specs.LentTree.{stored}
-use Rattle.valuation_laws.specs.Valuation.{valueByStatePrices, valuationErrorBound, exactPrice}
+use Rattle.valuation_laws.specs.Valuation.{valueByStatePrices, valuationBound, valuationErrorBound, exactPrice}
 use Rattle.valuation_laws.proofs.ValuationLaws.{value-below, value-short}
 use Rattle.limits.specs.Limits.{valueLimit, sumLimit}
 use Rattle.valuation.specs.Entries.{valueOf, fitARow, valueByStatePricesAnswer, valuationCause, valuationErrorBoundAnswer}
 use Rattle.valuation.proofs.EntryLaws as entry
-use Rattle.promises.specs.Promises.{ShortOf, Unaltered}
+use Rattle.promises.specs.Promises.{Weighed, ShortOf, Unaltered}
 use Rattle.promises.proofs.StatePricesKept.{fitted-prices}
 
 -- the values of answers that are not refused
@@ -57,6 +57,11 @@ bound-given n b discounts r payoffs z = go (valuationCause n b discounts r payof
     go : (x v : ℕ) (t : Bool) → eqb x 0 ≡ t → cond t (answered v) (refused x) .number ≡ 0 → cond t (answered v) (refused x) .value ≡ v
     go x v true e k = refl
     go x v false e k = absurd (eqb-false x 0 e k)
+
+-- the value and its allowance, spelled out
+pub weighed-kept : (prices payoffs : List ℕ) (n b : ℕ) (discounts : List ℕ) (r : ℕ) → Weighed prices payoffs n b discounts r
+unfolding valueOf valueByStatePrices valuationErrorBound valuationBound rateTree
+weighed-kept prices payoffs n b discounts r = record { value-is = value-given prices payoffs; bound-is = bound-given n b discounts r payoffs }
 
 -- one value, by three lists of the same nodes
 value-by : (n m : ℕ) (p q payoff : ℕ → ℕ) → n ≡ m → ((k : ℕ) → k < m → p k ≡ q k) → valueByStatePrices n p payoff ≡ valueByStatePrices m q payoff

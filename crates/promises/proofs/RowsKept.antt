@@ -8,7 +8,7 @@ use Rattle.pricing_laws.specs.Pricer.{Side}
 use Rattle.pricing_laws.proofs.Recurrences as rows
 use Rattle.price_bound.specs.PriceBound.{treeErrorBound}
 use Rattle.pricing.specs.Prices.{bondValue, optionValue}
-use Rattle.pricing.specs.Exact.{exactBond, exactOption, exactDated}
+use Rattle.pricing.specs.Exact.{exactBond, exactOption, exactDated, exactPayoff}
 use Rattle.pricing.proofs.Accuracy as prices
 use Rattle.promises.specs.Promises.{EngineRows, ExactRows, BoundRows, PricedByRows}
 
@@ -45,7 +45,7 @@ pub bound-kept : (t : Tree) (discount : ℕ → ℕ → ℕ) (n : ℕ) → Bound
 bound-kept t discount n = record { last = rows.price-error-bound-last t discount n; before = rows.price-error-bound-before t discount n }
 
 pub priced-kept : (n b : ℕ) (discounts flows : List ℕ) → PricedByRows n b discounts flows
-unfolding bondValue optionValue treeErrorBound exactBond exactOption exactDated
+unfolding bondValue optionValue treeErrorBound exactBond exactOption exactDated exactPayoff
 priced-kept n b discounts flows =
     record {
       bond-is = λ z. prices.bond-given n b discounts flows z .value;
@@ -57,4 +57,5 @@ priced-kept n b discounts flows =
       exact-bond-is = refl;
       exact-option-is = λ kind expiry strike. refl;
       exact-dated-is = λ side dates strike. refl;
+      exact-payoff-is = λ r payoffs. refl;
     }

@@ -18,9 +18,11 @@ use Rattle.arithmetic.proofs.Numbers.{by-order, by-equal}
 use Rattle.lattice.specs.Shape.{halfWidth}
 use Rattle.lattice.specs.Entries.{branchAnswer, branchOf, refusedBranch}
 use Rattle.lattice.specs.Branching.{change, square, squared}
-use Rattle.lattice.proofs.Sizes.{within-row, start-first, start-suc}
+use Rattle.lattice.proofs.Sizes.{within-row}
 use Rattle.lattice.proofs.Landing.{lands}
 use Rattle.lattice.proofs.Nodes.{node-laws}
+use Rattle.lattice.proofs.RateTreeLaws.{rate-tree-sound}
+use Rattle.lattice.proofs.TreeBranches.{tree-nodes}
 use Rattle.spacing.specs.Spacing.{spacing, spacingAnswer}
 use Rattle.spacing.proofs.SpacingLaws.{spacing-passes, root-greatest, cube-positive}
 use Rattle.factor.specs.Series.{scale}
@@ -31,6 +33,8 @@ use Rattle.step_rate.specs.declared.Rate.{Rate}
 use Rattle.step_rate.proofs.RateLaws.{answer-zero, answer-high, answer-sign}
 use Rattle.fitting.proofs.Promised.{fit-repriced}
 use Rattle.promises.specs.Promises.{Branched, Spaced, TreePromises}
+use Rattle.promises.proofs.BranchesKept.{widths, tiled, led-as, branch-sums}
+use Rattle.promises.proofs.FitRowsKept.{factors-kept, fit-rows, fit-laid, sums-weighable, state-price-rows, bound-is, lent-near}
 use Rattle.promises.proofs.StatePricesKept.{state-prices-kept}
 
 -- a branch that is not refused leaves a node of the row, and is that node's
@@ -106,12 +110,24 @@ tree-kept =
           λ b i j z.
           let g = branch-given b i j z in
           subst (Branched b i j) (sym (g .2)) (branched b i j (g .0) (g .1));
-      rows-tiled = λ b. record { first = start-first b; next = start-suc b };
+      row-widths = widths;
+      rows-tiled = tiled;
+      tree-rows = tree-nodes;
+      tree-branches = led-as;
+      tree-sound = rate-tree-sound;
+      branch-sums = branch-sums;
       spacing-greatest = spaced;
       factors-near = factor-near;
+      factors-by-sign = factors-kept;
       sign-of-rates = sign;
+      fit-rows = fit-rows;
+      fit-laid = fit-laid;
       quotes-repriced =
           λ f n b s rows kinds figures ds ps z i h.
           let r = fit-repriced f n b s rows kinds figures ds ps z i h in record { below = r .0; above = r .1 };
+      sums-weighable = sums-weighable;
+      state-price-rows = state-price-rows;
+      state-price-bound-is = bound-is;
+      lent-state-prices-near = lent-near;
       state-prices-near = state-prices-kept;
     }

@@ -5,17 +5,17 @@ use mathlib.Core.Path.{_≡_}
 use mathlib.Core.Bool.{true, false}
 use mathlib.Core.List.{List, [], _∷_}
 use mathlib.Core.Logic.{_≢_}
-use Prim.Native.Nat.{ℕ, suc, _+_, _-_, _*_, _/_, _^_, _≤_, _<_, max}
+use Prim.Native.Nat.{ℕ, suc, _+_, _-_, _*_, _/_, _^_, _≤_, _<_, min, max}
 use lib.Dec.{ltb}
 use lib.Ieee.{Float}
-use lib.IntN.{ℤ, pos, negℤ, natAbs, _+ℤ_, _*ℤ_}
+use lib.IntN.{ℤ, pos, negℤ, natAbs, _+ℤ_, _-ℤ_, _*ℤ_}
 use lib.ListN.{length, take, drop}
 use lib.Signed.{ltZ}
 use Rattle.arithmetic.specs.Rounding.{one, nearest, roundUp}
 use Rattle.arithmetic.specs.Within.{Within}
-use Rattle.arithmetic.specs.Sum.{sum}
+use Rattle.arithmetic.specs.Sum.{sum, greatest}
 use Rattle.arithmetic.specs.Row.{values}
-use Rattle.tree.specs.Tree.{Tree, outgoing, unit}
+use Rattle.tree.specs.Tree.{Tree, Transition, Sound, chance, incoming, outgoing, unit}
 use Rattle.lattice.specs.Shape.{halfWidth, nodeCount, rowStart, discountsNeeded}
 use Rattle.lattice.specs.Branching.{branching, zOf, upFormula, middleFormula, downFormula, middleProbability, downProbability, changeTo, squared, squareTo}
 use Rattle.lattice.specs.Branching as branches
@@ -33,15 +33,17 @@ use Rattle.figure.specs.Figure.{billionthsOf}
 use Rattle.quotes.specs.declared.Point.{Point}
 use Rattle.quotes.specs.Quotes.{yieldAmount, loneAnswer}
 use Rattle.curve.specs.Curve.{discountAt}
-use Rattle.fitting.specs.Entry.{fitNumber, fitDiscount, fitPrice, fitMemory, fitDiscounts, fitPrices}
-use Rattle.fit_laws.specs.StatePrices.{exactStatePrice}
+use Rattle.fitting.specs.Entry.{fitNumber, fitDiscount, fitPrice, fitMemory, fitDiscounts, fitPrices, discountsAfter, pricesAfter}
+use Rattle.fit_laws.specs.StatePrices.{statePrice, exactStatePrice, statePriceErrorBound}
 use Rattle.state_price_bound.specs.ErrorBound.{statePriceErrorBoundAnswer}
-use Rattle.pricing_laws.specs.Pricer.{Side, Schedule, bond, bareBond, exercise, option, payoffValue}
+use Rattle.pricing_laws.specs.Pricer.{Side, call, put, Schedule, bond, bareBond, exercise, option, payoffValue}
 use Rattle.pricing_laws.specs.Schedule.{european, american, sideOf, scheduleOf, kindSide, kindDates, numberedSide, datedSchedule, Contained}
 use Rattle.pricing_laws.specs.TreePricer.{engine, exact, greatestDiscount, priceErrorBound}
 use Rattle.pricing.specs.Prices.{flowAt, bondPrice, optionPrice, datedPrice}
 use Rattle.pricing.specs.Exact.{exactBond, exactOption, exactDated, exactPayoff}
 use Rattle.valuation.specs.Entries.{valueByStatePricesAnswer, valuationErrorBoundAnswer}
+use Rattle.promises.specs.Quoted.{QuotePromises}
+use Rattle.promises.specs.Causes.{CausePromises}
 
 -- ---- branching, spacing, factors, rates and fit
 
@@ -59,15 +61,70 @@ pub record Branched (b i : ℕ) (j : ℤ) (a : Branches) : Type 0 where
       3 * (600000000 * squareTo j (a .lowest) (branches.upProbability b j) (middleProbability b j) (downProbability b j))
       ≡ 600000000 * 600000000 + 3 * squared (changeTo j (a .lowest) (branches.upProbability b j) (middleProbability b j) (downProbability b j))
 
--- rows stand one after the other, without a gap: each starts where the one before it ends
+-- nodes −w to w, w the lesser of i and J, which is 1,840 divided by b, down, plus 1; with b = 0 there is no J and w = i
+pub record Widths (b i : ℕ) : Type 0 where
+  pub without-pull : b ≡ 0 → halfWidth b i ≡ i
+  pub with-pull : 0 < b → halfWidth b i ≡ min i (1840 / b + 1)
+  pub count : nodeCount b i ≡ 2 * halfWidth b i + 1
+
+-- rows stand one after the other, without a gap: each starts where the one before it ends; lowest node first
 pub record Tiled (b : ℕ) : Type 0 where
   pub first : rowStart b 0 ≡ 0
   pub next : (i : ℕ) → rowStart b (suc i) ≡ rowStart b i + nodeCount b i
+  pub read-at : (memory : List ℕ) (i k : ℕ) → stored b memory i k ≡ values memory (rowStart b i + k)
+
+-- The tree of fit, engine and exact pricer at index k of row i, node k − w: it leads where the answer a says, by its three probabilities.
+pub record LedAs (b i k : ℕ) (a : Branches) : Type 0 where
+  pub given : a .number ≡ 0
+  pub lowest : pos (rateTree b .step i .low k) -ℤ pos (halfWidth b (suc i)) ≡ a .lowest
+  pub group : a .probabilities ≡ rateTree b .step i .up k ∷ rateTree b .step i .middle k ∷ rateTree b .step i .down k ∷ []
+
+-- The sums over branches: down leads to the lowest of three neighbouring nodes, middle to the next, up to the highest. A roll sums over the branches
+-- out of a node, a state price over those into one, of n nodes of the row before.
+pub record BranchSums (t : Transition) : Type 0 where
+  pub leaving : (value : ℕ → ℕ) (k : ℕ) →
+      outgoing t value k ≡ t .down k * value (t .low k) + t .middle k * value (t .low k + 1) + t .up k * value (t .low k + 2)
+  pub entering : (n : ℕ) (amount : ℕ → ℕ) (j : ℕ) → incoming t n amount j ≡ sum n (λ k. chance t k j * amount k)
+  pub by-down : (k : ℕ) → chance t k (t .low k) ≡ t .down k
+  pub by-middle : (k : ℕ) → chance t k (t .low k + 1) ≡ t .middle k
+  pub by-up : (k : ℕ) → chance t k (t .low k + 2) ≡ t .up k
+  pub none-below : (k j : ℕ) → j < t .low k → chance t k j ≡ 0
+  pub none-above : (k j : ℕ) → t .low k + 2 < j → chance t k j ≡ 0
 
 -- h is the greatest whole number with h² × f³ ≤ 3 × (1,000 s)²
 pub record Spaced (f s h : ℕ) : Type 0 where
   pub passes : h * h * (f * f * f) ≤ 3 * (1000 * s * (1000 * s))
   pub greatest : (g : ℕ) → g * g * (f * f * f) ≤ 3 * (1000 * s * (1000 * s)) → g ≤ h
+
+-- U(j), with y = |j| × h: term 0 is one, term k is (term k − 1) × y / (k × one), down, to term 12; the sum for j < 0, which is one or more, the sum
+-- with alternating signs for j ≥ 0, which is one or less
+pub record Factored (j : ℤ) (h factor : ℕ) : Type 0 where
+  pub term : ℕ → ℕ
+  pub term-first : term 0 ≡ one
+  pub term-next : (k : ℕ) → term (suc k) ≡ term k * (natAbs j * h) / (suc k * one)
+  pub below-middle : ltZ j (pos 0) ≡ true → (factor ≡ sum 13 term) × (one ≤ factor)
+  pub from-middle : ltZ j (pos 0) ≡ false → (factor ≡ sum 7 (λ i. term (2 * i)) - sum 6 (λ i. term (2 * i + 1))) × (factor ≤ one)
+
+-- The fit row by row: discounts and state prices by row and index, index k of row i being node k − w; h the spacing, quote i that of row i + 1.
+-- Row 0 has the state price one. Z = (sum of state price × U) / one, down. Node discount = quote × U / Z, down. Carried amount = state price × discount
+-- / one, down. Next row's state price: the sum over incoming branches of probability × carried amount, divided by 600,000,000 once, down.
+pub record FitRows (b n h : ℕ) (quote : ℕ → ℕ) (discount price : ℕ → ℕ → ℕ) : Type 0 where
+  pub factor : ℕ → ℕ → ℕ
+  pub normaliser : ℕ → ℕ
+  pub carried : ℕ → ℕ → ℕ
+  pub factored : (i k : ℕ) → i < n → k < nodeCount b i → Factored (pos k -ℤ pos (halfWidth b i)) h (factor i k)
+  pub first-price : price 0 0 ≡ one
+  pub normalised : (i : ℕ) → i < n → normaliser i ≡ sum (nodeCount b i) (λ k. price i k * factor i k) / one
+  pub discounted : (i k : ℕ) → i < n → k < nodeCount b i → discount i k ≡ quote i * factor i k / normaliser i
+  pub carrying : (i k : ℕ) → i < n → k < nodeCount b i → carried i k ≡ price i k * discount i k / one
+  pub next-price : (i j : ℕ) → i < n → j < nodeCount b (suc i) →
+      price (suc i) j ≡ incoming (rateTree b .step i) (nodeCount b i) (carried i) j / 600000000
+
+-- rows 0 to n − 1 of values at the start of a memory, one after the other, lowest node first; past them it is as it was
+pub record LaidOut (b n : ℕ) (value : ℕ → ℕ → ℕ) (before after : List ℕ) : Type 0 where
+  pub length-kept : length after ≡ length before
+  pub held : (i k : ℕ) → i < n → k < nodeCount b i → values after (rowStart b i + k) ≡ value i k
+  pub past-kept : drop (rowStart b n) after ≡ drop (rowStart b n) before
 
 -- a quote and the sum of its row's state prices are at most 300 billionths apart
 pub record Repriced (quote total : ℕ) : Type 0 where
@@ -79,19 +136,61 @@ pub record StatePriced (b i : ℕ) (fitted exact : ℕ → ℕ) (allowance : ℕ
   pub below : (k : ℕ) → k < nodeCount b i → unit ^ i * fitted k ≤ exact k
   pub short : sum (nodeCount b i) (λ k. exact k - unit ^ i * fitted k) ≤ unit ^ i * allowance
 
+-- The state prices that follow from node discounts, whoever stored them, rounded as the fit rounds and exact, the latter held times m^i; and the
+-- state-price allowance, with the greatest discount of the row before: times the former / one, up, plus both rows' node counts.
+pub record StatePriceRows (t : Tree) (discount : ℕ → ℕ → ℕ) : Type 0 where
+  pub first : (k : ℕ) → statePrice t discount 0 k ≡ one
+  pub next : (i j : ℕ) →
+      statePrice t discount (suc i) j ≡ incoming (t .step i) (t .nodes i) (λ k. statePrice t discount i k * discount i k / one) j / 600000000
+  pub exact-first : (k : ℕ) → exactStatePrice t discount 0 k ≡ one
+  pub exact-next : (i j : ℕ) →
+      exactStatePrice t discount (suc i) j ≡ incoming (t .step i) (t .nodes i) (λ k. exactStatePrice t discount i k * discount i k) j
+  pub bound-first : statePriceErrorBound t discount 0 ≡ 0
+  pub bound-next : (i : ℕ) →
+      statePriceErrorBound t discount (suc i)
+      ≡ roundUp (greatest (t .nodes i) (discount i) * statePriceErrorBound t discount i) one + t .nodes i + t .nodes (suc i)
+
 -- f steps a year, n steps, reversion b, volatility s; quotes as rows, kinds and figures; the lengths of both memories
 pub record TreePromises : Type 0 where
   pub branches-exact : (b i : ℕ) (j : ℤ) → branchAnswer b i j .number ≡ 0 → Branched b i j (branchAnswer b i j)
+  pub row-widths : (b i : ℕ) → Widths b i
   pub rows-tiled : (b : ℕ) → Tiled b
+  -- the tree that fit, engine and exact pricer use has these rows and branches, and is sound: one node on row 0, branches inside the next row,
+  -- probabilities that sum to 600,000,000
+  pub tree-rows : (b i : ℕ) → rateTree b .nodes i ≡ nodeCount b i
+  pub tree-branches : (b i k : ℕ) → b ≤ 6000 → i < 60 → k < nodeCount b i → LedAs b i k (branchAnswer b i (pos k -ℤ pos (halfWidth b i)))
+  pub tree-sound : (b : ℕ) → b ≤ 6000 → Sound (rateTree b)
+  pub branch-sums : (t : Transition) → BranchSums t
   pub spacing-greatest : (f s : ℕ) → spacingAnswer f s .number ≡ 0 → Spaced f s (spacingAnswer f s .value)
   -- U(j) is within 14 of the same series in exact fractions, held times 12! × one^11
   pub factors-near : (j : ℤ) (h : ℕ) → nodeAnswer j h .number ≡ 0 → Within 14 scale (nodeAnswer j h .value) (exactFactor j h)
+  pub factors-by-sign : (j : ℤ) (h : ℕ) → nodeAnswer j h .number ≡ 0 → Factored j h (nodeAnswer j h .value)
   -- a step rate is negative exactly where the discount is above one, positive exactly where it is below
   pub sign-of-rates : (v : ℕ) → rateAnswer v .number ≡ 0 →
       (ltZ (rateAnswer v .value) (pos 0) ≡ ltb one v) × (ltZ (pos 0) (rateAnswer v .value) ≡ ltb v one)
+  -- an accepted fit is these rows, and leaves them in its two memories: discounts of rows 0 to n − 1, state prices of rows 0 to n
+  pub fit-rows : (f n b s : ℕ) (rows kinds : List ℕ) (figures : List Float) (room-discounts room-prices : ℕ) →
+      fitNumber f n b s rows kinds figures room-discounts room-prices ≡ 0 →
+      FitRows b n (spacingAnswer f s .value) (discountAt f kinds figures) (fitDiscount f n b s kinds figures) (fitPrice f n b s kinds figures)
+  pub fit-laid : (f n b s : ℕ) (rows kinds : List ℕ) (figures : List Float) (d q : List ℕ) →
+      fitNumber f n b s rows kinds figures (length d) (length q) ≡ 0 →
+      LaidOut b n (fitDiscount f n b s kinds figures) d (discountsAfter f n b s rows kinds figures d q)
+      × LaidOut b (suc n) (fitPrice f n b s kinds figures) q (pricesAfter f n b s rows kinds figures d q)
   pub quotes-repriced : (f n b s : ℕ) (rows kinds : List ℕ) (figures : List Float) (room-discounts room-prices : ℕ) →
       fitNumber f n b s rows kinds figures room-discounts room-prices ≡ 0 → (i : ℕ) → i < n →
       Repriced (discountAt f kinds figures i) (sum (nodeCount b (suc i)) (fitPrice f n b s kinds figures (suc i)))
+  -- no row's state prices sum above what weighing takes
+  pub sums-weighable : (f n b s : ℕ) (rows kinds : List ℕ) (figures : List Float) (room-discounts room-prices : ℕ) →
+      fitNumber f n b s rows kinds figures room-discounts room-prices ≡ 0 → (i : ℕ) → i ≤ n →
+      sum (nodeCount b i) (fitPrice f n b s kinds figures i) ≤ 2000000100
+  -- state prices, exact and rounded, and their allowance row by row, on any tree; the entry's answer is this allowance
+  pub state-price-rows : (t : Tree) (discount : ℕ → ℕ → ℕ) → StatePriceRows t discount
+  pub state-price-bound-is : (n b : ℕ) (discounts : List ℕ) (i : ℕ) → statePriceErrorBoundAnswer n b discounts i .number ≡ 0 →
+      statePriceErrorBoundAnswer n b discounts i .value ≡ statePriceErrorBound (rateTree b) (stored b discounts) i
+  -- for any lent discounts: the state prices that follow from them against the exact ones
+  pub lent-state-prices-near : (n b : ℕ) (discounts : List ℕ) (i : ℕ) → statePriceErrorBoundAnswer n b discounts i .number ≡ 0 →
+      StatePriced b i (statePrice (rateTree b) (stored b discounts) i) (exactStatePrice (rateTree b) (stored b discounts) i)
+      (statePriceErrorBoundAnswer n b discounts i .value)
   -- against the exact state prices of the same fit's node discounts, with the allowance that the entry gives for these
   pub state-prices-near : (f n b s : ℕ) (rows kinds : List ℕ) (figures : List Float) (room-discounts room-prices : ℕ) →
       fitNumber f n b s rows kinds figures room-discounts room-prices ≡ 0 → (i : ℕ) → i ≤ n →
@@ -116,6 +215,46 @@ pub record Unaltered (f n b s : ℕ) (kinds : List ℕ) (figures : List Float) (
   pub discounts-kept : (i k : ℕ) → i < n → k < nodeCount b i → values discounts (rowStart b i + k) ≡ fitDiscount f n b s kinds figures i k
   pub row-length : length prices ≡ nodeCount b r
   pub prices-kept : (k : ℕ) → k < nodeCount b r → values prices k ≡ fitPrice f n b s kinds figures r k
+
+-- flows stand for rows 1 to n: none on row 0, flow t on row t
+pub record FlowRows (flows : List ℕ) : Type 0 where
+  pub none : flowAt flows 0 ≡ 0
+  pub of-row : (t : ℕ) → flowAt flows (suc t) ≡ values flows t
+
+-- exercise value: bond less strike, or strike less bond, at least 0
+pub record Exercised (strike price : ℕ) : Type 0 where
+  pub of-call : exercise call strike price ≡ price - strike
+  pub of-put : exercise put strike price ≡ strike - price
+
+-- the rows of a list: the last is its last entry, and a row is listed where it is an entry, and nowhere else
+pub record ListedRows (dates : List ℕ) : Type 0 where
+  pub last-entry : datedSchedule dates .last ≡ values dates (length dates - 1)
+  pub entries : (k : ℕ) → k < length dates → datedSchedule dates .listed (values dates k) ≡ true
+  pub no-other : (i : ℕ) → datedSchedule dates .listed i ≡ true → (k : ℕ) × (k < length dates) × (i ≡ values dates k)
+
+-- every row from 0 to expiry
+pub record EveryRow (expiry : ℕ) (dates : List ℕ) : Type 0 where
+  pub size : length dates ≡ suc expiry
+  pub rows : (i : ℕ) → i ≤ expiry → values dates i ≡ i
+
+-- a kind: its side, which a dated option has by this number, and its list, whose rows are its schedule
+pub record KindOf (kind expiry : ℕ) (side : Side) (number : ℕ) (rows : Schedule) : Type 0 where
+  pub side-is : sideOf kind ≡ side
+  pub number-is : kindSide kind ≡ number
+  pub numbered : numberedSide number ≡ side
+  pub list-is : scheduleOf kind expiry ≡ datedSchedule (kindDates kind expiry)
+  pub rows-are : scheduleOf kind expiry ≡ rows
+
+-- 1 European call, 2 European put, 3 American call, 4 American put: special lists, expiry alone, or every row from 0 to expiry
+pub record Kinds (expiry : ℕ) : Type 0 where
+  pub european-call : KindOf 1 expiry call 1 (european expiry)
+  pub european-put : KindOf 2 expiry put 2 (european expiry)
+  pub american-call : KindOf 3 expiry call 1 (american expiry)
+  pub american-put : KindOf 4 expiry put 2 (american expiry)
+  pub call-alone : kindDates 1 expiry ≡ expiry ∷ []
+  pub put-alone : kindDates 2 expiry ≡ expiry ∷ []
+  pub call-every : EveryRow expiry (kindDates 3 expiry)
+  pub put-every : EveryRow expiry (kindDates 4 expiry)
 
 -- The engine row by row: the sum of probability × later value, divided by 600,000,000, nearest; then × discount / one, nearest. Row n is its flow,
 -- an earlier row the rolled value plus its flow; without its flow the bond is the rolled value. On an option's last row the exercise value, on the bond
@@ -202,6 +341,16 @@ pub record PricedByRows (n b : ℕ) (discounts flows : List ℕ) : Type 0 where
   pub exact-dated-is : (side : ℕ) (dates : List ℕ) (strike : ℕ) →
       exactDated n b discounts flows side dates strike
       ≡ option (exact (rateTree b) (stored b discounts)) (flowAt flows) n (numberedSide side) strike (datedSchedule dates) 0 0
+  pub exact-payoff-is : (r : ℕ) (payoffs : List ℕ) →
+      exactPayoff b discounts r payoffs ≡ payoffValue (exact (rateTree b) (stored b discounts)) (values payoffs) r 0 0
+
+-- Weighing: the sum of state price × payoff, divided by one, down; its allowance: the greatest payoff × the state-price allowance / one, up, plus 1.
+pub record Weighed (prices payoffs : List ℕ) (n b : ℕ) (discounts : List ℕ) (r : ℕ) : Type 0 where
+  pub value-is : valueByStatePricesAnswer prices payoffs .number ≡ 0 →
+      valueByStatePricesAnswer prices payoffs .value ≡ sum (length prices) (λ k. values prices k * values payoffs k) / one
+  pub bound-is : valuationErrorBoundAnswer n b discounts r payoffs .number ≡ 0 →
+      valuationErrorBoundAnswer n b discounts r payoffs .value
+      ≡ roundUp (greatest (nodeCount b r) (values payoffs) * statePriceErrorBound (rateTree b) (stored b discounts) r) one + 1
 
 -- Prices on any accepted tree, whoever lent its discounts; and payoffs valued by fitted state prices, unaltered since.
 pub record PricePromises : Type 0 where
@@ -211,6 +360,10 @@ pub record PricePromises : Type 0 where
   pub exact-rows : (t : Tree) (discount : ℕ → ℕ → ℕ) (flow : ℕ → ℕ) (n : ℕ) (side : Side) (strike expiry : ℕ) →
       ExactRows t discount flow n side strike expiry
   pub bound-rows : (t : Tree) (discount : ℕ → ℕ → ℕ) (n : ℕ) → BoundRows t discount n
+  pub flow-rows : (flows : List ℕ) → FlowRows flows
+  pub exercise-values : (strike price : ℕ) → Exercised strike price
+  pub listed-rows : (dates : List ℕ) → ListedRows dates
+  pub four-kinds : (expiry : ℕ) → Kinds expiry
   pub priced-by-rows : (n b : ℕ) (discounts flows : List ℕ) → PricedByRows n b discounts flows
   pub bond-accurate : (n b : ℕ) (discounts flows : List ℕ) → bondPrice n b discounts flows .number ≡ 0 →
       Within (bondPrice n b discounts flows .bound) (unit ^ n) (bondPrice n b discounts flows .value) (exactBond n b discounts flows)
@@ -250,6 +403,7 @@ pub record PricePromises : Type 0 where
   pub dated-a-step : (n b : ℕ) (discounts flows : List ℕ) (side : ℕ) (dates : List ℕ) (strike : ℕ) →
       datedPrice n b discounts flows side dates strike .number ≡ 0 → NoneAboveOne n b discounts →
       datedPrice n b discounts flows side dates strike .bound ≤ 2 * n
+  pub weighed : (prices payoffs : List ℕ) (n b : ℕ) (discounts : List ℕ) (r : ℕ) → Weighed prices payoffs n b discounts r
   -- whatever was fitted, payoffs valued by the fitted state prices of any row, against the exact price on the same fit's node discounts
   pub payoffs-accurate : (f n b s : ℕ) (rows kinds : List ℕ) (figures : List Float) (room-discounts room-prices : ℕ) →
       fitNumber f n b s rows kinds figures room-discounts room-prices ≡ 0 →
@@ -276,8 +430,10 @@ pub record YieldPromises : Type 0 where
   pub rates-signed : (v : ℕ) → continuousRateAnswer v .number ≡ 0 → continuousRateAnswer v .value ≢ pos 0 →
       SameSign (continuousRateAnswer v .value) (rateAnswer v .value)
 
--- All together, undivided.
+-- All together, undivided: with what a quote gives, and which entry gives which number.
 pub record Promises : Type 0 where
+  pub quotes : QuotePromises
   pub tree : TreePromises
   pub prices : PricePromises
   pub yields : YieldPromises
+  pub causes : CausePromises

@@ -1,1 +1,2 @@
+pub mod JobCausesKept
 pub mod SheetKept

@@ -1,6 +1,6 @@
--- Every sheet without a refusal keeps its promises.
+-- Every sheet without a refusal keeps its promises, and so do a job's prices.
 -- Assumes nothing.
-use mathlib.Core.Path.{_≡_, refl, ap, ap₂, _∙_}
+use mathlib.Core.Path.{_≡_, refl, sym, ap, ap₂, _∙_}
 use mathlib.Core.Bool.{Bool, true, false, cond}
 use mathlib.Core.List.{List, [], _∷_}
 use Prim.Native.Nat.{ℕ, suc, _*_, _+_, _/_, _^_, _≤_, _<_}
@@ -9,6 +9,8 @@ use lib.Dec.{eqb, ltb}
 use lib.IntN.{ℤ, pos}
 use lib.ListN.{length}
 use lib.Signed.{ltZ}
+use borrow.Author.Tests.{eq-eqb}
+use Rattle.arithmetic.proofs.Numbers.{by-test}
 use Rattle.arithmetic.specs.Rounding.{one}
 use Rattle.arithmetic.specs.Row.{values}
 use Rattle.arithmetic.proofs.RowLaws.{values-row}
@@ -32,18 +34,22 @@ use Rattle.job_record.specs.declared.OptionRecord.{OptionRecord}
 use Rattle.job_record.specs.declared.Job.{Job}
 use Rattle.job_record.specs.Reader.{readingOf}
 use Rattle.job_fit.specs.RecordFit.{jobRows, jobKinds, jobFigures, jobQuotes, jobDiscounts, jobStatePrices, jobFlows}
-use Rattle.job_prices.specs.JobPrices.{hasOption, taggedOption, jobOption}
+use Rattle.job_prices.specs.JobPrices.{hasOption, taggedOption, jobBond, jobOption, pricesOf, recordNumber, recordPrices, bytesNumber, bytesPrices}
+use Rattle.job_prices.proofs.PriceLaws.{prices-number}
+use Rattle.job_prices.proofs.Accepted.{AcceptedRecord, record-accepted, bytes-accepted}
 use Rattle.text_laws.specs.Decimal.{signOf}
 use Rattle.text_laws.specs.Lines.{nodeLine, lineOfNode}
 use Rattle.text_laws.proofs.Signs.{sign-negative, sign-none}
 use Rattle.node_lines.specs.Rows.{nodeText}
 use Rattle.sheet_laws.specs.TreeSheet.{rowPart, treeSheet}
-use Rattle.sheet_laws.specs.WholeJob.{jobText, sheetNumber}
+use Rattle.sheet_laws.specs.WholeJob.{jobText, sheetNumber, sheetText, printedText}
 use Rattle.sheet_laws.proofs.PartLaws.{part-size}
 use Rattle.sheet_laws.proofs.FittedLaws.{total-row}
 use Rattle.sheet_laws.proofs.Accepted.{AcceptedJob, sheet-accepted, job-accepted}
+use Rattle.promises.specs.Promises.{NoneAboveOne}
 use Rattle.promises.proofs.Kept.{promises-kept}
-use Rattle.sheet_promises.specs.SheetPromises.{NodeShown, RowShown, exactTagged, SheetShown, SheetPromises}
+use Rattle.sheet_promises.proofs.JobCausesKept.{job-causes-kept}
+use Rattle.sheet_promises.specs.SheetPromises.{NodeShown, RowShown, exactTagged, SheetShown, SheetPromises, PricesPromised, AllPromises}
 
 -- the sign of a printed rate
 sign-shown : (v : ℕ) → rateAnswer v .number ≡ 0 → signOf (rateAnswer v .value) ≡ cond (ltb one v) (45 ∷ []) []
@@ -70,6 +76,14 @@ tagged-near n b discounts flows option =
         Within (cond t p q .bound) (unit ^ n) (cond t p q .value) (cond t x y)
     go true p q x y near other z = near z
     go false p q x y near other z = other z
+
+-- and its bound is at most 2 a step where no discount is above one
+tagged-a-step : (n b : ℕ) (discounts flows : List ℕ) (option : OptionRecord) → taggedOption n b discounts flows option .number ≡ 0 →
+    NoneAboveOne n b discounts → taggedOption n b discounts flows option .bound ≤ 2 * n
+unfolding taggedOption
+tagged-a-step n b discounts flows option =
+    by-test (eqb (option .tag) 8) (λ (p : Price). p .number ≡ 0 → NoneAboveOne n b discounts → p .bound ≤ 2 * n) _ _
+    (λ t. promises-kept .prices .option-a-step n b discounts flows _ _ _) (λ t. promises-kept .prices .dated-a-step n b discounts flows _ _ _)
 
 -- half of a row's node count is its half width
 half-of : (w : ℕ) → (2 * w + 1) / 2 ≡ w
@@ -153,3 +167,51 @@ module _ (job : Job) (room : ℕ) (known : AcceptedJob job room) where
 pub sheet-kept : (bytes : List ℕ) (room : ℕ) → sheetNumber bytes room ≡ 0 → SheetPromises bytes
 sheet-kept bytes room z =
     job-shown (readingOf bytes .job) room (job-accepted (readingOf bytes .job) room (sheet-accepted bytes room z .1))
+
+-- ---- a job's prices
+
+-- all prices of a record without a cause
+module _ (job : Job) (ds ps : ℕ) (known : AcceptedRecord job ds ps) where
+  priced-whole : (number : ℕ) → number ≡ 0 → PricesPromised job (pricesOf number (jobBond job) (hasOption (job .option)) (jobOption job))
+  unfolding pricesOf
+  priced-whole number z =
+      rw (eq-eqb number 0 z)
+      (record {
+        bond-given = known .bond;
+        bond-near = promises-kept .prices .bond-accurate (job .steps) (job .reversion) (jobDiscounts job) (jobFlows job) (known .bond);
+        bond-a-step = promises-kept .prices .bond-a-step (job .steps) (job .reversion) (jobDiscounts job) (jobFlows job) (known .bond);
+        option-told = refl;
+        option-given = λ e. rw e (known .option-priced e);
+        option-near = λ e. rw e (tagged-near (job .steps) (job .reversion) (jobDiscounts job) (jobFlows job) (job .option) (known .option-priced e));
+        option-a-step = λ e. rw e (tagged-a-step (job .steps) (job .reversion) (jobDiscounts job) (jobFlows job) (job .option) (known .option-priced e));
+      })
+
+pub record-kept : (job : Job) (discounts prices : ℕ) → recordPrices job discounts prices .number ≡ 0 →
+    PricesPromised job (recordPrices job discounts prices)
+unfolding recordPrices
+record-kept job ds ps z =
+    let none : recordNumber job ds ps ≡ 0 = sym (prices-number _ _ _ _) ∙ z in
+    priced-whole job ds ps (record-accepted job ds ps none) _ none
+
+pub job-kept : (bytes : List ℕ) (discounts prices : ℕ) → bytesPrices bytes discounts prices .number ≡ 0 →
+    (readingOf bytes .number ≡ 0) × PricesPromised (readingOf bytes .job) (bytesPrices bytes discounts prices)
+unfolding bytesPrices
+job-kept bytes ds ps z =
+    let none : bytesNumber bytes ds ps ≡ 0 = sym (prices-number _ _ _ _) ∙ z in
+    let parts = bytes-accepted bytes ds ps none in
+    (parts .0, priced-whole (readingOf bytes .job) ds ps (parts .1) _ none)
+
+-- what is printed of a sheet without a refusal is the sheet
+printed-whole : (bytes : List ℕ) (room : ℕ) → sheetNumber bytes room ≡ 0 → printedText bytes room ≡ sheetText bytes
+unfolding printedText
+printed-whole bytes room z = rw (eq-eqb (sheetNumber bytes room) 0 z)
+
+pub all-kept : AllPromises
+all-kept =
+    record {
+      engine = promises-kept;
+      records = record-kept;
+      jobs = job-kept;
+      sheets = λ bytes room z. (printed-whole bytes room z, sheet-kept bytes room z);
+      numbers = job-causes-kept;
+    }

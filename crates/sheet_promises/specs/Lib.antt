@@ -1,1 +1,2 @@
+pub mod JobCauses
 pub mod SheetPromises

@@ -1,10 +1,10 @@
--- What a sheet without a refusal promises (document 01, demands 2 and 3, of what is printed): each number that it shows is an entry's answer
+-- What a job's prices and a sheet without a refusal promise (document 01, demands 2 and 3, of what is printed): each number that it shows is an entry's answer
 -- with number 0, and what the demands say of these answers holds of the sheet.
 -- Assumes nothing.
 use mathlib.Core.Path.{_≡_}
 use mathlib.Core.Bool.{true, cond}
 use mathlib.Core.List.{List, [], _∷_, _++_}
-use Prim.Native.Nat.{ℕ, suc, _^_, _<_}
+use Prim.Native.Nat.{ℕ, suc, _*_, _^_, _≤_, _<_}
 use lib.Dec.{eqb, ltb}
 use Rattle.arithmetic.specs.Within.{Within}
 use Rattle.arithmetic.specs.Rounding.{one}
@@ -20,13 +20,15 @@ use Rattle.job_record.specs.declared.OptionRecord.{OptionRecord}
 use Rattle.job_record.specs.declared.Job.{Job}
 use Rattle.job_record.specs.Reader.{readingOf}
 use Rattle.job_fit.specs.RecordFit.{jobQuotes, jobDiscounts, jobStatePrices, jobFlows}
-use Rattle.job_prices.specs.JobPrices.{hasOption, optionDates, jobBond, jobOption}
+use Rattle.job_prices.specs.JobPrices.{hasOption, optionDates, jobBond, jobOption, recordPrices, bytesPrices}
+use Rattle.job_prices.specs.declared.JobPrices.{JobPrices}
 use Rattle.text_laws.specs.Decimal.{signOf}
 use Rattle.text_laws.specs.Lines.{nodeLine}
 use Rattle.node_lines.specs.Rows.{nodeText}
 use Rattle.sheet_laws.specs.TreeSheet.{rowPart, nodeLines, rowLines, priceLines}
-use Rattle.sheet_laws.specs.WholeJob.{sheetText}
-use Rattle.promises.specs.Promises.{Repriced}
+use Rattle.sheet_laws.specs.WholeJob.{sheetNumber, sheetText, printedText}
+use Rattle.promises.specs.Promises.{Promises, Repriced, NoneAboveOne}
+use Rattle.sheet_promises.specs.JobCauses.{JobCauses}
 
 -- the line of node k of row i: its discount and the step rate of that discount, whose sign in the bytes is a minus exactly where the discount
 -- is above one
@@ -70,3 +72,31 @@ pub record SheetShown (job : Job) (text : List ℕ) : Type 0 where
 -- of a job's bytes
 abbrev pub SheetPromises : List ℕ → Type 0
 SheetPromises bytes = SheetShown (readingOf bytes .job) (sheetText bytes)
+
+-- demand 3 of a job's prices, from its record or its bytes: each within its bound of the exact price on the tree fitted to the job's quotes, which is
+-- what the call leaves in the lent memories, and at most 2 a step where no discount of that tree is above one
+pub record PricesPromised (job : Job) (prices : JobPrices) : Type 0 where
+  pub bond-given : prices .bond .number ≡ 0
+  pub bond-near :
+      Within (prices .bond .bound) (unit ^ job .steps) (prices .bond .value)
+      (exactBond (job .steps) (job .reversion) (jobDiscounts job) (jobFlows job))
+  pub bond-a-step : NoneAboveOne (job .steps) (job .reversion) (jobDiscounts job) → prices .bond .bound ≤ 2 * job .steps
+  pub option-told : prices .«has_option» ≡ hasOption (job .option)
+  pub option-given : prices .«has_option» ≡ true → prices .option .number ≡ 0
+  pub option-near :
+      prices .«has_option» ≡ true →
+      Within (prices .option .bound) (unit ^ job .steps) (prices .option .value)
+      (exactTagged (job .steps) (job .reversion) (jobDiscounts job) (jobFlows job) (job .option))
+  pub option-a-step :
+      prices .«has_option» ≡ true → NoneAboveOne (job .steps) (job .reversion) (jobDiscounts job) → prices .option .bound ≤ 2 * job .steps
+
+-- All together, undivided: quotes, tree, prices, yields and causes; the prices of a record and of a job's bytes, in lent memories of so many numbers; the
+-- printed bytes of the sheet, in a lent room of so many bytes; and the number that each of these has.
+pub record AllPromises : Type 0 where
+  pub engine : Promises
+  pub records : (job : Job) (discounts prices : ℕ) → recordPrices job discounts prices .number ≡ 0 →
+      PricesPromised job (recordPrices job discounts prices)
+  pub jobs : (bytes : List ℕ) (discounts prices : ℕ) → bytesPrices bytes discounts prices .number ≡ 0 →
+      (readingOf bytes .number ≡ 0) × PricesPromised (readingOf bytes .job) (bytesPrices bytes discounts prices)
+  pub sheets : (bytes : List ℕ) (room : ℕ) → sheetNumber bytes room ≡ 0 → (printedText bytes room ≡ sheetText bytes) × SheetPromises bytes
+  pub numbers : JobCauses

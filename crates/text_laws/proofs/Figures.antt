@@ -26,13 +26,13 @@ pub row-figure :
 unfolding natural naturalWithin lastDigits decimal signedDecimal rowLine
 row-figure = refl
 
--- `bond 1.002500000 3`
-pub bond-figure : bondLine 1002500000 3 ≡ 98 ∷ 111 ∷ 110 ∷ 100 ∷ 32 ∷ 49 ∷ 46 ∷ 48 ∷ 48 ∷ 50 ∷ 53 ∷ 48 ∷ 48 ∷ 48 ∷ 48 ∷ 48 ∷ 32 ∷ 51 ∷ 10 ∷ []
+-- `bond 1.002500000 2`
+pub bond-figure : bondLine 1002500000 2 ≡ 98 ∷ 111 ∷ 110 ∷ 100 ∷ 32 ∷ 49 ∷ 46 ∷ 48 ∷ 48 ∷ 50 ∷ 53 ∷ 48 ∷ 48 ∷ 48 ∷ 48 ∷ 48 ∷ 32 ∷ 50 ∷ 10 ∷ []
 unfolding natural naturalWithin lastDigits decimal signedDecimal priceLine
 bond-figure = refl
 
--- `option 0.007500000 3`
-pub option-figure : optionLine 7500000 3 ≡ 111 ∷ 112 ∷ 116 ∷ 105 ∷ 111 ∷ 110 ∷ 32 ∷ 48 ∷ 46 ∷ 48 ∷ 48 ∷ 55 ∷ 53 ∷ 48 ∷ 48 ∷ 48 ∷ 48 ∷ 48 ∷ 32 ∷ 51 ∷ 10 ∷ []
+-- `option 0.007500000 2`
+pub option-figure : optionLine 7500000 2 ≡ 111 ∷ 112 ∷ 116 ∷ 105 ∷ 111 ∷ 110 ∷ 32 ∷ 48 ∷ 46 ∷ 48 ∷ 48 ∷ 55 ∷ 53 ∷ 48 ∷ 48 ∷ 48 ∷ 48 ∷ 48 ∷ 32 ∷ 50 ∷ 10 ∷ []
 unfolding natural naturalWithin lastDigits decimal signedDecimal priceLine
 option-figure = refl
 

@@ -1,25 +1,21 @@
 -- `job_figures::show_all` is safe and ends: it counts down.
 -- Assumes nothing.
-use lib.ListN.{length}
-use mathlib.Core.Path.{_≡_}
+use Prim.Native.Nat.{_≤_}
 use borrow.Author.Needs.{needs}
 use Rattle.job_figures.proofs.show_all.Statement.{statement}
 use Rattle.job_figures.proofs.show_all.Tie as tie
 
 abbrev Inv-loop : tie.InvT-loop
-Inv-loop buffer₀ left₀ buffer left = length buffer ≡ length buffer₀
+Inv-loop input at₀ left₀ at left = left ≤ left₀
 
 abbrev μ-loop : tie.MeasureT-loop
-μ-loop buffer₀ left₀ buffer left = left
+μ-loop input at₀ left₀ at left = left
 
 loop-holds : tie.Need-loop-holds Inv-loop μ-loop
 loop-holds c = search needs
 
 show-next-requires : tie.Need-show-next-requires Inv-loop μ-loop
 show-next-requires c κs = search needs
-
-same-length : tie.Need-same-length Inv-loop μ-loop
-same-length c = search needs
 
 returns : tie.Need-returns Inv-loop μ-loop
 returns c = search needs
@@ -33,9 +29,6 @@ loop-less c = search needs
 loop-again : tie.Need-loop-again Inv-loop μ-loop
 loop-again c = search needs
 
-same-length-2 : tie.Need-same-length-2 Inv-loop μ-loop
-same-length-2 c = search needs
-
 returns-2 : tie.Need-returns-2 Inv-loop μ-loop
 returns-2 c = search needs
 
@@ -47,10 +40,8 @@ show-all-spec =
     μ-loop
     loop-holds
     show-next-requires
-    same-length
     returns
     sub-left
     loop-less
     loop-again
-    same-length-2
     returns-2)

@@ -1,0 +1,114 @@
+/* The stack that a fit, a price and a sheet take on the largest tree, in bytes: the most of any call, on a thread whose stack is filled first. */
+#define _POSIX_C_SOURCE 200809L
+#include "mixegorta.h"
+
+#include <pthread.h>
+#include <stdio.h>
+#include <stdlib.h>
+#include <string.h>
+
+enum { STACK = 1 << 20, STEPS = MIXEGORTA_MAX_STEPS, FILL = 0xA5 };
+
+static uint64_t rows[STEPS], flows[STEPS], discounts[MIXEGORTA_MAX_DISCOUNTS], state_prices[MIXEGORTA_MAX_STATE_PRICES];
+static const uint64_t payoffs[MIXEGORTA_MAX_NODES];
+static uint8_t kinds[STEPS], dates[STEPS], room[MIXEGORTA_SHEET_ROOM], job[MIXEGORTA_MAX_JOB];
+static double figures[STEPS];
+static size_t job_size;
+static uint64_t refused;
+
+static void *nothing(void *unused) { return unused; }
+
+static void *fit(void *unused) {
+    refused = mixegorta_fit(12, STEPS, 0, 1000, rows, STEPS, kinds, STEPS, figures, STEPS, discounts, MIXEGORTA_MAX_DISCOUNTS, state_prices,
+                            MIXEGORTA_MAX_STATE_PRICES);
+    return unused;
+}
+
+static void *bond(void *unused) {
+    refused = mixegorta_bond_price(STEPS, 0, discounts, MIXEGORTA_MAX_DISCOUNTS, flows, STEPS).number;
+    return unused;
+}
+
+static void *option(void *unused) {
+    refused = mixegorta_bond_and_option(STEPS, 0, discounts, MIXEGORTA_MAX_DISCOUNTS, flows, STEPS, MIXEGORTA_AMERICAN_PUT, STEPS - 1,
+                                        MIXEGORTA_ONE).option.number;
+    return unused;
+}
+
+static void *dated_option(void *unused) {
+    refused = mixegorta_bond_and_dated_option(STEPS, 0, discounts, MIXEGORTA_MAX_DISCOUNTS, flows, STEPS, MIXEGORTA_PUT, dates, STEPS,
+                                              MIXEGORTA_ONE).option.number;
+    return unused;
+}
+
+static void *valuation(void *unused) {
+    refused = mixegorta_value_by_state_prices(payoffs, MIXEGORTA_MAX_NODES, payoffs, MIXEGORTA_MAX_NODES).number;
+    return unused;
+}
+
+static void *sheet(void *unused) {
+    refused = mixegorta_sheet(job, job_size, room, sizeof room).number;
+    return unused;
+}
+
+/* How many bytes of its stack a thread has written. */
+static size_t written(void *(*call)(void *)) {
+    unsigned char *stack = aligned_alloc(4096, STACK);
+    pthread_attr_t attributes;
+    pthread_t thread;
+    size_t clean = 0;
+    if (stack == NULL) exit(2);
+    memset(stack, FILL, STACK);
+    pthread_attr_init(&attributes);
+    if (pthread_attr_setstack(&attributes, stack, STACK) || pthread_create(&thread, &attributes, call, NULL)) exit(2);
+    pthread_join(thread, NULL);
+    while (clean < STACK && stack[clean] == FILL) clean++;
+    free(stack);
+    return STACK - clean;
+}
+
+/* What a call that is not refused takes beside the thread itself. */
+static size_t taken(void *(*call)(void *)) {
+    refused = 0;
+    size_t all = written(call);
+    if (refused != 0) exit(3);
+    return all - written(nothing);
+}
+
+static void put(uint8_t tag, uint64_t number, int bytes) {
+    job[job_size++] = tag;
+    job[job_size++] = 0;
+    job[job_size++] = (uint8_t)bytes;
+    while (bytes-- > 0) job[job_size++] = (uint8_t)(number >> 8 * bytes);
+}
+
+static void write_job(void) {
+    put(1, 12, 1);
+    put(2, STEPS, 1);
+    put(3, 0, 2);
+    put(4, 1000, 4);
+    for (size_t i = 0; i < STEPS; i++) {
+        uint64_t bits;
+        memcpy(&bits, &figures[i], sizeof bits);
+        put(5, bits, 8);
+    }
+    for (size_t i = 0; i < STEPS; i++) put(7, flows[i], 4);
+    put(8, UINT64_C(4) << 40 | (uint64_t)(STEPS - 1) << 32 | MIXEGORTA_ONE, 6);
+}
+
+static size_t most(size_t one, size_t other) { return one > other ? one : other; }
+
+int main(void) {
+    for (size_t i = 0; i < STEPS; i++) {
+        rows[i] = i + 1;
+        kinds[i] = MIXEGORTA_DISCOUNT_FACTOR;
+        figures[i] = 1 - 0.002 * (double)(i + 1);
+        flows[i] = i + 1 < STEPS ? 5000000 : MIXEGORTA_ONE;
+        dates[i] = (uint8_t)i;
+    }
+    write_job();
+    printf("fit %zu\n", taken(fit));
+    printf("price %zu\n", most(most(taken(bond), taken(option)), most(taken(dated_option), taken(valuation))));
+    printf("sheet %zu\n", taken(sheet));
+    return 0;
+}

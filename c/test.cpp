@@ -1,0 +1,64 @@
+// The header in C++: every struct as a type of its own, and calls of each shape. Prints nothing where all is well.
+#include "mixegorta.h"
+
+#include <cstdio>
+#include <vector>
+
+static int failures = 0;
+
+#define EXPECT(condition)                                                \
+    do {                                                                 \
+        if (!(condition)) {                                              \
+            std::printf("c/test.cpp:%d: %s\n", __LINE__, #condition);    \
+            failures++;                                                  \
+        }                                                                \
+    } while (0)
+
+static void shapes() {
+    const mixegorta_answer nodes = mixegorta_node_count(1000, 1);
+    EXPECT(nodes.number == 0 && nodes.value == 3);
+    const mixegorta_node_branches branches = mixegorta_branches(1000, 1, 1);
+    EXPECT(branches.number == 0 && branches.lowest == 0);
+    EXPECT(branches.probabilities[0] + branches.probabilities[1] + branches.probabilities[2] == MIXEGORTA_PROBABILITY_ONE);
+    EXPECT(mixegorta_half_width(MIXEGORTA_MAX_REVERSION + 1, 0).number == 4);
+}
+
+static void quotes() {
+    const mixegorta_point point = {1, 1.0025};
+    const mixegorta_answer discount = mixegorta_quote_discount(1, MIXEGORTA_DISCOUNT_FACTOR, point);
+    EXPECT(discount.number == 0 && discount.value == 1002500000);
+    const mixegorta_rate rate = mixegorta_step_rate(discount.value);
+    EXPECT(rate.number == 0 && rate.value == -2493766);
+}
+
+static void prices() {
+    const std::vector<uint64_t> rows = {1}, flows = {MIXEGORTA_ONE};
+    const std::vector<uint8_t> kinds = {MIXEGORTA_DISCOUNT_FACTOR};
+    const std::vector<double> figures = {1.0025};
+    std::vector<uint64_t> discounts(MIXEGORTA_MAX_DISCOUNTS), state_prices(MIXEGORTA_MAX_STATE_PRICES);
+    EXPECT(mixegorta_fit(1, 1, 0, 0, rows.data(), rows.size(), kinds.data(), kinds.size(), figures.data(), figures.size(),
+                         discounts.data(), discounts.size(), state_prices.data(), state_prices.size()) == 0);
+    const mixegorta_row_place row = mixegorta_row_range(discounts.data(), discounts.size(), state_prices.data(), state_prices.size(),
+                                                        MIXEGORTA_STATE_PRICES, 1, 0, 1);
+    EXPECT(row.start == 1 && row.count == 3);
+    const mixegorta_bond_and_option_prices both = mixegorta_bond_and_option(
+        1, 0, discounts.data(), discounts.size(), flows.data(), flows.size(), MIXEGORTA_AMERICAN_PUT, 0, 1010000000);
+    const mixegorta_price bond = mixegorta_bond_price(1, 0, discounts.data(), discounts.size(), flows.data(), flows.size());
+    EXPECT(bond.number == 0 && bond.value == 1002500000 && bond.bound == 2);
+    EXPECT(both.bond.value == bond.value && both.option.number == 0 && both.option.value == 7500000);
+}
+
+static void sheet() {
+    std::vector<uint8_t> out(MIXEGORTA_SHEET_ROOM);
+    const mixegorta_written written = mixegorta_sheet(nullptr, 0, out.data(), out.size());
+    EXPECT(written.number == 1 && written.size == 0);
+}
+
+int main() {
+    EXPECT(mixegorta_version() == MIXEGORTA_VERSION_NUMBER);
+    shapes();
+    quotes();
+    prices();
+    sheet();
+    return failures == 0 ? 0 : 1;
+}

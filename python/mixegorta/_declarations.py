@@ -1,0 +1,95 @@
+"""What the shared object exports, for ctypes. Written by tools/declarations.py from the crates."""
+import ctypes
+from typing import Any, Dict, Tuple
+
+from ._types import F64, I64, SIZE, U8, U64, SliceOf
+
+
+class CAnswer(ctypes.Structure):
+    """An answer that can be a refusal: number 0 with the value, or the refusal's number with value 0."""
+
+    _fields_ = [("number", U64), ("value", U64)]
+
+
+class CBranches(ctypes.Structure):
+    """Where a node leads: to `lowest` and the two nodes above it, with probabilities up, middle, down over 600,000,000."""
+
+    _fields_ = [("number", U64), ("lowest", I64), ("probabilities", U64 * 3)]
+
+
+class CPoint(ctypes.Structure):
+    """A quoted point: a row number and a figure."""
+
+    _fields_ = [("row", U64), ("figure", F64)]
+
+
+class CRowRange(ctypes.Structure):
+    """A row's place in the memory of its kind: where it starts, and how many nodes it has."""
+
+    _fields_ = [("start", SIZE), ("count", SIZE)]
+
+
+class CRate(ctypes.Structure):
+    """Number 0 with the signed rate in billionths, or refusal 9 with value 0."""
+
+    _fields_ = [("number", U64), ("value", I64)]
+
+
+class CPrice(ctypes.Structure):
+    """A price in billionths with its error bound; a refusal's number with zeros."""
+
+    _fields_ = [("number", U64), ("value", U64), ("bound", U64)]
+
+
+class CBondAndOption(ctypes.Structure):
+    """A bond and an option on it."""
+
+    _fields_ = [("bond", CPrice), ("option", CPrice)]
+
+
+class CWritten(ctypes.Structure):
+    """A sheet that stands at the end of the lent room and is so many bytes long; a refusal's number with a zero."""
+
+    _fields_ = [("number", U64), ("size", SIZE)]
+
+
+# each exported function with its result and its parameters
+DECLARATIONS: Dict[str, Tuple[Any, Dict[str, Any]]] = {
+    "version": (U64, {}),
+    "half_width": (CAnswer, {"reversion": U64, "row": SIZE}),
+    "node_count": (CAnswer, {"reversion": U64, "row": SIZE}),
+    "row_start": (CAnswer, {"reversion": U64, "row": SIZE}),
+    "discounts_needed": (CAnswer, {"steps": SIZE, "reversion": U64}),
+    "state_prices_needed": (CAnswer, {"steps": SIZE, "reversion": U64}),
+    "branches": (CBranches, {"reversion": U64, "row": SIZE, "node": I64}),
+    "quote_discount": (CAnswer, {"frequency": U64, "kind": U8, "point": CPoint}),
+    "curve_discounts": (U64, {
+        "frequency": U64, "steps": SIZE, "rows": SliceOf(U64), "kinds": SliceOf(U8), "figures": SliceOf(F64), "discounts": SliceOf(U64),
+    }),
+    "fit": (U64, {
+        "frequency": U64, "steps": SIZE, "reversion": U64, "volatility": U64, "rows": SliceOf(U64), "kinds": SliceOf(U8),
+        "figures": SliceOf(F64), "discounts": SliceOf(U64), "state_prices": SliceOf(U64),
+    }),
+    "row_range": (CRowRange, {
+        "discounts": SliceOf(U64), "state_prices": SliceOf(U64), "kind": U64, "steps": SIZE, "reversion": U64, "row": SIZE,
+    }),
+    "step_rate": (CRate, {"discount": U64}),
+    "continuous_rate": (CRate, {"discount": U64}),
+    "state_price_error_bound": (CAnswer, {"steps": SIZE, "reversion": U64, "discounts": SliceOf(U64), "row": SIZE}),
+    "bond_price": (CPrice, {"steps": SIZE, "reversion": U64, "discounts": SliceOf(U64), "flows": SliceOf(U64)}),
+    "option_price": (CPrice, {
+        "steps": SIZE, "reversion": U64, "discounts": SliceOf(U64), "flows": SliceOf(U64), "kind": U64, "expiry": SIZE, "strike": U64,
+    }),
+    "bond_and_option": (CBondAndOption, {
+        "steps": SIZE, "reversion": U64, "discounts": SliceOf(U64), "flows": SliceOf(U64), "kind": U64, "expiry": SIZE, "strike": U64,
+    }),
+    "dated_option_price": (CPrice, {
+        "steps": SIZE, "reversion": U64, "discounts": SliceOf(U64), "flows": SliceOf(U64), "side": U64, "dates": SliceOf(U8), "strike": U64,
+    }),
+    "bond_and_dated_option": (CBondAndOption, {
+        "steps": SIZE, "reversion": U64, "discounts": SliceOf(U64), "flows": SliceOf(U64), "side": U64, "dates": SliceOf(U8), "strike": U64,
+    }),
+    "value_by_state_prices": (CAnswer, {"state_prices": SliceOf(U64), "payoffs": SliceOf(U64)}),
+    "valuation_error_bound": (CAnswer, {"steps": SIZE, "reversion": U64, "discounts": SliceOf(U64), "row": SIZE, "payoffs": SliceOf(U64)}),
+    "sheet": (CWritten, {"job": SliceOf(U8), "out": SliceOf(U8)}),
+}

@@ -1,0 +1,93 @@
+"""Every pair of tools/refusals.txt, a refusal and a function that gives it, by a call that is accepted until one thing in it is changed."""
+import os
+import struct
+import sys
+import unittest
+
+from mixegorta import ONE, SHEET_ROOM
+from mixegorta._arguments import amounts, dates, job_bytes, own_memory, quotes
+from mixegorta._declarations import DECLARATIONS, CPoint
+from mixegorta._faults import call
+
+TOOLS = os.path.join(os.path.dirname(os.path.abspath(__file__)), "..", "..", "tools")
+HEAD = ">BHBBHBBHHBHI"
+
+
+def columns(count, figure=0.97, kind=5, first=1):
+    return dict(zip(("rows", "kinds", "figures"), quotes([(row, kind, figure**row) for row in range(first, first + count)])))
+
+
+def flat(count, discount=ONE):
+    return {"discounts": amounts("discounts", [discount] * count)}
+
+
+def flows(*given):
+    return {"flows": amounts("flows", given)}
+
+
+def job(frequency=1, steps=2, reversion=0, volatility=0, figure=0.97, flow=ONE, kind=3, expiry=0, strike=ONE, option=None):
+    """A job of as many quotes and flows as steps; with an option's bytes in place of a kind's."""
+    fields = [struct.pack(HEAD, 1, 1, frequency, 2, 1, steps, 3, 2, reversion, 4, 4, volatility)]
+    fields += [struct.pack(">BHd", 5, 8, figure**row) for row in range(1, steps + 1)] + [struct.pack(">BHI", 7, 4, flow)] * steps
+    return {"job": job_bytes("job", b"".join(fields) + (option or struct.pack(">BHBBI", 8, 6, kind, expiry, strike)))}
+
+
+ROW, SIZE = {"reversion": 0, "row": 0}, {"steps": 2, "reversion": 0}
+CURVE = {"frequency": 1, "steps": 2, **columns(2), "discounts": own_memory(4)}
+FIT = {**CURVE, "reversion": 0, "volatility": 0, "state_prices": own_memory(9)}
+BOND = {**SIZE, **flat(4), **flows(0, ONE)}
+KIND = {**BOND, "kind": 1, "expiry": 1, "strike": ONE}
+LISTED = {**BOND, "side": 1, "dates": dates("dates", [1]), "strike": ONE}
+SHAPE = {4: {"reversion": 6001}, 6: {"row": 61}}
+LENT = {3: {"steps": 61}, 4: {"reversion": 6001}, 6: flat(3), 9: flat(4, 0)}
+BONDS = {**LENT, 10: flows(0, 2 * ONE + 1), 12: {"steps": 5, **flat(25), **flows(*[2 * ONE] * 5)}}
+KINDS = {**BONDS, 11: {"expiry": 2}}
+LISTS = {**BONDS, 11: {"side": 3}, 13: {"dates": dates("dates", [2])}}
+QUOTES = {2: {"frequency": 3}, 3: {"steps": 0}, 6: columns(2, first=2), 7: columns(2, kind=7)}
+PAYOFFS = {"payoffs": amounts("payoffs", [8 * ONE + 1])}
+
+# for each function what it takes, and for each refusal what is changed
+CASES = {
+    "half_width": (ROW, SHAPE), "node_count": (ROW, SHAPE), "row_start": (ROW, SHAPE),
+    "discounts_needed": (SIZE, {3: {"steps": 0}, 4: SHAPE[4]}), "state_prices_needed": (SIZE, {3: {"steps": 0}, 4: SHAPE[4]}),
+    "branches": ({**ROW, "node": 0}, {**SHAPE, 6: {"node": 1}}),
+    "quote_discount": ({"frequency": 1, "kind": 5, "point": CPoint(1, 0.97)}, {2: {"frequency": 3}, 6: {"point": CPoint(0, 0.97)}, 7: {"kind": 7}}),
+    "curve_discounts": (CURVE, QUOTES),
+    "fit": (FIT, {**QUOTES, 4: SHAPE[4], 5: {"volatility": 50001}, 9: columns(2, 1.2),
+                  8: {"steps": 13, "volatility": 50000, **columns(13), "discounts": own_memory(169), "state_prices": own_memory(196)}}),
+    "step_rate": ({"discount": ONE}, {9: {"discount": 0}}), "continuous_rate": ({"discount": ONE}, {9: {"discount": 0}}),
+    "state_price_error_bound": ({**SIZE, **flat(4), "row": 0}, LENT),
+    "bond_price": (BOND, BONDS), "option_price": (KIND, KINDS), "bond_and_option": (KIND, KINDS),
+    "dated_option_price": (LISTED, LISTS), "bond_and_dated_option": (LISTED, LISTS),
+    "value_by_state_prices": ({"state_prices": amounts("state_prices", [ONE]), "payoffs": amounts("payoffs", [ONE])},
+                              {6: {"payoffs": amounts("payoffs", [1, 2, 3])}, 12: PAYOFFS}),
+    "valuation_error_bound": ({**SIZE, **flat(4), "row": 0, "payoffs": amounts("payoffs", [ONE])}, {**LENT, 12: PAYOFFS}),
+    "sheet": ({**job(), "out": own_memory(SHEET_ROOM, "B")}, {
+        1: job(option=b"\x08"), 2: job(frequency=3), 3: job(steps=61), 4: job(reversion=6001), 5: job(volatility=50001), 6: {"out": own_memory(9, "B")},
+        7: job(figure=11.0), 8: job(steps=13, volatility=50000), 9: job(figure=1.2), 10: job(flow=2 * ONE + 1), 11: job(kind=5),
+        12: job(steps=5, flow=2 * ONE, figure=1.0), 13: job(option=struct.pack(">BHBI", 10, 5, 1, ONE))}),
+}
+
+
+def number(name, given):
+    """The number that a call gives: its last price's where it answers two."""
+    answer = call(name, *(given[parameter] for parameter in DECLARATIONS[name][1]))
+    answer = getattr(answer, "option", answer)
+    return getattr(answer, "number", answer)
+
+
+class Test(unittest.TestCase):
+    def test_each_listed_refusal_is_given(self):
+        sys.path.append(TOOLS)
+        self.addCleanup(sys.path.remove, TOOLS)
+        import tables
+        wanted = {name: {refusal.number for refusal in tables.refusals() if name in refusal.entries} for name in DECLARATIONS}
+        self.assertEqual({name: set(changes) for name, (_, changes) in CASES.items()}, {name: numbers for name, numbers in wanted.items() if numbers})
+        for name, (given, changes) in CASES.items():
+            self.assertEqual(number(name, given), 0, name)
+            for refused, changed in changes.items():
+                self.assertEqual(number(name, {**given, **changed}), refused, name)
+
+
+if __name__ == "__main__":
+    unittest.main()

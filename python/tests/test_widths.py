@@ -1,0 +1,142 @@
+"""Numbers that would pass for valid ones if they were cut to 8, 16 or 32 bits, or by ctypes, for every argument of every function: the lines of
+reference/widths.txt, whose form reference/widths.py tells."""
+import pathlib
+import struct
+import unittest
+from array import array
+from itertools import chain
+
+import mixegorta as m
+
+TABLE = pathlib.Path(__file__).resolve().parents[2] / "reference/widths.txt"
+PATTERN = 0xA5A5A5A5A5A5A5A5
+
+
+def argument(word):
+    """A number; a list [3,5,0*256] as it stands; a memory @9 as array('Q')."""
+    if word.startswith("@"):
+        return array("Q", [PATTERN]) * int(word[1:])
+    if not word.startswith("["):
+        return int(word)
+    items = (item.split("*") for item in word[1:-1].split(","))
+    return list(chain.from_iterable([int(value)] * int(*times or [1]) for value, *times in items))
+
+
+def figure(bits):
+    return struct.unpack(">d", struct.pack(">Q", bits))[0]
+
+
+def points(rows, kinds, figures):
+    """The points of three lists, or None where they differ in length, which no list of points does."""
+    return [m.Point(row, kind, figure(bits)) for row, kind, bits in zip(rows, kinds, figures)] if len(rows) == len(kinds) == len(figures) else None
+
+
+def fields(found):
+    """The fields of an answer in one list."""
+    return list(found) if isinstance(found, (tuple, array)) else [found]
+
+
+def number_and_fields(each):
+    return [each.number, 0, 0] if isinstance(each, m.Refused) else [0, *each]
+
+
+def both(function):
+    return lambda *given: number_and_fields(function(*given).bond) + number_and_fields(function(*given).option)
+
+
+def numbered(function):
+    return lambda *given: [0, *fields(function(*given))]
+
+
+def quote_discount(frequency, kind, row, bits):
+    return [0, m.quote_discount(frequency, (row, kind, figure(bits)))]
+
+
+def curve_discounts(frequency, steps, rows, kinds, figures, memory):
+    quoted = points(rows, kinds, figures)
+    return None if quoted is None or len(memory) != len(quoted) else [0, *m.curve_discounts(frequency, steps, quoted)]
+
+
+def fit(frequency, steps, reversion, volatility, rows, kinds, figures, discounts, state_prices):
+    """What a fit writes: all that is no longer the pattern. Where it is refused, its memories must be as they were."""
+    quoted = points(rows, kinds, figures)
+    if quoted is None:
+        return None
+    try:
+        m.fit_into(frequency, steps, reversion, volatility, quoted, discounts, state_prices)
+    except m.Refused:
+        assert set(discounts) | set(state_prices) == {PATTERN}
+        raise
+    return [0, *(number for number in chain(discounts, state_prices) if number != PATTERN)]
+
+
+def row_range(*given):
+    found = m.row_range(*given)
+    return [found.start, len(found)] if found else [0, 0]
+
+
+CALLS = {"quote_discount": quote_discount, "curve_discounts": curve_discounts, "fit": fit, "row_range": row_range,
+         "bond_and_option": both(m.bond_and_option), "bond_and_dated_option": both(m.bond_and_dated_option)}
+for name in ("half_width", "node_count", "row_start", "discounts_needed", "state_prices_needed", "branches", "step_rate", "continuous_rate",
+             "state_price_error_bound", "bond_price", "option_price", "dated_option_price", "value_by_state_prices", "valuation_error_bound"):
+    CALLS[name] = numbered(getattr(m, name))
+
+
+def answer(name, given):
+    """What a call answers, a refusal as its number; None where no arguments of this package say the same."""
+    try:
+        return CALLS[name](*given) if name in CALLS else m.sheet(*given)
+    except m.Refused as refusal:
+        return [refusal.number]
+
+
+def lines():
+    for line in TABLE.read_text(encoding="utf-8").splitlines():
+        call, wanted = line.split(" = ")
+        name, *words = call.split(" ")
+        yield line, name, words, [each for word in wanted.split(" ") for each in (argument(word) if word.startswith("[") else [int(word)])]
+
+
+class Test(unittest.TestCase):
+    def test_numbers_past_a_width(self):
+        called = {}
+        for line, name, words, wanted in lines():
+            found = answer(name, [argument(word) for word in words])
+            if found is not None:
+                self.assertEqual(found, wanted, line)
+                called[name] = called.get(name, 0) + 1
+        self.assertEqual(called.keys(), CALLS.keys())
+        self.assertGreater(min(called.values()), 3)
+
+    def test_numbers_past_64_bits(self):
+        """Each number and each element of the first line of an entry, with what ctypes would lose added to it."""
+        first = {name: words for _, name, words, _ in reversed(list(lines()))}
+        self.assertEqual(first.keys(), CALLS.keys())
+        for name, words in first.items():
+            for place, word in enumerate(words):
+                given = [argument(each) for each in words]
+                if word.startswith("@") or name == "quote_discount" and place == 3 or name in ("curve_discounts", "fit") and isinstance(given[place], list):
+                    continue
+                wide = given[place] + 2**64 if isinstance(given[place], int) else [given[place][0] + 2**64, *given[place][1:]]
+                with self.subTest(name=name, place=place), self.assertRaises(OverflowError):
+                    answer(name, given[:place] + [wide] + given[place + 1:])
+
+    def test_a_job_past_a_width(self):
+        """Bytes behind a whole job make it malformed, however many."""
+        job = bytes.fromhex("01000101 02000101 0300020000 04000400000000 0500083FF00A3D70A3D70A 0700043B9ACA00")
+        self.assertTrue(m.sheet(job).endswith("bond 1.002500000 2\n"))
+        for more in (2**8, 2**16):
+            self.assertEqual(answer("sheet", [job + bytes(more)]), [1])
+
+    def test_bytes_past_8_bits(self):
+        """Kinds of quotes and dates are bytes: 256 more would be cut in silence."""
+        tree = 3, 0, [m.ONE] * 9, [0, 0, m.ONE]
+        for call in (lambda: m.quote_discount(1, (1, 256 + m.DISCOUNT_FACTOR, 0.9)), lambda: m.Curve([(1, 256 + m.DISCOUNT_FACTOR, 0.9)]),
+                     lambda: m.Curve([(2**64 + 1, m.DISCOUNT_FACTOR, 0.9)]), lambda: m.curve_discounts(1, 1, [(1, 256 + m.YEARLY_RATE, 0.9)]),
+                     lambda: m.dated_option_price(*tree, m.CALL, [256 + 1], m.ONE), lambda: m.bond_and_dated_option(*tree, m.CALL, [1, 256 + 2], m.ONE)):
+            with self.assertRaises(OverflowError):
+                call()
+
+
+if __name__ == "__main__":
+    unittest.main()

@@ -1,0 +1,340 @@
+#!/usr/bin/env python3
+"""Numbers that would pass for valid ones if they were cut to 8, 16 or 32 bits: each argument of each export of the library, and what the rules answer.
+
+    widths.py            writes widths.txt beside itself
+    widths.py --check    compares widths.txt with what it would write, and the entries with c/mixegorta.h
+
+A line of widths.txt is the name of an export, its arguments in the header's order, `=` and the answer. An argument is a number, a list [3,5,0*256], which
+ends in 256 zeros here, or @9, a memory of nine numbers to be written. Figures stand as their 64 bits. An answer is a refusal's number alone, or its fields;
+a memory's part that was written comes as a list. Tests in C, Rust and Python read the lines. Each entry's first line is the call that the others change.
+"""
+import os
+import re
+import sys
+from collections import namedtuple
+
+HERE = os.path.dirname(os.path.abspath(__file__))
+sys.path.insert(0, HERE)
+sys.dont_write_bytecode = True
+import reference as rules
+from reference import ONE, Kind, Option, Refused, refuse_if
+
+TABLE, HEADER = os.path.join(HERE, 'widths.txt'), os.path.join(HERE, '..', 'c', 'mixegorta.h')
+BITS = 8, 16, 32
+# Of a count, 2^32 more would be memory that no test has.
+COUNT_BITS = 8, 16
+
+
+# What each entry answers: a list of numbers and lists, or Refused
+
+def judged_tree(n, b):
+    refuse_if(not 1 <= n <= 60, 3)
+    refuse_if(b > 6_000, 4)
+
+
+def count(b, row):
+    return len(rules.nodes(b, row))
+
+
+def start(b, row):
+    return sum(count(b, i) for i in range(row))
+
+
+def judged_row(b, row):
+    refuse_if(b > 6_000, 4)
+    refuse_if(row > 60, 6)
+
+
+def half_width(b, row):
+    judged_row(b, row)
+    return [rules.half_width(b, row)]
+
+
+def node_count(b, row):
+    judged_row(b, row)
+    return [count(b, row)]
+
+
+def row_start(b, row):
+    judged_row(b, row)
+    return [start(b, row)]
+
+
+def discounts_needed(n, b):
+    judged_tree(n, b)
+    return [start(b, n)]
+
+
+def state_prices_needed(n, b):
+    judged_tree(n, b)
+    return [start(b, n + 1)]
+
+
+def branches(b, row, node):
+    judged_row(b, row)
+    refuse_if(row > 59 or abs(node) > rules.half_width(b, row), 6)
+    (_, up), (_, middle), (lowest, down) = rules.branches(b, node)
+    return [lowest, up, middle, down]
+
+
+def judged_frequency(f):
+    refuse_if(f not in (1, 2, 4, 12), 2)
+
+
+def quote_discount(f, kind, row, figure):
+    judged_frequency(f)
+    refuse_if(not 1 <= row <= 60, 6)
+    return [rules.quote(f, row, kind, figure)]
+
+
+def quoted(f, n, rows, kinds, figures, short):
+    """The discounts of a curve; 6 where it is not in its places, or where a memory is short."""
+    refuse_if({len(rows), len(kinds), len(figures)} != {n} or rows != list(range(1, n + 1)) or short, 6)
+    return [rules.quote(f, *each) for each in zip(rows, kinds, figures)]
+
+
+def curve_discounts(f, n, rows, kinds, figures, memory):
+    judged_frequency(f)
+    refuse_if(not 1 <= n <= 60, 3)
+    return [quoted(f, n, rows, kinds, figures, memory < n)]
+
+
+def fit(f, n, b, s, rows, kinds, figures, discounts, state_prices):
+    judged_frequency(f)
+    judged_tree(n, b)
+    refuse_if(s > 50_000, 5)
+    quotes = quoted(f, n, rows, kinds, figures, discounts < start(b, n) or state_prices < start(b, n + 1))
+    refuse_if(rules.half_width(b, n - 1) * rules.spacing(f, s) > ONE, 8)
+    return [[row[j] for row in rows_of for j in sorted(row)] for rows_of in rules.fit(n, b, rules.spacing(f, s), quotes)]
+
+
+def row_range(discounts, state_prices, kind, n, b, row):
+    """A refusal has no number: start and count are 0."""
+    fits = 1 <= n <= 60 and b <= 6_000 and discounts >= start(b, n) and state_prices >= start(b, n + 1)
+    return [start(b, row), count(b, row)] if fits and (kind == 1 and row < n or kind == 2 and row <= n) else [0, 0]
+
+
+def step_rate(discount):
+    refuse_if(not 1 <= discount <= rules.DISCOUNT_LIMIT, 9)
+    return [rules.step_rate(discount)]
+
+
+def continuous_rate(discount):
+    return [rules.continuous_rate(discount)]
+
+
+def lent(n, b, discounts, wrong):
+    """The rows of lent discounts; wrong is a cause for 6 beside too few of them."""
+    judged_tree(n, b)
+    refuse_if(len(discounts) < start(b, n) or wrong, 6)
+    refuse_if(any(not 1 <= v <= rules.DISCOUNT_LIMIT for v in discounts[:start(b, n)]), 9)
+    return [dict(zip(rules.nodes(b, i), discounts[start(b, i):])) for i in range(n)]
+
+
+def state_price_error_bound(n, b, discounts, row):
+    return [rules.state_price_allowance(b, lent(n, b, discounts, row > n), row)]
+
+
+def judged_flows(n, b, discounts, flows):
+    rows = lent(n, b, discounts, len(flows) != n)
+    refuse_if(any(flow > rules.FLOW_LIMIT for flow in flows), 10)
+    return rows
+
+
+def bond_price(n, b, discounts, flows):
+    rows = judged_flows(n, b, discounts, flows)
+    return [rules.bond_rows(n, b, rows, flows)[0][0], rules.price_allowance(rows)]
+
+
+def priced_option(n, b, discounts, flows, terms):
+    rows = judged_flows(n, b, discounts, flows)
+    return [rules.option_value(n, b, rows, flows, rules.accepted_option(n, terms)), rules.price_allowance(rows)]
+
+
+def option_price(n, b, discounts, flows, kind, expiry, strike):
+    return priced_option(n, b, discounts, flows, Kind(kind, expiry, strike))
+
+
+def dated_option_price(n, b, discounts, flows, side, dates, strike):
+    return priced_option(n, b, discounts, flows, Option(side, strike, dates))
+
+
+def with_zeros(rule, *given):
+    """Number, price and bound: of two answers side by side, each has its own number."""
+    try:
+        return [0] + rule(*given)
+    except Refused as refusal:
+        return [refusal.number, 0, 0]
+
+
+def bond_and_option(*given):
+    return with_zeros(bond_price, *given[:4]) + with_zeros(option_price, *given)
+
+
+def bond_and_dated_option(*given):
+    return with_zeros(bond_price, *given[:4]) + with_zeros(dated_option_price, *given)
+
+
+def value_by_state_prices(state_prices, payoffs):
+    return [rules.weighing(state_prices, payoffs)]
+
+
+def valuation_error_bound(n, b, discounts, row, payoffs):
+    tree = 1 <= n <= 60 and b <= 6_000
+    rows = lent(n, b, discounts, row > n or tree and len(payoffs) != count(b, row))
+    refuse_if(max(payoffs) > rules.VALUE_LIMIT, 12)
+    return [rules.weighing_allowance(b, rows, row, payoffs)]
+
+
+# The calls. A list is exact where its length must be just so, and least where it may be longer; a byte is no number that 256 more would fit into.
+
+Argument = namedtuple('Argument', 'name kind value')
+Entry = namedtuple('Entry', 'rule numbered arguments')
+Memory = namedtuple('Memory', 'length')
+# Answers that show their numbers among their fields.
+UNNUMBERED = row_range, bond_and_option, bond_and_dated_option
+
+
+def entry(rule, *arguments):
+    return Entry(rule, rule not in UNNUMBERED, [Argument(*argument) for argument in arguments])
+
+
+def figures_of(*figures):
+    return [rules.pattern_of(figure) for figure in figures]
+
+
+REVERSION, STEPS, ROW = ('reversion', 'number', 800), ('steps', 'number', 3), ('row', 'number', 60)
+FREQUENCY, VOLATILITY = ('frequency', 'number', 2), ('volatility', 'number', 10_000)
+CURVE = (('rows', 'exact', [1, 2, 3]), ('kinds', 'bytes', [5, 6, 9]), ('figures', 'figures', figures_of(0.98, 0.03, 0.02)))
+DISCOUNTS = ('discounts', 'least', [970_000_000, 985_000_000, 968_000_000, 952_000_000, 999_000_000, 982_000_000, 965_000_000, 948_000_000, 932_000_000])
+LEVEL = ('discounts', 'least', [ONE] * 9)
+FLOWS = ('flows', 'exact', [40_000_000, 40_000_000, ONE + 40_000_000])
+STRIKE, DATES = ('strike', 'number', 2 * ONE), ('dates', 'bytes', [1, 2])
+MEMORIES = (('discounts', 'memory', Memory(9)), ('state_prices', 'memory', Memory(16)))
+BOND = (STEPS, REVERSION, DISCOUNTS, FLOWS)
+OPTION = (('kind', 'number', 2), ('expiry', 'number', 2), STRIKE)
+DATED = (('side', 'number', 2), DATES, STRIKE)
+
+ENTRIES = [
+    entry(half_width, REVERSION, ROW), entry(node_count, REVERSION, ROW), entry(row_start, REVERSION, ROW),
+    entry(discounts_needed, STEPS[:2] + (60,), REVERSION), entry(state_prices_needed, STEPS[:2] + (60,), REVERSION),
+    entry(branches, REVERSION, ('row', 'number', 20), ('node', 'signed', 2)),
+    entry(quote_discount, FREQUENCY, ('kind', 'byte', 6), ('point.row', 'number', 3), ('point.figure', 'figure', figures_of(0.03)[0])),
+    entry(curve_discounts, FREQUENCY, STEPS, *CURVE, ('discounts', 'memory', Memory(3))),
+    entry(fit, FREQUENCY, STEPS, REVERSION, VOLATILITY, *CURVE, *MEMORIES),
+    entry(row_range, ('discounts', 'memory', Memory(128)), ('state_prices', 'memory', Memory(135)), ('kind', 'number', 1), STEPS[:2] + (20,), REVERSION,
+          ('row', 'number', 10)),
+    entry(step_rate, ('discount', 'number', 900_000_000)), entry(continuous_rate, ('discount', 'number', 900_000_000)),
+    entry(state_price_error_bound, STEPS, REVERSION, LEVEL, ('row', 'number', 3)),
+    entry(bond_price, *BOND), entry(option_price, *BOND, *OPTION), entry(bond_and_option, *BOND, *OPTION),
+    entry(dated_option_price, *BOND, *DATED), entry(bond_and_dated_option, *BOND, *DATED),
+    entry(value_by_state_prices, ('state_prices', 'exact', [160_000_000, 640_000_000, 160_000_000]), ('payoffs', 'exact', [ONE, ONE // 2, 2 * ONE])),
+    entry(valuation_error_bound, STEPS, REVERSION, LEVEL, ('row', 'number', 3), ('payoffs', 'exact', [ONE] * 7)),
+]
+# A job is bytes, and the room for its sheet has one size: crates/sheet_cases has both. The version is asked for without arguments.
+WITHOUT_NUMBERS = {'sheet', 'version'}
+
+
+# The lines
+
+def multiple(length, bits):
+    """The least multiple of a power of two that is enough: cut to so many bits it is 0."""
+    return -(-length // 2 ** bits) * 2 ** bits
+
+
+def changes(argument):
+    """Each way to change an argument by a power of two that a narrower number loses."""
+    kind, value = argument.kind, argument.value
+    if kind in ('number', 'signed'):
+        yield from (value + sign * 2 ** bits for bits in BITS for sign in ((1, -1) if kind == 'signed' else (1,)))
+    if kind in ('exact', 'least'):
+        for place in sorted({0, len(value) // 2, len(value) - 1}):
+            yield from (value[:place] + [value[place] + 2 ** bits] + value[place + 1:] for bits in BITS)
+    if kind in ('exact', 'bytes', 'figures'):
+        yield from (value + [0] * 2 ** bits for bits in COUNT_BITS)
+    if kind == 'least':
+        yield from (value + [0] * (multiple(len(value), bits) - len(value)) for bits in COUNT_BITS)
+    if kind == 'memory':
+        yield from (Memory(multiple(value.length, bits)) for bits in COUNT_BITS)
+
+
+def token(value):
+    if isinstance(value, Memory):
+        return '@%d' % value.length
+    if not isinstance(value, list):
+        return str(value)
+    kept = len(value)
+    while kept > 0 and value[kept - 1] == 0:
+        kept -= 1
+    zeros = len(value) - kept
+    return '[%s]' % ','.join([str(each) for each in value[:kept]] + (['0*%d' % zeros] if zeros else []))
+
+
+def answer(entry, values):
+    given = [value.length if isinstance(value, Memory) else value for value in values]
+    try:
+        found = entry.rule(*given)
+    except Refused as refusal:
+        return [refusal.number]
+    return [0] + found if entry.numbered else found
+
+
+def line(entry, values):
+    return '%s %s = %s' % (entry.rule.__name__, ' '.join(map(token, values)), ' '.join(map(token, answer(entry, values))))
+
+
+def lines_of(entry):
+    """The entry's own call, which is accepted, then each change of each argument. A changed number must give another answer, or a cut would not show."""
+    values = [argument.value for argument in entry.arguments]
+    own = answer(entry, values)
+    if len(own) == 1:
+        raise SystemExit('refused: %s' % line(entry, values))
+    yield line(entry, values)
+    for place, argument in enumerate(entry.arguments):
+        made = [values[:place] + [changed] + values[place + 1:] for changed in changes(argument)]
+        same = [each for each in made if answer(entry, each) == own]
+        if argument.kind in ('number', 'signed') and same or argument.kind == 'exact' and len(same) == len(made):
+            raise SystemExit('a cut would not show: %s' % line(entry, same[0]))
+        yield from (line(entry, each) for each in made)
+
+
+def table():
+    return ''.join(each + '\n' for entry in ENTRIES for each in lines_of(entry))
+
+
+def declared(header):
+    """The exports of the header by name, with the names of their arguments; the count that follows a pointer is none."""
+    found = re.findall(r'\bmixegorta_(\w+)\(([^)]*)\);', re.sub(r'/\*.*?\*/', '', header, flags=re.S))
+    names = {name: [argument.split()[-1].lstrip('*').partition('[')[0] for argument in arguments.split(',')] for name, arguments in found}
+    return {name: [each for each in arguments if not each.endswith('_len')] for name, arguments in names.items()}
+
+
+def faults(header, stored, made):
+    """What is wrong of the table: an export or an argument that it has not, or lines that the rules do not give."""
+    known = {entry.rule.__name__: list(dict.fromkeys(argument.name.split('.')[0] for argument in entry.arguments)) for entry in ENTRIES}
+    for name, arguments in declared(header).items():
+        if name not in WITHOUT_NUMBERS and known.get(name) != arguments:
+            yield 'mixegorta_%s has the arguments %s, here %s' % (name, arguments, known.get(name))
+    if stored != made:
+        yield 'widths.txt is not what the rules give: run reference/widths.py'
+
+
+def content(path):
+    with open(path, encoding='utf-8') as file:
+        return file.read()
+
+
+def main(arguments):
+    made = table()
+    if arguments == ['--check']:
+        found = list(faults(content(HEADER), content(TABLE), made))
+        print(*found or ['%d lines of %d exports' % (made.count('\n'), len(ENTRIES))], sep='\n')
+        return 1 if found else 0
+    with open(TABLE, 'w', encoding='utf-8') as file:
+        file.write(made)
+    print(made.count('\n'), 'lines of', len(ENTRIES), 'exports')
+    return 0
+
+
+if __name__ == '__main__':
+    sys.exit(main(sys.argv[1:]))

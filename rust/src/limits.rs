@@ -1,0 +1,36 @@
+//! Limits and units. Written by tools/declarations.py from tools/limits.txt.
+
+/// Billionths in one.
+pub const ONE: u64 = 1_000_000_000;
+/// The whole of which probabilities are parts.
+pub const PROBABILITY_ONE: u64 = 600_000_000;
+/// The largest number of steps.
+pub const MAX_STEPS: usize = 60;
+/// The largest number of nodes of a row.
+pub const MAX_NODES: usize = 121;
+/// The largest number of discounts of a tree.
+pub const MAX_DISCOUNTS: usize = 3_600;
+/// The largest number of state prices of a tree.
+pub const MAX_STATE_PRICES: usize = 3_721;
+/// The longest job in bytes.
+pub const MAX_JOB: usize = 4_700;
+/// Room for the sheet of every job in bytes.
+pub const SHEET_ROOM: usize = 468_736;
+/// The largest reversion per step, in ten-thousandths.
+pub const MAX_REVERSION: u64 = 6_000;
+/// The largest yearly volatility, in millionths.
+pub const MAX_VOLATILITY: u64 = 50_000;
+/// The smallest quoted discount, in billionths.
+pub const MIN_QUOTE_DISCOUNT: u64 = 100_000_000;
+/// The largest quoted discount, in billionths.
+pub const MAX_QUOTE_DISCOUNT: u64 = 2_000_000_000;
+/// The largest discount of a node, in billionths.
+pub const MAX_NODE_DISCOUNT: u64 = 1_100_000_000;
+/// The largest flow, in billionths.
+pub const MAX_FLOW: u64 = 2_000_000_000;
+/// The largest strike, in billionths.
+pub const MAX_STRIKE: u64 = 4_000_000_000;
+/// The largest value of a bond, an option or a payoff, in billionths.
+pub const MAX_VALUE: u64 = 8_000_000_000;
+/// The largest sum of state prices by which payoffs are valued, in billionths.
+pub const MAX_STATE_PRICE_SUM: u64 = 2_000_000_100;

@@ -1,0 +1,305 @@
+//! Numbers that would pass for valid ones if they were cut to 8, 16 or 32 bits, for every argument of every function: the lines of
+//! reference/widths.txt, whose form reference/widths.py tells. Then every job of crates/sheet_cases.
+use mixegorta::*;
+use std::collections::BTreeMap;
+use std::fs;
+
+const PATTERN: u64 = 0xA5A5_A5A5_A5A5_A5A5;
+
+fn path(below: &str) -> String {
+    format!("{}/../{below}", env!("CARGO_MANIFEST_DIR"))
+}
+
+/// The arguments of a line: numbers, and lists or memories.
+struct Given(Vec<Vec<u64>>);
+
+impl Given {
+    fn number(&self, place: usize) -> u64 {
+        self.0[place][0]
+    }
+
+    fn size(&self, place: usize) -> usize {
+        self.number(place) as usize
+    }
+
+    fn list(&self, place: usize) -> &[u64] {
+        &self.0[place]
+    }
+
+    fn bytes(&self, place: usize) -> Vec<u8> {
+        self.list(place).iter().map(|v| *v as u8).collect()
+    }
+
+    /// The curve of three lists, or none where they differ in length, which no curve of this crate does.
+    fn curve(&self, place: usize) -> Option<Curve> {
+        let [rows, kinds, figures] = [0, 1, 2].map(|k| self.list(place + k));
+        if rows.len() != kinds.len() || rows.len() != figures.len() {
+            return None;
+        }
+        let points: Vec<(u64, Quote)> = (0..rows.len())
+            .map(|i| (rows[i], quote(kinds[i], figures[i]).expect("a kind")))
+            .collect();
+        Some(Curve::of_points(&points))
+    }
+
+    /// The terms of an option, or none where the kind is no number of `OptionKind`.
+    fn terms(&self) -> Option<OptionTerms> {
+        use OptionKind::*;
+        let kinds = [EuropeanCall, EuropeanPut, AmericanCall, AmericanPut];
+        let kind = kinds.into_iter().find(|k| *k as u64 == self.number(4))?;
+        Some(OptionTerms {
+            kind,
+            expiry: self.size(5),
+            strike: self.number(6),
+        })
+    }
+
+    fn dated<'a>(&self, dates: &'a [u8]) -> Option<DatedTerms<'a>> {
+        let sides = [Side::Call, Side::Put];
+        let side = sides.into_iter().find(|s| *s as u64 == self.number(4))?;
+        Some(DatedTerms {
+            side,
+            dates,
+            strike: self.number(6),
+        })
+    }
+}
+
+fn quote(kind: u64, bits: u64) -> Option<Quote> {
+    let figure = f64::from_bits(bits);
+    match kind {
+        5 => Some(Quote::DiscountFactor(figure)),
+        6 => Some(Quote::YearlyRate(figure)),
+        9 => Some(Quote::YearlyYield(figure)),
+        _ => None,
+    }
+}
+
+/// A number, a list [3,5,0*256], or a memory @9.
+fn argument(word: &str) -> Vec<u64> {
+    if let Some(length) = word.strip_prefix('@') {
+        return vec![PATTERN; length.parse().expect("a length")];
+    }
+    let number = |text: &str| match text.strip_prefix('-') {
+        Some(size) => (size.parse::<i64>().expect("a number")).wrapping_neg() as u64,
+        None => text.parse().expect("a number"),
+    };
+    let items = word.trim_matches(['[', ']']).split(',');
+    items
+        .flat_map(|item| match item.split_once('*') {
+            Some((value, times)) => vec![number(value); times.parse().expect("a count")],
+            None => vec![number(item)],
+        })
+        .collect()
+}
+
+fn answered<const N: usize>(found: Result<[u64; N], Refusal>) -> Vec<u64> {
+    match found {
+        Ok(fields) => std::iter::once(0).chain(fields).collect(),
+        Err(refusal) => vec![refusal.number()],
+    }
+}
+
+fn one(found: Result<u64, Refusal>) -> Vec<u64> {
+    answered(found.map(|value| [value]))
+}
+
+fn price(found: Result<Price, Refusal>) -> Vec<u64> {
+    answered(found.map(|p| [p.value, p.bound]))
+}
+
+/// Two answers side by side, each with its number and zeros where refused.
+fn both(found: BondAndOption) -> Vec<u64> {
+    [found.bond, found.option]
+        .into_iter()
+        .flat_map(|each| {
+            let mut fields = price(each);
+            fields.resize(3, 0);
+            fields
+        })
+        .collect()
+}
+
+/// The number of a call that writes, and what it wrote; everything else of its memories must be as it was.
+fn written(found: Result<(), Refusal>, memories: &[(&[u64], usize)]) -> Vec<u64> {
+    let mut answer = vec![found.map_or_else(|refusal| refusal.number(), |_| 0)];
+    for (memory, needed) in memories {
+        let count = if found.is_ok() { *needed } else { 0 };
+        answer.extend(&memory[..count]);
+        assert!(
+            memory[count..].iter().all(|v| *v == PATTERN),
+            "a memory past its part"
+        );
+    }
+    answer
+}
+
+fn fitted(g: &Given) -> Option<Vec<u64>> {
+    let (steps, reversion) = (g.size(1), g.number(2));
+    let (mut discounts, mut prices) = (g.list(7).to_vec(), g.list(8).to_vec());
+    let found = fit(
+        g.number(0),
+        steps,
+        reversion,
+        g.number(3),
+        &g.curve(4)?,
+        &mut discounts,
+        &mut prices,
+    );
+    let needed = |size: Result<u64, Refusal>| size.unwrap_or(0) as usize;
+    let (first, second) = (
+        needed(discounts_needed(steps, reversion)),
+        needed(state_prices_needed(steps, reversion)),
+    );
+    Some(written(found, &[(&discounts, first), (&prices, second)]))
+}
+
+fn curve_written(g: &Given) -> Option<Vec<u64>> {
+    let mut memory = g.list(5).to_vec();
+    let found = curve_discounts(g.number(0), g.size(1), &g.curve(2)?, &mut memory);
+    Some(written(found, &[(&memory, g.size(1))]))
+}
+
+fn ranged(g: &Given) -> Option<Vec<u64>> {
+    let kinds = [RowKind::Discounts, RowKind::StatePrices];
+    let kind = kinds.into_iter().find(|k| *k as u64 == g.number(2))?;
+    let range = row_range(
+        g.list(0),
+        g.list(1),
+        kind,
+        g.size(3),
+        g.number(4),
+        g.size(5),
+    )
+    .unwrap_or(0..0);
+    Some(vec![range.start as u64, range.len() as u64])
+}
+
+/// What a call of level one answers; none where the types of this crate have no such argument.
+fn shape_or_fit(name: &str, g: &Given) -> Option<Vec<u64>> {
+    match name {
+        "half_width" => Some(one(half_width(g.number(0), g.size(1)))),
+        "node_count" => Some(one(node_count(g.number(0), g.size(1)))),
+        "row_start" => Some(one(row_start(g.number(0), g.size(1)))),
+        "discounts_needed" => Some(one(discounts_needed(g.size(0), g.number(1)))),
+        "state_prices_needed" => Some(one(state_prices_needed(g.size(0), g.number(1)))),
+        "branches" => Some(answered(
+            branches(g.number(0), g.size(1), g.number(2) as i64)
+                .map(|b| [b.lowest as u64, b.up, b.middle, b.down]),
+        )),
+        "quote_discount" => Some(one(quote_discount(
+            g.number(0),
+            g.number(2),
+            quote(g.number(1), g.number(3))?,
+        ))),
+        "curve_discounts" => curve_written(g),
+        "fit" => fitted(g),
+        "row_range" => ranged(g),
+        "step_rate" => Some(one(step_rate(g.number(0)).map(|rate| rate as u64))),
+        "continuous_rate" => Some(one(continuous_rate(g.number(0)).map(|rate| rate as u64))),
+        "state_price_error_bound" => Some(one(state_price_error_bound(
+            g.size(0),
+            g.number(1),
+            g.list(2),
+            g.size(3),
+        ))),
+        _ => panic!("no function {name}"),
+    }
+}
+
+fn call(name: &str, g: &Given) -> Option<Vec<u64>> {
+    let dates = if name.contains("dated") {
+        g.bytes(5)
+    } else {
+        Vec::new()
+    };
+    let tree = |g: &Given| (g.size(0), g.number(1));
+    match name {
+        "bond_price" => Some(price(bond_price(
+            tree(g).0,
+            tree(g).1,
+            g.list(2),
+            g.list(3),
+        ))),
+        "option_price" => Some(price(option_price(
+            tree(g).0,
+            tree(g).1,
+            g.list(2),
+            g.list(3),
+            g.terms()?,
+        ))),
+        "bond_and_option" => Some(both(bond_and_option(
+            tree(g).0,
+            tree(g).1,
+            g.list(2),
+            g.list(3),
+            g.terms()?,
+        ))),
+        "dated_option_price" => Some(price(dated_option_price(
+            tree(g).0,
+            tree(g).1,
+            g.list(2),
+            g.list(3),
+            g.dated(&dates)?,
+        ))),
+        "bond_and_dated_option" => Some(both(bond_and_dated_option(
+            tree(g).0,
+            tree(g).1,
+            g.list(2),
+            g.list(3),
+            g.dated(&dates)?,
+        ))),
+        "value_by_state_prices" => Some(one(value_by_state_prices(g.list(0), g.list(1)))),
+        "valuation_error_bound" => Some(one(valuation_error_bound(
+            tree(g).0,
+            tree(g).1,
+            g.list(2),
+            g.size(3),
+            g.list(4),
+        ))),
+        _ => shape_or_fit(name, g),
+    }
+}
+
+#[test]
+fn numbers_past_a_width() {
+    let table = fs::read_to_string(path("reference/widths.txt")).expect("the table");
+    let mut called: BTreeMap<&str, u32> = BTreeMap::new();
+    for line in table.lines() {
+        let (given, wanted) = line.split_once(" = ").expect("an answer");
+        let (name, words) = given.split_once(' ').expect("arguments");
+        let given = Given(words.split(' ').map(argument).collect());
+        if let Some(found) = call(name, &given) {
+            let wanted: Vec<u64> = wanted.split(' ').flat_map(argument).collect();
+            assert_eq!(found, wanted, "{line}");
+            *called.entry(name).or_default() += 1;
+        }
+    }
+    assert_eq!(called.len(), 20, "{called:?}");
+    assert!(called.values().all(|lines| *lines > 3), "{called:?}");
+}
+
+/// Bytes behind a whole job make it malformed, however many.
+#[test]
+fn a_job_past_a_width() {
+    let cases = fs::read(path("crates/sheet_cases/stdin")).expect("the jobs");
+    let job = &cases[2..2 + cases[0] as usize * 256 + cases[1] as usize];
+    assert!(sheet(job).is_ok());
+    for more in [1 << 8, 1 << 16] {
+        let longer = [job, &vec![0; more]].concat();
+        assert_eq!(sheet(&longer), Err(Refusal::JOB));
+    }
+}
+
+#[test]
+fn sheets_of_every_case() {
+    let jobs = fs::read(path("crates/sheet_cases/stdin")).expect("the jobs");
+    let (mut rest, mut sheets) = (&jobs[..], String::new());
+    while let [high, low, more @ ..] = rest {
+        let (job, later) = more.split_at(*high as usize * 256 + *low as usize);
+        sheets += &sheet(job).unwrap_or_else(|refusal| format!("refused {}\n", refusal.number()));
+        rest = later;
+    }
+    let wanted = fs::read_to_string(path("crates/sheet_cases/stdout")).expect("the sheets");
+    assert!(sheets == wanted, "the sheets of crates/sheet_cases");
+}

@@ -1,0 +1,169 @@
+#!/usr/bin/env python3
+"""Tests of tools/promises.py, tools/stack.py and reference/widths.py: what is wrong is found, and what is right is let through.
+
+    python3 tools/test_checks.py
+"""
+import pathlib
+import sys
+import tempfile
+import unittest
+
+ROOT = pathlib.Path(__file__).resolve().parent.parent
+sys.path.insert(0, str(ROOT / 'reference'))
+sys.dont_write_bytecode = True
+import promises
+import stack
+import widths
+
+SOURCE = '''ghost use lib.IntN.{
+  natAbs,
+};
+pub fn half_width(row: usize) -> usize
+    ensures { λ r. ⌜ r ≡ natAbs (halfWidth row) ⌝ }
+{
+    row
+}
+
+pub(crate) fn within(row: usize) -> usize { row }
+    pub fn node_count(row: usize) -> usize { row }
+pub extern "C" fn mixegorta_rows(row: usize) -> usize { row }
+'''
+FILES = {
+    'crates/lattice/src/lib.rt': SOURCE,
+    'crates/lattice/specs/Shape.antt': 'unfoldable pub halfWidth : ℕ → ℕ\nhalfWidth i = i\n\npub record Shape : Type 0 where\n  pub width-is : ℕ\n',
+    'crates/lattice/proofs/Sizes.antt': '-- start-first is proved below\npub row-ends : (i : ℕ) → i ≡ i\nrow-ends i = refl\n',
+    'crates/lattice/must-fail/one_less.edit': 'file: src/lib.rt\nold: row\nnew: 0\n',
+    'docs/notes.md': 'notes\n',
+}
+GOOD = '''# Promises
+
+No function has a `requires`; see `docs/notes.md`.
+
+| Entry | Contract | Definition |
+|---|---|---|
+| width; nodes; `refused 6` | `lattice::half_width`; `node_count` | `natAbs`; `lattice/specs/Shape` `halfWidth`, `width-is` |
+| exports | `lattice::mixegorta_*` | `halfWidth` |
+| refused | `lattice/must-fail/one_less` | `lattice/must-fail` `one_less` |
+
+Rows end: `lattice/proofs/Sizes` `row-ends`
+(record `Shape`).
+'''
+FALSE_FACT = '''note: no function with a body is declared, so nothing was lowered
+/proofs/Laws.antt:61:5: error: `value-below`: `omega`: the goal does not follow from what it read
+  but this has type `a ≤ b`
+/proofs/Laws.antt:70:5: error: `value-short`: `rw`: no occurrence of the path's left endpoint in the goal
+logic=not-proved
+'''
+SEARCHED = '''fn capi::mixegorta_fit: proved
+note: /src/lib.rt:85:1: it is not proved that what the function ensures holds when it returns (`returns`)
+note: what antt said of a `search` in the proof that rattle made: /src/lib.rt:86:19: `returns`: `search`: no proof of `c`
+  was found. `omega` was tried too, and it found no proof.
+logic=not-proved
+'''
+
+
+class Promises(unittest.TestCase):
+    def setUp(self):
+        folder = tempfile.TemporaryDirectory()
+        self.addCleanup(folder.cleanup)
+        self.root = pathlib.Path(folder.name)
+        for name, content in FILES.items():
+            (self.root / name).parent.mkdir(parents=True, exist_ok=True)
+            (self.root / name).write_text(content, encoding='utf-8')
+
+    def faults(self, *changes):
+        text = GOOD
+        for old, new in changes:
+            self.assertEqual(text.count(old), 1, old)
+            text = text.replace(old, new)
+        return promises.faults_of_text(text, promises.Tree(self.root))
+
+    def test_a_true_text(self):
+        self.assertEqual(self.faults(), [])
+
+    def test_what_is_not_there(self):
+        for old, new, line, fault in (
+                ('lattice::half_width', 'lattice::half_widths', 7, 'crates/lattice has no public function half_widths'),
+                ('lattice::half_width', 'lattices::half_width', 7, 'crates/lattices has no public function half_width'),
+                ('`node_count`', '`within`', 7, 'within is nowhere in what the block names'),
+                ('`natAbs`', '`natRel`', 7, 'natRel is nowhere in what the block names'),
+                ('lattice/specs/Shape`', 'lattice/specs/Shapes`', 7, 'there is no lattice/specs/Shapes'),
+                ('`width-is`', '`width-was`', 7, 'width-was is nowhere in what the block names'),
+                ('mixegorta_*', 'mixegorta_x*', 8, 'crates/lattice has no public function mixegorta_x*'),
+                ('must-fail/one_less`', 'must-fail/one_more`', 9, 'there is no lattice/must-fail/one_more'),
+                ('must-fail` `one_less`', 'must-fail` `one_more`', 9, 'one_more is nowhere in what the block names'),
+                ('`row-ends`', '`start-first`', 11, 'start-first is nowhere in what the block names'),
+                ('docs/notes.md', 'docs/note.md', 3, 'there is no docs/note.md')):
+            with self.subTest(new=new):
+                self.assertIn(f'docs/PROMISES.md, line {line}: {fault}', self.faults((old, new)))
+
+    def test_public_functions_that_are_not_named(self):
+        self.assertEqual(self.faults(('; `node_count`', '')), ['docs/PROMISES.md does not name lattice::node_count'])
+        self.assertEqual(self.faults(('`lattice::mixegorta_*`', 'none')), ['docs/PROMISES.md does not name lattice::mixegorta_rows'])
+
+    def test_first_errors(self):
+        self.assertEqual(promises.faults_of_log('a/b', FALSE_FACT), [])
+        self.assertEqual(promises.faults_of_log('a/b', FALSE_FACT.replace('but this has type', '`out` is not in scope here:')), [])
+        for log, word in ((FALSE_FACT.replace('`omega`: the goal does not follow from what it read', '`<` is not in scope'), 'not in scope'),
+                          (FALSE_FACT.replace('the goal does not follow', 'it has no `Need-returns-2`'), 'has no `Need-'),
+                          (FALSE_FACT.replace('`omega`', '`rw`: no occurrence: `omega`'), 'no occurrence'),
+                          (FALSE_FACT.replace('but this has type', '`search` found no proof of'), 'found no proof'), (SEARCHED, 'found no proof')):
+            with self.subTest(word=word):
+                faults = promises.faults_of_log('a/b', log)
+                self.assertEqual([fault.startswith(f'a/b: its first error says "{word}": ') for fault in faults], [True])
+        self.assertEqual(promises.faults_of_log('a/b', 'logic=proved\n'), ['a/b: no error in its log'])
+
+    def test_logs_are_those_of_edits(self):
+        for label in ('one_less', 'gone'):
+            folder = self.root / 'target/must-fail/lattice' / label
+            folder.mkdir(parents=True)
+            (folder / '.log').write_text(SEARCHED, encoding='utf-8')
+        self.assertEqual(list(promises.logs(self.root)), [('lattice/one_less', SEARCHED)])
+
+
+class Stack(unittest.TestCase):
+    TEXTS = {'README.md': 'x 768 KiB of stack are enough', 'tools/price.py': '768 KiB of stack are enough, so'}
+
+    def test_programs(self):
+        self.assertEqual(stack.faults_of_programs({'sheet': 704, 'exhibits': 20}, self.TEXTS), [])
+        self.assertEqual(len(stack.faults_of_programs({'sheet': 708, 'exhibits': 20}, self.TEXTS)), 1)
+        self.assertEqual(len(stack.faults_of_programs({'sheet': None}, self.TEXTS)), 1)
+        self.assertEqual(len(stack.faults_of_programs({}, self.TEXTS)), 1)
+
+    def test_places_that_differ(self):
+        for text in ('1,024 KiB of stack are enough', 'some 700 KB of stack'):
+            self.assertEqual(len(stack.faults_of_programs({'sheet': 20}, {**self.TEXTS, 'README.md': text})), 1)
+
+    def test_calls(self):
+        manual = 'no more than 8 KiB for a fit, 16 KiB for a price and 1,192 KiB for a sheet'
+        self.assertEqual(stack.faults_of_calls({'fit': 8_192, 'price': 9_720, 'sheet': 145_184}, manual), [])
+        self.assertEqual(len(stack.faults_of_calls({'fit': 8_193, 'price': 9_720, 'sheet': 145_184}, manual)), 1)
+        self.assertEqual(len(stack.faults_of_calls({'fit': 1, 'price': 1}, manual)), 1)
+
+    def test_the_least_that_is_enough(self):
+        self.assertIsNone(stack.least('/bin/cat', b'abc', b'ab'))
+        self.assertLess(stack.least('/bin/cat', b'abc', b'abc'), stack.MOST)
+
+
+class Widths(unittest.TestCase):
+    HEADER = (ROOT / 'c/mixegorta.h').read_text(encoding='utf-8')
+
+    def test_the_header(self):
+        self.assertEqual(list(widths.faults(self.HEADER, 'same', 'same')), [])
+        self.assertEqual(len(widths.declared(self.HEADER)), len(widths.ENTRIES) + len(widths.WITHOUT_NUMBERS))
+
+    def test_what_the_table_lacks(self):
+        for old, new in (('mixegorta_step_rate(uint64_t discount);', 'mixegorta_step_rate(uint64_t discount, uint64_t version);'),
+                         ('mixegorta_step_rate(uint64_t discount);', 'mixegorta_yearly_rate(uint64_t discount);')):
+            self.assertEqual(self.HEADER.count(old), 1)
+            self.assertEqual(len(list(widths.faults(self.HEADER.replace(old, new), 'same', 'same'))), 1)
+        self.assertEqual(len(list(widths.faults(self.HEADER, 'one', 'other'))), 1)
+
+    def test_a_cut_that_would_not_show(self):
+        unread = widths.entry(lambda number: [1], ('number', 'number', 5))
+        with self.assertRaises(SystemExit):
+            list(widths.lines_of(unread))
+
+
+if __name__ == '__main__':
+    unittest.main()

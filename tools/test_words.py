@@ -1,0 +1,41 @@
+#!/usr/bin/env python3
+"""Tests that Rust, Python and tools/price say the same of each refusal. Needs cargo and the library, as tools/library builds it.
+
+Usage: tools/test_words.py, at the root"""
+import os
+import pathlib
+import subprocess
+import sys
+import tempfile
+import unittest
+
+sys.dont_write_bytecode = True
+ROOT = pathlib.Path(__file__).resolve().parent.parent
+sys.path[:0] = [str(ROOT / 'python'), str(ROOT / 'tools')]
+import mixegorta
+import tables
+
+WANTED = [f'refused {refusal.number}: {refusal.cause}' for refusal in tables.refusals()]
+
+
+class Words(unittest.TestCase):
+    def test_rust(self):
+        run = ['cargo', 'run', '--quiet', '--offline', '--manifest-path', ROOT / 'rust/Cargo.toml', '--example', 'refusals']
+        self.assertEqual(subprocess.run(run, check=True, stdout=subprocess.PIPE, text=True).stdout.splitlines(), WANTED)
+
+    def test_python(self):
+        self.assertEqual([str(mixegorta.refusals.CLASSES[number](number)) for number in mixegorta.CAUSES], WANTED)
+
+    def test_price(self):
+        for refusal, words in zip(tables.refusals(), WANTED):
+            with tempfile.TemporaryDirectory() as folder:
+                program = pathlib.Path(folder) / 'program'
+                program.write_text(f'#!/bin/sh\ncat >/dev/null\necho refused {refusal.number}\n')
+                program.chmod(0o755)
+                made = subprocess.run([ROOT / 'tools/price', ROOT / 'examples/coupon-put.txt'], stdout=subprocess.PIPE, stderr=subprocess.PIPE, text=True,
+                                      env={**os.environ, 'MIXEGORTA_SHEET': str(program)})
+            self.assertEqual(made.stderr, f'{words}. What to do: {refusal.remedy}.\n')
+
+
+if __name__ == '__main__':
+    unittest.main()
