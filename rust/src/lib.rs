@@ -25,9 +25,11 @@ mod limits;
 mod raw;
 mod refusals;
 mod shapes;
+mod shelf;
 mod tree;
 
 pub use limits::*;
+pub use shelf::{Shelf, ShelvedTree};
 pub use tree::Tree;
 
 use shapes::column;
@@ -38,7 +40,7 @@ use std::ops::Range;
 pub const VERSION: &str = env!("CARGO_PKG_VERSION");
 
 /// Why a call was refused: the engine's number, as `c/mixegorta.h` lists them. Where several apply the lowest is given, save that 13 is
-/// tried before 12.
+/// tried before 12 and, of a [`Shelf`], 15 before all others and 14 after 4.
 #[derive(Clone, Copy, Debug, PartialEq, Eq, PartialOrd, Ord, Hash)]
 pub struct Refusal(u64);
 
