@@ -19,11 +19,12 @@ __version__ = "0.7.0"
 from . import _engine, _limits, refusals
 from ._engine import *
 from ._limits import *
+from ._shelf import Shelf, ShelvedTree
 from ._tree import Tree
 from .amounts import Amount, Amounts, InexactAmount, billionths
 from .refusals import *
 
-__all__ = ["Amount", "Amounts", "InexactAmount", "Tree", "billionths"]
+__all__ = ["Amount", "Amounts", "InexactAmount", "Shelf", "ShelvedTree", "Tree", "billionths"]
 __all__ += _engine.__all__
 __all__ += _limits.__all__
 __all__ += refusals.__all__
