@@ -87,18 +87,12 @@ fn causes_of_an_asking_in_their_order() {
 fn causes_of_a_commit_in_their_order() {
     let mut shelf = desk();
     shelf.ask(1, 13, 0).unwrap();
-    let far = |row: u64, figure: f64| {
-        let points: Vec<(u64, Quote)> = (1..=13)
-            .map(|t| (t, Quote::DiscountFactor(0.97)))
-            .chain([(row, Quote::DiscountFactor(figure))])
-            .collect();
-        Curve::of_points(&points)
+    let with = |figure: f64| {
+        let mut quotes = vec![Quote::DiscountFactor(0.97); 13];
+        quotes[4] = Quote::DiscountFactor(figure);
+        Curve::of_quotes(&quotes)
     };
-    let mut quotes = vec![Quote::DiscountFactor(0.97); 13];
-    quotes[4] = Quote::DiscountFactor(97.0);
-    let mistyped = Curve::of_quotes(&quotes);
-    quotes[4] = Quote::DiscountFactor(1.5);
-    let out_of_line = Curve::of_quotes(&quotes);
+    let (mistyped, out_of_line, short) = (with(97.0), with(1.5), falling(97.0, 12));
     for name in [0, 2, 3, 9, 257] {
         let refused = called(&mut shelf, name, |shelf| {
             shelf.commit(name, 3, 50_001, &mistyped)
@@ -106,9 +100,9 @@ fn causes_of_a_commit_in_their_order() {
         assert_eq!(refused, Err(Refusal::NAME), "{name}");
     }
     for (frequency, volatility, curve, cause) in [
-        (3, 50_001, &far(14, 97.0), Refusal::FREQUENCY),
-        (1, 50_001, &far(14, 97.0), Refusal::VOLATILITY),
-        (1, 50_000, &far(14, 97.0), Refusal::LENGTH_OR_ROW),
+        (3, 50_001, &short, Refusal::FREQUENCY),
+        (1, 50_001, &short, Refusal::VOLATILITY),
+        (1, 50_000, &short, Refusal::LENGTH_OR_ROW),
         (1, 50_000, &mistyped, Refusal::QUOTE),
         (1, 50_000, &out_of_line, Refusal::SPACING),
         (1, 10_000, &out_of_line, Refusal::DISCOUNT),

@@ -203,7 +203,7 @@ fn shape_or_fit(name: &str, g: &Given) -> Option<Vec<u64>> {
             g.list(2),
             g.size(3),
         ))),
-        _ => panic!("no function {name}"),
+        _ => on_shelf(name, g),
     }
 }
 
@@ -305,9 +305,6 @@ fn on_shelf(name: &str, g: &Given) -> Option<Vec<u64>> {
 }
 
 fn call(name: &str, g: &Given) -> Option<Vec<u64>> {
-    if name.starts_with("shelf_") {
-        return on_shelf(name, g);
-    }
     let dates = if name.contains("dated") {
         g.bytes(5)
     } else {
