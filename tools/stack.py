@@ -15,7 +15,7 @@ ROOT = pathlib.Path(__file__).resolve().parent.parent
 BINARIES = ROOT / 'target/bin'
 PLACES = ('README.md', 'docs/MANUAL.md', 'tools/price.py')
 STATED = re.compile(r'([0-9][0-9,]*) KiB of stack are enough')
-CALL = re.compile(r'([0-9][0-9,]*) KiB for a (fit|price|sheet)')
+CALL = re.compile(r'([0-9][0-9,]*) KiB for a (fit|price|commit|sheet)')
 STEP, MOST, RUNS, RESERVE = 4, 8_192, 5, 64
 
 
