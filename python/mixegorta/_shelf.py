@@ -1,4 +1,5 @@
 """Several trees in one memory."""
+import copy
 from array import array
 from typing import Any, Iterable, NamedTuple, Optional
 
@@ -35,6 +36,9 @@ class Shelf:
         trees = {name: self.tree(name) for name in range(1, MAX_NAME + 1)}
         return f"<Shelf {({name: tree for name, tree in trees.items() if tree})}>"
 
+    def __copy__(self) -> "Shelf":
+        return copy.deepcopy(self)
+
     def ask(self, name: int, steps: int, reversion: int) -> None:
         """Asks for a tree under a name that has none."""
         self._kept.change("shelf_ask", "shelf", u64("name", name), u64("steps", steps), u64("reversion", reversion))
@@ -61,7 +65,7 @@ class Shelf:
     def nodes_held(self) -> int:
         """How many nodes the trees of all names hold, of SHELF_ROOM."""
         shelf, _ = self._kept.both
-        return sum(call("shelf_part", shelf, name).count for name in range(1, MAX_NAME + 1))
+        return sum(int(call("shelf_part", shelf, name).count) for name in range(1, MAX_NAME + 1))
 
     def discounts(self, name: int) -> "array[int]":
         """The discounts of a name's tree for rows 0 to n - 1, row after row, lowest node first, as array('Q'): all 0 while it awaits its commit,

@@ -265,7 +265,7 @@ class Altered(Checks):
 class Sharing(unittest.TestCase):
     def test_copies_go_their_own_way(self):
         shelf = desk()
-        for other in (copy.deepcopy(shelf), pickle.loads(pickle.dumps(shelf))):
+        for other in (copy.copy(shelf), copy.deepcopy(shelf), pickle.loads(pickle.dumps(shelf))):
             self.assertEqual(seen(other), seen(shelf))
             other.release(2)
             self.assertEqual((other.tree(2), shelf.tree(2)), (None, m.ShelvedTree(2, 0, True)))
