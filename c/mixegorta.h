@@ -11,7 +11,8 @@
  * Trees. Row i of a tree of n steps runs from 0 to n. Its nodes are numbered -w to w, w being the row's half width. A memory holds
  * row after row, the lowest node of a row first: discounts for rows 0 to n - 1, state prices for rows 0 to n.
  *
- * Arguments. Any numbers may be passed: a call gives its full answer, or the number of a refusal with every other field 0.
+ * Arguments. Any numbers may be passed: a call gives its full answer, or the number of a refusal with every other field 0; a shelf
+ * comes back beside the number, refused or not.
  * Where several refusals apply, the lowest number is given, with these exceptions: 15 is tried before all others, 14 after 4, and 13
  * before 12.
  *

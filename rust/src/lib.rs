@@ -2,6 +2,7 @@
 //!
 //! [`ONE`] is 1,000,000,000 billionths. Any arguments may be passed: each call gives its full answer or a [`Refusal`], and the engine
 //! itself judges every argument. Discounts stand row after row, lowest node first, for rows 0 to n - 1, state prices for rows 0 to n.
+//! A [`Tree`] is one fitted tree with memories of its own, a [`Shelf`] up to eight trees in one memory.
 //!
 //! ```
 //! use mixegorta::{Curve, OptionKind, OptionTerms, Quote, Tree, ONE};
