@@ -52,7 +52,7 @@ use step_rate::Rate;
 pub extern "C" fn mixegorta_version() -> u64
     ensures { λ r. ⌜ r ≡ version ⌝ }
 {
-    6_001
+    7_000
 }
 
 // ---- the shape of a tree
