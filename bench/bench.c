@@ -533,7 +533,7 @@ static void line_of_moves(const char *name, move a, move b, int turns)
     printf("%-32s %8.2f us    %8.2f us     %6.2f\n", name, median(first, turns), median(second, turns), median(ratio, turns));
 }
 
-/* Trees of 2,916, 81, 1, 1 and 1 nodes, which a tree of a lower name moves. */
+/* Trees of 2,916, 81, 1, 1 and 1 nodes, which a tree of a lower name moves; then the same asking where none stand. */
 static void moves(int turns)
 {
     static const size_t steps[] = {54, 9, 1, 1, 1};
@@ -549,6 +549,11 @@ static void moves(int turns)
         fail("the nodes that moved are not 3,000");
     line_of_moves("asking, 3,000 nodes move", ask_by_library, ask_by_plain_c, turns);
     line_of_moves("releasing, 3,000 nodes move", release_by_library, release_by_plain_c, turns);
+    memset(&desk, 0, sizeof desk);
+    desk.library = mixegorta_empty_shelf();
+    before = desk;
+    ask_of_both(1, 24, 0);
+    line_of_moves("asking, the shelf is empty", ask_by_library, ask_by_plain_c, turns);
 }
 
 /* One of a shelf's parts of work, on the library's shelf and by another worker. */
