@@ -386,6 +386,12 @@ static void fail(const char *what)
     exit(1);
 }
 
+static void clear_desk(void)
+{
+    memset(&desk, 0, sizeof desk);
+    desk.library = mixegorta_empty_shelf();
+}
+
 static uint64_t kept(struct mixegorta_shelved made)
 {
     desk.library = made.shelf;
@@ -439,6 +445,7 @@ static int bond_of_both(size_t name, struct work *w)
 static void compare_shelves(void)
 {
     int asked = 0, committed = 0, released = 0, bonds = 0;
+    clear_desk();
     for (int i = 0; i < CURVES; i++) {
         const size_t name = 1 + (size_t)(uniform() * 9);
         struct work w = any_work(i);
@@ -462,8 +469,7 @@ static void compare_shelves(void)
 /* The tree of a work alone on both shelves, under the last name: before its commit, and fitted. */
 static void set_up(const struct work *w)
 {
-    memset(&desk, 0, sizeof desk);
-    desk.library = mixegorta_empty_shelf();
+    clear_desk();
     ask_of_both(LAST_NAME, w->n, w->b);
     before = desk;
     commit_of_both(LAST_NAME, w);
@@ -537,8 +543,7 @@ static void line_of_moves(const char *name, move a, move b, int turns)
 static void moves(int turns)
 {
     static const size_t steps[] = {54, 9, 1, 1, 1};
-    memset(&desk, 0, sizeof desk);
-    desk.library = mixegorta_empty_shelf();
+    clear_desk();
     for (size_t k = 0; k < 5; k++) {
         const struct work w = work_of(steps[k], 0, 0.02, 0.0003);
         if (ask_of_both(k + 2, w.n, 0) || commit_of_both(k + 2, &w))
@@ -549,8 +554,7 @@ static void moves(int turns)
         fail("the nodes that moved are not 3,000");
     line_of_moves("asking, 3,000 nodes move", ask_by_library, ask_by_plain_c, turns);
     line_of_moves("releasing, 3,000 nodes move", release_by_library, release_by_plain_c, turns);
-    memset(&desk, 0, sizeof desk);
-    desk.library = mixegorta_empty_shelf();
+    clear_desk();
     before = desk;
     ask_of_both(1, 24, 0);
     line_of_moves("asking, the shelf is empty", ask_by_library, ask_by_plain_c, turns);

@@ -1,5 +1,6 @@
 // What is compared of a script of calls on a shelf. After every call: its number, the slots, the used part of the memory, where each name's part
-// starts and how long it is; after a refused call and after a price the whole memory, which must be as it was. A difference panics.
+// starts and how long it is; after a refused call and after a price the whole memory, which must be as it was; after a release the zeros that the
+// header tells at the end. A difference panics.
 use crate::checks::{self, Terms};
 use crate::engine::{Both, Desk, Slot, SHELF_MEMORY};
 use crate::inputs::Random;
@@ -176,13 +177,14 @@ impl<'a> Run<'a> {
     }
 
     fn release(&mut self, name: usize) {
-        let before = self.desk.memory().to_vec();
+        let (before, count) = (self.desk.memory().to_vec(), self.shelf.part(name).1);
         let number = self.desk.release(name);
         let causes = self.ruled(|shelf| shelf.release(name), vec![15]);
         self.judged(RELEASE, number, &causes);
         self.same_state(RELEASE, &before, number != 0);
         if number == 0 {
             self.tally.moved += self.fitted_behind(name) as u64;
+            assert!(self.desk.memory()[SHELF_MEMORY - count..].iter().all(|word| *word == 0), "release: the end of the memory is not 0");
         }
     }
 
