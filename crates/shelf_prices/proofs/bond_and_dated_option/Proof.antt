@@ -53,7 +53,9 @@ returns-2 c =
     let a = c .before .before .before .before .before .before .before .before .before .args in
     let tree = c .before .before .before .before .before .before .tree-of in
     c .bond-and-dated-option .ensures
-    ∙ both-there (λ (n b : ℕ) (d : List ℕ). bondPrice n b d (a .flows .now)) (λ (n b : ℕ) (d : List ℕ). datedPrice n b d (a .flows .now) (a .side) (a .dates .now) (a .strike)) _ _ _ _ (tree .ensures) (search needs)
+    ∙ both-there (λ (n b : ℕ) (d : List ℕ). bondPrice n b d (a .flows .now))
+    (λ (n b : ℕ) (d : List ℕ). datedPrice n b d (a .flows .now) (a .side) (a .dates .now) (a .strike))
+    _ _ _ _ (tree .ensures) (search needs)
 
 pub bond-and-dated-option-spec : {M : Type 1} → statement M
 bond-and-dated-option-spec =
