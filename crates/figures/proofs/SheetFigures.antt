@@ -126,8 +126,8 @@ plain-read = refl
 bond-is : bondPrice 1 0 (1002500000 ∷ []) (1000000000 ∷ []) ≡ record { number = 0; value = 1002500000; bound = 2 }
 unfolding bondPrice firstCause treeCause lowestCause discountsCause shapeCause acceptedDiscounts each discountsNeeded rowStart sum nodeCount halfWidth
     flowsCause priced limitCause bondPeak peak peakFrom greatestValue greatest bondValue bond bondFrom roll nodeRoll outgoing nearest rateTree low nodeOfIndex
-    branching lowestOf zOf upFormula middleFormula downFormula upProbability middleProbability downProbability stored flowAt treeErrorBound errorBound errorBoundFrom
-    greatestDiscount roundUp
+    branching lowestOf zOf upFormula middleFormula downFormula upProbability middleProbability downProbability stored flowAt treeErrorBound
+    errorBound errorBoundFrom greatestDiscount roundUp
 bond-is = refl
 
 plain-number : treeNumber 1 0 (1002500000 ∷ []) (1000000000 ∷ []) noOption ≡ 0
