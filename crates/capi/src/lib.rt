@@ -52,7 +52,7 @@ use step_rate::Rate;
 pub extern "C" fn mixegorta_version() -> u64
     ensures { λ r. ⌜ r ≡ version ⌝ }
 {
-    6_001
+    7_000
 }
 
 // ---- the shape of a tree
@@ -351,11 +351,24 @@ pub extern "C" fn mixegorta_shelf_commit(
     ensures memory { λ _. ⌜ now (memory .exit) ≡ commitMemory (shelf .slots) (now (memory .entry)) name frequency volatility
         (now (rows .entry)) (now (kinds .entry)) (now (figures .entry)) ⌝ }
 {
-    shelf::commit(shelf, memory, name, frequency, volatility, rows, kinds, figures)
+    shelf::commit(
+        shelf,
+        memory,
+        name,
+        frequency,
+        volatility,
+        rows,
+        kinds,
+        figures,
+    )
 }
 
 #[no_mangle]
-pub extern "C" fn mixegorta_shelf_release(shelf: Shelf, memory: &mut [u64; 3600], name: usize) -> Shelved
+pub extern "C" fn mixegorta_shelf_release(
+    shelf: Shelf,
+    memory: &mut [u64; 3600],
+    name: usize,
+) -> Shelved
     ensures number { λ r. ⌜ r .number ≡ nameCause (shelf .slots) name ⌝ }
     ensures slots { λ r. ⌜ r .shelf .slots ≡ releaseSlots (shelf .slots) name ⌝ }
     ensures memory { λ _. ⌜ now (memory .exit) ≡ releaseMemory (shelf .slots) (now (memory .entry)) name ⌝ }
@@ -364,7 +377,12 @@ pub extern "C" fn mixegorta_shelf_release(shelf: Shelf, memory: &mut [u64; 3600]
 }
 
 #[no_mangle]
-pub extern "C" fn mixegorta_shelf_bond_price(shelf: Shelf, memory: &[u64; 3600], name: usize, flows: &[u64]) -> Price
+pub extern "C" fn mixegorta_shelf_bond_price(
+    shelf: Shelf,
+    memory: &[u64; 3600],
+    name: usize,
+    flows: &[u64],
+) -> Price
     ensures { λ r. ⌜ r ≡ shelfBond (shelf .slots) (now (memory .entry)) name (now (flows .entry)) ⌝ }
 {
     shelf_prices::bond_price(shelf, memory, name, flows)

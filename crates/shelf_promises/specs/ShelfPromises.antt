@@ -19,7 +19,8 @@ use Rattle.shelf_laws.specs.Parts.{zeros, part}
 use Rattle.shelf_laws.specs.Shelf.{room, held, partOf}
 use Rattle.shelf_prices.specs.ShelfPrices.{shelfBondAndOption, shelfBondAndDated}
 use Rattle.shelf_promises.specs.Model.{ShelvedTree, absent, present, Quoted, fitNumberOf, fitDiscountsOf, fittedTree}
-use Rattle.shelf_promises.specs.Model.{Pricing, bond, option, dated, flowsOf, plainPrice, exactOf, Call, asking, committing, releasing, pricing, locating, nameOf}
+use Rattle.shelf_promises.specs.Model.{Pricing, bond, option, dated, flowsOf, plainPrice, exactOf}
+use Rattle.shelf_promises.specs.Model.{Call, asking, committing, releasing, pricing, locating, nameOf}
 use Rattle.shelf_promises.specs.Model.{heldBy, deskPrice, deskNumber, deskAfter, deskRun}
 use Rattle.shelf_promises.specs.History.{Kept, seen, priceOf, numberOf, after, run, emptyShelf, Reached, askedIn, releasedIn}
 
