@@ -42,6 +42,7 @@ fn without_seed(tally: &mut Tally, shelves: &mut shelves::Tally) {
     checks::numbers_past_a_width(tally);
     shelves::by_hand();
     shelves::every_order(shelves);
+    shelves::numbers_past_a_width(shelves);
 }
 
 fn input(own: u64, tally: &mut Tally) {

@@ -3,7 +3,7 @@
 // header tells at the end. A difference panics.
 use crate::checks::{self, Terms};
 use crate::engine::{Both, Desk, Slot, SHELF_MEMORY};
-use crate::inputs::Random;
+use crate::inputs::{self, Case, Random};
 use crate::rules::{Contract, Curve, DatedOption, Outcome, Tree, ONE};
 use crate::scripts::{self, Alteration, Call, Sizes};
 use crate::shelf::{Causes, Shelf, Shelved, MEMORY, NAMES};
@@ -299,6 +299,28 @@ pub fn every_order(tally: &mut Tally) {
             }
             assert_eq!(run.shelf.held(), 0);
         }
+    }
+}
+
+/// Numbers that would pass for valid ones if they were cut to 8, 16 or 32 bits, each number of each call alone. What is refused is asked for and
+/// committed again in good order, so that the call after it finds its tree.
+pub fn numbers_past_a_width(tally: &mut Tally) {
+    let (steady, names) = (inputs::steady(), [5 + (1 << 8), 5 + (1 << 16), 5 + (1 << 32), 5]);
+    for Case { fit, flows, contract, dated, .. } in inputs::widths() {
+        let mut run = Run::new(&[7; SHELF_MEMORY], tally);
+        for (tree, name) in [fit.tree, steady.fit.tree].into_iter().flat_map(|tree| names.map(|name| (tree, name))) {
+            run.ask(name, tree);
+        }
+        for (fit, name) in [&fit, &steady.fit].into_iter().flat_map(|fit| names.map(|name| (fit, name))) {
+            run.commit(name, fit.frequency, fit.volatility, &fit.curve);
+        }
+        for name in names {
+            run.price(name, &Terms { flows: &flows, contract: &contract, dated: &dated });
+        }
+        for name in names {
+            run.release(name);
+        }
+        assert_eq!(run.shelf.held(), 0);
     }
 }
 
