@@ -305,22 +305,21 @@ pub fn every_order(tally: &mut Tally) {
 /// Numbers that would pass for valid ones if they were cut to 8, 16 or 32 bits, each number of each call alone. What is refused is asked for and
 /// committed again in good order, so that the call after it finds its tree.
 pub fn numbers_past_a_width(tally: &mut Tally) {
-    let (steady, name) = (inputs::steady(), 5);
+    let (steady, names) = (inputs::steady(), [5 + (1 << 8), 5 + (1 << 16), 5 + (1 << 32), 5]);
     for Case { fit, flows, contract, dated, .. } in inputs::widths() {
         let mut run = Run::new(&[7; SHELF_MEMORY], tally);
-        for tree in [fit.tree, steady.fit.tree] {
-            [8, 16, 32].map(|bits| run.ask(name + (1 << bits), tree));
+        for (tree, name) in [fit.tree, steady.fit.tree].into_iter().flat_map(|tree| names.map(|name| (tree, name))) {
             run.ask(name, tree);
         }
-        for fit in [&fit, &steady.fit] {
-            [8, 16, 32].map(|bits| run.commit(name + (1 << bits), fit.frequency, fit.volatility, &fit.curve));
+        for (fit, name) in [&fit, &steady.fit].into_iter().flat_map(|fit| names.map(|name| (fit, name))) {
             run.commit(name, fit.frequency, fit.volatility, &fit.curve);
         }
-        let terms = Terms { flows: &flows, contract: &contract, dated: &dated };
-        [8, 16, 32].map(|bits| run.price(name + (1 << bits), &terms));
-        run.price(name, &terms);
-        [8, 16, 32].map(|bits| run.release(name + (1 << bits)));
-        run.release(name);
+        for name in names {
+            run.price(name, &Terms { flows: &flows, contract: &contract, dated: &dated });
+        }
+        for name in names {
+            run.release(name);
+        }
         assert_eq!(run.shelf.held(), 0);
     }
 }
