@@ -29,7 +29,7 @@ use Rattle.lent_tree.specs.LentTree.{stored, Accepted, discountsCause}
 use Rattle.pricing_laws.specs.TreePricer.{rollLoss, greatestDiscount, priceErrorBound}
 use Rattle.pricing_laws.proofs.PriceLaws.{error-bound-small}
 use Rattle.pricing_laws.proofs.Recurrences.{error-bound-last, error-bound-before}
-use Rattle.price_bound.specs.declared.TreeBounds.{TreeBounds}
+use Rattle.price_bound.specs.declared.TreeErrorBounds.{TreeErrorBounds}
 use Rattle.price_bound.specs.PriceBound.{treeErrorBound, priceErrorBoundAnswer, greatestDiscounts, treeBoundsAnswer}
 
 pub discount-within :
@@ -138,7 +138,7 @@ module _ (n b : ℕ) (discounts : List ℕ) where
     found-cause = ap (λ (a : Answer). a .number) e ∙ bound-number
 
     pub bounds-refused : (rows : List ℕ) → (found .number ≡ 0 → ⊥) → rows ≡ replicate mostSteps 0 →
-        _≡_ {A = TreeBounds} (record { number = found .number; bound = 0; greatest = rows }) (treeBoundsAnswer n b discounts)
+        _≡_ {A = TreeErrorBounds} (record { number = found .number; bound = 0; greatest = rows }) (treeBoundsAnswer n b discounts)
     unfolding treeBoundsAnswer
     bounds-refused rows z h = rw (h, ← found-cause, ne-eqb (found .number) 0 z)
 
@@ -151,7 +151,7 @@ module _ (n b : ℕ) (discounts : List ℕ) where
       found-value = ap (λ (a : Answer). a .value) e ∙ rw (eq-eqb (discountsCause n b discounts) 0 bounds-none)
 
       pub bounds-given : (rows : List ℕ) → rows ≡ greatestDiscounts n b discounts →
-          _≡_ {A = TreeBounds} (record { number = 0; bound = found .value; greatest = rows }) (treeBoundsAnswer n b discounts)
+          _≡_ {A = TreeErrorBounds} (record { number = 0; bound = found .value; greatest = rows }) (treeBoundsAnswer n b discounts)
       unfolding treeBoundsAnswer
       bounds-given rows h = rw (h, found-value, eq-eqb (discountsCause n b discounts) 0 bounds-none)
 

@@ -13,7 +13,7 @@ use Rattle.limits.specs.Limits.{mostSteps}
 use Rattle.lattice.specs.RateTree.{rateTree}
 use Rattle.lent_tree.specs.LentTree.{stored, discountsCause}
 use Rattle.pricing_laws.specs.TreePricer.{greatestDiscount, priceErrorBound}
-use Rattle.price_bound.specs.declared.TreeBounds.{TreeBounds}
+use Rattle.price_bound.specs.declared.TreeErrorBounds.{TreeErrorBounds}
 
 -- the price allowance of row 0
 unfoldable pub treeErrorBound : ℕ → ℕ → List ℕ → ℕ
@@ -28,7 +28,7 @@ unfoldable pub greatestDiscounts : ℕ → ℕ → List ℕ → List ℕ
 greatestDiscounts n b discounts = padded mostSteps n (greatestDiscount (rateTree b) (stored b discounts))
 
 -- both, or a refusal's number with zeros
-unfoldable pub treeBoundsAnswer : ℕ → ℕ → List ℕ → TreeBounds
+unfoldable pub treeBoundsAnswer : ℕ → ℕ → List ℕ → TreeErrorBounds
 treeBoundsAnswer n b discounts =
     cond (eqb (discountsCause n b discounts) 0)
     (record { number = 0; bound = treeErrorBound n b discounts; greatest = greatestDiscounts n b discounts })

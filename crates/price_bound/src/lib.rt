@@ -12,7 +12,7 @@ ghost use Rattle.price_bound.specs.PriceBound.{treeErrorBound, priceErro
 
 // What is known of a tree: its error bound, and the greatest discount of each row, 0 for rows that the tree has not; a refusal's number with zeros.
 #[repr(C)]
-pub struct TreeBounds {
+pub struct TreeErrorBounds {
     pub number: u64,
     pub bound: u64,
     pub greatest: [u64; 60],
@@ -90,20 +90,20 @@ fn greatest_rows(steps: usize, reversion: u64, discounts: &[u64]) -> [u64; 60]
 }
 
 // The same error bound with the greatest discounts of the rows; 3, 4, 6 or 9 where the tree is refused.
-pub fn tree_bounds(steps: usize, reversion: u64, discounts: &[u64]) -> TreeBounds
+pub fn tree_bounds(steps: usize, reversion: u64, discounts: &[u64]) -> TreeErrorBounds
     ensures { λ r. ⌜ r ≡ treeBoundsAnswer steps reversion (now (discounts .entry)) ⌝ }
 {
     let found = price_error_bound(steps, reversion, discounts);
     if found.number != 0 {
         let none = no_rows();
-        return TreeBounds {
+        return TreeErrorBounds {
             number: found.number,
             bound: 0,
             greatest: none,
         };
     }
     let rows = greatest_rows(steps, reversion, discounts);
-    TreeBounds {
+    TreeErrorBounds {
         number: 0,
         bound: found.value,
         greatest: rows,

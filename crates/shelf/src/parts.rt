@@ -1,6 +1,6 @@
 // Parts of the memory: one is opened or closed by moving what stands behind it, and a tree is fitted in one.
-use shelf_laws::Slot;
 use shelf_laws::Located;
+use shelf_laws::Slot;
 ghost use mathlib.Core.Path.{_≡_};
 ghost use mathlib.Core.List.{_++_};
 ghost use Prim.Native.Nat.{_+_, _-_, _≤_};

@@ -18,7 +18,7 @@ use Rattle.lattice.specs.Shape.{discountsNeeded}
 use Rattle.lattice.specs.Entries.{aboutTree}
 use Rattle.lattice.proofs.Sizes.{start-within}
 use Rattle.lattice.proofs.EntryLaws.{tree-number, tree-result}
-use Rattle.price_bound.specs.declared.TreeBounds.{TreeBounds}
+use Rattle.price_bound.specs.declared.TreeErrorBounds.{TreeErrorBounds}
 use Rattle.price_bound.specs.PriceBound.{treeBoundsAnswer}
 use Rattle.shelf_laws.specs.declared.Slot.{Slot}
 use Rattle.shelf_laws.specs.Shelf.{room, emptySlots, held, emptySlot, awaitingSlot, fittedSlot, slotAt, nodesOf, nodesBefore}
@@ -36,7 +36,7 @@ module _ (rows : List ℕ) (e : rows ≡ replicate mostSteps 0) where
   pub awaiting-is : (n b : ℕ) → _≡_ {A = Slot} (record { status = 1; steps = n; reversion = b; bound = 0; greatest = rows }) (awaitingSlot n b)
   awaiting-is n b = rw e
 
-pub fitted-is : (n b : ℕ) (discounts : List ℕ) (found : TreeBounds) → found ≡ treeBoundsAnswer n b discounts →
+pub fitted-is : (n b : ℕ) (discounts : List ℕ) (found : TreeErrorBounds) → found ≡ treeBoundsAnswer n b discounts →
     _≡_ {A = Slot} (record { status = 2; steps = n; reversion = b; bound = found .bound; greatest = found .greatest }) (fittedSlot n b discounts)
 fitted-is n b discounts found e = rw e
 

@@ -36,9 +36,10 @@ refused-requires-2 c κs = search needs
 returns : tie.Need-returns
 returns c =
     let refusing = c .before .before in
-    let cause = refusing .before .tree-cause .ensures in
-    (laws.bond-value-cause _ _ _ _ _ _ (c .before .refused .ensures) cause (refusing .if1 .taken),
-    laws.option-value-tree _ _ _ _ _ _ _ _ _ _ (c .refused2 .ensures) cause (refusing .if1 .taken))
+    let cause = refusing .before .tree-cause .ensures in (
+      laws.bond-value-cause _ _ _ _ _ _ (c .before .refused .ensures) cause (refusing .if1 .taken),
+      laws.option-value-tree _ _ _ _ _ _ _ _ _ _ (c .refused2 .ensures) cause (refusing .if1 .taken),
+    )
 
 accepted-bond-requires : tie.Need-accepted-bond-requires
 accepted-bond-requires c κs = (tree (c .before), laws.cause-paid _ _ _ _ (none (c .before)))
@@ -48,9 +49,10 @@ refused-requires-3 c κs = search needs
 
 returns-2 : tie.Need-returns-2
 returns-2 c =
-    let refusing = c .before .before in
-    (laws.bond-value-is _ _ _ _ _ (c .before .accepted-bond .ensures) (none (refusing .before)),
-    laws.option-value-cause _ _ _ _ _ _ _ _ (none (refusing .before)) _ (c .refused3 .ensures) (refusing .if2 .taken))
+    let refusing = c .before .before in (
+      laws.bond-value-is _ _ _ _ _ (c .before .accepted-bond .ensures) (none (refusing .before)),
+      laws.option-value-cause _ _ _ _ _ _ _ _ (none (refusing .before)) _ (c .refused3 .ensures) (refusing .if2 .taken),
+    )
 
 marks-of-requires : tie.Need-marks-of-requires
 marks-of-requires c κs = search needs
@@ -71,11 +73,12 @@ returns-3 c =
     let marked = c .before .before in
     let on = exercised (marked .before) in
     let on-tree = marked .before .before in
-    let few = tree on-tree .steps-within-limit in
-    (laws.bond-value-is _ _ _ _ _ (c .accepted-both .ensures .0) (none on-tree),
-    laws.option-value-is _ _ _ _ _ _ _ _ (none on-tree) (marked .before .if2 .left) _
-    (laws.marked-price _ _ _ _ _ _ _ _ _ _ _ (omega (arith, on .before-end)) (on .last-listed) (marked .marks-of .ensures)
-    (c .accepted-both .ensures .1)))
+    let few = tree on-tree .steps-within-limit in (
+      laws.bond-value-is _ _ _ _ _ (c .accepted-both .ensures .0) (none on-tree),
+      laws.option-value-is _ _ _ _ _ _ _ _ (none on-tree) (marked .before .if2 .left) _
+          (laws.marked-price _ _ _ _ _ _ _ _ _ _ _ (omega (arith, on .before-end)) (on .last-listed) (marked .marks-of .ensures)
+          (c .accepted-both .ensures .1)),
+    )
 
 pub both-unbounded-spec : {M : Type 1} → statement M
 both-unbounded-spec =
