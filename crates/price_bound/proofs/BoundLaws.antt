@@ -155,6 +155,17 @@ module _ (n b : ℕ) (discounts : List ℕ) where
       unfolding treeBoundsAnswer
       bounds-given rows h = rw (h, found-value, eq-eqb (discountsCause n b discounts) 0 bounds-none)
 
+  pub bounds-number : treeBoundsAnswer n b discounts .number ≡ discountsCause n b discounts
+  unfolding treeBoundsAnswer
+  bounds-number = go (eqb (discountsCause n b discounts) 0) refl
+    where
+      go : (t : Bool) → eqb (discountsCause n b discounts) 0 ≡ t →
+          cond {A = TreeErrorBounds} t (record { number = 0; bound = treeErrorBound n b discounts; greatest = greatestDiscounts n b discounts })
+          (record { number = discountsCause n b discounts; bound = 0; greatest = replicate mostSteps 0 }) .number
+          ≡ discountsCause n b discounts
+      go true e = sym (eqb-true (discountsCause n b discounts) 0 e)
+      go false e = refl
+
   -- what it says of an accepted tree
   module _ (z : discountsCause n b discounts ≡ 0) where
     pub bounds-bound : treeBoundsAnswer n b discounts .bound ≡ treeErrorBound n b discounts
