@@ -54,7 +54,7 @@ use step_rate::Rate;
 pub extern "C" fn mixegorta_version() -> u64
     ensures { λ r. ⌜ r ≡ version ⌝ }
 {
-    7_000
+    8_000
 }
 
 // ---- the shape of a tree
