@@ -1,13 +1,13 @@
 -- What the entries answer and leave, by what the code found, over plain variables.
 -- Assumes nothing.
 use mathlib.Core.Path.{_≡_, refl, sym, ap, ap₂, _∙_}
-use Prim.Native.Nat.{ℕ, _+_, _-_, _≤_, _<_}
+use Prim.Native.Nat.{ℕ, _+_, _-_, _≤_}
 use mathlib.Core.List.{List}
 use native.Mathlib.Omega.{arith}
 use borrow.Author.Tests.{eq-eqb, ne-eqb}
 use borrow.Rule.Slice.PartMut.{midOf, putMid}
 use lib.Ieee.{Float}
-use lib.ListN.{length, take, drop, set}
+use lib.ListN.{length, set}
 use Rattle.arithmetic.specs.Row.{place}
 use Rattle.arithmetic.proofs.Numbers.{by-equal}
 use Rattle.limits.specs.Limits.{mostStatePrices}
@@ -23,7 +23,7 @@ use Rattle.shelf_laws.specs.Shelf.{askNumber, askSlots, askMemory, relea
 use Rattle.shelf_laws.specs.Shelf.{commitNumber, commitSlots, commitPart, commitMemory}
 use Rattle.shelf_laws.proofs.PartLaws.{part-length, part-written, part-back-to, lent-count, lent-part}
 use Rattle.shelf_laws.proofs.FitParts.{part-size}
-use Rattle.shelf_laws.proofs.NameLaws.{Known, cause-awaiting, located-is, none-found, There, tree-found}
+use Rattle.shelf_laws.proofs.NameLaws.{cause-awaiting, located-is, none-found, There, tree-found}
 
 -- ---- a fit on a part that was lent and has come back
 module _ (f n b s : ℕ) (rows kinds : List ℕ) (figures : List Float) (m prices : List ℕ) (at count r : ℕ)

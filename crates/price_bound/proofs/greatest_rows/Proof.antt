@@ -1,10 +1,9 @@
 -- `price_bound::greatest_rows` meets its contract.
 -- Assumes nothing.
-use mathlib.Core.Path.{_≡_, subst}
-use Prim.Native.Nat.{ℕ, _-_, _≤_}
+use mathlib.Core.Path.{_≡_}
+use Prim.Native.Nat.{_-_, _≤_}
 use native.Mathlib.Omega.{arith}
 use lib.ListN.{replicate}
-use denote.Ref.{now}
 use Rattle.arithmetic.proofs.RowLaws.{Filled, filled-start, filled-next}
 use Rattle.limits.specs.Limits.{mostSteps}
 use Rattle.lattice.specs.RateTree.{rateTree}
