@@ -206,7 +206,7 @@ static void compare_rates(void)
         fprintf(stderr, "DIFFERENT continuous rates of %llu: %lld and %lld\n", (unsigned long long)discount, (long long)x.value, (long long)y.value);
         exit(1);
     }
-    printf("continuous rates equal on %d discounts\n\n", CURVES);
+    printf("continuous rates equal on %d discounts\n", CURVES);
 }
 
 static double now(void)
@@ -371,6 +371,227 @@ static void growth(int turns)
     }
 }
 
+/* A shelf of the library beside one in plain C. */
+static struct desk {
+    struct mixegorta_shelf library;
+    struct plain_shelf plain;
+    uint64_t memory[MIXEGORTA_SHELF_ROOM], plain_memory[MIXEGORTA_SHELF_ROOM];
+} desk, before;
+
+_Static_assert(sizeof(struct mixegorta_shelf) == sizeof(struct plain_shelf), "the shelves are compared byte by byte");
+
+static void fail(const char *what)
+{
+    fprintf(stderr, "%s\n", what);
+    exit(1);
+}
+
+static void clear_desk(void)
+{
+    memset(&desk, 0, sizeof desk);
+    desk.library = mixegorta_empty_shelf();
+}
+
+static uint64_t kept(struct mixegorta_shelved made)
+{
+    desk.library = made.shelf;
+    return made.number;
+}
+
+/* Numbers, slots, and the used part of the memory of both. */
+static void must_keep_the_same(uint64_t x, uint64_t y)
+{
+    size_t used = 0;
+    for (size_t name = 1; name <= MIXEGORTA_MAX_NAME; name++)
+        used += mixegorta_shelf_part(desk.library, name).count;
+    if (x != y || memcmp(&desk.library, &desk.plain, sizeof desk.plain) || memcmp(desk.memory, desk.plain_memory, used * sizeof *desk.memory))
+        fail("DIFFERENT shelves of library and plain C");
+}
+
+static uint64_t ask_of_both(size_t name, size_t n, uint64_t b)
+{
+    const uint64_t number = kept(mixegorta_shelf_ask(desk.library, desk.memory, name, n, b));
+    must_keep_the_same(number, plain_shelf_ask(&desk.plain, desk.plain_memory, name, n, b));
+    return number;
+}
+
+static uint64_t commit_of_both(size_t name, const struct work *w)
+{
+    const uint64_t number = kept(
+        mixegorta_shelf_commit(desk.library, desk.memory, name, w->f, w->s, w->rows, w->n, w->kinds, w->n, w->figures, w->n));
+    must_keep_the_same(number, plain_shelf_commit(&desk.plain, desk.plain_memory, name, w->f, w->s, w->rows, w->kinds, w->figures));
+    return number;
+}
+
+static uint64_t release_of_both(size_t name)
+{
+    const uint64_t number = kept(mixegorta_shelf_release(desk.library, desk.memory, name));
+    must_keep_the_same(number, plain_shelf_release(&desk.plain, desk.plain_memory, name));
+    return number;
+}
+
+/* The tree of a name, priced with flows of as many rows as it has. */
+static int bond_of_both(size_t name, struct work *w)
+{
+    w->n = name <= MIXEGORTA_MAX_NAME && desk.plain.slots[name - 1].status ? desk.plain.slots[name - 1].steps : w->n;
+    const struct plain_price x = of_library(mixegorta_shelf_bond_price(desk.library, desk.memory, name, w->flows, w->n));
+    const struct plain_price y = plain_shelf_bond(&desk.plain, desk.plain_memory, name, w->flows);
+    if (!same_price(&x, &y))
+        fail("DIFFERENT bonds on the shelves of library and plain C");
+    return x.number == 0;
+}
+
+/* Any calls on both, of which some are refused: a name in use or outside, too many nodes, a tree that awaits its commit or has had it. */
+static void compare_shelves(void)
+{
+    int asked = 0, committed = 0, released = 0, bonds = 0;
+    clear_desk();
+    for (int i = 0; i < CURVES; i++) {
+        const size_t name = 1 + (size_t)(uniform() * 9);
+        struct work w = any_work(i);
+        asked += ask_of_both(name, w.n, w.b) == 0;
+        const size_t other = 1 + (size_t)(uniform() * 8);
+        if (desk.plain.slots[other - 1].status) {
+            struct work own = work_of(desk.plain.slots[other - 1].steps, 0, 0.01 + uniform() * 0.05, 0.0002);
+            own.s = w.s;
+            committed += commit_of_both(other, &own) == 0;
+        }
+        bonds += bond_of_both(1 + (size_t)(uniform() * 9), &w);
+        if (i % 3)
+            released += release_of_both(1 + (size_t)(uniform() * 9)) == 0;
+    }
+    printf("shelves of library and plain C equal over %d rounds; accepted: %d askings, %d commits, %d bonds, %d releases\n\n", CURVES, asked,
+           committed, bonds, released);
+}
+
+#define LAST_NAME MIXEGORTA_MAX_NAME
+
+/* The tree of a work alone on both shelves, under the last name: before its commit, and fitted. */
+static void set_up(const struct work *w)
+{
+    clear_desk();
+    ask_of_both(LAST_NAME, w->n, w->b);
+    before = desk;
+    commit_of_both(LAST_NAME, w);
+}
+
+/* Each commit is of the tree as it awaits one; the shelf is handed over by value, so that it may be committed again and again. */
+static void by_shelf(const struct work *w, struct result *r, int parts)
+{
+    if (parts & FIT)
+        r->number = mixegorta_shelf_commit(before.library, r->discounts, LAST_NAME, w->f, w->s, w->rows, w->n, w->kinds, w->n, w->figures,
+                                           w->n).number;
+    if (parts & BOND)
+        r->bond = of_library(mixegorta_shelf_bond_price(desk.library, r->discounts, LAST_NAME, w->flows, w->n));
+}
+
+static void by_plain_shelf(const struct work *w, struct result *r, int parts)
+{
+    if (parts & FIT) {
+        struct plain_shelf own = before.plain;
+        r->number = plain_shelf_commit(&own, r->discounts, LAST_NAME, w->f, w->s, w->rows, w->kinds, w->figures);
+    }
+    if (parts & BOND)
+        r->bond = plain_shelf_bond(&desk.plain, r->discounts, LAST_NAME, w->flows);
+}
+
+typedef void (*move)(void);
+
+/* A tree of 24 rows under name 1, before which no tree stands. Each asking and each release starts from the same shelf. */
+static void ask_by_library(void)
+{
+    desk.library = mixegorta_shelf_ask(before.library, desk.memory, 1, 24, 0).shelf;
+}
+
+static void ask_by_plain_c(void)
+{
+    desk.plain = before.plain;
+    plain_shelf_ask(&desk.plain, desk.plain_memory, 1, 24, 0);
+}
+
+static void release_by_library(void)
+{
+    mixegorta_shelf_release(desk.library, desk.memory, 1);
+}
+
+static void release_by_plain_c(void)
+{
+    struct plain_shelf own = desk.plain;
+    plain_shelf_release(&own, desk.plain_memory, 1);
+}
+
+static double move_microseconds(move run)
+{
+    const double start = now();
+    for (int i = 0; i < 20; i++)
+        run();
+    return (now() - start) / 20;
+}
+
+static void line_of_moves(const char *name, move a, move b, int turns)
+{
+    static double first[MOST_TURNS], second[MOST_TURNS], ratio[MOST_TURNS];
+    for (int i = 0; i < turns; i++) {
+        first[i] = move_microseconds(a);
+        second[i] = move_microseconds(b);
+        ratio[i] = first[i] / second[i];
+    }
+    printf("%-32s %8.2f us    %8.2f us     %6.2f\n", name, median(first, turns), median(second, turns), median(ratio, turns));
+}
+
+/* Trees of 2,916, 81, 1, 1 and 1 nodes, which a tree of a lower name moves; then the same asking where none stand. */
+static void moves(int turns)
+{
+    static const size_t steps[] = {54, 9, 1, 1, 1};
+    clear_desk();
+    for (size_t k = 0; k < 5; k++) {
+        const struct work w = work_of(steps[k], 0, 0.02, 0.0003);
+        if (ask_of_both(k + 2, w.n, 0) || commit_of_both(k + 2, &w))
+            fail("no tree to move");
+    }
+    before = desk;
+    if (ask_of_both(1, 24, 0) || mixegorta_shelf_part(desk.library, 6).start + 1 - mixegorta_shelf_part(desk.library, 2).start != 3000)
+        fail("the nodes that moved are not 3,000");
+    line_of_moves("asking, 3,000 nodes move", ask_by_library, ask_by_plain_c, turns);
+    line_of_moves("releasing, 3,000 nodes move", release_by_library, release_by_plain_c, turns);
+    clear_desk();
+    before = desk;
+    ask_of_both(1, 24, 0);
+    line_of_moves("asking, the shelf is empty", ask_by_library, ask_by_plain_c, turns);
+}
+
+/* One of a shelf's parts of work, on the library's shelf and by another worker. */
+static void line_of_shelf(uint64_t b, const char *name, worker other, int parts, int turns)
+{
+    static struct result x, y;
+    const struct work w = work_of(60, b, 0.02, 0.0003);
+    set_up(&w);
+    memset(&x, 0, sizeof x);
+    memset(&y, 0, sizeof y);
+    by_shelf(&w, &x, FIT | BOND);
+    other(&w, &y, FIT | BOND);
+    if (x.number || y.number || !same_price(&x.bond, &y.bond) || memcmp(x.discounts, y.discounts, sizeof x.discounts))
+        fail("DIFFERENT on a shelf and beside it");
+    const struct timing t = side_by_side(by_shelf, other, &w, parts, turns, 20);
+    printf("b = %-5llu %-22s %8.1f us    %8.1f us     %6.2f\n", (unsigned long long)b, name, t.first, t.second, t.ratio);
+}
+
+static void shelves(int turns)
+{
+    static const uint64_t reversions[] = {0, 83, 1000};
+    printf("\na shelf                           library        plain C      ratio\n");
+    moves(turns);
+    for (int i = 0; i < 3; i++) {
+        line_of_shelf(reversions[i], "commit, n = 60", by_plain_shelf, FIT, turns);
+        line_of_shelf(reversions[i], "bond, n = 60", by_plain_shelf, BOND, turns);
+    }
+    printf("\nlibrary, n = 60                   on a shelf     without      ratio\n");
+    for (int i = 0; i < 3; i++) {
+        line_of_shelf(reversions[i], "commit and fit", by_library, FIT, turns);
+        line_of_shelf(reversions[i], "bond", by_library, BOND, turns);
+    }
+}
+
 #ifdef HAVE_QUANTLIB
 void quantlib_curve(size_t n, double step, const double *factors);
 double quantlib_prices(size_t n, double step, double reversion, double volatility, const double *flows, size_t expiry, double strike,
@@ -422,10 +643,12 @@ int main(int argc, char **argv)
         return fprintf(stderr, "turns: 1 to %d\n", MOST_TURNS), 2;
     compare_results();
     compare_rates();
+    compare_shelves();
     against_plain_c(turns);
     dates_against_kind(turns);
     rates(turns);
     growth(turns);
+    shelves(turns);
     against_quantlib(turns / 4 + 1);
     return 0;
 }

@@ -1,4 +1,4 @@
-/* The fit, bond and option of document 01 as document 02 changed it, and 02's continuous rate, written straight down. All sums fit 64 bits once the limits are checked. */
+/* The fit, bond and option of document 01 as document 02 changed it, and 02's continuous rate and shelf, written straight down. All sums fit 64 bits once the limits are checked. */
 #include "plain.h"
 #include <math.h>
 #include <string.h>
@@ -458,4 +458,79 @@ struct plain_price plain_dated_option(size_t n, uint64_t b, const uint64_t *disc
                                       const uint8_t *dates, size_t count, uint64_t strike)
 {
     return plain_bond_and_dated_option(n, b, discounts, flows, side, dates, count, strike).option;
+}
+
+/* The shelf: trees in the order of their names, without gaps. */
+#define NAMES 8
+#define SHELF_ROOM 3600
+#define MOST_PRICES ((MOST_STEPS + 1) * (MOST_STEPS + 1))
+
+static size_t nodes_of(const struct plain_slot *slot)
+{
+    const size_t n = slot->steps, highest = slot->reversion ? 1840 / slot->reversion + 1 : n;
+    if (!slot->status)
+        return 0;
+    return n <= highest ? n * n : highest * highest + (n - highest) * (2 * highest + 1);
+}
+
+static size_t nodes_before(const struct plain_shelf *shelf, size_t name)
+{
+    size_t sum = 0;
+    for (size_t k = 0; k + 1 < name; k++)
+        sum += nodes_of(&shelf->slots[k]);
+    return sum;
+}
+
+static int has_status(const struct plain_shelf *shelf, size_t name, uint64_t least, uint64_t most)
+{
+    return name >= 1 && name <= NAMES && shelf->slots[name - 1].status >= least && shelf->slots[name - 1].status <= most;
+}
+
+uint64_t plain_shelf_ask(struct plain_shelf *shelf, uint64_t *memory, size_t name, size_t n, uint64_t b)
+{
+    const struct plain_slot asked = {1, n, b};
+    if (!has_status(shelf, name, 0, 0))
+        return 15;
+    if (n < 1 || n > MOST_STEPS)
+        return 3;
+    if (b > 6000)
+        return 4;
+    const size_t nodes = nodes_of(&asked), held = nodes_before(shelf, NAMES + 1), start = nodes_before(shelf, name);
+    if (nodes + held > SHELF_ROOM)
+        return 14;
+    memmove(memory + start + nodes, memory + start, (held - start) * sizeof *memory);
+    memset(memory + start, 0, nodes * sizeof *memory);
+    shelf->slots[name - 1] = asked;
+    return 0;
+}
+
+uint64_t plain_shelf_commit(struct plain_shelf *shelf, uint64_t *memory, size_t name, uint64_t f, uint64_t s, const uint64_t *rows,
+                            const uint8_t *kinds, const double *figures)
+{
+    uint64_t state_prices[MOST_PRICES];
+    if (!has_status(shelf, name, 1, 1))
+        return 15;
+    struct plain_slot *slot = &shelf->slots[name - 1];
+    const uint64_t number = plain_fit(f, slot->steps, slot->reversion, s, rows, kinds, figures, memory + nodes_before(shelf, name), state_prices);
+    if (!number)
+        slot->status = 2;
+    return number;
+}
+
+uint64_t plain_shelf_release(struct plain_shelf *shelf, uint64_t *memory, size_t name)
+{
+    if (!has_status(shelf, name, 1, 2))
+        return 15;
+    const size_t nodes = nodes_of(&shelf->slots[name - 1]), held = nodes_before(shelf, NAMES + 1), start = nodes_before(shelf, name);
+    memmove(memory + start, memory + start + nodes, (held - start - nodes) * sizeof *memory);
+    shelf->slots[name - 1] = (struct plain_slot){0, 0, 0};
+    return 0;
+}
+
+struct plain_price plain_shelf_bond(const struct plain_shelf *shelf, const uint64_t *memory, size_t name, const uint64_t *flows)
+{
+    if (!has_status(shelf, name, 1, 2))
+        return refused(15);
+    const struct plain_slot *slot = &shelf->slots[name - 1];
+    return plain_bond(slot->steps, slot->reversion, memory + nodes_before(shelf, name), flows);
 }

@@ -1,4 +1,4 @@
-/* Document 01's fit, bond and option, and document 02's continuous rate and dated option, in plain C. */
+/* Document 01's fit, bond and option, and document 02's continuous rate, dated option and shelf, in plain C. */
 #ifndef PLAIN_H
 #define PLAIN_H
 #include <stddef.h>
@@ -29,5 +29,22 @@ struct plain_price plain_dated_option(size_t n, uint64_t b, const uint64_t *disc
 struct plain_prices plain_bond_and_dated_option(size_t n, uint64_t b, const uint64_t *discounts, const uint64_t *flows, uint64_t side,
                                                 const uint8_t *dates, size_t count, uint64_t strike);
 struct plain_rate plain_continuous_rate(uint64_t discount);
+
+/* A shelf that a call changes in its place: status 0 no tree, 1 awaiting a commit, 2 fitted. */
+struct plain_slot {
+    uint64_t status;
+    size_t steps;
+    uint64_t reversion;
+};
+
+struct plain_shelf {
+    struct plain_slot slots[8];
+};
+
+uint64_t plain_shelf_ask(struct plain_shelf *shelf, uint64_t *memory, size_t name, size_t n, uint64_t b);
+uint64_t plain_shelf_commit(struct plain_shelf *shelf, uint64_t *memory, size_t name, uint64_t f, uint64_t s, const uint64_t *rows,
+                            const uint8_t *kinds, const double *figures);
+uint64_t plain_shelf_release(struct plain_shelf *shelf, uint64_t *memory, size_t name);
+struct plain_price plain_shelf_bond(const struct plain_shelf *shelf, const uint64_t *memory, size_t name, const uint64_t *flows);
 
 #endif

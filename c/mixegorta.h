@@ -11,8 +11,10 @@
  * Trees. Row i of a tree of n steps runs from 0 to n. Its nodes are numbered -w to w, w being the row's half width. A memory holds
  * row after row, the lowest node of a row first: discounts for rows 0 to n - 1, state prices for rows 0 to n.
  *
- * Arguments. Any numbers may be passed: a call gives its full answer, or the number of a refusal with every other field 0.
- * Where several refusals apply, the lowest number is given, with one exception: 13 is tried before 12.
+ * Arguments. Any numbers may be passed: a call gives its full answer, or the number of a refusal with every other field 0; a shelf
+ * comes back beside the number, refused or not.
+ * Where several refusals apply, the lowest number is given, with these exceptions: 15 is tried before all others, 14 after 4, and 13
+ * before 12.
  *
  *   reversion   reversion per step (yearly reversion times step length) in ten-thousandths, 0 to 6,000
  *   steps       n, 1 to 60
@@ -35,12 +37,15 @@
  *   11  the option's kind, side, expiry or strike is outside its limit
  *   12  a value is above 8,000,000,000, or state prices sum above 2,000,000,100
  *   13  the exercise dates are none, not strictly rising, or reach the last row, row n
+ *   14  the asked nodes and those held are more than 3,600
+ *   15  the name is outside 1 to 8, already present at asking, not awaiting a commit at commit, or absent at release or pricing; or the
+ *       shelf is one that no calls lead to
  *
  * Memory. A slice is a pointer followed by its count of elements, never of bytes. The pointer is aligned for its type and points to
  * that many elements; with count 0 it may be NULL. All of them are initialised, those that a call only writes too: any numbers
  * will do, such as 0. Elements behind a pointer to const are only read, and such slices may overlap each other. What a pointer
  * without const reaches must overlap nothing else that the same call is handed. A refused call leaves every memory as it was,
- * except refusal 9 of mixegorta_fit. */
+ * except refusal 9 of mixegorta_fit. The memory of a shelf has one size and comes without a count. */
 #ifndef MIXEGORTA_H
 #define MIXEGORTA_H
 
@@ -53,9 +58,9 @@ extern "C" {
 
 /* The version of header and library, in three numbers and as a text. The shared object's name for the loader carries the first. */
 #define MIXEGORTA_VERSION_MAJOR 0
-#define MIXEGORTA_VERSION_MINOR 6
-#define MIXEGORTA_VERSION_PATCH 1
-#define MIXEGORTA_VERSION "0.6.1"
+#define MIXEGORTA_VERSION_MINOR 7
+#define MIXEGORTA_VERSION_PATCH 0
+#define MIXEGORTA_VERSION "0.7.0"
 
 /* The same as one number, which mixegorta_version() of this header's own library answers. */
 #define MIXEGORTA_VERSION_NUMBER \
@@ -70,6 +75,10 @@ extern "C" {
 #define MIXEGORTA_MAX_NODES 121
 #define MIXEGORTA_MAX_DISCOUNTS 3600
 #define MIXEGORTA_MAX_STATE_PRICES 3721
+
+/* The names of a shelf are 1 to this, and its memory has so many numbers, one for each node of its trees. */
+#define MIXEGORTA_MAX_NAME 8
+#define MIXEGORTA_SHELF_ROOM 3600
 
 /* The longest job, and room for the sheet of every job, in bytes. */
 #define MIXEGORTA_MAX_JOB 4700
@@ -104,6 +113,11 @@ extern "C" {
 /* Sides of an option on listed dates. */
 #define MIXEGORTA_CALL 1
 #define MIXEGORTA_PUT 2
+
+/* What a name of a shelf has: no tree, a tree that awaits its commit, or a fitted tree. */
+#define MIXEGORTA_NO_TREE 0
+#define MIXEGORTA_AWAITING 1
+#define MIXEGORTA_FITTED 2
 
 /* A number with its value; value is 0 where refused. */
 struct mixegorta_answer {
@@ -154,6 +168,31 @@ struct mixegorta_row_place {
 struct mixegorta_written {
     uint64_t number;
     size_t size;
+};
+
+/* What a shelf keeps of a name: MIXEGORTA_NO_TREE, MIXEGORTA_AWAITING or MIXEGORTA_FITTED, then the tree's steps and reversion. All are
+ * 0 where there is no tree. */
+struct mixegorta_slot {
+    uint64_t status;
+    size_t steps;
+    uint64_t reversion;
+};
+
+/* A shelf. The slot of name k is slots[k - 1]. */
+struct mixegorta_shelf {
+    struct mixegorta_slot slots[MIXEGORTA_MAX_NAME];
+};
+
+/* A call's number, and the shelf after it: where the call is refused, the shelf that was handed over. */
+struct mixegorta_shelved {
+    uint64_t number;
+    struct mixegorta_shelf shelf;
+};
+
+/* A tree's place in the memory of its shelf: elements start to start + count - 1. Both are 0 where the name has no tree. */
+struct mixegorta_part {
+    size_t start;
+    size_t count;
 };
 
 /* The version of the library that is linked or loaded: MIXEGORTA_VERSION_NUMBER where it is this header's own. */
@@ -283,6 +322,87 @@ struct mixegorta_answer mixegorta_valuation_error_bound(size_t steps, uint64_t r
  * leave out as it was: 1 the job's form, 2 to 5 and 7 to 9 its fit, 6 out too short, 10 a flow, 11 kind, side, expiry or strike, 13 dates,
  * before 12 a value on the way. */
 struct mixegorta_written mixegorta_sheet(const uint8_t *job, size_t job_len, uint8_t *out, size_t out_len);
+
+/* ---- A shelf: up to eight trees in one memory of 3,600 discounts.
+ *
+ * A desk keeps a struct mixegorta_shelf, at first mixegorta_empty_shelf(), and beside it a memory of MIXEGORTA_SHELF_ROOM numbers, at
+ * first any. Both go together through every call, and nobody writes either in between. A shelf is handed over by value; a call that
+ * may change it returns the shelf to go on with, refused or not:
+ *
+ *     struct mixegorta_shelved asked = mixegorta_shelf_ask(shelf, memory, 1, 20, 500);
+ *     shelf = asked.shelf;
+ *
+ * A tree is asked for by a name from 1 to 8, which sets the nodes aside that its discounts need, all 0. It is committed, which fits it,
+ * and may then be priced by its name until it is released. Where a commit is refused the tree still awaits one. The nodes held are those
+ * of all trees asked for and not released; an asking finds its nodes wherever they and those held are 3,600 at most. Work on one name
+ * changes no discount of another.
+ *
+ * Trees stand in the memory in the order of their names, without gaps. So a tree moves when others are asked for or released: a place
+ * that mixegorta_shelf_part told is good until the next asking or release. Under its name a tree keeps its discounts.
+ *
+ * A shelf or a memory that was altered between calls still gets an answer, or a refusal: 15 for every name and nothing changed, where
+ * the slots hold more nodes than the memory has, a status above 2, or a tree whose steps or reversion are outside their limits. Nothing
+ * but the memory that is handed over is ever written. What is promised of a shelf's trees and prices is promised where nobody altered
+ * shelf or memory. */
+
+/* The empty shelf: no name has a tree, and no node is held. */
+struct mixegorta_shelf mixegorta_empty_shelf(void);
+
+/* Where the discounts of a name's tree stand in the memory, row after row, the lowest node of a row first; start and count are 0 where
+ * the name has no tree. */
+struct mixegorta_part mixegorta_shelf_part(struct mixegorta_shelf shelf, size_t name);
+
+/* Asks for a tree under a name that has none. 0: the name has a tree that awaits its commit, its discounts all 0, and the trees of
+ * greater names have moved up. Refusals leave shelf and memory as they were, in this order: 15 the name, 3 steps, 4 reversion, 14 the
+ * nodes, which with those held are more than 3,600. */
+struct mixegorta_shelved mixegorta_shelf_ask(struct mixegorta_shelf shelf, uint64_t memory[MIXEGORTA_SHELF_ROOM], size_t name,
+                                             size_t steps, uint64_t reversion);
+
+/* Fits the tree of a name that awaits its commit to the quotes of rows 1 to n, handed over as to mixegorta_fit. 0: the name has a fitted
+ * tree, with the discounts that mixegorta_fit gives. A fitted tree is not committed again: release it first. A refused commit may be
+ * tried again. No tree moves. Where somebody has altered the zeros of a tree that awaits its commit, refusal 9 puts them back.
+ * Refusals leave shelf and memory as they were, in this order: 15 the name, 2 frequency, 5 volatility, 6 a count or a row, 7 a quote,
+ * 8 nodes too far apart, 9 a node discount. The asking has accepted steps, reversion and memory already. */
+struct mixegorta_shelved mixegorta_shelf_commit(struct mixegorta_shelf shelf, uint64_t memory[MIXEGORTA_SHELF_ROOM], size_t name,
+                                                uint64_t frequency, uint64_t volatility, const uint64_t *rows, size_t rows_len,
+                                                const uint8_t *kinds, size_t kinds_len, const double *figures,
+                                                size_t figures_len);
+
+/* Releases the tree of a name, fitted or not: its nodes are free for any later asking, the trees of greater names have moved down, and
+ * as many zeros stand at the end of the memory. Refusal, which leaves shelf and memory as they were: 15 the name. */
+struct mixegorta_shelved mixegorta_shelf_release(struct mixegorta_shelf shelf, uint64_t memory[MIXEGORTA_SHELF_ROOM], size_t name);
+
+/* The price of a bond on the tree of a name, as mixegorta_bond_price gives it for the tree's steps, reversion and discounts. Shelf and
+ * memory are only read, here and below. Refusals, in this order: 15 the name, 6 flows not n, on a tree that awaits its commit too, 9 a
+ * tree that awaits its commit, 10 a flow, 12 a value on the way. */
+struct mixegorta_price mixegorta_shelf_bond_price(struct mixegorta_shelf shelf, const uint64_t memory[MIXEGORTA_SHELF_ROOM],
+                                                  size_t name, const uint64_t *flows, size_t flows_len);
+
+/* The price of an option on that bond, as mixegorta_option_price gives it. Refusals: those of mixegorta_shelf_bond_price, and 11 kind,
+ * expiry or strike, before 12. */
+struct mixegorta_price mixegorta_shelf_option_price(struct mixegorta_shelf shelf, const uint64_t memory[MIXEGORTA_SHELF_ROOM],
+                                                    size_t name, const uint64_t *flows, size_t flows_len, uint64_t kind,
+                                                    size_t expiry, uint64_t strike);
+
+/* Bond and option in one roll, each as its own function answers. Refusals: those of mixegorta_shelf_option_price. */
+struct mixegorta_bond_and_option_prices mixegorta_shelf_bond_and_option(struct mixegorta_shelf shelf,
+                                                                        const uint64_t memory[MIXEGORTA_SHELF_ROOM],
+                                                                        size_t name, const uint64_t *flows, size_t flows_len,
+                                                                        uint64_t kind, size_t expiry, uint64_t strike);
+
+/* The price of an option on that bond which may be exercised on listed rows, as mixegorta_dated_option_price gives it. Refusals: those
+ * of mixegorta_shelf_bond_price, 11 side or strike, and 13 dates, after 11 and before 12. */
+struct mixegorta_price mixegorta_shelf_dated_option_price(struct mixegorta_shelf shelf, const uint64_t memory[MIXEGORTA_SHELF_ROOM],
+                                                          size_t name, const uint64_t *flows, size_t flows_len, uint64_t side,
+                                                          const uint8_t *dates, size_t dates_len, uint64_t strike);
+
+/* Bond and dated option in one roll, each as its own function answers. Refusals: those of mixegorta_shelf_dated_option_price. */
+struct mixegorta_bond_and_option_prices mixegorta_shelf_bond_and_dated_option(struct mixegorta_shelf shelf,
+                                                                              const uint64_t memory[MIXEGORTA_SHELF_ROOM],
+                                                                              size_t name, const uint64_t *flows,
+                                                                              size_t flows_len, uint64_t side,
+                                                                              const uint8_t *dates, size_t dates_len,
+                                                                              uint64_t strike);
 
 #ifdef __cplusplus
 }

@@ -1,4 +1,4 @@
-/* The stack that a fit, a price and a sheet take on the largest tree, in bytes: the most of any call, on a thread whose stack is filled first. */
+/* The stack that a fit, a price, a commit and a sheet take on the largest tree, in bytes: the most of any call, on a thread whose stack is filled first. */
 #define _POSIX_C_SOURCE 200809L
 #include "mixegorta.h"
 
@@ -14,6 +14,8 @@ static const uint64_t payoffs[MIXEGORTA_MAX_NODES];
 static uint8_t kinds[STEPS], dates[STEPS], room[MIXEGORTA_SHEET_ROOM], job[MIXEGORTA_MAX_JOB];
 static double figures[STEPS];
 static size_t job_size;
+static struct mixegorta_shelf shelf;
+static uint64_t shelf_memory[MIXEGORTA_SHELF_ROOM];
 static uint64_t refused;
 
 static void *nothing(void *unused) { return unused; }
@@ -43,6 +45,25 @@ static void *dated_option(void *unused) {
 
 static void *valuation(void *unused) {
     refused = mixegorta_value_by_state_prices(payoffs, MIXEGORTA_MAX_NODES, payoffs, MIXEGORTA_MAX_NODES).number;
+    return unused;
+}
+
+static void *asking(void *unused) {
+    const struct mixegorta_shelved asked = mixegorta_shelf_ask(mixegorta_empty_shelf(), shelf_memory, 8, STEPS, 0);
+    refused = asked.number;
+    shelf = asked.shelf;
+    return unused;
+}
+
+static void *commit(void *unused) {
+    const struct mixegorta_shelved fitted = mixegorta_shelf_commit(shelf, shelf_memory, 8, 12, 1000, rows, STEPS, kinds, STEPS, figures, STEPS);
+    refused = fitted.number;
+    shelf = fitted.shelf;
+    return unused;
+}
+
+static void *shelf_option(void *unused) {
+    refused = mixegorta_shelf_bond_and_dated_option(shelf, shelf_memory, 8, flows, STEPS, MIXEGORTA_PUT, dates, STEPS, MIXEGORTA_ONE).option.number;
     return unused;
 }
 
@@ -108,7 +129,11 @@ int main(void) {
     }
     write_job();
     printf("fit %zu\n", taken(fit));
-    printf("price %zu\n", most(most(taken(bond), taken(option)), most(taken(dated_option), taken(valuation))));
+    const size_t asked = taken(asking);
+    const size_t committed = most(asked, taken(commit));
+    const size_t plain = most(most(taken(bond), taken(option)), most(taken(dated_option), taken(valuation)));
+    printf("price %zu\n", most(plain, taken(shelf_option)));
+    printf("commit %zu\n", committed);
     printf("sheet %zu\n", taken(sheet));
     return 0;
 }

@@ -54,11 +54,33 @@ static void sheet() {
     EXPECT(written.number == 1 && written.size == 0);
 }
 
+static void shelf() {
+    const std::vector<uint64_t> rows = {1}, flows = {MIXEGORTA_ONE};
+    const std::vector<uint8_t> kinds = {MIXEGORTA_DISCOUNT_FACTOR}, dates = {0};
+    const std::vector<double> figures = {1.0025};
+    std::vector<uint64_t> memory(MIXEGORTA_SHELF_ROOM, 7);
+    mixegorta_shelved after = mixegorta_shelf_ask(mixegorta_empty_shelf(), memory.data(), 8, 1, 0);
+    const mixegorta_slot slot = after.shelf.slots[MIXEGORTA_MAX_NAME - 1];
+    EXPECT(after.number == 0 && slot.status == MIXEGORTA_AWAITING && slot.steps == 1 && memory[0] == 0 && memory[1] == 7);
+    EXPECT(mixegorta_shelf_bond_price(after.shelf, memory.data(), 8, flows.data(), flows.size()).number == 9);
+    after = mixegorta_shelf_commit(after.shelf, memory.data(), 8, 1, 0, rows.data(), rows.size(), kinds.data(), kinds.size(),
+                                   figures.data(), figures.size());
+    const mixegorta_part part = mixegorta_shelf_part(after.shelf, 8);
+    EXPECT(after.number == 0 && part.start == 0 && part.count == 1 && memory[0] == 1002500000);
+    const mixegorta_bond_and_option_prices both = mixegorta_shelf_bond_and_dated_option(
+        after.shelf, memory.data(), 8, flows.data(), flows.size(), MIXEGORTA_PUT, dates.data(), dates.size(), 1010000000);
+    EXPECT(both.bond.value == 1002500000 && both.option.number == 0 && both.option.value == 7500000);
+    EXPECT(mixegorta_shelf_ask(after.shelf, memory.data(), 1, MIXEGORTA_MAX_STEPS, 0).number == 14);
+    after = mixegorta_shelf_release(after.shelf, memory.data(), 8);
+    EXPECT(after.number == 0 && mixegorta_shelf_release(after.shelf, memory.data(), 8).number == 15);
+}
+
 int main() {
     EXPECT(mixegorta_version() == MIXEGORTA_VERSION_NUMBER);
     shapes();
     quotes();
     prices();
     sheet();
+    shelf();
     return failures == 0 ? 0 : 1;
 }

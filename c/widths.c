@@ -160,6 +160,72 @@ static void value_by_state_prices(void) { answer_value(mixegorta_value_by_state_
 
 static void valuation_error_bound(void) { answer_value(mixegorta_valuation_error_bound(number(0), number(1), LENT(2), number(3), LENT(4))); }
 
+/* The shelf of a line: status, steps and reversion of each name. */
+static struct mixegorta_shelf shelf(void) {
+    struct mixegorta_shelf made = mixegorta_empty_shelf();
+    for (size_t i = 0; i < MIXEGORTA_MAX_NAME; i++) {
+        const uint64_t *slot = given[0].items + 3 * i;
+        made.slots[i] = (struct mixegorta_slot){slot[0], slot[1], slot[2]};
+    }
+    return made;
+}
+
+static uint64_t handed[MIXEGORTA_SHELF_ROOM];
+
+/* The memory of a line, as it was handed over and to be changed. */
+static uint64_t *shelf_memory(void) { return memcpy(handed, given[1].items, sizeof handed); }
+
+/* A call's number, and where that is 0 the shelf and the memory after it; a refused call that has changed one is told by a number more. */
+static void answer_shelved(struct mixegorta_shelved after) {
+    bool same = memcmp(handed, given[1].items, sizeof handed) == 0;
+    add(&found, after.number);
+    for (size_t i = 0; i < MIXEGORTA_MAX_NAME; i++) {
+        const struct mixegorta_slot slot = after.shelf.slots[i];
+        const uint64_t fields[] = {slot.status, slot.steps, slot.reversion};
+        for (size_t k = 0; k < 3; k++) {
+            same = same && fields[k] == given[0].items[3 * i + k];
+            if (after.number == 0) add(&found, fields[k]);
+        }
+    }
+    for (size_t i = 0; i < MIXEGORTA_SHELF_ROOM && after.number == 0; i++) add(&found, handed[i]);
+    if (after.number != 0 && !same) add(&found, UINT64_MAX);
+}
+
+static void shelf_part(void) {
+    struct mixegorta_part part = mixegorta_shelf_part(shelf(), number(1));
+    add(&found, part.start);
+    add(&found, part.count);
+}
+
+static void shelf_ask(void) { answer_shelved(mixegorta_shelf_ask(shelf(), shelf_memory(), number(2), number(3), number(4))); }
+
+static void shelf_commit(void) {
+    answer_shelved(mixegorta_shelf_commit(shelf(), shelf_memory(), number(2), number(3), number(4), LENT(5), as_bytes(6), given[6].count,
+                                          as_figures(7), given[7].count));
+}
+
+static void shelf_release(void) { answer_shelved(mixegorta_shelf_release(shelf(), shelf_memory(), number(2))); }
+
+static void shelf_bond_price(void) { answer_price(mixegorta_shelf_bond_price(shelf(), shelf_memory(), number(2), LENT(3))); }
+
+static void shelf_option_price(void) {
+    answer_price(mixegorta_shelf_option_price(shelf(), shelf_memory(), number(2), LENT(3), number(4), number(5), number(6)));
+}
+
+static void shelf_bond_and_option(void) {
+    answer_both(mixegorta_shelf_bond_and_option(shelf(), shelf_memory(), number(2), LENT(3), number(4), number(5), number(6)));
+}
+
+static void shelf_dated_option_price(void) {
+    answer_price(mixegorta_shelf_dated_option_price(shelf(), shelf_memory(), number(2), LENT(3), number(4), as_bytes(5), given[5].count,
+                                                    number(6)));
+}
+
+static void shelf_bond_and_dated_option(void) {
+    answer_both(mixegorta_shelf_bond_and_dated_option(shelf(), shelf_memory(), number(2), LENT(3), number(4), as_bytes(5), given[5].count,
+                                                      number(6)));
+}
+
 #define CALL(name) {#name, name}
 static const struct {
     const char *name;
@@ -167,7 +233,9 @@ static const struct {
 } calls[] = {CALL(half_width), CALL(node_count), CALL(row_start), CALL(discounts_needed), CALL(state_prices_needed), CALL(branches),
              CALL(quote_discount), CALL(curve_discounts), CALL(fit), CALL(row_range), CALL(step_rate), CALL(continuous_rate),
              CALL(state_price_error_bound), CALL(bond_price), CALL(option_price), CALL(bond_and_option), CALL(dated_option_price),
-             CALL(bond_and_dated_option), CALL(value_by_state_prices), CALL(valuation_error_bound)};
+             CALL(bond_and_dated_option), CALL(value_by_state_prices), CALL(valuation_error_bound), CALL(shelf_part), CALL(shelf_ask),
+             CALL(shelf_commit), CALL(shelf_release), CALL(shelf_bond_price), CALL(shelf_option_price), CALL(shelf_bond_and_option),
+             CALL(shelf_dated_option_price), CALL(shelf_bond_and_dated_option)};
 
 static bool called(const char *name) {
     found.count = 0;

@@ -85,6 +85,11 @@ impl Tally {
         *self.exact.entry(what).or_default() += 1;
     }
 
+    /// On which side of the exact prices bonds and options lie.
+    pub fn sides(&self) -> String {
+        format!("  {:<22}{}\n  {:<22}{}", "bonds", self.bonds, "options", self.options)
+    }
+
     pub fn bonds_on_both_sides(&self) -> bool {
         self.bonds.above > 0 && self.bonds.below > 0
     }
@@ -117,8 +122,7 @@ impl fmt::Display for Tally {
             writeln!(f, "  {what:<38}{count}")?;
         }
         writeln!(f, "prices and their exact ones")?;
-        writeln!(f, "  {:<22}{}", "bonds", self.bonds)?;
-        writeln!(f, "  {:<22}{}", "options", self.options)
+        writeln!(f, "{}", self.sides())
     }
 }
 
@@ -442,22 +446,29 @@ fn prices(case: &Case, discounts: &[u64], entries: &Entries, tally: &mut Tally) 
     more_rights(case, discounts, tally);
     bounds(case, discounts, tally);
     if let Some(bond) = bond {
-        exact_prices(case, discounts, bond, [of_kind, of_dates], tally);
+        exact_prices(&tree, discounts, &Terms { flows, contract, dated }, bond, [of_kind, of_dates], tally);
     }
 }
 
+/// A bond by its flows, and two options on it.
+pub struct Terms<'a> {
+    pub flows: &'a [u64],
+    pub contract: &'a Contract,
+    pub dated: &'a DatedOption,
+}
+
 /// A bond, and what was priced of option by kind and dated option, each against the exact pricer.
-fn exact_prices(case: &Case, discounts: &[u64], bond: (u64, u64), options: [Option<(u64, u64)>; 2], tally: &mut Tally) {
-    let (tree, contract, dated) = (case.fit.tree, &case.contract, &case.dated);
-    let exact = ExactBond::new(tree, discounts, &case.flows);
+pub fn exact_prices(tree: &Tree, discounts: &[u64], terms: &Terms, bond: (u64, u64), options: [Option<(u64, u64)>; 2], tally: &mut Tally) {
+    let Terms { flows, contract, dated } = *terms;
+    let exact = ExactBond::new(*tree, discounts, flows);
     within(&exact, bond, exact.price(), "bond", &mut tally.bonds);
-    at_most_two_a_step(&tree, discounts, bond.1);
+    at_most_two_a_step(tree, discounts, bond.1);
     tally.exact("bond prices");
     let mut option_within = |option: &DatedOption, price: (u64, u64), called: Called| {
         within(&exact, price, &exact.option(option), called.0, &mut tally.options);
-        at_most_two_a_step(&tree, discounts, price.1);
+        at_most_two_a_step(tree, discounts, price.1);
         tally.exact(called.0);
-        if tree.exercised_on_a_flow(discounts, &case.flows, option) {
+        if tree.exercised_on_a_flow(discounts, flows, option) {
             tally.exact(called.1);
         }
     };

@@ -166,3 +166,116 @@ pub fn weighing_bound(tree: &Tree, discounts: &[u64], row: usize, payoffs: &[u64
         )
     })
 }
+
+// The shelf
+
+pub const SHELF_MEMORY: usize = 3_600;
+const SHELF_GUARD: usize = 8;
+const GUARDED: u64 = 0x0DDB_A115_CA1E_D0FF;
+
+/// Status, steps and reversion.
+pub type Slot = (u64, usize, u64);
+
+/// A shelf and its memory as a desk keeps them, with guards on both sides of the memory.
+pub struct Desk {
+    shelf: Shelf,
+    lent: Vec<u64>,
+}
+
+impl Desk {
+    /// The empty shelf beside any memory.
+    pub fn new(memory: &[u64]) -> Desk {
+        let mut lent = vec![GUARDED; SHELF_MEMORY + 2 * SHELF_GUARD];
+        lent[SHELF_GUARD..][..SHELF_MEMORY].copy_from_slice(memory);
+        Desk { shelf: unsafe { mixegorta_empty_shelf() }, lent }
+    }
+
+    pub fn memory(&self) -> &[u64] {
+        let (before, rest) = self.lent.split_at(SHELF_GUARD);
+        let (memory, behind) = rest.split_at(SHELF_MEMORY);
+        assert!(before.iter().chain(behind).all(|word| *word == GUARDED), "written outside the memory");
+        memory
+    }
+
+    pub fn slots(&self) -> [Slot; 8] {
+        self.shelf.slots.map(|slot| (slot.status, slot.steps, slot.reversion))
+    }
+
+    /// Alters a slot, as no entry does.
+    pub fn alter(&mut self, place: usize, slot: Slot) {
+        self.shelf.slots[place] = raw::Slot { status: slot.0, steps: slot.1, reversion: slot.2 };
+    }
+
+    fn read(&self) -> *const [u64; SHELF_MEMORY] {
+        self.lent[SHELF_GUARD..].as_ptr().cast()
+    }
+
+    fn write(&mut self) -> *mut [u64; SHELF_MEMORY] {
+        self.lent[SHELF_GUARD..].as_mut_ptr().cast()
+    }
+
+    fn kept(&mut self, shelved: Shelved) -> u64 {
+        self.shelf = shelved.shelf;
+        shelved.number
+    }
+
+    pub fn part(&self, name: usize) -> (usize, usize) {
+        let part = unsafe { mixegorta_shelf_part(self.shelf, name) };
+        (part.start, part.count)
+    }
+
+    pub fn ask(&mut self, name: usize, tree: &Tree) -> u64 {
+        let shelved = unsafe { mixegorta_shelf_ask(self.shelf, self.write(), name, tree.steps, tree.reversion) };
+        self.kept(shelved)
+    }
+
+    pub fn commit(&mut self, name: usize, frequency: u64, volatility: u64, curve: &Curve) -> u64 {
+        let Curve { rows, kinds, figures } = curve;
+        let shelved = unsafe {
+            mixegorta_shelf_commit(
+                self.shelf, self.write(), name, frequency, volatility, start(rows), rows.len(), start(kinds), kinds.len(), start(figures),
+                figures.len(),
+            )
+        };
+        self.kept(shelved)
+    }
+
+    pub fn release(&mut self, name: usize) -> u64 {
+        let shelved = unsafe { mixegorta_shelf_release(self.shelf, self.write(), name) };
+        self.kept(shelved)
+    }
+
+    pub fn bond(&self, name: usize, flows: &[u64]) -> Outcome<(u64, u64)> {
+        priced(unsafe { mixegorta_shelf_bond_price(self.shelf, self.read(), name, start(flows), flows.len()) })
+    }
+
+    pub fn option(&self, name: usize, flows: &[u64], c: &Contract) -> Outcome<(u64, u64)> {
+        priced(unsafe {
+            mixegorta_shelf_option_price(self.shelf, self.read(), name, start(flows), flows.len(), c.kind, c.expiry, c.strike)
+        })
+    }
+
+    pub fn dated_option(&self, name: usize, flows: &[u64], o: &DatedOption) -> Outcome<(u64, u64)> {
+        priced(unsafe {
+            mixegorta_shelf_dated_option_price(
+                self.shelf, self.read(), name, start(flows), flows.len(), o.side, start(&o.dates), o.dates.len(), o.strike,
+            )
+        })
+    }
+
+    pub fn bond_and_option(&self, name: usize, flows: &[u64], c: &Contract) -> Both {
+        let both = unsafe {
+            mixegorta_shelf_bond_and_option(self.shelf, self.read(), name, start(flows), flows.len(), c.kind, c.expiry, c.strike)
+        };
+        (priced(both.bond), priced(both.option))
+    }
+
+    pub fn bond_and_dated_option(&self, name: usize, flows: &[u64], o: &DatedOption) -> Both {
+        let both = unsafe {
+            mixegorta_shelf_bond_and_dated_option(
+                self.shelf, self.read(), name, start(flows), flows.len(), o.side, start(&o.dates), o.dates.len(), o.strike,
+            )
+        };
+        (priced(both.bond), priced(both.option))
+    }
+}

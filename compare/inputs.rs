@@ -55,7 +55,7 @@ pub struct Case {
     pub weighed: Vec<u64>,
 }
 
-fn steps(r: &mut Random) -> usize {
+pub fn steps(r: &mut Random) -> usize {
     match r.below(100) {
         0..=7 => 1,
         8..=54 => r.within(2, 12) as usize,
@@ -64,7 +64,7 @@ fn steps(r: &mut Random) -> usize {
     }
 }
 
-fn reversion(r: &mut Random) -> u64 {
+pub fn reversion(r: &mut Random) -> u64 {
     match r.below(6) {
         0 => 0,
         1 => r.within(1, 100),
@@ -232,6 +232,19 @@ fn weighed(r: &mut Random, count: usize) -> Vec<u64> {
 pub fn case(r: &mut Random) -> Case {
     let frequency = r.pick(&[1, 2, 4, 12]);
     let tree = Tree { steps: steps(r), reversion: reversion(r) };
+    let mut made = in_order(r, frequency, tree);
+    if r.chance(40) {
+        for _ in 0..r.within(1, 3) {
+            damage(r, &mut made);
+        }
+    }
+    // Last, since damage to the dates may leave a good list of others.
+    made.fewer = some_of(r, &made.dated.dates);
+    made
+}
+
+/// A case of a tree with nothing wrong that its entries could see before they fit or roll.
+pub fn in_order(r: &mut Random, frequency: u64, tree: Tree) -> Case {
     let shape = if r.chance(93) { r.pick(&SHAPES[..5]) } else { r.pick(&SHAPES[5..]) };
     let row = r.below(tree.steps + 1);
     let (needed, count) = (tree.discounts_needed(), tree.node_count(row));
@@ -247,7 +260,7 @@ pub fn case(r: &mut Random) -> Case {
     let contract = Contract { kind: r.within(1, 4), expiry: r.below(tree.steps), strike: r.within(strikes.0, strikes.1) };
     let dated = DatedOption { side: r.within(1, 2), strike: r.within(strikes.0, strikes.1), dates: dates(r, tree.steps) };
     let half = tree.half_width(row);
-    let mut made = Case {
+    Case {
         shape,
         fit,
         lent: lent(r, needed),
@@ -260,15 +273,7 @@ pub fn case(r: &mut Random) -> Case {
         row_kind: r.within(1, 2),
         payoffs: payoffs(r, count),
         weighed: weighed(r, count),
-    };
-    if r.chance(40) {
-        for _ in 0..r.within(1, 3) {
-            damage(r, &mut made);
-        }
     }
-    // Last, since damage to the dates may leave a good list of others.
-    made.fewer = some_of(r, &made.dated.dates);
-    made
 }
 
 /// Makes a list longer, shorter, empty or two longer.
@@ -317,9 +322,19 @@ fn spoil<T>(r: &mut Random, list: &mut Vec<T>, made: T) {
     }
 }
 
+/// The damages to what a commit, and to what a price on a shelf takes.
+pub const TO_A_COMMIT: [usize; 16] = [0, 3, 3, 4, 5, 6, 7, 8, 9, 10, 11, 23, 24, 30, 31, 32];
+pub const TO_A_PRICE: [usize; 11] = [14, 14, 15, 16, 17, 18, 26, 27, 29, 30, 32];
+const DAMAGES: usize = 34;
+
 fn damage(r: &mut Random, case: &mut Case) {
+    let which = r.below(DAMAGES);
+    damage_by(r, case, which);
+}
+
+pub fn damage_by(r: &mut Random, case: &mut Case, which: usize) {
     let (huge, n) = (u64::MAX, case.fit.tree.steps);
-    match r.below(34) {
+    match which {
         0 => case.fit.frequency = r.pick(&[0, 3, 5, 6, 11, 13, 255, huge, 1 << 32]),
         1 => case.fit.tree.steps = r.pick(&[0, 61, 62, 255, 1 << 32, usize::MAX]),
         2 => case.fit.tree.reversion = r.pick(&[6_001, 65_535, 1 << 32, huge]),

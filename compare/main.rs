@@ -1,16 +1,23 @@
-// Compares the library with the rules of documents 01 and 02 and with the exact pricer on random inputs.
+// Compares the library with the rules of documents 01 and 02 and with the exact pricer, on random inputs and on random scripts of calls on a shelf.
 mod checks;
 mod engine;
 mod exact;
 mod inputs;
 mod natural;
 mod rules;
+mod scripts;
+mod shelf;
+mod shelves;
 
 use checks::Tally;
 use std::panic;
 
 /// So many inputs have bonds above and bonds below their exact prices.
 const LARGE_RUN: u64 = 1_000;
+/// Every so many seeds have a script of calls on a shelf too.
+const SEEDS_A_SCRIPT: u64 = 8;
+/// So many scripts have every order of causes, every refused commit tried again, and every alteration.
+const MANY_SCRIPTS: u64 = 1_000;
 
 fn argument(place: usize, otherwise: u64) -> u64 {
     match std::env::args().nth(place) {
@@ -19,28 +26,57 @@ fn argument(place: usize, otherwise: u64) -> u64 {
     }
 }
 
-fn main() {
-    let (count, seed) = (argument(1, 20_000), argument(2, 1));
+fn different(own: u64) -> ! {
+    eprintln!("DIFFERENT. To see it again: compare/run 1 {own}");
+    std::process::exit(1);
+}
+
+/// What has no seed: figures worked out by hand, borders, widths, and every order of four trees on a shelf.
+fn without_seed(tally: &mut Tally, shelves: &mut shelves::Tally) {
     natural::check();
-    let mut tally = Tally::default();
-    checks::rates_at_borders(&mut tally);
+    checks::rates_at_borders(tally);
     checks::dates_by_hand();
     checks::rolls_by_hand();
     checks::limit_by_hand();
     checks::discount_limit_by_hand();
-    checks::numbers_past_a_width(&mut tally);
+    checks::numbers_past_a_width(tally);
+    shelves::by_hand();
+    shelves::every_order(shelves);
+    shelves::numbers_past_a_width(shelves);
+}
+
+fn input(own: u64, tally: &mut Tally) {
+    let case = inputs::case(&mut inputs::Random::new(own));
+    if panic::catch_unwind(panic::AssertUnwindSafe(|| checks::all(&case, tally))).is_err() {
+        eprintln!("input: {case:?}");
+        different(own);
+    }
+}
+
+fn script(own: u64, sizes: &scripts::Sizes, tally: &mut shelves::Tally) {
+    let mut calls = Vec::new();
+    let run = || shelves::script(&mut inputs::Random::new(own), sizes, &mut calls, tally);
+    if panic::catch_unwind(panic::AssertUnwindSafe(run)).is_err() {
+        eprintln!("call {} of a script: {:?}", calls.len(), calls.last());
+        different(own);
+    }
+}
+
+fn main() {
+    let (count, seed) = (argument(1, 20_000), argument(2, 1));
+    let (mut tally, mut shelves, sizes) = (Tally::default(), shelves::Tally::default(), scripts::Sizes::new());
+    without_seed(&mut tally, &mut shelves);
     for own in seed..seed + count {
-        let case = inputs::case(&mut inputs::Random::new(own));
-        let compared = panic::catch_unwind(panic::AssertUnwindSafe(|| checks::all(&case, &mut tally)));
-        if compared.is_err() {
-            eprintln!("input: {case:?}");
-            eprintln!("DIFFERENT. To see it again: compare/run 1 {own}");
-            std::process::exit(1);
+        input(own, &mut tally);
+        if own % SEEDS_A_SCRIPT == 0 {
+            script(own, &sizes, &mut shelves);
         }
     }
     println!("{tally}");
     assert!(count < LARGE_RUN || tally.bonds_on_both_sides(), "bonds on one side of their exact prices alone");
     let (dated, priced) = tally.dated_options();
-    println!("{dated} dated options compared, {priced} of them priced and held against the exact pricer");
+    println!("{dated} dated options compared, {priced} of them priced and held against the exact pricer\n\n{shelves}");
+    let missing = if count < MANY_SCRIPTS * SEEDS_A_SCRIPT { Vec::new() } else { shelves.missing() };
+    assert!(missing.is_empty(), "no script has {missing:?}");
     println!("{count} inputs from seed {seed}: every result equal, every bound kept");
 }

@@ -131,6 +131,10 @@ pub fn figure(x: f64) -> Outcome<i128> {
     Ok(if bits >> 63 == 1 { -size } else { size })
 }
 
+pub fn volatility_wrong(volatility: u64) -> bool {
+    volatility > 50_000
+}
+
 pub fn frequency_wrong(frequency: u64) -> bool {
     ![1, 2, 4, 12].contains(&frequency)
 }
@@ -258,7 +262,7 @@ impl FitInput {
             (2, frequency_wrong(self.frequency)),
             (3, steps_wrong(steps)),
             (4, reversion_wrong(self.tree.reversion)),
-            (5, self.volatility > 50_000),
+            (5, volatility_wrong(self.volatility)),
             (6, self.curve.places_wrong(steps) || self.memory_short()),
         ])?;
         let quotes = self.curve.quotes(self.frequency)?;
@@ -351,7 +355,7 @@ pub struct Contract {
 }
 
 impl Contract {
-    fn wrong(&self, steps: usize) -> bool {
+    pub fn wrong(&self, steps: usize) -> bool {
         !(1..=4).contains(&self.kind) || self.expiry >= steps || self.strike > STRIKE_LIMIT
     }
 
@@ -378,11 +382,11 @@ pub struct DatedOption {
 }
 
 impl DatedOption {
-    fn wrong(&self) -> bool {
+    pub fn wrong(&self) -> bool {
         ![CALL, PUT].contains(&self.side) || self.strike > STRIKE_LIMIT
     }
 
-    fn dates_wrong(&self, steps: usize) -> bool {
+    pub fn dates_wrong(&self, steps: usize) -> bool {
         let rising = self.dates.windows(2).all(|pair| pair[0] < pair[1]);
         !rising || self.dates.last().map_or(true, |last| *last as usize >= steps)
     }

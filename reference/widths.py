@@ -5,8 +5,9 @@
     widths.py --check    compares widths.txt with what it would write, and the entries with c/mixegorta.h
 
 A line of widths.txt is the name of an export, its arguments in the header's order, `=` and the answer. An argument is a number, a list [3,5,0*256], which
-ends in 256 zeros here, or @9, a memory of nine numbers to be written. Figures stand as their 64 bits. An answer is a refusal's number alone, or its fields;
-a memory's part that was written comes as a list. Tests in C, Rust and Python read the lines. Each entry's first line is the call that the others change.
+ends in 256 zeros here, or @9, a memory of nine numbers to be written. Figures stand as their 64 bits. A shelf is a list of 24 numbers, status, steps and
+reversion of each name, beside its memory of 3,600. An answer is a refusal's number alone, or its fields; a memory's part that was written comes as a list,
+and a shelf's changed memory whole. Tests in C, Rust and Python read the lines. Each entry's first line is the call that the others change.
 """
 import os
 import re
@@ -186,13 +187,88 @@ def valuation_error_bound(n, b, discounts, row, payoffs):
     return [rules.weighing_allowance(b, rows, row, payoffs)]
 
 
+# A shelf is a list of numbers, three for each of its eight names: status, steps, reversion
+
+def nodes_of(status, n, b):
+    """The nodes of a slot; more than there are where no calls lead to it."""
+    if status == 0:
+        return 0
+    return start(b, n) if status <= 2 and 1 <= n <= 60 and b <= 6_000 else 3_601
+
+
+def slot_of(shelf, name):
+    return shelf[3 * name - 3:3 * name]
+
+
+def nodes_before(shelf, name):
+    return sum(nodes_of(*slot_of(shelf, other)) for other in range(1, name))
+
+
+def judged_name(shelf, name, *statuses):
+    """Where the nodes of a name stand or would stand, and how many they are; 15 where its status is none of these."""
+    refuse_if(not 1 <= name <= 8 or nodes_before(shelf, 9) > 3_600 or slot_of(shelf, name)[0] not in statuses, 15)
+    return nodes_before(shelf, name), nodes_of(*slot_of(shelf, name))
+
+
+def with_slot(shelf, name, *slot):
+    return shelf[:3 * name - 3] + list(slot) + shelf[3 * name:]
+
+
+def shelf_part(shelf, name):
+    """A refusal has no number: start and count are 0."""
+    try:
+        return list(judged_name(shelf, name, 1, 2))
+    except Refused:
+        return [0, 0]
+
+
+def shelf_ask(shelf, memory, name, n, b):
+    at, _ = judged_name(shelf, name, 0)
+    judged_tree(n, b)
+    refuse_if(nodes_before(shelf, 9) + start(b, n) > 3_600, 14)
+    return [with_slot(shelf, name, 1, n, b), (memory[:at] + [0] * start(b, n) + memory[at:])[:3_600]]
+
+
+def shelf_commit(shelf, memory, name, f, s, rows, kinds, figures):
+    at, nodes = judged_name(shelf, name, 1)
+    _, n, b = slot_of(shelf, name)
+    discounts, _ = fit(f, n, b, s, rows, kinds, figures, nodes, start(b, n + 1))
+    return [with_slot(shelf, name, 2, n, b), memory[:at] + discounts + memory[at + nodes:]]
+
+
+def shelf_release(shelf, memory, name):
+    at, nodes = judged_name(shelf, name, 1, 2)
+    return [with_slot(shelf, name, 0, 0, 0), memory[:at] + memory[at + nodes:] + [0] * nodes]
+
+
+def on_shelf(rule):
+    """A rule of lent discounts for those of a name."""
+    def shelved(shelf, memory, name, *given):
+        at, nodes = judged_name(shelf, name, 1, 2)
+        _, n, b = slot_of(shelf, name)
+        return rule(n, b, memory[at:at + nodes], *given)
+    shelved.__name__ = 'shelf_' + rule.__name__
+    return shelved
+
+
+shelf_bond_price, shelf_option_price, shelf_dated_option_price = map(on_shelf, (bond_price, option_price, dated_option_price))
+
+
+def shelf_bond_and_option(*given):
+    return with_zeros(shelf_bond_price, *given[:4]) + with_zeros(shelf_option_price, *given)
+
+
+def shelf_bond_and_dated_option(*given):
+    return with_zeros(shelf_bond_price, *given[:4]) + with_zeros(shelf_dated_option_price, *given)
+
+
 # The calls. A list is exact where its length must be just so, and least where it may be longer; a byte is no number that 256 more would fit into.
 
 Argument = namedtuple('Argument', 'name kind value')
 Entry = namedtuple('Entry', 'rule numbered arguments')
 Memory = namedtuple('Memory', 'length')
 # Answers that show their numbers among their fields.
-UNNUMBERED = row_range, bond_and_option, bond_and_dated_option
+UNNUMBERED = row_range, bond_and_option, bond_and_dated_option, shelf_part, shelf_bond_and_option, shelf_bond_and_dated_option
 
 
 def entry(rule, *arguments):
@@ -215,6 +291,12 @@ BOND = (STEPS, REVERSION, DISCOUNTS, FLOWS)
 OPTION = (('kind', 'number', 2), ('expiry', 'number', 2), STRIKE)
 DATED = (('side', 'number', 2), DATES, STRIKE)
 
+# Under 2 a tree that awaits its commit, under 3 a fitted one of the same shape, no others: an asking under 1 moves both.
+FITTED = fit(FREQUENCY[2], STEPS[2], REVERSION[2], VOLATILITY[2], *(column[2] for column in CURVE), 9, 16)[0]
+SHELF = ('shelf', 'slots', [0] * 3 + [1, STEPS[2], REVERSION[2], 2, STEPS[2], REVERSION[2]] + [0] * 15)
+ROOM = ('memory', 'room', [0] * 9 + FITTED + [0] * (3_600 - 18))
+SHELVED, AWAITING, FREE = ((SHELF, ROOM, ('name', 'number', name)) for name in (3, 2, 1))
+
 ENTRIES = [
     entry(half_width, REVERSION, ROW), entry(node_count, REVERSION, ROW), entry(row_start, REVERSION, ROW),
     entry(discounts_needed, STEPS[:2] + (60,), REVERSION), entry(state_prices_needed, STEPS[:2] + (60,), REVERSION),
@@ -230,9 +312,14 @@ ENTRIES = [
     entry(dated_option_price, *BOND, *DATED), entry(bond_and_dated_option, *BOND, *DATED),
     entry(value_by_state_prices, ('state_prices', 'exact', [160_000_000, 640_000_000, 160_000_000]), ('payoffs', 'exact', [ONE, ONE // 2, 2 * ONE])),
     entry(valuation_error_bound, STEPS, REVERSION, LEVEL, ('row', 'number', 3), ('payoffs', 'exact', [ONE] * 7)),
+    entry(shelf_part, SHELF, ('name', 'number', 3)), entry(shelf_ask, *FREE, STEPS, REVERSION),
+    entry(shelf_commit, *AWAITING, FREQUENCY, VOLATILITY, *CURVE), entry(shelf_release, *AWAITING),
+    entry(shelf_bond_price, *SHELVED, FLOWS), entry(shelf_option_price, *SHELVED, FLOWS, *OPTION),
+    entry(shelf_bond_and_option, *SHELVED, FLOWS, *OPTION), entry(shelf_dated_option_price, *SHELVED, FLOWS, *DATED),
+    entry(shelf_bond_and_dated_option, *SHELVED, FLOWS, *DATED),
 ]
-# A job is bytes, and the room for its sheet has one size: crates/sheet_cases has both. The version is asked for without arguments.
-WITHOUT_NUMBERS = {'sheet', 'version'}
+# A job is bytes, and the room for its sheet has one size: crates/sheet_cases has both. Version and empty shelf are asked for without arguments.
+WITHOUT_NUMBERS = {'sheet', 'version', 'empty_shelf'}
 
 
 # The lines
@@ -242,14 +329,20 @@ def multiple(length, bits):
     return -(-length // 2 ** bits) * 2 ** bits
 
 
+def changed_places(kind, value):
+    """The places of a list's numbers that are changed: the first, the middle and the last, of a memory those of its fitted tree, of a shelf all of two trees."""
+    if kind in ('exact', 'least'):
+        return sorted({0, len(value) // 2, len(value) - 1})
+    return {'room': (9, 13, 17), 'slots': range(3, 9)}.get(kind, ())
+
+
 def changes(argument):
     """Each way to change an argument by a power of two that a narrower number loses."""
     kind, value = argument.kind, argument.value
     if kind in ('number', 'signed'):
         yield from (value + sign * 2 ** bits for bits in BITS for sign in ((1, -1) if kind == 'signed' else (1,)))
-    if kind in ('exact', 'least'):
-        for place in sorted({0, len(value) // 2, len(value) - 1}):
-            yield from (value[:place] + [value[place] + 2 ** bits] + value[place + 1:] for bits in BITS)
+    for place in changed_places(kind, value):
+        yield from (value[:place] + [value[place] + 2 ** bits] + value[place + 1:] for bits in BITS)
     if kind in ('exact', 'bytes', 'figures'):
         yield from (value + [0] * 2 ** bits for bits in COUNT_BITS)
     if kind == 'least':

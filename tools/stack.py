@@ -4,7 +4,8 @@
     tools/stack.py [MEASURED]    each program of target/bin/ that has a file stdout in its crate, and what the program MEASURED, c/stack.c compiled, prints
 
 A program's stack is the least `ulimit -s` with which it prints its crate's stdout for its crate's stdin in every one of several runs, since the system
-starts it at a random place. The figure that the documents give must leave room for an environment and arguments.
+starts it at a random place; of the program `sheet` also that for a job of sixty steps. The figure that the documents give must leave room for an
+environment and arguments. A program of the tests that keeps many jobs at once is left out: no desk runs it.
 """
 import pathlib
 import re
@@ -15,8 +16,10 @@ ROOT = pathlib.Path(__file__).resolve().parent.parent
 BINARIES = ROOT / 'target/bin'
 PLACES = ('README.md', 'docs/MANUAL.md', 'tools/price.py')
 STATED = re.compile(r'([0-9][0-9,]*) KiB of stack are enough')
-CALL = re.compile(r'([0-9][0-9,]*) KiB for a (fit|price|sheet)')
+CALL = re.compile(r'([0-9][0-9,]*) KiB for a (fit|price|commit|sheet)')
 STEP, MOST, RUNS, RESERVE = 4, 8_192, 5, 64
+LEFT_OUT = ('sheet_cases',)
+LONGEST = ROOT / 'examples/sixty-months.txt'
 
 
 def prints(program, size, given, expected):
@@ -41,12 +44,15 @@ def number(text):
 
 
 def programs():
-    """Each program with what it is given and what it must print."""
+    """What is measured: its name, the program, what it is given and what it must print."""
     for program in sorted(BINARIES.glob('*')):
         crate = ROOT / 'crates' / program.name
-        if (crate / 'stdout').is_file():
+        if program.name not in LEFT_OUT and (crate / 'stdout').is_file():
             given = (crate / 'stdin').read_bytes() if (crate / 'stdin').is_file() else b''
-            yield program, given, (crate / 'stdout').read_bytes()
+            yield program.name, program, given, (crate / 'stdout').read_bytes()
+        if program.name == 'sheet':
+            job = subprocess.run([ROOT / 'tools/job', LONGEST], capture_output=True, check=True).stdout
+            yield 'sheet of sixty steps', program, job, LONGEST.with_suffix('.sheet').read_bytes()
 
 
 def stated(texts):
@@ -82,7 +88,7 @@ def faults_of_calls(measured, manual):
 
 def main(arguments):
     texts = {place: (ROOT / place).read_text(encoding='utf-8') for place in PLACES}
-    measured = {program.name: least(program, given, expected) for program, given, expected in programs()}
+    measured = {name: least(program, given, expected) for name, program, given, expected in programs()}
     for name, size in measured.items():
         print(f'{name} {size} KiB')
     faults = faults_of_programs(measured, texts)

@@ -2,7 +2,7 @@
 import ctypes
 from typing import Any, Dict, Tuple
 
-from ._types import F64, I64, SIZE, U8, U64, SliceOf
+from ._types import F64, I64, SIZE, U8, U64, PointerTo, SliceOf
 
 
 class CAnswer(ctypes.Structure):
@@ -53,6 +53,30 @@ class CWritten(ctypes.Structure):
     _fields_ = [("number", U64), ("size", SIZE)]
 
 
+class CSlot(ctypes.Structure):
+    """What a shelf keeps of a name: status 0 no tree, 1 a tree that awaits a commit, 2 a fitted tree; then its steps and its reversion."""
+
+    _fields_ = [("status", U64), ("steps", SIZE), ("reversion", U64)]
+
+
+class CShelf(ctypes.Structure):
+    """The slot of name k has index k - 1."""
+
+    _fields_ = [("slots", CSlot * 8)]
+
+
+class CPart(ctypes.Structure):
+    """Where a tree's discounts stand in the memory, and how many they are; zeros where there is no tree."""
+
+    _fields_ = [("start", SIZE), ("count", SIZE)]
+
+
+class CShelved(ctypes.Structure):
+    """A call's number, 0 or a refusal's, and the shelf after the call."""
+
+    _fields_ = [("number", U64), ("shelf", CShelf)]
+
+
 # each exported function with its result and its parameters
 DECLARATIONS: Dict[str, Tuple[Any, Dict[str, Any]]] = {
     "version": (U64, {}),
@@ -92,4 +116,27 @@ DECLARATIONS: Dict[str, Tuple[Any, Dict[str, Any]]] = {
     "value_by_state_prices": (CAnswer, {"state_prices": SliceOf(U64), "payoffs": SliceOf(U64)}),
     "valuation_error_bound": (CAnswer, {"steps": SIZE, "reversion": U64, "discounts": SliceOf(U64), "row": SIZE, "payoffs": SliceOf(U64)}),
     "sheet": (CWritten, {"job": SliceOf(U8), "out": SliceOf(U8)}),
+    "empty_shelf": (CShelf, {}),
+    "shelf_part": (CPart, {"shelf": CShelf, "name": SIZE}),
+    "shelf_ask": (CShelved, {"shelf": CShelf, "memory": PointerTo(U64 * 3600), "name": SIZE, "steps": SIZE, "reversion": U64}),
+    "shelf_commit": (CShelved, {
+        "shelf": CShelf, "memory": PointerTo(U64 * 3600), "name": SIZE, "frequency": U64, "volatility": U64, "rows": SliceOf(U64),
+        "kinds": SliceOf(U8), "figures": SliceOf(F64),
+    }),
+    "shelf_release": (CShelved, {"shelf": CShelf, "memory": PointerTo(U64 * 3600), "name": SIZE}),
+    "shelf_bond_price": (CPrice, {"shelf": CShelf, "memory": PointerTo(U64 * 3600), "name": SIZE, "flows": SliceOf(U64)}),
+    "shelf_option_price": (CPrice, {
+        "shelf": CShelf, "memory": PointerTo(U64 * 3600), "name": SIZE, "flows": SliceOf(U64), "kind": U64, "expiry": SIZE, "strike": U64,
+    }),
+    "shelf_bond_and_option": (CBondAndOption, {
+        "shelf": CShelf, "memory": PointerTo(U64 * 3600), "name": SIZE, "flows": SliceOf(U64), "kind": U64, "expiry": SIZE, "strike": U64,
+    }),
+    "shelf_dated_option_price": (CPrice, {
+        "shelf": CShelf, "memory": PointerTo(U64 * 3600), "name": SIZE, "flows": SliceOf(U64), "side": U64, "dates": SliceOf(U8),
+        "strike": U64,
+    }),
+    "shelf_bond_and_dated_option": (CBondAndOption, {
+        "shelf": CShelf, "memory": PointerTo(U64 * 3600), "name": SIZE, "flows": SliceOf(U64), "side": U64, "dates": SliceOf(U8),
+        "strike": U64,
+    }),
 }

@@ -105,10 +105,10 @@ def _each(prices: Iterable[Tuple[int, int, int]], calls: Iterable[Tuple[str, Tup
         yield refusal(number, name, given) if number else Price(value, bound)
 
 
-def _both(name: str, option_name: str, *given: Any) -> BondAndOption:
+def _both(name: str, bond_name: str, option_name: str, *given: Any) -> BondAndOption:
     answer = call(name, *given)
     prices = [(price.number, price.value, price.bound) for price in (answer.bond, answer.option)]
-    return BondAndOption(*_each(prices, (("bond_price", given), (option_name, given))))
+    return BondAndOption(*_each(prices, ((bond_name, given), (option_name, given))))
 
 
 def _tree(steps: int, reversion: int, discounts: Amounts) -> Tuple[int, int, Slice]:
@@ -236,7 +236,7 @@ def bond_and_option(steps: int, reversion: int, discounts: Amounts, flows: Amoun
                     strike: Amount) -> BondAndOption:
     """Bond and option in one roll, as BondAndOption(bond, option). Nothing is raised for a refusal: each of the two is a Price, or the
     Refused that its own function would raise."""
-    return _both("bond_and_option", "option_price", *_bond(steps, reversion, discounts, flows), *_option(kind, expiry, strike))
+    return _both("bond_and_option", "bond_price", "option_price", *_bond(steps, reversion, discounts, flows), *_option(kind, expiry, strike))
 
 
 def dated_option_price(steps: int, reversion: int, discounts: Amounts, flows: Amounts, side: int, dates: Iterable[int],
@@ -250,7 +250,7 @@ def dated_option_price(steps: int, reversion: int, discounts: Amounts, flows: Am
 def bond_and_dated_option(steps: int, reversion: int, discounts: Amounts, flows: Amounts, side: int, dates: Iterable[int],
                           strike: Amount) -> BondAndOption:
     """Bond and dated option in one roll, as bond_and_option gives them."""
-    return _both("bond_and_dated_option", "dated_option_price", *_bond(steps, reversion, discounts, flows),
+    return _both("bond_and_dated_option", "bond_price", "dated_option_price", *_bond(steps, reversion, discounts, flows),
                  *_dated_option(side, dates, strike))
 
 

@@ -51,6 +51,8 @@ def accepted(number: int, name: str, given: Tuple[Any, ...]) -> None:
 def _place(number: int, given: Given) -> Place:
     if "job" in given:
         return _place_in_job(number, given)
+    if "shelf" in given and "steps" not in given and number != 15:
+        given = {**given, **_tree_on_shelf(given)}
     found = FINDERS.get(number, (None, None))
     return found(given) if callable(found) else found
 
@@ -71,6 +73,13 @@ def _fit_and_flows(job: bytes) -> Given:
     flows = [struct.unpack_from(">3xI", job, 20 + 11 * steps + 7 * i)[0] for i in range(steps)]
     given = dict(zip(("rows", "kinds", "figures"), quotes(points)))
     return {**given, "frequency": frequency, "steps": steps, "reversion": reversion, "volatility": volatility, "flows": amounts("flows", flows)}
+
+
+def _tree_on_shelf(given: Given) -> Given:
+    """Steps, reversion and discounts of the tree that the name has."""
+    slot, part = given["shelf"].slots[given["name"] - 1], call("shelf_part", given["shelf"], given["name"])
+    discounts = amounts("discounts", given["memory"].values[part.start:part.start + part.count].tolist())
+    return {"steps": slot.steps, "reversion": slot.reversion, "discounts": discounts}
 
 
 def _needed(name: str, given: Given) -> int:
@@ -123,6 +132,8 @@ def _discount(given: Given) -> Place:
         return "discount", None
     if "rows" in given:
         return "points", _unfitted_row(given)
+    if "shelf" in given:
+        return "name", None
     row = 0
     for place, discount in enumerate(given["discounts"]):
         row += call("row_start", given["reversion"], row + 1).value == place
@@ -178,4 +189,5 @@ def _value(given: Given) -> Place:
 FINDERS: Dict[int, Union[Place, Callable[[Given], Place]]] = {
     2: ("frequency", None), 3: ("steps", None), 4: ("reversion", None), 5: ("volatility", None), 6: _not_in_tree, 7: _quote,
     8: ("volatility", None), 9: _discount, 10: _flow, 11: _option_terms, 12: _value, 13: ("dates", None),
+    14: ("steps", None), 15: ("name", None),
 }

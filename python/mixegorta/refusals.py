@@ -5,7 +5,7 @@ from typing import Dict, Optional, Type
 __all__ = [
     "CAUSES", "Refused", "MalformedJob", "UnknownFrequency", "StepsOutOfRange", "ReversionTooLarge", "VolatilityTooLarge", "NotInTree",
     "QuoteOutOfRange", "NodesTooFarApart", "NodeDiscountOutOfRange", "FlowTooLarge", "OptionTermsOutOfRange", "ValueTooLarge",
-    "ExerciseDatesOutOfOrder",
+    "ExerciseDatesOutOfOrder", "ShelfFull", "WrongName",
 ]
 
 CAUSES: Dict[int, str] = {
@@ -22,6 +22,8 @@ CAUSES: Dict[int, str] = {
     11: "the option's kind, side, expiry or strike is outside its limit",
     12: "a value is above 8,000,000,000, or state prices sum above 2,000,000,100",
     13: "the exercise dates are none, not strictly rising, or reach the last row",
+    14: "the asked nodes and those held are more than 3,600",
+    15: "the name is outside 1 to 8, already present at asking, not awaiting a commit at commit, or absent at release or pricing",
 }
 # ---- end
 
@@ -102,9 +104,17 @@ class ExerciseDatesOutOfOrder(Refused):
     """13: the exercise dates are none, not strictly rising, or reach the last row."""
 
 
+class ShelfFull(Refused):
+    """14: the asked nodes and those held are more than 3,600."""
+
+
+class WrongName(Refused):
+    """15: the name is outside 1 to 8, already present at asking, not awaiting a commit at commit, or absent at release or pricing."""
+
+
 CLASSES: Dict[int, Type[Refused]] = {
     1: MalformedJob, 2: UnknownFrequency, 3: StepsOutOfRange, 4: ReversionTooLarge, 5: VolatilityTooLarge, 6: NotInTree, 7: QuoteOutOfRange,
     8: NodesTooFarApart, 9: NodeDiscountOutOfRange, 10: FlowTooLarge, 11: OptionTermsOutOfRange, 12: ValueTooLarge,
-    13: ExerciseDatesOutOfOrder,
+    13: ExerciseDatesOutOfOrder, 14: ShelfFull, 15: WrongName,
 }
 # ---- end

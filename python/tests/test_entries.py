@@ -4,9 +4,9 @@ import struct
 import sys
 import unittest
 
-from mixegorta import ONE, SHEET_ROOM
-from mixegorta._arguments import amounts, dates, job_bytes, own_memory, quotes
-from mixegorta._declarations import DECLARATIONS, CPoint
+from mixegorta import ONE, SHEET_ROOM, SHELF_ROOM
+from mixegorta._arguments import amounts, dates, job_bytes, kept_memory, own_memory, quotes
+from mixegorta._declarations import DECLARATIONS, CPoint, CShelf, CSlot
 from mixegorta._faults import call
 
 TOOLS = os.path.join(os.path.dirname(os.path.abspath(__file__)), "..", "..", "tools")
@@ -32,6 +32,13 @@ def job(frequency=1, steps=2, reversion=0, volatility=0, figure=0.97, flow=ONE, 
     return {"job": job_bytes("job", b"".join(fields) + (option or struct.pack(">BHBBI", 8, 6, kind, expiry, strike)))}
 
 
+def shelf(*slots, discount=ONE):
+    """A shelf with these slots under the names 1 and so on, each of one status, steps and a reversion, and a memory of one number."""
+    memory = kept_memory(SHELF_ROOM)
+    memory.values[:] = amounts("memory", [discount] * SHELF_ROOM).values
+    return {"shelf": CShelf((CSlot * 8)(*(CSlot(*slot) for slot in slots))), "memory": memory}
+
+
 ROW, SIZE = {"reversion": 0, "row": 0}, {"steps": 2, "reversion": 0}
 CURVE = {"frequency": 1, "steps": 2, **columns(2), "discounts": own_memory(4)}
 FIT = {**CURVE, "reversion": 0, "volatility": 0, "state_prices": own_memory(9)}
@@ -45,6 +52,12 @@ KINDS = {**BONDS, 11: {"expiry": 2}}
 LISTS = {**BONDS, 11: {"side": 3}, 13: {"dates": dates("dates", [2])}}
 QUOTES = {2: {"frequency": 3}, 3: {"steps": 0}, 6: columns(2, first=2), 7: columns(2, kind=7)}
 PAYOFFS = {"payoffs": amounts("payoffs", [8 * ONE + 1])}
+AWAITING, FITTED = (1, 2, 0), (2, 2, 0)
+COMMIT = {**shelf(AWAITING), "name": 1, "frequency": 1, "volatility": 0, **columns(2)}
+SHELF_BOND = {**shelf(FITTED), "name": 1, **flows(0, ONE)}
+SHELF_BONDS = {6: flows(ONE), 9: shelf(AWAITING, discount=0), 10: BONDS[10], 12: {**shelf((2, 5, 0)), **flows(*[2 * ONE] * 5)}, 15: {"name": 2}}
+SHELF_KIND, SHELF_LISTED = ({**SHELF_BOND, **{name: terms[name] for name in terms if name not in BOND}} for terms in (KIND, LISTED))
+SHELF_KINDS, SHELF_LISTS = {**SHELF_BONDS, 11: KINDS[11]}, {**SHELF_BONDS, 11: LISTS[11], 13: LISTS[13]}
 
 # for each function what it takes, and for each refusal what is changed
 CASES = {
@@ -62,6 +75,12 @@ CASES = {
     "value_by_state_prices": ({"state_prices": amounts("state_prices", [ONE]), "payoffs": amounts("payoffs", [ONE])},
                               {6: {"payoffs": amounts("payoffs", [1, 2, 3])}, 12: PAYOFFS}),
     "valuation_error_bound": ({**SIZE, **flat(4), "row": 0, "payoffs": amounts("payoffs", [ONE])}, {**LENT, 12: PAYOFFS}),
+    "shelf_ask": ({**shelf(FITTED), "name": 2, **SIZE}, {3: {"steps": 61}, 4: SHAPE[4], 14: {"steps": 60}, 15: {"name": 1}}),
+    "shelf_commit": (COMMIT, {2: {"frequency": 3}, 5: {"volatility": 50001}, 6: QUOTES[6], 7: QUOTES[7], 9: columns(2, 1.2), 15: shelf(FITTED),
+                              8: {**shelf((1, 13, 0)), "volatility": 50000, **columns(13)}}),
+    "shelf_release": ({**shelf(FITTED), "name": 1}, {15: {"name": 2}}),
+    "shelf_bond_price": (SHELF_BOND, SHELF_BONDS), "shelf_option_price": (SHELF_KIND, SHELF_KINDS), "shelf_bond_and_option": (SHELF_KIND, SHELF_KINDS),
+    "shelf_dated_option_price": (SHELF_LISTED, SHELF_LISTS), "shelf_bond_and_dated_option": (SHELF_LISTED, SHELF_LISTS),
     "sheet": ({**job(), "out": own_memory(SHEET_ROOM, "B")}, {
         1: job(option=b"\x08"), 2: job(frequency=3), 3: job(steps=61), 4: job(reversion=6001), 5: job(volatility=50001), 6: {"out": own_memory(9, "B")},
         7: job(figure=11.0), 8: job(steps=13, volatility=50000), 9: job(figure=1.2), 10: job(flow=2 * ONE + 1), 11: job(kind=5),

@@ -68,23 +68,52 @@ def made_up():
             yield
 
 
+def numbers(kept):
+    return list(kept.both[1].values)
+
+
+def total(kept):
+    return _faults.call("total", *kept.both)
+
+
 class Test(unittest.TestCase):
     def test_struct_and_memory_change_together(self):
         with made_up():
             kept = Kept(Ring(), COUNT)
             for value in (3, 4):
                 kept.change("put", "ring", value)
-            self.assertEqual((list(kept.part(0, COUNT)), kept.ask("total")), ([3, 4, 0, 0, 0], 9))
+            self.assertEqual((numbers(kept), total(kept)), ([3, 4, 0, 0, 0], 9))
             with self.assertRaises(m.FlowTooLarge) as caught:
                 kept.change("put", "ring", 10)
-            self.assertEqual((caught.exception.argument, kept.ask("total")), ("flows", 9))
-            before = kept.part(0, 2)
+            self.assertEqual((caught.exception.argument, total(kept)), ("flows", 9))
             for other in (copy.deepcopy(kept), pickle.loads(pickle.dumps(kept))):
                 other.change("put", "ring", 5)
-                self.assertEqual((list(other.part(0, 3)), other.ask("total"), kept.ask("total")), ([3, 4, 5], 15, 9))
+                self.assertEqual((numbers(other)[:3], total(other), total(kept)), ([3, 4, 5], 15, 9))
+
+    def test_what_was_read_is_not_written_again(self):
+        with made_up():
+            kept = Kept(Ring(), COUNT)
+            kept.change("put", "ring", 3)
+            before = kept.both
             for _ in range(COUNT):
                 kept.change("put", "ring", 9)
-            self.assertEqual((list(before), list(kept.part(0, COUNT))), ([3, 4], [9] * COUNT))
+            self.assertEqual((_faults.call("total", *before), total(kept)), (4, COUNT * 9 + COUNT + 1))
+
+    def test_an_interrupted_change_changes_nothing(self):
+        """The call has written its memory when the interruption comes."""
+        with made_up():
+            kept = Kept(Ring(), COUNT)
+            kept.change("put", "ring", 3)
+
+            def interrupted(*given):
+                _faults.call(*given)
+                raise KeyboardInterrupt
+
+            with mock.patch("mixegorta._kept.call", interrupted), self.assertRaises(KeyboardInterrupt):
+                kept.change("put", "ring", 4)
+            self.assertEqual((numbers(kept), total(kept)), ([3, 0, 0, 0, 0], 4))
+            kept.change("put", "ring", 5)
+            self.assertEqual(numbers(kept), [3, 5, 0, 0, 0])
 
     def test_threads_take_turns(self):
         with made_up():
@@ -94,7 +123,7 @@ class Test(unittest.TestCase):
                 thread.start()
             for thread in threads:
                 thread.join()
-            self.assertEqual(kept.ask("total"), 4 * 200 + COUNT)
+            self.assertEqual(total(kept), 4 * 200 + COUNT)
 
     def test_columns_have_one_length(self):
         fields = (("Q", _arguments.u64),) * 2 + (("B", _arguments.u64),)

@@ -7,6 +7,8 @@ from array import array
 from itertools import chain
 
 import mixegorta as m
+from mixegorta._declarations import CShelf, CSlot
+from mixegorta._kept import Kept
 
 TABLE = pathlib.Path(__file__).resolve().parents[2] / "reference/widths.txt"
 PATTERN = 0xA5A5A5A5A5A5A5A5
@@ -75,8 +77,65 @@ def row_range(*given):
     return [found.start, len(found)] if found else [0, 0]
 
 
+def shelf_with(slots, memory=()):
+    """The shelf of a line: status, steps and reversion of each name, and its memory."""
+    shelf = m.Shelf()
+    shelf._kept = Kept(CShelf((CSlot * 8)(*(CSlot(*slots[place:place + 3]) for place in range(0, 24, 3)))), m.SHELF_ROOM)
+    shelf._kept.both[1].values[:len(memory)] = array("Q", memory)
+    return shelf
+
+
+def seen(shelf):
+    state, memory = shelf._kept.both
+    return [number for slot in state.slots for number in (slot.status, slot.steps, slot.reversion)] + list(memory.values)
+
+
+def shelf_part(slots, name):
+    """Where a name's discounts stand: behind those of the names before it."""
+    shelf = shelf_with(slots)
+    count = len(shelf.discounts(name))
+    return [sum(len(shelf.discounts(other)) for other in range(1, name)) if count else 0, count]
+
+
+def shelf_changed(method, slots, memory, *given):
+    """The shelf and its memory after a call; one that is refused must leave both as they were."""
+    shelf = shelf_with(slots, memory)
+    try:
+        getattr(shelf, method)(*given)
+    except m.Refused:
+        assert seen(shelf) == slots + memory
+        raise
+    return [0, *seen(shelf)]
+
+
+def shelf_ask(*given):
+    return shelf_changed("ask", *given)
+
+
+def shelf_commit(slots, memory, name, frequency, volatility, rows, kinds, figures):
+    quoted = points(rows, kinds, figures)
+    return None if quoted is None else shelf_changed("commit", slots, memory, name, frequency, volatility, quoted)
+
+
+def shelf_release(*given):
+    return shelf_changed("release", *given)
+
+
+def shelf_price(method):
+    return lambda slots, memory, *given: [0, *getattr(shelf_with(slots, memory), method)(*given)]
+
+
+def shelf_both(method):
+    return lambda slots, memory, *given: [number for each in getattr(shelf_with(slots, memory), method)(*given) for number in number_and_fields(each)]
+
+
 CALLS = {"quote_discount": quote_discount, "curve_discounts": curve_discounts, "fit": fit, "row_range": row_range,
-         "bond_and_option": both(m.bond_and_option), "bond_and_dated_option": both(m.bond_and_dated_option)}
+         "bond_and_option": both(m.bond_and_option), "bond_and_dated_option": both(m.bond_and_dated_option),
+         "shelf_part": shelf_part, "shelf_ask": shelf_ask, "shelf_commit": shelf_commit, "shelf_release": shelf_release}
+for name in ("bond_price", "option_price", "dated_option_price"):
+    CALLS["shelf_" + name] = shelf_price(name)
+for name in ("bond_and_option", "bond_and_dated_option"):
+    CALLS["shelf_" + name] = shelf_both(name)
 for name in ("half_width", "node_count", "row_start", "discounts_needed", "state_prices_needed", "branches", "step_rate", "continuous_rate",
              "state_price_error_bound", "bond_price", "option_price", "dated_option_price", "value_by_state_prices", "valuation_error_bound"):
     CALLS[name] = numbered(getattr(m, name))
@@ -115,7 +174,8 @@ class Test(unittest.TestCase):
         for name, words in first.items():
             for place, word in enumerate(words):
                 given = [argument(each) for each in words]
-                if word.startswith("@") or name == "quote_discount" and place == 3 or name in ("curve_discounts", "fit") and isinstance(given[place], list):
+                if word.startswith("@") or name == "quote_discount" and place == 3 or isinstance(given[place], list) and (
+                        name in ("curve_discounts", "fit", "shelf_commit") or name.startswith("shelf_") and place < 2):
                     continue
                 wide = given[place] + 2**64 if isinstance(given[place], int) else [given[place][0] + 2**64, *given[place][1:]]
                 with self.subTest(name=name, place=place), self.assertRaises(OverflowError):

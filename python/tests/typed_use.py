@@ -1,6 +1,7 @@
 """Uses that a type checker accepts, and uses that it must not: an `ignore` that nothing needs is an error of its own."""
 from array import array
 from decimal import Decimal
+from typing import Optional
 
 import mixegorta as m
 
@@ -15,6 +16,15 @@ dated: m.Price = tree.dated_option_price([0, m.ONE], m.CALL, b"\0\1", Decimal("0
 m.fit_into(1, 2, 0, 0, points, array("Q", bytes(32)), memoryview(array("Q", bytes(72))))
 value: int = m.billionths("1.01") + bond.value
 both = tree.bond_and_option([0, m.ONE], m.AMERICAN_PUT, 2, "1.01")
+shelf: m.Shelf = m.Shelf()
+shelf.ask(1, 2, 0)
+shelf.commit(1, 1, 10_000, m.Curve(points))
+shelved: m.Price = shelf.bond_price(1, [Decimal("0.04"), "1.04"])
+same_option: m.Price = shelf.dated_option_price(1, [0, m.ONE], m.CALL, b"\0\1", Decimal("0.95"))
+copied: "array[int]" = shelf.discounts(1)
+held: int = shelf.nodes_held + len(copied)
+name_of: Optional[m.ShelvedTree] = shelf.tree(1)
+fitted: bool = name_of is not None and name_of.fitted
 words: str = f"{both.option.argument} {both.option.row}" if isinstance(both.option, m.Refused) else f"{both.option.bound}"
 
 try:
@@ -29,4 +39,8 @@ try:
     m.billionths(1.01)  # type: ignore[arg-type]
 except TypeError:
     pass
-print(bond == same and words.startswith("expiry"))
+try:
+    shelf.ask("rates", 2, 0)  # type: ignore[arg-type]
+except TypeError:
+    pass
+print(bond == same == shelved and dated == same_option and fitted and words.startswith("expiry"))

@@ -12,6 +12,10 @@ pub const MAX_NODES: usize = 121;
 pub const MAX_DISCOUNTS: usize = 3_600;
 /// The largest number of state prices of a tree.
 pub const MAX_STATE_PRICES: usize = 3_721;
+/// The largest name of a tree on a shelf; the least is 1.
+pub const MAX_NAME: usize = 8;
+/// Numbers in the memory of a shelf, which are the nodes that it has for all its trees.
+pub const SHELF_ROOM: usize = 3_600;
 /// The longest job in bytes.
 pub const MAX_JOB: usize = 4_700;
 /// Room for the sheet of every job in bytes.

@@ -66,6 +66,39 @@ pub struct Written {
     pub size: usize,
 }
 
+/// What a shelf keeps of a name: status 0 no tree, 1 a tree that awaits a commit, 2 a fitted tree; then its steps and its
+/// reversion.
+#[repr(C)]
+#[derive(Clone, Copy)]
+pub struct Slot {
+    pub status: u64,
+    pub steps: usize,
+    pub reversion: u64,
+}
+
+/// The slot of name k has index k - 1.
+#[repr(C)]
+#[derive(Clone, Copy)]
+pub struct Shelf {
+    pub slots: [Slot; 8],
+}
+
+/// Where a tree's discounts stand in the memory, and how many they are; zeros where there is no tree.
+#[repr(C)]
+#[derive(Clone, Copy)]
+pub struct Part {
+    pub start: usize,
+    pub count: usize,
+}
+
+/// A call's number, 0 or a refusal's, and the shelf after the call.
+#[repr(C)]
+#[derive(Clone, Copy)]
+pub struct Shelved {
+    pub number: u64,
+    pub shelf: Shelf,
+}
+
 extern "C" {
     pub fn mixegorta_version() -> u64;
     pub fn mixegorta_half_width(reversion: u64, row: usize) -> Answer;
@@ -193,4 +226,76 @@ extern "C" {
     ) -> Answer;
     pub fn mixegorta_sheet(job: *const u8, job_len: usize, out: *mut u8, out_len: usize)
         -> Written;
+    pub fn mixegorta_empty_shelf() -> Shelf;
+    pub fn mixegorta_shelf_part(shelf: Shelf, name: usize) -> Part;
+    pub fn mixegorta_shelf_ask(
+        shelf: Shelf,
+        memory: *mut [u64; 3600],
+        name: usize,
+        steps: usize,
+        reversion: u64,
+    ) -> Shelved;
+    pub fn mixegorta_shelf_commit(
+        shelf: Shelf,
+        memory: *mut [u64; 3600],
+        name: usize,
+        frequency: u64,
+        volatility: u64,
+        rows: *const u64,
+        rows_len: usize,
+        kinds: *const u8,
+        kinds_len: usize,
+        figures: *const f64,
+        figures_len: usize,
+    ) -> Shelved;
+    pub fn mixegorta_shelf_release(shelf: Shelf, memory: *mut [u64; 3600], name: usize) -> Shelved;
+    pub fn mixegorta_shelf_bond_price(
+        shelf: Shelf,
+        memory: *const [u64; 3600],
+        name: usize,
+        flows: *const u64,
+        flows_len: usize,
+    ) -> Price;
+    pub fn mixegorta_shelf_option_price(
+        shelf: Shelf,
+        memory: *const [u64; 3600],
+        name: usize,
+        flows: *const u64,
+        flows_len: usize,
+        kind: u64,
+        expiry: usize,
+        strike: u64,
+    ) -> Price;
+    pub fn mixegorta_shelf_bond_and_option(
+        shelf: Shelf,
+        memory: *const [u64; 3600],
+        name: usize,
+        flows: *const u64,
+        flows_len: usize,
+        kind: u64,
+        expiry: usize,
+        strike: u64,
+    ) -> BondAndOption;
+    pub fn mixegorta_shelf_dated_option_price(
+        shelf: Shelf,
+        memory: *const [u64; 3600],
+        name: usize,
+        flows: *const u64,
+        flows_len: usize,
+        side: u64,
+        dates: *const u8,
+        dates_len: usize,
+        strike: u64,
+    ) -> Price;
+    pub fn mixegorta_shelf_bond_and_dated_option(
+        shelf: Shelf,
+        memory: *const [u64; 3600],
+        name: usize,
+        flows: *const u64,
+        flows_len: usize,
+        side: u64,
+        dates: *const u8,
+        dates_len: usize,
+        strike: u64,
+    ) -> BondAndOption;
 }

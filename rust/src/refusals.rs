@@ -29,8 +29,12 @@ impl Refusal {
     pub const VALUE: Refusal = Refusal(12);
     /// The exercise dates are none, not strictly rising, or reach the last row.
     pub const DATES: Refusal = Refusal(13);
+    /// The asked nodes and those held are more than 3,600.
+    pub const NODES: Refusal = Refusal(14);
+    /// The name is outside 1 to 8, already present at asking, not awaiting a commit at commit, or absent at release or pricing.
+    pub const NAME: Refusal = Refusal(15);
     /// Every listed refusal, by number.
-    pub const LISTED: [Refusal; 13] = [
+    pub const LISTED: [Refusal; 15] = [
         Refusal::JOB,
         Refusal::FREQUENCY,
         Refusal::STEPS,
@@ -44,11 +48,13 @@ impl Refusal {
         Refusal::OPTION,
         Refusal::VALUE,
         Refusal::DATES,
+        Refusal::NODES,
+        Refusal::NAME,
     ];
 }
 
 /// What each of them says, in the same order.
-pub(crate) const CAUSES: [&str; 13] = [
+pub(crate) const CAUSES: [&str; 15] = [
     "the job is malformed or longer than 4,700 bytes",
     "the steps a year are not 1, 2, 4 or 12",
     "the steps are outside 1 to 60",
@@ -62,4 +68,6 @@ pub(crate) const CAUSES: [&str; 13] = [
     "the option's kind, side, expiry or strike is outside its limit",
     "a value is above 8,000,000,000, or state prices sum above 2,000,000,100",
     "the exercise dates are none, not strictly rising, or reach the last row",
+    "the asked nodes and those held are more than 3,600",
+    "the name is outside 1 to 8, already present at asking, not awaiting a commit at commit, or absent at release or pricing",
 ];

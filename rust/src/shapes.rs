@@ -5,14 +5,12 @@ use crate::{accepted, Price, Refusal};
 
 /// A struct of the archive's with the memory that it describes. Both are handed over, copied and kept together, since neither means
 /// anything without the other; a part that is shown is borrowed, so that none outlives a change.
-#[allow(dead_code)]
-#[derive(Clone, Debug)]
+#[derive(Clone)]
 pub(crate) struct Kept<S, const COUNT: usize> {
     state: S,
     memory: Box<[u64; COUNT]>,
 }
 
-#[allow(dead_code)]
 impl<S: Copy, const COUNT: usize> Kept<S, COUNT> {
     /// The struct beside zeros.
     pub(crate) fn new(state: S) -> Self {

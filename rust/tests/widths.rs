@@ -203,8 +203,105 @@ fn shape_or_fit(name: &str, g: &Given) -> Option<Vec<u64>> {
             g.list(2),
             g.size(3),
         ))),
-        _ => panic!("no function {name}"),
+        _ => on_shelf(name, g),
     }
+}
+
+/// A shelf as a line has it: status, steps and reversion of each name, and its memory.
+fn seen(shelf: &Shelf) -> (Vec<u64>, Vec<u64>) {
+    let (mut slots, mut memory) = (Vec::new(), Vec::new());
+    for name in 1..=MAX_NAME {
+        slots.extend(shelf.tree(name).map_or([0; 3], |tree| {
+            [1 + tree.fitted as u64, tree.steps as u64, tree.reversion]
+        }));
+        memory.extend(shelf.discounts(name));
+    }
+    memory.resize(SHELF_ROOM, 0);
+    (slots, memory)
+}
+
+/// A shelf with these slots, or none where no calls of this crate lead to it.
+fn with_slots(slots: &[u64]) -> Option<Shelf> {
+    let curve = Curve::of_quotes(&[
+        Quote::DiscountFactor(0.98),
+        Quote::YearlyRate(0.03),
+        Quote::YearlyYield(0.02),
+    ]);
+    let mut shelf = Shelf::new();
+    for (name, slot) in (1..).zip(slots.chunks(3)) {
+        if slot[0] > 0 {
+            shelf.ask(name, slot[1] as usize, slot[2]).ok()?;
+        }
+        if slot[0] > 1 {
+            shelf.commit(name, 2, 10_000, &curve).ok()?;
+        }
+    }
+    (seen(&shelf).0 == slots).then_some(shelf)
+}
+
+/// The shelf of a line with its memory, likewise.
+fn prepared(g: &Given) -> Option<Shelf> {
+    with_slots(g.list(0)).filter(|shelf| seen(shelf).1 == g.list(1))
+}
+
+/// The number of a call that may change a shelf, and the shelf after it; one that is refused must leave it as it was.
+fn changed(shelf: &mut Shelf, call: impl Fn(&mut Shelf) -> Result<(), Refusal>) -> Vec<u64> {
+    let before = seen(shelf);
+    let found = call(shelf);
+    let after = seen(shelf);
+    match found {
+        Ok(()) => [vec![0], after.0, after.1].concat(),
+        Err(refusal) => {
+            assert_eq!(before, after);
+            vec![refusal.number()]
+        }
+    }
+}
+
+/// Where a name's discounts stand: behind those of the names before it.
+fn part(g: &Given) -> Option<Vec<u64>> {
+    let shelf = with_slots(g.list(0))?;
+    let count = shelf.discounts(g.size(1)).len();
+    let before = (1..g.size(1).min(MAX_NAME + 1)).map(|name| shelf.discounts(name).len());
+    let start = if count == 0 { 0 } else { before.sum() };
+    Some(vec![start as u64, count as u64])
+}
+
+/// What a price on a shelf answers; none where the types of this crate have no such argument.
+fn shelf_price(name: &str, g: &Given) -> Option<Vec<u64>> {
+    let shelf = prepared(g)?;
+    let (tree, flows) = (g.size(2), g.list(3));
+    let dates = if name.contains("dated") {
+        g.bytes(5)
+    } else {
+        Vec::new()
+    };
+    Some(match name {
+        "shelf_bond_price" => price(shelf.bond_price(tree, flows)),
+        "shelf_option_price" => price(shelf.option_price(tree, flows, g.terms()?)),
+        "shelf_bond_and_option" => both(shelf.bond_and_option(tree, flows, g.terms()?)),
+        "shelf_dated_option_price" => {
+            price(shelf.dated_option_price(tree, flows, g.dated(&dates)?))
+        }
+        "shelf_bond_and_dated_option" => {
+            both(shelf.bond_and_dated_option(tree, flows, g.dated(&dates)?))
+        }
+        _ => panic!("no function {name}"),
+    })
+}
+
+fn on_shelf(name: &str, g: &Given) -> Option<Vec<u64>> {
+    let call: Box<dyn Fn(&mut Shelf) -> Result<(), Refusal>> = match name {
+        "shelf_part" => return part(g),
+        "shelf_ask" => Box::new(|shelf| shelf.ask(g.size(2), g.size(3), g.number(4))),
+        "shelf_commit" => {
+            let curve = g.curve(5)?;
+            Box::new(move |shelf| shelf.commit(g.size(2), g.number(3), g.number(4), &curve))
+        }
+        "shelf_release" => Box::new(|shelf| shelf.release(g.size(2))),
+        _ => return shelf_price(name, g),
+    };
+    Some(changed(&mut prepared(g)?, call))
 }
 
 fn call(name: &str, g: &Given) -> Option<Vec<u64>> {
@@ -275,7 +372,7 @@ fn numbers_past_a_width() {
             *called.entry(name).or_default() += 1;
         }
     }
-    assert_eq!(called.len(), 20, "{called:?}");
+    assert_eq!(called.len(), 29, "{called:?}");
     assert!(called.values().all(|lines| *lines > 3), "{called:?}");
 }
 

@@ -20,6 +20,20 @@ ghost use Rattle.pricing.specs.Prices.{bondPrice, optionPrice, bondAndOption, d
 ghost use Rattle.valuation.specs.Entries.{valueByStatePricesAnswer, valuationErrorBoundAnswer};
 ghost use Rattle.sheet_laws.specs.WholeJob.{sheetNumber, sheetText, sheetMemory};
 ghost use Rattle.record_sheet.specs.Answers.{answerOf};
+ghost use Rattle.shelf_laws.specs.Shelf.{
+  emptySlots,
+  partOf,
+  askNumber,
+  askSlots,
+  askMemory,
+  commitNumber,
+  commitSlots,
+  commitMemory,
+  nameCause,
+  releaseSlots,
+  releaseMemory,
+};
+ghost use Rattle.shelf_prices.specs.ShelfPrices.{shelfBond, shelfOption, shelfDated, shelfBondAndOption, shelfBondAndDated};
 ghost use Rattle.capi.specs.Version.{version};
 use arithmetic::Answer;
 use job_sheet::Written;
@@ -28,6 +42,9 @@ use pricing::BondAndOption;
 use pricing::Price;
 use quotes::Point;
 use row_view::RowRange;
+use shelf_laws::Part;
+use shelf_laws::Shelf;
+use shelf_laws::Shelved;
 use step_rate::Rate;
 
 // The version of what was built, so that a caller can tell an archive or a shared object that is not its own.
@@ -35,7 +52,7 @@ use step_rate::Rate;
 pub extern "C" fn mixegorta_version() -> u64
     ensures { λ r. ⌜ r ≡ version ⌝ }
 {
-    6_001
+    7_000
 }
 
 // ---- the shape of a tree
@@ -283,4 +300,150 @@ pub extern "C" fn mixegorta_sheet(job: &[u8], out: &mut [u8]) -> Written
     ensures memory { λ _. ⌜ now (out .exit) ≡ sheetMemory (now (job .entry)) (now (out .entry)) ⌝ }
 {
     job_sheet::sheet(job, out)
+}
+
+// ---- a shelf of trees
+
+#[no_mangle]
+pub extern "C" fn mixegorta_empty_shelf() -> Shelf
+    ensures { λ r. ⌜ r .slots ≡ emptySlots ⌝ }
+{
+    shelf::empty_shelf()
+}
+
+#[no_mangle]
+pub extern "C" fn mixegorta_shelf_part(shelf: Shelf, name: usize) -> Part
+    ensures { λ r. ⌜ r ≡ partOf (shelf .slots) name ⌝ }
+{
+    shelf::part_of(shelf, name)
+}
+
+#[no_mangle]
+pub extern "C" fn mixegorta_shelf_ask(
+    shelf: Shelf,
+    memory: &mut [u64; 3600],
+    name: usize,
+    steps: usize,
+    reversion: u64,
+) -> Shelved
+    ensures number { λ r. ⌜ r .number ≡ askNumber (shelf .slots) name steps reversion ⌝ }
+    ensures slots { λ r. ⌜ r .shelf .slots ≡ askSlots (shelf .slots) name steps reversion ⌝ }
+    ensures memory { λ _. ⌜ now (memory .exit) ≡ askMemory (shelf .slots) (now (memory .entry)) name steps reversion ⌝ }
+{
+    shelf::ask(shelf, memory, name, steps, reversion)
+}
+
+#[no_mangle]
+pub extern "C" fn mixegorta_shelf_commit(
+    shelf: Shelf,
+    memory: &mut [u64; 3600],
+    name: usize,
+    frequency: u64,
+    volatility: u64,
+    rows: &[u64],
+    kinds: &[u8],
+    figures: &[f64],
+) -> Shelved
+    ensures number { λ r. ⌜ r .number ≡ commitNumber (shelf .slots) name frequency volatility
+        (now (rows .entry)) (now (kinds .entry)) (now (figures .entry)) ⌝ }
+    ensures slots { λ r. ⌜ r .shelf .slots ≡ commitSlots (shelf .slots) name frequency volatility
+        (now (rows .entry)) (now (kinds .entry)) (now (figures .entry)) ⌝ }
+    ensures memory { λ _. ⌜ now (memory .exit) ≡ commitMemory (shelf .slots) (now (memory .entry)) name frequency volatility
+        (now (rows .entry)) (now (kinds .entry)) (now (figures .entry)) ⌝ }
+{
+    shelf::commit(
+        shelf,
+        memory,
+        name,
+        frequency,
+        volatility,
+        rows,
+        kinds,
+        figures,
+    )
+}
+
+#[no_mangle]
+pub extern "C" fn mixegorta_shelf_release(
+    shelf: Shelf,
+    memory: &mut [u64; 3600],
+    name: usize,
+) -> Shelved
+    ensures number { λ r. ⌜ r .number ≡ nameCause (shelf .slots) name ⌝ }
+    ensures slots { λ r. ⌜ r .shelf .slots ≡ releaseSlots (shelf .slots) name ⌝ }
+    ensures memory { λ _. ⌜ now (memory .exit) ≡ releaseMemory (shelf .slots) (now (memory .entry)) name ⌝ }
+{
+    shelf::release(shelf, memory, name)
+}
+
+#[no_mangle]
+pub extern "C" fn mixegorta_shelf_bond_price(
+    shelf: Shelf,
+    memory: &[u64; 3600],
+    name: usize,
+    flows: &[u64],
+) -> Price
+    ensures { λ r. ⌜ r ≡ shelfBond (shelf .slots) (now (memory .entry)) name (now (flows .entry)) ⌝ }
+{
+    shelf_prices::bond_price(shelf, memory, name, flows)
+}
+
+#[no_mangle]
+pub extern "C" fn mixegorta_shelf_option_price(
+    shelf: Shelf,
+    memory: &[u64; 3600],
+    name: usize,
+    flows: &[u64],
+    kind: u64,
+    expiry: usize,
+    strike: u64,
+) -> Price
+    ensures { λ r. ⌜ r ≡ shelfOption (shelf .slots) (now (memory .entry)) name (now (flows .entry)) kind expiry strike ⌝ }
+{
+    shelf_prices::option_price(shelf, memory, name, flows, kind, expiry, strike)
+}
+
+#[no_mangle]
+pub extern "C" fn mixegorta_shelf_bond_and_option(
+    shelf: Shelf,
+    memory: &[u64; 3600],
+    name: usize,
+    flows: &[u64],
+    kind: u64,
+    expiry: usize,
+    strike: u64,
+) -> BondAndOption
+    ensures { λ r. ⌜ r ≡ shelfBondAndOption (shelf .slots) (now (memory .entry)) name (now (flows .entry)) kind expiry strike ⌝ }
+{
+    shelf_prices::bond_and_option(shelf, memory, name, flows, kind, expiry, strike)
+}
+
+#[no_mangle]
+pub extern "C" fn mixegorta_shelf_dated_option_price(
+    shelf: Shelf,
+    memory: &[u64; 3600],
+    name: usize,
+    flows: &[u64],
+    side: u64,
+    dates: &[u8],
+    strike: u64,
+) -> Price
+    ensures { λ r. ⌜ r ≡ shelfDated (shelf .slots) (now (memory .entry)) name (now (flows .entry)) side (now (dates .entry)) strike ⌝ }
+{
+    shelf_prices::dated_option_price(shelf, memory, name, flows, side, dates, strike)
+}
+
+#[no_mangle]
+pub extern "C" fn mixegorta_shelf_bond_and_dated_option(
+    shelf: Shelf,
+    memory: &[u64; 3600],
+    name: usize,
+    flows: &[u64],
+    side: u64,
+    dates: &[u8],
+    strike: u64,
+) -> BondAndOption
+    ensures { λ r. ⌜ r ≡ shelfBondAndDated (shelf .slots) (now (memory .entry)) name (now (flows .entry)) side (now (dates .entry)) strike ⌝ }
+{
+    shelf_prices::bond_and_dated_option(shelf, memory, name, flows, side, dates, strike)
 }

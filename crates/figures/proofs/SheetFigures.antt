@@ -125,9 +125,9 @@ plain-read = refl
 
 bond-is : bondPrice 1 0 (1002500000 ∷ []) (1000000000 ∷ []) ≡ record { number = 0; value = 1002500000; bound = 2 }
 unfolding bondPrice firstCause treeCause lowestCause discountsCause shapeCause acceptedDiscounts each discountsNeeded rowStart sum nodeCount halfWidth
-    flowsCause priced limitCause bondPeak peak peakFrom greatestValue greatest bondValue bond bondFrom roll nodeRoll outgoing nearest rateTree low nodeOfIndex branching
-    lowestOf zOf upFormula middleFormula downFormula upProbability middleProbability downProbability stored flowAt treeErrorBound errorBound errorBoundFrom
-    greatestDiscount roundUp
+    flowsCause priced limitCause bondPeak peak peakFrom greatestValue greatest bondValue bond bondFrom roll nodeRoll outgoing nearest rateTree low nodeOfIndex
+    branching lowestOf zOf upFormula middleFormula downFormula upProbability middleProbability downProbability stored flowAt treeErrorBound
+    errorBound errorBoundFrom greatestDiscount roundUp
 bond-is = refl
 
 plain-number : treeNumber 1 0 (1002500000 ∷ []) (1000000000 ∷ []) noOption ≡ 0
@@ -160,8 +160,8 @@ tree-text : (option : Price) →
     (record { number = 0; value = 1002500000; bound = 2 }) false option
     ≡ nodeBytes ++ (rowBytes ++ bondBytes)
 unfolding treeSheet lines nodeText lineOfNode nodeOfIndex rowPart rowStart sum nodeCount halfWidth nodeLine natural naturalWithin lastDigits decimal
-    signedDecimal rateAnswer nearest lineOfRow rowLine sumOf statePriceErrorBoundAnswer boundCause rowCause lowestCause discountsCause shapeCause acceptedDiscounts each
-    discountsNeeded statePriceErrorBound greatest rateTree stored roundUp priceLines priceLine
+    signedDecimal rateAnswer nearest lineOfRow rowLine sumOf statePriceErrorBoundAnswer boundCause rowCause lowestCause discountsCause shapeCause
+    acceptedDiscounts each discountsNeeded statePriceErrorBound greatest rateTree stored roundUp priceLines priceLine
 tree-text option = refl
 
 job-text : jobText (recordWith 5 noOption) ≡ nodeBytes ++ (rowBytes ++ bondBytes)

@@ -1,0 +1,88 @@
+-- `shelf::commit` meets its contract.
+-- Assumes nothing.
+use mathlib.Core.Path.{_≡_, sym, _∙_}
+use native.Mathlib.Omega.{arith}
+use Rattle.shelf_laws.proofs.NameLaws.{There}
+use Rattle.shelf_laws.proofs.EntryLaws.{not-awaiting, awaiting, commit-15, memory-15, slots-left, commit-number, commit-memory, commit-slots}
+use borrow.Author.Needs.{needs}
+use Rattle.shelf.proofs.commit.Statement.{statement}
+use Rattle.shelf.proofs.commit.Tie as tie
+
+-- the tree that awaits its commit
+told : (c : tie.Else1) →
+    let a = c .before .before .before .before .before .before .args in
+    let tree = c .before .before .tree-of in
+    There (a .shelf .slots) (a .name) (tree .result) (tree .ensures)
+told c = awaiting _ _ _ (c .before .before .tree-of .ensures) (omega arith) .0
+
+tree-of-requires : tie.Need-tree-of-requires
+tree-of-requires c κs = search needs
+
+refused-requires : tie.Need-refused-requires
+refused-requires c κs = search needs
+
+returns : tie.Need-returns
+returns c =
+    let none = not-awaiting _ _ _ (c .before .before .before .tree-of .ensures) (c .before .if1 .taken) in
+    let number = commit-15 _ _ _ _ _ _ _ none in
+    let after = c .refused .ensures in
+    (after .0 ∙ number, (after .1 ∙ slots-left _ _ _ _ _ _ _ 15 number (λ z. omega arith), memory-15 _ _ _ _ _ _ _ _ none))
+
+fit-part-requires : tie.Need-fit-part-requires
+fit-part-requires c κs = omega (arith, told (c .before) .fits)
+
+refused-requires-2 : tie.Need-refused-requires-2
+refused-requires-2 c κs = search needs
+
+returns-2 : tie.Need-returns-2
+returns-2 c =
+    let tree = c .before .before .before .before .before .before .tree-of .ensures in
+    let fit = c .before .before .fit-part .ensures in
+    let after = c .refused2 .ensures in
+    let number = commit-number _ _ _ _ _ _ _ _ tree (search needs) _ (fit .0) in (
+      after .0 ∙ number,
+      (
+        after .1 ∙ slots-left _ _ _ _ _ _ _ _ number (c .before .if2 .taken),
+        commit-memory _ _ _ _ _ _ _ _ tree (search needs) _ number _ _ (fit .1),
+      ),
+    )
+
+fitted-slot-requires : tie.Need-fitted-slot-requires
+fitted-slot-requires c κs = search needs
+
+sub-replaced : tie.Need-sub-replaced
+sub-replaced c = omega (arith, told (c .before .before .before .before) .name-known .low)
+
+replaced-requires : tie.Need-replaced-requires
+replaced-requires c κs =
+    let t = told (c .before .before .before .before) in
+    omega (arith, t .name-known .low, t .name-known .high)
+
+returns-3 : tie.Need-returns-3
+returns-3 c =
+    let tree = c .before .before .before .before .before .before .before .tree-of .ensures in
+    let fit = c .before .before .before .fit-part .ensures in
+    let after = c .replaced .ensures in
+    let none : c .before .before .before .fit-part .result ≡ 0 = search needs in
+    let number = commit-number _ _ _ _ _ _ _ _ tree (search needs) _ (fit .0) in (
+      after .0 ∙ sym none ∙ number,
+      (
+        commit-slots _ _ _ _ _ _ _ _ tree (search needs) _ number none _ _ (c .before .fitted-slot .ensures) (after .1),
+        commit-memory _ _ _ _ _ _ _ _ tree (search needs) _ number _ _ (fit .1),
+      ),
+    )
+
+pub commit-spec : {M : Type 1} → statement M
+commit-spec =
+    tie.close
+    (tie.spec
+    tree-of-requires
+    refused-requires
+    returns
+    fit-part-requires
+    refused-requires-2
+    returns-2
+    fitted-slot-requires
+    sub-replaced
+    replaced-requires
+    returns-3)

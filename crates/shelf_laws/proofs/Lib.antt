@@ -1,0 +1,5 @@
+pub mod Moves
+pub mod PartLaws
+pub mod SlotLaws
+pub mod NameLaws
+pub mod EntryLaws

@@ -1,0 +1,73 @@
+-- `shelf_prices::bond_and_dated_option` meets its contract.
+-- Assumes nothing.
+use Prim.Native.Nat.{ℕ}
+use mathlib.Core.Path.{_∙_}
+use mathlib.Core.List.{List}
+use native.Mathlib.Omega.{arith}
+use Rattle.pricing.specs.Prices.{bondPrice, datedPrice}
+use Rattle.shelf_laws.proofs.NameLaws.{There, tree-found}
+use Rattle.shelf_prices.proofs.PriceLaws.{both-none, both-there}
+use borrow.Author.Needs.{needs}
+use Rattle.shelf_prices.proofs.bond_and_dated_option.Statement.{statement}
+use Rattle.shelf_prices.proofs.bond_and_dated_option.Tie as tie
+
+-- the tree that is priced
+told : (c : tie.Else1) →
+    let a = c .before .before .before .before .before .args in
+    let tree = c .before .before .tree-of in
+    There (a .shelf .slots) (a .name) (tree .result) (tree .ensures)
+told c = tree-found _ _ _ (c .before .before .tree-of .ensures) (search needs)
+
+tree-of-requires : tie.Need-tree-of-requires
+tree-of-requires c κs = search needs
+
+no-prices-requires : tie.Need-no-prices-requires
+no-prices-requires c κs = search needs
+
+returns : tie.Need-returns
+returns c =
+    let tree = c .before .before .before .tree-of in
+    c .no-prices .ensures
+    ∙ both-none _ _ _ _ _ _ (tree .ensures) (search needs)
+
+add-end : tie.Need-add-end
+add-end c = omega (arith, told (c .before .before) .fits)
+
+mul-bond-and-dated-option : tie.Need-mul-bond-and-dated-option
+mul-bond-and-dated-option c = omega (arith, told (c .before .before) .fits)
+
+sub-bond-and-dated-option : tie.Need-sub-bond-and-dated-option
+sub-bond-and-dated-option c = search needs
+
+part-bond-and-dated-option-start : tie.Need-part-bond-and-dated-option-start
+part-bond-and-dated-option-start c = search needs
+
+part-bond-and-dated-option-end : tie.Need-part-bond-and-dated-option-end
+part-bond-and-dated-option-end c = omega (arith, told (c .before .before) .fits)
+
+bond-and-dated-option-requires : tie.Need-bond-and-dated-option-requires
+bond-and-dated-option-requires c κs = search needs
+
+returns-2 : tie.Need-returns-2
+returns-2 c =
+    let a = c .before .before .before .before .before .before .before .before .before .args in
+    let tree = c .before .before .before .before .before .before .tree-of in
+    c .bond-and-dated-option .ensures
+    ∙ both-there (λ (n b : ℕ) (d : List ℕ). bondPrice n b d (a .flows .now))
+    (λ (n b : ℕ) (d : List ℕ). datedPrice n b d (a .flows .now) (a .side) (a .dates .now) (a .strike))
+    _ _ _ _ (tree .ensures) (search needs)
+
+pub bond-and-dated-option-spec : {M : Type 1} → statement M
+bond-and-dated-option-spec =
+    tie.close
+    (tie.spec
+    tree-of-requires
+    no-prices-requires
+    returns
+    add-end
+    mul-bond-and-dated-option
+    sub-bond-and-dated-option
+    part-bond-and-dated-option-start
+    part-bond-and-dated-option-end
+    bond-and-dated-option-requires
+    returns-2)

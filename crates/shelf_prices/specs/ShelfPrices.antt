@@ -1,0 +1,39 @@
+-- Prices on the trees of a shelf (document 02, request (vii)): 15 for the name, or what a plain entry answers for the tree's discounts. For any slots and
+-- any memory.
+-- Assumes nothing.
+use Prim.Native.Nat.{ℕ}
+use mathlib.Core.Bool.{cond}
+use mathlib.Core.List.{List}
+use lib.Dec.{eqb}
+use Rattle.pricing.specs.declared.Price.{Price}
+use Rattle.pricing.specs.declared.BondAndOption.{BondAndOption}
+use Rattle.pricing.specs.Prices.{refusedPrice, bondPrice, optionPrice, datedPrice}
+use Rattle.shelf_laws.specs.declared.Slot.{Slot}
+use Rattle.shelf_laws.specs.Shelf.{slotOf, discountsOf, nameCause}
+
+unfoldable pub shelfPrice : (ℕ → ℕ → List ℕ → Price) → List Slot → List ℕ → ℕ → Price
+shelfPrice price slots memory name =
+    cond (eqb (nameCause slots name) 0)
+    (price (slotOf slots name .steps) (slotOf slots name .reversion) (discountsOf slots memory name))
+    (refusedPrice 15)
+
+abbrev pub shelfBond : List Slot → List ℕ → ℕ → List ℕ → Price
+shelfBond slots memory name flows = shelfPrice (λ n b discounts. bondPrice n b discounts flows) slots memory name
+
+abbrev pub shelfOption : List Slot → List ℕ → ℕ → List ℕ → ℕ → ℕ → ℕ → Price
+shelfOption slots memory name flows kind expiry strike =
+    shelfPrice (λ n b discounts. optionPrice n b discounts flows kind expiry strike) slots memory name
+
+abbrev pub shelfDated : List Slot → List ℕ → ℕ → List ℕ → ℕ → List ℕ → ℕ → Price
+shelfDated slots memory name flows side dates strike =
+    shelfPrice (λ n b discounts. datedPrice n b discounts flows side dates strike) slots memory name
+
+-- a bond and an option on it, each as its own entry answers
+
+abbrev pub shelfBondAndOption : List Slot → List ℕ → ℕ → List ℕ → ℕ → ℕ → ℕ → BondAndOption
+shelfBondAndOption slots memory name flows kind expiry strike =
+    record { bond = shelfBond slots memory name flows; option = shelfOption slots memory name flows kind expiry strike }
+
+abbrev pub shelfBondAndDated : List Slot → List ℕ → ℕ → List ℕ → ℕ → List ℕ → ℕ → BondAndOption
+shelfBondAndDated slots memory name flows side dates strike =
+    record { bond = shelfBond slots memory name flows; option = shelfDated slots memory name flows side dates strike }

@@ -1,0 +1,10 @@
+pub mod Others
+pub mod DeskLaws
+pub mod FitParts
+pub mod Simulation
+pub mod PriceNumbers
+pub mod Trees
+pub mod Histories
+pub mod Alone
+pub mod Prices
+pub mod Kept
