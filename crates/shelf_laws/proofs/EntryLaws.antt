@@ -18,7 +18,8 @@ use Rattle.shelf_laws.specs.declared.Slot.{Slot}
 use Rattle.shelf_laws.specs.declared.Part.{Part}
 use Rattle.shelf_laws.specs.declared.Located.{Located}
 use Rattle.shelf_laws.specs.Parts.{part, opened, closed}
-use Rattle.shelf_laws.specs.Shelf.{room, emptySlot, awaitingSlot, fittedSlot, statusOf, slotOf, startOf, nodesOf, nameCause, discountsOf, locatedTree, partOf}
+use Rattle.shelf_laws.specs.Shelf.{room, emptySlot, awaitingSlot, fittedSlot, statusOf, slotOf}
+use Rattle.shelf_laws.specs.Shelf.{startOf, nodesOf, nameCause, discountsOf, locatedTree, partOf}
 use Rattle.shelf_laws.specs.Shelf.{askNumber, askSlots, askMemory, releaseSlots, releaseMemory}
 use Rattle.shelf_laws.specs.Shelf.{commitNumber, commitSlots, commitPart, commitMemory}
 use Rattle.shelf_laws.proofs.PartLaws.{part-length, part-written, part-back-to, lent-count, lent-part}
