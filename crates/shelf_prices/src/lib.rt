@@ -74,23 +74,8 @@ pub fn option_price(
 ) -> Price
     ensures { λ r. ⌜ r ≡ shelfOption (shelf .slots) (now (memory .entry)) name (now (flows .entry)) kind expiry strike ⌝ }
 {
-    let tree = shelf::tree_of(shelf, name);
-    if tree.status == 0 {
-        return no_price();
-    }
-    let numbers = &memory[..];
-    let start = tree.start;
-    let end = start + tree.count;
-    let values = pricing::bond_and_option_values(
-        tree.steps,
-        tree.reversion,
-        &numbers[start..end],
-        flows,
-        kind,
-        expiry,
-        strike,
-    );
-    carried(values.option, tree.bound)
+    let both = bond_and_option(shelf, memory, name, flows, kind, expiry, strike);
+    both.option
 }
 
 // The same for an option on listed rows, as `pricing::dated_option_price` answers.
@@ -105,23 +90,8 @@ pub fn dated_option_price(
 ) -> Price
     ensures { λ r. ⌜ r ≡ shelfDated (shelf .slots) (now (memory .entry)) name (now (flows .entry)) side (now (dates .entry)) strike ⌝ }
 {
-    let tree = shelf::tree_of(shelf, name);
-    if tree.status == 0 {
-        return no_price();
-    }
-    let numbers = &memory[..];
-    let start = tree.start;
-    let end = start + tree.count;
-    let values = pricing::bond_and_dated_option_values(
-        tree.steps,
-        tree.reversion,
-        &numbers[start..end],
-        flows,
-        side,
-        dates,
-        strike,
-    );
-    carried(values.option, tree.bound)
+    let both = bond_and_dated_option(shelf, memory, name, flows, side, dates, strike);
+    both.option
 }
 
 // Bond and option in one roll, each as its own entry answers.
