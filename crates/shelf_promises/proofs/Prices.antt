@@ -1,6 +1,6 @@
 -- Prices of shelved trees, and where their discounts stand.
 -- Assumes nothing.
-use mathlib.Core.Path.{_≡_, refl, sym, ap, _∙_}
+use mathlib.Core.Path.{subst, _≡_, refl, sym, ap, _∙_}
 use Prim.Native.Nat.{ℕ, _-_, _*_, _^_, _≤_, _<_}
 use mathlib.Core.Bool.{Bool, true, false, cond}
 use mathlib.Core.List.{List}
@@ -191,7 +191,10 @@ module _ (k : Kept) (v : Valid k) (name : ℕ) where
           fitted = f;
           carried = ap (λ (x : Price). x .bound) same ∙ sym bound;
           answered = same;
-          accurate = rw (same, bound) (plain-within p (t .steps) (t .reversion) (t .discounts) zero);
+          accurate =
+              subst (λ (e : ℕ). Within e (unit ^ t .steps) (priceOf k name p .value) (exactOf p (t .steps) (t .reversion) (t .discounts))) (sym bound)
+              (subst (λ (x : Price). Within (plainPrice p (t .steps) (t .reversion) (t .discounts) .bound) (unit ^ t .steps) (x .value)
+              (exactOf p (t .steps) (t .reversion) (t .discounts))) (sym same) (plain-within p (t .steps) (t .reversion) (t .discounts) zero));
           a-step = λ l. rw bound (plain-a-step p (t .steps) (t .reversion) (t .discounts) zero l);
         }
 
