@@ -144,6 +144,19 @@ static void must_be_equal(const struct work *w, const struct result *x, const st
     exit(1);
 }
 
+/* A tree's bounds, with the rows' greatest discounts and alone. */
+static void must_have_equal_bounds(const struct work *w, const uint64_t *discounts)
+{
+    const struct mixegorta_tree_error_bounds x = mixegorta_tree_bounds(w->n, w->b, discounts, MOST_DISCOUNTS);
+    const struct mixegorta_answer alone = mixegorta_price_error_bound(w->n, w->b, discounts, MOST_DISCOUNTS);
+    const struct plain_bounds y = plain_tree_bounds(w->n, w->b, discounts);
+    if (x.number == y.number && x.bound == y.bound && !memcmp(x.greatest, y.greatest, sizeof y.greatest) && alone.number == y.number &&
+        alone.value == y.bound)
+        return;
+    fprintf(stderr, "DIFFERENT bounds at n = %zu, b = %llu\n", w->n, (unsigned long long)w->b);
+    exit(1);
+}
+
 /* Any dates below n; some lists reach n, some repeat a row, some are empty. */
 static void any_dates(struct work *w, int i)
 {
@@ -185,6 +198,7 @@ static void compare_results(void)
         by_library(&w, &x, ALL);
         by_plain_c(&w, &y, ALL);
         must_be_equal(&w, &x, &y);
+        must_have_equal_bounds(&w, x.discounts);
         fits += x.number == 0;
         bonds += x.bond.number == 0;
         options += x.option.number == 0;
@@ -430,21 +444,25 @@ static uint64_t release_of_both(size_t name)
     return number;
 }
 
-/* The tree of a name, priced with flows of as many rows as it has. */
-static int bond_of_both(size_t name, struct work *w)
+/* Bond and option on the tree of a name, priced with flows of as many rows as it has. */
+static int prices_of_both(size_t name, struct work *w, int *options)
 {
     w->n = name <= MIXEGORTA_MAX_NAME && desk.plain.slots[name - 1].status ? desk.plain.slots[name - 1].steps : w->n;
     const struct plain_price x = of_library(mixegorta_shelf_bond_price(desk.library, desk.memory, name, w->flows, w->n));
     const struct plain_price y = plain_shelf_bond(&desk.plain, desk.plain_memory, name, w->flows);
-    if (!same_price(&x, &y))
-        fail("DIFFERENT bonds on the shelves of library and plain C");
+    const struct plain_price z = of_library(
+        mixegorta_shelf_option_price(desk.library, desk.memory, name, w->flows, w->n, w->kind, w->expiry, w->strike));
+    const struct plain_price u = plain_shelf_option(&desk.plain, desk.plain_memory, name, w->flows, w->kind, w->expiry, w->strike);
+    if (!same_price(&x, &y) || !same_price(&z, &u))
+        fail("DIFFERENT prices on the shelves of library and plain C");
+    *options += z.number == 0;
     return x.number == 0;
 }
 
 /* Any calls on both, of which some are refused: a name in use or outside, too many nodes, a tree that awaits its commit or has had it. */
 static void compare_shelves(void)
 {
-    int asked = 0, committed = 0, released = 0, bonds = 0;
+    int asked = 0, committed = 0, released = 0, bonds = 0, options = 0;
     clear_desk();
     for (int i = 0; i < CURVES; i++) {
         const size_t name = 1 + (size_t)(uniform() * 9);
@@ -456,12 +474,12 @@ static void compare_shelves(void)
             own.s = w.s;
             committed += commit_of_both(other, &own) == 0;
         }
-        bonds += bond_of_both(1 + (size_t)(uniform() * 9), &w);
+        bonds += prices_of_both(1 + (size_t)(uniform() * 9), &w, &options);
         if (i % 3)
             released += release_of_both(1 + (size_t)(uniform() * 9)) == 0;
     }
-    printf("shelves of library and plain C equal over %d rounds; accepted: %d askings, %d commits, %d bonds, %d releases\n\n", CURVES, asked,
-           committed, bonds, released);
+    printf("shelves of library and plain C equal over %d rounds; accepted: %d askings, %d commits, %d bonds, %d options, %d releases\n\n",
+           CURVES, asked, committed, bonds, options, released);
 }
 
 #define LAST_NAME MIXEGORTA_MAX_NAME
@@ -483,6 +501,9 @@ static void by_shelf(const struct work *w, struct result *r, int parts)
                                            w->n).number;
     if (parts & BOND)
         r->bond = of_library(mixegorta_shelf_bond_price(desk.library, r->discounts, LAST_NAME, w->flows, w->n));
+    if (parts & OPTION)
+        r->option = of_library(
+            mixegorta_shelf_option_price(desk.library, r->discounts, LAST_NAME, w->flows, w->n, w->kind, w->expiry, w->strike));
 }
 
 static void by_plain_shelf(const struct work *w, struct result *r, int parts)
@@ -493,6 +514,41 @@ static void by_plain_shelf(const struct work *w, struct result *r, int parts)
     }
     if (parts & BOND)
         r->bond = plain_shelf_bond(&desk.plain, r->discounts, LAST_NAME, w->flows);
+    if (parts & OPTION)
+        r->option = plain_shelf_option(&desk.plain, r->discounts, LAST_NAME, w->flows, w->kind, w->expiry, w->strike);
+}
+
+static volatile size_t last_start;
+
+static void part_by_library(void)
+{
+    last_start = mixegorta_shelf_part(desk.library, LAST_NAME).start;
+}
+
+static void part_by_plain_c(void)
+{
+    last_start = plain_shelf_part(&desk.plain, LAST_NAME).start;
+}
+
+/* The bounds of the tree that stands alone under the last name. */
+static volatile uint64_t last_bound;
+
+static void bounds_by_library(void)
+{
+    const struct plain_slot *slot = &desk.plain.slots[LAST_NAME - 1];
+    last_bound = mixegorta_tree_bounds(slot->steps, slot->reversion, desk.memory, MOST_DISCOUNTS).bound;
+}
+
+static void bound_by_library(void)
+{
+    const struct plain_slot *slot = &desk.plain.slots[LAST_NAME - 1];
+    last_bound = mixegorta_price_error_bound(slot->steps, slot->reversion, desk.memory, MOST_DISCOUNTS).value;
+}
+
+static void bounds_by_plain_c(void)
+{
+    const struct plain_slot *slot = &desk.plain.slots[LAST_NAME - 1];
+    last_bound = plain_tree_bounds(slot->steps, slot->reversion, desk.memory).bound;
 }
 
 typedef void (*move)(void);
@@ -561,19 +617,35 @@ static void moves(int turns)
 }
 
 /* One of a shelf's parts of work, on the library's shelf and by another worker. */
-static void line_of_shelf(uint64_t b, const char *name, worker other, int parts, int turns)
+static void line_of_shelf(size_t n, uint64_t b, const char *name, worker other, int parts, int turns)
 {
     static struct result x, y;
-    const struct work w = work_of(60, b, 0.02, 0.0003);
+    const struct work w = work_of(n, b, 0.02, 0.0003);
     set_up(&w);
     memset(&x, 0, sizeof x);
     memset(&y, 0, sizeof y);
-    by_shelf(&w, &x, FIT | BOND);
-    other(&w, &y, FIT | BOND);
-    if (x.number || y.number || !same_price(&x.bond, &y.bond) || memcmp(x.discounts, y.discounts, sizeof x.discounts))
+    by_shelf(&w, &x, FIT | BOND | OPTION);
+    other(&w, &y, FIT | BOND | OPTION);
+    if (x.number || y.number || !same_price(&x.bond, &y.bond) || !same_price(&x.option, &y.option) || memcmp(x.discounts, y.discounts, sizeof x.discounts))
         fail("DIFFERENT on a shelf and beside it");
     const struct timing t = side_by_side(by_shelf, other, &w, parts, turns, 20);
-    printf("b = %-5llu %-22s %8.1f us    %8.1f us     %6.2f\n", (unsigned long long)b, name, t.first, t.second, t.ratio);
+    printf("b = %-5llu %-22s %8.2f us    %8.2f us     %6.2f\n", (unsigned long long)b, name, t.first, t.second, t.ratio);
+}
+
+/* What a commit works out, by its own entries. */
+static void bounds(int turns)
+{
+    static const uint64_t reversions[] = {0, 83, 1000};
+    printf("\na tree's bounds, n = 60           library        plain C      ratio\n");
+    for (int i = 0; i < 3; i++) {
+        const struct work w = work_of(60, reversions[i], 0.02, 0.0003);
+        char name[64];
+        set_up(&w);
+        snprintf(name, sizeof name, "b = %-5llu bound and greatest", (unsigned long long)w.b);
+        line_of_moves(name, bounds_by_library, bounds_by_plain_c, turns);
+        snprintf(name, sizeof name, "b = %-5llu bound alone", (unsigned long long)w.b);
+        line_of_moves(name, bound_by_library, bounds_by_plain_c, turns);
+    }
 }
 
 static void shelves(int turns)
@@ -582,14 +654,20 @@ static void shelves(int turns)
     printf("\na shelf                           library        plain C      ratio\n");
     moves(turns);
     for (int i = 0; i < 3; i++) {
-        line_of_shelf(reversions[i], "commit, n = 60", by_plain_shelf, FIT, turns);
-        line_of_shelf(reversions[i], "bond, n = 60", by_plain_shelf, BOND, turns);
+        line_of_shelf(60, reversions[i], "commit, n = 60", by_plain_shelf, FIT, turns);
+        line_of_shelf(60, reversions[i], "bond, n = 60", by_plain_shelf, BOND, turns);
+        line_of_shelf(60, reversions[i], "option, n = 60", by_plain_shelf, OPTION, turns);
     }
-    printf("\nlibrary, n = 60                   on a shelf     without      ratio\n");
+    line_of_shelf(1, 0, "bond, n = 1", by_plain_shelf, BOND, turns);
+    line_of_moves("part of name 8", part_by_library, part_by_plain_c, turns);
+    printf("\nlibrary                           on a shelf     without      ratio\n");
     for (int i = 0; i < 3; i++) {
-        line_of_shelf(reversions[i], "commit and fit", by_library, FIT, turns);
-        line_of_shelf(reversions[i], "bond", by_library, BOND, turns);
+        line_of_shelf(60, reversions[i], "commit and fit, n = 60", by_library, FIT, turns);
+        line_of_shelf(60, reversions[i], "bond, n = 60", by_library, BOND, turns);
+        line_of_shelf(60, reversions[i], "option, n = 60", by_library, OPTION, turns);
     }
+    line_of_shelf(1, 0, "commit and fit, n = 1", by_library, FIT, turns);
+    line_of_shelf(1, 0, "bond, n = 1", by_library, BOND, turns);
 }
 
 #ifdef HAVE_QUANTLIB
@@ -649,6 +727,7 @@ int main(int argc, char **argv)
     rates(turns);
     growth(turns);
     shelves(turns);
+    bounds(turns);
     against_quantlib(turns / 4 + 1);
     return 0;
 }

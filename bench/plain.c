@@ -274,7 +274,7 @@ static int roll_bond(size_t w, size_t next, const struct branch *p, const uint64
     return above;
 }
 
-static uint64_t rows_refused(size_t n, uint64_t b, const uint64_t *discounts, const uint64_t *flows, size_t *needed)
+static uint64_t tree_refused(size_t n, uint64_t b, const uint64_t *discounts, size_t *needed)
 {
     if (n < 1 || n > MOST_STEPS)
         return 3;
@@ -286,18 +286,59 @@ static uint64_t rows_refused(size_t n, uint64_t b, const uint64_t *discounts, co
     for (size_t k = 0; k < *needed; k++)
         if (discounts[k] == 0 || discounts[k] > DISCOUNT_LIMIT)
             return 9;
+    return 0;
+}
+
+static uint64_t rows_refused(size_t n, uint64_t b, const uint64_t *discounts, const uint64_t *flows, size_t *needed)
+{
+    const uint64_t number = tree_refused(n, b, discounts, needed);
+    if (number)
+        return number;
     for (size_t t = 0; t < n; t++)
         if (flows[t] > FLOW_LIMIT)
             return 10;
     return 0;
 }
 
-static uint64_t next_bound(const uint64_t *discounts, size_t count, uint64_t bound)
+static inline uint64_t greatest_of(const uint64_t *discounts, size_t count)
 {
     uint64_t greatest = 0;
     for (size_t k = 0; k < count; k++)
         greatest = discounts[k] > greatest ? discounts[k] : greatest;
+    return greatest;
+}
+
+static inline uint64_t bound_before(uint64_t greatest, uint64_t bound)
+{
     return (greatest * bound + ONE - 1) / ONE + 2;
+}
+
+static uint64_t next_bound(const uint64_t *discounts, size_t count, uint64_t bound)
+{
+    return bound_before(greatest_of(discounts, count), bound);
+}
+
+/* From the last row to the first, behind which the discounts end. */
+static uint64_t bound_of_rows(size_t n, uint64_t b, const uint64_t *end, uint64_t *greatest)
+{
+    uint64_t bound = 0;
+    for (size_t i = n; i-- > 0;) {
+        const size_t count = 2 * half_width(b, i) + 1;
+        end -= count;
+        greatest[i] = greatest_of(end, count);
+        bound = bound_before(greatest[i], bound);
+    }
+    return bound;
+}
+
+struct plain_bounds plain_tree_bounds(size_t n, uint64_t b, const uint64_t *discounts)
+{
+    struct plain_bounds out = {0};
+    size_t needed;
+    out.number = tree_refused(n, b, discounts, &needed);
+    if (!out.number)
+        out.bound = bound_of_rows(n, b, discounts + needed, out.greatest);
+    return out;
 }
 
 static const struct plain_price none = {0, 0, 0};
@@ -309,7 +350,8 @@ static struct plain_price refused(uint64_t number)
     return price;
 }
 
-struct plain_price plain_bond(size_t n, uint64_t b, const uint64_t *discounts, const uint64_t *flows)
+/* The bound is worked out along the way where none is carried. */
+static struct plain_price rolled_bond(size_t n, uint64_t b, const uint64_t *discounts, const uint64_t *flows, const uint64_t *carried)
 {
     uint64_t rows[2][MOST_NODES];
     struct branch p[MOST_NODES];
@@ -328,10 +370,18 @@ struct plain_price plain_bond(size_t n, uint64_t b, const uint64_t *discounts, c
         start -= 2 * w + 1;
         if (roll_bond(w, next, p + (widest - w), discounts + start, rows[at], i ? flows[i - 1] : 0, rows[!at]))
             return refused(12);
-        out.bound = next_bound(discounts + start, 2 * w + 1, out.bound);
+        if (!carried)
+            out.bound = next_bound(discounts + start, 2 * w + 1, out.bound);
     }
     out.value = rows[at][0];
+    if (carried)
+        out.bound = *carried;
     return out;
+}
+
+struct plain_price plain_bond(size_t n, uint64_t b, const uint64_t *discounts, const uint64_t *flows)
+{
+    return rolled_bond(n, b, discounts, flows, NULL);
 }
 
 struct right {
@@ -375,11 +425,12 @@ static int roll_both(size_t w, size_t next, const struct branch *p, const uint64
     return above;
 }
 
-/* One roll. An option that is refused, by a number handed in or by its values, is rolled no further; its bond goes on. */
+/* One roll. An option that is refused, by a number handed in or by its values, is rolled no further; its bond goes on. The bound is worked
+ * out along the way where none is carried. */
 static struct plain_prices roll_to_today(size_t n, uint64_t b, const uint64_t *discounts, const uint64_t *flows, struct right right,
-                                         const struct schedule *schedule, uint64_t other)
+                                         const struct schedule *schedule, uint64_t other, const uint64_t *carried)
 {
-    uint64_t bonds[2][MOST_NODES], options[2][MOST_NODES], bound = 0;
+    uint64_t bonds[2][MOST_NODES], options[2][MOST_NODES], bound = carried ? *carried : 0;
     struct branch p[MOST_NODES];
     size_t start;
     const uint64_t number = rows_refused(n, b, discounts, flows, &start);
@@ -406,14 +457,15 @@ static struct plain_prices roll_to_today(size_t n, uint64_t b, const uint64_t *d
             return (struct plain_prices){refused(12), refused(other)};
         if (i == schedule->last)
             exercise_row(right, 2 * w + 1, bonds[!at], flow, options[!at]);
-        bound = next_bound(discounts + start, 2 * w + 1, bound);
+        if (!carried)
+            bound = next_bound(discounts + start, 2 * w + 1, bound);
     }
     const struct plain_price bond = {0, bonds[at][0], bound};
     return (struct plain_prices){bond, other ? refused(other) : (struct plain_price){0, options[at][0], bound}};
 }
 
-struct plain_prices plain_bond_and_option(size_t n, uint64_t b, const uint64_t *discounts, const uint64_t *flows, uint64_t kind,
-                                          size_t expiry, uint64_t strike)
+static struct plain_prices roll_kind(size_t n, uint64_t b, const uint64_t *discounts, const uint64_t *flows, uint64_t kind, size_t expiry,
+                                     uint64_t strike, const uint64_t *carried)
 {
     const int listed = kind >= 1 && kind <= 4 && expiry < n && expiry < MOST_STEPS && strike <= STRIKE_LIMIT;
     struct schedule schedule = {0};
@@ -421,7 +473,13 @@ struct plain_prices plain_bond_and_option(size_t n, uint64_t b, const uint64_t *
         schedule.last = expiry;
         memset(schedule.marks, kind >= 3, expiry);
     }
-    return roll_to_today(n, b, discounts, flows, (struct right){kind == 1 || kind == 3, strike}, &schedule, listed ? 0 : 11);
+    return roll_to_today(n, b, discounts, flows, (struct right){kind == 1 || kind == 3, strike}, &schedule, listed ? 0 : 11, carried);
+}
+
+struct plain_prices plain_bond_and_option(size_t n, uint64_t b, const uint64_t *discounts, const uint64_t *flows, uint64_t kind,
+                                          size_t expiry, uint64_t strike)
+{
+    return roll_kind(n, b, discounts, flows, kind, expiry, strike, NULL);
 }
 
 /* A list that is empty, does not rise or reaches row n has no schedule. */
@@ -445,7 +503,7 @@ struct plain_prices plain_bond_and_dated_option(size_t n, uint64_t b, const uint
     uint64_t other = side < 1 || side > 2 || strike > STRIKE_LIMIT ? 11 : 0;
     if (!other)
         other = schedule_of(n, dates, count, &schedule);
-    return roll_to_today(n, b, discounts, flows, (struct right){side == 1, strike}, &schedule, other);
+    return roll_to_today(n, b, discounts, flows, (struct right){side == 1, strike}, &schedule, other, NULL);
 }
 
 struct plain_price plain_option(size_t n, uint64_t b, const uint64_t *discounts, const uint64_t *flows, uint64_t kind,
@@ -488,7 +546,7 @@ static int has_status(const struct plain_shelf *shelf, size_t name, uint64_t lea
 
 uint64_t plain_shelf_ask(struct plain_shelf *shelf, uint64_t *memory, size_t name, size_t n, uint64_t b)
 {
-    const struct plain_slot asked = {1, n, b};
+    const struct plain_slot asked = {.status = 1, .steps = n, .reversion = b};
     if (!has_status(shelf, name, 0, 0))
         return 15;
     if (n < 1 || n > MOST_STEPS)
@@ -511,9 +569,12 @@ uint64_t plain_shelf_commit(struct plain_shelf *shelf, uint64_t *memory, size_t 
     if (!has_status(shelf, name, 1, 1))
         return 15;
     struct plain_slot *slot = &shelf->slots[name - 1];
-    const uint64_t number = plain_fit(f, slot->steps, slot->reversion, s, rows, kinds, figures, memory + nodes_before(shelf, name), state_prices);
-    if (!number)
+    uint64_t *discounts = memory + nodes_before(shelf, name);
+    const uint64_t number = plain_fit(f, slot->steps, slot->reversion, s, rows, kinds, figures, discounts, state_prices);
+    if (!number) {
         slot->status = 2;
+        slot->bound = bound_of_rows(slot->steps, slot->reversion, discounts + nodes_of(slot), slot->greatest);
+    }
     return number;
 }
 
@@ -523,7 +584,7 @@ uint64_t plain_shelf_release(struct plain_shelf *shelf, uint64_t *memory, size_t
         return 15;
     const size_t nodes = nodes_of(&shelf->slots[name - 1]), held = nodes_before(shelf, NAMES + 1), start = nodes_before(shelf, name);
     memmove(memory + start, memory + start + nodes, (held - start - nodes) * sizeof *memory);
-    shelf->slots[name - 1] = (struct plain_slot){0, 0, 0};
+    memset(&shelf->slots[name - 1], 0, sizeof shelf->slots[name - 1]);
     return 0;
 }
 
@@ -532,5 +593,21 @@ struct plain_price plain_shelf_bond(const struct plain_shelf *shelf, const uint6
     if (!has_status(shelf, name, 1, 2))
         return refused(15);
     const struct plain_slot *slot = &shelf->slots[name - 1];
-    return plain_bond(slot->steps, slot->reversion, memory + nodes_before(shelf, name), flows);
+    return rolled_bond(slot->steps, slot->reversion, memory + nodes_before(shelf, name), flows, &slot->bound);
+}
+
+struct plain_price plain_shelf_option(const struct plain_shelf *shelf, const uint64_t *memory, size_t name, const uint64_t *flows, uint64_t kind,
+                                      size_t expiry, uint64_t strike)
+{
+    if (!has_status(shelf, name, 1, 2))
+        return refused(15);
+    const struct plain_slot *slot = &shelf->slots[name - 1];
+    return roll_kind(slot->steps, slot->reversion, memory + nodes_before(shelf, name), flows, kind, expiry, strike, &slot->bound).option;
+}
+
+struct plain_part plain_shelf_part(const struct plain_shelf *shelf, size_t name)
+{
+    if (!has_status(shelf, name, 1, 2))
+        return (struct plain_part){0, 0};
+    return (struct plain_part){nodes_before(shelf, name), nodes_of(&shelf->slots[name - 1])};
 }

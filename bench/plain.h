@@ -30,11 +30,18 @@ struct plain_prices plain_bond_and_dated_option(size_t n, uint64_t b, const uint
                                                 const uint8_t *dates, size_t count, uint64_t strike);
 struct plain_rate plain_continuous_rate(uint64_t discount);
 
-/* A shelf that a call changes in its place: status 0 no tree, 1 awaiting a commit, 2 fitted. */
+struct plain_bounds {
+    uint64_t number, bound, greatest[60];
+};
+
+struct plain_bounds plain_tree_bounds(size_t n, uint64_t b, const uint64_t *discounts);
+
+/* A shelf that a call changes in its place: status 0 no tree, 1 awaiting a commit, 2 fitted. A fitted tree carries its bound and the
+ * greatest discount of each row. */
 struct plain_slot {
     uint64_t status;
     size_t steps;
-    uint64_t reversion;
+    uint64_t reversion, bound, greatest[60];
 };
 
 struct plain_shelf {
@@ -46,5 +53,13 @@ uint64_t plain_shelf_commit(struct plain_shelf *shelf, uint64_t *memory, size_t 
                             const uint8_t *kinds, const double *figures);
 uint64_t plain_shelf_release(struct plain_shelf *shelf, uint64_t *memory, size_t name);
 struct plain_price plain_shelf_bond(const struct plain_shelf *shelf, const uint64_t *memory, size_t name, const uint64_t *flows);
+struct plain_price plain_shelf_option(const struct plain_shelf *shelf, const uint64_t *memory, size_t name, const uint64_t *flows, uint64_t kind,
+                                      size_t expiry, uint64_t strike);
+
+struct plain_part {
+    size_t start, count;
+};
+
+struct plain_part plain_shelf_part(const struct plain_shelf *shelf, size_t name);
 
 #endif

@@ -58,9 +58,9 @@ extern "C" {
 
 /* The version of header and library, in three numbers and as a text. The shared object's name for the loader carries the first. */
 #define MIXEGORTA_VERSION_MAJOR 0
-#define MIXEGORTA_VERSION_MINOR 7
+#define MIXEGORTA_VERSION_MINOR 8
 #define MIXEGORTA_VERSION_PATCH 0
-#define MIXEGORTA_VERSION "0.7.0"
+#define MIXEGORTA_VERSION "0.8.0"
 
 /* The same as one number, which mixegorta_version() of this header's own library answers. */
 #define MIXEGORTA_VERSION_NUMBER \
@@ -138,6 +138,14 @@ struct mixegorta_price {
     uint64_t bound;
 };
 
+/* What is known of a tree from its discounts: the error bound of every bond and option on it, in billionths, and the greatest discount of
+ * each row, row i at greatest[i], 0 from row n on. All are 0 where refused. */
+struct mixegorta_tree_error_bounds {
+    uint64_t number;
+    uint64_t bound;
+    uint64_t greatest[MIXEGORTA_MAX_STEPS];
+};
+
 /* A bond and an option on it, each with its own number. */
 struct mixegorta_bond_and_option_prices {
     struct mixegorta_price bond;
@@ -170,12 +178,15 @@ struct mixegorta_written {
     size_t size;
 };
 
-/* What a shelf keeps of a name: MIXEGORTA_NO_TREE, MIXEGORTA_AWAITING or MIXEGORTA_FITTED, then the tree's steps and reversion. All are
- * 0 where there is no tree. */
+/* What a shelf keeps of a name: MIXEGORTA_NO_TREE, MIXEGORTA_AWAITING or MIXEGORTA_FITTED, the tree's steps and reversion, and of a fitted
+ * tree the error bound of its prices and the greatest discount of each row, as mixegorta_tree_bounds gives them for its discounts. Bound
+ * and greatest discounts are 0 while the tree awaits its commit. All are 0 where there is no tree. */
 struct mixegorta_slot {
     uint64_t status;
     size_t steps;
     uint64_t reversion;
+    uint64_t bound;
+    uint64_t greatest[MIXEGORTA_MAX_STEPS];
 };
 
 /* A shelf. The slot of name k is slots[k - 1]. */
@@ -266,6 +277,16 @@ struct mixegorta_answer mixegorta_state_price_error_bound(size_t steps, uint64_t
 /* ---- Level two: prices on any discounts, a fit's or the caller's own. Memories are only read. Bonds and options are rolled back with
  * every division to the nearest, halves up; where no discount is above one, their bound is at most 2 a step. */
 
+/* The error bound that every bond and option on a tree has, without pricing any. discounts: as above.
+ * Refusals: 3 steps, 4 reversion, 6 discounts too few, 9 a discount. */
+struct mixegorta_answer mixegorta_price_error_bound(size_t steps, uint64_t reversion, const uint64_t *discounts,
+                                                    size_t discounts_len);
+
+/* The same bound with the greatest discount of each row, from which it follows: 0 on row n, and on an earlier row the row's greatest
+ * discount x the later row's bound / one, up, plus 2; the tree's is that of row 0. Refusals: those of mixegorta_price_error_bound. */
+struct mixegorta_tree_error_bounds mixegorta_tree_bounds(size_t steps, uint64_t reversion, const uint64_t *discounts,
+                                                         size_t discounts_len);
+
 /* The price of a bond at row 0. discounts: as above. flows: n elements, those of rows 1 to n, each 0 to 2,000,000,000.
  * Refusals: 3 steps, 4 reversion, 6 discounts too few or flows not n, 9 a discount, 10 a flow, 12 a value on the way. */
 struct mixegorta_price mixegorta_bond_price(size_t steps, uint64_t reversion, const uint64_t *discounts, size_t discounts_len,
@@ -337,13 +358,16 @@ struct mixegorta_written mixegorta_sheet(const uint8_t *job, size_t job_len, uin
  * of all trees asked for and not released; an asking finds its nodes wherever they and those held are 3,600 at most. Work on one name
  * changes no discount of another.
  *
+ * A commit that is accepted works the tree's error bound and its rows' greatest discounts out once, from the discounts that it stored;
+ * its slot carries them until the release, and work on other names leaves them. A price reads the bound there and does not work it out.
+ *
  * Trees stand in the memory in the order of their names, without gaps. So a tree moves when others are asked for or released: a place
  * that mixegorta_shelf_part told is good until the next asking or release. Under its name a tree keeps its discounts.
  *
  * A shelf or a memory that was altered between calls still gets an answer, or a refusal: 15 for every name and nothing changed, where
- * the slots hold more nodes than the memory has, a status above 2, or a tree whose steps or reversion are outside their limits. Nothing
- * but the memory that is handed over is ever written. What is promised of a shelf's trees and prices is promised where nobody altered
- * shelf or memory. */
+ * the slots hold more nodes than the memory has, a status above 2, or a tree whose steps or reversion are outside their limits. A price's
+ * bound is what the slot says, whatever the discounts are. Nothing but the memory that is handed over is ever written. What is promised
+ * of a shelf's trees and prices is promised where nobody altered shelf or memory. */
 
 /* The empty shelf: no name has a tree, and no node is held. */
 struct mixegorta_shelf mixegorta_empty_shelf(void);
@@ -352,15 +376,16 @@ struct mixegorta_shelf mixegorta_empty_shelf(void);
  * the name has no tree. */
 struct mixegorta_part mixegorta_shelf_part(struct mixegorta_shelf shelf, size_t name);
 
-/* Asks for a tree under a name that has none. 0: the name has a tree that awaits its commit, its discounts all 0, and the trees of
- * greater names have moved up. Refusals leave shelf and memory as they were, in this order: 15 the name, 3 steps, 4 reversion, 14 the
- * nodes, which with those held are more than 3,600. */
+/* Asks for a tree under a name that has none. 0: the name has a tree that awaits its commit, its discounts, bound and greatest discounts
+ * all 0, and the trees of greater names have moved up. Refusals leave shelf and memory as they were, in this order: 15 the name, 3
+ * steps, 4 reversion, 14 the nodes, which with those held are more than 3,600. */
 struct mixegorta_shelved mixegorta_shelf_ask(struct mixegorta_shelf shelf, uint64_t memory[MIXEGORTA_SHELF_ROOM], size_t name,
                                              size_t steps, uint64_t reversion);
 
 /* Fits the tree of a name that awaits its commit to the quotes of rows 1 to n, handed over as to mixegorta_fit. 0: the name has a fitted
- * tree, with the discounts that mixegorta_fit gives. A fitted tree is not committed again: release it first. A refused commit may be
- * tried again. No tree moves. Where somebody has altered the zeros of a tree that awaits its commit, refusal 9 puts them back.
+ * tree, with the discounts that mixegorta_fit gives, and its slot what mixegorta_tree_bounds gives for these. A fitted tree is not
+ * committed again: release it first. A refused commit may be tried again. No tree moves. Where somebody has altered the zeros of a tree
+ * that awaits its commit, refusal 9 puts them back.
  * Refusals leave shelf and memory as they were, in this order: 15 the name, 2 frequency, 5 volatility, 6 a count or a row, 7 a quote,
  * 8 nodes too far apart, 9 a node discount. The asking has accepted steps, reversion and memory already. */
 struct mixegorta_shelved mixegorta_shelf_commit(struct mixegorta_shelf shelf, uint64_t memory[MIXEGORTA_SHELF_ROOM], size_t name,
@@ -368,13 +393,13 @@ struct mixegorta_shelved mixegorta_shelf_commit(struct mixegorta_shelf shelf, ui
                                                 const uint8_t *kinds, size_t kinds_len, const double *figures,
                                                 size_t figures_len);
 
-/* Releases the tree of a name, fitted or not: its nodes are free for any later asking, the trees of greater names have moved down, and
- * as many zeros stand at the end of the memory. Refusal, which leaves shelf and memory as they were: 15 the name. */
+/* Releases the tree of a name, fitted or not: its slot is all 0, its nodes are free for any later asking, the trees of greater names have
+ * moved down, and as many zeros stand at the end of the memory. Refusal, which leaves shelf and memory as they were: 15 the name. */
 struct mixegorta_shelved mixegorta_shelf_release(struct mixegorta_shelf shelf, uint64_t memory[MIXEGORTA_SHELF_ROOM], size_t name);
 
-/* The price of a bond on the tree of a name, as mixegorta_bond_price gives it for the tree's steps, reversion and discounts. Shelf and
- * memory are only read, here and below. Refusals, in this order: 15 the name, 6 flows not n, on a tree that awaits its commit too, 9 a
- * tree that awaits its commit, 10 a flow, 12 a value on the way. */
+/* The price of a bond on the tree of a name, as mixegorta_bond_price gives it for the tree's steps, reversion and discounts; the bound is
+ * read from the slot. Shelf and memory are only read, here and below. Refusals, in this order: 15 the name, 6 flows not n, on a tree that
+ * awaits its commit too, 9 a tree that awaits its commit, 10 a flow, 12 a value on the way. */
 struct mixegorta_price mixegorta_shelf_bond_price(struct mixegorta_shelf shelf, const uint64_t memory[MIXEGORTA_SHELF_ROOM],
                                                   size_t name, const uint64_t *flows, size_t flows_len);
 

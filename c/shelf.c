@@ -1,5 +1,5 @@
-/* Request (vii) of document 02 through the C header: which calls of a shelf are accepted, which cause comes first, and what each call leaves as it
- * was. Then shelves that no calls lead to. Exit status 1 where a check fails. */
+/* Requests (vii) and (viii) of document 02 through the C header: which calls of a shelf are accepted, which cause comes first, what each call leaves as
+ * it was, and what a slot carries. Then shelves that no calls lead to. Exit status 1 where a check fails. */
 #include "mixegorta.h"
 
 #include <stdbool.h>
@@ -30,6 +30,7 @@ struct desk {
 };
 
 static struct desk desk, old;
+static bool altered; /* whether somebody has written the desk between calls */
 static uint64_t rows[QUOTES];
 static uint8_t kinds[QUOTES];
 static double figures[QUOTES];
@@ -38,6 +39,7 @@ static uint64_t pattern(size_t i) { return 0xA5A5000000000000u + i; }
 
 /* The empty shelf beside a memory full of other numbers. */
 static void start(void) {
+    altered = false;
     desk.shelf = mixegorta_empty_shelf();
     for (size_t i = 0; i < SPARE; i++) desk.front[i] = desk.behind[i] = pattern(i);
     for (size_t i = 0; i < ROOM; i++) desk.memory[i] = pattern(i);
@@ -54,27 +56,47 @@ static void falling_curve(double part) {
     }
 }
 
+static bool same_slot(const struct mixegorta_slot *a, const struct mixegorta_slot *b) {
+    return a->status == b->status && a->steps == b->steps && a->reversion == b->reversion && a->bound == b->bound &&
+           memcmp(a->greatest, b->greatest, sizeof a->greatest) == 0;
+}
+
 static bool same_shelf(const struct mixegorta_shelf *a, const struct mixegorta_shelf *b) {
-    for (size_t i = 0; i < MIXEGORTA_MAX_NAME; i++) {
-        const struct mixegorta_slot x = a->slots[i], y = b->slots[i];
-        if (x.status != y.status || x.steps != y.steps || x.reversion != y.reversion) return false;
-    }
+    for (size_t i = 0; i < MIXEGORTA_MAX_NAME; i++)
+        if (!same_slot(&a->slots[i], &b->slots[i])) return false;
     return true;
 }
 
 /* Whether a name has the same tree with the same discounts on both desks. */
 static bool same_tree(size_t name, const struct desk *a, const struct desk *b) {
     const struct mixegorta_part x = mixegorta_shelf_part(a->shelf, name), y = mixegorta_shelf_part(b->shelf, name);
-    return x.count == y.count && memcmp(a->memory + x.start, b->memory + y.start, x.count * sizeof a->memory[0]) == 0;
+    return same_slot(&a->shelf.slots[name - 1], &b->shelf.slots[name - 1]) && x.count == y.count &&
+           memcmp(a->memory + x.start, b->memory + y.start, x.count * sizeof a->memory[0]) == 0;
 }
 
-/* What every call keeps to: all of it where it is refused, every other name where not, and what stands around the memory. */
+/* Whether the slot of a name carries what the rule gives for the tree's discounts, by a walk over its rows; zeros where it is not fitted. */
+static bool carries_its_own(size_t name) {
+    const struct mixegorta_slot slot = desk.shelf.slots[name - 1];
+    const struct mixegorta_part part = mixegorta_shelf_part(desk.shelf, name);
+    uint64_t greatest[MIXEGORTA_MAX_STEPS] = {0}, bound = 0;
+    for (size_t row = slot.status == MIXEGORTA_FITTED ? slot.steps : 0; row-- > 0;) {
+        const size_t first = part.start + mixegorta_row_start(slot.reversion, row).value;
+        for (size_t i = 0; i < mixegorta_node_count(slot.reversion, row).value; i++)
+            if (desk.memory[first + i] > greatest[row]) greatest[row] = desk.memory[first + i];
+        bound = (greatest[row] * bound + ONE - 1) / ONE + 2;
+    }
+    return slot.bound == bound && memcmp(slot.greatest, greatest, sizeof greatest) == 0;
+}
+
+/* What every call keeps to: all of it where it is refused, every other name where not, what stands around the memory, and what slots carry. */
 static uint64_t kept_to(struct mixegorta_shelved after, size_t name) {
     desk.shelf = after.shelf;
     CHECK(memcmp(desk.front, old.front, sizeof old.front) == 0 && memcmp(desk.behind, old.behind, sizeof old.behind) == 0);
     if (after.number != 0) CHECK(same_shelf(&desk.shelf, &old.shelf) && memcmp(desk.memory, old.memory, sizeof old.memory) == 0);
     for (size_t other = 1; other <= MIXEGORTA_MAX_NAME; other++)
         if (other != name) CHECK(same_tree(other, &desk, &old));
+    for (size_t each = 1; each <= MIXEGORTA_MAX_NAME; each++)
+        if (!altered) CHECK(carries_its_own(each));
     return after.number;
 }
 
@@ -130,6 +152,8 @@ static bool all_unpriced(size_t name, const uint64_t *flows, size_t count, uint6
            same_shelf(&desk.shelf, &old.shelf) && memcmp(desk.memory, old.memory, sizeof old.memory) == 0;
 }
 
+static const struct mixegorta_slot no_tree = {MIXEGORTA_NO_TREE, 0, 0, 0, {0}};
+
 static const size_t outside[] = {0, 9, 258, 65538, (size_t)UINT32_MAX + 3, SIZE_MAX};
 enum { OUTSIDE = sizeof outside / sizeof outside[0] };
 
@@ -146,7 +170,7 @@ static void empty(void) {
     const struct mixegorta_shelf shelf = mixegorta_empty_shelf();
     start();
     for (size_t i = 0; i < MIXEGORTA_MAX_NAME; i++)
-        CHECK(shelf.slots[i].status == MIXEGORTA_NO_TREE && shelf.slots[i].steps == 0 && shelf.slots[i].reversion == 0);
+        CHECK(same_slot(&shelf.slots[i], &no_tree));
     for (size_t name = 1; name <= MIXEGORTA_MAX_NAME; name++) CHECK(placed(name, 0, 0) && release(name) == 15);
 }
 
@@ -248,6 +272,31 @@ static void same_prices(void) {
     }
 }
 
+/* A fitted slot carries the answer of mixegorta_tree_bounds, refused commits leave zeros, and a release every field 0, so that an asking begins anew. */
+static void carried(void) {
+    const struct mixegorta_slot asked = {MIXEGORTA_AWAITING, 12, 700, 0, {0}};
+    start();
+    falling_curve(1.01);
+    CHECK(ask(4, 12, 700) == 0 && ask(6, 60, 3000) == 0 && same_slot(&desk.shelf.slots[3], &asked));
+    figures[5] = 1.6;
+    CHECK(commit(4, 1, 8000, 12) == 9 && same_slot(&desk.shelf.slots[3], &asked));
+    CHECK(commit(4, 1, 50001, 12) == 5 && same_slot(&desk.shelf.slots[3], &asked));
+    falling_curve(1.01);
+    CHECK(commit(4, 1, 8000, 12) == 0 && commit(6, 12, 1000, 60) == 0);
+    for (size_t name = 4; name <= 6; name += 2) {
+        const struct mixegorta_slot slot = desk.shelf.slots[name - 1];
+        const struct mixegorta_part part = mixegorta_shelf_part(desk.shelf, name);
+        const struct mixegorta_tree_error_bounds known = mixegorta_tree_bounds(slot.steps, slot.reversion, desk.memory + part.start, part.count);
+        CHECK(known.number == 0 && slot.bound == known.bound && memcmp(slot.greatest, known.greatest, sizeof known.greatest) == 0);
+        CHECK(slot.bound > 2 * slot.steps && slot.greatest[0] > ONE && slot.greatest[slot.steps - 1] > ONE);
+        for (size_t row = slot.steps; row < MIXEGORTA_MAX_STEPS; row++) CHECK(slot.greatest[row] == 0);
+    }
+    CHECK(release(4) == 0 && same_slot(&desk.shelf.slots[3], &no_tree));
+    CHECK(ask(4, 12, 700) == 0 && same_slot(&desk.shelf.slots[3], &asked) && release(4) == 0);
+    falling_curve(0.97);
+    CHECK(ask(4, 3, 0) == 0 && commit(4, 1, 0, 3) == 0 && desk.shelf.slots[3].bound == 6 && desk.shelf.slots[3].greatest[3] == 0);
+}
+
 /* 60 steps without reversion have 3,600 nodes; so have 48 and 36 together. */
 static void whole_rooms(void) {
     start();
@@ -283,34 +332,65 @@ static void all_refused(void) {
     }
 }
 
+#define SLOT(status, steps, reversion) {status, steps, reversion, 4, {ONE, ONE}}
+
 static void altered_shelves(void) {
-    const struct mixegorta_slot broken[] = {{3, 2, 0}, {UINT64_MAX, 2, 0}, {(UINT64_C(1) << 32) + 1, 2, 0}, {1, 70, 0}, {2, 70, 0}, {1, 0, 0},
-                                            {2, SIZE_MAX, 0}, {2, 2, 6001}, {1, 2, UINT64_MAX}};
+    const struct mixegorta_slot broken[] = {SLOT(3, 2, 0), SLOT(UINT64_MAX, 2, 0), SLOT((UINT64_C(1) << 32) + 1, 2, 0), SLOT(1, 70, 0),
+                                            SLOT(2, 70, 0), SLOT(1, 0, 0), SLOT(2, SIZE_MAX, 0), SLOT(2, 2, 6001), SLOT(1, 2, UINT64_MAX)};
     for (size_t i = 0; i < sizeof broken / sizeof broken[0]; i++) {
         two_trees();
+        altered = true;
         desk.shelf.slots[6] = broken[i];
         all_refused();
     }
     two_trees();
-    desk.shelf.slots[7] = (struct mixegorta_slot){1, 60, 0}; /* 3,608 nodes */
+    altered = true;
+    desk.shelf.slots[7] = (struct mixegorta_slot)SLOT(1, 60, 0); /* 3,608 nodes */
     all_refused();
-    for (size_t i = 0; i < MIXEGORTA_MAX_NAME; i++) desk.shelf.slots[i] = (struct mixegorta_slot){2, 60, 0};
+    for (size_t i = 0; i < MIXEGORTA_MAX_NAME; i++) desk.shelf.slots[i] = (struct mixegorta_slot)SLOT(2, 60, 0);
     all_refused();
+}
+
+/* A price answers the bound of its slot as it stands, and no call repairs another name's. A commit and a release write a slot whole. */
+static void altered_bounds(void) {
+    const uint64_t flows[] = {0, ONE}, bounds[] = {0, 3, 5, UINT64_MAX};
+    const uint8_t dates[] = {0, 1};
+    two_trees();
+    altered = true;
+    const uint64_t value = mixegorta_shelf_bond_price(desk.shelf, desk.memory, 2, flows, 2).value;
+    for (size_t i = 0; i < sizeof bounds / sizeof bounds[0]; i++) {
+        desk.shelf.slots[1].bound = bounds[i];
+        desk.shelf.slots[1].greatest[0] = desk.shelf.slots[1].greatest[59] = UINT64_MAX;
+        const struct mixegorta_price bond = mixegorta_shelf_bond_price(desk.shelf, desk.memory, 2, flows, 2);
+        const struct mixegorta_bond_and_option_prices
+            both = mixegorta_shelf_bond_and_option(desk.shelf, desk.memory, 2, flows, 2, MIXEGORTA_AMERICAN_CALL, 1, ONE),
+            listed = mixegorta_shelf_bond_and_dated_option(desk.shelf, desk.memory, 2, flows, 2, MIXEGORTA_PUT, dates, 2, ONE);
+        CHECK(same_price(bond, (struct mixegorta_price){0, value, bounds[i]}) && same_price(both.bond, bond) && same_price(listed.bond, bond));
+        CHECK(both.option.bound == bounds[i] && listed.option.bound == bounds[i]);
+        CHECK(mixegorta_shelf_option_price(desk.shelf, desk.memory, 2, flows, 2, MIXEGORTA_AMERICAN_CALL, 1, ONE).bound == bounds[i]);
+        CHECK(mixegorta_shelf_dated_option_price(desk.shelf, desk.memory, 2, flows, 2, MIXEGORTA_PUT, dates, 2, ONE).bound == bounds[i]);
+        CHECK(all_unpriced(2, flows, 1, 6)); /* a refusal has no bound, whatever the slot says */
+    }
+    desk.shelf.slots[4].bound = desk.shelf.slots[4].greatest[7] = 99;
+    desk.shelf.slots[0].bound = desk.shelf.slots[0].greatest[7] = 99;
+    CHECK(commit(5, 1, 0, 2) == 0 && carries_its_own(5) && !carries_its_own(2));
+    CHECK(ask(1, 2, 0) == 0 && carries_its_own(1) && release(2) == 0 && same_slot(&desk.shelf.slots[1], &no_tree));
 }
 
 /* An altered memory under whole slots: lent discounts as any others. */
 static void altered_memories(void) {
     const uint64_t flows[] = {0, ONE};
     two_trees();
+    altered = true;
     memset(desk.memory, 0, 4 * sizeof desk.memory[0]);
     CHECK(all_unpriced(2, flows, 2, 9));
     for (size_t i = 0; i < 8; i++) desk.memory[i] = ONE;
-    CHECK(same_price(mixegorta_shelf_bond_price(desk.shelf, desk.memory, 5, flows, 2), (struct mixegorta_price){0, ONE, 4}));
+    CHECK(same_price(mixegorta_shelf_bond_price(desk.shelf, desk.memory, 5, flows, 2), (struct mixegorta_price){0, ONE, 0}));
     figures[1] = 1.5;
     const struct mixegorta_shelved after =
         mixegorta_shelf_commit(desk.shelf, desk.memory, 5, 1, 0, rows, 2, kinds, 2, figures, 2);
     CHECK(after.number == 9 && same_shelf(&after.shelf, &desk.shelf) && all_zeros(5) && desk.memory[3] == ONE);
-    desk.shelf.slots[0] = (struct mixegorta_slot){0, 70, 9999}; /* no tree, whatever else it says */
+    desk.shelf.slots[0] = (struct mixegorta_slot)SLOT(0, 70, 9999); /* no tree, whatever else it says */
     CHECK(placed(2, 0, 4) && ask(1, 1, 0) == 0 && placed(2, 1, 4));
 }
 
@@ -321,9 +401,11 @@ int main(void) {
     lengths();
     prices();
     same_prices();
+    carried();
     whole_rooms();
     new_trees();
     altered_shelves();
+    altered_bounds();
     altered_memories();
     printf("C: %u checks of the shelf, %u failed\n", checks, failures);
     return failures != 0;

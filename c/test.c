@@ -652,6 +652,46 @@ static void bounds(void) {
     CHECK(refused(mixegorta_state_price_error_bound(2, 0, flat, 4, 0), 9));
 }
 
+static bool no_bounds(struct mixegorta_tree_error_bounds known, uint64_t number) {
+    for (size_t row = 0; row < MIXEGORTA_MAX_STEPS; row++)
+        if (known.greatest[row] != 0) return false;
+    return known.number == number && known.bound == 0;
+}
+
+/* Both functions refuse together, with the lowest number. */
+static bool no_bound_of(size_t steps, uint64_t reversion, const uint64_t *discounts, size_t count, uint64_t number) {
+    return refused(mixegorta_price_error_bound(steps, reversion, discounts, count), number) &&
+           no_bounds(mixegorta_tree_bounds(steps, reversion, discounts, count), number);
+}
+
+/* The bound and the greatest discounts of a tree of three steps; the rows behind it are 0. */
+static bool bounded(const uint64_t *discounts, size_t count, uint64_t bound, const uint64_t greatest[3]) {
+    const struct mixegorta_tree_error_bounds known = mixegorta_tree_bounds(3, 0, discounts, count);
+    for (size_t row = 0; row < MIXEGORTA_MAX_STEPS; row++)
+        if (known.greatest[row] != (row < 3 ? greatest[row] : 0)) return false;
+    return known.number == 0 && known.bound == bound && answered(mixegorta_price_error_bound(3, 0, discounts, count), bound);
+}
+
+static void bounds_of_trees(void) {
+    uint64_t discounts[10] = {900000000, 1, 800000000, 2, 3, 4, 5, 6, 700000000, 0};
+    CHECK(bounded(discounts, 9, 6, (uint64_t[]){900000000, 800000000, 700000000}));
+    CHECK(bounded(discounts, 10, 6, (uint64_t[]){900000000, 800000000, 700000000})); /* a longer memory is read no further */
+    discounts[0] = discounts[3] = ONE;
+    CHECK(bounded(discounts, 9, 6, (uint64_t[]){ONE, ONE, 700000000}));
+    discounts[8] = MIXEGORTA_MAX_NODE_DISCOUNT; /* the last row's discount adds nothing: 2 it is */
+    CHECK(bounded(discounts, 9, 6, (uint64_t[]){ONE, ONE, MIXEGORTA_MAX_NODE_DISCOUNT}));
+    discounts[2] = ONE + 1; /* 2 x (one + 1) / one, up, is 3 */
+    CHECK(bounded(discounts, 9, 3 + 2 + 2, (uint64_t[]){ONE, ONE + 1, MIXEGORTA_MAX_NODE_DISCOUNT}));
+    discounts[0] = MIXEGORTA_MAX_NODE_DISCOUNT; /* 5 x 1.1, up, is 6 */
+    CHECK(bounded(discounts, 9, 6 + 2, (uint64_t[]){MIXEGORTA_MAX_NODE_DISCOUNT, ONE + 1, MIXEGORTA_MAX_NODE_DISCOUNT}));
+    discounts[5] = 0;
+    CHECK(no_bound_of(0, 6001, NULL, 0, 3) && no_bound_of(61, 6001, discounts, 9, 3));
+    CHECK(no_bound_of(3, 6001, NULL, 0, 4) && no_bound_of(3, 0, NULL, 0, 6) && no_bound_of(3, 0, discounts, 8, 6));
+    CHECK(no_bound_of(3, 0, discounts, 9, 9));
+    discounts[5] = MIXEGORTA_MAX_NODE_DISCOUNT + 1;
+    CHECK(no_bound_of(3, 0, discounts, 9, 9));
+}
+
 /* The scope's job with an option for today; without its option, its last nine bytes, it is still a job. */
 static const uint8_t example_job[] = {1, 0, 1, 1, 2, 0, 1, 1, 3, 0, 2, 0, 0, 4, 0, 4, 0, 0, 0, 0,
                                       5, 0, 8, 0x3F, 0xF0, 0x0A, 0x3D, 0x70, 0xA3, 0xD7, 0x0A,
@@ -795,6 +835,7 @@ int main(void) {
     date_refusals();
     values();
     bounds();
+    bounds_of_trees();
     sheets();
     malformed_jobs();
     refused_jobs();

@@ -46,6 +46,10 @@ static void prices() {
     const mixegorta_price bond = mixegorta_bond_price(1, 0, discounts.data(), discounts.size(), flows.data(), flows.size());
     EXPECT(bond.number == 0 && bond.value == 1002500000 && bond.bound == 2);
     EXPECT(both.bond.value == bond.value && both.option.number == 0 && both.option.value == 7500000);
+    const mixegorta_tree_error_bounds known = mixegorta_tree_bounds(1, 0, discounts.data(), discounts.size());
+    EXPECT(known.number == 0 && known.bound == bond.bound && known.greatest[0] == 1002500000 && known.greatest[1] == 0);
+    const mixegorta_answer bound = mixegorta_price_error_bound(1, 0, discounts.data(), discounts.size());
+    EXPECT(bound.number == 0 && bound.value == known.bound);
 }
 
 static void sheet() {
@@ -67,9 +71,11 @@ static void shelf() {
                                    figures.data(), figures.size());
     const mixegorta_part part = mixegorta_shelf_part(after.shelf, 8);
     EXPECT(after.number == 0 && part.start == 0 && part.count == 1 && memory[0] == 1002500000);
+    const mixegorta_slot fitted = after.shelf.slots[MIXEGORTA_MAX_NAME - 1];
+    EXPECT(slot.bound == 0 && slot.greatest[0] == 0 && fitted.bound == 2 && fitted.greatest[0] == 1002500000 && fitted.greatest[59] == 0);
     const mixegorta_bond_and_option_prices both = mixegorta_shelf_bond_and_dated_option(
         after.shelf, memory.data(), 8, flows.data(), flows.size(), MIXEGORTA_PUT, dates.data(), dates.size(), 1010000000);
-    EXPECT(both.bond.value == 1002500000 && both.option.number == 0 && both.option.value == 7500000);
+    EXPECT(both.bond.value == 1002500000 && both.option.number == 0 && both.option.value == 7500000 && both.option.bound == fitted.bound);
     EXPECT(mixegorta_shelf_ask(after.shelf, memory.data(), 1, MIXEGORTA_MAX_STEPS, 0).number == 14);
     after = mixegorta_shelf_release(after.shelf, memory.data(), 8);
     EXPECT(after.number == 0 && mixegorta_shelf_release(after.shelf, memory.data(), 8).number == 15);

@@ -138,6 +138,15 @@ static void continuous_rate(void) { answer_rate(mixegorta_continuous_rate(number
 
 static void state_price_error_bound(void) { answer_value(mixegorta_state_price_error_bound(number(0), number(1), LENT(2), number(3))); }
 
+static void price_error_bound(void) { answer_value(mixegorta_price_error_bound(number(0), number(1), LENT(2))); }
+
+static void tree_bounds(void) {
+    const struct mixegorta_tree_error_bounds b = mixegorta_tree_bounds(number(0), number(1), LENT(2));
+    uint64_t fields[1 + MIXEGORTA_MAX_STEPS] = {b.bound};
+    memcpy(fields + 1, b.greatest, sizeof b.greatest);
+    answer(b.number, fields, 1 + MIXEGORTA_MAX_STEPS);
+}
+
 static void bond_price(void) { answer_price(mixegorta_bond_price(number(0), number(1), LENT(2), LENT(3))); }
 
 static void option_price(void) {
@@ -160,12 +169,16 @@ static void value_by_state_prices(void) { answer_value(mixegorta_value_by_state_
 
 static void valuation_error_bound(void) { answer_value(mixegorta_valuation_error_bound(number(0), number(1), LENT(2), number(3), LENT(4))); }
 
-/* The shelf of a line: status, steps and reversion of each name. */
+/* The numbers of a slot: status, steps, reversion, bound and greatest discounts. */
+enum { SLOT = 4 + MIXEGORTA_MAX_STEPS };
+
+/* The shelf of a line. */
 static struct mixegorta_shelf shelf(void) {
     struct mixegorta_shelf made = mixegorta_empty_shelf();
     for (size_t i = 0; i < MIXEGORTA_MAX_NAME; i++) {
-        const uint64_t *slot = given[0].items + 3 * i;
-        made.slots[i] = (struct mixegorta_slot){slot[0], slot[1], slot[2]};
+        const uint64_t *slot = given[0].items + SLOT * i;
+        made.slots[i] = (struct mixegorta_slot){slot[0], slot[1], slot[2], slot[3], {0}};
+        memcpy(made.slots[i].greatest, slot + 4, sizeof made.slots[i].greatest);
     }
     return made;
 }
@@ -181,9 +194,10 @@ static void answer_shelved(struct mixegorta_shelved after) {
     add(&found, after.number);
     for (size_t i = 0; i < MIXEGORTA_MAX_NAME; i++) {
         const struct mixegorta_slot slot = after.shelf.slots[i];
-        const uint64_t fields[] = {slot.status, slot.steps, slot.reversion};
-        for (size_t k = 0; k < 3; k++) {
-            same = same && fields[k] == given[0].items[3 * i + k];
+        uint64_t fields[SLOT] = {slot.status, slot.steps, slot.reversion, slot.bound};
+        memcpy(fields + 4, slot.greatest, sizeof slot.greatest);
+        for (size_t k = 0; k < SLOT; k++) {
+            same = same && fields[k] == given[0].items[SLOT * i + k];
             if (after.number == 0) add(&found, fields[k]);
         }
     }
@@ -232,10 +246,10 @@ static const struct {
     void (*call)(void);
 } calls[] = {CALL(half_width), CALL(node_count), CALL(row_start), CALL(discounts_needed), CALL(state_prices_needed), CALL(branches),
              CALL(quote_discount), CALL(curve_discounts), CALL(fit), CALL(row_range), CALL(step_rate), CALL(continuous_rate),
-             CALL(state_price_error_bound), CALL(bond_price), CALL(option_price), CALL(bond_and_option), CALL(dated_option_price),
-             CALL(bond_and_dated_option), CALL(value_by_state_prices), CALL(valuation_error_bound), CALL(shelf_part), CALL(shelf_ask),
-             CALL(shelf_commit), CALL(shelf_release), CALL(shelf_bond_price), CALL(shelf_option_price), CALL(shelf_bond_and_option),
-             CALL(shelf_dated_option_price), CALL(shelf_bond_and_dated_option)};
+             CALL(state_price_error_bound), CALL(price_error_bound), CALL(tree_bounds), CALL(bond_price), CALL(option_price),
+             CALL(bond_and_option), CALL(dated_option_price), CALL(bond_and_dated_option), CALL(value_by_state_prices),
+             CALL(valuation_error_bound), CALL(shelf_part), CALL(shelf_ask), CALL(shelf_commit), CALL(shelf_release), CALL(shelf_bond_price),
+             CALL(shelf_option_price), CALL(shelf_bond_and_option), CALL(shelf_dated_option_price), CALL(shelf_bond_and_dated_option)};
 
 static bool called(const char *name) {
     found.count = 0;

@@ -3,7 +3,7 @@ use crate::engine;
 use crate::exact::{near_fourth_power, Exact, ExactBond};
 use crate::inputs::{self, Case};
 use crate::natural::Natural;
-use crate::rules::{self, Contract, Curve, DatedOption, Fitted, Outcome, Tree, CALL, DISCOUNT_LIMIT, FLOW_LIMIT, ONE, PUT};
+use crate::rules::{self, Carried, Contract, Curve, DatedOption, Fitted, Outcome, Tree, CALL, DISCOUNT_LIMIT, FLOW_LIMIT, ONE, PUT};
 use std::cmp::Ordering;
 use std::collections::BTreeMap;
 use std::fmt;
@@ -424,9 +424,73 @@ fn more_rights(case: &Case, discounts: &[u64], tally: &mut Tally) {
     }
 }
 
+/// A tree's bound alone, and with the greatest discounts of its rows.
+fn tree_bounds(tree: &Tree, discounts: &[u64], tally: &mut Tally) {
+    let ruled = tree.bounds(discounts);
+    agree("tree bounds", engine::tree_bounds(tree, discounts), ruled, tally);
+    agree("price bound", engine::price_bound(tree, discounts), ruled.map(|carried| carried.bound), tally);
+}
+
+/// The bounds of trees by hand: from the last row, times the row's greatest, up, and 2 more.
+pub fn bounds_by_hand() {
+    let (half, high) = (ONE / 2, DISCOUNT_LIMIT);
+    let trees: [(u64, &[u64], u64, &[u64]); 7] = [
+        (0, &[ONE], 2, &[ONE]),
+        (0, &[1, 1, 1, 1], 3, &[1, 1]),
+        (0, &[high; 4], 5, &[high, high]),
+        (6_000, &[high; 7], 8, &[high, high, high]),
+        (0, &[ONE, 1, half, 2, ONE, 1, 1, 1, 1], 5, &[ONE, half, ONE]),
+        (0, &[half, 1, 1, ONE, 1, 1, 1, 1, ONE], 4, &[half, ONE, ONE]),
+        (0, &[half + 1, ONE, 1, 1, 1, 1, 2, 1, 1, 0, u64::MAX], 5, &[half + 1, ONE, 2]),
+    ];
+    for (reversion, discounts, bound, rows) in trees {
+        let made = Carried::of(bound, rows);
+        let tree = Tree { steps: rows.len(), reversion };
+        assert_eq!(engine::tree_bounds(&tree, discounts), Ok(made), "bounds of {discounts:?}: library left, by hand right");
+        assert_eq!(engine::price_bound(&tree, discounts), Ok(bound), "bound of {discounts:?}: library left, by hand right");
+        assert_eq!(tree.bounds(discounts), Ok(made), "bounds of {discounts:?}: rules left, by hand right");
+    }
+}
+
+/// A tree and its discounts, with a set of the causes 3, 4, 6 and 9 in one of many ways.
+fn with_causes(tree: Tree, wrong: [bool; 4], way: usize) -> (Tree, Vec<u64>) {
+    let Tree { steps, reversion } = tree;
+    let strange_steps = [0, 61, 62, 70, steps + (1 << 8), steps + (1 << 16), steps + (1 << 32), usize::MAX];
+    let strange_reversions = [6_001, 65_535, reversion + (1 << 16), reversion + (1 << 32), u64::MAX];
+    let strange_discounts = [0, DISCOUNT_LIMIT + 1, ONE + (1 << 32), ONE + (1 << 33), u64::MAX];
+    let (mut made, needed) = (tree, tree.discounts_needed());
+    let length = if wrong[2] { needed - 1 - way % (needed - 1) } else { needed };
+    let mut discounts = vec![ONE; length];
+    if wrong[0] {
+        made.steps = strange_steps[way % strange_steps.len()];
+    }
+    if wrong[1] {
+        made.reversion = strange_reversions[way % strange_reversions.len()];
+    }
+    if wrong[3] {
+        discounts[[0, length / 2, length - 1][way % 3]] = strange_discounts[way / 3 % strange_discounts.len()];
+    }
+    (made, discounts)
+}
+
+/// Every set of the causes 3, 4, 6 and 9: the lowest is the answer.
+pub fn causes_of_bounds(tally: &mut Tally) {
+    for (steps, reversion) in [(2, 0), (3, 800), (60, 0), (60, 6_000), (17, 83)] {
+        for (way, set) in (0..120).flat_map(|way| (0..16).map(move |set| (way, set))) {
+            let wrong = [0, 1, 2, 3].map(|place| set >> place & 1 == 1);
+            let (tree, discounts) = with_causes(Tree { steps, reversion }, wrong, way);
+            let lowest = [3, 4, 6, 9].into_iter().zip(wrong).find(|cause| cause.1).map(|cause| cause.0);
+            let found = (engine::tree_bounds(&tree, &discounts).err(), engine::price_bound(&tree, &discounts).err());
+            assert_eq!(found, (lowest, lowest), "{tree:?}, {} discounts: library left, lowest cause right", discounts.len());
+            tree_bounds(&tree, &discounts, tally);
+        }
+    }
+}
+
 fn bounds(case: &Case, discounts: &[u64], tally: &mut Tally) {
     let (tree, row, payoffs) = (case.fit.tree, case.row, &case.payoffs);
     agree("state price bound", engine::state_price_bound(&tree, discounts, row), tree.state_price_bound(discounts, row), tally);
+    tree_bounds(&tree, discounts, tally);
     let bound = tree.weighing_bound(discounts, row, payoffs);
     agree("weighing bound", engine::weighing_bound(&tree, discounts, row, payoffs), bound, tally);
 }

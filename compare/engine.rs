@@ -1,5 +1,5 @@
 // The library, by the declarations of the Rust crate, which tools/declarations.py writes.
-use crate::rules::{Contract, Curve, DatedOption, FitInput, Outcome, Tree};
+use crate::rules::{Carried, Contract, Curve, DatedOption, FitInput, Outcome, Tree};
 use std::ptr;
 
 #[allow(dead_code)]
@@ -108,6 +108,16 @@ pub fn state_price_bound(tree: &Tree, discounts: &[u64], row: usize) -> Outcome<
     answered(unsafe { mixegorta_state_price_error_bound(tree.steps, tree.reversion, start(discounts), discounts.len(), row) })
 }
 
+pub fn price_bound(tree: &Tree, discounts: &[u64]) -> Outcome<u64> {
+    answered(unsafe { mixegorta_price_error_bound(tree.steps, tree.reversion, start(discounts), discounts.len()) })
+}
+
+pub fn tree_bounds(tree: &Tree, discounts: &[u64]) -> Outcome<Carried> {
+    let TreeErrorBounds { number, bound, greatest } =
+        unsafe { mixegorta_tree_bounds(tree.steps, tree.reversion, start(discounts), discounts.len()) };
+    outcome(number, Carried { bound, greatest })
+}
+
 pub fn bond(tree: &Tree, discounts: &[u64], flows: &[u64]) -> Outcome<(u64, u64)> {
     priced(unsafe {
         mixegorta_bond_price(tree.steps, tree.reversion, start(discounts), discounts.len(), start(flows), flows.len())
@@ -174,7 +184,9 @@ const SHELF_GUARD: usize = 8;
 const GUARDED: u64 = 0x0DDB_A115_CA1E_D0FF;
 
 /// Status, steps and reversion.
-pub type Slot = (u64, usize, u64);
+pub type Held = (u64, usize, u64);
+/// What a slot holds of its name, and the numbers that it carries.
+pub type Slot = (Held, Carried);
 
 /// A shelf and its memory as a desk keeps them, with guards on both sides of the memory.
 pub struct Desk {
@@ -198,12 +210,13 @@ impl Desk {
     }
 
     pub fn slots(&self) -> [Slot; 8] {
-        self.shelf.slots.map(|slot| (slot.status, slot.steps, slot.reversion))
+        let carried = |slot: raw::Slot| Carried { bound: slot.bound, greatest: slot.greatest };
+        self.shelf.slots.map(|slot| ((slot.status, slot.steps, slot.reversion), carried(slot)))
     }
 
     /// Alters a slot, as no entry does.
-    pub fn alter(&mut self, place: usize, slot: Slot) {
-        self.shelf.slots[place] = raw::Slot { status: slot.0, steps: slot.1, reversion: slot.2 };
+    pub fn alter(&mut self, place: usize, ((status, steps, reversion), carried): Slot) {
+        self.shelf.slots[place] = raw::Slot { status, steps, reversion, bound: carried.bound, greatest: carried.greatest };
     }
 
     fn read(&self) -> *const [u64; SHELF_MEMORY] {

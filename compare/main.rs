@@ -16,7 +16,7 @@ use std::panic;
 const LARGE_RUN: u64 = 1_000;
 /// Every so many seeds have a script of calls on a shelf too.
 const SEEDS_A_SCRIPT: u64 = 8;
-/// So many scripts have every order of causes, every refused commit tried again, and every alteration.
+/// So many scripts have every order of causes, every refused commit tried again, and every alteration, of the carried numbers too.
 const MANY_SCRIPTS: u64 = 1_000;
 
 fn argument(place: usize, otherwise: u64) -> u64 {
@@ -39,8 +39,11 @@ fn without_seed(tally: &mut Tally, shelves: &mut shelves::Tally) {
     checks::rolls_by_hand();
     checks::limit_by_hand();
     checks::discount_limit_by_hand();
+    checks::bounds_by_hand();
+    checks::causes_of_bounds(tally);
     checks::numbers_past_a_width(tally);
     shelves::by_hand();
+    shelves::carried_by_hand();
     shelves::every_order(shelves);
     shelves::numbers_past_a_width(shelves);
 }

@@ -1,6 +1,8 @@
 // The rules of document 01, as the requests of document 02 changed them, in 128-bit numbers, written from the documents. Amounts are billionths.
 
 pub const ONE: u64 = 1_000_000_000;
+pub const MOST_STEPS: usize = 60;
+pub const MOST_REVERSION: u64 = 6_000;
 pub const WHOLE: u64 = 600_000_000;
 pub const DISCOUNT_LIMIT: u64 = 1_100_000_000;
 pub const VALUE_LIMIT: u64 = 8 * ONE;
@@ -37,12 +39,32 @@ pub struct Tree {
     pub reversion: u64,
 }
 
+/// What a fitted tree carries: its price error bound, and the greatest discount of each row, 0 for rows that it has not.
+#[derive(Clone, Copy, Debug, PartialEq)]
+pub struct Carried {
+    pub bound: u64,
+    pub greatest: [u64; MOST_STEPS],
+}
+
+impl Carried {
+    /// By the greatest discounts of the rows that a tree has.
+    pub fn of(bound: u64, rows: &[u64]) -> Carried {
+        Carried { bound, greatest: std::array::from_fn(|row| rows.get(row).copied().unwrap_or(0)) }
+    }
+}
+
+impl Default for Carried {
+    fn default() -> Carried {
+        Carried::of(0, &[])
+    }
+}
+
 pub fn steps_wrong(steps: usize) -> bool {
-    steps < 1 || steps > 60
+    steps < 1 || steps > MOST_STEPS
 }
 
 pub fn reversion_wrong(reversion: u64) -> bool {
-    reversion > 6_000
+    reversion > MOST_REVERSION
 }
 
 impl Tree {
@@ -443,6 +465,18 @@ impl Tree {
     fn price_bound(&self, discounts: &[u64]) -> u64 {
         let step = |later: u128, row: usize| up(self.greatest(discounts, row) * later, ONE as u128) + 2;
         (0..self.steps).rev().fold(0, step) as u64
+    }
+
+    /// What 01's rule, as request (vi) left it, gives for accepted discounts.
+    pub fn carried(&self, discounts: &[u64]) -> Carried {
+        let greatest = std::array::from_fn(|row| if row < self.steps { self.greatest(discounts, row) as u64 } else { 0 });
+        Carried { bound: self.price_bound(discounts), greatest }
+    }
+
+    /// The same for any lent discounts.
+    pub fn bounds(&self, discounts: &[u64]) -> Outcome<Carried> {
+        lowest(&self.lent_causes(discounts, false))?;
+        Ok(self.carried(discounts))
     }
 
     fn lent_causes(&self, discounts: &[u64], wrong: bool) -> [(u64, bool); 4] {

@@ -1,7 +1,7 @@
 // Random scripts of calls on a shelf, each call drawn from what the shelf holds by then: calls as a desk makes them, and ones with something wrong.
-use crate::engine::Slot;
+use crate::engine::Held;
 use crate::inputs::{self, Case, Random};
-use crate::rules::{Contract, Curve, DatedOption, Tree};
+use crate::rules::{Carried, Contract, Curve, DatedOption, Tree, MOST_STEPS};
 use crate::shelf::{Shelf, MEMORY, NAMES};
 use std::collections::BTreeMap;
 
@@ -18,7 +18,7 @@ pub enum Call {
 #[derive(Clone, Debug)]
 pub struct Alteration {
     pub called: &'static str,
-    pub slots: Vec<(usize, Slot)>,
+    pub slots: Vec<(usize, Held)>,
 }
 
 /// Trees by the nodes that they need.
@@ -146,6 +146,12 @@ fn price(r: &mut Random, shelf: &Shelf, style: Style, wanted: &[usize]) -> Call 
     Call::Price { name, flows: case.flows, contract: case.contract, dated: case.dated }
 }
 
+/// A price of one name.
+pub fn price_of(r: &mut Random, shelf: &Shelf, style: Style, name: usize) -> Call {
+    let case = case_of(r, shelf, name, style);
+    Call::Price { name, flows: case.flows, contract: case.contract, dated: case.dated }
+}
+
 /// Mostly commits of trees that await one, and prices of fitted trees; where there is none, mostly an asking in its place.
 pub fn call(r: &mut Random, shelf: &Shelf, style: Style, sizes: &Sizes) -> Call {
     let (which, status) = (r.below(100), if r.chance(85) { 0 } else { 1 });
@@ -164,7 +170,7 @@ pub fn call(r: &mut Random, shelf: &Shelf, style: Style, sizes: &Sizes) -> Call 
 }
 
 /// Slots that hold more than the memory does: one name's tree is so great that the others have no room beside it.
-fn too_many(r: &mut Random, shelf: &Shelf, sizes: &Sizes, place: usize) -> Vec<(usize, Slot)> {
+fn too_many(r: &mut Random, shelf: &Shelf, sizes: &Sizes, place: usize) -> Vec<(usize, Held)> {
     let others = shelf.held() - shelf.part(place + 1).1;
     let status = r.within(1, 2);
     if others == 0 {
@@ -178,7 +184,7 @@ pub fn alteration(r: &mut Random, shelf: &Shelf, sizes: &Sizes) -> Alteration {
     let place = r.below(NAMES);
     let tree = shelf.named(place + 1).map_or(Tree { steps: 2, reversion: 83 }, |shelved| shelved.tree);
     let (n, b, status) = (tree.steps, tree.reversion, r.within(1, 2));
-    let altered = |slot: Slot| vec![(place, slot)];
+    let altered = |held: Held| vec![(place, held)];
     let (called, slots) = match r.below(4) {
         0 => ("status", altered((r.pick(&[3, 4, 255, status + (1 << 8), status + (1 << 16), status + (1 << 32), u64::MAX]), n, b))),
         1 => ("steps", altered((status, r.pick(&[0, 61, 70, n + (1 << 8), n + (1 << 16), n + (1 << 32), usize::MAX]), b))),
@@ -186,4 +192,21 @@ pub fn alteration(r: &mut Random, shelf: &Shelf, sizes: &Sizes) -> Alteration {
         _ => ("too many nodes", too_many(r, shelf, sizes, place)),
     };
     Alteration { called, slots }
+}
+
+/// A place, mostly of a fitted tree, and numbers for it to carry that are not the rule's: another bound, another row's greatest, a row too
+/// many, a row too few, or numbers of any size.
+pub fn carried(r: &mut Random, shelf: &Shelf) -> (usize, &'static str, Carried) {
+    let fitted = shelf.names(&[2]);
+    let place = if fitted.is_empty() || r.chance(15) { r.below(NAMES) } else { r.pick(&fitted) - 1 };
+    let ((_, steps, _), own) = shelf.slots()[place];
+    let (mut bound, mut greatest, any) = (own.bound, own.greatest, r.bits());
+    let called = match r.below(5) {
+        0 => { bound = r.pick(&[0, 1, bound.wrapping_add(1), bound.wrapping_sub(1), bound.wrapping_add(1 << 32), u64::MAX, any]); "bound" }
+        1 => { greatest[r.below(MOST_STEPS)] = r.pick(&[0, 1, 1_100_000_001, u64::MAX, any]); "greatest" }
+        2 => { greatest.rotate_left(1); "greatest of another row" }
+        3 => { greatest[steps.min(MOST_STEPS - 1)..].fill(any); "greatest of no row" }
+        _ => { (bound, greatest) = (any, std::array::from_fn(|_| r.bits())); "bound and greatest" }
+    };
+    (place, called, Carried { bound, greatest })
 }

@@ -1,10 +1,13 @@
-// The shelf of document 02, request (vii), as a desk sees it: under each name a tree with its own list of discounts, or none. Nothing here
+// The shelf of document 02, requests (vii) and (viii), as a desk sees it: under each name a tree with its own list of discounts, or none. Nothing here
 // moves; where a tree stands follows from the trees of the names before it.
-use crate::rules::{frequency_wrong, reversion_wrong, steps_wrong, volatility_wrong, Contract, Curve, DatedOption, FitInput, Outcome, Tree, FLOW_LIMIT};
+use crate::engine::Slot;
+use crate::rules::{
+    frequency_wrong, reversion_wrong, steps_wrong, volatility_wrong, Carried, Contract, Curve, DatedOption, FitInput, Outcome, Tree, FLOW_LIMIT,
+    MOST_STEPS,
+};
 
 pub const NAMES: usize = 8;
 pub const MEMORY: usize = 3_600;
-const MOST_STEPS: usize = 60;
 
 #[derive(Clone, Debug)]
 pub struct Shelved {
@@ -30,6 +33,8 @@ fn tried(causes: &[(u64, bool)]) -> Causes {
 pub struct Shelf {
     /// The tree of name k has place k − 1.
     trees: [Option<Shelved>; NAMES],
+    /// Beside the trees, since a slot that was altered may carry numbers without one.
+    carried: [Carried; NAMES],
 }
 
 impl Shelf {
@@ -49,6 +54,7 @@ impl Shelf {
         let causes = tried(&[(15, !absent), (3, steps), (4, reversion), (14, asked + self.held() > MEMORY)]);
         if causes.is_empty() {
             self.trees[name - 1] = Some(Shelved { tree, discounts: None });
+            self.carried[name - 1] = Carried::default();
         }
         causes
     }
@@ -65,6 +71,7 @@ impl Shelf {
         let number = fitted.as_ref().err().copied();
         let causes = tried(&[(15, second), (number.unwrap_or(0), number.is_some())]);
         if let (Ok(fitted), false) = (fitted, second) {
+            self.carried[name - 1] = tree.carried(&fitted.discounts);
             self.trees[name - 1] = Some(Shelved { tree, discounts: Some(fitted.discounts) });
         }
         causes
@@ -74,6 +81,7 @@ impl Shelf {
         let causes = tried(&[(15, self.named(name).is_none())]);
         if causes.is_empty() {
             self.trees[name - 1] = None;
+            self.carried[name - 1] = Carried::default();
         }
         causes
     }
@@ -88,11 +96,11 @@ impl Shelf {
         tried(&[(15, found.is_none()), (6, count_wrong), (9, unfitted), (10, above), (11, wrong(steps)), (13, dates_wrong(steps))])
     }
 
-    /// What the plain rule gives for a tree's own list, where nothing is tried before.
+    /// The value that the plain rule gives for a tree's own list, where nothing is tried before, with the bound that the tree carries.
     fn price(&self, name: usize, causes: &Causes, rule: impl Fn(&Tree, &[u64]) -> Outcome<(u64, u64)>) -> Outcome<(u64, u64)> {
         match (causes.first(), self.named(name)) {
             (Some(number), _) => Err(*number),
-            (None, Some(Shelved { tree, discounts: Some(discounts) })) => rule(tree, discounts),
+            (None, Some(Shelved { tree, discounts: Some(discounts) })) => Ok((rule(tree, discounts)?.0, self.carried[name - 1].bound)),
             (None, _) => panic!("a price without a fitted tree"),
         }
     }
@@ -135,17 +143,22 @@ impl Shelf {
         stored
     }
 
-    /// Status, steps and reversion of each name: 0 no tree, 1 a tree that awaits a commit, 2 a fitted one.
-    pub fn slots(&self) -> [(u64, usize, u64); NAMES] {
+    /// Status, steps and reversion of each name, and what it carries: 0 no tree, 1 a tree that awaits a commit, 2 a fitted one.
+    pub fn slots(&self) -> [Slot; NAMES] {
         std::array::from_fn(|place| match &self.trees[place] {
-            Some(Shelved { tree, discounts }) => (1 + discounts.is_some() as u64, tree.steps, tree.reversion),
-            None => (0, 0, 0),
+            Some(Shelved { tree, discounts }) => ((1 + discounts.is_some() as u64, tree.steps, tree.reversion), self.carried[place]),
+            None => ((0, 0, 0), self.carried[place]),
         })
+    }
+
+    /// Numbers that a slot carries though no entry wrote them.
+    pub fn carry(&mut self, place: usize, carried: Carried) {
+        self.carried[place] = carried;
     }
 
     /// The names whose slots have one of these statuses.
     pub fn names(&self, statuses: &[u64]) -> Vec<usize> {
         let slots = self.slots();
-        (1..=NAMES).filter(|name| statuses.contains(&slots[name - 1].0)).collect()
+        (1..=NAMES).filter(|name| statuses.contains(&slots[name - 1].0 .0)).collect()
     }
 }

@@ -1,10 +1,11 @@
 // What is compared of a script of calls on a shelf. After every call: its number, the slots, the used part of the memory, where each name's part
-// starts and how long it is; after a refused call and after a price the whole memory, which must be as it was; after a release the zeros that the
-// header tells at the end. A difference panics.
+// starts and how long it is; what each slot carries against the model, and against the rules on the discounts that are read back from the shelf;
+// after a refused call and after a price the whole memory, which must be as it was; after a release the zeros that the header tells at the end. A
+// difference panics.
 use crate::checks::{self, Terms};
 use crate::engine::{Both, Desk, Slot, SHELF_MEMORY};
 use crate::inputs::{self, Case, Random};
-use crate::rules::{Contract, Curve, DatedOption, Outcome, Tree, ONE};
+use crate::rules::{Carried, Contract, Curve, DatedOption, Outcome, Tree, ONE};
 use crate::scripts::{self, Alteration, Call, Sizes};
 use crate::shelf::{Causes, Shelf, Shelved, MEMORY, NAMES};
 use std::collections::BTreeMap;
@@ -30,6 +31,10 @@ const ORDERS: [(&str, u64, u64); 24] = [
     (DATED, 15, 13), (DATED, 6, 9), (DATED, 9, 11), (DATED, 9, 13),
 ];
 const ALTERED: [&str; 4] = ["status", "steps", "reversion", "too many nodes"];
+/// What of the carried numbers is altered before a price.
+const STRANGE: [&str; 5] = ["bound", "greatest", "greatest of another row", "greatest of no row", "bound and greatest"];
+/// The calls that write over altered numbers.
+const CLEARED: [&str; 3] = [ASK, COMMIT, RELEASE];
 
 #[derive(Default)]
 pub struct Tally {
@@ -39,6 +44,11 @@ pub struct Tally {
     orders: BTreeMap<(&'static str, u64, u64), u64>,
     again: BTreeMap<u64, u64>,
     altered: BTreeMap<&'static str, u64>,
+    /// Prices of trees whose carried numbers were altered, and calls that wrote over such numbers.
+    strange: BTreeMap<&'static str, u64>,
+    cleared: BTreeMap<&'static str, u64>,
+    /// Slots of fitted trees whose numbers are those of the rules on their discounts.
+    read_back: u64,
     /// Askings that used the memory up, and ones that would have passed it by one node.
     filled: u64,
     one_too_many: u64,
@@ -58,9 +68,11 @@ impl Tally {
         let orders = ORDERS.iter().filter(|order| !self.orders.contains_key(order)).map(|order| format!("{order:?}"));
         let again = OF_A_FIT.iter().filter(|number| !self.again.contains_key(number)).map(|number| format!("{number} and tried again"));
         let altered = ALTERED.iter().filter(|what| !self.altered.contains_key(*what)).map(|what| format!("altered {what}"));
+        let strange = STRANGE.iter().filter(|what| !self.strange.contains_key(*what)).map(|what| format!("a price with altered {what}"));
+        let cleared = CLEARED.iter().filter(|entry| !self.cleared.contains_key(*entry)).map(|entry| format!("{entry} over altered numbers"));
         let counts = [(self.filled, "filled"), (self.one_too_many, "one node too many"), (self.moved, "moved")];
         let counts = counts.iter().filter(|count| count.0 == 0).map(|count| count.1.to_string());
-        orders.chain(again).chain(altered).chain(counts).collect()
+        orders.chain(again).chain(altered).chain(strange).chain(cleared).chain(counts).collect()
     }
 }
 
@@ -81,6 +93,11 @@ impl fmt::Display for Tally {
         writeln!(f, "commits accepted after a refused one\n  {:<22}{}", "by its number", again.join("  "))?;
         let altered: Vec<String> = self.altered.iter().map(|(what, count)| format!("{what}: {count}")).collect();
         writeln!(f, "calls on altered shelves, each 15\n  {:<22}{}", "by what is wrong", altered.join("  "))?;
+        let strange: Vec<String> = self.strange.iter().map(|(what, count)| format!("{what}: {count}")).collect();
+        writeln!(f, "prices of trees that carry altered numbers, each with the bound as it stands\n  {:<22}{}", "by what was altered", strange.join("  "))?;
+        let cleared: Vec<String> = self.cleared.iter().map(|(entry, count)| format!("{entry}: {count}")).collect();
+        writeln!(f, "calls that wrote over altered numbers\n  {:<22}{}", "by entry", cleared.join("  "))?;
+        writeln!(f, "carried numbers of fitted trees equal to the rules on the discounts read back {}", self.read_back)?;
         writeln!(f, "askings that used the memory up {}, that passed it by one node {}; changes that moved a fitted tree {}",
             self.filled, self.one_too_many, self.moved)?;
         writeln!(f, "prices of shelved trees and their exact ones\n{}", self.prices.sides())?;
@@ -94,6 +111,8 @@ struct Run<'a> {
     shelf: Shelf,
     /// The slots as they were altered, and what is wrong with them.
     altered: Option<([Slot; NAMES], &'static str)>,
+    /// By name what was altered of the numbers that it carries.
+    strange: [Option<&'static str>; NAMES],
     /// By name the number of the last commit, where it was refused.
     refused: [Option<u64>; NAMES],
     tally: &'a mut Tally,
@@ -102,15 +121,35 @@ struct Run<'a> {
 impl<'a> Run<'a> {
     fn new(memory: &[u64], tally: &'a mut Tally) -> Run<'a> {
         tally.scripts += 1;
-        let run = Run { desk: Desk::new(memory), shelf: Shelf::default(), altered: None, refused: [None; NAMES], tally };
+        let mut run = Run { desk: Desk::new(memory), shelf: Shelf::default(), altered: None, strange: [None; NAMES], refused: [None; NAMES], tally };
         run.same_state("empty shelf", memory, true);
         run
     }
 
+    /// What each slot carries, against the rules on the discounts that the library shows under its name; zeros without a fitted tree.
+    fn same_bounds(&mut self, entry: &str) {
+        for (place, ((status, steps, reversion), carried)) in self.desk.slots().into_iter().enumerate() {
+            if self.strange[place].is_some() {
+                continue;
+            }
+            let (start, count) = self.desk.part(place + 1);
+            let read = &self.desk.memory()[start..start + count];
+            let ruled = if status == 2 { Tree { steps, reversion }.carried(read) } else { Carried::default() };
+            assert_eq!(carried, ruled, "{entry}: what name {} carries, library left, rules on its discounts right", place + 1);
+            self.tally.read_back += (status == 2) as u64;
+        }
+    }
+
     /// Slots, parts and the used part of the memory against the model; the whole memory against what it was, where nothing may change.
-    fn same_state(&self, entry: &str, before: &[u64], unchanged: bool) {
+    fn same_state(&mut self, entry: &str, before: &[u64], unchanged: bool) {
+        let slots = self.altered.map_or_else(|| self.shelf.slots(), |altered| altered.0);
+        for (place, (found, slot)) in self.desk.slots().iter().zip(&slots).enumerate() {
+            assert_eq!(found, slot, "{entry}: slot of name {}, library left, model right", place + 1);
+        }
+        if self.altered.is_none() {
+            self.same_bounds(entry);
+        }
         let memory = self.desk.memory();
-        assert_eq!(self.desk.slots(), self.altered.map_or_else(|| self.shelf.slots(), |altered| altered.0), "{entry}: slots, library left");
         let stored = self.shelf.stored();
         let place = (0..stored.len()).find(|place| memory[*place] != stored[*place]);
         assert!(place.is_none(), "{entry}: memory differs at {place:?}");
@@ -143,6 +182,13 @@ impl<'a> Run<'a> {
         if self.altered.is_some() { broken } else { rule(&mut self.shelf) }
     }
 
+    /// A call that is accepted writes what its name carries, whatever stood there.
+    fn written(&mut self, entry: &'static str, number: u64, name: usize) {
+        if number == 0 && self.strange[name - 1].take().is_some() {
+            *self.tally.cleared.entry(entry).or_default() += 1;
+        }
+    }
+
     fn fitted_behind(&self, name: usize) -> bool {
         self.shelf.names(&[2]).iter().any(|other| *other > name)
     }
@@ -152,6 +198,7 @@ impl<'a> Run<'a> {
         let number = self.desk.ask(name, &tree);
         let causes = self.ruled(|shelf| shelf.ask(name, tree), vec![15]);
         self.judged(ASK, number, &causes);
+        self.written(ASK, number, name);
         self.same_state(ASK, &before, number != 0);
         if number == 0 {
             self.refused[name - 1] = None;
@@ -166,6 +213,7 @@ impl<'a> Run<'a> {
         let number = self.desk.commit(name, frequency, volatility, curve);
         let causes = self.ruled(|shelf| shelf.commit(name, frequency, volatility, curve), vec![15]);
         self.judged(COMMIT, number, &causes);
+        self.written(COMMIT, number, name);
         self.same_state(COMMIT, &before, number != 0);
         if number == 0 {
             if let Some(former) = self.refused[name - 1].take() {
@@ -181,6 +229,7 @@ impl<'a> Run<'a> {
         let number = self.desk.release(name);
         let causes = self.ruled(|shelf| shelf.release(name), vec![15]);
         self.judged(RELEASE, number, &causes);
+        self.written(RELEASE, number, name);
         self.same_state(RELEASE, &before, number != 0);
         if number == 0 {
             self.tally.moved += self.fitted_behind(name) as u64;
@@ -205,7 +254,13 @@ impl<'a> Run<'a> {
         let found = self.desk.bond_and_dated_option(name, terms.flows, terms.dated);
         self.both(BOTH_DATED, found, (bond.1, dated.1), &before);
         if let (Ok(bond), Some(Shelved { tree, discounts: Some(discounts) })) = (bond.1, self.shelf.named(name)) {
-            checks::exact_prices(tree, discounts, terms, bond, [option.1.ok(), dated.1.ok()], &mut self.tally.prices);
+            // An altered bound is held against nothing.
+            let bound = tree.carried(discounts).bound;
+            let [option, dated] = [option.1, dated.1].map(|price| price.ok().map(|price| (price.0, bound)));
+            checks::exact_prices(tree, discounts, terms, (bond.0, bound), [option, dated], &mut self.tally.prices);
+            if let Some(what) = self.strange[name - 1] {
+                *self.tally.strange.entry(what).or_default() += 1;
+            }
         }
     }
 
@@ -232,10 +287,21 @@ impl<'a> Run<'a> {
     }
 
     fn alter(&mut self, alteration: &Alteration) {
-        for (place, slot) in &alteration.slots {
-            self.desk.alter(*place, *slot);
+        let slots = self.desk.slots();
+        for (place, held) in &alteration.slots {
+            self.desk.alter(*place, (*held, slots[*place].1));
         }
         self.altered = Some((self.desk.slots(), alteration.called));
+    }
+
+    /// Other numbers for a slot to carry, by which no call is refused.
+    fn carry(&mut self, (place, called, carried): (usize, &'static str, Carried)) {
+        let (held, own) = self.desk.slots()[place];
+        if carried != own {
+            self.desk.alter(place, (held, carried));
+            self.shelf.carry(place, carried);
+            self.strange[place] = Some(called);
+        }
     }
 
     /// The slots as the calls left them.
@@ -250,21 +316,29 @@ impl<'a> Run<'a> {
 /// A script from the empty shelf beside any memory. The calls are shown, so that a difference can be told with the last of them.
 pub fn script(r: &mut Random, sizes: &Sizes, calls: &mut Vec<Call>, tally: &mut Tally) {
     let memory: Vec<u64> = (0..SHELF_MEMORY).map(|_| r.bits()).collect();
-    let (style, length) = (scripts::style(r), r.within(20, 100));
+    let (style, length, altering) = (scripts::style(r), r.within(20, 100), r.chance(30));
     let mut run = Run::new(&memory, tally);
-    let mut next = |r: &mut Random, run: &mut Run| {
-        calls.push(scripts::call(r, &run.shelf, style, sizes));
+    let mut made = |run: &mut Run, call: Call| {
+        calls.push(call);
         run.call(&calls[calls.len() - 1]);
     };
     for _ in 0..length {
         if r.chance(3) {
             run.alter(&scripts::alteration(r, &run.shelf, sizes));
             for _ in 0..r.within(1, 4) {
-                next(r, &mut run);
+                let call = scripts::call(r, &run.shelf, style, sizes);
+                made(&mut run, call);
             }
             run.mend();
         }
-        next(r, &mut run);
+        if altering && r.chance(10) {
+            let strange = scripts::carried(r, &run.shelf);
+            run.carry(strange);
+            let call = scripts::price_of(r, &run.shelf, style, strange.0 + 1);
+            made(&mut run, call);
+        }
+        let call = scripts::call(r, &run.shelf, style, sizes);
+        made(&mut run, call);
     }
 }
 
@@ -342,6 +416,32 @@ pub fn by_hand() {
     let put = DatedOption { side: 2, strike: ONE, dates: vec![0] };
     assert_eq!(desk.dated_option(1, &[ONE], &put), Ok((20_000_000, 2)), "an option by hand");
     assert_eq!(desk.option(1, &[ONE], &Contract { kind: 2, expiry: 0, strike: ONE }), Ok((20_000_000, 2)), "an option by hand");
-    assert_eq!(desk.slots()[..3], [(2, 1, 0), (1, 1, 0), (0, 0, 0)], "slots by hand");
+    let slots = [((2, 1, 0), Carried::of(2, &[980_000_000])), ((1, 1, 0), Carried::default()), ((0, 0, 0), Carried::default())];
+    assert_eq!(desk.slots()[..3], slots, "slots by hand");
     assert_eq!(desk.memory()[..2], [980_000_000, 0], "memory by hand");
+}
+
+/// What a tree of two steps carries over its life. Its quotes of 1.1 give 1.1 on row 0; the state prices of row 1 are one billionth short of 1.1, so
+/// that its discounts are one. 1.1 × 2 is 3, up, and 2 more. Zeros stand after the asking, after commits that are refused, with 9 on row 0 and on
+/// row 1, and after the release.
+pub fn carried_by_hand() {
+    let mut desk = Desk::new(&[u64::MAX; SHELF_MEMORY]);
+    let (tree, none) = (Tree { steps: 2, reversion: 0 }, Carried::default());
+    let (curve, flows) = (|figures: [f64; 2]| Curve { figures: figures.to_vec(), ..level(2, 1.0) }, [0, ONE]);
+    let call = DatedOption { side: 1, strike: ONE, dates: vec![0] };
+    for _ in 0..2 {
+        assert_eq!((desk.ask(5, &tree), desk.slots()[4]), (0, ((1, 2, 0), none)), "an asking carries");
+        for (figures, volatility, number) in [([1.2, 1.0], 0, 9), ([1.1, 1.3], 0, 9), ([2.1, 1.0], 0, 7), ([1.1, 1.1], 50_001, 5)] {
+            assert_eq!(desk.commit(5, 1, volatility, &curve(figures)), number, "a commit by hand");
+            assert_eq!(desk.slots()[4], ((1, 2, 0), none), "a commit refused with {number} carries");
+        }
+        assert_eq!(desk.commit(5, 1, 0, &curve([1.1, 1.1])), 0, "a commit by hand");
+        let carried = Carried::of(5, &[1_100_000_000, ONE]);
+        assert_eq!(desk.slots()[4], ((2, 2, 0), carried), "a commit carries");
+        assert_eq!(desk.bond(5, &flows), Ok((1_100_000_000, 5)), "a bond by hand");
+        desk.alter(4, ((2, 2, 0), Carried { bound: 1 << 40, ..carried }));
+        assert_eq!(desk.bond(5, &flows), Ok((1_100_000_000, 1 << 40)), "a bond with an altered bound");
+        assert_eq!(desk.dated_option(5, &flows, &call), Ok((100_000_000, 1 << 40)), "an option with an altered bound");
+        assert_eq!((desk.release(5), desk.slots()[4]), (0, ((0, 0, 0), none)), "a release carries");
+    }
 }

@@ -1,4 +1,4 @@
-"""The shelf of document 02, request (vii), as a desk sees it: under each name a tree with its own list of discounts, or none.
+"""The shelf of document 02, requests (vii) and (viii), as a desk sees it: under each name a tree with its own list of discounts, or none.
 
 The rules are those of reference.py; nothing here says where in a memory a tree is kept, but for `part` and `stored`, which put the
 trees behind each other in the order of their names. A call returns its answer or raises Refused with its number.
@@ -10,9 +10,15 @@ from reference import ONE, Kind, Option, refuse_if
 
 NAMES = range(1, 9)
 MEMORY = 3_600
+MOST_ROWS = 60
 
+# What a tree carries: its price allowance, and the greatest discount of each of 60 rows, 0 for rows that it has not.
+Carried = namedtuple('Carried', 'allowance greatest')
+NOTHING = Carried(0, [0] * MOST_ROWS)
 # The discounts are row after row, lowest node first; None stands for a tree that awaits a commit.
-Tree = namedtuple('Tree', 'n b discounts')
+Tree = namedtuple('Tree', 'n b discounts carried')
+# Status 0 no tree, 1 awaiting a commit, 2 fitted.
+Slot = namedtuple('Slot', 'status n b allowance greatest')
 Price = namedtuple('Price', 'value allowance')
 
 
@@ -24,10 +30,20 @@ def listed(rows):
     return [row[j] for row in rows for j in sorted(row)]
 
 
-def rows_of(tree):
+def rows_of(n, b, discounts):
     """The rows that a list of discounts stands for."""
-    rest = iter(tree.discounts)
-    return [{j: next(rest) for j in rules.nodes(tree.b, i)} for i in range(tree.n)]
+    rest = iter(discounts)
+    return [{j: next(rest) for j in rules.nodes(b, i)} for i in range(n)]
+
+
+def tree_bounds(n, b, discounts):
+    """What a tree carries, for any lent discounts; those past the needed part count for nothing."""
+    refuse_if(not 1 <= n <= MOST_ROWS, 3)
+    refuse_if(b > 6_000, 4)
+    refuse_if(len(discounts) < nodes_needed(n, b), 6)
+    rows = rows_of(n, b, discounts)
+    refuse_if(not all(1 <= discount <= rules.DISCOUNT_LIMIT for discount in listed(rows)), 9)
+    return Carried(rules.price_allowance(rows), [max(row.values()) for row in rows] + [0] * (MOST_ROWS - n))
 
 
 def fitted(tree, f, s, rows, kinds, figures):
@@ -55,36 +71,37 @@ class Shelf:
 
     def ask(self, name, n, b):
         refuse_if(name not in NAMES or name in self.trees, 15)
-        refuse_if(not 1 <= n <= 60, 3)
+        refuse_if(not 1 <= n <= MOST_ROWS, 3)
         refuse_if(b > 6_000, 4)
         refuse_if(self.held() + nodes_needed(n, b) > MEMORY, 14)
-        self.trees[name] = Tree(n, b, None)
+        self.trees[name] = Tree(n, b, None, NOTHING)
 
     def commit(self, name, f, s, rows, kinds, figures):
         tree = self.tree(name)
         refuse_if(tree.discounts is not None, 15)
-        self.trees[name] = tree._replace(discounts=fitted(tree, f, s, rows, kinds, figures))
+        discounts = fitted(tree, f, s, rows, kinds, figures)
+        self.trees[name] = tree._replace(discounts=discounts, carried=tree_bounds(tree.n, tree.b, discounts))
 
     def release(self, name):
         self.tree(name)
         del self.trees[name]
 
     def priced(self, name, flows):
-        """The rows of a name's tree, once the causes about it and the flows have been tried."""
+        """A name's tree and its rows, once the causes about it and the flows have been tried."""
         tree = self.tree(name)
         refuse_if(len(flows) != tree.n, 6)
         refuse_if(tree.discounts is None, 9)
         refuse_if(any(flow > rules.FLOW_LIMIT for flow in flows), 10)
-        return tree, rows_of(tree)
+        return tree, rows_of(tree.n, tree.b, tree.discounts)
 
     def bond(self, name, flows):
         tree, rows = self.priced(name, flows)
-        return Price(rules.bond_rows(tree.n, tree.b, rows, flows)[0][0], rules.price_allowance(rows))
+        return Price(rules.bond_rows(tree.n, tree.b, rows, flows)[0][0], tree.carried.allowance)
 
     def option_by(self, name, flows, terms):
         tree, rows = self.priced(name, flows)
         option = rules.accepted_option(tree.n, terms)
-        return Price(rules.option_value(tree.n, tree.b, rows, flows, option), rules.price_allowance(rows))
+        return Price(rules.option_value(tree.n, tree.b, rows, flows, option), tree.carried.allowance)
 
     def option(self, name, flows, kind, expiry, strike):
         return self.option_by(name, flows, Kind(kind, expiry, strike))
@@ -112,6 +129,8 @@ class Shelf:
         return [discount for name in NAMES for discount in self.discounts(name)]
 
     def slot(self, name):
-        """Status (0 no tree, 1 awaiting a commit, 2 fitted), n and b."""
+        """What a name's slot holds: zeros without a tree."""
         tree = self.trees.get(name)
-        return (0, 0, 0) if tree is None else (1 if tree.discounts is None else 2, tree.n, tree.b)
+        if tree is None:
+            return Slot(0, 0, 0, *NOTHING)
+        return Slot(1 if tree.discounts is None else 2, tree.n, tree.b, *tree.carried)

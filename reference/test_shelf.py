@@ -1,5 +1,5 @@
 #!/usr/bin/env python3
-"""Figures of the shelf that were worked out by hand from document 02, request (vii), against the reference.
+"""Figures of the shelf that were worked out by hand from document 02, requests (vii) and (viii), against the reference.
 
     python3 reference/test_shelf.py
 """
@@ -11,7 +11,7 @@ import unittest
 sys.dont_write_bytecode = True
 import reference
 from reference import ONE, Refused
-from shelf import MEMORY, NAMES, Price, Shelf, nodes_needed
+from shelf import MEMORY, NAMES, NOTHING, Carried, Price, Shelf, nodes_needed, tree_bounds
 
 PAST = 0, 9, -1, 256 + 1, 2 ** 32 + 1, 2 ** 64 - 1
 
@@ -29,6 +29,11 @@ def curve(n, *factors):
     """Rows, kinds and figures of discount factors; all are one where none is given."""
     factors = factors or [1.0] * n
     return list(range(1, len(factors) + 1)), [5] * len(factors), [reference.pattern_of(factor) for factor in factors]
+
+
+def carried(allowance, *greatest):
+    """What a tree of these greatest discounts carries."""
+    return Carried(allowance, list(greatest) + [0] * (60 - len(greatest)))
 
 
 def desk(*trees):
@@ -106,7 +111,7 @@ class Order(Case):
             self.refused(15, shelf, 'bond', name, [ONE])
             self.refused(15, shelf, 'option', name, [ONE], 1, 0, ONE)
             self.refused(15, shelf, 'dated_option', name, [ONE], 1, [0], ONE)
-            self.assertEqual((shelf.part(name), shelf.slot(name)), ((0, 0), (0, 0, 0)))
+            self.assertEqual((shelf.part(name), shelf.slot(name)), ((0, 0), (0, 0, 0, *NOTHING)))
 
     def test_absent_names(self):
         shelf = desk((1, 0))
@@ -152,24 +157,24 @@ class Life(Case):
     def test_a_tree_s_whole_life(self):
         """One step at 0.98: a bond of 1 is worth 0.98 today, within 2 billionths, and the right to sell it today at par 0.02."""
         shelf = Shelf()
-        self.assertEqual(shelf.slot(3), (0, 0, 0))
+        self.assertEqual(shelf.slot(3), (0, 0, 0, *NOTHING))
         shelf.ask(3, 1, 500)
-        self.assertEqual((shelf.slot(3), shelf.discounts(3)), ((1, 1, 500), [0]))
+        self.assertEqual((shelf.slot(3), shelf.discounts(3)), ((1, 1, 500, *NOTHING), [0]))
         shelf.commit(3, 1, 10_000, *curve(1, 0.98))
-        self.assertEqual((shelf.slot(3), shelf.discounts(3)), ((2, 1, 500), [980_000_000]))
+        self.assertEqual((shelf.slot(3), shelf.discounts(3)), ((2, 1, 500, *carried(2, 980_000_000)), [980_000_000]))
         self.assertEqual(shelf.bond(3, [ONE]), Price(980_000_000, 2))
         for put in (2, 4):
             self.assertEqual(shelf.option(3, [ONE], put, 0, ONE), Price(20_000_000, 2))
         self.assertEqual(shelf.dated_option(3, [ONE], 2, [0], ONE), Price(20_000_000, 2))
         shelf.release(3)
-        self.assertEqual((shelf.slot(3), shelf.held(), shelf.stored()), ((0, 0, 0), 0, []))
+        self.assertEqual((shelf.slot(3), shelf.held(), shelf.stored()), ((0, 0, 0, *NOTHING), 0, []))
         self.refused(15, shelf, 'release', 3)
 
     def test_a_second_commit_is_15_and_a_refused_one_may_be_tried_again(self):
         shelf = desk((1, 0))
         for factor, s, number in ((1.2, 0, 9), (2.1, 0, 7), (0.5, 50_001, 5)):
             self.refused(number, shelf, 'commit', 1, 1, s, *curve(1, factor))
-            self.assertEqual(shelf.slot(1), (1, 1, 0))
+            self.assertEqual(shelf.slot(1), (1, 1, 0, *NOTHING))
         shelf.commit(1, 1, 0, *curve(1, 1.1))
         for factor, s in ((1.1, 0), (0.5, 50_001)):
             self.refused(15, shelf, 'commit', 1, 1, s, *curve(1, factor))
@@ -228,6 +233,69 @@ class Prices(Case):
             self.assertEqual(found, shelf.dated_option(2, flows, option.side, option.dates, ONE))
             self.assertEqual(found, (reference.option_value(n, b, tree, flows, option), allowance))
             self.assertLessEqual(abs(found.value - reference.exact_option(n, b, tree, flows, option)), allowance)
+
+
+class CarriedNumbers(Case):
+    HALF = ONE // 2
+
+    def test_the_rule_by_hand(self):
+        """From the last row, whose own greatest does not count: times it, up, and 2 more. Three steps at 1, 0.5, 1 and at 0.5, 1, 1: 2, 3, 5 and 2, 4, 4."""
+        for rows, made in (([[ONE]], carried(2, ONE)), ([[1]], carried(2, 1)), ([[1], [1, 1, 1]], carried(3, 1, 1)),
+                           ([[ONE], [1, self.HALF, 2], [ONE, 1, 1, 1, 1]], carried(5, ONE, self.HALF, ONE)),
+                           ([[self.HALF], [1, 1, ONE], [1, 1, 1, 1, ONE]], carried(4, self.HALF, ONE, ONE)),
+                           ([[self.HALF + 1], [ONE, 1, 1], [1, 1, 2, 1, 1]], carried(5, self.HALF + 1, ONE, 2))):
+            self.assertEqual(tree_bounds(len(rows), 0, sum(rows, [])), made, rows)
+
+    def test_discounts_above_one(self):
+        """1.1 x 2 is 2.2, up 3, and 2 more. A fit of 1.1 and 1.1 without volatility: the state prices of row 1 are 183,333,333 twice and 733,333,333,
+        one billionth short of 1.1, so that its discounts are 1,000,000,000, down."""
+        high = 1_100_000_000
+        self.assertEqual(tree_bounds(2, 0, [high] * 4), carried(5, high, high))
+        self.assertEqual(tree_bounds(3, 6_000, [high] * 7), carried(8, high, high, high))
+        shelf = desk((2, 0))
+        shelf.commit(1, 1, 0, *curve(2, 1.1, 1.1))
+        self.assertEqual(shelf.slot(1), (2, 2, 0, *carried(5, high, ONE)))
+        self.assertEqual(shelf.bond(1, [0, ONE]).allowance, 5)
+
+    def test_rows_from_n_on_are_0(self):
+        for n in (1, 2, 59, 60):
+            found = tree_bounds(n, 0, [ONE] * (n * n))
+            self.assertEqual(found, carried(2 * n, *[ONE] * n))
+            self.assertEqual((len(found.greatest), found.greatest[n:]), (60, [0] * (60 - n)))
+
+    def test_only_the_needed_part_counts(self):
+        self.assertEqual(tree_bounds(2, 0, [ONE, 1, 2, 3, 0, 2 ** 64 - 1]), carried(4, ONE, 3))
+
+    def test_lent_trees_try_3_4_6_9(self):
+        bad, short = [0] * 4, [0] * 3
+        for n, b, discounts, number in ((0, 6_001, [], 3), (61, 6_001, short, 3), (2 + 256, 0, bad, 3), (2 ** 32 + 2, 6_001, bad, 3), (2, 6_001, short, 4),
+                                        (2, 2 ** 16, bad, 4), (2, 0, short, 6), (2, 0, [], 6), (2, 0, bad, 9), (2, 0, [ONE, 1, 1_100_000_001, 1], 9),
+                                        (2, 0, [ONE, 1, 1, 2 ** 64 - 1], 9), (2, 0, [0, 1, 1, 1], 9), (2, 0, [ONE, 1, 1_100_000_000, 1], 0)):
+            self.assertEqual(number_of(tree_bounds, n, b, discounts), number, (n, b, discounts))
+
+    def test_an_unfitted_tree_carries_zeros(self):
+        """After its asking, after a commit that is refused, with 9 too, and after a release and another asking."""
+        shelf = desk((1, 0), (2, 0))
+        shelf.commit(1, 1, 0, *curve(1, 0.5))
+        for factors, s, number in (((1.1, 1.3), 0, 9), ((1.2, 1.0), 0, 9), ((2.1, 1.0), 0, 7), ((1.0, 1.0), 50_001, 5), ((1.0,), 0, 6)):
+            self.refused(number, shelf, 'commit', 2, 1, s, *curve(2, *factors))
+            self.assertEqual(shelf.slot(2), (1, 2, 0, *NOTHING))
+        shelf.commit(2, 1, 0, *curve(2))
+        self.assertEqual(shelf.slot(2)[3:], carried(4, ONE, ONE + 2))
+        shelf.release(2)
+        self.assertEqual(shelf.slot(2), (0, 0, 0, *NOTHING))
+        shelf.ask(2, 2, 0)
+        self.assertEqual(shelf.slot(2), (1, 2, 0, *NOTHING))
+        self.assertEqual(shelf.slot(1), (2, 1, 0, *carried(2, self.HALF)))
+
+    def test_a_price_s_allowance_is_the_carried_one(self):
+        """Also where it was altered, which the price does not judge."""
+        shelf = desk((1, 0))
+        shelf.commit(1, 1, 0, *curve(1, 0.5))
+        shelf.trees[1] = shelf.trees[1]._replace(carried=Carried(77, [5] * 60))
+        self.assertEqual(shelf.bond(1, [ONE]), Price(self.HALF, 77))
+        self.assertEqual(shelf.option(1, [ONE], 2, 0, ONE), Price(self.HALF, 77))
+        self.assertEqual(shelf.dated_option(1, [ONE], 2, [0], ONE), Price(self.HALF, 77))
 
 
 if __name__ == '__main__':

@@ -5,14 +5,15 @@
     widths.py --check    compares widths.txt with what it would write, and the entries with c/mixegorta.h
 
 A line of widths.txt is the name of an export, its arguments in the header's order, `=` and the answer. An argument is a number, a list [3,5,0*256], which
-ends in 256 zeros here, or @9, a memory of nine numbers to be written. Figures stand as their 64 bits. A shelf is a list of 24 numbers, status, steps and
-reversion of each name, beside its memory of 3,600. An answer is a refusal's number alone, or its fields; a memory's part that was written comes as a list,
-and a shelf's changed memory whole. Tests in C, Rust and Python read the lines. Each entry's first line is the call that the others change.
+ends in 256 zeros here, or @9, a memory of nine numbers to be written. Figures stand as their 64 bits. A shelf is a list of 512 numbers, status, steps,
+reversion, bound and sixty greatest discounts of each name, beside its memory of 3,600. An answer is a refusal's number alone, or its fields; a memory's part
+that was written comes as a list, and a shelf's changed memory whole. Tests in C, Rust and Python read the lines. Each entry's first line is the call that the others change.
 """
 import os
 import re
 import sys
 from collections import namedtuple
+from itertools import groupby
 
 HERE = os.path.dirname(os.path.abspath(__file__))
 sys.path.insert(0, HERE)
@@ -136,6 +137,15 @@ def state_price_error_bound(n, b, discounts, row):
     return [rules.state_price_allowance(b, lent(n, b, discounts, row > n), row)]
 
 
+def price_error_bound(n, b, discounts):
+    return [rules.price_allowance(lent(n, b, discounts, False))]
+
+
+def tree_bounds(n, b, discounts):
+    rows = lent(n, b, discounts, False)
+    return [rules.price_allowance(rows), [max(row.values()) for row in rows] + [0] * (60 - n)]
+
+
 def judged_flows(n, b, discounts, flows):
     rows = lent(n, b, discounts, len(flows) != n)
     refuse_if(any(flow > rules.FLOW_LIMIT for flow in flows), 10)
@@ -187,9 +197,9 @@ def valuation_error_bound(n, b, discounts, row, payoffs):
     return [rules.weighing_allowance(b, rows, row, payoffs)]
 
 
-# A shelf is a list of numbers, three for each of its eight names: status, steps, reversion
+# A shelf is a list of numbers, 64 for each of its eight names: status, steps, reversion, bound and the greatest discounts of sixty rows
 
-def nodes_of(status, n, b):
+def nodes_of(status, n, b, *_):
     """The nodes of a slot; more than there are where no calls lead to it."""
     if status == 0:
         return 0
@@ -197,7 +207,7 @@ def nodes_of(status, n, b):
 
 
 def slot_of(shelf, name):
-    return shelf[3 * name - 3:3 * name]
+    return shelf[64 * name - 64:64 * name]
 
 
 def nodes_before(shelf, name):
@@ -210,8 +220,12 @@ def judged_name(shelf, name, *statuses):
     return nodes_before(shelf, name), nodes_of(*slot_of(shelf, name))
 
 
-def with_slot(shelf, name, *slot):
-    return shelf[:3 * name - 3] + list(slot) + shelf[3 * name:]
+def slot(status, n, b, bound=0, greatest=(0,) * 60):
+    return [status, n, b, bound, *greatest]
+
+
+def with_slot(shelf, name, *fields):
+    return shelf[:64 * name - 64] + slot(*fields) + shelf[64 * name:]
 
 
 def shelf_part(shelf, name):
@@ -231,9 +245,9 @@ def shelf_ask(shelf, memory, name, n, b):
 
 def shelf_commit(shelf, memory, name, f, s, rows, kinds, figures):
     at, nodes = judged_name(shelf, name, 1)
-    _, n, b = slot_of(shelf, name)
+    _, n, b, *_ = slot_of(shelf, name)
     discounts, _ = fit(f, n, b, s, rows, kinds, figures, nodes, start(b, n + 1))
-    return [with_slot(shelf, name, 2, n, b), memory[:at] + discounts + memory[at + nodes:]]
+    return [with_slot(shelf, name, 2, n, b, *tree_bounds(n, b, discounts)), memory[:at] + discounts + memory[at + nodes:]]
 
 
 def shelf_release(shelf, memory, name):
@@ -242,11 +256,12 @@ def shelf_release(shelf, memory, name):
 
 
 def on_shelf(rule):
-    """A rule of lent discounts for those of a name."""
+    """A price on lent discounts for those of a name, with the bound that its slot carries."""
     def shelved(shelf, memory, name, *given):
         at, nodes = judged_name(shelf, name, 1, 2)
-        _, n, b = slot_of(shelf, name)
-        return rule(n, b, memory[at:at + nodes], *given)
+        _, n, b, bound, *_ = slot_of(shelf, name)
+        value, _ = rule(n, b, memory[at:at + nodes], *given)
+        return [value, bound]
     shelved.__name__ = 'shelf_' + rule.__name__
     return shelved
 
@@ -284,6 +299,8 @@ FREQUENCY, VOLATILITY = ('frequency', 'number', 2), ('volatility', 'number', 10_
 CURVE = (('rows', 'exact', [1, 2, 3]), ('kinds', 'bytes', [5, 6, 9]), ('figures', 'figures', figures_of(0.98, 0.03, 0.02)))
 DISCOUNTS = ('discounts', 'least', [970_000_000, 985_000_000, 968_000_000, 952_000_000, 999_000_000, 982_000_000, 965_000_000, 948_000_000, 932_000_000])
 LEVEL = ('discounts', 'least', [ONE] * 9)
+# Row 3 has its greatest discount in the last two of its seven nodes, which a tree of more reversion has not.
+LONGER, STEEP = ('steps', 'number', 5), ('discounts', 'least', [ONE] * 14 + [1_050_000_000] * 2 + [ONE] * 7)
 FLOWS = ('flows', 'exact', [40_000_000, 40_000_000, ONE + 40_000_000])
 STRIKE, DATES = ('strike', 'number', 2 * ONE), ('dates', 'bytes', [1, 2])
 MEMORIES = (('discounts', 'memory', Memory(9)), ('state_prices', 'memory', Memory(16)))
@@ -293,7 +310,8 @@ DATED = (('side', 'number', 2), DATES, STRIKE)
 
 # Under 2 a tree that awaits its commit, under 3 a fitted one of the same shape, no others: an asking under 1 moves both.
 FITTED = fit(FREQUENCY[2], STEPS[2], REVERSION[2], VOLATILITY[2], *(column[2] for column in CURVE), 9, 16)[0]
-SHELF = ('shelf', 'slots', [0] * 3 + [1, STEPS[2], REVERSION[2], 2, STEPS[2], REVERSION[2]] + [0] * 15)
+SHAPE = STEPS[2], REVERSION[2]
+SHELF = ('shelf', 'slots', slot(0, 0, 0) + slot(1, *SHAPE) + slot(2, *SHAPE, *tree_bounds(*SHAPE, FITTED)) + slot(0, 0, 0) * 5)
 ROOM = ('memory', 'room', [0] * 9 + FITTED + [0] * (3_600 - 18))
 SHELVED, AWAITING, FREE = ((SHELF, ROOM, ('name', 'number', name)) for name in (3, 2, 1))
 
@@ -308,6 +326,7 @@ ENTRIES = [
           ('row', 'number', 10)),
     entry(step_rate, ('discount', 'number', 900_000_000)), entry(continuous_rate, ('discount', 'number', 900_000_000)),
     entry(state_price_error_bound, STEPS, REVERSION, LEVEL, ('row', 'number', 3)),
+    entry(price_error_bound, LONGER, REVERSION, STEEP), entry(tree_bounds, LONGER, REVERSION, STEEP),
     entry(bond_price, *BOND), entry(option_price, *BOND, *OPTION), entry(bond_and_option, *BOND, *OPTION),
     entry(dated_option_price, *BOND, *DATED), entry(bond_and_dated_option, *BOND, *DATED),
     entry(value_by_state_prices, ('state_prices', 'exact', [160_000_000, 640_000_000, 160_000_000]), ('payoffs', 'exact', [ONE, ONE // 2, 2 * ONE])),
@@ -330,10 +349,11 @@ def multiple(length, bits):
 
 
 def changed_places(kind, value):
-    """The places of a list's numbers that are changed: the first, the middle and the last, of a memory those of its fitted tree, of a shelf all of two trees."""
+    """The places of a list's numbers that are changed: the first, the middle and the last, of a memory those of its fitted tree, of a shelf the numbers of two
+    trees, of what they carry the bounds and, of the fitted one, the first, the last and the last place's greatest discount."""
     if kind in ('exact', 'least'):
         return sorted({0, len(value) // 2, len(value) - 1})
-    return {'room': (9, 13, 17), 'slots': range(3, 9)}.get(kind, ())
+    return {'room': (9, 13, 17), 'slots': (*range(64, 68), *range(128, 133), 134, 191)}.get(kind, ())
 
 
 def changes(argument):
@@ -356,11 +376,8 @@ def token(value):
         return '@%d' % value.length
     if not isinstance(value, list):
         return str(value)
-    kept = len(value)
-    while kept > 0 and value[kept - 1] == 0:
-        kept -= 1
-    zeros = len(value) - kept
-    return '[%s]' % ','.join([str(each) for each in value[:kept]] + (['0*%d' % zeros] if zeros else []))
+    runs = [(each, len(list(run))) for each, run in groupby(value)]
+    return '[%s]' % ','.join('0*%d' % times if each == 0 and times > 1 else ','.join([str(each)] * times) for each, times in runs)
 
 
 def answer(entry, values):

@@ -35,6 +35,12 @@ class CRate(ctypes.Structure):
     _fields_ = [("number", U64), ("value", I64)]
 
 
+class CTreeErrorBounds(ctypes.Structure):
+    """What is known of a tree: its error bound, and the greatest discount of each row, 0 for rows that the tree has not; a refusal's number with zeros."""
+
+    _fields_ = [("number", U64), ("bound", U64), ("greatest", U64 * 60)]
+
+
 class CPrice(ctypes.Structure):
     """A price in billionths with its error bound; a refusal's number with zeros."""
 
@@ -54,9 +60,9 @@ class CWritten(ctypes.Structure):
 
 
 class CSlot(ctypes.Structure):
-    """What a shelf keeps of a name: status 0 no tree, 1 a tree that awaits a commit, 2 a fitted tree; then its steps and its reversion."""
+    """What a shelf keeps of a name: status 0 no tree, 1 a tree that awaits a commit, 2 a fitted tree; then its steps and its reversion. A fitted tree carries its price error bound and the greatest discount of each of its rows; all else is 0."""
 
-    _fields_ = [("status", U64), ("steps", SIZE), ("reversion", U64)]
+    _fields_ = [("status", U64), ("steps", SIZE), ("reversion", U64), ("bound", U64), ("greatest", U64 * 60)]
 
 
 class CShelf(ctypes.Structure):
@@ -100,6 +106,8 @@ DECLARATIONS: Dict[str, Tuple[Any, Dict[str, Any]]] = {
     "step_rate": (CRate, {"discount": U64}),
     "continuous_rate": (CRate, {"discount": U64}),
     "state_price_error_bound": (CAnswer, {"steps": SIZE, "reversion": U64, "discounts": SliceOf(U64), "row": SIZE}),
+    "price_error_bound": (CAnswer, {"steps": SIZE, "reversion": U64, "discounts": SliceOf(U64)}),
+    "tree_bounds": (CTreeErrorBounds, {"steps": SIZE, "reversion": U64, "discounts": SliceOf(U64)}),
     "bond_price": (CPrice, {"steps": SIZE, "reversion": U64, "discounts": SliceOf(U64), "flows": SliceOf(U64)}),
     "option_price": (CPrice, {
         "steps": SIZE, "reversion": U64, "discounts": SliceOf(U64), "flows": SliceOf(U64), "kind": U64, "expiry": SIZE, "strike": U64,

@@ -16,11 +16,11 @@ if TYPE_CHECKING:
 __all__ = [
     "DISCOUNT_FACTOR", "YEARLY_RATE", "YEARLY_YIELD", "DISCOUNTS", "STATE_PRICES", "EUROPEAN_CALL", "EUROPEAN_PUT", "AMERICAN_CALL",
     "AMERICAN_PUT", "CALL", "PUT",
-    "Point", "Curve", "Branches", "Price", "BondAndOption",
+    "Point", "Curve", "Branches", "Price", "TreeErrorBounds", "BondAndOption",
     "half_width", "node_count", "row_start", "discounts_needed", "state_prices_needed", "branches",
     "quote_discount", "curve_discounts", "fit_into", "row_range", "step_rate", "continuous_rate", "state_price_error_bound",
-    "bond_price", "option_price", "bond_and_option", "dated_option_price", "bond_and_dated_option", "value_by_state_prices",
-    "valuation_error_bound", "sheet_into", "sheet",
+    "price_error_bound", "tree_bounds", "bond_price", "option_price", "bond_and_option", "dated_option_price", "bond_and_dated_option",
+    "value_by_state_prices", "valuation_error_bound", "sheet_into", "sheet",
 ]
 
 DISCOUNT_FACTOR, YEARLY_RATE, YEARLY_YIELD = 5, 6, 9
@@ -51,6 +51,14 @@ class Price(NamedTuple):
 
     value: int
     bound: int
+
+
+class TreeErrorBounds(NamedTuple):
+    """What is known of a tree from its discounts: the error bound of every bond and option on it, and the greatest discount of each row from 0
+    on, 60 of them, 0 from row n on."""
+
+    bound: int
+    greatest: Tuple[int, ...]
 
 
 class BondAndOption(NamedTuple):
@@ -220,6 +228,19 @@ def state_price_error_bound(steps: int, reversion: int, discounts: Amounts, row:
 
 
 # ---- level two
+
+def price_error_bound(steps: int, reversion: int, discounts: Amounts) -> int:
+    """The error bound that every bond and option on a tree has, without pricing any."""
+    return _value("price_error_bound", *_tree(steps, reversion, discounts))
+
+
+def tree_bounds(steps: int, reversion: int, discounts: Amounts) -> TreeErrorBounds:
+    """The same bound with the greatest discount of each row, as TreeErrorBounds(bound, greatest)."""
+    given = _tree(steps, reversion, discounts)
+    answer = call("tree_bounds", *given)
+    accepted(answer.number, "tree_bounds", given)
+    return TreeErrorBounds(answer.bound, tuple(answer.greatest))
+
 
 def bond_price(steps: int, reversion: int, discounts: Amounts, flows: Amounts) -> Price:
     """Price and error bound, at row 0, of the bond with these flows of rows 1 to n. The exact price is at most the bound above or below."""

@@ -26,6 +26,7 @@ class Shelf:
 
     A tree is asked for, which sets aside the nodes that its discounts need, all 0; then it is committed, which fits it to points; then it is
     priced by its name until it is released. A refused call leaves the shelf as it was, and work on one name changes no discount of another.
+    From its commit on a tree carries its error bound, which its prices read: see bounds().
     Any number of threads may use one shelf: those that change it take turns, and a price is that of the shelf before or after a change.
     """
 
@@ -53,13 +54,24 @@ class Shelf:
         """Releases the tree of a name, fitted or not: its nodes are free for any later asking."""
         self._kept.change("shelf_release", "shelf", u64("name", name))
 
-    def tree(self, name: int) -> Optional[ShelvedTree]:
-        """The tree of a name, as ShelvedTree(steps, reversion, fitted); None where it has none."""
+    def _slot(self, name: int) -> Any:
+        """What the shelf keeps of a name that has a tree; else None."""
         number = u64("name", name)
         if not 1 <= number <= MAX_NAME:
             return None
         slot = self._kept.both[0].slots[number - 1]
-        return None if slot.status == NO_TREE else ShelvedTree(slot.steps, slot.reversion, slot.status == FITTED)
+        return None if slot.status == NO_TREE else slot
+
+    def tree(self, name: int) -> Optional[ShelvedTree]:
+        """The tree of a name, as ShelvedTree(steps, reversion, fitted); None where it has none."""
+        slot = self._slot(name)
+        return None if slot is None else ShelvedTree(slot.steps, slot.reversion, slot.status == FITTED)
+
+    def bounds(self, name: int) -> Optional[engine.TreeErrorBounds]:
+        """What the tree of a name carries, as TreeErrorBounds(bound, greatest): the error bound of its prices and the greatest discount of each
+        row, worked out once, by its commit. All are 0 while it awaits that; None where the name has no tree."""
+        slot = self._slot(name)
+        return None if slot is None else engine.TreeErrorBounds(slot.bound, tuple(slot.greatest))
 
     @property
     def nodes_held(self) -> int:
@@ -78,7 +90,8 @@ class Shelf:
         return *self._kept.both, u64("name", name), amounts("flows", flows)
 
     def bond_price(self, name: int, flows: Amounts) -> engine.Price:
-        """The bond with these flows of rows 1 to n on the tree of a name, as the function bond_price gives it."""
+        """The bond with these flows of rows 1 to n on the tree of a name, as the function bond_price gives it; its bound is the one that the tree
+        carries."""
         return engine._price("shelf_bond_price", *self._bond(name, flows))
 
     def option_price(self, name: int, flows: Amounts, kind: int, expiry: int, strike: Amount) -> engine.Price:

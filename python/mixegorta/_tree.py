@@ -70,6 +70,14 @@ class Tree:
         """How far below the exact ones the state prices of a row may be in sum."""
         return engine.state_price_error_bound(self.steps, self.reversion, self._discounts, row)
 
+    def price_error_bound(self) -> int:
+        """The error bound of every bond and option on the tree, without pricing any."""
+        return engine.price_error_bound(self.steps, self.reversion, self._discounts)
+
+    def bounds(self) -> engine.TreeErrorBounds:
+        """The same bound with the greatest discount of each row, as the function tree_bounds gives them."""
+        return engine.tree_bounds(self.steps, self.reversion, self._discounts)
+
     def bond_price(self, flows: Amounts) -> engine.Price:
         """The bond with these flows of rows 1 to n, as the function bond_price gives it."""
         return engine.bond_price(self.steps, self.reversion, self._discounts, flows)

@@ -70,6 +70,7 @@ CASES = {
                   8: {"steps": 13, "volatility": 50000, **columns(13), "discounts": own_memory(169), "state_prices": own_memory(196)}}),
     "step_rate": ({"discount": ONE}, {9: {"discount": 0}}), "continuous_rate": ({"discount": ONE}, {9: {"discount": 0}}),
     "state_price_error_bound": ({**SIZE, **flat(4), "row": 0}, LENT),
+    "price_error_bound": ({**SIZE, **flat(4)}, LENT), "tree_bounds": ({**SIZE, **flat(4)}, LENT),
     "bond_price": (BOND, BONDS), "option_price": (KIND, KINDS), "bond_and_option": (KIND, KINDS),
     "dated_option_price": (LISTED, LISTS), "bond_and_dated_option": (LISTED, LISTS),
     "value_by_state_prices": ({"state_prices": amounts("state_prices", [ONE]), "payoffs": amounts("payoffs", [ONE])},

@@ -84,6 +84,7 @@ class Test(unittest.TestCase):
         self.assertIsNone(tree.row(m.DISCOUNTS, 1))
         self.assertIsNone(tree.row(3, 0))
         self.assertEqual(tree.state_price_error_bound(1), 4)
+        self.assertEqual((tree.price_error_bound(), tree.bounds()), (2, m.TreeErrorBounds(2, (1_002_500_000, *[0] * 59))))
         self.assertEqual(tree.bond_price([ONE]), Price(1_002_500_000, 2))
         self.assertEqual(tree.option_price([ONE], m.AMERICAN_PUT, 0, 1_010_000_000), Price(7_500_000, 2))
         both = tree.bond_and_option([ONE], m.AMERICAN_PUT, 0, 1_010_000_000)
@@ -91,6 +92,21 @@ class Test(unittest.TestCase):
         self.refused(11, tree.option_price, [ONE], m.AMERICAN_PUT, 1, 1_010_000_000)
         self.assertEqual(tree.value(1, [ONE] * 3), Price(1_002_499_999, 5))
         self.refused(6, tree.value, 2, [ONE] * 3)
+
+    def test_bounds_of_trees(self):
+        """2 a step where no discount is above one; above one by the rule, where the last row's adds nothing."""
+        discounts = [900_000_000, 1, ONE, 2, 3, 4, 5, 6, 700_000_000]
+        self.assertEqual(m.tree_bounds(3, 0, discounts), (6, (900_000_000, ONE, 700_000_000, *[0] * 57)))
+        for place, discount, bound in ((8, 1_100_000_000, 6), (2, ONE + 1, 7), (0, 1_100_000_000, 8)):
+            discounts[place] = discount
+            found = m.tree_bounds(3, 0, [*discounts, 0])
+            self.assertEqual((found.bound, m.price_error_bound(3, 0, discounts)), (bound, bound))
+        self.assertEqual(found.greatest, (1_100_000_000, ONE + 1, 1_100_000_000, *[0] * 57))
+        self.assertEqual(found.bound, m.bond_price(3, 0, discounts, [0, 0, ONE]).bound)
+        discounts[5] = 0
+        for function in (m.price_error_bound, m.tree_bounds):
+            for number, *given in ((3, 0, 6_001, []), (3, 61, 6_001, []), (4, 3, 6_001, []), (6, 3, 0, discounts[1:]), (9, 3, 0, discounts)):
+                self.refused(number, function, *given)
 
     def test_refused_fits_and_their_memories(self):
         discounts, prices = array("Q", [PATTERN] * 3), array("Q", [PATTERN] * 6)

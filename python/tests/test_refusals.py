@@ -73,6 +73,8 @@ class Test(unittest.TestCase):
         self.refused(m.NotInTree, "discounts", None, m.bond_price, 2, 0, FLAT[1:], [0])
         self.refused(m.NotInTree, "flows", None, m.bond_price, 2, 0, FLAT, [0])
         self.refused(m.NotInTree, "row", None, m.state_price_error_bound, 2, 0, FLAT, 3)
+        self.refused(m.NotInTree, "discounts", None, m.tree_bounds, 2, 0, FLAT[1:])
+        self.refused(m.NodeDiscountOutOfRange, "discounts", 1, m.price_error_bound, 2, 0, [*FLAT[:3], 0])
         self.refused(m.NotInTree, "row", None, m.valuation_error_bound, 2, 0, FLAT, 3, [0])
         self.refused(m.NotInTree, "payoffs", None, m.valuation_error_bound, 2, 0, FLAT, 2, [0] * 4)
         self.refused(m.NotInTree, "payoffs", None, m.value_by_state_prices, [0] * 3, [0] * 5)

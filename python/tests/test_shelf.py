@@ -1,5 +1,5 @@
-"""Request (vii) of document 02: which calls of a shelf are accepted, which cause comes first, what a call leaves as it was, and that a shelved tree
-is the tree that a fit of its own gives. Then shelves that no calls lead to, and threads."""
+"""Requests (vii) and (viii) of document 02: which calls of a shelf are accepted, which cause comes first, what a call leaves as it was, that a shelved
+tree is the tree that a fit of its own gives, and what it carries. Then shelves that no calls lead to, and threads."""
 import copy
 import pickle
 import random
@@ -15,6 +15,7 @@ from mixegorta._kept import Kept
 NAMES = range(1, m.MAX_NAME + 1)
 OUTSIDE = 0, 9, 258, 2**16 + 2, 2**32 + 2, 2**64 - 1
 CALL, DATED = (m.AMERICAN_CALL, 1, ONE), (m.PUT, [0, 1], ONE)
+NOTHING = m.TreeErrorBounds(0, (0,) * 60)
 
 
 def falling(part, steps):
@@ -22,8 +23,17 @@ def falling(part, steps):
 
 
 def seen(shelf):
-    """Each name's tree and discounts."""
-    return {name: (shelf.tree(name), shelf.discounts(name)) for name in NAMES}
+    """Each name's tree, what it carries, and its discounts."""
+    return {name: (shelf.tree(name), shelf.bounds(name), shelf.discounts(name)) for name in NAMES}
+
+
+def by_the_rule(steps, reversion, discounts):
+    """What a fitted tree carries: each row's greatest discount, and from the last row back greatest x later / one, up, plus 2."""
+    rows = [discounts[m.row_start(reversion, row):][:m.node_count(reversion, row)] for row in range(steps)]
+    greatest, bound = [max(row) for row in rows], 0
+    for each in reversed(greatest):
+        bound = -(-each * bound // ONE) + 2
+    return m.TreeErrorBounds(bound, (*greatest, *[0] * (60 - steps)))
 
 
 def desk():
@@ -44,10 +54,14 @@ def altered(*slots, memory=()):
 
 
 class Model:
-    """The rules of (vii) without places: under each name steps, reversion, whether it is fitted, and a list of discounts; or nothing."""
+    """The rules of (vii) and (viii) without places: under each name steps, reversion, whether it is fitted, and a list of discounts; or nothing."""
 
     def __init__(self):
         self.trees = {}
+
+    def carried(self):
+        return {name: by_the_rule(steps, reversion, discounts) if fitted else NOTHING
+                for name, (steps, reversion, fitted, discounts) in self.trees.items()}
 
     def held(self):
         return sum(len(discounts) for *_, discounts in self.trees.values())
@@ -102,10 +116,10 @@ class Checks(unittest.TestCase):
 class Calls(Checks):
     def test_the_empty_shelf(self):
         shelf = m.Shelf()
-        self.assertEqual(seen(shelf), {name: (None, array("Q")) for name in NAMES})
+        self.assertEqual(seen(shelf), {name: (None, None, array("Q")) for name in NAMES})
         self.assertEqual((shelf.nodes_held, repr(shelf)), (0, "<Shelf {}>"))
         for name in OUTSIDE:
-            self.assertEqual((shelf.tree(name), shelf.discounts(name)), (None, array("Q")))
+            self.assertEqual((shelf.tree(name), shelf.bounds(name), shelf.discounts(name)), (None, None, array("Q")))
 
     def test_causes_of_an_asking(self):
         shelf = desk()
@@ -207,6 +221,27 @@ class Calls(Checks):
             self.assertEqual(getattr(shelf, method)(3, array("Q", flows), *terms), getattr(alone, method)(flows, *terms), method)
         self.assertEqual(seen(shelf), before)
 
+    def test_a_tree_carries_its_bounds_from_commit_to_release(self):
+        shelf, rising = desk(), falling(1.01, 12)
+        jump = rising[:5] + [rising[5]._replace(figure=1.6)] + rising[6:]
+        shelf.ask(1, 12, 700)
+        self.refused(9, "points", shelf, "commit", 1, 1, 8_000, jump, row=6)
+        self.assertEqual(shelf.bounds(1), NOTHING)
+        self.accepted(shelf, "commit", 1, 1, 8_000, rising)
+        alone, carried = m.Tree(1, 12, 700, 8_000, rising), shelf.bounds(1)
+        self.assertEqual(carried, by_the_rule(12, 700, list(alone.discounts)))
+        self.assertEqual((carried, carried.bound), (alone.bounds(), alone.price_error_bound()))
+        self.assertEqual(carried, m.tree_bounds(12, 700, shelf.discounts(1)))
+        self.assertGreater(carried.bound, 2 * 12)
+        for price in (shelf.bond_price(1, [0] * 12), *shelf.bond_and_option(1, [0] * 11 + [ONE], *CALL), shelf.dated_option_price(1, [0] * 12, *DATED)):
+            self.assertEqual(price.bound, carried.bound)
+        self.accepted(shelf, "release", 1)
+        self.assertEqual((shelf.bounds(1), bytes(shelf._kept.both[0].slots[0])), (None, bytes(512)))
+        self.accepted(shelf, "ask", 1, 3, 0)
+        self.assertEqual(shelf.bounds(1), NOTHING)
+        self.accepted(shelf, "commit", 1, 1, 0, falling(0.97, 3))
+        self.assertEqual(shelf.bounds(1).bound, 6)
+
     def test_random_calls_against_a_list_for_each_name(self):
         given, shelf, model, numbers = random.Random(7), m.Shelf(), Model(), set()
         for _ in range(1_500):
@@ -218,6 +253,7 @@ class Calls(Checks):
             self.assertEqual(number, wanted)
             numbers.add((method, number))
             self.assertEqual({name: (*shelf.tree(name), list(shelf.discounts(name))) for name in NAMES if shelf.tree(name)}, model.trees)
+            self.assertEqual({name: shelf.bounds(name) for name in NAMES if shelf.tree(name)}, model.carried())
             self.assertEqual(shelf.nodes_held, model.held())
         self.assertLessEqual({("ask", number) for number in (0, 3, 4, 14, 15)} | {("commit", 2), ("commit", 15), ("release", 15)}, numbers)
 
@@ -251,9 +287,28 @@ class Altered(Checks):
         """A fitted tree of zeros is refused as lent zeros are; one that awaits its commit is priced by what stands there, as lent discounts are."""
         shelf = altered((2, 2, 0), (1, 2, 0), memory=[0] * 4 + [ONE] * 4)
         self.refused(9, "name", shelf, "bond_price", 1, [0, ONE])
-        self.assertEqual(shelf.bond_price(2, [0, ONE]), m.Price(ONE, 4))
+        self.assertEqual(shelf.bond_price(2, [0, ONE]), m.Price(ONE, 0))
         shelf = altered((2, 9, 0), memory=[1_100_000_000] * 81)
         self.refused(12, "strike", shelf, "option_price", 1, [0] * 9, m.EUROPEAN_PUT, 8, 4 * ONE)
+
+    def test_a_bound_comes_back_as_it_stands(self):
+        for bound in (0, 3, 5, 2**64 - 1):
+            shelf = altered((2, 2, 0, bound, (2**64 - 1,) * 60), memory=[ONE] * 4)
+            self.assertEqual(shelf.bounds(1), (bound, (2**64 - 1,) * 60))
+            self.assertEqual(shelf.bond_price(1, [0, ONE]), m.Price(ONE, bound))
+            self.assertEqual((shelf.option_price(1, [0, ONE], *CALL).bound, shelf.dated_option_price(1, [0, ONE], *DATED).bound), (bound, bound))
+            for both in (shelf.bond_and_option(1, [0, ONE], *CALL), shelf.bond_and_dated_option(1, [0, ONE], *DATED)):
+                self.assertEqual([each.bound for each in both], [bound, bound])
+            self.refused(6, "flows", shelf, "bond_price", 1, [0])
+            shelf.release(1)
+            self.assertEqual(bytes(shelf._kept.both[0]), bytes(4_096))
+
+    def test_calls_write_a_slot_whole(self):
+        """What stood in a slot that has no tree, or in one that awaits its commit, is in none that a call writes."""
+        shelf = altered((0, 0, 0, 99, (99,) * 60), (1, 2, 0, 99, (99,) * 60))
+        shelf.ask(1, 2, 0)
+        shelf.commit(2, 1, 0, falling(0.97, 2))
+        self.assertEqual((shelf.bounds(1), shelf.bounds(2)), (NOTHING, m.tree_bounds(2, 0, shelf.discounts(2))))
 
     def test_a_slot_without_a_tree_holds_nothing(self):
         shelf = altered((0, 70, 9_999), (2, 2, 0), memory=[ONE] * 4)

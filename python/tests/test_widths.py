@@ -77,17 +77,24 @@ def row_range(*given):
     return [found.start, len(found)] if found else [0, 0]
 
 
+def tree_bounds(*given):
+    found = m.tree_bounds(*given)
+    return [0, found.bound, *found.greatest]
+
+
 def shelf_with(slots, memory=()):
-    """The shelf of a line: status, steps and reversion of each name, and its memory."""
+    """The shelf of a line: status, steps, reversion, bound and greatest discounts of each name, and its memory."""
+    made = (CSlot(*slots[place:place + 4], tuple(slots[place + 4:place + 64])) for place in range(0, 512, 64))
     shelf = m.Shelf()
-    shelf._kept = Kept(CShelf((CSlot * 8)(*(CSlot(*slots[place:place + 3]) for place in range(0, 24, 3)))), m.SHELF_ROOM)
+    shelf._kept = Kept(CShelf((CSlot * 8)(*made)), m.SHELF_ROOM)
     shelf._kept.both[1].values[:len(memory)] = array("Q", memory)
     return shelf
 
 
 def seen(shelf):
     state, memory = shelf._kept.both
-    return [number for slot in state.slots for number in (slot.status, slot.steps, slot.reversion)] + list(memory.values)
+    numbers = ((slot.status, slot.steps, slot.reversion, slot.bound, *slot.greatest) for slot in state.slots)
+    return [*chain.from_iterable(numbers), *memory.values]
 
 
 def shelf_part(slots, name):
@@ -130,14 +137,15 @@ def shelf_both(method):
 
 
 CALLS = {"quote_discount": quote_discount, "curve_discounts": curve_discounts, "fit": fit, "row_range": row_range,
-         "bond_and_option": both(m.bond_and_option), "bond_and_dated_option": both(m.bond_and_dated_option),
+         "tree_bounds": tree_bounds, "bond_and_option": both(m.bond_and_option), "bond_and_dated_option": both(m.bond_and_dated_option),
          "shelf_part": shelf_part, "shelf_ask": shelf_ask, "shelf_commit": shelf_commit, "shelf_release": shelf_release}
 for name in ("bond_price", "option_price", "dated_option_price"):
     CALLS["shelf_" + name] = shelf_price(name)
 for name in ("bond_and_option", "bond_and_dated_option"):
     CALLS["shelf_" + name] = shelf_both(name)
 for name in ("half_width", "node_count", "row_start", "discounts_needed", "state_prices_needed", "branches", "step_rate", "continuous_rate",
-             "state_price_error_bound", "bond_price", "option_price", "dated_option_price", "value_by_state_prices", "valuation_error_bound"):
+             "state_price_error_bound", "price_error_bound", "bond_price", "option_price", "dated_option_price", "value_by_state_prices",
+             "valuation_error_bound"):
     CALLS[name] = numbered(getattr(m, name))
 
 

@@ -25,6 +25,9 @@ copied: "array[int]" = shelf.discounts(1)
 held: int = shelf.nodes_held + len(copied)
 name_of: Optional[m.ShelvedTree] = shelf.tree(1)
 fitted: bool = name_of is not None and name_of.fitted
+known: m.TreeErrorBounds = tree.bounds()
+carried: Optional[m.TreeErrorBounds] = shelf.bounds(1)
+same_bound: bool = carried == known == m.tree_bounds(2, 0, copied) and tree.price_error_bound() == m.price_error_bound(2, 0, copied) == bond.bound
 words: str = f"{both.option.argument} {both.option.row}" if isinstance(both.option, m.Refused) else f"{both.option.bound}"
 
 try:
@@ -43,4 +46,4 @@ try:
     shelf.ask("rates", 2, 0)  # type: ignore[arg-type]
 except TypeError:
     pass
-print(bond == same == shelved and dated == same_option and fitted and words.startswith("expiry"))
+print(bond == same == shelved and dated == same_option and fitted and same_bound and words.startswith("expiry"))

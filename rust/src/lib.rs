@@ -216,6 +216,15 @@ impl fmt::Display for Price {
     }
 }
 
+/// What is known of a tree from its discounts.
+#[derive(Clone, Copy, Debug, PartialEq, Eq)]
+pub struct TreeErrorBounds {
+    /// The error bound of every bond and option on the tree, in billionths.
+    pub bound: u64,
+    /// The greatest discount of each row from 0 on, 0 from row n on.
+    pub greatest: [u64; MAX_STEPS],
+}
+
 /// A bond and an option on it, each priced or refused by itself.
 #[derive(Clone, Copy, Debug, PartialEq, Eq)]
 pub struct BondAndOption {
@@ -437,6 +446,31 @@ fn each_priced(both: raw::BondAndOption) -> BondAndOption {
         bond: priced(both.bond),
         option: priced(both.option),
     }
+}
+
+/// The error bound that every bond and option on a tree has, without pricing any.
+pub fn price_error_bound(steps: usize, reversion: u64, discounts: &[u64]) -> Result<u64, Refusal> {
+    value_of(unsafe {
+        raw::mixegorta_price_error_bound(steps, reversion, discounts.as_ptr(), discounts.len())
+    })
+}
+
+/// The same bound with the greatest discount of each row.
+pub fn tree_bounds(
+    steps: usize,
+    reversion: u64,
+    discounts: &[u64],
+) -> Result<TreeErrorBounds, Refusal> {
+    let answer = unsafe {
+        raw::mixegorta_tree_bounds(steps, reversion, discounts.as_ptr(), discounts.len())
+    };
+    accepted(
+        answer.number,
+        TreeErrorBounds {
+            bound: answer.bound,
+            greatest: answer.greatest,
+        },
+    )
 }
 
 /// The price at row 0 of the bond with these flows of rows 1 to n.

@@ -41,6 +41,16 @@ pub struct Rate {
     pub value: i64,
 }
 
+/// What is known of a tree: its error bound, and the greatest discount of each row, 0 for rows that the tree has not; a refusal's
+/// number with zeros.
+#[repr(C)]
+#[derive(Clone, Copy)]
+pub struct TreeErrorBounds {
+    pub number: u64,
+    pub bound: u64,
+    pub greatest: [u64; 60],
+}
+
 /// A price in billionths with its error bound; a refusal's number with zeros.
 #[repr(C)]
 #[derive(Clone, Copy)]
@@ -67,13 +77,15 @@ pub struct Written {
 }
 
 /// What a shelf keeps of a name: status 0 no tree, 1 a tree that awaits a commit, 2 a fitted tree; then its steps and its
-/// reversion.
+/// reversion. A fitted tree carries its price error bound and the greatest discount of each of its rows; all else is 0.
 #[repr(C)]
 #[derive(Clone, Copy)]
 pub struct Slot {
     pub status: u64,
     pub steps: usize,
     pub reversion: u64,
+    pub bound: u64,
+    pub greatest: [u64; 60],
 }
 
 /// The slot of name k has index k - 1.
@@ -155,6 +167,18 @@ extern "C" {
         discounts_len: usize,
         row: usize,
     ) -> Answer;
+    pub fn mixegorta_price_error_bound(
+        steps: usize,
+        reversion: u64,
+        discounts: *const u64,
+        discounts_len: usize,
+    ) -> Answer;
+    pub fn mixegorta_tree_bounds(
+        steps: usize,
+        reversion: u64,
+        discounts: *const u64,
+        discounts_len: usize,
+    ) -> TreeErrorBounds;
     pub fn mixegorta_bond_price(
         steps: usize,
         reversion: u64,

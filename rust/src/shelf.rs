@@ -2,7 +2,9 @@
 
 use crate::shapes::Kept;
 use crate::{each_priced, priced, raw, SHELF_ROOM};
-use crate::{BondAndOption, Curve, DatedTerms, OptionTerms, Price, Refusal, MAX_NAME};
+use crate::{
+    BondAndOption, Curve, DatedTerms, OptionTerms, Price, Refusal, TreeErrorBounds, MAX_NAME,
+};
 use std::fmt;
 
 /// A tree on a shelf, as it was asked for.
@@ -20,7 +22,7 @@ pub struct ShelvedTree {
 ///
 /// A tree is asked for, which sets aside the nodes that its discounts need, all 0; then it is committed, which fits it to a curve; then
 /// it is priced by its name until it is released. A refused call leaves the shelf as it was, and work on one name changes no discount
-/// of another.
+/// of another. From its commit on a tree carries its error bound, which its prices read: see [`Shelf::bounds`].
 ///
 /// ```
 /// use mixegorta::{Curve, Quote, Refusal, Shelf, ONE};
@@ -100,15 +102,28 @@ impl Shelf {
         })
     }
 
+    /// What the shelf keeps of a name that has a tree.
+    fn slot(&self, name: usize) -> Option<raw::Slot> {
+        self.kept
+            .ask(|shelf, _| shelf.slots.get(name.wrapping_sub(1)).copied())
+            .filter(|slot| slot.status != 0)
+    }
+
     /// The tree of a name; `None` where it has none.
     pub fn tree(&self, name: usize) -> Option<ShelvedTree> {
-        let slot = self
-            .kept
-            .ask(|shelf, _| shelf.slots.get(name.wrapping_sub(1)).copied())?;
-        (slot.status != 0).then_some(ShelvedTree {
+        self.slot(name).map(|slot| ShelvedTree {
             steps: slot.steps,
             reversion: slot.reversion,
             fitted: slot.status == 2,
+        })
+    }
+
+    /// What the tree of a name carries: the error bound of its prices and the greatest discount of each row, worked out once, by its
+    /// commit. All are 0 while it awaits that; `None` where the name has no tree.
+    pub fn bounds(&self, name: usize) -> Option<TreeErrorBounds> {
+        self.slot(name).map(|slot| TreeErrorBounds {
+            bound: slot.bound,
+            greatest: slot.greatest,
         })
     }
 
@@ -126,7 +141,7 @@ impl Shelf {
         self.kept.part(part.start, part.count).unwrap_or(&[])
     }
 
-    /// The price of the bond with these flows of rows 1 to n, on the tree of a name.
+    /// The price of the bond with these flows of rows 1 to n, on the tree of a name; its error bound is the one that the tree carries.
     pub fn bond_price(&self, name: usize, flows: &[u64]) -> Result<Price, Refusal> {
         priced(self.kept.ask(|shelf, memory| unsafe {
             raw::mixegorta_shelf_bond_price(shelf, memory, name, flows.as_ptr(), flows.len())

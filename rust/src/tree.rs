@@ -1,5 +1,6 @@
 //! A fitted tree with memories of its own.
 
+use crate::TreeErrorBounds;
 use crate::{BondAndOption, Branches, Curve, DatedTerms, OptionTerms, Price, Refusal, RowKind};
 
 /// A tree that was fitted to a curve and not refused.
@@ -84,6 +85,16 @@ impl Tree {
     /// How far below the exact ones the state prices of a row may be in sum.
     pub fn state_price_error_bound(&self, row: usize) -> Result<u64, Refusal> {
         crate::state_price_error_bound(self.steps, self.reversion, &self.discounts, row)
+    }
+
+    /// The error bound of every bond and option on the tree, without pricing any.
+    pub fn price_error_bound(&self) -> Result<u64, Refusal> {
+        crate::price_error_bound(self.steps, self.reversion, &self.discounts)
+    }
+
+    /// The same bound with the greatest discount of each row.
+    pub fn bounds(&self) -> Result<TreeErrorBounds, Refusal> {
+        crate::tree_bounds(self.steps, self.reversion, &self.discounts)
     }
 
     /// The price of the bond with these flows of rows 1 to n.

@@ -135,6 +135,9 @@ fn printed_example() {
     );
     assert_eq!(tree.row(RowKind::Discounts, 1), None);
     assert_eq!(tree.state_price_error_bound(1), Ok(4));
+    assert_eq!(tree.price_error_bound(), Ok(2));
+    let known = tree.bounds().unwrap();
+    assert_eq!((known.bound, known.greatest[0]), (2, 1_002_500_000));
     assert_eq!(
         tree.bond_price(&[ONE]),
         Ok(Price {
@@ -320,6 +323,42 @@ fn prices_on_lent_discounts() {
         row_view(&flat, &[ONE; 8], RowKind::Discounts, 2, 0, 1),
         None
     );
+}
+
+/// 2 a step where no discount is above one; above one by the rule, where the last row's adds nothing.
+#[test]
+fn bounds_of_trees() {
+    let mut discounts = [900_000_000, 1, ONE, 2, 3, 4, 5, 6, 700_000_000, 0];
+    for (place, discount, bound) in [
+        (0, 900_000_000, 6),
+        (8, MAX_NODE_DISCOUNT, 6),
+        (2, ONE + 1, 7),
+        (0, MAX_NODE_DISCOUNT, 8),
+    ] {
+        discounts[place] = discount;
+        let known = tree_bounds(3, 0, &discounts).unwrap();
+        assert_eq!(known.bound, bound);
+        assert_eq!(
+            known.greatest[..3],
+            [discounts[0], discounts[2], discounts[8]]
+        );
+        assert_eq!(known.greatest[3..], [0; 57]);
+        assert_eq!(price_error_bound(3, 0, &discounts[..9]), Ok(bound));
+        let bond = bond_price(3, 0, &discounts, &[0, 0, ONE]).unwrap();
+        assert_eq!(bond.bound, bound);
+    }
+    discounts[5] = 0;
+    for (steps, reversion, count, cause) in [
+        (0, 6_001, 0, Refusal::STEPS),
+        (61, 6_001, 9, Refusal::STEPS),
+        (3, 6_001, 0, Refusal::REVERSION),
+        (3, 0, 8, Refusal::LENGTH_OR_ROW),
+        (3, 0, 9, Refusal::DISCOUNT),
+    ] {
+        let lent = &discounts[..count];
+        assert_eq!(price_error_bound(steps, reversion, lent), Err(cause));
+        assert_eq!(tree_bounds(steps, reversion, lent), Err(cause));
+    }
 }
 
 /// Halves go up. The values of row 1 are tenths of a flow of 10; their mean is a sixth of the outer two and four times the middle one.

@@ -1,5 +1,5 @@
-//! Request (vii) of document 02, through the safe type: which calls are accepted, which cause comes first, what a call leaves as it was, and
-//! that a shelved tree is the tree that a fit of its own gives.
+//! Requests (vii) and (viii) of document 02, through the safe type: which calls are accepted, which cause comes first, what a call leaves as it
+//! was, that a shelved tree is the tree that a fit of its own gives, and what it carries.
 use mixegorta::*;
 
 fn falling(part: f64, steps: usize) -> Curve {
@@ -20,13 +20,32 @@ const DATED: DatedTerms = DatedTerms {
     strike: ONE,
 };
 
-/// What can be seen of a shelf: each name's tree and discounts.
-type Seen = Vec<(Option<ShelvedTree>, Vec<u64>)>;
+/// What can be seen of a name: its tree, what it carries, and its discounts.
+type Seen = (Option<ShelvedTree>, Option<TreeErrorBounds>, Vec<u64>);
 
-fn seen(shelf: &Shelf) -> Seen {
+fn seen(shelf: &Shelf) -> Vec<Seen> {
     (1..=MAX_NAME)
-        .map(|name| (shelf.tree(name), shelf.discounts(name).to_vec()))
+        .map(|name| {
+            let discounts = shelf.discounts(name).to_vec();
+            (shelf.tree(name), shelf.bounds(name), discounts)
+        })
         .collect()
+}
+
+const NOTHING: TreeErrorBounds = TreeErrorBounds {
+    bound: 0,
+    greatest: [0; MAX_STEPS],
+};
+
+/// What a tree must carry: of a fitted one what its discounts give, else zeros.
+fn carries_its_own((tree, carried, discounts): &Seen) -> bool {
+    *carried
+        == tree.map(
+            |tree| match tree_bounds(tree.steps, tree.reversion, discounts) {
+                Ok(known) if tree.fitted => known,
+                _ => NOTHING,
+            },
+        )
 }
 
 /// A call that must leave every other name as it was and, where it is refused, its own too.
@@ -41,6 +60,7 @@ fn called(
         if answer.is_err() || index + 1 != name {
             assert_eq!(*old, new, "name {} after a call on {name}", index + 1);
         }
+        assert!(carries_its_own(&new), "name {} after {name}", index + 1);
     }
     answer
 }
@@ -57,10 +77,11 @@ fn desk() -> Shelf {
 #[test]
 fn the_empty_shelf_has_nothing() {
     let shelf = Shelf::new();
-    assert_eq!(seen(&shelf), vec![(None, Vec::new()); MAX_NAME]);
+    assert_eq!(seen(&shelf), vec![(None, None, Vec::new()); MAX_NAME]);
     assert_eq!(shelf.nodes_held(), 0);
     for name in [0, MAX_NAME + 1, (1 << 32) + 2, usize::MAX] {
         assert_eq!((shelf.tree(name), shelf.discounts(name)), (None, &[][..]));
+        assert_eq!(shelf.bounds(name), None);
     }
 }
 
@@ -167,6 +188,41 @@ fn causes_of_a_price_in_their_order() {
     let refused = |strike| shelf.dated_option_price(2, &[0, ONE], bad_dates(strike));
     assert_eq!(refused(5 * ONE), Err(Refusal::OPTION));
     assert_eq!(refused(ONE), Err(Refusal::DATES));
+}
+
+#[test]
+fn a_tree_carries_its_bounds_from_commit_to_release() {
+    let mut shelf = desk();
+    shelf.ask(1, 12, 700).unwrap();
+    assert_eq!(shelf.bounds(1), Some(NOTHING));
+    let mut quotes = vec![Quote::DiscountFactor(1.01); 12];
+    quotes[5] = Quote::DiscountFactor(1.6);
+    let refused = called(&mut shelf, 1, |shelf| {
+        shelf.commit(1, 1, 8_000, &Curve::of_quotes(&quotes))
+    });
+    assert_eq!(refused, Err(Refusal::DISCOUNT));
+    assert_eq!(shelf.bounds(1), Some(NOTHING));
+    let rising = falling(1.01, 12);
+    called(&mut shelf, 1, |shelf| shelf.commit(1, 1, 8_000, &rising)).unwrap();
+    let alone = Tree::fit(1, 12, 700, 8_000, &rising).unwrap();
+    let carried = shelf.bounds(1).unwrap();
+    assert_eq!(Ok(carried), alone.bounds());
+    assert_eq!(Ok(carried.bound), alone.price_error_bound());
+    assert_eq!(
+        Ok(carried.bound),
+        shelf.bond_price(1, &[0; 12]).map(|price| price.bound)
+    );
+    assert!(carried.bound > 2 * 12 && carried.greatest[0] == 1_010_000_000);
+    assert_eq!(carried.greatest[12..], [0; 48]);
+    called(&mut shelf, 1, |shelf| shelf.release(1)).unwrap();
+    assert_eq!(shelf.bounds(1), None);
+    called(&mut shelf, 1, |shelf| shelf.ask(1, 3, 0)).unwrap();
+    assert_eq!(shelf.bounds(1), Some(NOTHING));
+    called(&mut shelf, 1, |shelf| {
+        shelf.commit(1, 1, 0, &falling(0.97, 3))
+    })
+    .unwrap();
+    assert_eq!(shelf.bounds(1).map(|carried| carried.bound), Some(6));
 }
 
 #[test]

@@ -108,6 +108,13 @@ fn price(found: Result<Price, Refusal>) -> Vec<u64> {
     answered(found.map(|p| [p.value, p.bound]))
 }
 
+fn bounds(found: Result<TreeErrorBounds, Refusal>) -> Vec<u64> {
+    match found {
+        Ok(known) => [vec![0, known.bound], known.greatest.to_vec()].concat(),
+        Err(refusal) => vec![refusal.number()],
+    }
+}
+
 /// Two answers side by side, each with its number and zeros where refused.
 fn both(found: BondAndOption) -> Vec<u64> {
     [found.bond, found.option]
@@ -197,6 +204,11 @@ fn shape_or_fit(name: &str, g: &Given) -> Option<Vec<u64>> {
         "row_range" => ranged(g),
         "step_rate" => Some(one(step_rate(g.number(0)).map(|rate| rate as u64))),
         "continuous_rate" => Some(one(continuous_rate(g.number(0)).map(|rate| rate as u64))),
+        "price_error_bound" => {
+            let (steps, reversion) = (g.size(0), g.number(1));
+            Some(one(price_error_bound(steps, reversion, g.list(2))))
+        }
+        "tree_bounds" => Some(bounds(tree_bounds(g.size(0), g.number(1), g.list(2)))),
         "state_price_error_bound" => Some(one(state_price_error_bound(
             g.size(0),
             g.number(1),
@@ -207,13 +219,19 @@ fn shape_or_fit(name: &str, g: &Given) -> Option<Vec<u64>> {
     }
 }
 
-/// A shelf as a line has it: status, steps and reversion of each name, and its memory.
+/// How many numbers a line has for a name of a shelf.
+const SLOT: usize = 4 + MAX_STEPS;
+
+/// A shelf as a line has it: status, steps, reversion, bound and greatest discounts of each name, and its memory.
 fn seen(shelf: &Shelf) -> (Vec<u64>, Vec<u64>) {
     let (mut slots, mut memory) = (Vec::new(), Vec::new());
     for name in 1..=MAX_NAME {
-        slots.extend(shelf.tree(name).map_or([0; 3], |tree| {
-            [1 + tree.fitted as u64, tree.steps as u64, tree.reversion]
-        }));
+        if let (Some(tree), Some(carried)) = (shelf.tree(name), shelf.bounds(name)) {
+            slots.extend([1 + tree.fitted as u64, tree.steps as u64, tree.reversion]);
+            slots.push(carried.bound);
+            slots.extend(carried.greatest);
+        }
+        slots.resize(name * SLOT, 0);
         memory.extend(shelf.discounts(name));
     }
     memory.resize(SHELF_ROOM, 0);
@@ -228,7 +246,7 @@ fn with_slots(slots: &[u64]) -> Option<Shelf> {
         Quote::YearlyYield(0.02),
     ]);
     let mut shelf = Shelf::new();
-    for (name, slot) in (1..).zip(slots.chunks(3)) {
+    for (name, slot) in (1..).zip(slots.chunks(SLOT)) {
         if slot[0] > 0 {
             shelf.ask(name, slot[1] as usize, slot[2]).ok()?;
         }
@@ -372,7 +390,7 @@ fn numbers_past_a_width() {
             *called.entry(name).or_default() += 1;
         }
     }
-    assert_eq!(called.len(), 29, "{called:?}");
+    assert_eq!(called.len(), 31, "{called:?}");
     assert!(called.values().all(|lines| *lines > 3), "{called:?}");
 }
 

@@ -16,6 +16,7 @@ ghost use Rattle.continuous_rate.specs.ContinuousRate.{continuousRateAnswer};
 ghost use Rattle.fitting.specs.Entry.{fitNumber, discountsAfter, pricesAfter};
 ghost use Rattle.row_view.specs.RowView.{rangeByNumber};
 ghost use Rattle.state_price_bound.specs.ErrorBound.{statePriceErrorBoundAnswer};
+ghost use Rattle.price_bound.specs.PriceBound.{priceErrorBoundAnswer, treeBoundsAnswer};
 ghost use Rattle.pricing.specs.Prices.{bondPrice, optionPrice, bondAndOption, datedPrice, bondAndDatedOption};
 ghost use Rattle.valuation.specs.Entries.{valueByStatePricesAnswer, valuationErrorBoundAnswer};
 ghost use Rattle.sheet_laws.specs.WholeJob.{sheetNumber, sheetText, sheetMemory};
@@ -38,6 +39,7 @@ ghost use Rattle.capi.specs.Version.{version};
 use arithmetic::Answer;
 use job_sheet::Written;
 use lattice::Branches;
+use price_bound::TreeErrorBounds;
 use pricing::BondAndOption;
 use pricing::Price;
 use quotes::Point;
@@ -52,7 +54,7 @@ use step_rate::Rate;
 pub extern "C" fn mixegorta_version() -> u64
     ensures { λ r. ⌜ r ≡ version ⌝ }
 {
-    7_000
+    8_000
 }
 
 // ---- the shape of a tree
@@ -198,6 +200,28 @@ pub extern "C" fn mixegorta_state_price_error_bound(
 }
 
 // ---- level two: prices on any lent discounts
+
+#[no_mangle]
+pub extern "C" fn mixegorta_price_error_bound(
+    steps: usize,
+    reversion: u64,
+    discounts: &[u64],
+) -> Answer
+    ensures { λ r. ⌜ r ≡ priceErrorBoundAnswer steps reversion (now (discounts .entry)) ⌝ }
+{
+    price_bound::price_error_bound(steps, reversion, discounts)
+}
+
+#[no_mangle]
+pub extern "C" fn mixegorta_tree_bounds(
+    steps: usize,
+    reversion: u64,
+    discounts: &[u64],
+) -> TreeErrorBounds
+    ensures { λ r. ⌜ r ≡ treeBoundsAnswer steps reversion (now (discounts .entry)) ⌝ }
+{
+    price_bound::tree_bounds(steps, reversion, discounts)
+}
 
 #[no_mangle]
 pub extern "C" fn mixegorta_bond_price(
@@ -346,7 +370,7 @@ pub extern "C" fn mixegorta_shelf_commit(
 ) -> Shelved
     ensures number { λ r. ⌜ r .number ≡ commitNumber (shelf .slots) name frequency volatility
         (now (rows .entry)) (now (kinds .entry)) (now (figures .entry)) ⌝ }
-    ensures slots { λ r. ⌜ r .shelf .slots ≡ commitSlots (shelf .slots) name frequency volatility
+    ensures slots { λ r. ⌜ r .shelf .slots ≡ commitSlots (shelf .slots) (now (memory .entry)) name frequency volatility
         (now (rows .entry)) (now (kinds .entry)) (now (figures .entry)) ⌝ }
     ensures memory { λ _. ⌜ now (memory .exit) ≡ commitMemory (shelf .slots) (now (memory .entry)) name frequency volatility
         (now (rows .entry)) (now (kinds .entry)) (now (figures .entry)) ⌝ }

@@ -1,1 +1,2 @@
 pub mod PriceBound
+pub mod Rows

@@ -29,19 +29,21 @@ use Rattle.pricing_laws.specs.Schedule.{lastDate, datedSchedule, marked}
 use Rattle.pricing_laws.specs.TreePricer.{engine}
 use Rattle.pricing_laws.specs.Peak.{peak, greatestValue}
 use Rattle.pricing_laws.proofs.Schedules.{Alike, option-alike}
+use Rattle.exercise.specs.declared.Terms.{Terms}
 use Rattle.exercise_dates.specs.Dates.{marksOf}
-use Rattle.exercise_dates.proofs.DateLaws.{dates-alike}
+use Rattle.exercise_dates.proofs.DateLaws.{dates-alike, marks-room}
 use Rattle.price_bound.specs.PriceBound.{treeErrorBound, priceErrorBoundAnswer}
 use Rattle.price_bound.proofs.BoundLaws.{bound-number}
 use Rattle.price_causes.specs.Causes.{AcceptedFlows, flowsCause}
 use Rattle.price_causes.proofs.CheckLaws.{flows-accepted}
 use Rattle.pricing.specs.declared.Price.{Price}
 use Rattle.pricing.specs.declared.BondAndOption.{BondAndOption}
+use Rattle.pricing.specs.declared.BondAndOptionValues.{BondAndOptionValues}
 use Rattle.pricing.specs.declared.walk.Rolled.{Rolled}
-use Rattle.pricing.specs.Prices.{flowAt, treeCause, firstCause, refusedPrice, priced}
+use Rattle.pricing.specs.Prices.{flowAt, treeCause, firstCause, refusedPrice, priced, valueAlone}
 use Rattle.pricing.specs.Prices.{bondPeak, acceptedBond, bondPrice}
 use Rattle.pricing.specs.Prices.{optionValue, optionPeak, optionLimit, acceptedOption, scheduledPrice}
-use Rattle.pricing.specs.Trees.{downTable, treeBound, BondRolled, BothRolled}
+use Rattle.pricing.specs.Trees.{downTable, treeBound, Exercisable, ExercisedOn, BondRolled, BothRolled}
 use Rattle.pricing.proofs.TreeRows.{table-size}
 
 -- what the lattice answers about row n
@@ -239,3 +241,61 @@ module _ (n b : ℕ) (discounts flows : List ℕ) where
 -- bond and option, each as it should be
 pub both-are : (r : BondAndOption) (bond option : Price) → r .bond ≡ bond → r .option ≡ option → r ≡ record { bond = bond; option = option }
 both-are r bond option eb eo = ap₂ {C = BondAndOption} (λ (x y : Price). record { bond = x; option = y }) eb eo
+
+pub values-are : (r : BondAndOptionValues) (bond option : Answer) → r .bond ≡ bond → r .option ≡ option → r ≡ record { bond = bond; option = option }
+values-are r bond option eb eo = ap₂ {C = BondAndOptionValues} (λ (x y : Answer). record { bond = x; option = y }) eb eo
+
+-- an option on listed rows, with the marks that the code makes of them
+pub marks-exercisable : (terms : Terms) (n : ℕ) (dates marks : List ℕ) → ExercisedOn terms n dates → n ≤ mostSteps → marks ≡ marksOf dates →
+    Exercisable terms n marks
+marks-exercisable terms n dates marks on few e =
+    record {
+      last-inside = omega (arith, on .last-listed, on .before-end);
+      marked-rows = omega (arith, on .last-listed, marks-room dates marks e (omega (arith, on .before-end)));
+      strike-most = on .strike-within;
+    }
+
+-- ---- values alone: a price without its error bound
+value-priced : (cause v e bound : ℕ) → valueAlone (priced cause v e) ≡ valueAlone (priced cause v bound)
+unfolding priced
+value-priced cause v e bound =
+    by-equal cause 0
+    (λ (z : cause ≡ 0). rw (eq-eqb cause 0 z))
+    (λ (z : cause ≡ 0 → ⊥). rw (ne-eqb cause 0 z))
+
+module _ (n b : ℕ) (discounts flows : List ℕ) where
+  -- no cause about a tree and its flows: both are accepted
+  module _ (z : treeCause n b discounts flows ≡ 0) where
+    no-causes : (discountsCause n b discounts ≡ 0) × (flowsCause n flows ≡ 0)
+    unfolding treeCause
+    no-causes = lowest-none (discountsCause n b discounts) (flowsCause n flows) z
+
+    pub cause-accepted : Accepted n b discounts
+    cause-accepted = accepted n b discounts (no-causes .0)
+
+    pub cause-paid : AcceptedFlows n flows
+    cause-paid = flows-accepted n flows (no-causes .1)
+
+  pub bond-value-cause : (p : Price) (c : ℕ) → p ≡ refusedPrice c → c ≡ treeCause n b discounts flows → (c ≡ 0 → ⊥) →
+      valueAlone p ≡ valueAlone (bondPrice n b discounts flows)
+  unfolding bondPrice
+  bond-value-cause p c ep ec z = ap valueAlone (ep ∙ refused-first c _ _ _ 0 ec z) ∙ value-priced _ _ 0 _
+
+  pub bond-value-is : (p : Price) → p ≡ acceptedBond n b discounts flows 0 → treeCause n b discounts flows ≡ 0 →
+      valueAlone p ≡ valueAlone (bondPrice n b discounts flows)
+  unfolding bondPrice
+  bond-value-is p h z = ap valueAlone (h ∙ passed-first _ _ _ 0 z) ∙ value-priced _ _ 0 _
+
+  module _ (side : Side) (strike : ℕ) (rows : Schedule) (cause : ℕ) where
+    pub option-value-tree : (p : Price) (c : ℕ) → p ≡ refusedPrice c → c ≡ treeCause n b discounts flows → (c ≡ 0 → ⊥) →
+        valueAlone p ≡ valueAlone (scheduledPrice n b discounts flows side strike rows cause)
+    option-value-tree p c ep ec z = ap valueAlone (ep ∙ refused-first c _ _ _ 0 ec z) ∙ value-priced _ _ 0 _
+
+    module _ (z : treeCause n b discounts flows ≡ 0) where
+      pub option-value-cause : (p : Price) → p ≡ refusedPrice cause → (cause ≡ 0 → ⊥) →
+          valueAlone p ≡ valueAlone (scheduledPrice n b discounts flows side strike rows cause)
+      option-value-cause p ep nz = ap valueAlone (ep ∙ refused-first cause _ _ _ 0 refl nz ∙ passed-first _ _ _ 0 z) ∙ value-priced _ _ 0 _
+
+      pub option-value-is : cause ≡ 0 → (p : Price) → p ≡ acceptedOption n b discounts flows side strike rows 0 →
+          valueAlone p ≡ valueAlone (scheduledPrice n b discounts flows side strike rows cause)
+      option-value-is none p ep = ap valueAlone (ep ∙ passed-first _ _ _ 0 none ∙ passed-first _ _ _ 0 z) ∙ value-priced _ _ 0 _

@@ -17,6 +17,8 @@ use Rattle.price_bound.specs.PriceBound.{treeErrorBound}
 use Rattle.price_causes.specs.Causes.{flowsCause, optionCause, termsCause}
 use Rattle.pricing.specs.declared.Price.{Price}
 use Rattle.pricing.specs.declared.BondAndOption.{BondAndOption}
+use Rattle.pricing.specs.declared.BondAndOptionValues.{BondAndOptionValues}
+use Rattle.arithmetic.specs.declared.Answer.{Answer}
 
 -- flows stand for rows 1 to n; row 0 has none
 unfoldable pub flowAt : List ℕ → ℕ → ℕ
@@ -38,6 +40,13 @@ refusedPrice number = record { number = number; value = 0; bound = 0 }
 -- a price with its error bound, or a refusal
 unfoldable pub priced : ℕ → ℕ → ℕ → Price
 priced number price bound = cond (eqb number 0) (record { number = 0; value = price; bound = bound }) (refusedPrice number)
+
+-- number and value of a price, without its error bound; and the price with a bound that is known
+abbrev pub valueAlone : Price → Answer
+valueAlone price = record { number = price .number; value = price .value }
+
+abbrev pub withBound : Answer → ℕ → Price
+withBound value bound = priced (value .number) (value .value) bound
 
 -- ---- the bond
 
@@ -105,3 +114,8 @@ datedPrice n b discounts flows side dates strike =
 abbrev pub bondAndDatedOption : ℕ → ℕ → List ℕ → List ℕ → ℕ → List ℕ → ℕ → BondAndOption
 bondAndDatedOption n b discounts flows side dates strike =
     record { bond = bondPrice n b discounts flows; option = datedPrice n b discounts flows side dates strike }
+
+-- ---- values alone
+
+abbrev pub bothValues : BondAndOption → BondAndOptionValues
+bothValues both = record { bond = valueAlone (both .bond); option = valueAlone (both .option) }

@@ -24,6 +24,10 @@ ghost use Rattle.pricing.specs.Prices.{
   bondAndOption,
   datedPrice,
   bondAndDatedOption,
+  treeCause,
+  scheduledPrice,
+  valueAlone,
+  bothValues,
 };
 ghost use Rattle.pricing.specs.Trees.{downTable, treeBound, Exercisable, ExercisedOn, BothPriced};
 
@@ -40,6 +44,12 @@ pub struct Price {
 pub struct BondAndOption {
     pub bond: Price,
     pub option: Price,
+}
+
+// The same without their error bounds.
+pub struct BondAndOptionValues {
+    pub bond: Answer,
+    pub option: Answer,
 }
 
 fn refused(number: u64) -> Price
@@ -277,4 +287,122 @@ pub fn dated_option_price(
 {
     let both = bond_and_dated_option(steps, reversion, discounts, flows, side, dates, strike);
     both.option
+}
+
+// ---- values alone, for a caller who knows the tree's error bound: number and value of each price, which the bound does not enter
+
+// The first cause about a tree and its flows.
+fn tree_cause(steps: usize, reversion: u64, discounts: &[u64], flows: &[u64]) -> u64
+    ensures { λ r. ⌜ r ≡ treeCause steps reversion (now (discounts .entry)) (now (flows .entry)) ⌝ }
+{
+    let about_tree = lent_tree::discounts_cause(steps, reversion, discounts);
+    let about_flows = price_causes::flows_cause(steps, flows);
+    arithmetic::lowest_cause(about_tree, about_flows)
+}
+
+fn value_of(price: Price) -> Answer
+    ensures { λ r. ⌜ r ≡ valueAlone price ⌝ }
+{
+    Answer {
+        number: price.number,
+        value: price.value,
+    }
+}
+
+// As `bond_price`.
+pub fn bond_value(steps: usize, reversion: u64, discounts: &[u64], flows: &[u64]) -> Answer
+    ensures { λ r. ⌜ r ≡ valueAlone (bondPrice steps reversion (now (discounts .entry)) (now (flows .entry))) ⌝ }
+{
+    let cause = tree_cause(steps, reversion, discounts, flows);
+    if cause != 0 {
+        return value_of(refused(cause));
+    }
+    value_of(accepted_bond(steps, reversion, discounts, flows, 0))
+}
+
+// Bond and option on these dates, where the option itself has a cause or none, with 0 for the error bound.
+fn both_unbounded(
+    steps: usize,
+    reversion: u64,
+    discounts: &[u64],
+    flows: &[u64],
+    cause: u64,
+    terms: Terms,
+    dates: &[u8],
+) -> BondAndOption
+    requires { ⌜ (cause ≡ 0 → steps ≤ mostSteps → ExercisedOn terms steps (now dates)) ⌝ }
+    ensures bond { λ r. ⌜ valueAlone (r .bond) ≡ valueAlone (bondPrice steps reversion (now (discounts .entry)) (now (flows .entry))) ⌝ }
+    ensures option { λ r. ⌜ valueAlone (r .option) ≡ valueAlone (scheduledPrice steps reversion (now (discounts .entry)) (now (flows .entry))
+        (side (terms .call)) (terms .strike) (datedSchedule (now (dates .entry))) cause) ⌝ }
+{
+    let about_tree = tree_cause(steps, reversion, discounts, flows);
+    if about_tree != 0 {
+        return BondAndOption {
+            bond: refused(about_tree),
+            option: refused(about_tree),
+        };
+    }
+    if cause != 0 {
+        return BondAndOption {
+            bond: accepted_bond(steps, reversion, discounts, flows, 0),
+            option: refused(cause),
+        };
+    }
+    let marks = exercise_dates::marks_of(dates);
+    accepted_both(steps, reversion, discounts, flows, terms, &marks, 0)
+}
+
+// As `bond_and_option`.
+pub fn bond_and_option_values(
+    steps: usize,
+    reversion: u64,
+    discounts: &[u64],
+    flows: &[u64],
+    kind: u64,
+    expiry: usize,
+    strike: u64,
+) -> BondAndOptionValues
+    ensures { λ r. ⌜ r ≡ bothValues (bondAndOption steps reversion (now (discounts .entry)) (now (flows .entry)) kind expiry strike) ⌝ }
+{
+    let cause = price_causes::option_cause(steps, kind, expiry, strike);
+    let terms = exercise::terms_of(kind, expiry, strike);
+    let dates = exercise_dates::dates_of_kind(kind, expiry);
+    let rows = dates.rows;
+    let count = dates.count;
+    let both = both_unbounded(
+        steps,
+        reversion,
+        discounts,
+        flows,
+        cause,
+        terms,
+        &rows[..count],
+    );
+    BondAndOptionValues {
+        bond: value_of(both.bond),
+        option: value_of(both.option),
+    }
+}
+
+// As `bond_and_dated_option`.
+pub fn bond_and_dated_option_values(
+    steps: usize,
+    reversion: u64,
+    discounts: &[u64],
+    flows: &[u64],
+    side: u64,
+    dates: &[u8],
+    strike: u64,
+) -> BondAndOptionValues
+    ensures { λ r. ⌜ r ≡ bothValues (bondAndDatedOption steps reversion (now (discounts .entry)) (now (flows .entry)) side (now (dates .entry)) strike) ⌝ }
+{
+    let of_terms = price_causes::terms_cause(side, strike);
+    let of_dates = exercise_dates::dates_cause(steps, dates);
+    let cause = arithmetic::lowest_cause(of_terms, of_dates);
+    let terms = exercise_dates::terms_on(side, dates, strike);
+    let both = both_unbounded(steps, reversion, discounts, flows, cause, terms, dates);
+    BondAndOptionValues {
+        bond: value_of(both.bond),
+        option: value_of(both.option),
+    }
 }

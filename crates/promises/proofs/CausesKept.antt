@@ -21,7 +21,7 @@ use Rattle.continuous_rate.specs.ContinuousRate.{continuousRateAnswer, continuo
 use Rattle.promises.specs.Causes.{CausePromises, cause, firstOf, treeCauses}
 use Rattle.promises.proofs.CauseTables.{not-leb, ltb-not, number-of}
 use Rattle.promises.proofs.QuoteCauses.{lone-causes, curve-causes, shape-first, spacing-causes, fit-causes}
-use Rattle.promises.proofs.PriceCauses.{price-bound-causes, state-price-bound-causes, bond-causes, option-causes, dated-causes}
+use Rattle.promises.proofs.PriceCauses.{price-bound-causes, tree-bounds-causes, state-price-bound-causes, bond-causes, option-causes, dated-causes}
 use Rattle.promises.proofs.PriceCauses.{weighing-causes, weighing-bound-causes}
 
 -- ---- rows, sizes and branches
@@ -111,6 +111,7 @@ causes-kept =
       node-factor = factor-causes;
       fit = fit-causes;
       price-bound = price-bound-causes;
+      tree-bounds = tree-bounds-causes;
       state-price-bound = state-price-bound-causes;
       bond = bond-causes;
       option = option-causes;

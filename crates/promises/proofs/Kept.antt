@@ -6,7 +6,7 @@ use Rattle.pricing.proofs.OptionLaws.{kind-is-list}
 use Rattle.pricing.proofs.RightsLaws.{dates-no-less, american-no-less, kind-no-more, kind-no-less}
 use Rattle.promises.specs.Promises.{Promises, PricePromises}
 use Rattle.promises.proofs.TreeKept.{tree-kept}
-use Rattle.promises.proofs.RowsKept.{engine-kept, exact-kept, bound-kept, priced-kept}
+use Rattle.promises.proofs.RowsKept.{engine-kept, exact-kept, bound-kept, bounds-kept, priced-kept}
 use Rattle.promises.proofs.KindsKept.{flows-kept, exercise-kept, listed-kept, kinds-kept}
 use Rattle.promises.proofs.PayoffsKept.{weighed-kept, payoffs-kept}
 use Rattle.promises.proofs.FitStored.{fit-unaltered}
@@ -20,6 +20,7 @@ prices-kept =
       engine-rows = engine-kept;
       exact-rows = exact-kept;
       bound-rows = bound-kept;
+      bounds-known = bounds-kept;
       flow-rows = flows-kept;
       exercise-values = exercise-kept;
       listed-rows = listed-kept;

@@ -24,7 +24,8 @@ use Rattle.lent_tree.specs.LentTree.{acceptedDiscounts, discountsCause, stored}
 use Rattle.fit_laws.specs.StatePrices.{statePriceErrorBound}
 use Rattle.state_price_bound.specs.ErrorBound.{rowCause, boundCause, statePriceErrorBoundAnswer}
 use Rattle.price_causes.specs.Causes.{flowsCause, optionCause, termsCause}
-use Rattle.price_bound.specs.PriceBound.{treeErrorBound, priceErrorBoundAnswer}
+use Rattle.price_bound.specs.PriceBound.{treeErrorBound, priceErrorBoundAnswer, treeBoundsAnswer}
+use Rattle.price_bound.proofs.BoundLaws.{bounds-number}
 use Rattle.pricing_laws.specs.Peak.{greatestValue}
 use Rattle.pricing_laws.specs.Pricer.{Side, Schedule}
 use Rattle.pricing_laws.specs.Schedule.{rising, lastDate, datesCause, sideOf, scheduleOf, numberedSide, datedSchedule}
@@ -76,6 +77,9 @@ module _ (n b : ℕ) (discounts : List ℕ) where
   pub price-bound-causes : priceErrorBoundAnswer n b discounts .number ≡ firstOf (lentCauses n b discounts true [])
   unfolding priceErrorBoundAnswer
   price-bound-causes = number-of (discountsCause n b discounts) (treeErrorBound n b discounts) ∙ lent-alone
+
+  pub tree-bounds-causes : treeBoundsAnswer n b discounts .number ≡ firstOf (lentCauses n b discounts true [])
+  tree-bounds-causes = bounds-number n b discounts ∙ lent-alone
 
   -- a row past row n
   row-first : (i : ℕ) → boundCause n b discounts i ≡ firstOf (lentCauses n b discounts (leb i n) [])

@@ -27,7 +27,7 @@ use Rattle.continuous.specs.Continuous.{continuousAnswer}
 use Rattle.continuous_rate.specs.ContinuousRate.{continuousRateAnswer}
 use Rattle.fitting.specs.Entry.{fitNumber, fitDiscount}
 use Rattle.state_price_bound.specs.ErrorBound.{statePriceErrorBoundAnswer}
-use Rattle.price_bound.specs.PriceBound.{priceErrorBoundAnswer}
+use Rattle.price_bound.specs.PriceBound.{priceErrorBoundAnswer, treeBoundsAnswer}
 use Rattle.pricing_laws.specs.Schedule.{sideOf, scheduleOf, numberedSide, datedSchedule}
 use Rattle.pricing_laws.specs.Pricer.{Side, Schedule}
 use Rattle.pricing.specs.Prices.{bondValue, optionValue, bondPrice, optionPrice, datedPrice}
@@ -157,6 +157,7 @@ pub record CausePromises : Type 0 where
   -- error bounds of lent discounts
   pub price-bound : (n b : ℕ) (discounts : List ℕ) →
       priceErrorBoundAnswer n b discounts .number ≡ firstOf (lentCauses n b discounts true [])
+  pub tree-bounds : (n b : ℕ) (discounts : List ℕ) → treeBoundsAnswer n b discounts .number ≡ firstOf (lentCauses n b discounts true [])
   pub state-price-bound : (n b : ℕ) (discounts : List ℕ) (i : ℕ) →
       statePriceErrorBoundAnswer n b discounts i .number ≡ firstOf (lentCauses n b discounts (leb i n) [])
   -- prices

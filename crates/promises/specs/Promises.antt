@@ -39,6 +39,8 @@ use Rattle.state_price_bound.specs.ErrorBound.{statePriceErrorBoundAnswer}
 use Rattle.pricing_laws.specs.Pricer.{Side, call, put, Schedule, bond, bareBond, exercise, option, payoffValue}
 use Rattle.pricing_laws.specs.Schedule.{european, american, sideOf, scheduleOf, kindSide, kindDates, numberedSide, datedSchedule, Contained}
 use Rattle.pricing_laws.specs.TreePricer.{engine, exact, greatestDiscount, priceErrorBound}
+use Rattle.price_bound.specs.declared.TreeErrorBounds.{TreeErrorBounds}
+use Rattle.price_bound.specs.PriceBound.{treeBoundsAnswer}
 use Rattle.pricing.specs.Prices.{flowAt, bondPrice, optionPrice, datedPrice}
 use Rattle.pricing.specs.Exact.{exactBond, exactOption, exactDated, exactPayoff}
 use Rattle.valuation.specs.Entries.{valueByStatePricesAnswer, valuationErrorBoundAnswer}
@@ -314,9 +316,18 @@ pub record ExactRows (t : Tree) (discount : ℕ → ℕ → ℕ) (flow : ℕ →
 
 -- The price allowance, with G(i) the greatest discount of row i: 0 at row n, then G × later allowance / one, up, plus 2.
 pub record BoundRows (t : Tree) (discount : ℕ → ℕ → ℕ) (n : ℕ) : Type 0 where
+  pub greatest-of-row : (i : ℕ) → greatestDiscount t discount i ≡ greatest (t .nodes i) (discount i)
   pub last : priceErrorBound t discount n n ≡ 0
   pub before : (i : ℕ) → i < n →
       priceErrorBound t discount n i ≡ roundUp (greatestDiscount t discount i * priceErrorBound t discount n (suc i)) one + 2
+
+-- what is known of a tree of lent discounts (document 02, request (viii)): its price allowance, and the greatest discount of each row, in 60 places, 0 for rows
+-- that the tree has not
+pub record BoundsKnown (n b : ℕ) (discounts : List ℕ) (a : TreeErrorBounds) : Type 0 where
+  pub bound-is : a .bound ≡ priceErrorBound (rateTree b) (stored b discounts) n 0
+  pub places : length (a .greatest) ≡ 60
+  pub greatest-is : (i : ℕ) → i < n → values (a .greatest) i ≡ greatestDiscount (rateTree b) (stored b discounts) i
+  pub none-past : (i : ℕ) → n ≤ i → values (a .greatest) i ≡ 0
 
 -- what is answered, and what it is held against, are these at row 0
 pub record PricedByRows (n b : ℕ) (discounts flows : List ℕ) : Type 0 where
@@ -360,6 +371,7 @@ pub record PricePromises : Type 0 where
   pub exact-rows : (t : Tree) (discount : ℕ → ℕ → ℕ) (flow : ℕ → ℕ) (n : ℕ) (side : Side) (strike expiry : ℕ) →
       ExactRows t discount flow n side strike expiry
   pub bound-rows : (t : Tree) (discount : ℕ → ℕ → ℕ) (n : ℕ) → BoundRows t discount n
+  pub bounds-known : (n b : ℕ) (discounts : List ℕ) → treeBoundsAnswer n b discounts .number ≡ 0 → BoundsKnown n b discounts (treeBoundsAnswer n b discounts)
   pub flow-rows : (flows : List ℕ) → FlowRows flows
   pub exercise-values : (strike price : ℕ) → Exercised strike price
   pub listed-rows : (dates : List ℕ) → ListedRows dates

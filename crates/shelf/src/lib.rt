@@ -39,7 +39,7 @@ pub fn empty_shelf() -> Shelf
 }
 
 fn no_tree() -> Located
-    ensures { λ r. ⌜ r ≡ record { status = 0; start = 0; count = 0; steps = 0; reversion = 0 } ⌝ }
+    ensures { λ r. ⌜ r ≡ record { status = 0; start = 0; count = 0; steps = 0; reversion = 0; bound = 0 } ⌝ }
 {
     Located {
         status: 0,
@@ -47,6 +47,7 @@ fn no_tree() -> Located
         count: 0,
         steps: 0,
         reversion: 0,
+        bound: 0,
     }
 }
 
@@ -68,6 +69,7 @@ pub fn tree_of(shelf: Shelf, name: usize) -> Located
         count: slots::nodes_of(slot),
         steps: slot.steps,
         reversion: slot.reversion,
+        bound: slot.bound,
     }
 }
 
@@ -106,8 +108,8 @@ pub fn ask(
     slots::replaced(shelf, name - 1, slot)
 }
 
-// Commits a tree that awaits it: the fit is run on its discounts. 15 a name without such a tree; then the fit's causes, which leave the tree
-// awaiting a commit.
+// Commits a tree that awaits it: the fit is run on its discounts, and its bounds are worked out from them. 15 a name without such a tree; then the
+// fit's causes, which leave the tree awaiting a commit.
 pub fn commit(
     shelf: Shelf,
     memory: &mut [u64; 3600],
@@ -120,7 +122,7 @@ pub fn commit(
 ) -> Shelved
     ensures number { λ r. ⌜ r .number ≡ commitNumber (shelf .slots) name frequency volatility
         (now (rows .entry)) (now (kinds .entry)) (now (figures .entry)) ⌝ }
-    ensures slots { λ r. ⌜ r .shelf .slots ≡ commitSlots (shelf .slots) name frequency volatility
+    ensures slots { λ r. ⌜ r .shelf .slots ≡ commitSlots (shelf .slots) (now (memory .entry)) name frequency volatility
         (now (rows .entry)) (now (kinds .entry)) (now (figures .entry)) ⌝ }
     ensures memory { λ _. ⌜ now (memory .exit) ≡ commitMemory (shelf .slots) (now (memory .entry)) name frequency volatility
         (now (rows .entry)) (now (kinds .entry)) (now (figures .entry)) ⌝ }
@@ -133,7 +135,7 @@ pub fn commit(
     if number != 0 {
         return refused(number, shelf);
     }
-    let slot = slots::fitted_slot(tree.steps, tree.reversion);
+    let slot = parts::fitted_slot(memory, tree);
     slots::replaced(shelf, name - 1, slot)
 }
 

@@ -1,5 +1,6 @@
 // Parts of the memory: one is opened or closed by moving what stands behind it, and a tree is fitted in one.
 use shelf_laws::Located;
+use shelf_laws::Slot;
 ghost use mathlib.Core.Path.{_≡_};
 ghost use mathlib.Core.List.{_++_};
 ghost use Prim.Native.Nat.{_+_, _-_, _≤_};
@@ -8,6 +9,7 @@ ghost use Rattle.arithmetic.specs.Row.{place};
 ghost use Rattle.limits.specs.Limits.{mostStatePrices};
 ghost use Rattle.fitting.specs.Entry.{fitNumber, fitMemory, fitDiscounts};
 ghost use Rattle.shelf_laws.specs.Parts.{part, zeros, opened, closed};
+ghost use Rattle.shelf_laws.specs.Shelf.{fittedSlot};
 
 fn clear(part: &mut [u64])
     ensures { λ _. ⌜ now (part .exit) ≡ zeros (length (now (part .entry))) ⌝ }
@@ -105,4 +107,22 @@ pub(crate) fn fit_part(
         &mut memory[start..end],
         &mut prices,
     )
+}
+
+// The slot of a fitted tree, by the discounts that stand in its part of the memory.
+pub(crate) fn fitted_slot(memory: &[u64], tree: Located) -> Slot
+    requires { ⌜ tree .start + tree .count ≤ length (now memory) ⌝ }
+    ensures { λ r. ⌜ r ≡ fittedSlot (tree .steps) (tree .reversion) (part (now (memory .entry)) (tree .start) (tree .count)) ⌝ }
+{
+    let start = tree.start;
+    let end = start + tree.count;
+    let found = price_bound::tree_bounds(tree.steps, tree.reversion, &memory[start..end]);
+    let rows = found.greatest;
+    Slot {
+        status: 2,
+        steps: tree.steps,
+        reversion: tree.reversion,
+        bound: found.bound,
+        greatest: rows,
+    }
 }

@@ -4,11 +4,11 @@ use shelf_laws::Shelved;
 use shelf_laws::Slot;
 ghost use mathlib.Core.Path.{_≡_};
 ghost use Prim.Native.Nat.{_≤_, _<_};
-ghost use lib.ListN.{set};
+ghost use lib.ListN.{set, replicate};
+ghost use Rattle.limits.specs.Limits.{mostSteps};
 ghost use Rattle.shelf_laws.specs.Shelf.{
   emptySlot,
   awaitingSlot,
-  fittedSlot,
   slotAt,
   nodesOf,
   nodesBefore,
@@ -19,33 +19,36 @@ ghost use Rattle.shelf_laws.specs.Shelf.{
 // More nodes than the memory has.
 const TOO_MANY: usize = 3_601;
 
+// Zeros, made apart so that no proof above sees them one by one.
+fn no_rows() -> [u64; 60]
+    ensures { λ r. ⌜ r ≡ replicate mostSteps 0 ⌝ }
+{
+    [0u64; 60]
+}
+
 pub(crate) fn empty_slot() -> Slot
     ensures { λ r. ⌜ r ≡ emptySlot ⌝ }
 {
+    let rows = no_rows();
     Slot {
         status: 0,
         steps: 0,
         reversion: 0,
+        bound: 0,
+        greatest: rows,
     }
 }
 
 pub(crate) fn awaiting_slot(steps: usize, reversion: u64) -> Slot
     ensures { λ r. ⌜ r ≡ awaitingSlot steps reversion ⌝ }
 {
+    let rows = no_rows();
     Slot {
         status: 1,
         steps,
         reversion,
-    }
-}
-
-pub(crate) fn fitted_slot(steps: usize, reversion: u64) -> Slot
-    ensures { λ r. ⌜ r ≡ fittedSlot steps reversion ⌝ }
-{
-    Slot {
-        status: 2,
-        steps,
-        reversion,
+        bound: 0,
+        greatest: rows,
     }
 }
 

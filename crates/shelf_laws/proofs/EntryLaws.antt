@@ -1,27 +1,30 @@
 -- What the entries answer and leave, by what the code found, over plain variables.
 -- Assumes nothing.
-use mathlib.Core.Path.{_≡_, refl, sym, ap, _∙_}
-use Prim.Native.Nat.{ℕ, _+_, _-_, _≤_, _<_}
+use mathlib.Core.Path.{_≡_, refl, sym, ap, ap₂, _∙_}
+use Prim.Native.Nat.{ℕ, _+_, _-_, _≤_}
 use mathlib.Core.List.{List}
 use native.Mathlib.Omega.{arith}
 use borrow.Author.Tests.{eq-eqb, ne-eqb}
 use borrow.Rule.Slice.PartMut.{midOf, putMid}
 use lib.Ieee.{Float}
-use lib.ListN.{length, take, drop, set}
+use lib.ListN.{length, set}
 use Rattle.arithmetic.specs.Row.{place}
 use Rattle.arithmetic.proofs.Numbers.{by-equal}
 use Rattle.limits.specs.Limits.{mostStatePrices}
 use Rattle.lattice.specs.Shape.{discountsNeeded}
 use Rattle.fitting.specs.Entry.{fitNumber, fitMemory, fitDiscounts, discountsAfter}
+use Rattle.fitting.proofs.FittedTree.{fit-discounts-length}
 use Rattle.shelf_laws.specs.declared.Slot.{Slot}
 use Rattle.shelf_laws.specs.declared.Part.{Part}
 use Rattle.shelf_laws.specs.declared.Located.{Located}
 use Rattle.shelf_laws.specs.Parts.{part, opened, closed}
-use Rattle.shelf_laws.specs.Shelf.{emptySlot, awaitingSlot, fittedSlot, statusOf, slotOf, startOf, nodesOf, nameCause, discountsOf, locatedTree, partOf}
+use Rattle.shelf_laws.specs.Shelf.{room, emptySlot, awaitingSlot, fittedSlot, statusOf, slotOf}
+use Rattle.shelf_laws.specs.Shelf.{startOf, nodesOf, nameCause, discountsOf, locatedTree, partOf}
 use Rattle.shelf_laws.specs.Shelf.{askNumber, askSlots, askMemory, releaseSlots, releaseMemory}
 use Rattle.shelf_laws.specs.Shelf.{commitNumber, commitSlots, commitPart, commitMemory}
-use Rattle.shelf_laws.proofs.PartLaws.{part-back-to, lent-count, lent-part}
-use Rattle.shelf_laws.proofs.NameLaws.{Known, cause-awaiting, located-is, none-found, There, tree-found}
+use Rattle.shelf_laws.proofs.PartLaws.{part-length, part-written, part-back-to, lent-count, lent-part}
+use Rattle.shelf_laws.proofs.FitParts.{part-size}
+use Rattle.shelf_laws.proofs.NameLaws.{cause-awaiting, located-is, none-found, There, tree-found}
 
 -- ---- a fit on a part that was lent and has come back
 module _ (f n b s : ℕ) (rows kinds : List ℕ) (figures : List Float) (m prices : List ℕ) (at count r : ℕ)
@@ -112,9 +115,10 @@ module _ (slots : List Slot) (name f s : ℕ) (rows kinds : List ℕ) (figures :
   unfolding commitMemory
   memory-15 m h = rw (ne-eqb (statusOf slots name) 1 h)
 
-  pub slots-left : (r : ℕ) → r ≡ commitNumber slots name f s rows kinds figures → (r ≡ 0 → ⊥) → slots ≡ commitSlots slots name f s rows kinds figures
+  pub slots-left : (m : List ℕ) (r : ℕ) → r ≡ commitNumber slots name f s rows kinds figures → (r ≡ 0 → ⊥) →
+      slots ≡ commitSlots slots m name f s rows kinds figures
   unfolding commitSlots
-  slots-left r er h = rw (← er, ne-eqb r 0 h)
+  slots-left m r er h = rw (← er, ne-eqb r 0 h)
 
   module _ (l : Located) (e : l ≡ locatedTree slots name) (h : l .status ≡ 1) where
     pub commit-number : (r : ℕ) → r ≡ fitNumber f (l .steps) (l .reversion) s rows kinds figures (l .count) mostStatePrices →
@@ -135,9 +139,35 @@ module _ (slots : List Slot) (name f s : ℕ) (rows kinds : List ℕ) (figures :
           let t = a .0 in
           p ∙ rw (er, t .start-is, t .steps-is, t .reversion-is, t .count-is, eq-eqb (statusOf slots name) 1 (a .1))
 
-      pub commit-slots : r ≡ 0 → (next : Slot) (after : List Slot) → next ≡ fittedSlot (l .steps) (l .reversion) → after ≡ set slots (name - 1) next →
-          after ≡ commitSlots slots name f s rows kinds figures
-      unfolding commitSlots
-      commit-slots z next after en ea =
+      -- the tree's part, as the fit leaves it
+      fitted-part : (m : List ℕ) → length m ≡ room →
+          part (place m (l .start) (fitMemory r (fitDiscounts f (l .steps) (l .reversion) s kinds figures) (part m (l .start) (l .count))))
+          (l .start) (l .count)
+          ≡ commitPart slots name f s rows kinds figures m
+      unfolding commitPart
+      fitted-part m long =
           let t = awaiting slots name l e h .0 in
-          ea ∙ ap (λ (x : Slot). set slots (name - 1) x) en ∙ rw (t .steps-is, t .reversion-is, ← er, eq-eqb r 0 z)
+          let fitted = fitDiscounts f (l .steps) (l .reversion) s kinds figures in
+          let before = part m (l .start) (l .count) in
+          let whole : length before ≡ l .count = part-length m (l .start) (l .count) (omega (arith, t .fits)) in
+          let needed : length fitted ≡ l .count =
+          fit-discounts-length f (l .steps) (l .reversion) s kinds figures
+          ∙ ap₂ discountsNeeded (t .steps-is) (t .reversion-is)
+          ∙ sym (t .tree .nodes)
+          ∙ sym (t .count-is) in
+          let size : length (fitMemory r fitted before) ≡ l .count = part-size r fitted before (whole ∙ sym needed) ∙ needed in
+          ap (part (place m (l .start) (fitMemory r fitted before)) (l .start)) (sym size)
+          ∙ part-written m (l .start) (fitMemory r fitted before) (omega (arith, t .fits))
+          ∙ rw (er, t .start-is, t .steps-is, t .reversion-is, t .count-is)
+
+      pub commit-slots : r ≡ 0 → (m last : List ℕ) (next : Slot) (after : List Slot) → length m ≡ room →
+          last ≡ place m (l .start) (fitMemory r (fitDiscounts f (l .steps) (l .reversion) s kinds figures) (part m (l .start) (l .count))) →
+          next ≡ fittedSlot (l .steps) (l .reversion) (part last (l .start) (l .count)) → after ≡ set slots (name - 1) next →
+          after ≡ commitSlots slots m name f s rows kinds figures
+      unfolding commitSlots
+      commit-slots z m last next after long el en ea =
+          let t = awaiting slots name l e h .0 in
+          let d = ap (λ (x : List ℕ). part x (l .start) (l .count)) el ∙ fitted-part m long in
+          ea
+          ∙ ap (λ (x : Slot). set slots (name - 1) x) (en ∙ ap (fittedSlot (l .steps) (l .reversion)) d)
+          ∙ rw (t .steps-is, t .reversion-is, ← er, eq-eqb r 0 z)

@@ -94,12 +94,13 @@ module _ (slots : List Slot) (name : ℕ) where
 
   -- ---- the tree that is found
   pub located-none : (nameCause slots name ≡ 0 → ⊥) →
-      _≡_ {A = Located} (record { status = 0; start = 0; count = 0; steps = 0; reversion = 0 }) (locatedTree slots name)
+      _≡_ {A = Located} (record { status = 0; start = 0; count = 0; steps = 0; reversion = 0; bound = 0 }) (locatedTree slots name)
   unfolding locatedTree
   located-none z = rw (ne-eqb (nameCause slots name) 0 z)
 
   pub located-is : nameCause slots name ≡ 0 → (t : Slot) (at count : ℕ) → t ≡ slotOf slots name → at ≡ startOf slots name → count ≡ nodesOf t →
-      _≡_ {A = Located} (record { status = t .status; start = at; count = count; steps = t .steps; reversion = t .reversion }) (locatedTree slots name)
+      _≡_ {A = Located} (record { status = t .status; start = at; count = count; steps = t .steps; reversion = t .reversion; bound = t .bound })
+      (locatedTree slots name)
   unfolding locatedTree
   located-is e t at count et ea ec = rw (eq-eqb (nameCause slots name) 0 e, ec, ea, et)
 
@@ -113,6 +114,7 @@ module _ (slots : List Slot) (name : ℕ) where
       pub count-is : l .count ≡ nodesOf (slotOf slots name)
       pub steps-is : l .steps ≡ slotOf slots name .steps
       pub reversion-is : l .reversion ≡ slotOf slots name .reversion
+      pub bound-is : l .bound ≡ slotOf slots name .bound
       pub fits : l .start + l .count ≤ room
       pub tree : Sane (slotOf slots name)
 
@@ -120,7 +122,14 @@ module _ (slots : List Slot) (name : ℕ) where
     found z =
         let t = slotOf slots name in
         let k = there z in
-        let is : l ≡ record { status = t .status; start = startOf slots name; count = nodesOf t; steps = t .steps; reversion = t .reversion } =
+        let is : l ≡ record {
+          status = t .status;
+          start = startOf slots name;
+          count = nodesOf t;
+          steps = t .steps;
+          reversion = t .reversion;
+          bound = t .bound;
+        } =
         e ∙ sym (located-is z t (startOf slots name) (nodesOf t) refl refl refl) in
         let start-is : l .start ≡ startOf slots name = ap (λ (x : Located). x .start) is in
         let count-is : l .count ≡ nodesOf t = ap (λ (x : Located). x .count) is in
@@ -132,6 +141,7 @@ module _ (slots : List Slot) (name : ℕ) where
           count-is = count-is;
           steps-is = ap (λ (x : Located). x .steps) is;
           reversion-is = ap (λ (x : Located). x .reversion) is;
+          bound-is = ap (λ (x : Located). x .bound) is;
           fits = omega (arith, start-is, count-is, place-fits (k .0));
           tree = tree-sane (k .0) (k .1);
         }

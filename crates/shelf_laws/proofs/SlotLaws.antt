@@ -9,22 +9,36 @@ use native.Mathlib.Numerals.{add-one}
 use native.Mathlib.Nat.{add-zero, add-suc}
 use borrow.Author.Tests.{lt-ltb, le-ltb, eq-eqb, ne-eqb}
 use lib.Dec.{eqb}
-use lib.ListN.{length}
+use lib.ListN.{length, replicate}
 use Rattle.arithmetic.specs.declared.Answer.{Answer}
 use Rattle.arithmetic.proofs.Numbers.{by-order, by-equal}
-use Rattle.limits.specs.Limits.{shapeCause}
+use Rattle.limits.specs.Limits.{mostSteps, shapeCause}
 use Rattle.limits.proofs.LimitLaws.{shape-accepted}
 use Rattle.lattice.specs.Shape.{discountsNeeded}
 use Rattle.lattice.specs.Entries.{aboutTree}
 use Rattle.lattice.proofs.Sizes.{start-within}
 use Rattle.lattice.proofs.EntryLaws.{tree-number, tree-result}
+use Rattle.price_bound.specs.declared.TreeErrorBounds.{TreeErrorBounds}
+use Rattle.price_bound.specs.PriceBound.{treeBoundsAnswer}
 use Rattle.shelf_laws.specs.declared.Slot.{Slot}
-use Rattle.shelf_laws.specs.Shelf.{room, emptySlots, slotAt, nodesOf, nodesBefore, held}
+use Rattle.shelf_laws.specs.Shelf.{room, emptySlots, held, emptySlot, awaitingSlot, fittedSlot, slotAt, nodesOf, nodesBefore}
 
 -- the nodes of a tree
 pub needed-most : (n b : ℕ) → shapeCause n b ≡ 0 → discountsNeeded n b ≤ 3721
 unfolding discountsNeeded
 needed-most n b e = start-within b n (omega (arith, shape-accepted n b e .1))
+
+-- ---- slots as the code makes them
+module _ (rows : List ℕ) (e : rows ≡ replicate mostSteps 0) where
+  pub empty-is : _≡_ {A = Slot} (record { status = 0; steps = 0; reversion = 0; bound = 0; greatest = rows }) emptySlot
+  empty-is = rw e
+
+  pub awaiting-is : (n b : ℕ) → _≡_ {A = Slot} (record { status = 1; steps = n; reversion = b; bound = 0; greatest = rows }) (awaitingSlot n b)
+  awaiting-is n b = rw e
+
+pub fitted-is : (n b : ℕ) (discounts : List ℕ) (found : TreeErrorBounds) → found ≡ treeBoundsAnswer n b discounts →
+    _≡_ {A = Slot} (record { status = 2; steps = n; reversion = b; bound = found .bound; greatest = found .greatest }) (fittedSlot n b discounts)
+fitted-is n b discounts found e = rw e
 
 -- what the lattice answers
 module _ (n b : ℕ) (a : Answer) (e : a ≡ aboutTree n b (discountsNeeded n b)) where

@@ -1,17 +1,18 @@
--- A shelf (document 02, request (vii)): eight slots, for the names 1 to 8, beside one memory of 3,600 discounts, in which the trees stand in the
+-- A shelf (document 02, requests (vii) and (viii)): eight slots, for the names 1 to 8, beside one memory of 3,600 discounts, in which the trees stand in the
 -- order of their names, one after the other from the start. What the entries answer and leave, for any slots and any memory.
 -- f steps a year, n steps, reversion b, volatility s; quotes as rows, kinds and figures.
 -- Assumes nothing.
 use Prim.Native.Nat.{ℕ, zero, suc, _+_, _-_}
 use mathlib.Core.Bool.{cond}
-use mathlib.Core.List.{List}
+use mathlib.Core.List.{List, []}
 use lib.Dec.{eqb, ltb}
 use lib.Ieee.{Float}
 use lib.ListN.{getD, set, replicate}
 use Rattle.arithmetic.specs.Row.{place}
-use Rattle.limits.specs.Limits.{mostStatePrices, shapeCause}
+use Rattle.limits.specs.Limits.{mostSteps, mostStatePrices, shapeCause}
 use Rattle.lattice.specs.Shape.{discountsNeeded}
 use Rattle.fitting.specs.Entry.{fitNumber, fitMemory, fitDiscounts}
+use Rattle.price_bound.specs.PriceBound.{treeBoundsAnswer}
 use Rattle.shelf_laws.specs.declared.Slot.{Slot}
 use Rattle.shelf_laws.specs.declared.Part.{Part}
 use Rattle.shelf_laws.specs.declared.Located.{Located}
@@ -24,13 +25,21 @@ room = 3600
 -- ---- slots: status 0 no tree, 1 a tree that awaits its commit, 2 a fitted tree
 
 abbrev pub emptySlot : Slot
-emptySlot = record { status = 0; steps = 0; reversion = 0 }
+emptySlot = record { status = 0; steps = 0; reversion = 0; bound = 0; greatest = replicate mostSteps 0 }
 
 abbrev pub awaitingSlot : ℕ → ℕ → Slot
-awaitingSlot n b = record { status = 1; steps = n; reversion = b }
+awaitingSlot n b = record { status = 1; steps = n; reversion = b; bound = 0; greatest = replicate mostSteps 0 }
 
-abbrev pub fittedSlot : ℕ → ℕ → Slot
-fittedSlot n b = record { status = 2; steps = n; reversion = b }
+-- with what `price_bound::tree_bounds` answers for its discounts
+abbrev pub fittedSlot : ℕ → ℕ → List ℕ → Slot
+fittedSlot n b discounts =
+    record {
+      status = 2;
+      steps = n;
+      reversion = b;
+      bound = treeBoundsAnswer n b discounts .bound;
+      greatest = treeBoundsAnswer n b discounts .greatest;
+    }
 
 -- the empty shelf: no name present, no node held
 unfoldable pub emptySlots : List Slot
@@ -38,7 +47,7 @@ emptySlots = replicate 8 emptySlot
 
 -- the slot at an index; there is no tree past the slots
 unfoldable pub slotAt : List Slot → ℕ → Slot
-slotAt slots i = getD slots i emptySlot
+slotAt slots i = getD slots i (record { status = 0; steps = 0; reversion = 0; bound = 0; greatest = [] })
 
 -- the nodes of a slot's tree; a slot that no call leaves behind counts as more than the memory has
 unfoldable pub nodesOf : Slot → ℕ
@@ -92,8 +101,9 @@ locatedTree slots name =
       count = nodesOf (slotOf slots name);
       steps = slotOf slots name .steps;
       reversion = slotOf slots name .reversion;
+      bound = slotOf slots name .bound;
     })
-    (record { status = 0; start = 0; count = 0; steps = 0; reversion = 0 })
+    (record { status = 0; start = 0; count = 0; steps = 0; reversion = 0; bound = 0 })
 
 abbrev pub partOf : List Slot → ℕ → Part
 partOf slots name = record { start = locatedTree slots name .start; count = locatedTree slots name .count }
@@ -122,16 +132,19 @@ module _ (slots : List Slot) (name f s : ℕ) (rows kinds : List ℕ) (figures :
       (fitNumber f (slotOf slots name .steps) (slotOf slots name .reversion) s rows kinds figures (nodesOf (slotOf slots name)) mostStatePrices)
       15
 
-  unfoldable pub commitSlots : List Slot
-  commitSlots =
-      cond (eqb commitNumber 0) (set slots (name - 1) (fittedSlot (slotOf slots name .steps) (slotOf slots name .reversion))) slots
-
   -- the tree's part as the fit leaves it
   unfoldable pub commitPart : List ℕ → List ℕ
   commitPart memory =
       fitMemory commitNumber (fitDiscounts f (slotOf slots name .steps) (slotOf slots name .reversion) s kinds figures) (discountsOf slots memory name)
 
--- the memory afterwards
+-- slots and memory afterwards
+unfoldable pub commitSlots : List Slot → List ℕ → ℕ → ℕ → ℕ → List ℕ → List ℕ → List Float → List Slot
+commitSlots slots memory name f s rows kinds figures =
+    cond (eqb (commitNumber slots name f s rows kinds figures) 0)
+    (set slots (name - 1)
+    (fittedSlot (slotOf slots name .steps) (slotOf slots name .reversion) (commitPart slots name f s rows kinds figures memory)))
+    slots
+
 unfoldable pub commitMemory : List Slot → List ℕ → ℕ → ℕ → ℕ → List ℕ → List ℕ → List Float → List ℕ
 commitMemory slots memory name f s rows kinds figures =
     cond (eqb (statusOf slots name) 1) (place memory (startOf slots name) (commitPart slots name f s rows kinds figures memory)) memory

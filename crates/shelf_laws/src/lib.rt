@@ -1,11 +1,14 @@
 // What a shelf of trees holds, laid out for C, with the definitions and laws of its entries. No code: the entries are in shelf and shelf_prices.
 
-// What a shelf keeps of a name: status 0 no tree, 1 a tree that awaits a commit, 2 a fitted tree; then its steps and its reversion.
+// What a shelf keeps of a name: status 0 no tree, 1 a tree that awaits a commit, 2 a fitted tree; then its steps and its reversion. A fitted tree
+// carries its price error bound and the greatest discount of each of its rows; all else is 0.
 #[repr(C)]
 pub struct Slot {
     pub status: u64,
     pub steps: usize,
     pub reversion: u64,
+    pub bound: u64,
+    pub greatest: [u64; 60],
 }
 
 // The slot of name k has index k - 1.
@@ -28,11 +31,12 @@ pub struct Part {
     pub count: usize,
 }
 
-// A name's tree: its status, where its discounts stand, how many they are, its steps and its reversion; zeros where there is none.
+// A name's tree: its status, where its discounts stand, how many they are, its steps, its reversion and its price error bound; zeros where there is none.
 pub struct Located {
     pub status: u64,
     pub start: usize,
     pub count: usize,
     pub steps: usize,
     pub reversion: u64,
+    pub bound: u64,
 }

@@ -3,11 +3,13 @@
 use mathlib.Core.Path.{_≡_, ap, ap₂, _∙_}
 use Prim.Native.Nat.{ℕ, _+_, _-_}
 use mathlib.Core.List.{List}
-use borrow.Author.Tests.{eq-eqb}
+use borrow.Author.Tests.{eq-eqb, ne-eqb}
 use lib.ListN.{take, drop}
 use Rattle.pricing.specs.declared.Price.{Price}
 use Rattle.pricing.specs.declared.BondAndOption.{BondAndOption}
-use Rattle.pricing.specs.Prices.{refusedPrice}
+use Rattle.pricing.specs.declared.BondAndOptionValues.{BondAndOptionValues}
+use Rattle.pricing.specs.Prices.{refusedPrice, priced, valueAlone, withBound}
+use Rattle.arithmetic.specs.declared.Answer.{Answer}
 use Rattle.shelf_laws.specs.declared.Slot.{Slot}
 use Rattle.shelf_laws.specs.declared.Located.{Located}
 use Rattle.shelf_laws.specs.Shelf.{nameCause, locatedTree}
@@ -15,19 +17,34 @@ use Rattle.shelf_laws.proofs.PartLaws.{lent-part}
 use Rattle.shelf_laws.proofs.NameLaws.{none-found, tree-found}
 use Rattle.shelf_prices.specs.ShelfPrices.{shelfPrice}
 
+-- a value with the bound that its tree carries
+pub carried-refused : (value : Answer) (bound : ℕ) → (value .number ≡ 0 → ⊥) →
+    _≡_ {A = Price} (record { number = value .number; value = 0; bound = 0 }) (withBound value bound)
+unfolding priced
+carried-refused value bound z = rw (ne-eqb (value .number) 0 z)
+
+pub carried-given : (value : Answer) (bound : ℕ) → value .number ≡ 0 →
+    _≡_ {A = Price} (record { number = 0; value = value .value; bound = bound }) (withBound value bound)
+unfolding priced
+carried-given value bound z = rw (eq-eqb (value .number) 0 z)
+
 -- one price
 module _ (price : ℕ → ℕ → List ℕ → Price) (slots : List Slot) (m : List ℕ) (name : ℕ) (l : Located) (e : l ≡ locatedTree slots name) where
   pub price-none : l .status ≡ 0 → refusedPrice 15 ≡ shelfPrice price slots m name
   unfolding shelfPrice
   price-none h = rw (none-found slots name l e h)
 
-  pub price-there : (l .status ≡ 0 → ⊥) →
-      price (l .steps) (l .reversion) (take (l .start + l .count - l .start) (drop (l .start) m)) ≡ shelfPrice price slots m name
+  -- the value of the plain entry on the tree's part, with the bound that the tree carries
+  pub price-there : (l .status ≡ 0 → ⊥) → (value : Answer) →
+      value ≡ valueAlone (price (l .steps) (l .reversion) (take (l .start + l .count - l .start) (drop (l .start) m))) →
+      (x : Price) → x ≡ withBound value (l .bound) → x ≡ shelfPrice price slots m name
   unfolding shelfPrice
-  price-there h =
+  price-there h value ev x ex =
       let t = tree-found slots name l e h in
-      ap (price (l .steps) (l .reversion)) (lent-part m (l .start) (l .count))
-      ∙ rw (t .steps-is, t .reversion-is, t .start-is, t .count-is, eq-eqb (nameCause slots name) 0 (t .cause))
+      ex
+      ∙ ap (λ (v : Answer). withBound v (l .bound)) ev
+      ∙ ap (λ (d : List ℕ). withBound (valueAlone (price (l .steps) (l .reversion) d)) (l .bound)) (lent-part m (l .start) (l .count))
+      ∙ rw (t .steps-is, t .reversion-is, t .start-is, t .count-is, t .bound-is, eq-eqb (nameCause slots name) 0 (t .cause))
 
 -- two prices at once
 module _ (bond option : ℕ → ℕ → List ℕ → Price) (slots : List Slot) (m : List ℕ) (name : ℕ) (l : Located) (e : l ≡ locatedTree slots name) where
@@ -40,10 +57,14 @@ module _ (bond option : ℕ → ℕ → List ℕ → Price) (slots : List Slot) 
   pub both-none : l .status ≡ 0 → record { bond = refusedPrice 15; option = refusedPrice 15 } ≡ both
   both-none h = paired (price-none bond slots m name l e h) (price-none option slots m name l e h)
 
-  pub both-there : (l .status ≡ 0 → ⊥) →
-      record {
-        bond = bond (l .steps) (l .reversion) (take (l .start + l .count - l .start) (drop (l .start) m));
-        option = option (l .steps) (l .reversion) (take (l .start + l .count - l .start) (drop (l .start) m));
-      }
-      ≡ both
-  both-there h = paired (price-there bond slots m name l e h) (price-there option slots m name l e h)
+  pub both-there : (l .status ≡ 0 → ⊥) → (values : BondAndOptionValues) →
+      values
+      ≡ record {
+        bond = valueAlone (bond (l .steps) (l .reversion) (take (l .start + l .count - l .start) (drop (l .start) m)));
+        option = valueAlone (option (l .steps) (l .reversion) (take (l .start + l .count - l .start) (drop (l .start) m)));
+      } →
+      (b o : Price) → b ≡ withBound (values .bond) (l .bound) → o ≡ withBound (values .option) (l .bound) → record { bond = b; option = o } ≡ both
+  both-there h values ev b o eb eo =
+      paired
+      (price-there bond slots m name l e h (values .bond) (ap (λ (v : BondAndOptionValues). v .bond) ev) b eb)
+      (price-there option slots m name l e h (values .option) (ap (λ (v : BondAndOptionValues). v .option) ev) o eo)

@@ -1,5 +1,5 @@
--- Prices on the trees of a shelf (document 02, request (vii)): 15 for the name, or what a plain entry answers for the tree's discounts. For any slots and
--- any memory.
+-- Prices on the trees of a shelf (document 02, requests (vii) and (viii)): 15 for the name, or number and value of what a plain entry answers for the tree's
+-- discounts, with the error bound that the slot carries. For any slots and any memory.
 -- Assumes nothing.
 use Prim.Native.Nat.{ℕ}
 use mathlib.Core.Bool.{cond}
@@ -7,14 +7,14 @@ use mathlib.Core.List.{List}
 use lib.Dec.{eqb}
 use Rattle.pricing.specs.declared.Price.{Price}
 use Rattle.pricing.specs.declared.BondAndOption.{BondAndOption}
-use Rattle.pricing.specs.Prices.{refusedPrice, bondPrice, optionPrice, datedPrice}
+use Rattle.pricing.specs.Prices.{refusedPrice, valueAlone, withBound, bondPrice, optionPrice, datedPrice}
 use Rattle.shelf_laws.specs.declared.Slot.{Slot}
 use Rattle.shelf_laws.specs.Shelf.{slotOf, discountsOf, nameCause}
 
 unfoldable pub shelfPrice : (ℕ → ℕ → List ℕ → Price) → List Slot → List ℕ → ℕ → Price
 shelfPrice price slots memory name =
     cond (eqb (nameCause slots name) 0)
-    (price (slotOf slots name .steps) (slotOf slots name .reversion) (discountsOf slots memory name))
+    (withBound (valueAlone (price (slotOf slots name .steps) (slotOf slots name .reversion) (discountsOf slots memory name))) (slotOf slots name .bound))
     (refusedPrice 15)
 
 abbrev pub shelfBond : List Slot → List ℕ → ℕ → List ℕ → Price

@@ -1,9 +1,10 @@
 // Prices on the trees of a shelf. Shelf and memory are read and left as they are.
+use arithmetic::Answer;
 use pricing::BondAndOption;
 use pricing::Price;
 use shelf_laws::Shelf;
 ghost use mathlib.Core.Path.{_≡_};
-ghost use Rattle.pricing.specs.Prices.{refusedPrice};
+ghost use Rattle.pricing.specs.Prices.{refusedPrice, withBound};
 ghost use Rattle.shelf_prices.specs.ShelfPrices.{shelfBond, shelfOption, shelfDated, shelfBondAndOption, shelfBondAndDated};
 
 // The price of a name without a tree.
@@ -27,8 +28,26 @@ fn no_prices() -> BondAndOption
     }
 }
 
+// A value with the error bound that its tree carries; a refusal as it is.
+fn carried(value: Answer, bound: u64) -> Price
+    ensures { λ r. ⌜ r ≡ withBound value bound ⌝ }
+{
+    if value.number != 0 {
+        return Price {
+            number: value.number,
+            value: 0,
+            bound: 0,
+        };
+    }
+    Price {
+        number: 0,
+        value: value.value,
+        bound,
+    }
+}
+
 // The price at row 0 of the bond with these flows on a name's tree. 15 a name without a tree; then what `pricing::bond_price` answers for the
-// tree's discounts, 9 for a tree that awaits its commit.
+// tree's discounts, 9 for a tree that awaits its commit. The error bound is the one that the tree carries.
 pub fn bond_price(shelf: Shelf, memory: &[u64; 3600], name: usize, flows: &[u64]) -> Price
     ensures { λ r. ⌜ r ≡ shelfBond (shelf .slots) (now (memory .entry)) name (now (flows .entry)) ⌝ }
 {
@@ -39,7 +58,8 @@ pub fn bond_price(shelf: Shelf, memory: &[u64; 3600], name: usize, flows: &[u64]
     let numbers = &memory[..];
     let start = tree.start;
     let end = start + tree.count;
-    pricing::bond_price(tree.steps, tree.reversion, &numbers[start..end], flows)
+    let value = pricing::bond_value(tree.steps, tree.reversion, &numbers[start..end], flows);
+    carried(value, tree.bound)
 }
 
 // The same for an option by its kind, as `pricing::option_price` answers.
@@ -54,22 +74,8 @@ pub fn option_price(
 ) -> Price
     ensures { λ r. ⌜ r ≡ shelfOption (shelf .slots) (now (memory .entry)) name (now (flows .entry)) kind expiry strike ⌝ }
 {
-    let tree = shelf::tree_of(shelf, name);
-    if tree.status == 0 {
-        return no_price();
-    }
-    let numbers = &memory[..];
-    let start = tree.start;
-    let end = start + tree.count;
-    pricing::option_price(
-        tree.steps,
-        tree.reversion,
-        &numbers[start..end],
-        flows,
-        kind,
-        expiry,
-        strike,
-    )
+    let both = bond_and_option(shelf, memory, name, flows, kind, expiry, strike);
+    both.option
 }
 
 // The same for an option on listed rows, as `pricing::dated_option_price` answers.
@@ -84,22 +90,8 @@ pub fn dated_option_price(
 ) -> Price
     ensures { λ r. ⌜ r ≡ shelfDated (shelf .slots) (now (memory .entry)) name (now (flows .entry)) side (now (dates .entry)) strike ⌝ }
 {
-    let tree = shelf::tree_of(shelf, name);
-    if tree.status == 0 {
-        return no_price();
-    }
-    let numbers = &memory[..];
-    let start = tree.start;
-    let end = start + tree.count;
-    pricing::dated_option_price(
-        tree.steps,
-        tree.reversion,
-        &numbers[start..end],
-        flows,
-        side,
-        dates,
-        strike,
-    )
+    let both = bond_and_dated_option(shelf, memory, name, flows, side, dates, strike);
+    both.option
 }
 
 // Bond and option in one roll, each as its own entry answers.
@@ -121,7 +113,7 @@ pub fn bond_and_option(
     let numbers = &memory[..];
     let start = tree.start;
     let end = start + tree.count;
-    pricing::bond_and_option(
+    let values = pricing::bond_and_option_values(
         tree.steps,
         tree.reversion,
         &numbers[start..end],
@@ -129,7 +121,11 @@ pub fn bond_and_option(
         kind,
         expiry,
         strike,
-    )
+    );
+    BondAndOption {
+        bond: carried(values.bond, tree.bound),
+        option: carried(values.option, tree.bound),
+    }
 }
 
 // The same with an option on listed rows.
@@ -151,7 +147,7 @@ pub fn bond_and_dated_option(
     let numbers = &memory[..];
     let start = tree.start;
     let end = start + tree.count;
-    pricing::bond_and_dated_option(
+    let values = pricing::bond_and_dated_option_values(
         tree.steps,
         tree.reversion,
         &numbers[start..end],
@@ -159,5 +155,9 @@ pub fn bond_and_dated_option(
         side,
         dates,
         strike,
-    )
+    );
+    BondAndOption {
+        bond: carried(values.bond, tree.bound),
+        option: carried(values.option, tree.bound),
+    }
 }

@@ -15,7 +15,7 @@ use Rattle.shelf_laws.proofs.SlotLaws.{nodes-none, by-slot, Sane, ends-before}
 use Rattle.shelf_laws.proofs.NameLaws.{Known, known, status-zero, status-high, status-good, there, tree-sane}
 use Rattle.pricing.specs.declared.Price.{Price}
 use Rattle.shelf_promises.specs.Model.{Seen, absent, Quoted, Pricing, Call, asking, committing, releasing, pricing}
-use Rattle.shelf_promises.specs.Model.{nodesSeen, statusSeen, stepsSeen, reversionSeen, discountsSeen, heldBy}
+use Rattle.shelf_promises.specs.Model.{nodesSeen, statusSeen, stepsSeen, reversionSeen, discountsSeen, boundSeen, heldBy}
 use Rattle.shelf_promises.specs.Model.{deskStatus, deskCause, deskPrice, deskNumber, put, deskTaken, deskAfter}
 use Rattle.shelf_promises.specs.History.{Kept, seenSlot, seen, priceOf, numberOf}
 use Rattle.shelf_promises.proofs.Others.{Sound, slot-other}
@@ -45,6 +45,9 @@ module _ (t : Slot) (d : List ℕ) where
 
     discounts-seen : discountsSeen (seenSlot t d) ≡ d
     discounts-seen = rw (ne-eqb (t .status) 0 z)
+
+    bound-seen : boundSeen (seenSlot t d) ≡ t .bound
+    bound-seen = rw (ne-eqb (t .status) 0 z)
 
 -- ---- the whole shelf
 seen-same : (k j : Kept) (i : ℕ) → slotAt (j .slots) i ≡ slotAt (k .slots) i →
@@ -120,13 +123,24 @@ module _ (k : Kept) (s : Sound (k .slots) (k .memory)) where
     unfolding seen
     discounts-is = discounts-seen (slotOf (k .slots) name) (discountsOf (k .slots) (k .memory) name) tree-there
 
+    bound-is : boundSeen (seen k (name - 1)) ≡ slotOf (k .slots) name .bound
+    unfolding seen
+    bound-is = bound-seen (slotOf (k .slots) name) (discountsOf (k .slots) (k .memory) name) tree-there
+
   pub price-is : (name : ℕ) (p : Pricing) → priceOf k name p ≡ deskPrice (seen k) name p
   unfolding priceOf shelfPrice deskPrice
   price-is name p =
       by-equal (nameCause (k .slots) name) 0
       (λ (e : nameCause (k .slots) name ≡ 0).
       let e′ : deskCause (seen k) name ≡ 0 = sym (cause-is name) ∙ e in
-      rw (eq-eqb (nameCause (k .slots) name) 0 e, eq-eqb (deskCause (seen k) name) 0 e′, steps-is name e, reversion-is name e, discounts-is name e))
+      rw (
+        eq-eqb (nameCause (k .slots) name) 0 e,
+        eq-eqb (deskCause (seen k) name) 0 e′,
+        steps-is name e,
+        reversion-is name e,
+        discounts-is name e,
+        bound-is name e,
+      ))
       (λ (e : nameCause (k .slots) name ≡ 0 → ⊥).
       let e′ : deskCause (seen k) name ≡ 0 → ⊥ = λ z. e (cause-is name ∙ z) in
       rw (ne-eqb (nameCause (k .slots) name) 0 e, ne-eqb (deskCause (seen k) name) 0 e′))

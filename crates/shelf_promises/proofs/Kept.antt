@@ -10,7 +10,7 @@ use Rattle.shelf_promises.specs.ShelfPromises.{ShelfPromises}
 use Rattle.shelf_promises.proofs.DeskLaws.{held-seen, price-is}
 use Rattle.shelf_promises.proofs.Histories.{follows, valid, history-is, held-is, own-commit-is}
 use Rattle.shelf_promises.proofs.Alone.{others-stay, number-alone, prices-stay, askings-stay, asked-exact, broken-refused, broken-stays}
-use Rattle.shelf_promises.proofs.Prices.{unfitted-is, commit-is-fit, fitted-is, accurate-is, parts-are}
+use Rattle.shelf_promises.proofs.Prices.{plain-is, unfitted-is, commit-is-fit, fitted-is, accurate-is, parts-are}
 
 pricing-stays : (k : Kept) (name : ℕ) (p : Pricing) → after k (pricing name p) ≡ k
 unfolding after
@@ -55,6 +55,7 @@ shelf-kept =
       refused-kept = λ k r call z. follows k (valid k r) call .kept z;
       unfitted-priced = λ k r name t low high found e p. unfitted-is k (valid k r) name t low high found e p;
       fitted-priced = λ k r name t found f p e. fitted-is k (valid k r) name t found f p e;
+      prices-plain = λ k r name t low high found p. plain-is k (valid k r) name t low high found p;
       prices-accurate = λ k r name p z. accurate-is k (valid k r) name p z;
       kinds-paired = kinds-pair;
       lists-paired = lists-pair;

@@ -1,6 +1,6 @@
 pub mod Others
 pub mod DeskLaws
-pub mod FitParts
+pub mod FitRoom
 pub mod Simulation
 pub mod PriceNumbers
 pub mod Trees

@@ -1,7 +1,7 @@
 -- Prices of shelved trees, and where their discounts stand.
 -- Assumes nothing.
-use mathlib.Core.Path.{_≡_, refl, sym, ap, _∙_}
-use Prim.Native.Nat.{ℕ, suc, _-_, _*_, _^_, _≤_, _<_}
+use mathlib.Core.Path.{subst, _≡_, refl, sym, ap, _∙_}
+use Prim.Native.Nat.{ℕ, _-_, _*_, _^_, _≤_, _<_}
 use mathlib.Core.Bool.{Bool, true, false, cond}
 use mathlib.Core.List.{List}
 use native.Mathlib.Omega.{arith}
@@ -14,9 +14,11 @@ use Rattle.tree.specs.Tree.{unit}
 use Rattle.lattice.specs.Shape.{discountsNeeded, statePricesNeeded}
 use Rattle.lent_tree.specs.LentTree.{discountsCause}
 use Rattle.fitting.specs.Entry.{fitNumber}
+use Rattle.price_bound.specs.PriceBound.{treeErrorBound}
 use Rattle.pricing.specs.declared.Price.{Price}
-use Rattle.pricing.specs.Prices.{refusedPrice, treeCause}
-use Rattle.pricing.proofs.Accuracy.{bond-within-bound, option-within-bound, dated-within-bound}
+use Rattle.pricing.specs.Prices.{refusedPrice, treeCause, priced, valueAlone, withBound, bondPrice, optionPrice, datedPrice}
+use Rattle.promises.proofs.CauseTables.{number-priced}
+use Rattle.pricing.proofs.Accuracy.{bond-given, option-given, dated-given, bond-within-bound, option-within-bound, dated-within-bound}
 use Rattle.pricing.proofs.Accuracy.{bond-bound-a-step, option-bound-a-step, dated-bound-a-step}
 use Rattle.promises.specs.Promises.{NoneAboveOne}
 use Rattle.shelf_laws.specs.Parts.{part}
@@ -28,7 +30,7 @@ use Rattle.shelf_promises.specs.Model.{deskStatus, deskCause, deskPrice,
 use Rattle.shelf_promises.specs.History.{Kept, seen, priceOf, numberOf}
 use Rattle.shelf_promises.specs.ShelfPromises.{PricedTree}
 use Rattle.shelf_promises.proofs.DeskLaws.{cause-is, price-is, discounts-is}
-use Rattle.shelf_promises.proofs.FitParts.{any-room}
+use Rattle.shelf_promises.proofs.FitRoom.{any-room}
 use Rattle.shelf_promises.proofs.PriceNumbers.{tree-refuses, zeros-cause, nine, six, never-nine}
 use Rattle.shelf_promises.proofs.Histories.{Valid, follows}
 
@@ -87,11 +89,40 @@ module _ (desk : ℕ → Seen) (name : ℕ) where
     price-none z = rw (ne-eqb (deskCause desk name) 0 z)
 
     price-found : deskCause desk name ≡ 0 → (t : ShelvedTree) → desk (name - 1) ≡ present t →
-        deskPrice desk name p ≡ plainPrice p (t .steps) (t .reversion) (t .discounts)
+        deskPrice desk name p ≡ withBound (valueAlone (plainPrice p (t .steps) (t .reversion) (t .discounts))) (t .bound)
     unfolding deskPrice
     price-found z t e = rw (eq-eqb (deskCause desk name) 0 z, e)
 
+-- ---- a price with the bound that is carried
+module _ (c v : ℕ) where
+  priced-again : (e : ℕ) → priced (priced c v e .number) (priced c v e .value) e ≡ priced c v e
+  unfolding priced
+  priced-again e =
+      by-equal c 0
+      (λ (z : c ≡ 0). rw (eq-eqb c 0 z))
+      (λ (z : c ≡ 0 → ⊥). rw (ne-eqb c 0 z, ne-eqb c 0 z))
+
+  -- a refusal has no bound
+  priced-alike : (e bound : ℕ) → (c ≡ 0 → e ≡ bound) → priced c v e ≡ priced c v bound
+  unfolding priced
+  priced-alike e bound h =
+      by-equal c 0
+      (λ (z : c ≡ 0). rw (eq-eqb c 0 z, h z))
+      (λ (z : c ≡ 0 → ⊥). rw (ne-eqb c 0 z))
+
 -- ---- the plain prices
+plain-priced : (p : Pricing) (n b : ℕ) (d : List ℕ) →
+    priced (plainPrice p n b d .number) (plainPrice p n b d .value) (treeErrorBound n b d) ≡ plainPrice p n b d
+unfolding bondPrice optionPrice datedPrice
+plain-priced (bond flows) n b d = priced-again _ _ (treeErrorBound n b d)
+plain-priced (option flows kind expiry strike) n b d = priced-again _ _ (treeErrorBound n b d)
+plain-priced (dated flows side dates strike) n b d = priced-again _ _ (treeErrorBound n b d)
+
+plain-bound : (p : Pricing) (n b : ℕ) (d : List ℕ) → plainPrice p n b d .number ≡ 0 → plainPrice p n b d .bound ≡ treeErrorBound n b d
+plain-bound (bond flows) n b d h = bond-given n b d flows h .bound
+plain-bound (option flows kind expiry strike) n b d h = option-given n b d flows kind expiry strike h .bound
+plain-bound (dated flows side dates strike) n b d h = dated-given n b d flows side dates strike h .bound
+
 plain-within : (p : Pricing) (n b : ℕ) (d : List ℕ) → plainPrice p n b d .number ≡ 0 →
     Within (plainPrice p n b d .bound) (unit ^ n) (plainPrice p n b d .value) (exactOf p n b d)
 plain-within (bond flows) n b d h = bond-within-bound n b d flows h
@@ -106,11 +137,12 @@ plain-a-step (dated flows side dates strike) n b d h l = dated-bound-a-step n b 
 module _ (k : Kept) (v : Valid k) (name : ℕ) where
   -- a tree and no cause
   module _ (z : deskCause (seen k) name ≡ 0) (t : ShelvedTree) (found : seen k (name - 1) ≡ present t) where
-    plain : (p : Pricing) → priceOf k name p ≡ plainPrice p (t .steps) (t .reversion) (t .discounts)
-    plain p = price-is k (v .sound) name p ∙ price-found (seen k) name p z t found
+    carried-plain : (p : Pricing) → priceOf k name p ≡ withBound (valueAlone (plainPrice p (t .steps) (t .reversion) (t .discounts))) (t .bound)
+    carried-plain p = price-is k (v .sound) name p ∙ price-found (seen k) name p z t found
 
     plain-number : (p : Pricing) → priceOf k name p .number ≡ plainPrice p (t .steps) (t .reversion) (t .discounts) .number
-    plain-number p = ap (λ (x : Price). x .number) (plain p)
+    plain-number p =
+        ap (λ (x : Price). x .number) (carried-plain p) ∙ number-priced _ _ (t .bound)
 
     -- a tree that awaits its commit
     module _ (e : t .fitted ≡ false) where
@@ -136,20 +168,41 @@ module _ (k : Kept) (v : Valid k) (name : ℕ) where
           (λ (h : length (flowsOf p) ≡ t .steps). omega (arith, is-nine p h))
           (λ (h : length (flowsOf p) ≡ t .steps → ⊥). omega (arith, is-six p h))
 
+    -- the whole answer is the plain entry's
+    plain : (p : Pricing) → priceOf k name p ≡ plainPrice p (t .steps) (t .reversion) (t .discounts)
+    plain p =
+        carried-plain p
+        ∙ priced-alike _ _ (t .bound) (treeErrorBound (t .steps) (t .reversion) (t .discounts))
+        (λ h.
+        by-fitted (t .fitted)
+        (λ (f : t .fitted ≡ true). v .good (name - 1) t found .fitted-bound f)
+        (λ (f : t .fitted ≡ false). absurd (not-priced f p (plain-number p ∙ h))))
+        ∙ plain-priced p (t .steps) (t .reversion) (t .discounts)
+
     priced-tree : (p : Pricing) → priceOf k name p .number ≡ 0 → t .fitted ≡ true → PricedTree k name p
     priced-tree p y f =
         let same = plain p in
         let zero = sym (plain-number p) ∙ y in
+        let bound : t .bound ≡ plainPrice p (t .steps) (t .reversion) (t .discounts) .bound =
+        v .good (name - 1) t found .fitted-bound f ∙ sym (plain-bound p (t .steps) (t .reversion) (t .discounts) zero) in
         record {
           tree = t;
           found = found;
           fitted = f;
+          carried = ap (λ (x : Price). x .bound) same ∙ sym bound;
           answered = same;
-          accurate = rw same (plain-within p (t .steps) (t .reversion) (t .discounts) zero);
-          a-step = λ l. rw same (plain-a-step p (t .steps) (t .reversion) (t .discounts) zero l);
+          accurate =
+              subst (λ (e : ℕ). Within e (unit ^ t .steps) (priceOf k name p .value) (exactOf p (t .steps) (t .reversion) (t .discounts))) (sym bound)
+              (subst (λ (x : Price). Within (plainPrice p (t .steps) (t .reversion) (t .discounts) .bound) (unit ^ t .steps) (x .value)
+              (exactOf p (t .steps) (t .reversion) (t .discounts))) (sym same) (plain-within p (t .steps) (t .reversion) (t .discounts) zero));
+          a-step = λ l. rw bound (plain-a-step p (t .steps) (t .reversion) (t .discounts) zero l);
         }
 
   -- ---- what the promises say
+  pub plain-is : (t : ShelvedTree) → 1 ≤ name → name ≤ 8 → seen k (name - 1) ≡ present t → (p : Pricing) →
+      priceOf k name p ≡ plainPrice p (t .steps) (t .reversion) (t .discounts)
+  plain-is t low high found p = plain (cause-found (seen k) name t low high found) t found p
+
   pub unfitted-is : (t : ShelvedTree) → 1 ≤ name → name ≤ 8 → seen k (name - 1) ≡ present t → t .fitted ≡ false → (p : Pricing) →
       (length (flowsOf p) ≡ t .steps → priceOf k name p .number ≡ 9) × ((length (flowsOf p) ≡ t .steps → ⊥) → priceOf k name p .number ≡ 6)
   unfitted-is t low high found e p =

@@ -13,22 +13,24 @@ use Rattle.arithmetic.proofs.Numbers.{by-equal}
 use Rattle.limits.specs.Limits.{shapeCause}
 use Rattle.lattice.specs.Shape.{discountsNeeded}
 use Rattle.fitting.proofs.FittedTree.{fit-discounts-length}
+use Rattle.price_bound.proofs.BoundLaws.{bounds-bound, bounds-greatest}
 use Rattle.shelf_laws.specs.Parts.{zeros, opened, closed}
 use Rattle.shelf_laws.specs.declared.Slot.{Slot}
 use Rattle.shelf_laws.specs.Shelf.{room, emptySlot, awaitingSlot, fittedSlot, slotAt, nodesOf, nodesBefore, held, statusOf, slotOf, discountsAt, discountsOf}
 use Rattle.shelf_laws.specs.Shelf.{nameCause, askNumber, askSlots, askMemory, commitNumber, commitSlots, commitPart, commitMemory, releaseSlots, releaseMemory}
 use Rattle.shelf_laws.proofs.PartLaws.{part-length, length-opened, length-closed, length-written, place-self}
+use Rattle.shelf_laws.proofs.FitParts.{part-fitted, part-zeroed, part-left, part-size}
 use Rattle.shelf_laws.proofs.SlotLaws.{nodes-none, nodes-tree, Sane, ends-before}
 use Rattle.shelf_laws.proofs.NameLaws.{Known, known, cause-awaiting, there, place-fits, tree-sane, Asked, asked}
 use Rattle.shelf_promises.specs.Model.{ShelvedTree, Seen, absent, present, Quoted, Pricing, unfittedTree, fittedTree, stepsSeen, reversionSeen}
-use Rattle.shelf_promises.specs.Model.{fitDiscountsOf, Call, asking, committing, releasing, pricing, locating}
+use Rattle.shelf_promises.specs.Model.{fitNumberOf, fitDiscountsOf, Call, asking, committing, releasing, pricing, locating}
 use Rattle.shelf_promises.specs.Model.{deskStatus, deskNumber, put, deskTaken, deskAfter}
 use Rattle.shelf_promises.specs.History.{Kept, seenSlot, seen, numberOf, after}
 use Rattle.shelf_promises.specs.History as history
 use Rattle.shelf_promises.specs.ShelfPromises.{GoodTree}
 use Rattle.shelf_promises.proofs.Others.{Sound, slot-same, held-changed, own-asked, other-asked, other-released, own-written, other-written}
 use Rattle.shelf_promises.proofs.DeskLaws.{status-is, asking-number, releasing-number, pricing-number, steps-is, reversion-is, changed, taken, refused}
-use Rattle.shelf_promises.proofs.FitParts.{part-fitted, part-zeroed, part-left, part-size}
+use Rattle.shelf_promises.proofs.FitRoom.{fit-lent}
 
 -- every tree that is seen is a good one
 abbrev pub GoodDesk : (ℕ → Seen) → Type 0
@@ -236,6 +238,8 @@ seen-awaiting : (k : Kept) (i : ℕ) → slotAt (k .slots) i .status ≡ 1 →
       steps = slotAt (k .slots) i .steps;
       reversion = slotAt (k .slots) i .reversion;
       discounts = discountsAt (k .slots) (k .memory) i;
+      bound = slotAt (k .slots) i .bound;
+      greatest = slotAt (k .slots) i .greatest;
     })
 unfolding seen
 seen-awaiting k i e = rw e
@@ -271,9 +275,11 @@ module _ (k : Kept) (s : Sound (k .slots) (k .memory)) (name : ℕ) (q : Quoted)
   unfolding deskTaken
   commit-taken = refl
 
-  commit-shown : (t : Slot) (d : List ℕ) → t ≡ fittedSlot steps reversion → d ≡ fitDiscountsOf q steps reversion →
+  commit-shown : (t : Slot) (d : List ℕ) → fitNumberOf q steps reversion ≡ 0 → t ≡ fittedSlot steps reversion d → d ≡ fitDiscountsOf q steps reversion →
       seenSlot t d ≡ present (fittedTree q steps reversion)
-  commit-shown t d p r = rw (p, r)
+  commit-shown t d z p r =
+      let e = fit-lent q steps reversion z in
+      rw (p, r, bounds-bound steps reversion (fitDiscountsOf q steps reversion) e, bounds-greatest steps reversion (fitDiscountsOf q steps reversion) e)
 
   -- a name that awaits no commit
   module _ (z : statusOf (k .slots) name ≡ 1 → ⊥) where
@@ -308,6 +314,10 @@ module _ (k : Kept) (s : Sound (k .slots) (k .memory)) (name : ℕ) (q : Quoted)
     number-is : number ≡ deskNumber (seen k) (committing name q)
     unfolding commitNumber deskNumber
     number-is = rw (steps-is k s name named, reversion-is k s name named, tree .nodes, status-is k s name)
+
+    number-fit : number ≡ fitNumberOf q steps reversion
+    unfolding commitNumber
+    number-fit = rw (tree .nodes, eq-eqb (statusOf (k .slots) name) 1 h)
 
     inside : nodesBefore (k .slots) (name - 1) + nodesOf (slotOf (k .slots) name) ≤ length (k .memory)
     inside = omega (arith, s .long, place-fits (k .slots) name name-known)
@@ -358,7 +368,7 @@ module _ (k : Kept) (s : Sound (k .slots) (k .memory)) (name : ℕ) (q : Quoted)
     module _ (e : number ≡ 0) where
       committed-after : after k (committing name q)
           ≡ record {
-            slots = set (k .slots) (name - 1) (fittedSlot steps reversion);
+            slots = set (k .slots) (name - 1) (fittedSlot steps reversion row);
             memory = place (k .memory) (nodesBefore (k .slots) (name - 1)) row;
           }
       unfolding after commitSlots commitMemory
@@ -368,12 +378,13 @@ module _ (k : Kept) (s : Sound (k .slots) (k .memory)) (name : ℕ) (q : Quoted)
       unfolding seen
       commit-follows =
           let i = name - 1 in
-          let t = fittedSlot steps reversion in
+          let t = fittedSlot steps reversion row in
           let m = k .memory in
           let m′ = place m (nodesBefore (k .slots) i) row in
-          let nt : nodesOf t ≡ discountsNeeded steps reversion = nodes-tree (fittedSlot steps reversion) (λ y. omega arith) (omega arith) (tree .shape) in
+          let nt : nodesOf t ≡ discountsNeeded steps reversion = nodes-tree (fittedSlot steps reversion row) (λ y. omega arith) (omega arith) (tree .shape) in
           let same : nodesOf t ≡ nodesOf (slotAt (k .slots) i) = nt ∙ sym (tree .nodes) in
           let hc = held-changed (k .slots) m s i low t in
+          let own = own-written (k .slots) m s i low t row same row-count in
           let ex : deskTaken (seen k) (committing name q) ≡ put (seen k) i (present (fittedTree q steps reversion)) =
           commit-taken
           ∙ ap (λ (c : ℕ). put (seen k) i (present (fittedTree q c (reversionSeen (seen k i))))) (steps-is k s name named)
@@ -382,8 +393,8 @@ module _ (k : Kept) (s : Sound (k .slots) (k .memory)) (name : ℕ) (q : Quoted)
           committed-after ex
           (length-written m (nodesBefore (k .slots) i) row (omega (arith, row-count, inside)) ∙ s .long)
           (omega (arith, hc, same, s .fits)) (omega (arith, hc, same, commit-asked, commit-released))
-          (commit-shown (slotAt (set (k .slots) i t) i) (discountsAt (set (k .slots) i t) m′ i) (slot-same (k .slots) i t (omega (arith, s .size, low)))
-          (own-written (k .slots) m s i low t row same row-count ∙ row-fitted e))
+          (commit-shown (slotAt (set (k .slots) i t) i) (discountsAt (set (k .slots) i t) m′ i) (sym number-fit ∙ e)
+          (slot-same (k .slots) i t (omega (arith, s .size, low)) ∙ ap (fittedSlot steps reversion) (sym own)) (own ∙ row-fitted e))
           (other-written (k .slots) m s i low t row same row-count)
 
   pub committing-number : numberOf k (committing name q) ≡ deskNumber (seen k) (committing name q)

@@ -9,11 +9,10 @@ use lib.Dec.{eqb, ltb}
 use lib.ListN.{length}
 use Rattle.arithmetic.proofs.Numbers.{by-order, by-equal}
 use Rattle.arithmetic.proofs.RowLaws.{length-row}
-use Rattle.limits.specs.Limits.{mostStatePrices, shapeCause}
+use Rattle.limits.specs.Limits.{shapeCause}
 use Rattle.lattice.specs.Shape.{discountsNeeded}
-use Rattle.lent_tree.specs.LentTree.{discountsCause}
 use Rattle.lent_tree.proofs.LentLaws.{accepted-shape}
-use Rattle.fitting.proofs.FittedTree.{fit-discounts-length, fit-discounts-lent}
+use Rattle.fitting.proofs.FittedTree.{fit-discounts-length}
 use Rattle.shelf_laws.specs.Parts.{zeros}
 use Rattle.shelf_laws.specs.Shelf.{room}
 use Rattle.shelf_promises.specs.Model.{ShelvedTree, Seen, absent, present, Quoted, fitNumberOf, fitDiscountsOf, unfittedTree, fittedTree}
@@ -21,6 +20,7 @@ use Rattle.shelf_promises.specs.Model.{statusSeen, stepsSeen, reversionS
 use Rattle.shelf_promises.specs.Model.{deskStatus, deskCause, deskNumber, put, deskTaken, deskAfter}
 use Rattle.shelf_promises.specs.ShelfPromises.{Committed, GoodTree}
 use Rattle.shelf_promises.proofs.DeskLaws.{put-same, put-other, taken, refused}
+use Rattle.shelf_promises.proofs.FitRoom.{fit-lent}
 use Rattle.shelf_promises.proofs.Simulation.{GoodDesk}
 
 -- ---- what is seen
@@ -93,11 +93,11 @@ good-unfitted n b e =
       unfitted = λ h. refl;
       committed = λ h. never h;
       accepted = λ h. never h;
+      unfitted-bound = λ h. refl;
+      unfitted-greatest = λ h. refl;
+      fitted-bound = λ h. never h;
+      fitted-greatest = λ h. never h;
     }
-
-fit-lent : (q : Quoted) (n b : ℕ) → fitNumberOf q n b ≡ 0 → discountsCause n b (fitDiscountsOf q n b) ≡ 0
-fit-lent q n b e =
-    fit-discounts-lent (q .frequency) n b (q .volatility) (q .kinds) (q .figures) (q .rows) (discountsNeeded n b) mostStatePrices e
 
 good-fitted : (q : Quoted) (n b : ℕ) → fitNumberOf q n b ≡ 0 → GoodTree (fittedTree q n b)
 good-fitted q n b e =
@@ -107,6 +107,10 @@ good-fitted q n b e =
       unfitted = λ h. never (sym h);
       committed = λ h. record { quoted = q; accepted = e; discounts-are = refl };
       accepted = λ h. fit-lent q n b e;
+      unfitted-bound = λ h. never (sym h);
+      unfitted-greatest = λ h. never (sym h);
+      fitted-bound = λ h. refl;
+      fitted-greatest = λ h. refl;
     }
 
 good-put : (desk : ℕ → Seen) (i : ℕ) (x : Seen) → GoodDesk desk → ((t : ShelvedTree) → x ≡ present t → GoodTree t) → GoodDesk (put desk i x)

@@ -24,7 +24,14 @@ pub record Kept : Type 0 where
 abbrev pub seenSlot : Slot → List ℕ → Seen
 seenSlot t discounts =
     cond (eqb (t .status) 0) absent
-    (present (record { fitted = eqb (t .status) 2; steps = t .steps; reversion = t .reversion; discounts = discounts }))
+    (present (record {
+      fitted = eqb (t .status) 2;
+      steps = t .steps;
+      reversion = t .reversion;
+      discounts = discounts;
+      bound = t .bound;
+      greatest = t .greatest;
+    }))
 
 unfoldable pub seen : Kept → ℕ → Seen
 seen k i = seenSlot (slotAt (k .slots) i) (discountsAt (k .slots) (k .memory) i)
@@ -47,7 +54,7 @@ after k (asking name n b) =
     record { slots = askSlots (k .slots) name n b; memory = askMemory (k .slots) (k .memory) name n b }
 after k (committing name q) =
     record {
-      slots = commitSlots (k .slots) name (q .frequency) (q .volatility) (q .rows) (q .kinds) (q .figures);
+      slots = commitSlots (k .slots) (k .memory) name (q .frequency) (q .volatility) (q .rows) (q .kinds) (q .figures);
       memory = commitMemory (k .slots) (k .memory) name (q .frequency) (q .volatility) (q .rows) (q .kinds) (q .figures);
     }
 after k (releasing name) = record { slots = releaseSlots (k .slots) name; memory = releaseMemory (k .slots) (k .memory) name }

@@ -1,4 +1,4 @@
--- The shelf as a desk sees it (document 02, request (vii)): under each name a tree with its own discounts, or none. Nothing here says where
+-- The shelf as a desk sees it (document 02, requests (vii) and (viii)): under each name a tree with its own discounts, or none. Nothing here says where
 -- discounts stand. Index i stands for the name i + 1.
 -- Assumes nothing.
 use Prim.Native.Nat.{ℕ, zero, suc, _+_, _-_}
@@ -6,22 +6,25 @@ use mathlib.Core.Bool.{Bool, true, false, cond}
 use mathlib.Core.List.{List, [], _∷_}
 use lib.Dec.{eqb, ltb}
 use lib.Ieee.{Float}
-use lib.ListN.{length}
-use Rattle.limits.specs.Limits.{mostStatePrices, shapeCause}
+use lib.ListN.{length, replicate}
+use Rattle.limits.specs.Limits.{mostSteps, mostStatePrices, shapeCause}
 use Rattle.lattice.specs.Shape.{discountsNeeded}
 use Rattle.fitting.specs.Entry.{fitNumber, fitDiscounts}
+use Rattle.price_bound.specs.PriceBound.{treeErrorBound, greatestDiscounts}
 use Rattle.pricing.specs.declared.Price.{Price}
-use Rattle.pricing.specs.Prices.{refusedPrice, bondPrice, optionPrice, datedPrice}
+use Rattle.pricing.specs.Prices.{refusedPrice, valueAlone, withBound, bondPrice, optionPrice, datedPrice}
 use Rattle.pricing.specs.Exact.{exactBond, exactOption, exactDated}
 use Rattle.shelf_laws.specs.Parts.{zeros}
 use Rattle.shelf_laws.specs.Shelf.{room}
 
--- a tree on the shelf: whether it was fitted, its steps, its reversion, its discounts row after row
+-- a tree on the shelf: whether it was fitted, its steps, its reversion, its discounts row after row, its error bound and its rows' greatest discounts
 pub record ShelvedTree : Type 0 where
   pub fitted : Bool
   pub steps : ℕ
   pub reversion : ℕ
   pub discounts : List ℕ
+  pub bound : ℕ
+  pub greatest : List ℕ
 
 pub data Seen : Type 0 where
   absent : Seen
@@ -89,10 +92,27 @@ nameOf (locating name) = name
 
 -- set aside: all 0
 abbrev pub unfittedTree : ℕ → ℕ → ShelvedTree
-unfittedTree n b = record { fitted = false; steps = n; reversion = b; discounts = zeros (discountsNeeded n b) }
+unfittedTree n b =
+    record {
+      fitted = false;
+      steps = n;
+      reversion = b;
+      discounts = zeros (discountsNeeded n b);
+      bound = 0;
+      greatest = replicate mostSteps 0;
+    }
 
+-- fitted: with what the rule gives for its discounts
 abbrev pub fittedTree : Quoted → ℕ → ℕ → ShelvedTree
-fittedTree q n b = record { fitted = true; steps = n; reversion = b; discounts = fitDiscountsOf q n b }
+fittedTree q n b =
+    record {
+      fitted = true;
+      steps = n;
+      reversion = b;
+      discounts = fitDiscountsOf q n b;
+      bound = treeErrorBound n b (fitDiscountsOf q n b);
+      greatest = greatestDiscounts n b (fitDiscountsOf q n b);
+    }
 
 abbrev pub nodesSeen : Seen → ℕ
 nodesSeen absent = 0
@@ -115,6 +135,10 @@ abbrev pub discountsSeen : Seen → List ℕ
 discountsSeen absent = []
 discountsSeen (present t) = t .discounts
 
+abbrev pub boundSeen : Seen → ℕ
+boundSeen absent = 0
+boundSeen (present t) = t .bound
+
 -- the nodes held by the first names
 unfoldable pub heldBy : (ℕ → Seen) → ℕ → ℕ
 heldBy desk zero = 0
@@ -128,10 +152,12 @@ deskStatus desk name = cond (eqb name 0) 3 (cond (ltb 8 name) 3 (statusSeen (des
 unfoldable pub deskCause : (ℕ → Seen) → ℕ → ℕ
 deskCause desk name = cond (eqb (deskStatus desk name) 1) 0 (cond (eqb (deskStatus desk name) 2) 0 15)
 
+-- number and value of the plain entry's answer, with the error bound that the tree carries
 unfoldable pub deskPrice : (ℕ → Seen) → ℕ → Pricing → Price
 deskPrice desk name p =
     cond (eqb (deskCause desk name) 0)
-    (plainPrice p (stepsSeen (desk (name - 1))) (reversionSeen (desk (name - 1))) (discountsSeen (desk (name - 1))))
+    (withBound (valueAlone (plainPrice p (stepsSeen (desk (name - 1))) (reversionSeen (desk (name - 1))) (discountsSeen (desk (name - 1)))))
+    (boundSeen (desk (name - 1))))
     (refusedPrice 15)
 
 -- the number of a call: 0 where it is accepted

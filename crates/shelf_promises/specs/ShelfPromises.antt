@@ -1,17 +1,18 @@
--- What a shelf promises (document 02, request (vii)), for every shelf reached from the empty one beside any memory by any calls of its entries with
+-- What a shelf promises (document 02, requests (vii) and (viii)), for every shelf reached from the empty one beside any memory by any calls of its entries with
 -- any arguments. Each line is about the answers that the entries' contracts give, where shelf and memory are not altered between calls.
 -- Assumes nothing.
 use mathlib.Core.Path.{_≡_}
 use mathlib.Core.Bool.{true, false}
-use mathlib.Core.List.{List, [], _∷_, _++_}
+use mathlib.Core.List.{List, _∷_, _++_}
 use Prim.Native.Nat.{ℕ, suc, _+_, _-_, _*_, _^_, _≤_, _<_}
-use lib.ListN.{length}
+use lib.ListN.{length, replicate}
 use Rattle.arithmetic.specs.Within.{Within}
 use Rattle.tree.specs.Tree.{unit}
-use Rattle.limits.specs.Limits.{shapeCause}
+use Rattle.limits.specs.Limits.{mostSteps, shapeCause}
 use Rattle.lattice.specs.Shape.{discountsNeeded, statePricesNeeded}
 use Rattle.lent_tree.specs.LentTree.{discountsCause}
 use Rattle.fitting.specs.Entry.{fitNumber}
+use Rattle.price_bound.specs.PriceBound.{treeErrorBound, greatestDiscounts}
 use Rattle.pricing.specs.Prices.{refusedPrice}
 use Rattle.promises.specs.Promises.{NoneAboveOne}
 use Rattle.shelf_laws.specs.Parts.{zeros, part}
@@ -38,6 +39,11 @@ pub record GoodTree (t : ShelvedTree) : Type 0 where
   pub unfitted : t .fitted ≡ false → t .discounts ≡ zeros (discountsNeeded (t .steps) (t .reversion))
   pub committed : t .fitted ≡ true → Committed t
   pub accepted : t .fitted ≡ true → discountsCause (t .steps) (t .reversion) (t .discounts) ≡ 0
+  -- what it carries: the rule's numbers for its stored discounts, or zeros
+  pub unfitted-bound : t .fitted ≡ false → t .bound ≡ 0
+  pub unfitted-greatest : t .fitted ≡ false → t .greatest ≡ replicate mostSteps 0
+  pub fitted-bound : t .fitted ≡ true → t .bound ≡ treeErrorBound (t .steps) (t .reversion) (t .discounts)
+  pub fitted-greatest : t .fitted ≡ true → t .greatest ≡ greatestDiscounts (t .steps) (t .reversion) (t .discounts)
 
 -- some call of the history was a commit of name i + 1 that was accepted, and its fit's discounts are the tree's
 pub record CommittedIn (k : Kept) (calls : List Call) (i : ℕ) (t : ShelvedTree) : Type 0 where
@@ -50,16 +56,17 @@ pub record CommittedIn (k : Kept) (calls : List Call) (i : ℕ) (t : ShelvedTree
 
 -- ---- prices
 
--- a price that is given: the tree was fitted, the answer is the plain entry's for its discounts, within its allowance of the exact price (demand 3),
--- and where no discount is above one the allowance is at most 2 billionths a step
+-- a price that is given: the tree was fitted, its bound is the one that the tree carries, the answer is the plain entry's for its discounts, within
+-- that bound of the exact price (demand 3), and where no discount is above one the bound is at most 2 billionths a step
 pub record PricedTree (k : Kept) (name : ℕ) (p : Pricing) : Type 0 where
   pub tree : ShelvedTree
   pub found : seen k (name - 1) ≡ present tree
   pub fitted : tree .fitted ≡ true
+  pub carried : priceOf k name p .bound ≡ tree .bound
   pub answered : priceOf k name p ≡ plainPrice p (tree .steps) (tree .reversion) (tree .discounts)
   pub accurate :
-      Within (priceOf k name p .bound) (unit ^ tree .steps) (priceOf k name p .value) (exactOf p (tree .steps) (tree .reversion) (tree .discounts))
-  pub a-step : NoneAboveOne (tree .steps) (tree .reversion) (tree .discounts) → priceOf k name p .bound ≤ 2 * tree .steps
+      Within (tree .bound) (unit ^ tree .steps) (priceOf k name p .value) (exactOf p (tree .steps) (tree .reversion) (tree .discounts))
+  pub a-step : NoneAboveOne (tree .steps) (tree .reversion) (tree .discounts) → tree .bound ≤ 2 * tree .steps
 
 -- ---- calls
 
@@ -125,6 +132,9 @@ pub record ShelfPromises : Type 0 where
       (length (flowsOf p) ≡ t .steps → priceOf k name p .number ≡ 9) × ((length (flowsOf p) ≡ t .steps → ⊥) → priceOf k name p .number ≡ 6)
   pub fitted-priced : (k : Kept) → Reached k → (name : ℕ) (t : ShelvedTree) → seen k (name - 1) ≡ present t → t .fitted ≡ true → (p : Pricing) →
       priceOf k name p .number ≡ 9 → ⊥
+  -- the price of a tree that is there, given or refused, is the plain entry's whole answer for its discounts
+  pub prices-plain : (k : Kept) → Reached k → (name : ℕ) (t : ShelvedTree) → 1 ≤ name → name ≤ 8 → seen k (name - 1) ≡ present t → (p : Pricing) →
+      priceOf k name p ≡ plainPrice p (t .steps) (t .reversion) (t .discounts)
   -- demand 3 for bonds, kinds and date lists
   pub prices-accurate : (k : Kept) → Reached k → (name : ℕ) (p : Pricing) → priceOf k name p .number ≡ 0 → PricedTree k name p
   -- bond and option in one roll are the two prices, for kinds and for date lists

@@ -1,24 +1,15 @@
 -- `price_bound::price_error_bound` meets its contract.
 -- Assumes nothing.
-use mathlib.Core.Path.{sym, _∙_}
-use Rattle.lent_tree.proofs.LentLaws.{accepted}
-use Rattle.price_bound.proofs.BoundLaws.{bound-refused, bound-given}
+use Rattle.price_bound.proofs.BoundLaws.{alone}
 use borrow.Author.Needs.{needs}
 use Rattle.price_bound.proofs.price_error_bound.Statement.{statement}
 use Rattle.price_bound.proofs.price_error_bound.Tie as tie
 
-discounts-cause-requires : tie.Need-discounts-cause-requires
-discounts-cause-requires c κs = search needs
+tree-bounds-requires : tie.Need-tree-bounds-requires
+tree-bounds-requires c κs = search needs
 
 returns : tie.Need-returns
-returns c = bound-refused _ _ _ _ (c .before .discounts-cause .ensures) (c .if1 .taken)
-
-error-bound-requires : tie.Need-error-bound-requires
-error-bound-requires c κs = accepted _ _ _ (sym (c .before .discounts-cause .ensures) ∙ c .if1 .left)
-
-returns-2 : tie.Need-returns-2
-returns-2 c = bound-given _ _ _ _ _ (c .before .before .discounts-cause .ensures) (c .before .if1 .left) (c .error-bound .ensures)
+returns c = alone _ _ _ _ (c .tree-bounds .ensures)
 
 pub price-error-bound-spec : {M : Type 1} → statement M
-price-error-bound-spec =
-    tie.close (tie.spec discounts-cause-requires returns error-bound-requires returns-2)
+price-error-bound-spec = tie.close (tie.spec tree-bounds-requires returns)

@@ -1,13 +1,11 @@
 -- `pricing::both_prices` meets its contract.
 -- Assumes nothing.
-use mathlib.Core.Path.{_≡_, refl, _∙_}
-use Prim.Native.Nat.{_≤_}
+use mathlib.Core.Path.{_≡_, _∙_}
 use native.Mathlib.Omega.{arith}
 use denote.Ref.{now}
 use Rattle.lent_tree.specs.LentTree.{Accepted}
 use Rattle.price_bound.specs.PriceBound.{treeErrorBound}
 use Rattle.price_causes.specs.Causes.{AcceptedFlows}
-use Rattle.exercise_dates.proofs.DateLaws.{marks-room}
 use Rattle.pricing.specs.Prices.{treeCause}
 use Rattle.pricing.specs.Trees.{ExercisedOn}
 use Rattle.pricing.proofs.EntryLaws as laws
@@ -83,15 +81,8 @@ accepted-both-requires c κs =
     let marked = c .before in
     let on = exercised (marked .before) in
     let on-tree = tree (marked .before .before) in
-    let few = on-tree .steps-within-limit in (
-      on-tree,
-      paid (marked .before .before),
-      record {
-        last-inside = omega (arith, on .last-listed, on .before-end);
-        marked-rows = omega (arith, on .last-listed, marks-room _ _ (marked .marks-of .ensures) (omega (arith, on .before-end)));
-        strike-most = on .strike-within;
-      },
-    )
+    let few = on-tree .steps-within-limit in
+    (on-tree, paid (marked .before .before), laws.marks-exercisable _ _ _ _ on few (marked .marks-of .ensures))
 
 returns-3 : tie.Need-returns-3
 returns-3 c =

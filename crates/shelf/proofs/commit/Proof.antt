@@ -26,7 +26,7 @@ returns c =
     let none = not-awaiting _ _ _ (c .before .before .before .tree-of .ensures) (c .before .if1 .taken) in
     let number = commit-15 _ _ _ _ _ _ _ none in
     let after = c .refused .ensures in
-    (after .0 ∙ number, (after .1 ∙ slots-left _ _ _ _ _ _ _ 15 number (λ z. omega arith), memory-15 _ _ _ _ _ _ _ _ none))
+    (after .0 ∙ number, (after .1 ∙ slots-left _ _ _ _ _ _ _ _ 15 number (λ z. omega arith), memory-15 _ _ _ _ _ _ _ _ none))
 
 fit-part-requires : tie.Need-fit-part-requires
 fit-part-requires c κs = omega (arith, told (c .before) .fits)
@@ -42,33 +42,35 @@ returns-2 c =
     let number = commit-number _ _ _ _ _ _ _ _ tree (search needs) _ (fit .0) in (
       after .0 ∙ number,
       (
-        after .1 ∙ slots-left _ _ _ _ _ _ _ _ number (c .before .if2 .taken),
+        after .1 ∙ slots-left _ _ _ _ _ _ _ _ _ number (c .before .if2 .taken),
         commit-memory _ _ _ _ _ _ _ _ tree (search needs) _ number _ _ (fit .1),
       ),
     )
 
 fitted-slot-requires : tie.Need-fitted-slot-requires
-fitted-slot-requires c κs = search needs
+fitted-slot-requires c κs = omega (arith, told (c .before .before .before .before .before) .fits)
 
 sub-replaced : tie.Need-sub-replaced
-sub-replaced c = omega (arith, told (c .before .before .before .before) .name-known .low)
+sub-replaced c = omega (arith, told (c .before .before .before .before .before .before) .name-known .low)
 
 replaced-requires : tie.Need-replaced-requires
 replaced-requires c κs =
-    let t = told (c .before .before .before .before) in
+    let t = told (c .before .before .before .before .before .before) in
     omega (arith, t .name-known .low, t .name-known .high)
 
 returns-3 : tie.Need-returns-3
 returns-3 c =
-    let tree = c .before .before .before .before .before .before .before .tree-of .ensures in
-    let fit = c .before .before .before .fit-part .ensures in
+    let m = c .before .before .before .before .before .before .before .before .before .before .before .before .before .args .memory .now in
+    let tree = c .before .before .before .before .before .before .before .before .before .tree-of .ensures in
+    let fit = c .before .before .before .before .before .fit-part .ensures in
+    let slot = c .before .fitted-slot .ensures in
     let after = c .replaced .ensures in
-    let none : c .before .before .before .fit-part .result ≡ 0 = search needs in
+    let none : c .before .before .before .before .before .fit-part .result ≡ 0 = search needs in
     let number = commit-number _ _ _ _ _ _ _ _ tree (search needs) _ (fit .0) in (
       after .0 ∙ sym none ∙ number,
       (
-        commit-slots _ _ _ _ _ _ _ _ tree (search needs) _ number none _ _ (c .before .fitted-slot .ensures) (after .1),
-        commit-memory _ _ _ _ _ _ _ _ tree (search needs) _ number _ _ (fit .1),
+        commit-slots _ _ _ _ _ _ _ _ tree (search needs) _ number none m _ _ _ (search needs) (fit .1) slot (after .1),
+        commit-memory _ _ _ _ _ _ _ _ tree (search needs) _ number m _ (fit .1),
       ),
     )
 

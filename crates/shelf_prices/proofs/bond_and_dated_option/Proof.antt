@@ -33,29 +33,35 @@ returns c =
 add-end : tie.Need-add-end
 add-end c = omega (arith, told (c .before .before) .fits)
 
-mul-bond-and-dated-option : tie.Need-mul-bond-and-dated-option
-mul-bond-and-dated-option c = omega (arith, told (c .before .before) .fits)
+mul-bond-and-dated-option-values : tie.Need-mul-bond-and-dated-option-values
+mul-bond-and-dated-option-values c = omega (arith, told (c .before .before) .fits)
 
-sub-bond-and-dated-option : tie.Need-sub-bond-and-dated-option
-sub-bond-and-dated-option c = search needs
+sub-bond-and-dated-option-values : tie.Need-sub-bond-and-dated-option-values
+sub-bond-and-dated-option-values c = search needs
 
-part-bond-and-dated-option-start : tie.Need-part-bond-and-dated-option-start
-part-bond-and-dated-option-start c = search needs
+part-bond-and-dated-option-values-start : tie.Need-part-bond-and-dated-option-values-start
+part-bond-and-dated-option-values-start c = search needs
 
-part-bond-and-dated-option-end : tie.Need-part-bond-and-dated-option-end
-part-bond-and-dated-option-end c = omega (arith, told (c .before .before) .fits)
+part-bond-and-dated-option-values-end : tie.Need-part-bond-and-dated-option-values-end
+part-bond-and-dated-option-values-end c = omega (arith, told (c .before .before) .fits)
 
-bond-and-dated-option-requires : tie.Need-bond-and-dated-option-requires
-bond-and-dated-option-requires c κs = search needs
+bond-and-dated-option-values-requires : tie.Need-bond-and-dated-option-values-requires
+bond-and-dated-option-values-requires c κs = search needs
+
+carried-requires : tie.Need-carried-requires
+carried-requires c κs = search needs
+
+carried-requires-2 : tie.Need-carried-requires-2
+carried-requires-2 c κs = search needs
 
 returns-2 : tie.Need-returns-2
 returns-2 c =
-    let a = c .before .before .before .before .before .before .before .before .before .args in
-    let tree = c .before .before .before .before .before .before .tree-of in
-    c .bond-and-dated-option .ensures
-    ∙ both-there (λ (n b : ℕ) (d : List ℕ). bondPrice n b d (a .flows .now))
+    let a = c .before .before .before .before .before .before .before .before .before .before .before .args in
+    let valued = c .before .before in
+    let tree = valued .before .before .before .before .before .before .tree-of in
+    both-there (λ (n b : ℕ) (d : List ℕ). bondPrice n b d (a .flows .now))
     (λ (n b : ℕ) (d : List ℕ). datedPrice n b d (a .flows .now) (a .side) (a .dates .now) (a .strike))
-    _ _ _ _ (tree .ensures) (search needs)
+    _ _ _ _ (tree .ensures) (search needs) _ (valued .bond-and-dated-option-values .ensures) _ _ (c .before .carried .ensures) (c .carried2 .ensures)
 
 pub bond-and-dated-option-spec : {M : Type 1} → statement M
 bond-and-dated-option-spec =
@@ -65,9 +71,11 @@ bond-and-dated-option-spec =
     no-prices-requires
     returns
     add-end
-    mul-bond-and-dated-option
-    sub-bond-and-dated-option
-    part-bond-and-dated-option-start
-    part-bond-and-dated-option-end
-    bond-and-dated-option-requires
+    mul-bond-and-dated-option-values
+    sub-bond-and-dated-option-values
+    part-bond-and-dated-option-values-start
+    part-bond-and-dated-option-values-end
+    bond-and-dated-option-values-requires
+    carried-requires
+    carried-requires-2
     returns-2)

@@ -33,29 +33,35 @@ returns c =
 add-end : tie.Need-add-end
 add-end c = omega (arith, told (c .before .before) .fits)
 
-mul-bond-and-option : tie.Need-mul-bond-and-option
-mul-bond-and-option c = omega (arith, told (c .before .before) .fits)
+mul-bond-and-option-values : tie.Need-mul-bond-and-option-values
+mul-bond-and-option-values c = omega (arith, told (c .before .before) .fits)
 
-sub-bond-and-option : tie.Need-sub-bond-and-option
-sub-bond-and-option c = search needs
+sub-bond-and-option-values : tie.Need-sub-bond-and-option-values
+sub-bond-and-option-values c = search needs
 
-part-bond-and-option-start : tie.Need-part-bond-and-option-start
-part-bond-and-option-start c = search needs
+part-bond-and-option-values-start : tie.Need-part-bond-and-option-values-start
+part-bond-and-option-values-start c = search needs
 
-part-bond-and-option-end : tie.Need-part-bond-and-option-end
-part-bond-and-option-end c = omega (arith, told (c .before .before) .fits)
+part-bond-and-option-values-end : tie.Need-part-bond-and-option-values-end
+part-bond-and-option-values-end c = omega (arith, told (c .before .before) .fits)
 
-bond-and-option-requires : tie.Need-bond-and-option-requires
-bond-and-option-requires c κs = search needs
+bond-and-option-values-requires : tie.Need-bond-and-option-values-requires
+bond-and-option-values-requires c κs = search needs
+
+carried-requires : tie.Need-carried-requires
+carried-requires c κs = search needs
+
+carried-requires-2 : tie.Need-carried-requires-2
+carried-requires-2 c κs = search needs
 
 returns-2 : tie.Need-returns-2
 returns-2 c =
-    let a = c .before .before .before .before .before .before .before .before .args in
-    let tree = c .before .before .before .before .before .before .tree-of in
-    c .bond-and-option .ensures
-    ∙ both-there (λ (n b : ℕ) (d : List ℕ). bondPrice n b d (a .flows .now))
+    let a = c .before .before .before .before .before .before .before .before .before .before .args in
+    let valued = c .before .before in
+    let tree = valued .before .before .before .before .before .before .tree-of in
+    both-there (λ (n b : ℕ) (d : List ℕ). bondPrice n b d (a .flows .now))
     (λ (n b : ℕ) (d : List ℕ). optionPrice n b d (a .flows .now) (a .kind) (a .expiry) (a .strike))
-    _ _ _ _ (tree .ensures) (search needs)
+    _ _ _ _ (tree .ensures) (search needs) _ (valued .bond-and-option-values .ensures) _ _ (c .before .carried .ensures) (c .carried2 .ensures)
 
 pub bond-and-option-spec : {M : Type 1} → statement M
 bond-and-option-spec =
@@ -65,9 +71,11 @@ bond-and-option-spec =
     no-prices-requires
     returns
     add-end
-    mul-bond-and-option
-    sub-bond-and-option
-    part-bond-and-option-start
-    part-bond-and-option-end
-    bond-and-option-requires
+    mul-bond-and-option-values
+    sub-bond-and-option-values
+    part-bond-and-option-values-start
+    part-bond-and-option-values-end
+    bond-and-option-values-requires
+    carried-requires
+    carried-requires-2
     returns-2)

@@ -33,27 +33,31 @@ returns c =
 add-end : tie.Need-add-end
 add-end c = omega (arith, told (c .before .before) .fits)
 
-mul-bond-price : tie.Need-mul-bond-price
-mul-bond-price c = omega (arith, told (c .before .before) .fits)
+mul-bond-value : tie.Need-mul-bond-value
+mul-bond-value c = omega (arith, told (c .before .before) .fits)
 
-sub-bond-price : tie.Need-sub-bond-price
-sub-bond-price c = search needs
+sub-bond-value : tie.Need-sub-bond-value
+sub-bond-value c = search needs
 
-part-bond-price-start : tie.Need-part-bond-price-start
-part-bond-price-start c = search needs
+part-bond-value-start : tie.Need-part-bond-value-start
+part-bond-value-start c = search needs
 
-part-bond-price-end : tie.Need-part-bond-price-end
-part-bond-price-end c = omega (arith, told (c .before .before) .fits)
+part-bond-value-end : tie.Need-part-bond-value-end
+part-bond-value-end c = omega (arith, told (c .before .before) .fits)
 
-bond-price-requires : tie.Need-bond-price-requires
-bond-price-requires c κs = search needs
+bond-value-requires : tie.Need-bond-value-requires
+bond-value-requires c κs = search needs
+
+carried-requires : tie.Need-carried-requires
+carried-requires c κs = search needs
 
 returns-2 : tie.Need-returns-2
 returns-2 c =
-    let a = c .before .before .before .before .before .before .before .before .args in
-    let tree = c .before .before .before .before .before .before .tree-of in
-    c .bond-price .ensures
-    ∙ price-there (λ (n b : ℕ) (d : List ℕ). bondPrice n b d (a .flows .now)) _ _ _ _ (tree .ensures) (search needs)
+    let a = c .before .before .before .before .before .before .before .before .before .args in
+    let valued = c .before in
+    let tree = valued .before .before .before .before .before .before .tree-of in
+    price-there (λ (n b : ℕ) (d : List ℕ). bondPrice n b d (a .flows .now)) _ _ _ _ (tree .ensures) (search needs)
+    _ (valued .bond-value .ensures) _ (c .carried .ensures)
 
 pub bond-price-spec : {M : Type 1} → statement M
 bond-price-spec =
@@ -63,9 +67,10 @@ bond-price-spec =
     no-price-requires
     returns
     add-end
-    mul-bond-price
-    sub-bond-price
-    part-bond-price-start
-    part-bond-price-end
-    bond-price-requires
+    mul-bond-value
+    sub-bond-value
+    part-bond-value-start
+    part-bond-value-end
+    bond-value-requires
+    carried-requires
     returns-2)

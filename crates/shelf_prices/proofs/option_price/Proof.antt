@@ -1,71 +1,16 @@
 -- `shelf_prices::option_price` meets its contract.
 -- Assumes nothing.
-use Prim.Native.Nat.{ℕ}
-use mathlib.Core.Path.{_∙_}
-use mathlib.Core.List.{List}
-use native.Mathlib.Omega.{arith}
-use Rattle.pricing.specs.Prices.{optionPrice}
-use Rattle.shelf_laws.proofs.NameLaws.{There, tree-found}
-use Rattle.shelf_prices.proofs.PriceLaws.{price-none, price-there}
+use mathlib.Core.Path.{ap}
+use Rattle.pricing.specs.declared.BondAndOption.{BondAndOption}
 use borrow.Author.Needs.{needs}
 use Rattle.shelf_prices.proofs.option_price.Statement.{statement}
 use Rattle.shelf_prices.proofs.option_price.Tie as tie
 
--- the tree that is priced
-told : (c : tie.Else1) →
-    let a = c .before .before .before .before .args in
-    let tree = c .before .before .tree-of in
-    There (a .shelf .slots) (a .name) (tree .result) (tree .ensures)
-told c = tree-found _ _ _ (c .before .before .tree-of .ensures) (search needs)
-
-tree-of-requires : tie.Need-tree-of-requires
-tree-of-requires c κs = search needs
-
-no-price-requires : tie.Need-no-price-requires
-no-price-requires c κs = search needs
+bond-and-option-requires : tie.Need-bond-and-option-requires
+bond-and-option-requires c κs = search needs
 
 returns : tie.Need-returns
-returns c =
-    let tree = c .before .before .before .tree-of in
-    c .no-price .ensures
-    ∙ price-none _ _ _ _ _ (tree .ensures) (search needs)
-
-add-end : tie.Need-add-end
-add-end c = omega (arith, told (c .before .before) .fits)
-
-mul-option-price : tie.Need-mul-option-price
-mul-option-price c = omega (arith, told (c .before .before) .fits)
-
-sub-option-price : tie.Need-sub-option-price
-sub-option-price c = search needs
-
-part-option-price-start : tie.Need-part-option-price-start
-part-option-price-start c = search needs
-
-part-option-price-end : tie.Need-part-option-price-end
-part-option-price-end c = omega (arith, told (c .before .before) .fits)
-
-option-price-requires : tie.Need-option-price-requires
-option-price-requires c κs = search needs
-
-returns-2 : tie.Need-returns-2
-returns-2 c =
-    let a = c .before .before .before .before .before .before .before .before .args in
-    let tree = c .before .before .before .before .before .before .tree-of in
-    c .option-price .ensures
-    ∙ price-there (λ (n b : ℕ) (d : List ℕ). optionPrice n b d (a .flows .now) (a .kind) (a .expiry) (a .strike)) _ _ _ _ (tree .ensures) (search needs)
+returns c = ap (λ (b : BondAndOption). b .option) (c .before .bond-and-option .ensures)
 
 pub option-price-spec : {M : Type 1} → statement M
-option-price-spec =
-    tie.close
-    (tie.spec
-    tree-of-requires
-    no-price-requires
-    returns
-    add-end
-    mul-option-price
-    sub-option-price
-    part-option-price-start
-    part-option-price-end
-    option-price-requires
-    returns-2)
+option-price-spec = tie.close (tie.spec bond-and-option-requires returns)

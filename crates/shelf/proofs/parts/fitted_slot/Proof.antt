@@ -1,0 +1,48 @@
+-- `shelf::parts/fitted_slot` meets its contract.
+-- Assumes nothing.
+use mathlib.Core.Path.{ap, _∙_}
+use mathlib.Core.List.{List}
+use Prim.Native.Nat.{ℕ}
+use Rattle.price_bound.specs.PriceBound.{treeBoundsAnswer}
+use Rattle.shelf_laws.proofs.PartLaws.{lent-part}
+use Rattle.shelf_laws.proofs.SlotLaws.{fitted-is}
+use borrow.Author.Needs.{needs}
+use Rattle.shelf.proofs.parts.fitted_slot.Statement.{statement}
+use Rattle.shelf.proofs.parts.fitted_slot.Tie as tie
+
+add-end : tie.Need-add-end
+add-end c = search needs
+
+mul-tree-bounds : tie.Need-mul-tree-bounds
+mul-tree-bounds c = search needs
+
+sub-tree-bounds : tie.Need-sub-tree-bounds
+sub-tree-bounds c = search needs
+
+part-tree-bounds-start : tie.Need-part-tree-bounds-start
+part-tree-bounds-start c = search needs
+
+part-tree-bounds-end : tie.Need-part-tree-bounds-end
+part-tree-bounds-end c = search needs
+
+tree-bounds-requires : tie.Need-tree-bounds-requires
+tree-bounds-requires c κs = search needs
+
+returns : tie.Need-returns
+returns c =
+    let a = c .before .before .before .before .before .args in
+    let t = a .tree in
+    let lent = ap (treeBoundsAnswer (t .steps) (t .reversion)) (lent-part (a .memory .now) (t .start) (t .count)) in
+    fitted-is _ _ _ _ (c .before .tree-bounds .ensures ∙ lent)
+
+pub fitted-slot-spec : {M : Type 1} → statement M
+fitted-slot-spec =
+    tie.close
+    (tie.spec
+    add-end
+    mul-tree-bounds
+    sub-tree-bounds
+    part-tree-bounds-start
+    part-tree-bounds-end
+    tree-bounds-requires
+    returns)
