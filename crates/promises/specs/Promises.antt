@@ -23,8 +23,7 @@ use Rattle.lattice.specs.RateTree.{rateTree}
 use Rattle.lattice.specs.declared.Branches.{Branches}
 use Rattle.lattice.specs.Entries.{branchAnswer}
 use Rattle.lent_tree.specs.LentTree.{stored}
-use Rattle.reversion.specs.Reversion.{workingReversion, workingAnswer}
-use Rattle.spacing.specs.Spacing.{spacing, spacingAnswer, versionVariance, versionSpacing, versionSpacingAnswer}
+use Rattle.spacing.specs.Spacing.{spacing, spacingAnswer}
 use Rattle.factor.specs.Series.{scale}
 use Rattle.factor.specs.Factor.{exactFactor, nodeAnswer}
 use Rattle.step_rate.specs.StepRate.{rateAnswer}
@@ -34,8 +33,7 @@ use Rattle.figure.specs.Figure.{billionthsOf}
 use Rattle.quotes.specs.declared.Point.{Point}
 use Rattle.quotes.specs.Quotes.{yieldAmount, loneAnswer}
 use Rattle.curve.specs.Curve.{discountAt}
-use Rattle.fitting.specs.Entry.{fittedNumber, fitDiscount, fitPrice, fitMemory, fitDiscounts, fitPrices, fitNumber, discountsAfter, pricesAfter}
-use Rattle.fitting.specs.Entry.{versionNumber, versionDiscountsAfter, versionPricesAfter}
+use Rattle.fitting.specs.Entry.{fittedNumber, fitDiscount, fitPrice, fitMemory, fitDiscounts, fitPrices}
 use Rattle.fit_laws.specs.StatePrices.{statePrice, exactStatePrice, statePriceErrorBound}
 use Rattle.state_price_bound.specs.ErrorBound.{statePriceErrorBoundAnswer}
 use Rattle.pricing_laws.specs.Pricer.{Side, call, put, Schedule, bond, bareBond, exercise, option, payoffValue}
@@ -47,6 +45,7 @@ use Rattle.pricing.specs.Prices.{flowAt, bondPrice, optionPrice, datedPrice}
 use Rattle.pricing.specs.Exact.{exactBond, exactOption, exactDated, exactPayoff}
 use Rattle.valuation.specs.Entries.{valueByStatePricesAnswer, valuationErrorBoundAnswer}
 use Rattle.promises.specs.Quoted.{QuotePromises}
+use Rattle.promises.specs.Versions.{VersionPromises}
 use Rattle.promises.specs.Causes.{CausePromises}
 
 -- ---- branching, spacing, factors, rates and fit
@@ -450,40 +449,6 @@ pub record YieldPromises : Type 0 where
   -- wherever it is not zero, its sign is the step rate's
   pub rates-signed : (v : ℕ) → continuousRateAnswer v .number ≡ 0 → continuousRateAnswer v .value ≢ pos 0 →
       SameSign (continuousRateAnswer v .value) (rateAnswer v .value)
-
--- ---- the two versions (document 02, request (ix))
-
--- the working reversion w of a pull b: at most b, so that all that is said of the lattice holds of it, and 0 only for 0
-pub record Working (b w : ℕ) : Type 0 where
-  pub at-most : w ≤ b
-  pub at-least : 1 ≤ b → 1 ≤ w
-
--- h is the greatest whole number with h² × f³ at most 3 × (1,000 s)², in version 2 and for b above 0 times c / one, down
-pub record VersionSpaced (v f s b h : ℕ) : Type 0 where
-  pub passes : h * h * (f * f * f) ≤ versionVariance v s b
-  pub greatest : (g : ℕ) → g * g * (f * f * f) ≤ versionVariance v s b → g ≤ h
-
-pub record VersionPromises : Type 0 where
-  pub working : (v b : ℕ) → workingAnswer v b .number ≡ 0 → (workingAnswer v b .value ≡ workingReversion v b) × Working b (workingReversion v b)
-  pub spacing-greatest : (v f s b : ℕ) → versionSpacingAnswer v f s b .number ≡ 0 → VersionSpaced v f s b (versionSpacingAnswer v f s b .value)
-  pub spacing-is : (v f s b : ℕ) → versionSpacingAnswer v f s b .number ≡ 0 → versionSpacingAnswer v f s b .value ≡ versionSpacing v f s b
-  -- what the fit by version leaves in its two memories, d and q before it
-  pub memories : (v f n b s : ℕ) (rows kinds : List ℕ) (figures : List Float) (d q : List ℕ) →
-      (versionDiscountsAfter v f n b s rows kinds figures d q
-      ≡ fitMemory (versionNumber v f n b s rows kinds figures (length d) (length q))
-      (fitDiscounts f n (workingReversion v b) (versionSpacing v f s b) kinds figures) d)
-      × (versionPricesAfter v f n b s rows kinds figures d q
-      ≡ fitMemory (versionNumber v f n b s rows kinds figures (length d) (length q))
-      (fitPrices f n (workingReversion v b) (versionSpacing v f s b) kinds figures) q)
-  -- version 1 is the fit: its number, its working reversion and its spacing, and with these all else, also what it leaves
-  pub first-number : (f n b s : ℕ) (rows kinds : List ℕ) (figures : List Float) (room-discounts room-prices : ℕ) →
-      versionNumber 1 f n b s rows kinds figures room-discounts room-prices ≡ fitNumber f n b s rows kinds figures room-discounts room-prices
-  pub first-tree : (f s b : ℕ) → (workingReversion 1 b ≡ b) × (versionSpacing 1 f s b ≡ spacing f s)
-  pub first-memories : (f n b s : ℕ) (rows kinds : List ℕ) (figures : List Float) (d q : List ℕ) →
-      (versionDiscountsAfter 1 f n b s rows kinds figures d q ≡ discountsAfter f n b s rows kinds figures d q)
-      × (versionPricesAfter 1 f n b s rows kinds figures d q ≡ pricesAfter f n b s rows kinds figures d q)
-  -- for b = 0 both agree
-  pub none-tree : (v f s : ℕ) → (workingReversion v 0 ≡ 0) × (versionSpacing v f s 0 ≡ spacing f s)
 
 -- All together, undivided: with what a quote gives, and which entry gives which number.
 pub record Promises : Type 0 where
