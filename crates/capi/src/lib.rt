@@ -55,7 +55,7 @@ use step_rate::Rate;
 pub extern "C" fn mixegorta_version() -> u64
     ensures { λ r. ⌜ r ≡ version ⌝ }
 {
-    8_000
+    9_000
 }
 
 // ---- the shape of a tree

@@ -1,4 +1,4 @@
--- Worked figures of request (ix) of document 02, about the definitions that the contracts cite.
+-- Figures of request (ix) of document 02, which prints none: worked out here, about the definitions that the contracts cite.
 -- Assumes nothing.
 use mathlib.Core.Path.{_≡_}
 use Prim.Native.Nat.{ℕ, _≤_}

@@ -89,8 +89,8 @@ pub record PricesPromised (job : Job) (prices : JobPrices) : Type 0 where
   pub option-a-step :
       prices .«has_option» ≡ true → NoneAboveOne (job .steps) (jobReversion job) (jobDiscounts job) → prices .option .bound ≤ 2 * job .steps
 
--- All together, undivided: quotes, tree, prices, yields, versions and causes; the prices of a record and of a job's bytes, in lent memories of so many numbers; the
--- printed bytes of the sheet, in a lent room of so many bytes; and the number that each of these has.
+-- All together, undivided: quotes, tree, prices, yields, versions and causes; the prices of a record and of a job's bytes, in lent memories of so many
+-- numbers; the printed bytes of the sheet, in a lent room of so many bytes; and the number that each of these has.
 pub record AllPromises : Type 0 where
   pub engine : Promises
   pub records : (job : Job) (discounts prices : ℕ) → recordPrices job discounts prices .number ≡ 0 →
