@@ -256,7 +256,8 @@ static const struct {
     const char *name;
     void (*call)(void);
 } calls[] = {CALL(half_width), CALL(node_count), CALL(row_start), CALL(discounts_needed), CALL(state_prices_needed), CALL(branches),
-             CALL(working_reversion), CALL(quote_discount), CALL(curve_discounts), CALL(fit), CALL(fit_version), CALL(row_range), CALL(step_rate), CALL(continuous_rate),
+             CALL(working_reversion), CALL(quote_discount), CALL(curve_discounts), CALL(fit), CALL(fit_version), CALL(row_range),
+             CALL(step_rate), CALL(continuous_rate),
              CALL(state_price_error_bound), CALL(price_error_bound), CALL(tree_bounds), CALL(bond_price), CALL(option_price),
              CALL(bond_and_option), CALL(dated_option_price), CALL(bond_and_dated_option), CALL(value_by_state_prices),
              CALL(valuation_error_bound), CALL(shelf_part), CALL(shelf_ask), CALL(shelf_commit), CALL(shelf_release), CALL(shelf_bond_price),

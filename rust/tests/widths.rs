@@ -414,7 +414,7 @@ fn numbers_past_a_width() {
             *called.entry(name).or_default() += 1;
         }
     }
-    assert_eq!(called.len(), 31, "{called:?}");
+    assert_eq!(called.len(), 33, "{called:?}");
     assert!(called.values().all(|lines| *lines > 3), "{called:?}");
 }
 
