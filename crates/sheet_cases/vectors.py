@@ -418,17 +418,9 @@ def versions():
         yield 7, of_version(version, job(b=6_000, quotes=[(5, NAN)]))
         yield 9, of_version(version, job(b=500, quotes=[(5, 1.2)]))
         yield 10, of_version(version, job(b=500, quotes=FOUR, flows=[0, 0, 0, 3 * ONE]))
-    # The rows of version 2 are further out, the nodes nearer: 8 in version 1 and not in version 2, and the other way round.
-    far = [(b, s) for b in (1_500, 1_700, 1_790, 1_820, 1_839, 1_841, 2_000, 2_034) for s in range(30_000, 50_001, 500)]
-    only = {1: None, 2: None}
-    for b, s in far:
-        made = job(f=1, b=b, s=s, quotes=factors(4, 0.95))
-        first, second = (number_of(reference.sheet(of_version(version, made))) == 8 for version in (1, 2))
-        if first != second:
-            only[1 if first else 2] = made
-    for made in filter(None, only.values()):
-        for version in (1, 2):
-            yield number_of(reference.sheet(of_version(version, made))), of_version(version, made)
+    # 8 by the version's own rows and spacing: J is 11 in version 1 and 12 in version 2; then as many rows with nodes further apart in version 1.
+    for b, s, numbers in ((168, 50_000, (9, 8)), (100, 48_200, (8, 9))):
+        yield from ((number, of_version(version, job(f=1, b=b, s=s, quotes=factors(13, 0.95)))) for version, number in zip((1, 2), numbers))
 
 
 def malformed_versions():
