@@ -23,8 +23,8 @@ use Rattle.price_bound.specs.PriceBound.{treeErrorBound}
 use Rattle.price_causes.specs.Causes.{mostFlow, mostStrike, AcceptedFlows}
 use Rattle.pricing.specs.declared.walk.OptionStep.{OptionStep}
 use Rattle.pricing.specs.declared.walk.Rolled.{Rolled}
-use Rattle.pricing.specs.declared.BondAndOption.{BondAndOption}
-use Rattle.pricing.specs.Prices.{flowAt, treeCause, bondValue, bondPrice, optionValue, optionLimit, scheduledPrice}
+use Rattle.price_laws.specs.declared.BondAndOption.{BondAndOption}
+use Rattle.price_laws.specs.Prices.{flowAt, treeCause, bondValue, bondPrice, optionValue, optionLimit, scheduledPrice}
 use Rattle.pricing.specs.Rows.{Holds}
 
 -- the down-probabilities of all nodes of row n

@@ -6,6 +6,9 @@ mod walk;
 use crate::walk::Tree;
 use arithmetic::Answer;
 use exercise::Terms;
+use price_laws::BondAndOption;
+use price_laws::BondAndOptionValues;
+use price_laws::Price;
 ghost use mathlib.Core.Path.{_≡_};
 ghost use Prim.Native.Nat.{_≤_};
 ghost use lib.ListN.{take};
@@ -15,7 +18,7 @@ ghost use Rattle.pricing_laws.specs.Schedule.{marked, datedSchedule};
 ghost use Rattle.exercise.specs.Terms.{side};
 ghost use Rattle.lent_tree.specs.LentTree.{Accepted};
 ghost use Rattle.price_causes.specs.Causes.{AcceptedFlows};
-ghost use Rattle.pricing.specs.Prices.{
+ghost use Rattle.price_laws.specs.Prices.{
   refusedPrice,
   acceptedBond,
   acceptedOption,
@@ -30,27 +33,6 @@ ghost use Rattle.pricing.specs.Prices.{
   bothValues,
 };
 ghost use Rattle.pricing.specs.Trees.{downTable, treeBound, Exercisable, ExercisedOn, BothPriced};
-
-// A price in billionths with its error bound; a refusal's number with zeros.
-#[repr(C)]
-pub struct Price {
-    pub number: u64,
-    pub value: u64,
-    pub bound: u64,
-}
-
-// A bond and an option on it.
-#[repr(C)]
-pub struct BondAndOption {
-    pub bond: Price,
-    pub option: Price,
-}
-
-// The same without their error bounds.
-pub struct BondAndOptionValues {
-    pub bond: Answer,
-    pub option: Answer,
-}
 
 fn refused(number: u64) -> Price
     ensures { λ r. ⌜ r ≡ refusedPrice number ⌝ }

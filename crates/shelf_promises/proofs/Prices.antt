@@ -15,11 +15,11 @@ use Rattle.lattice.specs.Shape.{discountsNeeded, statePricesNeeded}
 use Rattle.lent_tree.specs.LentTree.{discountsCause}
 use Rattle.fitting.specs.Entry.{fitNumber}
 use Rattle.price_bound.specs.PriceBound.{treeErrorBound}
-use Rattle.pricing.specs.declared.Price.{Price}
-use Rattle.pricing.specs.Prices.{refusedPrice, treeCause, priced, valueAlone, withBound, bondPrice, optionPrice, datedPrice}
+use Rattle.price_laws.specs.declared.Price.{Price}
+use Rattle.price_laws.specs.Prices.{refusedPrice, treeCause, priced, valueAlone, withBound, bondPrice, optionPrice, datedPrice}
 use Rattle.promises.proofs.CauseTables.{number-priced}
-use Rattle.pricing.proofs.Accuracy.{bond-given, option-given, dated-given, bond-within-bound, option-within-bound, dated-within-bound}
-use Rattle.pricing.proofs.Accuracy.{bond-bound-a-step, option-bound-a-step, dated-bound-a-step}
+use Rattle.price_laws.proofs.Accuracy.{bond-given, option-given, dated-given, bond-within-bound, option-within-bound, dated-within-bound}
+use Rattle.price_laws.proofs.Accuracy.{bond-bound-a-step, option-bound-a-step, dated-bound-a-step}
 use Rattle.promises.specs.Promises.{NoneAboveOne}
 use Rattle.shelf_laws.specs.Parts.{part}
 use Rattle.shelf_laws.specs.Shelf.{nameCause, partOf}

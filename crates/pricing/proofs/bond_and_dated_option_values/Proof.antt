@@ -2,9 +2,10 @@
 -- Assumes nothing.
 use mathlib.Core.Path.{_≡_, ap, _∙_}
 use denote.Ref.{now}
-use Rattle.pricing.specs.Prices.{datedCause, valueAlone}
-use Rattle.pricing.proofs.EntryLaws.{values-are}
-use Rattle.pricing.proofs.OptionLaws.{dated-cause-is, dated-exercised, dated-price}
+use Rattle.price_laws.specs.Prices.{datedCause, valueAlone}
+use Rattle.price_laws.proofs.AnswerLaws.{values-are}
+use Rattle.pricing.proofs.EntryLaws.{dated-exercised}
+use Rattle.price_laws.proofs.OptionLaws.{dated-cause-is, dated-price}
 use borrow.Author.Needs.{needs}
 use Rattle.pricing.proofs.bond_and_dated_option_values.Statement.{statement}
 use Rattle.pricing.proofs.bond_and_dated_option_values.Tie as tie

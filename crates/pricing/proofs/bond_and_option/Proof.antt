@@ -2,8 +2,9 @@
 -- Assumes nothing.
 use mathlib.Core.Path.{_∙_}
 use Rattle.exercise_dates.proofs.DateLaws.{list-room}
-use Rattle.pricing.proofs.EntryLaws.{prefix-length, both-are}
-use Rattle.pricing.proofs.OptionLaws.{kind-exercised, kind-price}
+use Rattle.price_laws.proofs.AnswerLaws.{both-are}
+use Rattle.pricing.proofs.EntryLaws.{prefix-length, kind-exercised}
+use Rattle.price_laws.proofs.OptionLaws.{kind-price}
 use borrow.Author.Needs.{needs}
 use Rattle.pricing.proofs.bond_and_option.Statement.{statement}
 use Rattle.pricing.proofs.bond_and_option.Tie as tie

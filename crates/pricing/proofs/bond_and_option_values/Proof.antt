@@ -2,9 +2,10 @@
 -- Assumes nothing.
 use mathlib.Core.Path.{ap, _∙_}
 use Rattle.exercise_dates.proofs.DateLaws.{list-room}
-use Rattle.pricing.specs.Prices.{valueAlone}
-use Rattle.pricing.proofs.EntryLaws.{prefix-length, values-are}
-use Rattle.pricing.proofs.OptionLaws.{kind-exercised, kind-price}
+use Rattle.price_laws.specs.Prices.{valueAlone}
+use Rattle.price_laws.proofs.AnswerLaws.{values-are}
+use Rattle.pricing.proofs.EntryLaws.{prefix-length, kind-exercised}
+use Rattle.price_laws.proofs.OptionLaws.{kind-price}
 use borrow.Author.Needs.{needs}
 use Rattle.pricing.proofs.bond_and_option_values.Statement.{statement}
 use Rattle.pricing.proofs.bond_and_option_values.Tie as tie

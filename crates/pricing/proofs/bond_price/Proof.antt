@@ -1,6 +1,7 @@
 -- `pricing::bond_price` meets its contract.
 -- Assumes nothing.
 use mathlib.Core.Path.{_∙_}
+use Rattle.price_laws.proofs.AnswerLaws as answers
 use Rattle.pricing.proofs.EntryLaws as laws
 use borrow.Author.Needs.{needs}
 use Rattle.pricing.proofs.bond_price.Statement.{statement}
@@ -17,7 +18,7 @@ returns c =
     let tree-bound = c .before .before .before .tree-bound in
     let if1 = c .before .if1 in
     let refused = c .refused in
-    refused .ensures ∙ laws.bond-cause-price _ _ _ _ _ (laws.tree-number _ _ _ _ _ (tree-bound .ensures)) (if1 .taken)
+    refused .ensures ∙ answers.bond-cause-price _ _ _ _ _ (laws.tree-number _ _ _ _ _ (tree-bound .ensures)) (if1 .taken)
 
 accepted-bond-requires : tie.Need-accepted-bond-requires
 accepted-bond-requires c κs =
@@ -30,7 +31,7 @@ returns-2 c =
     let tree-bound = c .before .before .before .tree-bound in
     let if1 = c .before .if1 in
     let accepted-bond = c .accepted-bond in
-    laws.bond-price-is _ _ _ _ _ _ (accepted-bond .ensures) (laws.tree-none _ _ _ _ _ (tree-bound .ensures) (if1 .left))
+    answers.bond-price-is _ _ _ _ _ _ (accepted-bond .ensures) (laws.tree-none _ _ _ _ _ (tree-bound .ensures) (if1 .left))
     (laws.bound-is _ _ _ _ _ (tree-bound .ensures) (if1 .left))
 
 pub bond-price-spec : {M : Type 1} → statement M

@@ -6,8 +6,9 @@ use denote.Ref.{now}
 use Rattle.lent_tree.specs.LentTree.{Accepted}
 use Rattle.price_bound.specs.PriceBound.{treeErrorBound}
 use Rattle.price_causes.specs.Causes.{AcceptedFlows}
-use Rattle.pricing.specs.Prices.{treeCause}
+use Rattle.price_laws.specs.Prices.{treeCause}
 use Rattle.pricing.specs.Trees.{ExercisedOn}
+use Rattle.price_laws.proofs.AnswerLaws as answers
 use Rattle.pricing.proofs.EntryLaws as laws
 use borrow.Author.Needs.{needs}
 use Rattle.pricing.proofs.both_prices.Statement.{statement}
@@ -27,8 +28,8 @@ returns c =
     let refusing = c .before .before in
     let number = laws.tree-number _ _ _ _ _ (refusing .before .before .tree-bound .ensures) in
     record {
-      bond-is = c .before .refused .ensures ∙ laws.bond-cause-price _ _ _ _ _ number (refusing .if1 .taken);
-      option-is = c .refused2 .ensures ∙ laws.option-tree-price _ _ _ _ _ _ _ _ _ number (refusing .if1 .taken);
+      bond-is = c .before .refused .ensures ∙ answers.bond-cause-price _ _ _ _ _ number (refusing .if1 .taken);
+      option-is = c .refused2 .ensures ∙ answers.option-tree-price _ _ _ _ _ _ _ _ _ number (refusing .if1 .taken);
     }
 
 -- where there is no cause about the tree: tree and flows are accepted, and the bound is theirs
@@ -62,8 +63,8 @@ returns-2 c =
     let refusing = c .before .before in
     let on-tree = refusing .before in
     record {
-      bond-is = laws.bond-price-is _ _ _ _ _ _ (c .before .accepted-bond .ensures) (none on-tree) (bound on-tree);
-      option-is = c .refused3 .ensures ∙ laws.option-cause-price _ _ _ _ _ _ _ _ (none on-tree) (refusing .if2 .taken);
+      bond-is = answers.bond-price-is _ _ _ _ _ _ (c .before .accepted-bond .ensures) (none on-tree) (bound on-tree);
+      option-is = c .refused3 .ensures ∙ answers.option-cause-price _ _ _ _ _ _ _ _ (none on-tree) (refusing .if2 .taken);
     }
 
 -- where there is no cause about the option either
@@ -91,10 +92,10 @@ returns-3 c =
     let on-tree = marked .before .before in
     let few = tree on-tree .steps-within-limit in
     record {
-      bond-is = laws.bond-price-is _ _ _ _ _ _ (c .accepted-both .ensures .0) (none on-tree) (bound on-tree);
+      bond-is = answers.bond-price-is _ _ _ _ _ _ (c .accepted-both .ensures .0) (none on-tree) (bound on-tree);
       option-is =
-          laws.option-price-is _ _ _ _ _ _ _ _ (none on-tree) (marked .before .if2 .left) _ (bound on-tree) _
-          (laws.marked-price _ _ _ _ _ _ _ _ _ _ _ (omega (arith, on .before-end)) (on .last-listed) (marked .marks-of .ensures)
+          answers.option-price-is _ _ _ _ _ _ _ _ (none on-tree) (marked .before .if2 .left) _ (bound on-tree) _
+          (answers.marked-price _ _ _ _ _ _ _ _ _ _ _ (omega (arith, on .before-end)) (on .last-listed) (marked .marks-of .ensures)
           (c .accepted-both .ensures .1));
     }
 

@@ -2,7 +2,7 @@
 -- Assumes nothing.
 use mathlib.Core.Path.{ap₂, _∙_}
 use Rattle.arithmetic.specs.Answers.{lowestCause}
-use Rattle.pricing.specs.Prices.{treeCause}
+use Rattle.price_laws.specs.Prices.{treeCause}
 use borrow.Author.Needs.{needs}
 use Rattle.pricing.proofs.tree_cause.Statement.{statement}
 use Rattle.pricing.proofs.tree_cause.Tie as tie

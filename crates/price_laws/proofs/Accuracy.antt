@@ -28,10 +28,10 @@ use Rattle.price_causes.specs.Causes.{flowsCause, optionCause, termsCause}
 use Rattle.price_causes.proofs.CheckLaws.{option-accepted}
 use Rattle.arithmetic.specs.Within.{Within}
 use Rattle.pricing_laws.proofs.PriceLaws.{Discounts-at-most, bond-accurate, option-accurate, error-bound-a-step}
-use Rattle.pricing.specs.declared.Price.{Price}
-use Rattle.pricing.specs.Prices.{flowAt, bondValue, bondPeak, optionValue, optionLimit, treeCause, firstCause, priced, scheduledPrice}
-use Rattle.pricing.specs.Prices.{bondPrice, optionPrice, datedCause, datedPrice}
-use Rattle.pricing.specs.Exact.{exactBond, exactOption, exactDated}
+use Rattle.price_laws.specs.declared.Price.{Price}
+use Rattle.price_laws.specs.Prices.{flowAt, bondValue, bondPeak, optionValue, optionLimit, treeCause, firstCause, priced, scheduledPrice}
+use Rattle.price_laws.specs.Prices.{bondPrice, optionPrice, datedCause, datedPrice}
+use Rattle.price_laws.specs.Exact.{exactBond, exactOption, exactDated}
 
 -- an answer with number 0 has the price, and no cause
 pub record Given (cause v e : ℕ) (answer : Price) : Type 0 where

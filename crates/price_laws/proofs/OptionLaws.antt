@@ -11,19 +11,18 @@ use Rattle.arithmetic.proofs.Numbers.{by-order}
 use Rattle.limits.specs.Limits.{mostSteps}
 use Rattle.pricing_laws.specs.Pricer.{Side, Schedule}
 use Rattle.pricing_laws.specs.Schedule.{lastDate, datedSchedule, datesCause, numberedSide, sideOf, kindDates, kindSide, scheduleOf}
-use Rattle.pricing_laws.proofs.Dates.{dates-accepted, kind-last, kind-accepted, kind-side, kind-side-number}
+use Rattle.pricing_laws.proofs.Dates.{dates-accepted, kind-accepted, kind-side, kind-side-number}
 use Rattle.exercise.specs.declared.Terms.{Terms}
 use Rattle.exercise.specs.Terms.{side, termsOf}
-use Rattle.exercise.proofs.KindLaws.{side-found, strike-found, last-found}
+use Rattle.exercise.proofs.KindLaws.{side-found, strike-found}
 use Rattle.exercise_dates.specs.declared.Dates.{Dates}
 use Rattle.exercise_dates.specs.Dates.{datedTerms, datesOfKind}
-use Rattle.exercise_dates.proofs.DateLaws.{kind-list, dated-side, dated-strike, dated-last}
+use Rattle.exercise_dates.proofs.DateLaws.{kind-list, dated-side, dated-strike}
 use Rattle.price_causes.specs.Causes.{optionCause, termsCause}
-use Rattle.price_causes.proofs.CheckLaws.{option-accepted, terms-accepted, kind-terms}
-use Rattle.pricing.specs.Prices.{treeCause, scheduledPrice, optionPrice, datedCause, datedPrice}
-use Rattle.pricing.specs.Trees.{ExercisedOn}
-use Rattle.pricing.proofs.Accuracy.{tree-lent}
-use Rattle.pricing.proofs.EntryLaws.{refused-alike}
+use Rattle.price_causes.proofs.CheckLaws.{option-accepted, kind-terms}
+use Rattle.price_laws.specs.Prices.{treeCause, scheduledPrice, optionPrice, datedCause, datedPrice}
+use Rattle.price_laws.proofs.Accuracy.{tree-lent}
+use Rattle.price_laws.proofs.AnswerLaws.{refused-alike}
 
 -- ---- a kind
 
@@ -31,17 +30,6 @@ module _ (n kind expiry strike : ℕ) (cause : ℕ) (ec : cause ≡ optionCause 
     (dates : Dates) (ed : dates ≡ datesOfKind kind expiry) where
   abbrev handed : List ℕ
   handed = take (dates .count) (dates .rows)
-
-  pub kind-exercised : cause ≡ 0 → n ≤ mostSteps → ExercisedOn terms n handed
-  kind-exercised z few =
-      let judged = option-accepted n kind expiry strike (sym ec ∙ z) in
-      let listed : handed ≡ kindDates kind expiry = kind-list kind expiry (omega (arith, judged .0)) dates ed in
-      let last : lastDate handed ≡ expiry = ap lastDate listed ∙ kind-last kind expiry in
-      record {
-        last-listed = last-found kind expiry strike terms et ∙ sym last;
-        before-end = omega (arith, last, judged .0);
-        strike-within = omega (arith, strike-found kind expiry strike terms et, judged .1);
-      }
 
   -- an expiry that no tree has is a cause
   expiry-judged : (b : ℕ) (discounts flows : List ℕ) → mostSteps < expiry → treeCause n b discounts flows ≡ 0 → cause ≡ 0 → ⊥
@@ -79,15 +67,6 @@ dated-accepted n number dates strike z =
 
 module _ (n number : ℕ) (dates : List ℕ) (strike : ℕ) (cause : ℕ) (ec : cause ≡ datedCause n number dates strike) (terms : Terms)
     (et : terms ≡ datedTerms number dates strike) where
-  pub dated-exercised : cause ≡ 0 → n ≤ mostSteps → ExercisedOn terms n dates
-  dated-exercised z few =
-      let judged = dated-accepted n number dates strike (sym ec ∙ z) in
-      record {
-        last-listed = dated-last number dates strike terms et;
-        before-end = judged .0;
-        strike-within = omega (arith, dated-strike number dates strike terms et, terms-accepted number strike (judged .1));
-      }
-
   pub dated-price : (b : ℕ) (discounts flows : List ℕ) →
       scheduledPrice n b discounts flows (side (terms .call)) (terms .strike) (datedSchedule dates) cause ≡ datedPrice n b discounts flows number dates strike
   unfolding datedPrice

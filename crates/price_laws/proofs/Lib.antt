@@ -1,0 +1,4 @@
+pub mod AnswerLaws
+pub mod Accuracy
+pub mod OptionLaws
+pub mod RightsLaws
