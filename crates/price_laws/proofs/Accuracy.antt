@@ -30,7 +30,7 @@ use Rattle.arithmetic.specs.Within.{Within}
 use Rattle.pricing_laws.proofs.PriceLaws.{Discounts-at-most, bond-accurate, option-accurate, error-bound-a-step}
 use Rattle.price_laws.specs.declared.Price.{Price}
 use Rattle.price_laws.specs.Prices.{flowAt, bondValue, bondPeak, optionValue, optionLimit, treeCause, firstCause, priced, scheduledPrice}
-use Rattle.price_laws.specs.Prices.{bondPrice, optionPrice, datedCause, datedPrice}
+use Rattle.price_laws.specs.Prices.{bondPrice, optionPrice, bondAndOption, datedCause, datedPrice, bondAndDatedOption}
 use Rattle.price_laws.specs.Exact.{exactBond, exactOption, exactDated}
 
 -- an answer with number 0 has the price, and no cause
@@ -172,3 +172,18 @@ module _ (n b : ℕ) (discounts flows : List ℕ) where
         ((k : ℕ) → k < discountsNeeded n b → values discounts k ≤ one) → datedPrice n b discounts flows side dates strike .bound ≤ 2 * n
     unfolding datedPrice
     dated-bound-a-step = scheduled-a-step (numberedSide side) strike (datedSchedule dates) (datedCause n side dates strike) list-ends h
+
+  -- bond and option at once, each of its own
+  pub both-within-bound : (kind expiry strike : ℕ) →
+      let both = bondAndOption n b discounts flows kind expiry strike in
+      both .bond .number ≡ 0 → both .option .number ≡ 0 →
+      Within (both .bond .bound) (unit ^ n) (both .bond .value) (exactBond n b discounts flows)
+      × Within (both .option .bound) (unit ^ n) (both .option .value) (exactOption n b discounts flows kind expiry strike)
+  both-within-bound kind expiry strike zb zo = (bond-within-bound zb, option-within-bound kind expiry strike zo)
+
+  pub both-dated-within-bound : (side : ℕ) (dates : List ℕ) (strike : ℕ) →
+      let both = bondAndDatedOption n b discounts flows side dates strike in
+      both .bond .number ≡ 0 → both .option .number ≡ 0 →
+      Within (both .bond .bound) (unit ^ n) (both .bond .value) (exactBond n b discounts flows)
+      × Within (both .option .bound) (unit ^ n) (both .option .value) (exactDated n b discounts flows side dates strike)
+  both-dated-within-bound side dates strike zb zo = (bond-within-bound zb, dated-within-bound side dates strike zo)

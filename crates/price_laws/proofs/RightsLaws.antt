@@ -8,7 +8,7 @@ use Rattle.arithmetic.proofs.CauseLaws.{lowest-none}
 use Rattle.lattice.specs.RateTree.{rateTree}
 use Rattle.lattice.proofs.RateTreeLaws.{rate-tree-sound}
 use Rattle.lent_tree.specs.LentTree.{stored}
-use Rattle.pricing_laws.specs.Schedule.{numberedSide, datedSchedule, datesCause, Contained, kindSide, kindDates}
+use Rattle.pricing_laws.specs.Schedule.{numberedSide, datesCause, Contained, kindSide, kindDates}
 use Rattle.pricing_laws.specs.TreePricer.{engine}
 use Rattle.pricing_laws.proofs.PriceLaws.{On, engine-monotone}
 use Rattle.pricing_laws.proofs.MoreDates.{more-dates, european-in-american, american-side}

@@ -119,3 +119,7 @@ bondAndDatedOption n b discounts flows side dates strike =
 
 abbrev pub bothValues : BondAndOption → BondAndOptionValues
 bothValues both = record { bond = valueAlone (both .bond); option = valueAlone (both .option) }
+
+-- and with a bound that is known
+abbrev pub bothWith : BondAndOptionValues → ℕ → BondAndOption
+bothWith both bound = record { bond = withBound (both .bond) bound; option = withBound (both .option) bound }

@@ -1,16 +1,14 @@
 -- What the code found, and the entries' answers by it.
 -- Assumes nothing.
 use mathlib.Core.Path.{_≡_, refl, sym, ap, ap₂, _∙_}
-use mathlib.Core.Bool.{Bool, true, false, cond}
 use mathlib.Core.List.{List, _++_}
 use Prim.Native.Nat.{ℕ, _+_, _*_, _≤_}
 use native.Mathlib.Omega.{arith}
 use lib.ListN.{length, take, drop, length-take}
 use lib.Seq.{take-append-seam}
-use lib.Dec.{eqb}
-use borrow.Author.Tests.{eq-eqb, ne-eqb, eqb-true}
+use borrow.Author.Tests.{eq-eqb}
 use Rattle.arithmetic.specs.Row.{values}
-use Rattle.arithmetic.specs.Answers.{refused, answered, lowestCause}
+use Rattle.arithmetic.specs.Answers.{lowestCause}
 use Rattle.arithmetic.specs.declared.Answer.{Answer}
 use Rattle.arithmetic.proofs.CauseLaws.{lowest-none}
 use Rattle.limits.specs.Limits.{mostSteps, limitCause}
@@ -20,7 +18,7 @@ use Rattle.lattice.specs.Entries.{aboutRow, tableOf}
 use Rattle.lattice.proofs.EntryLaws.{row-found}
 use Rattle.lattice.proofs.Sizes.{count-positive, count-within}
 use Rattle.lattice.proofs.TableLaws as tables
-use Rattle.lent_tree.specs.LentTree.{Accepted, discountsCause}
+use Rattle.lent_tree.specs.LentTree.{discountsCause}
 use Rattle.pricing_laws.specs.Pricer.{Side, Schedule}
 use Rattle.pricing_laws.specs.Schedule.{lastDate, kindDates}
 use Rattle.pricing_laws.proofs.Dates.{kind-last}
@@ -30,16 +28,16 @@ use Rattle.exercise.proofs.KindLaws.{strike-found, last-found}
 use Rattle.exercise_dates.specs.declared.Dates.{Dates}
 use Rattle.exercise_dates.specs.Dates.{marksOf, datedTerms, datesOfKind}
 use Rattle.exercise_dates.proofs.DateLaws.{marks-room, kind-list, dated-strike, dated-last}
-use Rattle.price_bound.specs.PriceBound.{treeErrorBound, priceErrorBoundAnswer}
+use Rattle.price_bound.specs.PriceBound.{priceErrorBoundAnswer}
 use Rattle.price_bound.proofs.BoundLaws.{bound-number}
-use Rattle.price_causes.specs.Causes.{AcceptedFlows, flowsCause, optionCause}
+use Rattle.price_causes.specs.Causes.{flowsCause, optionCause}
 use Rattle.price_causes.proofs.CheckLaws.{option-accepted, terms-accepted}
 use Rattle.price_laws.specs.declared.Price.{Price}
 use Rattle.price_laws.specs.Prices.{treeCause, refusedPrice, bondPeak, acceptedBond, optionLimit, acceptedOption, datedCause}
-use Rattle.price_laws.proofs.AnswerLaws.{priced-refused, priced-given, cause-accepted, cause-paid}
+use Rattle.price_laws.proofs.AnswerLaws.{priced-refused, priced-given}
 use Rattle.price_laws.proofs.OptionLaws.{dated-accepted}
 use Rattle.pricing.specs.declared.walk.Rolled.{Rolled}
-use Rattle.pricing.specs.Trees.{downTable, treeBound, Exercisable, ExercisedOn, BondRolled, BothRolled}
+use Rattle.pricing.specs.Trees.{downTable, TreeBounded, Exercisable, ExercisedOn, BondRolled, BothRolled}
 use Rattle.pricing.proofs.TreeRows.{table-size}
 
 -- what the lattice answers about row n
@@ -77,47 +75,18 @@ module _ (n b : ℕ) (hn : n ≤ 60) (hb : b ≤ 6000) (a : Answer) where
 pub prefix-length : (k : ℕ) (t : List ℕ) → k ≤ length t → k ≡ length (take k t)
 prefix-length k t h = sym (simp length-take (omega arith))
 
--- the error bound of a tree and its flows, as the code works it out
-module _ (n b : ℕ) (discounts flows : List ℕ) (a : Answer) (f c : ℕ) (ea : a ≡ priceErrorBoundAnswer n b discounts) (ef : f ≡ flowsCause n flows)
-    (ec : c ≡ lowestCause (a .number) f) where
-  cause-is : c ≡ treeCause n b discounts flows
-  unfolding treeCause
-  cause-is = ec ∙ ap₂ lowestCause (ap (λ (x : Answer). x .number) ea ∙ bound-number n b discounts) ef
-
-  pub tree-refused : (c ≡ 0 → ⊥) → refused c ≡ treeBound n b discounts flows
-  unfolding treeBound
-  tree-refused z = rw (← cause-is, ne-eqb c 0 z)
-
-  pub tree-passed : c ≡ 0 → a ≡ treeBound n b discounts flows
-  unfolding treeBound priceErrorBoundAnswer treeCause
-  tree-passed z =
-      let none = lowest-none (discountsCause n b discounts) (flowsCause n flows) (sym cause-is ∙ z) in
-      ea ∙ rw (eq-eqb (discountsCause n b discounts) 0 (none .0), ← cause-is, z)
-
--- what it says
-module _ (n b : ℕ) (discounts flows : List ℕ) (a : Answer) (ea : a ≡ treeBound n b discounts flows) where
-  pub tree-number : a .number ≡ treeCause n b discounts flows
-  unfolding treeBound
-  tree-number = ap (λ (x : Answer). x .number) ea ∙ go (eqb (treeCause n b discounts flows) 0) refl
-    where
-      go : (t : Bool) → eqb (treeCause n b discounts flows) 0 ≡ t →
-          cond t (answered (treeErrorBound n b discounts)) (refused (treeCause n b discounts flows)) .number ≡ treeCause n b discounts flows
-      go true e = sym (eqb-true (treeCause n b discounts flows) 0 e)
-      go false e = refl
-
-  module _ (z : a .number ≡ 0) where
-    pub tree-none : treeCause n b discounts flows ≡ 0
-    tree-none = sym tree-number ∙ z
-
-    pub tree-accepted : Accepted n b discounts
-    tree-accepted = cause-accepted n b discounts flows tree-none
-
-    pub paid-accepted : AcceptedFlows n flows
-    paid-accepted = cause-paid n b discounts flows tree-none
-
-    pub bound-is : a .value ≡ treeErrorBound n b discounts
-    unfolding treeBound
-    bound-is = ap (λ (x : Answer). x .value) ea ∙ rw (eq-eqb (treeCause n b discounts flows) 0 tree-none)
+-- the error bound of a tree, and the cause about it and its flows, as the code works them out
+pub tree-bounded : (n b : ℕ) (discounts flows : List ℕ) (a : Answer) (f c : ℕ) → a ≡ priceErrorBoundAnswer n b discounts → f ≡ flowsCause n flows →
+    c ≡ lowestCause (a .number) f → TreeBounded n b discounts flows (record { number = c; value = a .value })
+unfolding treeCause priceErrorBoundAnswer
+tree-bounded n b discounts flows a f c ea ef ec =
+    record {
+      cause-is = ec ∙ ap₂ lowestCause (ap (λ (x : Answer). x .number) ea ∙ bound-number n b discounts) ef;
+      bound-is =
+          λ z.
+          ap (λ (x : Answer). x .value) ea
+          ∙ rw (eq-eqb (discountsCause n b discounts) 0 (lowest-none (discountsCause n b discounts) (flowsCause n flows) z .0));
+    }
 
 module _ (n b : ℕ) (discounts flows : List ℕ) where
   -- the bond of an accepted tree, with an error bound e

@@ -21,5 +21,4 @@ unfolding treeCause
 returns c = c .lowest-cause .ensures ∙ ap₂ lowestCause (c .before .before .discounts-cause .ensures) (c .before .flows-cause .ensures)
 
 pub tree-cause-spec : {M : Type 1} → statement M
-tree-cause-spec =
-    tie.close (tie.spec discounts-cause-requires flows-cause-requires lowest-cause-requires returns)
+tree-cause-spec = tie.close (tie.spec discounts-cause-requires flows-cause-requires lowest-cause-requires returns)
