@@ -24,8 +24,8 @@ use Rattle.pricing_laws.specs.TreePricer.{exact}
 use Rattle.pricing_laws.proofs.Dates.{dates-accepted, schedule-last}
 use Rattle.price_bound.specs.PriceBound.{treeErrorBound}
 use Rattle.price_bound.proofs.BoundLaws.{discount-within}
-use Rattle.price_causes.specs.Causes.{flowsCause, optionCause, termsCause}
-use Rattle.price_causes.proofs.CheckLaws.{option-accepted}
+use Rattle.price_causes.specs.Causes.{AcceptedFlows, flowsCause, optionCause, termsCause}
+use Rattle.price_causes.proofs.CheckLaws.{flows-accepted, option-accepted}
 use Rattle.arithmetic.specs.Within.{Within}
 use Rattle.pricing_laws.proofs.PriceLaws.{Discounts-at-most, bond-accurate, option-accurate, error-bound-a-step}
 use Rattle.price_laws.specs.declared.Price.{Price}
@@ -58,10 +58,14 @@ first-none c later h = go (eqb c 0) refl h
     go true q z = (eqb-true c 0 q, z)
     go false q z = absurd (eqb-false c 0 q z)
 
--- no cause about the tree and its flows: the tree is accepted
+-- no cause about the tree and its flows: both are accepted
 pub tree-lent : (n b : ℕ) (discounts flows : List ℕ) → treeCause n b discounts flows ≡ 0 → Accepted n b discounts
 unfolding treeCause
 tree-lent n b discounts flows z = accepted n b discounts (lowest-none (discountsCause n b discounts) (flowsCause n flows) z .0)
+
+pub tree-paid : (n b : ℕ) (discounts flows : List ℕ) → treeCause n b discounts flows ≡ 0 → AcceptedFlows n flows
+unfolding treeCause
+tree-paid n b discounts flows z = flows-accepted n flows (lowest-none (discountsCause n b discounts) (flowsCause n flows) z .1)
 
 low-discounts : (n b : ℕ) (discounts : List ℕ) → ((k : ℕ) → k < discountsNeeded n b → values discounts k ≤ one) →
     Discounts-at-most one (rateTree b) (stored b discounts) n

@@ -5,12 +5,10 @@ use mathlib.Core.List.{List}
 use Prim.Native.Nat.{ℕ, _≤_, max}
 use borrow.Author.Tests.{eq-eqb, ne-eqb}
 use Rattle.arithmetic.specs.declared.Answer.{Answer}
-use Rattle.arithmetic.proofs.CauseLaws.{lowest-none}
 use Rattle.arithmetic.proofs.Numbers.{by-equal}
 use Rattle.limits.specs.Limits.{mostSteps, limitCause}
 use Rattle.lattice.specs.RateTree.{rateTree}
-use Rattle.lent_tree.specs.LentTree.{stored, Accepted, discountsCause}
-use Rattle.lent_tree.proofs.LentLaws.{accepted}
+use Rattle.lent_tree.specs.LentTree.{stored}
 use Rattle.pricing_laws.specs.Pricer.{Side, Schedule}
 use Rattle.pricing_laws.specs.Schedule.{lastDate, datedSchedule, marked}
 use Rattle.pricing_laws.specs.TreePricer.{engine}
@@ -18,8 +16,6 @@ use Rattle.pricing_laws.specs.Peak.{peak, greatestValue}
 use Rattle.pricing_laws.proofs.Schedules.{Alike, option-alike}
 use Rattle.exercise_dates.specs.Dates.{marksOf}
 use Rattle.exercise_dates.proofs.DateLaws.{dates-alike}
-use Rattle.price_causes.specs.Causes.{AcceptedFlows, flowsCause}
-use Rattle.price_causes.proofs.CheckLaws.{flows-accepted}
 use Rattle.price_laws.specs.declared.Price.{Price}
 use Rattle.price_laws.specs.declared.BondAndOption.{BondAndOption}
 use Rattle.price_laws.specs.declared.BondAndOptionValues.{BondAndOptionValues}
@@ -48,18 +44,6 @@ unfolding firstCause
 passed-first cause later v e z = rw (eq-eqb cause 0 z)
 
 module _ (n b : ℕ) (discounts flows : List ℕ) where
-  -- no cause about a tree and its flows: both are accepted
-  module _ (z : treeCause n b discounts flows ≡ 0) where
-    no-causes : (discountsCause n b discounts ≡ 0) × (flowsCause n flows ≡ 0)
-    unfolding treeCause
-    no-causes = lowest-none (discountsCause n b discounts) (flowsCause n flows) z
-
-    pub cause-accepted : Accepted n b discounts
-    cause-accepted = accepted n b discounts (no-causes .0)
-
-    pub cause-paid : AcceptedFlows n flows
-    cause-paid = flows-accepted n flows (no-causes .1)
-
   -- schedules that are alike give one answer
   module _ (side : Side) (strike : ℕ) (rows other : Schedule) (same : Alike rows other) where
     same-values : optionValue n b discounts flows side strike rows ≡ optionValue n b discounts flows side strike other

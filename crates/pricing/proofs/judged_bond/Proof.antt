@@ -1,7 +1,7 @@
 -- `pricing::judged_bond` meets its contract.
 -- Assumes nothing.
 use mathlib.Core.Path.{sym, _∙_}
-use Rattle.price_laws.proofs.AnswerLaws.{cause-accepted, cause-paid}
+use Rattle.price_laws.proofs.Accuracy.{tree-lent, tree-paid}
 use Rattle.price_laws.proofs.ValueLaws.{bond-refused, bond-passed}
 use borrow.Author.Needs.{needs}
 use Rattle.pricing.proofs.judged_bond.Statement.{statement}
@@ -16,7 +16,7 @@ returns c = c .refused .ensures ∙ bond-refused _ _ _ _ _ _ (c .before .before 
 accepted-bond-requires : tie.Need-accepted-bond-requires
 accepted-bond-requires c κs =
     let none = sym (c .before .before .before .before .pre) ∙ c .if1 .left in
-    (cause-accepted _ _ _ _ none, cause-paid _ _ _ _ none)
+    (tree-lent _ _ _ _ none, tree-paid _ _ _ _ none)
 
 returns-2 : tie.Need-returns-2
 returns-2 c = bond-passed _ _ _ _ _ (sym (c .before .before .before .before .before .pre) ∙ c .before .if1 .left) _ (c .accepted-bond .ensures)

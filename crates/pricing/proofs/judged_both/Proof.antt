@@ -5,7 +5,8 @@ use native.Mathlib.Omega.{arith}
 use denote.Ref.{now}
 use Rattle.lent_tree.specs.LentTree.{Accepted}
 use Rattle.price_laws.specs.Prices.{treeCause}
-use Rattle.price_laws.proofs.AnswerLaws.{cause-accepted, cause-paid, marked-price}
+use Rattle.price_laws.proofs.Accuracy.{tree-lent, tree-paid}
+use Rattle.price_laws.proofs.AnswerLaws.{marked-price}
 use Rattle.price_laws.proofs.ValueLaws as answers
 use Rattle.pricing.specs.Trees.{ExercisedOn}
 use Rattle.pricing.proofs.EntryLaws.{marks-exercisable}
@@ -35,10 +36,10 @@ none : (c : tie.Else1) → let a = start c .args in treeCause (a .tree .steps) (
 none c = sym (start c .pre .0) ∙ c .if1 .left
 
 tree : (c : tie.Else1) → let a = start c .args in Accepted (a .tree .steps) (a .tree .reversion) (now (a .discounts))
-tree c = cause-accepted _ _ _ _ (none c)
+tree c = tree-lent _ _ _ _ (none c)
 
 accepted-bond-requires : tie.Need-accepted-bond-requires
-accepted-bond-requires c κs = (tree (c .before), cause-paid _ _ _ _ (none (c .before)))
+accepted-bond-requires c κs = (tree (c .before), tree-paid _ _ _ _ (none (c .before)))
 
 refused-requires-3 : tie.Need-refused-requires-3
 refused-requires-3 c κs = search needs
@@ -66,7 +67,7 @@ accepted-both-requires c κs =
     let on = exercised (marked .before) in
     let on-tree = tree (marked .before .before) in
     let few = on-tree .steps-within-limit in
-    (on-tree, cause-paid _ _ _ _ (none (marked .before .before)), marks-exercisable _ _ _ _ on few (marked .marks-of .ensures))
+    (on-tree, tree-paid _ _ _ _ (none (marked .before .before)), marks-exercisable _ _ _ _ on few (marked .marks-of .ensures))
 
 returns-3 : tie.Need-returns-3
 returns-3 c =
