@@ -1,6 +1,6 @@
 -- A strip by what was found: a cause about the strip itself, one about all its strikes, or an answer for each.
 -- Assumes nothing.
-use mathlib.Core.Path.{_≡_, refl, sym, ap, ap₂, fun-ext, _∙_}
+use mathlib.Core.Path.{_≡_, refl, sym, ap, ap₂, subst, fun-ext, _∙_}
 use mathlib.Core.Bool.{Bool, true, false, cond, _&&_}
 use mathlib.Core.List.{List}
 use Prim.Native.Nat.{ℕ, _≤_, _<_}
@@ -11,7 +11,7 @@ use lib.ListN.{length, replicate, length-replicate, take}
 use Rattle.arithmetic.specs.Row.{values, padded}
 use Rattle.arithmetic.proofs.Numbers.{by-order, by-equal}
 use Rattle.arithmetic.proofs.RowLaws.{zeros}
-use Rattle.arithmetic.proofs.PaddedLaws.{padded-of}
+use Rattle.arithmetic.proofs.PaddedLaws.{padded-of, padded-length, padded-at, padded-after}
 use Rattle.limits.specs.Limits.{mostSteps, shapeCause}
 use Rattle.limits.proofs.LimitLaws.{shape-accepted}
 use Rattle.pricing_laws.specs.Schedule.{sideOf, scheduleOf, kindDates, kindSide}
@@ -25,6 +25,7 @@ use Rattle.price_laws.specs.declared.Price.{Price}
 use Rattle.price_laws.specs.declared.Strip.{Strip}
 use Rattle.price_laws.specs.Prices.{treeCause, firstCause, refusedPrice, valueAlone, withBound, optionPrice, datedPrice}
 use Rattle.price_laws.specs.Strips.{mostStrikes, stripCause, refusedStrip, stripOf, stripAnswer, strikePrice, kindPrice, optionStrip, kindStrip, eachWith}
+use Rattle.price_laws.specs.Strips.{Placed, Shown}
 use Rattle.price_laws.proofs.OptionLaws.{kind-is-list}
 use Rattle.price_laws.proofs.ValueLaws.{option-refused, option-cause, option-whole, dated-whole}
 
@@ -185,3 +186,59 @@ module _ (n b : ℕ) (discounts flows strikes : List ℕ) (e : ℕ) where
     pub kind-whole : (treeCause n b discounts flows ≡ 0 → e ≡ treeErrorBound n b discounts) →
         stripAnswer n b (length strikes) priced ≡ kindStrip n b discounts flows kind expiry strikes
     kind-whole he = strip-alike n b (length strikes) _ _ (λ k. option-whole n b discounts flows e he kind expiry (values strikes k))
+
+-- ---- what is read off a strip
+
+-- of zeros
+zeros-placed : (cause k : ℕ) → Placed (refusedStrip cause) k (refusedPrice 0)
+zeros-placed cause k = record { number = zeros mostStrikes k; value = zeros mostStrikes k; bound = zeros mostStrikes k }
+
+pub refused-shown : (cause count : ℕ) (price : ℕ → Price) → (cause ≡ 0 → ⊥) → Shown (refusedStrip cause) count price
+refused-shown cause count price nz =
+    let long = length-replicate {A = ℕ} mostStrikes 0 in
+    record {
+      places = (long, long, long);
+      answered = λ z. absurd (nz z);
+      past = λ k h. zeros-placed cause k;
+      refused = λ h k. zeros-placed cause k;
+    }
+
+given-shown : (count : ℕ) (price : ℕ → Price) → count ≤ mostStrikes → Shown (stripOf count price) count price
+given-shown count price few =
+    record {
+      places = (padded-length mostStrikes count _, padded-length mostStrikes count _, padded-length mostStrikes count _);
+      answered = λ z k h. record {
+        number = padded-at mostStrikes count _ k few h;
+        value = padded-at mostStrikes count _ k few h;
+        bound = padded-at mostStrikes count _ k few h;
+      };
+      past = λ k h. record {
+        number = padded-after mostStrikes count _ k h;
+        value = padded-after mostStrikes count _ k h;
+        bound = padded-after mostStrikes count _ k h;
+      };
+      refused = λ nz. absurd (nz refl);
+    }
+
+pub answer-shown : (n b count : ℕ) (price : ℕ → Price) → Shown (stripAnswer n b count price) count price
+answer-shown n b count price =
+    by-equal (stripCause n b count) 0
+    (λ z. subst (λ (s : Strip). Shown s count price) (strip-given n b count price _ z refl) (given-shown count price (strip-few n b count z)))
+    (λ nz. subst (λ (s : Strip). Shown s count price) (strip-refused n b count price _ refl nz) (refused-shown _ count price nz))
+
+-- of listed rows, and of a kind
+pub listed-shown : (n b : ℕ) (discounts flows : List ℕ) (side : ℕ) (dates strikes : List ℕ) →
+    Shown (optionStrip n b discounts flows side dates strikes) (length strikes) (λ k. datedPrice n b discounts flows side dates (values strikes k))
+listed-shown n b discounts flows side dates strikes = answer-shown n b (length strikes) _
+
+pub kind-shown : (n b : ℕ) (discounts flows : List ℕ) (kind expiry : ℕ) (strikes : List ℕ) →
+    Shown (kindStrip n b discounts flows kind expiry strikes) (length strikes) (λ k. optionPrice n b discounts flows kind expiry (values strikes k))
+kind-shown n b discounts flows kind expiry strikes = answer-shown n b (length strikes) _
+
+-- its number
+pub strip-number : (n b count : ℕ) (price : ℕ → Price) → stripAnswer n b count price .number ≡ stripCause n b count
+unfolding stripAnswer
+strip-number n b count price =
+    by-equal (stripCause n b count) 0
+    (λ z. rw (eq-eqb (stripCause n b count) 0 z) (sym z))
+    (λ nz. rw (ne-eqb (stripCause n b count) 0 nz))
