@@ -113,12 +113,12 @@ fn dated(
 
 // The places of a strip: number, value and bound of each.
 fn places(
-    numbers: &[u64; pricing::MOST_STRIKES],
-    values: &[u64; pricing::MOST_STRIKES],
-    bounds: &[u64; pricing::MOST_STRIKES],
+    numbers: &[u64; price_laws::MOST_STRIKES],
+    values: &[u64; price_laws::MOST_STRIKES],
+    bounds: &[u64; price_laws::MOST_STRIKES],
 ) {
     let mut k: usize = 0;
-    while k < pricing::MOST_STRIKES {
+    while k < price_laws::MOST_STRIKES {
         number(numbers[k]);
         number(values[k]);
         number(bounds[k]);
