@@ -37,18 +37,20 @@ module _ (n b count : ℕ) where
   strip-shape c e z = rw (← e, ne-eqb c 0 z)
 
   module _ (z : shapeCause n b ≡ 0) where
-    pub strip-none : count < 1 → 6 ≡ stripCause n b count
+    -- by the number of strikes alone
+    strip-judged : stripCause n b count ≡ cond (leb 1 count && leb count 16) 0 6
     unfolding stripCause firstCause
-    strip-none few = rw (eq-eqb (shapeCause n b) 0 z, lt-leb 1 count few)
+    strip-judged = rw (eq-eqb (shapeCause n b) 0 z)
+
+    pub strip-none : count < 1 → 6 ≡ stripCause n b count
+    strip-none few = rw (strip-judged, lt-leb 1 count few)
 
     module _ (some : 1 ≤ count) where
       pub strip-many : mostStrikes < count → 6 ≡ stripCause n b count
-      unfolding stripCause firstCause
-      strip-many many = rw (eq-eqb (shapeCause n b) 0 z, le-leb 1 count some, lt-leb count mostStrikes many)
+      strip-many many = rw (strip-judged, le-leb 1 count some, lt-leb count 16 many)
 
       pub strip-taken : count ≤ mostStrikes → 0 ≡ stripCause n b count
-      unfolding stripCause firstCause
-      strip-taken few = rw (eq-eqb (shapeCause n b) 0 z, le-leb 1 count some, le-leb count mostStrikes few)
+      strip-taken few = rw (strip-judged, le-leb 1 count some, le-leb count 16 few)
 
   -- a strip that is not refused has at most 16 strikes
   many-refused : mostStrikes < count → stripCause n b count ≡ 0 → ⊥

@@ -11,12 +11,14 @@ ghost use Rattle.price_laws.specs.Strips.{refusedStrip};
 ghost use Rattle.shelf_prices.specs.ShelfPrices.{shelfBond, shelfOption, shelfDated, shelfBondAndOption, shelfBondAndDated};
 ghost use Rattle.shelf_prices.specs.ShelfPrices.{shelfDatedStrip, shelfKindStrip};
 
-// The price of a name without a tree.
+// A name without a tree.
+const NO_TREE: u64 = 15;
+
 fn no_price() -> Price
     ensures { λ r. ⌜ r ≡ refusedPrice 15 ⌝ }
 {
     Price {
-        number: 15,
+        number: NO_TREE,
         value: 0,
         bound: 0,
     }
@@ -171,7 +173,7 @@ fn no_strip() -> Strip
 {
     let zeros = [0u64; price_laws::MOST_STRIKES];
     Strip {
-        number: 15,
+        number: NO_TREE,
         numbers: zeros,
         values: zeros,
         bounds: zeros,
