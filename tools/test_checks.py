@@ -6,6 +6,8 @@
 import importlib.machinery
 import importlib.util
 import pathlib
+import shutil
+import subprocess
 import sys
 import tempfile
 import unittest
@@ -208,6 +210,13 @@ class Trials(unittest.TestCase):
             with self.subTest(path=path.name):
                 file, proof = trials.REFUSED.search(path.read_text(encoding='utf-8')).groups()
                 self.assertRegex((ROOT / file).read_text(encoding='utf-8'), rf'(?m)^\s*(pub )?{proof} :')
+
+    @unittest.skipUnless(shutil.which('git'), 'git is not installed')
+    def test_patches_fit_the_crates(self):
+        for path in sorted((ROOT / 'trials').iterdir()):
+            with self.subTest(path=path.name):
+                fits = subprocess.run(['git', 'apply', '--check', str(path)], cwd=ROOT, capture_output=True, text=True)
+                self.assertEqual((fits.returncode, fits.stderr), (0, ''))
 
 
 class Stack(unittest.TestCase):
