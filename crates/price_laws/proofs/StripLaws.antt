@@ -106,7 +106,8 @@ module _ (n b count : ℕ) (price : ℕ → Price) where
   strip-alike other same = ap (stripAnswer n b count) (fun-ext same)
 
 -- one refusal for every strike
-pub refused-alike : (count number : ℕ) (price : ℕ → Price) → ((k : ℕ) → refusedPrice number ≡ price k) → stripOf count (λ k. refusedPrice number) ≡ stripOf count price
+pub refused-alike : (count number : ℕ) (price : ℕ → Price) → ((k : ℕ) → refusedPrice number ≡ price k) →
+    stripOf count (λ k. refusedPrice number) ≡ stripOf count price
 refused-alike count number price same = ap (stripOf count) (fun-ext same)
 
 module _ (n b : ℕ) (discounts flows strikes : List ℕ) (e : ℕ) where
@@ -154,7 +155,8 @@ module _ (n b : ℕ) (discounts flows strikes : List ℕ) (e : ℕ) where
         (ap refusedPrice (ec ∙ sym same) ∙ option-cause n b discounts flows e _ _ _ _ (sym ef ∙ z) (λ none. nz (ec ∙ sym same ∙ none))))
         (λ z.
         rw (ne-eqb found 0 z)
-        (option-refused n b discounts flows e (sideOf kind) (values strikes k) (scheduleOf kind expiry) (optionCause n kind expiry (values strikes k)) found ef z))
+        (option-refused n b discounts flows e (sideOf kind) (values strikes k) (scheduleOf kind expiry)
+        (optionCause n kind expiry (values strikes k)) found ef z))
 
     pub kind-refuses : (found c : ℕ) → found ≡ treeCause n b discounts flows → c ≡ judged → (c ≡ 0 → ⊥) →
         stripAnswer n b (length strikes) (λ k. refusedPrice (firstCause found c)) ≡ stripAnswer n b (length strikes) priced

@@ -1,5 +1,5 @@
--- Which entry gives which number (document 01, When the engine declines; document 02, requests (i) to (iii), (ix) and (x)): the causes of each entry in the order in
--- which they are tried, the lowest number first, but for 13, which is tried before 12.
+-- Which entry gives which number (document 01, When the engine declines; document 02, requests (i) to (iii), (ix) and (x)): the causes of each entry in
+-- the order in which they are tried, the lowest number first, but for 13, which is tried before 12.
 -- Assumes nothing.
 use mathlib.Core.Path.{_≡_}
 use mathlib.Core.Bool.{Bool, true, not, cond, _&&_, _||_}

@@ -1,5 +1,5 @@
--- Prices on the trees of a shelf (document 02, requests (vii), (viii) and (x)): 15 for the name, or number and value of what a plain entry answers for the tree's
--- discounts, with the error bound that the slot carries. For any slots and any memory.
+-- Prices on the trees of a shelf (document 02, requests (vii), (viii) and (x)): 15 for the name, or number and value of what a plain entry answers for
+-- the tree's discounts, with the error bound that the slot carries. For any slots and any memory.
 -- Assumes nothing.
 use Prim.Native.Nat.{ℕ}
 use mathlib.Core.Bool.{cond}

@@ -1,5 +1,5 @@
--- What a shelf promises (document 02, requests (vii), (viii) and (x)), for every shelf reached from the empty one beside any memory by any calls of its entries with
--- any arguments. Each line is about the answers that the entries' contracts give, where shelf and memory are not altered between calls.
+-- What a shelf promises (document 02, requests (vii), (viii) and (x)), for every shelf reached from the empty one beside any memory by any calls of its
+-- entries with any arguments. Each line is about the answers that the entries' contracts give, where shelf and memory are not altered between calls.
 -- Assumes nothing.
 use mathlib.Core.Path.{_≡_}
 use mathlib.Core.Bool.{true, false, cond}

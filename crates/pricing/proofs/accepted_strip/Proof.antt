@@ -20,7 +20,9 @@ node-count-requires : tie.Need-node-count-requires
 node-count-requires c κs = search needs
 
 table-of-requires : tie.Need-table-of-requires
-table-of-requires c κs = (tree (c .before .before .before .before .before) .steps-within-limit, tree (c .before .before .before .before .before) .reversion-within-limit)
+table-of-requires c κs =
+    let t = tree (c .before .before .before .before .before) in
+    (t .steps-within-limit, t .reversion-within-limit)
 
 -- the table that is lent on
 room : (c : tie.After-table-of) → c .before .node-count .result .value ≤ length (c .table-of .result)
@@ -72,17 +74,18 @@ slice-aggregate-strike-prices-3 : tie.Need-slice-aggregate-strike-prices-3
 slice-aggregate-strike-prices-3 c = search needs
 
 strike-prices-requires : tie.Need-strike-prices-requires
-strike-prices-requires c κs = (
-  record {
-    ready = ready (c .before .before .before .before .before .before .before .before .before .before);
-    none = c .before .before .before .before .before .before .before .before .before .before .before .before .before .before .before .before .pre .0;
-    list-is = c .before .before .before .dates-cause .ensures;
-    marks-are = c .before .before .before .before .marks-of .ensures;
-    bond-is = c .before .before .before .before .before .before .keep-bond .ensures;
-    room = omega (arith, c .before .before .before .before .before .before .keep-bond .kept .1 .1 .1 .1 .0, c .before .before .before .before .before .before .before .before .before .empty-rows .ensures);
-  },
-  c .before .before .before .before .before .before .before .before .before .before .before .before .before .before .before .before .pre .1,
-)
+strike-prices-requires c κs =
+    let kept = c .before .before .before .before .before .before in (
+      record {
+        ready = ready (c .before .before .before .before .before .before .before .before .before .before);
+        none = c .before .before .before .before .before .before .before .before .before .before .before .before .before .before .before .before .pre .0;
+        list-is = c .before .before .before .dates-cause .ensures;
+        marks-are = c .before .before .before .before .marks-of .ensures;
+        bond-is = c .before .before .before .before .before .before .keep-bond .ensures;
+        room = omega (arith, kept .keep-bond .kept .1 .1 .1 .1 .0, kept .before .before .before .empty-rows .ensures);
+      },
+      c .before .before .before .before .before .before .before .before .before .before .before .before .before .before .before .before .pre .1,
+    )
 
 returns : tie.Need-returns
 returns c = search needs

@@ -21,16 +21,21 @@ refused-prices-requires c κs = strip-few _ _ _ (sym (c .before .before .before 
 
 returns-2 : tie.Need-returns-2
 returns-2 c =
-    let a = c .before .before .before .before .before .before .before .before .before .args in
+    let s = c .before .before .before .before .before .before .before .before .before in
+    let a = s .args in
     strip-given _ _ _ _ _ (sym (c .before .before .before .before .strip-cause .ensures) ∙ c .before .before .before .if1 .left)
     (c .refused-prices .ensures
-    ∙ tree-refuses _ _ _ _ (now (a .strikes)) (a .bound .value) (a .side) (now (a .dates)) _ (c .before .before .before .before .before .before .before .before .before .pre) (c .before .if2 .taken))
+    ∙ tree-refuses _ _ _ _ (now (a .strikes)) (a .bound .value) (a .side) (now (a .dates)) _ (s .pre) (c .before .if2 .taken))
 
 accepted-strip-requires : tie.Need-accepted-strip-requires
-accepted-strip-requires c κs = (sym (c .before .before .before .before .before .before .before .before .pre) ∙ c .if2 .left, strip-few _ _ _ (sym (c .before .before .before .strip-cause .ensures) ∙ c .before .before .if1 .left))
+accepted-strip-requires c κs = (
+  sym (c .before .before .before .before .before .before .before .before .pre) ∙ c .if2 .left,
+  strip-few _ _ _ (sym (c .before .before .before .strip-cause .ensures) ∙ c .before .before .if1 .left),
+)
 
 returns-3 : tie.Need-returns-3
-returns-3 c = strip-given _ _ _ _ _ (sym (c .before .before .before .before .strip-cause .ensures) ∙ c .before .before .before .if1 .left) (c .accepted-strip .ensures)
+returns-3 c =
+    strip-given _ _ _ _ _ (sym (c .before .before .before .before .strip-cause .ensures) ∙ c .before .before .before .if1 .left) (c .accepted-strip .ensures)
 
 pub judged-strip-spec : {M : Type 1} → statement M
 judged-strip-spec =

@@ -19,7 +19,8 @@ returns : tie.Need-returns
 returns c =
     let a = c .before .before .before .before .before .before .args in
     c .refused-kind .ensures
-    ∙ kind-refuses _ _ _ _ (now (a .strikes)) (a .bound .value) (a .kind) (a .expiry) _ _ (c .before .before .before .before .before .before .pre) (c .before .before .option-cause .ensures) (c .before .if1 .taken)
+    ∙ kind-refuses _ _ _ _ (now (a .strikes)) (a .bound .value) (a .kind) (a .expiry) _ _ (c .before .before .before .before .before .before .pre)
+    (c .before .before .option-cause .ensures) (c .before .if1 .taken)
 
 dates-of-kind-requires : tie.Need-dates-of-kind-requires
 dates-of-kind-requires c κs = search needs
@@ -40,7 +41,8 @@ returns-2 : tie.Need-returns-2
 returns-2 c =
     let a = c .before .before .before .before .before .before .before .before .before .before .args in
     c .judged-strip .ensures
-    ∙ list-handed _ _ _ _ (now (a .strikes)) (a .bound .value) (a .kind) (a .expiry) (sym (c .before .before .before .before .before .before .option-cause .ensures) ∙ c .before .before .before .before .before .if1 .left)
+    ∙ list-handed _ _ _ _ (now (a .strikes)) (a .bound .value) (a .kind) (a .expiry)
+    (sym (c .before .before .before .before .before .before .option-cause .ensures) ∙ c .before .before .before .before .before .if1 .left)
     _ (c .before .before .side-of-kind .ensures) _ (c .before .before .before .before .dates-of-kind .ensures)
 
 pub strip-of-kind-spec : {M : Type 1} → statement M

@@ -27,7 +27,9 @@ no-strip-requires c κs = search needs
 returns : tie.Need-returns
 returns c =
     let a = c .before .before .before .before .before .before .before .args in
-    c .no-strip .ensures ∙ strip-none (λ (n b : ℕ) (d : List ℕ) (k : ℕ). datedPrice n b d (a .flows .now) (a .side) (a .dates .now) (values (a .strikes .now) k)) _ (a .memory .now) _ _ _ (c .before .before .before .tree-of .ensures) (search needs)
+    c .no-strip .ensures
+    ∙ strip-none (λ (n b : ℕ) (d : List ℕ) (k : ℕ). datedPrice n b d (a .flows .now) (a .side) (a .dates .now) (values (a .strikes .now) k))
+    _ (a .memory .now) _ _ _ (c .before .before .before .tree-of .ensures) (search needs)
 
 add-end : tie.Need-add-end
 add-end c = omega (arith, told (c .before .before) .fits)
@@ -50,7 +52,8 @@ bounded-strip-requires c κs = search needs
 returns-2 : tie.Need-returns-2
 returns-2 c =
     let a = c .before .before .before .before .before .before .before .before .before .before .args in
-    strip-there (λ (n b : ℕ) (d : List ℕ) (k : ℕ). datedPrice n b d (a .flows .now) (a .side) (a .dates .now) (values (a .strikes .now) k)) _ (a .memory .now) _ _ _ (c .before .before .before .before .before .before .tree-of .ensures) (search needs) _ (c .bounded-strip .ensures)
+    strip-there (λ (n b : ℕ) (d : List ℕ) (k : ℕ). datedPrice n b d (a .flows .now) (a .side) (a .dates .now) (values (a .strikes .now) k))
+    _ (a .memory .now) _ _ _ (c .before .before .before .before .before .before .tree-of .ensures) (search needs) _ (c .bounded-strip .ensures)
 
 pub option-strip-spec : {M : Type 1} → statement M
 option-strip-spec =
