@@ -45,11 +45,11 @@ prices-kept =
 
 pub promises-kept : Promises
 promises-kept =
-    record
-    { quotes = quotes-kept
-    ; tree = tree-kept
-    ; prices = prices-kept
-    ; yields = yields-kept
-    ; versions = versions-kept
-    ; causes = causes-kept
+    record {
+      quotes = quotes-kept;
+      tree = tree-kept;
+      prices = prices-kept;
+      yields = yields-kept;
+      versions = versions-kept;
+      causes = causes-kept;
     }
