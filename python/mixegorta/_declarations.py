@@ -83,6 +83,12 @@ class CShelved(ctypes.Structure):
     _fields_ = [("number", U64), ("shelf", CShelf)]
 
 
+class CStrip(ctypes.Structure):
+    """Up to 16 answers in order, a number, a value and a bound for each, zeros after them; or the strip's own refusal with zeros."""
+
+    _fields_ = [("number", U64), ("numbers", U64 * 16), ("values", U64 * 16), ("bounds", U64 * 16)]
+
+
 # each exported function with its result and its parameters
 DECLARATIONS: Dict[str, Tuple[Any, Dict[str, Any]]] = {
     "version": (U64, {}),
@@ -151,5 +157,21 @@ DECLARATIONS: Dict[str, Tuple[Any, Dict[str, Any]]] = {
     "shelf_bond_and_dated_option": (CBondAndOption, {
         "shelf": CShelf, "memory": PointerTo(U64 * 3600), "name": SIZE, "flows": SliceOf(U64), "side": U64, "dates": SliceOf(U8),
         "strike": U64,
+    }),
+    "option_strip": (CStrip, {
+        "steps": SIZE, "reversion": U64, "discounts": SliceOf(U64), "flows": SliceOf(U64), "side": U64, "dates": SliceOf(U8),
+        "strikes": SliceOf(U64),
+    }),
+    "option_strip_of_kind": (CStrip, {
+        "steps": SIZE, "reversion": U64, "discounts": SliceOf(U64), "flows": SliceOf(U64), "kind": U64, "expiry": SIZE,
+        "strikes": SliceOf(U64),
+    }),
+    "shelf_option_strip": (CStrip, {
+        "shelf": CShelf, "memory": PointerTo(U64 * 3600), "name": SIZE, "flows": SliceOf(U64), "side": U64, "dates": SliceOf(U8),
+        "strikes": SliceOf(U64),
+    }),
+    "shelf_option_strip_of_kind": (CStrip, {
+        "shelf": CShelf, "memory": PointerTo(U64 * 3600), "name": SIZE, "flows": SliceOf(U64), "kind": U64, "expiry": SIZE,
+        "strikes": SliceOf(U64),
     }),
 }
