@@ -48,6 +48,7 @@ fn without_seed(tally: &mut Tally, shelves: &mut shelves::Tally) {
     checks::causes_of_versions(tally);
     checks::numbers_past_a_width(tally);
     strips::by_hand();
+    strips::limit_by_hand();
     strips::every_length(tally.strips());
     strips::causes(tally.strips());
     shelves::by_hand();

@@ -2,7 +2,7 @@
 // places past the strikes, and the strip's own causes. A difference panics.
 use crate::checks::Terms;
 use crate::engine;
-use crate::rules::{Contract, DatedOption, Outcome, Strip, Tree, DISCOUNT_LIMIT, FLOW_LIMIT, MOST_STRIKES, ONE, PUT, STRIKE_LIMIT};
+use crate::rules::{Contract, DatedOption, Outcome, Strip, Tree, CALL, DISCOUNT_LIMIT, FLOW_LIMIT, MOST_STRIKES, ONE, PUT, STRIKE_LIMIT};
 use std::collections::BTreeMap;
 use std::fmt;
 
@@ -115,7 +115,18 @@ pub fn by_hand() {
         assert_eq!(engine::dated_strip(&tree, &discounts, &flows, &put(&dates), &above), wanted, "a strip of {dates:?} by hand");
     }
     assert_eq!(engine::dated_strip(&tree, &discounts, &none, &put(&[]), &[]), Err(6), "an empty strip of a bad list");
+    let (last, wanted) = ([3_732_059_042, 3_732_059_041], Ok(vec![Err(12), priced(7_999_999_999)]));
+    assert_eq!(engine::dated_strip(&tree, &discounts, &none, &put(&[8]), &last), wanted, "the last strike before 12");
     assert_eq!((discounts, none), ([DISCOUNT_LIMIT; 81], [0; 9]), "a strip has written what it was lent");
+}
+
+/// Of five steps at discounts of one, a bond that pays 2 × one on rows 2 to 5 is worth 8 × one on row 1 and today: so is a call at 0 on row 1, whose value
+/// stands at its limit on the way.
+pub fn limit_by_hand() {
+    let (tree, discounts, flows) = (Tree { steps: 5, reversion: 0 }, [ONE; 25], [0, FLOW_LIMIT, FLOW_LIMIT, FLOW_LIMIT, FLOW_LIMIT]);
+    let call = DatedOption { side: CALL, strike: 0, dates: vec![1] };
+    let wanted = Ok(vec![Ok((8 * ONE, 10)), Ok((8 * ONE - 1, 10)), Err(11), Ok((8 * ONE, 10))]);
+    assert_eq!(engine::dated_strip(&tree, &discounts, &flows, &call, &[0, 1, STRIKE_LIMIT + 1, 0]), wanted, "values at their limit");
 }
 
 /// Every length from 0 to 20 and some that a narrower count would lose: all from 1 to 16 are taken. A strip is the beginning of a longer one.
