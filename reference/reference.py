@@ -25,6 +25,7 @@ WEIGHED_LIMIT = 2_000_000_100
 FOURFOLD_LIMIT = 4 * ONE
 VERSIONS = 1, 2
 CALL, PUT = 1, 2
+MOST_STRIKES = 16
 CALLS, AMERICAN = (1, 3), (3, 4)
 
 
@@ -317,6 +318,28 @@ def option_value(n, b, discounts, flows, option):
     return rows[0][0]
 
 
+# Up to 16 strikes of one kind or date list: the strip's own number and, where that is 0, each strike's number, value and allowance in order.
+Strip = namedtuple('Strip', 'number prices')
+
+
+def answer(single, strike):
+    """What a call for one strike gives, whole: single returns value and allowance, or refuses, which comes with zeros."""
+    try:
+        return 0, *single(strike)
+    except Refused as refusal:
+        return refusal.number, 0, 0
+
+
+def strip(causes, strikes, single):
+    """The strip's own causes before its 6 are pairs of number and whether it applies, in their order; every other cause stands in the answers."""
+    own = [number for number, applies in (*causes, (6, not 1 <= len(strikes) <= MOST_STRIKES)) if applies]
+    return Strip(own[0], []) if own else Strip(0, [answer(single, strike) for strike in strikes])
+
+
+def tree_causes(n, b):
+    return (3, not 1 <= n <= 60), (4, b > 6_000)
+
+
 def price_allowance(discounts):
     allowance = 0
     for row in reversed(discounts):
@@ -451,21 +474,21 @@ def lines(job):
     refuse_if(s > 50_000, 5)
     quotes = [quote(f, t, kind, pattern) for t, (kind, pattern) in enumerate(quoted, 1)]
     h = version_spacing(version or 1, f, s, b)
-    pull = working_reversion(version or 1, b)
-    refuse_if(half_width(pull, n - 1) * h > ONE, 8)
-    discounts, prices = fit(n, pull, h, quotes)
+    working = working_reversion(version or 1, b)
+    refuse_if(half_width(working, n - 1) * h > ONE, 8)
+    discounts, prices = fit(n, working, h, quotes)
     refuse_if(any(flow > FLOW_LIMIT for flow in flows), 10)
     option = terms and accepted_option(n, terms)
-    bond = bond_rows(n, pull, discounts, flows)[0][0]
+    bond = bond_rows(n, working, discounts, flows)[0][0]
     out = ['node %d %d %s %s' % (i, j, amount(v), percent(step_rate(v)))
            for i, row in enumerate(discounts) for j, v in sorted(row.items())]
     for t in range(1, n + 1):
         out.append('row %d %s %s %d' % (t, amount(quotes[t - 1]), amount(sum(prices[t].values())),
-                                        state_price_allowance(pull, discounts, t)))
+                                        state_price_allowance(working, discounts, t)))
     allowance = price_allowance(discounts)
     out.append('bond %s %d' % (amount(bond), allowance))
     if option:
-        price = option_value(n, pull, discounts, flows, option)
+        price = option_value(n, working, discounts, flows, option)
         out.append('option %s %d' % (amount(price), allowance))
     return out
 
