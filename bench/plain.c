@@ -1,4 +1,5 @@
-/* The fit, bond and option of document 01 as document 02 changed it, and 02's continuous rate, versions and shelf, written straight down. All sums fit 64 bits once the limits are checked. */
+/* The fit, bond and option of document 01 as document 02 changed it, and 02's continuous rate, versions and shelf, written straight down. All
+ * sums fit 64 bits once the limits are checked. */
 #include "plain.h"
 #include <math.h>
 #include <string.h>
