@@ -17,12 +17,19 @@ ghost use Rattle.bands.specs.Bands.{
 };
 ghost use Rattle.bands.specs.Stops.{Added, StopAt};
 
-// The price after the highest, the last row that a bond may have, and the most bands of a table.
+// The price after the highest.
 const END: u64 = limits::VALUE_LIMIT + 1;
 
-const LAST_ROW: u64 = limits::MOST_STEPS as u64;
+// The last row that a bond may have.
+pub const LAST_ROW: u64 = limits::MOST_STEPS as u64;
 
 const MOST_BANDS: usize = 40;
+
+// The place that a refusal shows where only the number of bands is wrong.
+const TOO_MANY: u64 = MOST_BANDS as u64 + 1;
+
+// All of a price, in ten-thousandths.
+pub const MOST_HAIRCUT: u64 = 10_000;
 
 // The answer to a table: 0 where it is accepted, else the number of the refusal, with the first failing pair (17 in no band,
 // 18 in two or more) or the place of the first bad band, counted from 1 (16; 41 where only the number of bands is wrong).
@@ -148,7 +155,7 @@ fn failing_row(firsts: &[u64], lasts: &[u64], lowests: &[u64], highests: &[u64])
         }
         row += 1;
     }
-    61
+    row
 }
 
 // The verdict on the pairs: 17 or 18 with the first failing pair, or zeros.
@@ -203,7 +210,7 @@ fn is_sound(first: u64, last: u64, lowest: u64, highest: u64, haircut: u64) -> b
     if limits::VALUE_LIMIT < highest {
         return false;
     }
-    if 10000 < haircut {
+    if MOST_HAIRCUT < haircut {
         return false;
     }
     true
@@ -290,7 +297,7 @@ pub fn check_bands(
             number: 16,
             row: 0,
             price: 0,
-            place: 41,
+            place: TOO_MANY,
         };
     }
     judge_pairs(firsts, lasts, lowests, highests)

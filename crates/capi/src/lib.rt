@@ -36,10 +36,14 @@ ghost use Rattle.shelf_laws.specs.Shelf.{
   releaseMemory,
 };
 ghost use Rattle.shelf_prices.specs.ShelfPrices.{shelfBond, shelfOption, shelfDated, shelfBondAndOption, shelfBondAndDated};
+ghost use Rattle.bands.specs.Bands.{verdict};
+ghost use Rattle.lending.specs.Lending.{lendingWorth};
 ghost use Rattle.capi.specs.Version.{version};
 use arithmetic::Answer;
+use bands::Verdict;
 use job_sheet::Written;
 use lattice::Branches;
+use lending::Worth;
 use price_bound::TreeErrorBounds;
 use pricing::BondAndOption;
 use pricing::Price;
@@ -512,4 +516,50 @@ pub extern "C" fn mixegorta_shelf_bond_and_dated_option(
     ensures { λ r. ⌜ r ≡ shelfBondAndDated (shelf .slots) (now (memory .entry)) name (now (flows .entry)) side (now (dates .entry)) strike ⌝ }
 {
     shelf_prices::bond_and_dated_option(shelf, memory, name, flows, side, dates, strike)
+}
+
+// ---- haircut bands
+
+#[no_mangle]
+pub extern "C" fn mixegorta_check_bands(
+    first_rows: &[u64],
+    last_rows: &[u64],
+    lowest_prices: &[u64],
+    highest_prices: &[u64],
+    haircuts: &[u64],
+) -> Verdict
+    ensures { λ r. ⌜ r ≡ verdict (now («first_rows» .entry)) (now («last_rows» .entry)) (now («lowest_prices» .entry))
+        (now («highest_prices» .entry)) (now (haircuts .entry)) ⌝ }
+{
+    bands::check_bands(
+        first_rows,
+        last_rows,
+        lowest_prices,
+        highest_prices,
+        haircuts,
+    )
+}
+
+#[no_mangle]
+pub extern "C" fn mixegorta_lending_worth(
+    first_rows: &[u64],
+    last_rows: &[u64],
+    lowest_prices: &[u64],
+    highest_prices: &[u64],
+    haircuts: &[u64],
+    row: u64,
+    price: u64,
+) -> Worth
+    ensures { λ r. ⌜ r ≡ lendingWorth (now («first_rows» .entry)) (now («last_rows» .entry)) (now («lowest_prices» .entry))
+        (now («highest_prices» .entry)) (now (haircuts .entry)) row price ⌝ }
+{
+    lending::lending_worth(
+        first_rows,
+        last_rows,
+        lowest_prices,
+        highest_prices,
+        haircuts,
+        row,
+        price,
+    )
 }

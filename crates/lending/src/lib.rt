@@ -5,9 +5,6 @@ ghost use mathlib.Core.Path.{_≡_};
 ghost use Rattle.bands.specs.Bands.{within, Parallel, bandsOf};
 ghost use Rattle.lending.specs.Lending.{bandIndex, lendingWorth, refusedWorth};
 
-// The last row that a bond may have.
-const LAST_ROW: u64 = limits::MOST_STEPS as u64;
-
 // The lending worth, 0 where it is refused, and the verdict.
 #[repr(C)]
 pub struct Worth {
@@ -86,7 +83,7 @@ pub fn lending_worth(
     if row < 1 {
         return refused(6);
     }
-    if LAST_ROW < row {
+    if bands::LAST_ROW < row {
         return refused(6);
     }
     if !bands::have_one_length(firsts, lasts, lowests, highests, haircuts) {
@@ -103,7 +100,7 @@ pub fn lending_worth(
     let k = find_band(firsts, lasts, lowests, highests, row, price);
     let haircut = haircuts[k];
     Worth {
-        worth: price * (10000 - haircut) / 10000,
+        worth: price * (bands::MOST_HAIRCUT - haircut) / bands::MOST_HAIRCUT,
         verdict,
     }
 }

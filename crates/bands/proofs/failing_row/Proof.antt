@@ -1,6 +1,6 @@
 -- `bands::failing_row` meets its contract.
 -- Assumes nothing.
-use mathlib.Core.Path.{_≡_}
+use mathlib.Core.Path.{_≡_, _∙_}
 use Prim.Native.Nat.{_-_}
 use borrow.Author.Needs.{needs}
 use native.Mathlib.Omega.{arith}
@@ -43,7 +43,7 @@ returns-2 : tie.Need-returns-2 Inv-loop μ-loop
 unfolding failingRow
 returns-2 c =
     let end : c .before .loop .row ≡ 61 = omega (arith, c .before .loop .inv .most) in
-    searched-none _ _ _ (rw end at (c .before .loop .inv))
+    end ∙ searched-none _ _ _ (rw end at (c .before .loop .inv))
 
 pub failing-row-spec : {M : Type 1} → statement M
 failing-row-spec =
