@@ -30,7 +30,7 @@ module _ (b : Bands) (row price : ℕ) where
   band-index-is = first-is (contains b row price) 0 (b .count) (omega arith)
 
   -- no band, none counted
-  none-covering : (n : ℕ) → ((k : ℕ) → k < n → contains b row price k ≡ false) → covering b row price n ≡ 0
+  pub none-covering : (n : ℕ) → ((k : ℕ) → k < n → contains b row price k ≡ false) → covering b row price n ≡ 0
   unfolding covering
   none-covering zero h = refl
   none-covering (suc n) h =
@@ -39,7 +39,7 @@ module _ (b : Bands) (row price : ℕ) where
       rw (a, c)
 
   -- a band that contains the pair is counted
-  some-covering : (n k : ℕ) → k < n → contains b row price k ≡ true → 1 ≤ covering b row price n
+  pub some-covering : (n k : ℕ) → k < n → contains b row price k ≡ true → 1 ≤ covering b row price n
   unfolding covering
   some-covering zero k l h = absurd (not-suc-le-zero l)
   some-covering (suc n) k l h =
@@ -49,7 +49,7 @@ module _ (b : Bands) (row price : ℕ) where
       (eq-or-lt-of-le (le-of-suc-le-suc l))
 
   -- and so are two
-  two-covering :
+  pub two-covering :
       (n j k : ℕ) → j < k → k < n → contains b row price j ≡ true → contains b row price k ≡ true → 2 ≤ covering b row price n
   unfolding covering
   two-covering zero j k l m p q = absurd (not-suc-le-zero m)
@@ -80,7 +80,7 @@ module _ (b : Bands) (row price : ℕ) where
         omega arith
 
 -- a refusal's number is not 0
-refused-number : (v : Verdict) (n row price place : ℕ) → v ≡ verdictOf (suc n) row price place → v .number ≡ 0 → ⊥
+pub refused-number : (v : Verdict) (n row price place : ℕ) → v ≡ verdictOf (suc n) row price place → v .number ≡ 0 → ⊥
 refused-number v n row price place e z = let q : suc n ≡ 0 = sym (ap (λ (w : Verdict). w .number) e) ∙ z in omega arith
 
 -- an accepted table, from its number
