@@ -37,8 +37,8 @@ module _ (t : Table) where
   module _ (row price : ℕ) where
     before : FirstFailing (bandsIn t) row price → OnceBefore t row price
     before f r p q =
-        ⊎-elim (λ (l : r < row). once-is t r p (f .rows-before r p (q .0) l (q .2)))
-        (λ (e : (r ≡ row) × (p < price)). subst (λ (x : ℕ). Once t x p) (sym (e .0)) (once-is t row p (f .prices-before p (e .1))))
+        ⊎-elim (λ l. once-is t r p (f .rows-before r p (q .0) l (q .2)))
+        (λ e. subst (λ (x : ℕ). Once t x p) (sym (e .0)) (once-is t row p (f .prices-before p (e .1))))
 
     first-failing :
         Pair row price → (coverage (bandsIn t) row price ≡ 1 → ⊥) → OnceBefore t row price → FirstFailing (bandsIn t) row price
