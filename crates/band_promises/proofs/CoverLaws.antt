@@ -6,15 +6,14 @@ use Prim.Native.Nat.{ℕ, zero, suc, _+_, _≤_, _<_}
 use native.Mathlib.Nat.{not-suc-le-zero}
 use native.Mathlib.Omega.{arith}
 use native.Mathlib.Decide.{decLe}
-use borrow.Author.Tests.{leb-true, eq-eqb, not-false}
+use borrow.Author.Tests.{leb-true, not-false}
 use lib.Dec.{leb}
-use lib.ListN.{length}
 use Rattle.arithmetic.specs.Row.{values}
 use Rattle.arithmetic.proofs.BetweenLaws.{and-left, and-right}
 use Rattle.bands.specs.Bands.{Bands, bandsOf, within, contains, flag, covering, coverage, sound, unsound, sameLengths}
 use Rattle.bands.proofs.StopLaws.{inside}
 use Rattle.bands.proofs.SoundLaws.{sound-band, band-sound}
-use Rattle.bands.proofs.TestLaws.{lengths-agree}
+use Rattle.bands.proofs.TestLaws.{lengths-agree, one-length}
 use Rattle.lending.specs.Lending.{bandIndex}
 use Rattle.lending.proofs.LendingLaws.{none-covering, some-covering, two-covering, band-found, band-contains, band-only}
 use Rattle.band_promises.specs.BandPromises.{Table, size, OneLength, Good, Holds, Once, Nowhere, Twice}
@@ -91,7 +90,8 @@ bandsIn t = bandsOf (t .firstRows) (t .lastRows) (t .lowestPrices) (t .highestPr
 
 module _ (t : Table) (row price : ℕ) where
   holds-contains : (k : ℕ) → Holds t row price k → contains (bandsIn t) row price k ≡ true
-  holds-contains k h = inside _ _ _ _ row price (h .from-row) (h .to-row) (h .from-price) (h .to-price)
+  holds-contains k h =
+      inside (values (t .firstRows) k) (values (t .lastRows) k) (values (t .lowestPrices) k) (values (t .highestPrices) k) row price (h .from-row) (h .to-row) (h .from-price) (h .to-price)
 
   contains-holds : (k : ℕ) → k < size t → contains (bandsIn t) row price k ≡ true → Holds t row price k
   unfolding within
@@ -217,15 +217,9 @@ module _ (t : Table) where
       record { last-rows = all .0 .0; lowest-prices = all .0 .1; highest-prices = all .0 .2; haircuts-too = all .1 }
 
   pub length-same : OneLength t → same ≡ true
-  unfolding sameLengths
   length-same h =
-      let n = length (t .firstRows) in
-      simp (
-        eq-eqb (length (t .lastRows)) n (h .last-rows),
-        eq-eqb (length (t .lowestPrices)) n (h .lowest-prices),
-        eq-eqb (length (t .highestPrices)) n (h .highest-prices),
-        eq-eqb (length (t .haircuts)) n (h .haircuts-too),
-      )
+      sym (one-length (t .firstRows) (t .lastRows) (t .lowestPrices) (t .highestPrices) (t .haircuts) (h .last-rows) (h .lowest-prices)
+      (h .highest-prices) (h .haircuts-too))
 
   pub length-other : (OneLength t → ⊥) → same ≡ false
   length-other h = by-test same (λ e. absurd (h (same-length e))) (λ e. e)

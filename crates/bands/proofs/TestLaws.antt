@@ -1,7 +1,7 @@
 -- The tests of a table, as facts.
 -- Assumes nothing.
 use mathlib.Core.Path.{_≡_, sym, _∙_}
-use mathlib.Core.Bool.{true, false, _&&_}
+use mathlib.Core.Bool.{true, false, _&&_, and-false}
 use mathlib.Core.List.{List}
 use Prim.Native.Nat.{ℕ, _+_, _≤_, _<_}
 use native.Mathlib.Omega.{arith}
@@ -81,6 +81,36 @@ module _ (b : Bands) (row : ℕ) where
     where
       none : valueLimit + 1 < valueLimit + 1 → ⊥
       none m = omega arith
+
+-- one length, or another of some list
+module _ (fs ls lows highs hs : List ℕ) where
+  pub other-lasts : (length ls ≡ length fs → ⊥) → false ≡ sameLengths fs ls lows highs hs
+  unfolding sameLengths
+  other-lasts h = simp (ne-eqb (length ls) (length fs) h)
+
+  pub other-lowests : (length lows ≡ length fs → ⊥) → false ≡ sameLengths fs ls lows highs hs
+  unfolding sameLengths
+  other-lowests h = simp (ne-eqb (length lows) (length fs) h, and-false)
+
+  pub other-highests : (length highs ≡ length fs → ⊥) → false ≡ sameLengths fs ls lows highs hs
+  unfolding sameLengths
+  other-highests h = simp (ne-eqb (length highs) (length fs) h, and-false)
+
+  pub other-haircuts : (length hs ≡ length fs → ⊥) → false ≡ sameLengths fs ls lows highs hs
+  unfolding sameLengths
+  other-haircuts h = simp (ne-eqb (length hs) (length fs) h, and-false)
+
+  pub one-length :
+      length ls ≡ length fs → length lows ≡ length fs → length highs ≡ length fs → length hs ≡ length fs →
+      true ≡ sameLengths fs ls lows highs hs
+  unfolding sameLengths
+  one-length a b c d =
+      simp (
+        eq-eqb (length ls) (length fs) a,
+        eq-eqb (length lows) (length fs) b,
+        eq-eqb (length highs) (length fs) c,
+        eq-eqb (length hs) (length fs) d,
+      )
 
 -- the lengths are one
 pub lengths-agree :
