@@ -83,6 +83,18 @@ class CShelved(ctypes.Structure):
     _fields_ = [("number", U64), ("shelf", CShelf)]
 
 
+class CVerdict(ctypes.Structure):
+    """The answer to a table: 0 where it is accepted, else the number of the refusal, with the first failing pair (17 in no band, 18 in two or more) or the place of the first bad band, counted from 1 (16; 41 where only the number of bands is wrong)."""
+
+    _fields_ = [("number", U64), ("row", U64), ("price", U64), ("place", U64)]
+
+
+class CWorth(ctypes.Structure):
+    """The lending worth, 0 where it is refused, and the verdict."""
+
+    _fields_ = [("worth", U64), ("verdict", CVerdict)]
+
+
 # each exported function with its result and its parameters
 DECLARATIONS: Dict[str, Tuple[Any, Dict[str, Any]]] = {
     "version": (U64, {}),
@@ -151,5 +163,13 @@ DECLARATIONS: Dict[str, Tuple[Any, Dict[str, Any]]] = {
     "shelf_bond_and_dated_option": (CBondAndOption, {
         "shelf": CShelf, "memory": PointerTo(U64 * 3600), "name": SIZE, "flows": SliceOf(U64), "side": U64, "dates": SliceOf(U8),
         "strike": U64,
+    }),
+    "check_bands": (CVerdict, {
+        "first_rows": SliceOf(U64), "last_rows": SliceOf(U64), "lowest_prices": SliceOf(U64), "highest_prices": SliceOf(U64),
+        "haircuts": SliceOf(U64),
+    }),
+    "lending_worth": (CWorth, {
+        "first_rows": SliceOf(U64), "last_rows": SliceOf(U64), "lowest_prices": SliceOf(U64), "highest_prices": SliceOf(U64),
+        "haircuts": SliceOf(U64), "row": U64, "price": U64,
     }),
 }

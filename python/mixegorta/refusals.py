@@ -5,7 +5,7 @@ from typing import Dict, Optional, Type
 __all__ = [
     "CAUSES", "Refused", "MalformedJob", "UnknownFrequency", "StepsOutOfRange", "ReversionTooLarge", "VolatilityTooLarge", "NotInTree",
     "QuoteOutOfRange", "NodesTooFarApart", "NodeDiscountOutOfRange", "FlowTooLarge", "OptionTermsOutOfRange", "ValueTooLarge",
-    "ExerciseDatesOutOfOrder", "ShelfFull", "WrongName",
+    "ExerciseDatesOutOfOrder", "ShelfFull", "WrongName", "BadBand", "PairInNoBand", "PairInSeveralBands",
 ]
 
 CAUSES: Dict[int, str] = {
@@ -24,6 +24,9 @@ CAUSES: Dict[int, str] = {
     13: "the exercise dates are none, not strictly rising, or reach the last row",
     14: "the asked nodes and those held are more than 3,600",
     15: "the name is outside 1 to 8, already present at asking, not awaiting a commit at commit, or absent at release or pricing",
+    16: "a band has an end before its start, or a haircut, start or end out of range, or there are more than 40 bands",
+    17: "a row and a price are in no band",
+    18: "a row and a price are in two or more bands",
 }
 # ---- end
 
@@ -112,9 +115,22 @@ class WrongName(Refused):
     """15: the name is outside 1 to 8, already present at asking, not awaiting a commit at commit, or absent at release or pricing."""
 
 
+class BadBand(Refused):
+    """16: a band has an end before its start, or a haircut, start or end out of range, or there are more than 40 bands. place is that of
+    the first bad band, counted from 1, or MAX_BANDS + 1 where only the number of bands is wrong."""
+
+
+class PairInNoBand(Refused):
+    """17: a row and a price are in no band. row and price are the first such pair, by row and then price."""
+
+
+class PairInSeveralBands(Refused):
+    """18: a row and a price are in two or more bands. row and price are the first such pair, by row and then price."""
+
+
 CLASSES: Dict[int, Type[Refused]] = {
     1: MalformedJob, 2: UnknownFrequency, 3: StepsOutOfRange, 4: ReversionTooLarge, 5: VolatilityTooLarge, 6: NotInTree, 7: QuoteOutOfRange,
     8: NodesTooFarApart, 9: NodeDiscountOutOfRange, 10: FlowTooLarge, 11: OptionTermsOutOfRange, 12: ValueTooLarge,
-    13: ExerciseDatesOutOfOrder, 14: ShelfFull, 15: WrongName,
+    13: ExerciseDatesOutOfOrder, 14: ShelfFull, 15: WrongName, 16: BadBand, 17: PairInNoBand, 18: PairInSeveralBands,
 }
 # ---- end

@@ -2,7 +2,7 @@
 //!
 //! [`ONE`] is 1,000,000,000 billionths. Any arguments may be passed: each call gives its full answer or a [`Refusal`], and the engine
 //! itself judges every argument. Discounts stand row after row, lowest node first, for rows 0 to n - 1, state prices for rows 0 to n.
-//! A [`Tree`] is one fitted tree with memories of its own, a [`Shelf`] up to eight trees in one memory.
+//! A [`Tree`] is one fitted tree with memories of its own, a [`Shelf`] up to eight trees in one memory, and [`Bands`] a table of haircuts.
 //!
 //! ```
 //! use mixegorta::{Curve, OptionKind, OptionTerms, Quote, Tree, ONE};
@@ -22,6 +22,7 @@
 
 #![deny(missing_docs)]
 
+mod bands;
 mod limits;
 mod raw;
 mod refusals;
@@ -29,6 +30,7 @@ mod shapes;
 mod shelf;
 mod tree;
 
+pub use bands::{check_bands, lending_worth, Band, BandRefusal, Bands, Shown};
 pub use limits::*;
 pub use shelf::{Shelf, ShelvedTree};
 pub use tree::Tree;
@@ -41,7 +43,7 @@ use std::ops::Range;
 pub const VERSION: &str = env!("CARGO_PKG_VERSION");
 
 /// Why a call was refused: the engine's number, as `c/mixegorta.h` lists them. Where several apply the lowest is given, save that 13 is
-/// tried before 12 and, of a [`Shelf`], 15 before all others and 14 after 4.
+/// tried before 12 and, of a [`Shelf`], 15 before all others and 14 after 4. A [`BandRefusal`] shows more than its number.
 #[derive(Clone, Copy, Debug, PartialEq, Eq, PartialOrd, Ord, Hash)]
 pub struct Refusal(u64);
 
