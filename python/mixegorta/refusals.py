@@ -34,24 +34,30 @@ CAUSES: Dict[int, str] = {
 class Refused(ValueError):
     """A refusal of the engine.
 
-    number is the engine's. argument names the argument at fault. row is the row of the quote or flow at fault, or of the lent
-    discount; it is None where none of these is.
+    number is the engine's. argument names the argument at fault. row is the row of the quote or flow at fault, of the lent
+    discount, or of the pair that haircut bands fail; price is that pair's price in billionths, and place that of a bad band, counted
+    from 1. Each is None where there is no such thing.
     """
 
     number: int
     argument: Optional[str]
     row: Optional[int]
+    price: Optional[int]
+    place: Optional[int]
 
-    def __init__(self, number: int, argument: Optional[str] = None, row: Optional[int] = None) -> None:
-        super().__init__(number, argument, row)
-        self.number, self.argument, self.row = number, argument, row
+    def __init__(self, number: int, argument: Optional[str] = None, row: Optional[int] = None, price: Optional[int] = None,
+                 place: Optional[int] = None) -> None:
+        super().__init__(number, argument, row, price, place)
+        self.number, self.argument, self.row, self.price, self.place = number, argument, row, price, place
 
     def __str__(self) -> str:
-        place = ", ".join(([self.argument] if self.argument else []) + ([f"row {self.row}"] if self.row is not None else []))
-        return f"refused {self.number}: {CAUSES.get(self.number, 'not listed')}" + (f" ({place})" if place else "")
+        shown = [f"{word} {value}" for word, value in (("row", self.row), ("price", self.price), ("band", self.place)) if value is not None]
+        told = ", ".join(([self.argument] if self.argument else []) + shown)
+        return f"refused {self.number}: {CAUSES.get(self.number, 'not listed')}" + (f" ({told})" if told else "")
 
     def __repr__(self) -> str:
-        return f"{type(self).__name__}(number={self.number}, argument={self.argument!r}, row={self.row})"
+        more = "".join(f", {word}={value}" for word, value in (("price", self.price), ("place", self.place)) if value is not None)
+        return f"{type(self).__name__}(number={self.number}, argument={self.argument!r}, row={self.row}{more})"
 
 
 # ---- begin: written by tools/declarations.py

@@ -32,6 +32,11 @@ second: m.Tree = m.Tree(1, 2, 1_000, 10_000, points, version=2)
 working: int = second.working_reversion
 same_bound = same_bound and working == m.working_reversion(second.version, second.reversion)
 m.fit_into(1, 2, 1_000, 0, points, array("Q", bytes(32)), memoryview(array("Q", bytes(72))), version=2)
+table: m.Bands = m.Bands([m.Band(1, 20, 0, m.MAX_VALUE, 250), (21, 60, "0", Decimal(8), 800)])
+wrong: Optional[m.Refused] = table.verdict()
+worth: int = table.worth(20, "1.00") + m.lending_worth([1], [60], ["0"], array("Q", [m.MAX_VALUE]), [0], 1, m.ONE)
+m.check_bands([1], [60], [0], [m.MAX_VALUE], range(1))
+place: Optional[int] = wrong.place if wrong is not None else None
 words: str = f"{both.option.argument} {both.option.row}" if isinstance(both.option, m.Refused) else f"{both.option.bound}"
 
 try:
@@ -54,4 +59,8 @@ try:
     m.Tree(1, 2, 1_000, 10_000, points, version="2")  # type: ignore[arg-type]
 except TypeError:
     pass
-print(bond == same == shelved and dated == same_option and fitted and same_bound and words.startswith("expiry"))
+try:
+    m.Bands([("1", 60, 0, m.MAX_VALUE, 250)])  # type: ignore[list-item]
+except TypeError:
+    pass
+print(place is None and worth == 1_975_000_000 and bond == same == shelved and dated == same_option and fitted and same_bound and words.startswith("expiry"))

@@ -48,8 +48,20 @@ fn one_band() {
     }
     for price in [MAX_VALUE + 1, MAX_VALUE + (1 << 32), u64::MAX] {
         let (lowest_price, highest_price) = (price, price);
-        assert_eq!(refused(&[Band { lowest_price, ..ALL }]), place(1));
-        assert_eq!(refused(&[Band { highest_price, ..ALL }]), place(1));
+        assert_eq!(
+            refused(&[Band {
+                lowest_price,
+                ..ALL
+            }]),
+            place(1)
+        );
+        assert_eq!(
+            refused(&[Band {
+                highest_price,
+                ..ALL
+            }]),
+            place(1)
+        );
     }
     for haircut in [10_001, 65_536 + 250, (1 << 32) + 250, u64::MAX] {
         assert_eq!(refused(&[Band { haircut, ..ALL }]), place(1));
@@ -65,7 +77,10 @@ fn the_earlier_pair_decides() {
         highest_price,
         ..ALL
     };
-    let from = |lowest_price| Band { lowest_price, ..ALL };
+    let from = |lowest_price| Band {
+        lowest_price,
+        ..ALL
+    };
     assert_eq!(Bands::new(&[to(99), from(100)]).check(), Ok(()));
     assert_eq!(refused(&[to(100), from(100)]), pair(18, 1, 100));
     assert_eq!(refused(&[to(98), from(100)]), pair(17, 1, 99));
@@ -74,8 +89,14 @@ fn the_earlier_pair_decides() {
         last_row,
         ..ALL
     };
-    assert_eq!(refused(&[rows(1, 1), rows(1, 1), rows(3, 60)]), pair(18, 1, 0));
-    assert_eq!(refused(&[rows(1, 1), rows(3, 60), rows(3, 60)]), pair(17, 2, 0));
+    assert_eq!(
+        refused(&[rows(1, 1), rows(1, 1), rows(3, 60)]),
+        pair(18, 1, 0)
+    );
+    assert_eq!(
+        refused(&[rows(1, 1), rows(3, 60), rows(3, 60)]),
+        pair(17, 2, 0)
+    );
     let last = Band {
         highest_price: MAX_VALUE - 1,
         ..rows(60, 60)
