@@ -110,7 +110,8 @@ def told():
     """The limits, and what is easily got wrong."""
     yield columns()
     yield columns(WHOLE)
-    for field, value in ((0, 0), (0, 2), (0, 61), (1, 59), (1, 61), (1, 0), (2, 1), (2, TOP), (2, TOP + 1), (3, TOP - 1), (3, TOP + 1), (4, 0), (4, 10_000), (4, 10_001)):
+    for field, value in ((0, 0), (0, 2), (0, 61), (1, 59), (1, 61), (1, 0), (2, 1), (2, TOP), (2, TOP + 1), (3, TOP - 1), (3, TOP + 1), (4, 0),
+                         (4, 10_000), (4, 10_001)):
         yield columns(WHOLE[:field] + (value,) + WHOLE[field + 1:])
     yield columns((1, 60, 0, 99, 0), (1, 60, 100, TOP, 0))
     yield columns((1, 60, 0, 100, 0), (1, 60, 100, TOP, 0))

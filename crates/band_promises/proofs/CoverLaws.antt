@@ -91,7 +91,8 @@ bandsIn t = bandsOf (t .firstRows) (t .lastRows) (t .lowestPrices) (t .highestPr
 module _ (t : Table) (row price : ℕ) where
   holds-contains : (k : ℕ) → Holds t row price k → contains (bandsIn t) row price k ≡ true
   holds-contains k h =
-      inside (values (t .firstRows) k) (values (t .lastRows) k) (values (t .lowestPrices) k) (values (t .highestPrices) k) row price (h .from-row) (h .to-row) (h .from-price) (h .to-price)
+      inside (values (t .firstRows) k) (values (t .lastRows) k) (values (t .lowestPrices) k) (values (t .highestPrices) k) row price
+      (h .from-row) (h .to-row) (h .from-price) (h .to-price)
 
   contains-holds : (k : ℕ) → k < size t → contains (bandsIn t) row price k ≡ true → Holds t row price k
   unfolding within

@@ -48,17 +48,9 @@ struct Stop {
 }
 
 // A stop with one band more.
-fn add_band(
-    stop: Stop,
-    first: u64,
-    last: u64,
-    lowest: u64,
-    highest: u64,
-    row: u64,
-    price: u64,
-) -> Stop
+fn add_band(stop: Stop, first: u64, last: u64, low: u64, high: u64, row: u64, price: u64) -> Stop
     requires { ⌜ (stop .covering < 18446744073709551615) × (price < stop .next) × (stop .next ≤ 8000000001) ⌝ }
-    ensures { λ r. ⌜ Added first last lowest highest row price (stop .covering) (stop .next) (r .covering) (r .next) ⌝ }
+    ensures { λ r. ⌜ Added first last low high row price (stop .covering) (stop .next) (r .covering) (r .next) ⌝ }
 {
     if row < first {
         return stop;
@@ -66,22 +58,22 @@ fn add_band(
     if last < row {
         return stop;
     }
-    if price < lowest {
-        if lowest < stop.next {
-            return Stop {
-                covering: stop.covering,
-                next: lowest,
-            };
+    if price < low {
+        if stop.next <= low {
+            return stop;
         }
+        return Stop {
+            covering: stop.covering,
+            next: low,
+        };
+    }
+    if high < price {
         return stop;
     }
-    if highest < price {
-        return stop;
-    }
-    if highest < stop.next {
+    if high < stop.next {
         return Stop {
             covering: stop.covering + 1,
-            next: highest + 1,
+            next: high + 1,
         };
     }
     Stop {
