@@ -104,7 +104,7 @@ tableVerdict b haircut =
     (cond (leb (b .count) mostBands) (pairsVerdict b)
     (verdictOf 16 0 0 (mostBands + 1)))
 
--- five rows of numbers of one length
+-- five lists of one length
 unfoldable pub sameLengths : List ℕ → List ℕ → List ℕ → List ℕ → List ℕ → Bool
 sameLengths firsts lasts lowests highests haircuts =
     eqb (length lasts) (length firsts) && (eqb (length lowests) (length firsts)
