@@ -5,7 +5,7 @@
  * allocates, keeps a pointer, calls back, prints or reads global state, so any number of threads may call at once. During a call no
  * other thread may write what the call is handed, nor read what the call may write.
  *
- * Numbers. "One" is 1,000,000,000 billionths. Discounts, state prices, flows, strikes, payoffs, values and error bounds are
+ * Numbers. "One" is 1,000,000,000 billionths. Discounts, state prices, flows, strikes, payoffs, values, worths and error bounds are
  * whole billionths; probabilities are whole numbers over 600,000,000.
  *
  * Trees. Row i of a tree of n steps runs from 0 to n. Its nodes are numbered -w to w, w being the row's half width. A memory holds

@@ -1,11 +1,13 @@
 #!/usr/bin/env python3
-"""Tables of haircut bands that were worked out by hand from document 02, request (xi), against the reference; and its walk over change points against
-every pair of small tables, where the highest price is made small.
+"""Tables of haircut bands that were worked out by hand from document 02, request (xi), against the reference; its walk over change points against
+every pair of small tables, where the highest price is made small; and the tables of crates/band_figures, whose output was worked out apart.
 
     python3 reference/test_bands.py
 """
 import itertools
+import pathlib
 import random
+import struct
 import sys
 import unittest
 from unittest import mock
@@ -15,6 +17,7 @@ import bands
 from bands import ACCEPTED, HIGHEST_PRICE, ROWS, Band, lending_worth, verdict
 from reference import ONE
 
+FIGURES = pathlib.Path(__file__).resolve().parent.parent / 'crates/band_figures'
 ALL = Band(1, 60, 0, HIGHEST_PRICE, 250)
 
 
@@ -102,6 +105,29 @@ class Change(unittest.TestCase):
                 held = ((sum(bands.holds(band, *pair) for band in table), pair) for pair in itertools.product(ROWS, range(10)))
                 failing = next(((18 if count else 17, *pair, 0) for count, pair in held if count != 1), tuple(ACCEPTED))
                 self.assertEqual(tuple(verdict(*columns(*table))), failing, table)
+
+
+class Figures(unittest.TestCase):
+    def frames(self):
+        """The five lists and the pairs of each table of the program's input."""
+        rest = (FIGURES / 'stdin').read_bytes()
+        while rest:
+            size = 2 + int.from_bytes(rest[:2], 'big')
+            numbers, rest = struct.unpack('>%dQ' % (size // 8), rest[2:size]), rest[size:]
+            lengths, numbers = numbers[:6], numbers[6:]
+            cuts = list(itertools.accumulate((*lengths, lengths[5]), initial=0))
+            *lists, rows, prices = (list(numbers[start:end]) for start, end in itertools.pairwise(cuts))
+            yield lists, list(zip(rows, prices))
+
+    def lines(self):
+        for lists, pairs in self.frames():
+            yield 'table %d %d %d %d' % verdict(*lists)
+            for pair in pairs:
+                number, worth, *shown = lending_worth(*lists, *pair)
+                yield 'worth %d %d %d %d %d' % (worth, number, *shown)
+
+    def test_the_program_of_the_gate(self):
+        self.assertEqual(list(self.lines()), (FIGURES / 'stdout').read_text().splitlines())
 
 
 if __name__ == '__main__':
