@@ -116,7 +116,7 @@ class Figures(unittest.TestCase):
             numbers, rest = struct.unpack('>%dQ' % (size // 8), rest[2:size]), rest[size:]
             lengths, numbers = numbers[:6], numbers[6:]
             cuts = list(itertools.accumulate((*lengths, lengths[5]), initial=0))
-            *lists, rows, prices = (list(numbers[start:end]) for start, end in itertools.pairwise(cuts))
+            *lists, rows, prices = (list(numbers[start:end]) for start, end in zip(cuts, cuts[1:]))
             yield lists, list(zip(rows, prices))
 
     def lines(self):
