@@ -451,21 +451,21 @@ def lines(job):
     refuse_if(s > 50_000, 5)
     quotes = [quote(f, t, kind, pattern) for t, (kind, pattern) in enumerate(quoted, 1)]
     h = version_spacing(version or 1, f, s, b)
-    pull = working_reversion(version or 1, b)
-    refuse_if(half_width(pull, n - 1) * h > ONE, 8)
-    discounts, prices = fit(n, pull, h, quotes)
+    working = working_reversion(version or 1, b)
+    refuse_if(half_width(working, n - 1) * h > ONE, 8)
+    discounts, prices = fit(n, working, h, quotes)
     refuse_if(any(flow > FLOW_LIMIT for flow in flows), 10)
     option = terms and accepted_option(n, terms)
-    bond = bond_rows(n, pull, discounts, flows)[0][0]
+    bond = bond_rows(n, working, discounts, flows)[0][0]
     out = ['node %d %d %s %s' % (i, j, amount(v), percent(step_rate(v)))
            for i, row in enumerate(discounts) for j, v in sorted(row.items())]
     for t in range(1, n + 1):
         out.append('row %d %s %s %d' % (t, amount(quotes[t - 1]), amount(sum(prices[t].values())),
-                                        state_price_allowance(pull, discounts, t)))
+                                        state_price_allowance(working, discounts, t)))
     allowance = price_allowance(discounts)
     out.append('bond %s %d' % (amount(bond), allowance))
     if option:
-        price = option_value(n, pull, discounts, flows, option)
+        price = option_value(n, working, discounts, flows, option)
         out.append('option %s %d' % (amount(price), allowance))
     return out
 

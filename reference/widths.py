@@ -114,12 +114,12 @@ def fit_version(version, f, n, b, s, rows, kinds, figures, discounts, state_pric
     judged_tree(n, b)
     refuse_if(s > 50_000, 5)
     known = version in rules.VERSIONS
-    pull = rules.working_reversion(version, b) if known else b
-    quotes = quoted(f, n, rows, kinds, figures, discounts < start(pull, n) or state_prices < start(pull, n + 1))
+    working = rules.working_reversion(version, b) if known else b
+    quotes = quoted(f, n, rows, kinds, figures, discounts < start(working, n) or state_prices < start(working, n + 1))
     refuse_if(not known, 7)
     h = rules.version_spacing(version, f, s, b)
-    refuse_if(rules.half_width(pull, n - 1) * h > ONE, 8)
-    return [[row[j] for row in rows_of for j in sorted(row)] for rows_of in rules.fit(n, pull, h, quotes)]
+    refuse_if(rules.half_width(working, n - 1) * h > ONE, 8)
+    return [[row[j] for row in rows_of for j in sorted(row)] for rows_of in rules.fit(n, working, h, quotes)]
 
 
 def fit(*given):

@@ -42,14 +42,14 @@ def deviation(terms, reversion, volatility):
     return volatility * loading * math.sqrt((1 - math.exp(-2 * reversion * terms.expiry)) / (2 * reversion))
 
 
-def kept_by_a_step(pull, version):
+def kept_by_a_step(reversion, version):
     """What a step leaves of the rate's distance from its mean, for a reversion a step."""
-    return 1 - pull if version == 1 else math.exp(-pull)
+    return 1 - reversion if version == 1 else math.exp(-reversion)
 
 
-def variance_share(pull, version):
-    """A step's variance, as a part of volatility squared times the step's length."""
-    return 1.0 if version == 1 or pull == 0 else -math.expm1(-2 * pull) / (2 * pull)
+def variance_share(reversion, version):
+    """A step's variance, as a part of volatility squared times the step's length, likewise."""
+    return 1.0 if version == 1 or reversion == 0 else -math.expm1(-2 * reversion) / (2 * reversion)
 
 
 def stepped_deviation(terms, frequency, reversion, volatility, version=1):
@@ -144,8 +144,8 @@ def adjusted_difference(terms, frequency, reversion):
 
 def averaged(frequency, reversion):
     """The yearly volatility by which version 2 has that of a rate over a whole step."""
-    pull = reversion / frequency
-    return VOLATILITY * (-math.expm1(-pull) / pull if pull else 1.0)
+    a_step = reversion / frequency
+    return VOLATILITY * (-math.expm1(-a_step) / a_step if a_step else 1.0)
 
 
 def averaged_difference(terms, frequency, reversion):
@@ -189,10 +189,10 @@ def moments_table():
     """What a step keeps of the distance from the mean, and its variance: version 1, version 2 as it is stored, and the model."""
     rows, volatility = [], 20_000
     for b in (10, 100, 500, 1_000, 2_000, 6_000):
-        pull, working = b / 10_000, m.working_reversion(2, b)
+        reversion, working = b / 10_000, m.working_reversion(2, b)
         share = spacing_of(b, volatility) ** 2 / 3 / (volatility / 10 ** 6) ** 2
-        rows.append([f'{b:,}', f'{working:,}', f'{1 - pull:.4f}', f'{1 - working / 10_000:.4f}', f'{math.exp(-pull):.7f}', '1', f'{share:.7f}',
-                     f'{variance_share(pull, 2):.7f}'])
+        rows.append([f'{b:,}', f'{working:,}', f'{1 - reversion:.4f}', f'{1 - working / 10_000:.4f}', f'{math.exp(-reversion):.7f}', '1', f'{share:.7f}',
+                     f'{variance_share(reversion, 2):.7f}'])
     return common.table(['b', 'working', 'kept, version 1', 'kept, version 2', 'kept, model', 'variance, version 1', 'variance, version 2', 'variance, model'],
                         rows)
 

@@ -1,10 +1,11 @@
 """A Hull-White trinomial rate tree in whole billionths, over the proved shared object.
 
 Any whole numbers may be passed: a call gives its full answer or raises a Refused, with the engine's number, the name of the argument
-and, where a quote or flow is at fault, its row; of haircut bands, with the place of a bad band or the row and price that fail. A number beyond the bits of its parameter, 8 for a quote kind or an exercise date and 64
-for any other, raises OverflowError.
+and, where a quote or flow is at fault, its row; of haircut bands, with the place of a bad band or the row and price that fail. A number
+beyond the bits of its parameter, 8 for a quote kind or an exercise date and 64 for any other, raises OverflowError.
 
-Tree is one fitted tree with memories of its own, Shelf up to eight trees in one memory, and Bands a table of haircuts.
+Tree is one fitted tree with memories of its own, Shelf up to eight trees in one memory, and Bands a table of haircuts. Tree takes
+version=2 for the model's own mean and variance of a step.
 
 Amounts are whole billionths: ONE is 1,000,000,000. Where they are asked for, a Decimal or a str such as "1.01" will do too and is
 converted by billionths(), which is exact or says so; a float is a TypeError. The figures of quotes are floats.

@@ -162,15 +162,17 @@ def lending_worth(*given):
     return [worth, *shown(refused)]
 
 
-CALLS = {"check_bands": check_bands, "lending_worth": lending_worth, "quote_discount": quote_discount, "curve_discounts": curve_discounts, "fit": fit, "fit_version": fit_version, "row_range": row_range,
+LISTS_OF_QUOTES = "curve_discounts", "fit", "fit_version", "shelf_commit"
+CALLS = {"check_bands": check_bands, "lending_worth": lending_worth,
+         "quote_discount": quote_discount, "curve_discounts": curve_discounts, "fit": fit, "fit_version": fit_version, "row_range": row_range,
          "tree_bounds": tree_bounds, "bond_and_option": both(m.bond_and_option), "bond_and_dated_option": both(m.bond_and_dated_option),
          "shelf_part": shelf_part, "shelf_ask": shelf_ask, "shelf_commit": shelf_commit, "shelf_release": shelf_release}
 for name in ("bond_price", "option_price", "dated_option_price"):
     CALLS["shelf_" + name] = shelf_price(name)
 for name in ("bond_and_option", "bond_and_dated_option"):
     CALLS["shelf_" + name] = shelf_both(name)
-for name in ("half_width", "node_count", "row_start", "discounts_needed", "state_prices_needed", "branches", "working_reversion", "step_rate", "continuous_rate",
-             "state_price_error_bound", "price_error_bound", "bond_price", "option_price", "dated_option_price", "value_by_state_prices",
+for name in ("half_width", "node_count", "row_start", "discounts_needed", "state_prices_needed", "branches", "working_reversion", "step_rate",
+             "continuous_rate", "state_price_error_bound", "price_error_bound", "bond_price", "option_price", "dated_option_price", "value_by_state_prices",
              "valuation_error_bound"):
     CALLS[name] = numbered(getattr(m, name))
 
@@ -209,7 +211,7 @@ class Test(unittest.TestCase):
             for place, word in enumerate(words):
                 given = [argument(each) for each in words]
                 if word.startswith("@") or name == "quote_discount" and place == 3 or isinstance(given[place], list) and (
-                        name in ("curve_discounts", "fit", "fit_version", "shelf_commit") or name.startswith("shelf_") and place < 2):
+                        name in LISTS_OF_QUOTES or name.startswith("shelf_") and place < 2):
                     continue
                 wide = given[place] + 2**64 if isinstance(given[place], int) else [given[place][0] + 2**64, *given[place][1:]]
                 with self.subTest(name=name, place=place), self.assertRaises(OverflowError):

@@ -32,7 +32,7 @@ use Rattle.fit_laws.specs.StatePrices.{acceptedRow}
 use Rattle.fitting.specs.Fit.{curveAccepted}
 use Rattle.fitting.specs.Entry.{quotesOf, earlyCause, lateCause, fittedNumber, fitNumber, fitDiscount, versionNumber}
 use Rattle.fitting.proofs.VersionLaws.{first-number}
-use Rattle.pricing.specs.Prices.{firstCause}
+use Rattle.price_laws.specs.Prices.{firstCause}
 use Rattle.promises.specs.Causes.{Cause, cause, firstOf, treeCauses, isKind, kindDiscount, quoteInRange, quotesPlaced, quotesConverted, everyNode}
 use Rattle.promises.proofs.CauseTables.{not-leb, seven, first-append, number-of}
 

@@ -23,7 +23,7 @@ use Rattle.reversion.specs.Reversion.{isVersion, workingReversion}
 use Rattle.reversion.proofs.ReversionLaws.{working-limit}
 use Rattle.spacing.specs.Spacing.{versionSpacing}
 use Rattle.fitting.specs.Entry.{versionNumber, fitDiscount}
-use Rattle.pricing.specs.Prices.{firstCause}
+use Rattle.price_laws.specs.Prices.{firstCause}
 use Rattle.job_record.specs.declared.Job.{Job}
 use Rattle.job_record.specs.Form.{wellFormed}
 use Rattle.job_record.specs.Reader.{readingOf, jobOf, acceptedReading, malformed}
