@@ -4,7 +4,8 @@
     tools/promises.py
 
 Every file, name and edit that docs/PROMISES.md names is there, and every public function is named. A name stands for what its block, a row of a table or
-a paragraph, named before it: a function of the crate, or a definition, theorem or field of the file. The first error of an edit, in the logs that
+a paragraph, named before it: a function of the crate, or a definition, theorem or field of the file. The table of fields and wrong edits has every field of
+the joint statement with an edit, and every edit of the statement's crates. The first error of an edit, in the logs that
 `rt must-fail` and `rt ci` leave in target/must-fail, is none that a true edit could give too. Exit status 1 where anything is wrong.
 """
 import pathlib
@@ -17,6 +18,10 @@ FUNCTION = re.compile(r'^\s*pub (?:extern "C" )?fn (\w+)', re.M)
 PATH = re.compile(r'[\w.-]+(/[\w.-]+)+')
 CALL = re.compile(r'(\w+)::(\w+\*?)')
 NAME = re.compile(r'[^\W\d][\w-]*')
+# The joint statement: its record, the crates that state it, and the columns of the table of its fields. A record of specs/, with its fields.
+STATEMENT, STATED, COLUMNS = 'AllPromises', ('promises', 'sheet_promises'), '| Record | Field | Line | Wrong edit |'
+RECORD = re.compile(r'^pub record (\w+).*\n((?:(?:  .*)?\n)*)', re.M)
+FIELD = re.compile(r'^  pub ([\w-]+) :(.*)', re.M)
 # Words of the language that a contract is written in.
 WORDS = {'requires', 'ensures'}
 # What the first error of a wrong edit must not be about: these say that a proof does not fit, not that a fact is false. The first are words of an error's
@@ -116,6 +121,29 @@ def faults_of_text(text, tree):
     return faults + [f'docs/PROMISES.md does not name {crate}::{name}' for crate, name in sorted(public - named)]
 
 
+def fields_of(records, name):
+    """The fields of a record, each with the record in which it stands; a field that is a record itself, all of it, stands for that one's fields."""
+    for field, stated in records.get(name, ()):
+        if stated.strip() in records:
+            yield from fields_of(records, stated.strip())
+        else:
+            yield name, field
+
+
+def faults_of_fields(text, root):
+    """What is wrong of the table of fields and wrong edits."""
+    specs = [path for crate in STATED for path in sorted((root / 'crates' / crate / 'specs').glob('*.antt'))]
+    records = {name: FIELD.findall(body) for path in specs for name, body in RECORD.findall(path.read_text(encoding='utf-8'))}
+    rows = [re.findall(TOKEN, row) for row in text.partition(COLUMNS)[2].partition('\n\n')[0].splitlines()[2:]]
+    there, named = set(fields_of(records, STATEMENT)), {tuple(row[:2]) for row in rows}
+    faults = [f'no wrong edit of {record} {field}' for record, field in sorted(there - named)]
+    faults += [f'{" ".join(each)} is no field of the statement' for each in sorted(named - there)]
+    faults += [f'no wrong edit in the row of {" ".join(row[:2])}' for row in rows if '/must-fail/' not in row[-1]]
+    edits = {f'{crate}/must-fail/{path.stem}' for crate in STATED for path in (root / 'crates' / crate / 'must-fail').glob('*.edit')}
+    faults += [f'{edit} tries no field' for edit in sorted(edits - {row[-1] for row in rows})]
+    return [f'docs/PROMISES.md, fields and wrong edits: {fault}' for fault in faults]
+
+
 def first_error(log):
     """The first error that the prover told of an edit, or its first notes where it told none; empty where there are neither."""
     found = ERROR.search(log) or NOTES.search(log)
@@ -142,8 +170,8 @@ def logs(root):
 
 
 def main():
-    tree = Tree(ROOT)
-    faults = faults_of_text((ROOT / 'docs/PROMISES.md').read_text(encoding='utf-8'), tree)
+    tree, text = Tree(ROOT), (ROOT / 'docs/PROMISES.md').read_text(encoding='utf-8')
+    faults = faults_of_text(text, tree) + faults_of_fields(text, ROOT)
     read = dict(logs(ROOT))
     for edit, log in read.items():
         faults += faults_of_log(edit, log)

@@ -1,8 +1,10 @@
 #!/usr/bin/env python3
-"""Tests of tools/promises.py, tools/stack.py and reference/widths.py: what is wrong is found, and what is right is let through.
+"""Tests of tools/promises.py, tools/trials, tools/stack.py and reference/widths.py: what is wrong is found, and what is right is let through.
 
     python3 tools/test_checks.py
 """
+import importlib.machinery
+import importlib.util
 import pathlib
 import sys
 import tempfile
@@ -14,6 +16,10 @@ sys.dont_write_bytecode = True
 import promises
 import stack
 import widths
+
+loader = importlib.machinery.SourceFileLoader('trials', str(ROOT / 'tools/trials'))
+trials = importlib.util.module_from_spec(importlib.util.spec_from_loader('trials', loader))
+loader.exec_module(trials)
 
 SOURCE = '''ghost use lib.IntN.{
   natAbs,
@@ -53,6 +59,45 @@ FALSE_FACT = '''note: no function with a body is declared, so nothing was lowere
   but this has type `a ≤ b`
 /proofs/Laws.antt:70:5: error: `value-short`: `rw`: no occurrence of the path's left endpoint in the goal
 logic=not-proved
+'''
+STATEMENT = {
+    'crates/promises/specs/Promises.antt': '''pub record Rows (i : ℕ) : Type 0 where
+  pub first : i ≡ i
+
+pub record TreePromises : Type 0 where
+  -- the rows
+  pub tree-rows : (i : ℕ) → Rows i
+  pub tree-sound : (i : ℕ) →
+      i ≤ i
+
+pub record Promises : Type 0 where
+  pub tree : TreePromises
+''',
+    'crates/sheet_promises/specs/SheetPromises.antt': 'pub record AllPromises : Type 0 where\n  pub engine : Promises\n  pub sheets : ℕ\n',
+    'crates/promises/must-fail/one_row.edit': '',
+    'crates/promises/must-fail/no_row.edit': '',
+    'crates/sheet_promises/must-fail/no_sheet.edit': '',
+}
+FIELDS = '''| Record | Field | Line | Wrong edit |
+|---|---|---|---|
+| `TreePromises` | `tree-rows` | `first` | `promises/must-fail/one_row` |
+| `TreePromises` | `tree-rows` | | `promises/must-fail/no_row` |
+| `TreePromises` | `tree-sound` | | `lattice/must-fail/one_less` |
+| `AllPromises` | `sheets` | | `sheet_promises/must-fail/no_sheet` |
+
+| Entry | Numbers |
+|---|---|
+| `fit` | 9 |
+'''
+TRIAL = 'A tree.\nRefused: crates/promises/proofs/Kept.antt tree-kept\n\n--- a/crates/lattice/specs/Shape.antt\n'
+CRATES = 'lattice:\nfitting: lattice\npromises: lattice fitting io\nsheet: promises\n'
+TOLD = '''rt: lattice proved (14 s)
+fn fitting::state_price_error_bound: proved
+rt: fitting proved (unchanged since it was last proved)
+/t/tree/crates/promises/proofs/Kept.antt:25:113: error: `tree-kept`: the two types differ
+/t/tree/crates/promises/proofs/All.antt:4:1: error: `all-kept`: `tree-kept` was not admitted (it has holes)
+rt: promises NOT PROVED (exit 1, 6 s)
+rt: FAILED: promises
 '''
 SEARCHED = '''fn capi::mixegorta_fit: proved
 note: /src/lib.rt:85:1: it is not proved that what the function ensures holds when it returns (`returns`)
@@ -101,6 +146,23 @@ class Promises(unittest.TestCase):
         self.assertEqual(self.faults(('; `node_count`', '')), ['docs/PROMISES.md does not name lattice::node_count'])
         self.assertEqual(self.faults(('`lattice::mixegorta_*`', 'none')), ['docs/PROMISES.md does not name lattice::mixegorta_rows'])
 
+    def test_fields_and_wrong_edits(self):
+        for name, content in STATEMENT.items():
+            (self.root / name).parent.mkdir(parents=True, exist_ok=True)
+            (self.root / name).write_text(content, encoding='utf-8')
+        self.assertEqual(promises.faults_of_fields(FIELDS, self.root), [])
+        sound = '| `TreePromises` | `tree-sound` | | `lattice/must-fail/one_less` |\n'
+        for text, faults in (
+                (FIELDS.replace(sound, ''), ['no wrong edit of TreePromises tree-sound']),
+                (FIELDS.replace('`tree-sound`', '`tree-rows`'), ['no wrong edit of TreePromises tree-sound']),
+                (FIELDS.replace(sound, sound + sound.replace('sound', 'round')), ['TreePromises tree-round is no field of the statement']),
+                (FIELDS.replace('`lattice/must-fail/one_less`', ''), ['no wrong edit in the row of TreePromises tree-sound']),
+                (FIELDS.replace('promises/must-fail/no_row', 'promises/must-fail/one_row'), ['promises/must-fail/no_row tries no field']),
+                ('', ['no wrong edit of AllPromises sheets', 'no wrong edit of TreePromises tree-rows', 'no wrong edit of TreePromises tree-sound',
+                      'promises/must-fail/no_row tries no field', 'promises/must-fail/one_row tries no field', 'sheet_promises/must-fail/no_sheet tries no field'])):
+            with self.subTest(faults=faults):
+                self.assertEqual(promises.faults_of_fields(text, self.root), [f'docs/PROMISES.md, fields and wrong edits: {each}' for each in faults])
+
     def test_first_errors(self):
         self.assertEqual(promises.faults_of_log('a/b', FALSE_FACT), [])
         self.assertEqual(promises.faults_of_log('a/b', FALSE_FACT.replace('but this has type', '`out` is not in scope here:')), [])
@@ -119,6 +181,33 @@ class Promises(unittest.TestCase):
             folder.mkdir(parents=True)
             (folder / '.log').write_text(SEARCHED, encoding='utf-8')
         self.assertEqual(list(promises.logs(self.root)), [('lattice/one_less', SEARCHED)])
+
+
+class Trials(unittest.TestCase):
+    def test_a_refusal_at_its_place(self):
+        self.assertIsNone(trials.fault(TRIAL, CRATES, TOLD, '/t/tree'))
+
+    def test_crates_below(self):
+        self.assertEqual(trials.below(CRATES, 'sheet'), {'lattice', 'fitting', 'promises'})
+
+    def test_what_is_no_refusal(self):
+        place = 'crates/promises/proofs/Kept.antt tree-kept'
+        for patch, told, fault in (
+                (TRIAL.replace('Refused', 'refused'), TOLD, 'the patch names no place: Refused: FILE PROOF'),
+                (TRIAL, TOLD.replace('rt: lattice proved', 'rt: lattice NOT PROVED'), 'not proved below promises: lattice'),
+                (TRIAL, TOLD.replace('rt: fitting proved', 'rt: fit proved'), 'not proved below promises: fitting'),
+                (TRIAL, TOLD.replace('rt: promises NOT PROVED', 'rt: promises proved'), 'promises is not refused'),
+                (TRIAL.replace('tree-kept', 'led-as'), TOLD, f'refused at {place}, not at crates/promises/proofs/Kept.antt led-as alone'),
+                (TRIAL, TOLD.replace('was not admitted', 'differs'), f'refused at crates/promises/proofs/All.antt all-kept, {place}, not at {place} alone'),
+                (TRIAL, TOLD.replace(': error', ': note'), f'refused at no place, not at {place} alone')):
+            with self.subTest(fault=fault):
+                self.assertEqual(trials.fault(patch, CRATES, told, '/t/tree'), fault)
+
+    def test_patches_name_their_place(self):
+        for path in sorted((ROOT / 'trials').iterdir()):
+            with self.subTest(path=path.name):
+                file, proof = trials.REFUSED.search(path.read_text(encoding='utf-8')).groups()
+                self.assertRegex((ROOT / file).read_text(encoding='utf-8'), rf'(?m)^\s*(pub )?{proof} :')
 
 
 class Stack(unittest.TestCase):
