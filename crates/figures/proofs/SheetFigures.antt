@@ -36,8 +36,8 @@ use Rattle.pricing_laws.specs.TreePricer.{nodeRoll, roll, greatestDiscount}
 use Rattle.pricing_laws.specs.Peak.{peakFrom, peak, greatestValue}
 use Rattle.price_bound.specs.PriceBound.{treeErrorBound}
 use Rattle.price_causes.specs.Causes.{flowsCause, optionCause}
-use Rattle.pricing.specs.declared.Price.{Price}
-use Rattle.pricing.specs.Prices.{flowAt, treeCause, firstCause, priced, bondValue, bondPeak, bondPrice, optionPrice}
+use Rattle.price_laws.specs.declared.Price.{Price}
+use Rattle.price_laws.specs.Prices.{flowAt, treeCause, firstCause, priced, bondValue, bondPeak, bondPrice, optionPrice}
 use Rattle.job_record.specs.declared.OptionRecord.{OptionRecord}
 use Rattle.job_record.specs.declared.Job.{Job}
 use Rattle.job_record.specs.declared.Reading.{Reading}

@@ -12,10 +12,10 @@ use Rattle.arithmetic.proofs.CauseLaws.{lowest-none}
 use Rattle.arithmetic.proofs.Numbers.{by-equal, by-test}
 use Rattle.limits.specs.Limits.{mostDiscounts, mostStatePrices}
 use Rattle.limits.proofs.LimitLaws.{limit-kept, limit-accepted}
-use Rattle.pricing.proofs.Accuracy.{first-none}
+use Rattle.price_laws.proofs.Accuracy.{first-none}
 use Rattle.pricing_laws.specs.Pricer.{Side, Schedule}
-use Rattle.pricing.specs.declared.Price.{Price}
-use Rattle.pricing.specs.Prices.{firstCause, bondPeak, optionLimit, priced, scheduledPrice, bondPrice, optionPrice, datedPrice}
+use Rattle.price_laws.specs.declared.Price.{Price}
+use Rattle.price_laws.specs.Prices.{firstCause, bondPeak, optionLimit, priced, scheduledPrice, bondPrice, optionPrice, datedPrice}
 use Rattle.job_record.specs.declared.Job.{Job}
 use Rattle.job_record.specs.declared.OptionRecord.{OptionRecord}
 use Rattle.job_record.specs.Reader.{readingOf}

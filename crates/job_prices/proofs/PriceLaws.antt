@@ -20,9 +20,9 @@ use Rattle.lattice.specs.Entries.{discountsNeededAnswer, statePricesNeededAnswe
 use Rattle.lattice.proofs.TreeEntries.{tree-value}
 use Rattle.fitting.proofs.CauseLaws.{memory-none}
 use Rattle.fitting.proofs.FittedTree.{fit-placed}
-use Rattle.pricing.specs.declared.Price.{Price}
-use Rattle.pricing.specs.declared.BondAndOption.{BondAndOption}
-use Rattle.pricing.specs.Prices.{refusedPrice, firstCause, bondPrice, optionPrice, datedPrice}
+use Rattle.price_laws.specs.declared.Price.{Price}
+use Rattle.price_laws.specs.declared.BondAndOption.{BondAndOption}
+use Rattle.price_laws.specs.Prices.{refusedPrice, firstCause, bondPrice, optionPrice, datedPrice}
 use Rattle.job_record.specs.declared.OptionRecord.{OptionRecord}
 use Rattle.job_record.specs.declared.Job.{Job}
 use Rattle.job_record.specs.declared.Reading.{Reading}

@@ -17,7 +17,7 @@ ghost use Rattle.job_prices.specs.JobPrices.{
   bytesPrices,
 };
 use job_record::Job;
-use pricing::Price;
+use price_laws::Price;
 
 // Number 0 with the bond and, where the job has one, the option; a refusal's number with zeros.
 pub struct JobPrices {

@@ -2,12 +2,12 @@
 ghost use mathlib.Core.Path.{_≡_};
 ghost use Prim.Native.Nat.{_≤_};
 ghost use Rattle.job_record.specs.Form.{mostDates};
-ghost use Rattle.pricing.specs.Prices.{bondPrice};
+ghost use Rattle.price_laws.specs.Prices.{bondPrice};
 ghost use Rattle.job_prices.specs.JobPrices.{refusedPrices, pricesOf, optionForm, taggedOption, treePrices};
 use crate::JobPrices;
 use job_record::OptionRecord;
-use pricing::BondAndOption;
-use pricing::Price;
+use price_laws::BondAndOption;
+use price_laws::Price;
 
 fn no_price() -> Price
     ensures { λ r. ⌜ r ≡ record { number = 0; value = 0; bound = 0 } ⌝ }

@@ -5,6 +5,3 @@ pub mod StepParts
 pub mod WalkStates
 pub mod WalkTurns
 pub mod EntryLaws
-pub mod Accuracy
-pub mod OptionLaws
-pub mod RightsLaws

@@ -25,7 +25,7 @@ use Rattle.pricing_laws.specs.Pricer.{Side, exercise, heldOrExercised}
 use Rattle.pricing_laws.specs.TreePricer.{rollRounding, nodeRoll, roll}
 use Rattle.price_bound.proofs.BoundLaws.{discount-within}
 use Rattle.price_causes.specs.Causes.{AcceptedFlows}
-use Rattle.pricing.specs.Prices.{flowAt}
+use Rattle.price_laws.specs.Prices.{flowAt}
 use Rattle.pricing.specs.Rows.{branchRoll, rolledRow, bondValues, optionValues, Rollable, FilledRow, FilledRows}
 use Rattle.pricing.specs.Trees.{downTable, rolledAt, bondStep, optionStep}
 

@@ -23,7 +23,7 @@ use Rattle.pricing_laws.proofs.Peaks.{peak-grows}
 use Rattle.pricing_laws.proofs.PriceLaws.{On, row-greatest, roll-local}
 use Rattle.pricing_laws.proofs.Backward as back
 use Rattle.pricing.specs.declared.walk.Rolled.{Rolled}
-use Rattle.pricing.specs.Prices.{flowAt, bondValue, bondPeak, optionValue, optionPeak, optionLimit}
+use Rattle.price_laws.specs.Prices.{flowAt, bondValue, bondPeak, optionValue, optionPeak, optionLimit}
 use Rattle.pricing.specs.Rows.{Limited, Holds, FilledRows}
 use Rattle.pricing.specs.Trees.{rolledAt, bondStep, optionStep, BondRolled, BothRolled}
 use Rattle.lent_tree.specs.LentTree.{stored, Accepted}

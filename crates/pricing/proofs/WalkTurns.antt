@@ -15,7 +15,7 @@ use Rattle.pricing_laws.specs.Schedule.{marked}
 use Rattle.exercise.specs.declared.Terms.{Terms}
 use Rattle.exercise.specs.Terms.{side}
 use Rattle.pricing.specs.declared.walk.OptionStep.{OptionStep}
-use Rattle.pricing.specs.Prices.{flowAt}
+use Rattle.price_laws.specs.Prices.{flowAt}
 use Rattle.pricing.specs.Rows.{Limited, Holds, FilledRow, FilledRows}
 use Rattle.pricing.specs.Trees.{Ready, Steppable, Exercisable, optionStepAt, bondStep, optionStep, BondRolled, BothRolled}
 use Rattle.pricing.proofs.TreeRows.{flow-within}

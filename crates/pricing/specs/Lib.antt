@@ -1,4 +1,2 @@
-pub mod Prices
-pub mod Exact
 pub mod Rows
 pub mod Trees

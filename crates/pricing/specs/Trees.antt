@@ -1,14 +1,13 @@
 -- What the code holds of a tree that was accepted.
 -- Assumes nothing.
 use mathlib.Core.Path.{_≡_}
-use mathlib.Core.Bool.{Bool, cond}
+use mathlib.Core.Bool.{Bool}
 use mathlib.Core.List.{List}
 use Prim.Native.Nat.{ℕ, _+_, _≤_, _<_}
 use lib.Dec.{eqb}
 use lib.ListN.{length}
 use Rattle.arithmetic.specs.Row.{row, values}
 use Rattle.arithmetic.specs.declared.Answer.{Answer}
-use Rattle.arithmetic.specs.Answers.{refused, answered}
 use Rattle.limits.specs.Limits.{limitCause}
 use Rattle.lattice.specs.Shape.{nodeCount}
 use Rattle.lattice.specs.Branching.{downProbability}
@@ -23,18 +22,17 @@ use Rattle.price_bound.specs.PriceBound.{treeErrorBound}
 use Rattle.price_causes.specs.Causes.{mostFlow, mostStrike, AcceptedFlows}
 use Rattle.pricing.specs.declared.walk.OptionStep.{OptionStep}
 use Rattle.pricing.specs.declared.walk.Rolled.{Rolled}
-use Rattle.pricing.specs.declared.BondAndOption.{BondAndOption}
-use Rattle.pricing.specs.Prices.{flowAt, treeCause, bondValue, bondPrice, optionValue, optionLimit, scheduledPrice}
+use Rattle.price_laws.specs.Prices.{flowAt, treeCause, bondValue, optionValue, optionLimit}
 use Rattle.pricing.specs.Rows.{Holds}
 
 -- the down-probabilities of all nodes of row n
 unfoldable pub downTable : ℕ → ℕ → List ℕ
 downTable n b = row (nodeCount b n) (λ k. downProbability b (node b n k))
 
--- the error bound of a tree and its flows, or the first cause about them
-unfoldable pub treeBound : ℕ → ℕ → List ℕ → List ℕ → Answer
-treeBound n b discounts flows =
-    cond (eqb (treeCause n b discounts flows) 0) (answered (treeErrorBound n b discounts)) (refused (treeCause n b discounts flows))
+-- the first cause about a tree and its flows, and the error bound where there is none
+pub record TreeBounded (n b : ℕ) (discounts flows : List ℕ) (found : Answer) : Type 0 where
+  pub cause-is : found .number ≡ treeCause n b discounts flows
+  pub bound-is : treeCause n b discounts flows ≡ 0 → found .value ≡ treeErrorBound n b discounts
 
 -- an accepted tree with its flows and its table of down-probabilities
 pub record Ready (n b : ℕ) (downs discounts flows : List ℕ) : Type 0 where
@@ -73,11 +71,6 @@ pub record ExercisedOn (terms : Terms) (n : ℕ) (dates : List ℕ) : Type 0 whe
   pub last-listed : terms .last ≡ lastDate dates
   pub before-end : lastDate dates < n
   pub strike-within : terms .strike ≤ mostStrike
-
--- bond and option as they are answered, where the option itself has this cause
-pub record BothPriced (n b : ℕ) (discounts flows : List ℕ) (side : Side) (strike : ℕ) (rows : Schedule) (cause : ℕ) (r : BondAndOption) : Type 0 where
-  pub bond-is : r .bond ≡ bondPrice n b discounts flows
-  pub option-is : r .option ≡ scheduledPrice n b discounts flows side strike rows cause
 
 -- a row rolled back from the values of the next one
 unfoldable pub rolledAt : ℕ → List ℕ → ℕ → List ℕ → ℕ → ℕ

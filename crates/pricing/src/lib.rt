@@ -6,6 +6,9 @@ mod walk;
 use crate::walk::Tree;
 use arithmetic::Answer;
 use exercise::Terms;
+use price_laws::BondAndOption;
+use price_laws::BondAndOptionValues;
+use price_laws::Price;
 ghost use mathlib.Core.Path.{_≡_};
 ghost use Prim.Native.Nat.{_≤_};
 ghost use lib.ListN.{take};
@@ -15,7 +18,7 @@ ghost use Rattle.pricing_laws.specs.Schedule.{marked, datedSchedule};
 ghost use Rattle.exercise.specs.Terms.{side};
 ghost use Rattle.lent_tree.specs.LentTree.{Accepted};
 ghost use Rattle.price_causes.specs.Causes.{AcceptedFlows};
-ghost use Rattle.pricing.specs.Prices.{
+ghost use Rattle.price_laws.specs.Prices.{
   refusedPrice,
   acceptedBond,
   acceptedOption,
@@ -27,30 +30,11 @@ ghost use Rattle.pricing.specs.Prices.{
   treeCause,
   scheduledPrice,
   valueAlone,
+  withBound,
   bothValues,
+  bothWith,
 };
-ghost use Rattle.pricing.specs.Trees.{downTable, treeBound, Exercisable, ExercisedOn, BothPriced};
-
-// A price in billionths with its error bound; a refusal's number with zeros.
-#[repr(C)]
-pub struct Price {
-    pub number: u64,
-    pub value: u64,
-    pub bound: u64,
-}
-
-// A bond and an option on it.
-#[repr(C)]
-pub struct BondAndOption {
-    pub bond: Price,
-    pub option: Price,
-}
-
-// The same without their error bounds.
-pub struct BondAndOptionValues {
-    pub bond: Answer,
-    pub option: Answer,
-}
+ghost use Rattle.pricing.specs.Trees.{downTable, TreeBounded, Exercisable, ExercisedOn};
 
 fn refused(number: u64) -> Price
     ensures { λ r. ⌜ r ≡ refusedPrice number ⌝ }
@@ -75,27 +59,14 @@ fn table_of(steps: usize, reversion: u64) -> [u64; 121]
 }
 
 // The bond of an accepted tree, with the error bound that is handed in.
-fn accepted_bond(
-    steps: usize,
-    reversion: u64,
-    discounts: &[u64],
-    flows: &[u64],
-    bound: u64,
-) -> Price
-    requires { ⌜ Accepted steps reversion (now discounts) × AcceptedFlows steps (now flows) ⌝ }
-    ensures { λ r. ⌜ r ≡ acceptedBond steps reversion (now (discounts .entry)) (now (flows .entry)) bound ⌝ }
+fn accepted_bond(tree: Tree, discounts: &[u64], flows: &[u64], bound: u64) -> Price
+    requires { ⌜ Accepted (tree .steps) (tree .reversion) (now discounts) × AcceptedFlows (tree .steps) (now flows) ⌝ }
+    ensures { λ r. ⌜ r ≡ acceptedBond (tree .steps) (tree .reversion) (now (discounts .entry)) (now (flows .entry)) bound ⌝ }
 {
-    let nodes = lattice::node_count(reversion, steps).value as usize;
-    let table = table_of(steps, reversion);
+    let nodes = lattice::node_count(tree.reversion, tree.steps).value as usize;
+    let table = table_of(tree.steps, tree.reversion);
     let mut bond = rows::empty_row();
-    let number = walk::roll_bond(
-        Tree { steps, reversion },
-        0,
-        &table[..nodes],
-        discounts,
-        flows,
-        &mut bond,
-    );
+    let number = walk::roll_bond(tree, 0, &table[..nodes], discounts, flows, &mut bond);
     if number != 0 {
         return refused(number);
     }
@@ -108,26 +79,25 @@ fn accepted_bond(
 
 // Bond and option of an accepted tree, rolled together. Where a value of either is above the limit, the bond is priced alone.
 fn accepted_both(
-    steps: usize,
-    reversion: u64,
+    tree: Tree,
     discounts: &[u64],
     flows: &[u64],
     terms: Terms,
     marks: &[u8],
     bound: u64,
 ) -> BondAndOption
-    requires { ⌜ Accepted steps reversion (now discounts) × AcceptedFlows steps (now flows) × Exercisable terms steps (now marks) ⌝ }
-    ensures bond { λ r. ⌜ r .bond ≡ acceptedBond steps reversion (now (discounts .entry)) (now (flows .entry)) bound ⌝ }
-    ensures option { λ r. ⌜ r .option ≡ acceptedOption steps reversion (now (discounts .entry)) (now (flows .entry)) (side (terms .call)) (terms .strike)
-        (marked (terms .last) (now (marks .entry))) bound ⌝ }
+    requires { ⌜ Accepted (tree .steps) (tree .reversion) (now discounts) × AcceptedFlows (tree .steps) (now flows)
+        × Exercisable terms (tree .steps) (now marks) ⌝ }
+    ensures bond { λ r. ⌜ r .bond ≡ acceptedBond (tree .steps) (tree .reversion) (now (discounts .entry)) (now (flows .entry)) bound ⌝ }
+    ensures option { λ r. ⌜ r .option ≡ acceptedOption (tree .steps) (tree .reversion) (now (discounts .entry)) (now (flows .entry)) (side (terms .call))
+        (terms .strike) (marked (terms .last) (now (marks .entry))) bound ⌝ }
 {
-    let nodes = lattice::node_count(reversion, steps).value as usize;
-    let table = table_of(steps, reversion);
-    let tree = Tree { steps, reversion };
+    let nodes = lattice::node_count(tree.reversion, tree.steps).value as usize;
+    let table = table_of(tree.steps, tree.reversion);
     let rolled = walk::roll_both(tree, terms, marks, &table[..nodes], discounts, flows);
     if rolled.number != 0 {
         return BondAndOption {
-            bond: accepted_bond(steps, reversion, discounts, flows, bound),
+            bond: accepted_bond(tree, discounts, flows, bound),
             option: refused(rolled.number),
         };
     }
@@ -145,47 +115,57 @@ fn accepted_both(
     }
 }
 
-// The error bound of a tree and its flows, or the first cause about them.
+// ---- the first cause about a tree and its flows, with the tree's error bound, or with 0 for a caller who knows it
+
 fn tree_bound(steps: usize, reversion: u64, discounts: &[u64], flows: &[u64]) -> Answer
-    ensures { λ r. ⌜ r ≡ treeBound steps reversion (now (discounts .entry)) (now (flows .entry)) ⌝ }
+    ensures { λ r. ⌜ TreeBounded steps reversion (now (discounts .entry)) (now (flows .entry)) r ⌝ }
 {
     let bound = price_bound::price_error_bound(steps, reversion, discounts);
-    let cause = arithmetic::lowest_cause(bound.number, price_causes::flows_cause(steps, flows));
-    if cause != 0 {
-        return Answer {
-            number: cause,
-            value: 0,
-        };
+    Answer {
+        number: arithmetic::lowest_cause(bound.number, price_causes::flows_cause(steps, flows)),
+        value: bound.value,
     }
-    bound
 }
 
-// The price at row 0 of the bond with these flows, and its error bound.
-pub fn bond_price(steps: usize, reversion: u64, discounts: &[u64], flows: &[u64]) -> Price
-    ensures { λ r. ⌜ r ≡ bondPrice steps reversion (now (discounts .entry)) (now (flows .entry)) ⌝ }
+fn tree_cause(steps: usize, reversion: u64, discounts: &[u64], flows: &[u64]) -> Answer
+    ensures { λ r. ⌜ r .number ≡ treeCause steps reversion (now (discounts .entry)) (now (flows .entry)) ⌝ }
 {
-    let bound = tree_bound(steps, reversion, discounts, flows);
+    let about_tree = lent_tree::discounts_cause(steps, reversion, discounts);
+    Answer {
+        number: arithmetic::lowest_cause(about_tree, price_causes::flows_cause(steps, flows)),
+        value: 0,
+    }
+}
+
+// ---- prices with an error bound that is handed in with the cause about the tree
+
+fn judged_bond(tree: Tree, discounts: &[u64], flows: &[u64], bound: Answer) -> Price
+    requires { ⌜ bound .number ≡ treeCause (tree .steps) (tree .reversion) (now discounts) (now flows) ⌝ }
+    ensures { λ r. ⌜ r ≡ withBound (valueAlone (bondPrice (tree .steps) (tree .reversion) (now (discounts .entry)) (now (flows .entry)))) (bound .value) ⌝ }
+{
     if bound.number != 0 {
         return refused(bound.number);
     }
-    accepted_bond(steps, reversion, discounts, flows, bound.value)
+    accepted_bond(tree, discounts, flows, bound.value)
 }
 
 // Bond and option on these dates, where the option itself has a cause or none: a cause about the tree comes first.
-fn both_prices(
-    steps: usize,
-    reversion: u64,
+fn judged_both(
+    tree: Tree,
     discounts: &[u64],
     flows: &[u64],
+    bound: Answer,
     cause: u64,
     terms: Terms,
     dates: &[u8],
 ) -> BondAndOption
-    requires { ⌜ (cause ≡ 0 → steps ≤ mostSteps → ExercisedOn terms steps (now dates)) ⌝ }
-    ensures { λ r. ⌜ BothPriced steps reversion (now (discounts .entry)) (now (flows .entry)) (side (terms .call)) (terms .strike)
-        (datedSchedule (now (dates .entry))) cause r ⌝ }
+    requires { ⌜ (bound .number ≡ treeCause (tree .steps) (tree .reversion) (now discounts) (now flows))
+        × (cause ≡ 0 → tree .steps ≤ mostSteps → ExercisedOn terms (tree .steps) (now dates)) ⌝ }
+    ensures bond { λ r. ⌜ r .bond ≡ withBound (valueAlone (bondPrice (tree .steps) (tree .reversion) (now (discounts .entry)) (now (flows .entry))))
+        (bound .value) ⌝ }
+    ensures option { λ r. ⌜ r .option ≡ withBound (valueAlone (scheduledPrice (tree .steps) (tree .reversion) (now (discounts .entry)) (now (flows .entry))
+        (side (terms .call)) (terms .strike) (datedSchedule (now (dates .entry))) cause)) (bound .value) ⌝ }
 {
-    let bound = tree_bound(steps, reversion, discounts, flows);
     if bound.number != 0 {
         return BondAndOption {
             bond: refused(bound.number),
@@ -194,20 +174,63 @@ fn both_prices(
     }
     if cause != 0 {
         return BondAndOption {
-            bond: accepted_bond(steps, reversion, discounts, flows, bound.value),
+            bond: accepted_bond(tree, discounts, flows, bound.value),
             option: refused(cause),
         };
     }
     let marks = exercise_dates::marks_of(dates);
-    accepted_both(
-        steps,
-        reversion,
-        discounts,
-        flows,
-        terms,
-        &marks,
-        bound.value,
-    )
+    accepted_both(tree, discounts, flows, terms, &marks, bound.value)
+}
+
+fn both_of_kind(
+    tree: Tree,
+    discounts: &[u64],
+    flows: &[u64],
+    bound: Answer,
+    kind: u64,
+    expiry: usize,
+    strike: u64,
+) -> BondAndOption
+    requires { ⌜ bound .number ≡ treeCause (tree .steps) (tree .reversion) (now discounts) (now flows) ⌝ }
+    ensures { λ r. ⌜ r ≡ bothWith (bothValues (bondAndOption (tree .steps) (tree .reversion) (now (discounts .entry)) (now (flows .entry)) kind expiry strike))
+        (bound .value) ⌝ }
+{
+    let cause = price_causes::option_cause(tree.steps, kind, expiry, strike);
+    let terms = exercise::terms_of(kind, expiry, strike);
+    let dates = exercise_dates::dates_of_kind(kind, expiry);
+    let rows = dates.rows;
+    let count = dates.count;
+    judged_both(tree, discounts, flows, bound, cause, terms, &rows[..count])
+}
+
+fn both_on_dates(
+    tree: Tree,
+    discounts: &[u64],
+    flows: &[u64],
+    bound: Answer,
+    side: u64,
+    dates: &[u8],
+    strike: u64,
+) -> BondAndOption
+    requires { ⌜ bound .number ≡ treeCause (tree .steps) (tree .reversion) (now discounts) (now flows) ⌝ }
+    ensures { λ r. ⌜ r ≡ bothWith (bothValues (bondAndDatedOption (tree .steps) (tree .reversion) (now (discounts .entry)) (now (flows .entry)) side
+        (now (dates .entry)) strike)) (bound .value) ⌝ }
+{
+    let about_terms = price_causes::terms_cause(side, strike);
+    let about_dates = exercise_dates::dates_cause(tree.steps, dates);
+    let cause = arithmetic::lowest_cause(about_terms, about_dates);
+    let terms = exercise_dates::terms_on(side, dates, strike);
+    judged_both(tree, discounts, flows, bound, cause, terms, dates)
+}
+
+// ---- prices with the tree's error bound
+
+// The price at row 0 of the bond with these flows, and its error bound.
+pub fn bond_price(steps: usize, reversion: u64, discounts: &[u64], flows: &[u64]) -> Price
+    ensures { λ r. ⌜ r ≡ bondPrice steps reversion (now (discounts .entry)) (now (flows .entry)) ⌝ }
+{
+    let bound = tree_bound(steps, reversion, discounts, flows);
+    judged_bond(Tree { steps, reversion }, discounts, flows, bound)
 }
 
 // The prices at row 0 of the bond and of an option on it, in one roll; each as the entry for it alone answers.
@@ -222,19 +245,15 @@ pub fn bond_and_option(
 ) -> BondAndOption
     ensures { λ r. ⌜ r ≡ bondAndOption steps reversion (now (discounts .entry)) (now (flows .entry)) kind expiry strike ⌝ }
 {
-    let cause = price_causes::option_cause(steps, kind, expiry, strike);
-    let terms = exercise::terms_of(kind, expiry, strike);
-    let dates = exercise_dates::dates_of_kind(kind, expiry);
-    let rows = dates.rows;
-    let count = dates.count;
-    both_prices(
-        steps,
-        reversion,
+    let bound = tree_bound(steps, reversion, discounts, flows);
+    both_of_kind(
+        Tree { steps, reversion },
         discounts,
         flows,
-        cause,
-        terms,
-        &rows[..count],
+        bound,
+        kind,
+        expiry,
+        strike,
     )
 }
 
@@ -250,11 +269,16 @@ pub fn bond_and_dated_option(
 ) -> BondAndOption
     ensures { λ r. ⌜ r ≡ bondAndDatedOption steps reversion (now (discounts .entry)) (now (flows .entry)) side (now (dates .entry)) strike ⌝ }
 {
-    let about_terms = price_causes::terms_cause(side, strike);
-    let about_dates = exercise_dates::dates_cause(steps, dates);
-    let cause = arithmetic::lowest_cause(about_terms, about_dates);
-    let terms = exercise_dates::terms_on(side, dates, strike);
-    both_prices(steps, reversion, discounts, flows, cause, terms, dates)
+    let bound = tree_bound(steps, reversion, discounts, flows);
+    both_on_dates(
+        Tree { steps, reversion },
+        discounts,
+        flows,
+        bound,
+        side,
+        dates,
+        strike,
+    )
 }
 
 // The price at row 0 of an option on that bond, and its error bound. Kinds 1 European call, 2 European put, 3 American call, 4 American put.
@@ -291,15 +315,6 @@ pub fn dated_option_price(
 
 // ---- values alone, for a caller who knows the tree's error bound: number and value of each price, which the bound does not enter
 
-// The first cause about a tree and its flows.
-fn tree_cause(steps: usize, reversion: u64, discounts: &[u64], flows: &[u64]) -> u64
-    ensures { λ r. ⌜ r ≡ treeCause steps reversion (now (discounts .entry)) (now (flows .entry)) ⌝ }
-{
-    let about_tree = lent_tree::discounts_cause(steps, reversion, discounts);
-    let about_flows = price_causes::flows_cause(steps, flows);
-    arithmetic::lowest_cause(about_tree, about_flows)
-}
-
 fn value_of(price: Price) -> Answer
     ensures { λ r. ⌜ r ≡ valueAlone price ⌝ }
 {
@@ -309,47 +324,21 @@ fn value_of(price: Price) -> Answer
     }
 }
 
+fn values_of(both: BondAndOption) -> BondAndOptionValues
+    ensures { λ r. ⌜ r ≡ bothValues both ⌝ }
+{
+    BondAndOptionValues {
+        bond: value_of(both.bond),
+        option: value_of(both.option),
+    }
+}
+
 // As `bond_price`.
 pub fn bond_value(steps: usize, reversion: u64, discounts: &[u64], flows: &[u64]) -> Answer
     ensures { λ r. ⌜ r ≡ valueAlone (bondPrice steps reversion (now (discounts .entry)) (now (flows .entry))) ⌝ }
 {
     let cause = tree_cause(steps, reversion, discounts, flows);
-    if cause != 0 {
-        return value_of(refused(cause));
-    }
-    value_of(accepted_bond(steps, reversion, discounts, flows, 0))
-}
-
-// Bond and option on these dates, where the option itself has a cause or none, with 0 for the error bound.
-fn both_unbounded(
-    steps: usize,
-    reversion: u64,
-    discounts: &[u64],
-    flows: &[u64],
-    cause: u64,
-    terms: Terms,
-    dates: &[u8],
-) -> BondAndOption
-    requires { ⌜ (cause ≡ 0 → steps ≤ mostSteps → ExercisedOn terms steps (now dates)) ⌝ }
-    ensures bond { λ r. ⌜ valueAlone (r .bond) ≡ valueAlone (bondPrice steps reversion (now (discounts .entry)) (now (flows .entry))) ⌝ }
-    ensures option { λ r. ⌜ valueAlone (r .option) ≡ valueAlone (scheduledPrice steps reversion (now (discounts .entry)) (now (flows .entry))
-        (side (terms .call)) (terms .strike) (datedSchedule (now (dates .entry))) cause) ⌝ }
-{
-    let about_tree = tree_cause(steps, reversion, discounts, flows);
-    if about_tree != 0 {
-        return BondAndOption {
-            bond: refused(about_tree),
-            option: refused(about_tree),
-        };
-    }
-    if cause != 0 {
-        return BondAndOption {
-            bond: accepted_bond(steps, reversion, discounts, flows, 0),
-            option: refused(cause),
-        };
-    }
-    let marks = exercise_dates::marks_of(dates);
-    accepted_both(steps, reversion, discounts, flows, terms, &marks, 0)
+    value_of(judged_bond(Tree { steps, reversion }, discounts, flows, cause))
 }
 
 // As `bond_and_option`.
@@ -364,24 +353,16 @@ pub fn bond_and_option_values(
 ) -> BondAndOptionValues
     ensures { λ r. ⌜ r ≡ bothValues (bondAndOption steps reversion (now (discounts .entry)) (now (flows .entry)) kind expiry strike) ⌝ }
 {
-    let cause = price_causes::option_cause(steps, kind, expiry, strike);
-    let terms = exercise::terms_of(kind, expiry, strike);
-    let dates = exercise_dates::dates_of_kind(kind, expiry);
-    let rows = dates.rows;
-    let count = dates.count;
-    let both = both_unbounded(
-        steps,
-        reversion,
+    let cause = tree_cause(steps, reversion, discounts, flows);
+    values_of(both_of_kind(
+        Tree { steps, reversion },
         discounts,
         flows,
         cause,
-        terms,
-        &rows[..count],
-    );
-    BondAndOptionValues {
-        bond: value_of(both.bond),
-        option: value_of(both.option),
-    }
+        kind,
+        expiry,
+        strike,
+    ))
 }
 
 // As `bond_and_dated_option`.
@@ -396,13 +377,14 @@ pub fn bond_and_dated_option_values(
 ) -> BondAndOptionValues
     ensures { λ r. ⌜ r ≡ bothValues (bondAndDatedOption steps reversion (now (discounts .entry)) (now (flows .entry)) side (now (dates .entry)) strike) ⌝ }
 {
-    let of_terms = price_causes::terms_cause(side, strike);
-    let of_dates = exercise_dates::dates_cause(steps, dates);
-    let cause = arithmetic::lowest_cause(of_terms, of_dates);
-    let terms = exercise_dates::terms_on(side, dates, strike);
-    let both = both_unbounded(steps, reversion, discounts, flows, cause, terms, dates);
-    BondAndOptionValues {
-        bond: value_of(both.bond),
-        option: value_of(both.option),
-    }
+    let cause = tree_cause(steps, reversion, discounts, flows);
+    values_of(both_on_dates(
+        Tree { steps, reversion },
+        discounts,
+        flows,
+        cause,
+        side,
+        dates,
+        strike,
+    ))
 }

@@ -9,7 +9,7 @@ ghost use Rattle.arithmetic.specs.Row.{values};
 ghost use Rattle.lattice.specs.Shape.{nodeCount};
 ghost use Rattle.pricing_laws.specs.Schedule.{marked};
 ghost use Rattle.exercise.specs.Terms.{side};
-ghost use Rattle.pricing.specs.Prices.{flowAt};
+ghost use Rattle.price_laws.specs.Prices.{flowAt};
 ghost use Rattle.pricing.specs.Rows.{Limited, FilledRow, FilledRows};
 ghost use Rattle.pricing.specs.Trees.{
   Ready,

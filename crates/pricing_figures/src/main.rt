@@ -1,5 +1,5 @@
 // Prices of trees of several shapes, held against reference.py, which works them out from documents 01 and 02 alone.
-use pricing::Price;
+use price_laws::Price;
 ghost use Prim.Native.Nat.{_≤_, _<_};
 
 // Numbers from base on, below base + range, in no simple order.

@@ -17,7 +17,7 @@ use Rattle.arithmetic.specs.Sum.{greatest}
 use Rattle.arithmetic.specs.Row.{each}
 use Rattle.pricing_laws.specs.Peak.{peakFrom, peak}
 use Rattle.pricing_laws.proofs.Peaks.{peak-grows, row-in-peak}
-use Rattle.pricing.specs.Prices.{firstCause, priced}
+use Rattle.price_laws.specs.Prices.{firstCause, priced}
 use Rattle.promises.specs.Causes.{Cause, cause, firstOf}
 
 -- ---- tests

@@ -1,9 +1,9 @@
 -- The promises are kept.
 -- Assumes nothing.
-use Rattle.pricing.proofs.Accuracy.{bond-within-bound, bond-bound-a-step}
-use Rattle.pricing.proofs.Accuracy.{option-within-bound, option-bound-a-step, dated-within-bound, dated-bound-a-step}
-use Rattle.pricing.proofs.OptionLaws.{kind-is-list}
-use Rattle.pricing.proofs.RightsLaws.{dates-no-less, american-no-less, kind-no-more, kind-no-less}
+use Rattle.price_laws.proofs.Accuracy.{bond-within-bound, bond-bound-a-step}
+use Rattle.price_laws.proofs.Accuracy.{option-within-bound, option-bound-a-step, dated-within-bound, dated-bound-a-step}
+use Rattle.price_laws.proofs.OptionLaws.{kind-is-list}
+use Rattle.price_laws.proofs.RightsLaws.{dates-no-less, american-no-less, kind-no-more, kind-no-less}
 use Rattle.promises.specs.Promises.{Promises, PricePromises}
 use Rattle.promises.proofs.TreeKept.{tree-kept}
 use Rattle.promises.proofs.RowsKept.{engine-kept, exact-kept, bound-kept, bounds-kept, priced-kept}

@@ -7,7 +7,7 @@ use lib.ListN.{length}
 use Rattle.pricing_laws.specs.Schedule.{everyRow, datedSchedule, kindDates, scheduleOf}
 use Rattle.pricing_laws.proofs.Dates.{among-entry, among-some}
 use Rattle.pricing_laws.proofs.Recurrences.{sides, schedules, kind-sides, numbered-sides, kind-lists, every-row-is, exercise-values}
-use Rattle.pricing.specs.Prices.{flowAt}
+use Rattle.price_laws.specs.Prices.{flowAt}
 use Rattle.promises.specs.Promises.{FlowRows, Exercised, ListedRows, EveryRow, KindOf, Kinds}
 
 pub flows-kept : (flows : List ℕ) → FlowRows flows

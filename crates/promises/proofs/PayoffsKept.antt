@@ -21,7 +21,7 @@ use Rattle.fit_laws.specs.StatePrices.{statePrice}
 use Rattle.fitting.specs.Entry.{fitNumber}
 use Rattle.fitting.proofs.Promised.{fit-sound}
 use Rattle.fitting.proofs.FittedTree.{fit-lent}
-use Rattle.pricing.specs.Exact.{exactPayoff}
+use Rattle.price_laws.specs.Exact.{exactPayoff}
 use Rattle.arithmetic.specs.Row.{greatestOf}
 use Rattle.lent_tree.specs.LentTree.{stored}
 use Rattle.valuation_laws.specs.Valuation.{valueByStatePrices, valuationBound, valuationErrorBound, exactPrice}

@@ -29,8 +29,8 @@ use Rattle.price_bound.proofs.BoundLaws.{bounds-number}
 use Rattle.pricing_laws.specs.Peak.{greatestValue}
 use Rattle.pricing_laws.specs.Pricer.{Side, Schedule}
 use Rattle.pricing_laws.specs.Schedule.{rising, lastDate, datesCause, sideOf, scheduleOf, numberedSide, datedSchedule}
-use Rattle.pricing.specs.Prices.{firstCause, treeCause, bondValue, bondPeak, bondPrice}
-use Rattle.pricing.specs.Prices.{optionValue, optionPeak, optionLimit, optionPrice, datedCause, datedPrice}
+use Rattle.price_laws.specs.Prices.{firstCause, treeCause, bondValue, bondPeak, bondPrice}
+use Rattle.price_laws.specs.Prices.{optionValue, optionPeak, optionLimit, optionPrice, datedCause, datedPrice}
 use Rattle.valuation_laws.specs.Valuation.{valueByStatePrices}
 use Rattle.valuation.specs.Entries.{valueOf, fitARow, valueByStatePricesAnswer, payoffsCause, valuationCause, valuationErrorBoundAnswer}
 use Rattle.promises.specs.Causes.{Cause, cause, firstOf, lentCauses, flowCauses, discountsAccepted, flowsAccepted}

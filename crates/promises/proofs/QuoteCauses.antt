@@ -26,7 +26,7 @@ use Rattle.spacing.specs.Spacing.{spacing, spacingAnswer}
 use Rattle.fit_laws.specs.StatePrices.{acceptedRow}
 use Rattle.fitting.specs.Fit.{curveAccepted}
 use Rattle.fitting.specs.Entry.{quotesOf, earlyCause, lateCause, fitNumber, fitDiscount}
-use Rattle.pricing.specs.Prices.{firstCause}
+use Rattle.price_laws.specs.Prices.{firstCause}
 use Rattle.promises.specs.Causes.{Cause, cause, firstOf, treeCauses, isKind, kindDiscount, quoteInRange, quotesPlaced, quotesConverted, everyNode}
 use Rattle.promises.proofs.CauseTables.{seven, first-append, number-of}
 

@@ -16,9 +16,9 @@ use Rattle.pricing_laws.specs.Pricer.{Side}
 use Rattle.pricing_laws.proofs.Recurrences as rows
 use Rattle.price_bound.specs.PriceBound.{treeErrorBound, greatestDiscounts, treeBoundsAnswer}
 use Rattle.price_bound.proofs.BoundLaws.{bounds-number, bounds-bound, bounds-greatest}
-use Rattle.pricing.specs.Prices.{bondValue, optionValue}
-use Rattle.pricing.specs.Exact.{exactBond, exactOption, exactDated, exactPayoff}
-use Rattle.pricing.proofs.Accuracy as prices
+use Rattle.price_laws.specs.Prices.{bondValue, optionValue}
+use Rattle.price_laws.specs.Exact.{exactBond, exactOption, exactDated, exactPayoff}
+use Rattle.price_laws.proofs.Accuracy as prices
 use Rattle.promises.specs.Promises.{EngineRows, ExactRows, BoundRows, BoundsKnown, PricedByRows}
 
 module _ (t : Tree) (discount : ℕ → ℕ → ℕ) (flow : ℕ → ℕ) (n : ℕ) (side : Side) (strike expiry : ℕ) where

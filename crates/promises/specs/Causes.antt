@@ -30,7 +30,7 @@ use Rattle.state_price_bound.specs.ErrorBound.{statePriceErrorBoundAnswer}
 use Rattle.price_bound.specs.PriceBound.{priceErrorBoundAnswer, treeBoundsAnswer}
 use Rattle.pricing_laws.specs.Schedule.{sideOf, scheduleOf, numberedSide, datedSchedule}
 use Rattle.pricing_laws.specs.Pricer.{Side, Schedule}
-use Rattle.pricing.specs.Prices.{bondValue, optionValue, bondPrice, optionPrice, datedPrice}
+use Rattle.price_laws.specs.Prices.{bondValue, optionValue, bondPrice, optionPrice, datedPrice}
 use Rattle.valuation.specs.Entries.{valueByStatePricesAnswer, valuationErrorBoundAnswer}
 
 -- a cause: its number, and whether it applies

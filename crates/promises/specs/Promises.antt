@@ -41,8 +41,8 @@ use Rattle.pricing_laws.specs.Schedule.{european, american, sideOf, scheduleOf,
 use Rattle.pricing_laws.specs.TreePricer.{engine, exact, greatestDiscount, priceErrorBound}
 use Rattle.price_bound.specs.declared.TreeErrorBounds.{TreeErrorBounds}
 use Rattle.price_bound.specs.PriceBound.{treeBoundsAnswer}
-use Rattle.pricing.specs.Prices.{flowAt, bondPrice, optionPrice, datedPrice}
-use Rattle.pricing.specs.Exact.{exactBond, exactOption, exactDated, exactPayoff}
+use Rattle.price_laws.specs.Prices.{flowAt, bondPrice, optionPrice, datedPrice}
+use Rattle.price_laws.specs.Exact.{exactBond, exactOption, exactDated, exactPayoff}
 use Rattle.valuation.specs.Entries.{valueByStatePricesAnswer, valuationErrorBoundAnswer}
 use Rattle.promises.specs.Quoted.{QuotePromises}
 use Rattle.promises.specs.Causes.{CausePromises}

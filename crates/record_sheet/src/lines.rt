@@ -9,7 +9,7 @@ ghost use Rattle.sheet_laws.specs.TreeSheet.{rowPart, nodeLines, lineOfRow, row
 ghost use Rattle.sheet_laws.specs.Stored.{Drawing, Stored, Summed};
 use job_prices::JobPrices;
 use node_reader::NodeReader;
-use pricing::Price;
+use price_laws::Price;
 use row_view::RowKind;
 
 // A tree's number of steps and its reversion.

@@ -13,7 +13,7 @@ use Rattle.job_record.specs.Reader.{readingOf}
 use Rattle.job_fit.specs.RecordFit.{jobRows, jobKinds, jobFigures, jobFlows, jobDiscounts}
 use Rattle.job_fit.proofs.FitLaws.{fit-none}
 use Rattle.job_prices.specs.JobPrices.{hasOption, taggedOption, jobBond}
-use Rattle.pricing.proofs.Accuracy.{first-none}
+use Rattle.price_laws.proofs.Accuracy.{first-none}
 use Rattle.job_prices.proofs.Accepted.{record-accepted}
 use Rattle.sheet_room.specs.Room.{sheetRoom}
 use Rattle.sheet_laws.specs.WholeJob.{jobNumber, sheetNumber}

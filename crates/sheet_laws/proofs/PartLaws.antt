@@ -31,7 +31,7 @@ use Rattle.node_lines.proofs.ReadingLaws.{Drew, read-number-none, drawn-put, dr
 use Rattle.text_laws.specs.Lines.{rowLine, priceLine, lineNumber, bondWord, optionWord}
 use Rattle.text_laws.proofs.LineLaws.{row-room, price-room, line-stands, line-before}
 use Rattle.text_laws.proofs.PutLaws.{put-none, put-before, Answered}
-use Rattle.pricing.specs.declared.Price.{Price}
+use Rattle.price_laws.specs.declared.Price.{Price}
 use Rattle.arithmetic.specs.declared.Answer.{Answer}
 use Rattle.state_price_bound.specs.ErrorBound.{statePriceErrorBoundAnswer}
 use Rattle.state_price_bound.proofs.BoundLaws.{bound-most}

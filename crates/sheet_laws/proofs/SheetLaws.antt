@@ -10,7 +10,7 @@ use Rattle.arithmetic.specs.Answers.{lowestCause}
 use Rattle.arithmetic.proofs.CauseLaws.{lowest-none}
 use Rattle.arithmetic.proofs.Numbers.{by-order, by-equal}
 use Rattle.limits.specs.Limits.{mostDiscounts, mostStatePrices}
-use Rattle.pricing.specs.Prices.{firstCause}
+use Rattle.price_laws.specs.Prices.{firstCause}
 use Rattle.job_record.specs.declared.Job.{Job}
 use Rattle.job_record.specs.declared.Reading.{Reading}
 use Rattle.job_record.specs.Reader.{readingOf}

@@ -8,7 +8,7 @@ use lib.ListN.{take, drop}
 use Rattle.arithmetic.specs.Row.{values, sumOf}
 use Rattle.lattice.specs.Shape.{nodeCount, rowStart}
 use Rattle.state_price_bound.specs.ErrorBound.{statePriceErrorBoundAnswer}
-use Rattle.pricing.specs.declared.Price.{Price}
+use Rattle.price_laws.specs.declared.Price.{Price}
 use Rattle.text_laws.specs.Lines.{rowLine, bondLine, optionLine}
 use Rattle.node_lines.specs.Rows.{lines, rowText}
 

@@ -7,7 +7,7 @@ use lib.Dec.{eqb, ltb}
 use lib.ListN.{length}
 use Rattle.arithmetic.specs.Answers.{lowestCause}
 use Rattle.limits.specs.Limits.{mostDiscounts, mostStatePrices}
-use Rattle.pricing.specs.Prices.{firstCause}
+use Rattle.price_laws.specs.Prices.{firstCause}
 use Rattle.job_record.specs.declared.Job.{Job}
 use Rattle.job_record.specs.Reader.{readingOf}
 use Rattle.job_fit.specs.RecordFit.{jobQuotes, jobDiscounts, jobStatePrices}

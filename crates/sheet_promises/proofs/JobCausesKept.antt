@@ -21,7 +21,7 @@ use Rattle.lattice.proofs.Sizes.{start-most, start-within}
 use Rattle.lattice.proofs.TreeEntries.{Accepted, tree-value}
 use Rattle.spacing.specs.Spacing.{spacing}
 use Rattle.fitting.specs.Entry.{fitNumber, fitDiscount}
-use Rattle.pricing.specs.Prices.{firstCause}
+use Rattle.price_laws.specs.Prices.{firstCause}
 use Rattle.job_record.specs.declared.Job.{Job}
 use Rattle.job_record.specs.Form.{wellFormed}
 use Rattle.job_record.specs.Reader.{readingOf, jobOf, acceptedReading, malformed}

@@ -9,7 +9,7 @@ use lib.Dec.{eqb, leb, ltb}
 use Rattle.arithmetic.specs.Answers.{lowestCause}
 use Rattle.limits.specs.Limits.{mostDiscounts, mostStatePrices}
 use Rattle.fitting.specs.Entry.{fitNumber}
-use Rattle.pricing.specs.Prices.{firstCause}
+use Rattle.price_laws.specs.Prices.{firstCause}
 use Rattle.job_record.specs.declared.OptionRecord.{OptionRecord}
 use Rattle.job_record.specs.declared.Job.{Job}
 use Rattle.job_record.specs.Form.{wellFormed}

@@ -15,7 +15,7 @@ use Rattle.lattice.specs.RateTree.{node}
 use Rattle.lent_tree.specs.LentTree.{stored}
 use Rattle.step_rate.specs.StepRate.{rateAnswer}
 use Rattle.state_price_bound.specs.ErrorBound.{statePriceErrorBoundAnswer}
-use Rattle.pricing.specs.Exact.{exactBond, exactOption, exactDated}
+use Rattle.price_laws.specs.Exact.{exactBond, exactOption, exactDated}
 use Rattle.job_record.specs.declared.OptionRecord.{OptionRecord}
 use Rattle.job_record.specs.declared.Job.{Job}
 use Rattle.job_record.specs.Reader.{readingOf}

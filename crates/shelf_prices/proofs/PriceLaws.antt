@@ -5,10 +5,10 @@ use Prim.Native.Nat.{ℕ, _+_, _-_}
 use mathlib.Core.List.{List}
 use borrow.Author.Tests.{eq-eqb, ne-eqb}
 use lib.ListN.{take, drop}
-use Rattle.pricing.specs.declared.Price.{Price}
-use Rattle.pricing.specs.declared.BondAndOption.{BondAndOption}
-use Rattle.pricing.specs.declared.BondAndOptionValues.{BondAndOptionValues}
-use Rattle.pricing.specs.Prices.{refusedPrice, priced, valueAlone, withBound}
+use Rattle.price_laws.specs.declared.Price.{Price}
+use Rattle.price_laws.specs.declared.BondAndOption.{BondAndOption}
+use Rattle.price_laws.specs.declared.BondAndOptionValues.{BondAndOptionValues}
+use Rattle.price_laws.specs.Prices.{refusedPrice, priced, valueAlone, withBound}
 use Rattle.arithmetic.specs.declared.Answer.{Answer}
 use Rattle.shelf_laws.specs.declared.Slot.{Slot}
 use Rattle.shelf_laws.specs.declared.Located.{Located}

@@ -5,9 +5,9 @@ use Prim.Native.Nat.{ℕ}
 use mathlib.Core.Bool.{cond}
 use mathlib.Core.List.{List}
 use lib.Dec.{eqb}
-use Rattle.pricing.specs.declared.Price.{Price}
-use Rattle.pricing.specs.declared.BondAndOption.{BondAndOption}
-use Rattle.pricing.specs.Prices.{refusedPrice, valueAlone, withBound, bondPrice, optionPrice, datedPrice}
+use Rattle.price_laws.specs.declared.Price.{Price}
+use Rattle.price_laws.specs.declared.BondAndOption.{BondAndOption}
+use Rattle.price_laws.specs.Prices.{refusedPrice, valueAlone, withBound, bondPrice, optionPrice, datedPrice}
 use Rattle.shelf_laws.specs.declared.Slot.{Slot}
 use Rattle.shelf_laws.specs.Shelf.{slotOf, discountsOf, nameCause}
 

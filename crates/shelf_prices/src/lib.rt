@@ -1,10 +1,10 @@
 // Prices on the trees of a shelf. Shelf and memory are read and left as they are.
 use arithmetic::Answer;
-use pricing::BondAndOption;
-use pricing::Price;
+use price_laws::BondAndOption;
+use price_laws::Price;
 use shelf_laws::Shelf;
 ghost use mathlib.Core.Path.{_≡_};
-ghost use Rattle.pricing.specs.Prices.{refusedPrice, withBound};
+ghost use Rattle.price_laws.specs.Prices.{refusedPrice, withBound};
 ghost use Rattle.shelf_prices.specs.ShelfPrices.{shelfBond, shelfOption, shelfDated, shelfBondAndOption, shelfBondAndDated};
 
 // The price of a name without a tree.

@@ -7,7 +7,7 @@ use borrow.Author.Tests.{eq-eqb, ne-eqb, lt-ltb, le-ltb}
 use Rattle.arithmetic.proofs.Numbers.{by-order, by-equal}
 use Rattle.limits.specs.Limits.{shapeCause}
 use Rattle.lattice.specs.Shape.{discountsNeeded}
-use Rattle.pricing.specs.declared.Price.{Price}
+use Rattle.price_laws.specs.declared.Price.{Price}
 use Rattle.shelf_laws.specs.Shelf.{room, held, statusOf, nameCause, locatedTree}
 use Rattle.shelf_prices.specs.ShelfPrices.{shelfPrice}
 use Rattle.shelf_laws.specs.Shelf.{askSlots, askMemory, commitNumber, commitSlots, commitMemory, releaseSlots, releaseMemory}

@@ -20,8 +20,8 @@ use Rattle.lattice.proofs.Sizes.{count-positive, row-ends}
 use Rattle.lent_tree.specs.LentTree.{acceptedDiscounts, discountsCause}
 use Rattle.pricing_laws.specs.Schedule.{rising, lastDate, datesCause}
 use Rattle.price_causes.specs.Causes.{mostFlow, mostStrike, flowsCause, optionCause, termsCause}
-use Rattle.pricing.specs.declared.Price.{Price}
-use Rattle.pricing.specs.Prices.{treeCause, firstCause, priced, bondPrice, optionPrice, datedCause, datedPrice, optionLimit}
+use Rattle.price_laws.specs.declared.Price.{Price}
+use Rattle.price_laws.specs.Prices.{treeCause, firstCause, priced, bondPrice, optionPrice, datedCause, datedPrice, optionLimit}
 use Rattle.shelf_laws.specs.Parts.{zeros}
 use Rattle.shelf_promises.specs.Model.{Pricing, bond, option, dated, flowsOf, plainPrice}
 

@@ -15,11 +15,12 @@ use Rattle.lattice.specs.Shape.{discountsNeeded, statePricesNeeded}
 use Rattle.lent_tree.specs.LentTree.{discountsCause}
 use Rattle.fitting.specs.Entry.{fitNumber}
 use Rattle.price_bound.specs.PriceBound.{treeErrorBound}
-use Rattle.pricing.specs.declared.Price.{Price}
-use Rattle.pricing.specs.Prices.{refusedPrice, treeCause, priced, valueAlone, withBound, bondPrice, optionPrice, datedPrice}
+use Rattle.price_laws.specs.declared.Price.{Price}
+use Rattle.price_laws.specs.Prices.{refusedPrice, treeCause, priced, valueAlone, withBound}
 use Rattle.promises.proofs.CauseTables.{number-priced}
-use Rattle.pricing.proofs.Accuracy.{bond-given, option-given, dated-given, bond-within-bound, option-within-bound, dated-within-bound}
-use Rattle.pricing.proofs.Accuracy.{bond-bound-a-step, option-bound-a-step, dated-bound-a-step}
+use Rattle.price_laws.proofs.Accuracy.{bond-given, option-given, dated-given, bond-within-bound, option-within-bound, dated-within-bound}
+use Rattle.price_laws.proofs.Accuracy.{bond-bound-a-step, option-bound-a-step, dated-bound-a-step}
+use Rattle.price_laws.proofs.ValueLaws.{priced-alike, bond-whole, option-whole, dated-whole}
 use Rattle.promises.specs.Promises.{NoneAboveOne}
 use Rattle.shelf_laws.specs.Parts.{part}
 use Rattle.shelf_laws.specs.Shelf.{nameCause, partOf}
@@ -93,30 +94,12 @@ module _ (desk : ℕ → Seen) (name : ℕ) where
     unfolding deskPrice
     price-found z t e = rw (eq-eqb (deskCause desk name) 0 z, e)
 
--- ---- a price with the bound that is carried
-module _ (c v : ℕ) where
-  priced-again : (e : ℕ) → priced (priced c v e .number) (priced c v e .value) e ≡ priced c v e
-  unfolding priced
-  priced-again e =
-      by-equal c 0
-      (λ (z : c ≡ 0). rw (eq-eqb c 0 z))
-      (λ (z : c ≡ 0 → ⊥). rw (ne-eqb c 0 z, ne-eqb c 0 z))
-
-  -- a refusal has no bound
-  priced-alike : (e bound : ℕ) → (c ≡ 0 → e ≡ bound) → priced c v e ≡ priced c v bound
-  unfolding priced
-  priced-alike e bound h =
-      by-equal c 0
-      (λ (z : c ≡ 0). rw (eq-eqb c 0 z, h z))
-      (λ (z : c ≡ 0 → ⊥). rw (ne-eqb c 0 z))
-
 -- ---- the plain prices
 plain-priced : (p : Pricing) (n b : ℕ) (d : List ℕ) →
     priced (plainPrice p n b d .number) (plainPrice p n b d .value) (treeErrorBound n b d) ≡ plainPrice p n b d
-unfolding bondPrice optionPrice datedPrice
-plain-priced (bond flows) n b d = priced-again _ _ (treeErrorBound n b d)
-plain-priced (option flows kind expiry strike) n b d = priced-again _ _ (treeErrorBound n b d)
-plain-priced (dated flows side dates strike) n b d = priced-again _ _ (treeErrorBound n b d)
+plain-priced (bond flows) n b d = bond-whole n b d flows (treeErrorBound n b d) (λ z. refl)
+plain-priced (option flows kind expiry strike) n b d = option-whole n b d flows (treeErrorBound n b d) (λ z. refl) kind expiry strike
+plain-priced (dated flows side dates strike) n b d = dated-whole n b d flows (treeErrorBound n b d) (λ z. refl) side dates strike
 
 plain-bound : (p : Pricing) (n b : ℕ) (d : List ℕ) → plainPrice p n b d .number ≡ 0 → plainPrice p n b d .bound ≡ treeErrorBound n b d
 plain-bound (bond flows) n b d h = bond-given n b d flows h .bound

@@ -7,7 +7,7 @@ use mathlib.Core.List.{List, [], _∷_}
 use lib.Dec.{eqb}
 use lib.ListN.{length}
 use Rattle.lattice.specs.Shape.{discountsNeeded}
-use Rattle.pricing.specs.declared.Price.{Price}
+use Rattle.price_laws.specs.declared.Price.{Price}
 use Rattle.shelf_laws.specs.declared.Slot.{Slot}
 use Rattle.shelf_laws.specs.Shelf.{room, emptySlots, slotAt, nodesOf, discountsAt, slotOf, nameCause}
 use Rattle.shelf_prices.specs.ShelfPrices.{shelfPrice}

@@ -13,7 +13,7 @@ use Rattle.lattice.specs.Shape.{discountsNeeded, statePricesNeeded}
 use Rattle.lent_tree.specs.LentTree.{discountsCause}
 use Rattle.fitting.specs.Entry.{fitNumber}
 use Rattle.price_bound.specs.PriceBound.{treeErrorBound, greatestDiscounts}
-use Rattle.pricing.specs.Prices.{refusedPrice}
+use Rattle.price_laws.specs.Prices.{refusedPrice}
 use Rattle.promises.specs.Promises.{NoneAboveOne}
 use Rattle.shelf_laws.specs.Parts.{zeros, part}
 use Rattle.shelf_laws.specs.Shelf.{room, held, partOf}

@@ -48,8 +48,8 @@ refused-requires c κs = search needs
 returns : tie.Need-returns
 returns c = c .refused .ensures ∙ bond-refused _ _ _ _ _ _ _ (c .before .before .roll-bond .ensures) (c .before .if1 .taken)
 
-array-read-t19 : tie.Need-array-read-t19
-array-read-t19 c = search needs
+array-read-t17 : tie.Need-array-read-t17
+array-read-t17 c = search needs
 
 returns-2 : tie.Need-returns-2
 returns-2 c = bond-given _ _ _ _ _ _ _ (c .before .roll-bond .ensures) (c .if1 .left)
@@ -66,5 +66,5 @@ accepted-bond-spec =
     roll-bond-requires
     refused-requires
     returns
-    array-read-t19
+    array-read-t17
     returns-2)

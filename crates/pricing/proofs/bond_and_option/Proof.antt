@@ -1,51 +1,19 @@
 -- `pricing::bond_and_option` meets its contract.
 -- Assumes nothing.
 use mathlib.Core.Path.{_∙_}
-use Rattle.exercise_dates.proofs.DateLaws.{list-room}
-use Rattle.pricing.proofs.EntryLaws.{prefix-length, both-are}
-use Rattle.pricing.proofs.OptionLaws.{kind-exercised, kind-price}
+use Rattle.price_laws.proofs.ValueLaws.{kind-whole}
 use borrow.Author.Needs.{needs}
 use Rattle.pricing.proofs.bond_and_option.Statement.{statement}
 use Rattle.pricing.proofs.bond_and_option.Tie as tie
 
-option-cause-requires : tie.Need-option-cause-requires
-option-cause-requires c κs = search needs
+tree-bound-requires : tie.Need-tree-bound-requires
+tree-bound-requires c κs = search needs
 
-terms-of-requires : tie.Need-terms-of-requires
-terms-of-requires c κs = search needs
-
-dates-of-kind-requires : tie.Need-dates-of-kind-requires
-dates-of-kind-requires c κs = search needs
-
-array-share-prefix-rows : tie.Need-array-share-prefix-rows
-array-share-prefix-rows c = list-room _ _ _ (c .before .dates-of-kind .ensures)
-
-slice-aggregate-both-prices : tie.Need-slice-aggregate-both-prices
-slice-aggregate-both-prices c = prefix-length _ _ (list-room _ _ _ (c .before .before .dates-of-kind .ensures))
-
-both-prices-requires : tie.Need-both-prices-requires
-both-prices-requires c κs =
-    let listed = c .before .before in
-    let termed = listed .before in
-    kind-exercised _ _ _ _ _ (termed .before .option-cause .ensures) _ (termed .terms-of .ensures) _ (listed .dates-of-kind .ensures)
+both-of-kind-requires : tie.Need-both-of-kind-requires
+both-of-kind-requires c κs = c .tree-bound .ensures .cause-is
 
 returns : tie.Need-returns
-returns c =
-    let listed = c .before .before .before in
-    let termed = listed .before in
-    let both = c .both-prices .ensures in
-    both-are _ _ _ (both .bond-is)
-    (both .option-is
-    ∙ kind-price _ _ _ _ _ (termed .before .option-cause .ensures) _ (termed .terms-of .ensures) _ (listed .dates-of-kind .ensures) _ _ _)
+returns c = c .both-of-kind .ensures ∙ kind-whole _ _ _ _ _ (c .before .tree-bound .ensures .bound-is) _ _ _
 
 pub bond-and-option-spec : {M : Type 1} → statement M
-bond-and-option-spec =
-    tie.close
-    (tie.spec
-    option-cause-requires
-    terms-of-requires
-    dates-of-kind-requires
-    array-share-prefix-rows
-    slice-aggregate-both-prices
-    both-prices-requires
-    returns)
+bond-and-option-spec = tie.close (tie.spec tree-bound-requires both-of-kind-requires returns)

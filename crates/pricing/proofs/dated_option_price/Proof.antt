@@ -1,7 +1,7 @@
 -- `pricing::dated_option_price` meets its contract.
 -- Assumes nothing.
 use mathlib.Core.Path.{ap}
-use Rattle.pricing.specs.declared.BondAndOption.{BondAndOption}
+use Rattle.price_laws.specs.declared.BondAndOption.{BondAndOption}
 use borrow.Author.Needs.{needs}
 use Rattle.pricing.proofs.dated_option_price.Statement.{statement}
 use Rattle.pricing.proofs.dated_option_price.Tie as tie

@@ -1,6 +1,6 @@
 -- `pricing::tree_bound` meets its contract.
 -- Assumes nothing.
-use Rattle.pricing.proofs.EntryLaws.{tree-refused, tree-passed}
+use Rattle.pricing.proofs.EntryLaws.{tree-bounded}
 use borrow.Author.Needs.{needs}
 use Rattle.pricing.proofs.tree_bound.Statement.{statement}
 use Rattle.pricing.proofs.tree_bound.Tie as tie
@@ -15,27 +15,7 @@ lowest-cause-requires : tie.Need-lowest-cause-requires
 lowest-cause-requires c κs = search needs
 
 returns : tie.Need-returns
-returns c =
-    let price-error-bound = c .before .before .before .price-error-bound in
-    let flows-cause = c .before .before .flows-cause in
-    let lowest-cause = c .before .lowest-cause in
-    let if1 = c .if1 in
-    tree-refused _ _ _ _ _ _ _ (price-error-bound .ensures) (flows-cause .ensures) (lowest-cause .ensures) (if1 .taken)
-
-returns-2 : tie.Need-returns-2
-returns-2 c =
-    let price-error-bound = c .before .before .before .price-error-bound in
-    let flows-cause = c .before .before .flows-cause in
-    let lowest-cause = c .before .lowest-cause in
-    let if1 = c .if1 in
-    tree-passed _ _ _ _ _ _ _ (price-error-bound .ensures) (flows-cause .ensures) (lowest-cause .ensures) (if1 .left)
+returns c = tree-bounded _ _ _ _ _ _ _ (c .before .before .price-error-bound .ensures) (c .before .flows-cause .ensures) (c .lowest-cause .ensures)
 
 pub tree-bound-spec : {M : Type 1} → statement M
-tree-bound-spec =
-    tie.close
-    (tie.spec
-    price-error-bound-requires
-    flows-cause-requires
-    lowest-cause-requires
-    returns
-    returns-2)
+tree-bound-spec = tie.close (tie.spec price-error-bound-requires flows-cause-requires lowest-cause-requires returns)

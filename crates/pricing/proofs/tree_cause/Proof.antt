@@ -2,7 +2,7 @@
 -- Assumes nothing.
 use mathlib.Core.Path.{ap₂, _∙_}
 use Rattle.arithmetic.specs.Answers.{lowestCause}
-use Rattle.pricing.specs.Prices.{treeCause}
+use Rattle.price_laws.specs.Prices.{treeCause}
 use borrow.Author.Needs.{needs}
 use Rattle.pricing.proofs.tree_cause.Statement.{statement}
 use Rattle.pricing.proofs.tree_cause.Tie as tie
@@ -21,5 +21,4 @@ unfolding treeCause
 returns c = c .lowest-cause .ensures ∙ ap₂ lowestCause (c .before .before .discounts-cause .ensures) (c .before .flows-cause .ensures)
 
 pub tree-cause-spec : {M : Type 1} → statement M
-tree-cause-spec =
-    tie.close (tie.spec discounts-cause-requires flows-cause-requires lowest-cause-requires returns)
+tree-cause-spec = tie.close (tie.spec discounts-cause-requires flows-cause-requires lowest-cause-requires returns)

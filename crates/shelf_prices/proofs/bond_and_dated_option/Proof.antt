@@ -4,7 +4,7 @@ use Prim.Native.Nat.{ℕ}
 use mathlib.Core.Path.{_∙_}
 use mathlib.Core.List.{List}
 use native.Mathlib.Omega.{arith}
-use Rattle.pricing.specs.Prices.{bondPrice, datedPrice}
+use Rattle.price_laws.specs.Prices.{bondPrice, datedPrice}
 use Rattle.shelf_laws.proofs.NameLaws.{There, tree-found}
 use Rattle.shelf_prices.proofs.PriceLaws.{both-none, both-there}
 use borrow.Author.Needs.{needs}

@@ -1,7 +1,7 @@
 -- `shelf_prices::no_prices` meets its contract.
 -- Assumes nothing.
 use mathlib.Core.Path.{ap}
-use Rattle.pricing.specs.declared.Price.{Price}
+use Rattle.price_laws.specs.declared.Price.{Price}
 use borrow.Author.Needs.{needs}
 use Rattle.shelf_prices.proofs.no_prices.Statement.{statement}
 use Rattle.shelf_prices.proofs.no_prices.Tie as tie

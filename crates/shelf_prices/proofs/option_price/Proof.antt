@@ -1,7 +1,7 @@
 -- `shelf_prices::option_price` meets its contract.
 -- Assumes nothing.
 use mathlib.Core.Path.{ap}
-use Rattle.pricing.specs.declared.BondAndOption.{BondAndOption}
+use Rattle.price_laws.specs.declared.BondAndOption.{BondAndOption}
 use borrow.Author.Needs.{needs}
 use Rattle.shelf_prices.proofs.option_price.Statement.{statement}
 use Rattle.shelf_prices.proofs.option_price.Tie as tie

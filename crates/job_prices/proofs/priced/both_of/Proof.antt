@@ -6,7 +6,7 @@ use Prim.Native.Nat.{_≤_}
 use lib.ListN.{length}
 use Rattle.job_fit.proofs.FitLaws.{lent-column}
 use Rattle.job_record.specs.Form.{mostDates}
-use Rattle.pricing.specs.declared.BondAndOption.{BondAndOption}
+use Rattle.price_laws.specs.declared.BondAndOption.{BondAndOption}
 use borrow.Author.Needs.{needs}
 use Rattle.job_prices.proofs.PriceLaws as laws
 use Rattle.job_prices.proofs.priced.both_of.Statement.{statement}

@@ -2,7 +2,7 @@
 -- Assumes nothing.
 use mathlib.Core.Path.{_∙_, ap}
 use mathlib.Core.Bool.{false}
-use Rattle.pricing.specs.declared.Price.{Price}
+use Rattle.price_laws.specs.declared.Price.{Price}
 use Rattle.job_prices.specs.JobPrices.{pricesOf}
 use borrow.Author.Needs.{needs}
 use Rattle.job_prices.proofs.PriceLaws as laws

@@ -15,9 +15,9 @@ use Rattle.pricing_laws.specs.Peak.{peak, greatestValue}
 use Rattle.lent_tree.specs.LentTree.{stored, discountsCause}
 use Rattle.price_bound.specs.PriceBound.{treeErrorBound}
 use Rattle.price_causes.specs.Causes.{flowsCause, optionCause, termsCause}
-use Rattle.pricing.specs.declared.Price.{Price}
-use Rattle.pricing.specs.declared.BondAndOption.{BondAndOption}
-use Rattle.pricing.specs.declared.BondAndOptionValues.{BondAndOptionValues}
+use Rattle.price_laws.specs.declared.Price.{Price}
+use Rattle.price_laws.specs.declared.BondAndOption.{BondAndOption}
+use Rattle.price_laws.specs.declared.BondAndOptionValues.{BondAndOptionValues}
 use Rattle.arithmetic.specs.declared.Answer.{Answer}
 
 -- flows stand for rows 1 to n; row 0 has none
@@ -119,3 +119,7 @@ bondAndDatedOption n b discounts flows side dates strike =
 
 abbrev pub bothValues : BondAndOption → BondAndOptionValues
 bothValues both = record { bond = valueAlone (both .bond); option = valueAlone (both .option) }
+
+-- and with a bound that is known
+abbrev pub bothWith : BondAndOptionValues → ℕ → BondAndOption
+bothWith both bound = record { bond = withBound (both .bond) bound; option = withBound (both .option) bound }

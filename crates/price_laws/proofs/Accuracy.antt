@@ -24,14 +24,14 @@ use Rattle.pricing_laws.specs.TreePricer.{exact}
 use Rattle.pricing_laws.proofs.Dates.{dates-accepted, schedule-last}
 use Rattle.price_bound.specs.PriceBound.{treeErrorBound}
 use Rattle.price_bound.proofs.BoundLaws.{discount-within}
-use Rattle.price_causes.specs.Causes.{flowsCause, optionCause, termsCause}
-use Rattle.price_causes.proofs.CheckLaws.{option-accepted}
+use Rattle.price_causes.specs.Causes.{AcceptedFlows, flowsCause, optionCause, termsCause}
+use Rattle.price_causes.proofs.CheckLaws.{flows-accepted, option-accepted}
 use Rattle.arithmetic.specs.Within.{Within}
 use Rattle.pricing_laws.proofs.PriceLaws.{Discounts-at-most, bond-accurate, option-accurate, error-bound-a-step}
-use Rattle.pricing.specs.declared.Price.{Price}
-use Rattle.pricing.specs.Prices.{flowAt, bondValue, bondPeak, optionValue, optionLimit, treeCause, firstCause, priced, scheduledPrice}
-use Rattle.pricing.specs.Prices.{bondPrice, optionPrice, datedCause, datedPrice}
-use Rattle.pricing.specs.Exact.{exactBond, exactOption, exactDated}
+use Rattle.price_laws.specs.declared.Price.{Price}
+use Rattle.price_laws.specs.Prices.{flowAt, bondValue, bondPeak, optionValue, optionLimit, treeCause, firstCause, priced, scheduledPrice}
+use Rattle.price_laws.specs.Prices.{bondPrice, optionPrice, bondAndOption, datedCause, datedPrice, bondAndDatedOption}
+use Rattle.price_laws.specs.Exact.{exactBond, exactOption, exactDated}
 
 -- an answer with number 0 has the price, and no cause
 pub record Given (cause v e : ℕ) (answer : Price) : Type 0 where
@@ -58,10 +58,14 @@ first-none c later h = go (eqb c 0) refl h
     go true q z = (eqb-true c 0 q, z)
     go false q z = absurd (eqb-false c 0 q z)
 
--- no cause about the tree and its flows: the tree is accepted
+-- no cause about the tree and its flows: both are accepted
 pub tree-lent : (n b : ℕ) (discounts flows : List ℕ) → treeCause n b discounts flows ≡ 0 → Accepted n b discounts
 unfolding treeCause
 tree-lent n b discounts flows z = accepted n b discounts (lowest-none (discountsCause n b discounts) (flowsCause n flows) z .0)
+
+pub tree-paid : (n b : ℕ) (discounts flows : List ℕ) → treeCause n b discounts flows ≡ 0 → AcceptedFlows n flows
+unfolding treeCause
+tree-paid n b discounts flows z = flows-accepted n flows (lowest-none (discountsCause n b discounts) (flowsCause n flows) z .1)
 
 low-discounts : (n b : ℕ) (discounts : List ℕ) → ((k : ℕ) → k < discountsNeeded n b → values discounts k ≤ one) →
     Discounts-at-most one (rateTree b) (stored b discounts) n
@@ -172,3 +176,18 @@ module _ (n b : ℕ) (discounts flows : List ℕ) where
         ((k : ℕ) → k < discountsNeeded n b → values discounts k ≤ one) → datedPrice n b discounts flows side dates strike .bound ≤ 2 * n
     unfolding datedPrice
     dated-bound-a-step = scheduled-a-step (numberedSide side) strike (datedSchedule dates) (datedCause n side dates strike) list-ends h
+
+  -- bond and option at once, each of its own
+  pub both-within-bound : (kind expiry strike : ℕ) →
+      let both = bondAndOption n b discounts flows kind expiry strike in
+      both .bond .number ≡ 0 → both .option .number ≡ 0 →
+      Within (both .bond .bound) (unit ^ n) (both .bond .value) (exactBond n b discounts flows)
+      × Within (both .option .bound) (unit ^ n) (both .option .value) (exactOption n b discounts flows kind expiry strike)
+  both-within-bound kind expiry strike zb zo = (bond-within-bound zb, option-within-bound kind expiry strike zo)
+
+  pub both-dated-within-bound : (side : ℕ) (dates : List ℕ) (strike : ℕ) →
+      let both = bondAndDatedOption n b discounts flows side dates strike in
+      both .bond .number ≡ 0 → both .option .number ≡ 0 →
+      Within (both .bond .bound) (unit ^ n) (both .bond .value) (exactBond n b discounts flows)
+      × Within (both .option .bound) (unit ^ n) (both .option .value) (exactDated n b discounts flows side dates strike)
+  both-dated-within-bound side dates strike zb zo = (bond-within-bound zb, dated-within-bound side dates strike zo)

@@ -10,7 +10,7 @@ use Rattle.pricing_laws.specs.Pricer.{bond, option, payoffValue}
 use Rattle.pricing_laws.specs.Schedule.{sideOf, scheduleOf, numberedSide, datedSchedule}
 use Rattle.pricing_laws.specs.TreePricer.{exact}
 use Rattle.lent_tree.specs.LentTree.{stored}
-use Rattle.pricing.specs.Prices.{flowAt}
+use Rattle.price_laws.specs.Prices.{flowAt}
 
 unfoldable pub exactBond : ℕ → ℕ → List ℕ → List ℕ → ℕ
 exactBond n b discounts flows = bond (exact (rateTree b) (stored b discounts)) (flowAt flows) n 0 0

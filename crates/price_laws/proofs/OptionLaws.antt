@@ -1,6 +1,6 @@
 -- The kinds of option and the options on listed rows: what their entries hand on, and that a kind and its list are one option.
 -- Assumes nothing.
-use mathlib.Core.Path.{_≡_, refl, sym, ap, ap₂, _∙_}
+use mathlib.Core.Path.{_≡_, sym, ap, ap₂, _∙_}
 use mathlib.Core.List.{List}
 use Prim.Native.Nat.{ℕ, _≤_, _<_}
 use native.Mathlib.Omega.{arith}
@@ -9,21 +9,23 @@ use Rattle.arithmetic.specs.Answers.{lowestCause}
 use Rattle.arithmetic.proofs.CauseLaws.{lowest-alone, lowest-none}
 use Rattle.arithmetic.proofs.Numbers.{by-order}
 use Rattle.limits.specs.Limits.{mostSteps}
-use Rattle.pricing_laws.specs.Pricer.{Side, Schedule}
+use Rattle.pricing_laws.specs.Pricer.{Side}
 use Rattle.pricing_laws.specs.Schedule.{lastDate, datedSchedule, datesCause, numberedSide, sideOf, kindDates, kindSide, scheduleOf}
-use Rattle.pricing_laws.proofs.Dates.{dates-accepted, kind-last, kind-accepted, kind-side, kind-side-number}
+use Rattle.pricing_laws.proofs.Dates.{dates-accepted, kind-accepted, kind-side, kind-side-number}
 use Rattle.exercise.specs.declared.Terms.{Terms}
 use Rattle.exercise.specs.Terms.{side, termsOf}
-use Rattle.exercise.proofs.KindLaws.{side-found, strike-found, last-found}
+use Rattle.exercise.proofs.KindLaws.{side-found, strike-found}
 use Rattle.exercise_dates.specs.declared.Dates.{Dates}
 use Rattle.exercise_dates.specs.Dates.{datedTerms, datesOfKind}
-use Rattle.exercise_dates.proofs.DateLaws.{kind-list, dated-side, dated-strike, dated-last}
+use Rattle.exercise_dates.proofs.DateLaws.{kind-list, dated-side, dated-strike}
 use Rattle.price_causes.specs.Causes.{optionCause, termsCause}
-use Rattle.price_causes.proofs.CheckLaws.{option-accepted, terms-accepted, kind-terms}
-use Rattle.pricing.specs.Prices.{treeCause, scheduledPrice, optionPrice, datedCause, datedPrice}
-use Rattle.pricing.specs.Trees.{ExercisedOn}
-use Rattle.pricing.proofs.Accuracy.{tree-lent}
-use Rattle.pricing.proofs.EntryLaws.{refused-alike}
+use Rattle.price_causes.proofs.CheckLaws.{option-accepted, kind-terms}
+use Rattle.price_laws.specs.declared.Price.{Price}
+use Rattle.price_laws.specs.declared.BondAndOption.{BondAndOption}
+use Rattle.price_laws.specs.Prices.{treeCause, valueAlone, withBound, bothValues, bothWith, bondPrice, scheduledPrice}
+use Rattle.price_laws.specs.Prices.{optionPrice, bondAndOption, datedCause, datedPrice, bondAndDatedOption}
+use Rattle.price_laws.proofs.Accuracy.{tree-lent}
+use Rattle.price_laws.proofs.AnswerLaws.{refused-alike, both-are}
 
 -- ---- a kind
 
@@ -31,17 +33,6 @@ module _ (n kind expiry strike : ℕ) (cause : ℕ) (ec : cause ≡ optionCause 
     (dates : Dates) (ed : dates ≡ datesOfKind kind expiry) where
   abbrev handed : List ℕ
   handed = take (dates .count) (dates .rows)
-
-  pub kind-exercised : cause ≡ 0 → n ≤ mostSteps → ExercisedOn terms n handed
-  kind-exercised z few =
-      let judged = option-accepted n kind expiry strike (sym ec ∙ z) in
-      let listed : handed ≡ kindDates kind expiry = kind-list kind expiry (omega (arith, judged .0)) dates ed in
-      let last : lastDate handed ≡ expiry = ap lastDate listed ∙ kind-last kind expiry in
-      record {
-        last-listed = last-found kind expiry strike terms et ∙ sym last;
-        before-end = omega (arith, last, judged .0);
-        strike-within = omega (arith, strike-found kind expiry strike terms et, judged .1);
-      }
 
   -- an expiry that no tree has is a cause
   expiry-judged : (b : ℕ) (discounts flows : List ℕ) → mostSteps < expiry → treeCause n b discounts flows ≡ 0 → cause ≡ 0 → ⊥
@@ -59,7 +50,7 @@ module _ (n kind expiry strike : ℕ) (cause : ℕ) (ec : cause ≡ optionCause 
       refused-alike n b discounts flows (sideOf kind) strike (datedSchedule handed) (datedSchedule (kindDates kind expiry)) cause
       (expiry-judged b discounts flows many))
 
-  pub kind-price : (b : ℕ) (discounts flows : List ℕ) →
+  kind-price : (b : ℕ) (discounts flows : List ℕ) →
       scheduledPrice n b discounts flows (side (terms .call)) (terms .strike) (datedSchedule handed) cause
       ≡ optionPrice n b discounts flows kind expiry strike
   unfolding optionPrice
@@ -68,6 +59,13 @@ module _ (n kind expiry strike : ℕ) (cause : ℕ) (ec : cause ≡ optionCause 
       (side-found kind expiry strike terms et) (strike-found kind expiry strike terms et)
       ∙ same-rows b discounts flows
       ∙ ap (scheduledPrice n b discounts flows (sideOf kind) strike (scheduleOf kind expiry)) ec
+
+  -- bond and option as the code has them, with an error bound e
+  pub kind-both : (b : ℕ) (discounts flows : List ℕ) (e : ℕ) (r : BondAndOption) → r .bond ≡ withBound (valueAlone (bondPrice n b discounts flows)) e →
+      r .option ≡ withBound (valueAlone (scheduledPrice n b discounts flows (side (terms .call)) (terms .strike) (datedSchedule handed) cause)) e →
+      r ≡ bothWith (bothValues (bondAndOption n b discounts flows kind expiry strike)) e
+  kind-both b discounts flows e r eb eo =
+      both-are r _ _ eb (eo ∙ ap (λ (p : Price). withBound (valueAlone p) e) (kind-price b discounts flows))
 
 -- ---- an option on listed rows
 
@@ -79,22 +77,19 @@ dated-accepted n number dates strike z =
 
 module _ (n number : ℕ) (dates : List ℕ) (strike : ℕ) (cause : ℕ) (ec : cause ≡ datedCause n number dates strike) (terms : Terms)
     (et : terms ≡ datedTerms number dates strike) where
-  pub dated-exercised : cause ≡ 0 → n ≤ mostSteps → ExercisedOn terms n dates
-  dated-exercised z few =
-      let judged = dated-accepted n number dates strike (sym ec ∙ z) in
-      record {
-        last-listed = dated-last number dates strike terms et;
-        before-end = judged .0;
-        strike-within = omega (arith, dated-strike number dates strike terms et, terms-accepted number strike (judged .1));
-      }
-
-  pub dated-price : (b : ℕ) (discounts flows : List ℕ) →
+  dated-price : (b : ℕ) (discounts flows : List ℕ) →
       scheduledPrice n b discounts flows (side (terms .call)) (terms .strike) (datedSchedule dates) cause ≡ datedPrice n b discounts flows number dates strike
   unfolding datedPrice
   dated-price b discounts flows =
       ap₂ (λ (s : Side) (x : ℕ). scheduledPrice n b discounts flows s x (datedSchedule dates) cause)
       (dated-side number dates strike terms et) (dated-strike number dates strike terms et)
       ∙ ap (scheduledPrice n b discounts flows (numberedSide number) strike (datedSchedule dates)) ec
+
+  pub dates-both : (b : ℕ) (discounts flows : List ℕ) (e : ℕ) (r : BondAndOption) → r .bond ≡ withBound (valueAlone (bondPrice n b discounts flows)) e →
+      r .option ≡ withBound (valueAlone (scheduledPrice n b discounts flows (side (terms .call)) (terms .strike) (datedSchedule dates) cause)) e →
+      r ≡ bothWith (bothValues (bondAndDatedOption n b discounts flows number dates strike)) e
+  dates-both b discounts flows e r eb eo =
+      both-are r _ _ eb (eo ∙ ap (λ (p : Price). withBound (valueAlone p) e) (dated-price b discounts flows))
 
 -- the cause as the code works it out
 pub dated-cause-is : (n number : ℕ) (dates : List ℕ) (strike a l c : ℕ) → a ≡ termsCause number strike → l ≡ datesCause n dates → c ≡ lowestCause a l →

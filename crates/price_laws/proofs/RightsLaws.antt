@@ -8,16 +8,16 @@ use Rattle.arithmetic.proofs.CauseLaws.{lowest-none}
 use Rattle.lattice.specs.RateTree.{rateTree}
 use Rattle.lattice.proofs.RateTreeLaws.{rate-tree-sound}
 use Rattle.lent_tree.specs.LentTree.{stored}
-use Rattle.pricing_laws.specs.Schedule.{numberedSide, datedSchedule, datesCause, Contained, kindSide, kindDates}
+use Rattle.pricing_laws.specs.Schedule.{numberedSide, datesCause, Contained, kindSide, kindDates}
 use Rattle.pricing_laws.specs.TreePricer.{engine}
 use Rattle.pricing_laws.proofs.PriceLaws.{On, engine-monotone}
 use Rattle.pricing_laws.proofs.MoreDates.{more-dates, european-in-american, american-side}
 use Rattle.price_causes.specs.Causes.{optionCause, termsCause}
 use Rattle.price_causes.proofs.CheckLaws.{option-accepted, kind-known}
-use Rattle.pricing.specs.declared.Price.{Price}
-use Rattle.pricing.specs.Prices.{flowAt, optionValue, optionPrice, datedCause, datedPrice}
-use Rattle.pricing.proofs.Accuracy.{first-none, tree-lent, option-given, dated-given}
-use Rattle.pricing.proofs.OptionLaws.{kind-is-list}
+use Rattle.price_laws.specs.declared.Price.{Price}
+use Rattle.price_laws.specs.Prices.{flowAt, optionValue, optionPrice, datedCause, datedPrice}
+use Rattle.price_laws.proofs.Accuracy.{first-none, tree-lent, option-given, dated-given}
+use Rattle.price_laws.proofs.OptionLaws.{kind-is-list}
 
 module _ (n b : ℕ) (discounts flows : List ℕ) where
   -- a list that was priced has no cause

@@ -1,0 +1,5 @@
+pub mod AnswerLaws
+pub mod Accuracy
+pub mod ValueLaws
+pub mod OptionLaws
+pub mod RightsLaws

@@ -1,0 +1,23 @@
+// A price, laid out for C, with the definitions and laws of what the pricing entries answer. No code: the entries are in pricing.
+use arithmetic::Answer;
+
+// A price in billionths with its error bound; a refusal's number with zeros.
+#[repr(C)]
+pub struct Price {
+    pub number: u64,
+    pub value: u64,
+    pub bound: u64,
+}
+
+// A bond and an option on it.
+#[repr(C)]
+pub struct BondAndOption {
+    pub bond: Price,
+    pub option: Price,
+}
+
+// The same without their error bounds.
+pub struct BondAndOptionValues {
+    pub bond: Answer,
+    pub option: Answer,
+}

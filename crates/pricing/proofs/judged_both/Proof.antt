@@ -1,0 +1,97 @@
+-- `pricing::judged_both` meets its contract.
+-- Assumes nothing.
+use mathlib.Core.Path.{_≡_, sym, _∙_}
+use native.Mathlib.Omega.{arith}
+use denote.Ref.{now}
+use Rattle.lent_tree.specs.LentTree.{Accepted}
+use Rattle.price_laws.specs.Prices.{treeCause}
+use Rattle.price_laws.proofs.Accuracy.{tree-lent, tree-paid}
+use Rattle.price_laws.proofs.AnswerLaws.{marked-price}
+use Rattle.price_laws.proofs.ValueLaws as answers
+use Rattle.pricing.specs.Trees.{ExercisedOn}
+use Rattle.pricing.proofs.EntryLaws.{marks-exercisable}
+use borrow.Author.Needs.{needs}
+use Rattle.pricing.proofs.judged_both.Statement.{statement}
+use Rattle.pricing.proofs.judged_both.Tie as tie
+
+refused-requires : tie.Need-refused-requires
+refused-requires c κs = search needs
+
+refused-requires-2 : tie.Need-refused-requires-2
+refused-requires-2 c κs = search needs
+
+returns : tie.Need-returns
+returns c =
+    let refusing = c .before .before in
+    let cause = refusing .before .before .before .before .before .pre .0 in (
+      c .before .refused .ensures ∙ answers.bond-refused _ _ _ _ _ _ cause (refusing .if1 .taken),
+      c .refused2 .ensures ∙ answers.option-refused _ _ _ _ _ _ _ _ _ _ cause (refusing .if1 .taken),
+    )
+
+-- where there is no cause about the tree
+abbrev start : tie.Else1 → tie.Start
+start c = c .before .before .before .before .before
+
+none : (c : tie.Else1) → let a = start c .args in treeCause (a .tree .steps) (a .tree .reversion) (now (a .discounts)) (now (a .flows)) ≡ 0
+none c = sym (start c .pre .0) ∙ c .if1 .left
+
+tree : (c : tie.Else1) → let a = start c .args in Accepted (a .tree .steps) (a .tree .reversion) (now (a .discounts))
+tree c = tree-lent _ _ _ _ (none c)
+
+accepted-bond-requires : tie.Need-accepted-bond-requires
+accepted-bond-requires c κs = (tree (c .before), tree-paid _ _ _ _ (none (c .before)))
+
+refused-requires-3 : tie.Need-refused-requires-3
+refused-requires-3 c κs = search needs
+
+returns-2 : tie.Need-returns-2
+returns-2 c =
+    let refusing = c .before .before in (
+      answers.bond-passed _ _ _ _ _ (none (refusing .before)) _ (c .before .accepted-bond .ensures),
+      c .refused3 .ensures ∙ answers.option-cause _ _ _ _ _ _ _ _ _ (none (refusing .before)) (refusing .if2 .taken),
+    )
+
+-- where there is no cause about the option either
+exercised : (c : tie.Else2) → let a = start (c .before) .args in ExercisedOn (a .terms) (a .tree .steps) (now (a .dates))
+exercised c = start (c .before) .pre .1 (c .if2 .left) (tree (c .before) .steps-within-limit)
+
+marks-of-requires : tie.Need-marks-of-requires
+marks-of-requires c κs = search needs
+
+slice-aggregate-accepted-both : tie.Need-slice-aggregate-accepted-both
+slice-aggregate-accepted-both c = search needs
+
+accepted-both-requires : tie.Need-accepted-both-requires
+accepted-both-requires c κs =
+    let marked = c .before in
+    let on = exercised (marked .before) in
+    let on-tree = tree (marked .before .before) in
+    let few = on-tree .steps-within-limit in
+    (on-tree, tree-paid _ _ _ _ (none (marked .before .before)), marks-exercisable _ _ _ _ on few (marked .marks-of .ensures))
+
+returns-3 : tie.Need-returns-3
+returns-3 c =
+    let marked = c .before .before in
+    let on = exercised (marked .before) in
+    let on-tree = marked .before .before in
+    let few = tree on-tree .steps-within-limit in (
+      answers.bond-passed _ _ _ _ _ (none on-tree) _ (c .accepted-both .ensures .0),
+      answers.option-passed _ _ _ _ _ _ _ _ _ (none on-tree) (marked .before .if2 .left) _
+          (marked-price _ _ _ _ _ _ _ _ _ _ _ (omega (arith, on .before-end)) (on .last-listed) (marked .marks-of .ensures)
+          (c .accepted-both .ensures .1)),
+    )
+
+pub judged-both-spec : {M : Type 1} → statement M
+judged-both-spec =
+    tie.close
+    (tie.spec
+    refused-requires
+    refused-requires-2
+    returns
+    accepted-bond-requires
+    refused-requires-3
+    returns-2
+    marks-of-requires
+    slice-aggregate-accepted-both
+    accepted-both-requires
+    returns-3)
