@@ -16,8 +16,9 @@
 #define MOST_TURNS 1001
 #define CURVES 2000
 
+/* Version 0 is the fit that takes none. */
 struct work {
-    uint64_t f, b, s, kind, side, strike;
+    uint64_t version, working, f, b, s, kind, side, strike;
     size_t n, expiry, dates_count;
     uint64_t rows[MOST_STEPS], flows[MOST_STEPS];
     uint8_t kinds[MOST_STEPS], dates[MOST_DATES];
@@ -46,38 +47,43 @@ static struct plain_prices both_of_library(struct mixegorta_bond_and_option_pric
 
 static void by_library(const struct work *w, struct result *r, int parts)
 {
-    if (parts & FIT)
+    if (parts & FIT && w->version)
+        r->number = mixegorta_fit_version(w->version, w->f, w->n, w->b, w->s, w->rows, w->n, w->kinds, w->n, w->figures, w->n, r->discounts,
+                                          MOST_DISCOUNTS, r->prices, MOST_PRICES);
+    else if (parts & FIT)
         r->number = mixegorta_fit(w->f, w->n, w->b, w->s, w->rows, w->n, w->kinds, w->n, w->figures, w->n, r->discounts, MOST_DISCOUNTS,
                                   r->prices, MOST_PRICES);
     if (parts & BOND)
-        r->bond = of_library(mixegorta_bond_price(w->n, w->b, r->discounts, MOST_DISCOUNTS, w->flows, w->n));
+        r->bond = of_library(mixegorta_bond_price(w->n, w->working, r->discounts, MOST_DISCOUNTS, w->flows, w->n));
     if (parts & OPTION)
-        r->option = of_library(mixegorta_option_price(w->n, w->b, r->discounts, MOST_DISCOUNTS, w->flows, w->n, w->kind, w->expiry, w->strike));
+        r->option = of_library(mixegorta_option_price(w->n, w->working, r->discounts, MOST_DISCOUNTS, w->flows, w->n, w->kind, w->expiry, w->strike));
     if (parts & BOTH)
         r->both = both_of_library(
-            mixegorta_bond_and_option(w->n, w->b, r->discounts, MOST_DISCOUNTS, w->flows, w->n, w->kind, w->expiry, w->strike));
+            mixegorta_bond_and_option(w->n, w->working, r->discounts, MOST_DISCOUNTS, w->flows, w->n, w->kind, w->expiry, w->strike));
     if (parts & DATED)
-        r->dated = of_library(mixegorta_dated_option_price(w->n, w->b, r->discounts, MOST_DISCOUNTS, w->flows, w->n, w->side, w->dates,
+        r->dated = of_library(mixegorta_dated_option_price(w->n, w->working, r->discounts, MOST_DISCOUNTS, w->flows, w->n, w->side, w->dates,
                                                            w->dates_count, w->strike));
     if (parts & BOTH_DATED)
-        r->both_dated = both_of_library(mixegorta_bond_and_dated_option(w->n, w->b, r->discounts, MOST_DISCOUNTS, w->flows, w->n, w->side,
+        r->both_dated = both_of_library(mixegorta_bond_and_dated_option(w->n, w->working, r->discounts, MOST_DISCOUNTS, w->flows, w->n, w->side,
                                                                         w->dates, w->dates_count, w->strike));
 }
 
 static void by_plain_c(const struct work *w, struct result *r, int parts)
 {
-    if (parts & FIT)
+    if (parts & FIT && w->version)
+        r->number = plain_fit_version(w->version, w->f, w->n, w->b, w->s, w->rows, w->kinds, w->figures, r->discounts, r->prices);
+    else if (parts & FIT)
         r->number = plain_fit(w->f, w->n, w->b, w->s, w->rows, w->kinds, w->figures, r->discounts, r->prices);
     if (parts & BOND)
-        r->bond = plain_bond(w->n, w->b, r->discounts, w->flows);
+        r->bond = plain_bond(w->n, w->working, r->discounts, w->flows);
     if (parts & OPTION)
-        r->option = plain_option(w->n, w->b, r->discounts, w->flows, w->kind, w->expiry, w->strike);
+        r->option = plain_option(w->n, w->working, r->discounts, w->flows, w->kind, w->expiry, w->strike);
     if (parts & BOTH)
-        r->both = plain_bond_and_option(w->n, w->b, r->discounts, w->flows, w->kind, w->expiry, w->strike);
+        r->both = plain_bond_and_option(w->n, w->working, r->discounts, w->flows, w->kind, w->expiry, w->strike);
     if (parts & DATED)
-        r->dated = plain_dated_option(w->n, w->b, r->discounts, w->flows, w->side, w->dates, w->dates_count, w->strike);
+        r->dated = plain_dated_option(w->n, w->working, r->discounts, w->flows, w->side, w->dates, w->dates_count, w->strike);
     if (parts & BOTH_DATED)
-        r->both_dated = plain_bond_and_dated_option(w->n, w->b, r->discounts, w->flows, w->side, w->dates, w->dates_count, w->strike);
+        r->both_dated = plain_bond_and_dated_option(w->n, w->working, r->discounts, w->flows, w->side, w->dates, w->dates_count, w->strike);
 }
 
 static double uniform(void)
@@ -98,7 +104,7 @@ static void list_dates(struct work *w, size_t first, size_t every, size_t last)
 /* Monthly steps, a rising curve quoted as rates, a coupon bond, an American call on it, and a call of every third row to the same expiry. */
 static struct work work_of(size_t n, uint64_t b, double level, double slope)
 {
-    struct work w = {.f = 12, .b = b, .s = 8000, .kind = 3, .side = 1, .strike = ONE, .n = n, .expiry = n - n / 5};
+    struct work w = {.working = b, .f = 12, .b = b, .s = 8000, .kind = 3, .side = 1, .strike = ONE, .n = n, .expiry = n - n / 5};
     list_dates(&w, w.expiry % 3, 3, w.expiry);
     for (size_t t = 1; t <= n; t++) {
         w.rows[t - 1] = t;
@@ -147,9 +153,9 @@ static void must_be_equal(const struct work *w, const struct result *x, const st
 /* A tree's bounds, with the rows' greatest discounts and alone. */
 static void must_have_equal_bounds(const struct work *w, const uint64_t *discounts)
 {
-    const struct mixegorta_tree_error_bounds x = mixegorta_tree_bounds(w->n, w->b, discounts, MOST_DISCOUNTS);
-    const struct mixegorta_answer alone = mixegorta_price_error_bound(w->n, w->b, discounts, MOST_DISCOUNTS);
-    const struct plain_bounds y = plain_tree_bounds(w->n, w->b, discounts);
+    const struct mixegorta_tree_error_bounds x = mixegorta_tree_bounds(w->n, w->working, discounts, MOST_DISCOUNTS);
+    const struct mixegorta_answer alone = mixegorta_price_error_bound(w->n, w->working, discounts, MOST_DISCOUNTS);
+    const struct plain_bounds y = plain_tree_bounds(w->n, w->working, discounts);
     if (x.number == y.number && x.bound == y.bound && !memcmp(x.greatest, y.greatest, sizeof y.greatest) && alone.number == y.number &&
         alone.value == y.bound)
         return;
@@ -169,12 +175,27 @@ static void any_dates(struct work *w, int i)
     w->side = i % 50 ? 1 + (uint64_t)(i / 4 % 2) : 3;
 }
 
-/* Any curve, quoted by rates or by yields, and a bond and options of which some are refused. */
+/* By which both price a tree of that version: the library's answer, which must be plain C's. */
+static void set_version(struct work *w, uint64_t version)
+{
+    const struct mixegorta_answer working = mixegorta_working_reversion(version, w->b);
+    const int known = version == 1 || version == 2;
+    if (working.number != (known ? 0 : 7) || (known && working.value != plain_working_reversion(version, w->b))) {
+        fprintf(stderr, "DIFFERENT working reversions of %llu\n", (unsigned long long)w->b);
+        exit(1);
+    }
+    w->version = version;
+    w->working = known ? working.value : w->b;
+}
+
+/* Any curve, quoted by rates or by yields, by any version or without one, and a bond and options of which some are refused. */
 static struct work any_work(int i)
 {
-    static const uint64_t reversions[] = {0, 1, 31, 83, 500, 1000, 1840, 1841, 6000}, frequencies[] = {12, 4, 2, 1};
-    struct work w = work_of(1 + (size_t)(uniform() * 60), reversions[i % 9], uniform() * 0.1 - 0.02, uniform() * 0.002 - 0.0005);
+    static const uint64_t reversions[] = {0, 1, 31, 83, 103, 500, 1000, 1840, 1841, 2034, 6000}, frequencies[] = {12, 4, 2, 1};
+    struct work w = work_of(1 + (size_t)(uniform() * 60), reversions[i % 11], uniform() * 0.1 - 0.02, uniform() * 0.002 - 0.0005);
     w.f = frequencies[i % 4];
+    if (i % 3)
+        set_version(&w, i % 60 == 1 ? 3 : 1 + (uint64_t)(i / 3 % 2));
     memset(w.kinds, i % 3 ? 6 : 9, w.n);
     w.kind = i % 50 ? 1 + (uint64_t)(i / 4 % 4) : 5;
     w.s = (uint64_t)(uniform() * 40000);
@@ -648,6 +669,63 @@ static void bounds(int turns)
     }
 }
 
+/* The fit of a work by the entry without a version, and as version 1. */
+static void by_fit(const struct work *w, struct result *r, int parts)
+{
+    (void)parts;
+    r->number = mixegorta_fit(w->f, w->n, w->b, w->s, w->rows, w->n, w->kinds, w->n, w->figures, w->n, r->discounts, MOST_DISCOUNTS, r->prices,
+                              MOST_PRICES);
+}
+
+static void by_version_1(const struct work *w, struct result *r, int parts)
+{
+    (void)parts;
+    r->number = mixegorta_fit_version(1, w->f, w->n, w->b, w->s, w->rows, w->n, w->kinds, w->n, w->figures, w->n, r->discounts, MOST_DISCOUNTS,
+                                      r->prices, MOST_PRICES);
+}
+
+static void line_of_versions(const struct work *w, const char *name, worker a, worker b, int parts, int turns)
+{
+    const struct timing t = side_by_side(a, b, w, parts, turns, 20);
+    printf("b = %-5llu %-22s %8.2f us    %8.2f us     %6.2f\n", (unsigned long long)w->b, name, t.first, t.second, t.ratio);
+}
+
+static volatile uint64_t last_working;
+static uint64_t worked;
+
+static void working_by_library(void)
+{
+    last_working = mixegorta_working_reversion(2, worked).value;
+}
+
+static void working_by_plain_c(void)
+{
+    last_working = plain_working_reversion(2, worked);
+}
+
+static void versions(int turns)
+{
+    static const uint64_t reversions[] = {31, 83, 103, 1000, 6000};
+    printf("\nversion 2, n = 60                 library        plain C      ratio\n");
+    for (int i = 0; i < 5; i++) {
+        struct work w = work_of(60, reversions[i], 0.02, 0.0003);
+        set_version(&w, 2);
+        line_of_versions(&w, "fit, bond and option", by_library, by_plain_c, WHOLE_JOB, turns);
+        line_of_versions(&w, "fit", by_library, by_plain_c, FIT, turns);
+    }
+    worked = 1000;
+    line_of_moves("one working reversion", working_by_library, working_by_plain_c, turns);
+    printf("\nlibrary, n = 60                   by version     fit          ratio\n");
+    for (int i = 0; i < 5; i++) {
+        struct work w = work_of(60, reversions[i], 0.02, 0.0003);
+        line_of_versions(&w, "version 1", by_version_1, by_fit, FIT, turns);
+        char name[64];
+        set_version(&w, 2);
+        snprintf(name, sizeof name, "version 2, as %llu", (unsigned long long)w.working);
+        line_of_versions(&w, name, by_library, by_fit, FIT, turns);
+    }
+}
+
 static void shelves(int turns)
 {
     static const uint64_t reversions[] = {0, 83, 1000};
@@ -728,6 +806,7 @@ int main(int argc, char **argv)
     growth(turns);
     shelves(turns);
     bounds(turns);
+    versions(turns);
     against_quantlib(turns / 4 + 1);
     return 0;
 }

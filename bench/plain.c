@@ -1,4 +1,5 @@
-/* The fit, bond and option of document 01 as document 02 changed it, and 02's continuous rate and shelf, written straight down. All sums fit 64 bits once the limits are checked. */
+/* The fit, bond and option of document 01 as document 02 changed it, and 02's continuous rate, versions and shelf, written straight down. All
+ * sums fit 64 bits once the limits are checked. */
 #include "plain.h"
 #include <math.h>
 #include <string.h>
@@ -127,15 +128,29 @@ static uint64_t quote(uint64_t f, uint64_t t, uint8_t kind, double x, uint64_t *
     return 0;
 }
 
-static uint64_t spacing(uint64_t f, uint64_t s)
+static uint64_t root_of(uint64_t square)
 {
-    const uint64_t square = 3000000 * s * s / (f * f * f);
     uint64_t h = (uint64_t)sqrt((double)square);
     while (h * h > square)
         h--;
     while ((h + 1) * (h + 1) <= square)
         h++;
     return h;
+}
+
+uint64_t plain_working_reversion(uint64_t version, uint64_t b)
+{
+    return version == 2 ? (10000 * (ONE - continuous(25000 * b, 0)) + ONE / 2) / ONE : b;
+}
+
+/* Of version 2 for a reversion above 0: 3 s^2 c / 1,000 is 3 (1,000 s)^2 c / one, and fits. */
+static uint64_t spacing(uint64_t version, uint64_t f, uint64_t s, uint64_t b)
+{
+    const uint64_t cube = f * f * f;
+    if (version == 1 || b == 0)
+        return root_of(3000000 * s * s / cube);
+    const uint64_t c = (uint64_t)ONE * (ONE - continuous(50000 * b, 0)) / (200000 * b);
+    return root_of(3 * s * s * c / 1000 / cube);
 }
 
 /* Factors of nodes -w to w. */
@@ -201,8 +216,8 @@ static uint64_t step(size_t w, size_t next, uint64_t quote, const uint64_t *u, c
     return 0;
 }
 
-uint64_t plain_fit(uint64_t f, size_t n, uint64_t b, uint64_t s, const uint64_t *rows, const uint8_t *kinds,
-                   const double *figures, uint64_t *discounts, uint64_t *state_prices)
+uint64_t plain_fit_version(uint64_t version, uint64_t f, size_t n, uint64_t reversion, uint64_t s, const uint64_t *rows, const uint8_t *kinds,
+                           const double *figures, uint64_t *discounts, uint64_t *state_prices)
 {
     uint64_t quotes[MOST_STEPS], u[MOST_NODES];
     struct branch p[MOST_NODES];
@@ -210,7 +225,7 @@ uint64_t plain_fit(uint64_t f, size_t n, uint64_t b, uint64_t s, const uint64_t 
         return 2;
     if (n < 1 || n > MOST_STEPS)
         return 3;
-    if (b > 6000)
+    if (reversion > 6000)
         return 4;
     if (s > 50000)
         return 5;
@@ -220,8 +235,10 @@ uint64_t plain_fit(uint64_t f, size_t n, uint64_t b, uint64_t s, const uint64_t 
     for (size_t t = 1; t <= n; t++)
         if (quote(f, t, kinds[t - 1], figures[t - 1], &quotes[t - 1]))
             return 7;
+    if (version != 1 && version != 2)
+        return 7;
+    const uint64_t b = plain_working_reversion(version, reversion), h = spacing(version, f, s, reversion);
     const size_t widest = half_width(b, n - 1);
-    const uint64_t h = spacing(f, s);
     if (widest * h > ONE)
         return 8;
     factors(u, widest, h);
@@ -243,6 +260,12 @@ uint64_t plain_fit(uint64_t f, size_t n, uint64_t b, uint64_t s, const uint64_t 
         state_prices = later;
     }
     return 0;
+}
+
+uint64_t plain_fit(uint64_t f, size_t n, uint64_t b, uint64_t s, const uint64_t *rows, const uint8_t *kinds,
+                   const double *figures, uint64_t *discounts, uint64_t *state_prices)
+{
+    return plain_fit_version(1, f, n, b, s, rows, kinds, figures, discounts, state_prices);
 }
 
 /* The lowest of the three nodes to which node k of a row leads. */

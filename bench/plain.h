@@ -1,4 +1,4 @@
-/* Document 01's fit, bond and option, and document 02's continuous rate, dated option and shelf, in plain C. */
+/* Document 01's fit, bond and option, and document 02's continuous rate, dated option, versions and shelf, in plain C. */
 #ifndef PLAIN_H
 #define PLAIN_H
 #include <stddef.h>
@@ -19,6 +19,10 @@ struct plain_rate {
 
 uint64_t plain_fit(uint64_t f, size_t n, uint64_t b, uint64_t s, const uint64_t *rows, const uint8_t *kinds,
                    const double *figures, uint64_t *discounts, uint64_t *state_prices);
+/* For a version 1 or 2 and a reversion within its limit. */
+uint64_t plain_working_reversion(uint64_t version, uint64_t b);
+uint64_t plain_fit_version(uint64_t version, uint64_t f, size_t n, uint64_t reversion, uint64_t s, const uint64_t *rows, const uint8_t *kinds,
+                           const double *figures, uint64_t *discounts, uint64_t *state_prices);
 struct plain_price plain_bond(size_t n, uint64_t b, const uint64_t *discounts, const uint64_t *flows);
 struct plain_price plain_option(size_t n, uint64_t b, const uint64_t *discounts, const uint64_t *flows, uint64_t kind,
                                 size_t expiry, uint64_t strike);

@@ -16,10 +16,12 @@
  * Where several refusals apply, the lowest number is given, with these exceptions: 15 is tried before all others, 14 after 4, and 13
  * before 12.
  *
- *   reversion   reversion per step (yearly reversion times step length) in ten-thousandths, 0 to 6,000
+ *   reversion   reversion per step (yearly reversion times step length) in ten-thousandths, 0 to 6,000; of a tree of version 2 its working
+ *               reversion, wherever a function takes a tree and not a version
  *   steps       n, 1 to 60
  *   frequency   steps a year: 1, 2, 4 or 12
  *   volatility  yearly volatility in millionths, 0 to 50,000
+ *   version     how a fit takes the reversion: 1 or 2
  *
  * Refusals, the field `number` or a returned uint64_t; 0 means that nothing was refused:
  *
@@ -29,8 +31,9 @@
  *    4  the reversion is above 6,000
  *    5  the volatility is above 50,000
  *    6  a length, row or node is not in the tree, or a memory is too short
- *    7  a quote's kind, figure or discount is outside its limits: an unknown kind; a figure that is NaN, infinite or beyond +-10; a
- *       rate whose divisor is 0 or less; a yield x row / frequency beyond +-4; a discount outside 100,000,000 to 2,000,000,000
+ *    7  a quote's kind, figure or discount is outside its limits, or the version is not 1 or 2: an unknown kind; a figure that is NaN,
+ *       infinite or beyond +-10; a rate whose divisor is 0 or less; a yield x row / frequency beyond +-4; a discount outside 100,000,000
+ *       to 2,000,000,000
  *    8  the nodes are too far apart: (half width of row n - 1) x spacing is above one
  *    9  a node discount is 0 or above 1,100,000,000
  *   10  a flow is above 2,000,000,000
@@ -45,7 +48,7 @@
  * that many elements; with count 0 it may be NULL. All of them are initialised, those that a call only writes too: any numbers
  * will do, such as 0. Elements behind a pointer to const are only read, and such slices may overlap each other. What a pointer
  * without const reaches must overlap nothing else that the same call is handed. A refused call leaves every memory as it was,
- * except refusal 9 of mixegorta_fit. The memory of a shelf has one size and comes without a count. */
+ * except refusal 9 of mixegorta_fit and mixegorta_fit_version. The memory of a shelf has one size and comes without a count. */
 #ifndef MIXEGORTA_H
 #define MIXEGORTA_H
 
@@ -58,9 +61,9 @@ extern "C" {
 
 /* The version of header and library, in three numbers and as a text. The shared object's name for the loader carries the first. */
 #define MIXEGORTA_VERSION_MAJOR 0
-#define MIXEGORTA_VERSION_MINOR 8
+#define MIXEGORTA_VERSION_MINOR 9
 #define MIXEGORTA_VERSION_PATCH 0
-#define MIXEGORTA_VERSION "0.8.0"
+#define MIXEGORTA_VERSION "0.9.0"
 
 /* The same as one number, which mixegorta_version() of this header's own library answers. */
 #define MIXEGORTA_VERSION_NUMBER \
@@ -230,6 +233,11 @@ struct mixegorta_answer mixegorta_state_prices_needed(size_t steps, uint64_t rev
  * Refusals: 4 reversion, 6 row or node. */
 struct mixegorta_node_branches mixegorta_branches(uint64_t reversion, size_t row, int64_t node);
 
+/* The working reversion of a reversion per step b, in ten-thousandths, by which a tree of that version branches: b itself in version 1; in
+ * version 2 ten thousand x (one - F) / one, nearest, F being the discount of a continuous yield of b. It is at most b, 0 for 0 and at
+ * least 1 above. Refusals: 4 reversion, then 7 version. */
+struct mixegorta_answer mixegorta_working_reversion(uint64_t version, uint64_t reversion);
+
 /* ---- Level one: quotes, the fit, its rows and rates. */
 
 /* The discount of one quoted point. kind: 5, 6 or 9; point.row: 1 to 60. No memory is touched.
@@ -251,6 +259,22 @@ uint64_t mixegorta_curve_discounts(uint64_t frequency, size_t steps, const uint6
 uint64_t mixegorta_fit(uint64_t frequency, size_t steps, uint64_t reversion, uint64_t volatility, const uint64_t *rows,
                        size_t rows_len, const uint8_t *kinds, size_t kinds_len, const double *figures, size_t figures_len,
                        uint64_t *discounts, size_t discounts_len, uint64_t *state_prices, size_t state_prices_len);
+
+/* Fits a tree by version: 1 is mixegorta_fit, with its answer and its memories. 2 has a closer mean and variance of a step, by
+ * e^(-reversion) in place of 1 - reversion: its tree has the working reversion in place of the reversion, and a spacing of its own. With
+ * reversion 0 both are one tree.
+ *
+ * Size the memories and price with the working reversion: ask mixegorta_working_reversion first, and hand what it answers to whatever
+ * takes a tree, mixegorta_discounts_needed and mixegorta_state_prices_needed, then rows, branches, error bounds and prices. It can be
+ * lower than the reversion, so a tree of version 2 can be wider: with reversion 103 and 60 steps it needs 1,960 discounts, and a memory
+ * for the 1,878 of version 1 gives 6. The reversion itself goes to this function alone: a price asked for with it is another tree's.
+ *
+ * Refusals: those of mixegorta_fit, the memories judged by the working reversion. An unknown version gives 7: after 6, where the memories
+ * are judged by the reversion itself, and before 8. */
+uint64_t mixegorta_fit_version(uint64_t version, uint64_t frequency, size_t steps, uint64_t reversion, uint64_t volatility,
+                               const uint64_t *rows, size_t rows_len, const uint8_t *kinds, size_t kinds_len,
+                               const double *figures, size_t figures_len, uint64_t *discounts, size_t discounts_len,
+                               uint64_t *state_prices, size_t state_prices_len);
 
 /* Where a row stands in the memory of its kind. kind: 1 discounts, row 0 to n - 1; 2 state prices, row 0 to n. Both memories must
  * be long enough for the tree, whichever is asked for; their elements are not read. A refusal, of an unknown kind too, has no
@@ -337,11 +361,11 @@ struct mixegorta_answer mixegorta_valuation_error_bound(size_t steps, uint64_t r
 
 /* ---- A whole job: its bytes in, its sheet out. */
 
-/* The sheet of a job: its tree, its bond and its option, of a kind (field 08) or on listed dates (field 0A in its place), as lines of
- * ASCII, each ended by a newline; docs/MANUAL.md gives both formats. out: at least 468,736 bytes, whatever the job. 0: the sheet is the
- * last `size` bytes of out, from out + out_len - size on, without a zero byte behind it; the bytes before it are as they were. Refusals
- * leave out as it was: 1 the job's form, 2 to 5 and 7 to 9 its fit, 6 out too short, 10 a flow, 11 kind, side, expiry or strike, 13 dates,
- * before 12 a value on the way. */
+/* The sheet of a job: its tree, of version 1 or that of field 0B, its bond and its option, of a kind (field 08) or on listed dates (field
+ * 0A in its place), as lines of ASCII, each ended by a newline; docs/MANUAL.md gives both formats. out: at least 468,736 bytes, whatever
+ * the job. 0: the sheet is the last `size` bytes of out, from out + out_len - size on, without a zero byte behind it; the bytes before it
+ * are as they were. Refusals leave out as it was: 1 the job's form, 2 to 5 and 7 to 9 its fit, 6 out too short, 10 a flow, 11 kind, side,
+ * expiry or strike, 13 dates, before 12 a value on the way. */
 struct mixegorta_written mixegorta_sheet(const uint8_t *job, size_t job_len, uint8_t *out, size_t out_len);
 
 /* ---- A shelf: up to eight trees in one memory of 3,600 discounts.
@@ -353,10 +377,10 @@ struct mixegorta_written mixegorta_sheet(const uint8_t *job, size_t job_len, uin
  *     struct mixegorta_shelved asked = mixegorta_shelf_ask(shelf, memory, 1, 20, 500);
  *     shelf = asked.shelf;
  *
- * A tree is asked for by a name from 1 to 8, which sets the nodes aside that its discounts need, all 0. It is committed, which fits it,
- * and may then be priced by its name until it is released. Where a commit is refused the tree still awaits one. The nodes held are those
- * of all trees asked for and not released; an asking finds its nodes wherever they and those held are 3,600 at most. Work on one name
- * changes no discount of another.
+ * A tree is asked for by a name from 1 to 8, which sets the nodes aside that its discounts need, all 0. It is committed, which fits it
+ * as version 1, and may then be priced by its name until it is released. Where a commit is refused the tree still awaits one. The nodes
+ * held are those of all trees asked for and not released; an asking finds its nodes wherever they and those held are 3,600 at most. Work
+ * on one name changes no discount of another.
  *
  * A commit that is accepted works the tree's error bound and its rows' greatest discounts out once, from the discounts that it stored;
  * its slot carries them until the release, and work on other names leaves them. A price reads the bound there and does not work it out.

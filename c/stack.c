@@ -26,6 +26,13 @@ static void *fit(void *unused) {
     return unused;
 }
 
+/* With reversion 1 no tree is narrower than without any. */
+static void *fit_version(void *unused) {
+    refused = mixegorta_fit_version(2, 12, STEPS, 1, 1000, rows, STEPS, kinds, STEPS, figures, STEPS, discounts, MIXEGORTA_MAX_DISCOUNTS,
+                                    state_prices, MIXEGORTA_MAX_STATE_PRICES);
+    return unused;
+}
+
 static void *bond(void *unused) {
     refused = mixegorta_bond_price(STEPS, 0, discounts, MIXEGORTA_MAX_DISCOUNTS, flows, STEPS).number;
     return unused;
@@ -106,8 +113,9 @@ static void put(uint8_t tag, uint64_t number, int bytes) {
 static void write_job(void) {
     put(1, 12, 1);
     put(2, STEPS, 1);
-    put(3, 0, 2);
+    put(3, 1, 2);
     put(4, 1000, 4);
+    put(11, 2, 1);
     for (size_t i = 0; i < STEPS; i++) {
         uint64_t bits;
         memcpy(&bits, &figures[i], sizeof bits);
@@ -128,7 +136,7 @@ int main(void) {
         dates[i] = (uint8_t)i;
     }
     write_job();
-    printf("fit %zu\n", taken(fit));
+    printf("fit %zu\n", most(taken(fit_version), taken(fit)));
     const size_t asked = taken(asking);
     const size_t committed = most(asked, taken(commit));
     const size_t plain = most(most(taken(bond), taken(option)), most(taken(dated_option), taken(valuation)));

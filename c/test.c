@@ -292,6 +292,89 @@ static void fits(void) {
     CHECK(zeros(discounts, 1) && zeros(prices, 4) && untouched_from(1, 4));
 }
 
+/* Numbers that pass for version 1 where they are cut to 8 or 32 bits, and others that are no version. */
+static const uint64_t unknown[] = {0, 3, 4, 256, 256 + 1, 256 + 2, (UINT64_C(1) << 32) + 1, (UINT64_C(1) << 32) + 2, UINT64_MAX};
+enum { UNKNOWN = sizeof unknown / sizeof unknown[0] };
+
+static void working_reversions(void) {
+    const uint64_t pairs[][2] = {{0, 0}, {1, 1}, {100, 100}, {101, 100}, {103, 102}, {1000, 952}, {2034, 1840}, {2035, 1841}, {6000, 4512}};
+    for (size_t i = 0; i < sizeof pairs / sizeof pairs[0]; i++) {
+        CHECK(answered(mixegorta_working_reversion(1, pairs[i][0]), pairs[i][0]));
+        CHECK(answered(mixegorta_working_reversion(2, pairs[i][0]), pairs[i][1]));
+    }
+    CHECK(answered(mixegorta_half_width(1840, 60), 2) && answered(mixegorta_half_width(1841, 60), 1));
+    CHECK(refused(mixegorta_working_reversion(1, 6001), 4) && refused(mixegorta_working_reversion(2, UINT64_MAX), 4));
+    for (size_t i = 0; i < UNKNOWN; i++) {
+        CHECK(refused(mixegorta_working_reversion(unknown[i], 6001), 4));
+        CHECK(refused(mixegorta_working_reversion(unknown[i], 6000), 7) && refused(mixegorta_working_reversion(unknown[i], 0), 7));
+    }
+}
+
+static uint64_t fit_version(uint64_t version, uint64_t frequency, size_t steps, uint64_t reversion, uint64_t volatility, size_t discount_room,
+                            size_t price_room) {
+    reset();
+    return mixegorta_fit_version(version, frequency, steps, reversion, volatility, rows, steps, kinds, steps, figures, steps, discounts,
+                                 discount_room, prices, price_room);
+}
+
+/* Three yearly steps with reversion 1,000: the tree of version 2 has the branches of 952 and a spacing of 16,489,507. */
+static void fits_by_version(void) {
+    static uint64_t kept[MIXEGORTA_MAX_DISCOUNTS + SPARE], kept_prices[MIXEGORTA_MAX_STATE_PRICES + SPARE];
+    const uint64_t second[] = {980000000, 996248537, 979955592, 963929104, 1012691750, 996129886, 979838881, 963814302, 948051795};
+    const uint64_t third[] = {44626241, 221365327, 418964443, 214602061, 41633924}, flows[] = {40000000, 40000000, 1040000000};
+    falling_curve(0.98);
+    for (uint64_t reversion = 0; reversion <= MIXEGORTA_MAX_REVERSION; reversion += 750) {
+        CHECK(fit(4, 30, reversion, 9000) == 0);
+        memcpy(kept, discounts, sizeof kept);
+        memcpy(kept_prices, prices, sizeof kept_prices);
+        CHECK(fit_version(1, 4, 30, reversion, 9000, discounts_size, prices_size) == 0);
+        CHECK(memcmp(kept, discounts, sizeof kept) == 0 && memcmp(kept_prices, prices, sizeof kept_prices) == 0);
+        CHECK(fit_version(2, 4, 30, reversion, 9000, discounts_size, prices_size) == 0);
+        CHECK((memcmp(kept, discounts, sizeof kept) == 0) == (reversion == 0));
+        CHECK((memcmp(kept_prices, prices, sizeof kept_prices) == 0) == (reversion == 0));
+    }
+    CHECK(fit_version(2, 1, 3, 1000, 10000, 9, 14) == 0);
+    CHECK(memcmp(discounts, second, sizeof second) == 0 && memcmp(prices + 9, third, sizeof third) == 0 && untouched_from(9, 14));
+    CHECK(priced(mixegorta_option_price(3, 952, discounts, 9, flows, 3, MIXEGORTA_AMERICAN_CALL, 2, ONE), 56455684, 6));
+    CHECK(priced(mixegorta_option_price(3, 1000, discounts, 9, flows, 3, MIXEGORTA_AMERICAN_CALL, 2, ONE), 56454873, 6)); /* another tree's */
+}
+
+/* With reversion 103 and 60 steps version 2 needs 1,960 discounts, and version 1, by which an unknown version is judged, 1,878. */
+static void rooms_by_version(void) {
+    falling_curve(0.995);
+    const size_t wide = mixegorta_discounts_needed(60, 102).value, wide_prices = mixegorta_state_prices_needed(60, 102).value;
+    const size_t narrow = mixegorta_discounts_needed(60, 103).value, narrow_prices = mixegorta_state_prices_needed(60, 103).value;
+    CHECK(wide == 1960 && narrow == 1878);
+    CHECK(fit_version(2, 12, 60, 103, 5000, narrow, narrow_prices) == 6 && untouched_from(0, 0));
+    CHECK(fit_version(2, 12, 60, 103, 5000, wide - 1, wide_prices) == 6 && untouched_from(0, 0));
+    CHECK(fit_version(2, 12, 60, 103, 5000, wide, wide_prices - 1) == 6 && untouched_from(0, 0));
+    CHECK(fit_version(2, 12, 60, 103, 5000, wide, wide_prices) == 0 && untouched_from(wide, wide_prices));
+    CHECK(fit_version(1, 12, 60, 103, 5000, narrow, narrow_prices) == 0 && untouched_from(narrow, narrow_prices));
+    for (size_t i = 0; i < UNKNOWN; i++) {
+        CHECK(fit_version(unknown[i], 12, 60, 103, 5000, narrow - 1, narrow_prices) == 6 && untouched_from(0, 0));
+        CHECK(fit_version(unknown[i], 12, 60, 103, 5000, narrow, narrow_prices - 1) == 6 && untouched_from(0, 0));
+        CHECK(fit_version(unknown[i], 12, 60, 103, 5000, narrow, narrow_prices) == 7 && untouched_from(0, 0));
+    }
+}
+
+static void version_refusals(void) {
+    falling_curve(0.9);
+    for (uint64_t version = 0; version <= 3; version++) {
+        const bool known = version == 1 || version == 2;
+        CHECK(fit_version(version, 0, 0, 6001, 50001, 0, 0) == 2 && untouched_from(0, 0));
+        CHECK(fit_version(version, 1, 61, 6001, 50001, 0, 0) == 3 && untouched_from(0, 0));
+        CHECK(fit_version(version, 1, 13, 6001, 50001, 0, 0) == 4 && untouched_from(0, 0));
+        CHECK(fit_version(version, 1, 13, 6000, 50001, 0, 0) == 5 && untouched_from(0, 0));
+        CHECK(fit_version(version, 1, 13, 0, 50000, 168, 196) == 6 && untouched_from(0, 0));
+        CHECK(fit_version(version, 1, 13, 0, 50000, 169, 196) == (known ? 8 : 7) && untouched_from(0, 0));
+        CHECK(fit_version(version, 1, 12, 0, 50000, 144, 169) == (known ? 9 : 7) && (known || untouched_from(0, 0)));
+        CHECK(!known || (zeros(discounts, 144) && zeros(prices, 169) && untouched_from(144, 169)));
+    }
+    CHECK(mixegorta_fit_version(2, 12, 60, 0, 0, NULL, 0, NULL, 0, NULL, 0, NULL, 0, NULL, 0) == 6);
+    CHECK(fit_version(1, 1, 13, 168, 50000, discounts_size, prices_size) == 9); /* 11 nodes to a side, by the working reversion 12 */
+    CHECK(fit_version(2, 1, 13, 168, 50000, discounts_size, prices_size) == 8 && untouched_from(0, 0));
+}
+
 static struct mixegorta_row_place range(uint64_t kind, size_t steps, uint64_t reversion, size_t row) {
     return mixegorta_row_range(discounts, discounts_size, prices, prices_size, kind, steps, reversion, row);
 }
@@ -811,6 +894,31 @@ static void dated_jobs(void) {
     CHECK(unprinted(WITH_OPTION(BY_DATES BY_DATES), 1));
 }
 
+/* The example job with bytes put in at a place; its volatility ends at 20. */
+static struct mixegorta_written with_version(size_t place, const char *bytes, size_t count) {
+    uint8_t job[2 * JOB];
+    memcpy(job, example_job, place);
+    memcpy(job + place, bytes, count);
+    memcpy(job + place + count, example_job + place, JOB - place);
+    return sheet(job, JOB + count, MIXEGORTA_SHEET_ROOM);
+}
+
+#define WITH_VERSION(place, text) with_version(place, text, sizeof(text) - 1)
+
+/* Without reversion every version has the same sheet. */
+static void jobs_with_versions(void) {
+    const size_t room = MIXEGORTA_SHEET_ROOM, size = sizeof example_sheet - 1;
+    const size_t places[] = {0, 4, 8, 13, 31, 38, JOB};
+    CHECK(printed(WITH_VERSION(20, "\x0B\0\1\1"), size, room));
+    CHECK(printed(WITH_VERSION(20, "\x0B\0\1\2"), size, room));
+    CHECK(unprinted(WITH_VERSION(20, "\x0B\0\1\0"), 1));
+    CHECK(unprinted(WITH_VERSION(20, "\x0B\0\1\3"), 1));
+    CHECK(unprinted(WITH_VERSION(20, "\x0B\0\0"), 1));
+    CHECK(unprinted(WITH_VERSION(20, "\x0B\0\2\0\2"), 1));
+    CHECK(unprinted(WITH_VERSION(20, "\x0B\0\1\2\x0B\0\1\2"), 1));
+    for (size_t i = 0; i < sizeof places / sizeof places[0]; i++) CHECK(unprinted(WITH_VERSION(places[i], "\x0B\0\1\2"), 1));
+}
+
 int main(void) {
     CHECK(mixegorta_version() == MIXEGORTA_VERSION_NUMBER);
     shapes();
@@ -821,6 +929,10 @@ int main(void) {
     example();
     rates();
     fits();
+    working_reversions();
+    fits_by_version();
+    rooms_by_version();
+    version_refusals();
     ranges();
     limits();
     fitted_limit();
@@ -840,6 +952,7 @@ int main(void) {
     malformed_jobs();
     refused_jobs();
     dated_jobs();
+    jobs_with_versions();
     printf("C: %u checks, %u failed\n", checks, failures);
     return failures != 0;
 }

@@ -21,6 +21,8 @@ static void shapes() {
     EXPECT(branches.number == 0 && branches.lowest == 0);
     EXPECT(branches.probabilities[0] + branches.probabilities[1] + branches.probabilities[2] == MIXEGORTA_PROBABILITY_ONE);
     EXPECT(mixegorta_half_width(MIXEGORTA_MAX_REVERSION + 1, 0).number == 4);
+    const mixegorta_answer working = mixegorta_working_reversion(2, 1000);
+    EXPECT(working.number == 0 && working.value == 952);
 }
 
 static void quotes() {
@@ -50,6 +52,9 @@ static void prices() {
     EXPECT(known.number == 0 && known.bound == bond.bound && known.greatest[0] == 1002500000 && known.greatest[1] == 0);
     const mixegorta_answer bound = mixegorta_price_error_bound(1, 0, discounts.data(), discounts.size());
     EXPECT(bound.number == 0 && bound.value == known.bound);
+    EXPECT(mixegorta_fit_version(2, 1, 1, 1000, 0, rows.data(), rows.size(), kinds.data(), kinds.size(), figures.data(), figures.size(),
+                                 discounts.data(), discounts.size(), state_prices.data(), state_prices.size()) == 0);
+    EXPECT(discounts[0] == 1002500000 && state_prices[2] == 668333333);
 }
 
 static void sheet() {

@@ -101,6 +101,8 @@ static void row_start(void) { answer_value(mixegorta_row_start(number(0), number
 static void discounts_needed(void) { answer_value(mixegorta_discounts_needed(number(0), number(1))); }
 static void state_prices_needed(void) { answer_value(mixegorta_state_prices_needed(number(0), number(1))); }
 
+static void working_reversion(void) { answer_value(mixegorta_working_reversion(number(0), number(1))); }
+
 static void branches(void) {
     struct mixegorta_node_branches b = mixegorta_branches(number(0), number(1), (int64_t)number(2));
     answer(b.number, (uint64_t[]){(uint64_t)b.lowest, b.probabilities[0], b.probabilities[1], b.probabilities[2]}, 4);
@@ -125,6 +127,15 @@ static void fit(void) {
     answer(refused, NULL, 0);
     answer_memory(7, refused == 0 ? mixegorta_discounts_needed(number(1), number(2)).value : 0);
     answer_memory(8, refused == 0 ? mixegorta_state_prices_needed(number(1), number(2)).value : 0);
+}
+
+static void fit_version(void) {
+    uint64_t refused = mixegorta_fit_version(number(0), number(1), number(2), number(3), number(4), LENT(5), as_bytes(6), given[6].count,
+                                             as_figures(7), given[7].count, LENT(8), LENT(9));
+    uint64_t working = mixegorta_working_reversion(number(0), number(3)).value;
+    answer(refused, NULL, 0);
+    answer_memory(8, refused == 0 ? mixegorta_discounts_needed(number(2), working).value : 0);
+    answer_memory(9, refused == 0 ? mixegorta_state_prices_needed(number(2), working).value : 0);
 }
 
 static void row_range(void) {
@@ -245,7 +256,8 @@ static const struct {
     const char *name;
     void (*call)(void);
 } calls[] = {CALL(half_width), CALL(node_count), CALL(row_start), CALL(discounts_needed), CALL(state_prices_needed), CALL(branches),
-             CALL(quote_discount), CALL(curve_discounts), CALL(fit), CALL(row_range), CALL(step_rate), CALL(continuous_rate),
+             CALL(working_reversion), CALL(quote_discount), CALL(curve_discounts), CALL(fit), CALL(fit_version), CALL(row_range),
+             CALL(step_rate), CALL(continuous_rate),
              CALL(state_price_error_bound), CALL(price_error_bound), CALL(tree_bounds), CALL(bond_price), CALL(option_price),
              CALL(bond_and_option), CALL(dated_option_price), CALL(bond_and_dated_option), CALL(value_by_state_prices),
              CALL(valuation_error_bound), CALL(shelf_part), CALL(shelf_ask), CALL(shelf_commit), CALL(shelf_release), CALL(shelf_bond_price),

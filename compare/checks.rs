@@ -3,7 +3,9 @@ use crate::engine;
 use crate::exact::{near_fourth_power, Exact, ExactBond};
 use crate::inputs::{self, Case};
 use crate::natural::Natural;
-use crate::rules::{self, Carried, Contract, Curve, DatedOption, Fitted, Outcome, Tree, CALL, DISCOUNT_LIMIT, FLOW_LIMIT, ONE, PUT};
+use crate::rules::{
+    self, Carried, Contract, Curve, DatedOption, Fitted, Outcome, Tree, CALL, DISCOUNT_LIMIT, FLOW_LIMIT, MOST_REVERSION, ONE, PUT,
+};
 use std::cmp::Ordering;
 use std::collections::BTreeMap;
 use std::fmt;
@@ -32,6 +34,7 @@ struct Entries {
     dated: &'static str,
 }
 const ON_A_FIT: Entries = Entries { bond: "bond on a fit", option: "option on a fit", dated: "dated on a fit" };
+const ON_A_FIT_BY_VERSION: Entries = Entries { bond: "bond by version", option: "option by version", dated: "dated by version" };
 const ON_LENT: Entries = Entries { bond: "bond on lent", option: "option on lent", dated: "dated on lent" };
 
 /// How many prices lie on which side of their exact ones, and the greatest part of an error bound that one of them used.
@@ -94,10 +97,15 @@ impl Tally {
         self.bonds.above > 0 && self.bonds.below > 0
     }
 
+    /// How many trees of version 2 were priced that are wider than those of version 1.
+    pub fn wider_trees(&self) -> u64 {
+        self.results.get("version 2, 1: wider").and_then(|wider| wider.get(&1)).copied().unwrap_or(0)
+    }
+
     /// How many dated options were compared, and how many of them were priced.
     pub fn dated_options(&self) -> (u64, u64) {
         let of = |entries: &Entries| self.results.get(entries.dated).into_iter().flatten();
-        let found = || of(&ON_A_FIT).chain(of(&ON_LENT));
+        let found = || of(&ON_A_FIT).chain(of(&ON_A_FIT_BY_VERSION)).chain(of(&ON_LENT));
         (found().map(|(_, count)| count).sum(), found().filter(|(number, _)| **number == 0).map(|(_, count)| count).sum())
     }
 }
@@ -140,6 +148,7 @@ pub fn all(case: &Case, tally: &mut Tally) {
     }
     prices(case, &case.lent, &ON_LENT, tally);
     weighing(case, fitted.as_ref(), tally);
+    versions(case, tally);
 }
 
 fn agree<T: PartialEq + fmt::Debug>(entry: &'static str, engine: Outcome<T>, rules: Outcome<T>, tally: &mut Tally) -> Option<T> {
@@ -225,6 +234,141 @@ fn fit(case: &Case, tally: &mut Tally) -> Option<Fitted> {
     shape.0 += 1;
     shape.1 += rules.is_ok() as u64;
     rules.ok()
+}
+
+// Versions
+
+/// Both memories after a fit by version, with guards.
+fn memories_by_version(version: u64, input: &rules::FitInput) -> (u64, Vec<u64>, Vec<u64>) {
+    let (first, second) = (input.discounts_length, input.state_prices_length);
+    let (mut discounts, mut state_prices) = (vec![UNTOUCHED; first + GUARD], vec![UNTOUCHED; second + GUARD]);
+    let number = engine::fit_version(version, input, &mut discounts[..first], &mut state_prices[..second]);
+    (number, discounts, state_prices)
+}
+
+/// A fit by version against the rules, number and memories.
+fn fit_version(version: u64, input: &rules::FitInput, entry: &'static str, tally: &mut Tally) -> Option<Fitted> {
+    let (number, discounts, state_prices) = memories_by_version(version, input);
+    let (rules, tree) = (input.fit_version(version), input.worked(version));
+    let (needed, also) = if tree.accepted() { (tree.discounts_needed(), tree.state_prices_needed()) } else { (0, 0) };
+    let outcome = rules.as_ref().map_err(|e| *e);
+    assert_eq!(outcome.map(|_| ()).err().unwrap_or(0), number, "fit by version {version}: rules left, library right");
+    assert_eq!(memory_after(outcome.map(|t| &t.discounts), needed, discounts.len()), discounts, "fit by version {version}: discounts");
+    assert_eq!(memory_after(outcome.map(|t| &t.state_prices), also, state_prices.len()), state_prices, "fit by version {version}: state prices");
+    tally.result(entry, &rules);
+    rules.ok()
+}
+
+/// The input with memories that are as much longer or shorter than the working tree needs as they were for the tree itself.
+fn resized(version: u64, input: &rules::FitInput) -> rules::FitInput {
+    let (tree, worked) = (input.tree, input.worked(version));
+    let mut made = input.clone();
+    if tree.accepted() {
+        let moved = |length: usize, from: usize, to: usize| (length + to).saturating_sub(from);
+        made.discounts_length = moved(made.discounts_length, tree.discounts_needed(), worked.discounts_needed());
+        made.state_prices_length = moved(made.state_prices_length, tree.state_prices_needed(), worked.state_prices_needed());
+    }
+    made
+}
+
+/// Version 1 is the fit itself, number and memories.
+fn version_1_is_the_fit(input: &rules::FitInput) {
+    let (first, second) = (input.discounts_length, input.state_prices_length);
+    let (mut discounts, mut state_prices) = (vec![UNTOUCHED; first + GUARD], vec![UNTOUCHED; second + GUARD]);
+    let number = engine::fit(input, &mut discounts[..first], &mut state_prices[..second]);
+    assert_eq!(memories_by_version(1, input), (number, discounts, state_prices), "version 1 left, the fit right");
+}
+
+/// The case on a tree of version 2, with as many payoffs as its row has where they were as many as theirs.
+fn worked_case(case: &Case) -> Case {
+    let (tree, worked) = (case.fit.tree, case.fit.worked(2));
+    let mut made = Case { fit: resized(2, &case.fit), ..case.clone() };
+    made.fit.tree = worked;
+    if case.row <= tree.steps && case.payoffs.len() == tree.node_count(case.row) {
+        made.payoffs.resize(worked.node_count(case.row), ONE);
+    }
+    made
+}
+
+fn versions(case: &Case, tally: &mut Tally) {
+    let input = &case.fit;
+    working_reversion(case.version, input.tree.reversion, tally);
+    version_1_is_the_fit(input);
+    fit_version(2, input, "version 2, own memory", tally);
+    if rules::version_wrong(case.version) {
+        fit_version(case.version, input, "unknown version", tally);
+        fit_version(case.version, &resized(2, input), "unknown version", tally);
+    }
+    let Some(fitted) = fit_version(2, &resized(2, input), "version 2", tally) else { return };
+    if input.tree.reversion == 0 {
+        let first = input.fit().expect("without reversion version 1 is fitted too");
+        assert_eq!((&fitted.discounts, &fitted.state_prices), (&first.discounts, &first.state_prices), "without reversion: version 2 left, 1 right");
+        return;
+    }
+    let worked = worked_case(case);
+    let wider = worked.fit.tree.discounts_needed() > input.tree.discounts_needed();
+    *tally.results.entry("version 2, 1: wider").or_default().entry(wider as u64).or_default() += 1;
+    laws_of_fit(&worked, &fitted, tally);
+    prices(&worked, &fitted.discounts, &ON_A_FIT_BY_VERSION, tally);
+    weighing(&worked, Some(&fitted), tally);
+}
+
+fn working_reversion(version: u64, reversion: u64, tally: &mut Tally) {
+    agree("working reversion", engine::working_reversion(version, reversion), rules::working_reversion(version, reversion), tally);
+}
+
+/// Every reversion by every version, and past the limits; each F is within 100 of the exact one.
+pub fn every_working_reversion(tally: &mut Tally) {
+    let past = [MOST_REVERSION + 1, MOST_REVERSION + 2, 65_535, 65_536, 1 << 32, (1 << 32) + 1_000, u64::MAX];
+    for reversion in (0..=MOST_REVERSION).chain(past) {
+        for version in [1, 2].into_iter().chain(inputs::UNKNOWN_VERSIONS) {
+            working_reversion(version, reversion, tally);
+        }
+    }
+    for y in (0..=MOST_REVERSION).flat_map(|b| [rules::continuous_reversion(b), 2 * rules::continuous_reversion(b)]) {
+        assert!(near_fourth_power(y, rules::continuous(y), YIELD_WITHIN), "F of {y} is further than 100 from the exact one");
+    }
+}
+
+fn flat_input(steps: usize, reversion: u64, volatility: u64, [discounts_length, state_prices_length]: [usize; 2]) -> rules::FitInput {
+    let figures = (1..=steps).map(|t| 0.9f64.powi(t as i32).max(0.12)).collect();
+    let curve = Curve { rows: (1..=steps as u64).collect(), kinds: vec![5; steps], figures };
+    rules::FitInput { frequency: 1, tree: Tree { steps, reversion }, volatility, curve, discounts_length, state_prices_length }
+}
+
+/// Figures of request (ix): working reversions, a spacing, and a tree that is wider by version 2.
+pub fn versions_by_hand() {
+    let figures = [(0, 0), (1, 1), (100, 100), (101, 100), (1_000, 952), (2_034, 1_840), (2_035, 1_841), (6_000, 4_512)];
+    for (reversion, working) in figures {
+        assert_eq!(engine::working_reversion(2, reversion), Ok(working), "reversion {reversion}: library left, by hand right");
+        assert_eq!(engine::working_reversion(1, reversion), Ok(reversion), "reversion {reversion}: library left, by hand right");
+    }
+    assert_eq!([1_840, 1_841].map(|working| engine::half_width(working, 60)), [Ok(2), Ok(1)]);
+    assert_eq!(rules::version_spacing(2, 1, 10_000, 1_000), 16_489_507);
+    assert_eq!([103, 102].map(|reversion| Tree { steps: 60, reversion }.discounts_needed()), [1_878, 1_960]);
+}
+
+/// The memories of 60 steps with reversion 103 by both versions, and 13 steps whose half width of 12 passes the limit by version 2 alone: a bad version
+/// comes after 6, which then goes by the reversion itself, and before 8.
+pub fn causes_of_versions(tally: &mut Tally) {
+    let by = |reversion| Tree { steps: 60, reversion };
+    let rooms = [102, 103].map(|reversion| [by(reversion).discounts_needed(), by(reversion).state_prices_needed()]);
+    let mut expect = |version: u64, input: &rules::FitInput, number: u64| {
+        let found = fit_version(version, input, "fits by hand", tally).is_some();
+        assert_eq!(memories_by_version(version, input).0, number, "version {version}: library left, by hand right");
+        assert_eq!(found, number == 0);
+    };
+    for version in [1, 2].into_iter().chain(inputs::UNKNOWN_VERSIONS) {
+        let known = !rules::version_wrong(version);
+        let [discounts, state_prices] = rooms[(version != 2) as usize];
+        let whole = flat_input(60, 103, 100, [discounts, state_prices]);
+        expect(version, &whole, if known { 0 } else { 7 });
+        expect(version, &rules::FitInput { discounts_length: discounts - 1, ..whole.clone() }, 6);
+        expect(version, &rules::FitInput { state_prices_length: state_prices - 1, ..whole.clone() }, 6);
+        expect(version, &flat_input(13, 168, 50_000, [3_600, 3_721]), match version { 1 => 9, 2 => 8, _ => 7 });
+        expect(version, &flat_input(13, 145, 50_000, [3_600, 3_721]), if known { 8 } else { 7 });
+    }
+    expect(2, &flat_input(60, 103, 100, rooms[1]), 6);
 }
 
 fn views(case: &Case, tally: &mut Tally) {

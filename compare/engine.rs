@@ -85,6 +85,21 @@ pub fn fit(input: &FitInput, discounts: &mut [u64], state_prices: &mut [u64]) ->
     }
 }
 
+pub fn working_reversion(version: u64, reversion: u64) -> Outcome<u64> {
+    answered(unsafe { mixegorta_working_reversion(version, reversion) })
+}
+
+pub fn fit_version(version: u64, input: &FitInput, discounts: &mut [u64], state_prices: &mut [u64]) -> u64 {
+    let (rows, kinds, figures) = (&input.curve.rows, &input.curve.kinds, &input.curve.figures);
+    unsafe {
+        mixegorta_fit_version(
+            version, input.frequency, input.tree.steps, input.tree.reversion, input.volatility, start(rows), rows.len(),
+            start(kinds), kinds.len(), start(figures), figures.len(), start_of_lent(discounts), discounts.len(),
+            start_of_lent(state_prices), state_prices.len(),
+        )
+    }
+}
+
 pub fn row_range(discounts: &[u64], state_prices: &[u64], kind: u64, tree: &Tree, row: usize) -> (usize, usize) {
     let range = unsafe {
         mixegorta_row_range(

@@ -41,6 +41,7 @@ impl Random {
 #[derive(Clone, Debug)]
 pub struct Case {
     pub shape: &'static str,
+    pub version: u64,
     pub fit: FitInput,
     pub lent: Vec<u64>,
     pub flows: Vec<u64>,
@@ -262,6 +263,7 @@ pub fn in_order(r: &mut Random, frequency: u64, tree: Tree) -> Case {
     let half = tree.half_width(row);
     Case {
         shape,
+        version: r.within(1, 2),
         fit,
         lent: lent(r, needed),
         flows: flows(r, tree.steps),
@@ -325,7 +327,10 @@ fn spoil<T>(r: &mut Random, list: &mut Vec<T>, made: T) {
 /// The damages to what a commit, and to what a price on a shelf takes.
 pub const TO_A_COMMIT: [usize; 16] = [0, 3, 3, 4, 5, 6, 7, 8, 9, 10, 11, 23, 24, 30, 31, 32];
 pub const TO_A_PRICE: [usize; 11] = [14, 14, 15, 16, 17, 18, 26, 27, 29, 30, 32];
-const DAMAGES: usize = 34;
+const DAMAGES: usize = 36;
+
+/// Numbers that are no version, some of which pass for one where they are cut.
+pub const UNKNOWN_VERSIONS: [u64; 9] = [0, 3, 4, 1 + (1 << 8), 2 + (1 << 8), 1 + (1 << 32), 2 + (1 << 32), 2 + (1 << 63), u64::MAX];
 
 fn damage(r: &mut Random, case: &mut Case) {
     let which = r.below(DAMAGES);
@@ -361,13 +366,14 @@ pub fn damage_by(r: &mut Random, case: &mut Case, which: usize) {
         29 => spoil_dated(r, &mut case.dated),
         30..=31 => { let (which, bits) = (r.below(NUMBERS), r.pick(&WIDTHS)); widen(case, which, bits) }
         32 => { let which = r.below(COUNTS); lengthen(case, which, 8) }
+        33..=34 => case.version = r.pick(&UNKNOWN_VERSIONS),
         _ => strange_view(r, case),
     }
 }
 
 /// The widths to which a number could be cut in silence.
 const WIDTHS: [u32; 3] = [8, 16, 32];
-const LONE_NUMBERS: usize = 13;
+const LONE_NUMBERS: usize = 14;
 const NUMBERS: usize = LONE_NUMBERS + 5 * 3;
 
 /// Adds to one number of a case what it would lose if it were cut to so many bits. Of a list the first, the middle or the last is changed.
@@ -389,6 +395,7 @@ fn widen(case: &mut Case, which: usize, bits: u32) {
         10 => case.node = case.node.wrapping_add(more as i64),
         11 => case.node = case.node.wrapping_sub(more as i64),
         12 => add(&mut case.row_kind),
+        13 => add(&mut case.version),
         _ => {
             let lists = [&mut case.fit.curve.rows, &mut case.flows, &mut case.lent, &mut case.payoffs, &mut case.weighed];
             let (list, part) = ((which - LONE_NUMBERS) / 3, (which - LONE_NUMBERS) % 3);
@@ -431,6 +438,7 @@ pub fn steady() -> Case {
     let factors = [0.98, 0.03, 0.02];
     Case {
         shape: "widths",
+        version: 2,
         fit: FitInput {
             frequency: 2,
             tree,

@@ -12,7 +12,7 @@ mod shelves;
 use checks::Tally;
 use std::panic;
 
-/// So many inputs have bonds above and bonds below their exact prices.
+/// So many inputs have bonds above and bonds below their exact prices, and trees that are wider by version 2.
 const LARGE_RUN: u64 = 1_000;
 /// Every so many seeds have a script of calls on a shelf too.
 const SEEDS_A_SCRIPT: u64 = 8;
@@ -31,7 +31,7 @@ fn different(own: u64) -> ! {
     std::process::exit(1);
 }
 
-/// What has no seed: figures worked out by hand, borders, widths, and every order of four trees on a shelf.
+/// What has no seed: figures worked out by hand, borders, widths, every working reversion, and every order of four trees on a shelf.
 fn without_seed(tally: &mut Tally, shelves: &mut shelves::Tally) {
     natural::check();
     checks::rates_at_borders(tally);
@@ -41,6 +41,9 @@ fn without_seed(tally: &mut Tally, shelves: &mut shelves::Tally) {
     checks::discount_limit_by_hand();
     checks::bounds_by_hand();
     checks::causes_of_bounds(tally);
+    checks::versions_by_hand();
+    checks::every_working_reversion(tally);
+    checks::causes_of_versions(tally);
     checks::numbers_past_a_width(tally);
     shelves::by_hand();
     shelves::carried_by_hand();
@@ -77,6 +80,7 @@ fn main() {
     }
     println!("{tally}");
     assert!(count < LARGE_RUN || tally.bonds_on_both_sides(), "bonds on one side of their exact prices alone");
+    assert!(count < LARGE_RUN || tally.wider_trees() > 0, "no tree that version 2 makes wider");
     let (dated, priced) = tally.dated_options();
     println!("{dated} dated options compared, {priced} of them priced and held against the exact pricer\n\n{shelves}");
     let missing = if count < MANY_SCRIPTS * SEEDS_A_SCRIPT { Vec::new() } else { shelves.missing() };

@@ -221,18 +221,62 @@ pub fn convert(frequency: u64, steps: usize, curve: &Curve, memory: usize) -> Ou
 
 // Spacing and fit
 
-pub fn spacing(frequency: u64, volatility: u64) -> u64 {
-    let (cube, square) = ((frequency as u128).pow(3), 3 * (1_000 * volatility as u128).pow(2));
+/// The greatest h with h² × f³ at most so much.
+fn spacing_below(frequency: u64, most: u128) -> u64 {
+    let cube = (frequency as u128).pow(3);
     let (mut low, mut high) = (0u128, 1u128 << 40);
     while high - low > 1 {
         let middle = (low + high) / 2;
-        if middle * middle * cube <= square {
+        if middle * middle * cube <= most {
             low = middle;
         } else {
             high = middle;
         }
     }
     low as u64
+}
+
+fn tripled_square(volatility: u64) -> u128 {
+    3 * (1_000 * volatility as u128).pow(2)
+}
+
+pub fn spacing(frequency: u64, volatility: u64) -> u64 {
+    spacing_below(frequency, tripled_square(volatility))
+}
+
+// Versions, request (ix)
+
+pub fn version_wrong(version: u64) -> bool {
+    version != 1 && version != 2
+}
+
+/// y of a reversion a step: its ten-thousandths as billionths.
+pub fn continuous_reversion(reversion: u64) -> i64 {
+    reversion as i64 * 100_000
+}
+
+/// For an accepted reversion and a known version.
+pub fn working(version: u64, reversion: u64) -> u64 {
+    if version == 1 {
+        return reversion;
+    }
+    let lost = ONE - continuous(continuous_reversion(reversion));
+    nearest(10_000 * lost as u128, ONE as u128) as u64
+}
+
+pub fn working_reversion(version: u64, reversion: u64) -> Outcome<u64> {
+    lowest(&[(4, reversion_wrong(reversion)), (7, version_wrong(version))])?;
+    Ok(working(version, reversion))
+}
+
+/// For an accepted reversion and a known version. 3 × (1,000 s)² × c is below 2^84.
+pub fn version_spacing(version: u64, frequency: u64, volatility: u64, reversion: u64) -> u64 {
+    if version == 1 || reversion == 0 {
+        return spacing(frequency, volatility);
+    }
+    let twice = 2 * continuous_reversion(reversion);
+    let share = ONE as u128 * (ONE - continuous(twice)) as u128 / twice as u128;
+    spacing_below(frequency, tripled_square(volatility) * share / ONE as u128)
 }
 
 /// The series at an amount up to one, where no product passes 64 bits.
@@ -274,23 +318,34 @@ pub struct FitInput {
 }
 
 impl FitInput {
-    fn memory_short(&self) -> bool {
-        self.tree.accepted() && (self.discounts_length < self.tree.discounts_needed() || self.state_prices_length < self.tree.state_prices_needed())
+    /// The tree by its working reversion; by the reversion itself where that or the version is refused.
+    pub fn worked(&self, version: u64) -> Tree {
+        let reversion = working_reversion(version, self.tree.reversion).unwrap_or(self.tree.reversion);
+        Tree { reversion, ..self.tree }
+    }
+
+    fn memory_short(&self, tree: &Tree) -> bool {
+        tree.accepted() && (self.discounts_length < tree.discounts_needed() || self.state_prices_length < tree.state_prices_needed())
     }
 
     pub fn fit(&self) -> Outcome<Fitted> {
-        let steps = self.tree.steps;
+        self.fit_version(1)
+    }
+
+    pub fn fit_version(&self, version: u64) -> Outcome<Fitted> {
+        let (steps, tree) = (self.tree.steps, self.worked(version));
         lowest(&[
             (2, frequency_wrong(self.frequency)),
             (3, steps_wrong(steps)),
             (4, reversion_wrong(self.tree.reversion)),
             (5, volatility_wrong(self.volatility)),
-            (6, self.curve.places_wrong(steps) || self.memory_short()),
+            (6, self.curve.places_wrong(steps) || self.memory_short(&tree)),
         ])?;
         let quotes = self.curve.quotes(self.frequency)?;
-        let spacing = spacing(self.frequency, self.volatility);
-        lowest(&[(8, self.tree.half_width(steps - 1) as u128 * spacing as u128 > ONE as u128)])?;
-        grow(&self.tree, spacing, quotes)
+        lowest(&[(7, version_wrong(version))])?;
+        let spacing = version_spacing(version, self.frequency, self.volatility, self.tree.reversion);
+        lowest(&[(8, tree.half_width(steps - 1) as u128 * spacing as u128 > ONE as u128)])?;
+        grow(&tree, spacing, quotes)
     }
 }
 

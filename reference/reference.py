@@ -4,7 +4,7 @@ fractions, written from the two documents alone.
 
     reference.py < job > sheet
 
-Words are those of the documents: f, n, b, s, J, w, h, U, Z, P, R, y, q, F. Amounts
+Words are those of the documents: f, n, b, s, J, w, h, U, Z, P, R, y, q, F, B, c. Amounts
 are billionths. Every rule returns its value or raises Refused with its number.
 """
 import struct
@@ -23,6 +23,7 @@ FLOW_LIMIT = 2 * ONE
 STRIKE_LIMIT = 4 * ONE
 WEIGHED_LIMIT = 2_000_000_100
 FOURFOLD_LIMIT = 4 * ONE
+VERSIONS = 1, 2
 CALL, PUT = 1, 2
 CALLS, AMERICAN = (1, 3), (3, 4)
 
@@ -162,6 +163,20 @@ def branches(b, j):
 
 def spacing(f, s):
     return isqrt(3 * (1_000 * s) ** 2 // f ** 3)
+
+
+def working_reversion(version, b):
+    """The working pull, which stands for b in J, branching, rows and prices: b itself in version 1."""
+    return half_up(10_000 * (ONE - continuous(100_000 * b)), ONE) if version == 2 else b
+
+
+def version_spacing(version, f, s, b):
+    """h by the job's own b, which for b = 0 is that of version 1."""
+    if version == 1 or b == 0:
+        return spacing(f, s)
+    twice = 2 * 100_000 * b
+    c = ONE * (ONE - continuous(twice)) // twice
+    return isqrt(3 * (1_000 * s) ** 2 * c // ONE // f ** 3)
 
 
 def factor(j, h):
@@ -381,6 +396,14 @@ class Fields:
     def number(self, tag, length):
         return int.from_bytes(self.take((tag,), (length,))[1], 'big')
 
+    def version(self):
+        """1 or 2 from 0B, or None where it does not stand, which means version 1 but is told apart from it."""
+        if self.tag() != 0x0B:
+            return None
+        number = self.number(0x0B, 1)
+        refuse_if(number not in VERSIONS, 1)
+        return number
+
     def option(self):
         """A Kind from 08, an Option from 0A, or None where neither stands."""
         if self.tag() == 0x08:
@@ -392,19 +415,23 @@ class Fields:
         return None
 
 
+# What a job says: the version as Fields gives it, quotes as (kind, pattern).
+Job = namedtuple('Job', 'f n b s version quotes flows option')
+
+
 def read(job):
-    """f, n, b, s, quotes as (kind, pattern), flows, option."""
     if len(job) > LONGEST_JOB:
         raise Refused(1)
     fields = Fields(job)
     f, n = fields.number(0x01, 1), fields.number(0x02, 1)
     b, s = fields.number(0x03, 2), fields.number(0x04, 4)
+    version = fields.version()
     quotes = [fields.take((0x05, 0x06, 0x09), (8,)) for _ in range(n)]
     quotes = [(kind, int.from_bytes(data, 'big')) for kind, data in quotes]
     flows = [fields.number(0x07, 4) for _ in range(n)]
     option = fields.option()
     refuse_if(fields.at != len(job), 1)
-    return f, n, b, s, quotes, flows, option
+    return Job(f, n, b, s, version, quotes, flows, option)
 
 
 def amount(x):
@@ -417,27 +444,28 @@ def percent(rate):
 
 def lines(job):
     """The sheet's lines; causes are judged over the whole job, lowest number first but for 13, which is tried before 12."""
-    f, n, b, s, quoted, flows, terms = read(job)
+    f, n, b, s, version, quoted, flows, terms = read(job)
     refuse_if(f not in (1, 2, 4, 12), 2)
     refuse_if(not 1 <= n <= 60, 3)
     refuse_if(b > 6_000, 4)
     refuse_if(s > 50_000, 5)
     quotes = [quote(f, t, kind, pattern) for t, (kind, pattern) in enumerate(quoted, 1)]
-    h = spacing(f, s)
-    refuse_if(half_width(b, n - 1) * h > ONE, 8)
-    discounts, prices = fit(n, b, h, quotes)
+    h = version_spacing(version or 1, f, s, b)
+    working = working_reversion(version or 1, b)
+    refuse_if(half_width(working, n - 1) * h > ONE, 8)
+    discounts, prices = fit(n, working, h, quotes)
     refuse_if(any(flow > FLOW_LIMIT for flow in flows), 10)
     option = terms and accepted_option(n, terms)
-    bond = bond_rows(n, b, discounts, flows)[0][0]
+    bond = bond_rows(n, working, discounts, flows)[0][0]
     out = ['node %d %d %s %s' % (i, j, amount(v), percent(step_rate(v)))
            for i, row in enumerate(discounts) for j, v in sorted(row.items())]
     for t in range(1, n + 1):
         out.append('row %d %s %s %d' % (t, amount(quotes[t - 1]), amount(sum(prices[t].values())),
-                                        state_price_allowance(b, discounts, t)))
+                                        state_price_allowance(working, discounts, t)))
     allowance = price_allowance(discounts)
     out.append('bond %s %d' % (amount(bond), allowance))
     if option:
-        price = option_value(n, b, discounts, flows, option)
+        price = option_value(n, working, discounts, flows, option)
         out.append('option %s %d' % (amount(price), allowance))
     return out
 

@@ -6,6 +6,7 @@
 import random
 import sys
 import unittest
+from math import exp
 
 sys.dont_write_bytecode = True
 import reference
@@ -98,10 +99,12 @@ def dated(side, strike, dates):
     return field(0x0A, bytes([side]) + strike.to_bytes(4, 'big') + bytes(dates))
 
 
-def job_of(n, flows, *options, f=1):
-    """A job whose quotes are all one, with any fields of options."""
-    numbers = [(1, 1, f), (2, 1, n), (3, 2, 0), (4, 4, 0)] + [(5, 8, reference.pattern_of(1.0))] * n + [(7, 4, flow) for flow in flows]
-    return b''.join(field(tag, number.to_bytes(length, 'big')) for tag, length, number in numbers) + b''.join(options)
+def job_of(n, flows, *options, f=1, b=0, s=0, version=b'', factors=None):
+    """A job whose quotes are all one unless factors are given, with any field after the volatility and any fields of options."""
+    head = [(1, 1, f), (2, 1, n), (3, 2, b), (4, 4, s)]
+    body = [(5, 8, reference.pattern_of(factor)) for factor in factors or [1.0] * n] + [(7, 4, flow) for flow in flows]
+    head, body = (b''.join(field(tag, number.to_bytes(length, 'big')) for tag, length, number in part) for part in (head, body))
+    return head + version + body + b''.join(options)
 
 
 def level_tree(*discounts):
@@ -287,6 +290,103 @@ class Rolling(unittest.TestCase):
                 self.assertLessEqual(allowance, 2 * n)
             above, below = above + (price > exact), below + (price < exact)
         self.assertGreater(min(above, below), 30)
+
+
+def tagged(number):
+    return field(0x0B, bytes([number]))
+
+
+def nodes_needed(b, n):
+    return sum(len(reference.nodes(b, i)) for i in range(n))
+
+
+class Versions(unittest.TestCase):
+    CURVE = dict(f=1, b=1_000, s=10_000, factors=[0.97, 0.94, 0.9, 0.87])
+    FLOWS = [50_000_000, 50_000_000, 50_000_000, ONE + 50_000_000]
+
+    def test_working_reversions(self):
+        for b, working in ((0, 0), (1, 1), (100, 100), (101, 100), (103, 102), (1_000, 952), (2_034, 1_840), (2_035, 1_841), (6_000, 4_512)):
+            self.assertEqual(reference.working_reversion(2, b), working)
+            self.assertEqual(reference.working_reversion(1, b), b)
+        self.assertEqual([reference.highest(reference.working_reversion(2, b)) for b in (2_034, 2_035)], [2, 1])
+
+    def test_every_working_reversion(self):
+        """Near footnote 5's mean, 1 - e^(-b/10,000), and never falling; at most b and, above 0, at least 1."""
+        found = [reference.working_reversion(2, b) for b in range(6_001)]
+        self.assertEqual(found, sorted(found))
+        for b, working in enumerate(found):
+            self.assertTrue(min(b, 1) <= working <= b)
+            self.assertLess(abs(working / 10_000 + exp(-b / 10_000) - 1), 0.000_050_2)
+
+    def test_a_tree_of_version_2_can_be_wider(self):
+        self.assertEqual([nodes_needed(reference.working_reversion(version, 103), 60) for version in (1, 2)], [1_878, 1_960])
+
+    def test_spacings(self):
+        self.assertEqual(reference.version_spacing(2, 1, 10_000, 1_000), 16_489_507)
+        self.assertEqual([reference.version_spacing(version, 1, 10_000, b) for version, b in ((1, 0), (1, 1_000), (2, 0))], [17_320_508] * 3)
+        self.assertEqual(reference.version_spacing(2, 12, 10_000, 0), 416_666)
+        self.assertEqual(reference.version_spacing(2, 12, 0, 1_000), 0)
+
+    def test_the_spacing_is_the_greatest(self):
+        chosen = random.Random(9)
+        for _ in range(300):
+            f, s, b = chosen.choice((1, 2, 4, 12)), chosen.randint(1, 50_000), chosen.randint(1, 6_000)
+            c = ONE * (ONE - reference.continuous(200_000 * b)) // (200_000 * b)
+            h, most = reference.version_spacing(2, f, s, b), 3 * (1_000 * s) ** 2 * c // ONE
+            self.assertTrue(h * h * f ** 3 <= most < (h + 1) ** 2 * f ** 3)
+            self.assertLessEqual(h, reference.spacing(f, s))
+
+    def test_the_spacing_is_near_footnote_5(self):
+        """A third of the spacing's square is a step's variance: s squared times (1 - e^(-2 a dt)) / 2a, in rates over the step."""
+        for f, s, b in ((1, 10_000, 1_000), (12, 10_000, 83), (4, 50_000, 6_000), (2, 7_001, 1)):
+            reversion, length = b / 10_000 * f, 1 / f
+            variance = (s / 10 ** 6) ** 2 * (1 - exp(-2 * reversion * length)) / (2 * reversion)
+            h = reference.version_spacing(2, f, s, b) / ONE
+            self.assertAlmostEqual(h * h / 3 / length ** 2 / variance, 1, delta=1e-4)
+
+    def sheet(self, **others):
+        return reference.sheet(job_of(4, self.FLOWS, **{**self.CURVE, **others}))
+
+    def test_absent_is_version_1(self):
+        absent = self.sheet()
+        self.assertEqual(self.sheet(version=tagged(1)), absent)
+        self.assertNotEqual(self.sheet(version=tagged(2)), absent)
+        self.assertEqual(self.sheet(version=tagged(2), b=0), self.sheet(b=0))
+        self.assertEqual([reference.read(job_of(1, [ONE], version=version)).version for version in (b'', tagged(1), tagged(2))], [None, 1, 2])
+
+    def test_a_sheet_goes_by_the_working_reversion(self):
+        """b = 2,034 is 1,840 in version 2, whose rows have five nodes where those of version 1 have three."""
+        found = [self.sheet(version=tagged(version), b=2_034).count(b'node 3 ') for version in (1, 2)]
+        self.assertEqual(found, [3, 5])
+        discounts, prices = reference.fit(4, 1_840, reference.version_spacing(2, 1, 10_000, 2_034), [970_000_000, 940_000_000, 900_000_000, 870_000_000])
+        lines = self.sheet(version=tagged(2), b=2_034).decode().splitlines()
+        self.assertEqual(lines[-1], 'bond %s %d' % (reference.amount(reference.bond_rows(4, 1_840, discounts, self.FLOWS)[0][0]),
+                                                    reference.price_allowance(discounts)))
+        self.assertEqual(lines[-2].split()[-1], str(reference.state_price_allowance(1_840, discounts, 4)))
+        self.assertEqual(lines[-2].split()[-2], reference.amount(sum(prices[4].values())))
+
+    def test_tag_0b_elsewhere_is_malformed(self):
+        """Before any other cause: these jobs have a frequency of 3."""
+        tag, head = tagged(2), 20
+        for version in (0, 3, 255):
+            self.assertEqual(self.sheet(version=tagged(version), f=3), b'refused 1\n')
+        for wrong in (field(0x0B, b''), field(0x0B, b'\x00\x02'), tag + tag, tag[:3], tag + b'\x00'):
+            self.assertEqual(self.sheet(version=wrong, f=3), b'refused 1\n')
+        self.assertEqual(self.sheet(version=tag, f=3), b'refused 2\n')
+        job = job_of(4, self.FLOWS, **{**self.CURVE, 'f': 3})
+        places = [0, 4, 8, 13] + [head + 11 * t for t in range(1, 5)] + [head + 44 + 7 * t for t in range(1, 5)]
+        self.assertEqual(len(job), places[-1])
+        for place in places:
+            self.assertEqual(reference.sheet(job[:place] + tag + job[place:]), b'refused 1\n', place)
+        self.assertEqual(reference.sheet(job[:head] + tag + job[head:]), b'refused 2\n')
+
+    def test_cause_8_goes_by_the_working_reversion(self):
+        """Half widths of 11 and 12 nodes, of which the wider passes the limit; then 13 both, of which that with the lower spacing keeps it."""
+        for b, s, n, tops, passes in ((168, 50_000, 13, [11, 12], [True, False]), (145, 44_600, 14, [13, 13], [False, True])):
+            self.assertEqual([reference.highest(reference.working_reversion(version, b)) for version in (1, 2)], tops)
+            jobs = [job_of(n, [ONE // 10] * n, b=b, s=s, version=tagged(version), factors=[0.6 ** t for t in range(1, 5)] + [0.12] * (n - 4))
+                    for version in (1, 2)]
+            self.assertEqual([reference.sheet(job) != b'refused 8\n' for job in jobs], passes)
 
 
 class Jobs(unittest.TestCase):

@@ -101,13 +101,28 @@ def curve_discounts(f, n, rows, kinds, figures, memory):
     return [quoted(f, n, rows, kinds, figures, memory < n)]
 
 
-def fit(f, n, b, s, rows, kinds, figures, discounts, state_prices):
+def working_reversion(version, b):
+    refuse_if(b > 6_000, 4)
+    refuse_if(version not in rules.VERSIONS, 7)
+    return [rules.working_reversion(version, b)]
+
+
+def fit_version(version, f, n, b, s, rows, kinds, figures, discounts, state_prices):
+    """An unknown version is judged with the quotes, where the memories were judged by b itself."""
     judged_frequency(f)
     judged_tree(n, b)
     refuse_if(s > 50_000, 5)
-    quotes = quoted(f, n, rows, kinds, figures, discounts < start(b, n) or state_prices < start(b, n + 1))
-    refuse_if(rules.half_width(b, n - 1) * rules.spacing(f, s) > ONE, 8)
-    return [[row[j] for row in rows_of for j in sorted(row)] for rows_of in rules.fit(n, b, rules.spacing(f, s), quotes)]
+    known = version in rules.VERSIONS
+    working = rules.working_reversion(version, b) if known else b
+    quotes = quoted(f, n, rows, kinds, figures, discounts < start(working, n) or state_prices < start(working, n + 1))
+    refuse_if(not known, 7)
+    h = rules.version_spacing(version, f, s, b)
+    refuse_if(rules.half_width(working, n - 1) * h > ONE, 8)
+    return [[row[j] for row in rows_of for j in sorted(row)] for rows_of in rules.fit(n, working, h, quotes)]
+
+
+def fit(*given):
+    return fit_version(1, *given)
 
 
 def row_range(discounts, state_prices, kind, n, b, row):
@@ -295,7 +310,7 @@ def figures_of(*figures):
 
 
 REVERSION, STEPS, ROW = ('reversion', 'number', 800), ('steps', 'number', 3), ('row', 'number', 60)
-FREQUENCY, VOLATILITY = ('frequency', 'number', 2), ('volatility', 'number', 10_000)
+VERSION, FREQUENCY, VOLATILITY = ('version', 'number', 2), ('frequency', 'number', 2), ('volatility', 'number', 10_000)
 CURVE = (('rows', 'exact', [1, 2, 3]), ('kinds', 'bytes', [5, 6, 9]), ('figures', 'figures', figures_of(0.98, 0.03, 0.02)))
 DISCOUNTS = ('discounts', 'least', [970_000_000, 985_000_000, 968_000_000, 952_000_000, 999_000_000, 982_000_000, 965_000_000, 948_000_000, 932_000_000])
 LEVEL = ('discounts', 'least', [ONE] * 9)
@@ -319,9 +334,11 @@ ENTRIES = [
     entry(half_width, REVERSION, ROW), entry(node_count, REVERSION, ROW), entry(row_start, REVERSION, ROW),
     entry(discounts_needed, STEPS[:2] + (60,), REVERSION), entry(state_prices_needed, STEPS[:2] + (60,), REVERSION),
     entry(branches, REVERSION, ('row', 'number', 20), ('node', 'signed', 2)),
+    entry(working_reversion, VERSION, REVERSION),
     entry(quote_discount, FREQUENCY, ('kind', 'byte', 6), ('point.row', 'number', 3), ('point.figure', 'figure', figures_of(0.03)[0])),
     entry(curve_discounts, FREQUENCY, STEPS, *CURVE, ('discounts', 'memory', Memory(3))),
     entry(fit, FREQUENCY, STEPS, REVERSION, VOLATILITY, *CURVE, *MEMORIES),
+    entry(fit_version, VERSION, FREQUENCY, STEPS, REVERSION, VOLATILITY, *CURVE, *MEMORIES),
     entry(row_range, ('discounts', 'memory', Memory(128)), ('state_prices', 'memory', Memory(135)), ('kind', 'number', 1), STEPS[:2] + (20,), REVERSION,
           ('row', 'number', 10)),
     entry(step_rate, ('discount', 'number', 900_000_000)), entry(continuous_rate, ('discount', 'number', 900_000_000)),

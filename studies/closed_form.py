@@ -42,11 +42,22 @@ def deviation(terms, reversion, volatility):
     return volatility * loading * math.sqrt((1 - math.exp(-2 * reversion * terms.expiry)) / (2 * reversion))
 
 
-def stepped_deviation(terms, frequency, reversion, volatility):
+def kept_by_a_step(reversion, version):
+    """What a step leaves of the rate's distance from its mean, for a reversion a step."""
+    return 1 - reversion if version == 1 else math.exp(-reversion)
+
+
+def variance_share(reversion, version):
+    """A step's variance, as a part of volatility squared times the step's length, likewise."""
+    return 1.0 if version == 1 or reversion == 0 else -math.expm1(-2 * reversion) / (2 * reversion)
+
+
+def stepped_deviation(terms, frequency, reversion, volatility, version=1):
     """The same where the rate changes once a step, by the tree's mean and variance."""
-    kept, step = 1 - reversion / frequency, 1 / frequency
+    step = 1 / frequency
+    kept, variance = kept_by_a_step(reversion * step, version), step * variance_share(reversion * step, version)
     loading = step * sum(kept ** k for k in range(round((terms.end - terms.expiry) * frequency)))
-    return volatility * loading * math.sqrt(step * sum(kept ** (2 * k) for k in range(round(terms.expiry * frequency))))
+    return volatility * loading * math.sqrt(variance * sum(kept ** (2 * k) for k in range(round(terms.expiry * frequency))))
 
 
 def formula(terms, strike, spread, side):
@@ -72,16 +83,16 @@ def at_the_money(terms, reversion):
 # The tree
 
 @lru_cache(None)
-def tree(frequency, steps, reversion, volatility):
+def tree(frequency, steps, reversion, volatility, version=1):
     points = [m.Point(t, m.YEARLY_YIELD, YIELD) for t in range(1, steps + 1)]
-    return m.Tree(frequency, steps, reversion, volatility, points)
+    return m.Tree(frequency, steps, reversion, volatility, points, version=version)
 
 
-def engine(terms, frequency, whole_reversion, volatility, strike, kind):
+def engine(terms, frequency, whole_reversion, volatility, strike, kind, version=1):
     """The engine's price; volatility as a yearly fraction."""
     steps = round(terms.end * frequency)
     flows = [0] * (steps - 1) + [m.ONE]
-    found = tree(frequency, steps, whole_reversion, round(volatility * 10 ** 6))
+    found = tree(frequency, steps, whole_reversion, round(volatility * 10 ** 6), version)
     return found.option_price(flows, kind, round(terms.expiry * frequency), round(strike * m.ONE)).value / m.ONE
 
 
@@ -90,26 +101,26 @@ def difference(price, wanted):
     return (price / wanted - 1) * 10_000
 
 
-def tree_difference(terms, frequency, reversion, deviations=0.0):
+def tree_difference(terms, frequency, reversion, deviations=0.0, version=1):
     """Of a call at or above the forward price and of a put below it: in either, no intrinsic value hides the difference."""
     strike, side = strike_at(terms, reversion, deviations), -1 if deviations < 0 else 1
     wanted = formula(terms, strike, deviation(terms, reversion, VOLATILITY), side)
     whole = common.whole_reversion(reversion, frequency)
     kind = m.EUROPEAN_CALL if side == 1 else m.EUROPEAN_PUT
-    return difference(engine(terms, frequency, whole, VOLATILITY, strike, kind), wanted)
+    return difference(engine(terms, frequency, whole, VOLATILITY, strike, kind, version), wanted)
 
 
 @lru_cache(None)
-def tree_range(terms, frequency, reversion):
+def tree_range(terms, frequency, reversion, version=1):
     """The lowest and highest difference over strikes within one standard deviation."""
-    found = [tree_difference(terms, frequency, reversion, k / 10) for k in range(-10, 11)]
+    found = [tree_difference(terms, frequency, reversion, k / 10, version) for k in range(-10, 11)]
     return min(found), max(found)
 
 
-def step_difference(terms, frequency, reversion):
+def step_difference(terms, frequency, reversion, version=1):
     """What the length of the step alone does to the reversion: formula against formula, at the money."""
     strike, wanted = at_the_money(terms, reversion)
-    return difference(formula(terms, strike, stepped_deviation(terms, frequency, reversion, VOLATILITY), 1), wanted)
+    return difference(formula(terms, strike, stepped_deviation(terms, frequency, reversion, VOLATILITY, version), 1), wanted)
 
 
 def rounding_difference(terms, reversion, taken):
@@ -129,6 +140,18 @@ def adjusted(frequency, reversion):
 def adjusted_difference(terms, frequency, reversion):
     strike, wanted = at_the_money(terms, reversion)
     return difference(engine(terms, frequency, *adjusted(frequency, reversion), strike, m.EUROPEAN_CALL), wanted)
+
+
+def averaged(frequency, reversion):
+    """The yearly volatility by which version 2 has that of a rate over a whole step."""
+    a_step = reversion / frequency
+    return VOLATILITY * (-math.expm1(-a_step) / a_step if a_step else 1.0)
+
+
+def averaged_difference(terms, frequency, reversion):
+    strike, wanted = at_the_money(terms, reversion)
+    whole = common.whole_reversion(reversion, frequency)
+    return difference(engine(terms, frequency, whole, averaged(frequency, reversion), strike, m.EUROPEAN_CALL, 2), wanted)
 
 
 # Tables
@@ -152,8 +175,26 @@ def by_reversion(of):
     return common.table(['years, steps', 'steps to expiry', *(f'{a * 100:g}%' for a in REVERSIONS)], rows)
 
 
-def range_text(terms, frequency, reversion):
-    return ' to '.join(map(shown, tree_range(terms, frequency, reversion)))
+def range_text(terms, frequency, reversion, version=1):
+    return ' to '.join(map(shown, tree_range(terms, frequency, reversion, version)))
+
+
+def spacing_of(whole, volatility):
+    """The spacing of a yearly tree of version 2: the discount of node -1 is that of node 0 times e to it."""
+    low, middle, _ = tree(1, 2, whole, volatility, 2).row(m.DISCOUNTS, 1)
+    return math.log(low / middle)
+
+
+def moments_table():
+    """What a step keeps of the distance from the mean, and its variance: version 1, version 2 as it is stored, and the model."""
+    rows, volatility = [], 20_000
+    for b in (10, 100, 500, 1_000, 2_000, 6_000):
+        reversion, working = b / 10_000, m.working_reversion(2, b)
+        share = spacing_of(b, volatility) ** 2 / 3 / (volatility / 10 ** 6) ** 2
+        rows.append([f'{b:,}', f'{working:,}', f'{1 - reversion:.4f}', f'{1 - working / 10_000:.4f}', f'{math.exp(-reversion):.7f}', '1', f'{share:.7f}',
+                     f'{variance_share(reversion, 2):.7f}'])
+    return common.table(['b', 'working', 'kept, version 1', 'kept, version 2', 'kept, model', 'variance, version 1', 'variance, version 2', 'variance, model'],
+                        rows)
 
 
 def strike_table():
@@ -239,6 +280,10 @@ def main():
     blocks = {'at the money': by_reversion(lambda *case: shown(tree_difference(*case))), 'range': by_reversion(range_text),
               'step alone': by_reversion(lambda *case: shown(step_difference(*case))),
               'adjusted': by_reversion(lambda *case: shown(adjusted_difference(*case))),
+              'at the money, version 2': by_reversion(lambda *case: shown(tree_difference(*case, version=2))),
+              'range, version 2': by_reversion(lambda *case: range_text(*case, version=2)),
+              'step alone, version 2': by_reversion(lambda *case: shown(step_difference(*case, version=2))),
+              'averaged': by_reversion(lambda *case: shown(averaged_difference(*case))), 'moments': moments_table(),
               'inputs': input_table(), 'rounding': rounding_table(), 'strikes': strike_table(), 'limit': limit_table()}
     return common.write_or_compare(common.outputs('STUDY.md', blocks, {'closed-form.svg': picture()}))
 

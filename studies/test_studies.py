@@ -3,6 +3,7 @@
 
     python3 studies/test_studies.py      after tools/library has built the library
 """
+import math
 import subprocess
 import sys
 import unittest
@@ -13,6 +14,8 @@ import common
 import float_tree
 
 m = common.library()
+sys.path.append(str(common.ROOT / 'reference'))
+import reference
 
 
 class Documents(unittest.TestCase):
@@ -75,6 +78,49 @@ class Formula(unittest.TestCase):
                 stepped = study.stepped_deviation(terms, f, b * f / 10_000, volatility)
                 rounding = 5e-5 * f * terms.end
                 self.assertLess(abs(stepped / study.deviation(terms, 0.1, study.VOLATILITY) - 1), rounding)
+
+
+class Versions(unittest.TestCase):
+    def test_the_step_alone(self):
+        """What version 2 leaves is the same for every option: the rate stands for a step and not for an instant."""
+        for f in common.FREQUENCIES:
+            for a in study.REVERSIONS[1:]:
+                left = -(a / f) / math.expm1(-a / f)
+                for terms in study.SPANS:
+                    found = study.stepped_deviation(terms, f, a, study.VOLATILITY, 2) / study.deviation(terms, a, study.VOLATILITY)
+                    self.assertAlmostEqual(found, left, 12)
+                    self.assertAlmostEqual(study.averaged(f, a) * found, study.VOLATILITY, 12)
+
+    def test_moments_of_every_reversion(self):
+        """Means and variances as the study tells them; the variance from the spacing, which the reference works out."""
+        volatility, near = 50_000, {1: 0.000_015, 100: 0.000_000_2}
+        for b in range(1, m.MAX_REVERSION + 1):
+            kept = 1 - m.working_reversion(2, b) / 10_000
+            self.assertLess(abs(kept - study.kept_by_a_step(b / 10_000, 2)), 0.000_05)
+            spacing = reference.version_spacing(2, 1, volatility, b)
+            share = (spacing / reference.spacing(1, volatility)) ** 2
+            self.assertLess(abs(share - study.variance_share(b / 10_000, 2)), near[100 if b >= 100 else 1] + 5e-8)
+
+    def test_which_is_nearer(self):
+        counts = []
+        for a in study.REVERSIONS[1:]:
+            cases = [(terms, f, a) for terms in study.SPANS for f in common.FREQUENCIES if terms.end * f <= study.MOST_STEPS]
+            greatest = [[max(map(abs, study.tree_range(*case, version))) for version in (1, 2)] for case in cases]
+            self.assertEqual(len(greatest), 15)
+            counts.append(sum(second < first for first, second in greatest))
+        self.assertEqual(counts, [8, 8, 12, 14, 15])
+
+    def test_without_reversion_they_are_one(self):
+        for terms in study.SPANS:
+            for f in (f for f in common.FREQUENCIES if terms.end * f <= study.MOST_STEPS):
+                self.assertEqual(*(study.tree_difference(terms, f, 0.0, version=version) for version in (1, 2)))
+
+    def test_the_averaged_volatility_leaves_what_the_other_inputs_leave(self):
+        """Where b is whole; a working reversion and a volatility are whole too, which is worth a few basis points."""
+        for terms in study.SPANS:
+            for f in (f for f in common.FREQUENCIES if terms.end * f <= study.MOST_STEPS):
+                for a in (0.01 * f, 0.03):
+                    self.assertLess(abs(study.averaged_difference(terms, f, a) - study.adjusted_difference(terms, f, a)), 3)
 
 
 class Engine(unittest.TestCase):

@@ -160,7 +160,8 @@ def prices(sheet):
 
 def job_terms(job):
     """The inputs of the tree, and the option."""
-    terms = f'Reversion {job.reversion / 10_000:g} a step \u00b7 volatility {job.volatility / 10_000:g}% a year'
+    working = f', working as {job.working_reversion / 10_000:g} by version {job.version}' if job.version != 1 else ''
+    terms = f'Reversion {job.reversion / 10_000:g} a step{working} \u00b7 volatility {job.volatility / 10_000:g}% a year'
     return terms + (f' \u00b7 {job.option}' if job.option else '')
 
 

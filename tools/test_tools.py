@@ -88,8 +88,8 @@ class Jobs(unittest.TestCase):
     def test_every_entry_reaches_its_field(self):
         text = ('# a comment\n\nOption European call 2 1.010000001 # and one behind\nflow .5 x 2\nflow 1.025\nPULL 17\nvolatility 50000\n'
                 'frequency 12\nrate -2.5e-3\ndiscount 0.75 x 2\n')
-        f, n, b, s, quotes, flows, option = reference.read(run('job', text).stdout)
-        self.assertEqual((f, n, b, s), (12, 3, 17, 50_000))
+        f, n, b, s, version, quotes, flows, option = reference.read(run('job', text).stdout)
+        self.assertEqual((f, n, b, s, version), (12, 3, 17, 50_000, None))
         self.assertEqual(quotes, [(6, reference.pattern_of(-0.0025)), (5, reference.pattern_of(0.75)), (5, reference.pattern_of(0.75))])
         self.assertEqual(flows, [500_000_000, 500_000_000, 1_025_000_000])
         self.assertEqual(option, (1, 2, 1_010_000_001))
@@ -97,12 +97,26 @@ class Jobs(unittest.TestCase):
     def test_option_kinds(self):
         for kind, name in enumerate(('european call', 'european put', 'american call', 'american put'), 1):
             job = run('job', text_of(option=f'option {name} 1 1')).stdout
-            self.assertEqual(reference.read(job)[6], (kind, 1, reference.ONE))
+            self.assertEqual(reference.read(job).option, (kind, 1, reference.ONE))
 
     def test_dated_options(self):
         for words, option in (('dated put 1.01 2 4 6', (2, 1_010_000_000, [2, 4, 6])), ('DATED Call 0 255 0 0', (1, 0, [255, 0, 0])), ('dated put 1', (2, 10 ** 9, [])),
                               (f'dated call 1 {"7 " * 4_500}', (1, 10 ** 9, [7] * 4_500))):
-            self.assertEqual(reference.read(run('job', text_of(option=f'option {words}')).stdout)[6], option)
+            self.assertEqual(reference.read(run('job', text_of(option=f'option {words}')).stdout).option, option)
+
+    def test_versions(self):
+        """In any place of the text; the field stands straight after the volatility's."""
+        plain = run('job', text_of()).stdout
+        for number in (1, 2, 0, 3, 255):
+            job = run('job', f'VERSION {number}\n{text_of()}').stdout
+            self.assertEqual(job, run('job', f'{text_of()}\nversion {number}').stdout)
+            self.assertEqual(job, plain[:20] + bytes([11, 0, 1, number]) + plain[20:])
+            self.assertEqual(reference.sheet(job) == b'refused 1\n', number not in (1, 2))
+        self.assertEqual([reference.read(job).version for job in (plain, run('job', f'version 1\n{text_of()}').stdout)], [None, 1])
+        strong = text_of(reversion=2_034, quotes=['rate 0.04 x 4'], flows=['flow 1 x 4'])
+        sheets = [sheet_of(f'{strong}\n{line}') for line in ('', 'version 1', 'version 2')]
+        self.assertEqual(sheets[0], sheets[1])
+        self.assertEqual([sheet.count(b'node 3') for sheet in sheets[1:]], [3, 5])
 
     def test_kinds_and_dates_that_mean_the_same(self):
         note = dict(quotes=['rate 0.04 x 6'], flows=['flow 0.05 x 5', 'flow 1.05'])
@@ -118,7 +132,7 @@ class Jobs(unittest.TestCase):
             if expected is None:
                 self.assertIn(b'does not fit', made.stderr)
             else:
-                self.assertEqual(reference.read(made.stdout)[5], [expected])
+                self.assertEqual(reference.read(made.stdout).flows, [expected])
 
     def test_what_the_engine_refuses_is_written(self):
         cases = ((2, text_of(frequency=3)), (3, text_of(quotes=['rate 0.01 x 61'], flows=['flow 0 x 61'])),
@@ -138,7 +152,7 @@ class Jobs(unittest.TestCase):
     def test_the_longest_job(self):
         job = run('job', text_of(quotes=['rate 0 x 255'], flows=['flow 0 x 255'], option='option american put 255 0')).stdout
         self.assertLessEqual(len(job), reference.LONGEST_JOB)
-        self.assertEqual(reference.read(job)[1], 255)
+        self.assertEqual(reference.read(job).n, 255)
 
     def refused(self, text, *messages):
         made = run('job', text)
@@ -158,6 +172,8 @@ class Jobs(unittest.TestCase):
                 ('discount 1_0', "discount is a number such as 0.03, not '1_0'"),
                 ('frequency 12', 'frequency is given twice, first on line 1'),
                 ('pull 1', 'reversion is given twice, first on line 2'),
+                ('version 256', 'version 256 does not fit its field: 0 to 255'), ('version', 'write `version NUMBER`'),
+                ('version two', "version is a whole number, not 'two'"),
                 ('steps 256', 'steps 256 does not fit its field: 0 to 255'),
                 ('steps 1.5', "steps is a whole number, not '1.5'"),
                 ('steps', 'write `steps NUMBER`'),
@@ -392,9 +408,9 @@ class Drawing(unittest.TestCase):
             sheet = path.with_suffix('.sheet').read_bytes()
             if sheet.startswith(b'refused'):
                 continue
-            f, n, b, s, quoted, _, _ = reference.read(run('job', path.read_bytes()).stdout)
+            f, n, b, s, version, quoted, _, _ = reference.read(run('job', path.read_bytes()).stdout)
             quotes = [reference.quote(f, row, *quote) for row, quote in enumerate(quoted, 1)]
-            _, prices = reference.fit(n, b, reference.spacing(f, s), quotes)
+            _, prices = reference.fit(n, reference.working_reversion(version or 1, b), reference.version_spacing(version or 1, f, s, b), quotes)
             root = ElementTree.fromstring(run('draw', sheet, '--job', str(path)).stdout)
             titles = [mark.find(SVG + 'title').text for mark in root.iter() if mark.get('class') == 'node']
             lines = [line.split() for line in sheet.decode().splitlines() if line.startswith('node')]
@@ -404,6 +420,13 @@ class Drawing(unittest.TestCase):
                 self.assertEqual(title, f'row {row}, node {number}: discount {discount}, rate {rate}%; {float(f"{int(row) / f:.3f}"):g} years, '
                                         f'{reference.percent(billionths)}% a year, state price {reference.amount(prices[int(row)][int(number)])}')
             self.assertIn('years from today', [text.text for text in root.iter(SVG + 'text')])
+
+    def test_the_version_of_a_job(self):
+        for name, told in (('exact-reversion', 'Reversion 0.2034 a step, working as 0.184 by version 2 \u00b7 volatility 1.2% a year'),
+                           ('coupon-put', 'Reversion 0.05 a step \u00b7 volatility 0.8% a year')):
+            path = ROOT / f'examples/{name}.txt'
+            root = ElementTree.fromstring(run('draw', path.with_suffix('.sheet').read_bytes(), '--job', str(path)).stdout)
+            self.assertTrue(any((text.text or '').startswith(f'{told} \u00b7 ') for text in root.iter(SVG + 'text')), told)
 
     def test_areas_are_state_prices(self):
         path = ROOT / 'examples/negative-curve.txt'

@@ -8,7 +8,7 @@ from streams import Stop
 LARGEST_BYTE, LARGEST_TWO, LARGEST_FOUR = 0xFF, 0xFFFF, 0xFFFFFFFF
 DECIMALS = 9
 LARGEST_AMOUNT = Decimal(LARGEST_FOUR).scaleb(-DECIMALS)
-NUMBERS = {'frequency': LARGEST_BYTE, 'steps': LARGEST_BYTE, 'reversion': LARGEST_TWO, 'volatility': LARGEST_FOUR}
+NUMBERS = {'frequency': LARGEST_BYTE, 'steps': LARGEST_BYTE, 'reversion': LARGEST_TWO, 'volatility': LARGEST_FOUR, 'version': LARGEST_BYTE}
 REQUIRED = ('frequency', 'reversion', 'volatility')
 OTHER_NAMES = {'pull': 'reversion'}
 QUOTE_KINDS = {'discount': 5, 'rate': 6, 'yield': 9}
@@ -170,6 +170,7 @@ def encode(text):
     single = text.single
     job = field(1, 'B', single['frequency']) + field(2, 'B', text.steps())
     job += field(3, 'H', single['reversion']) + field(4, 'I', single['volatility'])
+    job += field(11, 'B', single['version']) if 'version' in single else b''
     job += b''.join(field(kind, 'd', value) for kind, value in text.quotes)
     job += b''.join(field(7, 'I', flow) for flow in text.flows)
     return job + (field(*single['option']) if 'option' in single else b'')

@@ -1,5 +1,5 @@
 #!/usr/bin/env python3
-"""The jobs of this crate and what the reader must give of each, worked out from the fields that document 01 and requests (i) and (iii) of
+"""The jobs of this crate and what the reader must give of each, worked out from the fields that document 01 and requests (i), (iii) and (ix) of
 document 02 list, alone: a walk from field to field, which knows nothing of places.
 
     vectors.py    writes the files stdin and stdout beside itself
@@ -10,6 +10,8 @@ random.seed(1994)
 PLAIN = bytes.fromhex("01000101" "02000101" "0300020000" "04000400000000" "0500083FF00A3D70A3D70A" "0700043B9ACA00")
 EXAMPLE = PLAIN + bytes.fromhex("08000604013C336080")
 DATED = PLAIN + bytes.fromhex("0A0008" "023C336080" "020406")
+# where the version stands: straight after 04
+HEAD = 20
 
 
 class Malformed(Exception):
@@ -57,9 +59,14 @@ def read(job):
         raise Malformed
     walk = Walk(job)
     f, n, b, s = walk.number(1, 1), walk.number(2, 1), walk.number(3, 2), walk.number(4, 4)
+    version = 0
+    if walk.left[:1] == b"\x0B":
+        version = walk.number(11, 1)
+        if version not in (1, 2):
+            raise Malformed
     quotes = [walk.field([5, 6, 9], 8) for _ in range(n)]
     flows = [walk.number(7, 4) for _ in range(n)]
-    lines = ["job 0 %d %d %d %d" % (f, n, b, s)]
+    lines = ["job 0 %d %d %d %d %d" % (f, n, b, s, version)]
     lines += ["row %d %d %d" % (kind, int.from_bytes(figure, "big"), flow) for (kind, figure), flow in zip(quotes, flows)]
     if walk.left:
         lines.append(" ".join(["option", *map(str, option(*walk.any_field()))]))
@@ -72,7 +79,7 @@ def answer(job):
     try:
         return read(job)
     except Malformed:
-        return ["job 1 0 0 0 0"]
+        return ["job 1 0 0 0 0 0"]
 
 
 def field(tag, content):
@@ -136,6 +143,37 @@ def jobs():
     yield bytes(random.randrange(256) for _ in range(4701))
     yield bytes(5000)
     yield from dated_jobs()
+    yield from version_jobs()
+
+
+def version_jobs():
+    """with a version"""
+    for version in [0, 1, 2, 3, 255]:
+        for job in [EXAMPLE, PLAIN, DATED, b"".join(fields(0, False)), b"".join(fields(0, True)), b"".join(fields(3, True))]:
+            yield job[:HEAD] + field(11, bytes([version])) + job[HEAD:]
+    # of another length, and with a length that is not that of the bytes
+    for content in [b"", b"\0\2", b"\2\0"]:
+        yield EXAMPLE[:HEAD] + field(11, content) + EXAMPLE[HEAD:]
+    for wrong in [0, 2, 256, 258]:
+        yield EXAMPLE[:HEAD] + b"\x0B" + struct.pack(">H", wrong) + b"\2" + EXAMPLE[HEAD:]
+    # twice, and in another place
+    for first in [1, 2]:
+        for second in [1, 2]:
+            yield EXAMPLE[:HEAD] + field(11, bytes([first])) + field(11, bytes([second])) + EXAMPLE[HEAD:]
+    for place in [0, 4, 8, 13, 31, 38, len(EXAMPLE)]:
+        yield EXAMPLE[:place] + field(11, b"\2") + EXAMPLE[place:]
+        yield EXAMPLE[:place] + field(11, b"\1") + EXAMPLE[place:]
+    # cut short
+    whole = EXAMPLE[:HEAD] + field(11, b"\2") + EXAMPLE[HEAD:]
+    for k in range(HEAD, len(whole)):
+        yield whole[:k]
+    # as many dates as 4,700 bytes have room for, and one more
+    for n in [0, 255]:
+        start = b"".join(fields(n, False))
+        start = start[:HEAD] + field(11, b"\2") + start[HEAD:]
+        room = 4700 - len(start) - 3 - 5
+        yield start + dated(room)
+        yield start + dated(room + 1)
 
 
 def dated_jobs():

@@ -227,9 +227,9 @@ def pairs():
     yield 11, job(quotes=factors(6, 0.999), flows=[2 * ONE] * 6, option=(5, 1, ONE))
 
 
-def on_the_border(number, line, made):
-    """A job whose sheet has this line: without the line it would not stand on its border."""
-    if (line + '\n').encode() not in reference.sheet(made):
+def on_the_border(number, line, made, whole=True):
+    """A job whose sheet has this line, or one that begins so: without the line it would not stand on its border."""
+    if (line + '\n' * whole).encode() not in reference.sheet(made):
         raise SystemExit('no line %r in the sheet of %s' % (line, made.hex()))
     return number, made
 
@@ -390,6 +390,54 @@ def cliffs():
     yield on_the_border(0, 'node 15 15 0.047446914 2007.6186325', cliff(1.05, 2_000))
 
 
+def of_version(version, made):
+    """The same job with 0B straight after 04."""
+    return made[:20] + field(11, bytes([version])) + made[20:]
+
+
+def versions():
+    """Jobs of both versions: version 1 in a tag is the job without it; b = 0 is the same in both; in version 2 a tree may be wider, and one is as wide as it
+    was at another reversion. Then the causes, of which 4 is about b itself and 8 about the spacing of the version."""
+    for made in (TODAY, EXAMPLE, job(f=1, b=100, s=15_000, quotes=rates(5, 0.04), option=(1, 3, ONE)), job(f=3, quotes=FOUR)):
+        if reference.sheet(of_version(1, made)) != reference.sheet(made):
+            raise SystemExit('version 1 in a tag differs: %s' % made.hex())
+        yield number_of(reference.sheet(made)), of_version(1, made)
+    for b in (0, 1, 100, 101, 103, 1_000, 2_034, 2_035, 6_000):
+        flat = dict(f=4, b=b, s=8_000, quotes=rates(12, 0.03, 0.0005), flows=[12_000_000] * 11 + [ONE])
+        yield 0, of_version(2, job(option=(4, 9, ONE), **flat))
+        yield 0, of_version(2, job(option=(1, ONE), dates=[2, 5, 9], **flat))
+    yield on_the_border(0, 'node 2 2 ', of_version(2, job(f=1, b=2_034, s=8_000, quotes=rates(4, 0.03))), whole=False)
+    yield 0, of_version(2, job(f=1, b=1_000, s=10_000, quotes=rates(8, -0.0025), option=(3, 5, 1_100_000_000)))
+    yield 0, of_version(2, job(f=12, b=103, s=10_000, quotes=rates(60, 0.03), flows=WIDE_FLOWS, option=(2, ONE), dates=range(5, 60, 6)))
+    yield 2, of_version(2, job(f=3, quotes=FOUR))
+    yield 3, of_version(2, job(n=0, quotes=[], flows=[]))
+    for version in (1, 2):
+        yield 4, of_version(version, job(b=6_001, quotes=FOUR))
+        yield 4, of_version(version, job(b=6_001, s=50_001, quotes=[(5, NAN)]))
+        yield 5, of_version(version, job(s=50_001, b=6_000, quotes=FOUR))
+        yield 7, of_version(version, job(b=6_000, quotes=[(5, NAN)]))
+        yield 9, of_version(version, job(b=500, quotes=[(5, 1.2)]))
+        yield 10, of_version(version, job(b=500, quotes=FOUR, flows=[0, 0, 0, 3 * ONE]))
+    # 8 by the version's own rows and spacing: J is 11 in version 1 and 12 in version 2; then as many rows with nodes further apart in version 1.
+    for b, s, numbers in ((168, 50_000, (9, 8)), (100, 48_200, (8, 9))):
+        yield from ((number, of_version(version, job(f=1, b=b, s=s, quotes=factors(13, 0.95)))) for version, number in zip((1, 2), numbers))
+
+
+def malformed_versions():
+    plain, whole = job(b=1_000, quotes=FOUR), job(b=1_000, quotes=FOUR, option=(1, 2, ONE))
+    for version in (0, 3, 4, 255):
+        yield of_version(version, plain)
+        yield of_version(version, job(f=3, b=9_999, quotes=[(5, NAN)]))
+    for content in (b'', b'\x00\x02', b'\x02\x00'):
+        yield plain[:20] + field(11, content) + plain[20:]
+    for first in (1, 2):
+        yield from (of_version(first, of_version(second, plain)) for second in (1, 2))
+    for place in (0, 4, 8, 13, 31, len(plain) - 7, len(plain), len(whole)):
+        yield whole[:place] + field(11, b'\x02') + whole[place:]
+    yield of_version(2, plain)[:23]
+    yield of_version(2, job(n=0, quotes=[], flows=[]))[:-1]
+
+
 def jobs():
     yield from good()
     yield from exercise_days()
@@ -405,6 +453,8 @@ def jobs():
     yield from order_of_dates()
     yield from greatest_discounts()
     yield from cliffs()
+    yield from versions()
+    yield from ((1, made) for made in malformed_versions())
 
 
 def number_of(sheet):

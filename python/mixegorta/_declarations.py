@@ -92,12 +92,17 @@ DECLARATIONS: Dict[str, Tuple[Any, Dict[str, Any]]] = {
     "discounts_needed": (CAnswer, {"steps": SIZE, "reversion": U64}),
     "state_prices_needed": (CAnswer, {"steps": SIZE, "reversion": U64}),
     "branches": (CBranches, {"reversion": U64, "row": SIZE, "node": I64}),
+    "working_reversion": (CAnswer, {"version": U64, "reversion": U64}),
     "quote_discount": (CAnswer, {"frequency": U64, "kind": U8, "point": CPoint}),
     "curve_discounts": (U64, {
         "frequency": U64, "steps": SIZE, "rows": SliceOf(U64), "kinds": SliceOf(U8), "figures": SliceOf(F64), "discounts": SliceOf(U64),
     }),
     "fit": (U64, {
         "frequency": U64, "steps": SIZE, "reversion": U64, "volatility": U64, "rows": SliceOf(U64), "kinds": SliceOf(U8),
+        "figures": SliceOf(F64), "discounts": SliceOf(U64), "state_prices": SliceOf(U64),
+    }),
+    "fit_version": (U64, {
+        "version": U64, "frequency": U64, "steps": SIZE, "reversion": U64, "volatility": U64, "rows": SliceOf(U64), "kinds": SliceOf(U8),
         "figures": SliceOf(F64), "discounts": SliceOf(U64), "state_prices": SliceOf(U64),
     }),
     "row_range": (CRowRange, {

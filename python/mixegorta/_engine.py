@@ -18,7 +18,7 @@ __all__ = [
     "AMERICAN_PUT", "CALL", "PUT",
     "Point", "Curve", "Branches", "Price", "TreeErrorBounds", "BondAndOption",
     "half_width", "node_count", "row_start", "discounts_needed", "state_prices_needed", "branches",
-    "quote_discount", "curve_discounts", "fit_into", "row_range", "step_rate", "continuous_rate", "state_price_error_bound",
+    "working_reversion", "quote_discount", "curve_discounts", "fit_into", "row_range", "step_rate", "continuous_rate", "state_price_error_bound",
     "price_error_bound", "tree_bounds", "bond_price", "option_price", "bond_and_option", "dated_option_price", "bond_and_dated_option",
     "value_by_state_prices", "valuation_error_bound", "sheet_into", "sheet",
 ]
@@ -176,6 +176,12 @@ def branches(reversion: int, row: int, node: int) -> Branches:
     return Branches(answer.lowest, *answer.probabilities)
 
 
+def working_reversion(version: int, reversion: int) -> int:
+    """The working reversion of a reversion per step, by which a tree of that version, 1 or 2, branches: itself in version 1, never more in
+    version 2. Of a tree of version 2 it goes wherever a function takes a tree and not a version."""
+    return _value("working_reversion", u64("version", version), u64("reversion", reversion))
+
+
 # ---- level one
 
 def quote_discount(frequency: int, point: PointLike) -> int:
@@ -195,14 +201,15 @@ def curve_discounts(frequency: int, steps: int, points: Points) -> "array[int]":
 
 
 def fit_into(frequency: int, steps: int, reversion: int, volatility: int, points: Points, discounts: "WriteableBuffer",
-             state_prices: "WriteableBuffer") -> None:
+             state_prices: "WriteableBuffer", *, version: int = 1) -> None:
     """Fits a tree at the start of two memories: writable, contiguous buffers of 64-bit unsigned numbers, such as array('Q'). Refusal 9
-    leaves zeros in the parts that the tree needs; any other leaves both as they were. Nothing past those parts ever changes."""
+    leaves zeros in the parts that the tree needs; any other leaves both as they were. Nothing past those parts ever changes. In version 2
+    the memories are sized by what working_reversion answers, and the tree is priced with it."""
     memories = memory("discounts", "Q", discounts), memory("state_prices", "Q", state_prices)
     _apart(discounts=memories[0], state_prices=memories[1])
-    given = (u64("frequency", frequency), u64("steps", steps), u64("reversion", reversion), u64("volatility", volatility),
-             *columns(points), *memories)
-    accepted(call("fit", *given), "fit", given)
+    given = (u64("version", version), u64("frequency", frequency), u64("steps", steps), u64("reversion", reversion),
+             u64("volatility", volatility), *columns(points), *memories)
+    accepted(call("fit_version", *given), "fit_version", given)
 
 
 def row_range(discounts: Amounts, state_prices: Amounts, kind: int, steps: int, reversion: int, row: int) -> Optional[range]:

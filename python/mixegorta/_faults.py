@@ -68,11 +68,14 @@ def _place_in_job(number: int, given: Given) -> Place:
 def _fit_and_flows(job: bytes) -> Given:
     """The arguments of a well-formed job's fit and its flows."""
     frequency, steps, reversion, volatility = struct.unpack_from(">3xB3xB3xH3xI", job)
-    fields = [job[20 + 11 * i:31 + 11 * i] for i in range(steps)]
+    # a version stands before the quotes, or none
+    version, start = (job[23], 24) if job[20:21] == b"\x0b" else (1, 20)
+    fields = [job[start + 11 * i:start + 11 + 11 * i] for i in range(steps)]
     points = [(row, *struct.unpack(">B2xd", field)) for row, field in enumerate(fields, 1)]
-    flows = [struct.unpack_from(">3xI", job, 20 + 11 * steps + 7 * i)[0] for i in range(steps)]
+    flows = [struct.unpack_from(">3xI", job, start + 11 * steps + 7 * i)[0] for i in range(steps)]
     given = dict(zip(("rows", "kinds", "figures"), quotes(points)))
-    return {**given, "frequency": frequency, "steps": steps, "reversion": reversion, "volatility": volatility, "flows": amounts("flows", flows)}
+    return {**given, "version": version, "frequency": frequency, "steps": steps, "reversion": reversion, "volatility": volatility,
+            "flows": amounts("flows", flows)}
 
 
 def _tree_on_shelf(given: Given) -> Given:
@@ -83,7 +86,12 @@ def _tree_on_shelf(given: Given) -> Given:
 
 
 def _needed(name: str, given: Given) -> int:
-    return int(call(name, given["steps"], given["reversion"]).value)
+    """How many numbers a tree has, by the working reversion where a version is given; one that is unknown leaves the reversion itself."""
+    reversion = given["reversion"]
+    if "version" in given:
+        working = call("working_reversion", given["version"], reversion)
+        reversion = reversion if working.number else working.value
+    return int(call(name, given["steps"], reversion).value)
 
 
 def _not_in_tree(given: Given) -> Place:
@@ -119,6 +127,8 @@ def _payoffs_not_in_tree(given: Given) -> str:
 
 
 def _quote(given: Given) -> Place:
+    if "version" in given and call("working_reversion", given["version"], 0).number:
+        return "version", None
     if "point" in given:
         return "point", given["point"].row
     for row, kind, figure in zip(given["rows"], given["kinds"], given["figures"]):
@@ -149,7 +159,8 @@ def _unfitted_row(given: Given) -> int:
     while high - low > 1:
         steps = (low + high) // 2
         columns = [given[name].first(steps) for name in ("rows", "kinds", "figures")]
-        if call("fit", given["frequency"], steps, given["reversion"], given["volatility"], *columns, discounts, state_prices):
+        if call("fit_version", given.get("version", 1), given["frequency"], steps, given["reversion"], given["volatility"], *columns, discounts,
+                state_prices):
             high = steps
         else:
             low = steps

@@ -15,7 +15,7 @@ CAUSES: Dict[int, str] = {
     4: "the reversion is above 6,000",
     5: "the volatility is above 50,000",
     6: "a length, row or node is not in the tree, or a memory is too short",
-    7: "a quote's kind, figure or discount is outside its limits",
+    7: "a quote's kind, figure or discount is outside its limits, or the version is not 1 or 2",
     8: "the nodes are too far apart",
     9: "a node discount is 0 or above 1,100,000,000",
     10: "a flow is above 2,000,000,000",
@@ -77,7 +77,7 @@ class NotInTree(Refused):
 
 
 class QuoteOutOfRange(Refused):
-    """7: a quote's kind, figure or discount is outside its limits."""
+    """7: a quote's kind, figure or discount is outside its limits, or the version is not 1 or 2."""
 
 
 class NodesTooFarApart(Refused):

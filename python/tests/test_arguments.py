@@ -163,7 +163,7 @@ class Buffers(unittest.TestCase):
                 continue
             with recorded() as calls:
                 m.fit_into(1, 2, 0, 0, CURVE, lent, state_prices)
-            self.assertEqual((calls[0][1], calls[0][2][10:12]), (True, (address, 4)))
+            self.assertEqual((calls[0][1], calls[0][2][11:13]), (True, (address, 4)))
             self.assertEqual((list(lent), list(state_prices)), (list(wanted.discounts), list(wanted.state_prices)))
 
     def test_copied_where_the_layout_does_not_fit(self):
@@ -219,7 +219,7 @@ class Buffers(unittest.TestCase):
 class Lock(unittest.TestCase):
     def test_kept_where_a_caller_lends_and_given_up_elsewhere(self):
         tree, lent, copied = m.Tree(1, 2, 0, 0, CURVE), array("Q", [0, ONE]), [0, ONE]
-        calls = (("fit", False, m.Tree, 1, 2, 0, 0, CURVE),
+        calls = (("fit_version", False, m.Tree, 1, 2, 0, 0, CURVE),
                  ("bond_price", False, tree.bond_price, copied), ("bond_price", True, tree.bond_price, lent),
                  ("bond_price", False, m.bond_price, 2, 0, FLAT, copied), ("bond_price", True, m.bond_price, 2, 0, tree.discounts, copied),
                  ("dated_option_price", False, tree.dated_option_price, copied, m.CALL, b"\1", ONE),

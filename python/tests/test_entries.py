@@ -51,6 +51,8 @@ BONDS = {**LENT, 10: flows(0, 2 * ONE + 1), 12: {"steps": 5, **flat(25), **flows
 KINDS = {**BONDS, 11: {"expiry": 2}}
 LISTS = {**BONDS, 11: {"side": 3}, 13: {"dates": dates("dates", [2])}}
 QUOTES = {2: {"frequency": 3}, 3: {"steps": 0}, 6: columns(2, first=2), 7: columns(2, kind=7)}
+FITS = {**QUOTES, 4: SHAPE[4], 5: {"volatility": 50001}, 9: columns(2, 1.2),
+        8: {"steps": 13, "volatility": 50000, **columns(13), "discounts": own_memory(169), "state_prices": own_memory(196)}}
 PAYOFFS = {"payoffs": amounts("payoffs", [8 * ONE + 1])}
 AWAITING, FITTED = (1, 2, 0), (2, 2, 0)
 COMMIT = {**shelf(AWAITING), "name": 1, "frequency": 1, "volatility": 0, **columns(2)}
@@ -66,8 +68,9 @@ CASES = {
     "branches": ({**ROW, "node": 0}, {**SHAPE, 6: {"node": 1}}),
     "quote_discount": ({"frequency": 1, "kind": 5, "point": CPoint(1, 0.97)}, {2: {"frequency": 3}, 6: {"point": CPoint(0, 0.97)}, 7: {"kind": 7}}),
     "curve_discounts": (CURVE, QUOTES),
-    "fit": (FIT, {**QUOTES, 4: SHAPE[4], 5: {"volatility": 50001}, 9: columns(2, 1.2),
-                  8: {"steps": 13, "volatility": 50000, **columns(13), "discounts": own_memory(169), "state_prices": own_memory(196)}}),
+    "fit": (FIT, FITS),
+    "fit_version": ({**FIT, "version": 2}, {**FITS, 7: {"version": 3}}),
+    "working_reversion": ({"version": 2, "reversion": 0}, {4: SHAPE[4], 7: {"version": 3}}),
     "step_rate": ({"discount": ONE}, {9: {"discount": 0}}), "continuous_rate": ({"discount": ONE}, {9: {"discount": 0}}),
     "state_price_error_bound": ({**SIZE, **flat(4), "row": 0}, LENT),
     "price_error_bound": ({**SIZE, **flat(4)}, LENT), "tree_bounds": ({**SIZE, **flat(4)}, LENT),

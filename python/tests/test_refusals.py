@@ -45,7 +45,7 @@ class Test(unittest.TestCase):
 
     def test_words(self):
         refusal = self.refused(m.QuoteOutOfRange, "points", 3, m.Tree, 1, 5, 0, 0, changed(CURVE, 3, figure=97.0))
-        self.assertEqual(str(refusal), "refused 7: a quote's kind, figure or discount is outside its limits (points, row 3)")
+        self.assertEqual(str(refusal), "refused 7: a quote's kind, figure or discount is outside its limits, or the version is not 1 or 2 (points, row 3)")
         self.assertEqual(repr(refusal), "QuoteOutOfRange(number=7, argument='points', row=3)")
         kept = pickle.loads(pickle.dumps(refusal))
         self.assertEqual((type(kept), kept.number, str(kept)), (m.QuoteOutOfRange, 7, str(refusal)))

@@ -59,17 +59,21 @@ def curve_discounts(frequency, steps, rows, kinds, figures, memory):
     return None if quoted is None or len(memory) != len(quoted) else [0, *m.curve_discounts(frequency, steps, quoted)]
 
 
-def fit(frequency, steps, reversion, volatility, rows, kinds, figures, discounts, state_prices):
+def fit(frequency, steps, reversion, volatility, rows, kinds, figures, discounts, state_prices, **version):
     """What a fit writes: all that is no longer the pattern. Where it is refused, its memories must be as they were."""
     quoted = points(rows, kinds, figures)
     if quoted is None:
         return None
     try:
-        m.fit_into(frequency, steps, reversion, volatility, quoted, discounts, state_prices)
+        m.fit_into(frequency, steps, reversion, volatility, quoted, discounts, state_prices, **version)
     except m.Refused:
         assert set(discounts) | set(state_prices) == {PATTERN}
         raise
     return [0, *(number for number in chain(discounts, state_prices) if number != PATTERN)]
+
+
+def fit_version(version, *given):
+    return fit(*given, version=version)
 
 
 def row_range(*given):
@@ -136,15 +140,16 @@ def shelf_both(method):
     return lambda slots, memory, *given: [number for each in getattr(shelf_with(slots, memory), method)(*given) for number in number_and_fields(each)]
 
 
-CALLS = {"quote_discount": quote_discount, "curve_discounts": curve_discounts, "fit": fit, "row_range": row_range,
+LISTS_OF_QUOTES = "curve_discounts", "fit", "fit_version", "shelf_commit"
+CALLS = {"quote_discount": quote_discount, "curve_discounts": curve_discounts, "fit": fit, "fit_version": fit_version, "row_range": row_range,
          "tree_bounds": tree_bounds, "bond_and_option": both(m.bond_and_option), "bond_and_dated_option": both(m.bond_and_dated_option),
          "shelf_part": shelf_part, "shelf_ask": shelf_ask, "shelf_commit": shelf_commit, "shelf_release": shelf_release}
 for name in ("bond_price", "option_price", "dated_option_price"):
     CALLS["shelf_" + name] = shelf_price(name)
 for name in ("bond_and_option", "bond_and_dated_option"):
     CALLS["shelf_" + name] = shelf_both(name)
-for name in ("half_width", "node_count", "row_start", "discounts_needed", "state_prices_needed", "branches", "step_rate", "continuous_rate",
-             "state_price_error_bound", "price_error_bound", "bond_price", "option_price", "dated_option_price", "value_by_state_prices",
+for name in ("half_width", "node_count", "row_start", "discounts_needed", "state_prices_needed", "branches", "working_reversion", "step_rate",
+             "continuous_rate", "state_price_error_bound", "price_error_bound", "bond_price", "option_price", "dated_option_price", "value_by_state_prices",
              "valuation_error_bound"):
     CALLS[name] = numbered(getattr(m, name))
 
@@ -183,7 +188,7 @@ class Test(unittest.TestCase):
             for place, word in enumerate(words):
                 given = [argument(each) for each in words]
                 if word.startswith("@") or name == "quote_discount" and place == 3 or isinstance(given[place], list) and (
-                        name in ("curve_discounts", "fit", "shelf_commit") or name.startswith("shelf_") and place < 2):
+                        name in LISTS_OF_QUOTES or name.startswith("shelf_") and place < 2):
                     continue
                 wide = given[place] + 2**64 if isinstance(given[place], int) else [given[place][0] + 2**64, *given[place][1:]]
                 with self.subTest(name=name, place=place), self.assertRaises(OverflowError):

@@ -28,6 +28,10 @@ fitted: bool = name_of is not None and name_of.fitted
 known: m.TreeErrorBounds = tree.bounds()
 carried: Optional[m.TreeErrorBounds] = shelf.bounds(1)
 same_bound: bool = carried == known == m.tree_bounds(2, 0, copied) and tree.price_error_bound() == m.price_error_bound(2, 0, copied) == bond.bound
+second: m.Tree = m.Tree(1, 2, 1_000, 10_000, points, version=2)
+working: int = second.working_reversion
+same_bound = same_bound and working == m.working_reversion(second.version, second.reversion)
+m.fit_into(1, 2, 1_000, 0, points, array("Q", bytes(32)), memoryview(array("Q", bytes(72))), version=2)
 words: str = f"{both.option.argument} {both.option.row}" if isinstance(both.option, m.Refused) else f"{both.option.bound}"
 
 try:
@@ -44,6 +48,10 @@ except TypeError:
     pass
 try:
     shelf.ask("rates", 2, 0)  # type: ignore[arg-type]
+except TypeError:
+    pass
+try:
+    m.Tree(1, 2, 1_000, 10_000, points, version="2")  # type: ignore[arg-type]
 except TypeError:
     pass
 print(bond == same == shelved and dated == same_option and fitted and same_bound and words.startswith("expiry"))

@@ -2,7 +2,8 @@
 //!
 //! [`ONE`] is 1,000,000,000 billionths. Any arguments may be passed: each call gives its full answer or a [`Refusal`], and the engine
 //! itself judges every argument. Discounts stand row after row, lowest node first, for rows 0 to n - 1, state prices for rows 0 to n.
-//! A [`Tree`] is one fitted tree with memories of its own, a [`Shelf`] up to eight trees in one memory.
+//! A [`Tree`] is one fitted tree with memories of its own, a [`Shelf`] up to eight trees in one memory. [`Tree::fit_version`] takes a version: 2 has
+//! the model's own mean and variance of a step.
 //!
 //! ```
 //! use mixegorta::{Curve, OptionKind, OptionTerms, Quote, Tree, ONE};
@@ -296,6 +297,12 @@ pub fn branches(reversion: u64, row: usize, node: i64) -> Result<Branches, Refus
     )
 }
 
+/// The working reversion of a reversion per step, by which a tree of that version, 1 or 2, branches: itself in version 1, never more in
+/// version 2. Of a tree of version 2 it goes wherever a function here takes a tree and not a version.
+pub fn working_reversion(version: u64, reversion: u64) -> Result<u64, Refusal> {
+    value_of(unsafe { raw::mixegorta_working_reversion(version, reversion) })
+}
+
 /// The discount of one quote for a row, 1 to 60.
 pub fn quote_discount(frequency: u64, row: u64, quote: Quote) -> Result<u64, Refusal> {
     let point = raw::Point {
@@ -342,6 +349,41 @@ pub fn fit(
 ) -> Result<(), Refusal> {
     let number = unsafe {
         raw::mixegorta_fit(
+            frequency,
+            steps,
+            reversion,
+            volatility,
+            curve.rows.as_ptr(),
+            curve.rows.len(),
+            curve.kinds.as_ptr(),
+            curve.kinds.len(),
+            curve.figures.as_ptr(),
+            curve.figures.len(),
+            discounts.as_mut_ptr(),
+            discounts.len(),
+            state_prices.as_mut_ptr(),
+            state_prices.len(),
+        )
+    };
+    accepted(number, ())
+}
+
+/// Fits a tree by version, 1 or 2, as [`fit`] does by version 1. The memories are sized by what [`working_reversion`] answers, and the tree is
+/// priced with it: it can be lower than the reversion and the tree wider, and [`Tree::fit_version`] sees to both.
+#[allow(clippy::too_many_arguments)]
+pub fn fit_version(
+    version: u64,
+    frequency: u64,
+    steps: usize,
+    reversion: u64,
+    volatility: u64,
+    curve: &Curve,
+    discounts: &mut [u64],
+    state_prices: &mut [u64],
+) -> Result<(), Refusal> {
+    let number = unsafe {
+        raw::mixegorta_fit_version(
+            version,
             frequency,
             steps,
             reversion,

@@ -119,6 +119,7 @@ extern "C" {
     pub fn mixegorta_discounts_needed(steps: usize, reversion: u64) -> Answer;
     pub fn mixegorta_state_prices_needed(steps: usize, reversion: u64) -> Answer;
     pub fn mixegorta_branches(reversion: u64, row: usize, node: i64) -> Branches;
+    pub fn mixegorta_working_reversion(version: u64, reversion: u64) -> Answer;
     pub fn mixegorta_quote_discount(frequency: u64, kind: u8, point: Point) -> Answer;
     pub fn mixegorta_curve_discounts(
         frequency: u64,
@@ -133,6 +134,23 @@ extern "C" {
         discounts_len: usize,
     ) -> u64;
     pub fn mixegorta_fit(
+        frequency: u64,
+        steps: usize,
+        reversion: u64,
+        volatility: u64,
+        rows: *const u64,
+        rows_len: usize,
+        kinds: *const u8,
+        kinds_len: usize,
+        figures: *const f64,
+        figures_len: usize,
+        discounts: *mut u64,
+        discounts_len: usize,
+        state_prices: *mut u64,
+        state_prices_len: usize,
+    ) -> u64;
+    pub fn mixegorta_fit_version(
+        version: u64,
         frequency: u64,
         steps: usize,
         reversion: u64,

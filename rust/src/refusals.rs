@@ -15,7 +15,7 @@ impl Refusal {
     pub const VOLATILITY: Refusal = Refusal(5);
     /// A length, row or node is not in the tree, or a memory is too short.
     pub const LENGTH_OR_ROW: Refusal = Refusal(6);
-    /// A quote's kind, figure or discount is outside its limits.
+    /// A quote's kind, figure or discount is outside its limits, or the version is not 1 or 2.
     pub const QUOTE: Refusal = Refusal(7);
     /// The nodes are too far apart. The half width of the last row but one times the spacing of the nodes is above one.
     pub const SPACING: Refusal = Refusal(8);
@@ -61,7 +61,7 @@ pub(crate) const CAUSES: [&str; 15] = [
     "the reversion is above 6,000",
     "the volatility is above 50,000",
     "a length, row or node is not in the tree, or a memory is too short",
-    "a quote's kind, figure or discount is outside its limits",
+    "a quote's kind, figure or discount is outside its limits, or the version is not 1 or 2",
     "the nodes are too far apart",
     "a node discount is 0 or above 1,100,000,000",
     "a flow is above 2,000,000,000",

@@ -6,14 +6,16 @@ use crate::{BondAndOption, Branches, Curve, DatedTerms, OptionTerms, Price, Refu
 /// A tree that was fitted to a curve and not refused.
 #[derive(Clone, Debug, PartialEq, Eq)]
 pub struct Tree {
+    version: u64,
     steps: usize,
     reversion: u64,
+    working_reversion: u64,
     discounts: Vec<u64>,
     state_prices: Vec<u64>,
 }
 
 impl Tree {
-    /// Fits a tree: steps a year, steps, reversion per step in ten-thousandths, yearly volatility in millionths.
+    /// Fits a tree of version 1: steps a year, steps, reversion per step in ten-thousandths, yearly volatility in millionths.
     pub fn fit(
         frequency: u64,
         steps: usize,
@@ -21,16 +23,33 @@ impl Tree {
         volatility: u64,
         curve: &Curve,
     ) -> Result<Tree, Refusal> {
-        // Where the sizes are refused the fit refuses too, and it alone knows the lowest number.
-        let discounts = crate::discounts_needed(steps, reversion).unwrap_or(0);
-        let state_prices = crate::state_prices_needed(steps, reversion).unwrap_or(0);
+        Tree::fit_version(1, frequency, steps, reversion, volatility, curve)
+    }
+
+    /// Fits a tree by version, 1 or 2. It has the size of its working reversion, and all that is asked of it goes by that.
+    pub fn fit_version(
+        version: u64,
+        frequency: u64,
+        steps: usize,
+        reversion: u64,
+        volatility: u64,
+        curve: &Curve,
+    ) -> Result<Tree, Refusal> {
+        // Where the version or a size is refused the fit refuses too, and it alone knows the lowest number; an unknown version is
+        // judged with the memories that the reversion itself asks for.
+        let working_reversion = crate::working_reversion(version, reversion).unwrap_or(reversion);
+        let discounts = crate::discounts_needed(steps, working_reversion).unwrap_or(0);
+        let state_prices = crate::state_prices_needed(steps, working_reversion).unwrap_or(0);
         let mut tree = Tree {
+            version,
             steps,
             reversion,
+            working_reversion,
             discounts: vec![0; discounts as usize],
             state_prices: vec![0; state_prices as usize],
         };
-        crate::fit(
+        crate::fit_version(
+            version,
             frequency,
             steps,
             reversion,
@@ -42,14 +61,25 @@ impl Tree {
         Ok(tree)
     }
 
+    /// How the fit took the reversion: 1 or 2.
+    pub fn version(&self) -> u64 {
+        self.version
+    }
+
     /// The steps n.
     pub fn steps(&self) -> usize {
         self.steps
     }
 
-    /// The reversion per step in ten-thousandths.
+    /// The reversion per step in ten-thousandths, as it was handed in.
     pub fn reversion(&self) -> u64 {
         self.reversion
+    }
+
+    /// The reversion by which the tree branches, which is to be handed to functions that take a tree's discounts. In version 1 it is the
+    /// reversion itself.
+    pub fn working_reversion(&self) -> u64 {
+        self.working_reversion
     }
 
     /// The discounts of rows 0 to n - 1, row after row, lowest node first.
@@ -69,7 +99,7 @@ impl Tree {
             &self.state_prices,
             kind,
             self.steps,
-            self.reversion,
+            self.working_reversion,
             row,
         )
     }
@@ -79,47 +109,71 @@ impl Tree {
         // The engine answers for the longest tree: that this one has the row, its memory tells.
         self.row(RowKind::Discounts, row)
             .ok_or(Refusal::LENGTH_OR_ROW)?;
-        crate::branches(self.reversion, row, node)
+        crate::branches(self.working_reversion, row, node)
     }
 
     /// How far below the exact ones the state prices of a row may be in sum.
     pub fn state_price_error_bound(&self, row: usize) -> Result<u64, Refusal> {
-        crate::state_price_error_bound(self.steps, self.reversion, &self.discounts, row)
+        crate::state_price_error_bound(self.steps, self.working_reversion, &self.discounts, row)
     }
 
     /// The error bound of every bond and option on the tree, without pricing any.
     pub fn price_error_bound(&self) -> Result<u64, Refusal> {
-        crate::price_error_bound(self.steps, self.reversion, &self.discounts)
+        crate::price_error_bound(self.steps, self.working_reversion, &self.discounts)
     }
 
     /// The same bound with the greatest discount of each row.
     pub fn bounds(&self) -> Result<TreeErrorBounds, Refusal> {
-        crate::tree_bounds(self.steps, self.reversion, &self.discounts)
+        crate::tree_bounds(self.steps, self.working_reversion, &self.discounts)
     }
 
     /// The price of the bond with these flows of rows 1 to n.
     pub fn bond_price(&self, flows: &[u64]) -> Result<Price, Refusal> {
-        crate::bond_price(self.steps, self.reversion, &self.discounts, flows)
+        crate::bond_price(self.steps, self.working_reversion, &self.discounts, flows)
     }
 
     /// The price of an option on that bond.
     pub fn option_price(&self, flows: &[u64], terms: OptionTerms) -> Result<Price, Refusal> {
-        crate::option_price(self.steps, self.reversion, &self.discounts, flows, terms)
+        crate::option_price(
+            self.steps,
+            self.working_reversion,
+            &self.discounts,
+            flows,
+            terms,
+        )
     }
 
     /// Bond and option in one roll, each priced or refused by itself.
     pub fn bond_and_option(&self, flows: &[u64], terms: OptionTerms) -> BondAndOption {
-        crate::bond_and_option(self.steps, self.reversion, &self.discounts, flows, terms)
+        crate::bond_and_option(
+            self.steps,
+            self.working_reversion,
+            &self.discounts,
+            flows,
+            terms,
+        )
     }
 
     /// The price of an option on that bond which may be exercised on listed rows.
     pub fn dated_option_price(&self, flows: &[u64], terms: DatedTerms) -> Result<Price, Refusal> {
-        crate::dated_option_price(self.steps, self.reversion, &self.discounts, flows, terms)
+        crate::dated_option_price(
+            self.steps,
+            self.working_reversion,
+            &self.discounts,
+            flows,
+            terms,
+        )
     }
 
     /// Bond and dated option in one roll, each priced or refused by itself.
     pub fn bond_and_dated_option(&self, flows: &[u64], terms: DatedTerms) -> BondAndOption {
-        crate::bond_and_dated_option(self.steps, self.reversion, &self.discounts, flows, terms)
+        crate::bond_and_dated_option(
+            self.steps,
+            self.working_reversion,
+            &self.discounts,
+            flows,
+            terms,
+        )
     }
 
     /// What payoffs on a row are worth: never above the exact price, and at most the bound below it.
@@ -128,7 +182,7 @@ impl Tree {
         let value = crate::value_by_state_prices(state_prices, payoffs)?;
         let bound = crate::valuation_error_bound(
             self.steps,
-            self.reversion,
+            self.working_reversion,
             &self.discounts,
             row,
             payoffs,

@@ -161,6 +161,28 @@ fn fitted(g: &Given) -> Option<Vec<u64>> {
     Some(written(found, &[(&discounts, first), (&prices, second)]))
 }
 
+fn fitted_by_version(g: &Given) -> Option<Vec<u64>> {
+    let (version, steps, reversion) = (g.number(0), g.size(2), g.number(3));
+    let (mut discounts, mut prices) = (g.list(8).to_vec(), g.list(9).to_vec());
+    let found = fit_version(
+        version,
+        g.number(1),
+        steps,
+        reversion,
+        g.number(4),
+        &g.curve(5)?,
+        &mut discounts,
+        &mut prices,
+    );
+    let working = working_reversion(version, reversion).unwrap_or(reversion);
+    let needed = |size: Result<u64, Refusal>| size.unwrap_or(0) as usize;
+    let (first, second) = (
+        needed(discounts_needed(steps, working)),
+        needed(state_prices_needed(steps, working)),
+    );
+    Some(written(found, &[(&discounts, first), (&prices, second)]))
+}
+
 fn curve_written(g: &Given) -> Option<Vec<u64>> {
     let mut memory = g.list(5).to_vec();
     let found = curve_discounts(g.number(0), g.size(1), &g.curve(2)?, &mut memory);
@@ -201,6 +223,8 @@ fn shape_or_fit(name: &str, g: &Given) -> Option<Vec<u64>> {
         ))),
         "curve_discounts" => curve_written(g),
         "fit" => fitted(g),
+        "fit_version" => fitted_by_version(g),
+        "working_reversion" => Some(one(working_reversion(g.number(0), g.number(1)))),
         "row_range" => ranged(g),
         "step_rate" => Some(one(step_rate(g.number(0)).map(|rate| rate as u64))),
         "continuous_rate" => Some(one(continuous_rate(g.number(0)).map(|rate| rate as u64))),
@@ -390,7 +414,7 @@ fn numbers_past_a_width() {
             *called.entry(name).or_default() += 1;
         }
     }
-    assert_eq!(called.len(), 31, "{called:?}");
+    assert_eq!(called.len(), 33, "{called:?}");
     assert!(called.values().all(|lines| *lines > 3), "{called:?}");
 }
 

@@ -13,7 +13,8 @@ ghost use Rattle.quotes.specs.Quotes.{loneAnswer};
 ghost use Rattle.curve.specs.Curve.{curveNumber, curveMemory};
 ghost use Rattle.step_rate.specs.StepRate.{rateAnswer};
 ghost use Rattle.continuous_rate.specs.ContinuousRate.{continuousRateAnswer};
-ghost use Rattle.fitting.specs.Entry.{fitNumber, discountsAfter, pricesAfter};
+ghost use Rattle.reversion.specs.Reversion.{workingAnswer};
+ghost use Rattle.fitting.specs.Entry.{fitNumber, discountsAfter, pricesAfter, versionNumber, versionDiscountsAfter, versionPricesAfter};
 ghost use Rattle.row_view.specs.RowView.{rangeByNumber};
 ghost use Rattle.state_price_bound.specs.ErrorBound.{statePriceErrorBoundAnswer};
 ghost use Rattle.price_bound.specs.PriceBound.{priceErrorBoundAnswer, treeBoundsAnswer};
@@ -54,7 +55,7 @@ use step_rate::Rate;
 pub extern "C" fn mixegorta_version() -> u64
     ensures { λ r. ⌜ r ≡ version ⌝ }
 {
-    8_000
+    9_000
 }
 
 // ---- the shape of a tree
@@ -99,6 +100,13 @@ pub extern "C" fn mixegorta_branches(reversion: u64, row: usize, node: i64) -> B
     ensures { λ r. ⌜ r ≡ branchAnswer reversion row node ⌝ }
 {
     branches::branch(reversion, row, node)
+}
+
+#[no_mangle]
+pub extern "C" fn mixegorta_working_reversion(version: u64, reversion: u64) -> Answer
+    ensures { λ r. ⌜ r ≡ workingAnswer version reversion ⌝ }
+{
+    reversion::working_reversion(version, reversion)
 }
 
 // ---- level one: quotes, the fit, rows, rates
@@ -147,6 +155,40 @@ pub extern "C" fn mixegorta_fit(
         (now (rows .entry)) (now (kinds .entry)) (now (figures .entry)) (now (discounts .entry)) (now («state_prices» .entry)) ⌝ }
 {
     fitting::fit(
+        frequency,
+        steps,
+        reversion,
+        volatility,
+        rows,
+        kinds,
+        figures,
+        discounts,
+        state_prices,
+    )
+}
+
+#[no_mangle]
+pub extern "C" fn mixegorta_fit_version(
+    version: u64,
+    frequency: u64,
+    steps: usize,
+    reversion: u64,
+    volatility: u64,
+    rows: &[u64],
+    kinds: &[u8],
+    figures: &[f64],
+    discounts: &mut [u64],
+    state_prices: &mut [u64],
+) -> u64
+    ensures number { λ r. ⌜ r ≡ versionNumber version frequency steps reversion volatility
+        (now (rows .entry)) (now (kinds .entry)) (now (figures .entry)) (length (now (discounts .entry))) (length (now («state_prices» .entry))) ⌝ }
+    ensures discounted { λ _. ⌜ now (discounts .exit) ≡ versionDiscountsAfter version frequency steps reversion volatility
+        (now (rows .entry)) (now (kinds .entry)) (now (figures .entry)) (now (discounts .entry)) (now («state_prices» .entry)) ⌝ }
+    ensures priced { λ _. ⌜ now («state_prices» .exit) ≡ versionPricesAfter version frequency steps reversion volatility
+        (now (rows .entry)) (now (kinds .entry)) (now (figures .entry)) (now (discounts .entry)) (now («state_prices» .entry)) ⌝ }
+{
+    fitting::fit_version(
+        version,
         frequency,
         steps,
         reversion,

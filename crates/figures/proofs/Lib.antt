@@ -1,3 +1,4 @@
 pub mod Starred
 pub mod YieldFigures
 pub mod SheetFigures
+pub mod VersionFigures

@@ -22,14 +22,15 @@ use Rattle.lent_tree.specs.LentTree.{stored, acceptedDiscounts, discountsCause}
 use Rattle.figure.specs.Figure.{magnitudeOf, billionthsOf, beyond, patternFloat}
 use Rattle.quotes.specs.Quotes.{rowKnown, inRange, factorDiscount, rangedAnswer, figureAnswer, quoteAnswer, kindAnswer, loneAnswer}
 use Rattle.curve.specs.Curve.{inPlace, answerAt, curveNumber}
-use Rattle.spacing.specs.Spacing.{greatestPassing, greatestRoot, spacing, spacingAnswer}
+use Rattle.reversion.specs.Reversion.{isVersion, workingReversion, isExact}
+use Rattle.spacing.specs.Spacing.{greatestPassing, greatestRoot, versionVariance, versionSpacing, versionSpacingAnswer}
 use Rattle.factor.specs.Series.{term, series}
 use Rattle.factor.specs.Factor.{factor}
 use Rattle.step_rate.specs.StepRate.{rateAnswer}
 use Rattle.fit_laws.specs.Step.{normaliser, discount, carried, nextPrice}
 use Rattle.fit_laws.specs.StatePrices.{fittedPrice, fittedDiscount, acceptedRow, statePriceErrorBound}
 use Rattle.fitting.specs.Fit.{quoted, curveAccepted}
-use Rattle.fitting.specs.Entry.{earlyCause, lateCause, fitNumber}
+use Rattle.fitting.specs.Entry.{earlyCause, lateCause, fittedNumber}
 use Rattle.state_price_bound.specs.ErrorBound.{rowCause, boundCause, statePriceErrorBoundAnswer}
 use Rattle.pricing_laws.specs.Pricer.{bondFrom, bond, errorBoundFrom, errorBound}
 use Rattle.pricing_laws.specs.TreePricer.{nodeRoll, roll, greatestDiscount}
@@ -42,11 +43,11 @@ use Rattle.job_record.specs.declared.OptionRecord.{OptionRecord}
 use Rattle.job_record.specs.declared.Job.{Job}
 use Rattle.job_record.specs.declared.Reading.{Reading}
 use Rattle.job_record.specs.Bytes.{numberAt}
-use Rattle.job_record.specs.Form.{isKind, fieldAt, fieldsFrom, headFormed, kindFormed, listFormed, restFormed, bodyFormed, wellFormed}
-use Rattle.job_record.specs.Reader.{noOption, optionAt, jobOf, acceptedReading, readingOf}
+use Rattle.job_record.specs.Form.{isKind, fieldAt, fieldsFrom, headFormed, hasVersion, quotesAt, kindFormed, listFormed, restFormed, bodyFormed, wellFormed}
+use Rattle.job_record.specs.Reader.{noOption, optionAt, versionOf, jobOf, acceptedReading, readingOf}
 use Rattle.job_record.specs.Example.{exampleQuote, jobWith, example, examplePut, exampleJob, recordWith}
 use Rattle.job_record.proofs.Figures.{example-read}
-use Rattle.job_fit.specs.RecordFit.{jobFlows, jobQuotes, jobDiscounts, jobStatePrices, recordFit}
+use Rattle.job_fit.specs.RecordFit.{meantVersion, meantReversion, jobFlows, jobQuotes, jobDiscounts, jobStatePrices, recordFit}
 use Rattle.job_prices.specs.JobPrices.{optionForm, taggedOption, treeNumber, jobBond, recordNumber}
 use Rattle.text_laws.specs.Decimal.{natural, naturalWithin, lastDigits, decimal, signedDecimal}
 use Rattle.text_laws.specs.Lines.{lineOfNode, nodeLine, rowLine, priceLine, refusedLine}
@@ -65,23 +66,26 @@ module _ (option : OptionRecord) where
   quotes-are = refl
 
   fit-none : recordFit (recordWith 5 option) 3600 3721 ≡ 0
-  unfolding recordFit fitNumber earlyCause lowestCause curveNumber inPlace each row answerAt loneAnswer kindAnswer quoteAnswer figureAnswer rangedAnswer
-      inRange factorDiscount billionthsOf magnitudeOf nearest beyond patternFloat isNan ofBits listed rowKnown aboutTree shapeCause spacingAnswer memoryCause
-      discountsNeeded statePricesNeeded rowStart sum nodeCount halfWidth lateCause spacing greatestRoot greatestPassing curveAccepted acceptedRow rateTree
+  unfolding recordFit fittedNumber earlyCause lowestCause curveNumber inPlace each row answerAt loneAnswer kindAnswer quoteAnswer figureAnswer rangedAnswer
+      inRange factorDiscount billionthsOf magnitudeOf nearest beyond patternFloat isNan ofBits listed rowKnown aboutTree shapeCause memoryCause
+      meantVersion workingReversion isVersion isExact versionVariance versionSpacing versionSpacingAnswer
+      discountsNeeded statePricesNeeded rowStart sum nodeCount halfWidth lateCause greatestRoot greatestPassing curveAccepted acceptedRow rateTree
       fittedDiscount discount normaliser fittedPrice factor nodeOfIndex series term roundDown quoted
   fit-none = refl
 
   discounts-are : jobDiscounts (recordWith 5 option) ≡ 1002500000 ∷ []
   unfolding jobDiscounts laid row answerAt loneAnswer kindAnswer quoteAnswer figureAnswer rangedAnswer
       inRange factorDiscount billionthsOf magnitudeOf nearest beyond patternFloat isNan ofBits listed rowKnown
-      sum nodeCount halfWidth spacing greatestRoot greatestPassing rateTree
+      meantVersion meantReversion workingReversion isExact versionVariance versionSpacing
+      sum nodeCount halfWidth greatestRoot greatestPassing rateTree
       fittedDiscount discount normaliser fittedPrice factor nodeOfIndex series term roundDown quoted
   discounts-are = refl
 
   prices-are : jobStatePrices (recordWith 5 option) ≡ 1000000000 ∷ 167083333 ∷ 668333333 ∷ 167083333 ∷ []
   unfolding jobStatePrices laid row answerAt loneAnswer kindAnswer quoteAnswer figureAnswer rangedAnswer
       inRange factorDiscount billionthsOf magnitudeOf nearest beyond patternFloat isNan ofBits listed rowKnown
-      sum nodeCount halfWidth spacing greatestRoot greatestPassing rateTree
+      meantVersion meantReversion workingReversion isExact versionVariance versionSpacing
+      sum nodeCount halfWidth greatestRoot greatestPassing rateTree
       fittedDiscount discount normaliser fittedPrice factor nodeOfIndex series term roundDown quoted
       nextPrice carried incoming chance only low branching lowestOf zOf upFormula middleFormula downFormula upProbability middleProbability downProbability
   prices-are = refl
@@ -89,7 +93,8 @@ module _ (option : OptionRecord) where
   -- without a cause of form or fit, the job's number is its tree's
   number-is : (form : optionForm (option .tag) (option .count) ≡ 0) (number : ℕ) →
       treeNumber 1 0 (1002500000 ∷ []) (1000000000 ∷ []) option ≡ number → recordNumber (recordWith 5 option) 3600 3721 ≡ number
-  unfolding recordNumber firstCause lowestCause memoryCause aboutTree shapeCause discountsNeeded statePricesNeeded rowStart sum nodeCount halfWidth
+  unfolding meantVersion meantReversion workingReversion recordNumber firstCause lowestCause memoryCause aboutTree shapeCause
+      discountsNeeded statePricesNeeded rowStart sum nodeCount halfWidth
   number-is form number e = rw (form, fit-none, discounts-are) e
 
   module _ (room : ℕ) (h : sheetRoom ≤ room) where
@@ -120,7 +125,8 @@ own-job room h = rw (own-number room h) refl
 -- ---- without it
 
 plain-read : readingOf (jobWith exampleQuote []) ≡ acceptedReading (recordWith 5 noOption)
-unfolding numberAt isKind fieldAt fieldsFrom headFormed kindFormed listFormed restFormed bodyFormed wellFormed padded jobOf readingOf row overlay each optionAt
+unfolding numberAt isKind fieldAt fieldsFrom headFormed hasVersion quotesAt kindFormed listFormed restFormed bodyFormed wellFormed
+    padded versionOf jobOf readingOf row overlay each optionAt
 plain-read = refl
 
 bond-is : bondPrice 1 0 (1002500000 ∷ []) (1000000000 ∷ []) ≡ record { number = 0; value = 1002500000; bound = 2 }
@@ -165,7 +171,7 @@ unfolding treeSheet lines nodeText lineOfNode nodeOfIndex rowPart rowStart sum n
 tree-text option = refl
 
 job-text : jobText (recordWith 5 noOption) ≡ nodeBytes ++ (rowBytes ++ bondBytes)
-unfolding jobText
+unfolding meantVersion meantReversion workingReversion jobText
 job-text = rw (quotes-are noOption, discounts-are noOption, prices-are noOption, bond-is) (tree-text _)
 
 without-option : (room : ℕ) → sheetRoom ≤ room → printedText (jobWith exampleQuote []) room ≡ nodeBytes ++ (rowBytes ++ bondBytes)

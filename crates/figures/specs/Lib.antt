@@ -1,3 +1,4 @@
 pub mod Figures
 pub mod Yields
 pub mod Sheets
+pub mod Versions

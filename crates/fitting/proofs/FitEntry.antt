@@ -1,6 +1,6 @@
 -- The fit's number and memories, from its plan and from the fit of the converted quotes.
 -- Assumes nothing.
-use mathlib.Core.Path.{_≡_, refl, sym, _∙_, ap}
+use mathlib.Core.Path.{_≡_, refl, sym, _∙_, ap, subst}
 use mathlib.Core.Bool.{Bool, true, false, cond, not, _&&_}
 use mathlib.Core.List.{List, _++_}
 use Prim.Native.Nat.{ℕ, suc, _+_, _-_, _*_, _≤_, _<_, min}
@@ -11,6 +11,7 @@ use lib.ListN.{length, take, drop}
 use lib.Seq.{take-at}
 use borrow.Author.Tests.{eq-eqb, ne-eqb}
 use Rattle.arithmetic.specs.Answers.{refused, answered, lowestCause}
+use Rattle.arithmetic.specs.declared.Answer.{Answer}
 use Rattle.arithmetic.specs.Rounding.{one}
 use Rattle.arithmetic.specs.Row.{row, values, place, each}
 use Rattle.arithmetic.proofs.Numbers.{by-equal}
@@ -22,16 +23,20 @@ use Rattle.lattice.specs.RateTree.{rateTree}
 use Rattle.lattice.specs.Entries.{discountsNeededAnswer, statePricesNeededAnswer, memoryCause}
 use Rattle.lattice.proofs.RateTreeLaws.{start-is}
 use Rattle.lattice.proofs.TreeEntries.{by-tree}
-use Rattle.spacing.specs.Spacing.{spacing, spacingAnswer}
 use Rattle.arithmetic.specs.Frequency.{listed}
-use Rattle.limits.specs.Limits.{mostSteps, isSteps, leastQuote, mostQuote}
+use Rattle.reversion.specs.Reversion.{isVersion, workingReversion}
+use Rattle.spacing.specs.Spacing.{spacing, spacingAnswer, versionSpacing, versionSpacingAnswer}
+use Rattle.spacing.proofs.SpacingLaws.{spacing-zero}
+use Rattle.spacing.proofs.VersionLaws.{version-zero, version-answer-most, answer-first}
+use Rattle.limits.specs.Limits.{mostSteps, mostReversion, isSteps, leastQuote, mostQuote}
 use Rattle.curve.specs.Curve.{discountAt, convertsAt, inPlace, curveNumber, curveMemory}
 use Rattle.curve.proofs.CurveLaws.{curve-range, curve-stored}
 use Rattle.fitting.specs.declared.causes.Plan.{Plan}
 use Rattle.fitting.specs.Fit.{curveDiscount, curvePrice, curveAccepted, rowsOrZeros, TreeFitted}
 use Rattle.fitting.specs.Preconditions.{QuotesReady}
-use Rattle.fitting.specs.Entry.{quotesOf, earlyCause, lateCause, fitNumber, fitMemory, fitDiscounts, fitPrices, discountsAfter, pricesAfter}
-use Rattle.fitting.specs.Plans.{Planned}
+use Rattle.fitting.specs.Entry.{quotesOf, earlyCause, lateCause, fittedNumber, fitMemory, fitDiscounts, fitPrices}
+use Rattle.fitting.specs.Plans.{SpacingKnown, Planned}
+use Rattle.fitting.proofs.CauseLaws.{numbers-of}
 
 -- causes 2 to 7 are at most 7
 chain-small : (a b c d : Bool) → cond a 2 (cond b 3 (cond c 6 (cond d 7 0))) ≤ 7
@@ -50,15 +55,6 @@ tree-small : (n b : ℕ) → discountsNeededAnswer n b .number ≤ 7
 tree-small n b =
     by-tree n b (discountsNeeded n b) (λ a. a .number ≤ 7) (λ _. omega arith) (λ _. omega arith) (λ _ _ _. omega arith) (λ _. omega arith)
 
-answer-small : (a b : Bool) (x : ℕ) → (cond a (refused 2) (cond b (refused 5) (answered x))) .number ≤ 7
-answer-small true b x = omega arith
-answer-small false true x = omega arith
-answer-small false false x = omega arith
-
-spacing-small : (f s : ℕ) → spacingAnswer f s .number ≤ 7
-unfolding spacingAnswer
-spacing-small f s = answer-small (not (listed f)) (ltb 50000 s) (spacing f s)
-
 memory-small : (n b ds ps : ℕ) → memoryCause n b ds ps ≤ 7
 unfolding memoryCause
 memory-small n b ds ps = six (leb (discountsNeededAnswer n b .value) ds && leb (statePricesNeededAnswer n b .value) ps)
@@ -76,10 +72,10 @@ lowest-small a b ha hb = go (eqb a 0) (eqb b 0)
     go false true = ha
     go false false = omega arith
 
-early-small : (c f n b s ds ps : ℕ) → c ≤ 7 → earlyCause c f n b s ds ps ≤ 7
+early-small : (c n b spaced ds ps : ℕ) → c ≤ 7 → spaced ≤ 7 → earlyCause c n b spaced ds ps ≤ 7
 unfolding earlyCause
-early-small c f n b s ds ps h =
-    lowest-small _ _ (lowest-small c _ h (tree-small n b)) (lowest-small _ _ (spacing-small f s) (memory-small n b ds ps))
+early-small c n b spaced ds ps h l =
+    lowest-small _ _ (lowest-small c _ h (tree-small n b)) (lowest-small _ _ l (memory-small n b ds ps))
 
 -- a memory that a refusal leaves, and one that the fit wrote
 kept : (number : ℕ) (rows memory : List ℕ) → (number ≡ 0 → ⊥) → number ≤ 8 → memory ≡ fitMemory number rows memory
@@ -118,36 +114,46 @@ cond-small : (t : Bool) → cond t 8 0 ≤ 8
 cond-small true = omega arith
 cond-small false = omega arith
 
+-- the number of a fit in two memories, and what it leaves in them
+abbrev pub Answered : ℕ → ℕ → ℕ → ℕ → ℕ → List ℕ → List ℕ → List Float → List ℕ → List ℕ → ℕ → List ℕ → List ℕ → Type 0
+Answered f n b spaced h rows kinds figures d p r d′ p′ =
+    (r ≡ fittedNumber f n b spaced h rows kinds figures (length d) (length p))
+    × ((d′ ≡ fitMemory (fittedNumber f n b spaced h rows kinds figures (length d) (length p)) (fitDiscounts f n b h kinds figures) d)
+    × (p′ ≡ fitMemory (fittedNumber f n b spaced h rows kinds figures (length d) (length p)) (fitPrices f n b h kinds figures) p))
+
 -- what code holds once the quotes were converted and the plan was made: the plan, and the memory of the quotes
-pub record Prepared (f n b s : ℕ) (rows kinds : List ℕ) (figures : List Float) (d p : List ℕ) (plan : Plan) (after : List ℕ) : Type 0 where
-  pub planned : Planned f n b s (curveNumber f n rows kinds figures mostSteps) (length d) (length p) plan
+pub record Prepared (f n b : ℕ) (spaced : Answer) (rows kinds : List ℕ) (figures : List Float) (d p : List ℕ) (plan : Plan) (after : List ℕ) : Type 0 where
+  pub spacing-known : SpacingKnown spaced
+  pub planned : Planned n b (curveNumber f n rows kinds figures mostSteps) (spaced .number) (spaced .value) (length d) (length p) plan
   pub memory : List ℕ
   pub memory-length : length memory ≡ mostSteps
   pub after-is : after ≡ curveMemory f n rows kinds figures memory
 
-pub prepared : {f n b s : ℕ} {rows kinds : List ℕ} {figures : List Float} {d p : List ℕ} {plan : Plan} {after : List ℕ} {converted : ℕ} (memory : List ℕ) →
-    length memory ≡ mostSteps → converted ≡ curveNumber f n rows kinds figures mostSteps → after ≡ curveMemory f n rows kinds figures memory →
-    Planned f n b s converted (length d) (length p) plan → Prepared f n b s rows kinds figures d p plan after
-prepared memory room ec ea made = record { planned = rw ec at made; memory = memory; memory-length = room; after-is = ea }
+pub prepared : {f n b : ℕ} {spaced : Answer} {rows kinds : List ℕ} {figures : List Float} {d p : List ℕ} {plan : Plan} {after : List ℕ} {converted : ℕ}
+    (memory : List ℕ) → SpacingKnown spaced → length memory ≡ mostSteps →
+    converted ≡ curveNumber f n rows kinds figures mostSteps → after ≡ curveMemory f n rows kinds figures memory →
+    Planned n b converted (spaced .number) (spaced .value) (length d) (length p) plan → Prepared f n b spaced rows kinds figures d p plan after
+prepared memory known room ec ea made =
+    record { spacing-known = known; planned = rw ec at made; memory = memory; memory-length = room; after-is = ea }
 
-module _ {f n b s : ℕ} {rows kinds : List ℕ} {figures : List Float} {d p : List ℕ} {plan : Plan} {after : List ℕ}
-    (k : Prepared f n b s rows kinds figures d p plan after) where
+module _ {f n b : ℕ} {spaced : Answer} {rows kinds : List ℕ} {figures : List Float} {d p : List ℕ} {plan : Plan} {after : List ℕ}
+    (k : Prepared f n b spaced rows kinds figures d p plan after) where
   abbrev early : ℕ
-  early = earlyCause (curveNumber f n rows kinds figures mostSteps) f n b s (length d) (length p)
+  early = earlyCause (curveNumber f n rows kinds figures mostSteps) n b (spaced .number) (length d) (length p)
 
   abbrev fit-number : ℕ
-  fit-number = fitNumber f n b s rows kinds figures (length d) (length p)
+  fit-number = fittedNumber f n b (spaced .number) (spaced .value) rows kinds figures (length d) (length p)
 
   abbrev wide : Bool
-  wide = ltb one (halfWidth b (n - 1) * spacing f s)
+  wide = ltb one (halfWidth b (n - 1) * spaced .value)
 
   abbrev accepted : Bool
-  accepted = curveAccepted b (spacing f s) (quotesOf f n kinds figures)
+  accepted = curveAccepted b (spaced .value) (quotesOf f n kinds figures)
 
   -- refused before the fit
   module _ (nz : plan .number ≡ 0 → ⊥) where
     number-refused : plan .number ≡ fit-number
-    unfolding fitNumber lateCause
+    unfolding fittedNumber lateCause
     number-refused =
         k .planned .number
         ∙ by-equal early 0
@@ -156,7 +162,7 @@ module _ {f n b s : ℕ} {rows kinds : List ℕ} {figures : List Float} {d p : L
 
     refused-most : plan .number ≤ 8
     refused-most =
-        let small = early-small _ f n b s (length d) (length p) (curve-small f n rows kinds figures mostSteps) in
+        let small = early-small _ n b _ (length d) (length p) (curve-small f n rows kinds figures mostSteps) (k .spacing-known .cause-most) in
         by-equal early 0
         (λ z. rw (k .planned .number, eq-eqb early 0 z) (cond-small wide))
         (λ some. rw (k .planned .number, ne-eqb early 0 some) (omega (arith, small)))
@@ -165,9 +171,9 @@ module _ {f n b s : ℕ} {rows kinds : List ℕ} {figures : List Float} {d p : L
     kept-as part memory =
         kept (plan .number) part memory nz refused-most ∙ ap (λ (x : ℕ). fitMemory x part memory) number-refused
 
-    pub fit-refused : (plan .number ≡ fitNumber f n b s rows kinds figures (length d) (length p))
-        × ((d ≡ discountsAfter f n b s rows kinds figures d p) × (p ≡ pricesAfter f n b s rows kinds figures d p))
-    fit-refused = (number-refused, (kept-as (fitDiscounts f n b s kinds figures) d, kept-as (fitPrices f n b s kinds figures) p))
+    pub fit-refused : Answered f n b (spaced .number) (spaced .value) rows kinds figures d p (plan .number) d p
+    fit-refused =
+        (number-refused, (kept-as (fitDiscounts f n b (spaced .value) kinds figures) d, kept-as (fitPrices f n b (spaced .value) kinds figures) p))
 
   -- accepted so far
   module _ (z : plan .number ≡ 0) where
@@ -214,7 +220,7 @@ module _ {f n b s : ℕ} {rows kinds : List ℕ} {figures : List Float} {d p : L
     not-wide = cond-zero _ (sym (rw (eq-eqb early 0 none-early) at (k .planned .number)) ∙ z)
 
     number-found : fit-number ≡ cond accepted 0 9
-    unfolding fitNumber lateCause
+    unfolding fittedNumber lateCause
     number-found = rw (eq-eqb early 0 none-early, not-wide)
 
     made-as : (m : ℕ) (v : ℕ → ℕ → ℕ) (memory after : List ℕ) → after ≡ rowsOrZeros b m accepted v memory →
@@ -226,10 +232,84 @@ module _ {f n b s : ℕ} {rows kinds : List ℕ} {figures : List Float} {d p : L
         (er : r ≡ cond (curveAccepted b (plan .spacing) (take n after)) 0 9)
         (t : TreeFitted b (length (take n after)) (curveAccepted b (plan .spacing) (take n after))
         (curveDiscount b (plan .spacing) (take n after)) (curvePrice b (plan .spacing) (take n after)) d p d′ p′) where
-      pub fit-made : (r ≡ fitNumber f n b s rows kinds figures (length d) (length p))
-          × ((d′ ≡ discountsAfter f n b s rows kinds figures d p) × (p′ ≡ pricesAfter f n b s rows kinds figures d p))
+      pub fit-made : Answered f n b (spaced .number) (spaced .value) rows kinds figures d p r d′ p′
       fit-made =
           let named = rw (quotes-length, k .planned .spacing-is z, quotes-are) at t in (
             (rw (k .planned .spacing-is z, quotes-are) at er) ∙ sym number-found,
             (made-as n _ d d′ (named .discounted), made-as (suc n) _ p p′ (named .priced)),
           )
+
+-- ---- the spacing
+
+answer-small : (l r s v : Bool) (x : ℕ) → cond l (refused 2) (cond r (refused 4) (cond s (refused 5) (cond v (refused 7) (answered x)))) .number ≤ 7
+answer-small true r s v x = omega arith
+answer-small false true s v x = omega arith
+answer-small false false true v x = omega arith
+answer-small false false false true x = omega arith
+answer-small false false false false x = omega arith
+
+pub version-known : (v f s b : ℕ) (a : Answer) → a ≡ versionSpacingAnswer v f s b → SpacingKnown a
+unfolding versionSpacingAnswer
+version-known v f s b a e =
+    rw e record {
+      cause-most = answer-small (not (listed f)) (ltb mostReversion b) (ltb 50000 s) (not (isVersion v)) (versionSpacing v f s b);
+      within-limit = version-answer-most v f s b;
+    }
+
+pub spacing-known : (f s : ℕ) (a : Answer) → a ≡ spacingAnswer f s → SpacingKnown a
+spacing-known f s a e = version-known 1 f s 0 a (e ∙ sym (answer-first f s))
+
+-- the spacing counts only where it has no cause of its own
+module _ (f n b spaced : ℕ) (rows kinds : List ℕ) (figures : List Float) (some : spaced ≡ 0 → ⊥) (small : spaced ≤ 7) where
+  early-some : (ds ps : ℕ) → earlyCause (curveNumber f n rows kinds figures mostSteps) n b spaced ds ps ≡ 0 → ⊥
+  early-some ds ps z = some (numbers-of n b _ spaced ds ps z .spacing-found)
+
+  number-early : (h ds ps : ℕ) → fittedNumber f n b spaced h rows kinds figures ds ps
+      ≡ earlyCause (curveNumber f n rows kinds figures mostSteps) n b spaced ds ps
+  unfolding fittedNumber
+  number-early h ds ps = rw (ne-eqb _ 0 (early-some ds ps))
+
+  number-alike : (h g ds ps : ℕ) → fittedNumber f n b spaced h rows kinds figures ds ps ≡ fittedNumber f n b spaced g rows kinds figures ds ps
+  number-alike h g ds ps = number-early h ds ps ∙ sym (number-early g ds ps)
+
+  memory-same : (h ds ps : ℕ) (part memory : List ℕ) → memory ≡ fitMemory (fittedNumber f n b spaced h rows kinds figures ds ps) part memory
+  memory-same h ds ps part memory =
+      let early = number-early h ds ps in
+      kept _ part memory (λ z. early-some ds ps (sym early ∙ z))
+      (omega (arith, early, early-small _ n b spaced ds ps (curve-small f n rows kinds figures mostSteps) small))
+
+  refused-alike : (h g : ℕ) (d p : List ℕ) {d′ p′ : List ℕ} {r : ℕ} →
+      Answered f n b spaced h rows kinds figures d p r d′ p′ → Answered f n b spaced g rows kinds figures d p r d′ p′
+  refused-alike h g d p (e, (ed, ep)) = (
+    e ∙ number-alike h g (length d) (length p),
+    (
+      ed ∙ sym (memory-same h (length d) (length p) _ d) ∙ memory-same g (length d) (length p) _ d,
+      ep ∙ sym (memory-same h (length d) (length p) _ p) ∙ memory-same g (length d) (length p) _ p,
+    ),
+  )
+
+module _ (f n : ℕ) (rows kinds : List ℕ) (figures : List Float) (d p : List ℕ) {d′ p′ : List ℕ} {r : ℕ} where
+  spacing-alike : (b spaced h g : ℕ) → spaced ≤ 7 → (spaced ≡ 0 → h ≡ g) →
+      Answered f n b spaced h rows kinds figures d p r d′ p′ → Answered f n b spaced g rows kinds figures d p r d′ p′
+  spacing-alike b spaced h g small e made =
+      by-equal spaced 0
+      (λ z. subst (λ (x : ℕ). Answered f n b spaced x rows kinds figures d p r d′ p′) (e z) made)
+      (λ some. refused-alike f n b spaced rows kinds figures some small h g d p made)
+
+  -- the fit, from the answer of its spacing
+  pub fit-answered : (b s : ℕ) (a : Answer) → a ≡ spacingAnswer f s → Answered f n b (a .number) (a .value) rows kinds figures d p r d′ p′ →
+      Answered f n b (spacingAnswer f s .number) (spacing f s) rows kinds figures d p r d′ p′
+  fit-answered b s a e made =
+      spacing-alike b (spacingAnswer f s .number) (spacingAnswer f s .value) (spacing f s)
+      (spacing-known f s (spacingAnswer f s) refl .cause-most) (λ z. spacing-zero f s z .value)
+      (subst (λ (x : Answer). Answered f n b (x .number) (x .value) rows kinds figures d p r d′ p′) e made)
+
+  -- the fit by version, from its working reversion and the answer of its spacing
+  pub version-answered : (v b s w : ℕ) (a : Answer) → w ≡ workingReversion v b → a ≡ versionSpacingAnswer v f s b →
+      Answered f n w (a .number) (a .value) rows kinds figures d p r d′ p′ →
+      Answered f n (workingReversion v b) (versionSpacingAnswer v f s b .number) (versionSpacing v f s b) rows kinds figures d p r d′ p′
+  version-answered v b s w a ew e made =
+      spacing-alike (workingReversion v b) (versionSpacingAnswer v f s b .number) (versionSpacingAnswer v f s b .value) (versionSpacing v f s b)
+      (version-known v f s b (versionSpacingAnswer v f s b) refl .cause-most) (λ z. version-zero v f s b z .value)
+      (subst (λ (x : Answer). Answered f n (workingReversion v b) (x .number) (x .value) rows kinds figures d p r d′ p′) e
+      (subst (λ (x : ℕ). Answered f n x (a .number) (a .value) rows kinds figures d p r d′ p′) ew made))

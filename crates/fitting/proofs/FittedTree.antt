@@ -17,7 +17,7 @@ use Rattle.lattice.proofs.LaidLaws.{length-laid, laid-value}
 use Rattle.lent_tree.specs.LentTree.{stored, discountsCause}
 use Rattle.lent_tree.proofs.LentLaws.{accepted-by-row, lent-accepted}
 use Rattle.fit_laws.specs.StatePrices.{acceptedRow}
-use Rattle.fitting.specs.Entry.{fitNumber, fitMemory, fitDiscount, fitPrice, fitDiscounts, fitPrices}
+use Rattle.fitting.specs.Entry.{fittedNumber, fitMemory, fitDiscount, fitPrice, fitDiscounts, fitPrices}
 use Rattle.fitting.proofs.Promised.{fit-numbers, fit-accepted}
 
 -- a memory after a fit
@@ -25,39 +25,39 @@ pub fit-placed : (number : ℕ) (part memory : List ℕ) → number ≡ 0 → fi
 unfolding fitMemory
 fit-placed number part memory z = rw (eq-eqb number 0 z)
 
-module _ (f n b s : ℕ) (kinds : List ℕ) (figures : List Float) where
-  pub fit-discounts-length : length (fitDiscounts f n b s kinds figures) ≡ discountsNeeded n b
+module _ (f n b h : ℕ) (kinds : List ℕ) (figures : List Float) where
+  pub fit-discounts-length : length (fitDiscounts f n b h kinds figures) ≡ discountsNeeded n b
   unfolding discountsNeeded
-  fit-discounts-length = length-laid b (fitDiscount f n b s kinds figures) n
+  fit-discounts-length = length-laid b (fitDiscount f n b h kinds figures) n
 
-  pub fit-prices-length : length (fitPrices f n b s kinds figures) ≡ statePricesNeeded n b
+  pub fit-prices-length : length (fitPrices f n b h kinds figures) ≡ statePricesNeeded n b
   unfolding statePricesNeeded
-  fit-prices-length = length-laid b (fitPrice f n b s kinds figures) (suc n)
+  fit-prices-length = length-laid b (fitPrice f n b h kinds figures) (suc n)
 
   -- what the fit's own discounts hold at a node
   pub fit-discount-stored : (i k : ℕ) → i < n → k < nodeCount b i →
-      stored b (fitDiscounts f n b s kinds figures) i k ≡ fitDiscount f n b s kinds figures i k
+      stored b (fitDiscounts f n b h kinds figures) i k ≡ fitDiscount f n b h kinds figures i k
   unfolding stored
-  fit-discount-stored i k h l =
-      ap (λ (m : List ℕ). values m (rowStart b i + k)) (sym (append-nil (fitDiscounts f n b s kinds figures)))
-      ∙ laid-value b (fitDiscount f n b s kinds figures) n i h [] k l
+  fit-discount-stored i k g l =
+      ap (λ (m : List ℕ). values m (rowStart b i + k)) (sym (append-nil (fitDiscounts f n b h kinds figures)))
+      ∙ laid-value b (fitDiscount f n b h kinds figures) n i g [] k l
 
-  module _ (rows : List ℕ) (ds ps : ℕ) (z : fitNumber f n b s rows kinds figures ds ps ≡ 0) where
+  module _ (spaced : ℕ) (rows : List ℕ) (ds ps : ℕ) (z : fittedNumber f n b spaced h rows kinds figures ds ps ≡ 0) where
     fit-shape : shapeCause n b ≡ 0
     fit-shape =
-        let m = fit-numbers f n b s rows kinds figures ds ps z in
+        let m = fit-numbers f n b spaced h rows kinds figures ds ps z in
         shape-found n b (m .steps-positive) (m .steps-within-limit) (m .reversion-within-limit)
 
     -- an accepted fit is an accepted tree, in any memory that holds its discounts
     pub fit-lent : (discounts : List ℕ) → discountsNeeded n b ≤ length discounts →
-        ((i k : ℕ) → i < n → k < nodeCount b i → stored b discounts i k ≡ fitDiscount f n b s kinds figures i k) →
+        ((i k : ℕ) → i < n → k < nodeCount b i → stored b discounts i k ≡ fitDiscount f n b h kinds figures i k) →
         discountsCause n b discounts ≡ 0
     unfolding acceptedRow rateTree
     fit-lent discounts room kept =
         lent-accepted n b discounts fit-shape room
         (accepted-by-row n b discounts
-        ∙ each-cong n _ _ (λ i h. each-cong (nodeCount b i) _ _ (λ k l. ap isDiscount (kept i k h l)))
-        ∙ fit-accepted f n b s rows kinds figures ds ps z)
+        ∙ each-cong n _ _ (λ i g. each-cong (nodeCount b i) _ _ (λ k l. ap isDiscount (kept i k g l)))
+        ∙ fit-accepted f n b spaced h rows kinds figures ds ps z)
 
-    pub fit-discounts-lent : discountsCause n b (fitDiscounts f n b s kinds figures) ≡ 0
-    fit-discounts-lent = fit-lent (fitDiscounts f n b s kinds figures) (omega (arith, fit-discounts-length)) fit-discount-stored
+    pub fit-discounts-lent : discountsCause n b (fitDiscounts f n b h kinds figures) ≡ 0
+    fit-discounts-lent = fit-lent (fitDiscounts f n b h kinds figures) (omega (arith, fit-discounts-length)) fit-discount-stored

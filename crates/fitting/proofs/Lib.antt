@@ -9,3 +9,4 @@ pub mod CauseLaws
 pub mod FitEntry
 pub mod Promised
 pub mod FittedTree
+pub mod VersionLaws

@@ -14,7 +14,6 @@ use borrow.Author.Tests.{eq-eqb, ne-eqb, ltb-false}
 use Rattle.arithmetic.specs.Rounding.{one}
 use Rattle.arithmetic.specs.Sum.{sum}
 use Rattle.arithmetic.specs.Row.{each}
-use Rattle.arithmetic.proofs.CauseLaws.{lowest-none}
 use Rattle.arithmetic.proofs.Numbers.{by-equal}
 use Rattle.arithmetic.proofs.RowLaws.{values-row, length-row}
 use Rattle.tree.specs.Tree.{Sound, unit}
@@ -23,7 +22,6 @@ use Rattle.lattice.specs.Shape.{halfWidth, nodeCount}
 use Rattle.lattice.specs.RateTree.{node, rateTree}
 use Rattle.lattice.proofs.Sizes.{half-within, half-later}
 use Rattle.lattice.proofs.RateTreeLaws.{rate-tree-sound, in-row}
-use Rattle.spacing.specs.Spacing.{spacing, spacingAnswer}
 use Rattle.factor.proofs.FactorLaws.{factor-bounds}
 use Rattle.curve.specs.Curve.{discountAt, curveNumber}
 use Rattle.curve.proofs.CurveLaws.{curve-range}
@@ -32,7 +30,7 @@ use Rattle.fit_laws.proofs.Shortfall.{state-below, state-price-shortfall}
 use Rattle.fit_laws.proofs.WholeFit.{Curve, fitted-is-state, quotes-repriced}
 use Rattle.fit_laws.specs.Bounds.{leastFactor, mostFactor}
 use Rattle.fitting.specs.Fit.{quoted, curveAccepted, nodeFactor}
-use Rattle.fitting.specs.Entry.{quotesOf, earlyCause, lateCause, fitNumber, fitDiscount, fitPrice}
+use Rattle.fitting.specs.Entry.{quotesOf, earlyCause, lateCause, fittedNumber, fitDiscount, fitPrice}
 use Rattle.fitting.specs.Plans.{Numbers}
 use Rattle.fitting.proofs.CauseLaws.{numbers-of}
 
@@ -47,40 +45,36 @@ late-parts false false e = absurd (none e)
     none : _≡_ {A = ℕ} 9 0 → ⊥
     none z = omega arith
 
-module _ (f n b s : ℕ) (rows kinds : List ℕ) (figures : List Float) (ds ps : ℕ) (z : fitNumber f n b s rows kinds figures ds ps ≡ 0) where
+module _ (f n b spaced h : ℕ) (rows kinds : List ℕ) (figures : List Float) (ds ps : ℕ)
+    (z : fittedNumber f n b spaced h rows kinds figures ds ps ≡ 0) where
   abbrev early : ℕ
-  early = earlyCause (curveNumber f n rows kinds figures mostSteps) f n b s ds ps
+  early = earlyCause (curveNumber f n rows kinds figures mostSteps) n b spaced ds ps
 
   no-early : early ≡ 0
-  unfolding fitNumber
+  unfolding fittedNumber
   no-early =
       by-equal early 0 (λ e. e)
       (λ k. absurd (k (rw (ne-eqb early 0 k) at z)))
 
-  no-late : lateCause n b (spacing f s) (quotesOf f n kinds figures) ≡ 0
-  unfolding fitNumber
+  no-late : lateCause n b h (quotesOf f n kinds figures) ≡ 0
+  unfolding fittedNumber
   no-late = rw (eq-eqb early 0 no-early) at z
 
-  -- the spacing is answered
-  pub fit-spacing : spacingAnswer f s .number ≡ 0
-  unfolding earlyCause
-  fit-spacing = lowest-none _ _ (lowest-none _ _ no-early .1) .0
+  pub fit-numbers : Numbers n b (curveNumber f n rows kinds figures mostSteps) spaced ds ps
+  fit-numbers = numbers-of n b _ spaced ds ps no-early
 
-  pub fit-numbers : Numbers f n b s (curveNumber f n rows kinds figures mostSteps) ds ps
-  fit-numbers = numbers-of f n b s _ ds ps no-early
-
-  parts : (ltb one (halfWidth b (n - 1) * spacing f s) ≡ false) × (curveAccepted b (spacing f s) (quotesOf f n kinds figures) ≡ true)
+  parts : (ltb one (halfWidth b (n - 1) * h) ≡ false) × (curveAccepted b h (quotesOf f n kinds figures) ≡ true)
   unfolding lateCause
   parts = late-parts _ _ no-late
 
-  fit-narrow : halfWidth b (n - 1) * spacing f s ≤ one
+  fit-narrow : halfWidth b (n - 1) * h ≤ one
   fit-narrow = ltb-false one _ (parts .0)
 
   -- every node discount of the fit is accepted
-  pub fit-accepted : each n (acceptedRow (rateTree b) (fitDiscount f n b s kinds figures)) ≡ true
+  pub fit-accepted : each n (acceptedRow (rateTree b) (fitDiscount f n b h kinds figures)) ≡ true
   unfolding curveAccepted
   fit-accepted =
-      ap (λ (k : ℕ). each k (acceptedRow (rateTree b) (fitDiscount f n b s kinds figures))) (sym (length-row n (discountAt f kinds figures)))
+      ap (λ (k : ℕ). each k (acceptedRow (rateTree b) (fitDiscount f n b h kinds figures))) (sym (length-row n (discountAt f kinds figures)))
       ∙ parts .1
 
   pub fit-sound : Sound (rateTree b)
@@ -91,58 +85,58 @@ module _ (f n b s : ℕ) (rows kinds : List ℕ) (figures : List Float) (ds ps :
 
   pub quote-is : (i : ℕ) → i < n → quoted (quotesOf f n kinds figures) (suc i) ≡ discountAt f kinds figures i
   unfolding quoted
-  quote-is i h = values-row n i (discountAt f kinds figures) h
+  quote-is i l = values-row n i (discountAt f kinds figures) l
 
   -- |j| × h is at most one at every node of rows 0 to n − 1
-  pub fit-near : (i k : ℕ) → i < n → k < nodeCount b i → natAbs (node b i k) * spacing f s ≤ one
-  fit-near i k h l =
+  pub fit-near : (i k : ℕ) → i < n → k < nodeCount b i → natAbs (node b i k) * h ≤ one
+  fit-near i k g l =
       omega (
         arith,
-        mul-le-mul-right (spacing f s) (in-row b i k l),
-        mul-le-mul-right (spacing f s) (half-later b i (n - 1) (omega arith)),
+        mul-le-mul-right h (in-row b i k l),
+        mul-le-mul-right h (half-later b i (n - 1) (omega arith)),
         fit-narrow,
       )
 
   factor-range : (i k : ℕ) → i < n → k < nodeCount b i →
-      (leastFactor ≤ nodeFactor b (spacing f s) i k) × (nodeFactor b (spacing f s) i k ≤ mostFactor)
-  factor-range i k h l = factor-bounds (node b i k) (spacing f s) (fit-near i k h l)
+      (leastFactor ≤ nodeFactor b h i k) × (nodeFactor b h i k ≤ mostFactor)
+  factor-range i k g l = factor-bounds (node b i k) h (fit-near i k g l)
 
   count-most : (i : ℕ) → nodeCount b i ≤ 2 * i + 1
   unfolding nodeCount
   count-most i = omega (arith, half-within b i)
 
-  curve : Curve (rateTree b) n (nodeFactor b (spacing f s)) (quoted (quotesOf f n kinds figures))
+  curve : Curve (rateTree b) n (nodeFactor b h) (quoted (quotesOf f n kinds figures))
   unfolding rateTree
   curve =
       record {
         steps = fit-numbers .steps-within-limit;
         counts = count-most;
-        quote-low = λ i h. rw (quote-is i h) (range i h .0);
-        quote-high = λ i h. rw (quote-is i h) (range i h .1);
-        factor-low = λ i k h l. factor-range i k h l .0;
-        factor-high = λ i k h l. factor-range i k h l .1;
+        quote-low = λ i l. rw (quote-is i l) (range i l .0);
+        quote-high = λ i l. rw (quote-is i l) (range i l .1);
+        factor-low = λ i k g l. factor-range i k g l .0;
+        factor-high = λ i k g l. factor-range i k g l .1;
       }
 
   -- the quoted discount of row i + 1 and the sum of that row's state prices
   pub fit-repriced : (i : ℕ) → i < n →
-      (discountAt f kinds figures i ≤ sum (nodeCount b (suc i)) (fitPrice f n b s kinds figures (suc i)) + 300)
-      × (sum (nodeCount b (suc i)) (fitPrice f n b s kinds figures (suc i)) ≤ discountAt f kinds figures i + 300)
-      × (sum (nodeCount b (suc i)) (fitPrice f n b s kinds figures (suc i)) ≤ 2000000100)
+      (discountAt f kinds figures i ≤ sum (nodeCount b (suc i)) (fitPrice f n b h kinds figures (suc i)) + 300)
+      × (sum (nodeCount b (suc i)) (fitPrice f n b h kinds figures (suc i)) ≤ discountAt f kinds figures i + 300)
+      × (sum (nodeCount b (suc i)) (fitPrice f n b h kinds figures (suc i)) ≤ 2000000100)
   unfolding rateTree
-  fit-repriced i h =
-      rw (quote-is i h) at (quotes-repriced (rateTree b) fit-sound n (nodeFactor b (spacing f s)) (quoted (quotesOf f n kinds figures)) curve i h)
+  fit-repriced i l =
+      rw (quote-is i l) at (quotes-repriced (rateTree b) fit-sound n (nodeFactor b h) (quoted (quotesOf f n kinds figures)) curve i l)
 
   -- fitted state prices against the exact ones of the same node discounts, row i held times m^i
   pub fit-below : (i k : ℕ) →
-      unit ^ i * fitPrice f n b s kinds figures i k ≤ exactStatePrice (rateTree b) (fitDiscount f n b s kinds figures) i k
+      unit ^ i * fitPrice f n b h kinds figures i k ≤ exactStatePrice (rateTree b) (fitDiscount f n b h kinds figures) i k
   fit-below i k =
-      rw (fitted-is-state (rateTree b) (nodeFactor b (spacing f s)) (quoted (quotesOf f n kinds figures)) i)
-      (state-below (rateTree b) (fitDiscount f n b s kinds figures) i k)
+      rw (fitted-is-state (rateTree b) (nodeFactor b h) (quoted (quotesOf f n kinds figures)) i)
+      (state-below (rateTree b) (fitDiscount f n b h kinds figures) i k)
 
   pub fit-shortfall : (i : ℕ) →
-      sum (nodeCount b i) (λ k. exactStatePrice (rateTree b) (fitDiscount f n b s kinds figures) i k - unit ^ i * fitPrice f n b s kinds figures i k)
-      ≤ unit ^ i * statePriceErrorBound (rateTree b) (fitDiscount f n b s kinds figures) i
+      sum (nodeCount b i) (λ k. exactStatePrice (rateTree b) (fitDiscount f n b h kinds figures) i k - unit ^ i * fitPrice f n b h kinds figures i k)
+      ≤ unit ^ i * statePriceErrorBound (rateTree b) (fitDiscount f n b h kinds figures) i
   unfolding rateTree
   fit-shortfall i =
-      rw (fitted-is-state (rateTree b) (nodeFactor b (spacing f s)) (quoted (quotesOf f n kinds figures)) i)
-      (state-price-shortfall (rateTree b) fit-sound (fitDiscount f n b s kinds figures) i)
+      rw (fitted-is-state (rateTree b) (nodeFactor b h) (quoted (quotesOf f n kinds figures)) i)
+      (state-price-shortfall (rateTree b) fit-sound (fitDiscount f n b h kinds figures) i)

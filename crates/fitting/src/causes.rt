@@ -1,5 +1,6 @@
 // The causes 2 to 8 of a fit.
-ghost use Rattle.fitting.specs.Plans.{Planned};
+ghost use Rattle.fitting.specs.Plans.{SpacingKnown, Planned};
+use arithmetic::Answer;
 
 // What a fit needs to know of its numbers, or the number of a cause.
 pub(crate) struct Plan {
@@ -8,20 +9,19 @@ pub(crate) struct Plan {
     pub(crate) widest: usize,
 }
 
-// `converted` is the number of the quotes' conversion.
+// `reversion` is the tree's working reversion, `spaced` its spacing, and `converted` the number of the quotes' conversion.
 pub(crate) fn plan_of(
-    frequency: u64,
     steps: usize,
     reversion: u64,
-    volatility: u64,
+    spaced: Answer,
     converted: u64,
     discounts: usize,
     prices: usize,
 ) -> Plan
-    ensures { λ r. ⌜ Planned frequency steps reversion volatility converted discounts prices r ⌝ }
+    requires { ⌜ SpacingKnown spaced ⌝ }
+    ensures { λ r. ⌜ Planned steps reversion converted (spaced .number) (spaced .value) discounts prices r ⌝ }
 {
     let tree = lattice::discounts_needed(steps, reversion);
-    let spaced = spacing::spacing(frequency, volatility);
     let memory = lattice::memory_cause(steps, reversion, discounts, prices);
     let early = arithmetic::lowest_cause(
         arithmetic::lowest_cause(converted, tree.number),

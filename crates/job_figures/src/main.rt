@@ -19,13 +19,21 @@ fn wide(x: u8) -> u64 {
     x as u64
 }
 
-fn show_head(number: u64, frequency: u64, steps: u64, reversion: u64, volatility: u64) {
+fn show_head(
+    number: u64,
+    frequency: u64,
+    steps: u64,
+    reversion: u64,
+    volatility: u64,
+    version: u64,
+) {
     write(b"job");
     write_number(number);
     write_number(frequency);
     write_number(steps);
     write_number(reversion);
     write_number(volatility);
+    write_number(version);
     write(b"\n");
 }
 
@@ -83,6 +91,7 @@ fn show_job(number: u64, job: Job)
         steps as u64,
         job.reversion,
         job.volatility,
+        job.version,
     );
     let kinds = job.kinds;
     let figures = job.figures;

@@ -1,6 +1,6 @@
 -- Laws of a record's quotes and fit.
 -- Assumes nothing.
-use mathlib.Core.Path.{_≡_, _∙_}
+use mathlib.Core.Path.{_≡_, sym, _∙_, subst}
 use mathlib.Core.List.{List}
 use Prim.Native.Nat.{ℕ, _≤_, _<_}
 use native.Mathlib.Omega.{arith}
@@ -13,12 +13,24 @@ use Rattle.arithmetic.proofs.RowLaws.{length-row}
 use Rattle.lattice.specs.Shape.{discountsNeeded, statePricesNeeded}
 use Rattle.lattice.proofs.TreeEntries.{Accepted}
 use Rattle.curve.specs.Curve.{discountAt, curveNumber, curveMemory}
-use Rattle.fitting.specs.Entry.{fitNumber, fitMemory, fitDiscounts, fitPrices}
+use Rattle.spacing.specs.Spacing.{versionSpacingAnswer}
+use Rattle.fitting.specs.Entry.{versionNumber, fitMemory, versionDiscounts, versionPrices}
 use Rattle.fitting.specs.Plans.{Numbers}
 use Rattle.fitting.proofs.FittedTree.{fit-discounts-length, fit-prices-length}
 use Rattle.fitting.proofs.Promised.{fit-numbers}
 use Rattle.job_record.specs.declared.Job.{Job}
-use Rattle.job_fit.specs.RecordFit.{jobRows, jobKinds, jobFigures, jobQuotes, jobDiscounts, jobStatePrices, recordQuotes, recordFit, memoryAfter}
+use Rattle.job_fit.specs.RecordFit.{meantVersion, meantReversion, jobReversion, jobRows, jobKinds, jobFigures, jobQuotes, jobDiscounts, jobStatePrices}
+use Rattle.job_fit.specs.RecordFit.{recordQuotes, recordFit, memoryAfter}
+
+-- ---- the version that a record means
+
+pub meant-none : (version : ℕ) → version ≡ 0 → 1 ≡ meantVersion version
+unfolding meantVersion
+meant-none version z = sym (rw (eq-eqb version 0 z))
+
+pub meant-some : (version : ℕ) → (version ≡ 0 → ⊥) → version ≡ meantVersion version
+unfolding meantVersion
+meant-some version some = sym (rw (ne-eqb version 0 some))
 
 -- ---- the parts of columns that are lent
 
@@ -79,8 +91,21 @@ module _ (job : Job) where
     abbrev lentQuotes : ℕ → ℕ
     lentQuotes = curveNumber (job .frequency) (job .steps) rows (jobKinds job) figures
 
-    abbrev lentFit : ℕ → ℕ → ℕ
-    lentFit = fitNumber (job .frequency) (job .steps) (job .reversion) (job .volatility) rows (jobKinds job) figures
+    -- the fit of a version
+    abbrev lentFit : ℕ → ℕ → ℕ → ℕ
+    lentFit v = versionNumber v (job .frequency) (job .steps) (job .reversion) (job .volatility) rows (jobKinds job) figures
+
+    abbrev lentDiscounts : ℕ → List ℕ
+    lentDiscounts v = versionDiscounts v (job .frequency) (job .steps) (job .reversion) (job .volatility) (jobKinds job) figures
+
+    abbrev lentPrices : ℕ → List ℕ
+    lentPrices v = versionPrices v (job .frequency) (job .steps) (job .reversion) (job .volatility) (jobKinds job) figures
+
+    abbrev Made : ℕ → List ℕ → List ℕ → ℕ → List ℕ → List ℕ → Type 0
+    Made v d p r after-d after-p =
+        (r ≡ lentFit v (length d) (length p))
+        × ((after-d ≡ fitMemory (lentFit v (length d) (length p)) (lentDiscounts v) d)
+        × (after-p ≡ fitMemory (lentFit v (length d) (length p)) (lentPrices v) p))
 
     quotes-number : (room : ℕ) → lentQuotes room ≡ recordQuotes job room
     unfolding recordQuotes
@@ -95,30 +120,34 @@ module _ (job : Job) where
         after ≡ curveMemory (job .frequency) (job .steps) rows (jobKinds job) figures memory → Quoted memory r after
     quotes-made memory after r e a = (e ∙ quotes-number (length memory), a ∙ quotes-memory memory)
 
-    fit-number : (ds ps : ℕ) → lentFit ds ps ≡ recordFit job ds ps
+    abbrev meant : ℕ
+    meant = meantVersion (job .version)
+
+    fit-number : (ds ps : ℕ) → lentFit meant ds ps ≡ recordFit job ds ps
     unfolding recordFit
     fit-number ds ps = rw (er, ef, le-ltb 255 (job .steps) few)
 
-    discounts-are : fitDiscounts (job .frequency) (job .steps) (job .reversion) (job .volatility) (jobKinds job) figures ≡ jobDiscounts job
-    unfolding jobDiscounts
+    discounts-are : lentDiscounts meant ≡ jobDiscounts job
+    unfolding jobDiscounts meantReversion
     discounts-are = rw ef
 
-    prices-are : fitPrices (job .frequency) (job .steps) (job .reversion) (job .volatility) (jobKinds job) figures ≡ jobStatePrices job
-    unfolding jobStatePrices
+    prices-are : lentPrices meant ≡ jobStatePrices job
+    unfolding jobStatePrices meantReversion
     prices-are = rw ef
 
-    pub fit-made : (d p after-d after-p : List ℕ) (r : ℕ) → r ≡ lentFit (length d) (length p) →
-        after-d ≡ fitMemory (lentFit (length d) (length p))
-        (fitDiscounts (job .frequency) (job .steps) (job .reversion) (job .volatility) (jobKinds job) figures) d →
-        after-p ≡ fitMemory (lentFit (length d) (length p))
-        (fitPrices (job .frequency) (job .steps) (job .reversion) (job .volatility) (jobKinds job) figures) p →
-        Fitted d p r after-d after-p
-    fit-made d p after-d after-p r e ed ep =
+    meant-made : (d p after-d after-p : List ℕ) (r : ℕ) → Made meant d p r after-d after-p → Fitted d p r after-d after-p
+    meant-made d p after-d after-p r (e, (ed, ep)) =
         let n = fit-number (length d) (length p) in
         let same : (old new memory : List ℕ) → old ≡ new →
-        fitMemory (lentFit (length d) (length p)) old memory ≡ fitMemory (recordFit job (length d) (length p)) new memory =
+        fitMemory (lentFit meant (length d) (length p)) old memory ≡ fitMemory (recordFit job (length d) (length p)) new memory =
         λ old new memory el. rw (n, el) in
         (e ∙ n, (ed ∙ same _ _ d discounts-are, ep ∙ same _ _ p prices-are))
+
+    -- v is the version that the record means, as the code has it
+    pub fit-made : (v : ℕ) → v ≡ meantVersion (job .version) → (d p after-d after-p : List ℕ) (r : ℕ) →
+        Made v d p r after-d after-p → Fitted d p r after-d after-p
+    fit-made v ev d p after-d after-p r made =
+        meant-made d p after-d after-p r (subst (λ (x : ℕ). Made x d p r after-d after-p) ev made)
 
 -- ---- what a record's fit is where nothing is refused
 
@@ -127,11 +156,11 @@ module _ (job : Job) where
   unfolding jobQuotes
   quotes-length = length-row (job .steps) (discountAt (job .frequency) (jobKinds job) (jobFigures job))
 
-  pub discounts-length : length (jobDiscounts job) ≡ discountsNeeded (job .steps) (job .reversion)
+  pub discounts-length : length (jobDiscounts job) ≡ discountsNeeded (job .steps) (jobReversion job)
   unfolding jobDiscounts
   discounts-length = fit-discounts-length _ _ _ _ (jobKinds job) (jobFigures job)
 
-  pub prices-length : length (jobStatePrices job) ≡ statePricesNeeded (job .steps) (job .reversion)
+  pub prices-length : length (jobStatePrices job) ≡ statePricesNeeded (job .steps) (jobReversion job)
   unfolding jobStatePrices
   prices-length = fit-prices-length _ _ _ _ (jobKinds job) (jobFigures job)
 
@@ -142,15 +171,18 @@ module _ (job : Job) where
         apart : _≡_ {A = ℕ} 1 0 → ⊥
         apart e = omega arith
 
-    pub fit-none : fitNumber (job .frequency) (job .steps) (job .reversion) (job .volatility) (jobRows job) (jobKinds job) (jobFigures job) ds ps ≡ 0
+    pub fit-none : versionNumber (meantVersion (job .version)) (job .frequency) (job .steps) (job .reversion) (job .volatility)
+        (jobRows job) (jobKinds job) (jobFigures job) ds ps ≡ 0
     unfolding recordFit
     fit-none = rw (le-ltb 255 (job .steps) steps-few) at z
 
-    pub numbers : Numbers (job .frequency) (job .steps) (job .reversion) (job .volatility)
-        (curveNumber (job .frequency) (job .steps) (jobRows job) (jobKinds job) (jobFigures job) 60) ds ps
-    numbers = fit-numbers _ _ _ _ _ _ _ ds ps fit-none
+    pub numbers : Numbers (job .steps) (jobReversion job)
+        (curveNumber (job .frequency) (job .steps) (jobRows job) (jobKinds job) (jobFigures job) 60)
+        (versionSpacingAnswer (meantVersion (job .version)) (job .frequency) (job .volatility) (job .reversion) .number) ds ps
+    unfolding meantReversion
+    numbers = fit-numbers _ _ _ _ _ _ _ _ ds ps fit-none
 
-    pub accepted : Accepted (job .steps) (job .reversion)
+    pub accepted : Accepted (job .steps) (jobReversion job)
     accepted = record {
       steps-positive = numbers .steps-positive;
       steps-within-limit = numbers .steps-within-limit;

@@ -5,6 +5,8 @@ ghost use mathlib.Core.Path.{_≡_};
 ghost use lib.ListN.{length};
 ghost use Rattle.fitting.specs.Entry.{fitMemory};
 ghost use Rattle.job_fit.specs.RecordFit.{
+  meantVersion,
+  meantReversion,
   recordQuotes,
   recordFit,
   jobQuotes,
@@ -13,6 +15,20 @@ ghost use Rattle.job_fit.specs.RecordFit.{
   memoryAfter,
 };
 use job_record::Job;
+
+// The version that a record means, with 0 where it has none.
+fn meant_version(version: u64) -> u64
+    ensures { λ r. ⌜ r ≡ meantVersion version ⌝ }
+{
+    if version == 0 { 1 } else { version }
+}
+
+// What stands for the reversion of a record in rows, branching and prices.
+pub fn meant_reversion(version: u64, reversion: u64) -> u64
+    ensures { λ r. ⌜ r ≡ meantReversion version reversion ⌝ }
+{
+    reversion::working_or_same(meant_version(version), reversion)
+}
 
 // The quoted discounts of rows 1 to n at the start of the lent memory. 1 a record with more than 255 steps; then the causes of the conversion.
 // A refusal leaves the memory as it was.
@@ -57,7 +73,8 @@ pub fn fit_of_record(job: Job, discounts: &mut [u64], state_prices: &mut [u64]) 
     let patterns = job.figures;
     let rows = columns::rows_of(steps);
     let figures = columns::figures_of(patterns, steps);
-    fitting::fit(
+    fitting::fit_version(
+        meant_version(job.version),
         job.frequency,
         steps,
         job.reversion,

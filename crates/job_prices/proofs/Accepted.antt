@@ -19,7 +19,7 @@ use Rattle.price_laws.specs.Prices.{firstCause, bondPeak, optionLimit, priced, 
 use Rattle.job_record.specs.declared.Job.{Job}
 use Rattle.job_record.specs.declared.OptionRecord.{OptionRecord}
 use Rattle.job_record.specs.Reader.{readingOf}
-use Rattle.job_fit.specs.RecordFit.{jobFlows, jobDiscounts, recordFit}
+use Rattle.job_fit.specs.RecordFit.{jobReversion, jobFlows, jobDiscounts, recordFit}
 use Rattle.job_prices.specs.JobPrices.{hasOption, taggedOption, treeNumber, jobBond, recordNumber, bytesNumber}
 
 first-both : (cause later : ℕ) → cause ≡ 0 → later ≡ 0 → firstCause cause later ≡ 0
@@ -63,10 +63,10 @@ module _ (n b : ℕ) (discounts flows : List ℕ) (option : OptionRecord) (z : t
 -- each part of a record that is priced without a cause, in lent memories of so many numbers
 pub record AcceptedRecord (job : Job) (discounts prices : ℕ) : Type 0 where
   pub fit : recordFit job mostDiscounts mostStatePrices ≡ 0
-  pub room : memoryCause (job .steps) (job .reversion) discounts prices ≡ 0
+  pub room : memoryCause (job .steps) (jobReversion job) discounts prices ≡ 0
   pub bond : jobBond job .number ≡ 0
   pub option-priced : hasOption (job .option) ≡ true →
-      taggedOption (job .steps) (job .reversion) (jobDiscounts job) (jobFlows job) (job .option) .number ≡ 0
+      taggedOption (job .steps) (jobReversion job) (jobDiscounts job) (jobFlows job) (job .option) .number ≡ 0
 
 pub record-accepted : (job : Job) (discounts prices : ℕ) → recordNumber job discounts prices ≡ 0 → AcceptedRecord job discounts prices
 unfolding recordNumber

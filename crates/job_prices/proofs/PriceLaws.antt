@@ -28,7 +28,7 @@ use Rattle.job_record.specs.declared.Job.{Job}
 use Rattle.job_record.specs.declared.Reading.{Reading}
 use Rattle.job_record.specs.Form.{mostDates}
 use Rattle.job_record.specs.Reader.{readingOf}
-use Rattle.job_fit.specs.RecordFit.{jobFlows, jobDiscounts, jobStatePrices, recordFit, memoryAfter}
+use Rattle.job_fit.specs.RecordFit.{jobReversion, jobFlows, jobDiscounts, jobStatePrices, recordFit, memoryAfter}
 use Rattle.job_fit.proofs.FitLaws as fits
 use Rattle.job_prices.specs.declared.JobPrices.{JobPrices}
 use Rattle.job_prices.specs.JobPrices.{optionForm, optionDates, taggedOption, treeNumber, refusedPrices, pricesOf, treePrices}
@@ -154,8 +154,8 @@ pub record Held (job : Job) (needed all : ℕ) (d p lent-d lent-p : List ℕ) : 
   pub prices-end : all ≤ length p
   pub discounts-room : needed ≤ length lent-d
   pub prices-room : all ≤ length lent-p
-  pub number : treeNumber (job .steps) (job .reversion) (jobDiscounts job) (jobFlows job) (job .option) ≡ recordNumber job (length lent-d) (length lent-p)
-  pub prices : treePrices (job .steps) (job .reversion) (jobDiscounts job) (jobFlows job) (job .option) ≡ recordPrices job (length lent-d) (length lent-p)
+  pub number : treeNumber (job .steps) (jobReversion job) (jobDiscounts job) (jobFlows job) (job .option) ≡ recordNumber job (length lent-d) (length lent-p)
+  pub prices : treePrices (job .steps) (jobReversion job) (jobDiscounts job) (jobFlows job) (job .option) ≡ recordPrices job (length lent-d) (length lent-p)
 
 -- what the prices of a record leave
 abbrev pub Record : Job → List ℕ → List ℕ → JobPrices → List ℕ → List ℕ → Type 0
@@ -173,14 +173,18 @@ module _ (job : Job) (lent-d lent-p : List ℕ) (form : ℕ) (ef : form ≡ opti
   form-refused = found-left form _ _ _ _ _ _ lent-d lent-p form-found nz
 
 module _ (job : Job) (formed : optionForm (job .option .tag) (job .option .count) ≡ 0) (d₀ p₀ d p : List ℕ) (fitted : ℕ)
-    (ld : length d₀ ≡ mostDiscounts) (lp : length p₀ ≡ mostStatePrices) (fit : fits.Fitted job d₀ p₀ fitted d p) (lent-d lent-p : List ℕ) (memory cause : ℕ)
-    (em : memory ≡ memoryCause (job .steps) (job .reversion) (length lent-d) (length lent-p)) (ec : cause ≡ lowestCause fitted memory) where
+    (ld : length d₀ ≡ mostDiscounts) (lp : length p₀ ≡ mostStatePrices) (fit : fits.Fitted job d₀ p₀ fitted d p) (b : ℕ) (eb : b ≡ jobReversion job)
+    (lent-d lent-p : List ℕ) (memory cause : ℕ)
+    (em : memory ≡ memoryCause (job .steps) b (length lent-d) (length lent-p)) (ec : cause ≡ lowestCause fitted memory) where
+  memory-is : memory ≡ memoryCause (job .steps) (jobReversion job) (length lent-d) (length lent-p)
+  memory-is = em ∙ ap (λ (x : ℕ). memoryCause (job .steps) x (length lent-d) (length lent-p)) eb
+
   fitted-is : fitted ≡ recordFit job mostDiscounts mostStatePrices
   fitted-is = fit .0 ∙ rw (ld, lp)
 
   cause-is : cause ≡ lowestCause (recordFit job mostDiscounts mostStatePrices)
-      (memoryCause (job .steps) (job .reversion) (length lent-d) (length lent-p))
-  cause-is = ec ∙ rw (fitted-is, em)
+      (memoryCause (job .steps) (jobReversion job) (length lent-d) (length lent-p))
+  cause-is = ec ∙ rw (fitted-is, memory-is)
 
   cause-found : (cause ≡ 0 → ⊥) → cause ≡ recordNumber job (length lent-d) (length lent-p)
   unfolding recordNumber firstCause
@@ -191,7 +195,7 @@ module _ (job : Job) (formed : optionForm (job .option .tag) (job .option .count
   record-refused r e nz = found-left cause _ _ _ _ _ _ lent-d lent-p (cause-found nz) nz r e
 
   module _ (z : cause ≡ 0) where
-    number-is : treeNumber (job .steps) (job .reversion) (jobDiscounts job) (jobFlows job) (job .option) ≡ recordNumber job (length lent-d) (length lent-p)
+    number-is : treeNumber (job .steps) (jobReversion job) (jobDiscounts job) (jobFlows job) (job .option) ≡ recordNumber job (length lent-d) (length lent-p)
     unfolding recordNumber firstCause
     number-is = rw (eq-eqb _ 0 formed, ← cause-is, eq-eqb cause 0 z)
 
@@ -207,14 +211,15 @@ module _ (job : Job) (formed : optionForm (job .option .tag) (job .option .count
     p-is : p ≡ place p₀ 0 (jobStatePrices job)
     p-is = fit .1 .1 ∙ fit-placed _ (jobStatePrices job) p₀ (sym (fit .0) ∙ fit-none)
 
-    pub held : (needed all : Answer) → needed ≡ discountsNeededAnswer (job .steps) (job .reversion) →
-        all ≡ statePricesNeededAnswer (job .steps) (job .reversion) →
+    pub held : (needed all : Answer) → needed ≡ discountsNeededAnswer (job .steps) b → all ≡ statePricesNeededAnswer (job .steps) b →
         Held job (needed .value) (all .value) d p lent-d lent-p
     unfolding treePrices recordPrices discountsNeeded statePricesNeeded
-    held needed all en ea =
+    held needed all en′ ea′ =
+        let en = en′ ∙ ap (discountsNeededAnswer (job .steps)) eb in
+        let ea = ea′ ∙ ap (statePricesNeededAnswer (job .steps)) eb in
         let ok = fits.accepted job _ _ record-none in
         let known = fits.numbers job _ _ record-none in
-        let enough = memory-none _ _ _ _ (sym em ∙ lowest-none fitted memory (sym ec ∙ z) .1) in
+        let enough = memory-none _ _ _ _ (sym memory-is ∙ lowest-none fitted memory (sym ec ∙ z) .1) in
         let dn = tree-value _ _ _ needed en ok in
         let pn = tree-value _ _ _ all ea ok in
         let dl = fits.discounts-length job ∙ sym dn in
@@ -246,11 +251,19 @@ module _ (job : Job) (needed all : ℕ) (d p lent-d lent-p : List ℕ) (h : Held
   pub tree-fits : (job .steps ≤ 255) × (job .option .count ≤ mostDates) × (length (take needed d) ≤ length lent-d) × (length (take all p) ≤ length lent-p)
   tree-fits = (h .steps-within-limit, h .dates-few, omega (arith, discounts-count, h .discounts-room), omega (arith, prices-count, h .prices-room))
 
-  pub record-made : (r : JobPrices) (after-d after-p : List ℕ) →
-      Left (treeNumber (job .steps) (job .reversion) (take needed d) (jobFlows job) (job .option))
-      (treePrices (job .steps) (job .reversion) (take needed d) (jobFlows job) (job .option)) (take needed d) (take all p) lent-d lent-p r after-d after-p →
-      Record job lent-d lent-p r after-d after-p
-  record-made r after-d after-p made = rw (← h .number, ← h .prices, ← h .discounts-are, ← h .prices-are) made
+  -- b is the working reversion, as the code has it
+  abbrev Made : ℕ → JobPrices → List ℕ → List ℕ → Type 0
+  Made b =
+      Left (treeNumber (job .steps) b (take needed d) (jobFlows job) (job .option))
+      (treePrices (job .steps) b (take needed d) (jobFlows job) (job .option)) (take needed d) (take all p) lent-d lent-p
+
+  tree-made : (r : JobPrices) (after-d after-p : List ℕ) → Made (jobReversion job) r after-d after-p → Record job lent-d lent-p r after-d after-p
+  tree-made r after-d after-p made = rw (← h .number, ← h .prices, ← h .discounts-are, ← h .prices-are) made
+
+  pub record-made : (b : ℕ) → b ≡ jobReversion job → (r : JobPrices) (after-d after-p : List ℕ) →
+      Made b r after-d after-p → Record job lent-d lent-p r after-d after-p
+  record-made b eb r after-d after-p made =
+      tree-made r after-d after-p (subst (λ (x : ℕ). Made x r after-d after-p) eb made)
 
 -- ---- the prices of a job's bytes
 

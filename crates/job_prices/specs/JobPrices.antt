@@ -15,7 +15,7 @@ use Rattle.job_record.specs.declared.OptionRecord.{OptionRecord}
 use Rattle.job_record.specs.declared.Job.{Job}
 use Rattle.job_record.specs.Form.{mostDates}
 use Rattle.job_record.specs.Reader.{readingOf}
-use Rattle.job_fit.specs.RecordFit.{jobFlows, jobDiscounts, recordFit}
+use Rattle.job_fit.specs.RecordFit.{jobReversion, jobFlows, jobDiscounts, recordFit}
 use Rattle.job_prices.specs.declared.JobPrices.{JobPrices}
 
 -- tag 0 stands for no option
@@ -64,14 +64,14 @@ module _ (job : Job) where
   recordNumber discounts prices =
       firstCause (optionForm (job .option .tag) (job .option .count))
       (firstCause
-      (lowestCause (recordFit job mostDiscounts mostStatePrices) (memoryCause (job .steps) (job .reversion) discounts prices))
-      (treeNumber (job .steps) (job .reversion) (jobDiscounts job) (jobFlows job) (job .option)))
+      (lowestCause (recordFit job mostDiscounts mostStatePrices) (memoryCause (job .steps) (jobReversion job) discounts prices))
+      (treeNumber (job .steps) (jobReversion job) (jobDiscounts job) (jobFlows job) (job .option)))
 
   abbrev pub jobBond : Price
-  jobBond = bondPrice (job .steps) (job .reversion) (jobDiscounts job) (jobFlows job)
+  jobBond = bondPrice (job .steps) (jobReversion job) (jobDiscounts job) (jobFlows job)
 
   abbrev pub jobOption : Price
-  jobOption = treeOption (job .steps) (job .reversion) (jobDiscounts job) (jobFlows job) (job .option)
+  jobOption = treeOption (job .steps) (jobReversion job) (jobDiscounts job) (jobFlows job) (job .option)
 
   unfoldable pub recordPrices : ℕ → ℕ → JobPrices
   recordPrices discounts prices = pricesOf (recordNumber discounts prices) jobBond (hasOption (job .option)) jobOption

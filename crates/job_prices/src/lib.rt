@@ -27,9 +27,10 @@ pub struct JobPrices {
     pub option: Price,
 }
 
-// Prices a fitted tree, and copies it to the lent memories where nothing is refused.
+// Prices a fitted tree by its working reversion, and copies it to the lent memories where nothing is refused.
 fn prices_of_tree(
     job: Job,
+    reversion: u64,
     fitted_discounts: &[u64],
     fitted_prices: &[u64],
     discounts: &mut [u64],
@@ -37,19 +38,19 @@ fn prices_of_tree(
 ) -> JobPrices
     requires { ⌜ (job .steps ≤ 255) × (job .option .count ≤ mostDates) × (length (now «fitted_discounts») ≤ length (now discounts))
         × (length (now «fitted_prices») ≤ length (now «state_prices»)) ⌝ }
-    ensures answer { λ r. ⌜ r ≡ treePrices (job .steps) (job .reversion) (now («fitted_discounts» .entry)) (jobFlows job) (job .option) ⌝ }
+    ensures answer { λ r. ⌜ r ≡ treePrices (job .steps) reversion (now («fitted_discounts» .entry)) (jobFlows job) (job .option) ⌝ }
     ensures discounted { λ _. ⌜ now (discounts .exit) ≡ memoryAfter
-        (treeNumber (job .steps) (job .reversion) (now («fitted_discounts» .entry)) (jobFlows job) (job .option))
+        (treeNumber (job .steps) reversion (now («fitted_discounts» .entry)) (jobFlows job) (job .option))
         (now («fitted_discounts» .entry)) (now (discounts .entry)) ⌝ }
     ensures priced { λ _. ⌜ now («state_prices» .exit) ≡ memoryAfter
-        (treeNumber (job .steps) (job .reversion) (now («fitted_discounts» .entry)) (jobFlows job) (job .option))
+        (treeNumber (job .steps) reversion (now («fitted_discounts» .entry)) (jobFlows job) (job .option))
         (now («fitted_prices» .entry)) (now («state_prices» .entry)) ⌝ }
 {
     let steps = job.steps;
     let flows = job.flows;
     let prices = priced::tree_prices(
         steps,
-        job.reversion,
+        reversion,
         fitted_discounts,
         &flows[..steps],
         job.option,
@@ -81,7 +82,7 @@ pub fn prices_of_record(job: Job, discounts: &mut [u64], state_prices: &mut [u64
     let mut fitted_prices = memories::state_prices();
     let fitted = job_fit::fit_of_record(job, &mut fitted_discounts, &mut fitted_prices);
     let steps = job.steps;
-    let reversion = job.reversion;
+    let reversion = job_fit::meant_reversion(job.version, job.reversion);
     let memory = lattice::memory_cause(steps, reversion, discounts.len(), state_prices.len());
     let cause = arithmetic::lowest_cause(fitted, memory);
     if cause != 0 {
@@ -91,6 +92,7 @@ pub fn prices_of_record(job: Job, discounts: &mut [u64], state_prices: &mut [u64
     let price_count = lattice::state_prices_needed(steps, reversion);
     prices_of_tree(
         job,
+        reversion,
         &fitted_discounts[..discount_count.value as usize],
         &fitted_prices[..price_count.value as usize],
         discounts,

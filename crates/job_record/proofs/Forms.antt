@@ -11,6 +11,7 @@ use lib.Dec.{leb}
 use Rattle.arithmetic.specs.Row.{each}
 use Rattle.arithmetic.proofs.Numbers.{by-equal}
 use Rattle.arithmetic.proofs.RowLaws.{each-none, each-more, each-all, each-fails, each-holds}
+use Rattle.reversion.specs.Reversion.{isVersion}
 use Rattle.job_record.specs.Bytes.{Bytes, numberAt}
 use Rattle.job_record.specs.Form.{
   mostBytes,
@@ -19,6 +20,7 @@ use Rattle.job_record.specs.Form.{
   dataAt,
   afterField,
   afterFields,
+  isKind,
   hasTag,
   fieldAt,
   fieldsFrom,
@@ -26,6 +28,8 @@ use Rattle.job_record.specs.Form.{
   stepsAt,
   reversionAt,
   volatilityAt,
+  versionAt,
+  hasVersion,
   quotesAt,
   flowsAt,
   restAt,
@@ -41,6 +45,7 @@ use Rattle.job_record.specs.Form.{
   stepsOf,
   wellFormed,
 }
+use Rattle.job_record.specs.Reader.{versionOf}
 use Rattle.job_record.specs.declared.Tags.{Tags}
 use Rattle.job_record.specs.declared.Tags.the-variants.{AnyKind, Only}
 use Rattle.job_record.proofs.Answers.{first, second}
@@ -115,8 +120,78 @@ module _ (s : List ℕ) (h : headFormed s ≡ true) where
   pub head-volatility : fieldAt s volatilityAt (Only 4) 4 ≡ true
   head-volatility = second (fieldAt s reversionAt (Only 3) 2) after-steps
 
-  pub head-whole : quotesAt ≤ length s
+  pub head-whole : versionAt ≤ length s
   head-whole = field-whole s volatilityAt (Only 4) 4 head-volatility
+
+-- where the quotes start, with a version and without
+module _ (s : List ℕ) where
+  pub quotes-after : hasVersion s ≡ true → quotesAt s ≡ afterField versionAt 1
+  unfolding quotesAt
+  quotes-after h = rw h
+
+  pub quotes-there : hasVersion s ≡ false → quotesAt s ≡ versionAt
+  unfolding quotesAt
+  quotes-there h = rw h
+
+  pub quotes-near : quotesAt s ≤ afterField versionAt 1
+  quotes-near = go (hasVersion s) refl
+    where
+      go : (t : Bool) → hasVersion s ≡ t → quotesAt s ≤ afterField versionAt 1
+      go true h = omega (arith, quotes-after h)
+      go false h = omega (arith, quotes-there h)
+
+  pub quotes-from : versionAt ≤ quotesAt s
+  quotes-from = go (hasVersion s) refl
+    where
+      go : (t : Bool) → hasVersion s ≡ t → versionAt ≤ quotesAt s
+      go true h = omega (arith, quotes-after h)
+      go false h = omega (arith, quotes-there h)
+
+  -- the answer, by the test that fails first
+  pub version-absent : fieldAt s versionAt (Only 11) 1 ≡ false → false ≡ hasVersion s
+  unfolding hasVersion
+  version-absent bad = rw bad
+
+  pub version-by-number : fieldAt s versionAt (Only 11) 1 ≡ true → (v : ℕ) → v ≡ numberAt s (dataAt versionAt) 1 → isVersion v ≡ hasVersion s
+  unfolding hasVersion
+  version-by-number good v read = rw (good, read)
+
+-- a version that stands there
+module _ (s : List ℕ) (h : hasVersion s ≡ true) where
+  pub version-field : fieldAt s versionAt (Only 11) 1 ≡ true
+  unfolding hasVersion
+  version-field = first (fieldAt s versionAt (Only 11) 1) _ h
+
+  pub version-known : isVersion (numberAt s (dataAt versionAt) 1) ≡ true
+  unfolding hasVersion
+  version-known = second (fieldAt s versionAt (Only 11) 1) h
+
+-- the version that is read, 0 where there is none
+pub version-read : (s : List ℕ) → hasVersion s ≡ true → versionOf s ≡ numberAt s (dataAt versionAt) 1
+unfolding versionOf
+version-read s h = rw h
+
+pub version-missing : (s : List ℕ) → hasVersion s ≡ false → versionOf s ≡ 0
+unfolding versionOf
+version-missing s h = rw h
+
+-- no version is 0
+pub version-some : (v : ℕ) → isVersion v ≡ true → v ≡ 0 → ⊥
+unfolding isVersion
+version-some v h z = none (rw z at h)
+  where
+    none : false ≡ true → ⊥
+    none e = let u : _≡_ {A = ℕ} 0 1 = cc in omega arith
+
+-- each is 1 or 2
+pub version-small : (v : ℕ) → isVersion v ≡ true → v ≤ 2
+unfolding isVersion
+version-small v h =
+    by-equal v 1 (λ one. omega arith)
+    (λ other. by-equal v 2 (λ two. omega arith) (λ another. absurd (none (rw (ne-eqb v 1 other, ne-eqb v 2 another) at h))))
+  where
+    none : false ≡ true → ⊥
+    none e = let u : _≡_ {A = ℕ} 0 1 = cc in omega arith
 
 -- where there is an option 08, it ends the job
 module _ (s : List ℕ) (o : ℕ) (h : kindFormed s o ≡ true) where
@@ -187,31 +262,63 @@ module _ (s : List ℕ) (quotes n : ℕ) (h : bodyFormed s quotes n ≡ true) wh
   pub body-length : restAt quotes n ≤ length s
   body-length = rest-from s (restAt quotes n) body-rest
 
+  -- no version stands where the quotes start
+  rest-apart : restAt quotes n ≡ quotes → fieldAt s quotes (Only 11) 1 ≡ true → ⊥
+  rest-apart here v =
+      let tag = field-tag s quotes 11 1 v in
+      let whole = field-whole s quotes (Only 11) 1 v in
+      let rest = rw here at body-rest in
+      by-equal (length s) quotes (λ same. omega arith)
+      (λ other. unlike (rest-list s quotes rest other (λ eight. let none : ⊥ = omega arith in none)) tag)
+    where
+      unlike : listFormed s quotes ≡ true → getD s quotes 0 ≡ 11 → ⊥
+      unlike l tag = omega (arith, list-tag s quotes l)
+
+  first-apart : 0 < n → fieldAt s quotes (Only 11) 1 ≡ true → ⊥
+  unfolding isKind
+  first-apart some v =
+      let here : afterFields quotes 8 0 ≡ quotes = omega arith in
+      let kind = field-has s (afterFields quotes 8 0) AnyKind 8 (fields-each s quotes AnyKind 8 n body-quotes 0 some) in
+      no-kind (rw (here, field-tag s quotes 11 1 v) at kind)
+    where
+      no-kind : false ≡ true → ⊥
+      no-kind e = let z : _≡_ {A = ℕ} 0 1 = cc in omega arith
+
+  pub body-apart : fieldAt s quotes (Only 11) 1 ≡ false
+  body-apart = go (fieldAt s quotes (Only 11) 1) refl
+    where
+      apart : fieldAt s quotes (Only 11) 1 ≡ true → ⊥
+      apart v = by-equal n 0 (λ z. rest-apart (omega arith) v) (λ some. first-apart (omega arith) v)
+
+      go : (t : Bool) → fieldAt s quotes (Only 11) 1 ≡ t → fieldAt s quotes (Only 11) 1 ≡ false
+      go true e = absurd (apart e)
+      go false e = e
+
 module _ (s : List ℕ) (h : wellFormed s ≡ true) where
   pub well-short : length s ≤ mostBytes
   unfolding wellFormed
   well-short = leb-true _ _ (first (leb (length s) mostBytes) _ h)
 
-  after-length : (headFormed s && bodyFormed s quotesAt (stepsOf s)) ≡ true
+  after-length : (headFormed s && bodyFormed s (quotesAt s) (stepsOf s)) ≡ true
   unfolding wellFormed
   after-length = second (leb (length s) mostBytes) h
 
   pub well-head : headFormed s ≡ true
   well-head = first (headFormed s) _ after-length
 
-  pub well-body : bodyFormed s quotesAt (stepsOf s) ≡ true
+  pub well-body : bodyFormed s (quotesAt s) (stepsOf s) ≡ true
   well-body = second (headFormed s) after-length
 
-  pub well-length : restAt quotesAt (stepsOf s) ≤ length s
-  well-length = body-length s quotesAt (stepsOf s) well-body
+  pub well-length : restAt (quotesAt s) (stepsOf s) ≤ length s
+  well-length = body-length s (quotesAt s) (stepsOf s) well-body
 
 -- a job of bytes has at most 255 steps
 pub steps-few : (s : List ℕ) → Bytes s → stepsOf s ≤ mostJobSteps
 steps-few s b = omega (arith, number-bound s b (dataAt stepsAt) 1)
 
 -- and no more dates than a record has places for
-pub dates-few : (s : List ℕ) → wellFormed s ≡ true → datesLeft s (restAt quotesAt (stepsOf s)) ≤ mostDates
-dates-few s h = omega (arith, well-short s h)
+pub dates-few : (s : List ℕ) → wellFormed s ≡ true → datesLeft s (restAt (quotesAt s) (stepsOf s)) ≤ mostDates
+dates-few s h = omega (arith, well-short s h, quotes-from s)
 
 -- the answer, by the test that fails first
 module _ (s : List ℕ) (quotes n : ℕ) where
@@ -240,7 +347,7 @@ module _ (s : List ℕ) where
     unfolding wellFormed
     refuse-head bad = rw (le-leb (length s) mostBytes short, bad)
 
-    -- n is the number of steps as it was read
-    pub formed-by-body : headFormed s ≡ true → (n : ℕ) → n ≡ stepsOf s → bodyFormed s quotesAt n ≡ wellFormed s
+    -- n is the number of steps and `quotes` the place of the quotes, as they were read
+    pub formed-by-body : headFormed s ≡ true → (n quotes : ℕ) → n ≡ stepsOf s → quotes ≡ quotesAt s → bodyFormed s quotes n ≡ wellFormed s
     unfolding wellFormed
-    formed-by-body head n read = rw (← read) (rw (le-leb (length s) mostBytes short, head))
+    formed-by-body head n quotes read here = rw (← read, ← here) (rw (le-leb (length s) mostBytes short, head))

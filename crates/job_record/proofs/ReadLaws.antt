@@ -55,6 +55,7 @@ zeros-sound =
       steps = omega arith;
       reversion = omega arith;
       volatility = omega arith;
+      version = refl;
       kinds = zeros-column mostJobSteps 256 (omega arith);
       kind = λ k below. absurd (not-suc-le-zero below);
       figures = zeros-column mostJobSteps (256 ^ 8) (omega arith);

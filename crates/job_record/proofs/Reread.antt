@@ -3,14 +3,15 @@
 use Prim.Native.Nat.{ℕ, _+_, _*_, _^_, _≤_, _<_}
 use native.Mathlib.Nat.{add-zero}
 use native.Mathlib.Omega.{arith}
-use mathlib.Core.Bool.{true, or-true}
-use mathlib.Core.List.{List, _++_}
+use mathlib.Core.Bool.{true, false, or-true}
+use mathlib.Core.List.{List, [], _++_}
 use mathlib.Core.Path.{_≡_, refl, sym, ap, _∙_}
 use borrow.Author.Tests.{le-leb, eq-eqb, ne-eqb}
 use lib.ListN.{length, getD, take, length-append}
 use lib.Seq.{getD-take, length-take-le}
 use Rattle.arithmetic.proofs.Numbers.{by-equal}
 use Rattle.arithmetic.specs.Row.{values, padded}
+use Rattle.reversion.specs.Reversion.{isVersion}
 use Rattle.job_record.specs.Bytes.{numberAt, numberBytes}
 use Rattle.job_record.specs.Form.{
   mostBytes,
@@ -26,6 +27,8 @@ use Rattle.job_record.specs.Form.{
   stepsAt,
   reversionAt,
   volatilityAt,
+  versionAt,
+  hasVersion,
   quotesAt,
   flowsAt,
   restAt,
@@ -47,14 +50,15 @@ use Rattle.job_record.specs.Form.{
   stepsOf,
   wellFormed,
 }
-use Rattle.job_record.specs.Reader.{tagOf, dataOf, dateOf, kindOptionAt, listOptionAt, optionAt, jobOf}
-use Rattle.job_record.specs.Grammar.{field, joined, quoteField, flowField, kindData, listData, optionField, encode, Column, SoundOption, SoundJob}
+use Rattle.job_record.specs.Reader.{tagOf, dataOf, dateOf, kindOptionAt, listOptionAt, optionAt, versionOf, jobOf}
+use Rattle.job_record.specs.Grammar.{field, joined, quoteField, flowField, kindData, listData, optionField, versionField, encode, Column, SoundOption}
+use Rattle.job_record.specs.Grammar.{SoundJob}
 use Rattle.job_record.specs.declared.Tags.{Tags}
 use Rattle.job_record.specs.declared.Tags.the-variants.{AnyKind, Only}
 use Rattle.job_record.specs.declared.OptionRecord.{OptionRecord}
 use Rattle.job_record.specs.declared.Job.{Job}
 use Rattle.job_record.proofs.Answers.{both}
-use Rattle.job_record.proofs.Forms.{each-fields}
+use Rattle.job_record.proofs.Forms.{each-fields, body-apart, quotes-after, quotes-there, version-absent, version-read, version-missing, version-small}
 use Rattle.job_record.proofs.Options.{option-none, option-kind, option-list, field-kind, field-list, field-none}
 use Rattle.job_record.proofs.Columns.{column-padded, column-zeros}
 use Rattle.job_record.proofs.Places.{
@@ -351,23 +355,30 @@ module _ (job : Job) where
   unfolding field₄
   size₄ = number-size 4 4 (job .volatility)
 
-  at-frequency : At (encode job) frequencyAt (field₁ ++ (field₂ ++ (field₃ ++ (field₄ ++ bodyOf job))))
+  at-frequency : At (encode job) frequencyAt (field₁ ++ (field₂ ++ (field₃ ++ (field₄ ++ (versionField (job .version) ++ bodyOf job)))))
   unfolding encode field₁ field₂ field₃ field₄
   at-frequency = at-all (encode job)
 
-  at-steps : At (encode job) stepsAt (field₂ ++ (field₃ ++ (field₄ ++ bodyOf job)))
+  at-steps : At (encode job) stepsAt (field₂ ++ (field₃ ++ (field₄ ++ (versionField (job .version) ++ bodyOf job))))
   at-steps = rw size₁ at (at-second (encode job) frequencyAt field₁ _ at-frequency)
 
-  at-reversion : At (encode job) reversionAt (field₃ ++ (field₄ ++ bodyOf job))
+  at-reversion : At (encode job) reversionAt (field₃ ++ (field₄ ++ (versionField (job .version) ++ bodyOf job)))
   at-reversion = rw size₂ at (at-second (encode job) stepsAt field₂ _ at-steps)
 
-  at-volatility : At (encode job) volatilityAt (field₄ ++ bodyOf job)
+  at-volatility : At (encode job) volatilityAt (field₄ ++ (versionField (job .version) ++ bodyOf job))
   at-volatility = rw size₃ at (at-second (encode job) reversionAt field₃ _ at-reversion)
 
-  at-body-of : At (encode job) quotesAt (bodyOf job)
-  at-body-of = rw size₄ at (at-second (encode job) volatilityAt field₄ _ at-volatility)
+  at-version : At (encode job) versionAt (versionField (job .version) ++ bodyOf job)
+  at-version = rw size₄ at (at-second (encode job) volatilityAt field₄ _ at-volatility)
 
-  encode-size : length (encode job) ≡ quotesAt + length (bodyOf job)
+  -- where the body starts
+  abbrev bodyAt : ℕ
+  bodyAt = versionAt + length (versionField (job .version))
+
+  at-body-of : At (encode job) bodyAt (bodyOf job)
+  at-body-of = at-second (encode job) versionAt (versionField (job .version)) _ at-version
+
+  encode-size : length (encode job) ≡ bodyAt + length (bodyOf job)
   unfolding encode
   encode-size = simp (length-append, number-size) (omega arith)
 
@@ -400,13 +411,73 @@ module _ (job : Job) where
     steps-read : stepsOf (encode job) ≡ job .steps
     steps-read = number-read (encode job) stepsAt 2 1 (job .steps) steps-field (r .steps)
 
+    formed-there : bodyFormed (encode job) bodyAt (job .steps) ≡ true
+    formed-there = body-written (encode job) bodyAt job at-body-of encode-size r
+
+    -- a version that was written
+    module _ (some : job .version ≡ 0 → ⊥) where
+      version-is : versionField (job .version) ≡ field 11 (numberBytes 1 (job .version))
+      unfolding versionField
+      version-is = rw (ne-eqb (job .version) 0 some)
+
+      known : isVersion (job .version) ≡ true
+      known = rw (ne-eqb (job .version) 0 some) at (r .version)
+
+      version-there : At (encode job) versionAt (field 11 (numberBytes 1 (job .version)))
+      version-there = rw version-is at (at-first (encode job) versionAt (versionField (job .version)) _ at-version)
+
+      number-there : numberAt (encode job) (dataAt versionAt) 1 ≡ job .version
+      number-there = number-read (encode job) versionAt 11 1 (job .version) version-there (omega (arith, version-small (job .version) known))
+
+      has-version : hasVersion (encode job) ≡ true
+      unfolding hasVersion
+      has-version =
+          both (only-formed (encode job) versionAt 11 1 (job .version) version-there (omega arith)) (rw number-there known)
+
+      body-after : bodyAt ≡ quotesAt (encode job)
+      body-after = omega (arith, ap length version-is, number-size 11 1 (job .version), quotes-after (encode job) has-version)
+
+      version-again : versionOf (encode job) ≡ job .version
+      version-again = version-read (encode job) has-version ∙ number-there
+
+    -- no version
+    module _ (none : job .version ≡ 0) where
+      nothing : versionField (job .version) ≡ []
+      unfolding versionField
+      nothing = rw (eq-eqb (job .version) 0 none)
+
+      starts : bodyAt ≡ versionAt
+      starts = omega (arith, ap length nothing)
+
+      no-version : hasVersion (encode job) ≡ false
+      no-version = sym (version-absent (encode job) (rw starts at (body-apart (encode job) bodyAt (job .steps) formed-there)))
+
+      body-there : bodyAt ≡ quotesAt (encode job)
+      body-there = starts ∙ sym (quotes-there (encode job) no-version)
+
+      version-zero : versionOf (encode job) ≡ job .version
+      version-zero = version-missing (encode job) no-version ∙ sym none
+
+    -- where the quotes are read, and the version
+    body-at : bodyAt ≡ quotesAt (encode job)
+    body-at = by-equal (job .version) 0 body-there body-after
+
+    version-same : versionOf (encode job) ≡ job .version
+    version-same = by-equal (job .version) 0 version-zero version-again
+
+    at-quotes-of : At (encode job) (quotesAt (encode job)) (bodyOf job)
+    at-quotes-of = rw body-at at at-body-of
+
+    size-from : length (encode job) ≡ quotesAt (encode job) + length (bodyOf job)
+    size-from = rw body-at at encode-size
+
     -- a record with many steps and many dates passes the limit
     pub encode-formed : length (encode job) ≤ mostBytes → wellFormed (encode job) ≡ true
     unfolding wellFormed
     encode-formed short =
         rw steps-read
         (both (le-leb (length (encode job)) mostBytes short)
-        (both head-written (body-written (encode job) quotesAt job at-body-of encode-size r)))
+        (both head-written (body-written (encode job) (quotesAt (encode job)) job at-quotes-of size-from r)))
 
     pub encode-read : jobOf (encode job) ≡ job
     unfolding jobOf
@@ -416,8 +487,9 @@ module _ (job : Job) where
           steps-read,
           number-read (encode job) reversionAt 3 2 (job .reversion) reversion-field (r .reversion),
           number-read (encode job) volatilityAt 4 4 (job .volatility) volatility-field (r .volatility),
-          kinds-read (encode job) quotesAt job at-body-of encode-size r,
-          figures-read (encode job) quotesAt job at-body-of encode-size r,
-          flows-read (encode job) quotesAt job at-body-of encode-size r,
-          rest-read (encode job) quotesAt job at-body-of encode-size r,
+          version-same,
+          kinds-read (encode job) (quotesAt (encode job)) job at-quotes-of size-from r,
+          figures-read (encode job) (quotesAt (encode job)) job at-quotes-of size-from r,
+          flows-read (encode job) (quotesAt (encode job)) job at-quotes-of size-from r,
+          rest-read (encode job) (quotesAt (encode job)) job at-quotes-of size-from r,
         )

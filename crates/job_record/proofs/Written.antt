@@ -2,11 +2,14 @@
 -- Assumes nothing.
 use Prim.Native.Nat.{ℕ, _+_, _*_, _^_, _≤_, _<_}
 use native.Mathlib.Omega.{arith}
-use mathlib.Core.Bool.{true}
+use mathlib.Core.Bool.{Bool, true, false, _||_, or-true}
 use mathlib.Core.List.{List, _++_}
 use mathlib.Core.Path.{_≡_, refl, sym, ap, _∙_}
+use borrow.Author.Tests.{ne-eqb}
+use lib.Dec.{eqb}
 use lib.ListN.{length, take, drop, drop-of-length-le}
 use Rattle.arithmetic.specs.Row.{values, padded}
+use Rattle.reversion.specs.Reversion.{isVersion}
 use Rattle.job_record.specs.Bytes.{Bytes, numberAt, numberBytes}
 use Rattle.job_record.specs.Form.{
   mostJobSteps,
@@ -19,6 +22,8 @@ use Rattle.job_record.specs.Form.{
   stepsAt,
   reversionAt,
   volatilityAt,
+  versionAt,
+  hasVersion,
   quotesAt,
   flowsAt,
   restAt,
@@ -40,8 +45,8 @@ use Rattle.job_record.specs.Form.{
   stepsOf,
   wellFormed,
 }
-use Rattle.job_record.specs.Reader.{tagOf, dataOf, dateOf, noOption, kindOptionAt, listOptionAt, optionAt, jobOf}
-use Rattle.job_record.specs.Grammar.{field, joined, optionField, encode, Column, SoundOption, SoundJob}
+use Rattle.job_record.specs.Reader.{tagOf, dataOf, dateOf, noOption, kindOptionAt, listOptionAt, optionAt, versionOf, jobOf}
+use Rattle.job_record.specs.Grammar.{field, joined, optionField, versionField, encode, Column, SoundOption, SoundJob}
 use Rattle.job_record.specs.declared.Tags.the-variants.{AnyKind, Only}
 use Rattle.job_record.proofs.Numbers.{number-bound}
 use Rattle.job_record.proofs.Forms.{
@@ -59,6 +64,13 @@ use Rattle.job_record.proofs.Forms.{
   body-quotes,
   body-flows,
   body-rest,
+  quotes-after,
+  quotes-there,
+  version-field,
+  version-known,
+  version-some,
+  version-read,
+  version-missing,
   well-head,
   well-body,
   steps-few,
@@ -209,7 +221,7 @@ module _ (s : List ℕ) (b : Bytes s) where
       → field 1 (numberBytes 1 (numberAt s (dataAt frequencyAt) 1))
       ++ (field 2 (numberBytes 1 (numberAt s (dataAt stepsAt) 1))
       ++ (field 3 (numberBytes 2 (numberAt s (dataAt reversionAt) 2))
-      ++ (field 4 (numberBytes 4 (numberAt s (dataAt volatilityAt) 4)) ++ drop quotesAt s)))
+      ++ (field 4 (numberBytes 4 (numberAt s (dataAt volatilityAt) 4)) ++ drop versionAt s)))
       ≡ s
   head-piece formed =
       rw (
@@ -220,10 +232,36 @@ module _ (s : List ℕ) (b : Bytes s) where
       )
       (rw (join-rest (4 + 3) volatilityAt s, join-rest (2 + 3) reversionAt s, join-rest (1 + 3) stepsAt s, join-rest (1 + 3) frequencyAt s))
 
+  -- the version, or nothing, and what follows it
+  version-here : hasVersion s ≡ true → versionField (versionOf s) ++ drop (quotesAt s) s ≡ drop versionAt s
+  unfolding versionField versionOf
+  version-here h =
+      rw (h, quotes-after s h, ne-eqb (numberAt s (dataAt versionAt) 1) 0 (version-some _ (version-known s h)))
+      (rw (only-field s b versionAt 11 1 (version-field s h)) (join-rest (1 + 3) versionAt s))
+
+  version-none : hasVersion s ≡ false → versionField (versionOf s) ++ drop (quotesAt s) s ≡ drop versionAt s
+  unfolding versionField versionOf
+  version-none h = rw (h, quotes-there s h)
+
+  version-piece : versionField (versionOf s) ++ drop (quotesAt s) s ≡ drop versionAt s
+  version-piece = go (hasVersion s) refl
+    where
+      go : (t : Bool) → hasVersion s ≡ t → versionField (versionOf s) ++ drop (quotesAt s) s ≡ drop versionAt s
+      go true e = version-here e
+      go false e = version-none e
+
+  version-sound : (eqb (versionOf s) 0 || isVersion (versionOf s)) ≡ true
+  version-sound = go (hasVersion s) refl
+    where
+      go : (t : Bool) → hasVersion s ≡ t → (eqb (versionOf s) 0 || isVersion (versionOf s)) ≡ true
+      go true e = rw (version-read s e, version-known s e) (or-true (eqb (numberAt s (dataAt versionAt) 1) 0))
+      go false e = rw (version-missing s e)
+
   module _ (h : wellFormed s ≡ true) where
     pub written : encode (jobOf s) ≡ s
     unfolding encode jobOf
-    written = rw (body-piece quotesAt (stepsOf s) (steps-few s b) (dates-few s h) (well-body s h)) (head-piece (well-head s h))
+    written =
+        rw (body-piece (quotesAt s) (stepsOf s) (steps-few s b) (dates-few s h) (well-body s h), version-piece) (head-piece (well-head s h))
 
     pub read-sound : SoundJob (jobOf s)
     unfolding jobOf
@@ -233,9 +271,10 @@ module _ (s : List ℕ) (b : Bytes s) where
           steps = number-bound s b (dataAt stepsAt) 1;
           reversion = number-bound s b (dataAt reversionAt) 2;
           volatility = number-bound s b (dataAt volatilityAt) 4;
-          kinds = tags-column quotesAt 8 (stepsOf s) (steps-few s b);
-          kind = quote-kind quotesAt (stepsOf s) (steps-few s b) (dates-few s h) (well-body s h);
-          figures = numbers-column quotesAt 8 (stepsOf s) (steps-few s b) (omega arith);
-          flows = numbers-column (flowsAt quotesAt (stepsOf s)) 4 (stepsOf s) (steps-few s b) (omega arith);
-          option = option-sound (restAt quotesAt (stepsOf s)) (dates-few s h) (body-rest s quotesAt (stepsOf s) (well-body s h));
+          version = version-sound;
+          kinds = tags-column (quotesAt s) 8 (stepsOf s) (steps-few s b);
+          kind = quote-kind (quotesAt s) (stepsOf s) (steps-few s b) (dates-few s h) (well-body s h);
+          figures = numbers-column (quotesAt s) 8 (stepsOf s) (steps-few s b) (omega arith);
+          flows = numbers-column (flowsAt (quotesAt s) (stepsOf s)) 4 (stepsOf s) (steps-few s b) (omega arith);
+          option = option-sound (restAt (quotesAt s) (stepsOf s)) (dates-few s h) (body-rest s (quotesAt s) (stepsOf s) (well-body s h));
         }

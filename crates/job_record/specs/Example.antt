@@ -1,4 +1,4 @@
--- The job that document 01 prints (Job and sheet), and the same with a list of dates (document 02, named exercise dates).
+-- The job that document 01 prints (Job and sheet), and the same with a list of dates or a version (document 02, named exercise dates, versions).
 -- Assumes nothing.
 use Prim.Native.Nat.{ℕ, _+_, _-_}
 use mathlib.Core.List.{List, [], _∷_, _++_}
@@ -33,6 +33,10 @@ listOf dates = 10 ∷ 0 ∷ (listHead + length dates) ∷ 2 ∷ 60 ∷ 51 ∷ 96
 abbrev pub jobWith : List ℕ → List ℕ → List ℕ
 jobWith quote option = exampleHead ++ (quote ++ (exampleFlow ++ option))
 
+-- 0B0001 and the version
+abbrev pub fieldOf : ℕ → List ℕ
+fieldOf version = 11 ∷ 0 ∷ 1 ∷ version ∷ []
+
 abbrev pub example : List ℕ
 example = jobWith exampleQuote exampleOption
 
@@ -53,6 +57,7 @@ recordWith tag option =
       steps = 1;
       reversion = 0;
       volatility = 0;
+      version = 0;
       kinds = tag ∷ replicate (mostJobSteps - 1) 0;
       figures = 4607193677799085834 ∷ replicate (mostJobSteps - 1) 0;
       flows = 1000000000 ∷ replicate (mostJobSteps - 1) 0;
@@ -61,3 +66,21 @@ recordWith tag option =
 
 abbrev pub exampleJob : Job
 exampleJob = recordWith 5 examplePut
+
+-- the same job of a version
+abbrev pub versionWithOption : ℕ → OptionRecord → Job
+versionWithOption version option =
+    record {
+      frequency = 1;
+      steps = 1;
+      reversion = 0;
+      volatility = 0;
+      version = version;
+      kinds = exampleJob .kinds;
+      figures = exampleJob .figures;
+      flows = exampleJob .flows;
+      option = option;
+    }
+
+abbrev pub versionJob : ℕ → Job
+versionJob version = versionWithOption version examplePut

@@ -1,11 +1,13 @@
--- The form of a job by places (document 01, Job and sheet; document 02, named exercise dates): each field stands where the one before it ends.
+-- The form of a job by places (document 01, Job and sheet; document 02, named exercise dates and versions): each field stands where the one before it
+-- ends.
 -- Assumes nothing.
 use Prim.Native.Nat.{ℕ, _+_, _-_, _*_}
 use mathlib.Core.List.{List}
-use mathlib.Core.Bool.{Bool, _&&_, _||_}
+use mathlib.Core.Bool.{Bool, cond, _&&_, _||_}
 use lib.ListN.{length, getD}
 use lib.Dec.{leb, eqb}
 use Rattle.arithmetic.specs.Row.{each}
+use Rattle.reversion.specs.Reversion.{isVersion}
 use Rattle.job_record.specs.Bytes.{mostWidth, numberAt}
 use Rattle.job_record.specs.declared.Tags.{Tags}
 use Rattle.job_record.specs.declared.Tags.the-variants.{AnyKind, Only}
@@ -72,8 +74,15 @@ reversionAt = afterField stepsAt 1
 abbrev pub volatilityAt : ℕ
 volatilityAt = afterField reversionAt 2
 
-abbrev pub quotesAt : ℕ
-quotesAt = afterField volatilityAt 4
+abbrev pub versionAt : ℕ
+versionAt = afterField volatilityAt 4
+
+-- there a version may stand, 0B in 1 byte, 1 or 2; the quotes follow it, or take its place
+unfoldable pub hasVersion : List ℕ → Bool
+hasVersion s = fieldAt s versionAt (Only 11) 1 && isVersion (numberAt s (dataAt versionAt) 1)
+
+unfoldable pub quotesAt : List ℕ → ℕ
+quotesAt s = cond (hasVersion s) (afterField versionAt 1) versionAt
 
 -- n quotes of 8 bytes, n flows of 4, and what follows these
 abbrev pub flowsAt : ℕ → ℕ → ℕ
@@ -143,4 +152,4 @@ abbrev pub stepsOf : List ℕ → ℕ
 stepsOf s = numberAt s (dataAt stepsAt) 1
 
 unfoldable pub wellFormed : List ℕ → Bool
-wellFormed s = leb (length s) mostBytes && (headFormed s && bodyFormed s quotesAt (stepsOf s))
+wellFormed s = leb (length s) mostBytes && (headFormed s && bodyFormed s (quotesAt s) (stepsOf s))

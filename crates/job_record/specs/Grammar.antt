@@ -1,13 +1,14 @@
--- The grammar of a job (document 01, Job and sheet; document 02, named exercise dates): the bytes of a record, field after field, and what
--- reading has to do with them.
+-- The grammar of a job (document 01, Job and sheet; document 02, named exercise dates and versions): the bytes of a record, field after field, and
+-- what reading has to do with them.
 -- Assumes nothing.
 use Prim.Native.Nat.{ℕ, zero, suc, _^_, _≤_, _<_}
 use mathlib.Core.List.{List, [], _∷_, _++_}
-use mathlib.Core.Bool.{true, cond}
+use mathlib.Core.Bool.{true, cond, _||_}
 use mathlib.Core.Path.{_≡_}
 use lib.ListN.{length, take}
 use lib.Dec.{eqb}
 use Rattle.arithmetic.specs.Row.{values}
+use Rattle.reversion.specs.Reversion.{isVersion}
 use Rattle.job_record.specs.Bytes.{numberBytes}
 use Rattle.job_record.specs.Form.{mostBytes, mostJobSteps, mostDates, isKind}
 use Rattle.job_record.specs.Reader.{noOption, acceptedReading, malformed}
@@ -45,14 +46,19 @@ unfoldable pub optionField : OptionRecord → List ℕ
 optionField option =
     cond (eqb (option .tag) 8) (field 8 (kindData option)) (cond (eqb (option .tag) 10) (field 10 (listData option)) [])
 
--- in this order: f, n, b, s; n quotes; n flows; at most one option
+-- a version: 0B, 1; 0 stands for none
+unfoldable pub versionField : ℕ → List ℕ
+versionField version = cond (eqb version 0) [] (field 11 (numberBytes 1 version))
+
+-- in this order: f, n, b, s; at most one version; n quotes; n flows; at most one option
 unfoldable pub encode : Job → List ℕ
 encode job =
     field 1 (numberBytes 1 (job .frequency))
     ++ (field 2 (numberBytes 1 (job .steps))
     ++ (field 3 (numberBytes 2 (job .reversion))
     ++ (field 4 (numberBytes 4 (job .volatility))
-    ++ (joined (job .steps) (quoteField job) ++ (joined (job .steps) (flowField job) ++ optionField (job .option))))))
+    ++ (versionField (job .version)
+    ++ (joined (job .steps) (quoteField job) ++ (joined (job .steps) (flowField job) ++ optionField (job .option)))))))
 
 -- a column of so many places of a record holds its n entries, each below a bound, and zeros after them
 pub record Column (places : ℕ) (l : List ℕ) (n bound : ℕ) : Type 0 where
@@ -77,6 +83,7 @@ pub record SoundJob (job : Job) : Type 0 where
   pub steps : job .steps < 256 ^ 1
   pub reversion : job .reversion < 256 ^ 2
   pub volatility : job .volatility < 256 ^ 4
+  pub version : (eqb (job .version) 0 || isVersion (job .version)) ≡ true
   pub kinds : Column mostJobSteps (job .kinds) (job .steps) 256
   pub kind : (k : ℕ) → k < job .steps → isKind (values (job .kinds) k) ≡ true
   pub figures : Column mostJobSteps (job .figures) (job .steps) (256 ^ 8)

@@ -7,8 +7,8 @@ use lib.ListN.{length, getD, replicate}
 use lib.Dec.{eqb}
 use Rattle.arithmetic.specs.Row.{padded}
 use Rattle.job_record.specs.Bytes.{numberAt}
-use Rattle.job_record.specs.Form.{mostJobSteps, mostDates, dataAt, afterFields, frequencyAt, reversionAt, volatilityAt, quotesAt}
-use Rattle.job_record.specs.Form.{flowsAt, restAt, kindAt, expiryAt, strikeAt, sideAt, listStrikeAt, datesAt, datesLeft, stepsOf, wellFormed}
+use Rattle.job_record.specs.Form.{mostJobSteps, mostDates, dataAt, afterFields, frequencyAt, reversionAt, volatilityAt, versionAt, quotesAt}
+use Rattle.job_record.specs.Form.{flowsAt, restAt, kindAt, expiryAt, strikeAt, sideAt, listStrikeAt, datesAt, datesLeft, stepsOf, hasVersion, wellFormed}
 use Rattle.job_record.specs.declared.OptionRecord.{OptionRecord}
 use Rattle.job_record.specs.declared.Job.{Job}
 use Rattle.job_record.specs.declared.Reading.{Reading}
@@ -56,6 +56,10 @@ listOptionAt s at =
 unfoldable pub optionAt : List ℕ → ℕ → OptionRecord
 optionAt s at = cond (eqb (length s) at) noOption (cond (eqb (getD s at 0) 8) (kindOptionAt s at) (listOptionAt s at))
 
+-- the version, 0 where there is none
+unfoldable pub versionOf : List ℕ → ℕ
+versionOf s = cond (hasVersion s) (numberAt s (dataAt versionAt) 1) 0
+
 unfoldable pub jobOf : List ℕ → Job
 jobOf s =
     record {
@@ -63,10 +67,11 @@ jobOf s =
       steps = stepsOf s;
       reversion = numberAt s (dataAt reversionAt) 2;
       volatility = numberAt s (dataAt volatilityAt) 4;
-      kinds = padded mostJobSteps (stepsOf s) (tagOf s quotesAt 8);
-      figures = padded mostJobSteps (stepsOf s) (dataOf s quotesAt 8);
-      flows = padded mostJobSteps (stepsOf s) (dataOf s (flowsAt quotesAt (stepsOf s)) 4);
-      option = optionAt s (restAt quotesAt (stepsOf s));
+      version = versionOf s;
+      kinds = padded mostJobSteps (stepsOf s) (tagOf s (quotesAt s) 8);
+      figures = padded mostJobSteps (stepsOf s) (dataOf s (quotesAt s) 8);
+      flows = padded mostJobSteps (stepsOf s) (dataOf s (flowsAt (quotesAt s) (stepsOf s)) 4);
+      option = optionAt s (restAt (quotesAt s) (stepsOf s));
     }
 
 -- zeros
@@ -77,6 +82,7 @@ noJob =
       steps = 0;
       reversion = 0;
       volatility = 0;
+      version = 0;
       kinds = replicate mostJobSteps 0;
       figures = replicate mostJobSteps 0;
       flows = replicate mostJobSteps 0;

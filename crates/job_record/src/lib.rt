@@ -32,6 +32,8 @@ pub struct Job {
     pub steps: usize,
     pub reversion: u64,
     pub volatility: u64,
+    // 1 or 2, or 0 where the job has no version.
+    pub version: u64,
     pub kinds: [u8; MOST_STEPS],
     pub figures: [u64; MOST_STEPS],
     pub flows: [u64; MOST_STEPS],

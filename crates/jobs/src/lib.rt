@@ -6,9 +6,9 @@ ghost use lib.ListN.{length, replicate};
 ghost use Rattle.arithmetic.specs.Row.{padded};
 ghost use Rattle.job_record.specs.Bytes.{mostWidth, numberAt};
 ghost use Rattle.job_record.specs.Form.{mostBytes, mostJobSteps, mostDates, afterField, afterFields, farthest, restAt, isKind, hasTag};
-ghost use Rattle.job_record.specs.Form.{optionWidth, datesAt, datesLeft};
+ghost use Rattle.job_record.specs.Form.{versionAt, hasVersion, quotesAt, optionWidth, datesAt, datesLeft};
 ghost use Rattle.job_record.specs.Form.{fieldAt, fieldsFrom, headFormed, kindFormed, listFormed, restFormed, bodyFormed, wellFormed};
-ghost use Rattle.job_record.specs.Reader.{tagOf, dataOf, dateOf, noOption, kindOptionAt, listOptionAt, optionAt, jobOf, noJob, readingOf};
+ghost use Rattle.job_record.specs.Reader.{tagOf, dataOf, dateOf, noOption, kindOptionAt, listOptionAt, optionAt, versionOf, jobOf, noJob, readingOf};
 ghost use Rattle.job_record.specs.Grammar.{ReadsAs};
 use job_record::Job;
 use job_record::OptionRecord;
@@ -29,7 +29,11 @@ const REVERSION_AT: usize = STEPS_AT + FIELD_HEAD + 1;
 
 const VOLATILITY_AT: usize = REVERSION_AT + FIELD_HEAD + 2;
 
-const QUOTES_AT: usize = VOLATILITY_AT + FIELD_HEAD + 4;
+// Where the version stands, or the quotes where there is none.
+const VERSION_AT: usize = VOLATILITY_AT + FIELD_HEAD + 4;
+
+// Where the quotes start behind a version.
+const QUOTES_AT: usize = VERSION_AT + FIELD_HEAD + 1;
 
 // Kind, expiry and strike.
 const OPTION_WIDTH: usize = 1 + 1 + 4;
@@ -131,6 +135,26 @@ fn head_formed(bytes: &[u8]) -> bool
     field_at(bytes, VOLATILITY_AT, Tags::Only(4), 4)
 }
 
+// Whether a version, 1 or 2, stands after the head.
+fn has_version(bytes: &[u8]) -> bool
+    ensures { λ r. ⌜ r ≡ hasVersion (now (bytes .entry)) ⌝ }
+{
+    if !field_at(bytes, VERSION_AT, Tags::Only(11), 1) {
+        return false;
+    }
+    reversion::is_version(number(bytes, VERSION_AT + FIELD_HEAD, 1))
+}
+
+// Where the quotes start.
+fn quotes_at(bytes: &[u8]) -> usize
+    ensures { λ r. ⌜ (r ≡ quotesAt (now (bytes .entry))) × (r ≤ afterField versionAt 1) ⌝ }
+{
+    if has_version(bytes) {
+        return QUOTES_AT;
+    }
+    VERSION_AT
+}
+
 // Whether one option of a kind, and nothing after it, stands from a place on.
 fn kind_formed(bytes: &[u8], at: usize) -> bool
     requires { ⌜ at ≤ farthest ⌝ }
@@ -193,7 +217,7 @@ fn well_formed(bytes: &[u8]) -> bool
         return false;
     }
     let steps = number(bytes, STEPS_AT + FIELD_HEAD, 1) as usize;
-    body_formed(bytes, QUOTES_AT, steps)
+    body_formed(bytes, quotes_at(bytes), steps)
 }
 
 // The tags of `count` fields of one width from a place on.
@@ -311,14 +335,25 @@ fn option_at(bytes: &[u8], at: usize) -> OptionRecord
     list_option_at(bytes, at)
 }
 
+// The version, 0 where there is none.
+fn version_of(bytes: &[u8]) -> u64
+    ensures { λ r. ⌜ r ≡ versionOf (now (bytes .entry)) ⌝ }
+{
+    if !has_version(bytes) {
+        return 0;
+    }
+    number(bytes, VERSION_AT + FIELD_HEAD, 1)
+}
+
 fn job_of(bytes: &[u8]) -> Job
     requires { ⌜ wellFormed (now bytes) ≡ true ⌝ }
     ensures { λ r. ⌜ r ≡ jobOf (now (bytes .entry)) ⌝ }
 {
     let steps = number(bytes, STEPS_AT + FIELD_HEAD, 1) as usize;
-    let flows_at = after_fields(QUOTES_AT, 8, steps);
-    let kinds = tags_from(bytes, QUOTES_AT, 8, steps);
-    let figures = data_from(bytes, QUOTES_AT, 8, steps);
+    let quotes_at = quotes_at(bytes);
+    let flows_at = after_fields(quotes_at, 8, steps);
+    let kinds = tags_from(bytes, quotes_at, 8, steps);
+    let figures = data_from(bytes, quotes_at, 8, steps);
     let flows = data_from(bytes, flows_at, 4, steps);
     let option = option_at(bytes, after_fields(flows_at, 4, steps));
     Job {
@@ -326,6 +361,7 @@ fn job_of(bytes: &[u8]) -> Job
         steps,
         reversion: number(bytes, REVERSION_AT + FIELD_HEAD, 2),
         volatility: number(bytes, VOLATILITY_AT + FIELD_HEAD, 4),
+        version: version_of(bytes),
         kinds,
         figures,
         flows,
@@ -342,6 +378,7 @@ fn no_job() -> Job
         steps: 0,
         reversion: 0,
         volatility: 0,
+        version: 0,
         kinds: [0u8; job_record::MOST_STEPS],
         figures: [0u64; job_record::MOST_STEPS],
         flows: [0u64; job_record::MOST_STEPS],

@@ -21,6 +21,8 @@ use Rattle.continuous_rate.specs.ContinuousRate.{continuousRateAnswer, continuo
 use Rattle.promises.specs.Causes.{CausePromises, cause, firstOf, treeCauses}
 use Rattle.promises.proofs.CauseTables.{not-leb, ltb-not, number-of}
 use Rattle.promises.proofs.QuoteCauses.{lone-causes, curve-causes, shape-first, spacing-causes, fit-causes}
+use Rattle.promises.proofs.QuoteCauses.{by-version-causes, version-spacing-causes, version-causes}
+use Rattle.reversion.specs.Reversion.{workingReversion, versionRatio}
 use Rattle.promises.proofs.PriceCauses.{price-bound-causes, tree-bounds-causes, state-price-bound-causes, bond-causes, option-causes, dated-causes}
 use Rattle.promises.proofs.PriceCauses.{weighing-causes, weighing-bound-causes}
 
@@ -110,6 +112,10 @@ causes-kept =
       node-spacing = spacing-causes;
       node-factor = factor-causes;
       fit = fit-causes;
+      working-reversion = λ v b. by-version-causes v b (workingReversion v b);
+      variance-ratio = λ v b. by-version-causes v b (versionRatio v b);
+      version-spacing = version-spacing-causes;
+      version-fit = version-causes;
       price-bound = price-bound-causes;
       tree-bounds = tree-bounds-causes;
       state-price-bound = state-price-bound-causes;

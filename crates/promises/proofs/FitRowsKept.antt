@@ -1,7 +1,7 @@
 -- The fit row by row, what it leaves in its memories, and the state prices of any lent discounts.
 -- Assumes nothing.
 use mathlib.Core.Path.{_≡_, refl, sym, ap, subst, _∙_}
-use mathlib.Core.Bool.{Bool, true, false, cond, not}
+use mathlib.Core.Bool.{Bool, true, false, cond}
 use mathlib.Core.List.{List, _++_}
 use Prim.Native.Nat.{ℕ, zero, suc, _+_, _*_, _/_, _≤_, _<_}
 use native.Mathlib.Nat.{le-refl}
@@ -12,7 +12,6 @@ use lib.IntN.{ℤ, pos, natAbs, _-ℤ_}
 use lib.ListN.{length, drop}
 use borrow.Author.Tests.{ltb-false}
 use Rattle.arithmetic.specs.Answers.{refused, answered}
-use Rattle.arithmetic.specs.Frequency.{listed}
 use Rattle.arithmetic.specs.Rounding.{one}
 use Rattle.arithmetic.specs.Row.{values, place}
 use Rattle.arithmetic.specs.Sum.{sum}
@@ -24,7 +23,6 @@ use Rattle.lattice.specs.Shape.{halfWidth, nodeCount, rowStart}
 use Rattle.lattice.specs.RateTree.{nodeOfIndex, node, rateTree}
 use Rattle.lattice.proofs.LaidLaws.{length-laid, laid-value}
 use Rattle.lattice.proofs.Differences.{sub-is}
-use Rattle.spacing.specs.Spacing.{spacing, spacingAnswer}
 use Rattle.factor.specs.Series.{term}
 use Rattle.factor.specs.Factor.{factor, nodeAnswer}
 use Rattle.factor.proofs.SeriesLaws.{term-zero}
@@ -32,8 +30,8 @@ use Rattle.factor.proofs.SideLaws.{next-term, below-sum, above-sum, below-one, 
 use Rattle.curve.specs.Curve.{discountAt}
 use Rattle.fit_laws.proofs.FitRows as fits
 use Rattle.fitting.specs.Fit.{nodeFactor, quoted}
-use Rattle.fitting.specs.Entry.{quotesOf, fitNumber, fitDiscount, fitPrice, fitDiscounts, fitPrices, discountsAfter, pricesAfter}
-use Rattle.fitting.proofs.Promised.{fit-spacing, fit-near, fit-numbers, fit-sound, fit-repriced, quote-is}
+use Rattle.fitting.specs.Entry.{quotesOf, fittedNumber, fitDiscount, fitPrice, fitMemory, fitDiscounts, fitPrices}
+use Rattle.fitting.proofs.Promised.{fit-near, fit-numbers, fit-sound, fit-repriced, quote-is}
 use Rattle.fitting.proofs.FittedTree.{fit-placed}
 use Rattle.lent_tree.specs.LentTree.{stored}
 use Rattle.state_price_bound.specs.ErrorBound.{statePriceErrorBoundAnswer}
@@ -62,67 +60,50 @@ factors-kept j h z = go (ltb one (natAbs j * h)) refl z
     go true e k = absurd (omega arith)
     go false e k = factored j h (ltb-false one (natAbs j * h) e)
 
-spacing-given : (f s : ℕ) → spacingAnswer f s .number ≡ 0 → spacing f s ≡ spacingAnswer f s .value
-unfolding spacingAnswer
-spacing-given f s z = go (listed f) (ltb 50000 s) z
-  where
-    go : (t u : Bool) → cond (not t) (refused 2) (cond u (refused 5) (answered (spacing f s))) .number ≡ 0 →
-        spacing f s ≡ cond (not t) (refused 2) (cond u (refused 5) (answered (spacing f s))) .value
-    go true true k = absurd (omega arith)
-    go false u k = absurd (omega arith)
-    go true false k = refl
-
 -- ---- the rows of a fit
 
 node-is : (b i k : ℕ) → node b i k ≡ pos k -ℤ pos (halfWidth b i)
 unfolding nodeOfIndex
 node-is b i k = sub-is k (halfWidth b i)
 
-module _ (f n b s : ℕ) (rows kinds : List ℕ) (figures : List Float) (ds ps : ℕ) (z : fitNumber f n b s rows kinds figures ds ps ≡ 0) where
-  abbrev h : ℕ
-  h = spacing f s
-
+module _ (f n w spaced h : ℕ) (rows kinds : List ℕ) (figures : List Float) (ds ps : ℕ)
+    (z : fittedNumber f n w spaced h rows kinds figures ds ps ≡ 0) where
   abbrev price : ℕ → ℕ → ℕ
-  price = fitPrice f n b s kinds figures
+  price = fitPrice f n w h kinds figures
 
   abbrev discount : ℕ → ℕ → ℕ
-  discount = fitDiscount f n b s kinds figures
+  discount = fitDiscount f n w h kinds figures
 
-  node-factored : (i k : ℕ) → i < n → k < nodeCount b i → Factored (pos k -ℤ pos (halfWidth b i)) h (nodeFactor b h i k)
+  node-factored : (i k : ℕ) → i < n → k < nodeCount w i → Factored (pos k -ℤ pos (halfWidth w i)) h (nodeFactor w h i k)
   node-factored i k hi hk =
-      subst (λ (j : ℤ). Factored j h (nodeFactor b h i k)) (node-is b i k)
-      (factored (node b i k) h (fit-near f n b s rows kinds figures ds ps z i k hi hk))
+      subst (λ (j : ℤ). Factored j h (nodeFactor w h i k)) (node-is w i k)
+      (factored (node w i k) h (fit-near f n w spaced h rows kinds figures ds ps z i k hi hk))
 
-  rows-by : FitRows b n h (discountAt f kinds figures) discount price
+  pub fit-rows : FitRows w n h (discountAt f kinds figures) discount price
   unfolding rateTree
-  rows-by =
+  fit-rows =
       record {
-        factor = nodeFactor b h;
-        normaliser = λ i. sum (nodeCount b i) (λ k. price i k * nodeFactor b h i k) / one;
+        factor = nodeFactor w h;
+        normaliser = λ i. sum (nodeCount w i) (λ k. price i k * nodeFactor w h i k) / one;
         carried = λ i k. price i k * discount i k / one;
         factored = node-factored;
-        first-price = fits.fitted-first (rateTree b) (nodeFactor b h) (quoted (quotesOf f n kinds figures)) 0;
+        first-price = fits.fitted-first (rateTree w) (nodeFactor w h) (quoted (quotesOf f n kinds figures)) 0;
         normalised = λ i hi. refl;
         discounted =
             λ i k hi hk.
-            fits.fitted-discount (rateTree b) (nodeFactor b h) (quoted (quotesOf f n kinds figures)) i k
-            ∙ ap (λ (p : ℕ). p * nodeFactor b h i k / (sum (nodeCount b i) (λ k. price i k * nodeFactor b h i k) / one))
-            (quote-is f n b s rows kinds figures ds ps z i hi);
+            fits.fitted-discount (rateTree w) (nodeFactor w h) (quoted (quotesOf f n kinds figures)) i k
+            ∙ ap (λ (p : ℕ). p * nodeFactor w h i k / (sum (nodeCount w i) (λ k. price i k * nodeFactor w h i k) / one))
+            (quote-is f n w spaced h rows kinds figures ds ps z i hi);
         carrying = λ i k hi hk. refl;
-        next-price = λ i j hi hj. fits.fitted-next (rateTree b) (nodeFactor b h) (quoted (quotesOf f n kinds figures)) i j;
+        next-price = λ i j hi hj. fits.fitted-next (rateTree w) (nodeFactor w h) (quoted (quotesOf f n kinds figures)) i j;
       }
 
-  pub fit-rows : FitRows b n (spacingAnswer f s .value) (discountAt f kinds figures) discount price
-  fit-rows =
-      subst (λ (g : ℕ). FitRows b n g (discountAt f kinds figures) discount price)
-      (spacing-given f s (fit-spacing f n b s rows kinds figures ds ps z)) rows-by
-
-  pub sums-weighable : (i : ℕ) → i ≤ n → sum (nodeCount b i) (price i) ≤ 2000000100
+  pub sums-weighable : (i : ℕ) → i ≤ n → sum (nodeCount w i) (price i) ≤ 2000000100
   unfolding rateTree
   sums-weighable zero l =
-      rw (fit-sound f n b s rows kinds figures ds ps z .root)
-      (omega (arith, sum-single (price 0), fits.fitted-first (rateTree b) (nodeFactor b h) (quoted (quotesOf f n kinds figures)) 0))
-  sums-weighable (suc i) l = fit-repriced f n b s rows kinds figures ds ps z i l .2
+      rw (fit-sound f n w spaced h rows kinds figures ds ps z .root)
+      (omega (arith, sum-single (price 0), fits.fitted-first (rateTree w) (nodeFactor w h) (quoted (quotesOf f n kinds figures)) 0))
+  sums-weighable (suc i) l = fit-repriced f n w spaced h rows kinds figures ds ps z i l .2
 
 -- ---- its memories
 
@@ -143,14 +124,16 @@ module _ (b n : ℕ) (value : ℕ → ℕ → ℕ) (before : List ℕ) (room : r
         past-kept = layout.laid-past (rateTree b) value n n after before (le-refl n) m;
       }
 
-pub fit-laid : (f n b s : ℕ) (rows kinds : List ℕ) (figures : List Float) (d q : List ℕ) →
-    fitNumber f n b s rows kinds figures (length d) (length q) ≡ 0 →
-    LaidOut b n (fitDiscount f n b s kinds figures) d (discountsAfter f n b s rows kinds figures d q)
-    × LaidOut b (suc n) (fitPrice f n b s kinds figures) q (pricesAfter f n b s rows kinds figures d q)
-fit-laid f n b s rows kinds figures d q z =
-    let known = fit-numbers f n b s rows kinds figures (length d) (length q) z in (
-      laid-out b n (fitDiscount f n b s kinds figures) d (known .room-discounts) _ (fit-placed _ (fitDiscounts f n b s kinds figures) d z),
-      laid-out b (suc n) (fitPrice f n b s kinds figures) q (known .room-prices) _ (fit-placed _ (fitPrices f n b s kinds figures) q z),
+pub fit-laid : (f n w spaced h : ℕ) (rows kinds : List ℕ) (figures : List Float) (d q : List ℕ) →
+    fittedNumber f n w spaced h rows kinds figures (length d) (length q) ≡ 0 →
+    LaidOut w n (fitDiscount f n w h kinds figures) d
+    (fitMemory (fittedNumber f n w spaced h rows kinds figures (length d) (length q)) (fitDiscounts f n w h kinds figures) d)
+    × LaidOut w (suc n) (fitPrice f n w h kinds figures) q
+    (fitMemory (fittedNumber f n w spaced h rows kinds figures (length d) (length q)) (fitPrices f n w h kinds figures) q)
+fit-laid f n w spaced h rows kinds figures d q z =
+    let known = fit-numbers f n w spaced h rows kinds figures (length d) (length q) z in (
+      laid-out w n (fitDiscount f n w h kinds figures) d (known .room-discounts) _ (fit-placed _ (fitDiscounts f n w h kinds figures) d z),
+      laid-out w (suc n) (fitPrice f n w h kinds figures) q (known .room-prices) _ (fit-placed _ (fitPrices f n w h kinds figures) q z),
     )
 
 -- ---- state prices of any lent discounts

@@ -14,24 +14,24 @@ use Rattle.fitting.specs.Entry.{fitMemory, fitDiscount, fitPrice, fitDiscounts,
 use Rattle.fitting.proofs.FittedTree.{fit-discounts-length}
 use Rattle.promises.specs.Promises.{Unaltered}
 
-pub fit-unaltered : (f n b s : ℕ) (kinds : List ℕ) (figures : List Float) (d q : List ℕ) (r : ℕ) → r ≤ n →
-    Unaltered f n b s kinds figures (fitMemory 0 (fitDiscounts f n b s kinds figures) d) r
-    (take (nodeCount b r) (drop (rowStart b r) (fitMemory 0 (fitPrices f n b s kinds figures) q)))
+pub fit-unaltered : (f n w g : ℕ) (kinds : List ℕ) (figures : List Float) (d q : List ℕ) (r : ℕ) → r ≤ n →
+    Unaltered f n w g kinds figures (fitMemory 0 (fitDiscounts f n w g kinds figures) d) r
+    (take (nodeCount w r) (drop (rowStart w r) (fitMemory 0 (fitPrices f n w g kinds figures) q)))
 unfolding fitMemory place discountsNeeded
-fit-unaltered f n b s kinds figures d q r h =
+fit-unaltered f n w g kinds figures d q r h =
     record {
       discounts-long =
           omega (
             arith,
-            length-append (fitDiscounts f n b s kinds figures) (drop (0 + length (fitDiscounts f n b s kinds figures)) d),
-            fit-discounts-length f n b s kinds figures,
+            length-append (fitDiscounts f n w g kinds figures) (drop (0 + length (fitDiscounts f n w g kinds figures)) d),
+            fit-discounts-length f n w g kinds figures,
           );
-      discounts-kept = λ i k hi hk. laid-value b (fitDiscount f n b s kinds figures) n i hi _ k hk;
+      discounts-kept = λ i k hi hk. laid-value w (fitDiscount f n w g kinds figures) n i hi _ k hk;
       row-length =
-          ap length (laid-part b (fitPrice f n b s kinds figures) (suc n) r (omega arith) _)
-          ∙ length-row (nodeCount b r) (fitPrice f n b s kinds figures r);
+          ap length (laid-part w (fitPrice f n w g kinds figures) (suc n) r (omega arith) _)
+          ∙ length-row (nodeCount w r) (fitPrice f n w g kinds figures r);
       prices-kept =
           λ k hk.
-          ap (λ (l : List ℕ). values l k) (laid-part b (fitPrice f n b s kinds figures) (suc n) r (omega arith) _)
-          ∙ values-row (nodeCount b r) k (fitPrice f n b s kinds figures r) hk;
+          ap (λ (l : List ℕ). values l k) (laid-part w (fitPrice f n w g kinds figures) (suc n) r (omega arith) _)
+          ∙ values-row (nodeCount w r) k (fitPrice f n w g kinds figures r) hk;
     }

@@ -13,6 +13,7 @@ use Rattle.promises.proofs.FitStored.{fit-unaltered}
 use Rattle.promises.proofs.YieldsKept.{yields-kept}
 use Rattle.promises.proofs.QuotesKept.{quotes-kept}
 use Rattle.promises.proofs.CausesKept.{causes-kept}
+use Rattle.promises.proofs.VersionsKept.{versions-kept}
 
 pub prices-kept : PricePromises
 prices-kept =
@@ -43,4 +44,12 @@ prices-kept =
     }
 
 pub promises-kept : Promises
-promises-kept = record { quotes = quotes-kept; tree = tree-kept; prices = prices-kept; yields = yields-kept; causes = causes-kept }
+promises-kept =
+    record {
+      quotes = quotes-kept;
+      tree = tree-kept;
+      prices = prices-kept;
+      yields = yields-kept;
+      versions = versions-kept;
+      causes = causes-kept;
+    }

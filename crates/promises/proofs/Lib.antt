@@ -12,4 +12,5 @@ pub mod PayoffsKept
 pub mod FitStored
 pub mod YieldsKept
 pub mod QuotesKept
+pub mod VersionsKept
 pub mod Kept

@@ -18,7 +18,7 @@ use Rattle.tree.specs.Tree.{unit}
 use Rattle.lattice.specs.Shape.{nodeCount, discountsNeeded}
 use Rattle.lattice.specs.RateTree.{rateTree}
 use Rattle.fit_laws.specs.StatePrices.{statePrice}
-use Rattle.fitting.specs.Entry.{fitNumber}
+use Rattle.fitting.specs.Entry.{fittedNumber}
 use Rattle.fitting.proofs.Promised.{fit-sound}
 use Rattle.fitting.proofs.FittedTree.{fit-lent}
 use Rattle.price_laws.specs.Exact.{exactPayoff}
@@ -106,41 +106,41 @@ payoffs-known prices payoffs z =
     (eqb-true (length prices) (length payoffs) alike, p .1)
 
 -- the discounts of an accepted fit are an accepted tree, so the error bound of its rows is given
-module _ (f n b s : ℕ) (rows kinds : List ℕ) (figures : List Float) (ds ps : ℕ) (z : fitNumber f n b s rows kinds figures ds ps ≡ 0)
-    (discounts : List ℕ) (r : ℕ) (prices payoffs : List ℕ) (h : r ≤ n) (kept : Unaltered f n b s kinds figures discounts r prices) where
+module _ (f n b spaced g : ℕ) (rows kinds : List ℕ) (figures : List Float) (ds ps : ℕ) (z : fittedNumber f n b spaced g rows kinds figures ds ps ≡ 0)
+    (discounts : List ℕ) (r : ℕ) (prices payoffs : List ℕ) (h : r ≤ n) (kept : Unaltered f n b g kinds figures discounts r prices) where
   bound-accepted : valueByStatePricesAnswer prices payoffs .number ≡ 0 → valuationErrorBoundAnswer n b discounts r payoffs .number ≡ 0
   unfolding discountsNeeded stored
   bound-accepted zv =
       let q = payoffs-known prices payoffs zv in
       entry.bound-given n b discounts r payoffs
-      (fit-lent f n b s kinds figures rows ds ps z discounts (kept .discounts-long) (λ i k hi hk. kept .discounts-kept i k hi hk)) h
+      (fit-lent f n b g kinds figures spaced rows ds ps z discounts (kept .discounts-long) (λ i k hi hk. kept .discounts-kept i k hi hk)) h
       (sym (q .0) ∙ kept .row-length) (ltb-false valueLimit (greatestOf payoffs) (q .1))
 
-payoffs-within : (f n b s : ℕ) (rows kinds : List ℕ) (figures : List Float) (ds ps : ℕ) →
-    fitNumber f n b s rows kinds figures ds ps ≡ 0 →
-    (discounts : List ℕ) (r : ℕ) (prices payoffs : List ℕ) → r ≤ n → Unaltered f n b s kinds figures discounts r prices →
+payoffs-within : (f n b spaced g : ℕ) (rows kinds : List ℕ) (figures : List Float) (ds ps : ℕ) →
+    fittedNumber f n b spaced g rows kinds figures ds ps ≡ 0 →
+    (discounts : List ℕ) (r : ℕ) (prices payoffs : List ℕ) → r ≤ n → Unaltered f n b g kinds figures discounts r prices →
     valueByStatePricesAnswer prices payoffs .number ≡ 0 → valuationErrorBoundAnswer n b discounts r payoffs .number ≡ 0 →
     ShortOf (valuationErrorBoundAnswer n b discounts r payoffs .value) (unit ^ r) (valueByStatePricesAnswer prices payoffs .value)
     (exactPayoff b discounts r payoffs)
 unfolding valueOf rateTree stored
-payoffs-within f n b s rows kinds figures ds ps z discounts r prices payoffs h kept zv zb =
-    let sound = fit-sound f n b s rows kinds figures ds ps z in
+payoffs-within f n b spaced g rows kinds figures ds ps z discounts r prices payoffs h kept zv zb =
+    let sound = fit-sound f n b spaced g rows kinds figures ds ps z in
     let v : ℕ → ℕ → ℕ = stored b discounts in
     let price-is : (k : ℕ) → k < nodeCount b r → values prices k ≡ statePrice (rateTree b) v r k =
-    λ k l. kept .prices-kept k l ∙ fitted-prices f n b s kinds figures v (λ i c hi hc. kept .discounts-kept i c hi hc) r h k in
+    λ k l. kept .prices-kept k l ∙ fitted-prices f n b g kinds figures v (λ i c hi hc. kept .discounts-kept i c hi hc) r h k in
     let same : valueByStatePricesAnswer prices payoffs .value ≡ valueByStatePrices (nodeCount b r) (statePrice (rateTree b) v r) (values payoffs) =
     value-given prices payoffs zv
     ∙ value-by (length prices) (nodeCount b r) (values prices) (statePrice (rateTree b) v r) (values payoffs) (kept .row-length) price-is in
     rw (same, bound-given n b discounts r payoffs zb, ← exact-same b discounts r payoffs)
     (turned _ _ _ _ (value-below (rateTree b) sound v r (values payoffs)) (value-short (rateTree b) sound v r (values payoffs)))
 
-pub payoffs-kept : (f n b s : ℕ) (rows kinds : List ℕ) (figures : List Float) (ds ps : ℕ) →
-    fitNumber f n b s rows kinds figures ds ps ≡ 0 →
-    (discounts : List ℕ) (r : ℕ) (prices payoffs : List ℕ) → r ≤ n → Unaltered f n b s kinds figures discounts r prices →
+pub payoffs-kept : (f n b spaced g : ℕ) (rows kinds : List ℕ) (figures : List Float) (ds ps : ℕ) →
+    fittedNumber f n b spaced g rows kinds figures ds ps ≡ 0 →
+    (discounts : List ℕ) (r : ℕ) (prices payoffs : List ℕ) → r ≤ n → Unaltered f n b g kinds figures discounts r prices →
     valueByStatePricesAnswer prices payoffs .number ≡ 0 →
     (valuationErrorBoundAnswer n b discounts r payoffs .number ≡ 0)
     × ShortOf (valuationErrorBoundAnswer n b discounts r payoffs .value) (unit ^ r) (valueByStatePricesAnswer prices payoffs .value)
     (exactPayoff b discounts r payoffs)
-payoffs-kept f n b s rows kinds figures ds ps z discounts r prices payoffs h kept zv =
-    let g = bound-accepted f n b s rows kinds figures ds ps z discounts r prices payoffs h kept zv in
-    (g, payoffs-within f n b s rows kinds figures ds ps z discounts r prices payoffs h kept zv g)
+payoffs-kept f n b spaced g rows kinds figures ds ps z discounts r prices payoffs h kept zv =
+    let given = bound-accepted f n b spaced g rows kinds figures ds ps z discounts r prices payoffs h kept zv in
+    (given, payoffs-within f n b spaced g rows kinds figures ds ps z discounts r prices payoffs h kept zv given)

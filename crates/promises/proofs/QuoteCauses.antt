@@ -2,8 +2,9 @@
 -- Assumes nothing.
 use mathlib.Core.Path.{_≡_, refl, sym, _∙_, ap, ap₂}
 use mathlib.Core.Bool.{Bool, true, false, not, cond, _&&_, _||_, and-true, and-assoc}
-use mathlib.Core.List.{List, [], _∷_}
+use mathlib.Core.List.{List, [], _∷_, _++_}
 use Prim.Native.Nat.{ℕ, suc, _-_, _*_}
+use borrow.Author.Tests.{le-leb}
 use lib.Dec.{eqb, leb, ltb}
 use lib.Ieee.{Float}
 use lib.IntN.{ℤ}
@@ -12,9 +13,10 @@ use Rattle.arithmetic.specs.Answers.{refused, answered, lowestCause}
 use Rattle.arithmetic.specs.Rounding.{one}
 use Rattle.arithmetic.specs.Row.{each}
 use Rattle.arithmetic.specs.Frequency.{listed}
+use Rattle.arithmetic.proofs.Numbers.{by-order}
 use Rattle.arithmetic.proofs.BetweenLaws.{and-right}
 use Rattle.arithmetic.proofs.RowLaws.{length-row}
-use Rattle.limits.specs.Limits.{isSteps, isReversion, isDiscount, mostSteps, shapeCause}
+use Rattle.limits.specs.Limits.{isSteps, isReversion, isDiscount, mostSteps, mostReversion, shapeCause}
 use Rattle.lattice.specs.Shape.{halfWidth, rowStart, discountsNeeded, statePricesNeeded}
 use Rattle.lattice.specs.Entries.{discountsNeededAnswer, statePricesNeededAnswer, aboutTree, memoryCause}
 use Rattle.lattice.specs.RateTree.{rateTree}
@@ -22,13 +24,17 @@ use Rattle.figure.specs.Figure.{beyond, billionthsOf}
 use Rattle.quotes.specs.declared.Point.{Point}
 use Rattle.quotes.specs.Quotes.{rowKnown, inRange, factorDiscount, rateDiscount, yieldDiscount, rangedAnswer, figureAnswer, quoteAnswer, kindAnswer, loneAnswer}
 use Rattle.curve.specs.Curve.{placeAt, inPlace, discountAt, curveNumber}
-use Rattle.spacing.specs.Spacing.{spacing, spacingAnswer}
+use Rattle.reversion.specs.Reversion.{isVersion, workingReversion, byVersion}
+use Rattle.reversion.proofs.ReversionLaws.{working-first, working-limit, working-beyond}
+use Rattle.spacing.specs.Spacing.{spacing, spacingAnswer, versionSpacing, versionSpacingAnswer}
+use Rattle.spacing.proofs.VersionLaws.{version-first}
 use Rattle.fit_laws.specs.StatePrices.{acceptedRow}
 use Rattle.fitting.specs.Fit.{curveAccepted}
-use Rattle.fitting.specs.Entry.{quotesOf, earlyCause, lateCause, fitNumber, fitDiscount}
+use Rattle.fitting.specs.Entry.{quotesOf, earlyCause, lateCause, fittedNumber, fitNumber, fitDiscount, versionNumber}
+use Rattle.fitting.proofs.VersionLaws.{first-number}
 use Rattle.price_laws.specs.Prices.{firstCause}
 use Rattle.promises.specs.Causes.{Cause, cause, firstOf, treeCauses, isKind, kindDiscount, quoteInRange, quotesPlaced, quotesConverted, everyNode}
-use Rattle.promises.proofs.CauseTables.{seven, first-append, number-of}
+use Rattle.promises.proofs.CauseTables.{not-leb, seven, first-append, number-of}
 
 -- ---- a lone quote
 
@@ -121,94 +127,149 @@ spacing-causes f s = by-tests (not (listed f)) (ltb 50000 s)
     by-tests false true = refl
     by-tests false false = refl
 
--- ---- the fit
+pub version-spacing-causes : (v f s b : ℕ) →
+    versionSpacingAnswer v f s b .number
+    ≡ firstOf (cause 2 (not (listed f)) ∷ cause 4 (not (isReversion b)) ∷ cause 5 (ltb 50000 s) ∷ cause 7 (not (isVersion v)) ∷ [])
+unfolding versionSpacingAnswer firstOf
+version-spacing-causes v f s b =
+    rw (not-leb b mostReversion) (by-tests (not (listed f)) (ltb mostReversion b) (ltb 50000 s) (not (isVersion v)))
+  where
+    by-tests : (t r u k : Bool) →
+        cond t (refused 2) (cond r (refused 4) (cond u (refused 5) (cond k (refused 7) (answered (versionSpacing v f s b))))) .number
+        ≡ cond t 2 (cond r 4 (cond u 5 (cond k 7 0)))
+    by-tests true r u k = refl
+    by-tests false true u k = refl
+    by-tests false false true k = refl
+    by-tests false false false true = refl
+    by-tests false false false false = refl
 
--- causes 2 to 7 as the definition combines them: frequency, steps, reversion, volatility, places, memories, quotes
-combined : Bool → Bool → Bool → Bool → Bool → Bool → Bool → ℕ
-combined l s r v p m q =
+-- the entries of a version and a reversion
+pub by-version-causes : (v b result : ℕ) →
+    byVersion v b result .number ≡ firstOf (cause 4 (not (isReversion b)) ∷ cause 7 (not (isVersion v)) ∷ [])
+unfolding byVersion firstOf
+by-version-causes v b result = rw (not-leb b mostReversion) (by-tests (ltb mostReversion b) (not (isVersion v)))
+  where
+    by-tests : (r k : Bool) → cond r (refused 4) (cond k (refused 7) (answered result)) .number ≡ cond r 4 (cond k 7 0)
+    by-tests true k = refl
+    by-tests false true = refl
+    by-tests false false = refl
+
+-- ---- the fit, by version
+
+-- causes 2 to 7 as the definition combines them: version, frequency, steps, reversion, volatility, places, memories, quotes
+combined : Bool → Bool → Bool → Bool → Bool → Bool → Bool → Bool → ℕ
+combined t l s r v p m q =
     lowestCause (lowestCause (cond (not l) 2 (cond (not s) 3 (cond (not p) 6 (cond (not q) 7 0)))) (cond s (cond r 0 4) 3))
-    (lowestCause (cond (not l) 2 (cond v 5 0)) (cond m 0 6))
+    (lowestCause (cond (not l) 2 (cond (not r) 4 (cond v 5 (cond (not t) 7 0)))) (cond m 0 6))
 
 -- and as the table has them
-tabled : Bool → Bool → Bool → Bool → Bool → Bool → Bool → ℕ
-tabled l s r v p m q =
-    cond (not l) 2 (cond (not s) 3 (cond (not r) 4 (cond v 5 (cond (not (p && m)) 6 (cond (not q) 7 0)))))
+tabled : Bool → Bool → Bool → Bool → Bool → Bool → Bool → Bool → ℕ
+tabled t l s r v p m q =
+    cond (not l) 2 (cond (not s) 3 (cond (not r) 4 (cond v 5 (cond (not (p && m)) 6 (cond (not t) 7 (cond (not q) 7 0))))))
 
-early-alike : (l s r v p m q : Bool) → combined l s r v p m q ≡ tabled l s r v p m q
+early-alike : (t l s r v p m q : Bool) → combined t l s r v p m q ≡ tabled t l s r v p m q
 unfolding combined tabled lowestCause
-early-alike = seven combined tabled refl
+early-alike true = seven (combined true) (tabled true) refl
+early-alike false = seven (combined false) (tabled false) refl
 
-module _ (f n b s : ℕ) (rows kinds : List ℕ) (figures : List Float) (discounts prices : ℕ) where
+-- cause 4 is about b, and says the same of its working reversion
+reversion-alike : (v b : ℕ) → isReversion (workingReversion v b) ≡ isReversion b
+reversion-alike v b =
+    by-order b mostReversion
+    (λ h. le-leb (workingReversion v b) mostReversion (working-limit v b h) ∙ sym (le-leb b mostReversion h))
+    (λ h. ap isReversion (working-beyond v b h))
+
+module _ (v f n b s : ℕ) (rows kinds : List ℕ) (figures : List Float) (discounts prices : ℕ) where
+  abbrev w : ℕ
+  w = workingReversion v b
+
   -- the memories as the definition judges them: by the answers about the tree's sizes
   sized : Bool
-  sized = leb (discountsNeededAnswer n b .value) discounts && leb (statePricesNeededAnswer n b .value) prices
+  sized = leb (discountsNeededAnswer n w .value) discounts && leb (statePricesNeededAnswer n w .value) prices
+
+  abbrev early : ℕ
+  early = earlyCause (curveNumber f n rows kinds figures mostSteps) n w (versionSpacingAnswer v f s b .number) discounts prices
 
   early-combined :
-      earlyCause (curveNumber f n rows kinds figures mostSteps) f n b s discounts prices
-      ≡ combined (listed f) (isSteps n) (isReversion b) (ltb 50000 s) (inPlace n rows kinds figures mostSteps) sized (quotesConverted f n kinds figures)
+      early
+      ≡ combined (isVersion v) (listed f) (isSteps n) (isReversion b) (ltb 50000 s) (inPlace n rows kinds figures mostSteps) sized
+      (quotesConverted f n kinds figures)
   unfolding earlyCause curveNumber memoryCause combined aboutTree shapeCause sized firstOf
-  early-combined = rw (number-of (shapeCause n b) (discountsNeeded n b), spacing-causes f s) refl
+  early-combined = rw (number-of (shapeCause n w) (discountsNeeded n w), version-spacing-causes v f s b, reversion-alike v b) refl
 
   -- judged by the tree itself
   roomy : Bool
-  roomy = leb (rowStart b n) discounts && leb (rowStart b (suc n)) prices
+  roomy = leb (rowStart w n) discounts && leb (rowStart w (suc n)) prices
 
-  sized-alike : isSteps n ≡ true → isReversion b ≡ true → sized ≡ roomy
+  sized-alike : isSteps n ≡ true → isReversion w ≡ true → sized ≡ roomy
   unfolding aboutTree shapeCause sized roomy discountsNeeded statePricesNeeded
   sized-alike es er = rw (es, er) refl
 
   lengths-alike : isSteps n ≡ true → isReversion b ≡ true →
       inPlace n rows kinds figures mostSteps && sized
-      ≡ quotesPlaced n rows kinds figures && leb (rowStart b n) discounts && leb (rowStart b (suc n)) prices
+      ≡ quotesPlaced n rows kinds figures && leb (rowStart w n) discounts && leb (rowStart w (suc n)) prices
   unfolding roomy
   lengths-alike es er =
-      ap₂ _&&_ (placed-alike n rows kinds figures mostSteps ∙ in-room) (sized-alike es er)
-      ∙ sym (and-assoc (quotesPlaced n rows kinds figures) (leb (rowStart b n) discounts) (leb (rowStart b (suc n)) prices))
+      ap₂ _&&_ (placed-alike n rows kinds figures mostSteps ∙ in-room) (sized-alike es (reversion-alike v b ∙ er))
+      ∙ sym (and-assoc (quotesPlaced n rows kinds figures) (leb (rowStart w n) discounts) (leb (rowStart w (suc n)) prices))
     where
       in-room : quotesPlaced n rows kinds figures && leb n 60 ≡ quotesPlaced n rows kinds figures
       in-room = rw (and-right (leb 1 n) (leb n 60) es) (and-true (quotesPlaced n rows kinds figures))
 
-  lengths-tried : (l s r v c d q : Bool) → (s ≡ true → r ≡ true → c ≡ d) →
-      _≡_ {A = ℕ} (cond (not l) 2 (cond (not s) 3 (cond (not r) 4 (cond v 5 (cond (not c) 6 (cond (not q) 7 0))))))
-      (cond (not l) 2 (cond (not s) 3 (cond (not r) 4 (cond v 5 (cond (not d) 6 (cond (not q) 7 0))))))
-  lengths-tried false s r v c d q e = refl
-  lengths-tried true false r v c d q e = refl
-  lengths-tried true true false v c d q e = refl
-  lengths-tried true true true true c d q e = refl
-  lengths-tried true true true false c d q e = ap (λ (t : Bool). cond (not t) 6 (cond (not q) 7 0)) (e refl refl)
+  lengths-tried : (l s r v c d t q : Bool) → (s ≡ true → r ≡ true → c ≡ d) →
+      _≡_ {A = ℕ} (cond (not l) 2 (cond (not s) 3 (cond (not r) 4 (cond v 5 (cond (not c) 6 (cond (not t) 7 (cond (not q) 7 0)))))))
+      (cond (not l) 2 (cond (not s) 3 (cond (not r) 4 (cond v 5 (cond (not d) 6 (cond (not t) 7 (cond (not q) 7 0)))))))
+  lengths-tried false s r v c d t q e = refl
+  lengths-tried true false r v c d t q e = refl
+  lengths-tried true true false v c d t q e = refl
+  lengths-tried true true true true c d t q e = refl
+  lengths-tried true true true false c d t q e = ap (λ (x : Bool). cond (not x) 6 (cond (not t) 7 (cond (not q) 7 0))) (e refl refl)
 
-  abbrev early-causes : List Cause
-  early-causes =
+  -- the causes of a tree of working reversion x and spacing h
+  abbrev early-causes : ℕ → List Cause
+  early-causes x =
       cause 2 (not (listed f)) ∷ cause 3 (not (isSteps n)) ∷ cause 4 (not (isReversion b)) ∷ cause 5 (ltb 50000 s)
-      ∷ cause 6 (not (quotesPlaced n rows kinds figures && leb (rowStart b n) discounts && leb (rowStart b (suc n)) prices))
-      ∷ cause 7 (not (quotesConverted f n kinds figures)) ∷ []
+      ∷ cause 6 (not (quotesPlaced n rows kinds figures && leb (rowStart x n) discounts && leb (rowStart x (suc n)) prices))
+      ∷ cause 7 (not (isVersion v)) ∷ cause 7 (not (quotesConverted f n kinds figures)) ∷ []
 
-  early-first : earlyCause (curveNumber f n rows kinds figures mostSteps) f n b s discounts prices ≡ firstOf early-causes
+  early-first : early ≡ firstOf (early-causes w)
   unfolding firstOf tabled
   early-first =
-      early-combined ∙ early-alike (listed f) (isSteps n) (isReversion b) (ltb 50000 s) (inPlace n rows kinds figures mostSteps) sized
+      early-combined ∙ early-alike (isVersion v) (listed f) (isSteps n) (isReversion b) (ltb 50000 s) (inPlace n rows kinds figures mostSteps) sized
       (quotesConverted f n kinds figures)
-      ∙ lengths-tried (listed f) (isSteps n) (isReversion b) (ltb 50000 s) _ _ (quotesConverted f n kinds figures) lengths-alike
+      ∙ lengths-tried (listed f) (isSteps n) (isReversion b) (ltb 50000 s) _ _ (isVersion v) (quotesConverted f n kinds figures) lengths-alike
 
-  abbrev late-causes : List Cause
-  late-causes =
-      cause 8 (ltb one (halfWidth b (n - 1) * spacing f s))
-      ∷ cause 9 (not (everyNode b n (λ i k. isDiscount (fitDiscount f n b s kinds figures i k)))) ∷ []
+  abbrev late-causes : ℕ → ℕ → List Cause
+  late-causes x h =
+      cause 8 (ltb one (halfWidth x (n - 1) * h))
+      ∷ cause 9 (not (everyNode x n (λ i k. isDiscount (fitDiscount f n x h kinds figures i k)))) ∷ []
 
-  late-first : lateCause n b (spacing f s) (quotesOf f n kinds figures) ≡ firstOf late-causes
+  late-first : (x h : ℕ) → lateCause n x h (quotesOf f n kinds figures) ≡ firstOf (late-causes x h)
   unfolding lateCause firstOf curveAccepted acceptedRow rateTree
-  late-first =
+  late-first x h =
       rw (length-row n (discountAt f kinds figures))
-      (by-tests (ltb one (halfWidth b (n - 1) * spacing f s)) (everyNode b n (λ i k. isDiscount (fitDiscount f n b s kinds figures i k))))
+      (by-tests (ltb one (halfWidth x (n - 1) * h)) (everyNode x n (λ i k. isDiscount (fitDiscount f n x h kinds figures i k))))
     where
       by-tests : (t u : Bool) → _≡_ {A = ℕ} (cond t 8 (cond u 0 9)) (cond t 8 (cond (not u) 9 0))
       by-tests true u = refl
       by-tests false true = refl
       by-tests false false = refl
 
-  pub fit-causes : fitNumber f n b s rows kinds figures discounts prices
-      ≡ firstOf (cause 2 (not (listed f)) ∷ treeCauses n b (cause 5 (ltb 50000 s)
-      ∷ cause 6 (not (quotesPlaced n rows kinds figures && leb (rowStart b n) discounts && leb (rowStart b (suc n)) prices))
-      ∷ cause 7 (not (quotesConverted f n kinds figures)) ∷ late-causes))
-  unfolding fitNumber firstCause
-  fit-causes = rw (early-first, late-first) (first-append early-causes late-causes refl)
+  pub version-causes : versionNumber v f n b s rows kinds figures discounts prices
+      ≡ firstOf (early-causes w ++ late-causes w (versionSpacing v f s b))
+  unfolding fittedNumber firstCause
+  version-causes =
+      rw (early-first, late-first w (versionSpacing v f s b)) (first-append (early-causes w) (late-causes w (versionSpacing v f s b)) refl)
+
+-- version 1's are the fit's
+pub fit-causes : (f n b s : ℕ) (rows kinds : List ℕ) (figures : List Float) (discounts prices : ℕ) →
+    fitNumber f n b s rows kinds figures discounts prices
+    ≡ firstOf (cause 2 (not (listed f)) ∷ treeCauses n b (cause 5 (ltb 50000 s)
+    ∷ cause 6 (not (quotesPlaced n rows kinds figures && leb (rowStart b n) discounts && leb (rowStart b (suc n)) prices))
+    ∷ cause 7 (not (quotesConverted f n kinds figures)) ∷ late-causes 1 f n b s rows kinds figures discounts prices b (spacing f s)))
+unfolding firstOf isVersion
+fit-causes f n b s rows kinds figures discounts prices =
+    sym (first-number f n b s rows kinds figures discounts prices)
+    ∙ version-causes 1 f n b s rows kinds figures discounts prices
+    ∙ ap₂ (λ (x h : ℕ). firstOf (early-causes 1 f n b s rows kinds figures discounts prices x
+    ++ late-causes 1 f n b s rows kinds figures discounts prices x h)) (working-first b) (version-first f s b)

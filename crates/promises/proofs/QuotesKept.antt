@@ -156,6 +156,6 @@ quotes-kept =
       discount-factors = discount-factors;
       yearly-rates = yearly-rates;
       curves-quoted = curve-quoted;
-      fits-quoted = λ f n b s rows kinds figures ds ps h.
-          curve-quoted f n rows kinds figures mostSteps (fit-numbers f n b s rows kinds figures ds ps h .quotes-converted);
+      fits-quoted = λ f n w spaced h rows kinds figures ds ps z.
+          curve-quoted f n rows kinds figures mostSteps (fit-numbers f n w spaced h rows kinds figures ds ps z .quotes-converted);
     }

@@ -11,12 +11,11 @@ use Rattle.tree.specs.Tree.{Tree, unit}
 use Rattle.lattice.specs.Shape.{nodeCount}
 use Rattle.lattice.specs.RateTree.{rateTree}
 use Rattle.lent_tree.specs.LentTree.{stored}
-use Rattle.spacing.specs.Spacing.{spacing}
 use Rattle.fit_laws.specs.StatePrices.{statePrice, exactStatePrice}
 use Rattle.fit_laws.proofs.StepLaws.{next-cong}
 use Rattle.fit_laws.proofs.WholeFit.{fitted-is-state}
 use Rattle.fitting.specs.Fit.{nodeFactor, quoted}
-use Rattle.fitting.specs.Entry.{quotesOf, fitNumber, fitDiscount, fitPrice, fitDiscounts}
+use Rattle.fitting.specs.Entry.{quotesOf, fittedNumber, fitDiscount, fitPrice, fitDiscounts}
 use Rattle.fitting.proofs.FittedTree.{fit-discount-stored, fit-discounts-lent}
 use Rattle.state_price_bound.specs.ErrorBound.{boundCause, statePriceErrorBoundAnswer}
 use Rattle.state_price_bound.proofs.Meaning.{answer-number, bound-covers}
@@ -33,29 +32,29 @@ state-by t v w n same (suc i) h k =
 
 -- the fit's state prices follow from any memory that holds its discounts
 pub fitted-prices :
-    (f n b s : ℕ) (kinds : List ℕ) (figures : List Float) (v : ℕ → ℕ → ℕ) →
-    ((i k : ℕ) → i < n → k < nodeCount b i → v i k ≡ fitDiscount f n b s kinds figures i k) → (r : ℕ) → r ≤ n → (k : ℕ) →
-    fitPrice f n b s kinds figures r k ≡ statePrice (rateTree b) v r k
+    (f n b g : ℕ) (kinds : List ℕ) (figures : List Float) (v : ℕ → ℕ → ℕ) →
+    ((i k : ℕ) → i < n → k < nodeCount b i → v i k ≡ fitDiscount f n b g kinds figures i k) → (r : ℕ) → r ≤ n → (k : ℕ) →
+    fitPrice f n b g kinds figures r k ≡ statePrice (rateTree b) v r k
 unfolding rateTree
-fitted-prices f n b s kinds figures v same r h k =
-    ap (λ (q : ℕ → ℕ). q k) (fitted-is-state (rateTree b) (nodeFactor b (spacing f s)) (quoted (quotesOf f n kinds figures)) r)
-    ∙ sym (state-by (rateTree b) v (fitDiscount f n b s kinds figures) n same r h k)
+fitted-prices f n b g kinds figures v same r h k =
+    ap (λ (q : ℕ → ℕ). q k) (fitted-is-state (rateTree b) (nodeFactor b g) (quoted (quotesOf f n kinds figures)) r)
+    ∙ sym (state-by (rateTree b) v (fitDiscount f n b g kinds figures) n same r h k)
 
-module _ (f n b s : ℕ) (rows kinds : List ℕ) (figures : List Float) (ds ps : ℕ) (z : fitNumber f n b s rows kinds figures ds ps ≡ 0)
+module _ (f n b spaced g : ℕ) (rows kinds : List ℕ) (figures : List Float) (ds ps : ℕ) (z : fittedNumber f n b spaced g rows kinds figures ds ps ≡ 0)
     (i : ℕ) (h : i ≤ n) where
   abbrev held : List ℕ
-  held = fitDiscounts f n b s kinds figures
+  held = fitDiscounts f n b g kinds figures
 
-  price-is : (k : ℕ) → fitPrice f n b s kinds figures i k ≡ statePrice (rateTree b) (stored b held) i k
-  price-is = fitted-prices f n b s kinds figures (stored b held) (fit-discount-stored f n b s kinds figures) i h
+  price-is : (k : ℕ) → fitPrice f n b g kinds figures i k ≡ statePrice (rateTree b) (stored b held) i k
+  price-is = fitted-prices f n b g kinds figures (stored b held) (fit-discount-stored f n b g kinds figures) i h
 
   given : statePriceErrorBoundAnswer n b held i .number ≡ 0
   unfolding boundCause lowestCause
-  given = answer-number n b held i ∙ rw (fit-discounts-lent f n b s kinds figures rows ds ps z, ← row-there n i h)
+  given = answer-number n b held i ∙ rw (fit-discounts-lent f n b g kinds figures spaced rows ds ps z, ← row-there n i h)
 
   pub state-prices-kept :
       (statePriceErrorBoundAnswer n b held i .number ≡ 0)
-      × StatePriced b i (fitPrice f n b s kinds figures i) (exactStatePrice (rateTree b) (stored b held) i) (statePriceErrorBoundAnswer n b held i .value)
+      × StatePriced b i (fitPrice f n b g kinds figures i) (exactStatePrice (rateTree b) (stored b held) i) (statePriceErrorBoundAnswer n b held i .value)
   state-prices-kept =
       let c = bound-covers n b held i given in (
         given,
@@ -65,7 +64,7 @@ module _ (f n b s : ℕ) (rows kinds : List ℕ) (figures : List Float) (ds ps :
               omega (
                 arith,
                 sum-cong (nodeCount b i)
-                    (λ k. exactStatePrice (rateTree b) (stored b held) i k - unit ^ i * fitPrice f n b s kinds figures i k)
+                    (λ k. exactStatePrice (rateTree b) (stored b held) i k - unit ^ i * fitPrice f n b g kinds figures i k)
                     (λ k. exactStatePrice (rateTree b) (stored b held) i k - unit ^ i * statePrice (rateTree b) (stored b held) i k)
                     (λ k l. ap (λ (x : ℕ). exactStatePrice (rateTree b) (stored b held) i k - unit ^ i * x) (price-is k)),
                 c .short,

@@ -24,14 +24,14 @@ use Rattle.lattice.proofs.Nodes.{node-laws}
 use Rattle.lattice.proofs.RateTreeLaws.{rate-tree-sound}
 use Rattle.lattice.proofs.TreeBranches.{tree-nodes}
 use Rattle.spacing.specs.Spacing.{spacing, spacingAnswer}
-use Rattle.spacing.proofs.SpacingLaws.{spacing-passes, root-greatest, cube-positive}
+use Rattle.spacing.proofs.SpacingLaws.{spacing-passes, spacing-zero, root-greatest, cube-positive}
 use Rattle.factor.specs.Series.{scale}
 use Rattle.factor.specs.Factor.{factor, exactFactor, nodeAnswer}
 use Rattle.factor.proofs.FactorLaws.{factor-within}
 use Rattle.step_rate.specs.StepRate.{rateAnswer}
 use Rattle.step_rate.specs.declared.Rate.{Rate}
 use Rattle.step_rate.proofs.RateLaws.{answer-zero, answer-high, answer-sign}
-use Rattle.fitting.proofs.Promised.{fit-repriced}
+use Rattle.fitting.proofs.Promised.{fit-numbers, fit-repriced}
 use Rattle.promises.specs.Promises.{Branched, Spaced, TreePromises}
 use Rattle.promises.proofs.BranchesKept.{widths, tiled, led-as, branch-sums}
 use Rattle.promises.proofs.FitRowsKept.{factors-kept, fit-rows, fit-laid, sums-weighable, state-price-rows, bound-is, lent-near}
@@ -117,14 +117,16 @@ tree-kept =
       tree-sound = rate-tree-sound;
       branch-sums = branch-sums;
       spacing-greatest = spaced;
+      spacing-is = λ f s z. spacing-zero f s z .value;
       factors-near = factor-near;
       factors-by-sign = factors-kept;
       sign-of-rates = sign;
+      fit-spaced = λ f n w spaced h rows kinds figures ds ps z. fit-numbers f n w spaced h rows kinds figures ds ps z .spacing-found;
       fit-rows = fit-rows;
       fit-laid = fit-laid;
       quotes-repriced =
-          λ f n b s rows kinds figures ds ps z i h.
-          let r = fit-repriced f n b s rows kinds figures ds ps z i h in record { below = r .0; above = r .1 };
+          λ f n w spaced h rows kinds figures ds ps z i l.
+          let r = fit-repriced f n w spaced h rows kinds figures ds ps z i l in record { below = r .0; above = r .1 };
       sums-weighable = sums-weighable;
       state-price-rows = state-price-rows;
       state-price-bound-is = bound-is;

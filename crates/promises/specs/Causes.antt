@@ -1,4 +1,4 @@
--- Which entry gives which number (document 01, When the engine declines; document 02, requests (i) to (iii)): the causes of each entry in the order in
+-- Which entry gives which number (document 01, When the engine declines; document 02, requests (i) to (iii) and (ix)): the causes of each entry in the order in
 -- which they are tried, the lowest number first, but for 13, which is tried before 12.
 -- Assumes nothing.
 use mathlib.Core.Path.{_≡_}
@@ -20,12 +20,13 @@ use Rattle.figure.specs.Figure.{beyond, billionthsOf, figureOf}
 use Rattle.quotes.specs.declared.Point.{Point}
 use Rattle.quotes.specs.Quotes.{factorDiscount, rateDiscount, yieldDiscount, loneAnswer}
 use Rattle.curve.specs.Curve.{placeAt, answerAt, curveNumber}
-use Rattle.spacing.specs.Spacing.{spacing, spacingAnswer}
+use Rattle.reversion.specs.Reversion.{isVersion, workingReversion, workingAnswer, ratioAnswer}
+use Rattle.spacing.specs.Spacing.{spacing, spacingAnswer, versionSpacing, versionSpacingAnswer}
 use Rattle.factor.specs.Factor.{nodeAnswer}
 use Rattle.step_rate.specs.StepRate.{rateAnswer}
 use Rattle.continuous.specs.Continuous.{continuousAnswer}
 use Rattle.continuous_rate.specs.ContinuousRate.{continuousRateAnswer}
-use Rattle.fitting.specs.Entry.{fitNumber, fitDiscount}
+use Rattle.fitting.specs.Entry.{fitNumber, fitDiscount, versionNumber}
 use Rattle.state_price_bound.specs.ErrorBound.{statePriceErrorBoundAnswer}
 use Rattle.price_bound.specs.PriceBound.{priceErrorBoundAnswer, treeBoundsAnswer}
 use Rattle.pricing_laws.specs.Schedule.{sideOf, scheduleOf, numberedSide, datedSchedule}
@@ -153,7 +154,22 @@ pub record CausePromises : Type 0 where
       ≡ firstOf (cause 2 (not (listed f)) ∷ treeCauses n b (cause 5 (ltb 50000 s)
       ∷ cause 6 (not (quotesPlaced n rows kinds figures && leb (rowStart b n) discounts && leb (rowStart b (suc n)) prices))
       ∷ cause 7 (not (quotesConverted f n kinds figures)) ∷ cause 8 (ltb one (halfWidth b (n - 1) * spacing f s))
-      ∷ cause 9 (not (everyNode b n (λ i k. isDiscount (fitDiscount f n b s kinds figures i k)))) ∷ []))
+      ∷ cause 9 (not (everyNode b n (λ i k. isDiscount (fitDiscount f n b (spacing f s) kinds figures i k)))) ∷ []))
+  -- by version (document 02, request (ix)): 4 is about b, rows and memories go by the working reversion, 7 is a version other than 1 and 2 or a quote
+  pub working-reversion : (v b : ℕ) → workingAnswer v b .number ≡ firstOf (cause 4 (not (isReversion b)) ∷ cause 7 (not (isVersion v)) ∷ [])
+  pub variance-ratio : (v b : ℕ) → ratioAnswer v b .number ≡ firstOf (cause 4 (not (isReversion b)) ∷ cause 7 (not (isVersion v)) ∷ [])
+  pub version-spacing : (v f s b : ℕ) →
+      versionSpacingAnswer v f s b .number
+      ≡ firstOf (cause 2 (not (listed f)) ∷ cause 4 (not (isReversion b)) ∷ cause 5 (ltb 50000 s) ∷ cause 7 (not (isVersion v)) ∷ [])
+  pub version-fit : (v f n b s : ℕ) (rows kinds : List ℕ) (figures : List Float) (discounts prices : ℕ) →
+      versionNumber v f n b s rows kinds figures discounts prices
+      ≡ firstOf (cause 2 (not (listed f)) ∷ treeCauses n b (cause 5 (ltb 50000 s)
+      ∷ cause 6 (not (quotesPlaced n rows kinds figures && leb (rowStart (workingReversion v b) n) discounts
+      && leb (rowStart (workingReversion v b) (suc n)) prices))
+      ∷ cause 7 (not (isVersion v)) ∷ cause 7 (not (quotesConverted f n kinds figures))
+      ∷ cause 8 (ltb one (halfWidth (workingReversion v b) (n - 1) * versionSpacing v f s b))
+      ∷ cause 9 (not (everyNode (workingReversion v b) n
+      (λ i k. isDiscount (fitDiscount f n (workingReversion v b) (versionSpacing v f s b) kinds figures i k)))) ∷ []))
   -- error bounds of lent discounts
   pub price-bound : (n b : ℕ) (discounts : List ℕ) →
       priceErrorBoundAnswer n b discounts .number ≡ firstOf (lentCauses n b discounts true [])

@@ -1,3 +1,4 @@
 pub mod Causes
 pub mod Quoted
+pub mod Versions
 pub mod Promises

@@ -23,7 +23,7 @@ use Rattle.lattice.specs.RateTree.{rateTree}
 use Rattle.lattice.specs.declared.Branches.{Branches}
 use Rattle.lattice.specs.Entries.{branchAnswer}
 use Rattle.lent_tree.specs.LentTree.{stored}
-use Rattle.spacing.specs.Spacing.{spacingAnswer}
+use Rattle.spacing.specs.Spacing.{spacing, spacingAnswer}
 use Rattle.factor.specs.Series.{scale}
 use Rattle.factor.specs.Factor.{exactFactor, nodeAnswer}
 use Rattle.step_rate.specs.StepRate.{rateAnswer}
@@ -33,7 +33,7 @@ use Rattle.figure.specs.Figure.{billionthsOf}
 use Rattle.quotes.specs.declared.Point.{Point}
 use Rattle.quotes.specs.Quotes.{yieldAmount, loneAnswer}
 use Rattle.curve.specs.Curve.{discountAt}
-use Rattle.fitting.specs.Entry.{fitNumber, fitDiscount, fitPrice, fitMemory, fitDiscounts, fitPrices, discountsAfter, pricesAfter}
+use Rattle.fitting.specs.Entry.{fittedNumber, fitDiscount, fitPrice, fitMemory, fitDiscounts, fitPrices}
 use Rattle.fit_laws.specs.StatePrices.{statePrice, exactStatePrice, statePriceErrorBound}
 use Rattle.state_price_bound.specs.ErrorBound.{statePriceErrorBoundAnswer}
 use Rattle.pricing_laws.specs.Pricer.{Side, call, put, Schedule, bond, bareBond, exercise, option, payoffValue}
@@ -45,6 +45,7 @@ use Rattle.price_laws.specs.Prices.{flowAt, bondPrice, optionPrice, datedPrice}
 use Rattle.price_laws.specs.Exact.{exactBond, exactOption, exactDated, exactPayoff}
 use Rattle.valuation.specs.Entries.{valueByStatePricesAnswer, valuationErrorBoundAnswer}
 use Rattle.promises.specs.Quoted.{QuotePromises}
+use Rattle.promises.specs.Versions.{VersionPromises}
 use Rattle.promises.specs.Causes.{CausePromises}
 
 -- ---- branching, spacing, factors, rates and fit
@@ -164,27 +165,34 @@ pub record TreePromises : Type 0 where
   pub tree-sound : (b : ℕ) → b ≤ 6000 → Sound (rateTree b)
   pub branch-sums : (t : Transition) → BranchSums t
   pub spacing-greatest : (f s : ℕ) → spacingAnswer f s .number ≡ 0 → Spaced f s (spacingAnswer f s .value)
+  pub spacing-is : (f s : ℕ) → spacingAnswer f s .number ≡ 0 → spacingAnswer f s .value ≡ spacing f s
   -- U(j) is within 14 of the same series in exact fractions, held times 12! × one^11
   pub factors-near : (j : ℤ) (h : ℕ) → nodeAnswer j h .number ≡ 0 → Within 14 scale (nodeAnswer j h .value) (exactFactor j h)
   pub factors-by-sign : (j : ℤ) (h : ℕ) → nodeAnswer j h .number ≡ 0 → Factored j h (nodeAnswer j h .value)
   -- a step rate is negative exactly where the discount is above one, positive exactly where it is below
   pub sign-of-rates : (v : ℕ) → rateAnswer v .number ≡ 0 →
       (ltZ (rateAnswer v .value) (pos 0) ≡ ltb one v) × (ltZ (pos 0) (rateAnswer v .value) ≡ ltb v one)
+  -- Of any working reversion w and spacing h, and the spacing's number: the fit has b, document 01's h and its number, the fit by version its own. That
+  -- number is 0 in an accepted fit, so its h is the one answered.
+  pub fit-spaced : (f n w spaced h : ℕ) (rows kinds : List ℕ) (figures : List Float) (room-discounts room-prices : ℕ) →
+      fittedNumber f n w spaced h rows kinds figures room-discounts room-prices ≡ 0 → spaced ≡ 0
   -- an accepted fit is these rows, and leaves them in its two memories: discounts of rows 0 to n − 1, state prices of rows 0 to n
-  pub fit-rows : (f n b s : ℕ) (rows kinds : List ℕ) (figures : List Float) (room-discounts room-prices : ℕ) →
-      fitNumber f n b s rows kinds figures room-discounts room-prices ≡ 0 →
-      FitRows b n (spacingAnswer f s .value) (discountAt f kinds figures) (fitDiscount f n b s kinds figures) (fitPrice f n b s kinds figures)
-  pub fit-laid : (f n b s : ℕ) (rows kinds : List ℕ) (figures : List Float) (d q : List ℕ) →
-      fitNumber f n b s rows kinds figures (length d) (length q) ≡ 0 →
-      LaidOut b n (fitDiscount f n b s kinds figures) d (discountsAfter f n b s rows kinds figures d q)
-      × LaidOut b (suc n) (fitPrice f n b s kinds figures) q (pricesAfter f n b s rows kinds figures d q)
-  pub quotes-repriced : (f n b s : ℕ) (rows kinds : List ℕ) (figures : List Float) (room-discounts room-prices : ℕ) →
-      fitNumber f n b s rows kinds figures room-discounts room-prices ≡ 0 → (i : ℕ) → i < n →
-      Repriced (discountAt f kinds figures i) (sum (nodeCount b (suc i)) (fitPrice f n b s kinds figures (suc i)))
+  pub fit-rows : (f n w spaced h : ℕ) (rows kinds : List ℕ) (figures : List Float) (room-discounts room-prices : ℕ) →
+      fittedNumber f n w spaced h rows kinds figures room-discounts room-prices ≡ 0 →
+      FitRows w n h (discountAt f kinds figures) (fitDiscount f n w h kinds figures) (fitPrice f n w h kinds figures)
+  pub fit-laid : (f n w spaced h : ℕ) (rows kinds : List ℕ) (figures : List Float) (d q : List ℕ) →
+      fittedNumber f n w spaced h rows kinds figures (length d) (length q) ≡ 0 →
+      LaidOut w n (fitDiscount f n w h kinds figures) d
+      (fitMemory (fittedNumber f n w spaced h rows kinds figures (length d) (length q)) (fitDiscounts f n w h kinds figures) d)
+      × LaidOut w (suc n) (fitPrice f n w h kinds figures) q
+      (fitMemory (fittedNumber f n w spaced h rows kinds figures (length d) (length q)) (fitPrices f n w h kinds figures) q)
+  pub quotes-repriced : (f n w spaced h : ℕ) (rows kinds : List ℕ) (figures : List Float) (room-discounts room-prices : ℕ) →
+      fittedNumber f n w spaced h rows kinds figures room-discounts room-prices ≡ 0 → (i : ℕ) → i < n →
+      Repriced (discountAt f kinds figures i) (sum (nodeCount w (suc i)) (fitPrice f n w h kinds figures (suc i)))
   -- no row's state prices sum above what weighing takes
-  pub sums-weighable : (f n b s : ℕ) (rows kinds : List ℕ) (figures : List Float) (room-discounts room-prices : ℕ) →
-      fitNumber f n b s rows kinds figures room-discounts room-prices ≡ 0 → (i : ℕ) → i ≤ n →
-      sum (nodeCount b i) (fitPrice f n b s kinds figures i) ≤ 2000000100
+  pub sums-weighable : (f n w spaced h : ℕ) (rows kinds : List ℕ) (figures : List Float) (room-discounts room-prices : ℕ) →
+      fittedNumber f n w spaced h rows kinds figures room-discounts room-prices ≡ 0 → (i : ℕ) → i ≤ n →
+      sum (nodeCount w i) (fitPrice f n w h kinds figures i) ≤ 2000000100
   -- state prices, exact and rounded, and their allowance row by row, on any tree; the entry's answer is this allowance
   pub state-price-rows : (t : Tree) (discount : ℕ → ℕ → ℕ) → StatePriceRows t discount
   pub state-price-bound-is : (n b : ℕ) (discounts : List ℕ) (i : ℕ) → statePriceErrorBoundAnswer n b discounts i .number ≡ 0 →
@@ -194,11 +202,11 @@ pub record TreePromises : Type 0 where
       StatePriced b i (statePrice (rateTree b) (stored b discounts) i) (exactStatePrice (rateTree b) (stored b discounts) i)
       (statePriceErrorBoundAnswer n b discounts i .value)
   -- against the exact state prices of the same fit's node discounts, with the allowance that the entry gives for these
-  pub state-prices-near : (f n b s : ℕ) (rows kinds : List ℕ) (figures : List Float) (room-discounts room-prices : ℕ) →
-      fitNumber f n b s rows kinds figures room-discounts room-prices ≡ 0 → (i : ℕ) → i ≤ n →
-      (statePriceErrorBoundAnswer n b (fitDiscounts f n b s kinds figures) i .number ≡ 0)
-      × StatePriced b i (fitPrice f n b s kinds figures i) (exactStatePrice (rateTree b) (stored b (fitDiscounts f n b s kinds figures)) i)
-      (statePriceErrorBoundAnswer n b (fitDiscounts f n b s kinds figures) i .value)
+  pub state-prices-near : (f n w spaced h : ℕ) (rows kinds : List ℕ) (figures : List Float) (room-discounts room-prices : ℕ) →
+      fittedNumber f n w spaced h rows kinds figures room-discounts room-prices ≡ 0 → (i : ℕ) → i ≤ n →
+      (statePriceErrorBoundAnswer n w (fitDiscounts f n w h kinds figures) i .number ≡ 0)
+      × StatePriced w i (fitPrice f n w h kinds figures i) (exactStatePrice (rateTree w) (stored w (fitDiscounts f n w h kinds figures)) i)
+      (statePriceErrorBoundAnswer n w (fitDiscounts f n w h kinds figures) i .value)
 
 -- ---- prices
 
@@ -212,11 +220,11 @@ abbrev pub NoneAboveOne : ℕ → ℕ → List ℕ → Type 0
 NoneAboveOne n b discounts = (k : ℕ) → k < discountsNeeded n b → values discounts k ≤ one
 
 -- the discounts of the tree and the state prices of row r are those of the fit, unaltered since
-pub record Unaltered (f n b s : ℕ) (kinds : List ℕ) (figures : List Float) (discounts : List ℕ) (r : ℕ) (prices : List ℕ) : Type 0 where
-  pub discounts-long : rowStart b n ≤ length discounts
-  pub discounts-kept : (i k : ℕ) → i < n → k < nodeCount b i → values discounts (rowStart b i + k) ≡ fitDiscount f n b s kinds figures i k
-  pub row-length : length prices ≡ nodeCount b r
-  pub prices-kept : (k : ℕ) → k < nodeCount b r → values prices k ≡ fitPrice f n b s kinds figures r k
+pub record Unaltered (f n w h : ℕ) (kinds : List ℕ) (figures : List Float) (discounts : List ℕ) (r : ℕ) (prices : List ℕ) : Type 0 where
+  pub discounts-long : rowStart w n ≤ length discounts
+  pub discounts-kept : (i k : ℕ) → i < n → k < nodeCount w i → values discounts (rowStart w i + k) ≡ fitDiscount f n w h kinds figures i k
+  pub row-length : length prices ≡ nodeCount w r
+  pub prices-kept : (k : ℕ) → k < nodeCount w r → values prices k ≡ fitPrice f n w h kinds figures r k
 
 -- flows stand for rows 1 to n: none on row 0, flow t on row t
 pub record FlowRows (flows : List ℕ) : Type 0 where
@@ -417,17 +425,17 @@ pub record PricePromises : Type 0 where
       datedPrice n b discounts flows side dates strike .bound ≤ 2 * n
   pub weighed : (prices payoffs : List ℕ) (n b : ℕ) (discounts : List ℕ) (r : ℕ) → Weighed prices payoffs n b discounts r
   -- whatever was fitted, payoffs valued by the fitted state prices of any row, against the exact price on the same fit's node discounts
-  pub payoffs-accurate : (f n b s : ℕ) (rows kinds : List ℕ) (figures : List Float) (room-discounts room-prices : ℕ) →
-      fitNumber f n b s rows kinds figures room-discounts room-prices ≡ 0 →
-      (discounts : List ℕ) (r : ℕ) (prices payoffs : List ℕ) → r ≤ n → Unaltered f n b s kinds figures discounts r prices →
+  pub payoffs-accurate : (f n w spaced h : ℕ) (rows kinds : List ℕ) (figures : List Float) (room-discounts room-prices : ℕ) →
+      fittedNumber f n w spaced h rows kinds figures room-discounts room-prices ≡ 0 →
+      (discounts : List ℕ) (r : ℕ) (prices payoffs : List ℕ) → r ≤ n → Unaltered f n w h kinds figures discounts r prices →
       valueByStatePricesAnswer prices payoffs .number ≡ 0 →
-      (valuationErrorBoundAnswer n b discounts r payoffs .number ≡ 0)
-      × ShortOf (valuationErrorBoundAnswer n b discounts r payoffs .value) (unit ^ r) (valueByStatePricesAnswer prices payoffs .value)
-      (exactPayoff b discounts r payoffs)
+      (valuationErrorBoundAnswer n w discounts r payoffs .number ≡ 0)
+      × ShortOf (valuationErrorBoundAnswer n w discounts r payoffs .value) (unit ^ r) (valueByStatePricesAnswer prices payoffs .value)
+      (exactPayoff w discounts r payoffs)
   -- and those are what an accepted fit leaves in the two memories, d and q before it
-  pub fit-stored : (f n b s : ℕ) (kinds : List ℕ) (figures : List Float) (d q : List ℕ) (r : ℕ) → r ≤ n →
-      Unaltered f n b s kinds figures (fitMemory 0 (fitDiscounts f n b s kinds figures) d) r
-      (take (nodeCount b r) (drop (rowStart b r) (fitMemory 0 (fitPrices f n b s kinds figures) q)))
+  pub fit-stored : (f n w h : ℕ) (kinds : List ℕ) (figures : List Float) (d q : List ℕ) (r : ℕ) → r ≤ n →
+      Unaltered f n w h kinds figures (fitMemory 0 (fitDiscounts f n w h kinds figures) d) r
+      (take (nodeCount w r) (drop (rowStart w r) (fitMemory 0 (fitPrices f n w h kinds figures) q)))
 
 -- ---- yields by continuous compounding (document 02, request (i))
 
@@ -448,4 +456,5 @@ pub record Promises : Type 0 where
   pub tree : TreePromises
   pub prices : PricePromises
   pub yields : YieldPromises
+  pub versions : VersionPromises
   pub causes : CausePromises

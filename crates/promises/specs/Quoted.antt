@@ -14,7 +14,7 @@ use Rattle.figure.specs.Figure.{billionthsOf, figureOf}
 use Rattle.quotes.specs.declared.Point.{Point}
 use Rattle.quotes.specs.Quotes.{loneAnswer}
 use Rattle.curve.specs.Curve.{discountAt, curveNumber}
-use Rattle.fitting.specs.Entry.{fitNumber}
+use Rattle.fitting.specs.Entry.{fittedNumber}
 
 -- a figure's exact binary value, at most 10 either way before rounding, times one, to the nearest whole number, halves away from zero, sign kept
 pub record Taken (x : Float) (z : ℤ) : Type 0 where
@@ -55,8 +55,8 @@ pub record QuotePromises : Type 0 where
   -- a discount factor gives its billionths as P
   pub discount-factors : (f : ℕ) (p : Point) → loneAnswer f 5 p .number ≡ 0 → pos (loneAnswer f 5 p .value) ≡ billionthsOf (p .figure)
   pub yearly-rates : (f : ℕ) (p : Point) → loneAnswer f 6 p .number ≡ 0 → OfRate f (p .row) (billionthsOf (p .figure)) (loneAnswer f 6 p .value)
-  -- the quotes that a curve is converted from, and that a fit is fitted to
+  -- the quotes that a curve is converted from, and that a fit is fitted to, of whatever working reversion w and spacing h
   pub curves-quoted : (f n : ℕ) (rows kinds : List ℕ) (figures : List Float) (room : ℕ) →
       curveNumber f n rows kinds figures room ≡ 0 → CurveQuoted f n kinds figures
-  pub fits-quoted : (f n b s : ℕ) (rows kinds : List ℕ) (figures : List Float) (room-discounts room-prices : ℕ) →
-      fitNumber f n b s rows kinds figures room-discounts room-prices ≡ 0 → CurveQuoted f n kinds figures
+  pub fits-quoted : (f n w spaced h : ℕ) (rows kinds : List ℕ) (figures : List Float) (room-discounts room-prices : ℕ) →
+      fittedNumber f n w spaced h rows kinds figures room-discounts room-prices ≡ 0 → CurveQuoted f n kinds figures

@@ -52,7 +52,7 @@ fn draw<'a>(
     ensures { λ r. ⌜ Put (now (out .entry)) (length (now (out .entry))) (jobText job) r (now (out .exit)) ⌝ }
 {
     let steps = job.steps;
-    let reversion = job.reversion;
+    let reversion = job_fit::meant_reversion(job.version, job.reversion);
     let mut quotes = memories::quotes();
     job_fit::quotes_of_record(job, &mut quotes);
     let discount_count = lattice::discounts_needed(steps, reversion);

@@ -7,10 +7,10 @@ use mathlib.Core.List.{List}
 use Prim.Native.Nat.{ℕ, _≤_}
 use Rattle.arithmetic.proofs.CauseLaws.{lowest-none}
 use Rattle.limits.specs.Limits.{mostDiscounts, mostStatePrices}
-use Rattle.fitting.specs.Entry.{fitNumber}
+use Rattle.fitting.specs.Entry.{versionNumber}
 use Rattle.job_record.specs.declared.Job.{Job}
 use Rattle.job_record.specs.Reader.{readingOf}
-use Rattle.job_fit.specs.RecordFit.{jobRows, jobKinds, jobFigures, jobFlows, jobDiscounts}
+use Rattle.job_fit.specs.RecordFit.{meantVersion, jobReversion, jobRows, jobKinds, jobFigures, jobFlows, jobDiscounts}
 use Rattle.job_fit.proofs.FitLaws.{fit-none}
 use Rattle.job_prices.specs.JobPrices.{hasOption, taggedOption, jobBond}
 use Rattle.price_laws.proofs.Accuracy.{first-none}
@@ -21,12 +21,12 @@ use Rattle.sheet_laws.proofs.SheetLaws.{room-known}
 
 -- each part of a job whose sheet has no cause
 pub record AcceptedJob (job : Job) (room : ℕ) : Type 0 where
-  pub fit : fitNumber (job .frequency) (job .steps) (job .reversion) (job .volatility) (jobRows job) (jobKinds job) (jobFigures job)
-      mostDiscounts mostStatePrices ≡ 0
+  pub fit : versionNumber (meantVersion (job .version)) (job .frequency) (job .steps) (job .reversion) (job .volatility)
+      (jobRows job) (jobKinds job) (jobFigures job) mostDiscounts mostStatePrices ≡ 0
   pub room-enough : sheetRoom ≤ room
   pub bond : jobBond job .number ≡ 0
   pub option-priced : hasOption (job .option) ≡ true →
-      taggedOption (job .steps) (job .reversion) (jobDiscounts job) (jobFlows job) (job .option) .number ≡ 0
+      taggedOption (job .steps) (jobReversion job) (jobDiscounts job) (jobFlows job) (job .option) .number ≡ 0
 
 pub sheet-accepted : (bytes : List ℕ) (room : ℕ) → sheetNumber bytes room ≡ 0 → (readingOf bytes .number ≡ 0) × (jobNumber (readingOf bytes .job) room ≡ 0)
 unfolding sheetNumber

@@ -1,6 +1,6 @@
 -- What the prices of a record leave for its sheet: quotes, discounts and state prices.
 -- Assumes nothing.
-use mathlib.Core.Path.{_≡_, sym, ap, _∙_}
+use mathlib.Core.Path.{_≡_, sym, ap, subst, _∙_}
 use mathlib.Core.Bool.{true}
 use mathlib.Core.List.{List, [], append-nil}
 use Prim.Native.Nat.{ℕ, suc, _≤_, _<_}
@@ -24,7 +24,8 @@ use Rattle.fitting.specs.Entry.{fitPrice}
 use Rattle.fitting.proofs.Promised.{fit-repriced}
 use Rattle.fitting.proofs.FittedTree.{fit-discounts-lent}
 use Rattle.job_record.specs.declared.Job.{Job}
-use Rattle.job_fit.specs.RecordFit.{jobKinds, jobFigures, jobQuotes, jobDiscounts, jobStatePrices, recordQuotes, memoryAfter}
+use Rattle.job_fit.specs.RecordFit.{meantReversion, jobReversion, jobSpacing, jobKinds, jobFigures, jobQuotes, jobDiscounts, jobStatePrices}
+use Rattle.job_fit.specs.RecordFit.{recordQuotes, memoryAfter}
 use Rattle.job_fit.proofs.FitLaws as fits
 use Rattle.job_prices.specs.declared.JobPrices.{JobPrices}
 use Rattle.job_prices.specs.JobPrices.{recordNumber, recordPrices}
@@ -66,14 +67,14 @@ module _ (job : Job) (d₀ p₀ : List ℕ) (ld : length d₀ ≡ mostDiscounts)
         accepted = fit;
         discounts-room = ap length dp ∙ length-place d₀ 0 (jobDiscounts job) (omega (arith, dl, known .room-discounts, ld)) ∙ ld;
         prices-room = ap length pp ∙ length-place p₀ 0 (jobStatePrices job) (omega (arith, pl, known .room-prices, lp)) ∙ lp;
-        discounts-front = ap (take (discountsNeeded (job .steps) (job .reversion))) dp ∙ place-front d₀ (jobDiscounts job) _ dl;
-        prices-front = ap (take (statePricesNeeded (job .steps) (job .reversion))) pp ∙ place-front p₀ (jobStatePrices job) _ pl;
+        discounts-front = ap (take (discountsNeeded (job .steps) (jobReversion job))) dp ∙ place-front d₀ (jobDiscounts job) _ dl;
+        prices-front = ap (take (statePricesNeeded (job .steps) (jobReversion job))) pp ∙ place-front p₀ (jobStatePrices job) _ pl;
       }
 
 -- ---- what a caller takes of it
 
 module _ (job : Job) (d p : List ℕ) (h : Fitted job d p) where
-  pub accepted : Accepted (job .steps) (job .reversion)
+  pub accepted : Accepted (job .steps) (jobReversion job)
   accepted = fits.accepted job _ _ (h .accepted)
 
   -- the quotes, converted into a memory of 60
@@ -90,14 +91,14 @@ module _ (job : Job) (d p : List ℕ) (h : Fitted job d p) where
     pub quotes-end : job .steps ≤ length q
     quotes-end = omega (arith, quotes-count, length-take (job .steps) q)
 
-  -- the counts that the code works out
-  module _ (needed all : Answer) (en : needed ≡ discountsNeededAnswer (job .steps) (job .reversion))
-      (ea : all ≡ statePricesNeededAnswer (job .steps) (job .reversion)) where
-    count-discounts : needed .value ≡ discountsNeeded (job .steps) (job .reversion)
-    count-discounts = tree-value _ _ _ needed en accepted
+  -- the working reversion and the counts that the code works out
+  module _ (b : ℕ) (eb : b ≡ jobReversion job) (needed all : Answer) (en : needed ≡ discountsNeededAnswer (job .steps) b)
+      (ea : all ≡ statePricesNeededAnswer (job .steps) b) where
+    count-discounts : needed .value ≡ discountsNeeded (job .steps) (jobReversion job)
+    count-discounts = tree-value _ _ _ needed (en ∙ ap (discountsNeededAnswer (job .steps)) eb) accepted
 
-    count-prices : all .value ≡ statePricesNeeded (job .steps) (job .reversion)
-    count-prices = tree-value _ _ _ all ea accepted
+    count-prices : all .value ≡ statePricesNeeded (job .steps) (jobReversion job)
+    count-prices = tree-value _ _ _ all (ea ∙ ap (statePricesNeededAnswer (job .steps)) eb) accepted
 
     pub discounts-are : take (needed .value) d ≡ jobDiscounts job
     discounts-are = ap (λ (k : ℕ). take k d) count-discounts ∙ h .discounts-front
@@ -105,10 +106,10 @@ module _ (job : Job) (d p : List ℕ) (h : Fitted job d p) where
     pub prices-are : take (all .value) p ≡ jobStatePrices job
     prices-are = ap (λ (k : ℕ). take k p) count-prices ∙ h .prices-front
 
-    pub discounts-size : length (take (needed .value) d) ≡ discountsNeeded (job .steps) (job .reversion)
+    discounts-size : length (take (needed .value) d) ≡ discountsNeeded (job .steps) (jobReversion job)
     discounts-size = ap length discounts-are ∙ fits.discounts-length job
 
-    pub prices-size : length (take (all .value) p) ≡ statePricesNeeded (job .steps) (job .reversion)
+    prices-size : length (take (all .value) p) ≡ statePricesNeeded (job .steps) (jobReversion job)
     prices-size = ap length prices-are ∙ fits.prices-length job
 
     pub discounts-count : needed .value ≡ length (take (needed .value) d)
@@ -119,13 +120,13 @@ module _ (job : Job) (d p : List ℕ) (h : Fitted job d p) where
 
     -- every node discount of an accepted fit is accepted
     discounted : acceptedNodes (take (needed .value) d) ≡ true
-    unfolding acceptedNodes acceptedDiscounts jobDiscounts
+    unfolding acceptedNodes acceptedDiscounts jobDiscounts meantReversion
     discounted =
-        let lent = accepted-all _ _ _ (fit-discounts-lent _ _ _ _ _ _ _ mostDiscounts mostStatePrices (fits.fit-none job _ _ (h .accepted))) in
+        let lent = accepted-all _ _ _ (fit-discounts-lent _ _ _ _ _ _ _ _ mostDiscounts mostStatePrices (fits.fit-none job _ _ (h .accepted))) in
         rw (discounts-size, discounts-are) lent
 
-    pub stored : Stored (job .steps) (job .reversion) (take (needed .value) d) (take (all .value) p)
-    stored =
+    stored-by : Stored (job .steps) (jobReversion job) (take (needed .value) d) (take (all .value) p)
+    stored-by =
         record {
           lent = record {
             steps-positive = accepted .steps-positive;
@@ -137,9 +138,15 @@ module _ (job : Job) (d p : List ℕ) (h : Fitted job d p) where
           prices-size = prices-size;
         }
 
-    pub summed : Summed (job .steps) (job .reversion) (take (all .value) p)
-    unfolding jobStatePrices
-    summed i l =
-        let price = fitPrice (job .frequency) (job .steps) (job .reversion) (job .volatility) (jobKinds job) (jobFigures job) in
-        rw (prices-are, total-row (job .reversion) price (suc (job .steps)) (suc i) (omega arith))
-        (fit-repriced _ _ _ _ _ _ _ mostDiscounts mostStatePrices (fits.fit-none job _ _ (h .accepted)) i l .2)
+    summed-by : Summed (job .steps) (jobReversion job) (take (all .value) p)
+    unfolding jobStatePrices meantReversion
+    summed-by i l =
+        let price = fitPrice (job .frequency) (job .steps) (jobReversion job) (jobSpacing job) (jobKinds job) (jobFigures job) in
+        rw (prices-are, total-row (jobReversion job) price (suc (job .steps)) (suc i) (omega arith))
+        (fit-repriced _ _ _ _ _ _ _ _ mostDiscounts mostStatePrices (fits.fit-none job _ _ (h .accepted)) i l .2)
+
+    pub stored : Stored (job .steps) b (take (needed .value) d) (take (all .value) p)
+    stored = subst (λ (x : ℕ). Stored (job .steps) x (take (needed .value) d) (take (all .value) p)) (sym eb) stored-by
+
+    pub summed : Summed (job .steps) b (take (all .value) p)
+    summed = subst (λ (x : ℕ). Summed (job .steps) x (take (all .value) p)) (sym eb) summed-by

@@ -14,7 +14,7 @@ use Rattle.price_laws.specs.Prices.{firstCause}
 use Rattle.job_record.specs.declared.Job.{Job}
 use Rattle.job_record.specs.declared.Reading.{Reading}
 use Rattle.job_record.specs.Reader.{readingOf}
-use Rattle.job_fit.specs.RecordFit.{jobQuotes, jobDiscounts, jobStatePrices}
+use Rattle.job_fit.specs.RecordFit.{jobReversion, jobQuotes, jobDiscounts, jobStatePrices}
 use Rattle.job_prices.specs.declared.JobPrices.{JobPrices}
 use Rattle.job_prices.specs.JobPrices.{hasOption, jobBond, jobOption, recordNumber, recordPrices}
 use Rattle.job_prices.proofs.PriceLaws.{prices-given, prices-number}
@@ -65,14 +65,15 @@ module _ (job : Job) (prices : JobPrices) (ep : prices ≡ recordPrices job most
     room-given z = room-known (length out) (sym er ∙ lowest-none (prices .number) room (sym ec ∙ z) .1)
 
 -- the text that is put is the job's sheet
-pub text-put : (job : Job) (quotes discounts state-prices : List ℕ) (prices : JobPrices) → quotes ≡ jobQuotes job → discounts ≡ jobDiscounts job →
-    state-prices ≡ jobStatePrices job → prices ≡ record { number = 0; bond = jobBond job; «has_option» = hasOption (job .option); option = jobOption job } →
+pub text-put : (job : Job) (b : ℕ) (quotes discounts state-prices : List ℕ) (prices : JobPrices) → b ≡ jobReversion job →
+    quotes ≡ jobQuotes job → discounts ≡ jobDiscounts job → state-prices ≡ jobStatePrices job →
+    prices ≡ record { number = 0; bond = jobBond job; «has_option» = hasOption (job .option); option = jobOption job } →
     (out : List ℕ) (end start : ℕ) (after : List ℕ) →
-    Put out end (treeSheet (job .steps) (job .reversion) quotes discounts state-prices (prices .bond) (prices .«has_option») (prices .option)) start after →
+    Put out end (treeSheet (job .steps) b quotes discounts state-prices (prices .bond) (prices .«has_option») (prices .option)) start after →
     Put out end (jobText job) start after
 unfolding jobText
-text-put job quotes discounts state-prices prices eq ed es ep out end start after put =
-    subst (λ (text : List ℕ). Put out end text start after) (rw (eq, ed, es, ep)) put
+text-put job b quotes discounts state-prices prices eb eq ed es ep out end start after put =
+    subst (λ (text : List ℕ). Put out end text start after) (rw (eb, eq, ed, es, ep)) put
 
 -- ---- the room afterwards
 

@@ -9,7 +9,7 @@ use Rattle.arithmetic.specs.Row.{sumOf}
 use Rattle.limits.specs.Limits.{mostSteps, mostReversion, mostDiscounts, mostStatePrices, sumLimit}
 use Rattle.lattice.specs.Shape.{discountsNeeded, statePricesNeeded}
 use Rattle.job_record.specs.declared.Job.{Job}
-use Rattle.job_fit.specs.RecordFit.{jobDiscounts, jobStatePrices, recordFit}
+use Rattle.job_fit.specs.RecordFit.{jobReversion, jobDiscounts, jobStatePrices, recordFit}
 use Rattle.node_lines.specs.Rows.{acceptedNodes}
 use Rattle.sheet_laws.specs.TreeSheet.{rowPart}
 
@@ -42,5 +42,5 @@ pub record Fitted (job : Job) (discounts prices : List ℕ) : Type 0 where
   pub accepted : recordFit job mostDiscounts mostStatePrices ≡ 0
   pub discounts-room : length discounts ≡ mostDiscounts
   pub prices-room : length prices ≡ mostStatePrices
-  pub discounts-front : take (discountsNeeded (job .steps) (job .reversion)) discounts ≡ jobDiscounts job
-  pub prices-front : take (statePricesNeeded (job .steps) (job .reversion)) prices ≡ jobStatePrices job
+  pub discounts-front : take (discountsNeeded (job .steps) (jobReversion job)) discounts ≡ jobDiscounts job
+  pub prices-front : take (statePricesNeeded (job .steps) (jobReversion job)) prices ≡ jobStatePrices job

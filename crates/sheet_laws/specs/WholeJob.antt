@@ -10,7 +10,7 @@ use Rattle.limits.specs.Limits.{mostDiscounts, mostStatePrices}
 use Rattle.price_laws.specs.Prices.{firstCause}
 use Rattle.job_record.specs.declared.Job.{Job}
 use Rattle.job_record.specs.Reader.{readingOf}
-use Rattle.job_fit.specs.RecordFit.{jobQuotes, jobDiscounts, jobStatePrices}
+use Rattle.job_fit.specs.RecordFit.{jobReversion, jobQuotes, jobDiscounts, jobStatePrices}
 use Rattle.job_prices.specs.JobPrices.{hasOption, jobBond, jobOption, recordNumber}
 use Rattle.text_laws.specs.Lines.{refusedLine, lineNumber}
 use Rattle.text_laws.specs.declared.Placed.{Placed}
@@ -29,7 +29,7 @@ module _ (job : Job) where
 
   unfoldable pub jobText : List ℕ
   jobText =
-      treeSheet (job .steps) (job .reversion) (jobQuotes job) (jobDiscounts job) (jobStatePrices job)
+      treeSheet (job .steps) (jobReversion job) (jobQuotes job) (jobDiscounts job) (jobStatePrices job)
       (jobBond job) (hasOption (job .option)) (jobOption job)
 
 -- the number of the whole job, 1 first, and its sheet

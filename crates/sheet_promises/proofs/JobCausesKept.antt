@@ -19,14 +19,16 @@ use Rattle.lattice.specs.Shape.{halfWidth, rowStart, discountsNeeded, statePric
 use Rattle.lattice.specs.Entries.{discountsNeededAnswer, statePricesNeededAnswer, memoryCause}
 use Rattle.lattice.proofs.Sizes.{start-most, start-within}
 use Rattle.lattice.proofs.TreeEntries.{Accepted, tree-value}
-use Rattle.spacing.specs.Spacing.{spacing}
-use Rattle.fitting.specs.Entry.{fitNumber, fitDiscount}
+use Rattle.reversion.specs.Reversion.{isVersion, workingReversion}
+use Rattle.reversion.proofs.ReversionLaws.{working-limit}
+use Rattle.spacing.specs.Spacing.{versionSpacing}
+use Rattle.fitting.specs.Entry.{versionNumber, fitDiscount}
 use Rattle.price_laws.specs.Prices.{firstCause}
 use Rattle.job_record.specs.declared.Job.{Job}
 use Rattle.job_record.specs.Form.{wellFormed}
 use Rattle.job_record.specs.Reader.{readingOf, jobOf, acceptedReading, malformed}
 use Rattle.job_record.specs.declared.Reading.{Reading}
-use Rattle.job_fit.specs.RecordFit.{jobRows, jobKinds, jobFigures, recordFit}
+use Rattle.job_fit.specs.RecordFit.{meantVersion, meantReversion, jobRows, jobKinds, jobFigures, recordFit}
 use Rattle.job_prices.specs.JobPrices.{hasOption, optionForm, treeNumber, jobBond, jobOption, recordNumber, recordPrices, bytesNumber, bytesPrices}
 use Rattle.job_prices.proofs.PriceLaws.{prices-number}
 use Rattle.sheet_room.specs.Room.{sheetRoom}
@@ -38,89 +40,99 @@ use Rattle.sheet_promises.specs.JobCauses.{optionFormed, JobCauses}
 -- ---- a fit in memories of its own, and the lent ones beside it
 
 -- 6 to 9 of a fit beside 6 for a lent memory
-tail : Bool → Bool → Bool → Bool → ℕ
-tail c q w x = cond (not c) 6 (cond (not q) 7 (cond w 8 (cond x 9 0)))
+tail : Bool → Bool → Bool → Bool → Bool → ℕ
+tail c k q w x = cond (not c) 6 (cond (not k) 7 (cond (not q) 7 (cond w 8 (cond x 9 0))))
 
-beside : (c q w x m : Bool) → lowestCause (tail c q w x) (cond m 0 6) ≡ tail (c && m) q w x
+beside : (c k q w x m : Bool) → lowestCause (tail c k q w x) (cond m 0 6) ≡ tail (c && m) k q w x
 unfolding tail lowestCause
-beside false q w x true = refl
-beside false q w x false = refl
-beside true false w x true = refl
-beside true false w x false = refl
-beside true true true x true = refl
-beside true true true x false = refl
-beside true true false true true = refl
-beside true true false true false = refl
-beside true true false false true = refl
-beside true true false false false = refl
+beside false k q w x true = refl
+beside false k q w x false = refl
+beside true false q w x true = refl
+beside true false q w x false = refl
+beside true true false w x true = refl
+beside true true false w x false = refl
+beside true true true true x true = refl
+beside true true true true x false = refl
+beside true true true false true true = refl
+beside true true true false true false = refl
+beside true true true false false true = refl
+beside true true true false false false = refl
 
 -- 2 to 5 come first, whatever the memories are
-merged : (l s r v c q w x m d : Bool) → (s ≡ true → r ≡ true → c && m ≡ d) →
-    lowestCause (cond (not l) 2 (cond (not s) 3 (cond (not r) 4 (cond v 5 (tail c q w x))))) (cond m 0 6)
-    ≡ cond (not l) 2 (cond (not s) 3 (cond (not r) 4 (cond v 5 (tail d q w x))))
+merged : (l s r v c k q w x m d : Bool) → (s ≡ true → r ≡ true → c && m ≡ d) →
+    lowestCause (cond (not l) 2 (cond (not s) 3 (cond (not r) 4 (cond v 5 (tail c k q w x))))) (cond m 0 6)
+    ≡ cond (not l) 2 (cond (not s) 3 (cond (not r) 4 (cond v 5 (tail d k q w x))))
 unfolding lowestCause
-merged false s r v c q w x true d e = refl
-merged false s r v c q w x false d e = refl
-merged true false r v c q w x true d e = refl
-merged true false r v c q w x false d e = refl
-merged true true false v c q w x true d e = refl
-merged true true false v c q w x false d e = refl
-merged true true true true c q w x true d e = refl
-merged true true true true c q w x false d e = refl
-merged true true true false c q w x m d e = beside c q w x m ∙ ap (λ (t : Bool). tail t q w x) (e refl refl)
+merged false s r v c k q w x true d e = refl
+merged false s r v c k q w x false d e = refl
+merged true false r v c k q w x true d e = refl
+merged true false r v c k q w x false d e = refl
+merged true true false v c k q w x true d e = refl
+merged true true false v c k q w x false d e = refl
+merged true true true true c k q w x true d e = refl
+merged true true true true c k q w x false d e = refl
+merged true true true false c k q w x m d e = beside c k q w x m ∙ ap (λ (t : Bool). tail t k q w x) (e refl refl)
 
-module _ (f n b s : ℕ) (rows kinds : List ℕ) (figures : List Float) (discounts prices : ℕ) where
+module _ (v f n b s : ℕ) (rows kinds : List ℕ) (figures : List Float) (discounts prices : ℕ) where
+  abbrev w : ℕ
+  w = workingReversion v b
+
+  abbrev h : ℕ
+  h = versionSpacing v f s b
+
   held : Bool
-  held = leb (discountsNeededAnswer n b .value) discounts && leb (statePricesNeededAnswer n b .value) prices
+  held = leb (discountsNeededAnswer n w .value) discounts && leb (statePricesNeededAnswer n w .value) prices
 
   module _ (es : isSteps n ≡ true) (er : isReversion b ≡ true) where
     most : n ≤ 60
     most = leb-true n 60 (and-right (leb 1 n) (leb n 60) es)
 
-    accepted : Accepted n b
+    accepted : Accepted n w
     accepted =
         let least : 1 ≤ n = leb-true 1 n (and-left (leb 1 n) (leb n 60) es) in
-        record { steps-positive = omega arith; steps-within-limit = most; reversion-within-limit = leb-true b 6000 er }
+        record { steps-positive = omega arith; steps-within-limit = most; reversion-within-limit = working-limit v b (leb-true b 6000 er) }
 
-    held-alike : held ≡ leb (rowStart b n) discounts && leb (rowStart b (suc n)) prices
+    held-alike : held ≡ leb (rowStart w n) discounts && leb (rowStart w (suc n)) prices
     unfolding held discountsNeeded statePricesNeeded
     held-alike =
-        ap₂ (λ (x y : ℕ). leb x discounts && leb y prices) (tree-value n b (rowStart b n) (discountsNeededAnswer n b) refl accepted)
-        (tree-value n b (rowStart b (suc n)) (statePricesNeededAnswer n b) refl accepted)
+        ap₂ (λ (x y : ℕ). leb x discounts && leb y prices) (tree-value n w (rowStart w n) (discountsNeededAnswer n w) refl accepted)
+        (tree-value n w (rowStart w (suc n)) (statePricesNeededAnswer n w) refl accepted)
 
-    largest : quotesPlaced n rows kinds figures && leb (rowStart b n) 3600 && leb (rowStart b (suc n)) 3721 ≡ quotesPlaced n rows kinds figures
+    largest : quotesPlaced n rows kinds figures && leb (rowStart w n) 3600 && leb (rowStart w (suc n)) 3721 ≡ quotesPlaced n rows kinds figures
     largest =
         rw (
-          le-leb (rowStart b n) 3600 (le-trans (start-most b n) (mul-le-mul most most)),
-          le-leb (rowStart b (suc n)) 3721
-              (start-within b (suc n) (omega (arith, most))),
+          le-leb (rowStart w n) 3600 (le-trans (start-most w n) (mul-le-mul most most)),
+          le-leb (rowStart w (suc n)) 3721
+              (start-within w (suc n) (omega (arith, most))),
           and-true (quotesPlaced n rows kinds figures),
         ) (and-true (quotesPlaced n rows kinds figures))
 
-    lengths : quotesPlaced n rows kinds figures && leb (rowStart b n) 3600 && leb (rowStart b (suc n)) 3721 && held
-        ≡ quotesPlaced n rows kinds figures && leb (rowStart b n) discounts && leb (rowStart b (suc n)) prices
+    lengths : quotesPlaced n rows kinds figures && leb (rowStart w n) 3600 && leb (rowStart w (suc n)) 3721 && held
+        ≡ quotesPlaced n rows kinds figures && leb (rowStart w n) discounts && leb (rowStart w (suc n)) prices
     lengths =
         ap₂ _&&_ largest held-alike
-        ∙ sym (and-assoc (quotesPlaced n rows kinds figures) (leb (rowStart b n) discounts) (leb (rowStart b (suc n)) prices))
+        ∙ sym (and-assoc (quotesPlaced n rows kinds figures) (leb (rowStart w n) discounts) (leb (rowStart w (suc n)) prices))
 
   fit-lent :
-      lowestCause (fitNumber f n b s rows kinds figures mostDiscounts mostStatePrices) (memoryCause n b discounts prices)
-      ≡ fitNumber f n b s rows kinds figures discounts prices
+      lowestCause (versionNumber v f n b s rows kinds figures mostDiscounts mostStatePrices) (memoryCause n w discounts prices)
+      ≡ versionNumber v f n b s rows kinds figures discounts prices
   unfolding memoryCause firstOf tail held
   fit-lent =
       rw (
-        promises-kept .causes .fit f n b s rows kinds figures mostDiscounts mostStatePrices,
-        promises-kept .causes .fit f n b s rows kinds figures discounts prices,
+        promises-kept .causes .version-fit v f n b s rows kinds figures mostDiscounts mostStatePrices,
+        promises-kept .causes .version-fit v f n b s rows kinds figures discounts prices,
       )
       (merged (listed f) (isSteps n) (isReversion b) (ltb 50000 s)
-      (quotesPlaced n rows kinds figures && leb (rowStart b n) 3600 && leb (rowStart b (suc n)) 3721) (quotesConverted f n kinds figures)
-      (ltb one (halfWidth b (n - 1) * spacing f s)) (not (everyNode b n (λ i k. isDiscount (fitDiscount f n b s kinds figures i k)))) held _ lengths)
+      (quotesPlaced n rows kinds figures && leb (rowStart w n) 3600 && leb (rowStart w (suc n)) 3721) (isVersion v) (quotesConverted f n kinds figures)
+      (ltb one (halfWidth w (n - 1) * h)) (not (everyNode w n (λ i k. isDiscount (fitDiscount f n w h kinds figures i k)))) held _ lengths)
 
 -- ---- records, bytes and sheets
 
 module _ (job : Job) (discounts prices : ℕ) where
   abbrev fitted : ℕ → ℕ → ℕ
-  fitted = fitNumber (job .frequency) (job .steps) (job .reversion) (job .volatility) (jobRows job) (jobKinds job) (jobFigures job)
+  fitted =
+      versionNumber (meantVersion (job .version)) (job .frequency) (job .steps) (job .reversion) (job .volatility)
+      (jobRows job) (jobKinds job) (jobFigures job)
 
   abbrev priced : ℕ
   priced = cond (hasOption (job .option)) (jobOption job .number) (jobBond job .number)
@@ -128,12 +140,14 @@ module _ (job : Job) (discounts prices : ℕ) where
   record-causes :
       recordPrices job discounts prices .number
       ≡ firstCause (firstOf (cause 1 (ltb 255 (job .steps)) ∷ cause 1 (not (optionFormed (job .option))) ∷ [])) (firstCause (fitted discounts prices) priced)
-  unfolding recordPrices recordNumber recordFit optionForm treeNumber memoryCause firstCause lowestCause firstOf held
+  unfolding recordPrices recordNumber recordFit meantReversion optionForm treeNumber memoryCause firstCause lowestCause firstOf held
   record-causes =
       prices-number _ _ _ _
       ∙ by-tests (optionFormed (job .option)) (ltb 255 (job .steps))
-      (held (job .frequency) (job .steps) (job .reversion) (job .volatility) (jobRows job) (jobKinds job) (jobFigures job) discounts prices)
-      (fit-lent (job .frequency) (job .steps) (job .reversion) (job .volatility) (jobRows job) (jobKinds job) (jobFigures job) discounts prices)
+      (held (meantVersion (job .version)) (job .frequency) (job .steps) (job .reversion) (job .volatility)
+      (jobRows job) (jobKinds job) (jobFigures job) discounts prices)
+      (fit-lent (meantVersion (job .version)) (job .frequency) (job .steps) (job .reversion) (job .volatility)
+      (jobRows job) (jobKinds job) (jobFigures job) discounts prices)
     where
       by-tests : (c t m : Bool) → lowestCause (fitted mostDiscounts mostStatePrices) (cond m 0 6) ≡ fitted discounts prices →
           firstCause (cond c 0 1) (firstCause (lowestCause (cond t 1 (fitted mostDiscounts mostStatePrices)) (cond m 0 6)) priced)

@@ -33,7 +33,7 @@ use Rattle.price_laws.specs.declared.Price.{Price}
 use Rattle.job_record.specs.declared.OptionRecord.{OptionRecord}
 use Rattle.job_record.specs.declared.Job.{Job}
 use Rattle.job_record.specs.Reader.{readingOf}
-use Rattle.job_fit.specs.RecordFit.{jobRows, jobKinds, jobFigures, jobQuotes, jobDiscounts, jobStatePrices, jobFlows}
+use Rattle.job_fit.specs.RecordFit.{meantReversion, jobReversion, jobSpacing, jobRows, jobKinds, jobFigures, jobQuotes, jobDiscounts, jobStatePrices, jobFlows}
 use Rattle.job_prices.specs.JobPrices.{hasOption, taggedOption, jobBond, jobOption, pricesOf, recordNumber, recordPrices, bytesNumber, bytesPrices}
 use Rattle.job_prices.proofs.PriceLaws.{prices-number}
 use Rattle.job_prices.proofs.Accepted.{AcceptedRecord, record-accepted, bytes-accepted}
@@ -115,14 +115,17 @@ module _ (job : Job) (room : ℕ) (known : AcceptedJob job room) where
   n = job .steps
 
   abbrev b : ℕ
-  b = job .reversion
+  b = jobReversion job
+
+  abbrev h : ℕ
+  h = jobSpacing job
 
   -- an accepted fit is an accepted tree
   tree : Accepted n b (jobDiscounts job)
-  unfolding jobDiscounts
+  unfolding jobDiscounts meantReversion
   tree =
       accepted n b _
-      (fit-discounts-lent (job .frequency) n b (job .volatility) (jobKinds job) (jobFigures job) (jobRows job) mostDiscounts mostStatePrices (known .fit))
+      (fit-discounts-lent (job .frequency) n b h (jobKinds job) (jobFigures job) _ (jobRows job) mostDiscounts mostStatePrices (known .fit))
 
   rated : (i k : ℕ) → i < n → k < nodeCount b i → rateAnswer (stored b (jobDiscounts job) i k) .number ≡ 0
   unfolding stored
@@ -132,17 +135,16 @@ module _ (job : Job) (room : ℕ) (known : AcceptedJob job room) where
       (answer-known (values (jobDiscounts job) (rowStart b i + k)) (tree .positive _ inside) (tree .discounted _ inside))
 
   row-shown : (i : ℕ) → i < n → RowShown n b (jobQuotes job) (jobDiscounts job) (jobStatePrices job) i
-  unfolding jobQuotes jobDiscounts jobStatePrices
+  unfolding jobQuotes jobDiscounts jobStatePrices meantReversion
   row-shown i hi =
       let f = job .frequency in
-      let s = job .volatility in
-      let price = fitPrice f n b s (jobKinds job) (jobFigures job) in
+      let price = fitPrice f n b h (jobKinds job) (jobFigures job) in
       let near
-      = promises-kept .tree .quotes-repriced f n b s (jobRows job) (jobKinds job) (jobFigures job) mostDiscounts mostStatePrices (known .fit) i hi in
+      = promises-kept .tree .quotes-repriced f n b _ h (jobRows job) (jobKinds job) (jobFigures job) mostDiscounts mostStatePrices (known .fit) i hi in
       let quote = values-row n i (discountAt f (jobKinds job) (jobFigures job)) hi in
       record {
         bounded =
-            promises-kept .tree .state-prices-near f n b s (jobRows job) (jobKinds job) (jobFigures job) mostDiscounts mostStatePrices (known .fit)
+            promises-kept .tree .state-prices-near f n b _ h (jobRows job) (jobKinds job) (jobFigures job) mostDiscounts mostStatePrices (known .fit)
             (suc i) hi .0;
         repriced = rw (total-row b price (suc n) (suc i) (omega arith), quote) near;
       }
@@ -178,12 +180,12 @@ module _ (job : Job) (ds ps : ℕ) (known : AcceptedRecord job ds ps) where
       rw (eq-eqb number 0 z)
       (record {
         bond-given = known .bond;
-        bond-near = promises-kept .prices .bond-accurate (job .steps) (job .reversion) (jobDiscounts job) (jobFlows job) (known .bond);
-        bond-a-step = promises-kept .prices .bond-a-step (job .steps) (job .reversion) (jobDiscounts job) (jobFlows job) (known .bond);
+        bond-near = promises-kept .prices .bond-accurate (job .steps) (jobReversion job) (jobDiscounts job) (jobFlows job) (known .bond);
+        bond-a-step = promises-kept .prices .bond-a-step (job .steps) (jobReversion job) (jobDiscounts job) (jobFlows job) (known .bond);
         option-told = refl;
         option-given = λ e. rw e (known .option-priced e);
-        option-near = λ e. rw e (tagged-near (job .steps) (job .reversion) (jobDiscounts job) (jobFlows job) (job .option) (known .option-priced e));
-        option-a-step = λ e. rw e (tagged-a-step (job .steps) (job .reversion) (jobDiscounts job) (jobFlows job) (job .option) (known .option-priced e));
+        option-near = λ e. rw e (tagged-near (job .steps) (jobReversion job) (jobDiscounts job) (jobFlows job) (job .option) (known .option-priced e));
+        option-a-step = λ e. rw e (tagged-a-step (job .steps) (jobReversion job) (jobDiscounts job) (jobFlows job) (job .option) (known .option-priced e));
       })
 
 pub record-kept : (job : Job) (discounts prices : ℕ) → recordPrices job discounts prices .number ≡ 0 →

@@ -8,13 +8,13 @@ use Prim.Native.Nat.{ℕ}
 use lib.Dec.{eqb, leb, ltb}
 use Rattle.arithmetic.specs.Answers.{lowestCause}
 use Rattle.limits.specs.Limits.{mostDiscounts, mostStatePrices}
-use Rattle.fitting.specs.Entry.{fitNumber}
+use Rattle.fitting.specs.Entry.{versionNumber}
 use Rattle.price_laws.specs.Prices.{firstCause}
 use Rattle.job_record.specs.declared.OptionRecord.{OptionRecord}
 use Rattle.job_record.specs.declared.Job.{Job}
 use Rattle.job_record.specs.Form.{wellFormed}
 use Rattle.job_record.specs.Reader.{jobOf}
-use Rattle.job_fit.specs.RecordFit.{jobRows, jobKinds, jobFigures}
+use Rattle.job_fit.specs.RecordFit.{meantVersion, jobRows, jobKinds, jobFigures}
 use Rattle.job_prices.specs.JobPrices.{hasOption, jobBond, jobOption, recordPrices, bytesPrices}
 use Rattle.sheet_room.specs.Room.{sheetRoom}
 use Rattle.sheet_laws.specs.WholeJob.{sheetNumber}
@@ -25,12 +25,14 @@ abbrev pub optionFormed : OptionRecord → Bool
 optionFormed option = leb (option .count) 4672 && (eqb (option .tag) 0 || (eqb (option .tag) 8 || eqb (option .tag) 10))
 
 pub record JobCauses : Type 0 where
-  -- of a record, in lent memories of so many numbers; 1: more than 255 steps, or an option that no bytes give
+  -- of a record, in lent memories of so many numbers; 1: more than 255 steps, or an option that no bytes give. No version means version 1; one that no
+  -- bytes give has 7, as the fit says.
   pub records : (job : Job) (discounts prices : ℕ) →
       recordPrices job discounts prices .number
       ≡ firstCause (firstOf (cause 1 (ltb 255 (job .steps)) ∷ cause 1 (not (optionFormed (job .option))) ∷ []))
       (firstCause
-      (fitNumber (job .frequency) (job .steps) (job .reversion) (job .volatility) (jobRows job) (jobKinds job) (jobFigures job) discounts prices)
+      (versionNumber (meantVersion (job .version)) (job .frequency) (job .steps) (job .reversion) (job .volatility)
+      (jobRows job) (jobKinds job) (jobFigures job) discounts prices)
       (cond (hasOption (job .option)) (jobOption job .number) (jobBond job .number)))
   -- of a job's bytes; 1: malformed, or over 4,700 bytes
   pub jobs : (bytes : List ℕ) (discounts prices : ℕ) →

@@ -19,7 +19,7 @@ use Rattle.price_laws.specs.Exact.{exactBond, exactOption, exactDated}
 use Rattle.job_record.specs.declared.OptionRecord.{OptionRecord}
 use Rattle.job_record.specs.declared.Job.{Job}
 use Rattle.job_record.specs.Reader.{readingOf}
-use Rattle.job_fit.specs.RecordFit.{jobQuotes, jobDiscounts, jobStatePrices, jobFlows}
+use Rattle.job_fit.specs.RecordFit.{jobReversion, jobQuotes, jobDiscounts, jobStatePrices, jobFlows}
 use Rattle.job_prices.specs.JobPrices.{hasOption, optionDates, jobBond, jobOption, recordPrices, bytesPrices}
 use Rattle.job_prices.specs.declared.JobPrices.{JobPrices}
 use Rattle.text_laws.specs.Decimal.{signOf}
@@ -54,20 +54,20 @@ exactTagged n b discounts flows option =
 pub record SheetShown (job : Job) (text : List ℕ) : Type 0 where
   pub lines :
       text
-      ≡ nodeLines (job .steps) (job .reversion) (jobDiscounts job)
-      ++ (rowLines (job .steps) (job .reversion) (jobQuotes job) (jobDiscounts job) (jobStatePrices job)
+      ≡ nodeLines (job .steps) (jobReversion job) (jobDiscounts job)
+      ++ (rowLines (job .steps) (jobReversion job) (jobQuotes job) (jobDiscounts job) (jobStatePrices job)
       ++ priceLines (jobBond job) (hasOption (job .option)) (jobOption job))
-  pub nodes : (i k : ℕ) → i < job .steps → k < nodeCount (job .reversion) i → NodeShown (job .reversion) (jobDiscounts job) i k
-  pub rows : (i : ℕ) → i < job .steps → RowShown (job .steps) (job .reversion) (jobQuotes job) (jobDiscounts job) (jobStatePrices job) i
+  pub nodes : (i k : ℕ) → i < job .steps → k < nodeCount (jobReversion job) i → NodeShown (jobReversion job) (jobDiscounts job) i k
+  pub rows : (i : ℕ) → i < job .steps → RowShown (job .steps) (jobReversion job) (jobQuotes job) (jobDiscounts job) (jobStatePrices job) i
   pub bond-given : jobBond job .number ≡ 0
   pub bond-near :
       Within (jobBond job .bound) (unit ^ job .steps) (jobBond job .value)
-      (exactBond (job .steps) (job .reversion) (jobDiscounts job) (jobFlows job))
+      (exactBond (job .steps) (jobReversion job) (jobDiscounts job) (jobFlows job))
   pub option-given : hasOption (job .option) ≡ true → jobOption job .number ≡ 0
   pub option-near :
       hasOption (job .option) ≡ true →
       Within (jobOption job .bound) (unit ^ job .steps) (jobOption job .value)
-      (exactTagged (job .steps) (job .reversion) (jobDiscounts job) (jobFlows job) (job .option))
+      (exactTagged (job .steps) (jobReversion job) (jobDiscounts job) (jobFlows job) (job .option))
 
 -- of a job's bytes
 abbrev pub SheetPromises : List ℕ → Type 0
@@ -78,20 +78,19 @@ SheetPromises bytes = SheetShown (readingOf bytes .job) (sheetText bytes)
 pub record PricesPromised (job : Job) (prices : JobPrices) : Type 0 where
   pub bond-given : prices .bond .number ≡ 0
   pub bond-near :
-      Within (prices .bond .bound) (unit ^ job .steps) (prices .bond .value)
-      (exactBond (job .steps) (job .reversion) (jobDiscounts job) (jobFlows job))
-  pub bond-a-step : NoneAboveOne (job .steps) (job .reversion) (jobDiscounts job) → prices .bond .bound ≤ 2 * job .steps
+      Within (prices .bond .bound) (unit ^ job .steps) (prices .bond .value) (exactBond (job .steps) (jobReversion job) (jobDiscounts job) (jobFlows job))
+  pub bond-a-step : NoneAboveOne (job .steps) (jobReversion job) (jobDiscounts job) → prices .bond .bound ≤ 2 * job .steps
   pub option-told : prices .«has_option» ≡ hasOption (job .option)
   pub option-given : prices .«has_option» ≡ true → prices .option .number ≡ 0
   pub option-near :
       prices .«has_option» ≡ true →
       Within (prices .option .bound) (unit ^ job .steps) (prices .option .value)
-      (exactTagged (job .steps) (job .reversion) (jobDiscounts job) (jobFlows job) (job .option))
+      (exactTagged (job .steps) (jobReversion job) (jobDiscounts job) (jobFlows job) (job .option))
   pub option-a-step :
-      prices .«has_option» ≡ true → NoneAboveOne (job .steps) (job .reversion) (jobDiscounts job) → prices .option .bound ≤ 2 * job .steps
+      prices .«has_option» ≡ true → NoneAboveOne (job .steps) (jobReversion job) (jobDiscounts job) → prices .option .bound ≤ 2 * job .steps
 
--- All together, undivided: quotes, tree, prices, yields and causes; the prices of a record and of a job's bytes, in lent memories of so many numbers; the
--- printed bytes of the sheet, in a lent room of so many bytes; and the number that each of these has.
+-- All together, undivided: quotes, tree, prices, yields, versions and causes; the prices of a record and of a job's bytes, in lent memories of so many
+-- numbers; the printed bytes of the sheet, in a lent room of so many bytes; and the number that each of these has.
 pub record AllPromises : Type 0 where
   pub engine : Promises
   pub records : (job : Job) (discounts prices : ℕ) → recordPrices job discounts prices .number ≡ 0 →

@@ -7,6 +7,7 @@ ghost use Prim.Native.Nat.{_+_, _-_, _≤_};
 ghost use lib.ListN.{length, take, drop};
 ghost use Rattle.arithmetic.specs.Row.{place};
 ghost use Rattle.limits.specs.Limits.{mostStatePrices};
+ghost use Rattle.spacing.specs.Spacing.{spacing};
 ghost use Rattle.fitting.specs.Entry.{fitNumber, fitMemory, fitDiscounts};
 ghost use Rattle.shelf_laws.specs.Parts.{part, zeros, opened, closed};
 ghost use Rattle.shelf_laws.specs.Shelf.{fittedSlot};
@@ -90,7 +91,7 @@ pub(crate) fn fit_part(
     ensures number { λ r. ⌜ r ≡ fitNumber frequency (tree .steps) (tree .reversion) volatility
         (now (rows .entry)) (now (kinds .entry)) (now (figures .entry)) (tree .count) mostStatePrices ⌝ }
     ensures memory { λ r. ⌜ now (memory .exit) ≡ place (now (memory .entry)) (tree .start)
-        (fitMemory r (fitDiscounts frequency (tree .steps) (tree .reversion) volatility (now (kinds .entry)) (now (figures .entry)))
+        (fitMemory r (fitDiscounts frequency (tree .steps) (tree .reversion) (spacing frequency volatility) (now (kinds .entry)) (now (figures .entry)))
         (part (now (memory .entry)) (tree .start) (tree .count))) ⌝ }
 {
     let mut prices = state_prices();

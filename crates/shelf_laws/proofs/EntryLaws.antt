@@ -12,6 +12,7 @@ use Rattle.arithmetic.specs.Row.{place}
 use Rattle.arithmetic.proofs.Numbers.{by-equal}
 use Rattle.limits.specs.Limits.{mostStatePrices}
 use Rattle.lattice.specs.Shape.{discountsNeeded}
+use Rattle.spacing.specs.Spacing.{spacing}
 use Rattle.fitting.specs.Entry.{fitNumber, fitMemory, fitDiscounts, discountsAfter}
 use Rattle.fitting.proofs.FittedTree.{fit-discounts-length}
 use Rattle.shelf_laws.specs.declared.Slot.{Slot}
@@ -38,13 +39,13 @@ module _ (f n b s : ℕ) (rows kinds : List ℕ) (figures : List Float) (m price
 
   pub lent-fitted : (last : List ℕ) → last ≡ discountsAfter f n b s rows kinds figures (midOf at (at + count - at) m) prices →
       length last ≡ length (midOf at (at + count - at) m) →
-      putMid at (at + count - at) m last ≡ place m at (fitMemory r (fitDiscounts f n b s kinds figures) (part m at count))
+      putMid at (at + count - at) m last ≡ place m at (fitMemory r (fitDiscounts f n b (spacing f s) kinds figures) (part m at count))
   lent-fitted last e same =
-      let is : last ≡ fitMemory r (fitDiscounts f n b s kinds figures) (part m at count) =
+      let is : last ≡ fitMemory r (fitDiscounts f n b (spacing f s) kinds figures) (part m at count) =
       e
-      ∙ ap (λ (x : ℕ). fitMemory x (fitDiscounts f n b s kinds figures) (midOf at (at + count - at) m)) (sym number)
-      ∙ ap (λ (x : List ℕ). fitMemory r (fitDiscounts f n b s kinds figures) x) (lent-part m at count) in
-      part-back-to m at (at + count) (fitMemory r (fitDiscounts f n b s kinds figures) (part m at count)) last (omega arith) is
+      ∙ ap (λ (x : ℕ). fitMemory x (fitDiscounts f n b (spacing f s) kinds figures) (midOf at (at + count - at) m)) (sym number)
+      ∙ ap (λ (x : List ℕ). fitMemory r (fitDiscounts f n b (spacing f s) kinds figures) x) (lent-part m at count) in
+      part-back-to m at (at + count) (fitMemory r (fitDiscounts f n b (spacing f s) kinds figures) (part m at count)) last (omega arith) is
       (ap length (sym is) ∙ same ∙ lent-count m at count fits ∙ omega arith)
 
 -- ---- asking
@@ -131,7 +132,7 @@ module _ (slots : List Slot) (name f s : ℕ) (rows kinds : List ℕ) (figures :
 
     module _ (r : ℕ) (er : r ≡ commitNumber slots name f s rows kinds figures) where
       pub commit-memory : (m last : List ℕ) →
-          last ≡ place m (l .start) (fitMemory r (fitDiscounts f (l .steps) (l .reversion) s kinds figures) (part m (l .start) (l .count))) →
+          last ≡ place m (l .start) (fitMemory r (fitDiscounts f (l .steps) (l .reversion) (spacing f s) kinds figures) (part m (l .start) (l .count))) →
           last ≡ commitMemory slots m name f s rows kinds figures
       unfolding commitMemory commitPart
       commit-memory m last p =
@@ -141,17 +142,17 @@ module _ (slots : List Slot) (name f s : ℕ) (rows kinds : List ℕ) (figures :
 
       -- the tree's part, as the fit leaves it
       fitted-part : (m : List ℕ) → length m ≡ room →
-          part (place m (l .start) (fitMemory r (fitDiscounts f (l .steps) (l .reversion) s kinds figures) (part m (l .start) (l .count))))
+          part (place m (l .start) (fitMemory r (fitDiscounts f (l .steps) (l .reversion) (spacing f s) kinds figures) (part m (l .start) (l .count))))
           (l .start) (l .count)
           ≡ commitPart slots name f s rows kinds figures m
       unfolding commitPart
       fitted-part m long =
           let t = awaiting slots name l e h .0 in
-          let fitted = fitDiscounts f (l .steps) (l .reversion) s kinds figures in
+          let fitted = fitDiscounts f (l .steps) (l .reversion) (spacing f s) kinds figures in
           let before = part m (l .start) (l .count) in
           let whole : length before ≡ l .count = part-length m (l .start) (l .count) (omega (arith, t .fits)) in
           let needed : length fitted ≡ l .count =
-          fit-discounts-length f (l .steps) (l .reversion) s kinds figures
+          fit-discounts-length f (l .steps) (l .reversion) (spacing f s) kinds figures
           ∙ ap₂ discountsNeeded (t .steps-is) (t .reversion-is)
           ∙ sym (t .tree .nodes)
           ∙ sym (t .count-is) in
@@ -161,7 +162,7 @@ module _ (slots : List Slot) (name f s : ℕ) (rows kinds : List ℕ) (figures :
           ∙ rw (er, t .start-is, t .steps-is, t .reversion-is, t .count-is)
 
       pub commit-slots : r ≡ 0 → (m last : List ℕ) (next : Slot) (after : List Slot) → length m ≡ room →
-          last ≡ place m (l .start) (fitMemory r (fitDiscounts f (l .steps) (l .reversion) s kinds figures) (part m (l .start) (l .count))) →
+          last ≡ place m (l .start) (fitMemory r (fitDiscounts f (l .steps) (l .reversion) (spacing f s) kinds figures) (part m (l .start) (l .count))) →
           next ≡ fittedSlot (l .steps) (l .reversion) (part last (l .start) (l .count)) → after ≡ set slots (name - 1) next →
           after ≡ commitSlots slots m name f s rows kinds figures
       unfolding commitSlots

@@ -11,6 +11,7 @@ use lib.ListN.{getD, set, replicate}
 use Rattle.arithmetic.specs.Row.{place}
 use Rattle.limits.specs.Limits.{mostSteps, mostStatePrices, shapeCause}
 use Rattle.lattice.specs.Shape.{discountsNeeded}
+use Rattle.spacing.specs.Spacing.{spacing}
 use Rattle.fitting.specs.Entry.{fitNumber, fitMemory, fitDiscounts}
 use Rattle.price_bound.specs.PriceBound.{treeBoundsAnswer}
 use Rattle.shelf_laws.specs.declared.Slot.{Slot}
@@ -135,7 +136,8 @@ module _ (slots : List Slot) (name f s : ℕ) (rows kinds : List ℕ) (figures :
   -- the tree's part as the fit leaves it
   unfoldable pub commitPart : List ℕ → List ℕ
   commitPart memory =
-      fitMemory commitNumber (fitDiscounts f (slotOf slots name .steps) (slotOf slots name .reversion) s kinds figures) (discountsOf slots memory name)
+      fitMemory commitNumber (fitDiscounts f (slotOf slots name .steps) (slotOf slots name .reversion) (spacing f s) kinds figures)
+      (discountsOf slots memory name)
 
 -- slots and memory afterwards
 unfoldable pub commitSlots : List Slot → List ℕ → ℕ → ℕ → ℕ → List ℕ → List ℕ → List Float → List Slot

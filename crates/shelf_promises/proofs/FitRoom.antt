@@ -13,7 +13,8 @@ use Rattle.lattice.specs.Entries.{memoryCause}
 use Rattle.lattice.proofs.EntryLaws.{tree-answered}
 use Rattle.lattice.proofs.Sizes.{start-within}
 use Rattle.lent_tree.specs.LentTree.{discountsCause}
-use Rattle.fitting.specs.Entry.{earlyCause, fitNumber}
+use Rattle.spacing.specs.Spacing.{spacing, spacingAnswer}
+use Rattle.fitting.specs.Entry.{earlyCause, fittedNumber, fitNumber}
 use Rattle.fitting.proofs.FittedTree.{fit-discounts-lent}
 use Rattle.shelf_promises.specs.Model.{Quoted, fitNumberOf, fitDiscountsOf}
 
@@ -35,10 +36,11 @@ module _ (n b : ℕ) (shape : shapeCause n b ≡ 0) where
   pub any-room : (f s : ℕ) (rows kinds : List ℕ) (figures : List Float) (discounts prices : ℕ) →
       discountsNeeded n b ≤ discounts → statePricesNeeded n b ≤ prices →
       fitNumber f n b s rows kinds figures (discountsNeeded n b) mostStatePrices ≡ fitNumber f n b s rows kinds figures discounts prices
-  unfolding fitNumber earlyCause
+  unfolding fittedNumber earlyCause
   any-room f s rows kinds figures discounts prices h l =
       rw (room-enough (discountsNeeded n b) mostStatePrices (omega arith) all-most, room-enough discounts prices h l)
 
 pub fit-lent : (q : Quoted) (n b : ℕ) → fitNumberOf q n b ≡ 0 → discountsCause n b (fitDiscountsOf q n b) ≡ 0
 fit-lent q n b e =
-    fit-discounts-lent (q .frequency) n b (q .volatility) (q .kinds) (q .figures) (q .rows) (discountsNeeded n b) mostStatePrices e
+    fit-discounts-lent (q .frequency) n b (spacing (q .frequency) (q .volatility)) (q .kinds) (q .figures)
+    (spacingAnswer (q .frequency) (q .volatility) .number) (q .rows) (discountsNeeded n b) mostStatePrices e

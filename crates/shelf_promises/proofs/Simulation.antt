@@ -12,6 +12,7 @@ use Rattle.arithmetic.specs.Row.{place}
 use Rattle.arithmetic.proofs.Numbers.{by-equal}
 use Rattle.limits.specs.Limits.{shapeCause}
 use Rattle.lattice.specs.Shape.{discountsNeeded}
+use Rattle.spacing.specs.Spacing.{spacing}
 use Rattle.fitting.proofs.FittedTree.{fit-discounts-length}
 use Rattle.price_bound.proofs.BoundLaws.{bounds-bound, bounds-greatest}
 use Rattle.shelf_laws.specs.Parts.{zeros, opened, closed}
@@ -326,13 +327,13 @@ module _ (k : Kept) (s : Sound (k .slots) (k .memory)) (name : ℕ) (q : Quoted)
     part-count =
         part-length (k .memory) (nodesBefore (k .slots) (name - 1)) (nodesOf (slotOf (k .slots) name)) inside
         ∙ tree .nodes
-        ∙ sym (fit-discounts-length (q .frequency) steps reversion (q .volatility) (q .kinds) (q .figures))
+        ∙ sym (fit-discounts-length (q .frequency) steps reversion (spacing (q .frequency) (q .volatility)) (q .kinds) (q .figures))
 
     row-count : length row ≡ nodesOf (slotOf (k .slots) name)
     unfolding commitPart
     row-count =
         part-size number (fitDiscountsOf q steps reversion) (discountsOf (k .slots) (k .memory) name) part-count
-        ∙ fit-discounts-length (q .frequency) steps reversion (q .volatility) (q .kinds) (q .figures)
+        ∙ fit-discounts-length (q .frequency) steps reversion (spacing (q .frequency) (q .volatility)) (q .kinds) (q .figures)
         ∙ sym (tree .nodes)
 
     row-fitted : number ≡ 0 → row ≡ fitDiscountsOf q steps reversion
@@ -350,7 +351,7 @@ module _ (k : Kept) (s : Sound (k .slots) (k .memory)) (name : ℕ) (q : Quoted)
           by-equal number 9
           (λ (e : number ≡ 9).
           part-zeroed number (fitDiscountsOf q steps reversion) (discountsOf (k .slots) (k .memory) name) part-count e
-          ∙ ap zeros (fit-discounts-length (q .frequency) steps reversion (q .volatility) (q .kinds) (q .figures))
+          ∙ ap zeros (fit-discounts-length (q .frequency) steps reversion (spacing (q .frequency) (q .volatility)) (q .kinds) (q .figures))
           ∙ sym all-zero)
           (λ (e : number ≡ 9 → ⊥).
           part-left number (fitDiscountsOf q steps reversion) (discountsOf (k .slots) (k .memory) name) part-count z e)

@@ -12,6 +12,7 @@ use Rattle.arithmetic.proofs.RowLaws.{length-row}
 use Rattle.limits.specs.Limits.{shapeCause}
 use Rattle.lattice.specs.Shape.{discountsNeeded}
 use Rattle.lent_tree.proofs.LentLaws.{accepted-shape}
+use Rattle.spacing.specs.Spacing.{spacing}
 use Rattle.fitting.proofs.FittedTree.{fit-discounts-length}
 use Rattle.shelf_laws.specs.Parts.{zeros}
 use Rattle.shelf_laws.specs.Shelf.{room}
@@ -103,7 +104,7 @@ good-fitted : (q : Quoted) (n b : ℕ) → fitNumberOf q n b ≡ 0 → GoodTree 
 good-fitted q n b e =
     record {
       shape = accepted-shape n b (fitDiscountsOf q n b) (fit-lent q n b e);
-      nodes = fit-discounts-length (q .frequency) n b (q .volatility) (q .kinds) (q .figures);
+      nodes = fit-discounts-length (q .frequency) n b (spacing (q .frequency) (q .volatility)) (q .kinds) (q .figures);
       unfitted = λ h. never (sym h);
       committed = λ h. record { quoted = q; accepted = e; discounts-are = refl };
       accepted = λ h. fit-lent q n b e;

@@ -9,6 +9,7 @@ use lib.Ieee.{Float}
 use lib.ListN.{length, replicate}
 use Rattle.limits.specs.Limits.{mostSteps, mostStatePrices, shapeCause}
 use Rattle.lattice.specs.Shape.{discountsNeeded}
+use Rattle.spacing.specs.Spacing.{spacing}
 use Rattle.fitting.specs.Entry.{fitNumber, fitDiscounts}
 use Rattle.price_bound.specs.PriceBound.{treeErrorBound, greatestDiscounts}
 use Rattle.price_laws.specs.declared.Price.{Price}
@@ -46,7 +47,7 @@ fitNumberOf q n b =
     fitNumber (q .frequency) n b (q .volatility) (q .rows) (q .kinds) (q .figures) (discountsNeeded n b) mostStatePrices
 
 abbrev pub fitDiscountsOf : Quoted → ℕ → ℕ → List ℕ
-fitDiscountsOf q n b = fitDiscounts (q .frequency) n b (q .volatility) (q .kinds) (q .figures)
+fitDiscountsOf q n b = fitDiscounts (q .frequency) n b (spacing (q .frequency) (q .volatility)) (q .kinds) (q .figures)
 
 -- a bond by its flows; an option on it by kind, expiry and strike; an option on it by side, listed rows and strike
 pub data Pricing : Type 0 where

@@ -1,2 +1,3 @@
 pub mod SpacingLaws
+pub mod VersionLaws
 pub mod Figures

@@ -1,6 +1,6 @@
 -- h is the greatest whole number with h² × f³ ≤ 3 × (1,000 s)², and the answers of the entry.
 -- Assumes nothing.
-use mathlib.Core.Path.{_≡_, refl, sym, ap, _∙_}
+use mathlib.Core.Path.{_≡_, refl, ap}
 use mathlib.Core.Bool.{Bool, true, false, cond}
 use mathlib.Core.Logic.{_⊎_, inl, inr}
 use Prim.Native.Nat.{ℕ, zero, suc, _+_, _*_, _/_, _≤_, _<_}
@@ -14,7 +14,6 @@ use Rattle.arithmetic.specs.declared.Answer.{Answer}
 use Rattle.arithmetic.proofs.Numbers.{by-order}
 use Rattle.spacing.specs.Spacing.{greatestPassing, greatestRoot, spacing, spacingAnswer}
 use Rattle.arithmetic.specs.Frequency.{listed}
-use Rattle.arithmetic.proofs.FrequencyLaws.{listed-small}
 
 -- what passes among 0 to n is at most the greatest that passes, which passes if 0 does
 passing-most : (test : ℕ → Bool) (n k : ℕ) → k ≤ n → T (test k) → k ≤ greatestPassing test n
@@ -119,16 +118,6 @@ spacing-volatile f s u h = rw (u, lt-ltb 50000 s h)
 pub spacing-accepted : (f s : ℕ) → listed f ≡ true → s ≤ 50000 → spacingAnswer f s ≡ answered (spacing f s)
 unfolding spacingAnswer
 spacing-accepted f s u h = rw (u, le-ltb 50000 s h)
-
--- a whole square root of the quotient is the value answered
-pub spacing-found :
-    (f s h : ℕ) → listed f ≡ true → s ≤ 50000 →
-    h * h ≤ 3 * (1000 * s * (1000 * s)) / (f * f * f) → 3 * (1000 * s * (1000 * s)) / (f * f * f) < (h + 1) * (h + 1) →
-    spacingAnswer f s ≡ answered h
-unfolding spacing
-spacing-found f s h u l low high =
-    spacing-accepted f s u l
-    ∙ ap answered (sym (root-of-quotient (f * f * f) (3 * (1000 * s * (1000 * s))) (cube-positive (listed-small f u .0)) h low high))
 
 -- number 0 means accepted, and the value is h
 pub record Accepted (f s : ℕ) (answer : Answer) : Type 0 where

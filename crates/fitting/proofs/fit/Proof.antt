@@ -1,46 +1,15 @@
 -- `fitting::fit` meets its contract.
 -- Assumes nothing.
-use mathlib.Core.Path.{refl, sym}
-use native.Mathlib.Omega.{arith}
-use Rattle.fitting.proofs.FitEntry as laws
 use borrow.Author.Needs.{needs}
+use Rattle.fitting.proofs.FitEntry as laws
 use Rattle.fitting.proofs.fit.Statement.{statement}
 use Rattle.fitting.proofs.fit.Tie as tie
 
--- what is known once the quotes were converted and the plan was made
-prepared : (c : tie.After-plan-of) →
-    let s = c .before .before .before .before .before .before .before .before .before in
-    laws.Prepared (s .args .frequency) (s .args .steps) (s .args .reversion) (s .args .volatility)
-    (s .args .rows .now) (s .args .kinds .now) (s .args .figures .now) (s .args .discounts .now) (s .args .prices .now)
-    (c .plan-of .result) (c .before .before .convert .last .1 .1 .1 .1 .1 .0)
-prepared c =
-    let converted = c .before .before .convert in
-    laws.prepared _ refl (converted .ensures .0) (converted .ensures .1) (c .plan-of .ensures)
+spacing-requires : tie.Need-spacing-requires
+spacing-requires c κs = search needs
 
-slice-aggregate-convert : tie.Need-slice-aggregate-convert
-slice-aggregate-convert c = search needs
-
-convert-requires : tie.Need-convert-requires
-convert-requires c κs = search needs
-
-plan-of-requires : tie.Need-plan-of-requires
-plan-of-requires c κs = search needs
-
-returns : tie.Need-returns
-returns c = laws.fit-refused (prepared (c .before .before)) (c .if1 .taken)
-
-array-share-prefix-quotes : tie.Need-array-share-prefix-quotes
-array-share-prefix-quotes c = omega (arith, laws.steps-few (prepared (c .before .before)) (c .if1 .left))
-
-slice-aggregate-fit-quotes : tie.Need-slice-aggregate-fit-quotes
-slice-aggregate-fit-quotes c =
-    let planned = c .before in
-    sym (laws.quotes-length (prepared (planned .before .before)) (planned .if1 .left))
-
-fit-quotes-requires : tie.Need-fit-quotes-requires
-fit-quotes-requires c κs =
-    let planned = c .before .before .before in
-    laws.quotes-ready (prepared (planned .before .before)) (planned .if1 .left)
+fit-tree-requires : tie.Need-fit-tree-requires
+fit-tree-requires c κs = laws.spacing-known _ _ _ (c .before .before .spacing .ensures)
 
 same-length : tie.Need-same-length
 same-length c = search needs
@@ -48,23 +17,14 @@ same-length c = search needs
 same-length-2 : tie.Need-same-length-2
 same-length-2 c = search needs
 
-returns-2 : tie.Need-returns-2
-returns-2 c =
+returns : tie.Need-returns
+returns c =
     let fitted = c .before .before .before .before in
-    let planned = fitted .before .before .before .before in
-    laws.fit-made (prepared (planned .before .before)) (planned .if1 .left) (fitted .fit-quotes .ensures .0) (fitted .fit-quotes .ensures .1)
+    let spaced = fitted .before .before .before in
+    let a = spaced .before .before .before .before .before .before .args in
+    laws.fit-answered (a .frequency) (a .steps) (a .rows .now) (a .kinds .now) (a .figures .now) (a .discounts .now) (a .prices .now)
+    (a .reversion) (a .volatility) (spaced .spacing .result) (spaced .spacing .ensures) (fitted .fit-tree .ensures)
 
 pub fit-spec : {M : Type 1} → statement M
 fit-spec =
-    tie.close
-    (tie.spec
-    slice-aggregate-convert
-    convert-requires
-    plan-of-requires
-    returns
-    array-share-prefix-quotes
-    slice-aggregate-fit-quotes
-    fit-quotes-requires
-    same-length
-    same-length-2
-    returns-2)
+    tie.close (tie.spec spacing-requires fit-tree-requires same-length same-length-2 returns)

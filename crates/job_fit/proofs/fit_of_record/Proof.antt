@@ -29,29 +29,32 @@ figures-of-requires c κs = search needs
 array-share-prefix-rows : tie.Need-array-share-prefix-rows
 array-share-prefix-rows c = search needs
 
-slice-aggregate-fit : tie.Need-slice-aggregate-fit
-slice-aggregate-fit c =
-    let made = c .before in
+slice-aggregate-fit-version : tie.Need-slice-aggregate-fit-version
+slice-aggregate-fit-version c =
+    let made = c .before .before in
     laws.lent-column (made .before .rows-of .result) (start made .args .job .steps) (search needs)
 
 array-share-prefix-kinds : tie.Need-array-share-prefix-kinds
-array-share-prefix-kinds c = omega (arith, kinds-size (start (c .before)))
+array-share-prefix-kinds c = omega (arith, kinds-size (start (c .before .before)))
 
-slice-aggregate-fit-2 : tie.Need-slice-aggregate-fit-2
-slice-aggregate-fit-2 c =
-    let s = start (c .before .before) in
+slice-aggregate-fit-version-2 : tie.Need-slice-aggregate-fit-version-2
+slice-aggregate-fit-version-2 c =
+    let s = start (c .before .before .before) in
     laws.lent-column (s .args .job .kinds) (s .args .job .steps) (omega (arith, kinds-size s))
 
 array-share-prefix-figures : tie.Need-array-share-prefix-figures
 array-share-prefix-figures c = search needs
 
-slice-aggregate-fit-3 : tie.Need-slice-aggregate-fit-3
-slice-aggregate-fit-3 c =
-    let made = c .before .before .before in
+slice-aggregate-fit-version-3 : tie.Need-slice-aggregate-fit-version-3
+slice-aggregate-fit-version-3 c =
+    let made = c .before .before .before .before in
     laws.lent-column (made .figures-of .result) (start made .args .job .steps) (search needs)
 
-fit-requires : tie.Need-fit-requires
-fit-requires c κs = search needs
+meant-version-requires : tie.Need-meant-version-requires
+meant-version-requires c κs = search needs
+
+fit-version-requires : tie.Need-fit-version-requires
+fit-version-requires c κs = search needs
 
 same-length : tie.Need-same-length
 same-length c = search needs
@@ -62,11 +65,11 @@ same-length-2 c = search needs
 returns-2 : tie.Need-returns-2
 returns-2 c =
     let fitted = c .before .before .before .before in
-    let made = fitted .before .before .before .before .before .before in
+    let meant = fitted .before .before .before .before .before .before in
+    let made = meant .before in
     let a = start made .args in
-    let fit = fitted .fit .ensures in
-    laws.fit-made (a .job) (omega arith) _ _ (made .before .rows-of .ensures .1) (made .figures-of .ensures .1) (a .discounts .now) (a .state-prices .now) _ _ _
-    (fit .0) (fit .1 .0) (fit .1 .1)
+    laws.fit-made (a .job) (omega arith) _ _ (made .before .rows-of .ensures .1) (made .figures-of .ensures .1)
+    (meant .meant-version .result) (meant .meant-version .ensures) (a .discounts .now) (a .state-prices .now) _ _ _ (fitted .fit-version .ensures)
 
 pub fit-of-record-spec : {M : Type 1} → statement M
 fit-of-record-spec =
@@ -75,13 +78,14 @@ fit-of-record-spec =
     returns
     rows-of-requires
     figures-of-requires
+    meant-version-requires
     array-share-prefix-rows
-    slice-aggregate-fit
+    slice-aggregate-fit-version
     array-share-prefix-kinds
-    slice-aggregate-fit-2
+    slice-aggregate-fit-version-2
     array-share-prefix-figures
-    slice-aggregate-fit-3
-    fit-requires
+    slice-aggregate-fit-version-3
+    fit-version-requires
     same-length
     same-length-2
     returns-2)

@@ -35,6 +35,9 @@ slice-aggregate-fit-of-record-2 c = search needs
 fit-of-record-requires : tie.Need-fit-of-record-requires
 fit-of-record-requires c κs = search needs
 
+meant-reversion-requires : tie.Need-meant-reversion-requires
+meant-reversion-requires c κs = search needs
+
 memory-cause-requires : tie.Need-memory-cause-requires
 memory-cause-requires c κs = search needs
 
@@ -45,8 +48,11 @@ refused-requires-2 : tie.Need-refused-requires-2
 refused-requires-2 c κs = search needs
 
 -- where the lowest cause is known: the record is fitted, in memories of the function's own
+abbrev working : tie.After-lowest-cause → tie.After-meant-reversion
+working c = c .before .before
+
 abbrev fitted : tie.After-lowest-cause → tie.After-fit-of-record
-fitted c = c .before .before .before .before
+fitted c = working c .before .before .before
 
 abbrev memories : tie.After-lowest-cause → tie.After-state-prices
 memories c = fitted c .before .before .before
@@ -70,6 +76,7 @@ returns-2 c =
     let own-d = memories found .before .discounts in
     let own-p = memories found .state-prices in
     laws.record-refused (a .job) (form-none found) (own-d .result) (own-p .result) _ _ (fit .result) (own-d .ensures) (own-p .ensures) (fit .ensures)
+    (working found .meant-reversion .result) (working found .meant-reversion .ensures)
     (a .discounts .now) (a .state-prices .now) _ _ (found .before .memory-cause .ensures) (found .lowest-cause .ensures) _
     (c .refused2 .ensures) (refusing .if2 .taken)
 
@@ -94,6 +101,7 @@ held c =
     let own-d = memories found .before .discounts in
     let own-p = memories found .state-prices in
     laws.held (a .job) (form-none found) (own-d .result) (own-p .result) _ _ (fit .result) (own-d .ensures) (own-p .ensures) (fit .ensures)
+    (working found .meant-reversion .result) (working found .meant-reversion .ensures)
     (a .discounts .now) (a .state-prices .now) _ _ (found .before .memory-cause .ensures) (found .lowest-cause .ensures) (accepted .if2 .left)
     (c .before .discounts-needed .result) (c .state-prices-needed .result) (c .before .discounts-needed .ensures) (c .state-prices-needed .ensures)
 
@@ -121,7 +129,9 @@ same-length-2 c = search needs
 returns-3 : tie.Need-returns-3
 returns-3 c =
     let priced = c .before .before .before .before in
-    laws.record-made _ _ _ _ _ _ _ (held (priced .before .before .before .before .before)) _ _ _ (priced .prices-of-tree .ensures)
+    let counted = priced .before .before .before .before .before in
+    let meant = working (counted .before .before .before) .meant-reversion in
+    laws.record-made _ _ _ _ _ _ _ (held counted) (meant .result) (meant .ensures) _ _ _ (priced .prices-of-tree .ensures)
 
 pub prices-of-record-spec : {M : Type 1} → statement M
 prices-of-record-spec =
@@ -135,6 +145,7 @@ prices-of-record-spec =
     slice-aggregate-fit-of-record
     slice-aggregate-fit-of-record-2
     fit-of-record-requires
+    meant-reversion-requires
     memory-cause-requires
     lowest-cause-requires
     refused-requires-2

@@ -32,10 +32,10 @@ tree-prices-requires : tie.Need-tree-prices-requires
 tree-prices-requires c κs = search needs
 
 abbrev number : tie.Start → ℕ
-number s = let a = s .args in treeNumber (a .job .steps) (a .job .reversion) (a .fitted-discounts .now) (jobFlows (a .job)) (a .job .option)
+number s = let a = s .args in treeNumber (a .job .steps) (a .reversion) (a .fitted-discounts .now) (jobFlows (a .job)) (a .job .option)
 
 abbrev prices : tie.Start → JobPrices
-prices s = let a = s .args in treePrices (a .job .steps) (a .job .reversion) (a .fitted-discounts .now) (jobFlows (a .job)) (a .job .option)
+prices s = let a = s .args in treePrices (a .job .steps) (a .reversion) (a .fitted-discounts .now) (jobFlows (a .job)) (a .job .option)
 
 -- where the tree is priced
 abbrev priced-from : tie.After-tree-prices → tie.Start
@@ -44,7 +44,7 @@ priced-from c = start (c .before .before)
 number-is : (c : tie.After-tree-prices) → c .tree-prices .result .number ≡ number (priced-from c)
 number-is c =
     let a = priced-from c .args in
-    laws.tree-number (a .job .steps) (a .job .reversion) (a .fitted-discounts .now) (jobFlows (a .job)) (a .job .option) _ (c .tree-prices .ensures)
+    laws.tree-number (a .job .steps) (a .reversion) (a .fitted-discounts .now) (jobFlows (a .job)) (a .job .option) _ (c .tree-prices .ensures)
 
 returns : tie.Need-returns
 returns c =

@@ -1,14 +1,14 @@
 -- `jobs::job_of` meets its contract.
 -- Assumes nothing.
 use borrow.Author.Needs.{needs}
-use mathlib.Core.Path.{_≡_}
-use Prim.Native.Nat.{_≤_}
+use mathlib.Core.Path.{_≡_, ap, _∙_}
+use Prim.Native.Nat.{ℕ, _≤_}
 use native.Mathlib.Omega.{arith}
 use lib.ListN.{length}
 use denote.Ref.{now}
-use Rattle.job_record.specs.Form.{mostJobSteps, quotesAt, restAt, stepsOf}
+use Rattle.job_record.specs.Form.{mostJobSteps, afterFields, versionAt, quotesAt, restAt, stepsOf}
 use Rattle.job_record.specs.Reader.{jobOf}
-use Rattle.job_record.proofs.Forms.{well-body, well-length, body-rest, dates-few}
+use Rattle.job_record.proofs.Forms.{well-body, well-length, quotes-from, body-rest, dates-few}
 use Rattle.jobs.proofs.job_of.Statement.{statement}
 use Rattle.jobs.proofs.job_of.Tie as tie
 
@@ -16,11 +16,18 @@ add-number : tie.Need-add-number
 add-number c = search needs
 
 number-requires : tie.Need-number-requires
-number-requires c κs = omega (arith, well-length _ (c .before .pre))
+number-requires c κs = omega (arith, well-length _ (c .before .pre), quotes-from (now (c .before .args .bytes)))
 
--- the number of steps as it was read, and the place after the flows
-known : (c : tie.After-number) → (c .number .result ≤ mostJobSteps) × (restAt quotesAt (c .number .result) ≤ length (now (c .before .before .args .bytes)))
-known c = (omega (arith, c .number .ensures .1), rw (c .number .ensures .0) (well-length _ (c .before .before .pre)))
+quotes-at-requires : tie.Need-quotes-at-requires
+quotes-at-requires c κs = search needs
+
+-- the number of steps and the place of the quotes as they were read, and the place after the flows
+known : (c : tie.After-quotes-at) →
+    let n = c .before .number .result in
+    (n ≤ mostJobSteps) × (restAt (c .quotes-at .result) n ≤ length (now (c .before .before .before .args .bytes)))
+known c =
+    let read = c .before .number .ensures in
+    (omega (arith, read .1), rw (read .0, c .quotes-at .ensures .0) (well-length _ (c .before .before .before .pre)))
 
 after-fields-requires : tie.Need-after-fields-requires
 after-fields-requires c κs = omega (arith, known c)
@@ -45,27 +52,35 @@ after-fields-requires-2 c κs =
 abbrev flows-found : tie.After-after-fields2 → tie.After-after-fields
 flows-found c = c .before .before .before .before
 
+abbrev placed : tie.After-after-fields2 → tie.After-quotes-at
+placed c = flows-found c .before
+
 abbrev counted : tie.After-after-fields2 → tie.After-number
-counted c = flows-found c .before
+counted c = placed c .before
 
 abbrev start : tie.After-after-fields2 → tie.Start
 start c = counted c .before .before
 
 -- the place of what follows the flows
-rest-place : (c : tie.After-after-fields2) → c .after-fields2 .result ≡ restAt quotesAt (counted c .number .result)
-rest-place c = rw (flows-found c .after-fields .ensures .0) at (c .after-fields2 .ensures .0)
+rest-place : (c : tie.After-after-fields2) → c .after-fields2 .result ≡ restAt (quotesAt (now (start c .args .bytes))) (counted c .number .result)
+rest-place c =
+    let n = counted c .number .result in
+    c .after-fields2 .ensures .0
+    ∙ ap (λ (flows : ℕ). afterFields flows 4 n) (flows-found c .after-fields .ensures .0)
+    ∙ ap (λ (quotes : ℕ). restAt quotes n) (placed c .quotes-at .ensures .0)
 
 -- the record is long enough for each of its fields
 long : (c : tie.After-after-fields2) →
-    let bytes = now (start c .args .bytes) in restAt quotesAt (stepsOf bytes) ≤ length bytes
-long c = well-length _ (start c .pre)
+    let bytes = now (start c .args .bytes) in restAt versionAt (stepsOf bytes) ≤ length bytes
+long c = omega (arith, well-length _ (start c .pre), quotes-from (now (start c .args .bytes)))
 
 option-at-requires : tie.Need-option-at-requires
 option-at-requires c κs =
-    let formed = body-rest _ quotesAt _ (well-body _ (start c .pre)) in
+    let quotes = quotesAt (now (start c .args .bytes)) in
+    let formed = body-rest _ quotes _ (well-body _ (start c .pre)) in
     let few = dates-few _ (start c .pre) in
-    let read = counted c .number .ensures .0 in
-    (c .after-fields2 .ensures .1, rw (rest-place c, read) formed, rw (rest-place c, read) few)
+    let there = rest-place c ∙ ap (λ (n : ℕ). restAt quotes n) (counted c .number .ensures .0) in
+    (c .after-fields2 .ensures .1, rw there formed, rw there few)
 
 add-number-2 : tie.Need-add-number-2
 add-number-2 c = search needs
@@ -85,10 +100,13 @@ add-number-4 c = search needs
 number-requires-4 : tie.Need-number-requires-4
 number-requires-4 c κs = omega (arith, long (c .before .before .before))
 
+version-of-requires : tie.Need-version-of-requires
+version-of-requires c κs = search needs
+
 returns : tie.Need-returns
 unfolding jobOf
 returns c =
-    let optioned = c .before .before .before in
+    let optioned = c .before .before .before .before in
     let rest-found = optioned .before in
     let flows-read = rest-found .before in
     let figures-read = flows-read .before in
@@ -99,10 +117,12 @@ returns c =
       optioned .option-at .ensures,
       rest-place rest-found,
       flows-found rest-found .after-fields .ensures .0,
+      placed rest-found .quotes-at .ensures .0,
       counted rest-found .number .ensures .0,
-      c .before .before .number2 .ensures .0,
-      c .before .number3 .ensures .0,
-      c .number4 .ensures .0,
+      c .before .before .before .number2 .ensures .0,
+      c .before .before .number3 .ensures .0,
+      c .before .number4 .ensures .0,
+      c .version-of .ensures,
     )
 
 pub job-of-spec : {M : Type 1} → statement M
@@ -111,6 +131,7 @@ job-of-spec =
     (tie.spec
     add-number
     number-requires
+    quotes-at-requires
     after-fields-requires
     tags-from-requires
     data-from-requires
@@ -123,4 +144,5 @@ job-of-spec =
     number-requires-3
     add-number-4
     number-requires-4
+    version-of-requires
     returns)

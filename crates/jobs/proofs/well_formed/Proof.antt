@@ -23,13 +23,19 @@ add-number c = search needs
 number-requires : tie.Need-number-requires
 number-requires c κs = omega (arith, head-whole _ (passed (c .before .head-formed .ensures) (c .if2 .left)))
 
+quotes-at-requires : tie.Need-quotes-at-requires
+quotes-at-requires c κs = search needs
+
 body-formed-requires : tie.Need-body-formed-requires
-body-formed-requires c κs = omega (arith, c .number .ensures .1)
+body-formed-requires c κs = omega (arith, c .before .number .ensures .1, c .quotes-at .ensures .1)
 
 returns-3 : tie.Need-returns-3
 returns-3 c =
-    let head = passed (c .before .before .before .head-formed .ensures) (c .before .before .if2 .left) in
-    c .body-formed .ensures ∙ formed-by-body _ (c .before .before .before .before .if1 .left) head _ (c .before .number .ensures .0)
+    let placed = c .before in
+    let tested = placed .before .before in
+    let head = passed (tested .before .head-formed .ensures) (tested .if2 .left) in
+    c .body-formed .ensures
+    ∙ formed-by-body _ (tested .before .before .if1 .left) head _ _ (placed .before .number .ensures .0) (placed .quotes-at .ensures .0)
 
 pub well-formed-spec : {M : Type 1} → statement M
 well-formed-spec =
@@ -40,5 +46,6 @@ well-formed-spec =
     returns-2
     add-number
     number-requires
+    quotes-at-requires
     body-formed-requires
     returns-3)

@@ -7,6 +7,9 @@ use Rattle.record_sheet.proofs.DrawLaws.{Drawn, drawn}
 use Rattle.record_sheet.proofs.draw.Statement.{statement}
 use Rattle.record_sheet.proofs.draw.Tie as tie
 
+meant-reversion-requires : tie.Need-meant-reversion-requires
+meant-reversion-requires c κs = search needs
+
 quotes-requires : tie.Need-quotes-requires
 quotes-requires c κs = tt
 
@@ -26,18 +29,21 @@ state-prices-needed-requires c κs = tt
 abbrev converted : tie.After-state-prices-needed → tie.After-quotes-of-record
 converted c = c .before .before .before
 
+abbrev working : tie.After-state-prices-needed → tie.After-meant-reversion
+working c = converted c .before .before .before
+
 abbrev start : tie.After-state-prices-needed → tie.Start
-start c = converted c .before .before .before .before .before .before
+start c = working c .before .before .before .before
 
 known : (c : tie.After-state-prices-needed) →
     let a = start c .args in
-    Drawn (a .job) (converted c .quotes-of-record .last .1 .0) (a .discounts .now) (a .state-prices .now) (c .before .discounts-needed .result .value)
-    (c .state-prices-needed .result .value)
+    Drawn (a .job) (working c .meant-reversion .result) (converted c .quotes-of-record .last .1 .0) (a .discounts .now) (a .state-prices .now)
+    (c .before .discounts-needed .result .value) (c .state-prices-needed .result .value)
 known c =
     let s = start c in
     let own = converted c .before .before .quotes in
-    drawn (s .args .job) _ _ (s .pre .0 .0) (own .result) _ (own .ensures) (converted c .quotes-of-record .ensures .1) _ _
-    (c .before .discounts-needed .ensures) (c .state-prices-needed .ensures)
+    drawn (s .args .job) _ _ (s .pre .0 .0) (own .result) _ (own .ensures) (converted c .quotes-of-record .ensures .1) _
+    (working c .meant-reversion .ensures) _ _ (c .before .discounts-needed .ensures) (c .state-prices-needed .ensures)
 
 array-share-prefix-quotes : tie.Need-array-share-prefix-quotes
 array-share-prefix-quotes c = known (c .before) .quotes-end
@@ -66,13 +72,14 @@ returns c =
     let counted = put .before .before .before .before .before in
     let s = start counted in
     let k = known counted in
-    laws.text-put (s .args .job) _ _ _ (s .args .prices) (k .quotes-are) (k .discounts-are) (k .prices-are) (s .pre .1) (s .args .out .now) _ _ _
-    (put .put-sheet .ensures)
+    laws.text-put (s .args .job) _ _ _ _ (s .args .prices) (k .reversion-is) (k .quotes-are) (k .discounts-are) (k .prices-are) (s .pre .1)
+    (s .args .out .now) _ _ _ (put .put-sheet .ensures)
 
 pub draw-spec : {M : Type 1} → statement M
 draw-spec =
     tie.close
     (tie.spec
+    meant-reversion-requires
     quotes-requires
     slice-aggregate-quotes-of-record
     quotes-of-record-requires

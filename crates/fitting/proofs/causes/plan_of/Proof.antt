@@ -8,20 +8,17 @@ use Rattle.fitting.proofs.causes.plan_of.Tie as tie
 
 -- what is known once the causes 2 to 7 were tested
 tested : (c : tie.After-lowest-cause3) →
-    let s = c .before .before .before .before .before .before in
-    laws.Tested (s .args .frequency) (s .args .steps) (s .args .reversion) (s .args .volatility) (s .args .converted) (s .args .discounts) (s .args .prices)
-    (c .before .before .before .before .spacing .result) (c .lowest-cause3 .result)
+    let s = c .before .before .before .before .before in
+    laws.Tested (s .args .steps) (s .args .reversion) (s .args .converted) (s .args .spaced .number) (s .args .spaced .value)
+    (s .args .discounts) (s .args .prices) (c .lowest-cause3 .result)
 tested c =
     let joined = c .before .before in
     let remembered = joined .before in
-    laws.tested (remembered .before .before .discounts-needed .ensures) (remembered .before .spacing .ensures) (remembered .memory-cause .ensures)
+    laws.tested (remembered .before .before .pre .within-limit) (remembered .before .discounts-needed .ensures) (remembered .memory-cause .ensures)
     (joined .lowest-cause .ensures) (c .before .lowest-cause2 .ensures) (c .lowest-cause3 .ensures)
 
 discounts-needed-requires : tie.Need-discounts-needed-requires
 discounts-needed-requires c κs = search needs
-
-spacing-requires : tie.Need-spacing-requires
-spacing-requires c κs = search needs
 
 memory-cause-requires : tie.Need-memory-cause-requires
 memory-cause-requires c κs = search needs
@@ -64,7 +61,6 @@ plan-of-spec =
     tie.close
     (tie.spec
     discounts-needed-requires
-    spacing-requires
     memory-cause-requires
     lowest-cause-requires
     lowest-cause-requires-2

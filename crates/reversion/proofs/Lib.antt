@@ -1,0 +1,3 @@
+pub mod ReversionLaws
+pub mod EntryLaws
+pub mod Figures

@@ -1,0 +1,33 @@
+-- `version_figures::main` is safe and ends.
+-- Assumes nothing.
+use Prim.Native.Nat.{_-_, _≤_}
+use borrow.Author.Needs.{needs}
+use Rattle.version_figures.proofs.main.Statement.{statement}
+use Rattle.version_figures.proofs.main.Tie as tie
+
+abbrev Inv-loop : tie.InvT-loop
+Inv-loop block₀ block = block ≤ 61
+
+abbrev μ-loop : tie.MeasureT-loop
+μ-loop block₀ block = 61 - block
+
+loop-holds : tie.Need-loop-holds Inv-loop μ-loop
+loop-holds c = search needs
+
+show-block-requires : tie.Need-show-block-requires Inv-loop μ-loop
+show-block-requires c κs = search needs
+
+add-block : tie.Need-add-block Inv-loop μ-loop
+add-block c = search needs
+
+loop-less : tie.Need-loop-less Inv-loop μ-loop
+loop-less c = search needs
+
+loop-again : tie.Need-loop-again Inv-loop μ-loop
+loop-again c = search needs
+
+returns : tie.Need-returns Inv-loop μ-loop
+returns c = search needs
+
+pub main-spec : {M : Type 1} → statement M
+main-spec = tie.close (tie.spec Inv-loop μ-loop loop-holds show-block-requires add-block loop-less loop-again returns)
