@@ -19,7 +19,8 @@
 /* Version 0 is the fit that takes none. */
 struct work {
     uint64_t version, working, f, b, s, kind, side, strike;
-    size_t n, expiry, dates_count;
+    size_t n, expiry, dates_count, strikes_count;
+    uint64_t strikes[PLAIN_STRIKES + 1];
     uint64_t rows[MOST_STEPS], flows[MOST_STEPS];
     uint8_t kinds[MOST_STEPS], dates[MOST_DATES];
     double figures[MOST_STEPS];
@@ -29,9 +30,10 @@ struct result {
     uint64_t number, discounts[MOST_DISCOUNTS], prices[MOST_PRICES];
     struct plain_price bond, option, dated;
     struct plain_prices both, both_dated;
+    struct plain_strip strip, dated_strip;
 };
 
-enum part { FIT = 1, BOND = 2, OPTION = 4, BOTH = 8, DATED = 16, BOTH_DATED = 32, WHOLE_JOB = FIT | BOTH, ALL = 63 };
+enum part { FIT = 1, BOND = 2, OPTION = 4, BOTH = 8, DATED = 16, BOTH_DATED = 32, STRIP = 64, DATED_STRIP = 128, WHOLE_JOB = FIT | BOTH, ALL = 255 };
 
 static struct plain_price of_library(struct mixegorta_price p)
 {
@@ -43,6 +45,25 @@ static struct plain_prices both_of_library(struct mixegorta_bond_and_option_pric
 {
     const struct plain_prices out = {of_library(both.bond), of_library(both.option)};
     return out;
+}
+
+static struct plain_strip strip_of_library(struct mixegorta_strip s)
+{
+    struct plain_strip out = {.number = s.number};
+    memcpy(out.numbers, s.numbers, sizeof s.numbers);
+    memcpy(out.values, s.values, sizeof s.values);
+    memcpy(out.bounds, s.bounds, sizeof s.bounds);
+    return out;
+}
+
+static void strips_by_library(const struct work *w, struct result *r, int parts)
+{
+    if (parts & STRIP)
+        r->strip = strip_of_library(mixegorta_option_strip_of_kind(w->n, w->working, r->discounts, MOST_DISCOUNTS, w->flows, w->n, w->kind,
+                                                                   w->expiry, w->strikes, w->strikes_count));
+    if (parts & DATED_STRIP)
+        r->dated_strip = strip_of_library(mixegorta_option_strip(w->n, w->working, r->discounts, MOST_DISCOUNTS, w->flows, w->n, w->side, w->dates,
+                                                                 w->dates_count, w->strikes, w->strikes_count));
 }
 
 static void by_library(const struct work *w, struct result *r, int parts)
@@ -66,6 +87,7 @@ static void by_library(const struct work *w, struct result *r, int parts)
     if (parts & BOTH_DATED)
         r->both_dated = both_of_library(mixegorta_bond_and_dated_option(w->n, w->working, r->discounts, MOST_DISCOUNTS, w->flows, w->n, w->side,
                                                                         w->dates, w->dates_count, w->strike));
+    strips_by_library(w, r, parts);
 }
 
 static void by_plain_c(const struct work *w, struct result *r, int parts)
@@ -84,6 +106,11 @@ static void by_plain_c(const struct work *w, struct result *r, int parts)
         r->dated = plain_dated_option(w->n, w->working, r->discounts, w->flows, w->side, w->dates, w->dates_count, w->strike);
     if (parts & BOTH_DATED)
         r->both_dated = plain_bond_and_dated_option(w->n, w->working, r->discounts, w->flows, w->side, w->dates, w->dates_count, w->strike);
+    if (parts & STRIP)
+        r->strip = plain_option_strip_of_kind(w->n, w->working, r->discounts, w->flows, w->kind, w->expiry, w->strikes, w->strikes_count);
+    if (parts & DATED_STRIP)
+        r->dated_strip = plain_option_strip(w->n, w->working, r->discounts, w->flows, w->side, w->dates, w->dates_count, w->strikes,
+                                            w->strikes_count);
 }
 
 static double uniform(void)
@@ -101,11 +128,15 @@ static void list_dates(struct work *w, size_t first, size_t every, size_t last)
         w->dates[w->dates_count++] = (uint8_t)row;
 }
 
-/* Monthly steps, a rising curve quoted as rates, a coupon bond, an American call on it, and a call of every third row to the same expiry. */
+/* Monthly steps, a rising curve quoted as rates, a coupon bond, an American call on it, and a call of every third row to the same expiry; for strips
+ * sixteen strikes, one percent of one apart, of which the seventh is the strike. */
 static struct work work_of(size_t n, uint64_t b, double level, double slope)
 {
     struct work w = {.working = b, .f = 12, .b = b, .s = 8000, .kind = 3, .side = 1, .strike = ONE, .n = n, .expiry = n - n / 5};
     list_dates(&w, w.expiry % 3, 3, w.expiry);
+    w.strikes_count = PLAIN_STRIKES;
+    for (size_t k = 0; k < PLAIN_STRIKES; k++)
+        w.strikes[k] = ONE - 60000000 + 10000000 * k;
     for (size_t t = 1; t <= n; t++) {
         w.rows[t - 1] = t;
         w.kinds[t - 1] = 6;
@@ -118,6 +149,18 @@ static struct work work_of(size_t n, uint64_t b, double level, double slope)
 static int same_price(const struct plain_price *x, const struct plain_price *y)
 {
     return x->number == y->number && x->value == y->value && x->bound == y->bound;
+}
+
+/* The strike of its price, where a strip has it. */
+static int same_strike(const struct work *w, const struct result *r)
+{
+    for (size_t k = 0; k < w->strikes_count && !r->strip.number; k++) {
+        const struct plain_price one = {r->strip.numbers[k], r->strip.values[k], r->strip.bounds[k]};
+        const struct plain_price listed = {r->dated_strip.numbers[k], r->dated_strip.values[k], r->dated_strip.bounds[k]};
+        if (w->strikes[k] == w->strike && (!same_price(&one, &r->option) || !same_price(&listed, &r->dated)))
+            return 0;
+    }
+    return 1;
 }
 
 static int same_prices(const struct plain_price *bond, const struct plain_price *option, const struct plain_prices *both)
@@ -133,7 +176,8 @@ static void show(const char *name, const struct plain_price *p)
 /* All that two workers write and answer, and both prices at once against each alone. */
 static void must_be_equal(const struct work *w, const struct result *x, const struct result *y)
 {
-    if (memcmp(x, y, sizeof *x) == 0 && same_prices(&x->bond, &x->option, &x->both) && same_prices(&x->bond, &x->dated, &x->both_dated))
+    if (memcmp(x, y, sizeof *x) == 0 && same_prices(&x->bond, &x->option, &x->both) && same_prices(&x->bond, &x->dated, &x->both_dated) &&
+        same_strike(w, x))
         return;
     fprintf(stderr, "DIFFERENT at n = %zu, b = %llu", w->n, (unsigned long long)w->b);
     for (const struct result *r = x; r; r = r == x ? y : NULL) {
@@ -145,6 +189,7 @@ static void must_be_equal(const struct work *w, const struct result *x, const st
         show("and", &r->both.option);
         show("both dated", &r->both_dated.bond);
         show("and", &r->both_dated.option);
+        fprintf(stderr, ", strips %llu %llu", (unsigned long long)r->strip.number, (unsigned long long)r->dated_strip.number);
     }
     fprintf(stderr, "\n");
     exit(1);
@@ -204,6 +249,9 @@ static struct work any_work(int i)
     for (size_t t = 0; i % 7 == 0 && t < w.n; t++)
         w.flows[t] = (uint64_t)(uniform() * (i % 3 ? 8e9 / (double)w.n : 2.01e9));
     any_dates(&w, i);
+    w.strikes_count = (size_t)i % (PLAIN_STRIKES + 2);
+    for (size_t k = 0; k < w.strikes_count; k++)
+        w.strikes[k] = k % 5 == 1 ? w.strikes[k - 1] : (uint64_t)(uniform() * (i % 5 ? 2e9 : 4.3e9));
     return w;
 }
 
@@ -684,7 +732,7 @@ static void by_version_1(const struct work *w, struct result *r, int parts)
                                       r->prices, MOST_PRICES);
 }
 
-static void line_of_versions(const struct work *w, const char *name, worker a, worker b, int parts, int turns)
+static void line_of_two(const struct work *w, const char *name, worker a, worker b, int parts, int turns)
 {
     const struct timing t = side_by_side(a, b, w, parts, turns, 20);
     printf("b = %-5llu %-22s %8.2f us    %8.2f us     %6.2f\n", (unsigned long long)w->b, name, t.first, t.second, t.ratio);
@@ -710,19 +758,55 @@ static void versions(int turns)
     for (int i = 0; i < 5; i++) {
         struct work w = work_of(60, reversions[i], 0.02, 0.0003);
         set_version(&w, 2);
-        line_of_versions(&w, "fit, bond and option", by_library, by_plain_c, WHOLE_JOB, turns);
-        line_of_versions(&w, "fit", by_library, by_plain_c, FIT, turns);
+        line_of_two(&w, "fit, bond and option", by_library, by_plain_c, WHOLE_JOB, turns);
+        line_of_two(&w, "fit", by_library, by_plain_c, FIT, turns);
     }
     worked = 1000;
     line_of_moves("one working reversion", working_by_library, working_by_plain_c, turns);
     printf("\nlibrary, n = 60                   by version     fit          ratio\n");
     for (int i = 0; i < 5; i++) {
         struct work w = work_of(60, reversions[i], 0.02, 0.0003);
-        line_of_versions(&w, "version 1", by_version_1, by_fit, FIT, turns);
+        line_of_two(&w, "version 1", by_version_1, by_fit, FIT, turns);
         char name[64];
         set_version(&w, 2);
         snprintf(name, sizeof name, "version 2, as %llu", (unsigned long long)w.working);
-        line_of_versions(&w, name, by_library, by_fit, FIT, turns);
+        line_of_two(&w, name, by_library, by_fit, FIT, turns);
+    }
+}
+
+/* Strips in place of single options. */
+static void by_strip(const struct work *w, struct result *r, int parts)
+{
+    by_library(w, r, parts == ALL ? ALL : (parts & OPTION ? STRIP : 0) | (parts & DATED ? DATED_STRIP : 0));
+}
+
+/* Sixteen single options in place of one. */
+static void by_each(const struct work *w, struct result *r, int parts)
+{
+    struct work one = *w;
+    for (size_t k = 0; k < w->strikes_count; k++) {
+        one.strike = w->strikes[k];
+        by_library(&one, r, parts);
+    }
+}
+
+/* The library's strip beside plain C's, then beside one call and beside sixteen. */
+static void strips(int turns)
+{
+    static const uint64_t reversions[] = {0, 83, 1000};
+    static const struct { const char *name; int strip, single; } rows[] = {{"American", STRIP, OPTION}, {"dates", DATED_STRIP, DATED}};
+    printf("\n16 strikes, n = 60                library        plain C      ratio\n");
+    for (int i = 0; i < 6; i++)
+        line_against_plain_c(reversions[i / 2], rows[i % 2].name, rows[i % 2].strip, turns);
+    printf("\nlibrary, 16 strikes, n = 60       a strip        one call     ratio\n");
+    for (int i = 0; i < 6; i++) {
+        const struct work w = work_of(60, reversions[i / 2], 0.02, 0.0003);
+        line_of_two(&w, rows[i % 2].name, by_strip, by_library, rows[i % 2].single, turns);
+    }
+    printf("\nlibrary, 16 strikes, n = 60       a strip        16 calls     ratio\n");
+    for (int i = 0; i < 6; i++) {
+        const struct work w = work_of(60, reversions[i / 2], 0.02, 0.0003);
+        line_of_two(&w, rows[i % 2].name, by_strip, by_each, rows[i % 2].single, turns);
     }
 }
 
@@ -807,6 +891,7 @@ int main(int argc, char **argv)
     shelves(turns);
     bounds(turns);
     versions(turns);
+    strips(turns);
     against_quantlib(turns / 4 + 1);
     return 0;
 }

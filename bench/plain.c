@@ -1,4 +1,4 @@
-/* The fit, bond and option of document 01 as document 02 changed it, and 02's continuous rate, versions and shelf, written straight down. All
+/* The fit, bond and option of document 01 as document 02 changed it, and 02's continuous rate, strip, versions and shelf, written straight down. All
  * sums fit 64 bits once the limits are checked. */
 #include "plain.h"
 #include <math.h>
@@ -8,6 +8,7 @@
 #define WHOLE 600000000u
 #define MOST_STEPS 60
 #define MOST_NODES (2 * MOST_STEPS + 1)
+#define MOST_DISCOUNTS (MOST_STEPS * MOST_STEPS)
 #define DISCOUNT_LIMIT 1100000000u
 #define VALUE_LIMIT (8ull * ONE)
 #define FLOW_LIMIT (2ull * ONE)
@@ -539,6 +540,108 @@ struct plain_price plain_dated_option(size_t n, uint64_t b, const uint64_t *disc
                                       const uint8_t *dates, size_t count, uint64_t strike)
 {
     return plain_bond_and_dated_option(n, b, discounts, flows, side, dates, count, strike).option;
+}
+
+/* A strip: the bond once to row 0, each row without its flow kept where its discounts stand; then each strike alone beside the kept rows. */
+struct kept {
+    uint64_t rows[MOST_DISCOUNTS], bound;
+    struct branch p[MOST_NODES];
+    size_t widest;
+};
+
+/* Whether a value of the bond is above its limit; start is where the discounts end. */
+static int keep_bond(size_t n, uint64_t b, const uint64_t *discounts, const uint64_t *flows, size_t start, struct kept *kept)
+{
+    uint64_t rows[2][MOST_NODES];
+    int at = 0;
+    kept->bound = 0;
+    kept->widest = half_width(b, n - 1);
+    branches(kept->p, b, kept->widest);
+    for (size_t k = 0; k <= 2 * half_width(b, n); k++)
+        rows[at][k] = flows[n - 1];
+    for (size_t i = n; i-- > 0; at = !at) {
+        const size_t w = half_width(b, i), next = half_width(b, i + 1);
+        const uint64_t flow = i ? flows[i - 1] : 0;
+        start -= 2 * w + 1;
+        if (roll_bond(w, next, kept->p + (kept->widest - w), discounts + start, rows[at], flow, rows[!at]))
+            return 1;
+        for (size_t k = 0; k <= 2 * w; k++)
+            kept->rows[start + k] = rows[!at][k] - flow;
+        kept->bound = next_bound(discounts + start, 2 * w + 1, kept->bound);
+    }
+    return 0;
+}
+
+static int roll_option(size_t w, size_t next, const struct branch *p, const uint64_t *discounts, const uint64_t *bare, const uint64_t *options,
+                       struct right right, int marked, uint64_t *option)
+{
+    int above = 0;
+    for (size_t k = 0; k <= 2 * w; k++) {
+        const uint64_t held = rolled(&p[k], options + lowest(w, next, k), discounts[k]), now = marked ? exercise(right, bare[k]) : 0;
+        option[k] = held > now ? held : now;
+        above |= option[k] > VALUE_LIMIT;
+    }
+    return above;
+}
+
+static struct plain_price walked(uint64_t b, const uint64_t *discounts, const struct kept *kept, struct right right,
+                                 const struct schedule *schedule)
+{
+    uint64_t options[2][MOST_NODES];
+    size_t start = 0;
+    int at = 0;
+    for (size_t i = 0; i < schedule->last; i++)
+        start += 2 * half_width(b, i) + 1;
+    exercise_row(right, 2 * half_width(b, schedule->last) + 1, kept->rows + start, 0, options[at]);
+    for (size_t i = schedule->last; i-- > 0; at = !at) {
+        const size_t w = half_width(b, i), next = half_width(b, i + 1);
+        start -= 2 * w + 1;
+        if (roll_option(w, next, kept->p + (kept->widest - w), discounts + start, kept->rows + start, options[at], right, schedule->marks[i],
+                        options[!at]))
+            return refused(12);
+    }
+    return (struct plain_price){0, options[at][0], kept->bound};
+}
+
+/* A cause of the terms but for the strike, 11 or 13, comes after 11 of a strike. */
+static struct plain_strip strip(size_t n, uint64_t b, const uint64_t *discounts, const uint64_t *flows, int call, const struct schedule *schedule,
+                                uint64_t wrong, const uint64_t *strikes, size_t count)
+{
+    struct plain_strip out = {0};
+    struct kept kept;
+    size_t start;
+    if (!count || count > PLAIN_STRIKES)
+        return out.number = 6, out;
+    const uint64_t number = rows_refused(n, b, discounts, flows, &start);
+    const int above = !number && !wrong && keep_bond(n, b, discounts, flows, start, &kept);
+    for (size_t k = 0; k < count; k++) {
+        const uint64_t cause = number ? number : strikes[k] > STRIKE_LIMIT ? 11 : wrong ? wrong : above ? 12 : 0;
+        const struct plain_price made = cause ? refused(cause) : walked(b, discounts, &kept, (struct right){call, strikes[k]}, schedule);
+        out.numbers[k] = made.number;
+        out.values[k] = made.value;
+        out.bounds[k] = made.bound;
+    }
+    return out;
+}
+
+struct plain_strip plain_option_strip(size_t n, uint64_t b, const uint64_t *discounts, const uint64_t *flows, uint64_t side, const uint8_t *dates,
+                                      size_t dates_count, const uint64_t *strikes, size_t count)
+{
+    struct schedule schedule = {0};
+    const uint64_t wrong = side < 1 || side > 2 ? 11 : schedule_of(n, dates, dates_count, &schedule);
+    return strip(n, b, discounts, flows, side == 1, &schedule, wrong, strikes, count);
+}
+
+struct plain_strip plain_option_strip_of_kind(size_t n, uint64_t b, const uint64_t *discounts, const uint64_t *flows, uint64_t kind, size_t expiry,
+                                              const uint64_t *strikes, size_t count)
+{
+    const int listed = kind >= 1 && kind <= 4 && expiry < n && expiry < MOST_STEPS;
+    struct schedule schedule = {0};
+    if (listed) {
+        schedule.last = expiry;
+        memset(schedule.marks, kind >= 3, expiry);
+    }
+    return strip(n, b, discounts, flows, kind == 1 || kind == 3, &schedule, listed ? 0 : 11, strikes, count);
 }
 
 /* The shelf: trees in the order of their names, without gaps. */

@@ -1,4 +1,4 @@
-/* Document 01's fit, bond and option, and document 02's continuous rate, dated option, versions and shelf, in plain C. */
+/* Document 01's fit, bond and option, and document 02's continuous rate, dated option, strip, versions and shelf, in plain C. */
 #ifndef PLAIN_H
 #define PLAIN_H
 #include <stddef.h>
@@ -32,6 +32,16 @@ struct plain_price plain_dated_option(size_t n, uint64_t b, const uint64_t *disc
                                       const uint8_t *dates, size_t count, uint64_t strike);
 struct plain_prices plain_bond_and_dated_option(size_t n, uint64_t b, const uint64_t *discounts, const uint64_t *flows, uint64_t side,
                                                 const uint8_t *dates, size_t count, uint64_t strike);
+
+#define PLAIN_STRIKES 16
+struct plain_strip {
+    uint64_t number, numbers[PLAIN_STRIKES], values[PLAIN_STRIKES], bounds[PLAIN_STRIKES];
+};
+
+struct plain_strip plain_option_strip(size_t n, uint64_t b, const uint64_t *discounts, const uint64_t *flows, uint64_t side, const uint8_t *dates,
+                                      size_t dates_count, const uint64_t *strikes, size_t count);
+struct plain_strip plain_option_strip_of_kind(size_t n, uint64_t b, const uint64_t *discounts, const uint64_t *flows, uint64_t kind, size_t expiry,
+                                              const uint64_t *strikes, size_t count);
 struct plain_rate plain_continuous_rate(uint64_t discount);
 
 struct plain_bounds {

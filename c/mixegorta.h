@@ -12,7 +12,7 @@
  * row after row, the lowest node of a row first: discounts for rows 0 to n - 1, state prices for rows 0 to n.
  *
  * Arguments. Any numbers may be passed: a call gives its full answer, or the number of a refusal with every other field 0; a shelf
- * comes back beside the number, refused or not.
+ * comes back beside the number, refused or not, and each answer of a strip has a number of its own.
  * Where several refusals apply, the lowest number is given, with these exceptions: 15 is tried before all others, 14 after 4, and 13
  * before 12.
  *
@@ -30,7 +30,7 @@
  *    3  the steps are outside 1 to 60
  *    4  the reversion is above 6,000
  *    5  the volatility is above 50,000
- *    6  a length, row or node is not in the tree, or a memory is too short
+ *    6  a length, row or node is not in the tree, a memory is too short, or the strikes are none or more than 16
  *    7  a quote's kind, figure or discount is outside its limits, or the version is not 1 or 2: an unknown kind; a figure that is NaN,
  *       infinite or beyond +-10; a rate whose divisor is 0 or less; a yield x row / frequency beyond +-4; a discount outside 100,000,000
  *       to 2,000,000,000
@@ -61,9 +61,9 @@ extern "C" {
 
 /* The version of header and library, in three numbers and as a text. The shared object's name for the loader carries the first. */
 #define MIXEGORTA_VERSION_MAJOR 0
-#define MIXEGORTA_VERSION_MINOR 9
+#define MIXEGORTA_VERSION_MINOR 10
 #define MIXEGORTA_VERSION_PATCH 0
-#define MIXEGORTA_VERSION "0.9.0"
+#define MIXEGORTA_VERSION "0.10.0"
 
 /* The same as one number, which mixegorta_version() of this header's own library answers. */
 #define MIXEGORTA_VERSION_NUMBER \
@@ -78,6 +78,9 @@ extern "C" {
 #define MIXEGORTA_MAX_NODES 121
 #define MIXEGORTA_MAX_DISCOUNTS 3600
 #define MIXEGORTA_MAX_STATE_PRICES 3721
+
+/* A strip has 1 to so many strikes. */
+#define MIXEGORTA_MAX_STRIKES 16
 
 /* The names of a shelf are 1 to this, and its memory has so many numbers, one for each node of its trees. */
 #define MIXEGORTA_MAX_NAME 8
@@ -153,6 +156,16 @@ struct mixegorta_tree_error_bounds {
 struct mixegorta_bond_and_option_prices {
     struct mixegorta_price bond;
     struct mixegorta_price option;
+};
+
+/* The answers of a strip of strikes, in the order of the strikes: number, price and error bound of strike k are numbers[k], values[k] and
+ * bounds[k], as a struct mixegorta_price has them, each strike priced or refused by itself. Places past the strikes are 0. `number` is the
+ * strip's own: where it is not 0 no strike was looked at, and every place is 0. */
+struct mixegorta_strip {
+    uint64_t number;
+    uint64_t numbers[MIXEGORTA_MAX_STRIKES];
+    uint64_t values[MIXEGORTA_MAX_STRIKES];
+    uint64_t bounds[MIXEGORTA_MAX_STRIKES];
 };
 
 /* Where a node leads: to node `lowest` of the next row and the two nodes above it. probabilities[0] is up, to lowest + 2; [1] is
@@ -347,6 +360,27 @@ struct mixegorta_bond_and_option_prices mixegorta_bond_and_dated_option(size_t s
                                                                         const uint8_t *dates, size_t dates_len,
                                                                         uint64_t strike);
 
+/* Up to 16 strikes of one side and one list of dates, with the bond rolled once for all of them: place k of the answer is what
+ * mixegorta_dated_option_price answers for strikes[k], number, price and bound, whatever its neighbours are. strikes: 1 to 16 elements, in
+ * any order, equal ones too. The strip itself is refused, in this order, for steps or reversion outside their limits and for no strike or
+ * more than 16. With any of these every place is 0; every other refusal, of discounts and flows too, stands in the places, so look
+ * at number first and then at numbers[k]:
+ *
+ *     if (s.number == 0 && s.numbers[k] == 0) use(s.values[k], s.bounds[k]);
+ *
+ * Refusals of the strip itself: 3 steps, 4 reversion, 6 count of the strikes; of its places: those of mixegorta_dated_option_price, of which 11
+ * by a strike above its limit and 12 by one option's value are that place's alone. */
+struct mixegorta_strip mixegorta_option_strip(size_t steps, uint64_t reversion, const uint64_t *discounts, size_t discounts_len,
+                                              const uint64_t *flows, size_t flows_len, uint64_t side, const uint8_t *dates,
+                                              size_t dates_len, const uint64_t *strikes, size_t strikes_len);
+
+/* The same for one of the four kinds: place k is what mixegorta_option_price answers for strikes[k]. Refusals of the strip itself: 3 steps, 4
+ * reversion, 6 count of the strikes; of its places: those of mixegorta_option_price. */
+struct mixegorta_strip mixegorta_option_strip_of_kind(size_t steps, uint64_t reversion, const uint64_t *discounts,
+                                                      size_t discounts_len, const uint64_t *flows, size_t flows_len,
+                                                      uint64_t kind, size_t expiry, const uint64_t *strikes,
+                                                      size_t strikes_len);
+
 /* What payoffs on a row are worth by the row's state prices. Both counts are equal, odd and at most 121. payoffs: each 0 to
  * 8,000,000,000; state prices: their sum at most 2,000,000,100. Refusals: 6 the counts, 12 payoffs, sum or value. */
 struct mixegorta_answer mixegorta_value_by_state_prices(const uint64_t *state_prices, size_t state_prices_len,
@@ -452,6 +486,22 @@ struct mixegorta_bond_and_option_prices mixegorta_shelf_bond_and_dated_option(st
                                                                               size_t flows_len, uint64_t side,
                                                                               const uint8_t *dates, size_t dates_len,
                                                                               uint64_t strike);
+
+/* Up to 16 strikes on the tree of a name, on listed rows, as mixegorta_option_strip has them: place k is what
+ * mixegorta_shelf_dated_option_price answers for strikes[k], its bound read from the slot. Refusals of the strip itself, in this order: 15 the
+ * name, 6 count of the strikes; of its places: those of mixegorta_shelf_dated_option_price, among them 6 of the flows and 9 of a tree
+ * that awaits its commit. */
+struct mixegorta_strip mixegorta_shelf_option_strip(struct mixegorta_shelf shelf, const uint64_t memory[MIXEGORTA_SHELF_ROOM],
+                                                    size_t name, const uint64_t *flows, size_t flows_len, uint64_t side,
+                                                    const uint8_t *dates, size_t dates_len, const uint64_t *strikes,
+                                                    size_t strikes_len);
+
+/* The same for one of the four kinds: place k is what mixegorta_shelf_option_price answers for strikes[k]. Refusals of the strip itself, in
+ * this order: 15 the name, 6 count of the strikes; of its places: those of mixegorta_shelf_option_price. */
+struct mixegorta_strip mixegorta_shelf_option_strip_of_kind(struct mixegorta_shelf shelf,
+                                                            const uint64_t memory[MIXEGORTA_SHELF_ROOM], size_t name,
+                                                            const uint64_t *flows, size_t flows_len, uint64_t kind,
+                                                            size_t expiry, const uint64_t *strikes, size_t strikes_len);
 
 #ifdef __cplusplus
 }

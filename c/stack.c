@@ -1,4 +1,4 @@
-/* The stack that a fit, a price, a commit and a sheet take on the largest tree, in bytes: the most of any call, on a thread whose stack is filled first. */
+/* The stack that a fit, a price, a strip, a commit and a sheet take on the largest tree, in bytes: the most of any call, on a thread whose stack is filled first. */
 #define _POSIX_C_SOURCE 200809L
 #include "mixegorta.h"
 
@@ -11,6 +11,7 @@ enum { STACK = 1 << 20, STEPS = MIXEGORTA_MAX_STEPS, FILL = 0xA5 };
 
 static uint64_t rows[STEPS], flows[STEPS], discounts[MIXEGORTA_MAX_DISCOUNTS], state_prices[MIXEGORTA_MAX_STATE_PRICES];
 static const uint64_t payoffs[MIXEGORTA_MAX_NODES];
+static uint64_t strikes[MIXEGORTA_MAX_STRIKES];
 static uint8_t kinds[STEPS], dates[STEPS], room[MIXEGORTA_SHEET_ROOM], job[MIXEGORTA_MAX_JOB];
 static double figures[STEPS];
 static size_t job_size;
@@ -74,6 +75,37 @@ static void *shelf_option(void *unused) {
     return unused;
 }
 
+/* Sixteen strikes; whether one of them is refused is told by the sum of their numbers. */
+static void *all_taken(struct mixegorta_strip strip) {
+    refused = strip.number;
+    for (size_t k = 0; k < MIXEGORTA_MAX_STRIKES; k++) refused += strip.numbers[k];
+    return NULL;
+}
+
+static void *strip(void *unused) {
+    (void)unused;
+    return all_taken(mixegorta_option_strip(STEPS, 0, discounts, MIXEGORTA_MAX_DISCOUNTS, flows, STEPS, MIXEGORTA_PUT, dates, STEPS, strikes,
+                                            MIXEGORTA_MAX_STRIKES));
+}
+
+static void *strip_of_kind(void *unused) {
+    (void)unused;
+    return all_taken(mixegorta_option_strip_of_kind(STEPS, 0, discounts, MIXEGORTA_MAX_DISCOUNTS, flows, STEPS, MIXEGORTA_AMERICAN_PUT,
+                                                    STEPS - 1, strikes, MIXEGORTA_MAX_STRIKES));
+}
+
+static void *shelf_strip(void *unused) {
+    (void)unused;
+    return all_taken(mixegorta_shelf_option_strip(shelf, shelf_memory, 8, flows, STEPS, MIXEGORTA_PUT, dates, STEPS, strikes,
+                                                  MIXEGORTA_MAX_STRIKES));
+}
+
+static void *shelf_strip_of_kind(void *unused) {
+    (void)unused;
+    return all_taken(mixegorta_shelf_option_strip_of_kind(shelf, shelf_memory, 8, flows, STEPS, MIXEGORTA_AMERICAN_PUT, STEPS - 1, strikes,
+                                                          MIXEGORTA_MAX_STRIKES));
+}
+
 static void *sheet(void *unused) {
     refused = mixegorta_sheet(job, job_size, room, sizeof room).number;
     return unused;
@@ -135,12 +167,14 @@ int main(void) {
         flows[i] = i + 1 < STEPS ? 5000000 : MIXEGORTA_ONE;
         dates[i] = (uint8_t)i;
     }
+    for (size_t k = 0; k < MIXEGORTA_MAX_STRIKES; k++) strikes[k] = MIXEGORTA_ONE + k;
     write_job();
     printf("fit %zu\n", most(taken(fit_version), taken(fit)));
     const size_t asked = taken(asking);
     const size_t committed = most(asked, taken(commit));
     const size_t plain = most(most(taken(bond), taken(option)), most(taken(dated_option), taken(valuation)));
     printf("price %zu\n", most(plain, taken(shelf_option)));
+    printf("strip %zu\n", most(most(taken(strip), taken(strip_of_kind)), most(taken(shelf_strip), taken(shelf_strip_of_kind))));
     printf("commit %zu\n", committed);
     printf("sheet %zu\n", taken(sheet));
     return 0;

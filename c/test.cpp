@@ -48,6 +48,11 @@ static void prices() {
     const mixegorta_price bond = mixegorta_bond_price(1, 0, discounts.data(), discounts.size(), flows.data(), flows.size());
     EXPECT(bond.number == 0 && bond.value == 1002500000 && bond.bound == 2);
     EXPECT(both.bond.value == bond.value && both.option.number == 0 && both.option.value == 7500000);
+    const std::vector<uint64_t> strikes = {1010000000, MIXEGORTA_MAX_STRIKE + 1, 1010000000};
+    const mixegorta_strip strip = mixegorta_option_strip_of_kind(1, 0, discounts.data(), discounts.size(), flows.data(), flows.size(),
+                                                                 MIXEGORTA_AMERICAN_PUT, 0, strikes.data(), strikes.size());
+    EXPECT(strip.number == 0 && strip.numbers[0] == 0 && strip.values[0] == both.option.value && strip.bounds[0] == both.option.bound);
+    EXPECT(strip.numbers[1] == 11 && strip.bounds[1] == 0 && strip.values[2] == strip.values[0] && strip.bounds[MIXEGORTA_MAX_STRIKES - 1] == 0);
     const mixegorta_tree_error_bounds known = mixegorta_tree_bounds(1, 0, discounts.data(), discounts.size());
     EXPECT(known.number == 0 && known.bound == bond.bound && known.greatest[0] == 1002500000 && known.greatest[1] == 0);
     const mixegorta_answer bound = mixegorta_price_error_bound(1, 0, discounts.data(), discounts.size());
@@ -81,6 +86,10 @@ static void shelf() {
     const mixegorta_bond_and_option_prices both = mixegorta_shelf_bond_and_dated_option(
         after.shelf, memory.data(), 8, flows.data(), flows.size(), MIXEGORTA_PUT, dates.data(), dates.size(), 1010000000);
     EXPECT(both.bond.value == 1002500000 && both.option.number == 0 && both.option.value == 7500000 && both.option.bound == fitted.bound);
+    const mixegorta_strip strip = mixegorta_shelf_option_strip(after.shelf, memory.data(), 8, flows.data(), flows.size(), MIXEGORTA_PUT,
+                                                               dates.data(), dates.size(), flows.data(), flows.size());
+    EXPECT(strip.number == 0 && strip.numbers[0] == 0 && strip.values[0] == 0 && strip.bounds[0] == fitted.bound && strip.bounds[1] == 0);
+    EXPECT(mixegorta_shelf_option_strip(after.shelf, memory.data(), 7, nullptr, 0, 0, nullptr, 0, nullptr, 0).number == 15);
     EXPECT(mixegorta_shelf_ask(after.shelf, memory.data(), 1, MIXEGORTA_MAX_STEPS, 0).number == 14);
     after = mixegorta_shelf_release(after.shelf, memory.data(), 8);
     EXPECT(after.number == 0 && mixegorta_shelf_release(after.shelf, memory.data(), 8).number == 15);

@@ -176,6 +176,23 @@ static void bond_and_dated_option(void) {
     answer_both(mixegorta_bond_and_dated_option(number(0), number(1), LENT(2), LENT(3), number(4), as_bytes(5), given[5].count, number(6)));
 }
 
+/* The columns of a strip behind its own number. */
+static void answer_strip(struct mixegorta_strip s) {
+    uint64_t fields[3 * MIXEGORTA_MAX_STRIKES];
+    memcpy(fields, s.numbers, sizeof s.numbers);
+    memcpy(fields + MIXEGORTA_MAX_STRIKES, s.values, sizeof s.values);
+    memcpy(fields + 2 * MIXEGORTA_MAX_STRIKES, s.bounds, sizeof s.bounds);
+    answer(s.number, fields, 3 * MIXEGORTA_MAX_STRIKES);
+}
+
+static void option_strip(void) {
+    answer_strip(mixegorta_option_strip(number(0), number(1), LENT(2), LENT(3), number(4), as_bytes(5), given[5].count, LENT(6)));
+}
+
+static void option_strip_of_kind(void) {
+    answer_strip(mixegorta_option_strip_of_kind(number(0), number(1), LENT(2), LENT(3), number(4), number(5), LENT(6)));
+}
+
 static void value_by_state_prices(void) { answer_value(mixegorta_value_by_state_prices(LENT(0), LENT(1))); }
 
 static void valuation_error_bound(void) { answer_value(mixegorta_valuation_error_bound(number(0), number(1), LENT(2), number(3), LENT(4))); }
@@ -251,6 +268,14 @@ static void shelf_bond_and_dated_option(void) {
                                                       number(6)));
 }
 
+static void shelf_option_strip(void) {
+    answer_strip(mixegorta_shelf_option_strip(shelf(), shelf_memory(), number(2), LENT(3), number(4), as_bytes(5), given[5].count, LENT(6)));
+}
+
+static void shelf_option_strip_of_kind(void) {
+    answer_strip(mixegorta_shelf_option_strip_of_kind(shelf(), shelf_memory(), number(2), LENT(3), number(4), number(5), LENT(6)));
+}
+
 #define CALL(name) {#name, name}
 static const struct {
     const char *name;
@@ -261,7 +286,8 @@ static const struct {
              CALL(state_price_error_bound), CALL(price_error_bound), CALL(tree_bounds), CALL(bond_price), CALL(option_price),
              CALL(bond_and_option), CALL(dated_option_price), CALL(bond_and_dated_option), CALL(value_by_state_prices),
              CALL(valuation_error_bound), CALL(shelf_part), CALL(shelf_ask), CALL(shelf_commit), CALL(shelf_release), CALL(shelf_bond_price),
-             CALL(shelf_option_price), CALL(shelf_bond_and_option), CALL(shelf_dated_option_price), CALL(shelf_bond_and_dated_option)};
+             CALL(shelf_option_price), CALL(shelf_bond_and_option), CALL(shelf_dated_option_price), CALL(shelf_bond_and_dated_option),
+             CALL(option_strip), CALL(option_strip_of_kind), CALL(shelf_option_strip), CALL(shelf_option_strip_of_kind)};
 
 static bool called(const char *name) {
     found.count = 0;

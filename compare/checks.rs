@@ -6,6 +6,7 @@ use crate::natural::Natural;
 use crate::rules::{
     self, Carried, Contract, Curve, DatedOption, Fitted, Outcome, Tree, CALL, DISCOUNT_LIMIT, FLOW_LIMIT, MOST_REVERSION, ONE, PUT,
 };
+use crate::strips;
 use std::cmp::Ordering;
 use std::collections::BTreeMap;
 use std::fmt;
@@ -76,6 +77,7 @@ pub struct Tally {
     rights: BTreeMap<&'static str, (u64, u64)>,
     bonds: Sides,
     options: Sides,
+    strips: strips::Tally,
 }
 
 impl Tally {
@@ -91,6 +93,11 @@ impl Tally {
     /// On which side of the exact prices bonds and options lie.
     pub fn sides(&self) -> String {
         format!("  {:<22}{}\n  {:<22}{}", "bonds", self.bonds, "options", self.options)
+    }
+
+    /// The strips on lent discounts and on fits.
+    pub fn strips(&mut self) -> &mut strips::Tally {
+        &mut self.strips
     }
 
     pub fn bonds_on_both_sides(&self) -> bool {
@@ -641,6 +648,7 @@ fn bounds(case: &Case, discounts: &[u64], tally: &mut Tally) {
 
 fn prices(case: &Case, discounts: &[u64], entries: &Entries, tally: &mut Tally) {
     let (tree, flows, contract, dated) = (case.fit.tree, &case.flows, &case.contract, &case.dated);
+    let terms = Terms { flows, contract, dated, strikes: &case.strikes };
     let bond = tree.bond(discounts, flows);
     let (of_kind, of_dates) = (tree.option(discounts, flows, contract), tree.dated_option(discounts, flows, dated));
     let pair = engine::bond_and_option(&tree, discounts, flows, contract);
@@ -654,20 +662,24 @@ fn prices(case: &Case, discounts: &[u64], entries: &Entries, tally: &mut Tally) 
     more_rights(case, discounts, tally);
     bounds(case, discounts, tally);
     if let Some(bond) = bond {
-        exact_prices(&tree, discounts, &Terms { flows, contract, dated }, bond, [of_kind, of_dates], tally);
+        exact_prices(&tree, discounts, &terms, bond, [of_kind, of_dates], tally);
     }
+    strips::on_lent(&tree, discounts, &terms, &mut tally.strips);
 }
 
 /// A bond by its flows, and two options on it.
+#[derive(Clone, Copy)]
 pub struct Terms<'a> {
     pub flows: &'a [u64],
     pub contract: &'a Contract,
     pub dated: &'a DatedOption,
+    /// For strips of both.
+    pub strikes: &'a [u64],
 }
 
 /// A bond, and what was priced of option by kind and dated option, each against the exact pricer.
 pub fn exact_prices(tree: &Tree, discounts: &[u64], terms: &Terms, bond: (u64, u64), options: [Option<(u64, u64)>; 2], tally: &mut Tally) {
-    let Terms { flows, contract, dated } = *terms;
+    let Terms { flows, contract, dated, .. } = *terms;
     let exact = ExactBond::new(*tree, discounts, flows);
     within(&exact, bond, exact.price(), "bond", &mut tally.bonds);
     at_most_two_a_step(tree, discounts, bond.1);

@@ -1,5 +1,5 @@
 // The library, by the declarations of the Rust crate, which tools/declarations.py writes.
-use crate::rules::{Carried, Contract, Curve, DatedOption, FitInput, Outcome, Tree};
+use crate::rules::{self, Carried, Contract, Curve, DatedOption, FitInput, Outcome, Tree, MOST_STRIKES};
 use std::ptr;
 
 #[allow(dead_code)]
@@ -178,6 +178,35 @@ pub fn bond_and_dated_option(tree: &Tree, discounts: &[u64], flows: &[u64], o: &
     (priced(both.bond), priced(both.option))
 }
 
+/// The answers of a strip. Its own refusal must come with zeros in every place, and any other strip with zeros past its strikes.
+fn struck(strip: Strip, strikes: &[u64]) -> rules::Strip {
+    let count = if strip.number == 0 { strikes.len().min(MOST_STRIKES) } else { 0 };
+    let places = (0..MOST_STRIKES).map(|k| (strip.numbers[k], strip.values[k], strip.bounds[k]));
+    assert!(places.clone().skip(count).all(|place| place == (0, 0, 0)), "strip of {} strikes: places past {count} are not 0", strikes.len());
+    let answers = places.take(count).map(|(number, value, bound)| outcome(number, (value, bound))).collect();
+    outcome(strip.number, answers)
+}
+
+pub fn dated_strip(tree: &Tree, discounts: &[u64], flows: &[u64], o: &DatedOption, strikes: &[u64]) -> rules::Strip {
+    let strip = unsafe {
+        mixegorta_option_strip(
+            tree.steps, tree.reversion, start(discounts), discounts.len(), start(flows), flows.len(), o.side, start(&o.dates),
+            o.dates.len(), start(strikes), strikes.len(),
+        )
+    };
+    struck(strip, strikes)
+}
+
+pub fn kind_strip(tree: &Tree, discounts: &[u64], flows: &[u64], c: &Contract, strikes: &[u64]) -> rules::Strip {
+    let strip = unsafe {
+        mixegorta_option_strip_of_kind(
+            tree.steps, tree.reversion, start(discounts), discounts.len(), start(flows), flows.len(), c.kind, c.expiry, start(strikes),
+            strikes.len(),
+        )
+    };
+    struck(strip, strikes)
+}
+
 pub fn weighing(state_prices: &[u64], payoffs: &[u64]) -> Outcome<u64> {
     answered(unsafe {
         mixegorta_value_by_state_prices(start(state_prices), state_prices.len(), start(payoffs), payoffs.len())
@@ -305,5 +334,24 @@ impl Desk {
             )
         };
         (priced(both.bond), priced(both.option))
+    }
+
+    pub fn dated_strip(&self, name: usize, flows: &[u64], o: &DatedOption, strikes: &[u64]) -> rules::Strip {
+        let strip = unsafe {
+            mixegorta_shelf_option_strip(
+                self.shelf, self.read(), name, start(flows), flows.len(), o.side, start(&o.dates), o.dates.len(), start(strikes),
+                strikes.len(),
+            )
+        };
+        struck(strip, strikes)
+    }
+
+    pub fn kind_strip(&self, name: usize, flows: &[u64], c: &Contract, strikes: &[u64]) -> rules::Strip {
+        let strip = unsafe {
+            mixegorta_shelf_option_strip_of_kind(
+                self.shelf, self.read(), name, start(flows), flows.len(), c.kind, c.expiry, start(strikes), strikes.len(),
+            )
+        };
+        struck(strip, strikes)
     }
 }

@@ -49,6 +49,8 @@ pub struct Case {
     pub dated: DatedOption,
     /// Some of the dated option's rows, and never none of them where it has any.
     pub fewer: Vec<u8>,
+    /// For a strip of the contract's kind, and for one of the dated option's list.
+    pub strikes: Vec<u64>,
     pub row: usize,
     pub node: i64,
     pub row_kind: u64,
@@ -168,6 +170,32 @@ fn flows(r: &mut Random, n: usize) -> Vec<u64> {
     made
 }
 
+/// As many strikes as a strip takes or just not, some of them equal, some at their limit and, in one strip of two, some past it.
+fn strikes(r: &mut Random, low: u64, high: u64) -> Vec<u64> {
+    let count = match r.below(40) {
+        0..=1 => 0,
+        2..=3 => 17,
+        4 => r.within(18, 300),
+        5..=9 => 1,
+        10..=14 => 2,
+        15..=18 => 15,
+        19..=23 => 16,
+        _ => r.within(3, 14),
+    };
+    let (spoiled, mut made) = (r.chance(50), Vec::new());
+    for _ in 0..count {
+        let any = r.within(low, high);
+        made.push(match r.below(12) {
+            0 => r.pick(&[0, STRIKE_LIMIT]),
+            1 => r.within(STRIKE_LIMIT / 2, STRIKE_LIMIT),
+            2..=3 if !made.is_empty() => r.pick(&made),
+            4..=5 if spoiled => r.pick(&[STRIKE_LIMIT + 1, any + (1 << 32), u64::MAX]),
+            _ => any,
+        });
+    }
+    made
+}
+
 /// Rows that rise and stay below n: any, every few, every one to some row, or one alone.
 fn dates(r: &mut Random, n: usize) -> Vec<u8> {
     let some = r.below(n) as u8;
@@ -261,6 +289,7 @@ pub fn in_order(r: &mut Random, frequency: u64, tree: Tree) -> Case {
     let contract = Contract { kind: r.within(1, 4), expiry: r.below(tree.steps), strike: r.within(strikes.0, strikes.1) };
     let dated = DatedOption { side: r.within(1, 2), strike: r.within(strikes.0, strikes.1), dates: dates(r, tree.steps) };
     let half = tree.half_width(row);
+    let strip = self::strikes(r, strikes.0, strikes.1);
     Case {
         shape,
         version: r.within(1, 2),
@@ -270,6 +299,7 @@ pub fn in_order(r: &mut Random, frequency: u64, tree: Tree) -> Case {
         contract,
         dated,
         fewer: Vec::new(),
+        strikes: strip,
         row,
         node: r.within(0, 2 * half as u64) as i64 - half,
         row_kind: r.within(1, 2),
@@ -326,8 +356,8 @@ fn spoil<T>(r: &mut Random, list: &mut Vec<T>, made: T) {
 
 /// The damages to what a commit, and to what a price on a shelf takes.
 pub const TO_A_COMMIT: [usize; 16] = [0, 3, 3, 4, 5, 6, 7, 8, 9, 10, 11, 23, 24, 30, 31, 32];
-pub const TO_A_PRICE: [usize; 11] = [14, 14, 15, 16, 17, 18, 26, 27, 29, 30, 32];
-const DAMAGES: usize = 36;
+pub const TO_A_PRICE: [usize; 13] = [14, 14, 15, 16, 17, 18, 26, 27, 29, 30, 32, 36, 37];
+const DAMAGES: usize = 38;
 
 /// Numbers that are no version, some of which pass for one where they are cut.
 pub const UNKNOWN_VERSIONS: [u64; 9] = [0, 3, 4, 1 + (1 << 8), 2 + (1 << 8), 1 + (1 << 32), 2 + (1 << 32), 2 + (1 << 63), u64::MAX];
@@ -367,6 +397,8 @@ pub fn damage_by(r: &mut Random, case: &mut Case, which: usize) {
         30..=31 => { let (which, bits) = (r.below(NUMBERS), r.pick(&WIDTHS)); widen(case, which, bits) }
         32 => { let which = r.below(COUNTS); lengthen(case, which, 8) }
         33..=34 => case.version = r.pick(&UNKNOWN_VERSIONS),
+        36 => { let count = r.pick(&[0, 16, 17, 272]); case.strikes.resize(count, ONE) }
+        37 => { let strike = r.pick(&[STRIKE_LIMIT, STRIKE_LIMIT + 1, huge]); spoil(r, &mut case.strikes, strike) }
         _ => strange_view(r, case),
     }
 }
@@ -374,7 +406,7 @@ pub fn damage_by(r: &mut Random, case: &mut Case, which: usize) {
 /// The widths to which a number could be cut in silence.
 const WIDTHS: [u32; 3] = [8, 16, 32];
 const LONE_NUMBERS: usize = 14;
-const NUMBERS: usize = LONE_NUMBERS + 5 * 3;
+const NUMBERS: usize = LONE_NUMBERS + 6 * 3;
 
 /// Adds to one number of a case what it would lose if it were cut to so many bits. Of a list the first, the middle or the last is changed.
 fn widen(case: &mut Case, which: usize, bits: u32) {
@@ -397,7 +429,8 @@ fn widen(case: &mut Case, which: usize, bits: u32) {
         12 => add(&mut case.row_kind),
         13 => add(&mut case.version),
         _ => {
-            let lists = [&mut case.fit.curve.rows, &mut case.flows, &mut case.lent, &mut case.payoffs, &mut case.weighed];
+            let lists =
+                [&mut case.fit.curve.rows, &mut case.flows, &mut case.lent, &mut case.payoffs, &mut case.weighed, &mut case.strikes];
             let (list, part) = ((which - LONE_NUMBERS) / 3, (which - LONE_NUMBERS) % 3);
             let length = lists[list].len();
             if length > 0 {
@@ -409,7 +442,7 @@ fn widen(case: &mut Case, which: usize, bits: u32) {
 
 /// The widths to which a count could be cut: more memory than these take no test has.
 const COUNT_WIDTHS: [u32; 2] = [8, 16];
-const COUNTS: usize = 10;
+const COUNTS: usize = 11;
 
 /// Makes one list or memory of a case longer by what its count would lose if it were cut to so many bits; where more than needed may be lent, to a
 /// count that would be 0.
@@ -426,6 +459,7 @@ fn lengthen(case: &mut Case, which: usize, bits: u32) {
         4 => longer(&mut case.dated.dates, more, 0),
         5 => longer(&mut case.payoffs, more, 0),
         6 => longer(&mut case.weighed, more, 0),
+        10 => longer(&mut case.strikes, more, ONE),
         7 => case.lent.resize(case.lent.len().next_multiple_of(more), 0),
         8 => case.fit.discounts_length = case.fit.discounts_length.next_multiple_of(more),
         _ => case.fit.state_prices_length = case.fit.state_prices_length.next_multiple_of(more),
@@ -452,6 +486,7 @@ pub fn steady() -> Case {
         contract: Contract { kind: 2, expiry: 2, strike: 2 * ONE },
         dated: DatedOption { side: 2, strike: 2 * ONE, dates: vec![1, 2] },
         fewer: vec![2],
+        strikes: vec![2 * ONE, ONE, 2 * ONE],
         row: 3,
         node: 1,
         row_kind: 2,

@@ -8,6 +8,7 @@ mod rules;
 mod scripts;
 mod shelf;
 mod shelves;
+mod strips;
 
 use checks::Tally;
 use std::panic;
@@ -31,7 +32,8 @@ fn different(own: u64) -> ! {
     std::process::exit(1);
 }
 
-/// What has no seed: figures worked out by hand, borders, widths, every working reversion, and every order of four trees on a shelf.
+/// What has no seed: figures worked out by hand, borders, widths, every working reversion, every length and cause of a strip, and every order of four
+/// trees on a shelf.
 fn without_seed(tally: &mut Tally, shelves: &mut shelves::Tally) {
     natural::check();
     checks::rates_at_borders(tally);
@@ -45,6 +47,10 @@ fn without_seed(tally: &mut Tally, shelves: &mut shelves::Tally) {
     checks::every_working_reversion(tally);
     checks::causes_of_versions(tally);
     checks::numbers_past_a_width(tally);
+    strips::by_hand();
+    strips::limit_by_hand();
+    strips::every_length(tally.strips());
+    strips::causes(tally.strips());
     shelves::by_hand();
     shelves::carried_by_hand();
     shelves::every_order(shelves);
@@ -82,7 +88,9 @@ fn main() {
     assert!(count < LARGE_RUN || tally.bonds_on_both_sides(), "bonds on one side of their exact prices alone");
     assert!(count < LARGE_RUN || tally.wider_trees() > 0, "no tree that version 2 makes wider");
     let (dated, priced) = tally.dated_options();
-    println!("{dated} dated options compared, {priced} of them priced and held against the exact pricer\n\n{shelves}");
+    println!("{dated} dated options compared, {priced} of them priced and held against the exact pricer\n\n{}\n\n{shelves}", tally.strips());
+    let missing = if count < LARGE_RUN { Vec::new() } else { tally.strips().missing(strips::ON_ANY_TREE) };
+    assert!(missing.is_empty(), "no strip has {missing:?}");
     let missing = if count < MANY_SCRIPTS * SEEDS_A_SCRIPT { Vec::new() } else { shelves.missing() };
     assert!(missing.is_empty(), "no script has {missing:?}");
     println!("{count} inputs from seed {seed}: every result equal, every bound kept");

@@ -8,6 +8,7 @@ pub const DISCOUNT_LIMIT: u64 = 1_100_000_000;
 pub const VALUE_LIMIT: u64 = 8 * ONE;
 pub const FLOW_LIMIT: u64 = 2 * ONE;
 pub const STRIKE_LIMIT: u64 = 4 * ONE;
+pub const MOST_STRIKES: usize = 16;
 pub const STATE_PRICES_LIMIT: u128 = 2_000_000_100;
 pub const QUOTE_RANGE: std::ops::RangeInclusive<u64> = 100_000_000..=2_000_000_000;
 const FOURFOLD_LIMIT: i128 = 4 * ONE as i128;
@@ -463,6 +464,11 @@ impl DatedOption {
         ![CALL, PUT].contains(&self.side) || self.strike > STRIKE_LIMIT
     }
 
+    /// The same rights at another strike.
+    pub fn struck(&self, strike: u64) -> DatedOption {
+        DatedOption { strike, ..self.clone() }
+    }
+
     pub fn dates_wrong(&self, steps: usize) -> bool {
         let rising = self.dates.windows(2).all(|pair| pair[0] < pair[1]);
         !rising || self.dates.last().map_or(true, |last| *last as usize >= steps)
@@ -482,6 +488,18 @@ impl DatedOption {
         } else {
             self.strike.saturating_sub(bond)
         }
+    }
+}
+
+/// The answers of a strip in the order of its strikes, or its own refusal.
+pub type Strip = Outcome<Vec<Outcome<(u64, u64)>>>;
+
+/// Each answer is what the rule for one strike gives. The strip's own causes before its 6 are tried in their order; every other stands in the answers.
+pub fn strip(causes: &[(u64, bool)], strikes: &[u64], single: impl Fn(u64) -> Outcome<(u64, u64)>) -> Strip {
+    let count_wrong = strikes.is_empty() || strikes.len() > MOST_STRIKES;
+    match causes.iter().chain(&[(6, count_wrong)]).find(|cause| cause.1) {
+        Some((number, _)) => Err(*number),
+        None => Ok(strikes.iter().map(|strike| single(*strike)).collect()),
     }
 }
 
@@ -586,6 +604,19 @@ impl Tree {
     pub fn option(&self, discounts: &[u64], flows: &[u64], contract: &Contract) -> Outcome<(u64, u64)> {
         self.option_causes(discounts, flows, contract.wrong(self.steps), false)?;
         self.dated_option(discounts, flows, &contract.dated(self.steps).expect("the list of an accepted kind"))
+    }
+
+    fn strip(&self, strikes: &[u64], single: impl Fn(u64) -> Outcome<(u64, u64)>) -> Strip {
+        strip(&[(3, steps_wrong(self.steps)), (4, reversion_wrong(self.reversion))], strikes, single)
+    }
+
+    /// A strip of an option's side and dates; its own strike counts for nothing.
+    pub fn dated_strip(&self, discounts: &[u64], flows: &[u64], option: &DatedOption, strikes: &[u64]) -> Strip {
+        self.strip(strikes, |strike| self.dated_option(discounts, flows, &option.struck(strike)))
+    }
+
+    pub fn kind_strip(&self, discounts: &[u64], flows: &[u64], contract: &Contract, strikes: &[u64]) -> Strip {
+        self.strip(strikes, |strike| self.option(discounts, flows, &Contract { strike, ..*contract }))
     }
 
     fn state_price_bound_of(&self, discounts: &[u64], row: usize) -> u128 {

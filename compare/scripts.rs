@@ -10,8 +10,8 @@ pub enum Call {
     Ask { name: usize, tree: Tree },
     Commit { name: usize, frequency: u64, volatility: u64, curve: Curve },
     Release { name: usize },
-    /// All five entries of prices.
-    Price { name: usize, flows: Vec<u64>, contract: Contract, dated: DatedOption },
+    /// All seven entries of prices.
+    Price { name: usize, flows: Vec<u64>, contract: Contract, dated: DatedOption, strikes: Vec<u64> },
 }
 
 /// Slots as no calls leave them, by what is wrong with them.
@@ -143,13 +143,13 @@ fn price(r: &mut Random, shelf: &Shelf, style: Style, wanted: &[usize]) -> Call 
     let name = name(r, wanted);
     let mut case = case_of(r, shelf, name, style);
     damaged(r, &mut case, 35, &inputs::TO_A_PRICE);
-    Call::Price { name, flows: case.flows, contract: case.contract, dated: case.dated }
+    Call::Price { name, flows: case.flows, contract: case.contract, dated: case.dated, strikes: case.strikes }
 }
 
 /// A price of one name.
 pub fn price_of(r: &mut Random, shelf: &Shelf, style: Style, name: usize) -> Call {
     let case = case_of(r, shelf, name, style);
-    Call::Price { name, flows: case.flows, contract: case.contract, dated: case.dated }
+    Call::Price { name, flows: case.flows, contract: case.contract, dated: case.dated, strikes: case.strikes }
 }
 
 /// Mostly commits of trees that await one, and prices of fitted trees; where there is none, mostly an asking in its place.

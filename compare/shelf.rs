@@ -1,9 +1,9 @@
-// The shelf of document 02, requests (vii) and (viii), as a desk sees it: under each name a tree with its own list of discounts, or none. Nothing here
-// moves; where a tree stands follows from the trees of the names before it.
+// The shelf of document 02, requests (vii) and (viii), with strips by (x), as a desk sees it: under each name a tree with its own list of discounts, or
+// none. Nothing here moves; where a tree stands follows from the trees of the names before it.
 use crate::engine::Slot;
 use crate::rules::{
-    frequency_wrong, reversion_wrong, steps_wrong, volatility_wrong, Carried, Contract, Curve, DatedOption, FitInput, Outcome, Tree, FLOW_LIMIT,
-    MOST_STEPS,
+    frequency_wrong, reversion_wrong, steps_wrong, strip, volatility_wrong, Carried, Contract, Curve, DatedOption, FitInput, Outcome, Strip, Tree,
+    FLOW_LIMIT, MOST_STEPS,
 };
 
 pub const NAMES: usize = 8;
@@ -121,6 +121,19 @@ impl Shelf {
         let causes = self.price_causes(name, flows, |_| option.wrong(), |steps| option.dates_wrong(steps));
         let outcome = self.price(name, &causes, |tree, discounts| tree.dated_option(discounts, flows, option));
         (causes, outcome)
+    }
+
+    /// 15 is a strip's own; steps and reversion were judged at the asking.
+    fn strip(&self, name: usize, strikes: &[u64], single: impl Fn(u64) -> Outcome<(u64, u64)>) -> Strip {
+        strip(&[(15, self.named(name).is_none())], strikes, single)
+    }
+
+    pub fn kind_strip(&self, name: usize, flows: &[u64], contract: &Contract, strikes: &[u64]) -> Strip {
+        self.strip(name, strikes, |strike| self.option(name, flows, &Contract { strike, ..*contract }).1)
+    }
+
+    pub fn dated_strip(&self, name: usize, flows: &[u64], option: &DatedOption, strikes: &[u64]) -> Strip {
+        self.strip(name, strikes, |strike| self.dated_option(name, flows, &option.struck(strike)).1)
     }
 
     /// Where a name's discounts start, and how many they are; zeros without a tree.

@@ -5,9 +5,10 @@
 use crate::checks::{self, Terms};
 use crate::engine::{Both, Desk, Slot, SHELF_MEMORY};
 use crate::inputs::{self, Case, Random};
-use crate::rules::{Carried, Contract, Curve, DatedOption, Outcome, Tree, ONE};
+use crate::rules::{Carried, Contract, Curve, DatedOption, Outcome, Strip, Tree, ONE};
 use crate::scripts::{self, Alteration, Call, Sizes};
 use crate::shelf::{Causes, Shelf, Shelved, MEMORY, NAMES};
+use crate::strips;
 use std::collections::BTreeMap;
 use std::fmt;
 
@@ -19,6 +20,8 @@ const OPTION: &str = "option";
 const DATED: &str = "dated option";
 const BOTH: &str = "bond and option";
 const BOTH_DATED: &str = "bond and dated";
+const KIND_STRIP: &str = "strip of a kind";
+const DATED_STRIP: &str = "strip of dates";
 
 /// The refusals of a fit that is tried again.
 const OF_A_FIT: [u64; 6] = [2, 5, 6, 7, 8, 9];
@@ -55,6 +58,7 @@ pub struct Tally {
     /// Askings and releases behind which a fitted tree moved.
     moved: u64,
     prices: checks::Tally,
+    strips: strips::Tally,
 }
 
 impl Tally {
@@ -72,7 +76,7 @@ impl Tally {
         let cleared = CLEARED.iter().filter(|entry| !self.cleared.contains_key(*entry)).map(|entry| format!("{entry} over altered numbers"));
         let counts = [(self.filled, "filled"), (self.one_too_many, "one node too many"), (self.moved, "moved")];
         let counts = counts.iter().filter(|count| count.0 == 0).map(|count| count.1.to_string());
-        orders.chain(again).chain(altered).chain(strange).chain(cleared).chain(counts).collect()
+        orders.chain(again).chain(altered).chain(strange).chain(cleared).chain(counts).chain(self.strips.missing(strips::ON_A_SHELF)).collect()
     }
 }
 
@@ -101,6 +105,7 @@ impl fmt::Display for Tally {
         writeln!(f, "askings that used the memory up {}, that passed it by one node {}; changes that moved a fitted tree {}",
             self.filled, self.one_too_many, self.moved)?;
         writeln!(f, "prices of shelved trees and their exact ones\n{}", self.prices.sides())?;
+        writeln!(f, "{}", self.strips)?;
         write!(f, "{} scripts, {} calls: slots, parts and memory equal after each", self.scripts, self.calls)
     }
 }
@@ -253,6 +258,7 @@ impl<'a> Run<'a> {
         self.both(BOTH, found, (bond.1, option.1), &before);
         let found = self.desk.bond_and_dated_option(name, terms.flows, terms.dated);
         self.both(BOTH_DATED, found, (bond.1, dated.1), &before);
+        self.strips(name, terms, &before);
         if let (Ok(bond), Some(Shelved { tree, discounts: Some(discounts) })) = (bond.1, self.shelf.named(name)) {
             // An altered bound is held against nothing.
             let bound = tree.carried(discounts).bound;
@@ -277,12 +283,36 @@ impl<'a> Run<'a> {
         self.same_state(entry, before, true);
     }
 
+    /// A strip of the kind and one of the list, against the model and against the shelf's own single entries.
+    fn strips(&mut self, name: usize, terms: &Terms, before: &[u64]) {
+        let Terms { flows, contract, dated, strikes } = *terms;
+        let ruled = self.ruled(|shelf| shelf.kind_strip(name, flows, contract, strikes), Err(15));
+        let found = self.desk.kind_strip(name, flows, contract, strikes);
+        let each = strikes.iter().map(|strike| self.desk.option(name, flows, &Contract { strike: *strike, ..*contract })).collect();
+        self.strip(KIND_STRIP, &found, &ruled, each, before);
+        let ruled = self.ruled(|shelf| shelf.dated_strip(name, flows, dated, strikes), Err(15));
+        let found = self.desk.dated_strip(name, flows, dated, strikes);
+        let each = strikes.iter().map(|strike| self.desk.dated_option(name, flows, &dated.struck(*strike))).collect();
+        self.strip(DATED_STRIP, &found, &ruled, each, before);
+    }
+
+    /// Counted by the strip's own number, which 15 and a wrong count of the strikes alone give.
+    fn strip(&mut self, entry: &'static str, found: &Strip, ruled: &Strip, each: Vec<Outcome<(u64, u64)>>, before: &[u64]) {
+        assert_eq!(found, ruled, "{entry}: library left, rules right");
+        if let Ok(answers) = found {
+            assert_eq!(answers, &each, "{entry}: the strip left, each strike alone right");
+        }
+        self.tally.strips.count(found);
+        self.counted(entry, found.as_ref().err().copied().unwrap_or(0), &Vec::new());
+        self.same_state(entry, before, true);
+    }
+
     fn call(&mut self, call: &Call) {
         match call {
             Call::Ask { name, tree } => self.ask(*name, *tree),
             Call::Commit { name, frequency, volatility, curve } => self.commit(*name, *frequency, *volatility, curve),
             Call::Release { name } => self.release(*name),
-            Call::Price { name, flows, contract, dated } => self.price(*name, &Terms { flows, contract, dated }),
+            Call::Price { name, flows, contract, dated, strikes } => self.price(*name, &Terms { flows, contract, dated, strikes }),
         }
     }
 
@@ -380,7 +410,7 @@ pub fn every_order(tally: &mut Tally) {
 /// committed again in good order, so that the call after it finds its tree.
 pub fn numbers_past_a_width(tally: &mut Tally) {
     let (steady, names) = (inputs::steady(), [5 + (1 << 8), 5 + (1 << 16), 5 + (1 << 32), 5]);
-    for Case { fit, flows, contract, dated, .. } in inputs::widths() {
+    for Case { fit, flows, contract, dated, strikes, .. } in inputs::widths() {
         let mut run = Run::new(&[7; SHELF_MEMORY], tally);
         for (tree, name) in [fit.tree, steady.fit.tree].into_iter().flat_map(|tree| names.map(|name| (tree, name))) {
             run.ask(name, tree);
@@ -389,7 +419,7 @@ pub fn numbers_past_a_width(tally: &mut Tally) {
             run.commit(name, fit.frequency, fit.volatility, &fit.curve);
         }
         for name in names {
-            run.price(name, &Terms { flows: &flows, contract: &contract, dated: &dated });
+            run.price(name, &Terms { flows: &flows, contract: &contract, dated: &dated, strikes: &strikes });
         }
         for name in names {
             run.release(name);

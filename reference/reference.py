@@ -25,6 +25,7 @@ WEIGHED_LIMIT = 2_000_000_100
 FOURFOLD_LIMIT = 4 * ONE
 VERSIONS = 1, 2
 CALL, PUT = 1, 2
+MOST_STRIKES = 16
 CALLS, AMERICAN = (1, 3), (3, 4)
 
 
@@ -315,6 +316,28 @@ def option_value(n, b, discounts, flows, option):
     bonds = bond_rows(n, b, discounts, flows)
     rows = [within_limit(row) for row in option_rows(b, discounts, flows, bonds, option, rolled)]
     return rows[0][0]
+
+
+# Up to 16 strikes of one kind or date list: the strip's own number and, where that is 0, each strike's number, value and allowance in order.
+Strip = namedtuple('Strip', 'number prices')
+
+
+def answer(single, strike):
+    """What a call for one strike gives, whole: single returns value and allowance, or refuses, which comes with zeros."""
+    try:
+        return 0, *single(strike)
+    except Refused as refusal:
+        return refusal.number, 0, 0
+
+
+def strip(causes, strikes, single):
+    """The strip's own causes before its 6 are pairs of number and whether it applies, in their order; every other cause stands in the answers."""
+    own = [number for number, applies in (*causes, (6, not 1 <= len(strikes) <= MOST_STRIKES)) if applies]
+    return Strip(own[0], []) if own else Strip(0, [answer(single, strike) for strike in strikes])
+
+
+def tree_causes(n, b):
+    return (3, not 1 <= n <= 60), (4, b > 6_000)
 
 
 def price_allowance(discounts):

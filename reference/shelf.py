@@ -1,4 +1,4 @@
-"""The shelf of document 02, requests (vii) and (viii), as a desk sees it: under each name a tree with its own list of discounts, or none.
+"""The shelf of document 02, requests (vii) and (viii), with strips by (x), as a desk sees it: under each name a tree with its own list of discounts, or none.
 
 The rules are those of reference.py; nothing here says where in a memory a tree is kept, but for `part` and `stored`, which put the
 trees behind each other in the order of their names. A call returns its answer or raises Refused with its number.
@@ -108,6 +108,16 @@ class Shelf:
 
     def dated_option(self, name, flows, side, dates, strike):
         return self.option_by(name, flows, Option(side, strike, list(dates)))
+
+    def strip_of_kind(self, name, flows, kind, expiry, strikes):
+        return self.strip(name, strikes, lambda strike: self.option(name, flows, kind, expiry, strike))
+
+    def dated_strip(self, name, flows, side, dates, strikes):
+        return self.strip(name, strikes, lambda strike: self.dated_option(name, flows, side, dates, strike))
+
+    def strip(self, name, strikes, single):
+        """A shelved tree's steps and reversion were judged at its asking, so that 15 and 6 alone are the strip's own."""
+        return rules.strip([(15, name not in self.trees)], strikes, single)
 
     # Where the discounts stand
 

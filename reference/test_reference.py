@@ -10,7 +10,7 @@ from math import exp
 
 sys.dont_write_bytecode = True
 import reference
-from reference import ONE, Refused
+from reference import ONE, Kind, Option, Refused
 
 
 def refusal(rule, *arguments):
@@ -387,6 +387,74 @@ class Versions(unittest.TestCase):
             jobs = [job_of(n, [ONE // 10] * n, b=b, s=s, version=tagged(version), factors=[0.6 ** t for t in range(1, 5)] + [0.12] * (n - 4))
                     for version in (1, 2)]
             self.assertEqual([reference.sheet(job) != b'refused 8\n' for job in jobs], passes)
+
+
+def level_rows(n, b, discount):
+    return [{j: discount for j in reference.nodes(b, i)} for i in range(n)]
+
+
+def single(n, b, rows, flows, terms):
+    """Prices one strike of these terms, whose own counts for nothing."""
+    def price(strike):
+        option = reference.accepted_option(n, terms._replace(strike=strike))
+        return reference.option_value(n, b, rows, flows, option), reference.price_allowance(rows)
+    return price
+
+
+class Strips(unittest.TestCase):
+    N = 9
+    STEEP = level_rows(9, 0, reference.DISCOUNT_LIMIT)
+
+    def strip(self, strikes, terms, causes=(), flows=(0,) * 9):
+        return reference.strip(causes, strikes, single(self.N, 0, self.STEEP, flows, terms))
+
+    def test_by_hand(self):
+        """A put on row 8 without a bond is its strike times 1.1, eight times, to the nearest: 4 x one passes 8 x one on the way, 3 x one does not. The bound is
+        0 times 1.1, up, and 2 more, nine times."""
+        terms, strikes = Option(reference.PUT, None, [8]), [4 * ONE, 3 * ONE, 4 * ONE, ONE]
+        prices = [(12, 0, 0), (0, 6_430_766_430, 33), (12, 0, 0), (0, 2_143_588_810, 33)]
+        self.assertEqual(self.strip(strikes, terms), (0, prices))
+        self.assertEqual(self.strip(strikes, Kind(2, 8, None)), (0, prices))
+        self.assertEqual(self.strip(strikes[::-1], terms), (0, prices[::-1]))
+
+    def test_11_goes_by_strike_and_before_13(self):
+        limit = reference.STRIKE_LIMIT
+        for dates in ([], [8, 8], [9]):
+            made = self.strip([ONE, limit, limit + 1, 0], Option(reference.PUT, None, dates))
+            self.assertEqual(made, (0, [(13, 0, 0), (13, 0, 0), (11, 0, 0), (13, 0, 0)]))
+        for terms in (Option(3, None, [1]), Kind(0, 1, None), Kind(5, 1, None), Kind(1, 9, None)):
+            self.assertEqual(self.strip([ONE, limit + 1], terms), (0, [(11, 0, 0)] * 2))
+
+    def test_12_of_the_bond_stands_wherever_11_and_13_do_not(self):
+        flows = [2 * ONE] * 9
+        self.assertEqual(self.strip([ONE, 5 * ONE, 0], Kind(1, 0, None), flows=flows), (0, [(12, 0, 0), (11, 0, 0), (12, 0, 0)]))
+        self.assertEqual(self.strip([ONE, 5 * ONE, 0], Option(1, None, [9]), flows=flows), (0, [(13, 0, 0), (11, 0, 0), (13, 0, 0)]))
+
+    def test_its_own_causes(self):
+        """3, 4, then the number of strikes, whatever the list; none of them says anything of a strike."""
+        bad = Option(reference.PUT, None, [])
+        for count in (0, 17, 18, 272):
+            self.assertEqual(self.strip([ONE] * count, bad), (6, []))
+        for count in (1, 2, 15, 16):
+            self.assertEqual(self.strip([ONE] * count, bad), (0, [(13, 0, 0)] * count))
+        for n, b, number in ((0, 6_001, 3), (61, 0, 3), (60, 6_001, 4), (60, 6_000, 6), (1, 0, 6)):
+            self.assertEqual(self.strip([], bad, reference.tree_causes(n, b)), (number, []))
+
+    def test_each_is_what_its_strike_alone_gives(self):
+        chosen = random.Random(10)
+        for _ in range(60):
+            n, b = chosen.randint(1, 12), chosen.choice((0, 83, 1_000, 6_000))
+            rows = [{j: chosen.randint(700_000_000, reference.DISCOUNT_LIMIT) for j in reference.nodes(b, i)} for i in range(n)]
+            flows = [chosen.randint(0, ONE) for _ in range(n)]
+            dates = sorted(chosen.sample(range(n), chosen.randint(1, n)))
+            terms = chosen.choice((Option(chosen.randint(1, 2), None, dates), Kind(chosen.randint(1, 4), dates[-1], None)))
+            strikes = [chosen.choice((0, ONE, chosen.randint(0, 5 * ONE))) for _ in range(chosen.randint(1, 16))]
+            price = single(n, b, rows, flows, terms)
+            number, prices = reference.strip(reference.tree_causes(n, b), strikes, price)
+            self.assertEqual((number, len(prices)), (0, len(strikes)))
+            for strike, (refused, value, bound) in zip(strikes, prices):
+                self.assertEqual(refused, refusal(price, strike))
+                self.assertEqual((value, bound), (0, 0) if refused else price(strike))
 
 
 class Jobs(unittest.TestCase):

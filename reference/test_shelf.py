@@ -1,5 +1,5 @@
 #!/usr/bin/env python3
-"""Figures of the shelf that were worked out by hand from document 02, requests (vii) and (viii), against the reference.
+"""Figures of the shelf that were worked out by hand from document 02, requests (vii), (viii) and (x), against the reference.
 
     python3 reference/test_shelf.py
 """
@@ -296,6 +296,36 @@ class CarriedNumbers(Case):
         self.assertEqual(shelf.bond(1, [ONE]), Price(self.HALF, 77))
         self.assertEqual(shelf.option(1, [ONE], 2, 0, ONE), Price(self.HALF, 77))
         self.assertEqual(shelf.dated_option(1, [ONE], 2, [0], ONE), Price(self.HALF, 77))
+
+
+class Strips(Case):
+    def test_15_then_6_are_its_own(self):
+        shelf = desk((2, 0))
+        for count, number in ((0, 15), (1, 15), (17, 15)):
+            for name in (2, *PAST):
+                self.assertEqual(shelf.dated_strip(name, [0, ONE], 1, [], [ONE] * count), (number, []))
+                self.assertEqual(shelf.strip_of_kind(name, [0, ONE], 0, 9, [ONE] * count), (number, []))
+        for count in (0, 17):
+            self.assertEqual(shelf.dated_strip(1, [0, ONE], 1, [], [ONE] * count), (6, []))
+            self.assertEqual(shelf.strip_of_kind(1, [0, ONE], 0, 9, [ONE] * count), (6, []))
+
+    def test_all_others_stand_in_the_answers(self):
+        """Flows that are not n come before the 9 of a tree that awaits its commit."""
+        shelf = desk((2, 0))
+        for flows, number in (([ONE], 6), ([0, 3 * ONE], 9)):
+            self.assertEqual(shelf.dated_strip(1, flows, 1, [], [5 * ONE, 0]), (0, [(number, 0, 0)] * 2))
+        shelf.commit(1, 1, 0, *curve(2))
+        self.assertEqual(shelf.dated_strip(1, [0, 3 * ONE], 1, [], [5 * ONE, 0]), (0, [(10, 0, 0)] * 2))
+        self.assertEqual(shelf.dated_strip(1, [0, ONE], 1, [2], [5 * ONE, 0]), (0, [(11, 0, 0), (13, 0, 0)]))
+        self.assertEqual(shelf.strip_of_kind(1, [0, ONE], 1, 2, [5 * ONE, 0]), (0, [(11, 0, 0)] * 2))
+
+    def test_each_has_the_allowance_that_the_tree_carries(self):
+        shelf = desk((1, 0))
+        shelf.commit(1, 1, 0, *curve(1, 0.98))
+        made = shelf.strip_of_kind(1, [ONE], 2, 0, [ONE, 5 * ONE, 990_000_000, 0])
+        self.assertEqual(made, (0, [(0, 20_000_000, 2), (11, 0, 0), (0, 10_000_000, 2), (0, 0, 2)]))
+        shelf.trees[1] = shelf.trees[1]._replace(carried=carried(7, 980_000_000))
+        self.assertEqual(shelf.dated_strip(1, [ONE], 2, [0], [ONE, 5 * ONE]), (0, [(0, 20_000_000, 7), (11, 0, 0)]))
 
 
 if __name__ == '__main__':

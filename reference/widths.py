@@ -7,7 +7,8 @@
 A line of widths.txt is the name of an export, its arguments in the header's order, `=` and the answer. An argument is a number, a list [3,5,0*256], which
 ends in 256 zeros here, or @9, a memory of nine numbers to be written. Figures stand as their 64 bits. A shelf is a list of 512 numbers, status, steps,
 reversion, bound and sixty greatest discounts of each name, beside its memory of 3,600. An answer is a refusal's number alone, or its fields; a memory's part
-that was written comes as a list, and a shelf's changed memory whole. Tests in C, Rust and Python read the lines. Each entry's first line is the call that the others change.
+that was written comes as a list, a shelf's changed memory whole, and the numbers, values and bounds of a strip as three lists. Tests in C, Rust and Python
+read the lines. Each entry's first line is the call that the others change.
 """
 import os
 import re
@@ -185,6 +186,21 @@ def dated_option_price(n, b, discounts, flows, side, dates, strike):
     return priced_option(n, b, discounts, flows, Option(side, strike, dates))
 
 
+def strip(causes, strikes, single, *given):
+    """Sixteen numbers, values and bounds; single takes a strike behind what is given."""
+    number, prices = rules.strip(causes, strikes, lambda strike: single(*given, strike))
+    refuse_if(number != 0, number)
+    return list(map(list, zip(*prices, *[(0, 0, 0)] * (rules.MOST_STRIKES - len(prices)))))
+
+
+def option_strip(n, b, discounts, flows, side, dates, strikes):
+    return strip(rules.tree_causes(n, b), strikes, dated_option_price, n, b, discounts, flows, side, dates)
+
+
+def option_strip_of_kind(n, b, discounts, flows, kind, expiry, strikes):
+    return strip(rules.tree_causes(n, b), strikes, option_price, n, b, discounts, flows, kind, expiry)
+
+
 def with_zeros(rule, *given):
     """Number, price and bound: of two answers side by side, each has its own number."""
     try:
@@ -292,6 +308,17 @@ def shelf_bond_and_dated_option(*given):
     return with_zeros(shelf_bond_price, *given[:4]) + with_zeros(shelf_dated_option_price, *given)
 
 
+def shelf_option_strip(shelf, memory, name, flows, side, dates, strikes):
+    """15 is the strip's own; the steps and the reversion of a slot that has a tree are within their limits."""
+    judged_name(shelf, name, 1, 2)
+    return strip([], strikes, shelf_dated_option_price, shelf, memory, name, flows, side, dates)
+
+
+def shelf_option_strip_of_kind(shelf, memory, name, flows, kind, expiry, strikes):
+    judged_name(shelf, name, 1, 2)
+    return strip([], strikes, shelf_option_price, shelf, memory, name, flows, kind, expiry)
+
+
 # The calls. A list is exact where its length must be just so, and least where it may be longer; a byte is no number that 256 more would fit into.
 
 Argument = namedtuple('Argument', 'name kind value')
@@ -322,6 +349,9 @@ MEMORIES = (('discounts', 'memory', Memory(9)), ('state_prices', 'memory', Memor
 BOND = (STEPS, REVERSION, DISCOUNTS, FLOWS)
 OPTION = (('kind', 'number', 2), ('expiry', 'number', 2), STRIKE)
 DATED = (('side', 'number', 2), DATES, STRIKE)
+# Three strikes, of which the second is refused, and as many as a strip takes.
+STRIP = (*DATED[:2], ('strikes', 'exact', [2 * ONE, rules.STRIKE_LIMIT + 1, ONE]))
+STRIP_OF_KIND = (*OPTION[:2], ('strikes', 'exact', [2 * ONE - 100_000_000 * place for place in range(rules.MOST_STRIKES)]))
 
 # Under 2 a tree that awaits its commit, under 3 a fitted one of the same shape, no others: an asking under 1 moves both.
 FITTED = fit(FREQUENCY[2], STEPS[2], REVERSION[2], VOLATILITY[2], *(column[2] for column in CURVE), 9, 16)[0]
@@ -346,6 +376,7 @@ ENTRIES = [
     entry(price_error_bound, LONGER, REVERSION, STEEP), entry(tree_bounds, LONGER, REVERSION, STEEP),
     entry(bond_price, *BOND), entry(option_price, *BOND, *OPTION), entry(bond_and_option, *BOND, *OPTION),
     entry(dated_option_price, *BOND, *DATED), entry(bond_and_dated_option, *BOND, *DATED),
+    entry(option_strip, *BOND, *STRIP), entry(option_strip_of_kind, *BOND, *STRIP_OF_KIND),
     entry(value_by_state_prices, ('state_prices', 'exact', [160_000_000, 640_000_000, 160_000_000]), ('payoffs', 'exact', [ONE, ONE // 2, 2 * ONE])),
     entry(valuation_error_bound, STEPS, REVERSION, LEVEL, ('row', 'number', 3), ('payoffs', 'exact', [ONE] * 7)),
     entry(shelf_part, SHELF, ('name', 'number', 3)), entry(shelf_ask, *FREE, STEPS, REVERSION),
@@ -353,6 +384,7 @@ ENTRIES = [
     entry(shelf_bond_price, *SHELVED, FLOWS), entry(shelf_option_price, *SHELVED, FLOWS, *OPTION),
     entry(shelf_bond_and_option, *SHELVED, FLOWS, *OPTION), entry(shelf_dated_option_price, *SHELVED, FLOWS, *DATED),
     entry(shelf_bond_and_dated_option, *SHELVED, FLOWS, *DATED),
+    entry(shelf_option_strip, *SHELVED, FLOWS, *STRIP), entry(shelf_option_strip_of_kind, *SHELVED, FLOWS, *STRIP_OF_KIND),
 ]
 # A job is bytes, and the room for its sheet has one size: crates/sheet_cases has both. Version and empty shelf are asked for without arguments.
 WITHOUT_NUMBERS = {'sheet', 'version', 'empty_shelf'}

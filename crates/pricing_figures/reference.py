@@ -150,6 +150,20 @@ def dated(n, b, discounts, flows, side, dates, strike):
     print("dated", n, b, side, len(dates), strike, *price(n, b, discounts, flows, dated_terms(n, side, dates, strike)))
 
 
+def strip(n, b, discounts, flows, side, dates, strikes):
+    own = 3 if not 1 <= n <= 60 else 4 if b > 6000 else 0 if 1 <= len(strikes) <= 16 else 6
+    answers = [] if own else [price(n, b, discounts, flows, dated_terms(n, side, dates, strike)) for strike in strikes]
+    places = answers + [(0, 0, 0)] * (16 - len(answers))
+    print("strip", n, b, side, len(dates), len(strikes), own, *(x for place in places for x in place))
+
+
+def strips(n, b, discounts, flows, side):
+    strikes = [100000000 + k * 97531000 % 700000000 for k in range(17)]
+    strikes[3], strikes[5] = strikes[1], 4000000001
+    for count in (0, 1, 2, 15, 16, 17):
+        strip(n, b, discounts, flows, side, list(range(n // 2 + 1)), strikes[:count])
+
+
 def tree(n, b, discounts, flows):
     bond(n, b, discounts, flows)
     for kind in range(1, 5):
@@ -230,4 +244,18 @@ option(2, 0, discounts, flows[:2], 1, 1, 4000000001)
 option(2, 0, discounts, flows[:2], 2, 1, 4000000000)
 dated(2, 0, discounts, over, 1, [2], 0)
 dated(2, 0, discounts, flows[:2], 2, [1], 4000000000)
+
+for n, b, side in ((1, 0, 1), (12, 0, 2), (60, 0, 2), (12, 1841, 1), (60, 6000, 1)):
+    strips(n, b, discounts, flows[:n], side)
+nines, puts, high = [1100000000] * 81, [4 * ONE, 3 * ONE, 4 * ONE, ONE], [5 * ONE, ONE, 5 * ONE]
+strip(9, 0, nines, [0] * 9, 2, [8], puts)
+strip(9, 0, nines, [0] * 9, 2, [3, 3], high)
+strip(9, 0, nines, [0] * 9, 3, [3], high)
+strip(5, 0, [ONE] * 25, twos, 1, [1], high)
+strip(9, 0, nines[:80], [0] * 9, 2, [8], puts[:2])
+strip(9, 0, nines, flows, 2, [8], puts[:2])
+strip(0, 6001, nines, flows, 1, [0], [])
+strip(61, 0, nines, flows, 1, [0], puts[:2])
+strip(9, 6001, nines, flows, 1, [0], [])
+strip(9, 0, nines, flows, 3, [9], [])
 assert {-1, 1} <= sides

@@ -5,7 +5,7 @@ and, where a quote or flow is at fault, its row. A number beyond the bits of its
 for any other, raises OverflowError.
 
 Tree is one fitted tree with memories of its own, Shelf up to eight trees in one memory. Tree takes version=2 for the model's own mean and
-variance of a step.
+variance of a step. Their option_strip prices up to 16 strikes of one option together.
 
 Amounts are whole billionths: ONE is 1,000,000,000. Where they are asked for, a Decimal or a str such as "1.01" will do too and is
 converted by billionths(), which is exact or says so; a float is a TypeError. The figures of quotes are floats.
@@ -17,7 +17,7 @@ so that no thread of Python's writes it; during any other call with memory it is
 
 The shared object is that of the package, or in a source folder ../target/libmixegorta.so; MIXEGORTA_LIBRARY names another.
 """
-__version__ = "0.9.0"
+__version__ = "0.10.0"
 
 from . import _engine, _limits, refusals
 from ._engine import *

@@ -53,6 +53,12 @@ class CBondAndOption(ctypes.Structure):
     _fields_ = [("bond", CPrice), ("option", CPrice)]
 
 
+class CStrip(ctypes.Structure):
+    """Up to 16 answers in order, a number, a value and a bound for each, zeros after them; or the strip's own refusal with zeros."""
+
+    _fields_ = [("number", U64), ("numbers", U64 * 16), ("values", U64 * 16), ("bounds", U64 * 16)]
+
+
 class CWritten(ctypes.Structure):
     """A sheet that stands at the end of the lent room and is so many bytes long; a refusal's number with a zero."""
 
@@ -126,6 +132,14 @@ DECLARATIONS: Dict[str, Tuple[Any, Dict[str, Any]]] = {
     "bond_and_dated_option": (CBondAndOption, {
         "steps": SIZE, "reversion": U64, "discounts": SliceOf(U64), "flows": SliceOf(U64), "side": U64, "dates": SliceOf(U8), "strike": U64,
     }),
+    "option_strip": (CStrip, {
+        "steps": SIZE, "reversion": U64, "discounts": SliceOf(U64), "flows": SliceOf(U64), "side": U64, "dates": SliceOf(U8),
+        "strikes": SliceOf(U64),
+    }),
+    "option_strip_of_kind": (CStrip, {
+        "steps": SIZE, "reversion": U64, "discounts": SliceOf(U64), "flows": SliceOf(U64), "kind": U64, "expiry": SIZE,
+        "strikes": SliceOf(U64),
+    }),
     "value_by_state_prices": (CAnswer, {"state_prices": SliceOf(U64), "payoffs": SliceOf(U64)}),
     "valuation_error_bound": (CAnswer, {"steps": SIZE, "reversion": U64, "discounts": SliceOf(U64), "row": SIZE, "payoffs": SliceOf(U64)}),
     "sheet": (CWritten, {"job": SliceOf(U8), "out": SliceOf(U8)}),
@@ -151,5 +165,13 @@ DECLARATIONS: Dict[str, Tuple[Any, Dict[str, Any]]] = {
     "shelf_bond_and_dated_option": (CBondAndOption, {
         "shelf": CShelf, "memory": PointerTo(U64 * 3600), "name": SIZE, "flows": SliceOf(U64), "side": U64, "dates": SliceOf(U8),
         "strike": U64,
+    }),
+    "shelf_option_strip": (CStrip, {
+        "shelf": CShelf, "memory": PointerTo(U64 * 3600), "name": SIZE, "flows": SliceOf(U64), "side": U64, "dates": SliceOf(U8),
+        "strikes": SliceOf(U64),
+    }),
+    "shelf_option_strip_of_kind": (CStrip, {
+        "shelf": CShelf, "memory": PointerTo(U64 * 3600), "name": SIZE, "flows": SliceOf(U64), "kind": U64, "expiry": SIZE,
+        "strikes": SliceOf(U64),
     }),
 }

@@ -1,6 +1,6 @@
 """The engine's functions: each is one call of the proved shared object."""
 from array import array
-from typing import TYPE_CHECKING, Any, Iterable, Iterator, NamedTuple, Optional, Tuple, Union
+from typing import TYPE_CHECKING, Any, Iterable, Iterator, List, NamedTuple, Optional, Tuple, Union
 
 from ._arguments import Slice, amount, amounts, dates as exercise_dates, job_bytes, memory, own_memory, point as row_kind_and_figure
 from ._arguments import quotes, u64, whole
@@ -16,11 +16,11 @@ if TYPE_CHECKING:
 __all__ = [
     "DISCOUNT_FACTOR", "YEARLY_RATE", "YEARLY_YIELD", "DISCOUNTS", "STATE_PRICES", "EUROPEAN_CALL", "EUROPEAN_PUT", "AMERICAN_CALL",
     "AMERICAN_PUT", "CALL", "PUT",
-    "Point", "Curve", "Branches", "Price", "TreeErrorBounds", "BondAndOption",
+    "Point", "Curve", "Branches", "Price", "TreeErrorBounds", "BondAndOption", "Strip",
     "half_width", "node_count", "row_start", "discounts_needed", "state_prices_needed", "branches",
     "working_reversion", "quote_discount", "curve_discounts", "fit_into", "row_range", "step_rate", "continuous_rate", "state_price_error_bound",
     "price_error_bound", "tree_bounds", "bond_price", "option_price", "bond_and_option", "dated_option_price", "bond_and_dated_option",
-    "value_by_state_prices", "valuation_error_bound", "sheet_into", "sheet",
+    "option_strip", "option_strip_of_kind", "value_by_state_prices", "valuation_error_bound", "sheet_into", "sheet",
 ]
 
 DISCOUNT_FACTOR, YEARLY_RATE, YEARLY_YIELD = 5, 6, 9
@@ -68,6 +68,8 @@ class BondAndOption(NamedTuple):
     option: Union[Price, Refused]
 
 
+# the answers of a strip in the order of its strikes: each is a Price, or the Refused that a call for its strike alone would raise
+Strip = List[Union[Price, Refused]]
 PointLike = Union[Point, Tuple[int, int, float]]
 
 
@@ -119,6 +121,16 @@ def _both(name: str, bond_name: str, option_name: str, *given: Any) -> BondAndOp
     return BondAndOption(*_each(prices, ((bond_name, given), (option_name, given))))
 
 
+def _strip(name: str, option_name: str, terms: Tuple[Any, ...], strikes: Amounts) -> Strip:
+    """A strip of these terms, which are those of an option but for its strike."""
+    struck = amounts("strikes", strikes)
+    given = *terms, struck
+    answer = call(name, *given)
+    accepted(answer.number, name, given)
+    prices = zip(answer.numbers, answer.values, answer.bounds)
+    return list(_each(prices, ((option_name, (*terms, strike)) for strike in struck)))
+
+
 def _tree(steps: int, reversion: int, discounts: Amounts) -> Tuple[int, int, Slice]:
     return u64("steps", steps), u64("reversion", reversion), amounts("discounts", discounts)
 
@@ -127,12 +139,20 @@ def _bond(steps: int, reversion: int, discounts: Amounts, flows: Amounts) -> Tup
     return *_tree(steps, reversion, discounts), amounts("flows", flows)
 
 
+def _kind(kind: int, expiry: int) -> Tuple[int, int]:
+    return u64("kind", kind), u64("expiry", expiry)
+
+
+def _side(side: int, dates: Iterable[int]) -> Tuple[int, Slice]:
+    return u64("side", side), exercise_dates("dates", dates)
+
+
 def _option(kind: int, expiry: int, strike: Amount) -> Tuple[int, int, int]:
-    return u64("kind", kind), u64("expiry", expiry), amount("strike", strike)
+    return *_kind(kind, expiry), amount("strike", strike)
 
 
 def _dated_option(side: int, dates: Iterable[int], strike: Amount) -> Tuple[int, Slice, int]:
-    return u64("side", side), exercise_dates("dates", dates), amount("strike", strike)
+    return *_side(side, dates), amount("strike", strike)
 
 
 def _apart(**memories: Slice) -> None:
@@ -280,6 +300,18 @@ def bond_and_dated_option(steps: int, reversion: int, discounts: Amounts, flows:
     """Bond and dated option in one roll, as bond_and_option gives them."""
     return _both("bond_and_dated_option", "bond_price", "dated_option_price", *_bond(steps, reversion, discounts, flows),
                  *_dated_option(side, dates, strike))
+
+
+def option_strip(steps: int, reversion: int, discounts: Amounts, flows: Amounts, side: int, dates: Iterable[int], strikes: Amounts) -> Strip:
+    """Up to 16 strikes of one side and one list of dates, the bond rolled once for all of them: in their order, each a Price, or the Refused
+    that dated_option_price would raise for that strike. Raised are the refusals of the strip itself: steps, reversion, and NotInTree for no strike
+    or more than MAX_STRIKES."""
+    return _strip("option_strip", "dated_option_price", (*_bond(steps, reversion, discounts, flows), *_side(side, dates)), strikes)
+
+
+def option_strip_of_kind(steps: int, reversion: int, discounts: Amounts, flows: Amounts, kind: int, expiry: int, strikes: Amounts) -> Strip:
+    """The same for one of the four kinds: each answer is what option_price gives, or would raise, for its strike."""
+    return _strip("option_strip_of_kind", "option_price", (*_bond(steps, reversion, discounts, flows), *_kind(kind, expiry)), strikes)
 
 
 def value_by_state_prices(state_prices: Amounts, payoffs: Amounts) -> int:

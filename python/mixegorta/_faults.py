@@ -95,6 +95,8 @@ def _needed(name: str, given: Given) -> int:
 
 
 def _not_in_tree(given: Given) -> Place:
+    if "strikes" in given:
+        return "strikes", None
     if "point" in given:
         return "point", given["point"].row
     if "rows" in given and (place := _misplaced(given)):

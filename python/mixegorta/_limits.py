@@ -1,8 +1,8 @@
 """Limits and units. Written by tools/declarations.py from tools/limits.txt."""
 
 __all__ = [
-    "ONE", "PROBABILITY_ONE", "MAX_STEPS", "MAX_NODES", "MAX_DISCOUNTS", "MAX_STATE_PRICES", "MAX_NAME", "SHELF_ROOM", "MAX_JOB",
-    "SHEET_ROOM", "MAX_REVERSION", "MAX_VOLATILITY", "MIN_QUOTE_DISCOUNT", "MAX_QUOTE_DISCOUNT", "MAX_NODE_DISCOUNT", "MAX_FLOW",
+    "ONE", "PROBABILITY_ONE", "MAX_STEPS", "MAX_NODES", "MAX_DISCOUNTS", "MAX_STATE_PRICES", "MAX_STRIKES", "MAX_NAME", "SHELF_ROOM",
+    "MAX_JOB", "SHEET_ROOM", "MAX_REVERSION", "MAX_VOLATILITY", "MIN_QUOTE_DISCOUNT", "MAX_QUOTE_DISCOUNT", "MAX_NODE_DISCOUNT", "MAX_FLOW",
     "MAX_STRIKE", "MAX_VALUE", "MAX_STATE_PRICE_SUM",
 ]
 
@@ -18,6 +18,8 @@ MAX_NODES = 121
 MAX_DISCOUNTS = 3_600
 # the largest number of state prices of a tree
 MAX_STATE_PRICES = 3_721
+# the largest number of strikes of a strip; the least is 1
+MAX_STRIKES = 16
 # the largest name of a tree on a shelf; the least is 1
 MAX_NAME = 8
 # numbers in the memory of a shelf, which are the nodes that it has for all its trees

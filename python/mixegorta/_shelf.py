@@ -111,3 +111,12 @@ class Shelf:
         """Bond and dated option in one roll, as bond_and_option gives them."""
         return engine._both("shelf_bond_and_dated_option", "shelf_bond_price", "shelf_dated_option_price", *self._bond(name, flows),
                             *engine._dated_option(side, dates, strike))
+
+    def option_strip(self, name: int, flows: Amounts, side: int, dates: Iterable[int], strikes: Amounts) -> engine.Strip:
+        """Up to 16 strikes of one side and one list of dates, as the function option_strip gives them: each a Price, or the Refused that
+        dated_option_price would raise for that strike. Raised are WrongName, and NotInTree for no strike or more than MAX_STRIKES."""
+        return engine._strip("shelf_option_strip", "shelf_dated_option_price", (*self._bond(name, flows), *engine._side(side, dates)), strikes)
+
+    def option_strip_of_kind(self, name: int, flows: Amounts, kind: int, expiry: int, strikes: Amounts) -> engine.Strip:
+        """The same for one of the four kinds: each answer is what option_price gives, or would raise, for its strike."""
+        return engine._strip("shelf_option_strip_of_kind", "shelf_option_price", (*self._bond(name, flows), *engine._kind(kind, expiry)), strikes)

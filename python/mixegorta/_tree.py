@@ -119,6 +119,15 @@ class Tree:
         """Bond and dated option in one roll, as bond_and_option gives them."""
         return engine.bond_and_dated_option(self.steps, self.working_reversion, self._discounts, flows, side, dates, strike)
 
+    def option_strip(self, flows: Amounts, side: int, dates: Iterable[int], strikes: Amounts) -> engine.Strip:
+        """Up to 16 strikes of one side and one list of dates, as the function option_strip gives them: each a Price, or the Refused that
+        dated_option_price would raise for that strike."""
+        return engine.option_strip(self.steps, self.working_reversion, self._discounts, flows, side, dates, strikes)
+
+    def option_strip_of_kind(self, flows: Amounts, kind: int, expiry: int, strikes: Amounts) -> engine.Strip:
+        """The same for one of the four kinds, as the function option_strip_of_kind gives them."""
+        return engine.option_strip_of_kind(self.steps, self.working_reversion, self._discounts, flows, kind, expiry, strikes)
+
     def value(self, row: int, payoffs: Amounts) -> engine.Price:
         """What payoffs on a row are worth: never above the exact price, and at most the bound below it."""
         kept = array("Q", amounts("payoffs", payoffs))

@@ -14,7 +14,7 @@ CAUSES: Dict[int, str] = {
     3: "the steps are outside 1 to 60",
     4: "the reversion is above 6,000",
     5: "the volatility is above 50,000",
-    6: "a length, row or node is not in the tree, or a memory is too short",
+    6: "a length, row or node is not in the tree, a memory is too short, or the strikes are none or more than 16",
     7: "a quote's kind, figure or discount is outside its limits, or the version is not 1 or 2",
     8: "the nodes are too far apart",
     9: "a node discount is 0 or above 1,100,000,000",
@@ -73,7 +73,7 @@ class VolatilityTooLarge(Refused):
 
 
 class NotInTree(Refused):
-    """6: a length, row or node is not in the tree, or a memory is too short."""
+    """6: a length, row or node is not in the tree, a memory is too short, or the strikes are none or more than 16."""
 
 
 class QuoteOutOfRange(Refused):

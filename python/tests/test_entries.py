@@ -45,6 +45,7 @@ FIT = {**CURVE, "reversion": 0, "volatility": 0, "state_prices": own_memory(9)}
 BOND = {**SIZE, **flat(4), **flows(0, ONE)}
 KIND = {**BOND, "kind": 1, "expiry": 1, "strike": ONE}
 LISTED = {**BOND, "side": 1, "dates": dates("dates", [1]), "strike": ONE}
+STRIKES = {"strikes": amounts("strikes", [ONE])}
 SHAPE = {4: {"reversion": 6001}, 6: {"row": 61}}
 LENT = {3: {"steps": 61}, 4: {"reversion": 6001}, 6: flat(3), 9: flat(4, 0)}
 BONDS = {**LENT, 10: flows(0, 2 * ONE + 1), 12: {"steps": 5, **flat(25), **flows(*[2 * ONE] * 5)}}
@@ -76,6 +77,7 @@ CASES = {
     "price_error_bound": ({**SIZE, **flat(4)}, LENT), "tree_bounds": ({**SIZE, **flat(4)}, LENT),
     "bond_price": (BOND, BONDS), "option_price": (KIND, KINDS), "bond_and_option": (KIND, KINDS),
     "dated_option_price": (LISTED, LISTS), "bond_and_dated_option": (LISTED, LISTS),
+    "option_strip": ({**LISTED, **STRIKES}, LISTS), "option_strip_of_kind": ({**KIND, **STRIKES}, KINDS),
     "value_by_state_prices": ({"state_prices": amounts("state_prices", [ONE]), "payoffs": amounts("payoffs", [ONE])},
                               {6: {"payoffs": amounts("payoffs", [1, 2, 3])}, 12: PAYOFFS}),
     "valuation_error_bound": ({**SIZE, **flat(4), "row": 0, "payoffs": amounts("payoffs", [ONE])}, {**LENT, 12: PAYOFFS}),
@@ -85,6 +87,7 @@ CASES = {
     "shelf_release": ({**shelf(FITTED), "name": 1}, {15: {"name": 2}}),
     "shelf_bond_price": (SHELF_BOND, SHELF_BONDS), "shelf_option_price": (SHELF_KIND, SHELF_KINDS), "shelf_bond_and_option": (SHELF_KIND, SHELF_KINDS),
     "shelf_dated_option_price": (SHELF_LISTED, SHELF_LISTS), "shelf_bond_and_dated_option": (SHELF_LISTED, SHELF_LISTS),
+    "shelf_option_strip": ({**SHELF_LISTED, **STRIKES}, SHELF_LISTS), "shelf_option_strip_of_kind": ({**SHELF_KIND, **STRIKES}, SHELF_KINDS),
     "sheet": ({**job(), "out": own_memory(SHEET_ROOM, "B")}, {
         1: job(option=b"\x08"), 2: job(frequency=3), 3: job(steps=61), 4: job(reversion=6001), 5: job(volatility=50001), 6: {"out": own_memory(9, "B")},
         7: job(figure=11.0), 8: job(steps=13, volatility=50000), 9: job(figure=1.2), 10: job(flow=2 * ONE + 1), 11: job(kind=5),
@@ -93,10 +96,10 @@ CASES = {
 
 
 def number(name, given):
-    """The number that a call gives: its last price's where it answers two."""
+    """The number that a call gives: its last price's where it answers two, its own or its first price's where it answers a strip."""
     answer = call(name, *(given[parameter] for parameter in DECLARATIONS[name][1]))
     answer = getattr(answer, "option", answer)
-    return getattr(answer, "number", answer)
+    return getattr(answer, "number", answer) or getattr(answer, "numbers", [0])[0]
 
 
 class Test(unittest.TestCase):

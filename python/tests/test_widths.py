@@ -140,6 +140,18 @@ def shelf_both(method):
     return lambda slots, memory, *given: [number for each in getattr(shelf_with(slots, memory), method)(*given) for number in number_and_fields(each)]
 
 
+def strip(function):
+    """Sixteen numbers, values and bounds, those past the strikes 0."""
+    def columns(*given):
+        rows = [number_and_fields(each) for each in function(*given)]
+        return [0, *chain.from_iterable(zip(*rows, *[[0, 0, 0]] * (m.MAX_STRIKES - len(rows))))]
+    return columns
+
+
+def shelf_strip(method):
+    return lambda slots, memory, *given: strip(getattr(shelf_with(slots, memory), method))(*given)
+
+
 LISTS_OF_QUOTES = "curve_discounts", "fit", "fit_version", "shelf_commit"
 CALLS = {"quote_discount": quote_discount, "curve_discounts": curve_discounts, "fit": fit, "fit_version": fit_version, "row_range": row_range,
          "tree_bounds": tree_bounds, "bond_and_option": both(m.bond_and_option), "bond_and_dated_option": both(m.bond_and_dated_option),
@@ -148,6 +160,8 @@ for name in ("bond_price", "option_price", "dated_option_price"):
     CALLS["shelf_" + name] = shelf_price(name)
 for name in ("bond_and_option", "bond_and_dated_option"):
     CALLS["shelf_" + name] = shelf_both(name)
+for name in ("option_strip", "option_strip_of_kind"):
+    CALLS[name], CALLS["shelf_" + name] = strip(getattr(m, name)), shelf_strip(name)
 for name in ("half_width", "node_count", "row_start", "discounts_needed", "state_prices_needed", "branches", "working_reversion", "step_rate",
              "continuous_rate", "state_price_error_bound", "price_error_bound", "bond_price", "option_price", "dated_option_price", "value_by_state_prices",
              "valuation_error_bound"):
@@ -206,7 +220,8 @@ class Test(unittest.TestCase):
         tree = 3, 0, [m.ONE] * 9, [0, 0, m.ONE]
         for call in (lambda: m.quote_discount(1, (1, 256 + m.DISCOUNT_FACTOR, 0.9)), lambda: m.Curve([(1, 256 + m.DISCOUNT_FACTOR, 0.9)]),
                      lambda: m.Curve([(2**64 + 1, m.DISCOUNT_FACTOR, 0.9)]), lambda: m.curve_discounts(1, 1, [(1, 256 + m.YEARLY_RATE, 0.9)]),
-                     lambda: m.dated_option_price(*tree, m.CALL, [256 + 1], m.ONE), lambda: m.bond_and_dated_option(*tree, m.CALL, [1, 256 + 2], m.ONE)):
+                     lambda: m.dated_option_price(*tree, m.CALL, [256 + 1], m.ONE), lambda: m.bond_and_dated_option(*tree, m.CALL, [1, 256 + 2], m.ONE),
+                     lambda: m.option_strip(*tree, m.CALL, [1, 256 + 2], [m.ONE])):
             with self.assertRaises(OverflowError):
                 call()
 

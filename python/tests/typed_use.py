@@ -32,6 +32,10 @@ second: m.Tree = m.Tree(1, 2, 1_000, 10_000, points, version=2)
 working: int = second.working_reversion
 same_bound = same_bound and working == m.working_reversion(second.version, second.reversion)
 m.fit_into(1, 2, 1_000, 0, points, array("Q", bytes(32)), memoryview(array("Q", bytes(72))), version=2)
+strip: m.Strip = tree.option_strip([0, m.ONE], m.CALL, b"\0\1", ["0.95", Decimal("0.95"), 950_000_000])
+same_bound = same_bound and strip == [dated] * 3 == shelf.option_strip(1, [0, m.ONE], m.CALL, [0, 1], array("Q", [950_000_000] * 3))
+by_kind: m.Strip = m.option_strip_of_kind(2, 0, copied, [0, m.ONE], m.EUROPEAN_CALL, 1, ("0.95",))
+same_bound = same_bound and by_kind == [option] == shelf.option_strip_of_kind(1, [0, m.ONE], m.EUROPEAN_CALL, 1, ["0.95"])
 words: str = f"{both.option.argument} {both.option.row}" if isinstance(both.option, m.Refused) else f"{both.option.bound}"
 
 try:
@@ -40,6 +44,14 @@ except TypeError:
     pass
 try:
     tree.bond_price([0.04, 1.04])  # type: ignore[list-item]
+except TypeError:
+    pass
+try:
+    tree.option_strip([0, m.ONE], m.CALL, b"\0", [0.95])  # type: ignore[list-item]
+except TypeError:
+    pass
+try:
+    tree.option_strip([0, m.ONE], m.CALL, b"\0", m.ONE)  # type: ignore[arg-type]
 except TypeError:
     pass
 try:

@@ -2,7 +2,8 @@
 //!
 //!     cargo run --example callable_note
 //!
-//! The issuer's right is a dated call on the note; what a buyer pays is the bond's price less the option's.
+//! The issuer's right is a dated call on the note; what a buyer pays is the bond's price less the option's. A strip gives the right at several call
+//! prices.
 
 use mixegorta::{Curve, DatedTerms, Quote, Refusal, Side, Tree, ONE};
 
@@ -17,6 +18,8 @@ const RATES: [f64; STEPS] = [
     0.0380, 0.0383, 0.0387, 0.0391, 0.0395, 0.0399, 0.0404, 0.0409, 0.0414, 0.0419, 0.0425, 0.0431,
 ];
 const COUPON: u64 = 22_500_000;
+/// Par, and other prices at which the issuer might call.
+const CALL_PRICES: [u64; 4] = [990_000_000, ONE, 1_010_000_000, 1_020_000_000];
 /// The coupon days from the first year on.
 const CALL_DAYS: [u8; 4] = [4, 6, 8, 10];
 
@@ -42,6 +45,12 @@ fn main() -> Result<(), Refusal> {
         "a buyer of the note pays {} billionths",
         bond.value - call.value
     );
+
+    // The right at other call prices, the note rolled once for all of them.
+    let strip = tree.option_strip(&flows, Side::Call, &CALL_DAYS, &CALL_PRICES)?;
+    for (strike, price) in CALL_PRICES.iter().zip(strip) {
+        println!("called at {strike} billionths: {}", price?);
+    }
 
     // A list that does not rise is refused by number, and the number has words.
     if let Err(refusal) = tree.dated_option_price(&flows, right(&[6, 4])) {

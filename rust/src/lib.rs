@@ -3,7 +3,7 @@
 //! [`ONE`] is 1,000,000,000 billionths. Any arguments may be passed: each call gives its full answer or a [`Refusal`], and the engine
 //! itself judges every argument. Discounts stand row after row, lowest node first, for rows 0 to n - 1, state prices for rows 0 to n.
 //! A [`Tree`] is one fitted tree with memories of its own, a [`Shelf`] up to eight trees in one memory. [`Tree::fit_version`] takes a version: 2 has
-//! the model's own mean and variance of a step.
+//! the model's own mean and variance of a step. [`Tree::option_strip`] prices up to 16 strikes of one option together.
 //!
 //! ```
 //! use mixegorta::{Curve, OptionKind, OptionTerms, Quote, Tree, ONE};
@@ -34,7 +34,7 @@ pub use limits::*;
 pub use shelf::{Shelf, ShelvedTree};
 pub use tree::Tree;
 
-use shapes::column;
+use shapes::{column, prices_of};
 use std::fmt;
 use std::ops::Range;
 
@@ -234,6 +234,9 @@ pub struct BondAndOption {
     /// What the option alone would give.
     pub option: Result<Price, Refusal>,
 }
+
+/// The answers of a strip of strikes, in the order of the strikes: each is what a call for its strike alone gives.
+pub type Strip = Vec<Result<Price, Refusal>>;
 
 /// Where a node leads: to `lowest` and the two nodes above it, with probabilities over [`PROBABILITY_ONE`].
 #[derive(Clone, Copy, Debug, PartialEq, Eq)]
@@ -490,6 +493,12 @@ fn each_priced(both: raw::BondAndOption) -> BondAndOption {
     }
 }
 
+fn each_strike(strip: raw::Strip, strikes: &[u64]) -> Result<Strip, Refusal> {
+    let mut prices = prices_of(&strip.numbers, &strip.values, &strip.bounds);
+    prices.truncate(strikes.len());
+    accepted(strip.number, prices)
+}
+
 /// The error bound that every bond and option on a tree has, without pricing any.
 pub fn price_error_bound(steps: usize, reversion: u64, discounts: &[u64]) -> Result<u64, Refusal> {
     value_of(unsafe {
@@ -626,6 +635,63 @@ pub fn bond_and_dated_option(
             terms.strike,
         )
     })
+}
+
+/// Up to 16 strikes of one side and one list of dates, the bond rolled once for all of them: each answer is what [`dated_option_price`]
+/// gives for its strike. The strip itself is refused for steps, for reversion, and with 6 for no strike or more than [`MAX_STRIKES`]; every other
+/// refusal stands in the answers.
+pub fn option_strip(
+    steps: usize,
+    reversion: u64,
+    discounts: &[u64],
+    flows: &[u64],
+    side: Side,
+    dates: &[u8],
+    strikes: &[u64],
+) -> Result<Strip, Refusal> {
+    let strip = unsafe {
+        raw::mixegorta_option_strip(
+            steps,
+            reversion,
+            discounts.as_ptr(),
+            discounts.len(),
+            flows.as_ptr(),
+            flows.len(),
+            side as u64,
+            dates.as_ptr(),
+            dates.len(),
+            strikes.as_ptr(),
+            strikes.len(),
+        )
+    };
+    each_strike(strip, strikes)
+}
+
+/// The same for one of the four kinds: each answer is what [`option_price`] gives for its strike.
+pub fn option_strip_of_kind(
+    steps: usize,
+    reversion: u64,
+    discounts: &[u64],
+    flows: &[u64],
+    kind: OptionKind,
+    expiry: usize,
+    strikes: &[u64],
+) -> Result<Strip, Refusal> {
+    let strip = unsafe {
+        raw::mixegorta_option_strip_of_kind(
+            steps,
+            reversion,
+            discounts.as_ptr(),
+            discounts.len(),
+            flows.as_ptr(),
+            flows.len(),
+            kind as u64,
+            expiry,
+            strikes.as_ptr(),
+            strikes.len(),
+        )
+    };
+    each_strike(strip, strikes)
 }
 
 /// What payoffs on a row are worth by the row's state prices.

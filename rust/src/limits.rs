@@ -12,6 +12,8 @@ pub const MAX_NODES: usize = 121;
 pub const MAX_DISCOUNTS: usize = 3_600;
 /// The largest number of state prices of a tree.
 pub const MAX_STATE_PRICES: usize = 3_721;
+/// The largest number of strikes of a strip; the least is 1.
+pub const MAX_STRIKES: usize = 16;
 /// The largest name of a tree on a shelf; the least is 1.
 pub const MAX_NAME: usize = 8;
 /// Numbers in the memory of a shelf, which are the nodes that it has for all its trees.

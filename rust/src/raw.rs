@@ -68,6 +68,16 @@ pub struct BondAndOption {
     pub option: Price,
 }
 
+/// Up to 16 answers in order, a number, a value and a bound for each, zeros after them; or the strip's own refusal with zeros.
+#[repr(C)]
+#[derive(Clone, Copy)]
+pub struct Strip {
+    pub number: u64,
+    pub numbers: [u64; 16],
+    pub values: [u64; 16],
+    pub bounds: [u64; 16],
+}
+
 /// A sheet that stands at the end of the lent room and is so many bytes long; a refusal's number with a zero.
 #[repr(C)]
 #[derive(Clone, Copy)]
@@ -251,6 +261,31 @@ extern "C" {
         dates_len: usize,
         strike: u64,
     ) -> BondAndOption;
+    pub fn mixegorta_option_strip(
+        steps: usize,
+        reversion: u64,
+        discounts: *const u64,
+        discounts_len: usize,
+        flows: *const u64,
+        flows_len: usize,
+        side: u64,
+        dates: *const u8,
+        dates_len: usize,
+        strikes: *const u64,
+        strikes_len: usize,
+    ) -> Strip;
+    pub fn mixegorta_option_strip_of_kind(
+        steps: usize,
+        reversion: u64,
+        discounts: *const u64,
+        discounts_len: usize,
+        flows: *const u64,
+        flows_len: usize,
+        kind: u64,
+        expiry: usize,
+        strikes: *const u64,
+        strikes_len: usize,
+    ) -> Strip;
     pub fn mixegorta_value_by_state_prices(
         state_prices: *const u64,
         state_prices_len: usize,
@@ -340,4 +375,27 @@ extern "C" {
         dates_len: usize,
         strike: u64,
     ) -> BondAndOption;
+    pub fn mixegorta_shelf_option_strip(
+        shelf: Shelf,
+        memory: *const [u64; 3600],
+        name: usize,
+        flows: *const u64,
+        flows_len: usize,
+        side: u64,
+        dates: *const u8,
+        dates_len: usize,
+        strikes: *const u64,
+        strikes_len: usize,
+    ) -> Strip;
+    pub fn mixegorta_shelf_option_strip_of_kind(
+        shelf: Shelf,
+        memory: *const [u64; 3600],
+        name: usize,
+        flows: *const u64,
+        flows_len: usize,
+        kind: u64,
+        expiry: usize,
+        strikes: *const u64,
+        strikes_len: usize,
+    ) -> Strip;
 }

@@ -13,7 +13,7 @@ impl Refusal {
     pub const REVERSION: Refusal = Refusal(4);
     /// The volatility is above 50,000.
     pub const VOLATILITY: Refusal = Refusal(5);
-    /// A length, row or node is not in the tree, or a memory is too short.
+    /// A length, row or node is not in the tree, a memory is too short, or the strikes are none or more than 16.
     pub const LENGTH_OR_ROW: Refusal = Refusal(6);
     /// A quote's kind, figure or discount is outside its limits, or the version is not 1 or 2.
     pub const QUOTE: Refusal = Refusal(7);
@@ -60,7 +60,7 @@ pub(crate) const CAUSES: [&str; 15] = [
     "the steps are outside 1 to 60",
     "the reversion is above 6,000",
     "the volatility is above 50,000",
-    "a length, row or node is not in the tree, or a memory is too short",
+    "a length, row or node is not in the tree, a memory is too short, or the strikes are none or more than 16",
     "a quote's kind, figure or discount is outside its limits, or the version is not 1 or 2",
     "the nodes are too far apart",
     "a node discount is 0 or above 1,100,000,000",

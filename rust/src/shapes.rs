@@ -45,7 +45,6 @@ pub(crate) fn column<T, N>(records: &[T], field: impl Fn(&T) -> N) -> Vec<N> {
 }
 
 /// Prices whose numbers, values and bounds stand in columns, each priced or refused by itself; as many as the shortest column has.
-#[allow(dead_code)]
 pub(crate) fn prices_of(
     numbers: &[u64],
     values: &[u64],

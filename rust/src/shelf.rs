@@ -1,10 +1,9 @@
 //! Several trees in one memory.
 
 use crate::shapes::Kept;
-use crate::{each_priced, priced, raw, SHELF_ROOM};
-use crate::{
-    BondAndOption, Curve, DatedTerms, OptionTerms, Price, Refusal, TreeErrorBounds, MAX_NAME,
-};
+use crate::{each_priced, each_strike, priced, raw, MAX_NAME, SHELF_ROOM};
+use crate::{BondAndOption, Curve, DatedTerms, OptionTerms, Price, Refusal, TreeErrorBounds};
+use crate::{OptionKind, Side, Strip};
 use std::fmt;
 
 /// A tree on a shelf, as it was asked for.
@@ -227,6 +226,58 @@ impl Shelf {
                 terms.strike,
             )
         }))
+    }
+
+    /// Up to 16 strikes of one side and one list of dates, each answer what [`Shelf::dated_option_price`] gives for its strike. The strip itself is
+    /// refused with 15 for the name, then with 6 for no strike or more than 16.
+    pub fn option_strip(
+        &self,
+        name: usize,
+        flows: &[u64],
+        side: Side,
+        dates: &[u8],
+        strikes: &[u64],
+    ) -> Result<Strip, Refusal> {
+        let strip = self.kept.ask(|shelf, memory| unsafe {
+            raw::mixegorta_shelf_option_strip(
+                shelf,
+                memory,
+                name,
+                flows.as_ptr(),
+                flows.len(),
+                side as u64,
+                dates.as_ptr(),
+                dates.len(),
+                strikes.as_ptr(),
+                strikes.len(),
+            )
+        });
+        each_strike(strip, strikes)
+    }
+
+    /// The same for one of the four kinds, each answer what [`Shelf::option_price`] gives for its strike.
+    pub fn option_strip_of_kind(
+        &self,
+        name: usize,
+        flows: &[u64],
+        kind: OptionKind,
+        expiry: usize,
+        strikes: &[u64],
+    ) -> Result<Strip, Refusal> {
+        let strip = self.kept.ask(|shelf, memory| unsafe {
+            raw::mixegorta_shelf_option_strip_of_kind(
+                shelf,
+                memory,
+                name,
+                flows.as_ptr(),
+                flows.len(),
+                kind as u64,
+                expiry,
+                strikes.as_ptr(),
+                strikes.len(),
+            )
+        });
+        each_strike(strip, strikes)
     }
 }
 

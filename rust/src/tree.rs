@@ -1,7 +1,7 @@
 //! A fitted tree with memories of its own.
 
-use crate::TreeErrorBounds;
 use crate::{BondAndOption, Branches, Curve, DatedTerms, OptionTerms, Price, Refusal, RowKind};
+use crate::{OptionKind, Side, Strip, TreeErrorBounds};
 
 /// A tree that was fitted to a curve and not refused.
 #[derive(Clone, Debug, PartialEq, Eq)]
@@ -173,6 +173,45 @@ impl Tree {
             &self.discounts,
             flows,
             terms,
+        )
+    }
+
+    /// Up to 16 strikes of one side and one list of dates, each answer what [`Tree::dated_option_price`] gives for its strike; no strike or more
+    /// than 16 is refused with 6.
+    pub fn option_strip(
+        &self,
+        flows: &[u64],
+        side: Side,
+        dates: &[u8],
+        strikes: &[u64],
+    ) -> Result<Strip, Refusal> {
+        crate::option_strip(
+            self.steps,
+            self.working_reversion,
+            &self.discounts,
+            flows,
+            side,
+            dates,
+            strikes,
+        )
+    }
+
+    /// The same for one of the four kinds, each answer what [`Tree::option_price`] gives for its strike.
+    pub fn option_strip_of_kind(
+        &self,
+        flows: &[u64],
+        kind: OptionKind,
+        expiry: usize,
+        strikes: &[u64],
+    ) -> Result<Strip, Refusal> {
+        crate::option_strip_of_kind(
+            self.steps,
+            self.working_reversion,
+            &self.discounts,
+            flows,
+            kind,
+            expiry,
+            strikes,
         )
     }
 

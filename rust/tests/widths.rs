@@ -30,6 +30,14 @@ impl Given {
         self.list(place).iter().map(|v| *v as u8).collect()
     }
 
+    /// The dates of an entry that takes some.
+    fn dates(&self, name: &str) -> Vec<u8> {
+        match name.contains("dated") || name.ends_with("option_strip") {
+            true => self.bytes(5),
+            false => Vec::new(),
+        }
+    }
+
     /// The curve of three lists, or none where they differ in length, which no curve of this crate does.
     fn curve(&self, place: usize) -> Option<Curve> {
         let [rows, kinds, figures] = [0, 1, 2].map(|k| self.list(place + k));
@@ -42,23 +50,29 @@ impl Given {
         Some(Curve::of_points(&points))
     }
 
-    /// The terms of an option, or none where the kind is no number of `OptionKind`.
-    fn terms(&self) -> Option<OptionTerms> {
+    /// A kind, or none where it is no number of `OptionKind`.
+    fn kind(&self) -> Option<OptionKind> {
         use OptionKind::*;
         let kinds = [EuropeanCall, EuropeanPut, AmericanCall, AmericanPut];
-        let kind = kinds.into_iter().find(|k| *k as u64 == self.number(4))?;
+        kinds.into_iter().find(|k| *k as u64 == self.number(4))
+    }
+
+    fn side(&self) -> Option<Side> {
+        let sides = [Side::Call, Side::Put];
+        sides.into_iter().find(|s| *s as u64 == self.number(4))
+    }
+
+    fn terms(&self) -> Option<OptionTerms> {
         Some(OptionTerms {
-            kind,
+            kind: self.kind()?,
             expiry: self.size(5),
             strike: self.number(6),
         })
     }
 
     fn dated<'a>(&self, dates: &'a [u8]) -> Option<DatedTerms<'a>> {
-        let sides = [Side::Call, Side::Put];
-        let side = sides.into_iter().find(|s| *s as u64 == self.number(4))?;
         Some(DatedTerms {
-            side,
+            side: self.side()?,
             dates,
             strike: self.number(6),
         })
@@ -125,6 +139,20 @@ fn both(found: BondAndOption) -> Vec<u64> {
             fields
         })
         .collect()
+}
+
+/// Sixteen numbers, values and bounds of a strip, those past its strikes 0.
+fn strip(found: Result<Strip, Refusal>) -> Vec<u64> {
+    let Ok(prices) = found else {
+        return vec![found.unwrap_err().number()];
+    };
+    let mut columns = [[0; MAX_STRIKES]; 3];
+    for (place, each) in prices.into_iter().enumerate() {
+        for (column, field) in price(each).into_iter().enumerate() {
+            columns[column][place] = field;
+        }
+    }
+    [vec![0], columns.concat()].concat()
 }
 
 /// The number of a call that writes, and what it wrote; everything else of its memories must be as it was.
@@ -313,11 +341,7 @@ fn part(g: &Given) -> Option<Vec<u64>> {
 fn shelf_price(name: &str, g: &Given) -> Option<Vec<u64>> {
     let shelf = prepared(g)?;
     let (tree, flows) = (g.size(2), g.list(3));
-    let dates = if name.contains("dated") {
-        g.bytes(5)
-    } else {
-        Vec::new()
-    };
+    let dates = g.dates(name);
     Some(match name {
         "shelf_bond_price" => price(shelf.bond_price(tree, flows)),
         "shelf_option_price" => price(shelf.option_price(tree, flows, g.terms()?)),
@@ -327,6 +351,12 @@ fn shelf_price(name: &str, g: &Given) -> Option<Vec<u64>> {
         }
         "shelf_bond_and_dated_option" => {
             both(shelf.bond_and_dated_option(tree, flows, g.dated(&dates)?))
+        }
+        "shelf_option_strip" => {
+            strip(shelf.option_strip(tree, flows, g.side()?, &dates, g.list(6)))
+        }
+        "shelf_option_strip_of_kind" => {
+            strip(shelf.option_strip_of_kind(tree, flows, g.kind()?, g.size(5), g.list(6)))
         }
         _ => panic!("no function {name}"),
     })
@@ -347,11 +377,7 @@ fn on_shelf(name: &str, g: &Given) -> Option<Vec<u64>> {
 }
 
 fn call(name: &str, g: &Given) -> Option<Vec<u64>> {
-    let dates = if name.contains("dated") {
-        g.bytes(5)
-    } else {
-        Vec::new()
-    };
+    let dates = g.dates(name);
     let tree = |g: &Given| (g.size(0), g.number(1));
     match name {
         "bond_price" => Some(price(bond_price(
@@ -388,6 +414,24 @@ fn call(name: &str, g: &Given) -> Option<Vec<u64>> {
             g.list(3),
             g.dated(&dates)?,
         ))),
+        "option_strip" => Some(strip(option_strip(
+            tree(g).0,
+            tree(g).1,
+            g.list(2),
+            g.list(3),
+            g.side()?,
+            &dates,
+            g.list(6),
+        ))),
+        "option_strip_of_kind" => Some(strip(option_strip_of_kind(
+            tree(g).0,
+            tree(g).1,
+            g.list(2),
+            g.list(3),
+            g.kind()?,
+            g.size(5),
+            g.list(6),
+        ))),
         "value_by_state_prices" => Some(one(value_by_state_prices(g.list(0), g.list(1)))),
         "valuation_error_bound" => Some(one(valuation_error_bound(
             tree(g).0,
@@ -414,7 +458,7 @@ fn numbers_past_a_width() {
             *called.entry(name).or_default() += 1;
         }
     }
-    assert_eq!(called.len(), 33, "{called:?}");
+    assert_eq!(called.len(), 37, "{called:?}");
     assert!(called.values().all(|lines| *lines > 3), "{called:?}");
 }
 

@@ -19,6 +19,7 @@ ghost use Rattle.row_view.specs.RowView.{rangeByNumber};
 ghost use Rattle.state_price_bound.specs.ErrorBound.{statePriceErrorBoundAnswer};
 ghost use Rattle.price_bound.specs.PriceBound.{priceErrorBoundAnswer, treeBoundsAnswer};
 ghost use Rattle.price_laws.specs.Prices.{bondPrice, optionPrice, bondAndOption, datedPrice, bondAndDatedOption};
+ghost use Rattle.price_laws.specs.Strips.{optionStrip, kindStrip};
 ghost use Rattle.valuation.specs.Entries.{valueByStatePricesAnswer, valuationErrorBoundAnswer};
 ghost use Rattle.sheet_laws.specs.WholeJob.{sheetNumber, sheetText, sheetMemory};
 ghost use Rattle.record_sheet.specs.Answers.{answerOf};
@@ -36,6 +37,7 @@ ghost use Rattle.shelf_laws.specs.Shelf.{
   releaseMemory,
 };
 ghost use Rattle.shelf_prices.specs.ShelfPrices.{shelfBond, shelfOption, shelfDated, shelfBondAndOption, shelfBondAndDated};
+ghost use Rattle.shelf_prices.specs.ShelfPrices.{shelfDatedStrip, shelfKindStrip};
 ghost use Rattle.capi.specs.Version.{version};
 use arithmetic::Answer;
 use job_sheet::Written;
@@ -43,6 +45,7 @@ use lattice::Branches;
 use price_bound::TreeErrorBounds;
 use price_laws::BondAndOption;
 use price_laws::Price;
+use price_laws::Strip;
 use quotes::Point;
 use row_view::RowRange;
 use shelf_laws::Part;
@@ -55,7 +58,7 @@ use step_rate::Rate;
 pub extern "C" fn mixegorta_version() -> u64
     ensures { λ r. ⌜ r ≡ version ⌝ }
 {
-    9_000
+    10_000
 }
 
 // ---- the shape of a tree
@@ -338,6 +341,36 @@ pub extern "C" fn mixegorta_bond_and_dated_option(
 }
 
 #[no_mangle]
+pub extern "C" fn mixegorta_option_strip(
+    steps: usize,
+    reversion: u64,
+    discounts: &[u64],
+    flows: &[u64],
+    side: u64,
+    dates: &[u8],
+    strikes: &[u64],
+) -> Strip
+    ensures { λ r. ⌜ r ≡ optionStrip steps reversion (now (discounts .entry)) (now (flows .entry)) side (now (dates .entry)) (now (strikes .entry)) ⌝ }
+{
+    pricing::option_strip(steps, reversion, discounts, flows, side, dates, strikes)
+}
+
+#[no_mangle]
+pub extern "C" fn mixegorta_option_strip_of_kind(
+    steps: usize,
+    reversion: u64,
+    discounts: &[u64],
+    flows: &[u64],
+    kind: u64,
+    expiry: usize,
+    strikes: &[u64],
+) -> Strip
+    ensures { λ r. ⌜ r ≡ kindStrip steps reversion (now (discounts .entry)) (now (flows .entry)) kind expiry (now (strikes .entry)) ⌝ }
+{
+    pricing::option_strip_of_kind(steps, reversion, discounts, flows, kind, expiry, strikes)
+}
+
+#[no_mangle]
 pub extern "C" fn mixegorta_value_by_state_prices(state_prices: &[u64], payoffs: &[u64]) -> Answer
     ensures { λ r. ⌜ r ≡ valueByStatePricesAnswer (now («state_prices» .entry)) (now (payoffs .entry)) ⌝ }
 {
@@ -512,4 +545,34 @@ pub extern "C" fn mixegorta_shelf_bond_and_dated_option(
     ensures { λ r. ⌜ r ≡ shelfBondAndDated (shelf .slots) (now (memory .entry)) name (now (flows .entry)) side (now (dates .entry)) strike ⌝ }
 {
     shelf_prices::bond_and_dated_option(shelf, memory, name, flows, side, dates, strike)
+}
+
+#[no_mangle]
+pub extern "C" fn mixegorta_shelf_option_strip(
+    shelf: Shelf,
+    memory: &[u64; 3600],
+    name: usize,
+    flows: &[u64],
+    side: u64,
+    dates: &[u8],
+    strikes: &[u64],
+) -> Strip
+    ensures { λ r. ⌜ r ≡ shelfDatedStrip (shelf .slots) (now (memory .entry)) name (now (flows .entry)) side (now (dates .entry)) (now (strikes .entry)) ⌝ }
+{
+    shelf_prices::option_strip(shelf, memory, name, flows, side, dates, strikes)
+}
+
+#[no_mangle]
+pub extern "C" fn mixegorta_shelf_option_strip_of_kind(
+    shelf: Shelf,
+    memory: &[u64; 3600],
+    name: usize,
+    flows: &[u64],
+    kind: u64,
+    expiry: usize,
+    strikes: &[u64],
+) -> Strip
+    ensures { λ r. ⌜ r ≡ shelfKindStrip (shelf .slots) (now (memory .entry)) name (now (flows .entry)) kind expiry (now (strikes .entry)) ⌝ }
+{
+    shelf_prices::option_strip_of_kind(shelf, memory, name, flows, kind, expiry, strikes)
 }

@@ -3,3 +3,4 @@ pub mod Accuracy
 pub mod ValueLaws
 pub mod OptionLaws
 pub mod RightsLaws
+pub mod StripLaws

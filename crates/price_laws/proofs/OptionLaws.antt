@@ -77,7 +77,7 @@ dated-accepted n number dates strike z =
 
 module _ (n number : ℕ) (dates : List ℕ) (strike : ℕ) (cause : ℕ) (ec : cause ≡ datedCause n number dates strike) (terms : Terms)
     (et : terms ≡ datedTerms number dates strike) where
-  dated-price : (b : ℕ) (discounts flows : List ℕ) →
+  pub dated-price : (b : ℕ) (discounts flows : List ℕ) →
       scheduledPrice n b discounts flows (side (terms .call)) (terms .strike) (datedSchedule dates) cause ≡ datedPrice n b discounts flows number dates strike
   unfolding datedPrice
   dated-price b discounts flows =

@@ -90,11 +90,13 @@ module _ (n b : ℕ) (discounts flows : List ℕ) where
 
   -- so of the pair
   pub kind-values-again : (kind expiry strike e : ℕ) →
-      bothValues (bothWith (bothValues (bondAndOption n b discounts flows kind expiry strike)) e) ≡ bothValues (bondAndOption n b discounts flows kind expiry strike)
+      bothValues (bothWith (bothValues (bondAndOption n b discounts flows kind expiry strike)) e)
+      ≡ bothValues (bondAndOption n b discounts flows kind expiry strike)
   kind-values-again kind expiry strike e = values-are _ _ _ (bond-value-again e) (option-value-again kind expiry strike e)
 
   pub dates-values-again : (side : ℕ) (dates : List ℕ) (strike e : ℕ) →
-      bothValues (bothWith (bothValues (bondAndDatedOption n b discounts flows side dates strike)) e) ≡ bothValues (bondAndDatedOption n b discounts flows side dates strike)
+      bothValues (bothWith (bothValues (bondAndDatedOption n b discounts flows side dates strike)) e)
+      ≡ bothValues (bondAndDatedOption n b discounts flows side dates strike)
   dates-values-again side dates strike e = values-are _ _ _ (bond-value-again e) (dated-value-again side dates strike e)
 
   -- a bound that is the tree's where the tree has no cause

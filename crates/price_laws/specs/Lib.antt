@@ -1,2 +1,3 @@
 pub mod Prices
 pub mod Exact
+pub mod Strips

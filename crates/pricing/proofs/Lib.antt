@@ -5,3 +5,6 @@ pub mod StepParts
 pub mod WalkStates
 pub mod WalkTurns
 pub mod EntryLaws
+pub mod StripRows
+pub mod StripTurns
+pub mod StrikeLaws

@@ -4,27 +4,31 @@ use mathlib.Core.Path.{_≡_, sym, ap, ap₂, _∙_}
 use mathlib.Core.Bool.{Bool}
 use mathlib.Core.List.{List}
 use Prim.Native.Nat.{ℕ, suc, _+_, _≤_, _<_}
+use native.Mathlib.Nat.{mul-le-mul}
 use native.Mathlib.Omega.{arith}
 use lib.ListN.{length, take, drop}
+use Rattle.arithmetic.proofs.PartLaws.{part-length}
+use Rattle.limits.specs.Limits.{mostDiscounts}
 use Rattle.lattice.specs.declared.RowShape.{RowShape}
 use Rattle.lattice.specs.Shape.{nodeCount, rowStart}
 use Rattle.lattice.specs.Entries.{tableOffset, shapeOf, rowShapeAnswer}
-use Rattle.lattice.proofs.Sizes.{count-within}
+use Rattle.lattice.proofs.Sizes.{count-within, row-ends, start-most}
 use Rattle.lattice.proofs.ShapeLaws as shapes
 use Rattle.lent_tree.specs.LentTree.{Accepted}
 use Rattle.pricing_laws.specs.Pricer.{Side}
 use Rattle.pricing.specs.Rows.{bondValues, optionValues, Rollable, Limited, Later, FilledRow, FilledRows}
 use Rattle.pricing.specs.Trees.{downTable, bondStep, optionStep}
+use Rattle.pricing.specs.Strips.{strikeValues, strikeStep}
 use Rattle.pricing.proofs.TreeRows as rows
 
 module _ (n b i : ℕ) (discounts : List ℕ) (a : Accepted n b discounts) (hi : i < n) (s : RowShape) (es : s ≡ rowShapeAnswer b n i) where
   shape : s ≡ shapeOf b n i
   shape = es ∙ sym (shapes.shape-found b n i (a .reversion-within-limit) (a .steps-within-limit) (omega arith) (omega (arith, a .steps-within-limit)))
 
-  count-is : s .count ≡ nodeCount b i
+  pub count-is : s .count ≡ nodeCount b i
   count-is = ap (λ (x : RowShape). x .count) shape
 
-  start-is : s .start ≡ rowStart b i
+  pub start-is : s .start ≡ rowStart b i
   start-is = ap (λ (x : RowShape). x .start) shape
 
   offset-is : s .offset ≡ tableOffset b n i
@@ -36,6 +40,15 @@ module _ (n b i : ℕ) (discounts : List ℕ) (a : Accepted n b discounts) (hi :
   pub discount-room : s .start + s .count ≤ length discounts
   discount-room = rw (start-is, count-is) (rows.discounts-fit n b i hi discounts a)
 
+  pub shape-within : s .count ≤ 121
+  shape-within = omega (arith, count-is, count-within b i (omega (arith, a .steps-within-limit)))
+
+  -- the memory of the kept rows holds every row
+  pub kept-room : (kept : List ℕ) → mostDiscounts ≤ length kept → s .start + s .count ≤ length kept
+  kept-room kept long =
+      let few = a .steps-within-limit in
+      omega (arith, start-is, count-is, row-ends b i n hi, start-most b n, mul-le-mul {n₁ = n} {m₁ = n} {n₂ = 60} {m₂ = 60} few few)
+
   -- a later row that may be rolled back: the next row is no wider than the widest
   pub later-next : (later : List ℕ) → length later ≡ 121 → Limited later (nodeCount b (i + 1)) → Later later (s .next)
   later-next later room l =
@@ -45,6 +58,17 @@ module _ (n b i : ℕ) (discounts : List ℕ) (a : Accepted n b discounts) (hi :
   module _ (part : List ℕ) (ep : part ≡ take (s .count) (drop (s .start) discounts)) where
     part-is : part ≡ rows.discount-part n b i hi discounts a
     part-is = ep ∙ ap₂ (λ (x y : ℕ). take x (drop y discounts)) count-is start-is
+
+    pub part-beside : (kept bare : List ℕ) → mostDiscounts ≤ length kept → bare ≡ take (s .count) (drop (s .start) kept) → length part ≤ length bare
+    part-beside kept bare long eb =
+        omega (
+          arith,
+          ap length part-is,
+          rows.discount-part-length n b i hi discounts a,
+          ap length eb,
+          part-length kept (s .start) (s .count) (kept-room kept long),
+          count-is,
+        )
 
     pub part-within : length part ≤ 121
     part-within = omega (arith, ap length part-is, rows.discount-part-length n b i hi discounts a, count-within b i (omega (arith, a .steps-within-limit)))
@@ -74,6 +98,16 @@ module _ (n b i : ℕ) (discounts : List ℕ) (a : Accepted n b discounts) (hi :
         part-option side strike listed bonds options bond option top h =
             rows.option-row-is n b i hi discounts a flow side strike listed bonds options bond option top
             (rw (table-is, part-is, next-is) at h)
+
+        pub part-strike :
+            (side : Side) (strike : ℕ) (listed : Bool) (kept bare options option : List ℕ) (top : ℕ) →
+            bare ≡ take (s .count) (drop (s .start) kept) →
+            FilledRow option (length part) (strikeValues side strike listed bare options table part (s .next)) top →
+            FilledRow option (nodeCount b i) (strikeStep side strike listed b discounts i kept options) top
+        part-strike side strike listed kept bare options option top eb h =
+            let bare-is = eb ∙ ap₂ (λ (x y : ℕ). take x (drop y kept)) count-is start-is in
+            rows.strike-row-is n b i hi discounts a side strike listed kept options option top
+            (rw (table-is, part-is, next-is, bare-is) at h)
 
   pub table-room : (downs : List ℕ) → downs ≡ downTable n b → s .offset + s .count ≤ length downs
   table-room downs e = rw (e, offset-is, count-is, rows.table-size n b) (shapes.table-room b n i (omega arith))

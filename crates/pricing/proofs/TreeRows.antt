@@ -28,6 +28,7 @@ use Rattle.price_causes.specs.Causes.{AcceptedFlows}
 use Rattle.price_laws.specs.Prices.{flowAt}
 use Rattle.pricing.specs.Rows.{branchRoll, rolledRow, bondValues, optionValues, Rollable, FilledRow, FilledRows}
 use Rattle.pricing.specs.Trees.{downTable, rolledAt, bondStep, optionStep}
+use Rattle.pricing.specs.Strips.{strikeValues, strikeStep}
 
 pub table-size : (n b : ℕ) → length (downTable n b) ≡ nodeCount b n
 unfolding downTable
@@ -124,6 +125,26 @@ module _ (n b i : ℕ) (hi : i < n) (discounts : List ℕ) (a : Accepted n b dis
                 s .found
                 ∙ rw discount-part-length (greatest-cong (nodeCount b i) _ _ (λ k l. ap₂ max (bond-value-is bonds k l) (option-value-is k l)));
           }
+
+  -- a row of one option beside the kept rows of the bond, as the code gives it
+  module _ (side : Side) (strike : ℕ) (listed : Bool) (kept options : List ℕ) where
+    abbrev code-strike : ℕ → ℕ
+    code-strike =
+        strikeValues side strike listed (take (nodeCount b i) (drop (rowStart b i) kept)) options table-part discount-part (nodeCount b (suc i))
+
+    strike-value-is : (k : ℕ) → k < nodeCount b i → code-strike k ≡ strikeStep side strike listed b discounts i kept options k
+    strike-value-is k l =
+        ap₂ (λ (x y : ℕ). heldOrExercised listed x (exercise side strike y)) (rolled-is options k l)
+        (part-value kept (rowStart b i) (nodeCount b i) k l)
+
+    pub strike-row-is :
+        (after : List ℕ) (top : ℕ) → FilledRow after (length discount-part) code-strike top →
+        FilledRow after (nodeCount b i) (strikeStep side strike listed b discounts i kept options) top
+    strike-row-is after top s =
+        record {
+          held = λ k l. s .held k (rw discount-part-length l) ∙ strike-value-is k l;
+          found = s .found ∙ rw discount-part-length (greatest-cong (nodeCount b i) _ _ strike-value-is);
+        }
 
 -- the flow of a row
 pub flow-none : (flows : List ℕ) (i : ℕ) → i ≡ 0 → flowAt flows i ≡ 0

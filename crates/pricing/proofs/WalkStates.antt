@@ -10,22 +10,25 @@ use Rattle.arithmetic.specs.Row.{values}
 use Rattle.arithmetic.specs.Sum.{greatest}
 use Rattle.arithmetic.proofs.Numbers.{by-order}
 use Rattle.arithmetic.proofs.SumLaws.{greatest-cong}
-use Rattle.limits.specs.Limits.{valueLimit}
+use Rattle.arithmetic.specs.Answers.{refused, answered}
+use Rattle.limits.specs.Limits.{valueLimit, limitCause}
 use Rattle.limits.proofs.LimitLaws.{limit-above, limit-kept, limit-accepted}
 use Rattle.lattice.specs.Shape.{nodeCount}
 use Rattle.lattice.specs.RateTree.{rateTree}
 use Rattle.lattice.proofs.Sizes.{count-within, count-positive}
 use Rattle.lattice.proofs.RateTreeLaws.{rate-tree-sound}
 use Rattle.pricing_laws.specs.Pricer.{bond, Side, Schedule, exercise, heldOrExercised}
-use Rattle.pricing_laws.specs.TreePricer.{rollRounding, roll}
+use Rattle.pricing_laws.specs.TreePricer.{rollRounding, roll, engine}
 use Rattle.pricing_laws.specs.Peak.{peak, greatestValue}
 use Rattle.pricing_laws.proofs.Peaks.{peak-grows}
+use Rattle.pricing_laws.proofs.Recurrences.{bond-before}
 use Rattle.pricing_laws.proofs.PriceLaws.{On, row-greatest, roll-local}
 use Rattle.pricing_laws.proofs.Backward as back
 use Rattle.pricing.specs.declared.walk.Rolled.{Rolled}
 use Rattle.price_laws.specs.Prices.{flowAt, bondValue, bondPeak, optionValue, optionPeak, optionLimit}
-use Rattle.pricing.specs.Rows.{Limited, Holds, FilledRows}
+use Rattle.pricing.specs.Rows.{Limited, Holds, FilledRow, FilledRows}
 use Rattle.pricing.specs.Trees.{rolledAt, bondStep, optionStep, BondRolled, BothRolled}
+use Rattle.pricing.specs.Strips.{bareValue, KeptFrom, strikeStep, besideBond}
 use Rattle.lent_tree.specs.LentTree.{stored, Accepted}
 use Rattle.price_causes.specs.Causes.{AcceptedFlows}
 use Rattle.pricing.proofs.TreeRows.{flow-within}
@@ -85,6 +88,10 @@ module _ (n b : ℕ) (discounts flows : List ℕ) (a : Accepted n b discounts) (
   pub bonds-limited : (i : ℕ) (later : List ℕ) → Bonds n b discounts flows i later → Limited later (nodeCount b i)
   unfolding Bonds rateTree
   bonds-limited i later s = back.bond-limit n (On (rateTree b)) (top b) great the-roll local (flowAt flows) i (values later) s
+
+  pub bonds-held : (i : ℕ) (l : List ℕ) → Bonds n b discounts flows i l → Holds l (nodeCount b i) (bondValue n b discounts flows i)
+  unfolding Bonds rateTree bondValue
+  bonds-held i l s = s .held
 
   -- one row back
   module _ (r : ℕ) (later : List ℕ) (some : 0 < r) (s : Bonds n b discounts flows r later) (l : List ℕ)
@@ -289,6 +296,118 @@ module _ (n b : ℕ) (discounts flows : List ℕ) (a : Accepted n b discounts) (
 
         grown : late ≤ peak tops n 0
         grown = let e : 0 + rows .last ≡ rows .last = omega arith in rw e at (peak-grows tops n 0 (rows .last) (omega arith))
+
+    -- the option alone, where no value of the bond is above the limit
+    module _ (within : bondPeak n b discounts flows ≤ valueLimit) where
+      standing : (i : ℕ) → i ≤ n → back.Bond-state n (On (rateTree b)) (top b) the-roll (flowAt flows) i (bondValue n b discounts flows i)
+      unfolding rateTree greatestValue bondValue bondPeak
+      standing i h =
+          let e : 0 + i ≡ i = omega arith in
+          let grown = rw e at (peak-grows (greatestValue (rateTree b) (bondValue n b discounts flows)) n 0 i (omega arith)) in
+          record { in-tree = h; held = λ k hk. refl; within-limit = omega (arith, grown) }
+
+      -- on the last row: the exercise values
+      pub alone-first :
+          (bare l : List ℕ) → strike ≤ 4000000000 →
+          ((k : ℕ) → k < nodeCount b (rows .last) → values bare k ≡ bareValue n b discounts flows (rows .last) k) →
+          Holds l (nodeCount b (rows .last)) (λ k. exercise side strike (values bare k)) → Right (rows .last) l
+      unfolding Options rateTree
+      alone-first bare l hs kept h =
+          back.option-first n (On (rateTree b)) (top b) great the-roll local (flowAt flows) side strike rows
+          (bondValue n b discounts flows (rows .last)) (values l) (standing (rows .last) hl) value-is
+          (λ k hk. rw (value-is k hk) (exercise-limited side strike (bareValue n b discounts flows (rows .last) k) hs (less-flow _ _
+          (back.bond-limit n (On (rateTree b)) (top b) great the-roll local (flowAt flows) (rows .last)
+          (bondValue n b discounts flows (rows .last)) (standing (rows .last) hl) k hk))))
+        where
+          less-flow : (x y : ℕ) → x ≤ valueLimit → x - y ≤ valueLimit
+          less-flow x y h = omega arith
+
+          value-is : (k : ℕ) → k < nodeCount b (rows .last) → values l k ≡ exercise side strike (bareValue n b discounts flows (rows .last) k)
+          value-is k hk = h k hk ∙ ap (exercise side strike) (kept k hk)
+
+      -- the row that is kept is the later row rolled back
+      bare-rolled : (i k : ℕ) → i < n → bareValue n b discounts flows i k ≡ the-roll i (bondValue n b discounts flows (suc i)) k
+      unfolding bondValue
+      bare-rolled i k h = omega (arith, bond-before (engine (rateTree b) (stored b discounts)) (flowAt flows) n i h k)
+
+      module _ (r : ℕ) (options kept : List ℕ) (some : 0 < r) (so : Right r options) (rows-kept : KeptFrom n b discounts flows 0 kept)
+          (listed : Bool) (el : listed ≡ rows .listed (r - 1)) (option : List ℕ) (found : ℕ)
+          (filled : FilledRow option (nodeCount b (r - 1)) (strikeStep side strike listed b discounts (r - 1) kept options) found) where
+        later-option : Right (suc (r - 1)) options
+        later-option = let e : r ≡ suc (r - 1) = omega arith in subst (λ (x : ℕ). Right x options) e so
+
+        earlier : r - 1 < rows .last
+        unfolding Options
+        earlier = omega (arith, so .before-last)
+
+        alone-value :
+            (k : ℕ) → k < nodeCount b (r - 1) →
+            values option k
+            ≡ heldOrExercised (rows .listed (r - 1)) (rolledAt b discounts (r - 1) options k)
+            (exercise side strike (the-roll (r - 1) (bondValue n b discounts flows (suc (r - 1))) k))
+        alone-value k h =
+            filled .held k h
+            ∙ ap₂ (λ (t : Bool) (x : ℕ). heldOrExercised t (rolledAt b discounts (r - 1) options k) (exercise side strike x)) el
+            (rows-kept (r - 1) k (omega arith) (omega (arith, earlier)) h ∙ bare-rolled (r - 1) k (omega (arith, earlier)))
+
+        alone-found : found ≡ greatest (nodeCount b (r - 1)) (values option)
+        alone-found = filled .found ∙ greatest-cong (nodeCount b (r - 1)) _ _ (λ k h. sym (filled .held k h))
+
+        pub alone-next : found ≤ valueLimit → Right (r - 1) option
+        unfolding Options rateTree rolledAt
+        alone-next o =
+            back.option-step n (On (rateTree b)) (top b) great the-roll local (flowAt flows) side strike rows (r - 1) (values options)
+            earlier later-option (bondValue n b discounts flows (suc (r - 1))) (standing (suc (r - 1)) (omega (arith, earlier))) (values option)
+            alone-value found alone-found o
+
+        alone-peak : valueLimit < found → valueLimit < optionPeak n b discounts flows side strike rows
+        unfolding Options rateTree rolledAt greatestValue optionValue optionPeak
+        alone-peak h =
+            let e : 0 + (r - 1) ≡ r - 1 = omega arith in
+            let w = greatestValue (rateTree b) (optionValue n b discounts flows side strike rows) in
+            omega (
+              arith,
+              back.option-over n (On (rateTree b)) (top b) great the-roll local (flowAt flows) side strike rows (r - 1) (values options)
+                  earlier later-option (bondValue n b discounts flows (suc (r - 1))) (standing (suc (r - 1)) (omega (arith, earlier)))
+                  (values option) alone-value found alone-found h,
+              rw e at (peak-grows w (rows .last) 0 (r - 1) (omega (arith, earlier))),
+            )
+
+        pub alone-over : valueLimit < found → BothRolled n b discounts flows side strike rows (besideBond n b discounts flows (refused 12))
+        unfolding optionLimit
+        alone-over o =
+            record { cause = limit-above _ (omega (arith, alone-peak o)); bond-held = λ z. refl; option-held = λ z. absurd (none z) }
+          where
+            none : _≡_ {A = ℕ} 12 0 → ⊥
+            none z = omega arith
+
+      alone-root : (l : List ℕ) → Right 0 l → BothRolled n b discounts flows side strike rows (besideBond n b discounts flows (answered (values l 0)))
+      unfolding Options rateTree greatestValue optionValue optionPeak optionLimit
+      alone-root l o =
+          record {
+            cause = limit-kept _ (omega (arith, o .within-limit));
+            bond-held = λ z. refl;
+            option-held = λ z. o .held 0 (count-positive b 0);
+          }
+
+      pub alone-rolled :
+          (r : ℕ) (l : List ℕ) → r ≡ 0 → Right r l →
+          BothRolled n b discounts flows side strike rows (besideBond n b discounts flows (answered (values l 0)))
+      alone-rolled r l e o = alone-root l (subst (λ (x : ℕ). Right x l) e o)
+
+    -- a bond that passes the limit refuses every option
+    pub bond-over :
+        (number : ℕ) → number ≡ limitCause (bondPeak n b discounts flows) → (number ≡ 0 → ⊥) →
+        BothRolled n b discounts flows side strike rows (besideBond n b discounts flows (refused number))
+    unfolding optionLimit
+    bond-over number e z =
+        by-order (bondPeak n b discounts flows) valueLimit (λ low. absurd (z (e ∙ sym (limit-kept _ low))))
+        (λ high.
+        record {
+          cause = e ∙ sym (limit-above _ high) ∙ limit-above _ (omega arith);
+          bond-held = λ w. refl;
+          option-held = λ w. absurd (z w);
+        })
 
 -- a walk that was not refused
 pub rolled-through :

@@ -1,20 +1,24 @@
 // Bond and option prices on a rate tree whose node discounts the caller lends. Discounts stand row after row, lowest node first, rows 0 to
 // steps - 1; flows stand for rows 1 to steps. Nothing lent is changed.
 mod rows;
+mod strips;
 mod walk;
 
+use crate::strips::Shared;
 use crate::walk::Tree;
 use arithmetic::Answer;
 use exercise::Terms;
 use price_laws::BondAndOption;
 use price_laws::BondAndOptionValues;
+use price_laws::BoundedTree;
 use price_laws::Price;
+use price_laws::Strip;
 ghost use mathlib.Core.Path.{_≡_};
 ghost use Prim.Native.Nat.{_≤_};
-ghost use lib.ListN.{take};
+ghost use lib.ListN.{length, take};
 ghost use Rattle.limits.specs.Limits.{mostSteps, mostReversion};
 ghost use Rattle.lattice.specs.Shape.{nodeCount};
-ghost use Rattle.pricing_laws.specs.Schedule.{marked, datedSchedule};
+ghost use Rattle.pricing_laws.specs.Schedule.{marked, datedSchedule, kindSide};
 ghost use Rattle.exercise.specs.Terms.{side};
 ghost use Rattle.lent_tree.specs.LentTree.{Accepted};
 ghost use Rattle.price_causes.specs.Causes.{AcceptedFlows};
@@ -29,14 +33,16 @@ ghost use Rattle.price_laws.specs.Prices.{
   bondAndDatedOption,
   treeCause,
   scheduledPrice,
+  firstCause,
   valueAlone,
   withBound,
   bothValues,
   bothWith,
 };
+ghost use Rattle.price_laws.specs.Strips.{mostStrikes, stripOf, stripAnswer, strikePrice, kindPrice, optionStrip, kindStrip, eachWith};
 ghost use Rattle.pricing.specs.Trees.{downTable, TreeBounded, Exercisable, ExercisedOn};
 
-fn refused(number: u64) -> Price
+pub(crate) fn refused(number: u64) -> Price
     ensures { λ r. ⌜ r ≡ refusedPrice number ⌝ }
 {
     Price {
@@ -387,4 +393,244 @@ pub fn bond_and_dated_option_values(
         dates,
         strike,
     ))
+}
+
+// ---- strips of strikes, the bond rolled once
+
+// The strip of an accepted tree, with the error bound that is handed in: the bond's rows are kept, then each strike is rolled beside them.
+fn accepted_strip(
+    tree: Tree,
+    discounts: &[u64],
+    flows: &[u64],
+    side: u64,
+    dates: &[u8],
+    strikes: &[u64],
+    bound: u64,
+) -> Strip
+    requires { ⌜ (treeCause (tree .steps) (tree .reversion) (now discounts) (now flows) ≡ 0) × (length (now strikes) ≤ mostStrikes) ⌝ }
+    ensures { λ r. ⌜ r ≡ stripOf (length (now (strikes .entry))) (eachWith bound
+        (strikePrice (tree .steps) (tree .reversion) (now (discounts .entry)) (now (flows .entry)) side (now (dates .entry)) (now (strikes .entry)))) ⌝ }
+{
+    let nodes = lattice::node_count(tree.reversion, tree.steps).value as usize;
+    let table = table_of(tree.steps, tree.reversion);
+    let mut kept = strips::empty_rows();
+    let bond = walk::keep_bond(tree, &table[..nodes], discounts, flows, &mut kept);
+    let marks = exercise_dates::marks_of(dates);
+    let shared = Shared {
+        steps: tree.steps,
+        reversion: tree.reversion,
+        side,
+        bound,
+        list: exercise_dates::dates_cause(tree.steps, dates),
+        bond,
+    };
+    strips::strike_prices(
+        shared,
+        dates,
+        &marks,
+        &table[..nodes],
+        discounts,
+        flows,
+        &kept,
+        strikes,
+    )
+}
+
+// A strip on these dates, with an error bound that is handed in with the cause about the tree.
+fn judged_strip(
+    tree: Tree,
+    discounts: &[u64],
+    flows: &[u64],
+    bound: Answer,
+    side: u64,
+    dates: &[u8],
+    strikes: &[u64],
+) -> Strip
+    requires { ⌜ bound .number ≡ treeCause (tree .steps) (tree .reversion) (now discounts) (now flows) ⌝ }
+    ensures { λ r. ⌜ r ≡ stripAnswer (tree .steps) (tree .reversion) (length (now (strikes .entry))) (eachWith (bound .value)
+        (strikePrice (tree .steps) (tree .reversion) (now (discounts .entry)) (now (flows .entry)) side (now (dates .entry)) (now (strikes .entry)))) ⌝ }
+{
+    let cause = strips::strip_cause(tree.steps, tree.reversion, strikes.len());
+    if cause != 0 {
+        return strips::refused_strip(cause);
+    }
+    if bound.number != 0 {
+        return strips::refused_prices(bound.number, strikes.len());
+    }
+    accepted_strip(tree, discounts, flows, side, dates, strikes, bound.value)
+}
+
+fn side_of_kind(kind: u64) -> u64
+    ensures { λ r. ⌜ r ≡ kindSide kind ⌝ }
+{
+    if kind == 1 {
+        return 1;
+    }
+    if kind == 3 {
+        return 1;
+    }
+    2
+}
+
+// A strip of a kind that is refused, or whose expiry is: so is every strike, but a cause about the tree comes first.
+fn refused_kind(tree: Tree, bound: Answer, cause: u64, count: usize) -> Strip
+    ensures { λ r. ⌜ r ≡ stripAnswer (tree .steps) (tree .reversion) count (λ k. refusedPrice (firstCause (bound .number) cause)) ⌝ }
+{
+    let own = strips::strip_cause(tree.steps, tree.reversion, count);
+    if own != 0 {
+        return strips::refused_strip(own);
+    }
+    if bound.number != 0 {
+        return strips::refused_prices(bound.number, count);
+    }
+    strips::refused_prices(cause, count)
+}
+
+// A strip of a kind, by its list.
+fn strip_of_kind(
+    tree: Tree,
+    discounts: &[u64],
+    flows: &[u64],
+    bound: Answer,
+    kind: u64,
+    expiry: usize,
+    strikes: &[u64],
+) -> Strip
+    requires { ⌜ bound .number ≡ treeCause (tree .steps) (tree .reversion) (now discounts) (now flows) ⌝ }
+    ensures { λ r. ⌜ r ≡ stripAnswer (tree .steps) (tree .reversion) (length (now (strikes .entry))) (eachWith (bound .value)
+        (kindPrice (tree .steps) (tree .reversion) (now (discounts .entry)) (now (flows .entry)) kind expiry (now (strikes .entry)))) ⌝ }
+{
+    let cause = price_causes::option_cause(tree.steps, kind, expiry, 0);
+    if cause != 0 {
+        return refused_kind(tree, bound, cause, strikes.len());
+    }
+    let dates = exercise_dates::dates_of_kind(kind, expiry);
+    let rows = dates.rows;
+    let count = dates.count;
+    judged_strip(
+        tree,
+        discounts,
+        flows,
+        bound,
+        side_of_kind(kind),
+        &rows[..count],
+        strikes,
+    )
+}
+
+// Up to 16 strikes of one side and one list of dates: in each place what a call for that strike alone answers. The strip itself is refused with 3, 4,
+// or 6 for no strike or more than 16.
+pub fn option_strip(
+    steps: usize,
+    reversion: u64,
+    discounts: &[u64],
+    flows: &[u64],
+    side: u64,
+    dates: &[u8],
+    strikes: &[u64],
+) -> Strip
+    ensures { λ r. ⌜ r ≡ optionStrip steps reversion (now (discounts .entry)) (now (flows .entry)) side (now (dates .entry)) (now (strikes .entry)) ⌝ }
+{
+    let bound = tree_bound(steps, reversion, discounts, flows);
+    judged_strip(
+        Tree { steps, reversion },
+        discounts,
+        flows,
+        bound,
+        side,
+        dates,
+        strikes,
+    )
+}
+
+// The same for one of the four kinds and an expiry.
+pub fn option_strip_of_kind(
+    steps: usize,
+    reversion: u64,
+    discounts: &[u64],
+    flows: &[u64],
+    kind: u64,
+    expiry: usize,
+    strikes: &[u64],
+) -> Strip
+    ensures { λ r. ⌜ r ≡ kindStrip steps reversion (now (discounts .entry)) (now (flows .entry)) kind expiry (now (strikes .entry)) ⌝ }
+{
+    let bound = tree_bound(steps, reversion, discounts, flows);
+    strip_of_kind(
+        Tree { steps, reversion },
+        discounts,
+        flows,
+        bound,
+        kind,
+        expiry,
+        strikes,
+    )
+}
+
+// ---- strips with an error bound that the caller knows
+
+// The cause about a tree and its flows, with the known error bound.
+fn known_bound(tree: BoundedTree, discounts: &[u64], flows: &[u64]) -> Answer
+    ensures cause { λ r. ⌜ r .number ≡ treeCause (tree .steps) (tree .reversion) (now (discounts .entry)) (now (flows .entry)) ⌝ }
+    ensures bound { λ r. ⌜ r .value ≡ tree .bound ⌝ }
+{
+    let cause = tree_cause(tree.steps, tree.reversion, discounts, flows);
+    Answer {
+        number: cause.number,
+        value: tree.bound,
+    }
+}
+
+// As `option_strip`, each price with that bound.
+pub fn bounded_strip(
+    tree: BoundedTree,
+    discounts: &[u64],
+    flows: &[u64],
+    side: u64,
+    dates: &[u8],
+    strikes: &[u64],
+) -> Strip
+    ensures { λ r. ⌜ r ≡ stripAnswer (tree .steps) (tree .reversion) (length (now (strikes .entry))) (eachWith (tree .bound)
+        (strikePrice (tree .steps) (tree .reversion) (now (discounts .entry)) (now (flows .entry)) side (now (dates .entry)) (now (strikes .entry)))) ⌝ }
+{
+    let bound = known_bound(tree, discounts, flows);
+    judged_strip(
+        Tree {
+            steps: tree.steps,
+            reversion: tree.reversion,
+        },
+        discounts,
+        flows,
+        bound,
+        side,
+        dates,
+        strikes,
+    )
+}
+
+// As `option_strip_of_kind`, each price with that bound.
+pub fn bounded_strip_of_kind(
+    tree: BoundedTree,
+    discounts: &[u64],
+    flows: &[u64],
+    kind: u64,
+    expiry: usize,
+    strikes: &[u64],
+) -> Strip
+    ensures { λ r. ⌜ r ≡ stripAnswer (tree .steps) (tree .reversion) (length (now (strikes .entry))) (eachWith (tree .bound)
+        (kindPrice (tree .steps) (tree .reversion) (now (discounts .entry)) (now (flows .entry)) kind expiry (now (strikes .entry)))) ⌝ }
+{
+    let bound = known_bound(tree, discounts, flows);
+    strip_of_kind(
+        Tree {
+            steps: tree.steps,
+            reversion: tree.reversion,
+        },
+        discounts,
+        flows,
+        bound,
+        kind,
+        expiry,
+        strikes,
+    )
 }

@@ -6,7 +6,7 @@ ghost use Prim.Native.Nat.{_+_, _-_, _*_, _<_, _≤_};
 ghost use lib.ListN.{length};
 ghost use Rattle.arithmetic.specs.Row.{values};
 ghost use Rattle.tree.specs.Tree.{probabilityTotal};
-ghost use Rattle.limits.specs.Limits.{mostDiscount};
+ghost use Rattle.limits.specs.Limits.{mostDiscount, mostNodes};
 ghost use Rattle.price_causes.specs.Causes.{mostFlow};
 ghost use Rattle.pricing_laws.specs.Pricer.{exercise};
 ghost use Rattle.exercise.specs.Terms.{side};
@@ -22,6 +22,7 @@ ghost use Rattle.pricing.specs.Rows.{
   FilledRow,
   FilledRows,
 };
+ghost use Rattle.pricing.specs.Strips.{Laid, strikeValues};
 
 // The nodes of the widest row.
 const MOST_NODES: usize = 121;
@@ -146,4 +147,70 @@ pub(crate) fn fill_row(value: u64, row: &mut [u64])
         row[k] = value;
         k += 1;
     }
+}
+
+// The bond without the row's flow.
+fn without(bond: u64, flow: u64) -> u64
+    ensures { λ r. ⌜ r ≡ bond - flow ⌝ }
+{
+    if flow < bond { bond - flow } else { 0 }
+}
+
+// Keeps the first `count` nodes of a row of the bond, without its flow, from a place of a memory on.
+pub(crate) fn keep_row(bond: &[u64; 121], flow: u64, kept: &mut [u64], start: usize, count: usize)
+    requires { ⌜ (count ≤ mostNodes) × (start + count ≤ length (now kept)) ⌝ }
+    ensures { λ _. ⌜ Laid (now (kept .entry)) (now (kept .exit)) start count (λ k. values (now (bond .entry)) k - flow) ⌝ }
+{
+    let mut k: usize = 0;
+    while k < count {
+        kept[start + k] = without(bond[k], flow);
+        k += 1;
+    }
+}
+
+// The exercise values of a row of the bond that was kept without its flow.
+pub(crate) fn first_row(terms: Terms, bare: &[u64], option: &mut [u64])
+    requires { ⌜ length (now bare) ≤ length (now option) ⌝ }
+    ensures { λ _. ⌜ Holds (now (option .exit)) (length (now (bare .entry)))
+        (λ k. exercise (side (terms .call)) (terms .strike) (values (now (bare .entry)) k)) ⌝ }
+{
+    let call = terms.call;
+    let strike = terms.strike;
+    let mut k: usize = 0;
+    while k < bare.len() {
+        option[k] = exercise::exercise_value(call, strike, bare[k]);
+        k += 1;
+    }
+}
+
+// Rolls one option back by one row, beside a row of the bond that was kept without its flow. Gives the greatest value of the row.
+pub(crate) fn strike_row(
+    right: RowRight,
+    downs: &[u64],
+    discounts: &[u64],
+    bare: &[u64],
+    options: &[u64],
+    option: &mut [u64],
+) -> u64
+    requires { ⌜ Rollable (now downs) (now discounts) (right .next) × Later (now options) (right .next)
+        × (length (now discounts) ≤ length (now bare)) × (length (now discounts) ≤ length (now option)) ⌝ }
+    ensures { λ r. ⌜ FilledRow (now (option .exit)) (length (now (discounts .entry)))
+        (strikeValues (side (right .call)) (right .strike) (right .listed)
+        (now (bare .entry)) (now (options .entry)) (now (downs .entry)) (now (discounts .entry)) (right .next)) r ⌝ }
+{
+    let call = right.call;
+    let strike = right.strike;
+    let listed = right.listed;
+    let next = right.next;
+    let mut top: u64 = 0;
+    let mut k: usize = 0;
+    while k < discounts.len() {
+        let branch = row_branches::row_branch(downs, next, k);
+        let roll = roll_node(branch, options, discounts[k]);
+        let held = exercise::held_value(call, strike, listed, roll, bare[k]);
+        option[k] = held;
+        top = arithmetic::larger(top, held);
+        k += 1;
+    }
+    top
 }

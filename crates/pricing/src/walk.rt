@@ -1,11 +1,13 @@
 // The way back through the tree, row by row.
 use crate::rows;
 use crate::rows::RowRight;
+use arithmetic::Answer;
 use exercise::Terms;
 ghost use mathlib.Core.Path.{_≡_};
 ghost use Prim.Native.Nat.{_+_, _-_, _*_, _<_, _≤_};
 ghost use lib.ListN.{length, take, drop};
 ghost use Rattle.arithmetic.specs.Row.{values};
+ghost use Rattle.arithmetic.specs.Answers.{refused, answered};
 ghost use Rattle.lattice.specs.Shape.{nodeCount};
 ghost use Rattle.pricing_laws.specs.Schedule.{marked};
 ghost use Rattle.exercise.specs.Terms.{side};
@@ -21,6 +23,8 @@ ghost use Rattle.pricing.specs.Trees.{
   BondRolled,
   BothRolled,
 };
+ghost use Rattle.limits.specs.Limits.{mostDiscounts};
+ghost use Rattle.pricing.specs.Strips.{BondKept, strikeStep, besideBond};
 
 // A tree's number of steps and its reversion.
 pub(crate) struct Tree {
@@ -272,4 +276,123 @@ pub(crate) fn roll_both(
         return over();
     }
     roll_option(tree, terms, marks, downs, discounts, flows, &mut bond)
+}
+
+// The bond from row n back to row 0, each row before n kept without its flow. 12 where a value is above 8 × one.
+pub(crate) fn keep_bond(
+    tree: Tree,
+    downs: &[u64],
+    discounts: &[u64],
+    flows: &[u64],
+    kept: &mut [u64],
+) -> u64
+    requires { ⌜ Ready (tree .steps) (tree .reversion) (now downs) (now discounts) (now flows) × (mostDiscounts ≤ length (now kept)) ⌝ }
+    ensures { λ r. ⌜ BondKept (tree .steps) (tree .reversion) (now (discounts .entry)) (now (flows .entry)) r (now (kept .exit)) ⌝ }
+{
+    let mut bond = rows::empty_row();
+    rows::fill_row(flow_of(flows, tree.steps), &mut bond);
+    let mut other = rows::empty_row();
+    let mut row = tree.steps;
+    while 0 < row {
+        row -= 1;
+        let flow = flow_of(flows, row);
+        if limits::VALUE_LIMIT < bond_step(tree, row, flow, downs, discounts, &bond, &mut other) {
+            return 12;
+        }
+        let shape = lattice::row_shape(tree.reversion, tree.steps, row);
+        rows::keep_row(&other, flow, kept, shape.start, shape.count);
+        bond = other;
+    }
+    0
+}
+
+// One option a row back, beside the kept rows of the bond. Gives the row's greatest value.
+fn strike_step(
+    right: OptionStep,
+    downs: &[u64],
+    discounts: &[u64],
+    kept: &[u64],
+    options: &[u64; 121],
+    option: &mut [u64; 121],
+) -> u64
+    requires { ⌜ Steppable (right .steps) (right .reversion) (right .row) (right .flow) (now downs) (now discounts)
+        × Limited (now options) (nodeCount (right .reversion) (right .row + 1)) × (mostDiscounts ≤ length (now kept)) ⌝ }
+    ensures { λ r. ⌜ FilledRow (now (option .exit)) (nodeCount (right .reversion) (right .row))
+        (strikeStep (side (right .call)) (right .strike) (right .listed) (right .reversion)
+        (now (discounts .entry)) (right .row) (now (kept .entry)) (now (options .entry))) r ⌝ }
+{
+    let shape = lattice::row_shape(right.reversion, right.steps, right.row);
+    let row = RowRight {
+        next: shape.next,
+        flow: right.flow,
+        call: right.call,
+        strike: right.strike,
+        listed: right.listed,
+    };
+    rows::strike_row(
+        row,
+        part(downs, shape.offset, shape.count),
+        part(discounts, shape.start, shape.count),
+        part(kept, shape.start, shape.count),
+        options,
+        option,
+    )
+}
+
+fn past_limit() -> Answer
+    ensures { λ r. ⌜ r ≡ refused 12 ⌝ }
+{
+    Answer {
+        number: 12,
+        value: 0,
+    }
+}
+
+fn first_value(option: &[u64; 121]) -> Answer
+    ensures { λ r. ⌜ r ≡ answered (values (now (option .entry)) 0) ⌝ }
+{
+    Answer {
+        number: 0,
+        value: option[0],
+    }
+}
+
+// One option from its last row back to row 0, beside the kept rows of the bond, two rows a turn. 12 where a value on the way is above 8 × one.
+pub(crate) fn roll_strike(
+    tree: Tree,
+    terms: Terms,
+    marks: &[u8],
+    downs: &[u64],
+    discounts: &[u64],
+    flows: &[u64],
+    kept: &[u64],
+) -> Answer
+    requires { ⌜ Ready (tree .steps) (tree .reversion) (now downs) (now discounts) (now flows) × Exercisable terms (tree .steps) (now marks)
+        × (terms .last < tree .steps) × BondKept (tree .steps) (tree .reversion) (now discounts) (now flows) 0 (now kept)
+        × (mostDiscounts ≤ length (now kept)) ⌝ }
+    ensures { λ r. ⌜ BothRolled (tree .steps) (tree .reversion) (now (discounts .entry)) (now (flows .entry)) (side (terms .call)) (terms .strike)
+        (marked (terms .last) (now (marks .entry)))
+        (besideBond (tree .steps) (tree .reversion) (now (discounts .entry)) (now (flows .entry)) r) ⌝ }
+{
+    let shape = lattice::row_shape(tree.reversion, tree.steps, terms.last);
+    let mut option = rows::empty_row();
+    rows::first_row(terms, part(kept, shape.start, shape.count), &mut option);
+    let mut other = rows::empty_row();
+    let mut row = terms.last;
+    while 0 < row {
+        row -= 1;
+        let right = option_step_at(tree, flows, terms, marks, row);
+        if limits::VALUE_LIMIT < strike_step(right, downs, discounts, kept, &option, &mut other) {
+            return past_limit();
+        }
+        if row == 0 {
+            return first_value(&other);
+        }
+        row -= 1;
+        let before = option_step_at(tree, flows, terms, marks, row);
+        if limits::VALUE_LIMIT < strike_step(before, downs, discounts, kept, &other, &mut option) {
+            return past_limit();
+        }
+    }
+    first_value(&option)
 }

@@ -111,6 +111,45 @@ fn dated(
     show(pricing::dated_option_price(steps, reversion, discounts, flows, side, dates, strike));
 }
 
+// The places of a strip: number, value and bound of each.
+fn places(
+    numbers: &[u64; price_laws::MOST_STRIKES],
+    values: &[u64; price_laws::MOST_STRIKES],
+    bounds: &[u64; price_laws::MOST_STRIKES],
+) {
+    let mut k: usize = 0;
+    while k < price_laws::MOST_STRIKES {
+        number(numbers[k]);
+        number(values[k]);
+        number(bounds[k]);
+        k += 1;
+    }
+}
+
+fn strip(
+    steps: usize,
+    reversion: u64,
+    discounts: &[u64],
+    flows: &[u64],
+    side: u64,
+    dates: &[u8],
+    strikes: &[u64],
+) {
+    io::write_all(1, b"strip");
+    number(steps as u64);
+    number(reversion);
+    number(side);
+    number(dates.len() as u64);
+    number(strikes.len() as u64);
+    let prices = pricing::option_strip(steps, reversion, discounts, flows, side, dates, strikes);
+    number(prices.number);
+    let numbers = prices.numbers;
+    let values = prices.values;
+    let bounds = prices.bounds;
+    places(&numbers, &values, &bounds);
+    io::write_all(1, b"\n");
+}
+
 // Options of a kind that expire at the first row, on the way and one row before the bond's last.
 fn options(
     steps: usize,
@@ -279,6 +318,134 @@ fn order_of_dates() {
     dated(5, 0, &level, &most, 0, &[1u8], 0);
 }
 
+// Strips of every number of strikes up to one too many.
+fn lengths(
+    steps: usize,
+    reversion: u64,
+    discounts: &[u64],
+    flows: &[u64],
+    side: u64,
+    dates: &[u8],
+    strikes: &[u64],
+) {
+    strip(
+        steps,
+        reversion,
+        discounts,
+        flows,
+        side,
+        dates,
+        first(strikes, 0),
+    );
+    strip(
+        steps,
+        reversion,
+        discounts,
+        flows,
+        side,
+        dates,
+        first(strikes, 1),
+    );
+    strip(
+        steps,
+        reversion,
+        discounts,
+        flows,
+        side,
+        dates,
+        first(strikes, 2),
+    );
+    strip(
+        steps,
+        reversion,
+        discounts,
+        flows,
+        side,
+        dates,
+        first(strikes, 15),
+    );
+    strip(
+        steps,
+        reversion,
+        discounts,
+        flows,
+        side,
+        dates,
+        first(strikes, 16),
+    );
+    strip(steps, reversion, discounts, flows, side, dates, strikes);
+}
+
+// The strips of a tree: equal strikes and one above its limit are among them.
+fn strips(steps: usize, reversion: u64, discounts: &[u64], all_flows: &[u64], side: u64) {
+    let flows = first(all_flows, steps);
+    let mut strikes = [0u64; 17];
+    fill(&mut strikes, 100_000_000, 97_531_000, 700_000_000);
+    strikes[3] = strikes[1];
+    strikes[5] = 4_000_000_001;
+    let mut every = [0u8; 60];
+    fill_dates(&mut every, 0, 1);
+    let dates = first_dates(&every, steps / 2 + 1);
+    lengths(steps, reversion, discounts, flows, side, dates, &strikes);
+}
+
+fn strips_of_trees(discounts: &[u64], flows: &[u64]) {
+    strips(1, 0, discounts, flows, 1);
+    strips(12, 0, discounts, flows, 2);
+    strips(60, 0, discounts, flows, 2);
+    strips(12, 1841, discounts, flows, 1);
+    strips(60, 6000, discounts, flows, 1);
+}
+
+// One strike is refused with 12, a lower one after it is priced; a strike above its limit beside a bad list, another side and a bond above its
+// own limit.
+fn strike_causes(steep: &[u64], none: &[u64]) {
+    let high = [5_000_000_000u64, 1_000_000_000, 5_000_000_000];
+    strip(
+        9,
+        0,
+        steep,
+        none,
+        2,
+        &[8u8],
+        &[
+            4_000_000_000u64,
+            3_000_000_000,
+            4_000_000_000,
+            1_000_000_000,
+        ],
+    );
+    strip(9, 0, steep, none, 2, &[3u8, 3], &high);
+    strip(9, 0, steep, none, 3, &[3u8], &high);
+    strip(
+        5,
+        0,
+        &[1_000_000_000u64; 25],
+        &[2_000_000_000u64; 5],
+        1,
+        &[1u8],
+        &high,
+    );
+}
+
+// A cause about the tree in every place, and the strip's own causes.
+fn strip_causes(steep: &[u64], none: &[u64], flows: &[u64]) {
+    let strikes = [4_000_000_000u64, 3_000_000_000];
+    strip(9, 0, first(steep, 80), none, 2, &[8u8], &strikes);
+    strip(9, 0, steep, flows, 2, &[8u8], &strikes);
+    strip(0, 6001, steep, flows, 1, &[0u8], first(&strikes, 0));
+    strip(61, 0, steep, flows, 1, &[0u8], &strikes);
+    strip(9, 6001, steep, flows, 1, &[0u8], first(&strikes, 0));
+    strip(9, 0, steep, flows, 3, &[9u8], first(&strikes, 0));
+}
+
+fn causes_of_strips(flows: &[u64]) {
+    let steep = [1_100_000_000u64; 81];
+    let none = [0u64; 9];
+    strike_causes(&steep, &none);
+    strip_causes(&steep, &none, flows);
+}
+
 // The lower number where two causes apply.
 fn tree_refusals(discounts: &[u64], flows: &[u64]) {
     bond(0, 0, discounts, first(flows, 0));
@@ -327,4 +494,6 @@ fn main() {
     order_of_dates();
     tree_refusals(&discounts, &flows);
     number_refusals(&discounts, first(&flows, 2));
+    strips_of_trees(&discounts, &flows);
+    causes_of_strips(&flows);
 }

@@ -4,11 +4,12 @@ use mathlib.Core.Path.{_≡_, refl, _∙_}
 use mathlib.Core.Bool.{Bool, true, false, not, cond, _&&_}
 use mathlib.Core.List.{[], _∷_}
 use Prim.Native.Nat.{ℕ, _*_}
-use lib.Dec.{leb, ltb}
+use lib.Dec.{eqb, leb, ltb}
 use lib.Ieee.{Float}
 use lib.IntN.{ℤ, natAbs}
+use lib.ListN.{length}
 use Rattle.arithmetic.specs.Answers.{refused, answered}
-use Rattle.limits.specs.Limits.{isReversion, isDiscount, shapeCause}
+use Rattle.limits.specs.Limits.{isSteps, isReversion, isDiscount, shapeCause}
 use Rattle.lattice.specs.Shape.{halfWidth, nodeCount, rowStart, discountsNeeded, statePricesNeeded}
 use Rattle.lattice.specs.Entries.{aboutRow, aboutTree}
 use Rattle.lattice.specs.Entries.{branchAnswer, branchOf, refusedBranch}
@@ -18,6 +19,10 @@ use Rattle.factor.specs.Factor.{nodeAnswer, factor}
 use Rattle.step_rate.specs.StepRate.{rateAnswer, stepRate, refusedRate, answeredRate}
 use Rattle.continuous.specs.Continuous.{continuousAnswer, continuousDiscount}
 use Rattle.continuous_rate.specs.ContinuousRate.{continuousRateAnswer, continuousRate}
+use Rattle.price_laws.specs.declared.Price.{Price}
+use Rattle.price_laws.specs.Prices.{firstCause}
+use Rattle.price_laws.specs.Strips.{stripCause, stripAnswer}
+use Rattle.price_laws.proofs.StripLaws.{strip-number}
 use Rattle.promises.specs.Causes.{CausePromises, cause, firstOf, treeCauses}
 use Rattle.promises.proofs.CauseTables.{not-leb, ltb-not, number-of}
 use Rattle.promises.proofs.QuoteCauses.{lone-causes, curve-causes, shape-first, spacing-causes, fit-causes}
@@ -94,6 +99,20 @@ factor-causes : (j : ℤ) (h : ℕ) → nodeAnswer j h .number ≡ firstOf (caus
 unfolding nodeAnswer firstOf
 factor-causes j h = single 8 (factor j h) (ltb 1000000000 (natAbs j * h))
 
+-- a strip itself
+strip-causes : (n b count : ℕ) (price : ℕ → Price) →
+    stripAnswer n b count price .number ≡ firstOf (treeCauses n b (cause 6 (not (leb 1 count && leb count 16)) ∷ []))
+unfolding stripCause firstCause shapeCause firstOf
+strip-causes n b count price =
+    strip-number n b count price ∙ by-tests (isSteps n) (isReversion b) (leb 1 count && leb count 16)
+  where
+    by-tests : (s r t : Bool) →
+        _≡_ {A = ℕ} (cond (eqb (cond s (cond r 0 4) 3) 0) (cond t 0 6) (cond s (cond r 0 4) 3)) (cond (not s) 3 (cond (not r) 4 (cond (not t) 6 0)))
+    by-tests false r t = refl
+    by-tests true false t = refl
+    by-tests true true false = refl
+    by-tests true true true = refl
+
 pub causes-kept : CausePromises
 causes-kept =
     record {
@@ -122,6 +141,8 @@ causes-kept =
       bond = bond-causes;
       option = option-causes;
       dated-option = dated-causes;
+      strip = λ n b discounts flows side dates strikes. strip-causes n b (length strikes) _;
+      strip-of-kind = λ n b discounts flows kind expiry strikes. strip-causes n b (length strikes) _;
       weighing = weighing-causes;
       weighing-bound = weighing-bound-causes;
     }

@@ -14,6 +14,7 @@ use Rattle.promises.proofs.YieldsKept.{yields-kept}
 use Rattle.promises.proofs.QuotesKept.{quotes-kept}
 use Rattle.promises.proofs.CausesKept.{causes-kept}
 use Rattle.promises.proofs.VersionsKept.{versions-kept}
+use Rattle.price_laws.proofs.StripLaws.{listed-shown, kind-shown}
 
 pub prices-kept : PricePromises
 prices-kept =
@@ -51,5 +52,6 @@ promises-kept =
       prices = prices-kept;
       yields = yields-kept;
       versions = versions-kept;
+      strips = record { listed-strips = listed-shown; kind-strips = kind-shown };
       causes = causes-kept;
     }

@@ -1,5 +1,5 @@
--- Which entry gives which number (document 01, When the engine declines; document 02, requests (i) to (iii) and (ix)): the causes of each entry in the order in
--- which they are tried, the lowest number first, but for 13, which is tried before 12.
+-- Which entry gives which number (document 01, When the engine declines; document 02, requests (i) to (iii), (ix) and (x)): the causes of each entry in
+-- the order in which they are tried, the lowest number first, but for 13, which is tried before 12.
 -- Assumes nothing.
 use mathlib.Core.Path.{_≡_}
 use mathlib.Core.Bool.{Bool, true, not, cond, _&&_, _||_}
@@ -32,6 +32,7 @@ use Rattle.price_bound.specs.PriceBound.{priceErrorBoundAnswer, treeBoundsAnswe
 use Rattle.pricing_laws.specs.Schedule.{sideOf, scheduleOf, numberedSide, datedSchedule}
 use Rattle.pricing_laws.specs.Pricer.{Side, Schedule}
 use Rattle.price_laws.specs.Prices.{bondValue, optionValue, bondPrice, optionPrice, datedPrice}
+use Rattle.price_laws.specs.Strips.{optionStrip, kindStrip}
 use Rattle.valuation.specs.Entries.{valueByStatePricesAnswer, valuationErrorBoundAnswer}
 
 -- a cause: its number, and whether it applies
@@ -188,6 +189,13 @@ pub record CausePromises : Type 0 where
       datedPrice n b discounts flows side dates strike .number
       ≡ firstOf (flowCauses n b discounts flows (cause 11 (not (termsAccepted side strike)) ∷ cause 13 (not (datesAccepted n dates))
       ∷ cause 12 (optionOver n b discounts flows (numberedSide side) strike (datedSchedule dates)) ∷ []))
+  -- strips themselves: every other cause stands in the answers
+  pub strip : (n b : ℕ) (discounts flows : List ℕ) (side : ℕ) (dates strikes : List ℕ) →
+      optionStrip n b discounts flows side dates strikes .number
+      ≡ firstOf (treeCauses n b (cause 6 (not (leb 1 (length strikes) && leb (length strikes) 16)) ∷ []))
+  pub strip-of-kind : (n b : ℕ) (discounts flows : List ℕ) (kind expiry : ℕ) (strikes : List ℕ) →
+      kindStrip n b discounts flows kind expiry strikes .number
+      ≡ firstOf (treeCauses n b (cause 6 (not (leb 1 (length strikes) && leb (length strikes) 16)) ∷ []))
   -- weighing: two lengths that are equal, odd and at most 121; payoffs, the sum of the state prices and the value within their limits
   pub weighing : (prices payoffs : List ℕ) →
       valueByStatePricesAnswer prices payoffs .number

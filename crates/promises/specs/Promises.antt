@@ -46,6 +46,7 @@ use Rattle.price_laws.specs.Exact.{exactBond, exactOption, exactDated, exactPay
 use Rattle.valuation.specs.Entries.{valueByStatePricesAnswer, valuationErrorBoundAnswer}
 use Rattle.promises.specs.Quoted.{QuotePromises}
 use Rattle.promises.specs.Versions.{VersionPromises}
+use Rattle.promises.specs.Strips.{StripPromises}
 use Rattle.promises.specs.Causes.{CausePromises}
 
 -- ---- branching, spacing, factors, rates and fit
@@ -457,4 +458,5 @@ pub record Promises : Type 0 where
   pub prices : PricePromises
   pub yields : YieldPromises
   pub versions : VersionPromises
+  pub strips : StripPromises
   pub causes : CausePromises

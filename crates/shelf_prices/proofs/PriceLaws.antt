@@ -1,6 +1,6 @@
 -- What the price entries answer, by what the code found, over plain variables.
 -- Assumes nothing.
-use mathlib.Core.Path.{_≡_, ap, ap₂, _∙_}
+use mathlib.Core.Path.{_≡_, refl, ap, ap₂, _∙_}
 use Prim.Native.Nat.{ℕ, _+_, _-_}
 use mathlib.Core.List.{List}
 use borrow.Author.Tests.{eq-eqb, ne-eqb}
@@ -8,14 +8,17 @@ use lib.ListN.{take, drop}
 use Rattle.price_laws.specs.declared.Price.{Price}
 use Rattle.price_laws.specs.declared.BondAndOption.{BondAndOption}
 use Rattle.price_laws.specs.declared.BondAndOptionValues.{BondAndOptionValues}
+use Rattle.price_laws.specs.declared.Strip.{Strip}
 use Rattle.price_laws.specs.Prices.{refusedPrice, priced, valueAlone, withBound}
+use Rattle.price_laws.specs.Strips.{refusedStrip, stripAnswer, eachWith}
+use Rattle.price_laws.proofs.StripLaws.{strip-alike}
 use Rattle.arithmetic.specs.declared.Answer.{Answer}
 use Rattle.shelf_laws.specs.declared.Slot.{Slot}
 use Rattle.shelf_laws.specs.declared.Located.{Located}
 use Rattle.shelf_laws.specs.Shelf.{nameCause, locatedTree}
 use Rattle.shelf_laws.proofs.PartLaws.{lent-part}
 use Rattle.shelf_laws.proofs.NameLaws.{none-found, tree-found}
-use Rattle.shelf_prices.specs.ShelfPrices.{shelfPrice}
+use Rattle.shelf_prices.specs.ShelfPrices.{shelfPrice, shelfStrip}
 
 -- a value with the bound that its tree carries
 pub carried-refused : (value : Answer) (bound : ℕ) → (value .number ≡ 0 → ⊥) →
@@ -68,3 +71,25 @@ module _ (bond option : ℕ → ℕ → List ℕ → Price) (slots : List Slot) 
       paired
       (price-there bond slots m name l e h (values .bond) (ap (λ (v : BondAndOptionValues). v .bond) ev) b eb)
       (price-there option slots m name l e h (values .option) (ap (λ (v : BondAndOptionValues). v .option) ev) o eo)
+
+-- a strip: the price of place k of a tree
+module _ (price : ℕ → ℕ → List ℕ → ℕ → Price) (slots : List Slot) (m : List ℕ) (name count : ℕ) (l : Located) (e : l ≡ locatedTree slots name) where
+  abbrev on-shelf : ℕ → Price
+  on-shelf k = shelfPrice (λ (n b : ℕ) (d : List ℕ). price n b d k) slots m name
+
+  pub strip-none : l .status ≡ 0 → refusedStrip 15 ≡ shelfStrip slots name count on-shelf
+  unfolding shelfStrip
+  strip-none h = rw (none-found slots name l e h)
+
+  pub strip-there : (l .status ≡ 0 → ⊥) → (x : Strip) →
+      x ≡ stripAnswer (l .steps) (l .reversion) count
+      (eachWith (l .bound) (price (l .steps) (l .reversion) (take (l .start + l .count - l .start) (drop (l .start) m)))) →
+      x ≡ shelfStrip slots name count on-shelf
+  unfolding shelfStrip
+  strip-there h x ex =
+      let t = tree-found slots name l e h in
+      ex
+      ∙ strip-alike (l .steps) (l .reversion) count _ on-shelf
+      (λ k. price-there (λ (n b : ℕ) (d : List ℕ). price n b d k) slots m name l e h _ refl _ refl)
+      ∙ ap₂ (λ (n b : ℕ). stripAnswer n b count on-shelf) (t .steps-is) (t .reversion-is)
+      ∙ rw (eq-eqb (nameCause slots name) 0 (t .cause))

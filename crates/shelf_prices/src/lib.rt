@@ -1,18 +1,24 @@
 // Prices on the trees of a shelf. Shelf and memory are read and left as they are.
 use arithmetic::Answer;
 use price_laws::BondAndOption;
+use price_laws::BoundedTree;
 use price_laws::Price;
+use price_laws::Strip;
 use shelf_laws::Shelf;
 ghost use mathlib.Core.Path.{_≡_};
 ghost use Rattle.price_laws.specs.Prices.{refusedPrice, withBound};
+ghost use Rattle.price_laws.specs.Strips.{refusedStrip};
 ghost use Rattle.shelf_prices.specs.ShelfPrices.{shelfBond, shelfOption, shelfDated, shelfBondAndOption, shelfBondAndDated};
+ghost use Rattle.shelf_prices.specs.ShelfPrices.{shelfDatedStrip, shelfKindStrip};
 
-// The price of a name without a tree.
+// A name without a tree.
+const NO_TREE: u64 = 15;
+
 fn no_price() -> Price
     ensures { λ r. ⌜ r ≡ refusedPrice 15 ⌝ }
 {
     Price {
-        number: 15,
+        number: NO_TREE,
         value: 0,
         bound: 0,
     }
@@ -160,4 +166,71 @@ pub fn bond_and_dated_option(
         bond: carried(values.bond, tree.bound),
         option: carried(values.option, tree.bound),
     }
+}
+
+fn no_strip() -> Strip
+    ensures { λ r. ⌜ r ≡ refusedStrip 15 ⌝ }
+{
+    let zeros = [0u64; price_laws::MOST_STRIKES];
+    Strip {
+        number: NO_TREE,
+        numbers: zeros,
+        values: zeros,
+        bounds: zeros,
+    }
+}
+
+// A strip of strikes on listed rows, each answer as `dated_option_price` gives it. The strip itself is refused with 15 for a name without a tree, then as
+// `pricing::option_strip`.
+pub fn option_strip(
+    shelf: Shelf,
+    memory: &[u64; 3600],
+    name: usize,
+    flows: &[u64],
+    side: u64,
+    dates: &[u8],
+    strikes: &[u64],
+) -> Strip
+    ensures { λ r. ⌜ r ≡ shelfDatedStrip (shelf .slots) (now (memory .entry)) name (now (flows .entry)) side (now (dates .entry)) (now (strikes .entry)) ⌝ }
+{
+    let tree = shelf::tree_of(shelf, name);
+    if tree.status == 0 {
+        return no_strip();
+    }
+    let numbers = &memory[..];
+    let start = tree.start;
+    let end = start + tree.count;
+    let known = BoundedTree {
+        steps: tree.steps,
+        reversion: tree.reversion,
+        bound: tree.bound,
+    };
+    pricing::bounded_strip(known, &numbers[start..end], flows, side, dates, strikes)
+}
+
+// The same for one of the four kinds and an expiry, each answer as `option_price` gives it.
+pub fn option_strip_of_kind(
+    shelf: Shelf,
+    memory: &[u64; 3600],
+    name: usize,
+    flows: &[u64],
+    kind: u64,
+    expiry: usize,
+    strikes: &[u64],
+) -> Strip
+    ensures { λ r. ⌜ r ≡ shelfKindStrip (shelf .slots) (now (memory .entry)) name (now (flows .entry)) kind expiry (now (strikes .entry)) ⌝ }
+{
+    let tree = shelf::tree_of(shelf, name);
+    if tree.status == 0 {
+        return no_strip();
+    }
+    let numbers = &memory[..];
+    let start = tree.start;
+    let end = start + tree.count;
+    let known = BoundedTree {
+        steps: tree.steps,
+        reversion: tree.reversion,
+        bound: tree.bound,
+    };
+    pricing::bounded_strip_of_kind(known, &numbers[start..end], flows, kind, expiry, strikes)
 }

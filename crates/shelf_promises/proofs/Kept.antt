@@ -1,9 +1,20 @@
 -- The promises of a shelf are kept.
 -- Assumes nothing.
 use mathlib.Core.Path.{_≡_, refl}
+use mathlib.Core.Bool.{Bool, true, false, cond}
 use mathlib.Core.List.{List}
 use Prim.Native.Nat.{ℕ}
-use Rattle.shelf_prices.specs.ShelfPrices.{shelfBondAndOption, shelfBondAndDated}
+use native.Mathlib.Omega.{arith}
+use lib.Dec.{eqb}
+use lib.ListN.{length}
+use Rattle.arithmetic.specs.Row.{values}
+use Rattle.arithmetic.proofs.Numbers.{by-test}
+use Rattle.price_laws.specs.declared.Price.{Price}
+use Rattle.price_laws.specs.declared.Strip.{Strip}
+use Rattle.price_laws.specs.Strips.{stripCause, refusedStrip, stripAnswer, Shown}
+use Rattle.price_laws.proofs.StripLaws.{answer-shown, refused-shown, strip-number}
+use Rattle.shelf_laws.specs.Shelf.{slotOf, nameCause}
+use Rattle.shelf_prices.specs.ShelfPrices.{shelfBondAndOption, shelfBondAndDated, shelfStrip, shelfDatedStrip, shelfKindStrip}
 use Rattle.shelf_promises.specs.Model.{Pricing, bond, option, dated, pricing, locating}
 use Rattle.shelf_promises.specs.History.{Kept, priceOf, after}
 use Rattle.shelf_promises.specs.ShelfPromises.{ShelfPromises}
@@ -32,6 +43,41 @@ lists-pair : (k : Kept) (name : ℕ) (flows : List ℕ) (side : ℕ) (dates : Li
 unfolding priceOf
 lists-pair k name flows side dates strike = refl
 
+-- strips
+shelf-shown : (k : Kept) (name count : ℕ) (price : ℕ → Price) → Shown (shelfStrip (k .slots) name count price) count price
+unfolding shelfStrip
+shelf-shown k name count price =
+    by-test (eqb (nameCause (k .slots) name) 0) (λ (s : Strip). Shown s count price) _ (refusedStrip 15)
+    (λ e. answer-shown _ _ count price) (λ e. refused-shown 15 count price (λ z. omega (arith, z)))
+
+lists-shown : (k : Kept) (name : ℕ) (flows : List ℕ) (side : ℕ) (dates strikes : List ℕ) →
+    Shown (shelfDatedStrip (k .slots) (k .memory) name flows side dates strikes) (length strikes)
+    (λ i. priceOf k name (dated flows side dates (values strikes i)))
+unfolding priceOf
+lists-shown k name flows side dates strikes = shelf-shown k name (length strikes) _
+
+kinds-shown : (k : Kept) (name : ℕ) (flows : List ℕ) (kind expiry : ℕ) (strikes : List ℕ) →
+    Shown (shelfKindStrip (k .slots) (k .memory) name flows kind expiry strikes) (length strikes)
+    (λ i. priceOf k name (option flows kind expiry (values strikes i)))
+unfolding priceOf
+kinds-shown k name flows kind expiry strikes = shelf-shown k name (length strikes) _
+
+shelf-numbered : (k : Kept) (name count : ℕ) (price : ℕ → Price) →
+    shelfStrip (k .slots) name count price .number
+    ≡ cond (eqb (nameCause (k .slots) name) 0) (stripCause (slotOf (k .slots) name .steps) (slotOf (k .slots) name .reversion) count) 15
+unfolding shelfStrip
+shelf-numbered k name count price = by-name (eqb (nameCause (k .slots) name) 0)
+  where
+    n : ℕ
+    n = slotOf (k .slots) name .steps
+
+    b : ℕ
+    b = slotOf (k .slots) name .reversion
+
+    by-name : (t : Bool) → cond t (stripAnswer n b count price) (refusedStrip 15) .number ≡ cond t (stripCause n b count) 15
+    by-name true = strip-number n b count price
+    by-name false = refl
+
 pub shelf-kept : ShelfPromises
 shelf-kept =
     record {
@@ -59,6 +105,9 @@ shelf-kept =
       prices-accurate = λ k r name p z. accurate-is k (valid k r) name p z;
       kinds-paired = kinds-pair;
       lists-paired = lists-pair;
+      lists-strip = lists-shown;
+      kinds-strip = kinds-shown;
+      strips-numbered = shelf-numbered;
       parts-shown = λ k r name t low high found. parts-are k (valid k r) name t low high found;
       unreached-refused = λ k h name. broken-refused k h name;
       unreached-kept = λ k h call. broken-stays k h call;

@@ -1,11 +1,13 @@
--- What a shelf promises (document 02, requests (vii) and (viii)), for every shelf reached from the empty one beside any memory by any calls of its entries with
--- any arguments. Each line is about the answers that the entries' contracts give, where shelf and memory are not altered between calls.
+-- What a shelf promises (document 02, requests (vii), (viii) and (x)), for every shelf reached from the empty one beside any memory by any calls of its
+-- entries with any arguments. Each line is about the answers that the entries' contracts give, where shelf and memory are not altered between calls.
 -- Assumes nothing.
 use mathlib.Core.Path.{_≡_}
-use mathlib.Core.Bool.{true, false}
+use mathlib.Core.Bool.{true, false, cond}
 use mathlib.Core.List.{List, _∷_, _++_}
 use Prim.Native.Nat.{ℕ, suc, _+_, _-_, _*_, _^_, _≤_, _<_}
+use lib.Dec.{eqb}
 use lib.ListN.{length, replicate}
+use Rattle.arithmetic.specs.Row.{values}
 use Rattle.arithmetic.specs.Within.{Within}
 use Rattle.tree.specs.Tree.{unit}
 use Rattle.limits.specs.Limits.{mostSteps, shapeCause}
@@ -13,11 +15,13 @@ use Rattle.lattice.specs.Shape.{discountsNeeded, statePricesNeeded}
 use Rattle.lent_tree.specs.LentTree.{discountsCause}
 use Rattle.fitting.specs.Entry.{fitNumber}
 use Rattle.price_bound.specs.PriceBound.{treeErrorBound, greatestDiscounts}
+use Rattle.price_laws.specs.declared.Price.{Price}
 use Rattle.price_laws.specs.Prices.{refusedPrice}
+use Rattle.price_laws.specs.Strips.{stripCause, Shown}
 use Rattle.promises.specs.Promises.{NoneAboveOne}
 use Rattle.shelf_laws.specs.Parts.{zeros, part}
-use Rattle.shelf_laws.specs.Shelf.{room, held, partOf}
-use Rattle.shelf_prices.specs.ShelfPrices.{shelfBondAndOption, shelfBondAndDated}
+use Rattle.shelf_laws.specs.Shelf.{room, held, partOf, slotOf, nameCause}
+use Rattle.shelf_prices.specs.ShelfPrices.{shelfBondAndOption, shelfBondAndDated, shelfStrip, shelfDatedStrip, shelfKindStrip}
 use Rattle.shelf_promises.specs.Model.{ShelvedTree, absent, present, Quoted, fitNumberOf, fitDiscountsOf, fittedTree}
 use Rattle.shelf_promises.specs.Model.{Pricing, bond, option, dated, flowsOf, plainPrice, exactOf}
 use Rattle.shelf_promises.specs.Model.{Call, asking, committing, releasing, pricing, locating, nameOf}
@@ -144,6 +148,16 @@ pub record ShelfPromises : Type 0 where
   pub lists-paired : (k : Kept) (name : ℕ) (flows : List ℕ) (side : ℕ) (dates : List ℕ) (strike : ℕ) →
       shelfBondAndDated (k .slots) (k .memory) name flows side dates strike
       ≡ record { bond = priceOf k name (bond flows); option = priceOf k name (dated flows side dates strike) }
+  -- strips: each answer is the price of its strike alone; 15 for the name, then the strip's own causes
+  pub lists-strip : (k : Kept) (name : ℕ) (flows : List ℕ) (side : ℕ) (dates strikes : List ℕ) →
+      Shown (shelfDatedStrip (k .slots) (k .memory) name flows side dates strikes) (length strikes)
+      (λ i. priceOf k name (dated flows side dates (values strikes i)))
+  pub kinds-strip : (k : Kept) (name : ℕ) (flows : List ℕ) (kind expiry : ℕ) (strikes : List ℕ) →
+      Shown (shelfKindStrip (k .slots) (k .memory) name flows kind expiry strikes) (length strikes)
+      (λ i. priceOf k name (option flows kind expiry (values strikes i)))
+  pub strips-numbered : (k : Kept) (name count : ℕ) (price : ℕ → Price) →
+      shelfStrip (k .slots) name count price .number
+      ≡ cond (eqb (nameCause (k .slots) name) 0) (stripCause (slotOf (k .slots) name .steps) (slotOf (k .slots) name .reversion) count) 15
   -- where the discounts of a name's tree stand
   pub parts-shown : (k : Kept) → Reached k → (name : ℕ) (t : ShelvedTree) → 1 ≤ name → name ≤ 8 → seen k (name - 1) ≡ present t →
       part (k .memory) (partOf (k .slots) name .start) (partOf (k .slots) name .count) ≡ t .discounts
