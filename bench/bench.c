@@ -2,6 +2,7 @@
 #define _POSIX_C_SOURCE 200809L
 #include "../c/mixegorta.h"
 #include "plain.h"
+#include "plain_bands.h"
 #include <math.h>
 #include <stdio.h>
 #include <stdlib.h>
@@ -832,6 +833,99 @@ static void shelves(int turns)
     line_of_shelf(1, 0, "bond, n = 1", by_library, BOND, turns);
 }
 
+/* ---- haircut bands */
+
+enum { BANDS = 40 };
+
+static struct {
+    uint64_t first_rows[BANDS], last_rows[BANDS], lowest[BANDS], highest[BANDS], haircuts[BANDS];
+    size_t count;
+} table;
+
+#define LISTS \
+    table.first_rows, table.count, table.last_rows, table.count, table.lowest, table.count, table.highest, table.count, table.haircuts, table.count
+
+static struct plain_bands plain_table(void)
+{
+    return (struct plain_bands){table.first_rows, table.last_rows, table.lowest, table.highest, table.haircuts, table.count};
+}
+
+/* Rows by prices, each in so many parts: 40 bands and no more. */
+static void cut_table(uint64_t rows, uint64_t prices)
+{
+    table.count = 0;
+    for (uint64_t i = 0; i < rows; i++)
+        for (uint64_t j = 0; j < prices; j++) {
+            const size_t k = table.count++;
+            table.first_rows[k] = 60 * i / rows + 1, table.last_rows[k] = 60 * (i + 1) / rows;
+            table.lowest[k] = MIXEGORTA_MAX_VALUE / prices * j + (j > 0);
+            table.highest[k] = j + 1 == prices ? MIXEGORTA_MAX_VALUE : MIXEGORTA_MAX_VALUE / prices * (j + 1);
+            table.haircuts[k] = 100 * (i + j);
+        }
+}
+
+static volatile uint64_t last_worth;
+
+static void verdict_by_library(void) { last_worth = mixegorta_check_bands(LISTS).number; }
+static void worth_by_library(void) { last_worth = mixegorta_lending_worth(LISTS, 60, ONE).worth; }
+
+static void verdict_by_plain_c(void)
+{
+    const struct plain_bands t = plain_table();
+    last_worth = plain_check_bands(&t).number;
+}
+
+static void worth_by_plain_c(void)
+{
+    const struct plain_bands t = plain_table();
+    last_worth = plain_lending_worth(&t, 60, ONE).worth;
+}
+
+static void must_lend_the_same(void)
+{
+    const struct plain_bands t = plain_table();
+    const uint64_t row = (uint64_t)(uniform() * 62), price = (uint64_t)(uniform() * 8.1 * ONE);
+    const struct mixegorta_verdict v = mixegorta_check_bands(LISTS);
+    const struct mixegorta_worth w = mixegorta_lending_worth(LISTS, row, price);
+    const struct plain_verdict p = plain_check_bands(&t);
+    const struct plain_worth q = plain_lending_worth(&t, row, price);
+    if (memcmp(&v, &p, sizeof v) || memcmp(&w, &q, sizeof w))
+        fail("DIFFERENT on haircut bands");
+}
+
+/* Tables of equal parts, and the same with a number changed. */
+static void compare_bands(void)
+{
+    uint64_t *lists[] = {table.first_rows, table.last_rows, table.lowest, table.highest, table.haircuts};
+    int refused = 0;
+    for (int i = 0; i < 2000; i++) {
+        const uint64_t rows = (uint64_t)(uniform() * 8) + 1;
+        cut_table(rows, (uint64_t)(uniform() * (double)(BANDS / rows)) + 1);
+        must_lend_the_same();
+        lists[i % 5][(size_t)(uniform() * (double)table.count)] += (uint64_t)(uniform() * 3) - 1;
+        must_lend_the_same();
+        refused += mixegorta_check_bands(LISTS).number != 0;
+    }
+    printf("haircut bands equal on 4000 tables, %d of them refused\n", refused);
+}
+
+static void bands(int turns)
+{
+    static const struct { const char *name; uint64_t rows, prices; } shapes[] = {
+        {"40 rows of one band", 40, 1}, {"8 rows of 5 bands", 8, 5}, {"one row of 40 bands", 1, 40}, {"one band", 1, 1}};
+    printf("\nhaircut bands                     library        plain C      ratio\n");
+    for (int i = 0; i < 4; i++) {
+        char name[64];
+        cut_table(shapes[i].rows, shapes[i].prices);
+        if (mixegorta_check_bands(LISTS).number)
+            fail("a table that is not accepted");
+        snprintf(name, sizeof name, "verdict, %s", shapes[i].name);
+        line_of_moves(name, verdict_by_library, verdict_by_plain_c, turns);
+        snprintf(name, sizeof name, "worth, %s", shapes[i].name);
+        line_of_moves(name, worth_by_library, worth_by_plain_c, turns);
+    }
+}
+
 #ifdef HAVE_QUANTLIB
 void quantlib_curve(size_t n, double step, const double *factors);
 double quantlib_prices(size_t n, double step, double reversion, double volatility, const double *flows, size_t expiry, double strike,
@@ -884,6 +978,7 @@ int main(int argc, char **argv)
     compare_results();
     compare_rates();
     compare_shelves();
+    compare_bands();
     against_plain_c(turns);
     dates_against_kind(turns);
     rates(turns);
@@ -892,6 +987,7 @@ int main(int argc, char **argv)
     bounds(turns);
     versions(turns);
     strips(turns);
+    bands(turns);
     against_quantlib(turns / 4 + 1);
     return 0;
 }

@@ -5,16 +5,17 @@
  * allocates, keeps a pointer, calls back, prints or reads global state, so any number of threads may call at once. During a call no
  * other thread may write what the call is handed, nor read what the call may write.
  *
- * Numbers. "One" is 1,000,000,000 billionths. Discounts, state prices, flows, strikes, payoffs, values and error bounds are
+ * Numbers. "One" is 1,000,000,000 billionths. Discounts, state prices, flows, strikes, payoffs, values, worths and error bounds are
  * whole billionths; probabilities are whole numbers over 600,000,000.
  *
  * Trees. Row i of a tree of n steps runs from 0 to n. Its nodes are numbered -w to w, w being the row's half width. A memory holds
  * row after row, the lowest node of a row first: discounts for rows 0 to n - 1, state prices for rows 0 to n.
  *
  * Arguments. Any numbers may be passed: a call gives its full answer, or the number of a refusal with every other field 0; a shelf
- * comes back beside the number, refused or not, and each answer of a strip has a number of its own.
+ * comes back beside the number, refused or not, each answer of a strip has a number of its own, and beside 16, 17 and 18, which haircut bands
+ * alone give, a verdict shows what is wrong.
  * Where several refusals apply, the lowest number is given, with these exceptions: 15 is tried before all others, 14 after 4, and 13
- * before 12.
+ * before 12; of 17 and 18 the one whose row and price come first is given.
  *
  *   reversion   reversion per step (yearly reversion times step length) in ten-thousandths, 0 to 6,000; of a tree of version 2 its working
  *               reversion, wherever a function takes a tree and not a version
@@ -43,6 +44,9 @@
  *   14  the asked nodes and those held are more than 3,600
  *   15  the name is outside 1 to 8, already present at asking, not awaiting a commit at commit, or absent at release or pricing; or the
  *       shelf is one that no calls lead to
+ *   16  a band has an end before its start, or a haircut, start or end out of range, or there are more than 40 bands
+ *   17  a row and a price are in no band
+ *   18  a row and a price are in two or more bands
  *
  * Memory. A slice is a pointer followed by its count of elements, never of bytes. The pointer is aligned for its type and points to
  * that many elements; with count 0 it may be NULL. All of them are initialised, those that a call only writes too: any numbers
@@ -61,9 +65,9 @@ extern "C" {
 
 /* The version of header and library, in three numbers and as a text. The shared object's name for the loader carries the first. */
 #define MIXEGORTA_VERSION_MAJOR 0
-#define MIXEGORTA_VERSION_MINOR 10
+#define MIXEGORTA_VERSION_MINOR 11
 #define MIXEGORTA_VERSION_PATCH 0
-#define MIXEGORTA_VERSION "0.10.0"
+#define MIXEGORTA_VERSION "0.11.0"
 
 /* The same as one number, which mixegorta_version() of this header's own library answers. */
 #define MIXEGORTA_VERSION_NUMBER \
@@ -85,6 +89,10 @@ extern "C" {
 /* The names of a shelf are 1 to this, and its memory has so many numbers, one for each node of its trees. */
 #define MIXEGORTA_MAX_NAME 8
 #define MIXEGORTA_SHELF_ROOM 3600
+
+/* The most bands of a table, and the largest haircut, all of a price, in ten-thousandths. */
+#define MIXEGORTA_MAX_BANDS 40
+#define MIXEGORTA_MAX_HAIRCUT 10000
 
 /* The longest job, and room for the sheet of every job, in bytes. */
 #define MIXEGORTA_MAX_JOB 4700
@@ -220,6 +228,23 @@ struct mixegorta_shelved {
 struct mixegorta_part {
     size_t start;
     size_t count;
+};
+
+/* What is said of a table of haircut bands. 0, where the table is accepted: all are 0. 16: place is that of the first bad band, counted
+ * from 1, or MIXEGORTA_MAX_BANDS + 1 where only the number of bands is wrong; row and price are 0. 17 and 18: row and price are the first
+ * pair that is in no band, or in several, by row and then price; place is 0. Any other number: the rest is 0. */
+struct mixegorta_verdict {
+    uint64_t number;
+    uint64_t row;
+    uint64_t price;
+    uint64_t place;
+};
+
+/* A lending worth in billionths, and the verdict, whose number tells whether there is one: a worth of 0 is an answer too, and a refusal has
+ * worth 0. */
+struct mixegorta_worth {
+    uint64_t worth;
+    struct mixegorta_verdict verdict;
 };
 
 /* The version of the library that is linked or loaded: MIXEGORTA_VERSION_NUMBER where it is this header's own. */
@@ -502,6 +527,31 @@ struct mixegorta_strip mixegorta_shelf_option_strip_of_kind(struct mixegorta_she
                                                             const uint64_t memory[MIXEGORTA_SHELF_ROOM], size_t name,
                                                             const uint64_t *flows, size_t flows_len, uint64_t kind,
                                                             size_t expiry, const uint64_t *strikes, size_t strikes_len);
+
+/* ---- Haircut bands: what is lent on a bond, by its last row n and its price. Memories are only read.
+ *
+ * A table is five lists of one length, at most 40, the k-th numbers of which are the k-th band: its first and last row, 1 to 60, its lowest
+ * and highest price, 0 to 8,000,000,000, and its haircut, 0 to 10,000 ten-thousandths. Both ends belong to the band: bands to 99 and from
+ * 100 meet, bands to 100 and from 100 overlap. The table is accepted where each row 1 to 60 with each price 0 to 8,000,000,000 is in
+ * precisely one band. A row is here the bond's last row n, not the row of its price. */
+
+/* What is wrong with a table, or zeros where nothing is. All bands are looked at before any pair: a bad band behind the fortieth shows its
+ * own place. Without any bands 17 shows row 1 and price 0.
+ * Refusals: 6 lengths that differ, so that there is no table; 16 a bad band or too many; then whichever comes at the earlier pair, 17 a
+ * pair in no band or 18 a pair in two or more. */
+struct mixegorta_verdict mixegorta_check_bands(const uint64_t *first_rows, size_t first_rows_len, const uint64_t *last_rows,
+                                               size_t last_rows_len, const uint64_t *lowest_prices, size_t lowest_prices_len,
+                                               const uint64_t *highest_prices, size_t highest_prices_len,
+                                               const uint64_t *haircuts, size_t haircuts_len);
+
+/* What is lent on a bond of last row `row` and this price: price x (10,000 - haircut) / 10,000, down, by the haircut of the one band that
+ * has both, and never more than the price. The whole table is judged with each call.
+ * Refusals, in this order: 6 the row or lengths that differ, 12 a price above 8,000,000,000, then those of mixegorta_check_bands, shown
+ * as there. */
+struct mixegorta_worth mixegorta_lending_worth(const uint64_t *first_rows, size_t first_rows_len, const uint64_t *last_rows,
+                                               size_t last_rows_len, const uint64_t *lowest_prices, size_t lowest_prices_len,
+                                               const uint64_t *highest_prices, size_t highest_prices_len,
+                                               const uint64_t *haircuts, size_t haircuts_len, uint64_t row, uint64_t price);
 
 #ifdef __cplusplus
 }

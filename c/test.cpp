@@ -95,6 +95,16 @@ static void shelf() {
     EXPECT(after.number == 0 && mixegorta_shelf_release(after.shelf, memory.data(), 8).number == 15);
 }
 
+static void bands() {
+    const std::vector<uint64_t> first_rows = {1, 21}, last_rows = {20, 60}, lowest(2), highest(2, MIXEGORTA_MAX_VALUE), haircuts = {250, 0};
+    const mixegorta_worth lent = mixegorta_lending_worth(first_rows.data(), 2, last_rows.data(), 2, lowest.data(), 2, highest.data(), 2,
+                                                         haircuts.data(), 2, 20, MIXEGORTA_ONE);
+    EXPECT(lent.verdict.number == 0 && lent.worth == 975000000);
+    const mixegorta_verdict gap = mixegorta_check_bands(first_rows.data(), 1, last_rows.data(), 1, lowest.data(), 1, highest.data(), 1,
+                                                        haircuts.data(), 1);
+    EXPECT(gap.number == 17 && gap.row == 21 && gap.price == 0 && gap.place == 0);
+}
+
 int main() {
     EXPECT(mixegorta_version() == MIXEGORTA_VERSION_NUMBER);
     shapes();
@@ -102,5 +112,6 @@ int main() {
     prices();
     sheet();
     shelf();
+    bands();
     return failures == 0 ? 0 : 1;
 }

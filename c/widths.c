@@ -276,6 +276,20 @@ static void shelf_option_strip_of_kind(void) {
     answer_strip(mixegorta_shelf_option_strip_of_kind(shelf(), shelf_memory(), number(2), LENT(3), number(4), number(5), LENT(6)));
 }
 
+/* Verdicts show more than a number where they refuse, so all of their fields are compared. */
+static void answer_verdict(struct mixegorta_verdict v) {
+    const uint64_t fields[] = {v.number, v.row, v.price, v.place};
+    for (size_t i = 0; i < 4; i++) add(&found, fields[i]);
+}
+
+static void check_bands(void) { answer_verdict(mixegorta_check_bands(LENT(0), LENT(1), LENT(2), LENT(3), LENT(4))); }
+
+static void lending_worth(void) {
+    struct mixegorta_worth w = mixegorta_lending_worth(LENT(0), LENT(1), LENT(2), LENT(3), LENT(4), number(5), number(6));
+    add(&found, w.worth);
+    answer_verdict(w.verdict);
+}
+
 #define CALL(name) {#name, name}
 static const struct {
     const char *name;
@@ -287,7 +301,8 @@ static const struct {
              CALL(bond_and_option), CALL(dated_option_price), CALL(bond_and_dated_option), CALL(value_by_state_prices),
              CALL(valuation_error_bound), CALL(shelf_part), CALL(shelf_ask), CALL(shelf_commit), CALL(shelf_release), CALL(shelf_bond_price),
              CALL(shelf_option_price), CALL(shelf_bond_and_option), CALL(shelf_dated_option_price), CALL(shelf_bond_and_dated_option),
-             CALL(option_strip), CALL(option_strip_of_kind), CALL(shelf_option_strip), CALL(shelf_option_strip_of_kind)};
+             CALL(option_strip), CALL(option_strip_of_kind), CALL(shelf_option_strip), CALL(shelf_option_strip_of_kind),
+             CALL(check_bands), CALL(lending_worth)};
 
 static bool called(const char *name) {
     found.count = 0;

@@ -221,6 +221,26 @@ pub fn weighing_bound(tree: &Tree, discounts: &[u64], row: usize, payoffs: &[u64
     })
 }
 
+// Haircut bands
+
+/// Number, row, price and place of the verdict on five lists.
+pub fn check_bands(lists: &[Vec<u64>; 5]) -> [u64; 4] {
+    let [a, b, c, d, e] = lists;
+    let v = unsafe {
+        mixegorta_check_bands(start(a), a.len(), start(b), b.len(), start(c), c.len(), start(d), d.len(), start(e), e.len())
+    };
+    [v.number, v.row, v.price, v.place]
+}
+
+/// The worth, and the verdict's fields.
+pub fn lending_worth(lists: &[Vec<u64>; 5], row: u64, price: u64) -> (u64, [u64; 4]) {
+    let [a, b, c, d, e] = lists;
+    let w = unsafe {
+        mixegorta_lending_worth(start(a), a.len(), start(b), b.len(), start(c), c.len(), start(d), d.len(), start(e), e.len(), row, price)
+    };
+    (w.worth, [w.verdict.number, w.verdict.row, w.verdict.price, w.verdict.place])
+}
+
 // The shelf
 
 pub const SHELF_MEMORY: usize = 3_600;

@@ -1,4 +1,6 @@
-// Compares the library with the rules of documents 01 and 02 and with the exact pricer, on random inputs and on random scripts of calls on a shelf.
+// Compares the library with the rules of documents 01 and 02 and with the exact pricer, on random inputs, on random scripts of calls on a shelf and on
+// random tables of haircut bands.
+mod bands;
 mod checks;
 mod engine;
 mod exact;
@@ -17,6 +19,8 @@ use std::panic;
 const LARGE_RUN: u64 = 1_000;
 /// Every so many seeds have a script of calls on a shelf too.
 const SEEDS_A_SCRIPT: u64 = 8;
+/// So many tables of haircut bands have every verdict, and tell every wrong rule.
+const MANY_TABLES: u64 = 16_000;
 /// So many scripts have every order of causes, every refused commit tried again, and every alteration, of the carried numbers too.
 const MANY_SCRIPTS: u64 = 1_000;
 
@@ -55,6 +59,7 @@ fn without_seed(tally: &mut Tally, shelves: &mut shelves::Tally) {
     shelves::carried_by_hand();
     shelves::every_order(shelves);
     shelves::numbers_past_a_width(shelves);
+    bands::by_hand();
 }
 
 fn input(own: u64, tally: &mut Tally) {
@@ -74,15 +79,23 @@ fn script(own: u64, sizes: &scripts::Sizes, tally: &mut shelves::Tally) {
     }
 }
 
+fn table(own: u64, tally: &mut bands::Tally) {
+    if panic::catch_unwind(panic::AssertUnwindSafe(|| bands::check(&mut inputs::Random::new(own), own, tally))).is_err() {
+        different(own);
+    }
+}
+
 fn main() {
     let (count, seed) = (argument(1, 20_000), argument(2, 1));
     let (mut tally, mut shelves, sizes) = (Tally::default(), shelves::Tally::default(), scripts::Sizes::new());
+    let mut tables = bands::Tally::default();
     without_seed(&mut tally, &mut shelves);
     for own in seed..seed + count {
         input(own, &mut tally);
         if own % SEEDS_A_SCRIPT == 0 {
             script(own, &sizes, &mut shelves);
         }
+        table(own, &mut tables);
     }
     println!("{tally}");
     assert!(count < LARGE_RUN || tally.bonds_on_both_sides(), "bonds on one side of their exact prices alone");
@@ -93,5 +106,8 @@ fn main() {
     assert!(missing.is_empty(), "no strip has {missing:?}");
     let missing = if count < MANY_SCRIPTS * SEEDS_A_SCRIPT { Vec::new() } else { shelves.missing() };
     assert!(missing.is_empty(), "no script has {missing:?}");
+    println!("\n{tables}\n");
+    let missing = if count < MANY_TABLES { Vec::new() } else { tables.missing() };
+    assert!(missing.is_empty(), "no run has {missing:?}");
     println!("{count} inputs from seed {seed}: every result equal, every bound kept");
 }

@@ -7,8 +7,8 @@
 A line of widths.txt is the name of an export, its arguments in the header's order, `=` and the answer. An argument is a number, a list [3,5,0*256], which
 ends in 256 zeros here, or @9, a memory of nine numbers to be written. Figures stand as their 64 bits. A shelf is a list of 512 numbers, status, steps,
 reversion, bound and sixty greatest discounts of each name, beside its memory of 3,600. An answer is a refusal's number alone, or its fields; a memory's part
-that was written comes as a list, a shelf's changed memory whole, and the numbers, values and bounds of a strip as three lists. Tests in C, Rust and Python
-read the lines. Each entry's first line is the call that the others change.
+that was written comes as a list, a shelf's changed memory whole, and the numbers, values and bounds of a strip as three lists. What is said of haircut
+bands has all its fields, refused or not. Tests in C, Rust and Python read the lines. Each entry's first line is the call that the others change.
 """
 import os
 import re
@@ -19,6 +19,7 @@ from itertools import groupby
 HERE = os.path.dirname(os.path.abspath(__file__))
 sys.path.insert(0, HERE)
 sys.dont_write_bytecode = True
+import bands
 import reference as rules
 from reference import ONE, Kind, Option, Refused, refuse_if
 
@@ -319,13 +320,22 @@ def shelf_option_strip_of_kind(shelf, memory, name, flows, kind, expiry, strikes
     return strip([], strikes, shelf_option_price, shelf, memory, name, flows, kind, expiry)
 
 
+def check_bands(*lists):
+    return list(bands.verdict(*lists))
+
+
+def lending_worth(*given):
+    number, worth, *shown = bands.lending_worth(*given)
+    return [worth, number, *shown]
+
+
 # The calls. A list is exact where its length must be just so, and least where it may be longer; a byte is no number that 256 more would fit into.
 
 Argument = namedtuple('Argument', 'name kind value')
 Entry = namedtuple('Entry', 'rule numbered arguments')
 Memory = namedtuple('Memory', 'length')
 # Answers that show their numbers among their fields.
-UNNUMBERED = row_range, bond_and_option, bond_and_dated_option, shelf_part, shelf_bond_and_option, shelf_bond_and_dated_option
+UNNUMBERED = row_range, bond_and_option, bond_and_dated_option, shelf_part, shelf_bond_and_option, shelf_bond_and_dated_option, check_bands, lending_worth
 
 
 def entry(rule, *arguments):
@@ -360,6 +370,10 @@ SHELF = ('shelf', 'slots', slot(0, 0, 0) + slot(1, *SHAPE) + slot(2, *SHAPE, *tr
 ROOM = ('memory', 'room', [0] * 9 + FITTED + [0] * (3_600 - 18))
 SHELVED, AWAITING, FREE = ((SHELF, ROOM, ('name', 'number', name)) for name in (3, 2, 1))
 
+# Three bands of rows, two of them with two bands of prices.
+BANDS = (('first_rows', 'exact', [1, 1, 21, 21, 41]), ('last_rows', 'exact', [20, 20, 40, 40, 60]), ('lowest_prices', 'exact', [0, ONE, 0, ONE + 1, 0]),
+         ('highest_prices', 'exact', [ONE - 1, 8 * ONE, ONE, 8 * ONE, 8 * ONE]), ('haircuts', 'exact', [100, 200, 300, 400, 500]))
+
 ENTRIES = [
     entry(half_width, REVERSION, ROW), entry(node_count, REVERSION, ROW), entry(row_start, REVERSION, ROW),
     entry(discounts_needed, STEPS[:2] + (60,), REVERSION), entry(state_prices_needed, STEPS[:2] + (60,), REVERSION),
@@ -385,6 +399,7 @@ ENTRIES = [
     entry(shelf_bond_and_option, *SHELVED, FLOWS, *OPTION), entry(shelf_dated_option_price, *SHELVED, FLOWS, *DATED),
     entry(shelf_bond_and_dated_option, *SHELVED, FLOWS, *DATED),
     entry(shelf_option_strip, *SHELVED, FLOWS, *STRIP), entry(shelf_option_strip_of_kind, *SHELVED, FLOWS, *STRIP_OF_KIND),
+    entry(check_bands, *BANDS), entry(lending_worth, *BANDS, ROW, ('price', 'number', ONE)),
 ]
 # A job is bytes, and the room for its sheet has one size: crates/sheet_cases has both. Version and empty shelf are asked for without arguments.
 WITHOUT_NUMBERS = {'sheet', 'version', 'empty_shelf'}

@@ -135,7 +135,7 @@ class Reading(InFolder):
                 ('no struct Slot laid out for C', {'slots': slots.replace('#[repr(C)]', '')}),
                 ('no struct Hidden laid out for C', {'capi': capi.replace('use shelf::Shelved', 'use slots::Hidden').replace('-> Shelved', '-> Hidden')}),
                 ('no constant NAMES', {'sizes': CRATES['sizes'].replace('NAMES', 'OTHERS')}),
-                ('no crate bands', {'capi': capi.replace('use shelf::Shelved', 'use bands::Shelved')}),
+                ('no crate others', {'capi': capi.replace('use shelf::Shelved', 'use others::Shelved')}),
                 ('type that no declaration knows: u128', {'capi': capi.replace('name: usize', 'name: u128')}),
                 ('pointer to one number', {'capi': capi.replace('name: usize', 'name: &u64')}),
                 ('not marked', {'capi': capi.replace('#[no_mangle]\npub extern "C" fn mixegorta_sum', 'pub extern "C" fn mixegorta_sum')}),
@@ -254,7 +254,7 @@ class Differences(unittest.TestCase):
 
     def test_limits(self):
         for old, new in (('#define MIXEGORTA_MAX_STEPS 60', '#define MIXEGORTA_MAX_STEPS 61'), ('#define MIXEGORTA_MAX_FLOW', '#define MIXEGORTA_FLOW'),
-                         ('#define MIXEGORTA_ONE', '#define MIXEGORTA_MAX_BANDS 40\n#define MIXEGORTA_ONE')):
+                         ('#define MIXEGORTA_ONE', '#define MIXEGORTA_MAX_OTHERS 40\n#define MIXEGORTA_ONE')):
             self.assertEqual(len(list(declarations.different_limits(self.limits, self.changed(old, new)))), 1, new)
         steps = next(limit for limit in self.limits if limit.name == 'MAX_STEPS')
         for place in ('limits/src/lib.rt const MOST_REVERSION: u64 = {};', 'limits/src/lib.rt const NO_SUCH: u64 = {};'):

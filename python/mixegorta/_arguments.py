@@ -85,6 +85,11 @@ def amounts(name: str, values: Iterable[Amount]) -> Slice:
     return _lent(name, "Q", values) or _copied(name, "Q", values, amount)
 
 
+def numbers(name: str, values: Iterable[int]) -> Slice:
+    """A slice of whole numbers that is only read."""
+    return _lent(name, "Q", values) or _copied(name, "Q", values, u64)
+
+
 def dates(name: str, values: Iterable[int]) -> Slice:
     """A slice of rows of 8 bits that is only read."""
     return _lent(name, "B", values) or _copied(name, "B", values, _u8)

@@ -89,6 +89,18 @@ class CShelved(ctypes.Structure):
     _fields_ = [("number", U64), ("shelf", CShelf)]
 
 
+class CVerdict(ctypes.Structure):
+    """The answer to a table: 0 where it is accepted, else the number of the refusal, with the first failing pair (17 in no band, 18 in two or more) or the place of the first bad band, counted from 1 (16; 41 where only the number of bands is wrong)."""
+
+    _fields_ = [("number", U64), ("row", U64), ("price", U64), ("place", U64)]
+
+
+class CWorth(ctypes.Structure):
+    """The lending worth, 0 where it is refused, and the verdict."""
+
+    _fields_ = [("worth", U64), ("verdict", CVerdict)]
+
+
 # each exported function with its result and its parameters
 DECLARATIONS: Dict[str, Tuple[Any, Dict[str, Any]]] = {
     "version": (U64, {}),
@@ -173,5 +185,13 @@ DECLARATIONS: Dict[str, Tuple[Any, Dict[str, Any]]] = {
     "shelf_option_strip_of_kind": (CStrip, {
         "shelf": CShelf, "memory": PointerTo(U64 * 3600), "name": SIZE, "flows": SliceOf(U64), "kind": U64, "expiry": SIZE,
         "strikes": SliceOf(U64),
+    }),
+    "check_bands": (CVerdict, {
+        "first_rows": SliceOf(U64), "last_rows": SliceOf(U64), "lowest_prices": SliceOf(U64), "highest_prices": SliceOf(U64),
+        "haircuts": SliceOf(U64),
+    }),
+    "lending_worth": (CWorth, {
+        "first_rows": SliceOf(U64), "last_rows": SliceOf(U64), "lowest_prices": SliceOf(U64), "highest_prices": SliceOf(U64),
+        "haircuts": SliceOf(U64), "row": U64, "price": U64,
     }),
 }

@@ -32,15 +32,20 @@ def call(name: str, *given: Any) -> Any:
     return (UNLOCKED if memories and not any(memories) else LOCKED)[name](*_flat(given))
 
 
-def refusal(number: int, name: str, given: Tuple[Any, ...]) -> Refused:
-    """The exception for a refused call."""
-    return CLASSES.get(number, Refused)(number, *_place(number, dict(zip(DECLARATIONS[name][1], given))))
+def refusal(number: int, name: str, given: Tuple[Any, ...], verdict: Any = None) -> Refused:
+    """The exception for a refused call; of 16 to 18 the verdict shows what is wrong."""
+    kind = CLASSES.get(number, Refused)
+    if number == 16:
+        return kind(number, "bands", place=verdict.place)
+    if number in (17, 18):
+        return kind(number, "bands", verdict.row, verdict.price)
+    return kind(number, *_place(number, dict(zip(DECLARATIONS[name][1], given))))
 
 
-def accepted(number: int, name: str, given: Tuple[Any, ...]) -> None:
+def accepted(number: int, name: str, given: Tuple[Any, ...], verdict: Any = None) -> None:
     """Raises the refusal of a call, where its number is one."""
     if number:
-        refused = refusal(number, name, given)
+        refused = refusal(number, name, given, verdict)
         # whoever handles it may resize what was lent, though the traceback still holds this call
         for argument in given:
             if isinstance(argument, Slice) and argument.lent:
@@ -94,9 +99,17 @@ def _needed(name: str, given: Given) -> int:
     return int(call(name, given["steps"], reversion).value)
 
 
+def _not_a_table(given: Given) -> str:
+    """The first list that has not as many numbers as the first rows; else the row."""
+    lists = "last_rows", "lowest_prices", "highest_prices", "haircuts"
+    return next((name for name in lists if given[name].count != given["first_rows"].count), "row")
+
+
 def _not_in_tree(given: Given) -> Place:
     if "strikes" in given:
         return "strikes", None
+    if "haircuts" in given:
+        return _not_a_table(given), None
     if "point" in given:
         return "point", given["point"].row
     if "rows" in given and (place := _misplaced(given)):
@@ -189,6 +202,8 @@ def _option_terms(given: Given) -> Place:
 
 
 def _value(given: Given) -> Place:
+    if "haircuts" in given:
+        return "price", None
     if "flows" in given:
         bond = call("bond_price", *(given[name] for name in ("steps", "reversion", "discounts", "flows")))
         return "flows" if bond.number == 12 else "strike", None

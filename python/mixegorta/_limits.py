@@ -2,8 +2,8 @@
 
 __all__ = [
     "ONE", "PROBABILITY_ONE", "MAX_STEPS", "MAX_NODES", "MAX_DISCOUNTS", "MAX_STATE_PRICES", "MAX_STRIKES", "MAX_NAME", "SHELF_ROOM",
-    "MAX_JOB", "SHEET_ROOM", "MAX_REVERSION", "MAX_VOLATILITY", "MIN_QUOTE_DISCOUNT", "MAX_QUOTE_DISCOUNT", "MAX_NODE_DISCOUNT", "MAX_FLOW",
-    "MAX_STRIKE", "MAX_VALUE", "MAX_STATE_PRICE_SUM",
+    "MAX_BANDS", "MAX_HAIRCUT", "MAX_JOB", "SHEET_ROOM", "MAX_REVERSION", "MAX_VOLATILITY", "MIN_QUOTE_DISCOUNT", "MAX_QUOTE_DISCOUNT",
+    "MAX_NODE_DISCOUNT", "MAX_FLOW", "MAX_STRIKE", "MAX_VALUE", "MAX_STATE_PRICE_SUM",
 ]
 
 # billionths in one
@@ -24,6 +24,10 @@ MAX_STRIKES = 16
 MAX_NAME = 8
 # numbers in the memory of a shelf, which are the nodes that it has for all its trees
 SHELF_ROOM = 3_600
+# the most bands of a table of haircuts
+MAX_BANDS = 40
+# the largest haircut of a band, in ten-thousandths: all of a price
+MAX_HAIRCUT = 10_000
 # the longest job in bytes
 MAX_JOB = 4_700
 # room for the sheet of every job in bytes

@@ -5,7 +5,7 @@ from typing import Dict, Optional, Type
 __all__ = [
     "CAUSES", "Refused", "MalformedJob", "UnknownFrequency", "StepsOutOfRange", "ReversionTooLarge", "VolatilityTooLarge", "NotInTree",
     "QuoteOutOfRange", "NodesTooFarApart", "NodeDiscountOutOfRange", "FlowTooLarge", "OptionTermsOutOfRange", "ValueTooLarge",
-    "ExerciseDatesOutOfOrder", "ShelfFull", "WrongName",
+    "ExerciseDatesOutOfOrder", "ShelfFull", "WrongName", "BadBand", "PairInNoBand", "PairInSeveralBands",
 ]
 
 CAUSES: Dict[int, str] = {
@@ -24,6 +24,9 @@ CAUSES: Dict[int, str] = {
     13: "the exercise dates are none, not strictly rising, or reach the last row",
     14: "the asked nodes and those held are more than 3,600",
     15: "the name is outside 1 to 8, already present at asking, not awaiting a commit at commit, or absent at release or pricing",
+    16: "a band has an end before its start, or a haircut, start or end out of range, or there are more than 40 bands",
+    17: "a row and a price are in no band",
+    18: "a row and a price are in two or more bands",
 }
 # ---- end
 
@@ -31,24 +34,30 @@ CAUSES: Dict[int, str] = {
 class Refused(ValueError):
     """A refusal of the engine.
 
-    number is the engine's. argument names the argument at fault. row is the row of the quote or flow at fault, or of the lent
-    discount; it is None where none of these is.
+    number is the engine's. argument names the argument at fault. row is the row of the quote or flow at fault, of the lent
+    discount, or of the pair that haircut bands fail; price is that pair's price in billionths, and place that of a bad band, counted
+    from 1. Each is None where there is no such thing.
     """
 
     number: int
     argument: Optional[str]
     row: Optional[int]
+    price: Optional[int]
+    place: Optional[int]
 
-    def __init__(self, number: int, argument: Optional[str] = None, row: Optional[int] = None) -> None:
-        super().__init__(number, argument, row)
-        self.number, self.argument, self.row = number, argument, row
+    def __init__(self, number: int, argument: Optional[str] = None, row: Optional[int] = None, price: Optional[int] = None,
+                 place: Optional[int] = None) -> None:
+        super().__init__(number, argument, row, price, place)
+        self.number, self.argument, self.row, self.price, self.place = number, argument, row, price, place
 
     def __str__(self) -> str:
-        place = ", ".join(([self.argument] if self.argument else []) + ([f"row {self.row}"] if self.row is not None else []))
-        return f"refused {self.number}: {CAUSES.get(self.number, 'not listed')}" + (f" ({place})" if place else "")
+        shown = [f"{word} {value}" for word, value in (("row", self.row), ("price", self.price), ("band", self.place)) if value is not None]
+        told = ", ".join(([self.argument] if self.argument else []) + shown)
+        return f"refused {self.number}: {CAUSES.get(self.number, 'not listed')}" + (f" ({told})" if told else "")
 
     def __repr__(self) -> str:
-        return f"{type(self).__name__}(number={self.number}, argument={self.argument!r}, row={self.row})"
+        more = "".join(f", {word}={value}" for word, value in (("price", self.price), ("place", self.place)) if value is not None)
+        return f"{type(self).__name__}(number={self.number}, argument={self.argument!r}, row={self.row}{more})"
 
 
 # ---- begin: written by tools/declarations.py
@@ -112,9 +121,22 @@ class WrongName(Refused):
     """15: the name is outside 1 to 8, already present at asking, not awaiting a commit at commit, or absent at release or pricing."""
 
 
+class BadBand(Refused):
+    """16: a band has an end before its start, or a haircut, start or end out of range, or there are more than 40 bands. place is that of
+    the first bad band, counted from 1, or MAX_BANDS + 1 where only the number of bands is wrong."""
+
+
+class PairInNoBand(Refused):
+    """17: a row and a price are in no band. row and price are the first such pair, by row and then price."""
+
+
+class PairInSeveralBands(Refused):
+    """18: a row and a price are in two or more bands. row and price are the first such pair, by row and then price."""
+
+
 CLASSES: Dict[int, Type[Refused]] = {
     1: MalformedJob, 2: UnknownFrequency, 3: StepsOutOfRange, 4: ReversionTooLarge, 5: VolatilityTooLarge, 6: NotInTree, 7: QuoteOutOfRange,
     8: NodesTooFarApart, 9: NodeDiscountOutOfRange, 10: FlowTooLarge, 11: OptionTermsOutOfRange, 12: ValueTooLarge,
-    13: ExerciseDatesOutOfOrder, 14: ShelfFull, 15: WrongName,
+    13: ExerciseDatesOutOfOrder, 14: ShelfFull, 15: WrongName, 16: BadBand, 17: PairInNoBand, 18: PairInSeveralBands,
 }
 # ---- end

@@ -39,6 +39,12 @@ def shelf(*slots, discount=ONE):
     return {"shelf": CShelf((CSlot * 8)(*(CSlot(*slot) for slot in slots))), "memory": memory}
 
 
+def bands(*table):
+    """The lists of a table of bands."""
+    names = "first_rows", "last_rows", "lowest_prices", "highest_prices", "haircuts"
+    return dict(zip(names, (amounts(name, column) for name, column in zip(names, zip(*table)))))
+
+
 ROW, SIZE = {"reversion": 0, "row": 0}, {"steps": 2, "reversion": 0}
 CURVE = {"frequency": 1, "steps": 2, **columns(2), "discounts": own_memory(4)}
 FIT = {**CURVE, "reversion": 0, "volatility": 0, "state_prices": own_memory(9)}
@@ -61,6 +67,8 @@ SHELF_BOND = {**shelf(FITTED), "name": 1, **flows(0, ONE)}
 SHELF_BONDS = {6: flows(ONE), 9: shelf(AWAITING, discount=0), 10: BONDS[10], 12: {**shelf((2, 5, 0)), **flows(*[2 * ONE] * 5)}, 15: {"name": 2}}
 SHELF_KIND, SHELF_LISTED = ({**SHELF_BOND, **{name: terms[name] for name in terms if name not in BOND}} for terms in (KIND, LISTED))
 SHELF_KINDS, SHELF_LISTS = {**SHELF_BONDS, 11: KINDS[11]}, {**SHELF_BONDS, 11: LISTS[11], 13: LISTS[13]}
+WHOLE = 1, 60, 0, 8 * ONE, 250
+TABLES = {6: {"haircuts": amounts("haircuts", [1, 2])}, 16: bands((0, *WHOLE[1:])), 17: bands((2, *WHOLE[1:])), 18: bands(WHOLE, WHOLE)}
 
 # for each function what it takes, and for each refusal what is changed
 CASES = {
@@ -88,6 +96,8 @@ CASES = {
     "shelf_bond_price": (SHELF_BOND, SHELF_BONDS), "shelf_option_price": (SHELF_KIND, SHELF_KINDS), "shelf_bond_and_option": (SHELF_KIND, SHELF_KINDS),
     "shelf_dated_option_price": (SHELF_LISTED, SHELF_LISTS), "shelf_bond_and_dated_option": (SHELF_LISTED, SHELF_LISTS),
     "shelf_option_strip": ({**SHELF_LISTED, **STRIKES}, SHELF_LISTS), "shelf_option_strip_of_kind": ({**SHELF_KIND, **STRIKES}, SHELF_KINDS),
+    "check_bands": (bands(WHOLE), TABLES),
+    "lending_worth": ({**bands(WHOLE), "row": 1, "price": ONE}, {**TABLES, 6: {"row": 61}, 12: {"price": 8 * ONE + 1}}),
     "sheet": ({**job(), "out": own_memory(SHEET_ROOM, "B")}, {
         1: job(option=b"\x08"), 2: job(frequency=3), 3: job(steps=61), 4: job(reversion=6001), 5: job(volatility=50001), 6: {"out": own_memory(9, "B")},
         7: job(figure=11.0), 8: job(steps=13, volatility=50000), 9: job(figure=1.2), 10: job(flow=2 * ONE + 1), 11: job(kind=5),
@@ -98,7 +108,7 @@ CASES = {
 def number(name, given):
     """The number that a call gives: its last price's where it answers two, its own or its first price's where it answers a strip."""
     answer = call(name, *(given[parameter] for parameter in DECLARATIONS[name][1]))
-    answer = getattr(answer, "option", answer)
+    answer = getattr(answer, "verdict", getattr(answer, "option", answer))
     return getattr(answer, "number", answer) or getattr(answer, "numbers", [0])[0]
 
 

@@ -152,8 +152,31 @@ def shelf_strip(method):
     return lambda slots, memory, *given: strip(getattr(shelf_with(slots, memory), method))(*given)
 
 
+def shown(refused):
+    """Number, row, price and place of what haircut bands answer."""
+    return [0, 0, 0, 0] if refused is None else [refused.number, refused.row or 0, refused.price or 0, refused.place or 0]
+
+
+def caught(function, *given):
+    """What a call answers, and what it raises."""
+    try:
+        return function(*given), None
+    except m.Refused as refused:
+        return 0, refused
+
+
+def check_bands(*given):
+    return shown(caught(m.check_bands, *given)[1])
+
+
+def lending_worth(*given):
+    worth, refused = caught(m.lending_worth, *given)
+    return [worth, *shown(refused)]
+
+
 LISTS_OF_QUOTES = "curve_discounts", "fit", "fit_version", "shelf_commit"
-CALLS = {"quote_discount": quote_discount, "curve_discounts": curve_discounts, "fit": fit, "fit_version": fit_version, "row_range": row_range,
+CALLS = {"check_bands": check_bands, "lending_worth": lending_worth,
+         "quote_discount": quote_discount, "curve_discounts": curve_discounts, "fit": fit, "fit_version": fit_version, "row_range": row_range,
          "tree_bounds": tree_bounds, "bond_and_option": both(m.bond_and_option), "bond_and_dated_option": both(m.bond_and_dated_option),
          "shelf_part": shelf_part, "shelf_ask": shelf_ask, "shelf_commit": shelf_commit, "shelf_release": shelf_release}
 for name in ("bond_price", "option_price", "dated_option_price"):

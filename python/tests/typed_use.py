@@ -36,6 +36,11 @@ strip: m.Strip = tree.option_strip([0, m.ONE], m.CALL, b"\0\1", ["0.95", Decimal
 same_bound = same_bound and strip == [dated] * 3 == shelf.option_strip(1, [0, m.ONE], m.CALL, [0, 1], array("Q", [950_000_000] * 3))
 by_kind: m.Strip = m.option_strip_of_kind(2, 0, copied, [0, m.ONE], m.EUROPEAN_CALL, 1, ("0.95",))
 same_bound = same_bound and by_kind == [option] == shelf.option_strip_of_kind(1, [0, m.ONE], m.EUROPEAN_CALL, 1, ["0.95"])
+table: m.Bands = m.Bands([m.Band(1, 20, 0, m.MAX_VALUE, 250), (21, 60, "0", Decimal(8), 800)])
+wrong: Optional[m.Refused] = table.verdict()
+worth: int = table.worth(20, "1.00") + m.lending_worth([1], [60], ["0"], array("Q", [m.MAX_VALUE]), [0], 1, m.ONE)
+m.check_bands([1], [60], [0], [m.MAX_VALUE], range(1))
+place: Optional[int] = wrong.place if wrong is not None else None
 words: str = f"{both.option.argument} {both.option.row}" if isinstance(both.option, m.Refused) else f"{both.option.bound}"
 
 try:
@@ -66,4 +71,8 @@ try:
     m.Tree(1, 2, 1_000, 10_000, points, version="2")  # type: ignore[arg-type]
 except TypeError:
     pass
-print(bond == same == shelved and dated == same_option and fitted and same_bound and words.startswith("expiry"))
+try:
+    m.Bands([("1", 60, 0, m.MAX_VALUE, 250)])  # type: ignore[list-item]
+except TypeError:
+    pass
+print(place is None and worth == 1_975_000_000 and bond == same == shelved and dated == same_option and fitted and same_bound and words.startswith("expiry"))

@@ -2,8 +2,8 @@
 //!
 //! [`ONE`] is 1,000,000,000 billionths. Any arguments may be passed: each call gives its full answer or a [`Refusal`], and the engine
 //! itself judges every argument. Discounts stand row after row, lowest node first, for rows 0 to n - 1, state prices for rows 0 to n.
-//! A [`Tree`] is one fitted tree with memories of its own, a [`Shelf`] up to eight trees in one memory. [`Tree::fit_version`] takes a version: 2 has
-//! the model's own mean and variance of a step. [`Tree::option_strip`] prices up to 16 strikes of one option together.
+//! A [`Tree`] is one fitted tree with memories of its own, a [`Shelf`] up to eight trees in one memory, and [`Bands`] a table of haircuts. [`Tree::fit_version`]
+//! takes a version: 2 has the model's own mean and variance of a step. [`Tree::option_strip`] prices up to 16 strikes of one option together.
 //!
 //! ```
 //! use mixegorta::{Curve, OptionKind, OptionTerms, Quote, Tree, ONE};
@@ -23,6 +23,7 @@
 
 #![deny(missing_docs)]
 
+mod bands;
 mod limits;
 mod raw;
 mod refusals;
@@ -30,6 +31,7 @@ mod shapes;
 mod shelf;
 mod tree;
 
+pub use bands::{check_bands, lending_worth, Band, BandRefusal, Bands, Shown};
 pub use limits::*;
 pub use shelf::{Shelf, ShelvedTree};
 pub use tree::Tree;
@@ -42,7 +44,7 @@ use std::ops::Range;
 pub const VERSION: &str = env!("CARGO_PKG_VERSION");
 
 /// Why a call was refused: the engine's number, as `c/mixegorta.h` lists them. Where several apply the lowest is given, save that 13 is
-/// tried before 12 and, of a [`Shelf`], 15 before all others and 14 after 4.
+/// tried before 12 and, of a [`Shelf`], 15 before all others and 14 after 4. A [`BandRefusal`] shows more than its number.
 #[derive(Clone, Copy, Debug, PartialEq, Eq, PartialOrd, Ord, Hash)]
 pub struct Refusal(u64);
 

@@ -18,6 +18,10 @@ pub const MAX_STRIKES: usize = 16;
 pub const MAX_NAME: usize = 8;
 /// Numbers in the memory of a shelf, which are the nodes that it has for all its trees.
 pub const SHELF_ROOM: usize = 3_600;
+/// The most bands of a table of haircuts.
+pub const MAX_BANDS: usize = 40;
+/// The largest haircut of a band, in ten-thousandths: all of a price.
+pub const MAX_HAIRCUT: u64 = 10_000;
 /// The longest job in bytes.
 pub const MAX_JOB: usize = 4_700;
 /// Room for the sheet of every job in bytes.

@@ -121,6 +121,25 @@ pub struct Shelved {
     pub shelf: Shelf,
 }
 
+/// The answer to a table: 0 where it is accepted, else the number of the refusal, with the first failing pair (17 in no band, 18
+/// in two or more) or the place of the first bad band, counted from 1 (16; 41 where only the number of bands is wrong).
+#[repr(C)]
+#[derive(Clone, Copy)]
+pub struct Verdict {
+    pub number: u64,
+    pub row: u64,
+    pub price: u64,
+    pub place: u64,
+}
+
+/// The lending worth, 0 where it is refused, and the verdict.
+#[repr(C)]
+#[derive(Clone, Copy)]
+pub struct Worth {
+    pub worth: u64,
+    pub verdict: Verdict,
+}
+
 extern "C" {
     pub fn mixegorta_version() -> u64;
     pub fn mixegorta_half_width(reversion: u64, row: usize) -> Answer;
@@ -398,4 +417,30 @@ extern "C" {
         strikes: *const u64,
         strikes_len: usize,
     ) -> Strip;
+    pub fn mixegorta_check_bands(
+        first_rows: *const u64,
+        first_rows_len: usize,
+        last_rows: *const u64,
+        last_rows_len: usize,
+        lowest_prices: *const u64,
+        lowest_prices_len: usize,
+        highest_prices: *const u64,
+        highest_prices_len: usize,
+        haircuts: *const u64,
+        haircuts_len: usize,
+    ) -> Verdict;
+    pub fn mixegorta_lending_worth(
+        first_rows: *const u64,
+        first_rows_len: usize,
+        last_rows: *const u64,
+        last_rows_len: usize,
+        lowest_prices: *const u64,
+        lowest_prices_len: usize,
+        highest_prices: *const u64,
+        highest_prices_len: usize,
+        haircuts: *const u64,
+        haircuts_len: usize,
+        row: u64,
+        price: u64,
+    ) -> Worth;
 }

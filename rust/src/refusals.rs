@@ -33,8 +33,14 @@ impl Refusal {
     pub const NODES: Refusal = Refusal(14);
     /// The name is outside 1 to 8, already present at asking, not awaiting a commit at commit, or absent at release or pricing.
     pub const NAME: Refusal = Refusal(15);
+    /// A band has an end before its start, or a haircut, start or end out of range, or there are more than 40 bands.
+    pub const BAND: Refusal = Refusal(16);
+    /// A row and a price are in no band.
+    pub const NO_BAND: Refusal = Refusal(17);
+    /// A row and a price are in two or more bands.
+    pub const SEVERAL_BANDS: Refusal = Refusal(18);
     /// Every listed refusal, by number.
-    pub const LISTED: [Refusal; 15] = [
+    pub const LISTED: [Refusal; 18] = [
         Refusal::JOB,
         Refusal::FREQUENCY,
         Refusal::STEPS,
@@ -50,11 +56,14 @@ impl Refusal {
         Refusal::DATES,
         Refusal::NODES,
         Refusal::NAME,
+        Refusal::BAND,
+        Refusal::NO_BAND,
+        Refusal::SEVERAL_BANDS,
     ];
 }
 
 /// What each of them says, in the same order.
-pub(crate) const CAUSES: [&str; 15] = [
+pub(crate) const CAUSES: [&str; 18] = [
     "the job is malformed or longer than 4,700 bytes",
     "the steps a year are not 1, 2, 4 or 12",
     "the steps are outside 1 to 60",
@@ -70,4 +79,7 @@ pub(crate) const CAUSES: [&str; 15] = [
     "the exercise dates are none, not strictly rising, or reach the last row",
     "the asked nodes and those held are more than 3,600",
     "the name is outside 1 to 8, already present at asking, not awaiting a commit at commit, or absent at release or pricing",
+    "a band has an end before its start, or a haircut, start or end out of range, or there are more than 40 bands",
+    "a row and a price are in no band",
+    "a row and a price are in two or more bands",
 ];

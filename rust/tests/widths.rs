@@ -155,6 +155,32 @@ fn strip(found: Result<Strip, Refusal>) -> Vec<u64> {
     [vec![0], columns.concat()].concat()
 }
 
+/// What is said of a table of bands, in the order of the archive's fields.
+fn verdict(found: Result<(), BandRefusal>) -> [u64; 4] {
+    let Err(BandRefusal { refusal, shown }) = found else {
+        return [0; 4];
+    };
+    let (row, price, place) = match shown {
+        Shown::Nothing => (0, 0, 0),
+        Shown::Place(place) => (0, 0, place),
+        Shown::Pair { row, price } => (row, price, 0),
+    };
+    [refusal.number(), row, price, place]
+}
+
+fn checked(g: &Given) -> Vec<u64> {
+    let [firsts, lasts, lowest, highest, haircuts] = [0, 1, 2, 3, 4].map(|k| g.list(k));
+    verdict(check_bands(firsts, lasts, lowest, highest, haircuts)).to_vec()
+}
+
+fn lent(g: &Given) -> Vec<u64> {
+    let [firsts, lasts, lowest, highest, haircuts] = [0, 1, 2, 3, 4].map(|k| g.list(k));
+    let (row, price) = (g.number(5), g.number(6));
+    let found = lending_worth(firsts, lasts, lowest, highest, haircuts, row, price);
+    let fields = verdict(found.map(|_| ()));
+    [vec![found.unwrap_or(0)], fields.to_vec()].concat()
+}
+
 /// The number of a call that writes, and what it wrote; everything else of its memories must be as it was.
 fn written(found: Result<(), Refusal>, memories: &[(&[u64], usize)]) -> Vec<u64> {
     let mut answer = vec![found.map_or_else(|refusal| refusal.number(), |_| 0)];
@@ -260,6 +286,8 @@ fn shape_or_fit(name: &str, g: &Given) -> Option<Vec<u64>> {
             let (steps, reversion) = (g.size(0), g.number(1));
             Some(one(price_error_bound(steps, reversion, g.list(2))))
         }
+        "check_bands" => Some(checked(g)),
+        "lending_worth" => Some(lent(g)),
         "tree_bounds" => Some(bounds(tree_bounds(g.size(0), g.number(1), g.list(2)))),
         "state_price_error_bound" => Some(one(state_price_error_bound(
             g.size(0),
@@ -458,7 +486,7 @@ fn numbers_past_a_width() {
             *called.entry(name).or_default() += 1;
         }
     }
-    assert_eq!(called.len(), 37, "{called:?}");
+    assert_eq!(called.len(), 39, "{called:?}");
     assert!(called.values().all(|lines| *lines > 3), "{called:?}");
 }
 

@@ -38,10 +38,14 @@ ghost use Rattle.shelf_laws.specs.Shelf.{
 };
 ghost use Rattle.shelf_prices.specs.ShelfPrices.{shelfBond, shelfOption, shelfDated, shelfBondAndOption, shelfBondAndDated};
 ghost use Rattle.shelf_prices.specs.ShelfPrices.{shelfDatedStrip, shelfKindStrip};
+ghost use Rattle.bands.specs.Bands.{verdict};
+ghost use Rattle.lending.specs.Lending.{lendingWorth};
 ghost use Rattle.capi.specs.Version.{version};
 use arithmetic::Answer;
+use bands::Verdict;
 use job_sheet::Written;
 use lattice::Branches;
+use lending::Worth;
 use price_bound::TreeErrorBounds;
 use price_laws::BondAndOption;
 use price_laws::Price;
@@ -58,7 +62,7 @@ use step_rate::Rate;
 pub extern "C" fn mixegorta_version() -> u64
     ensures { λ r. ⌜ r ≡ version ⌝ }
 {
-    10_000
+    11_000
 }
 
 // ---- the shape of a tree
@@ -575,4 +579,50 @@ pub extern "C" fn mixegorta_shelf_option_strip_of_kind(
     ensures { λ r. ⌜ r ≡ shelfKindStrip (shelf .slots) (now (memory .entry)) name (now (flows .entry)) kind expiry (now (strikes .entry)) ⌝ }
 {
     shelf_prices::option_strip_of_kind(shelf, memory, name, flows, kind, expiry, strikes)
+}
+
+// ---- haircut bands
+
+#[no_mangle]
+pub extern "C" fn mixegorta_check_bands(
+    first_rows: &[u64],
+    last_rows: &[u64],
+    lowest_prices: &[u64],
+    highest_prices: &[u64],
+    haircuts: &[u64],
+) -> Verdict
+    ensures { λ r. ⌜ r ≡ verdict (now («first_rows» .entry)) (now («last_rows» .entry)) (now («lowest_prices» .entry))
+        (now («highest_prices» .entry)) (now (haircuts .entry)) ⌝ }
+{
+    bands::check_bands(
+        first_rows,
+        last_rows,
+        lowest_prices,
+        highest_prices,
+        haircuts,
+    )
+}
+
+#[no_mangle]
+pub extern "C" fn mixegorta_lending_worth(
+    first_rows: &[u64],
+    last_rows: &[u64],
+    lowest_prices: &[u64],
+    highest_prices: &[u64],
+    haircuts: &[u64],
+    row: u64,
+    price: u64,
+) -> Worth
+    ensures { λ r. ⌜ r ≡ lendingWorth (now («first_rows» .entry)) (now («last_rows» .entry)) (now («lowest_prices» .entry))
+        (now («highest_prices» .entry)) (now (haircuts .entry)) row price ⌝ }
+{
+    lending::lending_worth(
+        first_rows,
+        last_rows,
+        lowest_prices,
+        highest_prices,
+        haircuts,
+        row,
+        price,
+    )
 }

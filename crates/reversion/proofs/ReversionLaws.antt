@@ -63,7 +63,12 @@ exact-one = refl
 pub exact-least : (b : ℕ) → 1 ≤ b → b ≤ mostReversion → 1 ≤ exactReversion b
 exact-least b h l = omega (arith, exact-one, exact-rises 1 b h l)
 
--- by version: what holds of version 2's for b within its limit, and of b itself, holds of the working reversion
+-- by version
+pub working-first : (b : ℕ) → workingReversion 1 b ≡ b
+unfolding workingReversion
+working-first b = refl
+
+-- what holds of version 2's for b within its limit, and of b itself, holds of the working reversion
 by-working :
     (version b : ℕ) (P : ℕ → Type 0) → (version ≡ 2 → b ≤ mostReversion → P (exactReversion b)) → P b → P (workingReversion version b)
 unfolding workingReversion
@@ -73,10 +78,6 @@ by-working version b P f g =
     (λ h. rw (eq-eqb version 2 e, le-leb b mostReversion h) (f e h))
     (λ h. rw (eq-eqb version 2 e, lt-leb b mostReversion h) g))
     (λ ne. rw (ne-eqb version 2 ne) g)
-
-pub working-first : (b : ℕ) → workingReversion 1 b ≡ b
-unfolding workingReversion
-working-first b = refl
 
 pub working-second : (version b : ℕ) → version ≡ 2 → b ≤ mostReversion → workingReversion version b ≡ exactReversion b
 unfolding workingReversion

@@ -1,0 +1,1 @@
+// No code: what the entries of haircut bands promise, over the definitions that their contracts cite.

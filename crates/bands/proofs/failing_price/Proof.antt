@@ -1,0 +1,50 @@
+-- `bands::failing_price` meets its contract: the walk from stop to stop leaves out no failing price.
+-- Assumes nothing.
+use mathlib.Core.Path.{_≡_}
+use Prim.Native.Nat.{_-_}
+use borrow.Author.Needs.{needs}
+use native.Mathlib.Omega.{arith}
+use Rattle.bands.specs.Bands.{bandsOf, failing, failingPrice}
+use Rattle.bands.proofs.FirstLaws.{Searched, searched-start, searched-jump, searched-found, searched-none}
+use Rattle.bands.proofs.TestLaws.{stop-fails, stop-passes}
+use Rattle.bands.proofs.failing_price.Statement.{statement}
+use Rattle.bands.proofs.failing_price.Tie as tie
+
+abbrev Inv-loop : tie.InvT-loop
+Inv-loop firsts lasts lowests highests row price₀ price = Searched (failing (bandsOf firsts lasts lowests highests) row) 0 8000000001 price
+
+abbrev μ-loop : tie.MeasureT-loop
+μ-loop firsts lasts lowests highests row price₀ price = 8000000001 - price
+
+loop-holds : tie.Need-loop-holds Inv-loop μ-loop
+loop-holds c = searched-start _ _ _ (omega arith)
+
+stop-at-requires : tie.Need-stop-at-requires Inv-loop μ-loop
+stop-at-requires c κs = search needs
+
+returns : tie.Need-returns Inv-loop μ-loop
+unfolding failingPrice
+returns c =
+    searched-found _ _ _ (c .before .before .before .loop .price) (c .before .before .before .loop .inv) (omega arith)
+    (stop-fails _ _ _ _ _ (c .before .stop-at .ensures) (c .if1 .taken))
+
+loop-less : tie.Need-loop-less Inv-loop μ-loop
+loop-less c = omega (arith, c .before .stop-at .ensures .further)
+
+loop-again : tie.Need-loop-again Inv-loop μ-loop
+loop-again c =
+    let stop = c .before .stop-at .ensures in
+    searched-jump _ _ _ _ _ (c .before .before .before .loop .inv) (omega (arith, stop .further)) (stop .most)
+    (stop-passes _ _ _ _ _ stop (c .if1 .left))
+
+returns-2 : tie.Need-returns-2 Inv-loop μ-loop
+unfolding failingPrice
+returns-2 c =
+    let a = c .before .before .before .before .before .before .args in
+    let end : c .before .loop .price ≡ 8000000001 = omega (arith, c .before .loop .inv .most) in
+    searched-none _ _ _ (rw end at (c .before .loop .inv))
+
+pub failing-price-spec : {M : Type 1} → statement M
+failing-price-spec =
+    tie.close
+    (tie.spec Inv-loop μ-loop loop-holds stop-at-requires returns loop-less loop-again returns-2)

@@ -1,0 +1,60 @@
+-- `bands::failing_row` meets its contract.
+-- Assumes nothing.
+use mathlib.Core.Path.{_≡_, _∙_}
+use Prim.Native.Nat.{_-_}
+use borrow.Author.Needs.{needs}
+use native.Mathlib.Omega.{arith}
+use Rattle.bands.specs.Bands.{bandsOf, fails, failingRow}
+use Rattle.bands.proofs.FirstLaws.{Searched, searched-start, searched-more, searched-found, searched-none}
+use Rattle.bands.proofs.TestLaws.{fails-false, fails-true}
+use Rattle.bands.proofs.failing_row.Statement.{statement}
+use Rattle.bands.proofs.failing_row.Tie as tie
+
+abbrev Inv-loop : tie.InvT-loop
+Inv-loop firsts lasts lowests highests row₀ row = Searched (fails (bandsOf firsts lasts lowests highests)) 1 61 row
+
+abbrev μ-loop : tie.MeasureT-loop
+μ-loop firsts lasts lowests highests row₀ row = 61 - row
+
+loop-holds : tie.Need-loop-holds Inv-loop μ-loop
+loop-holds c = searched-start _ _ _ (omega arith)
+
+failing-price-requires : tie.Need-failing-price-requires Inv-loop μ-loop
+failing-price-requires c κs = search needs
+
+returns : tie.Need-returns Inv-loop μ-loop
+unfolding failingRow
+returns c =
+    searched-found _ _ _ (c .before .before .before .loop .row) (c .before .before .before .loop .inv) (omega arith)
+    (fails-true _ _ (c .before .failing-price .result) (c .before .failing-price .ensures) (omega arith))
+
+add-row : tie.Need-add-row Inv-loop μ-loop
+add-row c = search needs
+
+loop-less : tie.Need-loop-less Inv-loop μ-loop
+loop-less c = search needs
+
+loop-again : tie.Need-loop-again Inv-loop μ-loop
+loop-again c =
+    searched-more _ _ _ (c .before .before .before .loop .row) (c .before .before .before .loop .inv) (omega arith)
+    (fails-false _ _ (c .before .failing-price .result) (c .before .failing-price .ensures) (omega arith))
+
+returns-2 : tie.Need-returns-2 Inv-loop μ-loop
+unfolding failingRow
+returns-2 c =
+    let end : c .before .loop .row ≡ 61 = omega (arith, c .before .loop .inv .most) in
+    end ∙ searched-none _ _ _ (rw end at (c .before .loop .inv))
+
+pub failing-row-spec : {M : Type 1} → statement M
+failing-row-spec =
+    tie.close
+    (tie.spec
+    Inv-loop
+    μ-loop
+    loop-holds
+    failing-price-requires
+    returns
+    add-row
+    loop-less
+    loop-again
+    returns-2)

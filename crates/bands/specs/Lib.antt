@@ -1,0 +1,5 @@
+pub mod Search
+pub mod Bands
+pub mod SoundBand
+pub mod Stops
+pub mod Judged

@@ -1,0 +1,2 @@
+pub mod LendingLaws
+pub mod Figures

@@ -1,0 +1,94 @@
+-- `lending::find_band` meets its contract.
+-- Assumes nothing.
+use mathlib.Core.Path.{_≡_, sym, _∙_}
+use Prim.Native.Nat.{_-_}
+use borrow.Author.Needs.{needs}
+use native.Mathlib.Omega.{arith}
+use lib.ListN.{length}
+use Rattle.bands.specs.Bands.{bandsOf, contains}
+use Rattle.lending.specs.Lending.{bandIndex}
+use Rattle.bands.proofs.FirstLaws.{Searched, searched-start, searched-more, searched-found, searched-none}
+use Rattle.lending.proofs.find_band.Statement.{statement}
+use Rattle.lending.proofs.find_band.Tie as tie
+
+abbrev Inv-loop : tie.InvT-loop
+Inv-loop firsts lasts lowests highests row price k₀ k = Searched (contains (bandsOf firsts lasts lowests highests) row price) 0 (length firsts) k
+
+abbrev μ-loop : tie.MeasureT-loop
+μ-loop firsts lasts lowests highests row price k₀ k = length firsts - k
+
+loop-holds : tie.Need-loop-holds Inv-loop μ-loop
+loop-holds c = searched-start _ _ _ (omega arith)
+
+mul-is-within : tie.Need-mul-is-within Inv-loop μ-loop
+mul-is-within c = search needs
+
+shared-slice-read-is-within : tie.Need-shared-slice-read-is-within Inv-loop μ-loop
+shared-slice-read-is-within c = search needs
+
+mul-is-within-2 : tie.Need-mul-is-within-2 Inv-loop μ-loop
+mul-is-within-2 c = search needs
+
+shared-slice-read-is-within-2 : tie.Need-shared-slice-read-is-within-2 Inv-loop μ-loop
+shared-slice-read-is-within-2 c = search needs
+
+mul-is-within-3 : tie.Need-mul-is-within-3 Inv-loop μ-loop
+mul-is-within-3 c = search needs
+
+shared-slice-read-is-within-3 : tie.Need-shared-slice-read-is-within-3 Inv-loop μ-loop
+shared-slice-read-is-within-3 c = search needs
+
+mul-is-within-4 : tie.Need-mul-is-within-4 Inv-loop μ-loop
+mul-is-within-4 c = search needs
+
+shared-slice-read-is-within-4 : tie.Need-shared-slice-read-is-within-4 Inv-loop μ-loop
+shared-slice-read-is-within-4 c = search needs
+
+is-within-requires : tie.Need-is-within-requires Inv-loop μ-loop
+is-within-requires c κs = search needs
+
+returns : tie.Need-returns Inv-loop μ-loop
+unfolding bandIndex
+returns c =
+    let loop = c .before .before .before .before .before .before .before .loop in
+    searched-found _ _ _ (loop .k) (loop .inv) (omega arith) (sym (c .before .is-within .ensures) ∙ c .if1 .taken)
+
+add-k : tie.Need-add-k Inv-loop μ-loop
+add-k c = search needs
+
+loop-less : tie.Need-loop-less Inv-loop μ-loop
+loop-less c = search needs
+
+loop-again : tie.Need-loop-again Inv-loop μ-loop
+loop-again c =
+    let loop = c .before .before .before .before .before .before .before .loop in
+    searched-more _ _ _ (loop .k) (loop .inv) (omega arith) (sym (c .before .is-within .ensures) ∙ c .if1 .left)
+
+returns-2 : tie.Need-returns-2 Inv-loop μ-loop
+unfolding bandIndex
+returns-2 c =
+    let s = c .before .before .before .before .before .before in
+    let end : c .before .loop .k ≡ length (s .args .firsts .now) = omega (arith, c .before .loop .inv .most) in
+    end ∙ searched-none _ _ _ (rw end at (c .before .loop .inv))
+
+pub find-band-spec : {M : Type 1} → statement M
+find-band-spec =
+    tie.close
+    (tie.spec
+    Inv-loop
+    μ-loop
+    loop-holds
+    mul-is-within
+    shared-slice-read-is-within
+    mul-is-within-2
+    shared-slice-read-is-within-2
+    mul-is-within-3
+    shared-slice-read-is-within-3
+    mul-is-within-4
+    shared-slice-read-is-within-4
+    is-within-requires
+    returns
+    add-k
+    loop-less
+    loop-again
+    returns-2)
