@@ -318,62 +318,33 @@ fn order_of_dates() {
     dated(5, 0, &level, &most, 0, &[1u8], 0);
 }
 
-// Strips of every number of strikes up to one too many.
-fn lengths(
+// A tree, and the side of the options on it.
+struct Sided {
     steps: usize,
     reversion: u64,
-    discounts: &[u64],
-    flows: &[u64],
     side: u64,
-    dates: &[u8],
-    strikes: &[u64],
-) {
+}
+
+fn strip_on(tree: Sided, discounts: &[u64], flows: &[u64], dates: &[u8], strikes: &[u64]) {
     strip(
-        steps,
-        reversion,
+        tree.steps,
+        tree.reversion,
         discounts,
         flows,
-        side,
+        tree.side,
         dates,
-        first(strikes, 0),
+        strikes,
     );
-    strip(
-        steps,
-        reversion,
-        discounts,
-        flows,
-        side,
-        dates,
-        first(strikes, 1),
-    );
-    strip(
-        steps,
-        reversion,
-        discounts,
-        flows,
-        side,
-        dates,
-        first(strikes, 2),
-    );
-    strip(
-        steps,
-        reversion,
-        discounts,
-        flows,
-        side,
-        dates,
-        first(strikes, 15),
-    );
-    strip(
-        steps,
-        reversion,
-        discounts,
-        flows,
-        side,
-        dates,
-        first(strikes, 16),
-    );
-    strip(steps, reversion, discounts, flows, side, dates, strikes);
+}
+
+// Strips of no strike, of one and two, of the most and one less, and of one too many.
+fn lengths(tree: Sided, discounts: &[u64], flows: &[u64], dates: &[u8], strikes: &[u64]) {
+    strip_on(tree, discounts, flows, dates, first(strikes, 0));
+    strip_on(tree, discounts, flows, dates, first(strikes, 1));
+    strip_on(tree, discounts, flows, dates, first(strikes, 2));
+    strip_on(tree, discounts, flows, dates, first(strikes, 15));
+    strip_on(tree, discounts, flows, dates, first(strikes, 16));
+    strip_on(tree, discounts, flows, dates, strikes);
 }
 
 // The strips of a tree: equal strikes and one above its limit are among them.
@@ -386,7 +357,12 @@ fn strips(steps: usize, reversion: u64, discounts: &[u64], all_flows: &[u64], si
     let mut every = [0u8; 60];
     fill_dates(&mut every, 0, 1);
     let dates = first_dates(&every, steps / 2 + 1);
-    lengths(steps, reversion, discounts, flows, side, dates, &strikes);
+    let tree = Sided {
+        steps,
+        reversion,
+        side,
+    };
+    lengths(tree, discounts, flows, dates, &strikes);
 }
 
 fn strips_of_trees(discounts: &[u64], flows: &[u64]) {

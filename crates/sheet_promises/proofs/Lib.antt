@@ -1,2 +1,3 @@
+pub mod JobMeantKept
 pub mod JobCausesKept
 pub mod SheetKept

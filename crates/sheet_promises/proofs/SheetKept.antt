@@ -48,6 +48,7 @@ use Rattle.sheet_laws.proofs.FittedLaws.{total-row}
 use Rattle.sheet_laws.proofs.Accepted.{AcceptedJob, sheet-accepted, job-accepted}
 use Rattle.promises.specs.Promises.{NoneAboveOne}
 use Rattle.promises.proofs.Kept.{promises-kept}
+use Rattle.sheet_promises.proofs.JobMeantKept.{job-meant}
 use Rattle.sheet_promises.proofs.JobCausesKept.{job-causes-kept}
 use Rattle.sheet_promises.specs.SheetPromises.{NodeShown, RowShown, exactTagged, SheetShown, SheetPromises, PricesPromised, AllPromises}
 
@@ -179,6 +180,8 @@ module _ (job : Job) (ds ps : ℕ) (known : AcceptedRecord job ds ps) where
   priced-whole number z =
       rw (eq-eqb number 0 z)
       (record {
+        bond-is = refl;
+        option-is = refl;
         bond-given = known .bond;
         bond-near = promises-kept .prices .bond-accurate (job .steps) (jobReversion job) (jobDiscounts job) (jobFlows job) (known .bond);
         bond-a-step = promises-kept .prices .bond-a-step (job .steps) (jobReversion job) (jobDiscounts job) (jobFlows job) (known .bond);
@@ -212,6 +215,7 @@ pub all-kept : AllPromises
 all-kept =
     record {
       engine = promises-kept;
+      meant = job-meant;
       records = record-kept;
       jobs = job-kept;
       sheets = λ bytes room z. (printed-whole bytes room z, sheet-kept bytes room z);

@@ -1,2 +1,3 @@
+pub mod JobMeant
 pub mod JobCauses
 pub mod SheetPromises

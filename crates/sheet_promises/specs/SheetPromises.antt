@@ -28,6 +28,7 @@ use Rattle.node_lines.specs.Rows.{nodeText}
 use Rattle.sheet_laws.specs.TreeSheet.{rowPart, nodeLines, rowLines, priceLines}
 use Rattle.sheet_laws.specs.WholeJob.{sheetNumber, sheetText, printedText}
 use Rattle.promises.specs.Promises.{Promises, Repriced, NoneAboveOne}
+use Rattle.sheet_promises.specs.JobMeant.{JobMeant}
 use Rattle.sheet_promises.specs.JobCauses.{JobCauses}
 
 -- the line of node k of row i: its discount and the step rate of that discount, whose sign in the bytes is a minus exactly where the discount
@@ -76,6 +77,8 @@ SheetPromises bytes = SheetShown (readingOf bytes .job) (sheetText bytes)
 -- demand 3 of a job's prices, from its record or its bytes: each within its bound of the exact price on the tree fitted to the job's quotes, which is
 -- what the call leaves in the lent memories, and at most 2 a step where no discount of that tree is above one
 pub record PricesPromised (job : Job) (prices : JobPrices) : Type 0 where
+  pub bond-is : prices .bond ≡ jobBond job
+  pub option-is : prices .option ≡ jobOption job
   pub bond-given : prices .bond .number ≡ 0
   pub bond-near :
       Within (prices .bond .bound) (unit ^ job .steps) (prices .bond .value) (exactBond (job .steps) (jobReversion job) (jobDiscounts job) (jobFlows job))
@@ -89,10 +92,11 @@ pub record PricesPromised (job : Job) (prices : JobPrices) : Type 0 where
   pub option-a-step :
       prices .«has_option» ≡ true → NoneAboveOne (job .steps) (jobReversion job) (jobDiscounts job) → prices .option .bound ≤ 2 * job .steps
 
--- All together, undivided: quotes, tree, prices, yields, versions and causes; the prices of a record and of a job's bytes, in lent memories of so many
--- numbers; the printed bytes of the sheet, in a lent room of so many bytes; and the number that each of these has.
+-- All together, undivided: quotes, tree, prices, yields, versions, strips and causes; what a record means; the prices of a record and of a job's bytes,
+-- in lent memories of so many numbers; the printed bytes of the sheet, in a lent room of so many bytes; and the number that each of these has.
 pub record AllPromises : Type 0 where
   pub engine : Promises
+  pub meant : (job : Job) → JobMeant job
   pub records : (job : Job) (discounts prices : ℕ) → recordPrices job discounts prices .number ≡ 0 →
       PricesPromised job (recordPrices job discounts prices)
   pub jobs : (bytes : List ℕ) (discounts prices : ℕ) → bytesPrices bytes discounts prices .number ≡ 0 →
