@@ -76,7 +76,7 @@ int plain_read_job(const uint8_t *bytes, size_t size, struct plain_job *job)
         r.bad |= job->version != 1 && job->version != 2;
     }
     for (size_t i = 0; i < job->steps && !r.bad; i++) {
-        job->kinds[i] = r.at < r.end && is_quote(*r.at) ? *r.at : 0;
+        r.bad = r.at == r.end || !is_quote(job->kinds[i] = *r.at);
         job->figures[i] = take(&r, job->kinds[i], 8);
     }
     for (size_t i = 0; i < job->steps && !r.bad; i++)
