@@ -25,7 +25,7 @@ ghost use Rattle.sheet_laws.specs.WholeJob.{sheetNumber, sheetText, sheetMemory
 ghost use Rattle.record_sheet.specs.Answers.{answerOf};
 ghost use Rattle.job_record.specs.Reader.{readingOf};
 ghost use Rattle.job_record.specs.Grammar.{ReadsAs};
-ghost use Rattle.job_writer.specs.Writer.{written, memoryAfter};
+ghost use Rattle.writer_laws.specs.Writer.{written, memoryAfter};
 ghost use Rattle.shelf_laws.specs.Shelf.{
   emptySlots,
   partOf,

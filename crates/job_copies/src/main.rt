@@ -28,19 +28,25 @@ fn copy(bytes: &[u8], room: &mut [u8]) {
     write_frame(&room[..size]);
 }
 
-// Copies the next job, and says whether there was one.
-fn copy_next(buffer: &mut [u8], room: &mut [u8]) -> bool {
-    let frame = frames::next_frame(buffer);
-    if frame.found {
-        copy(&buffer[..frame.size], room);
+// Copies the job at a place of the input, and answers the place behind it; 0 where there is none.
+fn copy_next(input: &[u8], at: usize, room: &mut [u8]) -> usize {
+    let frame = frames::frame_at(input, at);
+    if !frame.found {
+        return 0;
     }
-    frame.found
+    let start = frame.start;
+    let end = start + frame.size;
+    copy(&input[start..end], room);
+    end
 }
 
-fn copy_all(buffer: &mut [u8], room: &mut [u8]) {
-    let mut left = frames::MOST_FRAMES;
+// There are fewer frames than bytes.
+fn copy_all(input: &[u8], room: &mut [u8]) {
+    let mut at = 0usize;
+    let mut left = input.len();
     while 0 < left {
-        if !copy_next(buffer, room) {
+        at = copy_next(input, at, room);
+        if at == 0 {
             return;
         }
         left -= 1;
@@ -48,7 +54,8 @@ fn copy_all(buffer: &mut [u8], room: &mut [u8]) {
 }
 
 fn main() {
-    let mut buffer = io::large_buffer();
-    let mut room = io::large_buffer();
-    copy_all(&mut buffer, &mut room);
+    let mut input = frames::input_room();
+    let count = io::read_full(0, &mut input);
+    let mut room = [0u8; jobs::MOST_BYTES];
+    copy_all(&input[..count], &mut room);
 }

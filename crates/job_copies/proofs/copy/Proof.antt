@@ -5,7 +5,7 @@ use native.Mathlib.Omega.{arith}
 use mathlib.Core.Path.{sym}
 use denote.Ref.{now}
 use lib.ListN.{length, length-take}
-use Rattle.job_writer.proofs.RoundTrips.{answered-within}
+use Rattle.writer_laws.proofs.RoundTrips.{answered-within}
 use borrow.Author.Needs.{needs}
 use Rattle.job_copies.proofs.copy.Statement.{statement}
 use Rattle.job_copies.proofs.copy.Tie as tie

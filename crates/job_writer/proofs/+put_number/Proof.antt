@@ -5,7 +5,7 @@ use native.Mathlib.Omega.{arith}
 use Prim.Native.Nat.{_+_, _-_}
 use lib.ListN.{length-set}
 use denote.Ref.{now}
-use Rattle.job_writer.proofs.PutLaws.{number-none, number-last}
+use Rattle.writer_laws.proofs.PutLaws.{number-none, number-last}
 use Prim.Native.Nat.{ℕ, _<_}
 use borrow.Fn.Kinds.{In}
 use borrow.Fn.PlainCycle.{Measures, is, falls, and}

@@ -1,7 +1,7 @@
 -- `job_writer::job_size` meets its contract.
 -- Assumes nothing.
 use native.Mathlib.Omega.{arith}
-use Rattle.job_writer.proofs.SizeLaws.{option-size-few}
+use Rattle.writer_laws.proofs.SizeLaws.{option-size-few}
 use borrow.Author.Needs.{needs}
 use Rattle.job_writer.proofs.job_size.Statement.{statement}
 use Rattle.job_writer.proofs.job_size.Tie as tie

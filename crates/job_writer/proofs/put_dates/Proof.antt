@@ -6,7 +6,7 @@ use Prim.Native.Nat.{_-_, _≤_}
 use lib.ListN.{length, take, length-set}
 use lib.Seq.{take-all}
 use Rattle.arithmetic.specs.Row.{place}
-use Rattle.job_writer.proofs.PutLaws.{place-none, bytes-more}
+use Rattle.writer_laws.proofs.PutLaws.{place-none, bytes-more}
 use borrow.Author.Needs.{needs}
 use Rattle.job_writer.proofs.put_dates.Statement.{statement}
 use Rattle.job_writer.proofs.put_dates.Tie as tie

@@ -2,7 +2,7 @@
 -- Assumes nothing.
 use Rattle.job_record.proofs.Places.{digits-length}
 use native.Mathlib.Omega.{arith}
-use Rattle.job_writer.proofs.PutLaws.{field-placed}
+use Rattle.writer_laws.proofs.PutLaws.{field-placed}
 use borrow.Author.Needs.{needs}
 use Rattle.job_writer.proofs.put_field.Statement.{statement}
 use Rattle.job_writer.proofs.put_field.Tie as tie

@@ -1,6 +1,6 @@
 -- `job_writer::put_head` meets its contract.
 -- Assumes nothing.
-use Rattle.job_writer.proofs.PutLaws.{head-placed}
+use Rattle.writer_laws.proofs.PutLaws.{head-placed}
 use borrow.Author.Needs.{needs}
 use Rattle.job_writer.proofs.put_head.Statement.{statement}
 use Rattle.job_writer.proofs.put_head.Tie as tie

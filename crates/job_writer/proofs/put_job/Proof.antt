@@ -2,7 +2,7 @@
 -- Assumes nothing.
 use native.Mathlib.Omega.{arith}
 use mathlib.Core.Path.{_∙_}
-use Rattle.job_writer.proofs.SizeLaws.{encode-size, head-within, flows-room, job-placed}
+use Rattle.writer_laws.proofs.SizeLaws.{encode-size, head-within, flows-room, job-placed}
 use borrow.Author.Needs.{needs}
 use Rattle.job_writer.proofs.put_job.Statement.{statement}
 use Rattle.job_writer.proofs.put_job.Tie as tie

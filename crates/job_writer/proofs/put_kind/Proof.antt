@@ -1,6 +1,6 @@
 -- `job_writer::put_kind` meets its contract.
 -- Assumes nothing.
-use Rattle.job_writer.proofs.PutLaws.{kind-placed}
+use Rattle.writer_laws.proofs.PutLaws.{kind-placed}
 use borrow.Author.Needs.{needs}
 use Rattle.job_writer.proofs.put_kind.Statement.{statement}
 use Rattle.job_writer.proofs.put_kind.Tie as tie

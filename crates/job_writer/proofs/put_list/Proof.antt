@@ -1,6 +1,6 @@
 -- `job_writer::put_list` meets its contract.
 -- Assumes nothing.
-use Rattle.job_writer.proofs.PutLaws.{list-placed}
+use Rattle.writer_laws.proofs.PutLaws.{list-placed}
 use borrow.Author.Needs.{needs}
 use Rattle.job_writer.proofs.put_list.Statement.{statement}
 use Rattle.job_writer.proofs.put_list.Tie as tie

@@ -3,8 +3,8 @@
 use native.Mathlib.Omega.{arith}
 use mathlib.Core.Path.{sym}
 use Rattle.job_record.proofs.Options.{field-kind, field-list, field-none}
-use Rattle.job_writer.proofs.PutLaws.{place-none}
-use Rattle.job_writer.proofs.SizeLaws.{kind-size, list-size, dates-lent}
+use Rattle.writer_laws.proofs.PutLaws.{place-none}
+use Rattle.writer_laws.proofs.SizeLaws.{kind-size, list-size, dates-lent}
 use borrow.Author.Needs.{needs}
 use Rattle.job_writer.proofs.put_option.Statement.{statement}
 use Rattle.job_writer.proofs.put_option.Tie as tie

@@ -7,8 +7,8 @@ use lib.ListN.{length}
 use Rattle.arithmetic.specs.Row.{place}
 use Rattle.job_record.specs.Grammar.{joined}
 use Rattle.job_record.proofs.Reread.{number-size}
-use Rattle.job_writer.specs.Writer.{quoteOf}
-use Rattle.job_writer.proofs.PutLaws.{fields-none, fields-more}
+use Rattle.writer_laws.specs.Parts.{quoteOf}
+use Rattle.writer_laws.proofs.PutLaws.{fields-none, fields-more}
 use borrow.Author.Needs.{needs}
 use Rattle.job_writer.proofs.put_quotes.Statement.{statement}
 use Rattle.job_writer.proofs.put_quotes.Tie as tie

@@ -3,7 +3,7 @@
 use native.Mathlib.Omega.{arith}
 use mathlib.Core.Path.{_∙_}
 use lib.ListN.{length-set}
-use Rattle.job_writer.proofs.PutLaws.{tag-placed}
+use Rattle.writer_laws.proofs.PutLaws.{tag-placed}
 use borrow.Author.Needs.{needs}
 use Rattle.job_writer.proofs.put_tag.Statement.{statement}
 use Rattle.job_writer.proofs.put_tag.Tie as tie

@@ -2,8 +2,8 @@
 -- Assumes nothing.
 use native.Mathlib.Omega.{arith}
 use mathlib.Core.Path.{sym}
-use Rattle.job_writer.proofs.PutLaws.{place-none}
-use Rattle.job_writer.proofs.SizeLaws.{version-absent, version-there, quotes-behind}
+use Rattle.writer_laws.proofs.PutLaws.{place-none}
+use Rattle.writer_laws.proofs.SizeLaws.{version-absent, version-there, quotes-behind}
 use borrow.Author.Needs.{needs}
 use Rattle.job_writer.proofs.put_version.Statement.{statement}
 use Rattle.job_writer.proofs.put_version.Tie as tie

@@ -2,9 +2,9 @@
 -- Assumes nothing.
 use native.Mathlib.Omega.{arith}
 use Rattle.job_record.proofs.Answers.{passed, failed}
-use Rattle.job_writer.proofs.SoundTests.{sound-job}
-use Rattle.job_writer.proofs.SizeLaws.{size-is}
-use Rattle.job_writer.proofs.WriteLaws.{written-unsound, written-long, written-beyond, written-whole, refused-with, wrote}
+use Rattle.writer_laws.proofs.SoundTests.{sound-job}
+use Rattle.writer_laws.proofs.SizeLaws.{size-is}
+use Rattle.writer_laws.proofs.WriteLaws.{written-unsound, written-long, written-beyond, written-whole, refused-with, wrote}
 use borrow.Author.Needs.{needs}
 use Rattle.job_writer.proofs.write.Statement.{statement}
 use Rattle.job_writer.proofs.write.Tie as tie
