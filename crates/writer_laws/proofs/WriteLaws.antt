@@ -1,11 +1,12 @@
 -- The answers of writing, by the test that fails first.
 -- Assumes nothing.
 use Prim.Native.Nat.{ℕ, _≤_, _<_}
-use mathlib.Core.Bool.{true, false}
+use mathlib.Core.Bool.{true, false, _&&_}
 use mathlib.Core.List.{List}
-use mathlib.Core.Path.{_≡_, sym, ap, _∙_}
+use mathlib.Core.Path.{_≡_, refl, sym, ap, _∙_}
 use borrow.Author.Tests.{le-leb, lt-leb, ne-eqb}
 use lib.ListN.{length}
+use lib.Dec.{leb}
 use Rattle.arithmetic.specs.Row.{place}
 use Rattle.arithmetic.specs.Answers.{refused, answered}
 use Rattle.arithmetic.specs.declared.Answer.{Answer}
@@ -16,6 +17,11 @@ use Rattle.writer_laws.specs.Sound.{isSound}
 use Rattle.writer_laws.specs.Writer.{writable, written, memoryAfter}
 
 module _ (job : Job) (room : ℕ) where
+  -- which records are written
+  writable-is : writable job ≡ (isSound job && leb (length (encode job)) mostBytes)
+  unfolding writable
+  writable-is = refl
+
   pub written-unsound : isSound job ≡ false → written job room ≡ refused 1
   unfolding written writable
   written-unsound bad = rw bad

@@ -82,8 +82,16 @@ module _ (option : OptionRecord) where
 form-is : (job : Job) (version option : List ℕ) → Version job version → Option (job .option) option → encode job ≡ form job version option
 unfolding encode
 form-is job version option v o =
-    rw (field-one 1 (job .frequency), field-one 2 (job .steps), field-two 3 (job .reversion), field-four 4 (job .volatility),
-    version-is job version v, quotes-are job (job .steps), flows-are job (job .steps), option-is (job .option) option o)
+    rw (
+      field-one 1 (job .frequency),
+      field-one 2 (job .steps),
+      field-two 3 (job .reversion),
+      field-four 4 (job .volatility),
+      version-is job version v,
+      quotes-are job (job .steps),
+      flows-are job (job .steps),
+      option-is (job .option) option o,
+    )
 
 -- what stands at the front of a memory
 front : (out part : List ℕ) → place out 0 part ≡ part ++ drop (length part) out
@@ -158,9 +166,10 @@ kept =
           ∙ ap (λ (part : List ℕ). part ++ drop (length (encode job)) out) (form-is job version option v o)
           ∙ ap (λ (n : ℕ). form job version option ++ drop n out) (sym (value-is job out done));
       counted = λ job out done version option v o. value-is job out done ∙ ap length (form-is job version option v o);
-      returns-bytes = λ bytes out b accepted enough.
-          (written-after-reading bytes (readingOf bytes) (reads bytes b) accepted out enough,
-          bytes-after-reading bytes (readingOf bytes) (reads bytes b) accepted out enough ∙ front out bytes);
+      returns-bytes = λ bytes out b accepted enough. (
+        written-after-reading bytes (readingOf bytes) (reads bytes b) accepted out enough,
+        bytes-after-reading bytes (readingOf bytes) (reads bytes b) accepted out enough ∙ front out bytes,
+      );
       same-record = same;
       none-read = λ job room refusal bytes b e. none-read-as job room refusal bytes (readingOf bytes) (reads bytes b) e;
       none-refused = unread;
