@@ -1,5 +1,5 @@
 """A job as a record: bytes to its fields, and its fields to bytes."""
-import struct
+from array import array
 from typing import TYPE_CHECKING, Any, NamedTuple, Optional, Sequence, Tuple, Union
 
 from ._arguments import Slice, amount, amounts, columns, dates as exercise_dates, job_bytes, memory, own_memory, u8, u64
@@ -26,12 +26,12 @@ class JobQuote(NamedTuple):
     @classmethod
     def of(cls, kind: int, figure: float) -> "JobQuote":
         """The quote of a figure."""
-        return cls(kind, struct.unpack("=Q", struct.pack("=d", figure))[0])
+        return cls(kind, array("Q", array("d", [figure]).tobytes())[0])
 
     @property
     def figure(self) -> float:
         """The figure that the bits are."""
-        return float(struct.unpack("=d", struct.pack("=Q", self.bits))[0])
+        return array("d", array("Q", [self.bits]).tobytes())[0]
 
 
 class KindOption(NamedTuple):

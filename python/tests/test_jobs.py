@@ -143,6 +143,9 @@ class Test(unittest.TestCase):
         for option in ((1, 1, 1), "call", 8, [1, 1, 1]):
             with self.subTest(option=option), self.assertRaises(TypeError):
                 base._replace(option=option).to_bytes()
+        for figure in ("0.98", None, [0.98]):
+            with self.assertRaises(TypeError):
+                JobQuote.of(5, figure)
         for job in ("0100", [1, 0, 1], None, 5):
             with self.subTest(job=job), self.assertRaises(TypeError):
                 Job.read(job)
