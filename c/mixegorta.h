@@ -26,7 +26,7 @@
  *
  * Refusals, the field `number` or a returned uint64_t; 0 means that nothing was refused:
  *
- *    1  the job is malformed or longer than 4,700 bytes
+ *    1  the job is malformed or longer than 4,700 bytes; of a record, no job is read as it
  *    2  the steps a year are not 1, 2, 4 or 12
  *    3  the steps are outside 1 to 60
  *    4  the reversion is above 6,000
