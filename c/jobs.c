@@ -354,6 +354,11 @@ static void of_another_tag(void) {
     uint64_t *numbers[] = {&base.option.kind, &base.option.expiry, &base.option.strike};
     for (size_t k = 0; k < 3; k++) *numbers[k] = 1, CHECK(unwritten(&base)), *numbers[k] = 0;
     base.option.count = 1, CHECK(unwritten(&base)), base.option.count = 0;
+    for (uint64_t tag = 1; tag < 512; tag++) {
+        base.option.tag = tag;
+        if (tag != MIXEGORTA_OPTION_OF_KIND && tag != MIXEGORTA_DATED_OPTION) CHECK(unwritten(&base));
+    }
+    base.option.tag = TWO_TO_32, CHECK(unwritten(&base)), base.option.tag = TWO_TO_32 + 8, CHECK(unwritten(&base)), base.option.tag = 0;
     CHECK(written(&base, job.size));
     put_kind(1, 1, 1), base = job.wanted;
     base.option.count = 1, CHECK(unwritten(&base)), base.option.dates[0] = 1, CHECK(unwritten(&base));

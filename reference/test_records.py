@@ -101,8 +101,12 @@ class Records(unittest.TestCase):
             self.unwritten(record._replace(flows=put(record.flows, 1, flow)))
         for version in (3, 255, 256, 256 + 1, 2 ** 32 + 2):
             self.unwritten(record._replace(version=version))
-        for tag in {*range(300), 256 + 8, 2 ** 32 + 8} - {OF_KIND, DATED}:
-            self.unwritten(record._replace(tag=tag))
+
+    def test_tags(self):
+        """A tag of no option is refused beside zeros too."""
+        for tag in {*range(1, 300), 2 ** 32, 2 ** 32 + 8} - {OF_KIND, DATED}:
+            self.unwritten(made(2)._replace(tag=tag))
+            self.unwritten(made(2, 1, OF_KIND)._replace(tag=tag))
 
     def test_kinds(self):
         record = made(2)
