@@ -470,7 +470,8 @@ struct mixegorta_answer mixegorta_valuation_error_bound(size_t steps, uint64_t r
 struct mixegorta_written mixegorta_sheet(const uint8_t *job, size_t job_len, uint8_t *out, size_t out_len);
 
 /* ---- A job as a record: bytes to its fields, and its fields to bytes. Only the form of a job counts here: steps a year of 3, 200 steps, a
- * NaN, -0.0, a list of no rows or one that does not rise are read and written, and refused where the job is priced.
+ * NaN, a list of no rows or one that does not rise are read and written, and refused where the job is priced. The bits of a figure are kept,
+ * of -0.0 and NaN too.
  *
  * A job that is read and written again is its own bytes, and a record that is written and read again is the same record. So version 1 and
  * no version are two records, and so are an option of a kind and one with the list of the same rows. */

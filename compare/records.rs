@@ -337,9 +337,9 @@ fn junk(r: &mut Random, record: &mut Record) {
     }
 }
 
-fn another_number(r: &mut Random, old: u64) -> u64 {
-    let by = r.pick(&[1 << 8, 1 << 16, 1 << 32, 1 << 63, u64::MAX - old]);
-    old.wrapping_add(by)
+/// Adds what a narrower number would lose.
+fn enlarge(r: &mut Random, number: &mut u64) {
+    *number = number.wrapping_add(r.pick(&[1 << 8, 1 << 16, 1 << 32, 1 << 63, u64::MAX - *number]));
 }
 
 /// One edit, by its name.
@@ -352,17 +352,17 @@ fn spoil(r: &mut Random, record: &mut Record) -> &'static str {
         }
         2 => {
             let place = r.below(5);
-            record.head[place] = another_number(r, record.head[place]);
+            enlarge(r, &mut record.head[place]);
             "head made larger"
         }
         3 => {
             let place = r.below(5);
-            record.option[place] = another_number(r, record.option[place]);
+            enlarge(r, &mut record.option[place]);
             "option made larger"
         }
         4 if steps > 0 => {
             let place = r.below(steps);
-            record.flows[place] = another_number(r, record.flows[place]);
+            enlarge(r, &mut record.flows[place]);
             "flow made larger"
         }
         5 if steps > 0 => {
@@ -374,8 +374,7 @@ fn spoil(r: &mut Random, record: &mut Record) -> &'static str {
             "version"
         }
         7 => {
-            let place = r.pick(&[KIND, EXPIRY, STRIKE, COUNT]);
-            record.option[place] = r.within(1, 3);
+            record.option[r.pick(&[KIND, EXPIRY, STRIKE, COUNT])] = r.within(1, 3);
             "number of the option"
         }
         _ => {

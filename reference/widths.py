@@ -8,7 +8,8 @@ A line of widths.txt is the name of an export, its arguments in the header's ord
 ends in 256 zeros here, or @9, a memory of nine numbers to be written. Figures stand as their 64 bits. A shelf is a list of 512 numbers, status, steps,
 reversion, bound and sixty greatest discounts of each name, beside its memory of 3,600. An answer is a refusal's number alone, or its fields; a memory's part
 that was written comes as a list, a shelf's changed memory whole, and the numbers, values and bounds of a strip as three lists. What is said of haircut
-bands has all its fields, refused or not. A job record is a list of 5,447 numbers, each of its places in the header's order; memory for a job has bytes. Tests in C, Rust and Python read the lines. Each entry's first line is the call that the others change.
+bands has all its fields, refused or not. A job record is a list of 5,447 numbers, each of its places in the header's order, and memory for a job has bytes.
+Tests in C, Rust and Python read the lines. Each entry's first line is the call that the others change.
 """
 import os
 import re

@@ -82,4 +82,5 @@ try:
     m.Job(1, 0, 0, [], [], (1, 0, m.ONE)).to_bytes()  # type: ignore[arg-type]
 except TypeError:
     pass
-print(size == 29 and read.version == 2 and len(read.quotes) == 2 and place is None and worth == 1_975_000_000 and bond == same == shelved and dated == same_option and fitted and same_bound and words.startswith("expiry"))
+copied_job: bool = size == 29 and read.version == 2 and len(read.quotes) == 2
+print(copied_job and place is None and worth == 1_975_000_000 and bond == same == shelved and dated == same_option and fitted and same_bound and words.startswith("expiry"))
