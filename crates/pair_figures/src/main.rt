@@ -1,5 +1,5 @@
 // Prices on two trees: figures by hand, trees of several shapes, refusals. The expected output is that of an independent model.
-use pricing::Price;
+use price_laws::Price;
 ghost use Prim.Native.Nat.{_≤_, _<_};
 
 // Numbers from base on, below base + range, in no simple order.

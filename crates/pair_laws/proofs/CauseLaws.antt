@@ -24,8 +24,8 @@ use Rattle.lent_tree.proofs.LentLaws.{accepted}
 use Rattle.price_bound.proofs.BoundLaws.{discount-within}
 use Rattle.price_causes.specs.Causes.{flowsCause}
 use Rattle.price_causes.proofs.CheckLaws.{flows-accepted}
-use Rattle.pricing.specs.Prices.{firstCause}
-use Rattle.pricing.proofs.Accuracy.{first-none}
+use Rattle.price_laws.specs.Prices.{firstCause}
+use Rattle.price_laws.proofs.Accuracy.{first-none}
 use Rattle.pair_laws.specs.Pair.{combined}
 use Rattle.pair_laws.specs.PairCauses.{mostPairSteps, pairStepsCause, discounted, combinedCause, pairDiscountsCause, pairCause, least}
 use Rattle.pair_laws.specs.States.{AcceptedTrees, AcceptedPair}

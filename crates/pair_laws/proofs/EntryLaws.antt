@@ -20,8 +20,8 @@ use Rattle.exercise_dates.specs.Dates.{marksOf, datedTerms}
 use Rattle.exercise_dates.proofs.DateLaws.{dates-alike, marks-room, dated-side, dated-strike, dated-last}
 use Rattle.price_causes.specs.Causes.{termsCause}
 use Rattle.price_causes.proofs.CheckLaws.{terms-accepted}
-use Rattle.pricing.specs.declared.Price.{Price}
-use Rattle.pricing.specs.Prices.{flowAt, firstCause, refusedPrice, priced, datedCause}
+use Rattle.price_laws.specs.declared.Price.{Price}
+use Rattle.price_laws.specs.Prices.{flowAt, firstCause, refusedPrice, priced, datedCause}
 use Rattle.pricing.specs.Trees.{Exercisable}
 use Rattle.pair_laws.specs.Pair.{Pair, at}
 use Rattle.pair_laws.specs.PairCauses.{pairCause}

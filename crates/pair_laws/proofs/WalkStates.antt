@@ -27,9 +27,9 @@ use Rattle.pricing_laws.proofs.Backward.{option-limit, option-first, option-ove
 use Rattle.pricing_laws.proofs.Peaks.{peak-grows}
 use Rattle.pricing_laws.proofs.PriceLaws.{Discounts-at-most, roll-rounds}
 use Rattle.pricing_laws.proofs.Recurrences.{error-bound-last, error-bound-before}
-use Rattle.price_bound.proofs.BoundLaws.{discount-within, bound-up}
+use Rattle.price_bound.proofs.BoundLaws.{discount-within}
 use Rattle.price_causes.specs.Causes.{mostStrike}
-use Rattle.pricing.specs.Prices.{flowAt}
+use Rattle.price_laws.specs.Prices.{flowAt}
 use Rattle.pricing.specs.Rows.{Holds}
 use Rattle.pricing.proofs.TreeRows.{flow-within}
 use Rattle.pair_laws.specs.Pair.{Pair, at, Stands, combined, greatestCombined, pairErrorBound}
@@ -287,6 +287,10 @@ lent-discounts n b discounts a i k hi hk = discount-within n b i hi discounts a 
 row-most : (n b i x : ℕ) (discounts : List ℕ) → Accepted n b discounts → i < n → x ≡ greatestDiscount (rateTree b) (stored b discounts) i → x ≤ mostDiscount
 unfolding greatestDiscount rateTree
 row-most n b i x discounts a hi e = rw e (greatest-le (nodeCount b i) (stored b discounts i) mostDiscount (discount-within n b i hi discounts a))
+
+bound-up : (x loss : ℕ) → (x + 999999999) / 1000000000 + loss ≡ roundUp x one + loss
+unfolding roundUp
+bound-up x loss = refl
 
 module _ (n b c : ℕ) (rates spreads : List ℕ) (t : AcceptedTrees n b c rates spreads) where
   abbrev bound-at : ℕ → ℕ

@@ -12,7 +12,7 @@ use Rattle.lattice.specs.Shape.{nodeCount}
 use Rattle.lattice.specs.RateTree.{rateTree}
 use Rattle.lent_tree.specs.LentTree.{stored, discountsCause}
 use Rattle.price_causes.specs.Causes.{flowsCause}
-use Rattle.pricing.specs.Prices.{firstCause}
+use Rattle.price_laws.specs.Prices.{firstCause}
 use Rattle.pair_laws.specs.Pair.{Pair, at, combined}
 
 -- n of two trees together: 1 to 20

@@ -10,7 +10,7 @@ use Rattle.lent_tree.specs.LentTree.{Accepted}
 use Rattle.price_causes.specs.Causes.{AcceptedFlows}
 use Rattle.pricing_laws.specs.Pricer.{Side, Schedule, exercise, heldOrExercised}
 use Rattle.pricing_laws.proofs.Backward.{Bond-state, Option-state}
-use Rattle.pricing.specs.Prices.{flowAt}
+use Rattle.price_laws.specs.Prices.{flowAt}
 use Rattle.pricing.specs.Trees.{downTable}
 use Rattle.pair_laws.specs.Pair.{Pair, Stands}
 use Rattle.pair_laws.specs.PairCauses.{mostPairSteps}

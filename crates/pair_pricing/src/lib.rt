@@ -5,7 +5,7 @@ mod walk;
 
 use crate::walk::Trees;
 use exercise::Terms;
-use pricing::Price;
+use price_laws::Price;
 ghost use mathlib.Core.Path.{_≡_};
 ghost use Prim.Native.Nat.{_≤_};
 ghost use lib.ListN.{length, take};
@@ -13,7 +13,7 @@ ghost use Rattle.limits.specs.Limits.{mostSteps, mostReversion};
 ghost use Rattle.lattice.specs.Shape.{nodeCount};
 ghost use Rattle.exercise.specs.Terms.{side};
 ghost use Rattle.pricing_laws.specs.Schedule.{marked};
-ghost use Rattle.pricing.specs.Prices.{refusedPrice};
+ghost use Rattle.price_laws.specs.Prices.{refusedPrice};
 ghost use Rattle.pricing.specs.Trees.{downTable, Exercisable};
 ghost use Rattle.pair_laws.specs.PairPrices.{acceptedPairBond, acceptedPairOption, pairBondPrice, pairDatedPrice};
 ghost use Rattle.pair_laws.specs.States.{AcceptedPair};

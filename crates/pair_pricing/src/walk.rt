@@ -13,7 +13,7 @@ ghost use Rattle.pricing_laws.specs.Pricer.{exercise};
 ghost use Rattle.pricing_laws.specs.Schedule.{marked};
 ghost use Rattle.pricing_laws.specs.TreePricer.{greatestDiscount, rollLoss};
 ghost use Rattle.exercise.specs.Terms.{side};
-ghost use Rattle.pricing.specs.Prices.{flowAt};
+ghost use Rattle.price_laws.specs.Prices.{flowAt};
 ghost use Rattle.pricing.specs.Trees.{Exercisable};
 ghost use Rattle.pair_laws.specs.Pair.{Pair, Stands};
 ghost use Rattle.pair_laws.specs.PairCauses.{mostPairSteps};

@@ -20,9 +20,9 @@ use Rattle.pricing_laws.proofs.MoreDates.{more-dates}
 use Rattle.pricing_laws.proofs.PriceLaws.{Discounts-at-most, roll-rounds}
 use Rattle.price_bound.proofs.BoundLaws.{discount-within}
 use Rattle.price_causes.specs.Causes.{termsCause}
-use Rattle.pricing.specs.declared.Price.{Price}
-use Rattle.pricing.specs.Prices.{flowAt, firstCause, priced, datedCause}
-use Rattle.pricing.proofs.Accuracy.{Given, first-none}
+use Rattle.price_laws.specs.declared.Price.{Price}
+use Rattle.price_laws.specs.Prices.{flowAt, firstCause, priced, datedCause}
+use Rattle.price_laws.proofs.Accuracy.{Given, first-none}
 use Rattle.pair_laws.specs.Pair.{at, Stands, pairUnit}
 use Rattle.pair_laws.specs.PairCauses.{pairCause}
 use Rattle.pair_laws.specs.PairPrices.{pricerOf, pairBound, pairBondValue, pairBondPeak, exactPairBond, pairOptionValue, pairOptionLimit, exactPairDated}

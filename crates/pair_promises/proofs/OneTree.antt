@@ -36,9 +36,9 @@ use Rattle.pricing_laws.proofs.PriceLaws.{roll-rounds}
 use Rattle.pricing_laws.proofs.Follows.{Follows, Top-follows, bond-follows, option-follows, bond-peak-follows, option-peak-follows, error-bound-same}
 use Rattle.price_bound.specs.PriceBound.{treeErrorBound}
 use Rattle.price_causes.specs.Causes.{mostFlow, flowsCause, termsCause}
-use Rattle.pricing.specs.Prices.{flowAt, treeCause, firstCause, refusedPrice, priced, bondValue, bondPeak, optionValue, optionPeak, optionLimit}
-use Rattle.pricing.specs.Prices.{bondPrice, datedCause, datedPrice}
-use Rattle.pricing.proofs.Accuracy.{first-none, tree-lent}
+use Rattle.price_laws.specs.Prices.{flowAt, treeCause, firstCause, refusedPrice, priced, bondValue, bondPeak, optionValue, optionPeak, optionLimit}
+use Rattle.price_laws.specs.Prices.{bondPrice, datedCause, datedPrice}
+use Rattle.price_laws.proofs.Accuracy.{first-none, tree-lent}
 use Rattle.pair_laws.specs.Pair.{Pair, at, Stands, combined, greatestCombined}
 use Rattle.pair_laws.specs.PairCauses.{mostPairSteps, pairStepsCause, discounted, combinedCause, pairDiscountsCause, pairCause}
 use Rattle.pair_laws.specs.PairPrices.{rollOf, greatestPair, pairBound, pairBondValue, pairBondPeak, pairOptionValue, pairOptionPeak, pairOptionLimit}

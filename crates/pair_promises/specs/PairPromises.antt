@@ -16,7 +16,7 @@ use Rattle.lattice.specs.RateTree.{rateTree}
 use Rattle.lent_tree.specs.LentTree.{stored}
 use Rattle.pricing_laws.specs.Pricer.{Side, Schedule, exercise, bond, bareBond, option}
 use Rattle.pricing_laws.specs.Schedule.{numberedSide, datedSchedule, Contained}
-use Rattle.pricing.specs.Prices.{flowAt, bondPrice, datedPrice}
+use Rattle.price_laws.specs.Prices.{flowAt, bondPrice, datedPrice}
 use Rattle.pair_laws.specs.Pair.{Pair, at, Stands, pairUnit, pairEngine, exactPair, greatestCombined, pairErrorBound}
 use Rattle.pair_laws.specs.PairCauses.{mostPairSteps, pairDiscount}
 use Rattle.pair_laws.specs.PairPrices.{pricerOf, exactPairBond, exactPairDated, pairBondPrice, pairDatedPrice}
