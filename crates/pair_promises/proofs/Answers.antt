@@ -23,7 +23,7 @@ use Rattle.price_causes.specs.Causes.{termsCause}
 use Rattle.price_laws.specs.declared.Price.{Price}
 use Rattle.price_laws.specs.Prices.{flowAt, firstCause, priced, datedCause}
 use Rattle.price_laws.proofs.Accuracy.{Given, first-none}
-use Rattle.pair_laws.specs.Pair.{at, Stands, pairUnit}
+use Rattle.pair_laws.specs.Pair.{at, Stands, pairUnit, combined}
 use Rattle.pair_laws.specs.PairCauses.{pairCause}
 use Rattle.pair_laws.specs.PairPrices.{pricerOf, pairBound, pairBondValue, pairBondPeak, exactPairBond, pairOptionValue, pairOptionLimit, exactPairDated}
 use Rattle.pair_laws.specs.PairPrices.{pairBondPrice, pairDatedPrice}
@@ -133,8 +133,10 @@ module _ (n b : ℕ) (rates : List ℕ) (m c : ℕ) (spreads flows : List ℕ) w
   -- where no discount of a pair is above one, the bound is at most 2 a step
   module _ (low : NoPairAboveOne n b c rates spreads) where
     two-a-step : pairBound n b c rates spreads ≤ 2 * n
-    unfolding pairBound
-    two-a-step = pair-bound-a-step (rateTree b) (rateTree c) (stored b rates) (stored c spreads) n low
+    unfolding pairBound combined rateTree
+    two-a-step =
+        pair-bound-a-step (rateTree b) (rateTree c) (stored b rates) (stored c spreads) n
+        (λ i k hi s. low i (k .rate) (k .spread) hi (s .on-rates) (s .on-spreads))
 
     pub bond-bound-a-step : pairBondPrice n b rates m c spreads flows .bound ≤ 2 * n
     unfolding pairBondPrice

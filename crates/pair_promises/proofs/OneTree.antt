@@ -109,14 +109,14 @@ first-assoc x y z =
 
 module _ (n c : ℕ) (spreads : List ℕ) (o : Ones n c spreads) where
   one-at : (i k : ℕ) → i < n → k < nodeCount c i → stored c spreads i k ≡ one
-  unfolding stored discountsNeeded
+  unfolding stored
   one-at i k hi hk = o .ones (rowStart c i + k) (omega (arith, row-ends c i n hi))
 
   ones-cause : 0 < n → n ≤ mostPairSteps → discountsCause n c spreads ≡ 0
-  unfolding acceptedDiscounts
+  unfolding acceptedDiscounts discountsNeeded
   ones-cause some few =
       lent-accepted n c spreads (shape-found n c some (omega arith) (o .reversion)) (o .room)
-      (each-all (discountsNeeded n c) _
+      (each-all (rowStart c n) _
       (λ k h. between-holds 1 mostDiscount (values spreads) k (omega (arith, o .ones k h)) (omega (arith, o .ones k h))))
 
 -- a discount of at least 1 beside one
