@@ -20,6 +20,7 @@ HERE = os.path.dirname(os.path.abspath(__file__))
 sys.path.insert(0, HERE)
 sys.dont_write_bytecode = True
 import bands
+import pair
 import reference as rules
 from reference import ONE, Kind, Option, Refused, refuse_if
 
@@ -329,6 +330,14 @@ def lending_worth(*given):
     return [worth, number, *shown]
 
 
+def pair_bond_price(n, b, rates, m, c, spreads, flows):
+    return list(pair.bond_price(pair.Tree(n, b, rates), pair.Tree(m, c, spreads), flows))
+
+
+def pair_dated_option_price(n, b, rates, m, c, spreads, flows, side, dates, strike):
+    return list(pair.dated_option_price(pair.Tree(n, b, rates), pair.Tree(m, c, spreads), flows, side, dates, strike))
+
+
 # The calls. A list is exact where its length must be just so, and least where it may be longer; a byte is no number that 256 more would fit into.
 
 Argument = namedtuple('Argument', 'name kind value')
@@ -374,6 +383,11 @@ SHELVED, AWAITING, FREE = ((SHELF, ROOM, ('name', 'number', name)) for name in (
 BANDS = (('first_rows', 'exact', [1, 1, 21, 21, 41]), ('last_rows', 'exact', [20, 20, 40, 40, 60]), ('lowest_prices', 'exact', [0, ONE, 0, ONE + 1, 0]),
          ('highest_prices', 'exact', [ONE - 1, 8 * ONE, ONE, 8 * ONE, 8 * ONE]), ('haircuts', 'exact', [100, 200, 300, 400, 500]))
 
+# The rate tree of the prices above, and a narrower spread tree of as many steps.
+PAIR = (('rate_steps', 'number', 3), ('rate_reversion', 'number', 800), ('rate_discounts', 'least', DISCOUNTS[2]), ('spread_steps', 'number', 3),
+        ('spread_reversion', 'number', 2_000),
+        ('spread_discounts', 'least', [990_000_000, 995_000_000, 987_000_000, 979_000_000, 996_000_000, 986_000_000, 976_000_000]), FLOWS)
+
 ENTRIES = [
     entry(half_width, REVERSION, ROW), entry(node_count, REVERSION, ROW), entry(row_start, REVERSION, ROW),
     entry(discounts_needed, STEPS[:2] + (60,), REVERSION), entry(state_prices_needed, STEPS[:2] + (60,), REVERSION),
@@ -400,6 +414,7 @@ ENTRIES = [
     entry(shelf_bond_and_dated_option, *SHELVED, FLOWS, *DATED),
     entry(shelf_option_strip, *SHELVED, FLOWS, *STRIP), entry(shelf_option_strip_of_kind, *SHELVED, FLOWS, *STRIP_OF_KIND),
     entry(check_bands, *BANDS), entry(lending_worth, *BANDS, ROW, ('price', 'number', ONE)),
+    entry(pair_bond_price, *PAIR), entry(pair_dated_option_price, *PAIR, *DATED),
 ]
 # A job is bytes, and the room for its sheet has one size: crates/sheet_cases has both. Version and empty shelf are asked for without arguments.
 WITHOUT_NUMBERS = {'sheet', 'version', 'empty_shelf'}
