@@ -41,6 +41,11 @@ wrong: Optional[m.Refused] = table.verdict()
 worth: int = table.worth(20, "1.00") + m.lending_worth([1], [60], ["0"], array("Q", [m.MAX_VALUE]), [0], 1, m.ONE)
 m.check_bands([1], [60], [0], [m.MAX_VALUE], range(1))
 place: Optional[int] = wrong.place if wrong is not None else None
+pair: m.Pair = m.Pair(tree, tree)
+paired: m.Price = pair.bond_price([0, m.ONE])
+same_bound = same_bound and paired == m.pair_bond_price(2, tree.working_reversion, tree.discounts, 2, tree.working_reversion, copied, ["0", Decimal(1)])
+paired_option: m.Price = pair.dated_option_price([0, m.ONE], m.CALL, b"\0\1", "0.95")
+same_bound = same_bound and paired_option.value <= paired.value
 words: str = f"{both.option.argument} {both.option.row}" if isinstance(both.option, m.Refused) else f"{both.option.bound}"
 
 try:
