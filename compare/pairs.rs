@@ -349,7 +349,7 @@ fn spoil(r: &mut Random, p: &mut Pair) {
     let steps = p.steps();
     let lent = if r.chance(50) { &mut p.rates } else { &mut p.spreads };
     let place = r.below(lent.discounts.len().max(1));
-    match r.below(9) {
+    match r.below(10) {
         0 => lent.tree.steps = r.pick(&[0, 21, 60, 61, steps + 1, steps.saturating_sub(1), steps + 256, steps + (1 << 32)]),
         1 => {
             let longer = r.pick(&[20, 21, 60, 61]);
@@ -371,7 +371,11 @@ fn spoil(r: &mut Random, p: &mut Pair) {
             let row = r.below(p.flows.len());
             p.flows[row] = r.pick(&[FLOW_LIMIT, FLOW_LIMIT + 1, p.flows[row].wrapping_add(1 << 32)]);
         }
-        7 => p.option.side = r.pick(&[0, 3, 257, (1 << 32) + 1]),
+        7 => {
+            p.flows.fill(FLOW_LIMIT);
+            p.option.dates.clear();
+        }
+        8 => p.option.side = r.pick(&[0, 3, 257, (1 << 32) + 1]),
         _ => match r.below(3) {
             0 => p.option.strike = r.pick(&[STRIKE_LIMIT + 1, STRIKE_LIMIT, (1 << 32) + ONE]),
             1 => p.option.dates.push(r.pick(&[0, steps as u8, 255])),

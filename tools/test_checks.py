@@ -233,9 +233,9 @@ class Stack(unittest.TestCase):
             self.assertEqual(len(stack.faults_of_programs({'sheet': 20}, {**self.TEXTS, 'README.md': text})), 1)
 
     def test_calls(self):
-        manual = 'no more than 8 KiB for a fit, 16 KiB for a price, 24 KiB for a strip, 48 KiB for a commit and 1,192 KiB for a sheet'
-        self.assertEqual(stack.faults_of_calls({'fit': 8_192, 'price': 9_720, 'strip': 24_576, 'commit': 40_000, 'sheet': 145_184}, manual), [])
-        self.assertEqual(len(stack.faults_of_calls({'fit': 8_193, 'price': 9_720, 'strip': 24_576, 'commit': 40_000, 'sheet': 145_184}, manual)), 1)
+        manual = 'no more than 8 KiB for a fit, 16 KiB for a price, 24 KiB for a strip, 48 KiB for a commit, 32 KiB for a pair and 1,192 KiB for a sheet'
+        self.assertEqual(stack.faults_of_calls({'fit': 8_192, 'price': 9_720, 'strip': 24_576, 'commit': 40_000, 'pair': 32_768, 'sheet': 145_184}, manual), [])
+        self.assertEqual(len(stack.faults_of_calls({'fit': 8_193, 'price': 9_720, 'strip': 24_576, 'commit': 40_000, 'pair': 32_768, 'sheet': 145_184}, manual)), 1)
         self.assertEqual(len(stack.faults_of_calls({'fit': 1, 'price': 1}, manual)), 1)
 
     def test_the_least_that_is_enough(self):

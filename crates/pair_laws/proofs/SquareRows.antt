@@ -209,6 +209,13 @@ pub pair-place : (b c i : ℕ) (k : Pair) → i ≤ mostPairSteps → Stands (ra
 unfolding rateTree
 pair-place b c i k h hk = omega (arith, hk .on-rates, hk .on-spreads, row-fits b i h, row-fits c i h)
 
+-- and in the first lines
+pub pair-line :
+    (b c i lines : ℕ) (k : Pair) → i ≤ mostPairSteps → lines ≡ nodeCount b i → Stands (rateTree b) (rateTree c) i k →
+    lineSize * k .rate + k .spread < lineSize * lines
+unfolding rateTree
+pair-line b c i lines k h e hk = omega (arith, e, hk .on-rates, hk .on-spreads, row-fits c i h)
+
 -- the greatest value of a row, from what the code goes through
 pub greatest-row :
     (b c i lines width x : ℕ) (xs : List ℕ) → lines ≡ nodeCount b i → width ≡ nodeCount c i →
@@ -218,21 +225,20 @@ greatest-row b c i lines width x xs el ew e = e ∙ rw (el, ew)
 
 -- a row of the option, rolled and then exercised
 pub option-from :
-    (b c i : ℕ) (listed call : Bool) (strike flow : ℕ) (out mid bonds : List ℕ) (r : Pair → ℕ) → i ≤ mostPairSteps →
-    Holds out squareSize (λ k. exercised listed call strike flow (values mid k) (values bonds k)) →
+    (b c i lines : ℕ) (listed call : Bool) (strike flow : ℕ) (out mid bonds : List ℕ) (r : Pair → ℕ) → i ≤ mostPairSteps → lines ≡ nodeCount b i →
+    Holds out (lineSize * lines) (λ k. exercised listed call strike flow (values mid k) (values bonds k)) →
     ((k : Pair) → Stands (rateTree b) (rateTree c) i k → square mid k ≡ r k + 0) →
     (k : Pair) → Stands (rateTree b) (rateTree c) i k → square out k ≡ heldOrExercised listed (r k) (exercise (side call) strike (square bonds k - flow))
 unfolding square exercised
-option-from b c i listed call strike flow out mid bonds r hi h er k hk =
-    h _ (pair-place b c i k hi hk)
+option-from b c i lines listed call strike flow out mid bonds r hi el h er k hk =
+    h _ (pair-line b c i lines k hi el hk)
     ∙ ap (λ (x : ℕ). heldOrExercised listed x (exercise (side call) strike (square bonds k - flow))) (er k hk ∙ add-zero (r k))
 
 -- the last row: exercise beside a square of zeros
 pub expiry-from :
-    (b c i : ℕ) (call : Bool) (strike flow : ℕ) (out zeros bonds : List ℕ) → i ≤ mostPairSteps → Holds zeros squareSize (λ k. 0) →
-    Holds out squareSize (λ k. exercised true call strike flow (values zeros k) (values bonds k)) →
+    (b c i lines : ℕ) (call : Bool) (strike flow : ℕ) (out zeros bonds : List ℕ) → i ≤ mostPairSteps → lines ≡ nodeCount b i →
+    Holds zeros squareSize (λ k. 0) → Holds out (lineSize * lines) (λ k. exercised true call strike flow (values zeros k) (values bonds k)) →
     (k : Pair) → Stands (rateTree b) (rateTree c) i k → square out k ≡ exercise (side call) strike (square bonds k - flow)
 unfolding square exercised heldOrExercised
-expiry-from b c i call strike flow out zeros bonds hi hz h k hk =
-    let w = pair-place b c i k hi hk in
-    h _ w ∙ rw (hz _ w) (omega arith)
+expiry-from b c i lines call strike flow out zeros bonds hi el hz h k hk =
+    h _ (pair-line b c i lines k hi el hk) ∙ rw (hz _ (pair-place b c i k hi hk)) (omega arith)

@@ -225,8 +225,9 @@ pub(crate) fn fill(value: u64, row: &mut [u64])
     }
 }
 
-// On a listed row: the larger of the rolled value and the exercise value on the bond, which holds the row's flow.
+// On a listed row, in the first lines: the larger of the rolled value and the exercise value on the bond, which holds the row's flow.
 pub(crate) fn exercise_square(
+    lines: usize,
     listed: bool,
     call: bool,
     strike: u64,
@@ -234,15 +235,16 @@ pub(crate) fn exercise_square(
     bonds: &[u64],
     square: &mut [u64],
 )
-    requires { ⌜ (length (now bonds) ≡ squareSize) × (length (now square) ≡ squareSize) ⌝ }
-    ensures { λ _. ⌜ Holds (now (square .exit)) squareSize
+    requires { ⌜ (lines ≤ lineSize) × (length (now bonds) ≡ squareSize) × (length (now square) ≡ squareSize) ⌝ }
+    ensures { λ _. ⌜ Holds (now (square .exit)) (lineSize * lines)
         (λ k. exercised listed call strike flow (values (now (square .entry)) k) (values (now (bonds .entry)) k)) ⌝ }
 {
     if !listed {
         return;
     }
+    let count = LINE * lines;
     let mut k: usize = 0;
-    while k < SQUARE {
+    while k < count {
         let now = exercise::expiry_value(call, strike, bonds[k], flow);
         square[k] = arithmetic::larger(square[k], now);
         k += 1;

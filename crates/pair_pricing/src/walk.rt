@@ -6,6 +6,7 @@ ghost use Prim.Native.Nat.{_+_, _-_, _*_, _<_, _≤_};
 ghost use lib.ListN.{length};
 ghost use Rattle.arithmetic.specs.Rounding.{roundUp};
 ghost use Rattle.limits.specs.Limits.{mostReversion};
+ghost use Rattle.lattice.specs.Shape.{nodeCount};
 ghost use Rattle.lattice.specs.RateTree.{rateTree};
 ghost use Rattle.lent_tree.specs.LentTree.{stored, Accepted};
 ghost use Rattle.price_causes.specs.Causes.{mostFlow};
@@ -70,6 +71,14 @@ fn roll_row(
         memory,
         middle,
     );
+}
+
+// The nodes of a row of the rates.
+fn lines_of(trees: Trees, row: usize) -> usize
+    requires { ⌜ (trees .rate ≤ mostReversion) × (row ≤ mostPairSteps) ⌝ }
+    ensures { λ r. ⌜ r ≡ nodeCount (trees .rate) row ⌝ }
+{
+    lattice::node_count(trees.rate, row).value as usize
 }
 
 // The greatest value of a row.
@@ -185,7 +194,15 @@ fn option_row(
         option,
         middle,
     );
-    squares::exercise_square(listed, terms.call, terms.strike, flow, bond, option);
+    squares::exercise_square(
+        lines_of(trees, row),
+        listed,
+        terms.call,
+        terms.strike,
+        flow,
+        bond,
+        option,
+    );
     greatest_of_row(trees, row, option)
 }
 
@@ -198,12 +215,20 @@ fn expiry_row(
     bond: &[u64; 1681],
     option: &mut [u64; 1681],
 )
-    requires { ⌜ row ≤ mostPairSteps ⌝ }
+    requires { ⌜ (trees .rate ≤ mostReversion) × (row ≤ mostPairSteps) ⌝ }
     ensures { λ _. ⌜ ((k : Pair) → Stands (rateTree (trees .rate)) (rateTree (trees .spread)) row k → square (now (option .exit)) k
         ≡ exercise (side (terms .call)) (terms .strike) (square (now (bond .entry)) k - flow)) ⌝ }
 {
     squares::fill(0, option);
-    squares::exercise_square(true, terms.call, terms.strike, flow, bond, option);
+    squares::exercise_square(
+        lines_of(trees, row),
+        true,
+        terms.call,
+        terms.strike,
+        flow,
+        bond,
+        option,
+    );
 }
 
 // Bond and option rolled back together from the option's last row to row 0. 12 where a value on the way is above 8 × one.

@@ -1,27 +1,30 @@
 -- `pair_pricing::squares::exercise_square` meets its contract.
 -- Assumes nothing.
 use mathlib.Core.Path.{_≡_}
-use Prim.Native.Nat.{ℕ, _-_, _≤_}
+use Prim.Native.Nat.{ℕ, _-_, _*_, _≤_}
 use native.Mathlib.Omega.{arith}
 use lib.ListN.{length, length-set}
 use borrow.Author.Needs.{needs}
 use borrow.Author.Tests.{not-true, not-false}
 use Rattle.arithmetic.specs.Row.{values}
-use Rattle.pair_laws.specs.Square.{squareSize, exercised}
+use Rattle.pair_laws.specs.Square.{lineSize, squareSize, exercised}
 use Rattle.pair_laws.proofs.Squares.{Changed, changed-first, changed-more, exercised-not, exercised-on}
 use Rattle.pair_pricing.proofs.squares.exercise_square.Statement.{statement}
 use Rattle.pair_pricing.proofs.squares.exercise_square.Tie as tie
 
 abbrev Inv-loop : tie.InvT-loop
-Inv-loop listed call strike flow bonds square₀ k₀ square k =
-    (k ≤ squareSize) × (length square ≡ squareSize) × (length square ≡ length square₀)
+Inv-loop lines listed call strike flow bonds square₀ count₀ k₀ square k =
+    (k ≤ lineSize * lines) × (length square ≡ squareSize) × (length square ≡ length square₀)
     × Changed (λ (t x : ℕ). exercised listed call strike flow x (values bonds t)) square₀ square k
 
 abbrev μ-loop : tie.MeasureT-loop
-μ-loop listed call strike flow bonds square₀ k₀ square k = squareSize - k
+μ-loop lines listed call strike flow bonds square₀ count₀ k₀ square k = lineSize * lines - k
 
 returns : tie.Need-returns Inv-loop μ-loop
 returns c = let s = c .before .before .before .args in λ t h. exercised-not (s .listed) (s .call) (s .strike) (s .flow) _ _ (not-true _ (c .if1 .taken))
+
+mul-count : tie.Need-mul-count Inv-loop μ-loop
+mul-count c = search needs
 
 loop-holds : tie.Need-loop-holds Inv-loop μ-loop
 loop-holds c = (omega arith, omega arith, omega arith, changed-first _ _)
@@ -84,6 +87,7 @@ exercise-square-spec =
     Inv-loop
     μ-loop
     returns
+    mul-count
     loop-holds
     mul-expiry-value
     shared-slice-read-expiry-value
