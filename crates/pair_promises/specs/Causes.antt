@@ -1,5 +1,6 @@
 -- Which number the entries for a rate tree and a spread tree give (document 02, request (xiii)): the causes in the order in which they are tried. It is by
--- number, but for 19, which is tried after 3 and before 4, and 13, which is tried before 12. Of the rate tree n, b and rates, of the spread tree m, c and spreads.
+-- number, but for 19, which is tried after 3 and before 4, and 13, which is tried before 12. Of the rate tree n, b and rates, of the spread tree m, c and
+-- spreads.
 -- Assumes nothing.
 use mathlib.Core.Path.{_≡_}
 use mathlib.Core.Bool.{Bool, not, _&&_}

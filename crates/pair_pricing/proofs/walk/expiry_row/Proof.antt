@@ -30,7 +30,8 @@ returns c =
     let s = c .before .before .before .before .before .before in
     expiry-from (s .args .trees .rate) (s .args .trees .spread) (s .args .row) _ (s .args .terms .call) (s .args .terms .strike) (s .args .flow) _
     (fill .last .1 .0)
-    (now (s .args .bond)) (s .pre .1) (c .before .before .before .lines-of .ensures) (λ k h. fill .ensures k (omega (arith, long (c .before .before .before .before .before)))) (c .exercise-square .ensures)
+    (now (s .args .bond)) (s .pre .1) (c .before .before .before .lines-of .ensures)
+    (λ k h. fill .ensures k (omega (arith, long (c .before .before .before .before .before)))) (c .exercise-square .ensures)
 
 pub expiry-row-spec : {M : Type 1} → statement M
 expiry-row-spec = tie.close (tie.spec fill-requires lines-of-requires exercise-square-requires returns)

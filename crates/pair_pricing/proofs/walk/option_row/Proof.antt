@@ -32,6 +32,8 @@ greatest-of-row-requires c κs = search needs
 
 returns : tie.Need-returns
 returns c =
+    let exercise-square = c .before .before .exercise-square in
+    let lines-of = c .before .before .before .before .before .lines-of in
     let roll-row = c .before .before .before .before .before .before .roll-row in
     let s = c .before .before .before .before .before .before .before .before .before .before .before .before .before in
     let t = s .args .trees in
@@ -41,7 +43,7 @@ returns c =
           (roll-row .last .1 .1 .1 .1 .1 .1 .1 .0)
           (now (s .args .bond))
           (rollOf (t .rate) (t .spread) (now (s .args .rates)) (now (s .args .spreads)) (s .args .row) (square (now (s .args .option))))
-          (omega (arith, s .pre .0 .few, s .pre .2)) (c .before .before .before .before .before .lines-of .ensures) (c .before .before .exercise-square .ensures) (roll-row .ensures);
+          (omega (arith, s .pre .0 .few, s .pre .2)) (lines-of .ensures) (exercise-square .ensures) (roll-row .ensures);
       found = c .greatest-of-row .ensures;
     }
 
