@@ -6,19 +6,25 @@ fn write_report(file: &[u8], room: &mut [u8]) {
     io::write_all(1, &room[start..]);
 }
 
-// Writes the report of the next file, and says whether there was one.
-fn write_next(buffer: &mut [u8], room: &mut [u8]) -> bool {
-    let frame = frames::next_frame(buffer);
-    if frame.found {
-        write_report(&buffer[..frame.size], room);
+// Writes the report of the file at a place of the input, and answers the place behind it; 0 where there is none.
+fn write_next(input: &[u8], at: usize, room: &mut [u8]) -> usize {
+    let frame = frames::frame_at(input, at);
+    if !frame.found {
+        return 0;
     }
-    frame.found
+    let start = frame.start;
+    let end = start + frame.size;
+    write_report(&input[start..end], room);
+    end
 }
 
-fn write_all(buffer: &mut [u8], room: &mut [u8]) {
-    let mut left = frames::MOST_FRAMES;
+// There are fewer frames than bytes.
+fn write_all(input: &[u8], room: &mut [u8]) {
+    let mut at = 0usize;
+    let mut left = input.len();
     while 0 < left {
-        if !write_next(buffer, room) {
+        at = write_next(input, at, room);
+        if at == 0 {
             return;
         }
         left -= 1;
@@ -26,7 +32,8 @@ fn write_all(buffer: &mut [u8], room: &mut [u8]) {
 }
 
 fn main() {
-    let mut buffer = io::large_buffer();
+    let mut input = frames::input_room();
     let mut room = io::buffer();
-    write_all(&mut buffer, &mut room);
+    let count = io::read_full(0, &mut input);
+    write_all(&input[..count], &mut room);
 }

@@ -1,6 +1,6 @@
 -- THE PRICES OF A JOB ARE BOUNDED: its number is at most 13, its prices at most 8, the allowance of its bond at most 1,000,000.
 -- Assumes nothing.
-use mathlib.Core.Path.{_≡_, refl, sym, ap, _∙_}
+use mathlib.Core.Path.{_≡_, refl}
 use mathlib.Core.Bool.{Bool, true, false, cond, not, _&&_, _||_}
 use mathlib.Core.List.{List}
 use Prim.Native.Nat.{ℕ, _*_, _-_, _≤_, _<_}
@@ -18,10 +18,10 @@ use Rattle.arithmetic.proofs.Numbers.{by-equal, by-test}
 use Rattle.limits.specs.Limits.{valueLimit, mostSteps, mostReversion, mostDiscounts, mostStatePrices, isSteps, isReversion, shapeCause, limitCause}
 use Rattle.limits.proofs.LimitLaws.{limit-accepted}
 use Rattle.lattice.specs.RateTree.{rateTree}
-use Rattle.lattice.specs.Shape.{halfWidth, discountsNeeded}
+use Rattle.lattice.specs.Shape.{halfWidth, nodeCount, discountsNeeded}
 use Rattle.lattice.specs.Entries.{aboutTree, discountsNeededAnswer, statePricesNeededAnswer, memoryCause}
 use Rattle.lattice.proofs.RateTreeLaws.{rate-tree-sound}
-use Rattle.lent_tree.specs.LentTree.{acceptedDiscounts, discountsCause, Accepted}
+use Rattle.lent_tree.specs.LentTree.{stored, acceptedDiscounts, discountsCause, Accepted}
 use Rattle.reversion.specs.Reversion.{isVersion}
 use Rattle.spacing.specs.Spacing.{versionSpacing, versionSpacingAnswer}
 use Rattle.curve.specs.Curve.{inPlace, convertsAt, curveNumber}
@@ -31,22 +31,21 @@ use Rattle.pricing_laws.specs.Pricer.{Side, Schedule}
 use Rattle.pricing_laws.specs.Schedule.{lastDate, rising, datesCause}
 use Rattle.pricing_laws.specs.Peak.{peak, greatestValue}
 use Rattle.pricing_laws.proofs.Peaks.{row-in-peak}
-use Rattle.pricing_laws.proofs.PriceLaws.{row-greatest}
+use Rattle.pricing_laws.proofs.PriceLaws.{row-greatest, error-bound-small}
 use Rattle.price_causes.specs.Causes.{mostFlow, mostStrike, flowsCause, optionCause, termsCause}
-use Rattle.price_bound.proofs.BoundLaws.{bound-small}
+use Rattle.price_bound.proofs.BoundLaws.{discount-within}
 use Rattle.price_bound.specs.PriceBound.{treeErrorBound}
-use Rattle.pricing.specs.declared.Price.{Price}
-use Rattle.pricing.specs.Prices.{treeCause, firstCause, priced, bondValue, bondPeak, bondPrice, optionValue, optionPeak, optionLimit}
-use Rattle.pricing.specs.Prices.{scheduledPrice, optionPrice, datedCause, datedPrice}
-use Rattle.pricing.proofs.Accuracy.{first-none, tree-lent, bond-given, option-given, dated-given}
+use Rattle.price_laws.specs.declared.Price.{Price}
+use Rattle.price_laws.specs.Prices.{treeCause, firstCause, priced, bondValue, bondPeak, bondPrice, optionValue, optionPeak, optionLimit}
+use Rattle.price_laws.specs.Prices.{scheduledPrice, optionPrice, datedCause, datedPrice}
+use Rattle.price_laws.proofs.Accuracy.{first-none, tree-lent, bond-given, option-given, dated-given}
 use Rattle.job_record.specs.declared.Job.{Job}
 use Rattle.job_record.specs.declared.OptionRecord.{OptionRecord}
 use Rattle.job_record.specs.declared.Reading.{Reading}
 use Rattle.job_record.specs.Reader.{readingOf}
 use Rattle.job_record.specs.Form.{mostDates, wellFormed}
 use Rattle.job_fit.specs.RecordFit.{jobReversion, jobFlows, jobDiscounts, recordFit}
-use Rattle.job_prices.specs.declared.JobPrices.{JobPrices}
-use Rattle.job_prices.specs.JobPrices.{hasOption, optionForm, taggedOption, treeNumber, recordNumber, bytesNumber, bytesPrices, pricesOf, jobBond, jobOption}
+use Rattle.job_prices.specs.JobPrices.{hasOption, optionForm, taggedOption, treeNumber, recordNumber, bytesNumber, bytesPrices, pricesOf, jobOption}
 use Rattle.job_prices.proofs.Accepted.{AcceptedRecord, bytes-accepted}
 use Rattle.book_laws.specs.Bounds.{jobPrices, mostNumber, mostAllowance, Bounded}
 
@@ -224,8 +223,11 @@ module _ (n b : ℕ) (discounts flows : List ℕ) where
         omega (arith, g .value, limit-accepted _ (first-none _ _ (g .none) .1), root-in-peak (bondValue n b discounts flows) n (rooted bond-tree))
 
     pub bond-bound-most : bondPrice n b discounts flows .bound ≤ mostAllowance
-    unfolding treeErrorBound
-    bond-bound-most = bound-small n b discounts bond-tree 0 _ (omega arith) (bond-given n b discounts flows z .bound)
+    unfolding treeErrorBound nodeCount rateTree
+    bond-bound-most =
+        rw (bond-given n b discounts flows z .bound)
+        (error-bound-small (rateTree b) (stored b discounts) n (λ r k hr hk. discount-within n b r hr discounts bond-tree k hk)
+        (bond-tree .steps-within-limit) 0 (omega arith))
 
   -- an option's value, where its cause and its limit are none
   scheduled-value : (side : Side) (strike : ℕ) (rows : Schedule) (cause : ℕ) →

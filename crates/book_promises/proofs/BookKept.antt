@@ -6,8 +6,7 @@ use Prim.Native.Nat.{ℕ, _^_, _≤_}
 use Rattle.arithmetic.specs.Within.{Within}
 use Rattle.limits.specs.Limits.{mostSteps, mostDiscounts, mostStatePrices}
 use Rattle.tree.specs.Tree.{unit}
-use Rattle.pricing.specs.declared.Price.{Price}
-use Rattle.job_record.specs.declared.Job.{Job}
+use Rattle.price_laws.specs.declared.Price.{Price}
 use Rattle.job_record.specs.Reader.{readingOf}
 use Rattle.job_prices.specs.declared.JobPrices.{JobPrices}
 use Rattle.job_prices.specs.JobPrices.{bytesNumber, bytesPrices, jobBond}

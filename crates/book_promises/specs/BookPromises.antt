@@ -6,7 +6,7 @@ use mathlib.Core.List.{List}
 use Rattle.arithmetic.specs.Within.{Within}
 use Rattle.limits.specs.Limits.{mostSteps}
 use Rattle.tree.specs.Tree.{unit}
-use Rattle.pricing.specs.Exact.{exactBond}
+use Rattle.price_laws.specs.Exact.{exactBond}
 use Rattle.job_record.specs.declared.Job.{Job}
 use Rattle.job_record.specs.Reader.{readingOf}
 use Rattle.job_fit.specs.RecordFit.{jobReversion, jobDiscounts, jobFlows}

@@ -7,10 +7,10 @@ use Rattle.book_cases.proofs.write_all.Statement.{statement}
 use Rattle.book_cases.proofs.write_all.Tie as tie
 
 abbrev Inv-loop : tie.InvT-loop
-Inv-loop buffer₀ room₀ left₀ buffer room left = (length buffer ≡ length buffer₀) × (length room ≡ length room₀)
+Inv-loop input room₀ at₀ left₀ room at left = length room ≡ length room₀
 
 abbrev μ-loop : tie.MeasureT-loop
-μ-loop buffer₀ room₀ left₀ buffer room left = left
+μ-loop input room₀ at₀ left₀ room at left = left
 
 loop-holds : tie.Need-loop-holds Inv-loop μ-loop
 loop-holds c = search needs
@@ -20,9 +20,6 @@ write-next-requires c κs = search needs
 
 same-length : tie.Need-same-length Inv-loop μ-loop
 same-length c = search needs
-
-same-length-2 : tie.Need-same-length-2 Inv-loop μ-loop
-same-length-2 c = search needs
 
 returns : tie.Need-returns Inv-loop μ-loop
 returns c = search needs
@@ -36,11 +33,8 @@ loop-less c = search needs
 loop-again : tie.Need-loop-again Inv-loop μ-loop
 loop-again c = search needs
 
-same-length-3 : tie.Need-same-length-3 Inv-loop μ-loop
-same-length-3 c = search needs
-
-same-length-4 : tie.Need-same-length-4 Inv-loop μ-loop
-same-length-4 c = search needs
+same-length-2 : tie.Need-same-length-2 Inv-loop μ-loop
+same-length-2 c = search needs
 
 returns-2 : tie.Need-returns-2 Inv-loop μ-loop
 returns-2 c = search needs
@@ -54,11 +48,9 @@ write-all-spec =
     loop-holds
     write-next-requires
     same-length
-    same-length-2
     returns
     sub-left
     loop-less
     loop-again
-    same-length-3
-    same-length-4
+    same-length-2
     returns-2)
