@@ -16,7 +16,7 @@ use Rattle.text_laws.proofs.WordLineLaws.{whole-room, pair-room, amount-room, w
 use Rattle.book_laws.specs.declared.Book.{Book}
 use Rattle.book_laws.specs.Bounds.{mostNumber}
 use Rattle.book_laws.specs.Report.{pricedWord, bondsWord, optionsWord, allowancesWord, dearestWord}
-use Rattle.book_laws.specs.Report.{linesFrom, refusalsLine, refusalLines, sumLines, bookLines, bookRoom, answerOf, memoryOf}
+use Rattle.book_laws.specs.Report.{linesFrom, refusalsLine, refusalLines, sumLines, bookLines, bookRoom, linesAnswer, linesMemory}
 
 -- what a line with a word leaves
 abbrev pub Lined : List ℕ → List ℕ → ℕ → List ℕ → Placed → List ℕ → Type 0
@@ -125,19 +125,19 @@ module _ (b : Book) where
       (whole-room pricedWord (omega arith) (b .priced) f) e
 
 module _ (text out : List ℕ) where
-  pub answer-short : length out < bookRoom → record { number = 6; size = 0 } ≡ answerOf text (length out)
-  unfolding answerOf
+  pub answer-short : length out < bookRoom → record { number = 6; size = 0 } ≡ linesAnswer text (length out)
+  unfolding linesAnswer
   answer-short h = rw (lt-ltb (length out) bookRoom h)
 
-  pub memory-short : length out < bookRoom → out ≡ memoryOf text out
-  unfolding memoryOf
+  pub memory-short : length out < bookRoom → out ≡ linesMemory text out
+  unfolding linesMemory
   memory-short h = rw (lt-ltb (length out) bookRoom h)
 
   module _ {start : ℕ} {after : List ℕ} (long : bookRoom ≤ length out) (p : Put out (length out) text start after) where
-    pub answer-put : record { number = 0; size = length out - start } ≡ answerOf text (length out)
-    unfolding answerOf
+    pub answer-put : record { number = 0; size = length out - start } ≡ linesAnswer text (length out)
+    unfolding linesAnswer
     answer-put = let e : length out - start ≡ length text = omega (arith, p .place) in rw (le-ltb (length out) bookRoom long, e)
 
-    pub memory-put : after ≡ memoryOf text out
-    unfolding memoryOf
+    pub memory-put : after ≡ linesMemory text out
+    unfolding linesMemory
     memory-put = rw (le-ltb (length out) bookRoom long) (p .memory)

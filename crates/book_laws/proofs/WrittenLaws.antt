@@ -25,7 +25,7 @@ module _ (job rest : List ℕ) where
   unfolding headSound fieldOf
   head-written = rw (le-leb 3 (length (fieldOf job ++ rest)) (omega (arith, long-written)))
 
-  starts-written : startsWhole (fieldOf job ++ rest) ≡ true
+  pub starts-written : startsWhole (fieldOf job ++ rest) ≡ true
   unfolding startsWhole
   starts-written = rw (head-written, size-written, le-leb (3 + length job) (length (fieldOf job ++ rest)) long-written)
 

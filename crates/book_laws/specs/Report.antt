@@ -10,7 +10,7 @@ use Rattle.text_laws.specs.Lines.{refusedWord}
 use Rattle.text_laws.specs.Put.{putBefore}
 use Rattle.text_laws.specs.WordLines.{wholeLine, pairLine, amountLine}
 use Rattle.book_laws.specs.declared.Book.{Book}
-use Rattle.book_laws.specs.declared.Written.{Written}
+use Rattle.book_laws.specs.declared.BookText.{BookText}
 use Rattle.book_laws.specs.Bounds.{mostNumber}
 
 -- `priced `, `bonds `, `options `, `allowances `, `dearest `; a refusal has the sheet's word
@@ -53,8 +53,8 @@ abbrev pub bookRoom : ℕ
 bookRoom = 2304
 
 -- the lines stand at the end of the lent room and are so long; a refusal leaves the room as it was
-unfoldable pub answerOf : List ℕ → ℕ → Written
-answerOf text room = cond (ltb room bookRoom) (record { number = 6; size = 0 }) (record { number = 0; size = length text })
+unfoldable pub linesAnswer : List ℕ → ℕ → BookText
+linesAnswer text room = cond (ltb room bookRoom) (record { number = 6; size = 0 }) (record { number = 0; size = length text })
 
-unfoldable pub memoryOf : List ℕ → List ℕ → List ℕ
-memoryOf text out = cond (ltb (length out) bookRoom) out (putBefore out (length out) text)
+unfoldable pub linesMemory : List ℕ → List ℕ → List ℕ
+linesMemory text out = cond (ltb (length out) bookRoom) out (putBefore out (length out) text)

@@ -9,9 +9,10 @@ use lib.ListN.{length, getD}
 use Rattle.arithmetic.specs.Row.{values}
 use Rattle.book_laws.specs.declared.Book.{Book}
 use Rattle.book_laws.specs.Bounds.{jobPrices, mostNumber}
-use Rattle.book_laws.specs.Books.{mostFields, optionOf}
+use Rattle.book_laws.specs.Books.{mostFields}
 use Rattle.book_laws.specs.Files.{restOf}
 
+-- of a job's bytes: its number, its bond with its allowance, its option
 abbrev pub numberOf : List ℕ → ℕ
 numberOf job = jobPrices job .number
 
@@ -21,8 +22,9 @@ bondOf job = jobPrices job .bond .value
 abbrev pub boundOf : List ℕ → ℕ
 boundOf job = jobPrices job .bond .bound
 
+-- 0 where a job has no option
 abbrev pub optionPriceOf : List ℕ → ℕ
-optionPriceOf job = optionOf (jobPrices job)
+optionPriceOf job = cond (jobPrices job .«has_option») (jobPrices job .option .value) 0
 
 -- how many jobs have a number; 0 is priced
 unfoldable pub countOf : ℕ → List (List ℕ) → ℕ

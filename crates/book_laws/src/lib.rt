@@ -27,9 +27,9 @@ pub struct Head {
     pub size: usize,
 }
 
-// Lines that stand at the end of the lent room and are so many bytes long; a refusal's number with a zero.
+// The lines of a book, which stand at the end of the lent room and are so many bytes long; a refusal's number with a zero.
 #[repr(C)]
-pub struct Written {
+pub struct BookText {
     pub number: u64,
     pub size: usize,
 }

@@ -4,9 +4,9 @@ ghost use Prim.Native.Nat.{_+_, _≤_};
 ghost use lib.ListN.{length};
 ghost use Rattle.text_laws.specs.Put.{Put};
 ghost use Rattle.book_laws.specs.Bounds.{mostNumber};
-ghost use Rattle.book_laws.specs.Report.{refusalLines, sumLines, bookLines, bookRoom, answerOf, memoryOf};
+ghost use Rattle.book_laws.specs.Report.{refusalLines, sumLines, bookLines, bookRoom, linesAnswer, linesMemory};
 use book_laws::Book;
-use book_laws::Written;
+use book_laws::BookText;
 
 // Room for eighteen lines.
 const BOOK_ROOM: usize = 2_304;
@@ -65,17 +65,17 @@ fn put_book(out: &mut [u8], end: usize, book: Book) -> usize
 }
 
 // The eighteen lines of a book, at the end of the lent room: 2,304 bytes are enough, and fewer are refused with 6 and left as they were.
-pub fn lines(book: Book, out: &mut [u8]) -> Written
-    ensures answer { λ r. ⌜ r ≡ answerOf (bookLines book) (length (now (out .entry))) ⌝ }
+pub fn lines(book: Book, out: &mut [u8]) -> BookText
+    ensures answer { λ r. ⌜ r ≡ linesAnswer (bookLines book) (length (now (out .entry))) ⌝ }
     ensures within { λ r. ⌜ r .size ≤ length (now (out .entry)) ⌝ }
-    ensures memory { λ _. ⌜ now (out .exit) ≡ memoryOf (bookLines book) (now (out .entry)) ⌝ }
+    ensures memory { λ _. ⌜ now (out .exit) ≡ linesMemory (bookLines book) (now (out .entry)) ⌝ }
 {
     let room = out.len();
     if room < BOOK_ROOM {
-        return Written { number: 6, size: 0 };
+        return BookText { number: 6, size: 0 };
     }
     let start = put_book(out, room, book);
-    Written {
+    BookText {
         number: 0,
         size: room - start,
     }

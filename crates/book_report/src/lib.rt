@@ -3,10 +3,10 @@ ghost use mathlib.Core.Path.{_≡_};
 ghost use Prim.Native.Nat.{_≤_, _<_};
 ghost use lib.ListN.{length};
 ghost use Rattle.book_laws.specs.Files.{headOf, fieldEnd, fileBook};
-ghost use Rattle.book_laws.specs.Report.{bookLines, answerOf, memoryOf};
+ghost use Rattle.book_laws.specs.Report.{bookLines, linesAnswer, linesMemory};
 use book_laws::Book;
+use book_laws::BookText;
 use book_laws::Head;
-use book_laws::Written;
 
 fn wide(x: u8) -> usize
     ensures { λ r. ⌜ (r ≡ x) × (r < 256) ⌝ }
@@ -75,10 +75,10 @@ pub fn file_book(file: &[u8]) -> Book
 }
 
 // The lines of a whole file in memory, as `lines` puts them.
-pub fn report(file: &[u8], out: &mut [u8]) -> Written
-    ensures answer { λ r. ⌜ r ≡ answerOf (bookLines (fileBook (now (file .entry)))) (length (now (out .entry))) ⌝ }
+pub fn report(file: &[u8], out: &mut [u8]) -> BookText
+    ensures answer { λ r. ⌜ r ≡ linesAnswer (bookLines (fileBook (now (file .entry)))) (length (now (out .entry))) ⌝ }
     ensures within { λ r. ⌜ r .size ≤ length (now (out .entry)) ⌝ }
-    ensures memory { λ _. ⌜ now (out .exit) ≡ memoryOf (bookLines (fileBook (now (file .entry)))) (now (out .entry)) ⌝ }
+    ensures memory { λ _. ⌜ now (out .exit) ≡ linesMemory (bookLines (fileBook (now (file .entry)))) (now (out .entry)) ⌝ }
 {
     book_lines::lines(file_book(file), out)
 }

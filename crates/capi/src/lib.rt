@@ -23,6 +23,11 @@ ghost use Rattle.price_laws.specs.Strips.{optionStrip, kindStrip};
 ghost use Rattle.valuation.specs.Entries.{valueByStatePricesAnswer, valuationErrorBoundAnswer};
 ghost use Rattle.sheet_laws.specs.WholeJob.{sheetNumber, sheetText, sheetMemory};
 ghost use Rattle.record_sheet.specs.Answers.{answerOf};
+ghost use Rattle.job_record.specs.Reader.{readingOf};
+ghost use Rattle.job_fit.specs.RecordFit.{jobDiscounts, jobStatePrices, memoryAfter};
+ghost use Rattle.job_prices.specs.JobPrices.{bytesNumber, bytesPrices};
+ghost use Rattle.book_laws.specs.Files.{fileBook};
+ghost use Rattle.book_laws.specs.Report.{bookLines, linesAnswer, linesMemory};
 ghost use Rattle.shelf_laws.specs.Shelf.{
   emptySlots,
   partOf,
@@ -43,6 +48,8 @@ ghost use Rattle.lending.specs.Lending.{lendingWorth};
 ghost use Rattle.capi.specs.Version.{version};
 use arithmetic::Answer;
 use bands::Verdict;
+use book_laws::BookText;
+use job_prices::JobPrices;
 use job_sheet::Written;
 use lattice::Branches;
 use lending::Worth;
@@ -403,6 +410,35 @@ pub extern "C" fn mixegorta_sheet(job: &[u8], out: &mut [u8]) -> Written
     ensures memory { λ _. ⌜ now (out .exit) ≡ sheetMemory (now (job .entry)) (now (out .entry)) ⌝ }
 {
     job_sheet::sheet(job, out)
+}
+
+// The tree of the job stands at the start of both memories where nothing is refused.
+#[no_mangle]
+pub extern "C" fn mixegorta_prices_of_job(
+    job: &[u8],
+    discounts: &mut [u64],
+    state_prices: &mut [u64],
+) -> JobPrices
+    ensures answer { λ r. ⌜ r ≡ bytesPrices (now (job .entry)) (length (now (discounts .entry))) (length (now («state_prices» .entry))) ⌝ }
+    ensures discounted { λ _. ⌜ now (discounts .exit) ≡ memoryAfter
+        (bytesNumber (now (job .entry)) (length (now (discounts .entry))) (length (now («state_prices» .entry))))
+        (jobDiscounts (readingOf (now (job .entry)) .job)) (now (discounts .entry)) ⌝ }
+    ensures priced { λ _. ⌜ now («state_prices» .exit) ≡ memoryAfter
+        (bytesNumber (now (job .entry)) (length (now (discounts .entry))) (length (now («state_prices» .entry))))
+        (jobStatePrices (readingOf (now (job .entry)) .job)) (now («state_prices» .entry)) ⌝ }
+{
+    job_prices::prices_of_job(job, discounts, state_prices)
+}
+
+// ---- a book of jobs
+
+// The lines stand at the end of `out`, which has at least 2,304 bytes.
+#[no_mangle]
+pub extern "C" fn mixegorta_book_report(file: &[u8], out: &mut [u8]) -> BookText
+    ensures answer { λ r. ⌜ r ≡ linesAnswer (bookLines (fileBook (now (file .entry)))) (length (now (out .entry))) ⌝ }
+    ensures memory { λ _. ⌜ now (out .exit) ≡ linesMemory (bookLines (fileBook (now (file .entry)))) (now (out .entry)) ⌝ }
+{
+    book_report::report(file, out)
 }
 
 // ---- a shelf of trees

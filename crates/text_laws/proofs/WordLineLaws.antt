@@ -1,7 +1,7 @@
 -- Laws of the lines with a word: how long they are, and what a call leaves.
 -- Assumes nothing.
-use mathlib.Core.Path.{_≡_, sym, _∙_}
-use mathlib.Core.List.{List, _++_}
+use mathlib.Core.Path.{_≡_, refl, sym, _∙_}
+use mathlib.Core.List.{List, [], _∷_, _++_}
 use Prim.Native.Nat.{ℕ, _≤_, _<_, _^_}
 use native.Mathlib.Omega.{arith}
 use borrow.Author.Tests.{le-leb, lt-leb}
@@ -9,6 +9,7 @@ use lib.ListN.{length, length-append}
 use Rattle.arithmetic.proofs.Numbers.{by-order}
 use Rattle.text_laws.specs.declared.Placed.{Placed}
 use Rattle.text_laws.specs.Put.{Put}
+use Rattle.text_laws.specs.Decimal.{natural, naturalWithin, lastDigits, decimal}
 use Rattle.text_laws.specs.Lines.{lineNumber}
 use Rattle.text_laws.specs.WordLines.{wholeLine, pairLine, amountLine, longestWord, wordNumber}
 use Rattle.text_laws.proofs.DecimalLaws.{decimal-room}
@@ -74,3 +75,17 @@ pub word-before : {out₀ out text after : List ℕ} {end mid : ℕ} {answer : P
     Answered (wordNumber (length word) (length out) mid) out mid line answer after → Put out₀ end (line ++ text) (answer .start) after
 word-before {out₀} {out} {text} {after} {end} {mid} word line p w h l a =
     put-before p (word-stands word out mid line w h (omega (arith, p .place, p .within, p .same)) l a)
+
+-- ---- figures: `a 7`, `a 7 2`, `a 1.500000000`
+
+pub whole-shown : wholeLine (97 ∷ 32 ∷ []) 7 ≡ 97 ∷ 32 ∷ 55 ∷ 10 ∷ []
+unfolding wholeLine decimal natural naturalWithin
+whole-shown = refl
+
+pub pair-shown : pairLine (97 ∷ 32 ∷ []) 7 2 ≡ 97 ∷ 32 ∷ 55 ∷ 32 ∷ 50 ∷ 10 ∷ []
+unfolding pairLine decimal natural naturalWithin
+pair-shown = refl
+
+pub amount-shown : amountLine (97 ∷ 32 ∷ []) 1500000000 ≡ 97 ∷ 32 ∷ 49 ∷ 46 ∷ 53 ∷ 48 ∷ 48 ∷ 48 ∷ 48 ∷ 48 ∷ 48 ∷ 48 ∷ 48 ∷ 10 ∷ []
+unfolding amountLine decimal natural naturalWithin lastDigits
+amount-shown = refl
