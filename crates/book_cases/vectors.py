@@ -18,6 +18,7 @@ sheets = importlib.util.module_from_spec(spec)
 spec.loader.exec_module(sheets)
 
 TAG, MOST_FIELDS = 16, 500
+VERSION_AT, VERSIONS = 20, (None, 1, 2)
 known = {}
 
 
@@ -69,15 +70,26 @@ def field(job, tag=TAG):
     return struct.pack('>BH', tag, len(job)) + job
 
 
+def versioned(job, version):
+    """The job with a version's field, or as it is for None."""
+    return job if version is None else job[:VERSION_AT] + struct.pack('>BHB', 11, 1, version) + job[VERSION_AT:]
+
+
 def files(small, wrong):
-    """Whole files and damaged ones. The bond of `low` is 0, of `high` above that of `mid`, and `twin` has mid's bond with an option on it."""
+    """Whole files and damaged ones. The bond of `low` is 0, of `high` above that of `mid`, and `twin` has mid's bond with an option on it; those of
+    `steep` have options on listed dates."""
     mid, high = (sheets.job(f=1, s=0, quotes=[(5, 0.9)], flows=[flow]) for flow in (10 ** 9, 2 * 10 ** 9))
     low = sheets.job(f=1, s=0, quotes=[(5, 0.9)], flows=[0])
     twin = sheets.job(f=1, s=0, quotes=[(5, 0.9)], flows=[10 ** 9], option=(1, 0, 5 * 10 ** 8))
     over = sheets.job(f=1, s=0, quotes=[(5, 0.9)], flows=[2 * 10 ** 9], option=(5, 0, 0))
+    steep = [sheets.job(f=1, b=5_000, s=20_000, quotes=sheets.rates(4, 0.03), flows=flows, option=(1, 10 ** 9), dates=[0, 2])
+             for flows in ([0, 0, 0, 10 ** 9], [10 ** 8] * 3 + [11 * 10 ** 8])]
     yield b''
     for jobs in ([low], [mid], [low, low], [low, mid], [mid, high], [high, mid], [mid, twin], [twin, mid], [over, mid], [over], [mid, over, high, high]):
         yield b''.join(map(field, jobs))
+    for version in VERSIONS:
+        yield b''.join(field(versioned(made, version)) for made in steep)
+    yield b''.join(field(versioned(made, version)) for made in steep for version in (*VERSIONS, 0, 3))
     yield b''.join(map(field, wrong))
     yield field(b'') + field(mid)
     yield field(bytes(4_700)) + field(bytes(4_701)) + field(bytes(9_999)) + field(mid)
@@ -117,6 +129,10 @@ def main():
     cases = list(files(small, [wrong[number] for number in sorted(wrong)]))
     if sorted(wrong) != [0, 1, 2, 3, 4, 5, 7, 8, 9, 10, 11, 12, 13] or max(map(len, cases)) > 65_535:
         raise SystemExit('a number is missing, or a file is too long')
+    priced = [job for job in small if prices(job)[0] == 0]
+    told = {job[VERSION_AT + 3] if job[VERSION_AT] == 11 else None for job in priced}
+    if told != set(VERSIONS) or not any(struct.pack('>BH', 10, 6) in job for job in priced):
+        raise SystemExit('a version or a list of dates is missing')
     write('stdin', b''.join(struct.pack('>H', len(case)) + case for case in cases))
     write('stdout', b''.join(map(report, cases)))
     whole = long_file(small)

@@ -69,7 +69,7 @@ use step_rate::Rate;
 pub extern "C" fn mixegorta_version() -> u64
     ensures { λ r. ⌜ r ≡ version ⌝ }
 {
-    11_000
+    14_000
 }
 
 // ---- the shape of a tree
