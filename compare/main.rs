@@ -1,6 +1,7 @@
-// Compares the library with the rules of documents 01 and 02 and with the exact pricer, on random inputs, on random scripts of calls on a shelf and on
-// random tables of haircut bands.
+// Compares the library with the rules of documents 01 and 02 and with the exact pricer, on random inputs, on random scripts of calls on a shelf, on
+// random tables of haircut bands and on random jobs and books of them.
 mod bands;
+mod books;
 mod checks;
 mod engine;
 mod exact;
@@ -21,6 +22,8 @@ const LARGE_RUN: u64 = 1_000;
 const SEEDS_A_SCRIPT: u64 = 8;
 /// So many tables of haircut bands have every verdict, and tell every wrong rule.
 const MANY_TABLES: u64 = 16_000;
+/// So many books tell every wrong rule.
+const MANY_BOOKS: u64 = 16_000;
 /// So many scripts have every order of causes, every refused commit tried again, and every alteration, of the carried numbers too.
 const MANY_SCRIPTS: u64 = 1_000;
 
@@ -60,6 +63,7 @@ fn without_seed(tally: &mut Tally, shelves: &mut shelves::Tally) {
     shelves::every_order(shelves);
     shelves::numbers_past_a_width(shelves);
     bands::by_hand();
+    books::by_hand();
 }
 
 fn input(own: u64, tally: &mut Tally) {
@@ -85,10 +89,16 @@ fn table(own: u64, tally: &mut bands::Tally) {
     }
 }
 
+fn job_and_book(own: u64, tally: &mut books::Tally) {
+    if panic::catch_unwind(panic::AssertUnwindSafe(|| books::check(&mut inputs::Random::new(own), own, tally))).is_err() {
+        different(own);
+    }
+}
+
 fn main() {
     let (count, seed) = (argument(1, 20_000), argument(2, 1));
     let (mut tally, mut shelves, sizes) = (Tally::default(), shelves::Tally::default(), scripts::Sizes::new());
-    let mut tables = bands::Tally::default();
+    let (mut tables, mut books) = (bands::Tally::default(), books::Tally::default());
     without_seed(&mut tally, &mut shelves);
     for own in seed..seed + count {
         input(own, &mut tally);
@@ -96,6 +106,7 @@ fn main() {
             script(own, &sizes, &mut shelves);
         }
         table(own, &mut tables);
+        job_and_book(own, &mut books);
     }
     println!("{tally}");
     assert!(count < LARGE_RUN || tally.bonds_on_both_sides(), "bonds on one side of their exact prices alone");
@@ -108,6 +119,9 @@ fn main() {
     assert!(missing.is_empty(), "no script has {missing:?}");
     println!("\n{tables}\n");
     let missing = if count < MANY_TABLES { Vec::new() } else { tables.missing() };
+    assert!(missing.is_empty(), "no run has {missing:?}");
+    println!("{books}\n");
+    let missing = if count < MANY_BOOKS { Vec::new() } else { books.missing() };
     assert!(missing.is_empty(), "no run has {missing:?}");
     println!("{count} inputs from seed {seed}: every result equal, every bound kept");
 }
