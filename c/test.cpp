@@ -1,7 +1,9 @@
 // The header in C++: every struct as a type of its own, and calls of each shape. Prints nothing where all is well.
 #include "mixegorta.h"
 
+#include <cstddef>
 #include <cstdio>
+#include <string>
 #include <vector>
 
 static int failures = 0;
@@ -105,6 +107,17 @@ static void bands() {
     EXPECT(gap.number == 17 && gap.row == 21 && gap.price == 0 && gap.place == 0);
 }
 
+static void books() {
+    std::vector<uint8_t> room(MIXEGORTA_BOOK_ROOM);
+    const std::vector<uint8_t> file = {0x10, 0, 0, 0x10};
+    const mixegorta_book_text text = mixegorta_book_report(file.data(), file.size(), room.data(), room.size());
+    const std::string report(room.end() - static_cast<std::ptrdiff_t>(text.size), room.end());
+    EXPECT(text.number == 0 && report.find("priced 0\nrefused 1 2\nrefused 2 0\n") == 0);
+    std::vector<uint64_t> discounts(MIXEGORTA_MAX_DISCOUNTS), state_prices(MIXEGORTA_MAX_STATE_PRICES);
+    const mixegorta_job_prices none = mixegorta_prices_of_job(file.data(), 0, discounts.data(), discounts.size(), state_prices.data(), state_prices.size());
+    EXPECT(none.number == 1 && !none.has_option && none.bond.value == 0);
+}
+
 int main() {
     EXPECT(mixegorta_version() == MIXEGORTA_VERSION_NUMBER);
     shapes();
@@ -113,5 +126,6 @@ int main() {
     sheet();
     shelf();
     bands();
+    books();
     return failures == 0 ? 0 : 1;
 }

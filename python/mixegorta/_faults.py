@@ -54,6 +54,8 @@ def accepted(number: int, name: str, given: Tuple[Any, ...], verdict: Any = None
 
 
 def _place(number: int, given: Given) -> Place:
+    if "file" in given:
+        return "out", None
     if "job" in given:
         return _place_in_job(number, given)
     if "shelf" in given and "steps" not in given and number != 15:
@@ -64,10 +66,16 @@ def _place(number: int, given: Given) -> Place:
 
 def _place_in_job(number: int, given: Given) -> Place:
     if number == 6:
-        return "out", None
+        return "out" if "out" in given else _short_memory(given), None
     if number not in (7, 9, 10):
         return "job", None
     return "job", _place(number, _fit_and_flows(bytes(given["job"])))[1]
+
+
+def _short_memory(given: Given) -> str:
+    """Which memory is too short for the tree of a job."""
+    short = given["discounts"].count < _needed("discounts_needed", _fit_and_flows(bytes(given["job"])))
+    return "discounts" if short else "state_prices"
 
 
 def _fit_and_flows(job: bytes) -> Given:

@@ -4,7 +4,7 @@ import struct
 import sys
 import unittest
 
-from mixegorta import ONE, SHEET_ROOM, SHELF_ROOM
+from mixegorta import BOOK_ROOM, ONE, SHEET_ROOM, SHELF_ROOM
 from mixegorta._arguments import amounts, dates, job_bytes, kept_memory, own_memory, quotes
 from mixegorta._declarations import DECLARATIONS, CPoint, CShelf, CSlot
 from mixegorta._faults import call
@@ -70,6 +70,10 @@ SHELF_KINDS, SHELF_LISTS = {**SHELF_BONDS, 11: KINDS[11]}, {**SHELF_BONDS, 11: L
 WHOLE = 1, 60, 0, 8 * ONE, 250
 TABLES = {6: {"haircuts": amounts("haircuts", [1, 2])}, 16: bands((0, *WHOLE[1:])), 17: bands((2, *WHOLE[1:])), 18: bands(WHOLE, WHOLE)}
 
+JOBS = {1: job(option=b"\x08"), 2: job(frequency=3), 3: job(steps=61), 4: job(reversion=6001), 5: job(volatility=50001), 7: job(figure=11.0),
+        8: job(steps=13, volatility=50000), 9: job(figure=1.2), 10: job(flow=2 * ONE + 1), 11: job(kind=5), 12: job(steps=5, flow=2 * ONE, figure=1.0),
+        13: job(option=struct.pack(">BHBI", 10, 5, 1, ONE))}
+
 # for each function what it takes, and for each refusal what is changed
 CASES = {
     "half_width": (ROW, SHAPE), "node_count": (ROW, SHAPE), "row_start": (ROW, SHAPE),
@@ -98,17 +102,16 @@ CASES = {
     "shelf_option_strip": ({**SHELF_LISTED, **STRIKES}, SHELF_LISTS), "shelf_option_strip_of_kind": ({**SHELF_KIND, **STRIKES}, SHELF_KINDS),
     "check_bands": (bands(WHOLE), TABLES),
     "lending_worth": ({**bands(WHOLE), "row": 1, "price": ONE}, {**TABLES, 6: {"row": 61}, 12: {"price": 8 * ONE + 1}}),
-    "sheet": ({**job(), "out": own_memory(SHEET_ROOM, "B")}, {
-        1: job(option=b"\x08"), 2: job(frequency=3), 3: job(steps=61), 4: job(reversion=6001), 5: job(volatility=50001), 6: {"out": own_memory(9, "B")},
-        7: job(figure=11.0), 8: job(steps=13, volatility=50000), 9: job(figure=1.2), 10: job(flow=2 * ONE + 1), 11: job(kind=5),
-        12: job(steps=5, flow=2 * ONE, figure=1.0), 13: job(option=struct.pack(">BHBI", 10, 5, 1, ONE))}),
+    "sheet": ({**job(), "out": own_memory(SHEET_ROOM, "B")}, {**JOBS, 6: {"out": own_memory(9, "B")}}),
+    "prices_of_job": ({**job(), "discounts": own_memory(3600), "state_prices": own_memory(3721)}, {**JOBS, 6: {"discounts": own_memory(0)}}),
+    "book_report": ({"file": own_memory(0, "B"), "out": own_memory(BOOK_ROOM, "B")}, {6: {"out": own_memory(BOOK_ROOM - 1, "B")}}),
 }
 
 
 def number(name, given):
-    """The number that a call gives: its last price's where it answers two, its own or its first price's where it answers a strip."""
+    """The number that a call gives: its last price's where it answers two, its own or its first price's where it answers a strip; a job's own."""
     answer = call(name, *(given[parameter] for parameter in DECLARATIONS[name][1]))
-    answer = getattr(answer, "verdict", getattr(answer, "option", answer))
+    answer = answer if hasattr(answer, "has_option") else getattr(answer, "verdict", getattr(answer, "option", answer))
     return getattr(answer, "number", answer) or getattr(answer, "numbers", [0])[0]
 
 

@@ -41,6 +41,14 @@ wrong: Optional[m.Refused] = table.verdict()
 worth: int = table.worth(20, "1.00") + m.lending_worth([1], [60], ["0"], array("Q", [m.MAX_VALUE]), [0], 1, m.ONE)
 m.check_bands([1], [60], [0], [m.MAX_VALUE], range(1))
 place: Optional[int] = wrong.place if wrong is not None else None
+empty: bytes = m.book_of_jobs([])
+report: str = m.book_report(empty) + m.book_report(bytearray(m.book_of_jobs([b"", memoryview(b"")])))
+size: int = m.book_report_into(b"", bytearray(m.BOOK_ROOM))
+try:
+    job_prices: m.JobPrices = m.prices_of_job(b"")
+    of_option: Optional[m.Price] = job_prices.option
+except m.MalformedJob:
+    report = report[:size]
 words: str = f"{both.option.argument} {both.option.row}" if isinstance(both.option, m.Refused) else f"{both.option.bound}"
 
 try:
@@ -75,4 +83,8 @@ try:
     m.Bands([("1", 60, 0, m.MAX_VALUE, 250)])  # type: ignore[list-item]
 except TypeError:
     pass
-print(place is None and worth == 1_975_000_000 and bond == same == shelved and dated == same_option and fitted and same_bound and words.startswith("expiry"))
+try:
+    m.book_of_jobs(["job"])  # type: ignore[list-item]
+except TypeError:
+    pass
+print(report == m.book_report(b"") and place is None and worth == 1_975_000_000 and bond == same == shelved and dated == same_option and fitted and same_bound and words.startswith("expiry"))

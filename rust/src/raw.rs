@@ -348,8 +348,12 @@ extern "C" {
         state_prices: *mut u64,
         state_prices_len: usize,
     ) -> JobPrices;
-    pub fn mixegorta_book_report(file: *const u8, file_len: usize, out: *mut u8, out_len: usize)
-        -> BookText;
+    pub fn mixegorta_book_report(
+        file: *const u8,
+        file_len: usize,
+        out: *mut u8,
+        out_len: usize,
+    ) -> BookText;
     pub fn mixegorta_empty_shelf() -> Shelf;
     pub fn mixegorta_shelf_part(shelf: Shelf, name: usize) -> Part;
     pub fn mixegorta_shelf_ask(
