@@ -40,7 +40,7 @@ use Rattle.book_laws.proofs.TotalLaws.{total-near}
 use Rattle.book_laws.proofs.TallyLaws.{jobs-few, file-tally}
 use Rattle.book_laws.proofs.WrittenLaws.{starts-written, file-taken, rest-stops}
 use Rattle.book_promises.specs.BookPromises.{fieldWith, fieldsWith, Taken, brokenBy, refusedWith, FirstDearest, refusedLine, refusedFrom, reportText}
-use Rattle.book_promises.specs.BookPromises.{stepsOf, exactOf, exactBondOf, exactTotal, Reported, BookPromises}
+use Rattle.book_promises.specs.BookPromises.{stepsOf, exactOf, exactBondOf, exactTotal, PricedAs, Reported, BookPromises}
 
 -- ---- the fields of a file
 
@@ -141,6 +141,10 @@ exact-total jobs = total-near unit exactBondOf stepsOf steps-few bond-near jobs
 
 -- ---- the statement
 
+job-priced : (job : List ℕ) → PricedAs job
+unfolding jobPrices
+job-priced job = record { number-is = refl; bond-is = refl; bound-is = refl; option-is = refl }
+
 lowest-none : (cause : ℕ) → lowestCause cause 0 ≡ cause
 unfolding lowestCause
 lowest-none cause = by-equal cause 0 (λ z. rw (eq-eqb cause 0 z) (sym z)) (λ nz. rw (ne-eqb cause 0 nz))
@@ -180,6 +184,7 @@ unfolding linesAnswer linesMemory
 book-kept = record {
   reported = file-reported;
   field-by-field = as-a-program-goes;
+  as-priced = job-priced;
   as-its-sheet = sheet-numbered;
   thirteen = λ job. bounded job .number;
   ended-takes-none = ended-same;

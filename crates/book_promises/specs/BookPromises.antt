@@ -13,6 +13,7 @@ use Rattle.price_laws.specs.Exact.{exactBond}
 use Rattle.job_record.specs.declared.Job.{Job}
 use Rattle.job_record.specs.Reader.{readingOf}
 use Rattle.job_fit.specs.RecordFit.{jobReversion, jobDiscounts, jobFlows}
+use Rattle.job_prices.specs.JobPrices.{bytesPrices}
 use Rattle.text_laws.specs.Decimal.{decimal}
 use Rattle.sheet_laws.specs.WholeJob.{sheetNumber}
 use Rattle.book_laws.specs.declared.Book.{Book}
@@ -101,6 +102,13 @@ exactTotal jobs = sumOf (λ job. exactBondOf job * unit ^ (60 - stepsOf job)) jo
 
 -- ---- the statement
 
+-- the figures of a job are what the prices of its bytes say, in memories of 3,600 discounts and 3,721 state prices, which hold every tree
+pub record PricedAs (job : List ℕ) : Type 0 where
+  pub number-is : numberOf job ≡ bytesPrices job 3600 3721 .number
+  pub bond-is : bondOf job ≡ bytesPrices job 3600 3721 .bond .value
+  pub bound-is : boundOf job ≡ bytesPrices job 3600 3721 .bond .bound
+  pub option-is : optionPriceOf job ≡ cond (bytesPrices job 3600 3721 .«has_option») (bytesPrices job 3600 3721 .option .value) 0
+
 -- what a text says of a file
 pub record Reported (file text : List ℕ) : Type 0 where
   pub jobs : List (List ℕ)
@@ -116,7 +124,8 @@ pub record BookPromises : Type 0 where
   pub reported : (file : List ℕ) → ((i : ℕ) → getD file i 0 < 256) → Reported file (bookLines (fileBook file))
   -- the same book field by field, as a program goes that never holds the file
   pub field-by-field : (file : List ℕ) → fileBook file ≡ streamed 500 emptyBook file
-  -- a job is priced, or counted, as its sheet is printed or refused, and no number above 13 comes from one
+  -- a job is priced, or counted, as its prices say and as its sheet is printed or refused, and no number above 13 comes from one
+  pub as-priced : (job : List ℕ) → PricedAs job
   pub as-its-sheet : (job : List ℕ) (room : ℕ) → 468736 ≤ room → numberOf job ≡ sheetNumber job room
   pub thirteen : (job : List ℕ) → numberOf job ≤ 13
   -- a book that has ended stays as it is
