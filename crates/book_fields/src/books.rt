@@ -36,7 +36,7 @@ pub(crate) fn is_open(book: Book) -> bool
     if book.fields * limits::VALUE_LIMIT < book.options {
         return false;
     }
-    if book.fields * book_laws::MOST_ALLOWANCE < book.allowances {
+    if book.fields * book_laws::MOST_ERROR_BOUND < book.error_bounds {
         return false;
     }
     if book.fields < book.place {
@@ -91,7 +91,7 @@ fn with_refused(book: Book, number: u64) -> Book
         refused: counts,
         bonds: book.bonds,
         options: book.options,
-        allowances: book.allowances,
+        error_bounds: book.error_bounds,
         dearest: book.dearest,
         place: book.place,
     }
@@ -111,7 +111,7 @@ fn with_priced(book: Book, prices: JobPrices) -> Book
         refused: counts,
         bonds: book.bonds + prices.bond.value,
         options: book.options + option_of(prices),
-        allowances: book.allowances + prices.bond.bound,
+        error_bounds: book.error_bounds + prices.bond.bound,
         dearest: chosen(dearer, prices.bond.value, book.dearest),
         place: chosen(dearer, place, book.place),
     }
@@ -142,7 +142,7 @@ pub(crate) fn ended(book: Book) -> Book
         refused: counts,
         bonds: book.bonds,
         options: book.options,
-        allowances: book.allowances,
+        error_bounds: book.error_bounds,
         dearest: book.dearest,
         place: book.place,
     }

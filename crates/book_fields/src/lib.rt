@@ -16,7 +16,7 @@ pub fn empty() -> Book
         refused: [0u64; 13],
         bonds: 0,
         options: 0,
-        allowances: 0,
+        error_bounds: 0,
         dearest: 0,
         place: 0,
     }

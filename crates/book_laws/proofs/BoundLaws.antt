@@ -1,4 +1,4 @@
--- THE PRICES OF A JOB ARE BOUNDED: its number is at most 13, its prices at most 8, the allowance of its bond at most 1,000,000.
+-- THE PRICES OF A JOB ARE BOUNDED: its number is at most 13, its prices at most 8, the error bound of its bond at most 1,000,000.
 -- Assumes nothing.
 use mathlib.Core.Path.{_≡_, refl}
 use mathlib.Core.Bool.{Bool, true, false, cond, not, _&&_, _||_}
@@ -47,7 +47,7 @@ use Rattle.job_record.specs.Form.{mostDates, wellFormed}
 use Rattle.job_fit.specs.RecordFit.{jobReversion, jobFlows, jobDiscounts, recordFit}
 use Rattle.job_prices.specs.JobPrices.{hasOption, optionForm, taggedOption, treeNumber, recordNumber, bytesNumber, bytesPrices, pricesOf, jobOption}
 use Rattle.job_prices.proofs.Accepted.{AcceptedRecord, bytes-accepted}
-use Rattle.book_laws.specs.Bounds.{jobPrices, mostNumber, mostAllowance, Bounded}
+use Rattle.book_laws.specs.Bounds.{jobPrices, mostNumber, mostErrorBound, Bounded}
 
 -- ---- no cause is above 13
 
@@ -222,7 +222,7 @@ module _ (n b : ℕ) (discounts flows : List ℕ) where
         let g = bond-given n b discounts flows z in
         omega (arith, g .value, limit-accepted _ (first-none _ _ (g .none) .1), root-in-peak (bondValue n b discounts flows) n (rooted bond-tree))
 
-    pub bond-bound-most : bondPrice n b discounts flows .bound ≤ mostAllowance
+    pub bond-bound-most : bondPrice n b discounts flows .bound ≤ mostErrorBound
     unfolding treeErrorBound nodeCount rateTree
     bond-bound-most =
         rw (bond-given n b discounts flows z .bound)
@@ -265,7 +265,7 @@ module _ (job : Job) (discounts prices : ℕ) (a : AcceptedRecord job discounts 
       go false e = omega arith
 
 prices-most : (number : ℕ) (bond : Price) (present : Bool) (option : Price) → number ≤ mostNumber →
-    (number ≡ 0 → (bond .value ≤ valueLimit) × (bond .bound ≤ mostAllowance) × (option .value ≤ valueLimit)) →
+    (number ≡ 0 → (bond .value ≤ valueLimit) × (bond .bound ≤ mostErrorBound) × (option .value ≤ valueLimit)) →
     Bounded (pricesOf number bond present option)
 unfolding pricesOf
 prices-most number bond present option h f =

@@ -13,7 +13,7 @@ use Rattle.arithmetic.proofs.RowLaws.{each-holds, each-all}
 use Rattle.arithmetic.proofs.BetweenLaws.{between-holds, between-most}
 use Rattle.job_prices.specs.declared.JobPrices.{JobPrices}
 use Rattle.limits.specs.Limits.{valueLimit}
-use Rattle.book_laws.specs.Bounds.{jobPrices, Bounded, mostNumber, mostAllowance}
+use Rattle.book_laws.specs.Bounds.{jobPrices, Bounded, mostNumber, mostErrorBound}
 use Rattle.book_laws.specs.declared.Book.{Book}
 use Rattle.book_laws.specs.Books.{mostFields, countsWithin, isOpen, optionOf, isDearer, withPriced}
 use Rattle.book_laws.specs.Books.{withRefused, withPrices, withField, endedBook, brokenBook, closedBook}
@@ -44,7 +44,7 @@ pub record Within (b : Book) : Type 0 where
   pub priced : b .priced ≤ b .fields
   pub bonds : b .bonds ≤ b .fields * valueLimit
   pub options : b .options ≤ b .fields * valueLimit
-  pub allowances : b .allowances ≤ b .fields * mostAllowance
+  pub error-bounds : b .«error_bounds» ≤ b .fields * mostErrorBound
   pub place : b .place ≤ b .fields
   pub counts : countsWithin (b .refused) (b .fields) ≡ true
 
@@ -61,7 +61,7 @@ open-within b h =
     let (p, h3) = both (leb (b .priced) (b .fields)) _ h2 in
     let (s, h4) = both (leb (b .bonds) (b .fields * valueLimit)) _ h3 in
     let (o, h5) = both (leb (b .options) (b .fields * valueLimit)) _ h4 in
-    let (a, h6) = both (leb (b .allowances) (b .fields * mostAllowance)) _ h5 in
+    let (a, h6) = both (leb (b .«error_bounds») (b .fields * mostErrorBound)) _ h5 in
     let (l, c) = both (leb (b .place) (b .fields)) _ h6 in
     record {
       ended = not-true (b .ended) e;
@@ -69,7 +69,7 @@ open-within b h =
       priced = leb-true _ _ p;
       bonds = leb-true _ _ s;
       options = leb-true _ _ o;
-      allowances = leb-true _ _ a;
+      error-bounds = leb-true _ _ a;
       place = leb-true _ _ l;
       counts = c;
     }
@@ -83,7 +83,7 @@ within-open b w =
       le-leb _ _ (w .priced),
       le-leb _ _ (w .bonds),
       le-leb _ _ (w .options),
-      le-leb _ _ (w .allowances),
+      le-leb _ _ (w .error-bounds),
       le-leb _ _ (w .place),
       w .counts,
     )
@@ -159,7 +159,8 @@ ended-shut b h = rw h
 
 -- the counts are tested last
 pub counts-last : (b : Book) → b .ended ≡ false → b .fields ≤ mostFields → b .priced ≤ b .fields → b .bonds ≤ b .fields * valueLimit
-    → b .options ≤ b .fields * valueLimit → b .allowances ≤ b .fields * mostAllowance → b .place ≤ b .fields → countsWithin (b .refused) (b .fields) ≡ isOpen b
+    → b .options ≤ b .fields * valueLimit → b .«error_bounds» ≤ b .fields * mostErrorBound → b .place ≤ b .fields
+    → countsWithin (b .refused) (b .fields) ≡ isOpen b
 unfolding isOpen
 counts-last b e f p s o a l = rw (e, le-leb _ _ f, le-leb _ _ p, le-leb _ _ s, le-leb _ _ o, le-leb _ _ a, le-leb _ _ l)
 

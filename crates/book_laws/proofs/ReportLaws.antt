@@ -24,8 +24,8 @@ Lined word out end line answer after = Answered (wordNumber (length word) (lengt
 
 -- ---- the sums, the last line first
 
-module _ (bonds options allowances place : ℕ) (b : bonds < 2 ^ 64) (o : options < 2 ^ 64) (a : allowances < 2 ^ 64) (q : place < 2 ^ 64) where
-  pub sums-length : length (sumLines bonds options allowances place) ≤ 512
+module _ (bonds options errorBounds place : ℕ) (b : bonds < 2 ^ 64) (o : options < 2 ^ 64) (a : errorBounds < 2 ^ 64) (q : place < 2 ^ 64) where
+  pub sums-length : length (sumLines bonds options errorBounds place) ≤ 512
   unfolding sumLines
   sums-length =
       simp length-append
@@ -33,29 +33,29 @@ module _ (bonds options allowances place : ℕ) (b : bonds < 2 ^ 64) (o : option
         arith,
         amount-room bondsWord (omega arith) bonds b,
         amount-room optionsWord (omega arith) options o,
-        whole-room allowancesWord (omega arith) allowances a,
+        whole-room allowancesWord (omega arith) errorBounds a,
         whole-room dearestWord (omega arith) place q,
       ))
 
   -- each call's answer in turn
   pub sums-stand : {out₀ out₁ out₂ out₃ out₄ : List ℕ} {end : ℕ} {a₁ a₂ a₃ a₄ : Placed} → 512 ≤ end → end ≤ length out₀
       → Lined dearestWord out₀ end (wholeLine dearestWord place) a₁ out₁
-      → Lined allowancesWord out₁ (a₁ .start) (wholeLine allowancesWord allowances) a₂ out₂
+      → Lined allowancesWord out₁ (a₁ .start) (wholeLine allowancesWord errorBounds) a₂ out₂
       → Lined optionsWord out₂ (a₂ .start) (amountLine optionsWord options) a₃ out₃
       → Lined bondsWord out₃ (a₃ .start) (amountLine bondsWord bonds) a₄ out₄
-      → Put out₀ end (sumLines bonds options allowances place) (a₄ .start) out₄
+      → Put out₀ end (sumLines bonds options errorBounds place) (a₄ .start) out₄
   unfolding sumLines
   sums-stand {out₀} {out₁} {out₂} {out₃} {out₄} {end} {a₁} {a₂} {a₃} {a₄} h w e₁ e₂ e₃ e₄ =
       let l₁ = whole-room dearestWord (omega arith) place q in
-      let l₂ = whole-room allowancesWord (omega arith) allowances a in
+      let l₂ = whole-room allowancesWord (omega arith) errorBounds a in
       let l₃ = amount-room optionsWord (omega arith) options o in
       let l₄ = amount-room bondsWord (omega arith) bonds b in
       let p₁ : Put out₀ end (wholeLine dearestWord place) (a₁ .start) out₁ =
       word-stands dearestWord out₀ end (wholeLine dearestWord place) (omega arith) (omega arith) w l₁ e₁ in
-      let p₂ : Put out₀ end (wholeLine allowancesWord allowances ++ wholeLine dearestWord place) (a₂ .start) out₂ =
-      word-before allowancesWord (wholeLine allowancesWord allowances) p₁ (omega arith) (omega (arith, p₁ .place)) l₂ e₂ in
+      let p₂ : Put out₀ end (wholeLine allowancesWord errorBounds ++ wholeLine dearestWord place) (a₂ .start) out₂ =
+      word-before allowancesWord (wholeLine allowancesWord errorBounds) p₁ (omega arith) (omega (arith, p₁ .place)) l₂ e₂ in
       let t₂ = simp length-append at (p₂ .place) in
-      let p₃ : Put out₀ end (amountLine optionsWord options ++ (wholeLine allowancesWord allowances ++ wholeLine dearestWord place)) (a₃ .start) out₃ =
+      let p₃ : Put out₀ end (amountLine optionsWord options ++ (wholeLine allowancesWord errorBounds ++ wholeLine dearestWord place)) (a₃ .start) out₃ =
       word-before optionsWord (amountLine optionsWord options) p₂ (omega arith) (omega arith) l₃ e₃ in
       let t₃ = simp length-append at (p₃ .place) in
       word-before bondsWord (amountLine bondsWord bonds) p₃ (omega arith) (omega arith) l₄ e₄
@@ -110,13 +110,13 @@ module _ (counts out₀ : List ℕ) (end : ℕ) where
 -- ---- the whole book
 
 module _ (b : Book) where
-  pub refusals-room-left : {out₀ out₁ : List ℕ} {end s₁ : ℕ} → Put out₀ end (sumLines (b .bonds) (b .options) (b .allowances) (b .place)) s₁ out₁
-      → bookRoom ≤ end → b .bonds < 2 ^ 64 → b .options < 2 ^ 64 → b .allowances < 2 ^ 64 → b .place < 2 ^ 64 → (1664 + 128 ≤ s₁) × (s₁ ≤ length out₁)
+  pub refusals-room-left : {out₀ out₁ : List ℕ} {end s₁ : ℕ} → Put out₀ end (sumLines (b .bonds) (b .options) (b .«error_bounds») (b .place)) s₁ out₁
+      → bookRoom ≤ end → b .bonds < 2 ^ 64 → b .options < 2 ^ 64 → b .«error_bounds» < 2 ^ 64 → b .place < 2 ^ 64 → (1664 + 128 ≤ s₁) × (s₁ ≤ length out₁)
   refusals-room-left p h f g k l =
-      let n = sums-length (b .bonds) (b .options) (b .allowances) (b .place) f g k l in
+      let n = sums-length (b .bonds) (b .options) (b .«error_bounds») (b .place) f g k l in
       (omega (arith, p .place), omega (arith, p .place, p .within, p .same))
 
-  pub book-stands : {out₀ out₁ out₂ : List ℕ} {end s₁ s₂ : ℕ} → Put out₀ end (sumLines (b .bonds) (b .options) (b .allowances) (b .place)) s₁ out₁
+  pub book-stands : {out₀ out₁ out₂ : List ℕ} {end s₁ s₂ : ℕ} → Put out₀ end (sumLines (b .bonds) (b .options) (b .«error_bounds») (b .place)) s₁ out₁
       → Put out₁ s₁ (refusalLines (b .refused)) s₂ out₂ → s₁ ≤ s₂ + 1664 → 1664 + 128 ≤ s₁ → b .priced < 2 ^ 64 → {answer : Placed} {after : List ℕ}
       → Lined pricedWord out₂ s₂ (wholeLine pricedWord (b .priced)) answer after → Put out₀ end (bookLines b) (answer .start) after
   unfolding bookLines

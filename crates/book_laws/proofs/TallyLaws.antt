@@ -15,7 +15,7 @@ use lib.Seq.{getD-set-same, getD-set-other, getD-append-seam}
 use Rattle.arithmetic.specs.Row.{values}
 use Rattle.arithmetic.proofs.RowLaws.{zeros}
 use Rattle.limits.specs.Limits.{valueLimit}
-use Rattle.book_laws.specs.Bounds.{jobPrices, mostNumber, mostAllowance}
+use Rattle.book_laws.specs.Bounds.{jobPrices, mostNumber, mostErrorBound}
 use Rattle.book_laws.proofs.BoundLaws.{bounded}
 use Rattle.book_laws.specs.declared.Book.{Book}
 use Rattle.book_laws.specs.Books.{mostFields, emptyBook, isOpen, counted, isDearer, withPriced}
@@ -41,7 +41,7 @@ module _ (jobs : List (List ℕ)) (b : Book) (t : Tally jobs 0 b) where
         priced = omega (arith, t .fields, t .priced, count-most 0 jobs);
         bonds = omega (arith, t .fields, t .bonds, sum-most bondOf valueLimit (λ job. bounded job .bond) jobs);
         options = omega (arith, t .fields, t .options, sum-most optionPriceOf valueLimit (λ job. option-most (jobPrices job) (bounded job)) jobs);
-        allowances = omega (arith, t .fields, t .allowances, sum-most boundOf mostAllowance (λ job. bounded job .bound) jobs);
+        error-bounds = omega (arith, t .fields, t .error-bounds, sum-most boundOf mostErrorBound (λ job. bounded job .bound) jobs);
         place = omega (arith, t .fields, t .dearest .within);
         counts = within-counts (b .refused) (b .fields) count-within;
       })
@@ -157,7 +157,7 @@ module _ (jobs : List (List ℕ)) (job : List ℕ) (b : Book) (t : Tally jobs 0 
     refused = λ k l u. omega (arith, t .refused k l u, counts-none jobs job (suc k) (λ e. omega arith));
     bonds = omega (arith, t .bonds, sums-one jobs job bondOf z);
     options = omega (arith, t .options, sums-one jobs job optionPriceOf z);
-    allowances = omega (arith, t .allowances, sums-one jobs job boundOf z);
+    error-bounds = omega (arith, t .error-bounds, sums-one jobs job boundOf z);
     dearest = dearest-priced z;
   }
 
@@ -182,7 +182,7 @@ module _ (jobs : List (List ℕ)) (job : List ℕ) (b : Book) (t : Tally jobs 0 
     refused = λ k l u. rw e (count-more n k e u (t .refused k l u));
     bonds = omega (arith, t .bonds, sums-none jobs job bondOf (λ z. omega arith));
     options = omega (arith, t .options, sums-none jobs job optionPriceOf (λ z. omega arith));
-    allowances = omega (arith, t .allowances, sums-none jobs job boundOf (λ z. omega arith));
+    error-bounds = omega (arith, t .error-bounds, sums-none jobs job boundOf (λ z. omega arith));
     dearest = dearest-kept jobs job (b .dearest) (b .place) (t .dearest) (λ z. let none : ⊥ = omega arith in absurd none);
   }
 
@@ -208,7 +208,7 @@ none-yet = record {
   refused = λ k l u. zeros mostNumber k;
   bonds = refl;
   options = refl;
-  allowances = refl;
+  error-bounds = refl;
   dearest = record {
     within = omega arith;
     nothing = λ z. refl;
@@ -269,7 +269,7 @@ ended-tally jobs b t = record {
   refused = λ k l u. counted-other (b .refused) 1 k (λ e. omega arith) ∙ t .refused k l u;
   bonds = t .bonds;
   options = t .options;
-  allowances = t .allowances;
+  error-bounds = t .error-bounds;
   dearest = t .dearest;
 }
 

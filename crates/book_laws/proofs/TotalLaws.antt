@@ -1,4 +1,4 @@
--- The figures of a book are the counts and sums over its jobs, and its bonds' exact total is within its allowances.
+-- The figures of a book are the counts and sums over its jobs, and its bonds' exact total is within its error bounds.
 -- Assumes nothing.
 use mathlib.Core.Path.{_≡_, refl, sym, ap, _∙_}
 use mathlib.Core.Bool.{Bool, true, false, cond}
@@ -91,7 +91,7 @@ module _ (m : ℕ) (exact steps : List ℕ → ℕ) (few : (job : List ℕ) → 
   high job h =
       omega (arith, mul-le-mul-right (m ^ (mostSteps - steps job)) (near job h .below), scaled job h (bondOf job), scaled job h (boundOf job))
 
-  -- THE EXACT TOTAL: it differs from the sum of the bonds by at most the sum of their allowances
+  -- THE EXACT TOTAL: it differs from the sum of the bonds by at most the sum of their error bounds
   pub total-near : (jobs : List (List ℕ)) →
       Within (sumOf boundOf jobs) (m ^ mostSteps) (sumOf bondOf jobs) (sumOf (λ job. exact job * m ^ (mostSteps - steps job)) jobs)
   total-near jobs =

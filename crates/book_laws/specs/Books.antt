@@ -8,7 +8,7 @@ use lib.ListN.{set, replicate}
 use Rattle.arithmetic.specs.Row.{values, each, between}
 use Rattle.job_prices.specs.declared.JobPrices.{JobPrices}
 use Rattle.limits.specs.Limits.{valueLimit}
-use Rattle.book_laws.specs.Bounds.{jobPrices, mostNumber, mostAllowance}
+use Rattle.book_laws.specs.Bounds.{jobPrices, mostNumber, mostErrorBound}
 use Rattle.book_laws.specs.declared.Book.{Book}
 
 unfoldable pub emptyBook : Book
@@ -19,7 +19,7 @@ emptyBook = record {
   refused = replicate mostNumber 0;
   bonds = 0;
   options = 0;
-  allowances = 0;
+  «error_bounds» = 0;
   dearest = 0;
   place = 0;
 }
@@ -40,7 +40,7 @@ isOpen b =
     && (leb (b .priced) (b .fields)
     && (leb (b .bonds) (b .fields * valueLimit)
     && (leb (b .options) (b .fields * valueLimit)
-    && (leb (b .allowances) (b .fields * mostAllowance)
+    && (leb (b .«error_bounds») (b .fields * mostErrorBound)
     && (leb (b .place) (b .fields)
     && countsWithin (b .refused) (b .fields)))))))
 
@@ -57,7 +57,7 @@ withRefused b number = record {
   refused = counted (b .refused) number;
   bonds = b .bonds;
   options = b .options;
-  allowances = b .allowances;
+  «error_bounds» = b .«error_bounds»;
   dearest = b .dearest;
   place = b .place;
 }
@@ -78,7 +78,7 @@ withPriced b p = record {
   refused = b .refused;
   bonds = b .bonds + p .bond .value;
   options = b .options + optionOf p;
-  allowances = b .allowances + p .bond .bound;
+  «error_bounds» = b .«error_bounds» + p .bond .bound;
   dearest = cond (isDearer b (p .bond .value)) (p .bond .value) (b .dearest);
   place = cond (isDearer b (p .bond .value)) (b .fields + 1) (b .place);
 }
@@ -99,7 +99,7 @@ endedBook b = record {
   refused = counted (b .refused) 1;
   bonds = b .bonds;
   options = b .options;
-  allowances = b .allowances;
+  «error_bounds» = b .«error_bounds»;
   dearest = b .dearest;
   place = b .place;
 }

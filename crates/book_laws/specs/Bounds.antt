@@ -14,12 +14,12 @@ jobPrices job = bytesPrices job mostDiscounts mostStatePrices
 abbrev pub mostNumber : ℕ
 mostNumber = 13
 
--- no allowance of a bond is larger
-abbrev pub mostAllowance : ℕ
-mostAllowance = 1000000
+-- no error bound of a bond is larger
+abbrev pub mostErrorBound : ℕ
+mostErrorBound = 1000000
 
 pub record Bounded (prices : JobPrices) : Type 0 where
   pub number : prices .number ≤ mostNumber
   pub bond : prices .bond .value ≤ valueLimit
-  pub bound : prices .bond .bound ≤ mostAllowance
+  pub bound : prices .bond .bound ≤ mostErrorBound
   pub option : prices .option .value ≤ valueLimit

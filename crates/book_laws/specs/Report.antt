@@ -42,11 +42,11 @@ abbrev pub refusalLines : List ℕ → List ℕ
 refusalLines counts = linesFrom (refusalsLine counts) 0 mostNumber
 
 unfoldable pub sumLines : ℕ → ℕ → ℕ → ℕ → List ℕ
-sumLines bonds options allowances place =
-    amountLine bondsWord bonds ++ (amountLine optionsWord options ++ (wholeLine allowancesWord allowances ++ wholeLine dearestWord place))
+sumLines bonds options errorBounds place =
+    amountLine bondsWord bonds ++ (amountLine optionsWord options ++ (wholeLine allowancesWord errorBounds ++ wholeLine dearestWord place))
 
 unfoldable pub bookLines : Book → List ℕ
-bookLines b = wholeLine pricedWord (b .priced) ++ (refusalLines (b .refused) ++ sumLines (b .bonds) (b .options) (b .allowances) (b .place))
+bookLines b = wholeLine pricedWord (b .priced) ++ (refusalLines (b .refused) ++ sumLines (b .bonds) (b .options) (b .«error_bounds») (b .place))
 
 -- room for eighteen lines of 128 bytes; 6 where the lent room is shorter
 abbrev pub bookRoom : ℕ

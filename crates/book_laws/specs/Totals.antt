@@ -12,7 +12,7 @@ use Rattle.book_laws.specs.Bounds.{jobPrices, mostNumber}
 use Rattle.book_laws.specs.Books.{mostFields}
 use Rattle.book_laws.specs.Files.{restOf}
 
--- of a job's bytes: its number, its bond with its allowance, its option
+-- of a job's bytes: its number, its bond with its error bound, its option
 abbrev pub numberOf : List ℕ → ℕ
 numberOf job = jobPrices job .number
 
@@ -54,7 +54,7 @@ pub record Tally (jobs : List (List ℕ)) (more : ℕ) (b : Book) : Type 0 where
   pub refused : (k : ℕ) → 0 < k → k < mostNumber → values (b .refused) k ≡ countOf (suc k) jobs
   pub bonds : b .bonds ≡ sumOf bondOf jobs
   pub options : b .options ≡ sumOf optionPriceOf jobs
-  pub allowances : b .allowances ≡ sumOf boundOf jobs
+  pub error-bounds : b .«error_bounds» ≡ sumOf boundOf jobs
   pub dearest : Dearest jobs (b .dearest) (b .place)
 
 -- one where a file is broken

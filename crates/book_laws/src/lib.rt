@@ -3,8 +3,8 @@
 // A file has at most so many fields.
 pub const MOST_FIELDS: u64 = 500;
 
-// No allowance of a bond is larger.
-pub const MOST_ALLOWANCE: u64 = 1_000_000;
+// No error bound of a bond is larger.
+pub const MOST_ERROR_BOUND: u64 = 1_000_000;
 
 // A book so far. The count of refusals with number k stands at place k - 1; `place` counts all fields from 1, and is 0 where none is priced.
 #[repr(C)]
@@ -15,7 +15,7 @@ pub struct Book {
     pub refused: [u64; 13],
     pub bonds: u64,
     pub options: u64,
-    pub allowances: u64,
+    pub error_bounds: u64,
     pub dearest: u64,
     pub place: u64,
 }

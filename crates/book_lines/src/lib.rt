@@ -16,14 +16,14 @@ fn put_sums(
     end: usize,
     bonds: u64,
     options: u64,
-    allowances: u64,
+    error_bounds: u64,
     place: u64,
 ) -> usize
     requires { ⌜ (512 ≤ end) × (end ≤ length (now out)) ⌝ }
-    ensures { λ r. ⌜ Put (now (out .entry)) end (sumLines bonds options allowances place) r (now (out .exit)) ⌝ }
+    ensures { λ r. ⌜ Put (now (out .entry)) end (sumLines bonds options «error_bounds» place) r (now (out .exit)) ⌝ }
 {
     let dearest = text::whole_line(out, end, b"dearest ", place);
-    let allowed = text::whole_line(out, dearest.start, b"allowances ", allowances);
+    let allowed = text::whole_line(out, dearest.start, b"allowances ", error_bounds);
     let optional = text::amount_line(out, allowed.start, b"options ", options);
     let bonded = text::amount_line(out, optional.start, b"bonds ", bonds);
     bonded.start
@@ -55,7 +55,7 @@ fn put_book(out: &mut [u8], end: usize, book: Book) -> usize
         end,
         book.bonds,
         book.options,
-        book.allowances,
+        book.error_bounds,
         book.place,
     );
     let counts = book.refused;

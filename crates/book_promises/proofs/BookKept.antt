@@ -108,7 +108,7 @@ module _ (jobs : List (List ℕ)) (left : List ℕ) (b : Book) (t : Tally jobs (
 
   text-same : bookLines b ≡ reportText jobs left (b .place)
   unfolding bookLines sumLines wholeLine amountLine reportText
-  text-same = rw (t .priced, t .bonds, t .options, t .allowances, lines-same 13 0 (omega arith))
+  text-same = rw (t .priced, t .bonds, t .options, t .error-bounds, lines-same 13 0 (omega arith))
 
 -- ---- a priced job
 
@@ -134,7 +134,7 @@ module _ (job : List ℕ) (z : numberOf job ≡ 0) where
       subst (λ (p : Price). Within (p .bound) (unit ^ stepsOf job) (p .value) (exactOf (readingOf job .job))) (sym given)
       (promises-kept .prices .bond-accurate _ _ _ _ (accepted .bond))
 
--- THE EXACT TOTAL: of any jobs, it differs from the sum of their bonds by at most the sum of their allowances
+-- THE EXACT TOTAL: of any jobs, it differs from the sum of their bonds by at most the sum of their error bounds
 pub exact-total : (jobs : List (List ℕ)) → Within (sumOf boundOf jobs) (unit ^ mostSteps) (sumOf bondOf jobs) (exactTotal jobs)
 unfolding exactTotal
 exact-total jobs = total-near unit exactBondOf stepsOf steps-few bond-near jobs

@@ -39,8 +39,8 @@ returns c =
     let at-whole-line2 = at-amount-line .before .before .before .before .before in
     let at-whole-line = at-whole-line2 .before .before .before .before .before in
     let s = at-whole-line .before .before .before .before in
-    sums-stand (s .args .bonds) (s .args .options) (s .args .allowances) (s .args .place) (s .fits .bonds .fits) (s .fits .options .fits)
-    (s .fits .allowances .fits) (s .fits .place .fits) (s .pre .0) (s .pre .1) (at-whole-line .whole-line .ensures) (at-whole-line2 .whole-line2 .ensures)
+    sums-stand (s .args .bonds) (s .args .options) (s .args .error-bounds) (s .args .place) (s .fits .bonds .fits) (s .fits .options .fits)
+    (s .fits .error-bounds .fits) (s .fits .place .fits) (s .pre .0) (s .pre .1) (at-whole-line .whole-line .ensures) (at-whole-line2 .whole-line2 .ensures)
     (at-amount-line .amount-line .ensures)
     (at-amount-line2 .amount-line2 .ensures)
 

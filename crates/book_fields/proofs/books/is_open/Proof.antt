@@ -34,7 +34,7 @@ mul-if6 : tie.Need-mul-if6
 mul-if6 c = search needs
 
 returns-6 : tie.Need-returns-6
-returns-6 c = shut _ (λ w. omega (arith, w .allowances, c .if6 .taken))
+returns-6 c = shut _ (λ w. omega (arith, w .error-bounds, c .if6 .taken))
 
 returns-7 : tie.Need-returns-7
 returns-7 c = shut _ (λ w. omega (arith, w .place, c .if7 .taken))

@@ -37,7 +37,7 @@ add-t9 c =
 add-t10 : tie.Need-add-t10
 add-t10 c =
     let s = c .before .before .before .before .before .before .before .before .before .before in
-    let w = known s in omega (arith, w .fields, w .allowances, s .pre .1 .bound)
+    let w = known s in omega (arith, w .fields, w .error-bounds, s .pre .1 .bound)
 
 chosen-requires : tie.Need-chosen-requires
 chosen-requires c κs = search needs
