@@ -1,5 +1,5 @@
 #!/usr/bin/env python3
-"""The book report of document 02, request (xiv), written from the documents alone.
+"""The book report of document 02, request (xiv).
 
     book.py < file > report
 
