@@ -3,6 +3,7 @@
 #include "../c/mixegorta.h"
 #include "plain.h"
 #include "plain_bands.h"
+#include "plain_job.h"
 #include <math.h>
 #include <stdio.h>
 #include <stdlib.h>
@@ -926,6 +927,121 @@ static void bands(int turns)
     }
 }
 
+/* ---- job records */
+
+static struct {
+    uint8_t bytes[MIXEGORTA_MAX_JOB], out[MIXEGORTA_MAX_JOB];
+    size_t size;
+    struct mixegorta_job library;
+    struct plain_job plain;
+} job;
+
+static volatile uint64_t last_job;
+
+static void read_by_library(void)
+{
+    const struct mixegorta_reading found = mixegorta_read_job(job.bytes, job.size);
+    last_job = found.number + found.job.frequency;
+}
+
+static void read_by_plain_c(void)
+{
+    struct plain_job found;
+    last_job = (uint64_t)plain_read_job(job.bytes, job.size, &found) + found.frequency;
+}
+
+static void write_by_library(void) { last_job = mixegorta_write_job(job.library, job.out, sizeof job.out).value; }
+static void write_by_plain_c(void) { last_job = (uint64_t)plain_write_job(&job.plain, job.out, sizeof job.out); }
+
+/* The same places in both records. */
+static void copy_to_plain(void)
+{
+    const struct mixegorta_job *from = &job.library;
+    struct plain_job *to = &job.plain;
+    to->frequency = from->frequency, to->steps = from->steps, to->reversion = from->reversion, to->volatility = from->volatility;
+    to->version = from->version, to->tag = from->option.tag, to->kind = from->option.kind, to->expiry = from->option.expiry;
+    to->strike = from->option.strike, to->count = from->option.count;
+    memcpy(to->kinds, from->kinds, sizeof to->kinds);
+    memcpy(to->figures, from->figures, sizeof to->figures);
+    memcpy(to->flows, from->flows, sizeof to->flows);
+    memcpy(to->dates, from->option.dates, sizeof to->dates);
+}
+
+/* A record of so many quotes, with a version, and an option of a kind or with a list. */
+static void make_job(size_t steps, uint64_t tag, size_t count)
+{
+    memset(&job, 0, sizeof job);
+    struct mixegorta_job *made = &job.library;
+    made->frequency = 12, made->steps = steps, made->reversion = 83, made->volatility = 8000, made->version = steps < 255 ? 2 : 0;
+    for (size_t i = 0; i < steps; i++) {
+        const double rate = 0.02 + 0.0003 * (double)i;
+        made->kinds[i] = MIXEGORTA_YEARLY_RATE;
+        memcpy(&made->figures[i], &rate, sizeof rate);
+        made->flows[i] = i + 1 < steps ? 5000000 : ONE;
+    }
+    made->option.tag = tag, made->option.kind = tag ? 1 : 0, made->option.strike = tag ? ONE : 0, made->option.count = count;
+    for (size_t i = 0; i < count; i++)
+        made->option.dates[i] = (uint8_t)i;
+    copy_to_plain();
+}
+
+/* Both write the same or refuse the same; both read what was written, or the same bytes with one changed, as the same record. */
+static int must_copy_the_same(void)
+{
+    static uint8_t other[MIXEGORTA_MAX_JOB];
+    memset(other, 0, sizeof other);
+    const struct mixegorta_answer a = mixegorta_write_job(job.library, job.bytes, sizeof job.bytes);
+    const int b = plain_write_job(&job.plain, other, sizeof other);
+    if (b != (a.number ? -(int)a.number : (int)a.value) || memcmp(job.bytes, other, sizeof other))
+        fail("DIFFERENT in writing a job");
+    if (a.number)
+        return 1;
+    job.size = (size_t)a.value;
+    job.bytes[(size_t)(uniform() * (double)job.size)] ^= uniform() < 0.5 ? 1 : 0;
+    const struct mixegorta_reading found = mixegorta_read_job(job.bytes, job.size);
+    struct plain_job plain;
+    const int number = plain_read_job(job.bytes, job.size, &plain);
+    job.library = found.job;
+    copy_to_plain();
+    if (found.number != (uint64_t)number || memcmp(&job.plain, &plain, sizeof plain))
+        fail("DIFFERENT in reading a job");
+    return number;
+}
+
+static void compare_jobs(void)
+{
+    int refused = 0;
+    for (int i = 0; i < 4000; i++) {
+        const uint64_t tags[] = {0, 8, 10};
+        make_job((size_t)(uniform() * 256), tags[i % 3], i % 3 == 2 ? (size_t)(uniform() * 90) : 0);
+        if (i % 4 == 0)
+            job.library.flows[(size_t)(uniform() * 255)] += (uint64_t)(uniform() * 2) << 32;
+        if (i % 4 == 1)
+            job.library.option.expiry += (uint64_t)(uniform() * 300);
+        copy_to_plain();
+        refused += must_copy_the_same();
+    }
+    printf("jobs written and read equal on 4000 records, %d of them refused\n", refused);
+}
+
+static void jobs(int turns)
+{
+    static const struct { const char *name; size_t steps, count; uint64_t tag; } shapes[] = {
+        {"1 step", 1, 0, 8}, {"60 steps", 60, 0, 8}, {"60 steps, 60 dates", 60, 60, 10}, {"255 steps, 82 dates", 255, 82, 10}};
+    printf("\na job and its record              library        plain C      ratio\n");
+    for (int i = 0; i < 4; i++) {
+        char name[64];
+        make_job(shapes[i].steps, shapes[i].tag, shapes[i].count);
+        job.size = (size_t)mixegorta_write_job(job.library, job.bytes, sizeof job.bytes).value;
+        if (job.size == 0)
+            fail("a job that is not written");
+        snprintf(name, sizeof name, "read, %s", shapes[i].name);
+        line_of_moves(name, read_by_library, read_by_plain_c, turns);
+        snprintf(name, sizeof name, "written, %s", shapes[i].name);
+        line_of_moves(name, write_by_library, write_by_plain_c, turns);
+    }
+}
+
 #ifdef HAVE_QUANTLIB
 void quantlib_curve(size_t n, double step, const double *factors);
 double quantlib_prices(size_t n, double step, double reversion, double volatility, const double *flows, size_t expiry, double strike,
@@ -979,6 +1095,7 @@ int main(int argc, char **argv)
     compare_rates();
     compare_shelves();
     compare_bands();
+    compare_jobs();
     against_plain_c(turns);
     dates_against_kind(turns);
     rates(turns);
@@ -988,6 +1105,7 @@ int main(int argc, char **argv)
     versions(turns);
     strips(turns);
     bands(turns);
+    jobs(turns);
     against_quantlib(turns / 4 + 1);
     return 0;
 }

@@ -26,7 +26,7 @@
  *
  * Refusals, the field `number` or a returned uint64_t; 0 means that nothing was refused:
  *
- *    1  the job is malformed or longer than 4,700 bytes
+ *    1  the job is malformed or longer than 4,700 bytes; of a record, no job is read as it
  *    2  the steps a year are not 1, 2, 4 or 12
  *    3  the steps are outside 1 to 60
  *    4  the reversion is above 6,000
@@ -65,9 +65,9 @@ extern "C" {
 
 /* The version of header and library, in three numbers and as a text. The shared object's name for the loader carries the first. */
 #define MIXEGORTA_VERSION_MAJOR 0
-#define MIXEGORTA_VERSION_MINOR 11
+#define MIXEGORTA_VERSION_MINOR 12
 #define MIXEGORTA_VERSION_PATCH 0
-#define MIXEGORTA_VERSION "0.11.0"
+#define MIXEGORTA_VERSION "0.12.0"
 
 /* The same as one number, which mixegorta_version() of this header's own library answers. */
 #define MIXEGORTA_VERSION_NUMBER \
@@ -98,6 +98,10 @@ extern "C" {
 #define MIXEGORTA_MAX_JOB 4700
 #define MIXEGORTA_SHEET_ROOM 468736
 
+/* The places of a job record: quotes and flows, as many as one byte can tell steps, and listed rows, as many as a job has room for. */
+#define MIXEGORTA_MAX_JOB_STEPS 255
+#define MIXEGORTA_MAX_JOB_DATES 4672
+
 /* The limits of arguments and values. */
 #define MIXEGORTA_MAX_REVERSION 6000
 #define MIXEGORTA_MAX_VOLATILITY 50000
@@ -127,6 +131,11 @@ extern "C" {
 /* Sides of an option on listed dates. */
 #define MIXEGORTA_CALL 1
 #define MIXEGORTA_PUT 2
+
+/* Which field the option of a job record has: none, that of a kind, or that of listed dates. */
+#define MIXEGORTA_NO_OPTION 0
+#define MIXEGORTA_OPTION_OF_KIND 8
+#define MIXEGORTA_DATED_OPTION 10
 
 /* What a name of a shelf has: no tree, a tree that awaits its commit, or a fitted tree. */
 #define MIXEGORTA_NO_TREE 0
@@ -200,6 +209,39 @@ struct mixegorta_row_place {
 struct mixegorta_written {
     uint64_t number;
     size_t size;
+};
+
+/* The option of a job record. tag: MIXEGORTA_OPTION_OF_KIND, with kind, expiry and strike, count and dates being 0;
+ * MIXEGORTA_DATED_OPTION, with the side as `kind`, the strike and `count` listed rows at the front of dates, the other dates and expiry
+ * being 0; or MIXEGORTA_NO_OPTION, all else being 0. */
+struct mixegorta_option_record {
+    uint64_t tag;
+    uint64_t kind;
+    uint64_t expiry;
+    uint64_t strike;
+    size_t count;
+    uint8_t dates[MIXEGORTA_MAX_JOB_DATES];
+};
+
+/* A job as its fields say it, good or not. Quotes and flows stand in the first `steps` places of kinds, figures and flows, zeros after them;
+ * a figure is the 64 bits of its double. version: 1 or 2 where the job says so, 0 where it has no such field. The record has some 9,100
+ * bytes; the bytes between kinds and figures mean nothing, so compare records by their fields. */
+struct mixegorta_job {
+    uint64_t frequency;
+    size_t steps;
+    uint64_t reversion;
+    uint64_t volatility;
+    uint64_t version;
+    uint8_t kinds[MIXEGORTA_MAX_JOB_STEPS];
+    uint64_t figures[MIXEGORTA_MAX_JOB_STEPS];
+    uint64_t flows[MIXEGORTA_MAX_JOB_STEPS];
+    struct mixegorta_option_record option;
+};
+
+/* A job that was read; all of it is 0 where refused. */
+struct mixegorta_reading {
+    uint64_t number;
+    struct mixegorta_job job;
 };
 
 /* What a shelf keeps of a name: MIXEGORTA_NO_TREE, MIXEGORTA_AWAITING or MIXEGORTA_FITTED, the tree's steps and reversion, and of a fitted
@@ -426,6 +468,24 @@ struct mixegorta_answer mixegorta_valuation_error_bound(size_t steps, uint64_t r
  * are as they were. Refusals leave out as it was: 1 the job's form, 2 to 5 and 7 to 9 its fit, 6 out too short, 10 a flow, 11 kind, side,
  * expiry or strike, 13 dates, before 12 a value on the way. */
 struct mixegorta_written mixegorta_sheet(const uint8_t *job, size_t job_len, uint8_t *out, size_t out_len);
+
+/* ---- A job as a record: bytes to its fields, and its fields to bytes. Only the form of a job counts here: steps a year of 3, 200 steps, a
+ * NaN, a list of no rows or one that does not rise are read and written, and refused where the job is priced. The bits of a figure are kept,
+ * of -0.0 and NaN too.
+ *
+ * A job that is read and written again is its own bytes, and a record that is written and read again is the same record. So version 1 and
+ * no version are two records, and so are an option of a kind and one with the list of the same rows. */
+
+/* Reads a job. 0: its record, with zeros in every place that it does not use. Refusal: 1 the job's form or length. */
+struct mixegorta_reading mixegorta_read_job(const uint8_t *bytes, size_t bytes_len);
+
+/* Writes a record at the front of out, which needs as many bytes as the job has, at most 4,700. 0: value is their count, and the bytes of
+ * out behind them are as they were. A record to start from is all zeros: set the fields of the job alone. No job is read as a record with
+ * more than 255 steps, a number beyond its field (frequency, kind and expiry have one byte, reversion two, volatility, flows and strike
+ * four), a quote's kind that is not 5, 6 or 9, a version that is not 0, 1 or 2, an option whose numbers are not those of its tag, anything
+ * but 0 in a place that is not used, or more than 4,700 bytes.
+ * Refusals leave out as it was: 1 a record that no job is read as, then 6 out too short. */
+struct mixegorta_answer mixegorta_write_job(struct mixegorta_job job, uint8_t *out, size_t out_len);
 
 /* ---- A shelf: up to eight trees in one memory of 3,600 discounts.
  *

@@ -1,4 +1,5 @@
-/* The stack that a fit, a price, a strip, a commit and a sheet take on the largest tree, in bytes: the most of any call, on a thread whose stack is filled first. */
+/* The stack that a fit, a price, a strip, a commit and a sheet take on the largest tree, and the reading and the writing of the longest job, in bytes: the most of
+ * any call, on a thread whose stack is filled first. */
 #define _POSIX_C_SOURCE 200809L
 #include "mixegorta.h"
 
@@ -15,6 +16,7 @@ static uint64_t strikes[MIXEGORTA_MAX_STRIKES];
 static uint8_t kinds[STEPS], dates[STEPS], room[MIXEGORTA_SHEET_ROOM], job[MIXEGORTA_MAX_JOB];
 static double figures[STEPS];
 static size_t job_size;
+static struct mixegorta_job record;
 static struct mixegorta_shelf shelf;
 static uint64_t shelf_memory[MIXEGORTA_SHELF_ROOM];
 static uint64_t refused;
@@ -111,6 +113,18 @@ static void *sheet(void *unused) {
     return unused;
 }
 
+static void *reading(void *unused) {
+    const struct mixegorta_reading found = mixegorta_read_job(job, job_size);
+    refused = found.number;
+    record = found.job;
+    return unused;
+}
+
+static void *writing(void *unused) {
+    refused = mixegorta_write_job(record, job, sizeof job).number;
+    return unused;
+}
+
 /* How many bytes of its stack a thread has written. */
 static size_t written(void *(*call)(void *)) {
     unsigned char *stack = aligned_alloc(4096, STACK);
@@ -135,26 +149,19 @@ static size_t taken(void *(*call)(void *)) {
     return all - written(nothing);
 }
 
-static void put(uint8_t tag, uint64_t number, int bytes) {
-    job[job_size++] = tag;
-    job[job_size++] = 0;
-    job[job_size++] = (uint8_t)bytes;
-    while (bytes-- > 0) job[job_size++] = (uint8_t)(number >> 8 * bytes);
-}
-
-static void write_job(void) {
-    put(1, 12, 1);
-    put(2, STEPS, 1);
-    put(3, 1, 2);
-    put(4, 1000, 4);
-    put(11, 2, 1);
-    for (size_t i = 0; i < STEPS; i++) {
-        uint64_t bits;
-        memcpy(&bits, &figures[i], sizeof bits);
-        put(5, bits, 8);
+/* The job of the largest tree, and then the longest of all, as the library writes them. */
+static void write_job(size_t steps, size_t count) {
+    memset(&record, 0, sizeof record);
+    record.frequency = 12, record.steps = steps, record.reversion = 1, record.volatility = 1000, record.version = 2;
+    for (size_t i = 0; i < steps; i++) {
+        record.kinds[i] = MIXEGORTA_DISCOUNT_FACTOR;
+        memcpy(&record.figures[i], &figures[i % STEPS], sizeof record.figures[i]);
+        record.flows[i] = flows[i % STEPS];
     }
-    for (size_t i = 0; i < STEPS; i++) put(7, flows[i], 4);
-    put(8, UINT64_C(4) << 40 | (uint64_t)(STEPS - 1) << 32 | MIXEGORTA_ONE, 6);
+    record.option.tag = MIXEGORTA_DATED_OPTION, record.option.kind = MIXEGORTA_PUT, record.option.strike = MIXEGORTA_ONE;
+    record.option.count = count;
+    for (size_t i = 0; i < count; i++) record.option.dates[i] = (uint8_t)i;
+    job_size = mixegorta_write_job(record, job, sizeof job).value;
 }
 
 static size_t most(size_t one, size_t other) { return one > other ? one : other; }
@@ -168,7 +175,7 @@ int main(void) {
         dates[i] = (uint8_t)i;
     }
     for (size_t k = 0; k < MIXEGORTA_MAX_STRIKES; k++) strikes[k] = MIXEGORTA_ONE + k;
-    write_job();
+    write_job(STEPS, STEPS);
     printf("fit %zu\n", most(taken(fit_version), taken(fit)));
     const size_t asked = taken(asking);
     const size_t committed = most(asked, taken(commit));
@@ -177,5 +184,9 @@ int main(void) {
     printf("strip %zu\n", most(most(taken(strip), taken(strip_of_kind)), most(taken(shelf_strip), taken(shelf_strip_of_kind))));
     printf("commit %zu\n", committed);
     printf("sheet %zu\n", taken(sheet));
+    write_job(MIXEGORTA_MAX_JOB_STEPS, 78);
+    if (job_size != MIXEGORTA_MAX_JOB) return 3;
+    printf("reading %zu\n", taken(reading));
+    printf("writing %zu\n", taken(writing));
     return 0;
 }

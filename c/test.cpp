@@ -105,6 +105,19 @@ static void bands() {
     EXPECT(gap.number == 17 && gap.row == 21 && gap.price == 0 && gap.place == 0);
 }
 
+static void records() {
+    std::vector<uint8_t> out(MIXEGORTA_MAX_JOB);
+    mixegorta_job job = mixegorta_job();
+    job.frequency = 2;
+    job.option.tag = MIXEGORTA_DATED_OPTION;
+    const mixegorta_answer written = mixegorta_write_job(job, out.data(), out.size());
+    EXPECT(written.number == 0 && written.value == 28);
+    const mixegorta_reading read = mixegorta_read_job(out.data(), 28);
+    EXPECT(read.number == 0 && read.job.frequency == 2 && read.job.option.tag == MIXEGORTA_DATED_OPTION && read.job.option.count == 0);
+    job.version = 3;
+    EXPECT(mixegorta_write_job(job, out.data(), 0).number == 1);
+}
+
 int main() {
     EXPECT(mixegorta_version() == MIXEGORTA_VERSION_NUMBER);
     shapes();
@@ -113,5 +126,6 @@ int main() {
     sheet();
     shelf();
     bands();
+    records();
     return failures == 0 ? 0 : 1;
 }

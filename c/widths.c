@@ -290,6 +290,44 @@ static void lending_worth(void) {
     answer_verdict(w.verdict);
 }
 
+enum { STEPS = MIXEGORTA_MAX_JOB_STEPS, DATES = MIXEGORTA_MAX_JOB_DATES, RECORD = 10 + 3 * STEPS + DATES };
+
+static struct mixegorta_job as_record(size_t place) {
+    const uint64_t *items = given[place].items, *figures_at = items + 5 + STEPS, *option = items + 5 + 3 * STEPS;
+    struct mixegorta_job job = {items[0], items[1], items[2], items[3], items[4], {0}, {0}, {0}, {option[0], option[1], option[2], option[3], option[4], {0}}};
+    for (size_t i = 0; i < STEPS; i++) {
+        job.kinds[i] = (uint8_t)items[5 + i];
+        job.figures[i] = figures_at[i];
+        job.flows[i] = figures_at[STEPS + i];
+    }
+    for (size_t i = 0; i < DATES; i++) job.option.dates[i] = (uint8_t)option[5 + i];
+    return job;
+}
+
+static void read_job(void) {
+    const struct mixegorta_reading r = mixegorta_read_job(as_bytes(0), given[0].count);
+    const struct mixegorta_job *j = &r.job;
+    uint64_t fields[RECORD] = {j->frequency, j->steps, j->reversion, j->volatility, j->version}, *option = fields + 5 + 3 * STEPS;
+    for (size_t i = 0; i < STEPS; i++) {
+        fields[5 + i] = j->kinds[i];
+        fields[5 + STEPS + i] = j->figures[i];
+        fields[5 + 2 * STEPS + i] = j->flows[i];
+    }
+    memcpy(option, (uint64_t[]){j->option.tag, j->option.kind, j->option.expiry, j->option.strike, j->option.count}, 5 * sizeof option[0]);
+    for (size_t i = 0; i < DATES; i++) option[5 + i] = j->option.dates[i];
+    answer(r.number, fields, RECORD);
+}
+
+static void write_job(void) {
+    as_bytes(1);
+    const struct mixegorta_answer a = mixegorta_write_job(as_record(0), bytes, given[1].count);
+    answer_value(a);
+    for (size_t i = 0; i < given[1].count; i++) {
+        if (i < a.value) add(&found, bytes[i]);
+        if (i >= a.value && bytes[i] != (uint8_t)pattern(i)) add(&found, UINT64_MAX);
+    }
+}
+
 #define CALL(name) {#name, name}
 static const struct {
     const char *name;
@@ -302,7 +340,7 @@ static const struct {
              CALL(valuation_error_bound), CALL(shelf_part), CALL(shelf_ask), CALL(shelf_commit), CALL(shelf_release), CALL(shelf_bond_price),
              CALL(shelf_option_price), CALL(shelf_bond_and_option), CALL(shelf_dated_option_price), CALL(shelf_bond_and_dated_option),
              CALL(option_strip), CALL(option_strip_of_kind), CALL(shelf_option_strip), CALL(shelf_option_strip_of_kind),
-             CALL(check_bands), CALL(lending_worth)};
+             CALL(check_bands), CALL(lending_worth), CALL(read_job), CALL(write_job)};
 
 static bool called(const char *name) {
     found.count = 0;

@@ -1,4 +1,5 @@
 // The library, by the declarations of the Rust crate, which tools/declarations.py writes.
+use crate::records::Record;
 use crate::rules::{self, Carried, Contract, Curve, DatedOption, FitInput, Outcome, Tree, MOST_STRIKES};
 use std::ptr;
 
@@ -239,6 +240,43 @@ pub fn lending_worth(lists: &[Vec<u64>; 5], row: u64, price: u64) -> (u64, [u64;
         mixegorta_lending_worth(start(a), a.len(), start(b), b.len(), start(c), c.len(), start(d), d.len(), start(e), e.len(), row, price)
     };
     (w.worth, [w.verdict.number, w.verdict.row, w.verdict.price, w.verdict.place])
+}
+
+// Job records
+
+/// The record of a job's bytes, which is all zeros where refused.
+pub fn read_job(bytes: &[u8]) -> Outcome<Record> {
+    let r = unsafe { mixegorta_read_job(start(bytes), bytes.len()) };
+    let (j, o) = (r.job, r.job.option);
+    let record = Record {
+        head: [j.frequency, j.steps as u64, j.reversion, j.volatility, j.version],
+        kinds: j.kinds,
+        figures: j.figures,
+        flows: j.flows,
+        option: [o.tag, o.kind, o.expiry, o.strike, o.count as u64],
+        dates: o.dates,
+    };
+    if r.number != 0 {
+        assert_eq!(record, Record::EMPTY, "refusal {} with a record", r.number);
+        return Err(r.number);
+    }
+    Ok(record)
+}
+
+/// The bytes of a record in so much room; whatever is not written must be as it was.
+pub fn write_job(record: &Record, room: usize) -> Outcome<Vec<u8>> {
+    const OLD: u8 = 0xA5;
+    let ([frequency, steps, reversion, volatility, version], [tag, kind, expiry, strike, count]) = (record.head, record.option);
+    let option = OptionRecord { tag, kind, expiry, strike, count: count as usize, dates: record.dates };
+    let job = Job {
+        frequency, steps: steps as usize, reversion, volatility, version, kinds: record.kinds, figures: record.figures, flows: record.flows, option,
+    };
+    let mut memory = vec![OLD; room];
+    let number = answered(unsafe { mixegorta_write_job(job, start_of_lent(&mut memory), room) });
+    let size = number.unwrap_or(0) as usize;
+    assert!(memory[size..].iter().all(|byte| *byte == OLD), "written behind {size} bytes");
+    memory.truncate(size);
+    number.map(|_| memory)
 }
 
 // The shelf

@@ -1,11 +1,12 @@
-// Compares the library with the rules of documents 01 and 02 and with the exact pricer, on random inputs, on random scripts of calls on a shelf and on
-// random tables of haircut bands.
+// Compares the library with the rules of documents 01 and 02 and with the exact pricer, on random inputs, on random scripts of calls on a shelf, on
+// random tables of haircut bands and on random job records.
 mod bands;
 mod checks;
 mod engine;
 mod exact;
 mod inputs;
 mod natural;
+mod records;
 mod rules;
 mod scripts;
 mod shelf;
@@ -21,6 +22,8 @@ const LARGE_RUN: u64 = 1_000;
 const SEEDS_A_SCRIPT: u64 = 8;
 /// So many tables of haircut bands have every verdict, and tell every wrong rule.
 const MANY_TABLES: u64 = 16_000;
+/// So many job records have every number, and tell every wrong rule.
+const MANY_RECORDS: u64 = 3_000;
 /// So many scripts have every order of causes, every refused commit tried again, and every alteration, of the carried numbers too.
 const MANY_SCRIPTS: u64 = 1_000;
 
@@ -60,6 +63,7 @@ fn without_seed(tally: &mut Tally, shelves: &mut shelves::Tally) {
     shelves::every_order(shelves);
     shelves::numbers_past_a_width(shelves);
     bands::by_hand();
+    records::by_hand();
 }
 
 fn input(own: u64, tally: &mut Tally) {
@@ -85,10 +89,16 @@ fn table(own: u64, tally: &mut bands::Tally) {
     }
 }
 
+fn record(own: u64, tally: &mut records::Tally) {
+    if panic::catch_unwind(panic::AssertUnwindSafe(|| records::check(&mut inputs::Random::new(own), own, tally))).is_err() {
+        different(own);
+    }
+}
+
 fn main() {
     let (count, seed) = (argument(1, 20_000), argument(2, 1));
     let (mut tally, mut shelves, sizes) = (Tally::default(), shelves::Tally::default(), scripts::Sizes::new());
-    let mut tables = bands::Tally::default();
+    let (mut tables, mut records) = (bands::Tally::default(), records::Tally::default());
     without_seed(&mut tally, &mut shelves);
     for own in seed..seed + count {
         input(own, &mut tally);
@@ -96,6 +106,7 @@ fn main() {
             script(own, &sizes, &mut shelves);
         }
         table(own, &mut tables);
+        record(own, &mut records);
     }
     println!("{tally}");
     assert!(count < LARGE_RUN || tally.bonds_on_both_sides(), "bonds on one side of their exact prices alone");
@@ -108,6 +119,9 @@ fn main() {
     assert!(missing.is_empty(), "no script has {missing:?}");
     println!("\n{tables}\n");
     let missing = if count < MANY_TABLES { Vec::new() } else { tables.missing() };
+    assert!(missing.is_empty(), "no run has {missing:?}");
+    println!("{records}\n");
+    let missing = if count < MANY_RECORDS { Vec::new() } else { records.missing() };
     assert!(missing.is_empty(), "no run has {missing:?}");
     println!("{count} inputs from seed {seed}: every result equal, every bound kept");
 }

@@ -8,7 +8,8 @@ A line of widths.txt is the name of an export, its arguments in the header's ord
 ends in 256 zeros here, or @9, a memory of nine numbers to be written. Figures stand as their 64 bits. A shelf is a list of 512 numbers, status, steps,
 reversion, bound and sixty greatest discounts of each name, beside its memory of 3,600. An answer is a refusal's number alone, or its fields; a memory's part
 that was written comes as a list, a shelf's changed memory whole, and the numbers, values and bounds of a strip as three lists. What is said of haircut
-bands has all its fields, refused or not. Tests in C, Rust and Python read the lines. Each entry's first line is the call that the others change.
+bands has all its fields, refused or not. A job record is a list of 5,447 numbers, each of its places in the header's order, and memory for a job has bytes.
+Tests in C, Rust and Python read the lines. Each entry's first line is the call that the others change.
 """
 import os
 import re
@@ -20,6 +21,7 @@ HERE = os.path.dirname(os.path.abspath(__file__))
 sys.path.insert(0, HERE)
 sys.dont_write_bytecode = True
 import bands
+import records
 import reference as rules
 from reference import ONE, Kind, Option, Refused, refuse_if
 
@@ -329,6 +331,30 @@ def lending_worth(*given):
     return [worth, number, *shown]
 
 
+# Places of a job record: its first five numbers, the first and the last figure and flow, and the numbers of its option.
+FIGURES_AT, FLOWS_AT, OPTION_AT = 5 + records.STEPS, 5 + 2 * records.STEPS, 5 + 3 * records.STEPS
+RECORD_PLACES = (*range(5), FIGURES_AT, FLOWS_AT - 1, FLOWS_AT, OPTION_AT - 1, *range(OPTION_AT, OPTION_AT + 5))
+
+
+def places(record):
+    """All numbers of a record in one list."""
+    return [*record[:5], *record.kinds, *record.figures, *record.flows, *record[8:13], *record.dates]
+
+
+def record_of(numbers):
+    return records.Record(*numbers[:5], numbers[5:FIGURES_AT], numbers[FIGURES_AT:FLOWS_AT], numbers[FLOWS_AT:OPTION_AT],
+                          *numbers[OPTION_AT:OPTION_AT + 5], numbers[OPTION_AT + 5:])
+
+
+def read_job(job):
+    return [places(records.reading(bytes(job)))]
+
+
+def write_job(numbers, room):
+    job = records.written(record_of(numbers), room)
+    return [len(job), list(job)]
+
+
 # The calls. A list is exact where its length must be just so, and least where it may be longer; a byte is no number that 256 more would fit into.
 
 Argument = namedtuple('Argument', 'name kind value')
@@ -374,6 +400,13 @@ SHELVED, AWAITING, FREE = ((SHELF, ROOM, ('name', 'number', name)) for name in (
 BANDS = (('first_rows', 'exact', [1, 1, 21, 21, 41]), ('last_rows', 'exact', [20, 20, 40, 40, 60]), ('lowest_prices', 'exact', [0, ONE, 0, ONE + 1, 0]),
          ('highest_prices', 'exact', [ONE - 1, 8 * ONE, ONE, 8 * ONE, 8 * ONE]), ('haircuts', 'exact', [100, 200, 300, 400, 500]))
 
+# A job of three steps with a version and an option of a kind, and one whose option has a list, 255 first; no limit is asked of either.
+HEAD = records.padded([], records.STEPS)
+JOB = records.written(records.Record(3, 3, 800, 10_000, 2, [5, 6, 9] + HEAD[3:], figures_of(0.98, -0.0, float('nan')) + HEAD[3:], [1, 0, ONE] + HEAD[3:],
+                                     records.OF_KIND, 4, 2, ONE, 0, records.padded([], records.DATES)), rules.LONGEST_JOB)
+DATED_JOB = records.written(records.Record(12, 1, 0, 0, 0, [9] + HEAD[1:], figures_of(0.01) + HEAD[1:], [ONE] + HEAD[1:], records.DATED, 2, 0, ONE, 3,
+                                           records.padded([255, 0, 7], records.DATES)), rules.LONGEST_JOB)
+
 ENTRIES = [
     entry(half_width, REVERSION, ROW), entry(node_count, REVERSION, ROW), entry(row_start, REVERSION, ROW),
     entry(discounts_needed, STEPS[:2] + (60,), REVERSION), entry(state_prices_needed, STEPS[:2] + (60,), REVERSION),
@@ -400,6 +433,9 @@ ENTRIES = [
     entry(shelf_bond_and_dated_option, *SHELVED, FLOWS, *DATED),
     entry(shelf_option_strip, *SHELVED, FLOWS, *STRIP), entry(shelf_option_strip_of_kind, *SHELVED, FLOWS, *STRIP_OF_KIND),
     entry(check_bands, *BANDS), entry(lending_worth, *BANDS, ROW, ('price', 'number', ONE)),
+    entry(read_job, ('bytes', 'bytes', list(JOB))),
+    entry(write_job, ('job', 'record', places(records.reading(JOB))), ('out', 'memory', Memory(len(JOB)))),
+    entry(write_job, ('job', 'record', places(records.reading(DATED_JOB))), ('out', 'memory', Memory(len(DATED_JOB)))),
 ]
 # A job is bytes, and the room for its sheet has one size: crates/sheet_cases has both. Version and empty shelf are asked for without arguments.
 WITHOUT_NUMBERS = {'sheet', 'version', 'empty_shelf'}
@@ -414,10 +450,10 @@ def multiple(length, bits):
 
 def changed_places(kind, value):
     """The places of a list's numbers that are changed: the first, the middle and the last, of a memory those of its fitted tree, of a shelf the numbers of two
-    trees, of what they carry the bounds and, of the fitted one, the first, the last and the last place's greatest discount."""
+    trees, of what they carry the bounds and, of the fitted one, the first, the last and the last place's greatest discount, of a record those that have 64 bits."""
     if kind in ('exact', 'least'):
         return sorted({0, len(value) // 2, len(value) - 1})
-    return {'room': (9, 13, 17), 'slots': (*range(64, 68), *range(128, 133), 134, 191)}.get(kind, ())
+    return {'record': RECORD_PLACES, 'room': (9, 13, 17), 'slots': (*range(64, 68), *range(128, 133), 134, 191)}.get(kind, ())
 
 
 def changes(argument):
@@ -472,6 +508,11 @@ def lines_of(entry):
         yield from (line(entry, each) for each in made)
 
 
+def named():
+    """The exports, of which one may have several calls of its own."""
+    return {entry.rule.__name__ for entry in ENTRIES}
+
+
 def table():
     return ''.join(each + '\n' for entry in ENTRIES for each in lines_of(entry))
 
@@ -502,11 +543,11 @@ def main(arguments):
     made = table()
     if arguments == ['--check']:
         found = list(faults(content(HEADER), content(TABLE), made))
-        print(*found or ['%d lines of %d exports' % (made.count('\n'), len(ENTRIES))], sep='\n')
+        print(*found or ['%d lines of %d exports' % (made.count('\n'), len(named()))], sep='\n')
         return 1 if found else 0
     with open(TABLE, 'w', encoding='utf-8') as file:
         file.write(made)
-    print(made.count('\n'), 'lines of', len(ENTRIES), 'exports')
+    print(made.count('\n'), 'lines of', len(named()), 'exports')
     return 0
 
 

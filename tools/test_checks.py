@@ -233,9 +233,12 @@ class Stack(unittest.TestCase):
             self.assertEqual(len(stack.faults_of_programs({'sheet': 20}, {**self.TEXTS, 'README.md': text})), 1)
 
     def test_calls(self):
-        manual = 'no more than 8 KiB for a fit, 16 KiB for a price, 24 KiB for a strip, 48 KiB for a commit and 1,192 KiB for a sheet'
-        self.assertEqual(stack.faults_of_calls({'fit': 8_192, 'price': 9_720, 'strip': 24_576, 'commit': 40_000, 'sheet': 145_184}, manual), [])
-        self.assertEqual(len(stack.faults_of_calls({'fit': 8_193, 'price': 9_720, 'strip': 24_576, 'commit': 40_000, 'sheet': 145_184}, manual)), 1)
+        manual = ('no more than 8 KiB for a fit, 16 KiB for a price, 24 KiB for a strip, 48 KiB for a commit and 1,192 KiB for a sheet, '
+                  '32 KiB for a reading and 24 KiB for a writing')
+        enough = {'fit': 8_192, 'price': 9_720, 'strip': 24_576, 'commit': 40_000, 'sheet': 145_184, 'reading': 32_768, 'writing': 1}
+        self.assertEqual(stack.faults_of_calls(enough, manual), [])
+        for name, size in (('fit', 8_193), ('reading', 32_769), ('writing', 24_577)):
+            self.assertEqual(len(stack.faults_of_calls({**enough, name: size}, manual)), 1)
         self.assertEqual(len(stack.faults_of_calls({'fit': 1, 'price': 1}, manual)), 1)
 
     def test_the_least_that_is_enough(self):
@@ -248,7 +251,7 @@ class Widths(unittest.TestCase):
 
     def test_the_header(self):
         self.assertEqual(list(widths.faults(self.HEADER, 'same', 'same')), [])
-        self.assertEqual(len(widths.declared(self.HEADER)), len(widths.ENTRIES) + len(widths.WITHOUT_NUMBERS))
+        self.assertEqual(len(widths.declared(self.HEADER)), len(widths.named()) + len(widths.WITHOUT_NUMBERS))
 
     def test_what_the_table_lacks(self):
         for old, new in (('mixegorta_step_rate(uint64_t discount);', 'mixegorta_step_rate(uint64_t discount, uint64_t version);'),

@@ -276,7 +276,7 @@ class Differences(unittest.TestCase):
         for old, new in (('Refusals: 4 reversion, 6 row. */', 'Refusals: 4 reversion. */'), ('2 to 5 and 7 to 9 its fit', '2 to 5 and 8 to 9 its fit'),
                          ('Refusal: 9 the discount. */', 'Refusal: 8 the discount. */')):
             self.assertEqual(len(list(declarations.different_entries(self.refusals, self.functions, self.changed(old, new)))), 1, new)
-        more = [self.refusals[0]._replace(entries=['sheet', 'no_such']), *self.refusals[1:]]
+        more = [self.refusals[0]._replace(entries=[*self.refusals[0].entries, 'no_such']), *self.refusals[1:]]
         self.assertEqual(len(list(declarations.different_entries(more, self.functions, self.header))), 1)
 
     def test_every_export_has_a_comment_that_is_compared(self):

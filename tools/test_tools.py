@@ -18,6 +18,7 @@ import xml.etree.ElementTree as ElementTree
 ROOT = pathlib.Path(__file__).resolve().parent.parent
 sys.path.insert(0, str(ROOT / 'reference'))
 sys.dont_write_bytecode = True
+import records
 import reference
 import tables
 
@@ -51,6 +52,12 @@ class Examples(unittest.TestCase):
     def test_there_are_examples(self):
         self.assertGreaterEqual(len(EXAMPLES), 5)
         self.assertGreaterEqual(len(PICTURES), 2)
+
+    def test_jobs_are_written_as_they_are_read(self):
+        """The bytes of every text are those of their record, by the reference; tools/test_job_bytes.py asks the library."""
+        for path in EXAMPLES:
+            job = run('job', '', str(path)).stdout
+            self.assertEqual(records.written(records.reading(job), len(job)), job, path.name)
 
     def test_the_example_of_the_document(self):
         today = DOCUMENT_JOB[:42] + b'\x00' + DOCUMENT_JOB[43:]

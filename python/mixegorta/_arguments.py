@@ -58,6 +58,11 @@ def whole(name: str, number: int, low: int, high: int) -> int:
     return number
 
 
+def u8(name: str, number: int) -> int:
+    """A whole number of 8 bits."""
+    return whole(name, number, 0, 255)
+
+
 def u64(name: str, number: int) -> int:
     """A whole number of 64 bits."""
     return whole(name, number, 0, 2**64 - 1)
@@ -92,7 +97,7 @@ def numbers(name: str, values: Iterable[int]) -> Slice:
 
 def dates(name: str, values: Iterable[int]) -> Slice:
     """A slice of rows of 8 bits that is only read."""
-    return _lent(name, "B", values) or _copied(name, "B", values, _u8)
+    return _lent(name, "B", values) or _copied(name, "B", values, u8)
 
 
 def job_bytes(name: str, job: Any) -> Slice:
@@ -101,7 +106,7 @@ def job_bytes(name: str, job: Any) -> Slice:
         view = memoryview(job)
     except TypeError:
         raise TypeError(f"{name}: a job is bytes, or another buffer of them") from None
-    return _lent(name, "B", job) or _copied(name, "B", bytes(view), _u8)
+    return _lent(name, "B", job) or _copied(name, "B", bytes(view), u8)
 
 
 def memory(name: str, code: str, values: Any) -> Slice:
@@ -130,7 +135,7 @@ def record(name: str, form: str, given: Any, count: int) -> Tuple[Any, ...]:
 
 def quotes(points: Iterable[Any]) -> Tuple[Slice, Slice, Slice]:
     """Rows, kinds and figures of points."""
-    rows, kinds, figures = columns("points", POINT, points, (("Q", u64), ("B", _u8), ("d", _figure)))
+    rows, kinds, figures = columns("points", POINT, points, (("Q", u64), ("B", u8), ("d", _figure)))
     return rows, kinds, figures
 
 
@@ -138,10 +143,6 @@ def point(name: str, given: Any) -> Tuple[Any, Any, Any]:
     """Row, kind and figure of a point."""
     row, kind, figure = record(name, POINT, given, 3)
     return row, kind, figure
-
-
-def _u8(name: str, number: int) -> int:
-    return whole(name, number, 0, 255)
 
 
 def _figure(name: str, figure: float) -> float:

@@ -65,6 +65,27 @@ class CWritten(ctypes.Structure):
     _fields_ = [("number", U64), ("size", SIZE)]
 
 
+class COptionRecord(ctypes.Structure):
+    """The option of a job as it was read: tag 8 or 10, or 0 and zeros where the job has none."""
+
+    _fields_ = [("tag", U64), ("kind", U64), ("expiry", U64), ("strike", U64), ("count", SIZE), ("dates", U8 * 4672)]
+
+
+class CJob(ctypes.Structure):
+    """A job: its quotes and flows stand in the first `steps` places, zeros after them. A figure is the pattern of a float, NaN or not."""
+
+    _fields_ = [
+        ("frequency", U64), ("steps", SIZE), ("reversion", U64), ("volatility", U64), ("version", U64), ("kinds", U8 * 255),
+        ("figures", U64 * 255), ("flows", U64 * 255), ("option", COptionRecord),
+    ]
+
+
+class CReading(ctypes.Structure):
+    """Number 0 with the job, or refusal 1 with zeros."""
+
+    _fields_ = [("number", U64), ("job", CJob)]
+
+
 class CSlot(ctypes.Structure):
     """What a shelf keeps of a name: status 0 no tree, 1 a tree that awaits a commit, 2 a fitted tree; then its steps and its reversion. A fitted tree carries its price error bound and the greatest discount of each of its rows; all else is 0."""
 
@@ -155,6 +176,8 @@ DECLARATIONS: Dict[str, Tuple[Any, Dict[str, Any]]] = {
     "value_by_state_prices": (CAnswer, {"state_prices": SliceOf(U64), "payoffs": SliceOf(U64)}),
     "valuation_error_bound": (CAnswer, {"steps": SIZE, "reversion": U64, "discounts": SliceOf(U64), "row": SIZE, "payoffs": SliceOf(U64)}),
     "sheet": (CWritten, {"job": SliceOf(U8), "out": SliceOf(U8)}),
+    "read_job": (CReading, {"bytes": SliceOf(U8)}),
+    "write_job": (CAnswer, {"job": CJob, "out": SliceOf(U8)}),
     "empty_shelf": (CShelf, {}),
     "shelf_part": (CPart, {"shelf": CShelf, "name": SIZE}),
     "shelf_ask": (CShelved, {"shelf": CShelf, "memory": PointerTo(U64 * 3600), "name": SIZE, "steps": SIZE, "reversion": U64}),

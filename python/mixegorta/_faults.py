@@ -215,7 +215,7 @@ def _value(given: Given) -> Place:
 
 
 FINDERS: Dict[int, Union[Place, Callable[[Given], Place]]] = {
-    2: ("frequency", None), 3: ("steps", None), 4: ("reversion", None), 5: ("volatility", None), 6: _not_in_tree, 7: _quote,
+    1: ("job", None), 2: ("frequency", None), 3: ("steps", None), 4: ("reversion", None), 5: ("volatility", None), 6: _not_in_tree, 7: _quote,
     8: ("volatility", None), 9: _discount, 10: _flow, 11: _option_terms, 12: _value, 13: ("dates", None),
     14: ("steps", None), 15: ("name", None),
 }

@@ -2,8 +2,8 @@
 
 __all__ = [
     "ONE", "PROBABILITY_ONE", "MAX_STEPS", "MAX_NODES", "MAX_DISCOUNTS", "MAX_STATE_PRICES", "MAX_STRIKES", "MAX_NAME", "SHELF_ROOM",
-    "MAX_BANDS", "MAX_HAIRCUT", "MAX_JOB", "SHEET_ROOM", "MAX_REVERSION", "MAX_VOLATILITY", "MIN_QUOTE_DISCOUNT", "MAX_QUOTE_DISCOUNT",
-    "MAX_NODE_DISCOUNT", "MAX_FLOW", "MAX_STRIKE", "MAX_VALUE", "MAX_STATE_PRICE_SUM",
+    "MAX_BANDS", "MAX_HAIRCUT", "MAX_JOB", "MAX_JOB_STEPS", "MAX_JOB_DATES", "SHEET_ROOM", "MAX_REVERSION", "MAX_VOLATILITY",
+    "MIN_QUOTE_DISCOUNT", "MAX_QUOTE_DISCOUNT", "MAX_NODE_DISCOUNT", "MAX_FLOW", "MAX_STRIKE", "MAX_VALUE", "MAX_STATE_PRICE_SUM",
 ]
 
 # billionths in one
@@ -30,6 +30,10 @@ MAX_BANDS = 40
 MAX_HAIRCUT = 10_000
 # the longest job in bytes
 MAX_JOB = 4_700
+# the places of a job record for quotes and for flows: as many steps as one byte can tell
+MAX_JOB_STEPS = 255
+# the places of a job record for listed rows: as many as a job has room for
+MAX_JOB_DATES = 4_672
 # room for the sheet of every job in bytes
 SHEET_ROOM = 468_736
 # the largest reversion per step, in ten-thousandths

@@ -6,7 +6,7 @@ import unittest
 
 from mixegorta import ONE, SHEET_ROOM, SHELF_ROOM
 from mixegorta._arguments import amounts, dates, job_bytes, kept_memory, own_memory, quotes
-from mixegorta._declarations import DECLARATIONS, CPoint, CShelf, CSlot
+from mixegorta._declarations import DECLARATIONS, CJob, CPoint, CShelf, CSlot
 from mixegorta._faults import call
 
 TOOLS = os.path.join(os.path.dirname(os.path.abspath(__file__)), "..", "..", "tools")
@@ -98,6 +98,8 @@ CASES = {
     "shelf_option_strip": ({**SHELF_LISTED, **STRIKES}, SHELF_LISTS), "shelf_option_strip_of_kind": ({**SHELF_KIND, **STRIKES}, SHELF_KINDS),
     "check_bands": (bands(WHOLE), TABLES),
     "lending_worth": ({**bands(WHOLE), "row": 1, "price": ONE}, {**TABLES, 6: {"row": 61}, 12: {"price": 8 * ONE + 1}}),
+    "read_job": ({"bytes": job()["job"]}, {1: {"bytes": job(option=b"\x08")["job"]}}),
+    "write_job": ({"job": CJob(1), "out": own_memory(20, "B")}, {1: {"job": CJob(256), "out": own_memory(9, "B")}, 6: {"out": own_memory(19, "B")}}),
     "sheet": ({**job(), "out": own_memory(SHEET_ROOM, "B")}, {
         1: job(option=b"\x08"), 2: job(frequency=3), 3: job(steps=61), 4: job(reversion=6001), 5: job(volatility=50001), 6: {"out": own_memory(9, "B")},
         7: job(figure=11.0), 8: job(steps=13, volatility=50000), 9: job(figure=1.2), 10: job(flow=2 * ONE + 1), 11: job(kind=5),

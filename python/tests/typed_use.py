@@ -41,6 +41,9 @@ wrong: Optional[m.Refused] = table.verdict()
 worth: int = table.worth(20, "1.00") + m.lending_worth([1], [60], ["0"], array("Q", [m.MAX_VALUE]), [0], 1, m.ONE)
 m.check_bands([1], [60], [0], [m.MAX_VALUE], range(1))
 place: Optional[int] = wrong.place if wrong is not None else None
+job: m.Job = m.Job(1, 0, 0, [m.JobQuote.of(m.DISCOUNT_FACTOR, 0.97), (m.YEARLY_RATE, 0)], ["0.04", Decimal("1.04")], m.DatedOption(m.CALL, "1", b"\1"), 2)
+read: m.Job = m.Job.read(job.to_bytes())
+size: int = m.Job(1, 0, 0, (), array("Q"), m.KindOption(1, 0, m.ONE)).write_into(bytearray(29))
 words: str = f"{both.option.argument} {both.option.row}" if isinstance(both.option, m.Refused) else f"{both.option.bound}"
 
 try:
@@ -75,4 +78,9 @@ try:
     m.Bands([("1", 60, 0, m.MAX_VALUE, 250)])  # type: ignore[list-item]
 except TypeError:
     pass
-print(place is None and worth == 1_975_000_000 and bond == same == shelved and dated == same_option and fitted and same_bound and words.startswith("expiry"))
+try:
+    m.Job(1, 0, 0, [], [], (1, 0, m.ONE)).to_bytes()  # type: ignore[arg-type]
+except TypeError:
+    pass
+copied_job: bool = size == 29 and read.version == 2 and len(read.quotes) == 2
+print(copied_job and place is None and worth == 1_975_000_000 and bond == same == shelved and dated == same_option and fitted and same_bound and words.startswith("expiry"))

@@ -3,7 +3,8 @@
 //! [`ONE`] is 1,000,000,000 billionths. Any arguments may be passed: each call gives its full answer or a [`Refusal`], and the engine
 //! itself judges every argument. Discounts stand row after row, lowest node first, for rows 0 to n - 1, state prices for rows 0 to n.
 //! A [`Tree`] is one fitted tree with memories of its own, a [`Shelf`] up to eight trees in one memory, and [`Bands`] a table of haircuts. [`Tree::fit_version`]
-//! takes a version: 2 has the model's own mean and variance of a step. [`Tree::option_strip`] prices up to 16 strikes of one option together.
+//! takes a version: 2 has the model's own mean and variance of a step. [`Tree::option_strip`] prices up to 16 strikes of one option together. A [`Job`] is
+//! read from bytes and written to the same bytes, and [`sheet`] draws its sheet.
 //!
 //! ```
 //! use mixegorta::{Curve, OptionKind, OptionTerms, Quote, Tree, ONE};
@@ -24,6 +25,7 @@
 #![deny(missing_docs)]
 
 mod bands;
+mod job;
 mod limits;
 mod raw;
 mod refusals;
@@ -32,6 +34,7 @@ mod shelf;
 mod tree;
 
 pub use bands::{check_bands, lending_worth, Band, BandRefusal, Bands, Shown};
+pub use job::{Job, JobError, JobOption, JobQuote};
 pub use limits::*;
 pub use shelf::{Shelf, ShelvedTree};
 pub use tree::Tree;

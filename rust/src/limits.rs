@@ -24,6 +24,10 @@ pub const MAX_BANDS: usize = 40;
 pub const MAX_HAIRCUT: u64 = 10_000;
 /// The longest job in bytes.
 pub const MAX_JOB: usize = 4_700;
+/// The places of a job record for quotes and for flows: as many steps as one byte can tell.
+pub const MAX_JOB_STEPS: usize = 255;
+/// The places of a job record for listed rows: as many as a job has room for.
+pub const MAX_JOB_DATES: usize = 4_672;
 /// Room for the sheet of every job in bytes.
 pub const SHEET_ROOM: usize = 468_736;
 /// The largest reversion per step, in ten-thousandths.

@@ -86,6 +86,42 @@ pub struct Written {
     pub size: usize,
 }
 
+/// The option of a job as it was read: tag 8 or 10, or 0 and zeros where the job has none.
+#[repr(C)]
+#[derive(Clone, Copy)]
+pub struct OptionRecord {
+    pub tag: u64,
+    pub kind: u64,
+    pub expiry: u64,
+    pub strike: u64,
+    pub count: usize,
+    pub dates: [u8; 4672],
+}
+
+/// A job: its quotes and flows stand in the first `steps` places, zeros after them. A figure is the pattern of a float, NaN or
+/// not.
+#[repr(C)]
+#[derive(Clone, Copy)]
+pub struct Job {
+    pub frequency: u64,
+    pub steps: usize,
+    pub reversion: u64,
+    pub volatility: u64,
+    pub version: u64,
+    pub kinds: [u8; 255],
+    pub figures: [u64; 255],
+    pub flows: [u64; 255],
+    pub option: OptionRecord,
+}
+
+/// Number 0 with the job, or refusal 1 with zeros.
+#[repr(C)]
+#[derive(Clone, Copy)]
+pub struct Reading {
+    pub number: u64,
+    pub job: Job,
+}
+
 /// What a shelf keeps of a name: status 0 no tree, 1 a tree that awaits a commit, 2 a fitted tree; then its steps and its
 /// reversion. A fitted tree carries its price error bound and the greatest discount of each of its rows; all else is 0.
 #[repr(C)]
@@ -322,6 +358,8 @@ extern "C" {
     ) -> Answer;
     pub fn mixegorta_sheet(job: *const u8, job_len: usize, out: *mut u8, out_len: usize)
         -> Written;
+    pub fn mixegorta_read_job(bytes: *const u8, bytes_len: usize) -> Reading;
+    pub fn mixegorta_write_job(job: Job, out: *mut u8, out_len: usize) -> Answer;
     pub fn mixegorta_empty_shelf() -> Shelf;
     pub fn mixegorta_shelf_part(shelf: Shelf, name: usize) -> Part;
     pub fn mixegorta_shelf_ask(

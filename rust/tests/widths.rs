@@ -181,6 +181,107 @@ fn lent(g: &Given) -> Vec<u64> {
     [vec![found.unwrap_or(0)], fields.to_vec()].concat()
 }
 
+/// All numbers of a job's record, in the order of its places.
+fn places(job: &Job) -> Vec<u64> {
+    let padded = |numbers: Vec<u64>, count: usize| {
+        let zeros = vec![0; count - numbers.len()];
+        [numbers, zeros].concat()
+    };
+    let (option, dates) = match &job.option {
+        None => ([0; 5], Vec::new()),
+        Some(JobOption::OfKind {
+            kind,
+            expiry,
+            strike,
+        }) => ([8, *kind, *expiry, *strike, 0], Vec::new()),
+        Some(JobOption::Dated {
+            side,
+            strike,
+            dates,
+        }) => {
+            let rows: Vec<u64> = dates.iter().map(|row| *row as u64).collect();
+            ([10, *side, 0, *strike, rows.len() as u64], rows)
+        }
+    };
+    let (frequency, steps) = (job.frequency, job.quotes.len() as u64);
+    let version = job.version.unwrap_or(0);
+    [
+        vec![frequency, steps, job.reversion, job.volatility, version],
+        padded(
+            job.quotes.iter().map(|q| q.kind as u64).collect(),
+            MAX_JOB_STEPS,
+        ),
+        padded(job.quotes.iter().map(|q| q.bits).collect(), MAX_JOB_STEPS),
+        padded(job.flows.clone(), MAX_JOB_STEPS),
+        option.to_vec(),
+        padded(dates, MAX_JOB_DATES),
+    ]
+    .concat()
+}
+
+/// The job of a record's numbers, or none where no `Job` has them in these places.
+fn job_of(numbers: &[u64]) -> Option<Job> {
+    let (head, lists) = numbers.split_at(5);
+    let (lists, option) = lists.split_at(3 * MAX_JOB_STEPS);
+    let steps = usize::try_from(head[1])
+        .ok()
+        .filter(|n| *n <= MAX_JOB_STEPS)?;
+    let column = |k: usize| &lists[k * MAX_JOB_STEPS..][..steps];
+    let quotes = column(0).iter().zip(column(1));
+    let (kind, expiry, strike, count) = (option[1], option[2], option[3], option[4] as usize);
+    let dates = option[5..].get(..count)?;
+    let job = Job {
+        frequency: head[0],
+        reversion: head[2],
+        volatility: head[3],
+        version: Some(head[4]).filter(|version| *version != 0),
+        quotes: quotes
+            .map(|(kind, bits)| JobQuote {
+                kind: *kind as u8,
+                bits: *bits,
+            })
+            .collect(),
+        flows: column(2).to_vec(),
+        option: match option[0] {
+            8 => Some(JobOption::OfKind {
+                kind,
+                expiry,
+                strike,
+            }),
+            10 => Some(JobOption::Dated {
+                side: kind,
+                strike,
+                dates: dates.iter().map(|row| *row as u8).collect(),
+            }),
+            _ => None,
+        },
+    };
+    (places(&job) == numbers).then_some(job)
+}
+
+fn read_job(g: &Given) -> Vec<u64> {
+    match Job::read(&g.bytes(0)) {
+        Ok(job) => [vec![0], places(&job)].concat(),
+        Err(refusal) => vec![refusal.number()],
+    }
+}
+
+fn write_job(g: &Given) -> Option<Vec<u64>> {
+    let job = job_of(g.list(0))?;
+    let mut out = vec![PATTERN as u8; g.list(1).len()];
+    let found = job.write_into(&mut out).map(<[u8]>::len);
+    let end = found.unwrap_or(0);
+    assert!(out[end..].iter().all(|byte| *byte == PATTERN as u8));
+    match found {
+        Ok(count) => {
+            let bytes = out[..end].iter().map(|byte| *byte as u64);
+            Some([0, count as u64].into_iter().chain(bytes).collect())
+        }
+        Err(JobError::Refused(refusal)) => Some(vec![refusal.number()]),
+        Err(error) => panic!("{error}"),
+    }
+}
+
 /// The number of a call that writes, and what it wrote; everything else of its memories must be as it was.
 fn written(found: Result<(), Refusal>, memories: &[(&[u64], usize)]) -> Vec<u64> {
     let mut answer = vec![found.map_or_else(|refusal| refusal.number(), |_| 0)];
@@ -288,6 +389,8 @@ fn shape_or_fit(name: &str, g: &Given) -> Option<Vec<u64>> {
         }
         "check_bands" => Some(checked(g)),
         "lending_worth" => Some(lent(g)),
+        "read_job" => Some(read_job(g)),
+        "write_job" => write_job(g),
         "tree_bounds" => Some(bounds(tree_bounds(g.size(0), g.number(1), g.list(2)))),
         "state_price_error_bound" => Some(one(state_price_error_bound(
             g.size(0),
@@ -486,8 +589,8 @@ fn numbers_past_a_width() {
             *called.entry(name).or_default() += 1;
         }
     }
-    assert_eq!(called.len(), 39, "{called:?}");
-    assert!(called.values().all(|lines| *lines > 3), "{called:?}");
+    assert_eq!(called.len(), 41, "{called:?}");
+    assert!(called.values().all(|lines| *lines > 2), "{called:?}");
 }
 
 /// Bytes behind a whole job make it malformed, however many.

@@ -23,6 +23,9 @@ ghost use Rattle.price_laws.specs.Strips.{optionStrip, kindStrip};
 ghost use Rattle.valuation.specs.Entries.{valueByStatePricesAnswer, valuationErrorBoundAnswer};
 ghost use Rattle.sheet_laws.specs.WholeJob.{sheetNumber, sheetText, sheetMemory};
 ghost use Rattle.record_sheet.specs.Answers.{answerOf};
+ghost use Rattle.job_record.specs.Reader.{readingOf};
+ghost use Rattle.job_record.specs.Grammar.{ReadsAs};
+ghost use Rattle.writer_laws.specs.Writer.{written, memoryAfter};
 ghost use Rattle.shelf_laws.specs.Shelf.{
   emptySlots,
   partOf,
@@ -43,6 +46,8 @@ ghost use Rattle.lending.specs.Lending.{lendingWorth};
 ghost use Rattle.capi.specs.Version.{version};
 use arithmetic::Answer;
 use bands::Verdict;
+use job_record::Job;
+use job_record::Reading;
 use job_sheet::Written;
 use lattice::Branches;
 use lending::Worth;
@@ -62,7 +67,7 @@ use step_rate::Rate;
 pub extern "C" fn mixegorta_version() -> u64
     ensures { λ r. ⌜ r ≡ version ⌝ }
 {
-    11_000
+    12_000
 }
 
 // ---- the shape of a tree
@@ -403,6 +408,24 @@ pub extern "C" fn mixegorta_sheet(job: &[u8], out: &mut [u8]) -> Written
     ensures memory { λ _. ⌜ now (out .exit) ≡ sheetMemory (now (job .entry)) (now (out .entry)) ⌝ }
 {
     job_sheet::sheet(job, out)
+}
+
+// ---- a job as a record
+
+#[no_mangle]
+pub extern "C" fn mixegorta_read_job(bytes: &[u8]) -> Reading
+    ensures reading { λ r. ⌜ r ≡ readingOf (now (bytes .entry)) ⌝ }
+    ensures grammar { λ r. ⌜ ReadsAs (now (bytes .entry)) r ⌝ }
+{
+    jobs::read(bytes)
+}
+
+#[no_mangle]
+pub extern "C" fn mixegorta_write_job(job: Job, out: &mut [u8]) -> Answer
+    ensures answer { λ r. ⌜ r ≡ written job (length (now (out .entry))) ⌝ }
+    ensures memory { λ _. ⌜ now (out .exit) ≡ memoryAfter job (now (out .entry)) ⌝ }
+{
+    job_writer::write(job, out)
 }
 
 // ---- a shelf of trees

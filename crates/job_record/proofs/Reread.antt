@@ -88,11 +88,11 @@ module _ (s : List ℕ) (o tag k v : ℕ) (h : At s o (field tag (numberBytes k 
   number-read : v < 256 ^ k → numberAt s (dataAt o) k ≡ v
   number-read fits = at-number s (dataAt o) k v fits (at-body s o tag (numberBytes k v) h)
 
-number-size : (tag k v : ℕ) → length (field tag (numberBytes k v)) ≡ k + 3
+pub number-size : (tag k v : ℕ) → length (field tag (numberBytes k v)) ≡ k + 3
 number-size tag k v = field-size tag (numberBytes k v) ∙ ap (λ (n : ℕ). n + 3) (digits-length k v)
 
 -- n such fields of one width, one after the other
-fields-size : (tag number : ℕ → ℕ) (width n : ℕ) → length (joined n (λ i. field (tag i) (numberBytes width (number i)))) ≡ (width + 3) * n
+pub fields-size : (tag number : ℕ → ℕ) (width n : ℕ) → length (joined n (λ i. field (tag i) (numberBytes width (number i)))) ≡ (width + 3) * n
 fields-size tag number width n =
     joined-size (λ i. field (tag i) (numberBytes width (number i))) (width + 3) n (λ i. number-size (tag i) width (number i))
 

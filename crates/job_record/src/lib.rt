@@ -13,6 +13,7 @@ pub enum Tags {
 }
 
 // The option of a job as it was read: tag 8 or 10, or 0 and zeros where the job has none.
+#[repr(C)]
 pub struct OptionRecord {
     pub tag: u64,
     // The kind of tag 8, the side of tag 10.
@@ -27,6 +28,7 @@ pub struct OptionRecord {
 }
 
 // A job: its quotes and flows stand in the first `steps` places, zeros after them. A figure is the pattern of a float, NaN or not.
+#[repr(C)]
 pub struct Job {
     pub frequency: u64,
     pub steps: usize,
@@ -41,6 +43,7 @@ pub struct Job {
 }
 
 // Number 0 with the job, or refusal 1 with zeros.
+#[repr(C)]
 pub struct Reading {
     pub number: u64,
     pub job: Job,

@@ -15,31 +15,31 @@ use job_record::OptionRecord;
 use job_record::Reading;
 use job_record::Tags;
 
-const MOST_BYTES: usize = 4700;
+pub const MOST_BYTES: usize = 4700;
 
 // The bytes of tag and length before a field's data.
-const FIELD_HEAD: usize = 3;
+pub const FIELD_HEAD: usize = 3;
 
-const FREQUENCY_AT: usize = 0;
+pub const FREQUENCY_AT: usize = 0;
 
 // Each field stands where the one before it ends.
-const STEPS_AT: usize = FREQUENCY_AT + FIELD_HEAD + 1;
+pub const STEPS_AT: usize = FREQUENCY_AT + FIELD_HEAD + 1;
 
-const REVERSION_AT: usize = STEPS_AT + FIELD_HEAD + 1;
+pub const REVERSION_AT: usize = STEPS_AT + FIELD_HEAD + 1;
 
-const VOLATILITY_AT: usize = REVERSION_AT + FIELD_HEAD + 2;
+pub const VOLATILITY_AT: usize = REVERSION_AT + FIELD_HEAD + 2;
 
 // Where the version stands, or the quotes where there is none.
-const VERSION_AT: usize = VOLATILITY_AT + FIELD_HEAD + 4;
+pub const VERSION_AT: usize = VOLATILITY_AT + FIELD_HEAD + 4;
 
 // Where the quotes start behind a version.
-const QUOTES_AT: usize = VERSION_AT + FIELD_HEAD + 1;
+pub const QUOTES_AT: usize = VERSION_AT + FIELD_HEAD + 1;
 
 // Kind, expiry and strike.
-const OPTION_WIDTH: usize = 1 + 1 + 4;
+pub const OPTION_WIDTH: usize = 1 + 1 + 4;
 
 // Side and strike, before the dates.
-const LIST_HEAD: usize = 1 + 4;
+pub const LIST_HEAD: usize = 1 + 4;
 
 fn wide(x: u8) -> u64
     ensures { λ r. ⌜ r ≡ x ⌝ }
@@ -69,7 +69,8 @@ fn after_fields(from: usize, width: usize, count: usize) -> usize
     from + (width + FIELD_HEAD) * count
 }
 
-fn is_kind(tag: u8) -> bool
+// Whether a tag is a kind of quote.
+pub fn is_kind(tag: u8) -> bool
     ensures { λ r. ⌜ r ≡ isKind tag ⌝ }
 {
     if tag == 5 {

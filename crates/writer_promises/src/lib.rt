@@ -1,0 +1,1 @@
+// No code: what reading and writing a job promise together, over the definitions that their contracts cite.
