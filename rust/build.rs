@@ -1,4 +1,4 @@
-// Links the archive that `rt staticlib capi` writes. MIXEGORTA_ARCHIVE_DIR names its folder where that is not ../target/staticlib. An
+// Links the archive that tools/archive makes. MIXEGORTA_ARCHIVE_DIR names its folder where that is not ../target. An
 // archive of another version is refused, and so is one of this repository that is older than a crate.
 use std::env;
 use std::fs;
@@ -26,7 +26,7 @@ fn version_of(folder: &Path) -> Option<String> {
     let program = set("OUT_DIR").join("version");
     fs::write(&source, ASKS).expect("OUT_DIR can be written");
     let linked = Command::new(set("RUSTC"))
-        .args(["--edition", "2021", "-l", "static=capi", "-L"])
+        .args(["--edition", "2021", "-l", "static=mixegorta", "-L"])
         .arg(folder)
         .arg("-o")
         .args([&program, &source])
@@ -65,18 +65,18 @@ fn newer_crate(archive: &Path) -> Option<PathBuf> {
 fn main() {
     println!("cargo:rerun-if-env-changed=MIXEGORTA_ARCHIVE_DIR");
     let named = env::var_os("MIXEGORTA_ARCHIVE_DIR").map(PathBuf::from);
-    let own = set("CARGO_MANIFEST_DIR").join("../target/staticlib");
+    let own = set("CARGO_MANIFEST_DIR").join("../target");
     let folder = named.as_ref().unwrap_or(&own);
-    let archive = folder.join("libcapi.a");
+    let archive = folder.join("libmixegorta.a");
     println!("cargo:rerun-if-changed={}", archive.display());
     let shown = archive.display();
     assert!(
         archive.exists(),
-        "no {shown}: run `rt staticlib capi`, or set MIXEGORTA_ARCHIVE_DIR to the folder of libcapi.a"
+        "no {shown}: run tools/archive, or set MIXEGORTA_ARCHIVE_DIR to the folder of libmixegorta.a"
     );
     if let (None, Some(file)) = (&named, newer_crate(&archive)) {
         let file = file.display();
-        panic!("{shown} is older than {file}: run `rt staticlib capi`, or set MIXEGORTA_ARCHIVE_DIR to take an archive as it is");
+        panic!("{shown} is older than {file}: run tools/archive, or set MIXEGORTA_ARCHIVE_DIR to take an archive as it is");
     }
     // The archive is for one platform, so the program that asks it runs where the crate does.
     if set("HOST") == set("TARGET") {
@@ -88,5 +88,5 @@ fn main() {
         );
     }
     println!("cargo:rustc-link-search=native={}", folder.display());
-    println!("cargo:rustc-link-lib=static=capi");
+    println!("cargo:rustc-link-lib=static=mixegorta");
 }

@@ -37,7 +37,7 @@ def run_c(code):
     source, program = FOLDER / "example.c", FOLDER / "example"
     source.write_text(code)
     subprocess.run([os.environ.get("CC", "cc"), "-std=c11", "-Wall", "-Wextra", "-Wpedantic", "-Werror", "-I", ROOT / "c", "-o", program, source,
-                    ROOT / "target/staticlib/libcapi.a"], check=True)
+                    ROOT / "target/libmixegorta.a"], check=True)
     return printed_by(program)
 
 

@@ -1,5 +1,5 @@
 #!/usr/bin/env python3
-"""Measures how much stack the programs and the library take, and holds the figures of README.md, docs/MANUAL.md and tools/price.py against it.
+"""Measures how much stack the programs and the library take, and holds the figures of docs/MANUAL.md and of the command mixegorta against it.
 
     tools/stack.py [MEASURED]    each program of target/bin/ that has a file stdout in its crate, and what the program MEASURED, c/stack.c compiled, prints
 
@@ -14,7 +14,7 @@ import sys
 
 ROOT = pathlib.Path(__file__).resolve().parent.parent
 BINARIES = ROOT / 'target/bin'
-PLACES = ('README.md', 'docs/MANUAL.md', 'tools/price.py')
+PLACES = ('docs/MANUAL.md', 'python/mixegorta_desk/engine.py')
 STATED = re.compile(r'([0-9][0-9,]*) KiB of stack are enough')
 CALL = re.compile(r'([0-9][0-9,]*) KiB for a (fit|price|strip|commit|sheet|reading|writing)')
 STEP, MOST, RUNS, RESERVE = 4, 8_192, 5, 64

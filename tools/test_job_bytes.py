@@ -14,7 +14,7 @@ sys.dont_write_bytecode = True
 ROOT = pathlib.Path(__file__).resolve().parent.parent
 sys.path.insert(0, str(ROOT / 'python'))
 import mixegorta as m
-import texts
+from mixegorta_desk import texts
 
 EXAMPLES = sorted((ROOT / 'examples').glob('*.txt'))
 HEAD = 'frequency 3\nreversion 65535\nvolatility 4294967295\n'

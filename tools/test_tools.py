@@ -16,7 +16,7 @@ import unittest
 import xml.etree.ElementTree as ElementTree
 
 ROOT = pathlib.Path(__file__).resolve().parent.parent
-sys.path.insert(0, str(ROOT / 'reference'))
+sys.path[:0] = [str(ROOT / 'reference'), str(ROOT / 'tools')]
 sys.dont_write_bytecode = True
 import records
 import reference
@@ -245,9 +245,11 @@ class Pricing(unittest.TestCase):
         path.write_bytes(content if isinstance(content, bytes) else content.encode())
         return path
 
-    def price(self, *arguments, program=None, tools=ROOT / 'tools', path=os.environ['PATH'], **more):
+    def price(self, *arguments, program=None, tools=ROOT / 'tools', path=os.environ['PATH'], tree=True, **more):
+        """tools/price, with the whole sheet shown unless it is told otherwise."""
         settings = {'PATH': str(path), **({'MIXEGORTA_SHEET': str(program)} if program else {})}
-        return subprocess.run(['/bin/sh', str(tools / 'price'), *map(str, arguments)], env=settings, stderr=subprocess.PIPE, **{'stdout': subprocess.PIPE, **more})
+        command = ['/bin/sh', str(tools / 'price'), *map(str, arguments), *(['--tree'] if tree else [])]
+        return subprocess.run(command, env=settings, stderr=subprocess.PIPE, **{'stdout': subprocess.PIPE, **more})
 
     def check_sentence(self, made, *words):
         """Nothing is shown, and one line tells why."""
@@ -303,8 +305,8 @@ class Pricing(unittest.TestCase):
         for file, word in (('no-such-file', 'No such file'), (self.folder, 'Is a directory'), (self.file('flow x'), ':1: flow is a decimal'),
                            (self.file(b'\xff\xfeq\0'), 'not a text in UTF-8'), (self.file('\xe9'.encode('latin-1')), 'not a text in UTF-8')):
             self.check_sentence(self.price(file, program=self.reference), str(file), word)
-        self.check_sentence(self.price(), 'tools/price FILE')
-        self.check_sentence(self.price('a', 'b'), 'tools/price FILE')
+        self.check_sentence(self.price('a', 'b'), 'unrecognized arguments: b', 'tools/price --help')
+        self.check_sentence(self.price('--no-such-option'), 'tools/price --help')
         self.assertIn(b'20 more lines are wrong', self.price(self.file('x\n' * 40), program=self.reference).stderr)
 
     def test_a_zero_byte_makes_no_job_of_a_text(self):
@@ -320,15 +322,19 @@ class Pricing(unittest.TestCase):
         self.assertEqual(run('job', '', '').stderr, b"'': No such file or directory\n")
 
     def test_a_program_that_is_missing(self):
-        shutil.copytree(ROOT / 'tools', self.folder / 'clone/tools')
+        for name in ('tools', 'python'):
+            shutil.copytree(ROOT / name, self.folder / 'clone' / name)
+        (self.folder / 'clone/crates.txt').write_text('sheet:\n')
         file, tools = ROOT / 'examples/one-step.txt', self.folder / 'clone/tools'
         commands = self.folder / 'commands'
         commands.mkdir()
         for name in ('python3', 'dirname', 'readlink'):
             (commands / name).symlink_to(sys.executable if name == 'python3' else shutil.which(name))
         self.check_sentence(self.price(file, tools=tools, path=commands), 'no Rattle kit', 'tools/job FILE | python3 reference/reference.py')
-        self.program('').rename(commands / 'rt')
-        self.check_sentence(self.price(file, tools=tools, path=commands), 'run `rt check sheet`')
+        self.program('echo no; exit 1').rename(commands / 'rt')
+        failed = self.price(file, tools=tools, path=commands)
+        self.assertEqual((failed.returncode, failed.stdout), (2, b''))
+        self.assertIn(b'there is no target/bin/sheet, and `rt check sheet` failed: target/sheet.log says why', failed.stderr)
         self.check_sentence(self.price(file, program='no-such-program'), 'no-such-program', 'MIXEGORTA_SHEET')
         self.check_sentence(self.price(file, program=self.file('no program')), 'does not run here', 'rt check sheet')
         self.check_sentence(self.price(file, path=self.folder / 'nothing'), 'needs python3')

@@ -29,8 +29,8 @@ def backend():
 
 def commands(folder):
     """A path with what tools/archive runs, and without the kit."""
-    for name in ("bash", "env", "dirname", "find", "mkdir"):
-        os.symlink(shutil.which(name), os.path.join(folder, name))
+    for name in ("sh", "dirname", "readlink", "python3"):
+        os.symlink(sys.executable if name == "python3" else shutil.which(name), os.path.join(folder, name))
     return folder
 
 
@@ -83,7 +83,7 @@ class Test(unittest.TestCase):
             self.assertEqual(importlib.metadata.version("mixegorta"), m.__version__)
 
     def test_a_build_without_archive_kit_or_compiler_says_so(self):
-        for change, words in (({"MIXEGORTA_ARCHIVE_DIR": "/nowhere"}, "there is no archive /nowhere/libcapi.a"),
+        for change, words in (({"MIXEGORTA_ARCHIVE_DIR": "/nowhere"}, "there is no archive /nowhere/libmixegorta.a"),
                               ({"CC": "no-compiler"}, "there is no C compiler no-compiler")):
             with backend() as (module, folder), mock.patch.dict(os.environ, change):
                 with self.assertRaisesRegex(SystemExit, "^mixegorta cannot be built: " + words + "[^\n]*$"):
@@ -92,14 +92,15 @@ class Test(unittest.TestCase):
     def test_an_archive_that_is_missing_or_older_than_a_crate_is_not_taken(self):
         with backend() as (module, folder), mock.patch.dict(os.environ, PATH=commands(folder)):
             root = pathlib.Path(folder) / "root"
-            for place in ("tools", "crates/capi/must-fail", "target/staticlib"):
+            for place in ("tools", "crates/capi/must-fail", "target"):
                 (root / place).mkdir(parents=True)
-            (root / "crates.txt").write_text("")
-            shutil.copy(module.ROOT / "tools/archive", root / "tools")
-            archive = root / "target/staticlib/libcapi.a"
+            (root / "crates.txt").write_text("capi:\n")
+            for name in ("archive", "building.py"):
+                shutil.copy(module.ROOT / "tools" / name, root / "tools")
+            archive = root / "target/libmixegorta.a"
             with mock.patch.object(module, "ROOT", root), mock.patch.dict(os.environ):
                 os.environ.pop("MIXEGORTA_ARCHIVE_DIR", None)
-                with self.assertRaisesRegex(SystemExit, "^mixegorta cannot be built: there is no archive [^\n]*$"):
+                with self.assertRaisesRegex(SystemExit, "^mixegorta cannot be built: there is no target/libmixegorta.a: [^\n]*$"):
                     module.archive()
                 archive.write_text("")
                 os.utime(archive, (time.time() + 10,) * 2)
@@ -110,16 +111,16 @@ class Test(unittest.TestCase):
                     os.utime(path, (time.time() + 20,) * 2)
                     if not stale:
                         self.assertEqual(module.archive(), archive)
-                with self.assertRaisesRegex(SystemExit, "^mixegorta cannot be built: the archive [^\n]* is older than crates/capi/lib.rt: [^\n]*$"):
+                with self.assertRaisesRegex(SystemExit, "^mixegorta cannot be built: target/libmixegorta.a is older than crates/capi/lib.rt: [^\n]*$"):
                     module.archive()
 
     def test_a_build_from_an_archive_of_another_version_says_so(self):
         with tempfile.TemporaryDirectory() as place:
             for code, words in (("", "tells no version"), ("unsigned long mixegorta_version(void) { return 2003004; }", "is of version 2.3.4")):
                 compiled("int other;" + code, "-c", os.path.join(place, "other.o"))
-                subprocess.run(["ar", "rc", os.path.join(place, "libcapi.a"), os.path.join(place, "other.o")], check=True)
+                subprocess.run(["ar", "rc", os.path.join(place, "libmixegorta.a"), os.path.join(place, "other.o")], check=True)
                 with backend() as (module, folder), mock.patch.dict(os.environ, MIXEGORTA_ARCHIVE_DIR=place):
-                    with self.assertRaisesRegex(SystemExit, f"^mixegorta cannot be built: [^\n]*libcapi.a {words}, [^\n]*$"):
+                    with self.assertRaisesRegex(SystemExit, f"^mixegorta cannot be built: [^\n]*libmixegorta.a {words}, [^\n]*$"):
                         module.build_wheel(folder)
 
     def test_an_import_of_another_library_says_so(self):

@@ -1,4 +1,4 @@
-//! A Hull-White trinomial rate tree in whole billionths, over the proved archive `libcapi.a`.
+//! A Hull-White trinomial rate tree in whole billionths, over the proved archive `libmixegorta.a`.
 //!
 //! [`ONE`] is 1,000,000,000 billionths. Any arguments may be passed: each call gives its full answer or a [`Refusal`], and the engine
 //! itself judges every argument. Discounts stand row after row, lowest node first, for rows 0 to n - 1, state prices for rows 0 to n.
