@@ -1,4 +1,4 @@
-// Links the archive that tools/archive makes. MIXEGORTA_ARCHIVE_DIR names its folder where that is not ../target. An
+// Links the archive that tools/archive makes. MIXEGORTA_ARCHIVE_DIR names its folder where that is not ../lib of a release or ../target of the source. An
 // archive of another version is refused, and so is one of this repository that is older than a crate.
 use std::env;
 use std::fs;
@@ -62,18 +62,39 @@ fn newer_crate(archive: &Path) -> Option<PathBuf> {
     newer(&crates, fs::metadata(archive).ok()?.modified().ok()?)
 }
 
+/// Where the archive stands: `../lib` of a release, `../target` of the source folder.
+fn own_folder() -> PathBuf {
+    let beside = set("CARGO_MANIFEST_DIR").join("..");
+    let released = beside.join("lib");
+    if released.join("libmixegorta.a").exists() {
+        released
+    } else {
+        beside.join("target")
+    }
+}
+
+/// Without an archive this crate's own tests are left out. A crate that depends on it is refused by src/lib.rs, which is compiled
+/// after this and knows whether it is a dependency. A folder that was named must have one.
+fn without_library(shown: &str, named: bool) {
+    let missing = format!("no {shown}: run tools/archive, or set MIXEGORTA_ARCHIVE_DIR to the folder of libmixegorta.a");
+    assert!(!named, "{missing}");
+    println!("cargo:warning={missing}; the tests that need it are left out");
+    println!("cargo:rustc-cfg=without_library");
+    println!("cargo:rustc-link-arg=-Wl,--unresolved-symbols=ignore-all");
+}
+
 fn main() {
     println!("cargo:rerun-if-env-changed=MIXEGORTA_ARCHIVE_DIR");
     let named = env::var_os("MIXEGORTA_ARCHIVE_DIR").map(PathBuf::from);
-    let own = set("CARGO_MANIFEST_DIR").join("../target");
+    let own = own_folder();
     let folder = named.as_ref().unwrap_or(&own);
     let archive = folder.join("libmixegorta.a");
     println!("cargo:rerun-if-changed={}", archive.display());
     let shown = archive.display();
-    assert!(
-        archive.exists(),
-        "no {shown}: run tools/archive, or set MIXEGORTA_ARCHIVE_DIR to the folder of libmixegorta.a"
-    );
+    println!("cargo:rustc-check-cfg=cfg(without_library)");
+    if !archive.exists() {
+        return without_library(&shown.to_string(), named.is_some());
+    }
     if let (None, Some(file)) = (&named, newer_crate(&archive)) {
         let file = file.display();
         panic!("{shown} is older than {file}: run tools/archive, or set MIXEGORTA_ARCHIVE_DIR to take an archive as it is");

@@ -12,6 +12,7 @@ import sys
 sys.dont_write_bytecode = True
 import exports
 import tables
+import usage
 import writers
 
 ROOT = exports.ROOT
@@ -168,8 +169,7 @@ def differences(functions, records, refusals, limits):
 
 
 def main(arguments):
-    if arguments not in ([], ['--check']):
-        sys.exit(__doc__)
+    usage.answer(__doc__, arguments, ('--check',))
     try:
         functions, records = exports.exported()
         refusals, limits = tables.refusals(), tables.limits()

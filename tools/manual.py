@@ -12,6 +12,9 @@ import re
 import subprocess
 import sys
 
+sys.dont_write_bytecode = True
+import usage
+
 ROOT = pathlib.Path(__file__).resolve().parent.parent
 FOLDER = ROOT / "target/examples/manual"
 CARGO = '[package]\nname = "manual"\nversion = "0.1.0"\nedition = "2021"\n[dependencies]\nmixegorta = { path = "%s" }\n[workspace]\n'
@@ -49,10 +52,10 @@ def run_rust(code):
 
 
 def main():
+    usage.answer(__doc__, sys.argv[1:], ("--installed",))
     installed = sys.argv[1:] == ["--installed"]
     FOLDER.mkdir(parents=True, exist_ok=True)
     sys.path[:0] = [str(ROOT / "reference")] if installed else [str(ROOT / "python"), str(ROOT / "reference")]
-    sys.dont_write_bytecode = True
     names, ran, same = {}, 0, True
     run = {"python": lambda code: run_python(code, names)}
     if not installed:

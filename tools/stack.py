@@ -12,6 +12,9 @@ import re
 import subprocess
 import sys
 
+sys.dont_write_bytecode = True
+import usage
+
 ROOT = pathlib.Path(__file__).resolve().parent.parent
 BINARIES = ROOT / 'target/bin'
 PLACES = ('docs/MANUAL.md', 'python/mixegorta_desk/engine.py')
@@ -87,6 +90,7 @@ def faults_of_calls(measured, manual):
 
 
 def main(arguments):
+    usage.answer(__doc__, arguments, most=1)
     texts = {place: (ROOT / place).read_text(encoding='utf-8') for place in PLACES}
     measured = {name: least(program, given, expected) for name, program, given, expected in programs()}
     for name, size in measured.items():

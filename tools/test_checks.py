@@ -220,7 +220,7 @@ class Trials(unittest.TestCase):
 
 
 class Stack(unittest.TestCase):
-    TEXTS = {'README.md': 'x 768 KiB of stack are enough', 'tools/price.py': '768 KiB of stack are enough, so'}
+    TEXTS = {'docs/MANUAL.md': 'x 768 KiB of stack are enough', 'engine.py': '768 KiB of stack are enough, so'}
 
     def test_programs(self):
         self.assertEqual(stack.faults_of_programs({'sheet': 704, 'exhibits': 20}, self.TEXTS), [])
@@ -230,7 +230,7 @@ class Stack(unittest.TestCase):
 
     def test_places_that_differ(self):
         for text in ('1,024 KiB of stack are enough', 'some 700 KB of stack'):
-            self.assertEqual(len(stack.faults_of_programs({'sheet': 20}, {**self.TEXTS, 'README.md': text})), 1)
+            self.assertEqual(len(stack.faults_of_programs({'sheet': 20}, {**self.TEXTS, 'docs/MANUAL.md': text})), 1)
 
     def test_calls(self):
         manual = ('no more than 8 KiB for a fit, 16 KiB for a price, 24 KiB for a strip, 48 KiB for a commit and 1,192 KiB for a sheet, '

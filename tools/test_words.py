@@ -13,8 +13,10 @@ import unittest
 sys.dont_write_bytecode = True
 ROOT = pathlib.Path(__file__).resolve().parent.parent
 sys.path[:0] = [str(ROOT / 'python'), str(ROOT / 'tools')]
-import mixegorta
 import tables
+import usage
+
+mixegorta = usage.library(__doc__)
 
 WANTED = [f'refused {refusal.number}: {refusal.cause}' for refusal in tables.refusals()]
 

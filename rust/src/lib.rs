@@ -6,7 +6,8 @@
 //! takes a version: 2 has the model's own mean and variance of a step. [`Tree::option_strip`] prices up to 16 strikes of one option together. A [`Job`] is
 //! read from bytes and written to the same bytes, and [`sheet`] draws its sheet.
 //!
-//! ```
+#![cfg_attr(without_library, doc = "```ignore")]
+#![cfg_attr(not(without_library), doc = "```")]
 //! use mixegorta::{Curve, OptionKind, OptionTerms, Quote, Tree, ONE};
 //!
 //! let curve = Curve::of_quotes(&[Quote::DiscountFactor(1.0025)]);
@@ -23,6 +24,13 @@
 //! ```
 
 #![deny(missing_docs)]
+
+// Only this crate's own build may go without the archive: see build.rs.
+#[cfg(without_library)]
+const _: () = assert!(
+    option_env!("CARGO_PRIMARY_PACKAGE").is_some(),
+    "there is no libmixegorta.a: run tools/archive, or set MIXEGORTA_ARCHIVE_DIR to its folder"
+);
 
 mod bands;
 mod job;
