@@ -148,7 +148,7 @@ def make(name):
     product, command = (ARCHIVE, ['rt', 'staticlib', 'capi']) if name == 'archive' else (ROOT / 'target/bin' / name, ['rt', 'check', name])
     crates = needed(crate)
     if not crates:
-        return USAGE
+        return f'crates/ has no program {name}'
     wrong = fault(product, crates)
     if wrong is None:
         return None

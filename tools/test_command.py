@@ -212,7 +212,7 @@ class Building(unittest.TestCase):
         self.assertNotIn('shelf', building.needed('sheet'))
         self.assertEqual(building.needed('no-such-crate'), set())
         made = subprocess.run([ROOT / 'tools/building.py', 'no-such-crate'], capture_output=True, text=True)
-        self.assertEqual((made.returncode, made.stdout), (1, building.USAGE + '\n'))
+        self.assertEqual((made.returncode, made.stdout), (1, 'crates/ has no program no-such-crate\n'))
 
     def test_progress(self):
         """Lines of rt as it prints them, in a clone with a kit that only prints."""
