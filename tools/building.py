@@ -157,11 +157,13 @@ def make(name):
         return f"{wrong}: run {told}, with the Rattle kit's rt on the path"
     log = ROOT / 'target' / f'{name}.log'
     log.parent.mkdir(exist_ok=True)
+    began = time.time()
     if not proved(command, crates, log):
         return f'{wrong}, and {told} failed: {log.relative_to(ROOT)} says why'
     if name == 'archive':
         shutil.copyfile(KIT_ARCHIVE, ARCHIVE)
-    product.touch()
+    # A crate that was changed meanwhile is newer than what was made of it.
+    os.utime(product, (began, began))
     return None
 
 

@@ -82,6 +82,18 @@ class Test(unittest.TestCase):
         if not os.path.samefile(os.path.dirname(m.__file__), os.path.join(PYTHON, "mixegorta")):
             self.assertEqual(importlib.metadata.version("mixegorta"), m.__version__)
 
+    @unittest.skipUnless(sys.version_info >= (3, 11), "this python3 reads no TOML")
+    def test_the_project_is_what_the_wheel_says(self):
+        import tomllib
+        project = tomllib.loads(pathlib.Path(PYTHON, "pyproject.toml").read_text())["project"]
+        with backend() as (module, folder):
+            described = {name: content.decode() for name, content in module.described(b"GLIBC_2.2.5 GLIBC_2.14 GLIBC_2.4").items()}
+        for line in (f"Name: {project['name']}", f"Summary: {project['description']}", f"Requires-Python: {project['requires-python']}",
+                     f"License: {project['license']['text']}", f"Version: {m.__version__}"):
+            self.assertIn(f"{line}\n", described["METADATA"])
+        self.assertEqual(described["entry_points.txt"], "[console_scripts]\n" + "".join(f"{name} = {place}\n" for name, place in project["scripts"].items()))
+        self.assertIn("Tag: py3-none-manylinux_2_14_x86_64\n", described["WHEEL"])
+
     def test_a_build_without_archive_kit_or_compiler_says_so(self):
         for change, words in (({"MIXEGORTA_ARCHIVE_DIR": "/nowhere"}, "there is no archive /nowhere/libmixegorta.a"),
                               ({"CC": "no-compiler"}, "there is no C compiler no-compiler")):
