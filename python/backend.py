@@ -25,7 +25,7 @@ TEXTS = {
     "METADATA": "Metadata-Version: 2.1\nName: mixegorta\nVersion: {version}\n"
                 "Summary: A proved Hull-White trinomial rate tree in whole billionths\nRequires-Python: >=3.9\nLicense: by agreement with the owner, by level\n",
     "WHEEL": "Wheel-Version: 1.0\nGenerator: mixegorta {version}\nRoot-Is-Purelib: false\nTag: {tag}\n",
-    "entry_points.txt": "[console_scripts]\nmixegorta = mixegorta_desk.command:main\n",
+    "entry_points.txt": "[console_scripts]\nmixegorta = mixegorta_command.command:main\n",
 }
 # The files of the two packages, and the modules of the reference that the command reads.
 KINDS = (".py", ".typed", ".html", ".js")
@@ -102,20 +102,20 @@ def described(shared):
 
 def package_files():
     """The sources of both packages, and the reference beside the command."""
-    for package in ("mixegorta", "mixegorta_desk"):
+    for package in ("mixegorta", "mixegorta_command"):
         for path in sorted((HERE / package).iterdir()):
             if path.suffix in KINDS:
                 yield f"{package}/{path.name}", path.read_bytes()
     for path in (ROOT / "reference" / name for name in REFERENCE):
         if path.exists():
-            yield f"mixegorta_desk/reference/{path.name}", path.read_bytes()
+            yield f"mixegorta_command/reference/{path.name}", path.read_bytes()
 
 
 def shared_files():
     """The manual page and the completion, below the folder that the package is installed to."""
     sys.path.insert(0, str(HERE))
     try:
-        from mixegorta_desk import pages
+        from mixegorta_command import pages
     finally:
         sys.path.remove(str(HERE))
     return {place: text.encode() for place, text in pages.files().items()}

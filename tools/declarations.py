@@ -42,7 +42,7 @@ def written(functions, records, refusals, limits):
         ROOT / 'rust/src/limits.rs': writers.rust_limits(limits),
         python / '_declarations.py': writers.python_declarations(functions, records),
         python / '_limits.py': writers.python_limits(limits),
-        ROOT / 'python/mixegorta_desk/words.py': writers.desk_words(refusals),
+        ROOT / 'python/mixegorta_command/words.py': writers.command_words(refusals),
         ROOT / 'c/mixegorta_causes.h': writers.c_causes(refusals),
         python / 'refusals.py': regions(python / 'refusals.py', [writers.python_causes(refusals), writers.python_classes(refusals)]),
     }

@@ -17,7 +17,7 @@ import usage
 
 ROOT = pathlib.Path(__file__).resolve().parent.parent
 BINARIES = ROOT / 'target/bin'
-PLACES = ('docs/MANUAL.md', 'python/mixegorta_desk/engine.py')
+PLACES = ('docs/MANUAL.md', 'python/mixegorta_command/engine.py')
 STATED = re.compile(r'([0-9][0-9,]*) KiB of stack are enough')
 CALL = re.compile(r'([0-9][0-9,]*) KiB for a (fit|price|strip|commit|sheet|reading|writing)')
 STEP, MOST, RUNS, RESERVE = 4, 8_192, 5, 64

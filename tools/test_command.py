@@ -22,7 +22,7 @@ sys.path[:0] = [str(ROOT / 'reference'), str(ROOT / 'python'), str(ROOT / 'tools
 import building
 import reference
 import tables
-from mixegorta_desk import command, exact, pages
+from mixegorta_command import command, exact, pages
 
 EXAMPLES = sorted((ROOT / 'examples').glob('*.txt'))
 COUPON = ROOT / 'examples/coupon-put.txt'
@@ -32,7 +32,7 @@ QUICK_SECONDS = 60
 
 def mixegorta(*arguments, given=b'', program=None):
     settings = {**os.environ, 'PYTHONPATH': str(ROOT / 'python'), **({'MIXEGORTA_SHEET': str(program)} if program else {})}
-    return subprocess.run([sys.executable, '-B', '-m', 'mixegorta_desk', *map(str, arguments)], input=given, env=settings, capture_output=True)
+    return subprocess.run([sys.executable, '-B', '-m', 'mixegorta_command', *map(str, arguments)], input=given, env=settings, capture_output=True)
 
 
 def rows_of(made):
@@ -159,7 +159,7 @@ class Books(unittest.TestCase):
             program.write_text(f"#!/bin/sh\ncat >{folder}/given\nprintf '%s' '{self.REPORT}'\n")
             program.chmod(0o755)
             settings = {**os.environ, 'PYTHONPATH': str(ROOT / 'python'), 'MIXEGORTA_BOOK': str(program)}
-            made = {form: subprocess.run([sys.executable, '-B', '-m', 'mixegorta_desk', 'book', *form.split(), COUPON, EXAMPLES[0]], env=settings, capture_output=True)
+            made = {form: subprocess.run([sys.executable, '-B', '-m', 'mixegorta_command', 'book', *form.split(), COUPON, EXAMPLES[0]], env=settings, capture_output=True)
                     for form in ('', '--json', '--csv', '--frame')}
             given = (pathlib.Path(folder) / 'given').read_bytes()
         self.assertEqual([each.returncode for each in made.values()], [0] * 4)

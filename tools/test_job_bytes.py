@@ -14,7 +14,7 @@ sys.dont_write_bytecode = True
 ROOT = pathlib.Path(__file__).resolve().parent.parent
 sys.path[:0] = [str(ROOT / 'python'), str(ROOT / 'tools')]
 import usage
-from mixegorta_desk import texts
+from mixegorta_command import texts
 
 m = usage.library(__doc__)
 

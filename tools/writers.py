@@ -188,7 +188,7 @@ def python_classes(refusals):
     return [*lines, *python_wrapped('CLASSES: Dict[int, Type[Refused]] = {', pairs, '}')]
 
 
-def desk_words(refusals):
+def command_words(refusals):
     lines = [f'"""What each refusal says and what to do about it. {SOURCE} from tools/refusals.txt."""', '', 'REFUSALS = {']
     for refusal in refusals:
         lines += [f'    {refusal.number}: (', f'        {refusal.cause!r},', f'        {refusal.remedy!r},', '    ),']

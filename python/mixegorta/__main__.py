@@ -1,6 +1,6 @@
-"""`python3 -m mixegorta`: the command of the package mixegorta_desk."""
+"""`python3 -m mixegorta`: the command of the package mixegorta_command."""
 import sys
 
-from mixegorta_desk.command import main
+from mixegorta_command.command import main
 
 sys.exit(main())

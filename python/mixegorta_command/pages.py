@@ -1,6 +1,6 @@
 """The completion of bash and the manual page of the command, from what its parts say of themselves.
 
-    python3 -m mixegorta_desk.pages FOLDER    writes both below a folder, in their places
+    python3 -m mixegorta_command.pages FOLDER    writes both below a folder, in their places
 """
 import pathlib
 import re
