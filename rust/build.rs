@@ -55,11 +55,36 @@ fn newer(folder: &Path, than: SystemTime) -> Option<PathBuf> {
         })
 }
 
+/// The crates that the archive is made from, as crates.txt tells what each needs.
+fn needed(listed: &str) -> Vec<&str> {
+    let lines: Vec<(&str, &str)> = listed
+        .lines()
+        .filter_map(|line| line.split_once(':'))
+        .collect();
+    let mut found = vec!["capi"];
+    let mut done = 0;
+    while done < found.len() {
+        let below = lines
+            .iter()
+            .filter(|(name, _)| *name == found[done])
+            .flat_map(|(_, below)| below.split_whitespace());
+        let new: Vec<&str> = below.filter(|name| !found.contains(name)).collect();
+        found.extend(new);
+        done += 1;
+    }
+    found
+}
+
 /// The archive of this repository: what of its crates is newer.
 fn newer_crate(archive: &Path) -> Option<PathBuf> {
-    let crates = set("CARGO_MANIFEST_DIR").join("../crates");
+    let root = set("CARGO_MANIFEST_DIR").join("..");
+    let crates = root.join("crates");
     println!("cargo:rerun-if-changed={}", crates.display());
-    newer(&crates, fs::metadata(archive).ok()?.modified().ok()?)
+    let listed = fs::read_to_string(root.join("crates.txt")).ok()?;
+    let built = fs::metadata(archive).ok()?.modified().ok()?;
+    needed(&listed)
+        .into_iter()
+        .find_map(|name| newer(&crates.join(name), built))
 }
 
 /// Where the archive stands: `../lib` of a release, `../target` of the source folder.

@@ -40,11 +40,6 @@ def needed(name):
     return found
 
 
-def all_crates():
-    """Those that the archive is judged by, as the packages of Rust and Python judge it and the shared object."""
-    return {path.name for path in (ROOT / 'crates').iterdir() if path.is_dir()}
-
-
 def newer(crates, than):
     """A file of these crates that was changed after a time. Wrong edits are part of nothing that is built."""
     for crate in sorted(crates):
@@ -154,7 +149,7 @@ def make(name):
     crates = needed(crate)
     if not crates:
         return f'crates/ has no program {name}'
-    wrong = fault(product, all_crates() if name == 'archive' else crates)
+    wrong = fault(product, crates)
     if wrong is None:
         return None
     told = f'`{" ".join(command)}`'

@@ -151,9 +151,15 @@ class Test(unittest.TestCase):
             for place in ("python", "target", "crates/capi"):
                 os.makedirs(os.path.join(folder, place))
             shutil.copytree(os.path.dirname(m.__file__), os.path.join(folder, "python/mixegorta"), ignore=shutil.ignore_patterns("*.so"))
-            library, source = os.path.join(folder, "target/libmixegorta.so"), os.path.join(folder, "crates/capi/lib.rt")
+            pathlib.Path(folder, "crates.txt").write_text("below:\ncapi: below\nother: below\n")
+            for name in ("below", "other"):
+                os.makedirs(os.path.join(folder, "crates", name))
+            library, source = os.path.join(folder, "target/libmixegorta.so"), os.path.join(folder, "crates/below/lib.rt")
             shutil.copy(m._library.PATH, library)
             pathlib.Path(source).write_text("")
+            other = pathlib.Path(folder, "crates/other/lib.rt")
+            other.write_text("")
+            os.utime(other, (os.path.getmtime(library) + 10,) * 2)
             for age, words in ((-10, ""), (10, f"ImportError: {library} is older than {source}: run tools/library, or set MIXEGORTA_LIBRARY")):
                 os.utime(source, (os.path.getmtime(library) + age,) * 2)
                 done = subprocess.run([sys.executable, "-B", "-c", "import mixegorta"], cwd=os.path.join(folder, "python"), env={}, stderr=subprocess.PIPE,
