@@ -4,6 +4,7 @@
 #include "plain.h"
 #include "plain_bands.h"
 #include "plain_job.h"
+#include "plain_pair.h"
 #include <math.h>
 #include <stdio.h>
 #include <stdlib.h>
@@ -1042,6 +1043,103 @@ static void jobs(int turns)
     }
 }
 
+/* ---- a rate tree and a spread tree together */
+
+enum { PAIR_STEPS = MIXEGORTA_MAX_PAIR_STEPS, PAIR_NODES = 441 };
+
+static struct {
+    size_t n, m;
+    uint64_t b, c, side, strike, rates[PAIR_NODES], spreads[PAIR_NODES], flows[PAIR_STEPS + 1];
+    uint8_t dates[PAIR_STEPS + 1];
+    size_t dates_count;
+} pair;
+
+/* Rates about 0.99 and spreads about 0.995 a step, a coupon bond, and a call of every third row at par. */
+static void set_pair(size_t n, uint64_t b, uint64_t c)
+{
+    memset(&pair, 0, sizeof pair);
+    pair.n = pair.m = n, pair.b = b, pair.c = c, pair.side = 1, pair.strike = ONE;
+    for (size_t k = 0; k < PAIR_NODES; k++) {
+        pair.rates[k] = 985000000 + (uint64_t)(uniform() * 1e7);
+        pair.spreads[k] = 992000000 + (uint64_t)(uniform() * 6e6);
+    }
+    for (size_t t = 0; t < n; t++)
+        pair.flows[t] = 15000000 + (t + 1 == n ? ONE : 0);
+    const size_t last = n > 4 ? n - 4 : 0;
+    for (size_t row = last % 3; row <= last; row += 3)
+        pair.dates[pair.dates_count++] = (uint8_t)row;
+}
+
+#define PAIR pair.n, pair.b, pair.rates, PAIR_NODES, pair.m, pair.c, pair.spreads, PAIR_NODES, pair.flows, pair.n
+
+static struct plain_price bond_of_pair(void) { return of_library(mixegorta_pair_bond_price(PAIR)); }
+
+static struct plain_price option_of_pair(void)
+{
+    return of_library(mixegorta_pair_dated_option_price(PAIR, pair.side, pair.dates, pair.dates_count, pair.strike));
+}
+
+static struct plain_price plain_bond_of_pair(void)
+{
+    const struct plain_tree rates = {pair.n, pair.b, pair.rates}, spreads = {pair.m, pair.c, pair.spreads};
+    return plain_pair_bond(&rates, &spreads, pair.flows);
+}
+
+static struct plain_price plain_option_of_pair(void)
+{
+    const struct plain_tree rates = {pair.n, pair.b, pair.rates}, spreads = {pair.m, pair.c, pair.spreads};
+    return plain_pair_option(&rates, &spreads, pair.flows, pair.side, pair.dates, pair.dates_count, pair.strike);
+}
+
+static void must_pair_the_same(void)
+{
+    const struct plain_price bond = bond_of_pair(), option = option_of_pair(), plain_bond = plain_bond_of_pair(), plain_option = plain_option_of_pair();
+    if (!same_price(&bond, &plain_bond) || !same_price(&option, &plain_option))
+        fail("DIFFERENT on a rate tree and a spread tree");
+}
+
+/* Pairs of every length and some widths, and the same with a number changed. */
+static void compare_pairs(void)
+{
+    static const uint64_t reversions[] = {0, 83, 200, 1000, 1840, 6000};
+    int refused = 0;
+    for (int i = 0; i < 2000; i++) {
+        set_pair(1 + (size_t)i % PAIR_STEPS, reversions[i % 6], reversions[i / 6 % 6]);
+        pair.side = 1 + (uint64_t)(i / 5 % 2);
+        pair.strike = (uint64_t)(uniform() * 1.5e9);
+        for (size_t k = 0; i % 4 == 0 && k < PAIR_NODES; k++)
+            pair.rates[k] = 1 + (uint64_t)(uniform() * (i % 8 ? 1.1e9 : 4e4)), pair.spreads[k] = 1 + (uint64_t)(uniform() * (i % 8 ? 1.1e9 : 1e6));
+        must_pair_the_same();
+        const uint64_t wrong = (uint64_t)(uniform() * 3) - 1;
+        pair.n += i % 7 == 1, pair.m += i % 7 == 1 || i % 7 == 2, pair.b += i % 7 == 3 ? 6000 : 0, pair.dates[0] += i % 7 == 4 ? 20 : 0;
+        pair.rates[i % 5] *= i % 7 == 5 ? wrong : 1, pair.flows[0] += i % 7 == 6 ? 2 * ONE : 0;
+        must_pair_the_same();
+        refused += bond_of_pair().number != 0;
+    }
+    printf("prices of pairs equal on 4000 pairs, %d of them refused\n", refused);
+}
+
+static void pair_bond_by_library(void) { last_worth = bond_of_pair().value; }
+static void pair_bond_by_plain_c(void) { last_worth = plain_bond_of_pair().value; }
+static void pair_option_by_library(void) { last_worth = option_of_pair().value; }
+static void pair_option_by_plain_c(void) { last_worth = plain_option_of_pair().value; }
+
+static void pairs(int turns)
+{
+    static const uint64_t reversions[][2] = {{0, 0}, {83, 200}, {500, 1000}, {1000, 6000}};
+    printf("\nrate and spread, n = 20           library        plain C      ratio\n");
+    for (int i = 0; i < 4; i++) {
+        char name[64];
+        set_pair(PAIR_STEPS, reversions[i][0], reversions[i][1]);
+        if (bond_of_pair().number || option_of_pair().number)
+            fail("a pair that is not accepted");
+        snprintf(name, sizeof name, "b = %d, %d, bond", (int)pair.b, (int)pair.c);
+        line_of_moves(name, pair_bond_by_library, pair_bond_by_plain_c, turns);
+        snprintf(name, sizeof name, "b = %d, %d, option", (int)pair.b, (int)pair.c);
+        line_of_moves(name, pair_option_by_library, pair_option_by_plain_c, turns);
+    }
+}
+
 #ifdef HAVE_QUANTLIB
 void quantlib_curve(size_t n, double step, const double *factors);
 double quantlib_prices(size_t n, double step, double reversion, double volatility, const double *flows, size_t expiry, double strike,
@@ -1096,6 +1194,7 @@ int main(int argc, char **argv)
     compare_shelves();
     compare_bands();
     compare_jobs();
+    compare_pairs();
     against_plain_c(turns);
     dates_against_kind(turns);
     rates(turns);
@@ -1106,6 +1205,7 @@ int main(int argc, char **argv)
     strips(turns);
     bands(turns);
     jobs(turns);
+    pairs(turns);
     against_quantlib(turns / 4 + 1);
     return 0;
 }

@@ -14,8 +14,8 @@
  * Arguments. Any numbers may be passed: a call gives its full answer, or the number of a refusal with every other field 0; a shelf
  * comes back beside the number, refused or not, each answer of a strip has a number of its own, and beside 16, 17 and 18, which haircut bands
  * alone give, a verdict shows what is wrong.
- * Where several refusals apply, the lowest number is given, with these exceptions: 15 is tried before all others, 14 after 4, and 13
- * before 12; of 17 and 18 the one whose row and price come first is given.
+ * Where several refusals apply, the lowest number is given, with these exceptions: 15 is tried before all others, 14 after 4, 19 after 3 and
+ * before 4, and 13 before 12; of 17 and 18 the one whose row and price come first is given.
  *
  *   reversion   reversion per step (yearly reversion times step length) in ten-thousandths, 0 to 6,000; of a tree of version 2 its working
  *               reversion, wherever a function takes a tree and not a version
@@ -47,6 +47,7 @@
  *   16  a band has an end before its start, or a haircut, start or end out of range, or there are more than 40 bands
  *   17  a row and a price are in no band
  *   18  a row and a price are in two or more bands
+ *   19  the steps of a pair are above 20, or its two trees differ in them
  *
  * Memory. A slice is a pointer followed by its count of elements, never of bytes. The pointer is aligned for its type and points to
  * that many elements; with count 0 it may be NULL. All of them are initialised, those that a call only writes too: any numbers
@@ -68,9 +69,9 @@ extern "C" {
 
 /* The version of header and library, in three numbers and as a text. The shared object's name for the loader carries the first. */
 #define MIXEGORTA_VERSION_MAJOR 0
-#define MIXEGORTA_VERSION_MINOR 12
+#define MIXEGORTA_VERSION_MINOR 13
 #define MIXEGORTA_VERSION_PATCH 0
-#define MIXEGORTA_VERSION "0.12.0"
+#define MIXEGORTA_VERSION "0.13.0"
 
 /* The same as one number, which mixegorta_version() of this header's own library answers. */
 #define MIXEGORTA_VERSION_NUMBER \
@@ -96,6 +97,9 @@ extern "C" {
 /* The most bands of a table, and the largest haircut, all of a price, in ten-thousandths. */
 #define MIXEGORTA_MAX_BANDS 40
 #define MIXEGORTA_MAX_HAIRCUT 10000
+
+/* The largest number of steps of a rate tree and a spread tree together. */
+#define MIXEGORTA_MAX_PAIR_STEPS 20
 
 /* The longest job, and room for the sheet of every job, in bytes. */
 #define MIXEGORTA_MAX_JOB 4700
@@ -615,6 +619,31 @@ struct mixegorta_worth mixegorta_lending_worth(const uint64_t *first_rows, size_
                                                size_t last_rows_len, const uint64_t *lowest_prices, size_t lowest_prices_len,
                                                const uint64_t *highest_prices, size_t highest_prices_len,
                                                const uint64_t *haircuts, size_t haircuts_len, uint64_t row, uint64_t price);
+
+/* ---- A rate tree and a spread tree together, as corporate notes need them. Memories are only read.
+ *
+ * Both trees have the same number of steps, 1 to 20, and each its own reversion and discounts, which stand as those of any tree and may be a
+ * fit's. Their moves are independent. A node is a pair of nodes of one row, a rate's and a spread's, and its discount is the product of
+ * the two divided by one, down. The limit 1,100,000,000 is that of each tree alone: a pair may have up to 1,210,000,000. Where every needed
+ * discount of one tree is one, whatever its reversion, the answer is what the function for a single tree gives for the other. */
+
+/* The price at row 0 of the bond with these flows of rows 1 to n, and its error bound. rate_discounts and spread_discounts: at least
+ * mixegorta_discounts_needed of the own steps and reversion; flows: n elements.
+ * Refusals, in this order: 3 either number of steps, 19 too many steps or steps that differ, 4 either reversion, 6 counts of discounts or flows, 9 a
+ * discount of either tree, then a pair of one row whose discount is 0, 10 a flow, 12 a value of some pair. */
+struct mixegorta_price mixegorta_pair_bond_price(size_t rate_steps, uint64_t rate_reversion, const uint64_t *rate_discounts,
+                                                 size_t rate_discounts_len, size_t spread_steps, uint64_t spread_reversion,
+                                                 const uint64_t *spread_discounts, size_t spread_discounts_len,
+                                                 const uint64_t *flows, size_t flows_len);
+
+/* The price at row 0 of an option on that bond which may be exercised on listed rows; side, dates and strike as in
+ * mixegorta_dated_option_price. Refusals: those of mixegorta_pair_bond_price, 11 side or strike, and 13 dates, after 11 and before 12. */
+struct mixegorta_price mixegorta_pair_dated_option_price(size_t rate_steps, uint64_t rate_reversion,
+                                                         const uint64_t *rate_discounts, size_t rate_discounts_len,
+                                                         size_t spread_steps, uint64_t spread_reversion,
+                                                         const uint64_t *spread_discounts, size_t spread_discounts_len,
+                                                         const uint64_t *flows, size_t flows_len, uint64_t side,
+                                                         const uint8_t *dates, size_t dates_len, uint64_t strike);
 
 #ifdef __cplusplus
 }

@@ -46,6 +46,8 @@ static inline const char *mixegorta_cause(uint64_t number) {
         return "a row and a price are in no band";
     case 18:
         return "a row and a price are in two or more bands";
+    case 19:
+        return "the steps of a pair are above 20, or its two trees differ in them";
     default:
         return "not a refusal of this version";
     }

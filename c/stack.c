@@ -1,4 +1,4 @@
-/* The stack that a fit, a price, a strip, a commit and a sheet take on the largest tree, and the reading and the writing of the longest job, in bytes: the most of
+/* The stack that a fit, a price, a strip, a commit, a pair and a sheet take on the largest tree, and the reading and the writing of the longest job, in bytes: the most of
  * any call, on a thread whose stack is filled first. */
 #define _POSIX_C_SOURCE 200809L
 #include "mixegorta.h"
@@ -8,11 +8,11 @@
 #include <stdlib.h>
 #include <string.h>
 
-enum { STACK = 1 << 20, STEPS = MIXEGORTA_MAX_STEPS, FILL = 0xA5 };
+enum { STACK = 1 << 20, STEPS = MIXEGORTA_MAX_STEPS, PAIR_STEPS = MIXEGORTA_MAX_PAIR_STEPS, PAIR_NODES = PAIR_STEPS * PAIR_STEPS, FILL = 0xA5 };
 
 static uint64_t rows[STEPS], flows[STEPS], discounts[MIXEGORTA_MAX_DISCOUNTS], state_prices[MIXEGORTA_MAX_STATE_PRICES];
 static const uint64_t payoffs[MIXEGORTA_MAX_NODES];
-static uint64_t strikes[MIXEGORTA_MAX_STRIKES];
+static uint64_t strikes[MIXEGORTA_MAX_STRIKES], paired[PAIR_NODES];
 static uint8_t kinds[STEPS], dates[STEPS], room[MIXEGORTA_SHEET_ROOM], job[MIXEGORTA_MAX_JOB];
 static double figures[STEPS];
 static size_t job_size;
@@ -108,6 +108,17 @@ static void *shelf_strip_of_kind(void *unused) {
                                                           MIXEGORTA_MAX_STRIKES));
 }
 
+static void *pair_bond(void *unused) {
+    refused = mixegorta_pair_bond_price(PAIR_STEPS, 0, paired, PAIR_NODES, PAIR_STEPS, 0, paired, PAIR_NODES, flows, PAIR_STEPS).number;
+    return unused;
+}
+
+static void *pair_option(void *unused) {
+    refused = mixegorta_pair_dated_option_price(PAIR_STEPS, 0, paired, PAIR_NODES, PAIR_STEPS, 0, paired, PAIR_NODES, flows, PAIR_STEPS,
+                                                MIXEGORTA_PUT, dates, PAIR_STEPS, MIXEGORTA_ONE).number;
+    return unused;
+}
+
 static void *sheet(void *unused) {
     refused = mixegorta_sheet(job, job_size, room, sizeof room).number;
     return unused;
@@ -175,6 +186,7 @@ int main(void) {
         dates[i] = (uint8_t)i;
     }
     for (size_t k = 0; k < MIXEGORTA_MAX_STRIKES; k++) strikes[k] = MIXEGORTA_ONE + k;
+    for (size_t k = 0; k < PAIR_NODES; k++) paired[k] = 990000000;
     write_job(STEPS, STEPS);
     printf("fit %zu\n", most(taken(fit_version), taken(fit)));
     const size_t asked = taken(asking);
@@ -183,6 +195,7 @@ int main(void) {
     printf("price %zu\n", most(plain, taken(shelf_option)));
     printf("strip %zu\n", most(most(taken(strip), taken(strip_of_kind)), most(taken(shelf_strip), taken(shelf_strip_of_kind))));
     printf("commit %zu\n", committed);
+    printf("pair %zu\n", most(taken(pair_bond), taken(pair_option)));
     printf("sheet %zu\n", taken(sheet));
     write_job(MIXEGORTA_MAX_JOB_STEPS, 78);
     if (job_size != MIXEGORTA_MAX_JOB) return 3;

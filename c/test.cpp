@@ -118,6 +118,17 @@ static void records() {
     EXPECT(mixegorta_write_job(job, out.data(), 0).number == 1);
 }
 
+static void pair() {
+    const std::vector<uint64_t> high(1, MIXEGORTA_MAX_NODE_DISCOUNT), flows(1, MIXEGORTA_ONE);
+    const std::vector<uint8_t> dates(1, 0);
+    const mixegorta_price bond = mixegorta_pair_bond_price(1, 0, high.data(), 1, 1, 6000, high.data(), 1, flows.data(), 1);
+    EXPECT(bond.number == 0 && bond.value == 1210000000 && bond.bound == 2);
+    const mixegorta_price put = mixegorta_pair_dated_option_price(1, 0, high.data(), 1, 1, 6000, high.data(), 1, flows.data(), 1, 2,
+                                                                  dates.data(), 1, 1300000000);
+    EXPECT(put.number == 0 && put.value == 90000000 && put.bound == 2);
+    EXPECT(mixegorta_pair_bond_price(1, 0, high.data(), 1, 2, 0, high.data(), 1, flows.data(), 1).number == 19);
+}
+
 int main() {
     EXPECT(mixegorta_version() == MIXEGORTA_VERSION_NUMBER);
     shapes();
@@ -127,5 +138,6 @@ int main() {
     shelf();
     bands();
     records();
+    pair();
     return failures == 0 ? 0 : 1;
 }

@@ -328,6 +328,14 @@ static void write_job(void) {
     }
 }
 
+#define PAIR number(0), number(1), LENT(2), number(3), number(4), LENT(5), LENT(6)
+
+static void pair_bond_price(void) { answer_price(mixegorta_pair_bond_price(PAIR)); }
+
+static void pair_dated_option_price(void) {
+    answer_price(mixegorta_pair_dated_option_price(PAIR, number(7), as_bytes(8), given[8].count, number(9)));
+}
+
 #define CALL(name) {#name, name}
 static const struct {
     const char *name;
@@ -340,7 +348,8 @@ static const struct {
              CALL(valuation_error_bound), CALL(shelf_part), CALL(shelf_ask), CALL(shelf_commit), CALL(shelf_release), CALL(shelf_bond_price),
              CALL(shelf_option_price), CALL(shelf_bond_and_option), CALL(shelf_dated_option_price), CALL(shelf_bond_and_dated_option),
              CALL(option_strip), CALL(option_strip_of_kind), CALL(shelf_option_strip), CALL(shelf_option_strip_of_kind),
-             CALL(check_bands), CALL(lending_worth), CALL(read_job), CALL(write_job)};
+             CALL(check_bands), CALL(lending_worth), CALL(read_job), CALL(write_job), CALL(pair_bond_price),
+             CALL(pair_dated_option_price)};
 
 static bool called(const char *name) {
     found.count = 0;

@@ -21,6 +21,7 @@ HERE = os.path.dirname(os.path.abspath(__file__))
 sys.path.insert(0, HERE)
 sys.dont_write_bytecode = True
 import bands
+import pair
 import records
 import reference as rules
 from reference import ONE, Kind, Option, Refused, refuse_if
@@ -355,6 +356,14 @@ def write_job(numbers, room):
     return [len(job), list(job)]
 
 
+def pair_bond_price(n, b, rates, m, c, spreads, flows):
+    return list(pair.bond_price(pair.Tree(n, b, rates), pair.Tree(m, c, spreads), flows))
+
+
+def pair_dated_option_price(n, b, rates, m, c, spreads, flows, side, dates, strike):
+    return list(pair.dated_option_price(pair.Tree(n, b, rates), pair.Tree(m, c, spreads), flows, side, dates, strike))
+
+
 # The calls. A list is exact where its length must be just so, and least where it may be longer; a byte is no number that 256 more would fit into.
 
 Argument = namedtuple('Argument', 'name kind value')
@@ -407,6 +416,11 @@ JOB = records.written(records.Record(3, 3, 800, 10_000, 2, [5, 6, 9] + HEAD[3:],
 DATED_JOB = records.written(records.Record(12, 1, 0, 0, 0, [9] + HEAD[1:], figures_of(0.01) + HEAD[1:], [ONE] + HEAD[1:], records.DATED, 2, 0, ONE, 3,
                                            records.padded([255, 0, 7], records.DATES)), rules.LONGEST_JOB)
 
+# The rate tree of the prices above, and a narrower spread tree of as many steps.
+PAIR = (('rate_steps', 'number', 3), ('rate_reversion', 'number', 800), ('rate_discounts', 'least', DISCOUNTS[2]), ('spread_steps', 'number', 3),
+        ('spread_reversion', 'number', 2_000),
+        ('spread_discounts', 'least', [990_000_000, 995_000_000, 987_000_000, 979_000_000, 996_000_000, 986_000_000, 976_000_000]), FLOWS)
+
 ENTRIES = [
     entry(half_width, REVERSION, ROW), entry(node_count, REVERSION, ROW), entry(row_start, REVERSION, ROW),
     entry(discounts_needed, STEPS[:2] + (60,), REVERSION), entry(state_prices_needed, STEPS[:2] + (60,), REVERSION),
@@ -436,6 +450,7 @@ ENTRIES = [
     entry(read_job, ('bytes', 'bytes', list(JOB))),
     entry(write_job, ('job', 'record', places(records.reading(JOB))), ('out', 'memory', Memory(len(JOB)))),
     entry(write_job, ('job', 'record', places(records.reading(DATED_JOB))), ('out', 'memory', Memory(len(DATED_JOB)))),
+    entry(pair_bond_price, *PAIR), entry(pair_dated_option_price, *PAIR, *DATED),
 ]
 # A job is bytes, and the room for its sheet has one size: crates/sheet_cases has both. Version and empty shelf are asked for without arguments.
 WITHOUT_NUMBERS = {'sheet', 'version', 'empty_shelf'}

@@ -264,11 +264,11 @@ class Stack(unittest.TestCase):
             self.assertEqual(len(stack.faults_of_programs({'sheet': 20}, {**self.TEXTS, 'docs/MANUAL.md': text})), 1)
 
     def test_calls(self):
-        manual = ('no more than 8 KiB for a fit, 16 KiB for a price, 24 KiB for a strip, 48 KiB for a commit and 1,192 KiB for a sheet, '
+        manual = ('no more than 8 KiB for a fit, 16 KiB for a price, 24 KiB for a strip, 48 KiB for a commit, 40 KiB for a pair and 1,192 KiB for a sheet, '
                   '32 KiB for a reading and 24 KiB for a writing')
-        enough = {'fit': 8_192, 'price': 9_720, 'strip': 24_576, 'commit': 40_000, 'sheet': 145_184, 'reading': 32_768, 'writing': 1}
+        enough = {'fit': 8_192, 'price': 9_720, 'strip': 24_576, 'commit': 40_000, 'pair': 40_960, 'sheet': 145_184, 'reading': 32_768, 'writing': 1}
         self.assertEqual(stack.faults_of_calls(enough, manual), [])
-        for name, size in (('fit', 8_193), ('reading', 32_769), ('writing', 24_577)):
+        for name, size in (('fit', 8_193), ('pair', 40_961), ('reading', 32_769), ('writing', 24_577)):
             self.assertEqual(len(stack.faults_of_calls({**enough, name: size}, manual)), 1)
         self.assertEqual(len(stack.faults_of_calls({'fit': 1, 'price': 1}, manual)), 1)
 

@@ -1,4 +1,5 @@
 // The library, by the declarations of the Rust crate, which tools/declarations.py writes.
+use crate::pairs::Lent;
 use crate::records::Record;
 use crate::rules::{self, Carried, Contract, Curve, DatedOption, FitInput, Outcome, Tree, MOST_STRIKES};
 use std::ptr;
@@ -277,6 +278,28 @@ pub fn write_job(record: &Record, room: usize) -> Outcome<Vec<u8>> {
     assert!(memory[size..].iter().all(|byte| *byte == OLD), "written behind {size} bytes");
     memory.truncate(size);
     number.map(|_| memory)
+}
+
+// A rate tree and a spread tree together
+
+pub fn pair_bond(rates: &Lent, spreads: &Lent, flows: &[u64]) -> Outcome<(u64, u64)> {
+    let (r, s) = (&rates.discounts, &spreads.discounts);
+    priced(unsafe {
+        mixegorta_pair_bond_price(
+            rates.tree.steps, rates.tree.reversion, start(r), r.len(), spreads.tree.steps, spreads.tree.reversion, start(s), s.len(), start(flows),
+            flows.len(),
+        )
+    })
+}
+
+pub fn pair_option(rates: &Lent, spreads: &Lent, flows: &[u64], o: &DatedOption) -> Outcome<(u64, u64)> {
+    let (r, s) = (&rates.discounts, &spreads.discounts);
+    priced(unsafe {
+        mixegorta_pair_dated_option_price(
+            rates.tree.steps, rates.tree.reversion, start(r), r.len(), spreads.tree.steps, spreads.tree.reversion, start(s), s.len(), start(flows),
+            flows.len(), o.side, start(&o.dates), o.dates.len(), o.strike,
+        )
+    })
 }
 
 // The shelf

@@ -1,11 +1,12 @@
 // Compares the library with the rules of documents 01 and 02 and with the exact pricer, on random inputs, on random scripts of calls on a shelf, on
-// random tables of haircut bands and on random job records.
+// random tables of haircut bands, on random job records and on random pairs of a rate tree and a spread tree.
 mod bands;
 mod checks;
 mod engine;
 mod exact;
 mod inputs;
 mod natural;
+mod pairs;
 mod records;
 mod rules;
 mod scripts;
@@ -24,6 +25,8 @@ const SEEDS_A_SCRIPT: u64 = 8;
 const MANY_TABLES: u64 = 16_000;
 /// So many job records have every number, and tell every wrong rule.
 const MANY_RECORDS: u64 = 3_000;
+/// So many pairs of trees have every number, and tell every wrong rule.
+const MANY_PAIRS: u64 = 16_000;
 /// So many scripts have every order of causes, every refused commit tried again, and every alteration, of the carried numbers too.
 const MANY_SCRIPTS: u64 = 1_000;
 
@@ -69,6 +72,7 @@ fn without_seed(tally: &mut Tally, shelves: &mut shelves::Tally) {
     shelves::numbers_past_a_width(shelves);
     bands::by_hand();
     records::by_hand();
+    pairs::by_hand();
 }
 
 fn input(own: u64, tally: &mut Tally) {
@@ -100,6 +104,12 @@ fn record(own: u64, tally: &mut records::Tally) {
     }
 }
 
+fn pair(own: u64, tally: &mut pairs::Tally) {
+    if panic::catch_unwind(panic::AssertUnwindSafe(|| pairs::check(&mut inputs::Random::new(own), own, tally))).is_err() {
+        different(own);
+    }
+}
+
 fn main() {
     run(argument(1, 20_000), argument(2, 1));
 }
@@ -107,7 +117,7 @@ fn main() {
 /// Compares so many inputs from a seed on; anything that differs ends the program.
 fn run(count: u64, seed: u64) {
     let (mut tally, mut shelves, sizes) = (Tally::default(), shelves::Tally::default(), scripts::Sizes::new());
-    let (mut tables, mut records) = (bands::Tally::default(), records::Tally::default());
+    let (mut tables, mut records, mut paired) = (bands::Tally::default(), records::Tally::default(), pairs::Tally::default());
     without_seed(&mut tally, &mut shelves);
     for own in seed..seed + count {
         input(own, &mut tally);
@@ -116,6 +126,7 @@ fn run(count: u64, seed: u64) {
         }
         table(own, &mut tables);
         record(own, &mut records);
+        pair(own, &mut paired);
     }
     println!("{tally}");
     assert!(count < LARGE_RUN || tally.bonds_on_both_sides(), "bonds on one side of their exact prices alone");
@@ -131,6 +142,9 @@ fn run(count: u64, seed: u64) {
     assert!(missing.is_empty(), "no run has {missing:?}");
     println!("{records}\n");
     let missing = if count < MANY_RECORDS { Vec::new() } else { records.missing() };
+    assert!(missing.is_empty(), "no run has {missing:?}");
+    println!("{paired}\n");
+    let missing = if count < MANY_PAIRS { Vec::new() } else { paired.missing() };
     assert!(missing.is_empty(), "no run has {missing:?}");
     println!("{count} inputs from seed {seed}: every result equal, every bound kept");
 }

@@ -23,12 +23,12 @@ pub fn lowest(causes: &[(u64, bool)]) -> Outcome<()> {
     }
 }
 
-fn up(numerator: u128, denominator: u128) -> u128 {
+pub fn up(numerator: u128, denominator: u128) -> u128 {
     numerator / denominator + (numerator % denominator > 0) as u128
 }
 
 /// Halves up.
-fn nearest(numerator: u128, denominator: u128) -> u128 {
+pub fn nearest(numerator: u128, denominator: u128) -> u128 {
     (2 * numerator + denominator) / (2 * denominator)
 }
 
@@ -482,7 +482,7 @@ impl DatedOption {
         self.dates.iter().any(|date| *date as usize == row)
     }
 
-    fn exercise(&self, bond: u64) -> u64 {
+    pub fn exercise(&self, bond: u64) -> u64 {
         if self.side == CALL {
             bond.saturating_sub(self.strike)
         } else {

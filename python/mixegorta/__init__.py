@@ -4,9 +4,9 @@ Any whole numbers may be passed: a call gives its full answer or raises a Refuse
 and, where a quote or flow is at fault, its row; of haircut bands, with the place of a bad band or the row and price that fail. A number
 beyond the bits of its parameter, 8 for a quote kind or an exercise date and 64 for any other, raises OverflowError.
 
-Tree is one fitted tree with memories of its own, Shelf up to eight trees in one memory, and Bands a table of haircuts. Tree takes
-version=2 for the model's own mean and variance of a step. The option_strip of Tree and Shelf prices up to 16 strikes of one option together.
-A Job is read from bytes and written to the same bytes; sheet() draws its sheet.
+Tree is one fitted tree with memories of its own, Shelf up to eight trees in one memory, Bands a table of haircuts, and Pair a rate tree and a
+spread tree together. Tree takes version=2 for the model's own mean and variance of a step. The option_strip of Tree and Shelf prices up to
+16 strikes of one option together. A Job is read from bytes and written to the same bytes; sheet() draws its sheet.
 
 Amounts are whole billionths: ONE is 1,000,000,000. Where they are asked for, a Decimal or a str such as "1.01" will do too and is
 converted by billionths(), which is exact or says so; a float is a TypeError. The figures of quotes are floats.
@@ -18,13 +18,14 @@ so that no thread of Python's writes it; during any other call with memory it is
 
 The shared object is that of the package, or in a source folder ../target/libmixegorta.so; MIXEGORTA_LIBRARY names another.
 """
-__version__ = "0.12.0"
+__version__ = "0.13.0"
 
-from . import _bands, _engine, _job, _limits, refusals
+from . import _bands, _engine, _job, _limits, _pair, refusals
 from ._bands import *
 from ._engine import *
 from ._job import *
 from ._limits import *
+from ._pair import *
 from ._shelf import Shelf, ShelvedTree
 from ._tree import Tree
 from .amounts import Amount, Amounts, InexactAmount, billionths
@@ -35,4 +36,5 @@ __all__ += _bands.__all__
 __all__ += _engine.__all__
 __all__ += _job.__all__
 __all__ += _limits.__all__
+__all__ += _pair.__all__
 __all__ += refusals.__all__

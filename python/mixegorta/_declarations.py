@@ -217,4 +217,12 @@ DECLARATIONS: Dict[str, Tuple[Any, Dict[str, Any]]] = {
         "first_rows": SliceOf(U64), "last_rows": SliceOf(U64), "lowest_prices": SliceOf(U64), "highest_prices": SliceOf(U64),
         "haircuts": SliceOf(U64), "row": U64, "price": U64,
     }),
+    "pair_bond_price": (CPrice, {
+        "rate_steps": SIZE, "rate_reversion": U64, "rate_discounts": SliceOf(U64), "spread_steps": SIZE, "spread_reversion": U64,
+        "spread_discounts": SliceOf(U64), "flows": SliceOf(U64),
+    }),
+    "pair_dated_option_price": (CPrice, {
+        "rate_steps": SIZE, "rate_reversion": U64, "rate_discounts": SliceOf(U64), "spread_steps": SIZE, "spread_reversion": U64,
+        "spread_discounts": SliceOf(U64), "flows": SliceOf(U64), "side": U64, "dates": SliceOf(U8), "strike": U64,
+    }),
 }

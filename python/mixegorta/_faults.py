@@ -56,10 +56,38 @@ def accepted(number: int, name: str, given: Tuple[Any, ...], verdict: Any = None
 def _place(number: int, given: Given) -> Place:
     if "job" in given:
         return _place_in_job(number, given)
+    if "rate_steps" in given and number in (3, 4, 6, 9, 12, 19):
+        return _place_in_pair(number, given)
     if "shelf" in given and "steps" not in given and number != 15:
         given = {**given, **_tree_on_shelf(given)}
     found = FINDERS.get(number, (None, None))
     return found(given) if callable(found) else found
+
+
+def _place_in_pair(number: int, given: Given) -> Place:
+    """Of the tree that alone gives the number, its own place; of both together the flows, the strike or the first row with a discount of 0."""
+    if number == 19:
+        return "spread_steps" if given["rate_steps"] != given["spread_steps"] else "rate_steps", None
+    for side in ("rate_", "spread_"):
+        tree = {name: given[side + name] for name in ("steps", "reversion", "discounts")}
+        if call("price_error_bound", *tree.values()).number == number:
+            argument, row = _place(number, tree)
+            return f"{side}{argument}", row
+    if number == 9:
+        return "spread_discounts", _row_of_zero(given)
+    return "strike" if number == 12 and _pair_bond(given, given["rate_steps"], given["flows"]).number == 0 else "flows", None
+
+
+def _pair_bond(given: Given, steps: int, flows: Slice) -> Any:
+    """The bond on the first so many steps of a pair."""
+    rates, spreads = ((steps, given[side + "reversion"], given[side + "discounts"]) for side in ("rate_", "spread_"))
+    return call("pair_bond_price", *rates, *spreads, flows)
+
+
+def _row_of_zero(given: Given) -> Optional[int]:
+    """The first row with a pair whose discount is 0: the last row of the shortest trees that are refused."""
+    counts = range(1, given["rate_steps"] + 1)
+    return next((steps - 1 for steps in counts if _pair_bond(given, steps, amounts("flows", [0] * steps)).number == 9), None)
 
 
 def _place_in_job(number: int, given: Given) -> Place:

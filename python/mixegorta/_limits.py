@@ -2,8 +2,9 @@
 
 __all__ = [
     "ONE", "PROBABILITY_ONE", "MAX_STEPS", "MAX_NODES", "MAX_DISCOUNTS", "MAX_STATE_PRICES", "MAX_STRIKES", "MAX_NAME", "SHELF_ROOM",
-    "MAX_BANDS", "MAX_HAIRCUT", "MAX_JOB", "MAX_JOB_STEPS", "MAX_JOB_DATES", "SHEET_ROOM", "MAX_REVERSION", "MAX_VOLATILITY",
-    "MIN_QUOTE_DISCOUNT", "MAX_QUOTE_DISCOUNT", "MAX_NODE_DISCOUNT", "MAX_FLOW", "MAX_STRIKE", "MAX_VALUE", "MAX_STATE_PRICE_SUM",
+    "MAX_BANDS", "MAX_HAIRCUT", "MAX_PAIR_STEPS", "MAX_JOB", "MAX_JOB_STEPS", "MAX_JOB_DATES", "SHEET_ROOM", "MAX_REVERSION",
+    "MAX_VOLATILITY", "MIN_QUOTE_DISCOUNT", "MAX_QUOTE_DISCOUNT", "MAX_NODE_DISCOUNT", "MAX_FLOW", "MAX_STRIKE", "MAX_VALUE",
+    "MAX_STATE_PRICE_SUM",
 ]
 
 # billionths in one
@@ -28,6 +29,8 @@ SHELF_ROOM = 3_600
 MAX_BANDS = 40
 # the largest haircut of a band, in ten-thousandths: all of a price
 MAX_HAIRCUT = 10_000
+# the largest number of steps of a rate tree and a spread tree together
+MAX_PAIR_STEPS = 20
 # the longest job in bytes
 MAX_JOB = 4_700
 # the places of a job record for quotes and for flows: as many steps as one byte can tell

@@ -5,7 +5,7 @@ from typing import Dict, Optional, Type
 __all__ = [
     "CAUSES", "Refused", "MalformedJob", "UnknownFrequency", "StepsOutOfRange", "ReversionTooLarge", "VolatilityTooLarge", "NotInTree",
     "QuoteOutOfRange", "NodesTooFarApart", "NodeDiscountOutOfRange", "FlowTooLarge", "OptionTermsOutOfRange", "ValueTooLarge",
-    "ExerciseDatesOutOfOrder", "ShelfFull", "WrongName", "BadBand", "PairInNoBand", "PairInSeveralBands",
+    "ExerciseDatesOutOfOrder", "ShelfFull", "WrongName", "BadBand", "PairInNoBand", "PairInSeveralBands", "PairStepsOutOfRange",
 ]
 
 CAUSES: Dict[int, str] = {
@@ -27,6 +27,7 @@ CAUSES: Dict[int, str] = {
     16: "a band has an end before its start, or a haircut, start or end out of range, or there are more than 40 bands",
     17: "a row and a price are in no band",
     18: "a row and a price are in two or more bands",
+    19: "the steps of a pair are above 20, or its two trees differ in them",
 }
 # ---- end
 
@@ -134,9 +135,14 @@ class PairInSeveralBands(Refused):
     """18: a row and a price are in two or more bands. row and price are the first such pair, by row and then price."""
 
 
+class PairStepsOutOfRange(Refused):
+    """19: the steps of a pair are above 20, or its two trees differ in them."""
+
+
 CLASSES: Dict[int, Type[Refused]] = {
     1: MalformedJob, 2: UnknownFrequency, 3: StepsOutOfRange, 4: ReversionTooLarge, 5: VolatilityTooLarge, 6: NotInTree, 7: QuoteOutOfRange,
     8: NodesTooFarApart, 9: NodeDiscountOutOfRange, 10: FlowTooLarge, 11: OptionTermsOutOfRange, 12: ValueTooLarge,
     13: ExerciseDatesOutOfOrder, 14: ShelfFull, 15: WrongName, 16: BadBand, 17: PairInNoBand, 18: PairInSeveralBands,
+    19: PairStepsOutOfRange,
 }
 # ---- end

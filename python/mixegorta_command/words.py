@@ -73,4 +73,8 @@ REFUSALS = {
         'a row and a price are in two or more bands',
         'shorten one of the bands that have the pair that is shown; both ends belong to a band',
     ),
+    19: (
+        'the steps of a pair are above 20, or its two trees differ in them',
+        'fit rate and spread with the same steps, at most 20; longer steps reach further',
+    ),
 }

@@ -45,6 +45,12 @@ def bands(*table):
     return dict(zip(names, (amounts(name, column) for name, column in zip(names, zip(*table)))))
 
 
+def pair(steps, discount=ONE):
+    """Two trees of one discount."""
+    one = {"steps": steps, "reversion": 0, **flat(steps * steps, discount)}
+    return {f"{side}_{name}": value for side in ("rate", "spread") for name, value in one.items()}
+
+
 ROW, SIZE = {"reversion": 0, "row": 0}, {"steps": 2, "reversion": 0}
 CURVE = {"frequency": 1, "steps": 2, **columns(2), "discounts": own_memory(4)}
 FIT = {**CURVE, "reversion": 0, "volatility": 0, "state_prices": own_memory(9)}
@@ -67,6 +73,10 @@ SHELF_BOND = {**shelf(FITTED), "name": 1, **flows(0, ONE)}
 SHELF_BONDS = {6: flows(ONE), 9: shelf(AWAITING, discount=0), 10: BONDS[10], 12: {**shelf((2, 5, 0)), **flows(*[2 * ONE] * 5)}, 15: {"name": 2}}
 SHELF_KIND, SHELF_LISTED = ({**SHELF_BOND, **{name: terms[name] for name in terms if name not in BOND}} for terms in (KIND, LISTED))
 SHELF_KINDS, SHELF_LISTS = {**SHELF_BONDS, 11: KINDS[11]}, {**SHELF_BONDS, 11: LISTS[11], 13: LISTS[13]}
+PAIR_BOND = {**pair(2), **flows(0, ONE)}
+PAIR_BONDS = {3: {"spread_steps": 61}, 4: {"spread_reversion": 6001}, 6: flows(ONE), 9: pair(2, 30_000), 10: BONDS[10],
+              12: {**pair(5), **flows(*[2 * ONE] * 5)}, 19: {"spread_steps": 1}}
+PAIR_LISTED = {**PAIR_BOND, **{name: LISTED[name] for name in LISTED if name not in BOND}}
 WHOLE = 1, 60, 0, 8 * ONE, 250
 TABLES = {6: {"haircuts": amounts("haircuts", [1, 2])}, 16: bands((0, *WHOLE[1:])), 17: bands((2, *WHOLE[1:])), 18: bands(WHOLE, WHOLE)}
 
@@ -100,6 +110,7 @@ CASES = {
     "lending_worth": ({**bands(WHOLE), "row": 1, "price": ONE}, {**TABLES, 6: {"row": 61}, 12: {"price": 8 * ONE + 1}}),
     "read_job": ({"bytes": job()["job"]}, {1: {"bytes": job(option=b"\x08")["job"]}}),
     "write_job": ({"job": CJob(1), "out": own_memory(20, "B")}, {1: {"job": CJob(256), "out": own_memory(9, "B")}, 6: {"out": own_memory(19, "B")}}),
+    "pair_bond_price": (PAIR_BOND, PAIR_BONDS), "pair_dated_option_price": (PAIR_LISTED, {**PAIR_BONDS, 11: LISTS[11], 13: LISTS[13]}),
     "sheet": ({**job(), "out": own_memory(SHEET_ROOM, "B")}, {
         1: job(option=b"\x08"), 2: job(frequency=3), 3: job(steps=61), 4: job(reversion=6001), 5: job(volatility=50001), 6: {"out": own_memory(9, "B")},
         7: job(figure=11.0), 8: job(steps=13, volatility=50000), 9: job(figure=1.2), 10: job(flow=2 * ONE + 1), 11: job(kind=5),

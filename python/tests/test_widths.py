@@ -229,7 +229,7 @@ for name in ("option_strip", "option_strip_of_kind"):
     CALLS[name], CALLS["shelf_" + name] = strip(getattr(m, name)), shelf_strip(name)
 for name in ("half_width", "node_count", "row_start", "discounts_needed", "state_prices_needed", "branches", "working_reversion", "step_rate",
              "continuous_rate", "state_price_error_bound", "price_error_bound", "bond_price", "option_price", "dated_option_price", "value_by_state_prices",
-             "valuation_error_bound"):
+             "valuation_error_bound", "pair_bond_price", "pair_dated_option_price"):
     CALLS[name] = numbered(getattr(m, name))
 
 

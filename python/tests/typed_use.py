@@ -44,6 +44,11 @@ place: Optional[int] = wrong.place if wrong is not None else None
 job: m.Job = m.Job(1, 0, 0, [m.JobQuote.of(m.DISCOUNT_FACTOR, 0.97), (m.YEARLY_RATE, 0)], ["0.04", Decimal("1.04")], m.DatedOption(m.CALL, "1", b"\1"), 2)
 read: m.Job = m.Job.read(job.to_bytes())
 size: int = m.Job(1, 0, 0, (), array("Q"), m.KindOption(1, 0, m.ONE)).write_into(bytearray(29))
+pair: m.Pair = m.Pair(tree, tree)
+paired: m.Price = pair.bond_price([0, m.ONE])
+same_bound = same_bound and paired == m.pair_bond_price(2, tree.working_reversion, tree.discounts, 2, tree.working_reversion, copied, ["0", Decimal(1)])
+paired_option: m.Price = pair.dated_option_price([0, m.ONE], m.CALL, b"\0\1", "0.95")
+same_bound = same_bound and paired_option.value <= paired.value
 words: str = f"{both.option.argument} {both.option.row}" if isinstance(both.option, m.Refused) else f"{both.option.bound}"
 
 try:

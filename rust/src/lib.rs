@@ -3,8 +3,9 @@
 //! [`ONE`] is 1,000,000,000 billionths. Any arguments may be passed: each call gives its full answer or a [`Refusal`], and the engine
 //! itself judges every argument. Discounts stand row after row, lowest node first, for rows 0 to n - 1, state prices for rows 0 to n.
 //! A [`Tree`] is one fitted tree with memories of its own, a [`Shelf`] up to eight trees in one memory, and [`Bands`] a table of haircuts. [`Tree::fit_version`]
-//! takes a version: 2 has the model's own mean and variance of a step. [`Tree::option_strip`] prices up to 16 strikes of one option together. A [`Job`] is
-//! read from bytes and written to the same bytes, and [`sheet`] draws its sheet.
+//! takes a version: 2 has the model's own mean and variance of a step. [`Tree::option_strip`] prices up to 16 strikes of one option together,
+//! [`pair_bond_price`] and [`pair_dated_option_price`] price on a rate tree and a spread tree together. A [`Job`] is read from bytes and written to the
+//! same bytes, and [`sheet`] draws its sheet.
 //!
 #![cfg_attr(without_library, doc = "```ignore")]
 #![cfg_attr(not(without_library), doc = "```")]
@@ -35,6 +36,7 @@ const _: () = assert!(
 mod bands;
 mod job;
 mod limits;
+mod pair;
 mod raw;
 mod refusals;
 mod shapes;
@@ -44,6 +46,7 @@ mod tree;
 pub use bands::{check_bands, lending_worth, Band, BandRefusal, Bands, Shown};
 pub use job::{Job, JobError, JobOption, JobQuote};
 pub use limits::*;
+pub use pair::{pair_bond_price, pair_dated_option_price, LentTree};
 pub use shelf::{Shelf, ShelvedTree};
 pub use tree::Tree;
 
@@ -55,7 +58,7 @@ use std::ops::Range;
 pub const VERSION: &str = env!("CARGO_PKG_VERSION");
 
 /// Why a call was refused: the engine's number, as `c/mixegorta.h` lists them. Where several apply the lowest is given, save that 13 is
-/// tried before 12 and, of a [`Shelf`], 15 before all others and 14 after 4. A [`BandRefusal`] shows more than its number.
+/// tried before 12, 19 before 4 and, of a [`Shelf`], 15 before all others and 14 after 4. A [`BandRefusal`] shows more than its number.
 #[derive(Clone, Copy, Debug, PartialEq, Eq, PartialOrd, Ord, Hash)]
 pub struct Refusal(u64);
 

@@ -22,6 +22,8 @@ pub const SHELF_ROOM: usize = 3_600;
 pub const MAX_BANDS: usize = 40;
 /// The largest haircut of a band, in ten-thousandths: all of a price.
 pub const MAX_HAIRCUT: u64 = 10_000;
+/// The largest number of steps of a rate tree and a spread tree together.
+pub const MAX_PAIR_STEPS: usize = 20;
 /// The longest job in bytes.
 pub const MAX_JOB: usize = 4_700;
 /// The places of a job record for quotes and for flows: as many steps as one byte can tell.

@@ -481,4 +481,32 @@ extern "C" {
         row: u64,
         price: u64,
     ) -> Worth;
+    pub fn mixegorta_pair_bond_price(
+        rate_steps: usize,
+        rate_reversion: u64,
+        rate_discounts: *const u64,
+        rate_discounts_len: usize,
+        spread_steps: usize,
+        spread_reversion: u64,
+        spread_discounts: *const u64,
+        spread_discounts_len: usize,
+        flows: *const u64,
+        flows_len: usize,
+    ) -> Price;
+    pub fn mixegorta_pair_dated_option_price(
+        rate_steps: usize,
+        rate_reversion: u64,
+        rate_discounts: *const u64,
+        rate_discounts_len: usize,
+        spread_steps: usize,
+        spread_reversion: u64,
+        spread_discounts: *const u64,
+        spread_discounts_len: usize,
+        flows: *const u64,
+        flows_len: usize,
+        side: u64,
+        dates: *const u8,
+        dates_len: usize,
+        strike: u64,
+    ) -> Price;
 }

@@ -39,8 +39,10 @@ impl Refusal {
     pub const NO_BAND: Refusal = Refusal(17);
     /// A row and a price are in two or more bands.
     pub const SEVERAL_BANDS: Refusal = Refusal(18);
+    /// The steps of a pair are above 20, or its two trees differ in them.
+    pub const PAIR_STEPS: Refusal = Refusal(19);
     /// Every listed refusal, by number.
-    pub const LISTED: [Refusal; 18] = [
+    pub const LISTED: [Refusal; 19] = [
         Refusal::JOB,
         Refusal::FREQUENCY,
         Refusal::STEPS,
@@ -59,11 +61,12 @@ impl Refusal {
         Refusal::BAND,
         Refusal::NO_BAND,
         Refusal::SEVERAL_BANDS,
+        Refusal::PAIR_STEPS,
     ];
 }
 
 /// What each of them says, in the same order.
-pub(crate) const CAUSES: [&str; 18] = [
+pub(crate) const CAUSES: [&str; 19] = [
     "the job is malformed or longer than 4,700 bytes",
     "the steps a year are not 1, 2, 4 or 12",
     "the steps are outside 1 to 60",
@@ -82,4 +85,5 @@ pub(crate) const CAUSES: [&str; 18] = [
     "a band has an end before its start, or a haircut, start or end out of range, or there are more than 40 bands",
     "a row and a price are in no band",
     "a row and a price are in two or more bands",
+    "the steps of a pair are above 20, or its two trees differ in them",
 ];

@@ -283,6 +283,36 @@ fn write_job(g: &Given) -> Option<Vec<u64>> {
     }
 }
 
+/// The rate tree and the spread tree of a line.
+fn pair_of(g: &Given) -> [LentTree<'_>; 2] {
+    [0, 3].map(|k| LentTree {
+        steps: g.size(k),
+        reversion: g.number(k + 1),
+        discounts: g.list(k + 2),
+    })
+}
+
+fn paired(g: &Given) -> Vec<u64> {
+    let [rates, spreads] = pair_of(g);
+    price(pair_bond_price(rates, spreads, g.list(6)))
+}
+
+fn paired_option(g: &Given) -> Option<Vec<u64>> {
+    let ([rates, spreads], dates) = (pair_of(g), g.bytes(8));
+    let sides = [Side::Call, Side::Put];
+    let terms = DatedTerms {
+        side: sides.into_iter().find(|s| *s as u64 == g.number(7))?,
+        dates: &dates,
+        strike: g.number(9),
+    };
+    Some(price(pair_dated_option_price(
+        rates,
+        spreads,
+        g.list(6),
+        terms,
+    )))
+}
+
 /// The number of a call that writes, and what it wrote; everything else of its memories must be as it was.
 fn written(found: Result<(), Refusal>, memories: &[(&[u64], usize)]) -> Vec<u64> {
     let mut answer = vec![found.map_or_else(|refusal| refusal.number(), |_| 0)];
@@ -392,6 +422,8 @@ fn shape_or_fit(name: &str, g: &Given) -> Option<Vec<u64>> {
         "lending_worth" => Some(lent(g)),
         "read_job" => Some(read_job(g)),
         "write_job" => write_job(g),
+        "pair_bond_price" => Some(paired(g)),
+        "pair_dated_option_price" => paired_option(g),
         "tree_bounds" => Some(bounds(tree_bounds(g.size(0), g.number(1), g.list(2)))),
         "state_price_error_bound" => Some(one(state_price_error_bound(
             g.size(0),
@@ -590,7 +622,7 @@ fn numbers_past_a_width() {
             *called.entry(name).or_default() += 1;
         }
     }
-    assert_eq!(called.len(), 41, "{called:?}");
+    assert_eq!(called.len(), 43, "{called:?}");
     assert!(called.values().all(|lines| *lines > 2), "{called:?}");
 }
 

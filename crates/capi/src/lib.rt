@@ -43,6 +43,7 @@ ghost use Rattle.shelf_prices.specs.ShelfPrices.{shelfBond, shelfOption, shelfD
 ghost use Rattle.shelf_prices.specs.ShelfPrices.{shelfDatedStrip, shelfKindStrip};
 ghost use Rattle.bands.specs.Bands.{verdict};
 ghost use Rattle.lending.specs.Lending.{lendingWorth};
+ghost use Rattle.pair_laws.specs.PairPrices.{pairBondPrice, pairDatedPrice};
 ghost use Rattle.capi.specs.Version.{version};
 use arithmetic::Answer;
 use bands::Verdict;
@@ -67,7 +68,7 @@ use step_rate::Rate;
 pub extern "C" fn mixegorta_version() -> u64
     ensures { λ r. ⌜ r ≡ version ⌝ }
 {
-    12_000
+    13_000
 }
 
 // ---- the shape of a tree
@@ -647,5 +648,61 @@ pub extern "C" fn mixegorta_lending_worth(
         haircuts,
         row,
         price,
+    )
+}
+
+// ---- a rate tree and a spread tree together
+
+#[no_mangle]
+pub extern "C" fn mixegorta_pair_bond_price(
+    rate_steps: usize,
+    rate_reversion: u64,
+    rate_discounts: &[u64],
+    spread_steps: usize,
+    spread_reversion: u64,
+    spread_discounts: &[u64],
+    flows: &[u64],
+) -> Price
+    ensures { λ r. ⌜ r ≡ pairBondPrice «rate_steps» «rate_reversion» (now («rate_discounts» .entry)) «spread_steps» «spread_reversion»
+        (now («spread_discounts» .entry)) (now (flows .entry)) ⌝ }
+{
+    pair_pricing::pair_bond_price(
+        rate_steps,
+        rate_reversion,
+        rate_discounts,
+        spread_steps,
+        spread_reversion,
+        spread_discounts,
+        flows,
+    )
+}
+
+#[no_mangle]
+pub extern "C" fn mixegorta_pair_dated_option_price(
+    rate_steps: usize,
+    rate_reversion: u64,
+    rate_discounts: &[u64],
+    spread_steps: usize,
+    spread_reversion: u64,
+    spread_discounts: &[u64],
+    flows: &[u64],
+    side: u64,
+    dates: &[u8],
+    strike: u64,
+) -> Price
+    ensures { λ r. ⌜ r ≡ pairDatedPrice «rate_steps» «rate_reversion» (now («rate_discounts» .entry)) «spread_steps» «spread_reversion»
+        (now («spread_discounts» .entry)) (now (flows .entry)) side (now (dates .entry)) strike ⌝ }
+{
+    pair_pricing::pair_dated_option_price(
+        rate_steps,
+        rate_reversion,
+        rate_discounts,
+        spread_steps,
+        spread_reversion,
+        spread_discounts,
+        flows,
+        side,
+        dates,
+        strike,
     )
 }

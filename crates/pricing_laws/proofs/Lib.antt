@@ -2,9 +2,11 @@ pub mod Near
 pub mod Accuracy
 pub mod Dates
 pub mod Recurrences
+pub mod Ceiling
 pub mod PriceLaws
 pub mod Peaks
 pub mod Backward
 pub mod Schedules
 pub mod Rights
 pub mod MoreDates
+pub mod Follows

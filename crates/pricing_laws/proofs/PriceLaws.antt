@@ -1,22 +1,22 @@
 -- The engine's prices against the exact ones, on every sound tree with discounts of at most 1,100,000,000.
 -- Assumes nothing.
 use mathlib.Core.Path.{_≡_, ap}
-use Prim.Native.Nat.{ℕ, zero, suc, _+_, _-_, _*_, _/_, _^_, _≤_, _<_}
-use native.Mathlib.Nat.{mul-assoc, mul-le-mul-right, le-refl}
+use Prim.Native.Nat.{ℕ, suc, _+_, _*_, _^_, _≤_, _<_}
+use native.Mathlib.Nat.{mul-assoc, mul-le-mul-right, le-trans}
 use native.Mathlib.Omega.{arith}
-use native.Mathlib.Decide.{le-ind}
 use lib.Dec.{lit≤}
-use Rattle.arithmetic.specs.Rounding.{one, roundUp, Rounds}
+use Rattle.arithmetic.specs.Rounding.{one, Rounds}
 use Rattle.arithmetic.specs.Within.{Within}
 use Rattle.arithmetic.specs.Sum.{greatest}
 use Rattle.arithmetic.proofs.RoundingLaws.{nearest-rounds}
 use Rattle.arithmetic.proofs.SumLaws.{greatest-ge, greatest-le, greatest-cong}
 use Rattle.tree.specs.Tree.{Tree, Sound, outgoing, probabilityTotal, unit}
 use Rattle.tree.proofs.StepLaws.{outgoing-le}
-use Rattle.pricing_laws.specs.Pricer.{bond, Side, Schedule, option, errorBoundFrom, errorBound}
+use Rattle.pricing_laws.specs.Pricer.{bond, Side, Schedule, option}
 use Rattle.pricing_laws.specs.TreePricer.{rollRounding, rollLoss, nodeRoll, roll, exactRoll, engine, exact, greatestDiscount, priceErrorBound}
 use Rattle.pricing_laws.proofs.Near.{near-average, near-discount}
 use Rattle.pricing_laws.proofs.Accuracy.{Close, bond-within, option-within, loss-a-step}
+use Rattle.pricing_laws.proofs.Ceiling.{ceiling, error-bound-ceiling}
 use Rattle.pricing_laws.proofs.Backward.{Greatest, Local}
 use Rattle.pricing_laws.proofs.Rights.{Monotone, monotone-local}
 
@@ -121,35 +121,20 @@ row-greatest t =
 pub roll-local : (t : Tree) → Sound t → (discount : ℕ → ℕ → ℕ) (divide : ℕ → ℕ → ℕ) → Local (On t) (roll t discount divide)
 roll-local t sound discount divide = record { roll-same = λ i v w h k hk. roll-same t sound discount divide i v w h k hk }
 
--- at most so much over s rows, where no discount is above 1,100,000,000
-ceiling : ℕ → ℕ
-ceiling zero = 0
-ceiling (suc s) = 11 * ceiling s / 10 + 4
-
-ceiling-60 : ceiling 60 ≤ 1000000
+ceiling-60 : ceiling 110 60 ≤ 1000000
 unfolding ceiling
 ceiling-60 = lit≤ tt
 
-ceiling-grows : (s r : ℕ) → s ≤ r → ceiling s ≤ ceiling r
-unfolding ceiling
-ceiling-grows s r h = le-ind (λ (m : ℕ). ceiling s ≤ ceiling m) (le-refl (ceiling s)) (λ m _ p. omega arith) r h
-
-ceiling-step : (g a c : ℕ) → g ≤ 1100000000 → a ≤ c → roundUp (g * a) one + 2 ≤ 11 * c / 10 + 4
-unfolding roundUp
-ceiling-step g a c hg ha = omega (arith, mul-le-mul-right a hg)
-
-module _ (t : Tree) (discount : ℕ → ℕ → ℕ) (n : ℕ) (hd : Discounts-at-most 1100000000 t discount n) where
-  bound-ceiling : (s i : ℕ) → i + s ≡ n → errorBoundFrom rollLoss (greatestDiscount t discount) s i ≤ ceiling s
-  unfolding errorBoundFrom ceiling greatestDiscount
-  bound-ceiling zero i e = omega arith
-  bound-ceiling (suc s) i e =
-      ceiling-step _ _ _ (greatest-le (t .nodes i) (discount i) 1100000000 (λ k l. hd i k (omega arith) l)) (bound-ceiling s (suc i) (omega arith))
-
-  -- the error bound of every row of at most 60 steps is small
-  pub error-bound-small : n ≤ 60 → (i : ℕ) → i ≤ n → priceErrorBound t discount n i ≤ 1000000
-  unfolding errorBound
-  error-bound-small few i h =
-      omega (arith, bound-ceiling (n - i) i (omega arith), ceiling-grows (n - i) 60 (omega arith), ceiling-60)
+-- the error bound of every row of at most 60 steps is small
+pub error-bound-small :
+    (t : Tree) (discount : ℕ → ℕ → ℕ) (n : ℕ) → Discounts-at-most 1100000000 t discount n → n ≤ 60 → (i : ℕ) → i ≤ n →
+    priceErrorBound t discount n i ≤ 1000000
+unfolding greatestDiscount
+error-bound-small t discount n hd few i h =
+    le-trans
+    (error-bound-ceiling 110 (greatestDiscount t discount) n
+    (λ r hr. greatest-le (t .nodes r) (discount r) 1100000000 (λ k l. hd r k hr l)) (omega arith) 60 few i h)
+    ceiling-60
 
 -- where no discount is above one: at most 2 a step
 pub error-bound-a-step :

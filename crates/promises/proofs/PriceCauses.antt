@@ -118,7 +118,7 @@ kind-cause : (n kind expiry strike : ℕ) → optionCause n kind expiry strike �
 unfolding optionCause firstOf
 kind-cause n kind expiry strike = sym (turned 11 (optionAccepted n kind expiry strike))
 
-list-cause : (n side : ℕ) (dates : List ℕ) (strike : ℕ) →
+pub list-cause : (n side : ℕ) (dates : List ℕ) (strike : ℕ) →
     datedCause n side dates strike ≡ firstOf (cause 11 (not (termsAccepted side strike)) ∷ cause 13 (not (datesAccepted n dates)) ∷ [])
 unfolding datedCause termsCause datesCause rising lowestCause firstOf
 list-cause n side dates strike =
@@ -132,7 +132,7 @@ list-cause n side dates strike =
     by-tests false false = refl
 
 module _ (n b : ℕ) (discounts flows : List ℕ) where
-  flows-alike : each (length flows) (between 0 2000000000 (values flows)) ≡ flowsAccepted flows
+  pub flows-alike : each (length flows) (between 0 2000000000 (values flows)) ≡ flowsAccepted flows
   flows-alike = each-cong (length flows) _ _ (λ k h. rw (le-leb 0 (values flows k) (omega arith)))
 
   flows-first : treeCause n b discounts flows ≡ firstOf (flowCauses n b discounts flows [])

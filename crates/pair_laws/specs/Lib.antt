@@ -1,0 +1,5 @@
+pub mod Pair
+pub mod PairCauses
+pub mod PairPrices
+pub mod Square
+pub mod States

@@ -1,0 +1,1 @@
+// A rate tree and a spread tree together: definitions and laws alone.

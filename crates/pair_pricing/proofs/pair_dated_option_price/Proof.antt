@@ -1,0 +1,91 @@
+-- `pair_pricing::pair_dated_option_price` meets its contract.
+-- Assumes nothing.
+use borrow.Author.Needs.{needs}
+use Rattle.pair_laws.proofs.EntryLaws.{entry-accepted, dated-refused, terms-refused, exercisable, dated-found}
+use Rattle.pair_pricing.proofs.pair_dated_option_price.Statement.{statement}
+use Rattle.pair_pricing.proofs.pair_dated_option_price.Tie as tie
+
+pair-cause-requires : tie.Need-pair-cause-requires
+pair-cause-requires c κs = search needs
+
+refused-requires : tie.Need-refused-requires
+refused-requires c κs = search needs
+
+returns : tie.Need-returns
+returns c = dated-refused _ _ _ _ _ _ _ _ (c .before .before .pair-cause .ensures) _ _ _ _ (c .refused .ensures) (c .before .if1 .taken)
+
+terms-cause-requires : tie.Need-terms-cause-requires
+terms-cause-requires c κs = search needs
+
+dates-cause-requires : tie.Need-dates-cause-requires
+dates-cause-requires c κs = search needs
+
+lowest-cause-requires : tie.Need-lowest-cause-requires
+lowest-cause-requires c κs = search needs
+
+refused-requires-2 : tie.Need-refused-requires-2
+refused-requires-2 c κs = search needs
+
+returns-2 : tie.Need-returns-2
+returns-2 c =
+    let lowest-cause = c .before .before .lowest-cause in
+    let dates-cause = c .before .before .before .dates-cause in
+    let if1 = c .before .before .before .before .before .if1 in
+    let terms-cause = c .before .before .before .before .terms-cause in
+    let pair-cause = c .before .before .before .before .before .before .pair-cause in
+    terms-refused _ _ _ _ _ _ _ _ (pair-cause .ensures) _ _ _ (if1 .left) _ _ _ (terms-cause .ensures) (dates-cause .ensures)
+    (lowest-cause .ensures) _ (c .refused2 .ensures) (c .before .if2 .taken)
+
+terms-on-requires : tie.Need-terms-on-requires
+terms-on-requires c κs = search needs
+
+marks-of-requires : tie.Need-marks-of-requires
+marks-of-requires c κs = search needs
+
+slice-aggregate-accepted-option : tie.Need-slice-aggregate-accepted-option
+slice-aggregate-accepted-option c = search needs
+
+accepted-option-requires : tie.Need-accepted-option-requires
+accepted-option-requires c κs =
+    let terms-on = c .before .before .terms-on in
+    let if2 = c .before .before .before .if2 in
+    let lowest-cause = c .before .before .before .before .lowest-cause in
+    let dates-cause = c .before .before .before .before .before .dates-cause in
+    let if1 = c .before .before .before .before .before .before .before .if1 in
+    let terms-cause = c .before .before .before .before .before .before .terms-cause in
+    let pair-cause = c .before .before .before .before .before .before .before .before .pair-cause in (
+      entry-accepted _ _ _ _ _ _ _ _ (pair-cause .ensures) (if1 .left),
+      exercisable _ _ _ _ _ _ _ _ (pair-cause .ensures) _ _ _ (if1 .left) _ _ _ (terms-cause .ensures) (dates-cause .ensures)
+          (lowest-cause .ensures) (if2 .left) _ _ (terms-on .ensures) (c .before .marks-of .ensures),
+    )
+
+returns-3 : tie.Need-returns-3
+returns-3 c =
+    let marks-of = c .before .before .marks-of in
+    let terms-on = c .before .before .before .terms-on in
+    let if2 = c .before .before .before .before .if2 in
+    let lowest-cause = c .before .before .before .before .before .lowest-cause in
+    let dates-cause = c .before .before .before .before .before .before .dates-cause in
+    let if1 = c .before .before .before .before .before .before .before .before .if1 in
+    let terms-cause = c .before .before .before .before .before .before .before .terms-cause in
+    let pair-cause = c .before .before .before .before .before .before .before .before .before .pair-cause in
+    dated-found _ _ _ _ _ _ _ _ (pair-cause .ensures) _ _ _ (if1 .left) _ _ _ (terms-cause .ensures) (dates-cause .ensures)
+    (lowest-cause .ensures) (if2 .left) _ _ (terms-on .ensures) (marks-of .ensures) _ (c .accepted-option .ensures)
+
+pub pair-dated-option-price-spec : {M : Type 1} → statement M
+pair-dated-option-price-spec =
+    tie.close
+    (tie.spec
+    pair-cause-requires
+    refused-requires
+    returns
+    terms-cause-requires
+    dates-cause-requires
+    lowest-cause-requires
+    refused-requires-2
+    returns-2
+    terms-on-requires
+    marks-of-requires
+    slice-aggregate-accepted-option
+    accepted-option-requires
+    returns-3)

@@ -1,0 +1,57 @@
+-- `pair_pricing::walk::greatest_discount` meets its contract.
+-- Assumes nothing.
+use mathlib.Core.Path.{refl}
+use Prim.Native.Nat.{_+_, _≤_}
+use native.Mathlib.Omega.{arith}
+use lib.ListN.{length}
+use denote.Ref.{now}
+use borrow.Author.Needs.{needs}
+use Rattle.price_bound.proofs.BoundLaws.{part-room, greatest-part}
+use Rattle.pair_pricing.proofs.walk.greatest_discount.Statement.{statement}
+use Rattle.pair_pricing.proofs.walk.greatest_discount.Tie as tie
+
+-- the row's part is within the discounts
+room : (c : tie.After-struct-known) →
+    c .before .row-shape .result .start + c .before .row-shape .result .count ≤ length (now (c .before .before .before .args .discounts))
+room c =
+    let s = c .before .before .before in
+    part-room _ _ _ _ (s .pre .0) (s .pre .1) _ (c .before .row-shape .ensures)
+
+row-shape-requires : tie.Need-row-shape-requires
+row-shape-requires c κs = search needs
+
+add-end : tie.Need-add-end
+add-end c = omega (arith, room c)
+
+mul-greatest-of : tie.Need-mul-greatest-of
+mul-greatest-of c = omega (arith, room c)
+
+sub-greatest-of : tie.Need-sub-greatest-of
+sub-greatest-of c = search needs
+
+part-greatest-of-start : tie.Need-part-greatest-of-start
+part-greatest-of-start c = search needs
+
+part-greatest-of-end : tie.Need-part-greatest-of-end
+part-greatest-of-end c = room c
+
+greatest-of-requires : tie.Need-greatest-of-requires
+greatest-of-requires c κs = search needs
+
+returns : tie.Need-returns
+returns c =
+    let s = c .before .before .before .before .before in
+    greatest-part _ _ _ _ (s .pre .0) (s .pre .1) _ (c .before .before .before .row-shape .ensures) _ _ refl (c .greatest-of .ensures)
+
+pub greatest-discount-spec : {M : Type 1} → statement M
+greatest-discount-spec =
+    tie.close
+    (tie.spec
+    row-shape-requires
+    add-end
+    mul-greatest-of
+    sub-greatest-of
+    part-greatest-of-start
+    part-greatest-of-end
+    greatest-of-requires
+    returns)

@@ -1,0 +1,4 @@
+pub mod Answers
+pub mod CausesKept
+pub mod OneTree
+pub mod PairKept

@@ -1,0 +1,1 @@
+// What is promised of prices on a rate tree and a spread tree together, and that it is kept: proofs alone.
