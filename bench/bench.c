@@ -1140,6 +1140,102 @@ static void pairs(int turns)
     }
 }
 
+/* ---- books of jobs */
+
+enum { BOOK_JOBS = 20, BOOK_BYTES = 1 << 17 };
+
+static struct {
+    struct work jobs[BOOK_JOBS];
+    uint8_t file[BOOK_BYTES];
+    size_t size;
+    uint64_t sums[3];
+} book;
+
+static size_t put_field(size_t at, uint8_t tag, uint64_t number, size_t length)
+{
+    book.file[at] = tag, book.file[at + 1] = (uint8_t)(length >> 8), book.file[at + 2] = (uint8_t)length;
+    for (size_t k = 0; k < length; k++)
+        book.file[at + 3 + k] = (uint8_t)(number >> 8 * (length - 1 - k));
+    return at + 3 + length;
+}
+
+static size_t put_job(size_t at, const struct work *w)
+{
+    const size_t head = at;
+    at = put_field(put_field(at + 3, 1, w->f, 1), 2, w->n, 1);
+    at = put_field(put_field(at, 3, w->b, 2), 4, w->s, 4);
+    for (size_t i = 0; i < w->n; i++) {
+        uint64_t bits;
+        memcpy(&bits, &w->figures[i], sizeof bits);
+        at = put_field(at, w->kinds[i], bits, 8);
+    }
+    for (size_t i = 0; i < w->n; i++)
+        at = put_field(at, 7, w->flows[i], 4);
+    at = put_field(at, 8, w->kind << 40 | (uint64_t)w->expiry << 32 | w->strike, 6);
+    book.file[head] = 0x10, book.file[head + 1] = (uint8_t)((at - head - 3) >> 8), book.file[head + 2] = (uint8_t)(at - head - 3);
+    return at;
+}
+
+/* Jobs of one size on curves that differ. */
+static void fill_book(size_t n, uint64_t b)
+{
+    book.size = 0;
+    for (int k = 0; k < BOOK_JOBS; k++) {
+        book.jobs[k] = work_of(n, b, 0.02 + 0.0005 * k, 0.0003);
+        book.size = put_job(book.size, &book.jobs[k]);
+    }
+}
+
+static uint8_t book_room[MIXEGORTA_BOOK_ROOM];
+
+static void report_by_library(void) { last_worth = mixegorta_book_report(book.file, book.size, book_room, sizeof book_room).number; }
+
+static void priced_one_by_one(void (*by)(const struct work *, struct result *, int))
+{
+    static struct result r;
+    memset(book.sums, 0, sizeof book.sums);
+    for (int k = 0; k < BOOK_JOBS; k++) {
+        by(&book.jobs[k], &r, WHOLE_JOB);
+        if (r.number || r.both.bond.number || r.both.option.number)
+            fail("a job of the book that is refused");
+        book.sums[0] += r.both.bond.value, book.sums[1] += r.both.option.value, book.sums[2] += r.both.bond.bound;
+    }
+}
+
+static void book_by_calls(void) { priced_one_by_one(by_library); }
+static void book_by_plain_c(void) { priced_one_by_one(by_plain_c); }
+
+/* The report must give the sums of the jobs priced one by one. */
+static void must_add_up(void)
+{
+    char sums[256], *found;
+    report_by_library();
+    book_by_plain_c();
+    snprintf(sums, sizeof sums, "bonds %llu.%09llu\noptions %llu.%09llu\nallowances %llu\n", (unsigned long long)(book.sums[0] / ONE),
+             (unsigned long long)(book.sums[0] % ONE), (unsigned long long)(book.sums[1] / ONE), (unsigned long long)(book.sums[1] % ONE),
+             (unsigned long long)book.sums[2]);
+    book_room[0] = 0;
+    for (found = (char *)book_room + sizeof book_room - 1; found > (char *)book_room && memcmp(found, sums, 6); found--)
+        ;
+    if (memcmp(found, sums, strlen(sums)))
+        fail("DIFFERENT on a book of jobs");
+}
+
+static void books(int turns)
+{
+    static const struct { size_t n; uint64_t b; } shapes[] = {{60, 0}, {60, 1000}, {20, 0}, {5, 0}};
+    for (int side = 0; side < 2; side++) {
+        printf("\na book of 20 jobs                 report        %s     ratio\n", side ? "single calls" : "plain C     ");
+        for (int i = 0; i < 4; i++) {
+            char name[64];
+            fill_book(shapes[i].n, shapes[i].b);
+            must_add_up();
+            snprintf(name, sizeof name, "n = %zu, b = %llu", shapes[i].n, (unsigned long long)shapes[i].b);
+            line_of_moves(name, report_by_library, side ? book_by_calls : book_by_plain_c, turns);
+        }
+    }
+}
+
 #ifdef HAVE_QUANTLIB
 void quantlib_curve(size_t n, double step, const double *factors);
 double quantlib_prices(size_t n, double step, double reversion, double volatility, const double *flows, size_t expiry, double strike,
@@ -1206,6 +1302,7 @@ int main(int argc, char **argv)
     bands(turns);
     jobs(turns);
     pairs(turns);
+    books(turns);
     against_quantlib(turns / 4 + 1);
     return 0;
 }

@@ -57,6 +57,7 @@
 #ifndef MIXEGORTA_H
 #define MIXEGORTA_H
 
+#include <stdbool.h>
 #include <stddef.h>
 #include <stdint.h>
 
@@ -66,9 +67,9 @@ extern "C" {
 
 /* The version of header and library, in three numbers and as a text. The shared object's name for the loader carries the first. */
 #define MIXEGORTA_VERSION_MAJOR 0
-#define MIXEGORTA_VERSION_MINOR 13
+#define MIXEGORTA_VERSION_MINOR 14
 #define MIXEGORTA_VERSION_PATCH 0
-#define MIXEGORTA_VERSION "0.13.0"
+#define MIXEGORTA_VERSION "0.14.0"
 
 /* The same as one number, which mixegorta_version() of this header's own library answers. */
 #define MIXEGORTA_VERSION_NUMBER \
@@ -105,6 +106,9 @@ extern "C" {
 /* The places of a job record: quotes and flows, as many as one byte can tell steps, and listed rows, as many as a job has room for. */
 #define MIXEGORTA_MAX_JOB_STEPS 255
 #define MIXEGORTA_MAX_JOB_DATES 4672
+/* The most fields of a book of jobs, and room for the report of every book, in bytes. */
+#define MIXEGORTA_MAX_FIELDS 500
+#define MIXEGORTA_BOOK_ROOM 2304
 
 /* The limits of arguments and values. */
 #define MIXEGORTA_MAX_REVERSION 6000
@@ -246,6 +250,21 @@ struct mixegorta_job {
 struct mixegorta_reading {
     uint64_t number;
     struct mixegorta_job job;
+};
+
+/* The prices of a job: its bond and, where has_option is true, its option. All are 0 or false where refused, and the option's are 0 where
+ * the job has none; number is the job's alone, those of the two prices are 0. */
+struct mixegorta_job_prices {
+    uint64_t number;
+    struct mixegorta_price bond;
+    bool has_option;
+    struct mixegorta_price option;
+};
+
+/* The report of a book: the last `size` bytes of the memory that was handed over for it. size is 0 where refused. */
+struct mixegorta_book_text {
+    uint64_t number;
+    size_t size;
 };
 
 /* What a shelf keeps of a name: MIXEGORTA_NO_TREE, MIXEGORTA_AWAITING or MIXEGORTA_FITTED, the tree's steps and reversion, and of a fitted
@@ -473,6 +492,13 @@ struct mixegorta_answer mixegorta_valuation_error_bound(size_t steps, uint64_t r
  * expiry or strike, 13 dates, before 12 a value on the way. */
 struct mixegorta_written mixegorta_sheet(const uint8_t *job, size_t job_len, uint8_t *out, size_t out_len);
 
+/* The prices of a job without its sheet, and its tree: 0 leaves the discounts and the state prices of its tree at the start of both
+ * memories, sized by its steps and its working reversion; MIXEGORTA_MAX_DISCOUNTS and MIXEGORTA_MAX_STATE_PRICES numbers serve every
+ * job. Nothing past those parts ever changes. Refusals leave both as they were: 1 the job's form, 2 to 5 and 7 to 9 its fit, 6 a memory
+ * too short, 10 a flow, 11 kind, side, expiry or strike, 13 dates, before 12 a value on the way. */
+struct mixegorta_job_prices mixegorta_prices_of_job(const uint8_t *job, size_t job_len, uint64_t *discounts, size_t discounts_len,
+                                                    uint64_t *state_prices, size_t state_prices_len);
+
 /* ---- A job as a record: bytes to its fields, and its fields to bytes. Only the form of a job counts here: steps a year of 3, 200 steps, a
  * NaN, a list of no rows or one that does not rise are read and written, and refused where the job is priced. The bits of a figure are kept,
  * of -0.0 and NaN too.
@@ -490,6 +516,16 @@ struct mixegorta_reading mixegorta_read_job(const uint8_t *bytes, size_t bytes_l
  * but 0 in a place that is not used, or more than 4,700 bytes.
  * Refusals leave out as it was: 1 a record that no job is read as, then 6 out too short. */
 struct mixegorta_answer mixegorta_write_job(struct mixegorta_job job, uint8_t *out, size_t out_len);
+
+/* ---- A book of jobs: a whole file in, its report out. */
+
+/* The report of a file of jobs, each in a field of one byte of tag, 10 (hex), two of length, high byte first, and its bytes; at most 500
+ * fields. Eighteen lines of ASCII: how many jobs are priced, how many refused with each number from 1 to 13, the sums of the bonds, the
+ * options and the bonds' error bounds, and the place of the dearest bond; docs/MANUAL.md gives the format. What is no whole field, and
+ * anything after 500, ends the file and counts once under 1. out: at least 2,304 bytes, whatever the file. 0: the report is the last
+ * `size` bytes of out, without a zero byte behind it; the bytes before it are as they were. A job that is refused is counted, and no
+ * refusal of the call. Refusal, which leaves out as it was: 6 out too short. */
+struct mixegorta_book_text mixegorta_book_report(const uint8_t *file, size_t file_len, uint8_t *out, size_t out_len);
 
 /* ---- A shelf: up to eight trees in one memory of 3,600 discounts.
  *

@@ -1,5 +1,5 @@
-/* The stack that a fit, a price, a strip, a commit, a pair and a sheet take on the largest tree, and the reading and the writing of the longest job, in bytes: the most of
- * any call, on a thread whose stack is filled first. */
+/* The stack that a fit, a price, a strip, a commit, a pair, a job's prices, a report and a sheet take on the largest tree, and the reading and the writing of the longest
+ * job, in bytes: the most of any call, on a thread whose stack is filled first. */
 #define _POSIX_C_SOURCE 200809L
 #include "mixegorta.h"
 
@@ -13,7 +13,7 @@ enum { STACK = 1 << 20, STEPS = MIXEGORTA_MAX_STEPS, PAIR_STEPS = MIXEGORTA_MAX_
 static uint64_t rows[STEPS], flows[STEPS], discounts[MIXEGORTA_MAX_DISCOUNTS], state_prices[MIXEGORTA_MAX_STATE_PRICES];
 static const uint64_t payoffs[MIXEGORTA_MAX_NODES];
 static uint64_t strikes[MIXEGORTA_MAX_STRIKES], paired[PAIR_NODES];
-static uint8_t kinds[STEPS], dates[STEPS], room[MIXEGORTA_SHEET_ROOM], job[MIXEGORTA_MAX_JOB];
+static uint8_t kinds[STEPS], dates[STEPS], room[MIXEGORTA_SHEET_ROOM], job[MIXEGORTA_MAX_JOB], book[3 + MIXEGORTA_MAX_JOB];
 static double figures[STEPS];
 static size_t job_size;
 static struct mixegorta_job record;
@@ -136,6 +136,23 @@ static void *writing(void *unused) {
     return unused;
 }
 
+static void *prices(void *unused) {
+    refused = mixegorta_prices_of_job(job, job_size, discounts, MIXEGORTA_MAX_DISCOUNTS, state_prices, MIXEGORTA_MAX_STATE_PRICES).number;
+    return unused;
+}
+
+/* A book of the job alone, which must be priced. */
+static void *report(void *unused) {
+    static const char priced[] = "priced 1\n";
+    book[0] = 0x10;
+    book[1] = (uint8_t)(job_size >> 8);
+    book[2] = (uint8_t)job_size;
+    memcpy(book + 3, job, job_size);
+    const struct mixegorta_book_text text = mixegorta_book_report(book, 3 + job_size, room, MIXEGORTA_BOOK_ROOM);
+    refused = text.number != 0 || memcmp(room + MIXEGORTA_BOOK_ROOM - text.size, priced, sizeof priced - 1) != 0;
+    return unused;
+}
+
 /* How many bytes of its stack a thread has written. */
 static size_t written(void *(*call)(void *)) {
     unsigned char *stack = aligned_alloc(4096, STACK);
@@ -196,6 +213,8 @@ int main(void) {
     printf("strip %zu\n", most(most(taken(strip), taken(strip_of_kind)), most(taken(shelf_strip), taken(shelf_strip_of_kind))));
     printf("commit %zu\n", committed);
     printf("pair %zu\n", most(taken(pair_bond), taken(pair_option)));
+    printf("job %zu\n", taken(prices));
+    printf("report %zu\n", taken(report));
     printf("sheet %zu\n", taken(sheet));
     write_job(MIXEGORTA_MAX_JOB_STEPS, 78);
     if (job_size != MIXEGORTA_MAX_JOB) return 3;

@@ -1,7 +1,9 @@
 // The header in C++: every struct as a type of its own, and calls of each shape. Prints nothing where all is well.
 #include "mixegorta.h"
 
+#include <cstddef>
 #include <cstdio>
+#include <string>
 #include <vector>
 
 static int failures = 0;
@@ -129,6 +131,17 @@ static void pair() {
     EXPECT(mixegorta_pair_bond_price(1, 0, high.data(), 1, 2, 0, high.data(), 1, flows.data(), 1).number == 19);
 }
 
+static void books() {
+    std::vector<uint8_t> room(MIXEGORTA_BOOK_ROOM);
+    const std::vector<uint8_t> file = {0x10, 0, 0, 0x10};
+    const mixegorta_book_text text = mixegorta_book_report(file.data(), file.size(), room.data(), room.size());
+    const std::string report(room.end() - static_cast<std::ptrdiff_t>(text.size), room.end());
+    EXPECT(text.number == 0 && report.find("priced 0\nrefused 1 2\nrefused 2 0\n") == 0);
+    std::vector<uint64_t> discounts(MIXEGORTA_MAX_DISCOUNTS), state_prices(MIXEGORTA_MAX_STATE_PRICES);
+    const mixegorta_job_prices none = mixegorta_prices_of_job(file.data(), 0, discounts.data(), discounts.size(), state_prices.data(), state_prices.size());
+    EXPECT(none.number == 1 && !none.has_option && none.bond.value == 0);
+}
+
 int main() {
     EXPECT(mixegorta_version() == MIXEGORTA_VERSION_NUMBER);
     shapes();
@@ -139,5 +152,6 @@ int main() {
     bands();
     records();
     pair();
+    books();
     return failures == 0 ? 0 : 1;
 }

@@ -276,6 +276,13 @@ static void shelf_option_strip_of_kind(void) {
     answer_strip(mixegorta_shelf_option_strip_of_kind(shelf(), shelf_memory(), number(2), LENT(3), number(4), number(5), LENT(6)));
 }
 
+static void prices_of_job(void) {
+    struct mixegorta_job_prices p = mixegorta_prices_of_job(as_bytes(0), given[0].count, LENT(1), LENT(2));
+    answer(p.number, (uint64_t[]){p.bond.value, p.bond.bound, p.has_option, p.option.value, p.option.bound}, 5);
+    answer_memory(1, p.number == 0 ? 9 : 0);
+    answer_memory(2, p.number == 0 ? 16 : 0);
+}
+
 /* Verdicts show more than a number where they refuse, so all of their fields are compared. */
 static void answer_verdict(struct mixegorta_verdict v) {
     const uint64_t fields[] = {v.number, v.row, v.price, v.place};
@@ -349,7 +356,7 @@ static const struct {
              CALL(shelf_option_price), CALL(shelf_bond_and_option), CALL(shelf_dated_option_price), CALL(shelf_bond_and_dated_option),
              CALL(option_strip), CALL(option_strip_of_kind), CALL(shelf_option_strip), CALL(shelf_option_strip_of_kind),
              CALL(check_bands), CALL(lending_worth), CALL(read_job), CALL(write_job), CALL(pair_bond_price),
-             CALL(pair_dated_option_price)};
+             CALL(pair_dated_option_price), CALL(prices_of_job)};
 
 static bool called(const char *name) {
     found.count = 0;

@@ -180,6 +180,24 @@ pub fn bond_and_dated_option(tree: &Tree, discounts: &[u64], flows: &[u64], o: &
     (priced(both.bond), priced(both.option))
 }
 
+/// A job's bond and, where it has one, its option. A refusal must come with zeros, and so must the option of a job without one.
+pub fn prices_of_job(job: &[u8], discounts: &mut [u64], state_prices: &mut [u64]) -> Outcome<rules::JobPrices> {
+    let JobPrices { number, bond, has_option, option } = unsafe {
+        mixegorta_prices_of_job(
+            start(job), job.len(), start_of_lent(discounts), discounts.len(), start_of_lent(state_prices), state_prices.len(),
+        )
+    };
+    assert_eq!((bond.number, option.number), (0, 0), "a number beside the job's own");
+    assert!(has_option || (option.value, option.bound) == (0, 0), "a price of no option");
+    outcome(number, rules::JobPrices { bond: (bond.value, bond.bound), option: has_option.then_some((option.value, option.bound)) })
+}
+
+/// The size of a report, which stands at the end of the room.
+pub fn book_report(file: &[u8], out: &mut [u8]) -> Outcome<usize> {
+    let written = unsafe { mixegorta_book_report(start(file), file.len(), start_of_lent(out), out.len()) };
+    outcome(written.number, written.size)
+}
+
 /// The answers of a strip. Its own refusal must come with zeros in every place, and any other strip with zeros past its strikes.
 fn struck(strip: Strip, strikes: &[u64]) -> rules::Strip {
     let count = if strip.number == 0 { strikes.len().min(MOST_STRIKES) } else { 0 };

@@ -1,6 +1,7 @@
 // Compares the library with the rules of documents 01 and 02 and with the exact pricer, on random inputs, on random scripts of calls on a shelf, on
-// random tables of haircut bands, on random job records and on random pairs of a rate tree and a spread tree.
+// random tables of haircut bands, on random job records, on random pairs of a rate tree and a spread tree, and on random jobs and books of them.
 mod bands;
+mod books;
 mod checks;
 mod engine;
 mod exact;
@@ -27,6 +28,8 @@ const MANY_TABLES: u64 = 16_000;
 const MANY_RECORDS: u64 = 3_000;
 /// So many pairs of trees have every number, and tell every wrong rule.
 const MANY_PAIRS: u64 = 16_000;
+/// So many books tell every wrong rule.
+const MANY_BOOKS: u64 = 16_000;
 /// So many scripts have every order of causes, every refused commit tried again, and every alteration, of the carried numbers too.
 const MANY_SCRIPTS: u64 = 1_000;
 
@@ -68,6 +71,7 @@ fn without_seed(tally: &mut Tally, shelves: &mut shelves::Tally) {
     bands::by_hand();
     records::by_hand();
     pairs::by_hand();
+    books::by_hand();
 }
 
 fn input(own: u64, tally: &mut Tally) {
@@ -105,10 +109,17 @@ fn pair(own: u64, tally: &mut pairs::Tally) {
     }
 }
 
+fn job_and_book(own: u64, tally: &mut books::Tally) {
+    if panic::catch_unwind(panic::AssertUnwindSafe(|| books::check(&mut inputs::Random::new(own), own, tally))).is_err() {
+        different(own);
+    }
+}
+
 fn main() {
     let (count, seed) = (argument(1, 20_000), argument(2, 1));
     let (mut tally, mut shelves, sizes) = (Tally::default(), shelves::Tally::default(), scripts::Sizes::new());
     let (mut tables, mut records, mut paired) = (bands::Tally::default(), records::Tally::default(), pairs::Tally::default());
+    let mut books = books::Tally::default();
     without_seed(&mut tally, &mut shelves);
     for own in seed..seed + count {
         input(own, &mut tally);
@@ -118,6 +129,7 @@ fn main() {
         table(own, &mut tables);
         record(own, &mut records);
         pair(own, &mut paired);
+        job_and_book(own, &mut books);
     }
     println!("{tally}");
     assert!(count < LARGE_RUN || tally.bonds_on_both_sides(), "bonds on one side of their exact prices alone");
@@ -136,6 +148,9 @@ fn main() {
     assert!(missing.is_empty(), "no run has {missing:?}");
     println!("{paired}\n");
     let missing = if count < MANY_PAIRS { Vec::new() } else { paired.missing() };
+    assert!(missing.is_empty(), "no run has {missing:?}");
+    println!("{books}\n");
+    let missing = if count < MANY_BOOKS { Vec::new() } else { books.missing() };
     assert!(missing.is_empty(), "no run has {missing:?}");
     println!("{count} inputs from seed {seed}: every result equal, every bound kept");
 }

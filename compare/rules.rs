@@ -448,6 +448,13 @@ impl Contract {
     }
 }
 
+/// What a job's bond and option are worth, each with its bound; no option, no price.
+#[derive(Clone, Debug, Default, PartialEq)]
+pub struct JobPrices {
+    pub bond: (u64, u64),
+    pub option: Option<(u64, u64)>,
+}
+
 pub const CALL: u64 = 1;
 pub const PUT: u64 = 2;
 

@@ -465,8 +465,12 @@ def percent(rate):
     return ('-' if rate < 0 else '') + '%d.%07d' % divmod(abs(rate), 10 ** 7)
 
 
-def lines(job):
-    """The sheet's lines; causes are judged over the whole job, lowest number first but for 13, which is tried before 12."""
+# A job's tree of its working reversion, and its prices; option is None where the job has none.
+Worked = namedtuple('Worked', 'b quotes discounts state_prices bond option allowance')
+
+
+def worked(job):
+    """Causes are judged over the whole job, lowest number first but for 13, which is tried before 12."""
     f, n, b, s, version, quoted, flows, terms = read(job)
     refuse_if(f not in (1, 2, 4, 12), 2)
     refuse_if(not 1 <= n <= 60, 3)
@@ -480,16 +484,21 @@ def lines(job):
     refuse_if(any(flow > FLOW_LIMIT for flow in flows), 10)
     option = terms and accepted_option(n, terms)
     bond = bond_rows(n, working, discounts, flows)[0][0]
+    price = option_value(n, working, discounts, flows, option) if option else None
+    return Worked(working, quotes, discounts, prices, bond, price, price_allowance(discounts))
+
+
+def lines(job):
+    """The sheet's lines."""
+    found = worked(job)
     out = ['node %d %d %s %s' % (i, j, amount(v), percent(step_rate(v)))
-           for i, row in enumerate(discounts) for j, v in sorted(row.items())]
-    for t in range(1, n + 1):
-        out.append('row %d %s %s %d' % (t, amount(quotes[t - 1]), amount(sum(prices[t].values())),
-                                        state_price_allowance(working, discounts, t)))
-    allowance = price_allowance(discounts)
-    out.append('bond %s %d' % (amount(bond), allowance))
-    if option:
-        price = option_value(n, working, discounts, flows, option)
-        out.append('option %s %d' % (amount(price), allowance))
+           for i, row in enumerate(found.discounts) for j, v in sorted(row.items())]
+    for t, p in enumerate(found.quotes, 1):
+        out.append('row %d %s %s %d' % (t, amount(p), amount(sum(found.state_prices[t].values())),
+                                        state_price_allowance(found.b, found.discounts, t)))
+    out.append('bond %s %d' % (amount(found.bond), found.allowance))
+    if found.option is not None:
+        out.append('option %s %d' % (amount(found.option), found.allowance))
     return out
 
 

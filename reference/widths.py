@@ -323,6 +323,16 @@ def shelf_option_strip_of_kind(shelf, memory, name, flows, kind, expiry, strikes
     return strip([], strikes, shelf_option_price, shelf, memory, name, flows, kind, expiry)
 
 
+def prices_of_job(job, discounts, state_prices):
+    """The bond, whether there is an option, the option, and both memories of the tree."""
+    f, n, b, s, version, quotes, flows, terms = rules.read(bytes(job))
+    kinds, figures = ([quote[part] for quote in quotes] for part in (0, 1))
+    working = rules.working_reversion(version or 1, b)
+    tree = fit_version(version or 1, f, n, b, s, list(range(1, n + 1)), kinds, figures, discounts, state_prices)
+    option = [1, *priced_option(n, working, tree[0], flows, terms)] if terms else [0, 0, 0]
+    return [*bond_price(n, working, tree[0], flows), *option, *tree]
+
+
 def check_bands(*lists):
     return list(bands.verdict(*lists))
 
@@ -381,6 +391,19 @@ def figures_of(*figures):
     return [rules.pattern_of(figure) for figure in figures]
 
 
+def field(tag, data):
+    return bytes([tag]) + len(data).to_bytes(2, 'big') + data
+
+
+def job_of(f, n, b, s, version, curve, flows, option):
+    """The bytes of a job with an option on listed dates."""
+    (_, _, kinds), (_, _, figures) = curve[1:]
+    (_, _, side), (_, _, dates), (_, _, strike) = option
+    parts = [(1, bytes([f])), (2, bytes([n])), (3, b.to_bytes(2, 'big')), (4, s.to_bytes(4, 'big')), (11, bytes([version]))]
+    parts += [(kind, figure.to_bytes(8, 'big')) for kind, figure in zip(kinds, figures)] + [(7, flow.to_bytes(4, 'big')) for flow in flows]
+    return b''.join(field(*part) for part in [*parts, (10, bytes([side]) + strike.to_bytes(4, 'big') + bytes(dates))])
+
+
 REVERSION, STEPS, ROW = ('reversion', 'number', 800), ('steps', 'number', 3), ('row', 'number', 60)
 VERSION, FREQUENCY, VOLATILITY = ('version', 'number', 2), ('frequency', 'number', 2), ('volatility', 'number', 10_000)
 CURVE = (('rows', 'exact', [1, 2, 3]), ('kinds', 'bytes', [5, 6, 9]), ('figures', 'figures', figures_of(0.98, 0.03, 0.02)))
@@ -404,6 +427,9 @@ SHAPE = STEPS[2], REVERSION[2]
 SHELF = ('shelf', 'slots', slot(0, 0, 0) + slot(1, *SHAPE) + slot(2, *SHAPE, *tree_bounds(*SHAPE, FITTED)) + slot(0, 0, 0) * 5)
 ROOM = ('memory', 'room', [0] * 9 + FITTED + [0] * (3_600 - 18))
 SHELVED, AWAITING, FREE = ((SHELF, ROOM, ('name', 'number', name)) for name in (3, 2, 1))
+
+# The curve and the bond as a job of version 2, with an option on listed dates.
+PRICED_JOB = ('job', 'bytes', list(job_of(FREQUENCY[2], STEPS[2], REVERSION[2], VOLATILITY[2], VERSION[2], CURVE, FLOWS[2], DATED)))
 
 # Three bands of rows, two of them with two bands of prices.
 BANDS = (('first_rows', 'exact', [1, 1, 21, 21, 41]), ('last_rows', 'exact', [20, 20, 40, 40, 60]), ('lowest_prices', 'exact', [0, ONE, 0, ONE + 1, 0]),
@@ -440,6 +466,7 @@ ENTRIES = [
     entry(option_strip, *BOND, *STRIP), entry(option_strip_of_kind, *BOND, *STRIP_OF_KIND),
     entry(value_by_state_prices, ('state_prices', 'exact', [160_000_000, 640_000_000, 160_000_000]), ('payoffs', 'exact', [ONE, ONE // 2, 2 * ONE])),
     entry(valuation_error_bound, STEPS, REVERSION, LEVEL, ('row', 'number', 3), ('payoffs', 'exact', [ONE] * 7)),
+    entry(prices_of_job, PRICED_JOB, *MEMORIES),
     entry(shelf_part, SHELF, ('name', 'number', 3)), entry(shelf_ask, *FREE, STEPS, REVERSION),
     entry(shelf_commit, *AWAITING, FREQUENCY, VOLATILITY, *CURVE), entry(shelf_release, *AWAITING),
     entry(shelf_bond_price, *SHELVED, FLOWS), entry(shelf_option_price, *SHELVED, FLOWS, *OPTION),
@@ -452,8 +479,9 @@ ENTRIES = [
     entry(write_job, ('job', 'record', places(records.reading(DATED_JOB))), ('out', 'memory', Memory(len(DATED_JOB)))),
     entry(pair_bond_price, *PAIR), entry(pair_dated_option_price, *PAIR, *DATED),
 ]
-# A job is bytes, and the room for its sheet has one size: crates/sheet_cases has both. Version and empty shelf are asked for without arguments.
-WITHOUT_NUMBERS = {'sheet', 'version', 'empty_shelf'}
+# A job is bytes, and the room for its sheet has one size: crates/sheet_cases has both, and crates/book_cases a book and the room for its report. Version
+# and empty shelf are asked for without arguments.
+WITHOUT_NUMBERS = {'sheet', 'book_report', 'version', 'empty_shelf'}
 
 
 # The lines

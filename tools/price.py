@@ -8,45 +8,15 @@ Standard output is what the program prints. Exit status: 0 the sheet was shown w
 the number, the cause and what to do; 2 there is no whole sheet, and standard error tells why: the file, the program or output is lost.
 MIXEGORTA_SHEET names the program where that is not target/bin/sheet.
 """
-import os
-import pathlib
-import shutil
-import subprocess
 import sys
 
+import programs
 import sheets
 import texts
 from streams import Stop, content_of, put, run, tell
 
-ROOT = pathlib.Path(__file__).resolve().parent.parent
+WITHOUT_KIT = "see the reference's sheet by `tools/job FILE | python3 reference/reference.py`"
 SHOWN, REFUSED, NOT_SHOWN = 0, 1, 2
-
-
-def program():
-    """The sheet program, or what to run to have one."""
-    named = os.environ.get('MIXEGORTA_SHEET')
-    path = pathlib.Path(named or ROOT / 'target/bin/sheet').absolute()
-    if path.is_file():
-        return path
-    if named:
-        raise Stop(f'there is no program {named}, which MIXEGORTA_SHEET names: correct or unset it')
-    if shutil.which('rt'):
-        raise Stop('the proved program target/bin/sheet is not built yet: run `rt check sheet` at the root, which takes some minutes the first time')
-    raise Stop('the proved program target/bin/sheet is not built, and there is no Rattle kit to build it: install the kit and run `rt check sheet`, '
-               'or see the reference\'s sheet by `tools/job FILE | python3 reference/reference.py`')
-
-
-def printed(job):
-    """What the program prints for a job."""
-    path = program()
-    try:
-        done = subprocess.run([path], input=job, stdout=subprocess.PIPE)
-    except OSError as error:
-        raise Stop(f'{path} does not run here ({error.strerror}): build it anew by `rt check sheet`')
-    if done.returncode < 0:
-        raise Stop(f'output is lost: {path.name} was ended by signal {-done.returncode}; 768 KiB of stack are enough, so try '
-                   '`ulimit -s 8192` and run it again')
-    return done.stdout
 
 
 def read(sheet, job):
@@ -67,7 +37,7 @@ def main(arguments):
     if len(arguments) != 1:
         raise Stop('name one file: tools/price FILE')
     job = texts.job_of(content_of(arguments[0]), arguments[0])
-    sheet = printed(job)
+    sheet = programs.printed('sheet', WITHOUT_KIT, job)
     found = read(sheet, job)
     put(sheet)
     if isinstance(found, int):

@@ -1,5 +1,5 @@
 #!/usr/bin/env python3
-"""Measures how much stack the programs and the library take, and holds the figures of README.md, docs/MANUAL.md and tools/price.py against it.
+"""Measures how much stack the programs and the library take, and holds the figures of README.md, docs/MANUAL.md and tools/programs.py against it.
 
     tools/stack.py [MEASURED]    each program of target/bin/ that has a file stdout in its crate, and what the program MEASURED, c/stack.c compiled, prints
 
@@ -14,9 +14,9 @@ import sys
 
 ROOT = pathlib.Path(__file__).resolve().parent.parent
 BINARIES = ROOT / 'target/bin'
-PLACES = ('README.md', 'docs/MANUAL.md', 'tools/price.py')
+PLACES = ('README.md', 'docs/MANUAL.md', 'tools/programs.py')
 STATED = re.compile(r'([0-9][0-9,]*) KiB of stack are enough')
-CALL = re.compile(r'([0-9][0-9,]*) KiB for a (fit|price|strip|commit|pair|sheet|reading|writing)')
+CALL = re.compile(r'([0-9][0-9,]*) KiB for a (fit|price|strip|commit|pair|job|report|sheet|reading|writing)')
 STEP, MOST, RUNS, RESERVE = 4, 8_192, 5, 64
 LEFT_OUT = ('sheet_cases',)
 LONGEST = ROOT / 'examples/sixty-months.txt'

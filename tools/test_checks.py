@@ -220,7 +220,7 @@ class Trials(unittest.TestCase):
 
 
 class Stack(unittest.TestCase):
-    TEXTS = {'README.md': 'x 768 KiB of stack are enough', 'tools/price.py': '768 KiB of stack are enough, so'}
+    TEXTS = {'README.md': 'x 768 KiB of stack are enough', 'tools/programs.py': '768 KiB of stack are enough, so'}
 
     def test_programs(self):
         self.assertEqual(stack.faults_of_programs({'sheet': 704, 'exhibits': 20}, self.TEXTS), [])

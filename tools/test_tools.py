@@ -18,6 +18,7 @@ import xml.etree.ElementTree as ElementTree
 ROOT = pathlib.Path(__file__).resolve().parent.parent
 sys.path.insert(0, str(ROOT / 'reference'))
 sys.dont_write_bytecode = True
+import book
 import records
 import reference
 import tables
@@ -225,14 +226,14 @@ class Jobs(unittest.TestCase):
         self.refused(b'\xff\xfe', ': not a text in UTF-8')
 
 
-class Pricing(unittest.TestCase):
-    """Programs in place of the proved one are small scripts, most of them the reference."""
+class Tool(unittest.TestCase):
+    """A tool that runs a proved program, of which a script may stand in the place."""
+    NAME = SETTING = None
 
     def setUp(self):
         folder = tempfile.TemporaryDirectory()
         self.addCleanup(folder.cleanup)
         self.folder = pathlib.Path(folder.name)
-        self.reference = self.program(f'exec "{sys.executable}" -B "{ROOT}/reference/reference.py"')
 
     def program(self, script):
         path = self.folder / f'program{len(list(self.folder.iterdir()))}'
@@ -245,9 +246,9 @@ class Pricing(unittest.TestCase):
         path.write_bytes(content if isinstance(content, bytes) else content.encode())
         return path
 
-    def price(self, *arguments, program=None, tools=ROOT / 'tools', path=os.environ['PATH'], **more):
-        settings = {'PATH': str(path), **({'MIXEGORTA_SHEET': str(program)} if program else {})}
-        return subprocess.run(['/bin/sh', str(tools / 'price'), *map(str, arguments)], env=settings, stderr=subprocess.PIPE, **{'stdout': subprocess.PIPE, **more})
+    def run_tool(self, *arguments, program=None, tools=ROOT / 'tools', path=os.environ['PATH'], **more):
+        settings = {'PATH': str(path), **({self.SETTING: str(program)} if program else {})}
+        return subprocess.run(['/bin/sh', str(tools / self.NAME), *map(str, arguments)], env=settings, stderr=subprocess.PIPE, **{'stdout': subprocess.PIPE, **more})
 
     def check_sentence(self, made, *words):
         """Nothing is shown, and one line tells why."""
@@ -256,6 +257,18 @@ class Pricing(unittest.TestCase):
         self.assertNotIn(b'Traceback', made.stderr)
         for word in words:
             self.assertIn(word, made.stderr.decode())
+
+
+class Pricing(Tool):
+    """Programs in place of the proved one are small scripts, most of them the reference."""
+    NAME, SETTING = 'price', 'MIXEGORTA_SHEET'
+
+    def setUp(self):
+        super().setUp()
+        self.reference = self.program(f'exec "{sys.executable}" -B "{ROOT}/reference/reference.py"')
+
+    def price(self, *arguments, **more):
+        return self.run_tool(*arguments, **more)
 
     def test_texts_and_jobs_show_their_sheets(self):
         for path in EXAMPLES:
@@ -339,6 +352,68 @@ class Pricing(unittest.TestCase):
                 made = subprocess.run([sys.executable, '-B', str(ROOT / 'tools' / tool)], input=content, stdout=full, stderr=subprocess.PIPE)
             self.assertIn(made.returncode, (1, 2))
             self.assertRegex(made.stderr, rb'\Aoutput is lost: [^\n]*\n\Z')
+
+
+class Books(Tool):
+    """Programs in place of the proved one are small scripts, most of them the reference."""
+    NAME, SETTING = 'book', 'MIXEGORTA_BOOK'
+
+    def setUp(self):
+        super().setUp()
+        self.reference = self.program(f'exec "{sys.executable}" -B "{ROOT}/reference/book.py"')
+
+    def test_the_example(self):
+        desk = ROOT / 'examples/desk.book'
+        self.assertEqual(self.run_tool('--frame', *EXAMPLES).stdout, desk.read_bytes())
+        self.assertEqual([book.prices(job).number for job in book.taken(desk.read_bytes())[0]].count(0), 7)
+        made = self.run_tool(*EXAMPLES, program=self.reference)
+        self.assertEqual((made.stdout, made.returncode, made.stderr), (desk.with_suffix('.report').read_bytes(), 0, b''))
+
+    @unittest.skipUnless((ROOT / 'target/bin/book').exists(), 'target/bin/book is not built: rt check book')
+    def test_the_proved_program(self):
+        self.assertEqual(self.run_tool(*EXAMPLES).stdout, (ROOT / 'examples/desk.report').read_bytes())
+
+    def test_fields(self):
+        """Texts and jobs in their order, each as often as it is named; what is no job is framed too, for the report to count."""
+        text, job, wrong = EXAMPLES[0], self.file(DOCUMENT_JOB), self.file(DOCUMENT_JOB[:9])
+        made = run('job', text.read_bytes()).stdout
+        for files, jobs in (([text], [made]), ([job, text, job], [DOCUMENT_JOB, made, DOCUMENT_JOB]), ([wrong], [DOCUMENT_JOB[:9]])):
+            self.assertEqual(self.run_tool('--frame', *files).stdout, b''.join(map(book.framed, jobs)))
+        made = self.run_tool(wrong, job, program=self.reference)
+        self.assertIn(b'priced 0\nrefused 1 1\n', made.stdout)
+        self.assertIn(b'refused 11 1\n', made.stdout)
+
+    def test_five_hundred(self):
+        job = self.file(DOCUMENT_JOB[:-9])
+        for count, one in ((500, 0), (501, 1)):
+            made = self.run_tool(*[job] * count, program=self.reference)
+            self.assertTrue(made.stdout.startswith(b'priced 500\nrefused 1 %d\n' % one))
+
+    def test_what_cannot_be_framed(self):
+        long = self.file(DOCUMENT_JOB + bytes(65_536))
+        for files, words in ((['no-such-file'], ('no-such-file', 'No such file')), ([EXAMPLES[0], self.folder], ('Is a directory',)), ([long], ('65,583 bytes', '65,535')),
+                             ([self.file('flow x')], (':1: flow is a decimal',)), ([], ('tools/book [--frame] FILE..',)), (['--frame'], ('FILE..',)), (['--other'], ('FILE..',))):
+            self.check_sentence(self.run_tool(*files, program=self.reference), *words)
+
+    def test_lost_output(self):
+        whole = (ROOT / 'examples/desk.report').read_text()
+        for shown in ('', whole[:-1], whole[:whole.index('dearest')], whole.replace('refused 6 0\n', ''), 'refused 1\n', whole + whole):
+            self.check_sentence(self.run_tool(EXAMPLES[0], program=self.program(f"cat >/dev/null; printf '%s' '{shown}'")), 'output is lost')
+        self.check_sentence(self.run_tool(EXAMPLES[0], program=self.program('kill -9 $$')), 'output is lost', 'signal 9')
+        with open('/dev/full', 'wb') as full:
+            self.check_sentence(self.run_tool(EXAMPLES[0], program=self.reference, stdout=full), 'output is lost', 'No space')
+
+    def test_a_program_that_is_missing(self):
+        shutil.copytree(ROOT / 'tools', self.folder / 'clone/tools')
+        tools, commands = self.folder / 'clone/tools', self.folder / 'commands'
+        commands.mkdir()
+        for name in ('python3', 'dirname', 'readlink'):
+            (commands / name).symlink_to(sys.executable if name == 'python3' else shutil.which(name))
+        self.check_sentence(self.run_tool(EXAMPLES[0], tools=tools, path=commands), 'no Rattle kit', 'tools/book --frame FILE.. | python3 reference/book.py')
+        self.program('').rename(commands / 'rt')
+        self.check_sentence(self.run_tool(EXAMPLES[0], tools=tools, path=commands), 'run `rt check book`')
+        self.check_sentence(self.run_tool(EXAMPLES[0], program='no-such-program'), 'no-such-program', 'MIXEGORTA_BOOK')
+        self.check_sentence(self.run_tool(EXAMPLES[0], path=self.folder / 'nothing'), 'needs python3')
 
 
 class Drawing(unittest.TestCase):

@@ -68,7 +68,7 @@ def rust_function(function):
     line = f'{head}{", ".join(listed)})'
     if len(f'{line}{result};') < RUST_WIDTH:
         return [f'{line}{result};']
-    if len(line) <= RUST_WIDTH and result:
+    if len(line) < RUST_WIDTH - 4 and result:
         return [line, f'       {result};']
     return [head, *(f'        {part},' for part in listed), f'    ){result};']
 

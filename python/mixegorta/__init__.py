@@ -7,6 +7,7 @@ beyond the bits of its parameter, 8 for a quote kind or an exercise date and 64 
 Tree is one fitted tree with memories of its own, Shelf up to eight trees in one memory, Bands a table of haircuts, and Pair a rate tree and a
 spread tree together. Tree takes version=2 for the model's own mean and variance of a step. The option_strip of Tree and Shelf prices up to
 16 strikes of one option together. A Job is read from bytes and written to the same bytes; sheet() draws its sheet.
+prices_of_job values a job without its sheet, book_report a whole book of jobs, which book_of_jobs makes.
 
 Amounts are whole billionths: ONE is 1,000,000,000. Where they are asked for, a Decimal or a str such as "1.01" will do too and is
 converted by billionths(), which is exact or says so; a float is a TypeError. The figures of quotes are floats.
@@ -18,10 +19,11 @@ so that no thread of Python's writes it; during any other call with memory it is
 
 The shared object is that of the package, or in a source folder ../target/libmixegorta.so; MIXEGORTA_LIBRARY names another.
 """
-__version__ = "0.13.0"
+__version__ = "0.14.0"
 
-from . import _bands, _engine, _job, _limits, _pair, refusals
+from . import _bands, _books, _engine, _job, _limits, _pair, refusals
 from ._bands import *
+from ._books import *
 from ._engine import *
 from ._job import *
 from ._limits import *
@@ -33,6 +35,7 @@ from .refusals import *
 
 __all__ = ["Amount", "Amounts", "InexactAmount", "Shelf", "ShelvedTree", "Tree", "billionths"]
 __all__ += _bands.__all__
+__all__ += _books.__all__
 __all__ += _engine.__all__
 __all__ += _job.__all__
 __all__ += _limits.__all__

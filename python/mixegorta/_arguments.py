@@ -100,13 +100,35 @@ def dates(name: str, values: Iterable[int]) -> Slice:
     return _lent(name, "B", values) or _copied(name, "B", values, u8)
 
 
-def job_bytes(name: str, job: Any) -> Slice:
+def _bytes(name: str, what: str, given: Any) -> Slice:
     """The bytes of any buffer, only read."""
     try:
-        view = memoryview(job)
+        view = memoryview(given)
     except TypeError:
-        raise TypeError(f"{name}: a job is bytes, or another buffer of them") from None
-    return _lent(name, "B", job) or _copied(name, "B", bytes(view), u8)
+        raise TypeError(f"{name}: {what} is bytes, or another buffer of them") from None
+    return _lent(name, "B", given) or _copied(name, "B", bytes(view), u8)
+
+
+def job_bytes(name: str, job: Any) -> Slice:
+    """The bytes of a job."""
+    return _bytes(name, "a job", job)
+
+
+def book_bytes(name: str, book: Any) -> Slice:
+    """The bytes of a book of jobs."""
+    return _bytes(name, "a book", book)
+
+
+def jobs_listed(name: str, jobs: Iterable[Any]) -> List[bytes]:
+    """The bytes of each job of a list."""
+    return [bytes(job_bytes(f"{name}[{place}]", job).values) for place, job in enumerate(_listed(name, jobs, "jobs"))]
+
+
+def apart(**memories: Slice) -> None:
+    """Two slices of which the engine may write one."""
+    (name, first), (other_name, second) = memories.items()
+    if first.overlaps(second):
+        raise ValueError(f"{name} and {other_name} need memories of their own")
 
 
 def memory(name: str, code: str, values: Any) -> Slice:
@@ -162,17 +184,17 @@ def _copied(name: str, code: str, values: Iterable[Any], convert: Convert) -> Sl
     return Slice(kept, code, *kept.buffer_info())
 
 
-def _listed(name: str, values: Iterable[Any]) -> Sequence[Any]:
+def _listed(name: str, values: Iterable[Any], of: str = "numbers") -> Sequence[Any]:
     """The values as a list, where they are one: no text, and nothing without an order or with more than its numbers."""
     if isinstance(values, (list, tuple)):
         return values
     if isinstance(values, (str, Mapping, Set)):
-        raise TypeError(f"{name}: a {type(values).__name__} is not a list of numbers")
+        raise TypeError(f"{name}: a {type(values).__name__} is not a list of {of}")
     _unmasked(name, values)
     try:
         return list(values)
     except TypeError:
-        raise TypeError(f"{name}: {shown(values)} is not a list of numbers") from None
+        raise TypeError(f"{name}: {shown(values)} is not a list of {of}") from None
 
 
 def _unmasked(name: str, values: Any) -> None:

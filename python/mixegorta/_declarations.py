@@ -2,7 +2,7 @@
 import ctypes
 from typing import Any, Dict, Tuple
 
-from ._types import F64, I64, SIZE, U8, U64, PointerTo, SliceOf
+from ._types import BOOL, F64, I64, SIZE, U8, U64, PointerTo, SliceOf
 
 
 class CAnswer(ctypes.Structure):
@@ -65,6 +65,12 @@ class CWritten(ctypes.Structure):
     _fields_ = [("number", U64), ("size", SIZE)]
 
 
+class CJobPrices(ctypes.Structure):
+    """The prices of a job: number 0 with the bond and, where the job has one, the option; a refusal's number with zeros."""
+
+    _fields_ = [("number", U64), ("bond", CPrice), ("has_option", BOOL), ("option", CPrice)]
+
+
 class COptionRecord(ctypes.Structure):
     """The option of a job as it was read: tag 8 or 10, or 0 and zeros where the job has none."""
 
@@ -84,6 +90,12 @@ class CReading(ctypes.Structure):
     """Number 0 with the job, or refusal 1 with zeros."""
 
     _fields_ = [("number", U64), ("job", CJob)]
+
+
+class CBookText(ctypes.Structure):
+    """The lines of a book, which stand at the end of the lent room and are so many bytes long; a refusal's number with a zero."""
+
+    _fields_ = [("number", U64), ("size", SIZE)]
 
 
 class CSlot(ctypes.Structure):
@@ -176,8 +188,10 @@ DECLARATIONS: Dict[str, Tuple[Any, Dict[str, Any]]] = {
     "value_by_state_prices": (CAnswer, {"state_prices": SliceOf(U64), "payoffs": SliceOf(U64)}),
     "valuation_error_bound": (CAnswer, {"steps": SIZE, "reversion": U64, "discounts": SliceOf(U64), "row": SIZE, "payoffs": SliceOf(U64)}),
     "sheet": (CWritten, {"job": SliceOf(U8), "out": SliceOf(U8)}),
+    "prices_of_job": (CJobPrices, {"job": SliceOf(U8), "discounts": SliceOf(U64), "state_prices": SliceOf(U64)}),
     "read_job": (CReading, {"bytes": SliceOf(U8)}),
     "write_job": (CAnswer, {"job": CJob, "out": SliceOf(U8)}),
+    "book_report": (CBookText, {"file": SliceOf(U8), "out": SliceOf(U8)}),
     "empty_shelf": (CShelf, {}),
     "shelf_part": (CPart, {"shelf": CShelf, "name": SIZE}),
     "shelf_ask": (CShelved, {"shelf": CShelf, "memory": PointerTo(U64 * 3600), "name": SIZE, "steps": SIZE, "reversion": U64}),

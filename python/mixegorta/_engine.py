@@ -2,7 +2,7 @@
 from array import array
 from typing import TYPE_CHECKING, Any, Iterable, Iterator, List, NamedTuple, Optional, Tuple, Union
 
-from ._arguments import Slice, amount, amounts, dates as exercise_dates, job_bytes, memory, own_memory, point as row_kind_and_figure
+from ._arguments import Slice, amount, amounts, apart, dates as exercise_dates, job_bytes, memory, own_memory, point as row_kind_and_figure
 from ._arguments import quotes, u64, whole
 from ._declarations import CPoint
 from ._faults import accepted, call, refusal
@@ -155,12 +155,6 @@ def _dated_option(side: int, dates: Iterable[int], strike: Amount) -> Tuple[int,
     return *_side(side, dates), amount("strike", strike)
 
 
-def _apart(**memories: Slice) -> None:
-    (name, first), (other_name, second) = memories.items()
-    if first.overlaps(second):
-        raise ValueError(f"{name} and {other_name} need memories of their own")
-
-
 # ---- the shape of a tree
 
 def half_width(reversion: int, row: int) -> int:
@@ -226,7 +220,7 @@ def fit_into(frequency: int, steps: int, reversion: int, volatility: int, points
     leaves zeros in the parts that the tree needs; any other leaves both as they were. Nothing past those parts ever changes. In version 2
     the memories are sized by what working_reversion answers, and the tree is priced with it."""
     memories = memory("discounts", "Q", discounts), memory("state_prices", "Q", state_prices)
-    _apart(discounts=memories[0], state_prices=memories[1])
+    apart(discounts=memories[0], state_prices=memories[1])
     given = (u64("version", version), u64("frequency", frequency), u64("steps", steps), u64("reversion", reversion),
              u64("volatility", volatility), *columns(points), *memories)
     accepted(call("fit_version", *given), "fit_version", given)
@@ -330,7 +324,7 @@ def sheet_into(job: "ReadableBuffer", out: "WriteableBuffer") -> int:
     """Draws the sheet of a job, bytes, at the end of out, a writable buffer of at least SHEET_ROOM bytes such as array('B') or a bytearray;
     gives the sheet's size. A refusal leaves out as it was."""
     given = job_bytes("job", job), memory("out", "B", out)
-    _apart(job=given[0], out=given[1])
+    apart(job=given[0], out=given[1])
     return _sheet(*given)
 
 

@@ -54,6 +54,8 @@ def accepted(number: int, name: str, given: Tuple[Any, ...], verdict: Any = None
 
 
 def _place(number: int, given: Given) -> Place:
+    if "file" in given:
+        return "out", None
     if "job" in given:
         return _place_in_job(number, given)
     if "rate_steps" in given and number in (3, 4, 6, 9, 12, 19):
@@ -92,10 +94,16 @@ def _row_of_zero(given: Given) -> Optional[int]:
 
 def _place_in_job(number: int, given: Given) -> Place:
     if number == 6:
-        return "out", None
+        return "out" if "out" in given else _short_memory(given), None
     if number not in (7, 9, 10):
         return "job", None
     return "job", _place(number, _fit_and_flows(bytes(given["job"])))[1]
+
+
+def _short_memory(given: Given) -> str:
+    """Which memory is too short for the tree of a job."""
+    short = given["discounts"].count < _needed("discounts_needed", _fit_and_flows(bytes(given["job"])))
+    return "discounts" if short else "state_prices"
 
 
 def _fit_and_flows(job: bytes) -> Given:

@@ -4,7 +4,7 @@ import struct
 import sys
 import unittest
 
-from mixegorta import ONE, SHEET_ROOM, SHELF_ROOM
+from mixegorta import BOOK_ROOM, ONE, SHEET_ROOM, SHELF_ROOM
 from mixegorta._arguments import amounts, dates, job_bytes, kept_memory, own_memory, quotes
 from mixegorta._declarations import DECLARATIONS, CJob, CPoint, CShelf, CSlot
 from mixegorta._faults import call
@@ -80,6 +80,10 @@ PAIR_LISTED = {**PAIR_BOND, **{name: LISTED[name] for name in LISTED if name not
 WHOLE = 1, 60, 0, 8 * ONE, 250
 TABLES = {6: {"haircuts": amounts("haircuts", [1, 2])}, 16: bands((0, *WHOLE[1:])), 17: bands((2, *WHOLE[1:])), 18: bands(WHOLE, WHOLE)}
 
+JOBS = {1: job(option=b"\x08"), 2: job(frequency=3), 3: job(steps=61), 4: job(reversion=6001), 5: job(volatility=50001), 7: job(figure=11.0),
+        8: job(steps=13, volatility=50000), 9: job(figure=1.2), 10: job(flow=2 * ONE + 1), 11: job(kind=5), 12: job(steps=5, flow=2 * ONE, figure=1.0),
+        13: job(option=struct.pack(">BHBI", 10, 5, 1, ONE))}
+
 # for each function what it takes, and for each refusal what is changed
 CASES = {
     "half_width": (ROW, SHAPE), "node_count": (ROW, SHAPE), "row_start": (ROW, SHAPE),
@@ -111,17 +115,16 @@ CASES = {
     "read_job": ({"bytes": job()["job"]}, {1: {"bytes": job(option=b"\x08")["job"]}}),
     "write_job": ({"job": CJob(1), "out": own_memory(20, "B")}, {1: {"job": CJob(256), "out": own_memory(9, "B")}, 6: {"out": own_memory(19, "B")}}),
     "pair_bond_price": (PAIR_BOND, PAIR_BONDS), "pair_dated_option_price": (PAIR_LISTED, {**PAIR_BONDS, 11: LISTS[11], 13: LISTS[13]}),
-    "sheet": ({**job(), "out": own_memory(SHEET_ROOM, "B")}, {
-        1: job(option=b"\x08"), 2: job(frequency=3), 3: job(steps=61), 4: job(reversion=6001), 5: job(volatility=50001), 6: {"out": own_memory(9, "B")},
-        7: job(figure=11.0), 8: job(steps=13, volatility=50000), 9: job(figure=1.2), 10: job(flow=2 * ONE + 1), 11: job(kind=5),
-        12: job(steps=5, flow=2 * ONE, figure=1.0), 13: job(option=struct.pack(">BHBI", 10, 5, 1, ONE))}),
+    "sheet": ({**job(), "out": own_memory(SHEET_ROOM, "B")}, {**JOBS, 6: {"out": own_memory(9, "B")}}),
+    "prices_of_job": ({**job(), "discounts": own_memory(3600), "state_prices": own_memory(3721)}, {**JOBS, 6: {"discounts": own_memory(0)}}),
+    "book_report": ({"file": own_memory(0, "B"), "out": own_memory(BOOK_ROOM, "B")}, {6: {"out": own_memory(BOOK_ROOM - 1, "B")}}),
 }
 
 
 def number(name, given):
-    """The number that a call gives: its last price's where it answers two, its own or its first price's where it answers a strip."""
+    """The number that a call gives: its last price's where it answers two, its own or its first price's where it answers a strip; a job's own."""
     answer = call(name, *(given[parameter] for parameter in DECLARATIONS[name][1]))
-    answer = getattr(answer, "verdict", getattr(answer, "option", answer))
+    answer = answer if hasattr(answer, "has_option") else getattr(answer, "verdict", getattr(answer, "option", answer))
     return getattr(answer, "number", answer) or getattr(answer, "numbers", [0])[0]
 
 

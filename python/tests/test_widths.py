@@ -216,8 +216,20 @@ def write_job(numbers, memory):
     return [0, count, *out[:count]]
 
 
+def prices_of_job(job, discounts, state_prices):
+    """The prices of a job, and its tree; a refused one must leave its memories as they were."""
+    try:
+        found = m.prices_of_job_into(bytes(job), discounts, state_prices)
+    except m.Refused:
+        assert set(discounts) | set(state_prices) == {PATTERN}
+        raise
+    option = [0, 0, 0] if found.option is None else [1, *found.option]
+    return [0, *found.bond, *option, *(number for number in chain(discounts, state_prices) if number != PATTERN)]
+
+
 LISTS_OF_QUOTES = "curve_discounts", "fit", "fit_version", "shelf_commit"
-CALLS = {"read_job": read_job, "write_job": write_job, "check_bands": check_bands, "lending_worth": lending_worth,
+CALLS = {"read_job": read_job, "write_job": write_job, "prices_of_job": prices_of_job,
+         "check_bands": check_bands, "lending_worth": lending_worth,
          "quote_discount": quote_discount, "curve_discounts": curve_discounts, "fit": fit, "fit_version": fit_version, "row_range": row_range,
          "tree_bounds": tree_bounds, "bond_and_option": both(m.bond_and_option), "bond_and_dated_option": both(m.bond_and_dated_option),
          "shelf_part": shelf_part, "shelf_ask": shelf_ask, "shelf_commit": shelf_commit, "shelf_release": shelf_release}
@@ -266,7 +278,7 @@ class Test(unittest.TestCase):
         for name, words in first.items():
             for place, word in enumerate(words):
                 given = [argument(each) for each in words]
-                if word.startswith("@") or name == "quote_discount" and place == 3 or isinstance(given[place], list) and (
+                if word.startswith("@") or name == "prices_of_job" or name == "quote_discount" and place == 3 or isinstance(given[place], list) and (
                         name in LISTS_OF_QUOTES or name.startswith("shelf_") and place < 2):
                     continue
                 wide = given[place] + 2**64 if isinstance(given[place], int) else [given[place][0] + 2**64, *given[place][1:]]

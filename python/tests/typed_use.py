@@ -49,6 +49,14 @@ paired: m.Price = pair.bond_price([0, m.ONE])
 same_bound = same_bound and paired == m.pair_bond_price(2, tree.working_reversion, tree.discounts, 2, tree.working_reversion, copied, ["0", Decimal(1)])
 paired_option: m.Price = pair.dated_option_price([0, m.ONE], m.CALL, b"\0\1", "0.95")
 same_bound = same_bound and paired_option.value <= paired.value
+empty: bytes = m.book_of_jobs([])
+report: str = m.book_report(empty) + m.book_report(bytearray(m.book_of_jobs([b"", memoryview(b"")])))
+report_size: int = m.book_report_into(b"", bytearray(m.BOOK_ROOM))
+try:
+    job_prices: m.JobPrices = m.prices_of_job(b"")
+    of_option: Optional[m.Price] = job_prices.option
+except m.MalformedJob:
+    report = report[:report_size]
 words: str = f"{both.option.argument} {both.option.row}" if isinstance(both.option, m.Refused) else f"{both.option.bound}"
 
 try:
@@ -87,5 +95,9 @@ try:
     m.Job(1, 0, 0, [], [], (1, 0, m.ONE)).to_bytes()  # type: ignore[arg-type]
 except TypeError:
     pass
+try:
+    m.book_of_jobs(["job"])  # type: ignore[list-item]
+except TypeError:
+    pass
 copied_job: bool = size == 29 and read.version == 2 and len(read.quotes) == 2
-print(copied_job and place is None and worth == 1_975_000_000 and bond == same == shelved and dated == same_option and fitted and same_bound and words.startswith("expiry"))
+print(copied_job and report == m.book_report(b"") and place is None and worth == 1_975_000_000 and bond == same == shelved and dated == same_option and fitted and same_bound and words.startswith("expiry"))

@@ -5,7 +5,7 @@
 //! A [`Tree`] is one fitted tree with memories of its own, a [`Shelf`] up to eight trees in one memory, and [`Bands`] a table of haircuts. [`Tree::fit_version`]
 //! takes a version: 2 has the model's own mean and variance of a step. [`Tree::option_strip`] prices up to 16 strikes of one option together,
 //! [`pair_bond_price`] and [`pair_dated_option_price`] price on a rate tree and a spread tree together. A [`Job`] is read from bytes and written to the
-//! same bytes, and [`sheet`] draws its sheet.
+//! same bytes, and [`sheet`] draws its sheet. [`book_report`] values a whole book of jobs, [`prices_of_job`] one of them.
 //!
 //! ```
 //! use mixegorta::{Curve, OptionKind, OptionTerms, Quote, Tree, ONE};
@@ -26,6 +26,7 @@
 #![deny(missing_docs)]
 
 mod bands;
+mod books;
 mod job;
 mod limits;
 mod pair;
@@ -36,6 +37,8 @@ mod shelf;
 mod tree;
 
 pub use bands::{check_bands, lending_worth, Band, BandRefusal, Bands, Shown};
+pub use books::{book_of_jobs, book_report, book_report_into};
+pub use books::{prices_of_job, prices_of_job_into, JobPrices};
 pub use job::{Job, JobError, JobOption, JobQuote};
 pub use limits::*;
 pub use pair::{pair_bond_price, pair_dated_option_price, LentTree};

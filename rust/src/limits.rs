@@ -32,6 +32,10 @@ pub const MAX_JOB_STEPS: usize = 255;
 pub const MAX_JOB_DATES: usize = 4_672;
 /// Room for the sheet of every job in bytes.
 pub const SHEET_ROOM: usize = 468_736;
+/// The most fields of a book of jobs.
+pub const MAX_FIELDS: usize = 500;
+/// Room for the report of every book in bytes.
+pub const BOOK_ROOM: usize = 2_304;
 /// The largest reversion per step, in ten-thousandths.
 pub const MAX_REVERSION: u64 = 6_000;
 /// The largest yearly volatility, in millionths.

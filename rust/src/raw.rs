@@ -86,6 +86,16 @@ pub struct Written {
     pub size: usize,
 }
 
+/// The prices of a job: number 0 with the bond and, where the job has one, the option; a refusal's number with zeros.
+#[repr(C)]
+#[derive(Clone, Copy)]
+pub struct JobPrices {
+    pub number: u64,
+    pub bond: Price,
+    pub has_option: bool,
+    pub option: Price,
+}
+
 /// The option of a job as it was read: tag 8 or 10, or 0 and zeros where the job has none.
 #[repr(C)]
 #[derive(Clone, Copy)]
@@ -120,6 +130,14 @@ pub struct Job {
 pub struct Reading {
     pub number: u64,
     pub job: Job,
+}
+
+/// The lines of a book, which stand at the end of the lent room and are so many bytes long; a refusal's number with a zero.
+#[repr(C)]
+#[derive(Clone, Copy)]
+pub struct BookText {
+    pub number: u64,
+    pub size: usize,
 }
 
 /// What a shelf keeps of a name: status 0 no tree, 1 a tree that awaits a commit, 2 a fitted tree; then its steps and its
@@ -358,8 +376,22 @@ extern "C" {
     ) -> Answer;
     pub fn mixegorta_sheet(job: *const u8, job_len: usize, out: *mut u8, out_len: usize)
         -> Written;
+    pub fn mixegorta_prices_of_job(
+        job: *const u8,
+        job_len: usize,
+        discounts: *mut u64,
+        discounts_len: usize,
+        state_prices: *mut u64,
+        state_prices_len: usize,
+    ) -> JobPrices;
     pub fn mixegorta_read_job(bytes: *const u8, bytes_len: usize) -> Reading;
     pub fn mixegorta_write_job(job: Job, out: *mut u8, out_len: usize) -> Answer;
+    pub fn mixegorta_book_report(
+        file: *const u8,
+        file_len: usize,
+        out: *mut u8,
+        out_len: usize,
+    ) -> BookText;
     pub fn mixegorta_empty_shelf() -> Shelf;
     pub fn mixegorta_shelf_part(shelf: Shelf, name: usize) -> Part;
     pub fn mixegorta_shelf_ask(

@@ -389,6 +389,19 @@ fn ranged(g: &Given) -> Option<Vec<u64>> {
     Some(vec![range.start as u64, range.len() as u64])
 }
 
+/// The prices of a job, and its tree where it is not refused.
+fn job_prices(g: &Given) -> Vec<u64> {
+    let (mut discounts, mut state_prices) = (g.list(1).to_vec(), g.list(2).to_vec());
+    let found = prices_of_job_into(&g.bytes(0), &mut discounts, &mut state_prices);
+    let fields = found.as_ref().map_or(Vec::new(), |prices| {
+        let option = prices.option.map_or([0; 3], |o| [1, o.value, o.bound]);
+        [vec![prices.bond.value, prices.bond.bound], option.to_vec()].concat()
+    });
+    let mut memories = written(found.map(|_| ()), &[(&discounts, 9), (&state_prices, 16)]);
+    memories.splice(1..1, fields);
+    memories
+}
+
 /// What a call of level one answers; none where the types of this crate have no such argument.
 fn shape_or_fit(name: &str, g: &Given) -> Option<Vec<u64>> {
     match name {
@@ -418,6 +431,7 @@ fn shape_or_fit(name: &str, g: &Given) -> Option<Vec<u64>> {
             Some(one(price_error_bound(steps, reversion, g.list(2))))
         }
         "check_bands" => Some(checked(g)),
+        "prices_of_job" => Some(job_prices(g)),
         "lending_worth" => Some(lent(g)),
         "read_job" => Some(read_job(g)),
         "write_job" => write_job(g),
@@ -621,7 +635,7 @@ fn numbers_past_a_width() {
             *called.entry(name).or_default() += 1;
         }
     }
-    assert_eq!(called.len(), 43, "{called:?}");
+    assert_eq!(called.len(), 44, "{called:?}");
     assert!(called.values().all(|lines| *lines > 2), "{called:?}");
 }
 

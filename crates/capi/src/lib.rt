@@ -25,7 +25,11 @@ ghost use Rattle.sheet_laws.specs.WholeJob.{sheetNumber, sheetText, sheetMemory
 ghost use Rattle.record_sheet.specs.Answers.{answerOf};
 ghost use Rattle.job_record.specs.Reader.{readingOf};
 ghost use Rattle.job_record.specs.Grammar.{ReadsAs};
-ghost use Rattle.writer_laws.specs.Writer.{written, memoryAfter};
+ghost use Rattle.writer_laws.specs.Writer.{written, writtenMemory};
+ghost use Rattle.job_fit.specs.RecordFit.{jobDiscounts, jobStatePrices, memoryAfter};
+ghost use Rattle.job_prices.specs.JobPrices.{bytesNumber, bytesPrices};
+ghost use Rattle.book_laws.specs.Files.{fileBook};
+ghost use Rattle.book_laws.specs.Report.{bookLines, linesAnswer, linesMemory};
 ghost use Rattle.shelf_laws.specs.Shelf.{
   emptySlots,
   partOf,
@@ -47,6 +51,8 @@ ghost use Rattle.pair_laws.specs.PairPrices.{pairBondPrice, pairDatedPrice};
 ghost use Rattle.capi.specs.Version.{version};
 use arithmetic::Answer;
 use bands::Verdict;
+use book_laws::BookText;
+use job_prices::JobPrices;
 use job_record::Job;
 use job_record::Reading;
 use job_sheet::Written;
@@ -68,7 +74,7 @@ use step_rate::Rate;
 pub extern "C" fn mixegorta_version() -> u64
     ensures { λ r. ⌜ r ≡ version ⌝ }
 {
-    13_000
+    14_000
 }
 
 // ---- the shape of a tree
@@ -411,6 +417,24 @@ pub extern "C" fn mixegorta_sheet(job: &[u8], out: &mut [u8]) -> Written
     job_sheet::sheet(job, out)
 }
 
+// The tree of the job stands at the start of both memories where nothing is refused.
+#[no_mangle]
+pub extern "C" fn mixegorta_prices_of_job(
+    job: &[u8],
+    discounts: &mut [u64],
+    state_prices: &mut [u64],
+) -> JobPrices
+    ensures answer { λ r. ⌜ r ≡ bytesPrices (now (job .entry)) (length (now (discounts .entry))) (length (now («state_prices» .entry))) ⌝ }
+    ensures discounted { λ _. ⌜ now (discounts .exit) ≡ memoryAfter
+        (bytesNumber (now (job .entry)) (length (now (discounts .entry))) (length (now («state_prices» .entry))))
+        (jobDiscounts (readingOf (now (job .entry)) .job)) (now (discounts .entry)) ⌝ }
+    ensures priced { λ _. ⌜ now («state_prices» .exit) ≡ memoryAfter
+        (bytesNumber (now (job .entry)) (length (now (discounts .entry))) (length (now («state_prices» .entry))))
+        (jobStatePrices (readingOf (now (job .entry)) .job)) (now («state_prices» .entry)) ⌝ }
+{
+    job_prices::prices_of_job(job, discounts, state_prices)
+}
+
 // ---- a job as a record
 
 #[no_mangle]
@@ -424,9 +448,20 @@ pub extern "C" fn mixegorta_read_job(bytes: &[u8]) -> Reading
 #[no_mangle]
 pub extern "C" fn mixegorta_write_job(job: Job, out: &mut [u8]) -> Answer
     ensures answer { λ r. ⌜ r ≡ written job (length (now (out .entry))) ⌝ }
-    ensures memory { λ _. ⌜ now (out .exit) ≡ memoryAfter job (now (out .entry)) ⌝ }
+    ensures memory { λ _. ⌜ now (out .exit) ≡ writtenMemory job (now (out .entry)) ⌝ }
 {
     job_writer::write(job, out)
+}
+
+// ---- a book of jobs
+
+// The lines stand at the end of `out`, which has at least 2,304 bytes.
+#[no_mangle]
+pub extern "C" fn mixegorta_book_report(file: &[u8], out: &mut [u8]) -> BookText
+    ensures answer { λ r. ⌜ r ≡ linesAnswer (bookLines (fileBook (now (file .entry)))) (length (now (out .entry))) ⌝ }
+    ensures memory { λ _. ⌜ now (out .exit) ≡ linesMemory (bookLines (fileBook (now (file .entry)))) (now (out .entry)) ⌝ }
+{
+    book_report::report(file, out)
 }
 
 // ---- a shelf of trees

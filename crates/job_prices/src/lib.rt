@@ -19,7 +19,8 @@ ghost use Rattle.job_prices.specs.JobPrices.{
 use job_record::Job;
 use price_laws::Price;
 
-// Number 0 with the bond and, where the job has one, the option; a refusal's number with zeros.
+// The prices of a job: number 0 with the bond and, where the job has one, the option; a refusal's number with zeros.
+#[repr(C)]
 pub struct JobPrices {
     pub number: u64,
     pub bond: Price,

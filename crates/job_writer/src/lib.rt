@@ -9,7 +9,7 @@ ghost use Rattle.job_record.specs.Bytes.{mostWidth, numberBytes};
 ghost use Rattle.job_record.specs.Form.{mostJobSteps, mostDates, versionAt, dataAt, afterField, afterFields, optionWidth, restAt, datesAt};
 ghost use Rattle.job_record.specs.Grammar.{field, joined, optionField, versionField, encode, SoundOption, SoundJob};
 ghost use Rattle.writer_laws.specs.Parts.{headFields, quotesFrom, quoteOf, flowOf, kindBytes, listBytes, optionSize};
-ghost use Rattle.writer_laws.specs.Writer.{written, memoryAfter};
+ghost use Rattle.writer_laws.specs.Writer.{written, writtenMemory};
 use arithmetic::Answer;
 use job_record::Job;
 use job_record::OptionRecord;
@@ -217,7 +217,7 @@ fn refusal(cause: u64) -> Answer
 // short. A refusal leaves the memory as it was.
 pub fn write(job: Job, out: &mut [u8]) -> Answer
     ensures answer { λ r. ⌜ r ≡ written job (length (now (out .entry))) ⌝ }
-    ensures memory { λ _. ⌜ now (out .exit) ≡ memoryAfter job (now (out .entry)) ⌝ }
+    ensures memory { λ _. ⌜ now (out .exit) ≡ writtenMemory job (now (out .entry)) ⌝ }
 {
     if !job_soundness::is_sound(job) {
         return refusal(1);

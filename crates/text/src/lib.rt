@@ -23,10 +23,14 @@ ghost use Rattle.text_laws.specs.Lines.{
   withLine,
 };
 ghost use Rattle.text_laws.specs.Put.{Put, placeOf, withText};
+ghost use Rattle.text_laws.specs.WordLines.{wholeLine, pairLine, amountLine, wordNumber, wordAnswer, withWord};
 pub use text_laws::Placed;
 
 // No line is longer.
 const LONGEST_LINE: usize = 128;
+
+// No word that a caller chooses is longer.
+const LONGEST_WORD: usize = 16;
 
 // 6 where a line has no room before a place, or 0.
 fn line_number(size: usize, end: usize) -> u64
@@ -246,5 +250,65 @@ pub fn refused_line(out: &mut [u8], end: usize, number: u64) -> Placed
         };
     }
     let start = put_label(out, end, b"refused ", number, b'\n');
+    Placed { number: 0, start }
+}
+
+// 6 where a word is too long or its line has no room before a place, or 0.
+fn word_number(word: usize, size: usize, end: usize) -> u64
+    ensures { λ r. ⌜ r ≡ wordNumber word size end ⌝ }
+{
+    if LONGEST_WORD < word {
+        return 6;
+    }
+    line_number(size, end)
+}
+
+// A word and a whole number. A word of more than 16 bytes is refused with 6.
+pub fn whole_line(out: &mut [u8], end: usize, word: &[u8], number: u64) -> Placed
+    ensures { λ r. ⌜ r ≡ wordAnswer (now (word .entry)) (now (out .entry)) end (wholeLine (now (word .entry)) number) ⌝ }
+    ensures { λ r. ⌜ now (out .exit) ≡ withWord (now (word .entry)) (now (out .entry)) end (wholeLine (now (word .entry)) number) ⌝ }
+{
+    let cause = word_number(word.len(), out.len(), end);
+    if cause != 0 {
+        return Placed {
+            number: cause,
+            start: 0,
+        };
+    }
+    let start = put_label(out, end, word, number, b'\n');
+    Placed { number: 0, start }
+}
+
+// A word and two whole numbers. A word of more than 16 bytes is refused with 6.
+pub fn pair_line(out: &mut [u8], end: usize, word: &[u8], first: u64, second: u64) -> Placed
+    ensures { λ r. ⌜ r ≡ wordAnswer (now (word .entry)) (now (out .entry)) end (pairLine (now (word .entry)) first second) ⌝ }
+    ensures { λ r. ⌜ now (out .exit) ≡ withWord (now (word .entry)) (now (out .entry)) end (pairLine (now (word .entry)) first second) ⌝ }
+{
+    let cause = word_number(word.len(), out.len(), end);
+    if cause != 0 {
+        return Placed {
+            number: cause,
+            start: 0,
+        };
+    }
+    let second_start = put_field(out, end, second, 0, b'\n');
+    let start = put_label(out, second_start, word, first, b' ');
+    Placed { number: 0, start }
+}
+
+// A word and an amount. A word of more than 16 bytes is refused with 6.
+pub fn amount_line(out: &mut [u8], end: usize, word: &[u8], value: u64) -> Placed
+    ensures { λ r. ⌜ r ≡ wordAnswer (now (word .entry)) (now (out .entry)) end (amountLine (now (word .entry)) value) ⌝ }
+    ensures { λ r. ⌜ now (out .exit) ≡ withWord (now (word .entry)) (now (out .entry)) end (amountLine (now (word .entry)) value) ⌝ }
+{
+    let cause = word_number(word.len(), out.len(), end);
+    if cause != 0 {
+        return Placed {
+            number: cause,
+            start: 0,
+        };
+    }
+    let value_start = put_field(out, end, value, 9, b'\n');
+    let start = put_word(out, value_start, word);
     Placed { number: 0, start }
 }

@@ -3,3 +3,4 @@ pub mod DecimalLaws
 pub mod Signs
 pub mod LineLaws
 pub mod Figures
+pub mod WordLineLaws

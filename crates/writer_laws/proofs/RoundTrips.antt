@@ -20,7 +20,7 @@ use Rattle.job_record.specs.declared.Job.{Job}
 use Rattle.job_record.specs.declared.Reading.{Reading}
 use Rattle.job_record.proofs.ReadLaws.{reads, read-encoded}
 use Rattle.writer_laws.specs.Sound.{isSound}
-use Rattle.writer_laws.specs.Writer.{written, memoryAfter}
+use Rattle.writer_laws.specs.Writer.{written, writtenMemory}
 use Rattle.writer_laws.proofs.BytesLaws.{encode-bytes}
 use Rattle.writer_laws.proofs.SoundTests.{sound-job, job-test}
 use Rattle.writer_laws.proofs.WriteLaws.{written-unsound, written-long, written-beyond, written-whole, memory-written}
@@ -49,7 +49,7 @@ module _ (s : List ℕ) (r : Reading) (h : ReadsAs s r) (accepted : r .number �
   pub written-after-reading : written (r .job) (length out) ≡ answered (length s)
   written-after-reading = encodes-written s (r .job) (h .only accepted) (length out) enough
 
-  pub bytes-after-reading : memoryAfter (r .job) out ≡ place out 0 s
+  pub bytes-after-reading : writtenMemory (r .job) out ≡ place out 0 s
   bytes-after-reading = memory-written (r .job) out (length s) written-after-reading ∙ ap (place out 0) (h .only accepted .fields)
 
 -- the answer of writing, by cases
@@ -116,12 +116,12 @@ module _ (job : Job) (out : List ℕ) (done : written job (length out) .number �
       let none : ⊥ = omega arith in
       absurd none)
 
-  pub bytes-written : take (written job (length out) .value) (memoryAfter job out) ≡ encode job
+  pub bytes-written : take (written job (length out) .value) (writtenMemory job out) ≡ encode job
   bytes-written =
       rw (whole-answer, memory-written job out (length (encode job)) whole-answer)
       (place-front out (encode job) (length (encode job)) refl)
 
-  pub read-after-writing : (r : Reading) → ReadsAs (take (written job (length out) .value) (memoryAfter job out)) r → r ≡ acceptedReading job
+  pub read-after-writing : (r : Reading) → ReadsAs (take (written job (length out) .value) (writtenMemory job out)) r → r ≡ acceptedReading job
   read-after-writing r h =
       let same : ReadsAs (encode job) r = rw bytes-written at h in
       same .reads job (written-encodes job (length out) not-one)

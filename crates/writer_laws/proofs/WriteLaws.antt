@@ -14,7 +14,7 @@ use Rattle.job_record.specs.Form.{mostBytes}
 use Rattle.job_record.specs.Grammar.{encode}
 use Rattle.job_record.specs.declared.Job.{Job}
 use Rattle.writer_laws.specs.Sound.{isSound}
-use Rattle.writer_laws.specs.Writer.{writable, written, memoryAfter}
+use Rattle.writer_laws.specs.Writer.{writable, written, writtenMemory}
 
 module _ (job : Job) (room : ℕ) where
   -- which records are written
@@ -41,21 +41,21 @@ module _ (job : Job) (room : ℕ) where
       written-whole enough = rw (sound, le-leb (length (encode job)) mostBytes short, le-leb (length (encode job)) room enough)
 
 module _ (job : Job) (out : List ℕ) where
-  pub memory-kept : (cause : ℕ) → (cause ≡ 0 → ⊥) → written job (length out) ≡ refused cause → memoryAfter job out ≡ out
-  unfolding memoryAfter
+  pub memory-kept : (cause : ℕ) → (cause ≡ 0 → ⊥) → written job (length out) ≡ refused cause → writtenMemory job out ≡ out
+  unfolding writtenMemory
   memory-kept cause some w = rw (w, ne-eqb cause 0 some)
 
-  pub memory-written : (size : ℕ) → written job (length out) ≡ answered size → memoryAfter job out ≡ place out 0 (encode job)
-  unfolding memoryAfter
+  pub memory-written : (size : ℕ) → written job (length out) ≡ answered size → writtenMemory job out ≡ place out 0 (encode job)
+  unfolding writtenMemory
   memory-written size w = rw w
 
   -- what the code answers and leaves
   pub refused-with :
       (r : Answer) (cause : ℕ) → (cause ≡ 0 → ⊥) → r ≡ refused cause → written job (length out) ≡ refused cause
-      → (r ≡ written job (length out)) × (out ≡ memoryAfter job out)
+      → (r ≡ written job (length out)) × (out ≡ writtenMemory job out)
   refused-with r cause some e w = (e ∙ sym w, sym (memory-kept cause some w))
 
   pub wrote :
       (l : List ℕ) (size : ℕ) → size ≡ length (encode job) → l ≡ place out 0 (encode job)
-      → written job (length out) ≡ answered (length (encode job)) → (answered size ≡ written job (length out)) × (l ≡ memoryAfter job out)
+      → written job (length out) ≡ answered (length (encode job)) → (answered size ≡ written job (length out)) × (l ≡ writtenMemory job out)
   wrote l size same e w = (ap answered same ∙ sym w, e ∙ sym (memory-written (length (encode job)) w))

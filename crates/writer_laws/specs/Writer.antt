@@ -23,5 +23,5 @@ written job room =
     cond (writable job) (cond (leb (length (encode job)) room) (answered (length (encode job))) (refused 6)) (refused 1)
 
 -- the record's bytes at the front of the memory; with a refusal the memory as it was
-unfoldable pub memoryAfter : Job → List ℕ → List ℕ
-memoryAfter job out = cond (eqb (written job (length out) .number) 0) (place out 0 (encode job)) out
+unfoldable pub writtenMemory : Job → List ℕ → List ℕ
+writtenMemory job out = cond (eqb (written job (length out) .number) 0) (place out 0 (encode job)) out

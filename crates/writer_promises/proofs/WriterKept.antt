@@ -19,7 +19,7 @@ use Rattle.job_record.specs.declared.Job.{Job}
 use Rattle.job_record.specs.declared.Reading.{Reading}
 use Rattle.job_record.proofs.Options.{field-kind, field-list, field-none}
 use Rattle.job_record.proofs.ReadLaws.{reads, read-encoded}
-use Rattle.writer_laws.specs.Writer.{written, memoryAfter}
+use Rattle.writer_laws.specs.Writer.{written, writtenMemory}
 use Rattle.writer_laws.proofs.SizeLaws.{version-absent, version-there}
 use Rattle.writer_laws.proofs.WriteLaws.{written-beyond, memory-kept, memory-written}
 use Rattle.writer_laws.proofs.SoundTests.{job-test}
@@ -104,7 +104,7 @@ module _ (job : Job) (out : List ℕ) (done : written job (length out) .number �
   value-is : written job (length out) .value ≡ length (encode job)
   value-is = ap (λ (a : Answer). a .value) (whole-answer job out done)
 
-  bytes-are : memoryAfter job out ≡ encode job ++ drop (length (encode job)) out
+  bytes-are : writtenMemory job out ≡ encode job ++ drop (length (encode job)) out
   bytes-are = memory-written job out (length (encode job)) (whole-answer job out done) ∙ front out (encode job)
 
 module _ (bytes : List ℕ) (b : Bytes bytes) (accepted : readingOf bytes .number ≡ 0) where
@@ -116,7 +116,7 @@ read-from : (job : Job) (room : ℕ) → (written job room .number ≡ 1 → ⊥
 read-from job room other = (some-read-as job room other .1, read-encoded (encode job) job (written-encodes job room other))
 
 same : (job : Job) (out : List ℕ) → written job (length out) .number ≡ 0 →
-    readingOf (take (written job (length out) .value) (memoryAfter job out)) ≡ acceptedReading job
+    readingOf (take (written job (length out) .value) (writtenMemory job out)) ≡ acceptedReading job
 same job out done = ap readingOf (bytes-written job out done) ∙ read-from job (length out) (λ first. omega arith) .1
 
 unread : (job : Job) (room : ℕ) → ((bytes : List ℕ) → Bytes bytes → readingOf bytes ≡ acceptedReading job → ⊥) → written job room ≡ refused 1
@@ -138,12 +138,12 @@ short bytes room b accepted few =
     let long : length (encode (readingOf bytes .job)) ≡ length bytes = ap length (e .fields) in
     written-beyond _ room (job-test _ (e .sound)) (omega (arith, e .short)) (omega arith)
 
-left : (job : Job) (out : List ℕ) → (written job (length out) .number ≡ 0 → ⊥) → memoryAfter job out ≡ out
+left : (job : Job) (out : List ℕ) → (written job (length out) .number ≡ 0 → ⊥) → writtenMemory job out ≡ out
 left job out other = by-answers (answers job (length out))
   where
     by-answers :
         (written job (length out) .number ≡ 0) ⊎ ((written job (length out) ≡ refused 1) ⊎ (written job (length out) ≡ refused 6)) →
-        memoryAfter job out ≡ out
+        writtenMemory job out ≡ out
     by-answers (inl done) = absurd (other done)
     by-answers (inr (inl refusal)) = memory-kept job out 1 (λ absent. omega arith) refusal
     by-answers (inr (inr refusal)) = memory-kept job out 6 (λ absent. omega arith) refusal

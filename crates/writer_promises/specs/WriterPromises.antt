@@ -11,7 +11,7 @@ use Rattle.job_record.specs.Bytes.{Bytes}
 use Rattle.job_record.specs.Reader.{readingOf, acceptedReading}
 use Rattle.job_record.specs.declared.OptionRecord.{OptionRecord}
 use Rattle.job_record.specs.declared.Job.{Job}
-use Rattle.writer_laws.specs.Writer.{written, memoryAfter}
+use Rattle.writer_laws.specs.Writer.{written, writtenMemory}
 
 -- a number in one, two, four and eight bytes, the high byte first
 abbrev pub one : ℕ → List ℕ
@@ -67,16 +67,16 @@ pub record WriterPromises : Type 0 where
   -- what is written is the record in the one form that the reader takes, at the front of the memory; what stood behind it stays
   pub form-written : (job : Job) (out : List ℕ) → written job (length out) .number ≡ 0 →
       (version option : List ℕ) → Version job version → Option (job .option) option →
-      memoryAfter job out ≡ form job version option ++ drop (written job (length out) .value) out
+      writtenMemory job out ≡ form job version option ++ drop (written job (length out) .value) out
   pub counted : (job : Job) (out : List ℕ) → written job (length out) .number ≡ 0 →
       (version option : List ℕ) → Version job version → Option (job .option) option → written job (length out) .value ≡ length (form job version option)
   -- every well-formed job, written after reading, returns its own bytes
   pub returns-bytes : (bytes out : List ℕ) → Bytes bytes → readingOf bytes .number ≡ 0 → length bytes ≤ length out →
       (written (readingOf bytes .job) (length out) ≡ answered (length bytes))
-      × (memoryAfter (readingOf bytes .job) out ≡ bytes ++ drop (length bytes) out)
+      × (writtenMemory (readingOf bytes .job) out ≡ bytes ++ drop (length bytes) out)
   -- every record that is written, and then read, is the same record
   pub same-record : (job : Job) (out : List ℕ) → written job (length out) .number ≡ 0 →
-      readingOf (take (written job (length out) .value) (memoryAfter job out)) ≡ acceptedReading job
+      readingOf (take (written job (length out) .value) (writtenMemory job out)) ≡ acceptedReading job
   -- 1 exactly where no job is read as the record
   pub none-read : (job : Job) (room : ℕ) → written job room .number ≡ 1 → (bytes : List ℕ) → Bytes bytes → readingOf bytes ≡ acceptedReading job → ⊥
   pub none-refused : (job : Job) (room : ℕ) → ((bytes : List ℕ) → Bytes bytes → readingOf bytes ≡ acceptedReading job → ⊥) →
@@ -86,7 +86,7 @@ pub record WriterPromises : Type 0 where
       written (readingOf bytes .job) room ≡ refused 6
   pub numbers : (job : Job) (room : ℕ) → (written job room .number ≡ 0) ⊎ ((written job room ≡ refused 1) ⊎ (written job room ≡ refused 6))
   -- a refusal leaves the memory as it was
-  pub untouched : (job : Job) (out : List ℕ) → (written job (length out) .number ≡ 0 → ⊥) → memoryAfter job out ≡ out
+  pub untouched : (job : Job) (out : List ℕ) → (written job (length out) .number ≡ 0 → ⊥) → writtenMemory job out ≡ out
   -- different jobs are different records: a version by tag and by absence, an option from 08 and from 0A
   pub distinct : (bytes other : List ℕ) → Bytes bytes → Bytes other → readingOf bytes .number ≡ 0 → readingOf other ≡ readingOf bytes → other ≡ bytes
   -- and no job has more than 4,700 bytes

@@ -1,0 +1,6 @@
+pub mod Bounds
+pub mod Books
+pub mod Files
+pub mod Report
+pub mod Totals
+pub mod Reached

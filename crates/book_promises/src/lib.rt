@@ -1,0 +1,1 @@
+// What the report of a book promises, and why it holds: definitions and laws, no code.

@@ -1,0 +1,122 @@
+-- `book_report::file_book` meets its contract: what is left of the file gives the file's book.
+-- Assumes nothing.
+use lib.ListN.{length, drop}
+use mathlib.Core.Path.{_≡_, _∙_}
+use Prim.Native.Nat.{_+_, _≤_}
+use borrow.Author.Needs.{needs}
+use native.Mathlib.Omega.{arith}
+use Rattle.book_laws.specs.Files.{streamed, fileBook}
+use Rattle.book_laws.proofs.FileLaws.{walk-start, walk-step, walk-stop, walk-full, end-room}
+use Rattle.book_report.proofs.file_book.Statement.{statement}
+use Rattle.book_report.proofs.file_book.Tie as tie
+
+abbrev Inv-loop : tie.InvT-loop
+Inv-loop file book₀ at₀ left₀ book at left = (at ≤ length file) × (streamed left book (drop at file) ≡ fileBook file)
+
+abbrev μ-loop : tie.MeasureT-loop
+μ-loop file book₀ at₀ left₀ book at left = left
+
+empty-requires : tie.Need-empty-requires Inv-loop μ-loop
+empty-requires c κs = search needs
+
+loop-holds : tie.Need-loop-holds Inv-loop μ-loop
+loop-holds c = (omega arith, rw (c .empty .ensures) (walk-start (c .before .before .args .file .now)))
+
+field-end-requires : tie.Need-field-end-requires Inv-loop μ-loop
+field-end-requires c κs = search needs
+
+sub-closed : tie.Need-sub-closed Inv-loop μ-loop
+sub-closed c = search needs
+
+closed-requires : tie.Need-closed-requires Inv-loop μ-loop
+closed-requires c κs = search needs
+
+returns : tie.Need-returns Inv-loop μ-loop
+returns c =
+    let at-if1 = c .before in
+    let at-field-end = at-if1 .before in
+    let looped = at-field-end .before .before in
+    let s = looped .before .before .before in
+    let l = looped .loop in
+    c .closed .ensures
+    ∙ walk-stop (s .args .file .now) (l .at) (at-field-end .field-end .result) (at-field-end .field-end .ensures) (l .inv .0) (l .left) (l .book) _
+    (l .inv .1) (at-if1 .if1 .taken)
+
+-- a field that ends past its place lies in the file
+inside : (c : tie.Else1 Inv-loop μ-loop) →
+    (c .before .before .before .loop .at + 3 ≤ c .before .field-end .result)
+    × (c .before .field-end .result ≤ length (c .before .before .before .before .before .before .args .file .now))
+inside c =
+    let at-field-end = c .before in
+    let looped = at-field-end .before .before in
+    let s = looped .before .before .before in
+    let l = looped .loop in
+    end-room (s .args .file .now) (l .at) (at-field-end .field-end .result) (at-field-end .field-end .ensures) (l .inv .0) (c .if1 .left)
+
+add-from : tie.Need-add-from Inv-loop μ-loop
+add-from c = let r = inside (c) in omega arith
+
+sub-with-field : tie.Need-sub-with-field Inv-loop μ-loop
+sub-with-field c = let r = inside (c) in omega arith
+
+part-with-field-start : tie.Need-part-with-field-start Inv-loop μ-loop
+part-with-field-start c = let r = inside (c) in omega arith
+
+part-with-field-end : tie.Need-part-with-field-end Inv-loop μ-loop
+part-with-field-end c = let r = inside (c) in omega arith
+
+with-field-requires : tie.Need-with-field-requires Inv-loop μ-loop
+with-field-requires c κs = search needs
+
+sub-left : tie.Need-sub-left Inv-loop μ-loop
+sub-left c = search needs
+
+loop-less : tie.Need-loop-less Inv-loop μ-loop
+loop-less c = search needs
+
+loop-again : tie.Need-loop-again Inv-loop μ-loop
+loop-again c =
+    let at-if1 = c .before .before in
+    let at-field-end = at-if1 .before in
+    let looped = at-field-end .before .before in
+    let s = looped .before .before .before in
+    let l = looped .loop in
+    let moved = at-if1 .if1 .left in
+    let step = walk-step (s .args .file .now) (l .at) (at-field-end .field-end .result) (at-field-end .field-end .ensures) (l .inv .0) (l .left) (l .book) _
+    (l .inv .1) in
+    (inside at-if1 .1, rw (c .with-field .ensures) (step (omega arith) moved))
+
+sub-closed-2 : tie.Need-sub-closed-2 Inv-loop μ-loop
+sub-closed-2 c = search needs
+
+closed-requires-2 : tie.Need-closed-requires-2 Inv-loop μ-loop
+closed-requires-2 c κs = search needs
+
+returns-2 : tie.Need-returns-2 Inv-loop μ-loop
+returns-2 c =
+    let l = c .before .before .loop in
+    c .closed2 .ensures ∙ walk-full (c .before .before .before .before .before .args .file .now) (l .at) (l .left) (l .book) _ (l .inv .1) (omega arith)
+
+pub file-book-spec : {M : Type 1} → statement M
+file-book-spec =
+    tie.close
+    (tie.spec
+    Inv-loop
+    μ-loop
+    empty-requires
+    loop-holds
+    field-end-requires
+    sub-closed
+    closed-requires
+    returns
+    add-from
+    sub-with-field
+    part-with-field-start
+    part-with-field-end
+    with-field-requires
+    sub-left
+    loop-less
+    loop-again
+    sub-closed-2
+    closed-requires-2
+    returns-2)
