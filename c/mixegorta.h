@@ -1,7 +1,7 @@
 /* Mixegorta for C: a Hull-White trinomial rate tree in whole billionths.
  *
  * Link with what `pkg-config --cflags --libs mixegorta` says, once `tools/install PREFIX` has put the library there, or with the
- * archive itself, target/staticlib/libcapi.a. The archive needs memcpy and memset of the C library and nothing else: no function here
+ * archive itself, target/libmixegorta.a. The archive needs memcpy and memset of the C library and nothing else: no function here
  * allocates, keeps a pointer, calls back, prints or reads global state, so any number of threads may call at once. During a call no
  * other thread may write what the call is handed, nor read what the call may write.
  *
@@ -60,6 +60,9 @@
 #include <stdbool.h>
 #include <stddef.h>
 #include <stdint.h>
+
+/* The words of each refusal: the function mixegorta_cause of C, which is no export. */
+#include "mixegorta_causes.h"
 
 #ifdef __cplusplus
 extern "C" {

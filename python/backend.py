@@ -1,8 +1,8 @@
-"""What `pip install ./python` calls: makes a wheel of the package and of its shared object, which is linked from the proved archive.
+"""What `pip install ./python` calls: makes a wheel of the packages and of the shared object, which is linked from the proved archive.
 
-Needs a C compiler and the archive target/staticlib/libcapi.a, no older than its crates, or the Rattle kit to make it; no package of a
+Needs a C compiler and the archive target/libmixegorta.a, no older than its crates, or the Rattle kit to make it; no package of a
 registry, no network. MIXEGORTA_ARCHIVE_DIR names the folder of an archive to take as it is, if it is of the package's version. Nothing is
-written beside the sources but the archive.
+written beside the sources but the archive. What [project] of pyproject.toml says is said in TEXTS again, since Python reads TOML from 3.11 on only.
 """
 import base64
 import ctypes
@@ -19,12 +19,17 @@ import zipfile
 
 HERE = pathlib.Path(__file__).resolve().parent
 ROOT = HERE.parent
-TAG = "py3-none-linux_x86_64"
+# The least C library that a tag of manylinux can name.
+OLDEST = 2, 5
 TEXTS = {
-    "METADATA": "Metadata-Version: 2.1\nName: mixegorta\nVersion: {}\n"
-                "Summary: A proved Hull-White trinomial rate tree in whole billionths\nRequires-Python: >=3.9\n",
-    "WHEEL": "Wheel-Version: 1.0\nGenerator: mixegorta {}\nRoot-Is-Purelib: false\nTag: " + TAG + "\n",
+    "METADATA": "Metadata-Version: 2.1\nName: mixegorta\nVersion: {version}\n"
+                "Summary: A proved Hull-White trinomial rate tree in whole billionths\nRequires-Python: >=3.9\nLicense: by agreement with the owner, by level\n",
+    "WHEEL": "Wheel-Version: 1.0\nGenerator: mixegorta {version}\nRoot-Is-Purelib: false\nTag: {tag}\n",
+    "entry_points.txt": "[console_scripts]\nmixegorta = mixegorta_command.command:main\n",
 }
+# The files of the two packages, and the modules of the reference that the command reads.
+KINDS = (".py", ".typed", ".html", ".js")
+REFERENCE = ("reference.py", "book.py")
 
 
 def version():
@@ -36,14 +41,14 @@ def archive():
     """The proved archive: the one that is named, else that of the repository, made anew where it is older than a crate."""
     folder = os.environ.get("MIXEGORTA_ARCHIVE_DIR")
     if folder:
-        path = pathlib.Path(folder).resolve() / "libcapi.a"
+        path = pathlib.Path(folder).resolve() / "libmixegorta.a"
         if not path.exists():
             sys.exit(f"mixegorta cannot be built: there is no archive {path}, whose folder MIXEGORTA_ARCHIVE_DIR names.")
         return path
     made = subprocess.run([ROOT / "tools/archive"], stdout=subprocess.PIPE, text=True)
     if made.returncode:
-        sys.exit(f"mixegorta cannot be built: {made.stdout.strip()}; or set MIXEGORTA_ARCHIVE_DIR to the folder of libcapi.a.")
-    return ROOT / "target/staticlib/libcapi.a"
+        sys.exit(f"mixegorta cannot be built: {made.stdout.strip()}; or set MIXEGORTA_ARCHIVE_DIR to the folder of libmixegorta.a.")
+    return ROOT / "target/libmixegorta.a"
 
 
 def check_version(source, linked):
@@ -76,30 +81,64 @@ def shared_object():
         return linked.read_bytes()
 
 
+def tag(content):
+    """The wheel's tag by the newest version of the C library that the shared object names."""
+    named = re.findall(rb"GLIBC_(\d+)\.(\d+)", content)
+    needed = max([OLDEST, *(tuple(map(int, numbers)) for numbers in named)])
+    return f"py3-none-manylinux_{needed[0]}_{needed[1]}_x86_64"
+
+
 def record_line(name, content):
     digest = base64.urlsafe_b64encode(hashlib.sha256(content).digest()).decode().rstrip("=")
     return f"{name},sha256={digest},{len(content)}\n"
 
 
+def described(shared):
+    """The files that describe the package, by their names in its folder."""
+    told = {"version": version(), "tag": tag(shared)}
+    files = {name: text.format(**told).encode() for name, text in TEXTS.items()}
+    return {**files, "licenses/LICENSE": (ROOT / "LICENSE").read_bytes()}
+
+
+def package_files():
+    """The sources of both packages, and the reference beside the command."""
+    for package in ("mixegorta", "mixegorta_command"):
+        for path in sorted((HERE / package).iterdir()):
+            if path.suffix in KINDS:
+                yield f"{package}/{path.name}", path.read_bytes()
+    for path in (ROOT / "reference" / name for name in REFERENCE):
+        if path.exists():
+            yield f"mixegorta_command/reference/{path.name}", path.read_bytes()
+
+
+def shared_files():
+    """The manual page and the completion, below the folder that the package is installed to."""
+    sys.path.insert(0, str(HERE))
+    try:
+        from mixegorta_command import pages
+    finally:
+        sys.path.remove(str(HERE))
+    return {place: text.encode() for place, text in pages.files().items()}
+
+
 def prepare_metadata_for_build_wheel(metadata_directory, config_settings=None):
     """Writes the folder that describes the package; gives its name."""
     folder = pathlib.Path(metadata_directory) / f"mixegorta-{version()}.dist-info"
-    folder.mkdir()
-    for name, text in TEXTS.items():
-        (folder / name).write_text(text.format(version()))
+    for name, content in described(shared_object()).items():
+        (folder / name).parent.mkdir(parents=True, exist_ok=True)
+        (folder / name).write_bytes(content)
     return folder.name
 
 
 def build_wheel(wheel_directory, config_settings=None, metadata_directory=None):
     """Writes the wheel; gives its name."""
-    described = f"mixegorta-{version()}.dist-info/"
-    sources = [path for path in sorted((HERE / "mixegorta").iterdir()) if path.suffix in (".py", ".typed")]
-    files = {"mixegorta/" + path.name: path.read_bytes() for path in sources}
-    files["mixegorta/libmixegorta.so"] = shared_object()
-    files.update((described + name, text.format(version()).encode()) for name, text in TEXTS.items())
-    record = described + "RECORD"
+    shared, folder = shared_object(), f"mixegorta-{version()}"
+    files = {**dict(package_files()), "mixegorta/libmixegorta.so": shared}
+    files.update((f"{folder}.data/data/{place}", content) for place, content in shared_files().items())
+    files.update((f"{folder}.dist-info/{name}", content) for name, content in described(shared).items())
+    record = f"{folder}.dist-info/RECORD"
     files[record] = ("".join(record_line(*file) for file in files.items()) + record + ",,\n").encode()
-    wheel = f"mixegorta-{version()}-{TAG}.whl"
+    wheel = f"{folder}-{tag(shared)}.whl"
     with zipfile.ZipFile(pathlib.Path(wheel_directory) / wheel, "w", zipfile.ZIP_DEFLATED) as out:
         for name, content in files.items():
             entry = zipfile.ZipInfo(name)

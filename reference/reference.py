@@ -511,4 +511,6 @@ def sheet(job):
 
 
 if __name__ == '__main__':
+    if sys.argv[1:]:
+        sys.exit(print(__doc__.strip()))
     sys.stdout.buffer.write(sheet(sys.stdin.buffer.read()))

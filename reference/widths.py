@@ -583,6 +583,9 @@ def content(path):
 
 
 def main(arguments):
+    if arguments not in ([], ['--check']):
+        print(__doc__.strip())
+        return 0 if arguments in (['-h'], ['--help']) else 2
     made = table()
     if arguments == ['--check']:
         found = list(faults(content(HEADER), content(TABLE), made))

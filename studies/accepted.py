@@ -157,6 +157,8 @@ def picture():
 
 
 def main():
+    if sys.argv[1:] not in ([], ['--check']):
+        sys.exit(f'the one argument is --check: see {sys.argv[0]} --help')
     blocks = {f'level {level * 100:g}': level_table(level) for level in LEVELS}
     blocks |= {'next refusals': count_table(), 'width': width_sentence(), 'shorter': shorter_sentence()}
     return common.write_or_compare(common.outputs('ACCEPTED.md', blocks, {'largest-volatility.svg': picture()}))

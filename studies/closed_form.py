@@ -277,6 +277,8 @@ def picture():
 
 
 def main():
+    if sys.argv[1:] not in ([], ['--check']):
+        sys.exit(f'the one argument is --check: see {sys.argv[0]} --help')
     blocks = {'at the money': by_reversion(lambda *case: shown(tree_difference(*case))), 'range': by_reversion(range_text),
               'step alone': by_reversion(lambda *case: shown(step_difference(*case))),
               'adjusted': by_reversion(lambda *case: shown(adjusted_difference(*case))),

@@ -13,6 +13,11 @@ STEP_NAMES = {1: 'yearly', 2: 'half-yearly', 4: 'quarterly', 12: 'monthly'}
 
 
 def library():
+    """The package; the script that asks for it ends here where --help or an unknown argument is given, or where there is no library."""
+    words = sys.argv[1:]
+    if '-h' in words or '--help' in words:
+        print((sys.modules['__main__'].__doc__ or '').strip())
+        sys.exit(0)
     try:
         import mixegorta
     except (ImportError, OSError) as missing:

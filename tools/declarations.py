@@ -12,6 +12,7 @@ import sys
 sys.dont_write_bytecode = True
 import exports
 import tables
+import usage
 import writers
 
 ROOT = exports.ROOT
@@ -41,6 +42,8 @@ def written(functions, records, refusals, limits):
         ROOT / 'rust/src/limits.rs': writers.rust_limits(limits),
         python / '_declarations.py': writers.python_declarations(functions, records),
         python / '_limits.py': writers.python_limits(limits),
+        ROOT / 'python/mixegorta_command/words.py': writers.command_words(refusals),
+        ROOT / 'c/mixegorta_causes.h': writers.c_causes(refusals),
         python / 'refusals.py': regions(python / 'refusals.py', [writers.python_causes(refusals), writers.python_classes(refusals)]),
     }
 
@@ -166,8 +169,7 @@ def differences(functions, records, refusals, limits):
 
 
 def main(arguments):
-    if arguments not in ([], ['--check']):
-        sys.exit(__doc__)
+    usage.answer(__doc__, arguments, ('--check',))
     try:
         functions, records = exports.exported()
         refusals, limits = tables.refusals(), tables.limits()

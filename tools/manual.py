@@ -12,6 +12,9 @@ import re
 import subprocess
 import sys
 
+sys.dont_write_bytecode = True
+import usage
+
 ROOT = pathlib.Path(__file__).resolve().parent.parent
 FOLDER = ROOT / "target/examples/manual"
 CARGO = '[package]\nname = "manual"\nversion = "0.1.0"\nedition = "2021"\n[dependencies]\nmixegorta = { path = "%s" }\n[workspace]\n'
@@ -37,7 +40,7 @@ def run_c(code):
     source, program = FOLDER / "example.c", FOLDER / "example"
     source.write_text(code)
     subprocess.run([os.environ.get("CC", "cc"), "-std=c11", "-Wall", "-Wextra", "-Wpedantic", "-Werror", "-I", ROOT / "c", "-o", program, source,
-                    ROOT / "target/staticlib/libcapi.a"], check=True)
+                    ROOT / "target/libmixegorta.a"], check=True)
     return printed_by(program)
 
 
@@ -49,10 +52,10 @@ def run_rust(code):
 
 
 def main():
+    usage.answer(__doc__, sys.argv[1:], ("--installed",))
     installed = sys.argv[1:] == ["--installed"]
     FOLDER.mkdir(parents=True, exist_ok=True)
     sys.path[:0] = [str(ROOT / "reference")] if installed else [str(ROOT / "python"), str(ROOT / "reference")]
-    sys.dont_write_bytecode = True
     names, ran, same = {}, 0, True
     run = {"python": lambda code: run_python(code, names)}
     if not installed:

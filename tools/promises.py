@@ -12,6 +12,9 @@ import pathlib
 import re
 import sys
 
+sys.dont_write_bytecode = True
+import usage
+
 ROOT = pathlib.Path(__file__).resolve().parent.parent
 TOKEN = re.compile(r'`([^`]+)`')
 FUNCTION = re.compile(r'^\s*pub (?:extern "C" )?fn (\w+)', re.M)
@@ -170,6 +173,7 @@ def logs(root):
 
 
 def main():
+    usage.answer(__doc__, sys.argv[1:])
     tree, text = Tree(ROOT), (ROOT / 'docs/PROMISES.md').read_text(encoding='utf-8')
     faults = faults_of_text(text, tree) + faults_of_fields(text, ROOT)
     read = dict(logs(ROOT))

@@ -1,5 +1,5 @@
 #!/usr/bin/env python3
-"""Measures how much stack the programs and the library take, and holds the figures of README.md, docs/MANUAL.md and tools/programs.py against it.
+"""Measures how much stack the programs and the library take, and holds the figures of docs/MANUAL.md and of the command mixegorta against it.
 
     tools/stack.py [MEASURED]    each program of target/bin/ that has a file stdout in its crate, and what the program MEASURED, c/stack.c compiled, prints
 
@@ -12,9 +12,12 @@ import re
 import subprocess
 import sys
 
+sys.dont_write_bytecode = True
+import usage
+
 ROOT = pathlib.Path(__file__).resolve().parent.parent
 BINARIES = ROOT / 'target/bin'
-PLACES = ('README.md', 'docs/MANUAL.md', 'tools/programs.py')
+PLACES = ('docs/MANUAL.md', 'python/mixegorta_command/engine.py')
 STATED = re.compile(r'([0-9][0-9,]*) KiB of stack are enough')
 CALL = re.compile(r'([0-9][0-9,]*) KiB for a (fit|price|strip|commit|pair|job|report|sheet|reading|writing)')
 STEP, MOST, RUNS, RESERVE = 4, 8_192, 5, 64
@@ -87,6 +90,7 @@ def faults_of_calls(measured, manual):
 
 
 def main(arguments):
+    usage.answer(__doc__, arguments, most=1)
     texts = {place: (ROOT / place).read_text(encoding='utf-8') for place in PLACES}
     measured = {name: least(program, given, expected) for name, program, given, expected in programs()}
     for name, size in measured.items():

@@ -1,5 +1,5 @@
 #!/usr/bin/env python3
-"""Tests of tools/promises.py, tools/trials, tools/stack.py and reference/widths.py: what is wrong is found, and what is right is let through.
+"""Tests of tools/promises.py, tools/documents.py, tools/trials, tools/stack.py and reference/widths.py: what is wrong is found, and what is right is let through.
 
     python3 tools/test_checks.py
 """
@@ -13,8 +13,9 @@ import tempfile
 import unittest
 
 ROOT = pathlib.Path(__file__).resolve().parent.parent
-sys.path.insert(0, str(ROOT / 'reference'))
+sys.path[:0] = [str(ROOT / 'reference'), str(ROOT / 'tools')]
 sys.dont_write_bytecode = True
+import documents
 import promises
 import stack
 import widths
@@ -219,8 +220,38 @@ class Trials(unittest.TestCase):
                 self.assertEqual((fits.returncode, fits.stderr), (0, ''))
 
 
+class Documents(unittest.TestCase):
+    """A tree of one crate and its documents, right and then wrong in one place after the other."""
+
+    FILES = {'crates/promises/specs/Promises.antt': 'pub record Promises where\n', 'crates/promises/src/lib.rt': '', 'tools/check': '', 'docs/TRUST.md': '# Trust\n\nRun `tools/check`: [reading](READING.md#the-end).\n',
+             'docs/READING.md': '# Reading\n\n`promises/specs/Promises` has `Promises`.\n\n## The end\n'}
+
+    def faults(self, **changed):
+        with tempfile.TemporaryDirectory() as folder:
+            root = pathlib.Path(folder)
+            for name, text in {**self.FILES, **{f'docs/{name}.md': text for name, text in changed.items()}}.items():
+                (root / name).parent.mkdir(parents=True, exist_ok=True)
+                (root / name).write_text(text)
+            names = [fault for name in documents.HELD for fault in (*documents.faults_of_names(name, root), *documents.faults_of_links(name, root))]
+            return names + list(documents.faults_of_reading(root))
+
+    def test_right(self):
+        self.assertEqual(self.faults(), [])
+
+    def test_wrong(self):
+        for changed, words in (({'TRUST': 'Run `tools/none`.'}, 'there is no tools/none'), ({'TRUST': 'See [it](NONE.md).'}, 'there is no NONE.md'),
+                               ({'TRUST': 'See [it](READING.md#the-start).'}, 'READING.md has no heading the-start'), ({'TRUST': '`crates/*/none/`'}, 'nothing is called'),
+                               ({'READING': self.FILES['docs/READING.md'].replace('has `Promises`', 'has `Others`')}, 'Others is nowhere'),
+                               ({'READING': self.FILES['docs/READING.md'].replace('specs/Promises', 'specs/Lib')}, 'there is no promises/specs/Lib')):
+            faults = self.faults(**changed)
+            self.assertTrue(any(words in fault for fault in faults), (words, faults))
+
+    def test_a_definition_that_reading_leaves_out(self):
+        self.assertIn('docs/READING.md does not name promises/specs/Promises', self.faults(READING='# Reading\n\n## The end\n'))
+
+
 class Stack(unittest.TestCase):
-    TEXTS = {'README.md': 'x 768 KiB of stack are enough', 'tools/programs.py': '768 KiB of stack are enough, so'}
+    TEXTS = {'docs/MANUAL.md': 'x 768 KiB of stack are enough', 'engine.py': '768 KiB of stack are enough, so'}
 
     def test_programs(self):
         self.assertEqual(stack.faults_of_programs({'sheet': 704, 'exhibits': 20}, self.TEXTS), [])
@@ -230,7 +261,7 @@ class Stack(unittest.TestCase):
 
     def test_places_that_differ(self):
         for text in ('1,024 KiB of stack are enough', 'some 700 KB of stack'):
-            self.assertEqual(len(stack.faults_of_programs({'sheet': 20}, {**self.TEXTS, 'README.md': text})), 1)
+            self.assertEqual(len(stack.faults_of_programs({'sheet': 20}, {**self.TEXTS, 'docs/MANUAL.md': text})), 1)
 
     def test_calls(self):
         manual = ('no more than 8 KiB for a fit, 16 KiB for a price, 24 KiB for a strip, 48 KiB for a commit, 40 KiB for a pair and 1,192 KiB for a sheet, '

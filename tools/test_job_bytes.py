@@ -12,9 +12,11 @@ import unittest
 
 sys.dont_write_bytecode = True
 ROOT = pathlib.Path(__file__).resolve().parent.parent
-sys.path.insert(0, str(ROOT / 'python'))
-import mixegorta as m
-import texts
+sys.path[:0] = [str(ROOT / 'python'), str(ROOT / 'tools')]
+import usage
+from mixegorta_command import texts
+
+m = usage.library(__doc__)
 
 EXAMPLES = sorted((ROOT / 'examples').glob('*.txt'))
 HEAD = 'frequency 3\nreversion 65535\nvolatility 4294967295\n'

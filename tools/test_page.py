@@ -185,7 +185,7 @@ class Pages(unittest.TestCase):
 
 
 if __name__ == '__main__':
-    if not browser.installed():
+    if not browser.installed() and not {'-h', '--help'} & set(sys.argv):
         print('not tested: no browser is installed; `apt-get install chromium`, or name one by MIXEGORTA_BROWSER')
         sys.exit(2)
     unittest.main()

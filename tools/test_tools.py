@@ -16,7 +16,7 @@ import unittest
 import xml.etree.ElementTree as ElementTree
 
 ROOT = pathlib.Path(__file__).resolve().parent.parent
-sys.path.insert(0, str(ROOT / 'reference'))
+sys.path[:0] = [str(ROOT / 'reference'), str(ROOT / 'tools')]
 sys.dont_write_bytecode = True
 import book
 import records
@@ -267,8 +267,9 @@ class Pricing(Tool):
         super().setUp()
         self.reference = self.program(f'exec "{sys.executable}" -B "{ROOT}/reference/reference.py"')
 
-    def price(self, *arguments, **more):
-        return self.run_tool(*arguments, **more)
+    def price(self, *arguments, tree=True, **more):
+        """tools/price, with the whole sheet shown unless it is told otherwise."""
+        return self.run_tool(*arguments, *(['--tree'] if tree else []), **more)
 
     def test_texts_and_jobs_show_their_sheets(self):
         for path in EXAMPLES:
@@ -316,8 +317,8 @@ class Pricing(Tool):
         for file, word in (('no-such-file', 'No such file'), (self.folder, 'Is a directory'), (self.file('flow x'), ':1: flow is a decimal'),
                            (self.file(b'\xff\xfeq\0'), 'not a text in UTF-8'), (self.file('\xe9'.encode('latin-1')), 'not a text in UTF-8')):
             self.check_sentence(self.price(file, program=self.reference), str(file), word)
-        self.check_sentence(self.price(), 'tools/price FILE')
-        self.check_sentence(self.price('a', 'b'), 'tools/price FILE')
+        self.check_sentence(self.price('a', 'b'), 'unrecognized arguments: b', 'tools/price --help')
+        self.check_sentence(self.price('--no-such-option'), 'tools/price --help')
         self.assertIn(b'20 more lines are wrong', self.price(self.file('x\n' * 40), program=self.reference).stderr)
 
     def test_a_zero_byte_makes_no_job_of_a_text(self):
@@ -333,15 +334,19 @@ class Pricing(Tool):
         self.assertEqual(run('job', '', '').stderr, b"'': No such file or directory\n")
 
     def test_a_program_that_is_missing(self):
-        shutil.copytree(ROOT / 'tools', self.folder / 'clone/tools')
+        for name in ('tools', 'python'):
+            shutil.copytree(ROOT / name, self.folder / 'clone' / name)
+        (self.folder / 'clone/crates.txt').write_text('sheet:\n')
         file, tools = ROOT / 'examples/one-step.txt', self.folder / 'clone/tools'
         commands = self.folder / 'commands'
         commands.mkdir()
         for name in ('python3', 'dirname', 'readlink'):
             (commands / name).symlink_to(sys.executable if name == 'python3' else shutil.which(name))
         self.check_sentence(self.price(file, tools=tools, path=commands), 'no Rattle kit', 'tools/job FILE | python3 reference/reference.py')
-        self.program('').rename(commands / 'rt')
-        self.check_sentence(self.price(file, tools=tools, path=commands), 'run `rt check sheet`')
+        self.program('echo no; exit 1').rename(commands / 'rt')
+        failed = self.price(file, tools=tools, path=commands)
+        self.assertEqual((failed.returncode, failed.stdout), (2, b''))
+        self.assertIn(b'there is no target/bin/sheet, and `rt check sheet` failed: target/sheet.log says why', failed.stderr)
         self.check_sentence(self.price(file, program='no-such-program'), 'no-such-program', 'MIXEGORTA_SHEET')
         self.check_sentence(self.price(file, program=self.file('no program')), 'does not run here', 'rt check sheet')
         self.check_sentence(self.price(file, path=self.folder / 'nothing'), 'needs python3')
@@ -383,6 +388,11 @@ class Books(Tool):
         self.assertIn(b'priced 0\nrefused 1 1\n', made.stdout)
         self.assertIn(b'refused 11 1\n', made.stdout)
 
+    def test_a_book_by_standard_input(self):
+        with open(ROOT / 'examples/desk.book', 'rb') as desk:
+            made = self.run_tool(program=self.reference, stdin=desk)
+        self.assertEqual((made.stdout, made.returncode), ((ROOT / 'examples/desk.report').read_bytes(), 0))
+
     def test_five_hundred(self):
         job = self.file(DOCUMENT_JOB[:-9])
         for count, one in ((500, 0), (501, 1)):
@@ -392,7 +402,7 @@ class Books(Tool):
     def test_what_cannot_be_framed(self):
         long = self.file(DOCUMENT_JOB + bytes(65_536))
         for files, words in ((['no-such-file'], ('no-such-file', 'No such file')), ([EXAMPLES[0], self.folder], ('Is a directory',)), ([long], ('65,583 bytes', '65,535')),
-                             ([self.file('flow x')], (':1: flow is a decimal',)), ([], ('tools/book [--frame] FILE..',)), (['--frame'], ('FILE..',)), (['--other'], ('FILE..',))):
+                             ([self.file('flow x')], (':1: flow is a decimal',)), (['--other'], ('--other', 'tools/book --help'))):
             self.check_sentence(self.run_tool(*files, program=self.reference), *words)
 
     def test_lost_output(self):
@@ -404,14 +414,18 @@ class Books(Tool):
             self.check_sentence(self.run_tool(EXAMPLES[0], program=self.reference, stdout=full), 'output is lost', 'No space')
 
     def test_a_program_that_is_missing(self):
-        shutil.copytree(ROOT / 'tools', self.folder / 'clone/tools')
+        for name in ('tools', 'python'):
+            shutil.copytree(ROOT / name, self.folder / 'clone' / name)
+        (self.folder / 'clone/crates.txt').write_text('book:\n')
         tools, commands = self.folder / 'clone/tools', self.folder / 'commands'
         commands.mkdir()
         for name in ('python3', 'dirname', 'readlink'):
             (commands / name).symlink_to(sys.executable if name == 'python3' else shutil.which(name))
         self.check_sentence(self.run_tool(EXAMPLES[0], tools=tools, path=commands), 'no Rattle kit', 'tools/book --frame FILE.. | python3 reference/book.py')
-        self.program('').rename(commands / 'rt')
-        self.check_sentence(self.run_tool(EXAMPLES[0], tools=tools, path=commands), 'run `rt check book`')
+        self.program('echo no; exit 1').rename(commands / 'rt')
+        failed = self.run_tool(EXAMPLES[0], tools=tools, path=commands)
+        self.assertEqual((failed.returncode, failed.stdout), (2, b''))
+        self.assertIn(b'there is no target/bin/book, and `rt check book` failed: target/book.log says why', failed.stderr)
         self.check_sentence(self.run_tool(EXAMPLES[0], program='no-such-program'), 'no-such-program', 'MIXEGORTA_BOOK')
         self.check_sentence(self.run_tool(EXAMPLES[0], path=self.folder / 'nothing'), 'needs python3')
 

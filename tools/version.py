@@ -7,6 +7,9 @@ import pathlib
 import re
 import sys
 
+sys.dont_write_bytecode = True
+import usage
+
 ROOT = pathlib.Path(__file__).resolve().parent.parent
 PYTHON_VERSION = r'^__version__\s*(?::\s*\w+\s*)?=\s*["\']([^"\']+)["\']'
 SETTING_VERSION = r'^version\s*=\s*["\']?(\d[^"\'\s]*)'
@@ -55,6 +58,7 @@ def lacking_entries(version):
 
 
 def main():
+    usage.answer(__doc__, sys.argv[1:])
     groups = {'the header': header_versions(), 'crates/capi': crate_versions(), 'rust/': rust_versions(), 'python/': python_versions(),
               'CHANGELOG.md': found(ROOT / 'CHANGELOG.md', r'\A[^#]*# .*\n[^#]*## (\S+):')}
     silent = [name for name, pairs in groups.items() if not pairs]

@@ -186,3 +186,27 @@ def python_classes(refusals):
                   '', '']
     pairs = [f'{refusal.number}: {refusal.exception}' for refusal in refusals]
     return [*lines, *python_wrapped('CLASSES: Dict[int, Type[Refused]] = {', pairs, '}')]
+
+
+def command_words(refusals):
+    lines = [f'"""What each refusal says and what to do about it. {SOURCE} from tools/refusals.txt."""', '', 'REFUSALS = {']
+    for refusal in refusals:
+        lines += [f'    {refusal.number}: (', f'        {refusal.cause!r},', f'        {refusal.remedy!r},', '    ),']
+    return '\n'.join([*lines, '}', ''])
+
+
+# ---- C, what the header includes
+
+def c_text(words):
+    return '"' + words.replace('\\', '\\\\').replace('"', '\\"') + '"'
+
+
+def c_causes(refusals):
+    """A header with the words of each refusal. It is no export: the library holds proved functions alone."""
+    lines = [f'/* What each refusal says. {SOURCE} from tools/refusals.txt; mixegorta.h includes it. */', '#ifndef MIXEGORTA_CAUSES_H', '#define MIXEGORTA_CAUSES_H', '',
+             '#include <stdint.h>', '', '/* The cause that a refusal names, without a full stop: a text that lasts as long as the program. 0 is no refusal, and any',
+             '   other number is none of this version. */', f'static inline const char *{PREFIX}cause(uint64_t number) {{', '    switch (number) {',
+             '    case 0:', '        return "not refused";']
+    for refusal in refusals:
+        lines += [f'    case {refusal.number}:', f'        return {c_text(refusal.cause)};']
+    return '\n'.join([*lines, '    default:', '        return "not a refusal of this version";', '    }', '}', '', '#endif', ''])

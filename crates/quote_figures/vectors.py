@@ -1,81 +1,55 @@
 #!/usr/bin/env python3
-"""The outside vectors of this crate, worked out in exact fractions from documents 01 and 02 alone.
+"""The outside vectors of this crate, worked out by the rules of reference/, in whole numbers and exact fractions.
 
     vectors.py tables    the tables of src/main.rt
     vectors.py stdout    what the program must write
 """
-import math, random, struct, sys
-from fractions import Fraction
+import math
+import os
+import random
+import sys
 
-ONE = 10**9
+sys.dont_write_bytecode = True
+sys.path.insert(0, os.path.join(os.path.dirname(os.path.abspath(__file__)), "..", "..", "reference"))
+import reference as rules
+
+ONE, pattern = rules.ONE, rules.pattern_of
 random.seed(1990)
 
 
-def pattern(x):
-    return struct.unpack(">Q", struct.pack(">d", x))[0]
-
-
-def nearest(x):
-    """to the nearest whole number, halves away from zero"""
-    size = math.floor(abs(x) + Fraction(1, 2))
-    return -size if x < 0 else size
+def answer(rule, *given):
+    """(number, value) of a rule that gives a value or refuses"""
+    try:
+        return 0, rule(*given)
+    except rules.Refused as refusal:
+        return refusal.number, 0
 
 
 def figure(bits):
-    """(number, value) of a float by its bits"""
-    x = struct.unpack(">d", struct.pack(">Q", bits))[0]
-    if math.isnan(x) or math.isinf(x) or abs(Fraction(x)) > 10:
-        return 7, 0
-    return 0, nearest(Fraction(x) * ONE)
+    return answer(rules.whole_billionths, bits)
 
 
-def continuous(y):
-    """P of y before any range test"""
-    q, term, root = abs(y) // 4, ONE, ONE
-    for k in range(1, 13):
-        term = math.floor(Fraction(term * q, k * ONE))
-        root += -term if y >= 0 and k % 2 == 1 else term
-    return (root * root // ONE) ** 2 // ONE
+def point(frequency, kind, row, bits):
+    rules.refuse_if(frequency not in (1, 2, 4, 12), 2)
+    rules.refuse_if(not 1 <= row <= 60, 6)
+    return rules.quote(frequency, row, kind, bits)
 
 
 def discount(frequency, kind, row, bits):
-    """(number, value) of a lone point"""
-    if frequency not in (1, 2, 4, 12):
-        return 2, 0
-    if not 1 <= row <= 60:
-        return 6, 0
-    number, r = figure(bits)
-    if number or kind not in (5, 6, 9):
-        return 7, 0
-    if kind == 5:
-        p = r
-    elif kind == 9:
-        y = math.floor(Fraction(r * row, frequency))
-        if not -4 * ONE <= y <= 4 * ONE:
-            return 7, 0
-        p = continuous(y)
-    else:
-        divisor = frequency * ONE + row * r
-        if divisor <= 0:
-            return 7, 0
-        p = math.floor(Fraction(ONE * ONE * frequency, divisor))
-    return (0, p) if 100_000_000 <= p <= 2_000_000_000 else (7, 0)
+    return answer(point, frequency, kind, row, bits)
+
+
+def step_rate(v):
+    rules.refuse_if(not 1 <= v <= rules.DISCOUNT_LIMIT, 9)
+    return rules.step_rate(v)
 
 
 def rate(v):
-    """(number, value) of a step rate"""
-    if not 1 <= v <= 1_100_000_000:
-        return 9, 0
-    return 0, nearest(Fraction((ONE - v) * ONE, v))
+    return answer(step_rate, v)
 
 
 def continuous_rate(v):
-    """(number, value) of a continuous rate, among all y of 3,000 quotients to either side of the logarithm"""
-    if not 1 <= v <= 1_100_000_000:
-        return 9, 0
-    about = min(round(-math.log(v / ONE) * ONE / 4), ONE)
-    near = (4 * k for k in range(max(about - 3_000, -ONE), min(about + 3_000, ONE) + 1))
-    return 0, min(near, key=lambda y: (abs(continuous(y) - v), abs(y), y))
+    return answer(rules.continuous_rate, v)
 
 
 def curve(frequency, steps, last_row, kind, bits, kind_count, room):

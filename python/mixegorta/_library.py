@@ -1,20 +1,39 @@
 """The proved shared object, and calls of it with or without the interpreter's lock."""
 import ctypes
 import os
-from typing import Any, Dict, List, Optional, Tuple
+from typing import Any, Dict, List, Optional, Set, Tuple
 
 from . import __version__
 from ._declarations import DECLARATIONS
 from ._types import SIZE, U64, PointerTo, SliceOf
 
 
-def _newer(folder: str, than: float) -> Optional[str]:
-    """A file below the folder that was changed after a time; wrong edits of a crate are not part of the library."""
-    for place, folders, files in os.walk(folder):
-        folders[:] = [name for name in folders if name != "must-fail"]
-        for path in (os.path.join(place, name) for name in files):
-            if os.path.getmtime(path) > than:
-                return path
+def _crates(root: str) -> Set[str]:
+    """The crates that the library is made from, as crates.txt tells what each needs."""
+    below: Dict[str, List[str]] = {}
+    with open(os.path.join(root, "crates.txt"), encoding="utf-8") as file:
+        for line in file:
+            name, colon, needed = line.partition(":")
+            if colon:
+                below[name] = needed.split()
+    found: Set[str] = set()
+    left = ["capi"]
+    while left:
+        crate = left.pop()
+        if crate not in found:
+            found.add(crate)
+            left += below.get(crate, [])
+    return found
+
+
+def _newer(root: str, than: float) -> Optional[str]:
+    """A file of these crates that was changed after a time; wrong edits of a crate are not part of the library."""
+    for crate in sorted(_crates(root)):
+        for place, folders, files in os.walk(os.path.join(root, "crates", crate)):
+            folders[:] = [name for name in folders if name != "must-fail"]
+            for path in (os.path.join(place, name) for name in files):
+                if os.path.getmtime(path) > than:
+                    return path
     return None
 
 
@@ -31,7 +50,7 @@ def _path() -> Tuple[str, str]:
     path = os.path.join(root, "target", "libmixegorta.so")
     if not os.path.exists(path):
         raise ImportError("mixegorta finds no libmixegorta.so: run tools/library, or pip install ./python, or set MIXEGORTA_LIBRARY to its path")
-    newer = _newer(os.path.join(root, "crates"), os.path.getmtime(path))
+    newer = _newer(root, os.path.getmtime(path))
     if newer:
         raise ImportError(f"{path} is older than {newer}: run tools/library, or set MIXEGORTA_LIBRARY to take a library as it is")
     return path, "run tools/library"

@@ -29,8 +29,8 @@ def backend():
 
 def commands(folder):
     """A path with what tools/archive runs, and without the kit."""
-    for name in ("bash", "env", "dirname", "find", "mkdir"):
-        os.symlink(shutil.which(name), os.path.join(folder, name))
+    for name in ("sh", "dirname", "readlink", "python3"):
+        os.symlink(sys.executable if name == "python3" else shutil.which(name), os.path.join(folder, name))
     return folder
 
 
@@ -82,8 +82,20 @@ class Test(unittest.TestCase):
         if not os.path.samefile(os.path.dirname(m.__file__), os.path.join(PYTHON, "mixegorta")):
             self.assertEqual(importlib.metadata.version("mixegorta"), m.__version__)
 
+    @unittest.skipUnless(sys.version_info >= (3, 11), "this python3 reads no TOML")
+    def test_the_project_is_what_the_wheel_says(self):
+        import tomllib
+        project = tomllib.loads(pathlib.Path(PYTHON, "pyproject.toml").read_text())["project"]
+        with backend() as (module, folder):
+            described = {name: content.decode() for name, content in module.described(b"GLIBC_2.2.5 GLIBC_2.14 GLIBC_2.4").items()}
+        for line in (f"Name: {project['name']}", f"Summary: {project['description']}", f"Requires-Python: {project['requires-python']}",
+                     f"License: {project['license']['text']}", f"Version: {m.__version__}"):
+            self.assertIn(f"{line}\n", described["METADATA"])
+        self.assertEqual(described["entry_points.txt"], "[console_scripts]\n" + "".join(f"{name} = {place}\n" for name, place in project["scripts"].items()))
+        self.assertIn("Tag: py3-none-manylinux_2_14_x86_64\n", described["WHEEL"])
+
     def test_a_build_without_archive_kit_or_compiler_says_so(self):
-        for change, words in (({"MIXEGORTA_ARCHIVE_DIR": "/nowhere"}, "there is no archive /nowhere/libcapi.a"),
+        for change, words in (({"MIXEGORTA_ARCHIVE_DIR": "/nowhere"}, "there is no archive /nowhere/libmixegorta.a"),
                               ({"CC": "no-compiler"}, "there is no C compiler no-compiler")):
             with backend() as (module, folder), mock.patch.dict(os.environ, change):
                 with self.assertRaisesRegex(SystemExit, "^mixegorta cannot be built: " + words + "[^\n]*$"):
@@ -92,14 +104,15 @@ class Test(unittest.TestCase):
     def test_an_archive_that_is_missing_or_older_than_a_crate_is_not_taken(self):
         with backend() as (module, folder), mock.patch.dict(os.environ, PATH=commands(folder)):
             root = pathlib.Path(folder) / "root"
-            for place in ("tools", "crates/capi/must-fail", "target/staticlib"):
+            for place in ("tools", "crates/capi/must-fail", "target"):
                 (root / place).mkdir(parents=True)
-            (root / "crates.txt").write_text("")
-            shutil.copy(module.ROOT / "tools/archive", root / "tools")
-            archive = root / "target/staticlib/libcapi.a"
+            (root / "crates.txt").write_text("capi:\n")
+            for name in ("archive", "building.py"):
+                shutil.copy(module.ROOT / "tools" / name, root / "tools")
+            archive = root / "target/libmixegorta.a"
             with mock.patch.object(module, "ROOT", root), mock.patch.dict(os.environ):
                 os.environ.pop("MIXEGORTA_ARCHIVE_DIR", None)
-                with self.assertRaisesRegex(SystemExit, "^mixegorta cannot be built: there is no archive [^\n]*$"):
+                with self.assertRaisesRegex(SystemExit, "^mixegorta cannot be built: there is no target/libmixegorta.a: [^\n]*$"):
                     module.archive()
                 archive.write_text("")
                 os.utime(archive, (time.time() + 10,) * 2)
@@ -110,16 +123,16 @@ class Test(unittest.TestCase):
                     os.utime(path, (time.time() + 20,) * 2)
                     if not stale:
                         self.assertEqual(module.archive(), archive)
-                with self.assertRaisesRegex(SystemExit, "^mixegorta cannot be built: the archive [^\n]* is older than crates/capi/lib.rt: [^\n]*$"):
+                with self.assertRaisesRegex(SystemExit, "^mixegorta cannot be built: target/libmixegorta.a is older than crates/capi/lib.rt: [^\n]*$"):
                     module.archive()
 
     def test_a_build_from_an_archive_of_another_version_says_so(self):
         with tempfile.TemporaryDirectory() as place:
             for code, words in (("", "tells no version"), ("unsigned long mixegorta_version(void) { return 2003004; }", "is of version 2.3.4")):
                 compiled("int other;" + code, "-c", os.path.join(place, "other.o"))
-                subprocess.run(["ar", "rc", os.path.join(place, "libcapi.a"), os.path.join(place, "other.o")], check=True)
+                subprocess.run(["ar", "rc", os.path.join(place, "libmixegorta.a"), os.path.join(place, "other.o")], check=True)
                 with backend() as (module, folder), mock.patch.dict(os.environ, MIXEGORTA_ARCHIVE_DIR=place):
-                    with self.assertRaisesRegex(SystemExit, f"^mixegorta cannot be built: [^\n]*libcapi.a {words}, [^\n]*$"):
+                    with self.assertRaisesRegex(SystemExit, f"^mixegorta cannot be built: [^\n]*libmixegorta.a {words}, [^\n]*$"):
                         module.build_wheel(folder)
 
     def test_an_import_of_another_library_says_so(self):
@@ -138,9 +151,15 @@ class Test(unittest.TestCase):
             for place in ("python", "target", "crates/capi"):
                 os.makedirs(os.path.join(folder, place))
             shutil.copytree(os.path.dirname(m.__file__), os.path.join(folder, "python/mixegorta"), ignore=shutil.ignore_patterns("*.so"))
-            library, source = os.path.join(folder, "target/libmixegorta.so"), os.path.join(folder, "crates/capi/lib.rt")
+            pathlib.Path(folder, "crates.txt").write_text("below:\ncapi: below\nother: below\n")
+            for name in ("below", "other"):
+                os.makedirs(os.path.join(folder, "crates", name))
+            library, source = os.path.join(folder, "target/libmixegorta.so"), os.path.join(folder, "crates/below/lib.rt")
             shutil.copy(m._library.PATH, library)
             pathlib.Path(source).write_text("")
+            other = pathlib.Path(folder, "crates/other/lib.rt")
+            other.write_text("")
+            os.utime(other, (os.path.getmtime(library) + 10,) * 2)
             for age, words in ((-10, ""), (10, f"ImportError: {library} is older than {source}: run tools/library, or set MIXEGORTA_LIBRARY")):
                 os.utime(source, (os.path.getmtime(library) + age,) * 2)
                 done = subprocess.run([sys.executable, "-B", "-c", "import mixegorta"], cwd=os.path.join(folder, "python"), env={}, stderr=subprocess.PIPE,

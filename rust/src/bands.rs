@@ -79,7 +79,8 @@ fn judged<T>(verdict: raw::Verdict, value: T) -> Result<T, BandRefusal> {
 /// A table of bands. It is accepted where it has at most 40 good bands and each row 1 to 60 with each price 0 to 8,000,000,000 is in
 /// precisely one of them.
 ///
-/// ```
+#[cfg_attr(without_library, doc = "```ignore")]
+#[cfg_attr(not(without_library), doc = "```")]
 /// use mixegorta::{Band, Bands, Refusal, Shown, MAX_VALUE, ONE};
 ///
 /// let short = Band { first_row: 1, last_row: 20, lowest_price: 0, highest_price: MAX_VALUE, haircut: 250 };

@@ -78,7 +78,8 @@ impl From<DatedTerms<'_>> for JobOption {
 ///
 /// A job that is read and written again is its own bytes, and one that is written and read again is the same `Job`.
 ///
-/// ```
+#[cfg_attr(without_library, doc = "```ignore")]
+#[cfg_attr(not(without_library), doc = "```")]
 /// use mixegorta::{sheet, Job, OptionKind, OptionTerms, Quote, ONE};
 ///
 /// let put = OptionTerms { kind: OptionKind::AmericanPut, expiry: 0, strike: 1_010_000_000 };

@@ -1,4 +1,4 @@
-//! A Hull-White trinomial rate tree in whole billionths, over the proved archive `libcapi.a`.
+//! A Hull-White trinomial rate tree in whole billionths, over the proved archive `libmixegorta.a`.
 //!
 //! [`ONE`] is 1,000,000,000 billionths. Any arguments may be passed: each call gives its full answer or a [`Refusal`], and the engine
 //! itself judges every argument. Discounts stand row after row, lowest node first, for rows 0 to n - 1, state prices for rows 0 to n.
@@ -7,7 +7,8 @@
 //! [`pair_bond_price`] and [`pair_dated_option_price`] price on a rate tree and a spread tree together. A [`Job`] is read from bytes and written to the
 //! same bytes, and [`sheet`] draws its sheet. [`book_report`] values a whole book of jobs, [`prices_of_job`] one of them.
 //!
-//! ```
+#![cfg_attr(without_library, doc = "```ignore")]
+#![cfg_attr(not(without_library), doc = "```")]
 //! use mixegorta::{Curve, OptionKind, OptionTerms, Quote, Tree, ONE};
 //!
 //! let curve = Curve::of_quotes(&[Quote::DiscountFactor(1.0025)]);
@@ -24,6 +25,13 @@
 //! ```
 
 #![deny(missing_docs)]
+
+// Only this crate's own build may go without the archive: see build.rs.
+#[cfg(without_library)]
+const _: () = assert!(
+    option_env!("CARGO_PRIMARY_PACKAGE").is_some(),
+    "there is no libmixegorta.a: run tools/archive, or set MIXEGORTA_ARCHIVE_DIR to its folder"
+);
 
 mod bands;
 mod books;

@@ -28,7 +28,8 @@ impl<'a> From<&'a Tree> for LentTree<'a> {
 /// number of steps, at most [`MAX_PAIR_STEPS`](crate::MAX_PAIR_STEPS), else [`Refusal::PAIR_STEPS`]. A node is a pair of one row; its
 /// discount is the product of the two over one, down, and 0 is [`Refusal::DISCOUNT`].
 ///
-/// ```
+#[cfg_attr(without_library, doc = "```ignore")]
+#[cfg_attr(not(without_library), doc = "```")]
 /// use mixegorta::{pair_bond_price, LentTree, Refusal, ONE};
 ///
 /// let lent = |discounts| LentTree { steps: 1, reversion: 0, discounts };

@@ -23,7 +23,8 @@ pub struct ShelvedTree {
 /// it is priced by its name until it is released. A refused call leaves the shelf as it was, and work on one name changes no discount
 /// of another. From its commit on a tree carries its error bound, which its prices read: see [`Shelf::bounds`].
 ///
-/// ```
+#[cfg_attr(without_library, doc = "```ignore")]
+#[cfg_attr(not(without_library), doc = "```")]
 /// use mixegorta::{Curve, Quote, Refusal, Shelf, ONE};
 ///
 /// let mut shelf = Shelf::new();

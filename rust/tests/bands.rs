@@ -1,4 +1,5 @@
 //! Haircut bands: the limits and one past them, what each refusal shows, and worths worked out by hand.
+#![cfg(not(without_library))]
 use mixegorta::*;
 
 const ALL: Band = Band {

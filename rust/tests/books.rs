@@ -1,4 +1,5 @@
 //! Jobs without their sheets, and books of jobs: figures worked out by hand, and the files of crates/book_cases.
+#![cfg(not(without_library))]
 use mixegorta::*;
 use std::fs;
 

@@ -1,4 +1,5 @@
 //! Branches leave the rows of the tree that is asked, and no others.
+#![cfg(not(without_library))]
 use mixegorta::*;
 
 #[test]

@@ -1,4 +1,5 @@
 //! The figures of the scope (document 01) and its requests (02), refusals and memories, through the safe functions.
+#![cfg(not(without_library))]
 use mixegorta::*;
 
 const PATTERN: u64 = 0xA5A5_A5A5_A5A5_A5A5;

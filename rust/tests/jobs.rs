@@ -1,4 +1,5 @@
 //! Jobs as records: both round trips, the document's job by hand, what no bytes are read as, and lists that no record has room for.
+#![cfg(not(without_library))]
 use mixegorta::*;
 
 /// The job that document 01 prints.

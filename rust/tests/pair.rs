@@ -1,4 +1,5 @@
 //! A rate tree and a spread tree together: figures by hand, the order of the causes, the limits and one past them, and a tree of ones on either side.
+#![cfg(not(without_library))]
 use mixegorta::*;
 
 const TOP: u64 = MAX_NODE_DISCOUNT;

@@ -1,5 +1,6 @@
 //! Requests (vii) and (viii) of document 02, through the safe type: which calls are accepted, which cause comes first, what a call leaves as it
 //! was, that a shelved tree is the tree that a fit of its own gives, and what it carries.
+#![cfg(not(without_library))]
 use mixegorta::*;
 
 fn falling(part: f64, steps: usize) -> Curve {

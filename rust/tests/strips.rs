@@ -1,4 +1,5 @@
 //! Strips of strikes: each answer against the call for its strike alone, and the causes of the strip itself.
+#![cfg(not(without_library))]
 use mixegorta::*;
 
 const STEPS: usize = 9;

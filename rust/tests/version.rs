@@ -1,4 +1,5 @@
 //! What the crate and its archive say of themselves.
+#![cfg(not(without_library))]
 use mixegorta::*;
 
 #[test]

@@ -1,4 +1,5 @@
 //! Request (ix): trees by version, their working reversion and the sizes that go by it.
+#![cfg(not(without_library))]
 use mixegorta::*;
 
 const PATTERN: u64 = 0xA5A5_A5A5_A5A5_A5A5;

@@ -1,5 +1,6 @@
 //! Numbers that would pass for valid ones if they were cut to 8, 16 or 32 bits, for every argument of every function: the lines of
 //! reference/widths.txt, whose form reference/widths.py tells. Then every job of crates/sheet_cases.
+#![cfg(not(without_library))]
 use mixegorta::*;
 use std::collections::BTreeMap;
 use std::fs;

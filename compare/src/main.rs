@@ -33,9 +33,14 @@ const MANY_BOOKS: u64 = 16_000;
 /// So many scripts have every order of causes, every refused commit tried again, and every alteration, of the carried numbers too.
 const MANY_SCRIPTS: u64 = 1_000;
 
+/// An argument of the program, or what stands for it.
 fn argument(place: usize, otherwise: u64) -> u64 {
-    match std::env::args().nth(place) {
-        Some(word) => word.parse().expect("a whole number"),
+    match std::env::args().nth(place).map(|word| word.parse()) {
+        Some(Ok(number)) => number,
+        Some(Err(_)) => {
+            eprintln!("usage: compare/run [COUNT [SEED]], two whole numbers");
+            std::process::exit(2);
+        }
         None => otherwise,
     }
 }
@@ -116,7 +121,11 @@ fn job_and_book(own: u64, tally: &mut books::Tally) {
 }
 
 fn main() {
-    let (count, seed) = (argument(1, 20_000), argument(2, 1));
+    run(argument(1, 20_000), argument(2, 1));
+}
+
+/// Compares so many inputs from a seed on; anything that differs ends the program.
+fn run(count: u64, seed: u64) {
     let (mut tally, mut shelves, sizes) = (Tally::default(), shelves::Tally::default(), scripts::Sizes::new());
     let (mut tables, mut records, mut paired) = (bands::Tally::default(), records::Tally::default(), pairs::Tally::default());
     let mut books = books::Tally::default();
@@ -153,4 +162,20 @@ fn main() {
     let missing = if count < MANY_BOOKS { Vec::new() } else { books.missing() };
     assert!(missing.is_empty(), "no run has {missing:?}");
     println!("{count} inputs from seed {seed}: every result equal, every bound kept");
+}
+
+#[cfg(all(test, not(without_library)))]
+mod tests {
+    #[test]
+    fn a_short_run() {
+        super::run(200, 1);
+    }
+}
+
+#[cfg(test)]
+mod rules_alone {
+    #[test]
+    fn whole_numbers_of_any_size() {
+        super::natural::check();
+    }
 }

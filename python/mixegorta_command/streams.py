@@ -11,13 +11,13 @@ class Stop(Exception):
 
 def named(name):
     """How a sentence calls a file, or standard input where there is none."""
-    return 'standard input' if name is None else name or "''"
+    return 'standard input' if name in (None, '-') else name or "''"
 
 
 def content_of(name=None):
     """The bytes of a file, or of standard input."""
     try:
-        if name is None:
+        if name in (None, '-'):
             return sys.stdin.buffer.read() if sys.stdin else b''
         with open(name, 'rb') as file:
             return file.read()
@@ -43,9 +43,9 @@ def tell(words):
 
 
 def run(main, failure):
-    """The status of a tool's main, or `failure` where it stops."""
+    """The status of a command, or `failure` where it stops."""
     try:
-        return main(sys.argv[1:])
+        return main()
     except Stop as stop:
         tell(stop)
         return failure

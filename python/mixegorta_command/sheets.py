@@ -2,7 +2,7 @@
 import re
 from collections import namedtuple
 
-import tables
+from .words import REFUSALS
 
 AMOUNT = r'\d\.\d{9}'
 LINES = {
@@ -93,7 +93,4 @@ def branch_ends(row, later):
 
 def refusal_words(number):
     """The cause of a refusal and what to do about it."""
-    for refusal in tables.refusals():
-        if refusal.number == number:
-            return refusal.cause, refusal.remedy
-    return 'an unknown cause', 'look it up in docs/MANUAL.md'
+    return REFUSALS.get(number, ('an unknown cause', 'look it up in docs/MANUAL.md'))

@@ -3,27 +3,16 @@
 A sheet has no state prices. reference/reference.py works the job's own tree out by the same rules, apart from the engine, and a
 sheet is taken for the job's only if every line of it is the reference's own.
 """
-import pathlib
-import sys
 from collections import namedtuple
 
-from streams import Stop
+from . import rules
+from .streams import Stop
 
-REFERENCE = pathlib.Path(__file__).resolve().parent.parent / 'reference'
 OPTION_KINDS = {1: 'European call', 2: 'European put', 3: 'American call', 4: 'American put'}
 SIDES = {1: 'call', 2: 'put'}
 
 # State prices by row, each a list of texts from the lowest node up; branches by node, as pairs of an end and the text of its probability.
 JobTree = namedtuple('JobTree', 'frequency reversion version working_reversion volatility state_prices branches option')
-
-
-def the_reference():
-    sys.path.insert(0, str(REFERENCE))
-    try:
-        import reference
-    except ImportError:
-        raise Stop(f'--job needs {REFERENCE}/reference.py, which is not there: run tools/draw in a whole clone')
-    return reference
 
 
 def compared(wanted, sheet):
@@ -54,7 +43,7 @@ def option_words(reference, terms, frequency):
 
 def job_tree(job, sheet):
     """The job's tree, for the bytes of a sheet that is no refusal."""
-    reference = the_reference()
+    reference = rules.module()
     compared(reference.sheet(job), sheet)
     f, n, b, s, version, quoted, _, terms = reference.read(job)
     version = version or 1

@@ -1,9 +1,9 @@
-"""Texts that people write for a job, as `tools/job --help` lists their entries, and the jobs they give."""
+"""Texts that people write for a job, as `mixegorta job --help` lists their entries, and the jobs they give."""
 import re
 import struct
 from decimal import Decimal
 
-from streams import Stop
+from .streams import Stop
 
 LARGEST_BYTE, LARGEST_TWO, LARGEST_FOUR = 0xFF, 0xFFFF, 0xFFFFFFFF
 DECIMALS = 9

@@ -3,9 +3,8 @@ import html
 import json
 import pathlib
 
-import pictures
-import sheets
-from pictures import signed
+from . import pictures, sheets
+from .pictures import signed
 
 HERE = pathlib.Path(__file__).resolve().parent
 ABOVE_TREE, BELOW_TREE = 46, 52
@@ -79,7 +78,7 @@ def sources(drawing):
     yield paragraph('From the sheet, as the sheet program printed it: discounts and step rates of the nodes, the quoted discount, the sum of state prices and the '
                     'bound of each row, and the prices with their bounds. Row 0 has no quote, and the last row no rates.')
     if not drawing.job:
-        yield paragraph('A sheet does not say how long a step is, nor the state price of a node: tools/draw --job FILE works them out from its job.')
+        yield paragraph('A sheet does not say how long a step is, nor the state price of a node: mixegorta draw --job FILE works them out from its job.')
         return
     yield paragraph(f'Worked out from the job by reference/reference.py, which is written apart from the proved engine: years (row\u00a0/\u00a0{drawing.job.frequency}), yearly rates '
                     f'({drawing.job.frequency} \u00d7 step rate), the state price of each node, and where a node leads and how likely. The reference worked the whole sheet out '

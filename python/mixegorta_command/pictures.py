@@ -3,7 +3,7 @@ import math
 from collections import namedtuple
 from decimal import Decimal
 
-from sheets import branch_ends, refusal_words
+from .sheets import branch_ends, refusal_words
 
 # Two of the Okabe-Ito colours, which stay apart for every common kind of colour blindness; shapes differ too.
 POSITIVE, NEGATIVE = '#0072B2', '#D55E00'

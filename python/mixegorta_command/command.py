@@ -1,0 +1,190 @@
+"""The command `mixegorta` and its parts: what a person types, and what each part does with it."""
+import argparse
+import os
+import sys
+
+from . import answers, book, drawing, exact, jobs
+from .streams import Stop, content_of, named, put, run
+
+SUMMARY = 'A Hull-White trinomial rate tree in whole billionths, fitted, priced and proved.'
+ENTRIES = '''One entry to a line, in any order; # starts a comment:
+
+    frequency 2                   steps a year
+    steps 12                      may be left out: as many as there are quotes
+    reversion 500                 per step, in ten-thousandths; `pull` means the same
+    volatility 8000               yearly, in millionths
+    version 2                     how the fit takes the reversion, 1 or 2; may be left out, which is version 1
+    discount 0.99                 quote of the next row, a discount factor ...
+    rate 0.03                     ... or a simple yearly rate ...
+    yield 0.03                    ... or a yearly yield by continuous compounding
+    flow 1.025                    flow of the next row, at most nine decimals
+    option american put 8 1.01    european or american, call or put, expiry row, strike ...
+    option dated put 1.01 2 4 6   ... or dated, call or put, strike, and the rows of exercise, none or more
+
+`x COUNT` after a discount, rate, yield or flow repeats it: `flow 0.02 x 59`. All but steps, version and option must be given.
+Only what no job can hold is an error here. Limits are left to the engine, so that its refusal can be seen.'''
+OUTSIDE = 'A convenience outside the proved core: the engine is proved, this command is not.'
+
+# What each part says of itself: a line for the list of parts, then what --help tells.
+ABOUT = {
+    'price': ('price a job: its bond and its option, each with its error bound', '''The prices of a job, each with how far from the exact price it may be.
+
+FILE is a text as `mixegorta job --help` describes it, or a job. With --tree the whole sheet is shown, as the sheet program prints it: the
+nodes, the rows and then the prices.
+
+Exit status: 0 the prices are shown; 1 the job was refused, and standard error tells the number, the cause and what to do; 2 there are no
+prices, and standard error tells why: the file, the program or output is lost. MIXEGORTA_SHEET names another program than the engine's own.'''),
+    'job': ('write a job, the input of the sheet program, from a text', f'''Writes a job, the binary input of the sheet program, from a readable text.
+
+{ENTRIES}
+
+With --json and --csv the job is shown instead, and FILE may be a job too.
+Exit status: 0 it is written; 1 the text is wrong, or FILE is no job, which standard error tells.'''),
+    'draw': ('draw the tree of a job or of a sheet', '''Draws the fitted tree of a job, or of a sheet as the sheet program prints it.
+
+FILE is a text as `mixegorta job --help` describes it, or a job. Without FILE standard input is a sheet, a text or a job.
+
+--job FILE is the job of a sheet that comes by standard input. With a job the axis is in years, rates are a year's, and the area of a mark is the
+node's state price, which the reference works out from the job. A sheet that is not the job's own, by any line, is not drawn.
+--page writes one HTML file that needs nothing else: the tree, a table of its rows, and the numbers of a node where it is pointed at.
+
+Places in the picture are floats. Exit status: 0 a tree was drawn, 1 the job is refused, which gives a small picture that says so, 2 there is no sheet
+or another thing is missing, which standard error tells.'''),
+    'book': ('report a book of jobs: sums, refusals and the dearest bond', '''Frames jobs into a book and shows its report.
+
+Each FILE is a text as `mixegorta job --help` describes it, or a job; without FILE standard input is one book. --frame writes the book itself, the
+input of the book program: one field for each job, in this order.
+
+The report tells how many jobs are priced, how many refused with each number, the sums, and the place of the dearest bond. More than 500 files are left to
+the engine, which counts one of the rest under 1. Exit status: 0 the report is shown; 2 there is none, and standard error tells why.
+MIXEGORTA_BOOK names another program than the engine's own.'''),
+    'check': ("hold a job's prices against the exact ones", '''Works the exact prices of a job out in fractions and shows them beside the engine's.
+
+FILE is a text as `mixegorta job --help` describes it, or a job. The reference, written apart from the engine, fits the tree itself and prices on it
+without rounding. Shown are the price, the exact price to 15 decimals, their difference in billionths and its share of the error bound. A job of sixty
+steps takes some seconds.
+
+Exit status: 0 every price is within its bound and the reference's sheet is the engine's; 1 the job was refused; 2 there are no prices; 3 the two differ,
+or a price is further from the exact one than its bound.'''),
+}
+
+
+class Parser(argparse.ArgumentParser):
+    """Bad usage is one sentence."""
+
+    def error(self, message):
+        raise Stop(f'{message}: see `{self.prog} --help`')
+
+
+def file_and_forms(parser, forms=('json', 'csv'), files=False):
+    parser.add_argument('file', nargs='*' if files else '?', metavar='FILE', help='a text or a job; without it standard input')
+    for form in forms:
+        parser.add_argument(f'--{form}', dest='form', action='store_const', const=form, help=f'in the form of {form.upper()}')
+
+
+def fill(parser, part):
+    """The arguments of a part."""
+    file_and_forms(parser, files=part == 'book')
+    if part == 'price':
+        parser.add_argument('--tree', action='store_true', help='the whole sheet: nodes, rows and prices')
+    if part == 'draw':
+        parser.add_argument('--job', metavar='FILE', help="the job of a sheet that comes by standard input")
+        parser.add_argument('--page', action='store_true', help='a page of HTML instead of a picture')
+    if part == 'book':
+        parser.add_argument('--frame', action='store_true', help='write the book instead of its report')
+
+
+def part_parser(part, name):
+    """The parser of one part; name is how it was called."""
+    parser = Parser(prog=name, description=f'{ABOUT[part][1]}\n\n{OUTSIDE}', formatter_class=argparse.RawDescriptionHelpFormatter)
+    fill(parser, part)
+    return parser
+
+
+def overview():
+    listed = ''.join(f'    mixegorta {part:6} {ABOUT[part][0]}\n' for part in ABOUT)
+    return f'{SUMMARY}\n\n{listed}\n`mixegorta PART --help` tells more of each, `mixegorta --version` the version.\n'
+
+
+def version():
+    """The version, which stands in the package mixegorta; it is read and not imported, so that it is told without a library too."""
+    place = os.path.join(os.path.dirname(os.path.dirname(os.path.abspath(__file__))), 'mixegorta', '__init__.py')
+    with open(place, encoding='utf-8') as file:
+        return next(line.split('"')[1] for line in file if line.startswith('__version__'))
+
+
+def content(name, called):
+    """The bytes of a file, or of standard input, where there is one to read."""
+    if name is None and sys.stdin is not None and sys.stdin.isatty():
+        raise Stop(f'name a file, or hand a text or a job in by standard input: {called} FILE')
+    return content_of(name)
+
+
+# The parts
+
+def price(given, called):
+    found = answers.answer(content(given.file, called), named(given.file))
+    if isinstance(found.sheet, int):
+        return answers.refused(found.sheet, given.form)
+    if given.form == 'json':
+        answers.put_json({**drawing.prices_data(found.sheet), **(drawing.tree_data(found.sheet) if given.tree else {})})
+    elif given.form == 'csv' and given.tree:
+        answers.put_csv(('row', 'node', 'discount', 'step_rate_in_percent'), drawing.node_rows(found.sheet))
+    elif given.form == 'csv':
+        answers.put_csv(('entry', 'price', 'error_bound_in_billionths'), answers.prices(found.sheet))
+    elif given.tree:
+        put(found.printed)
+    else:
+        put(''.join(f'{name:6}  {value}   within {bound} billionths of the exact price\n' for name, value, bound in answers.prices(found.sheet)).encode())
+    return answers.SHOWN
+
+
+def job(given, called):
+    return jobs.put_job(content(given.file, called), named(given.file), given.form)
+
+
+def draw(given, called):
+    if given.file is not None and given.job is not None:
+        raise Stop('name a text or a job, or hand a sheet in by standard input with --job FILE, not both')
+    beside = content_of(given.job) if given.job is not None else None
+    found = drawing.drawn_answer(content(given.file, called), named(given.file), beside, named(given.job))
+    return drawing.put_drawing(found, given.form, given.page)
+
+
+def report(given, called):
+    return book.put_report(given.file, given.form, given.frame, lambda: content(None, called))
+
+
+def check(given, called):
+    found = answers.answer(content(given.file, called), named(given.file))
+    return answers.refused(found.sheet, given.form) if isinstance(found.sheet, int) else exact.put_check(found, given.form)
+
+
+PARTS = {'price': (price, answers.NOT_SHOWN), 'job': (job, answers.REFUSED), 'draw': (draw, answers.NOT_SHOWN), 'book': (report, answers.NOT_SHOWN),
+         'check': (check, answers.NOT_SHOWN)}
+
+
+def run_part(part, called, arguments):
+    """The status of one part."""
+    work, failure = PARTS[part]
+    return run(lambda: work(part_parser(part, called).parse_args(arguments), called), failure)
+
+
+def no_part(arguments):
+    if arguments in (['-h'], ['--help']):
+        put(overview().encode())
+    elif arguments == ['--version']:
+        put(f'mixegorta {version()}\n'.encode())
+    elif not arguments:
+        raise Stop(f'name one of {", ".join(PARTS)}: see `mixegorta --help`')
+    else:
+        raise Stop(f'there is no part {arguments[0]!r}, only {", ".join(PARTS)}: see `mixegorta --help`')
+    return answers.SHOWN
+
+
+def main(arguments=None):
+    """The command `mixegorta`."""
+    arguments = sys.argv[1:] if arguments is None else arguments
+    if arguments and arguments[0] in PARTS:
+        return run_part(arguments[0], f'mixegorta {arguments[0]}', arguments[1:])
+    return run(lambda: no_part(arguments), answers.NOT_SHOWN)

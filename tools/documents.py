@@ -1,0 +1,91 @@
+#!/usr/bin/env python3
+"""Holds the documents against the tree: every link and its heading, and in docs/TRUST.md and docs/READING.md every path and name; docs/PROMISES.md is held
+by tools/promises.py, which this runs too.
+
+    tools/documents.py
+
+A name stands for what its block, a row of a table or a paragraph, named before it, as in docs/PROMISES.md. A path with `*` must fit a file. Every file of specs/
+of the crates of promises stands in docs/READING.md. Exit status 1 where anything is wrong.
+"""
+import pathlib
+import re
+import sys
+
+sys.dont_write_bytecode = True
+import promises
+import usage
+
+ROOT = promises.ROOT
+HELD = ('docs/TRUST.md', 'docs/READING.md')
+LINKED = ('README.md', 'CHANGELOG.md', 'examples/README.md', *(str(path.relative_to(ROOT)) for path in sorted((ROOT / 'docs').rglob('*.md'))))
+LINK = re.compile(r'\]\(([^)\s]+)\)')
+# Words that are no names of the tree: of the prover, the C library, the kit and files that are made.
+OTHERS = {'memcpy', 'memset', 'mixegorta', 'stdout', 'dist/', 'target/', 'target/log/', 'src/', 'specs/', 'proofs/', 'PROOF.txt', 'libmixegorta.a'}
+STATING = ('promises', 'sheet_promises', 'shelf_promises', 'band_promises', 'writer_promises', 'book_promises', 'pair_promises')
+
+
+def anchors(text):
+    """The headings of a document as links name them."""
+    plain = re.sub(r'^```.*?^```$', '', text, flags=re.M | re.S)
+    return {re.sub(r'[^\w\- ]', '', head.lower()).replace(' ', '-') for head in re.findall(r'^#+ (.*)$', plain, re.M)}
+
+
+def faults_of_links(name, root=ROOT):
+    """Links of a document to files or headings that are not there."""
+    place = root / name
+    for target in LINK.findall(re.sub(r'^```.*?^```$', '', place.read_text(encoding='utf-8'), flags=re.M | re.S)):
+        file, _, heading = target.partition('#')
+        if '://' in target:
+            continue
+        path = place.parent / file if file else place
+        if not path.exists():
+            yield f'{name}: there is no {target}'
+        elif heading and heading not in anchors(path.read_text(encoding='utf-8')):
+            yield f'{name}: {file or name} has no heading {heading}'
+
+
+def fault(block, token, root):
+    """What is wrong of a token of docs/TRUST.md or docs/READING.md, or None."""
+    word = token.split()[0] if token else ''
+    if token in OTHERS or word in ('rt', 'fn', 'rt:') or '=' in token or token == 'N passed, 0 failed' or not re.search(r'[A-Za-z]', token):
+        return None
+    if '*' in token or token.endswith('/'):
+        return None if list(root.glob(token.rstrip('/'))) else f'nothing is called {token}'
+    if re.fullmatch(r'\.?[\w.-]+(/[\w.-]+)+( .*)?', token) and (root / word).exists():
+        return None
+    return block.fault(token)
+
+
+def faults_of_names(name, root=ROOT):
+    tree, text = promises.Tree(root), (root / name).read_text(encoding='utf-8')
+    known = {tree.file(token) for token in promises.TOKEN.findall(text) if promises.PATH.fullmatch(token)} - {None}
+    known = [path for path in known if path.suffix == '.antt']
+    for line, content in promises.blocks(text):
+        block = promises.Block(tree, known)
+        for token in promises.TOKEN.findall(content):
+            wrong = fault(block, token, root)
+            if wrong:
+                yield f'{name}, line {line}: {wrong}'
+
+
+def faults_of_reading(root=ROOT):
+    """Definitions of the joint statements that a reader is not led to."""
+    text = (root / 'docs/READING.md').read_text(encoding='utf-8')
+    for crate in STATING:
+        for path in sorted((root / 'crates' / crate / 'specs').glob('*.antt')):
+            if path.stem != 'Lib' and f'`{crate}/specs/{path.stem}`' not in text:
+                yield f'docs/READING.md does not name {crate}/specs/{path.stem}'
+
+
+def main(arguments):
+    usage.answer(__doc__, arguments)
+    faults = [fault for name in LINKED if (ROOT / name).exists() for fault in faults_of_links(name)]
+    faults += [fault for name in HELD for fault in faults_of_names(name)]
+    faults += list(faults_of_reading())
+    print(*faults, f'{len(LINKED)} documents: {len(faults)} faults', sep='\n')
+    sys.argv[1:] = []
+    return max(int(bool(faults)), promises.main())
+
+
+if __name__ == '__main__':
+    sys.exit(main(sys.argv[1:]))
