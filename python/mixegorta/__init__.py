@@ -20,7 +20,7 @@ The shared object is that of the package, or in a source folder ../target/libmix
 """
 __version__ = "0.12.0"
 
-from . import _bands, _engine, _job, _limits, refusals
+from . import _bands, _engine, _job, _limits, _units, refusals
 from ._bands import *
 from ._engine import *
 from ._job import *
@@ -36,3 +36,4 @@ __all__ += _engine.__all__
 __all__ += _job.__all__
 __all__ += _limits.__all__
 __all__ += refusals.__all__
+_units.describe(__all__, globals())
