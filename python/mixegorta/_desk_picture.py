@@ -75,9 +75,9 @@ def _ground(frame: Frame) -> List[str]:
 
 
 def _zero(frame: Frame) -> List[str]:
-    """The line at zero with a light edge, so that no node hides it."""
+    """The line at zero, over the nodes, so that none hides it, and thin, so that it hides none."""
     y = frame.y(0)
-    return [_line(LEFT, y, WIDTH - RIGHT, y, "white", 3.2), f'<g class="zero">{_line(LEFT, y, WIDTH - RIGHT, y, INK, 1.2)}</g>',
+    return [_line(LEFT - 6, y, LEFT, y, INK, 3), f'<g class="zero">{_line(LEFT, y, WIDTH - RIGHT, y, INK, 1)}</g>',
             _text(WIDTH - RIGHT - 2, y - 4, "0 %", "end", INK, 10)]
 
 
