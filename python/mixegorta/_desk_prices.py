@@ -8,11 +8,12 @@ from ._desk_bond import Bond, BondWithOption, Instrument, frequency_of, other_fr
 from ._desk_curve import Curve, Model
 from ._desk_inputs import MONTHS_A_YEAR, InputError, Number, months, number, row, tenor
 from ._desk_tables import Table, Tabled
-from ._engine import STATE_PRICES, Price
+from ._engine import STATE_PRICES, Price, curve_discounts
 from ._limits import MAX_STEPS, MAX_STRIKES
 from ._tree import Tree
 from .refusals import Refused
 
+PLACES = Decimal(1).scaleb(-7)
 INTERPOLATION = "the curve was brought to the rows by log-linear discounts"
 
 
@@ -155,6 +156,13 @@ def _terms(instrument: Instrument, curve: Curve, model: Model, frequency: Option
     return FittedTree(curve, model, each, len(flows)), flows, [INTERPOLATION, *model.rounding(each), *notes]
 
 
+def _fit_note(tree: FittedTree, flows: List[int], bond: Priced) -> str:
+    """How far the tree's bond is from the flows discounted by the quotes that the engine took."""
+    quotes = tree.curve.quotes(tree.frequency, tree.steps)
+    by_quotes = Decimal(sum(flow * quote for flow, quote in zip(flows, curve_discounts(tree.frequency, tree.steps, quotes)))).scaleb(-16)
+    return f"the quotes alone give the bond {by_quotes.quantize(PLACES):f}; the tree meets them to {(bond.value - by_quotes).quantize(PLACES):+f}"
+
+
 def fitted(curve: Curve, model: Model, *, frequency: int, until: str) -> FittedTree:
     """The tree of a curve and a model, with so many steps a year, to a tenor."""
     return FittedTree(curve, model, frequency, row("until", months("until", until, None), frequency, MAX_STEPS, None))
@@ -173,6 +181,7 @@ def price(instrument: Instrument, curve: Curve, model: Model, *, frequency: Opti
     """The price of a bond, alone or with its option. frequency is the steps a year, 1, 2, 4 or 12; without it the finest that has every day on one of
     at most 60 rows. A refusal of the engine is raised as it is."""
     answer = once(instrument, curve, model, frequency)
+    answer.notes.append(_fit_note(answer.fitted, _bond_of(instrument).flows(answer.frequency)[0], answer.bond))
     other = other_frequency(instrument, answer.frequency)
     try:
         beside = once(instrument, curve, model, other) if other else None
