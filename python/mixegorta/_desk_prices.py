@@ -126,8 +126,8 @@ def _bond_of(instrument: Instrument) -> Bond:
 
 
 def _decimal(value: Fraction) -> Decimal:
-    """To nine decimals."""
-    return Decimal(round(value * 10**9)).scaleb(-9)
+    """To as many decimals as a price per 100 has."""
+    return Decimal(round(value * 10**7)).scaleb(-7)
 
 
 def _with_option(instrument: Instrument, bond: Priced, option: Priced) -> Priced:

@@ -25,6 +25,9 @@ class Sensitivity(NamedTuple):
     high: Decimal
     unit: str
 
+    def __str__(self) -> str:
+        return f"{self.name} {self.value:f}, {self.low:f} to {self.high:f} by the bounds, {self.unit}"
+
 
 class Sensitivities(Tabled):
     """What a price does when curve or volatility move: by name, each a Sensitivity."""

@@ -15,7 +15,7 @@ class Table(List[Dict[str, Any]]):
     def __str__(self) -> str:
         lines = [self.columns, *([text(value) for value in row.values()] for row in self)]
         widths = [max(len(line[place]) for line in lines) for place in range(len(self.columns))]
-        return "\n".join("  ".join(cell.rjust(width) for cell, width in zip(line, widths)) for line in lines)
+        return "\n".join("  ".join(cell.rjust(width) for cell, width in zip(line, widths)).rstrip() for line in lines)
 
     def _repr_html_(self) -> str:
         heads = "".join(f"<th>{html.escape(name)}</th>" for name in self.columns)
