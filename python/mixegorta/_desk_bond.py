@@ -33,6 +33,8 @@ class Bond:
                 raise InputError(f"{name}: {figure} is below zero, and flows are not")
         if self.coupon > 20:
             warn("coupon", f"{self.coupon} % a year is above 20 %")
+        elif 0 < self.coupon / self.coupons_a_year < Decimal("0.1"):
+            warn("coupon", f"{self.coupon} % a year are flows below a thousandth of the notional; it is in percent, 1.5 for 1.5 %")
         if not Decimal("0.1") <= self.redemption <= 200:
             warn("redemption", f"{self.redemption} is far from par; it is per 100 of the notional")
 
@@ -150,8 +152,9 @@ def frequency_of(instrument: Instrument, frequency: Optional[int]) -> int:
     fits = fitting_frequencies(instrument.days(), MAX_STEPS)
     if not fits:
         bond = instrument if isinstance(instrument, Bond) else instrument.bond
-        raise InputError(f"maturity: no frequency has all days to {bond.named(bond.months)} on at most {MAX_STEPS} rows; days that do not fall on a year's row: "
-                         + (", ".join(bond.named(count) for count in instrument.days() if steps_of(count, 1) is None)[:200] or "none"))
+        between = ", ".join(bond.named(count) for count in instrument.days() if steps_of(count, 1) is None)
+        raise InputError(f"maturity: no frequency has all days to {bond.named(bond.months)} on at most {MAX_STEPS} rows; "
+                         f"days that do not fall on a year's row: {between[:200] or 'none'}")
     return fits[0]
 
 

@@ -11,6 +11,7 @@ from ._desk_inputs import FREQUENCIES, MONTHS_A_YEAR, InputError, Number, When, 
 from ._desk_tables import Table, Tabled, framed
 from ._engine import DISCOUNT_FACTOR, Curve as Quotes, Point, curve_discounts
 from ._limits import MAX_STEPS
+from .amounts import shown
 
 COMPOUNDINGS = ("simple", "yearly", "continuous")
 BASIS_POINTS = 10_000
@@ -76,6 +77,8 @@ class Curve(Tabled):
         if not hasattr(structure, "discount") or not hasattr(structure, "referenceDate"):
             raise InputError(f"structure: a {type(structure).__name__} is no QuantLib term structure")
         start, last, step = structure.referenceDate(), months("until", until, None), months("every", every, None)
+        if last > MAX_STEPS * MONTHS_A_YEAR:
+            raise InputError(f"until: {until} is past the longest tree, {MAX_STEPS} years")
         if not 1 <= step <= last:
             raise InputError(f"every: {every} is not between 1M and until, {until}")
         valuation = date(start.year(), int(start.month()), start.dayOfMonth())
@@ -110,11 +113,13 @@ class Curve(Tabled):
         """The curve with its continuous zero rates moved: all of them, or with keys those about one of the key tenors, by so much there and
         nothing from the next key on. The moves of all keys add up to that of the whole curve."""
         size = float(number("basis_points", basis_points))
+        if not isinstance(keys, (list, tuple)) or not all(isinstance(each, str) for each in keys):
+            raise InputError(f"keys: {shown(keys)} are no tenors")
         knots: Tuple[Tuple[Fraction, float], ...] = ((Fraction(0), size),)
         if at is not None:
             times = {each: years("keys", each, self.valuation) for each in keys}
-            if at not in times:
-                raise InputError(f"at: {at} is none of the keys")
+            if not isinstance(at, str) or at not in times:
+                raise InputError(f"at: {shown(at)} is none of the keys")
             knots = tuple(sorted((time, size if each == at else 0.0) for each, time in times.items()))
         made = Curve.__new__(Curve)
         made.__dict__.update(self.__dict__)
@@ -138,7 +143,7 @@ class Curve(Tabled):
         if not self._moves:
             return after.discount if part == 1 else math.exp(logarithm)
         moved = sum(_interpolated(knots, time) for knots in self._moves)
-        return math.exp(logarithm - moved / BASIS_POINTS * float(time))
+        return _positive(name, power(math.e, logarithm - moved / BASIS_POINTS * float(time)))
 
     def quotes(self, frequency: int, steps: int) -> Quotes:
         """What the engine is handed: a discount factor for each row, 1 to steps."""
@@ -186,11 +191,19 @@ class Curve(Tabled):
 def _of_rate(name: str, compounding: str, time: Fraction, percent: Decimal) -> float:
     rate, length = float(percent) / 100, float(time)
     if compounding == "continuous":
-        return math.exp(-rate * length)
+        return _positive(name, power(math.e, -rate * length))
     grown = 1 + rate * length if compounding == "simple" else 1 + rate
     if grown <= 0:
         raise InputError(f"{name}: at {percent} % nothing is left")
-    return 1 / grown if compounding == "simple" else _positive(name, grown ** -length)
+    return 1 / grown if compounding == "simple" else _positive(name, power(grown, -length))
+
+
+def power(base: float, exponent: float) -> float:
+    """A power, infinite where floats end."""
+    try:
+        return math.exp(exponent) if base == math.e else math.pow(base, exponent)
+    except OverflowError:
+        return math.inf
 
 
 def _positive(name: str, discount: float) -> float:
@@ -223,8 +236,8 @@ def _csv_figures(path: str) -> Tuple[str, Dict[Any, Number]]:
         with open(path, newline="", encoding="utf-8-sig") as file:
             first = file.readline()
             lines = list(csv.reader([first, *file], delimiter=";" if ";" in first else ","))
-    except (OSError, UnicodeDecodeError) as error:
-        raise InputError(f"path: {path} cannot be read ({getattr(error, 'strerror', None) or 'not in UTF-8'})") from None
+    except (OSError, ValueError, TypeError, csv.Error) as error:
+        raise InputError(f"path: {shown(path)} cannot be read ({getattr(error, 'strerror', None) or 'no text in UTF-8'})") from None
     heads = [head.strip().lower() for head in lines[0]] if lines else []
     time, kind = (next((word for word in words if word in heads), None) for words in (("tenor", "years", "date"), ("percent", "discount")))
     if time is None or kind is None:
@@ -279,6 +292,8 @@ class Model(Tabled):
         """The same model with another volatility."""
         made = Model.__new__(Model)
         made.volatility_bp, made.reversion, made.version = number("volatility_bp", volatility_bp), self.reversion, self.version
+        if made.volatility_bp < 0:
+            raise InputError(f"volatility_bp: {made.volatility_bp} is below zero")
         return made
 
     def rows(self, frequency: Optional[int] = None) -> Table:

@@ -1,5 +1,6 @@
 """What a desk writes, as numbers: percent, tenors and days. Beside the proved core; nothing here is proved."""
 import calendar
+import operator
 import os
 import re
 import sys
@@ -59,10 +60,14 @@ def _plain(name: str, given: Any) -> Any:
 
 def whole(name: str, given: Any, allowed: Any) -> int:
     """One of the whole numbers that are allowed."""
-    if isinstance(given, bool) or not isinstance(given, int) or given not in allowed:
+    try:
+        found = None if isinstance(given, bool) else operator.index(given)
+    except TypeError:
+        found = None
+    if found is None or found not in allowed:
         listed = f"{allowed.start} to {allowed.stop - 1}" if isinstance(allowed, range) else ", ".join(map(str, sorted(allowed)))
         raise InputError(f"{name}: {shown(given)} is none of {listed}")
-    return given
+    return found
 
 
 def day_of(name: str, given: Any) -> Optional[date]:

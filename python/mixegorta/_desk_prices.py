@@ -6,7 +6,7 @@ from typing import Any, Iterable, List, NamedTuple, Optional, Tuple
 from . import _desk_picture as picture
 from ._desk_bond import Bond, BondWithOption, Instrument, frequency_of, other_frequency
 from ._desk_curve import Curve, Model
-from ._desk_inputs import MONTHS_A_YEAR, InputError, Number, months, number, row, tenor
+from ._desk_inputs import FREQUENCIES, MONTHS_A_YEAR, InputError, Number, months, number, row, tenor, whole
 from ._desk_tables import Table, Tabled
 from ._engine import STATE_PRICES, Price, curve_discounts
 from ._limits import MAX_STEPS, MAX_STRIKES
@@ -40,7 +40,7 @@ def of(found: Any) -> Price:
     return price
 
 
-class FittedTree:
+class FittedTree(Tabled):
     """A tree that the engine fitted to a desk's curve and model; tree is the engine's own. A notebook shows it as a picture."""
 
     def __init__(self, curve: Curve, model: Model, frequency: int, steps: int) -> None:
@@ -55,6 +55,14 @@ class FittedTree:
     def state_prices(self) -> List[List[float]]:
         """What one paid at a node alone is worth today, by row, lowest node first."""
         return [[price / 1e9 for price in self.tree.row(STATE_PRICES, row) or ()] for row in range(self.steps)]
+
+    def rows(self) -> Table:
+        """A line for each row of the tree: its nodes, its lowest and highest yearly rate, its state price, and how far below the exact one that may be."""
+        lines = []
+        for place, (rates, prices) in enumerate(zip(self.rates(), self.state_prices())):
+            lines.append((place, tenor(place * MONTHS_A_YEAR // self.frequency), len(rates), f"{rates[0]:.7f}", f"{rates[-1]:.7f}", f"{sum(prices):.9f}",
+                          self.tree.state_price_error_bound(place)))
+        return Table(("row", "tenor", "nodes", "lowest rate, percent", "highest rate, percent", "state price", "exact on this tree to, billionths"), lines)
 
     def __repr__(self) -> str:
         return f"<FittedTree of {self.steps} steps, {self.frequency} a year, {len(self.tree.discounts)} nodes>"
@@ -103,7 +111,7 @@ class Answer(Tabled):
         return Table(("what", "per 100", "exact on this tree to"), lines)
 
     def __str__(self) -> str:
-        estimate = self.estimate or "what the steps cost: no other frequency has every day on a row, so there is no estimate"
+        estimate = self.estimate or "what the steps cost: there is no estimate, since no other tree has every day on a row"
         return "\n".join([f"{_kind(self.instrument)} {self.total} (dirty, per 100; {self.frequency} steps a year)", str(estimate), *self.notes])
 
     def __repr__(self) -> str:
@@ -135,12 +143,16 @@ def _with_option(instrument: Instrument, bond: Priced, option: Priced) -> Priced
     return Priced(bond.value + sign * option.value, bond.bound + option.bound)
 
 
-def checked(instrument: Instrument, curve: Curve, model: Model) -> Bond:
-    """The instrument's bond, where all three are what their names say and of one day."""
-    bond = _bond_of(instrument)
+def _of_kinds(curve: Curve, model: Model) -> None:
     for name, given, kind in (("curve", curve, Curve), ("model", model, Model)):
         if not isinstance(given, kind):
             raise InputError(f"{name}: a {type(given).__name__} is no {kind.__name__} of mixegorta.desk")
+
+
+def checked(instrument: Instrument, curve: Curve, model: Model) -> Bond:
+    """The instrument's bond, where all three are what their names say and of one day."""
+    bond = _bond_of(instrument)
+    _of_kinds(curve, model)
     if bond.valuation and curve.valuation and bond.valuation != curve.valuation:
         raise InputError(f"curve: its valuation date {curve.valuation} is not the bond's, {bond.valuation}")
     if bond.months > curve.last * MONTHS_A_YEAR:
@@ -165,6 +177,8 @@ def _fit_note(tree: FittedTree, flows: List[int], bond: Priced) -> str:
 
 def fitted(curve: Curve, model: Model, *, frequency: int, until: str) -> FittedTree:
     """The tree of a curve and a model, with so many steps a year, to a tenor."""
+    _of_kinds(curve, model)
+    whole("frequency", frequency, FREQUENCIES)
     return FittedTree(curve, model, frequency, row("until", months("until", until, None), frequency, MAX_STEPS, None))
 
 
@@ -178,18 +192,26 @@ def once(instrument: Instrument, curve: Curve, model: Model, frequency: Optional
 
 
 def price(instrument: Instrument, curve: Curve, model: Model, *, frequency: Optional[int] = None) -> Answer:
-    """The price of a bond, alone or with its option. frequency is the steps a year, 1, 2, 4 or 12; without it the finest that has every day on one of
-    at most 60 rows. A refusal of the engine is raised as it is."""
+    """The price of a bond, alone or with its option, and an estimate of what the steps cost.
+
+    frequency is the steps a year, 1, 2, 4 or 12; without it the finest that has every day on one of at most 60 rows. A refusal of the engine is
+    raised as it is.
+    """
     answer = once(instrument, curve, model, frequency)
     answer.notes.append(_fit_note(answer.fitted, _bond_of(instrument).flows(answer.frequency)[0], answer.bond))
     other = other_frequency(instrument, answer.frequency)
-    try:
-        beside = once(instrument, curve, model, other) if other else None
-    except (Refused, InputError):
-        beside = None
-    if beside is not None and other is not None:
-        answer.estimate = StepEstimate(other, beside.total.value, beside.total.value - answer.total.value)
+    if other is not None:
+        try:
+            _estimate([answer], [once(instrument, curve, model, other)])
+        except Refused:
+            answer.notes.append(f"with {other} steps a year the engine refuses the tree, so there is no estimate of what the steps cost")
     return answer
+
+
+def _estimate(answers: List[Answer], others: List[Answer]) -> None:
+    """Sets beside each answer what the same costs at another frequency."""
+    for answer, other in zip(answers, others):
+        answer.estimate = StepEstimate(other.frequency, other.total.value, other.total.value - answer.total.value)
 
 
 class Strip(Tabled):
@@ -203,8 +225,9 @@ class Strip(Tabled):
         lines: List[Tuple[Any, ...]] = []
         for at, answer in zip(self.at, self.answers):
             option = answer.option or Priced(Decimal(0), Decimal(0))
-            lines.append((at, option.value, option.bound, answer.total.value, answer.total.bound, answer.clean.value))
-        return Table(("at", "option", "option, exact on this tree to", "dirty", "dirty, exact on this tree to", "clean"), lines)
+            cost = None if answer.estimate is None else answer.estimate.difference
+            lines.append((at, option.value, option.bound, answer.total.value, answer.total.bound, answer.clean.value, cost))
+        return Table(("at", "option", "exact on this tree to", "dirty", "its exact on this tree to", "clean", "what the steps cost, an estimate"), lines)
 
     def __str__(self) -> str:
         return str(self.rows())
@@ -219,8 +242,19 @@ def strip(instrument: BondWithOption, curve: Curve, model: Model, at: Iterable[N
     prices = [number(f"at[{place}]", each) for place, each in enumerate(at)]
     if not 1 <= len(prices) <= MAX_STRIKES:
         raise InputError(f"at: {len(prices)} prices; a strip has 1 to {MAX_STRIKES}")
+    answers = _strip(instrument, curve, model, prices, frequency)
+    other = other_frequency(instrument, answers[0].frequency)
+    if other is not None:
+        try:
+            _estimate(answers, _strip(instrument, curve, model, prices, other))
+        except Refused:
+            pass
+    return Strip(prices, answers)
+
+
+def _strip(instrument: BondWithOption, curve: Curve, model: Model, prices: List[Decimal], frequency: Optional[int]) -> List[Answer]:
     tree, flows, notes = _terms(instrument, curve, model, frequency)
     bond = per_100(tree.tree.bond_price(flows))
     found = tree.tree.option_strip(flows, instrument.side, instrument.dates(tree.frequency), [instrument.strike(each) for each in prices])
     struck = [BondWithOption(instrument.bond, instrument.kind, [tenor(count) for count in instrument.exercise], each) for each in prices]
-    return Strip(prices, [Answer(one, tree, bond, per_100(of(option)), notes) for one, option in zip(struck, found)])
+    return [Answer(one, tree, bond, per_100(of(option)), notes) for one, option in zip(struck, found)]

@@ -71,7 +71,7 @@ def sensitivities(instrument: Instrument, curve: Curve, model: Model, *, frequen
     """
     checked(instrument, curve, model)
     size, wide = number("move_bp", move_bp), number("convexity_bp", convexity_bp)
-    if isinstance(keys, str) or len(set(keys)) != len(keys):
+    if not isinstance(keys, (list, tuple)) or not all(isinstance(key, str) for key in keys) or len(set(keys)) != len(keys):
         raise InputError("keys: give a list of tenors, each once, such as ['2Y', '5Y', '10Y']")
     for name, figure in (("move_bp", size), ("convexity_bp", wide)):
         if not 0 < figure <= 100:
@@ -147,7 +147,7 @@ def _bracket(name: str, at: Callable[[Decimal], Priced], market: Decimal) -> Tup
             try:
                 value = at(sign * size).value
             except Refused as refused:
-                raise InputError(f"{name}: {market:f} is not reached before a move of {sign * size} basis points, which the engine refuses: {refused}") from None
+                raise InputError(f"{name}: {market:f} is not reached before a move of {sign * size} basis points, which is refused: {refused}") from None
             if (value >= market) == (sign < 0):
                 edges.append(sign * size)
                 break

@@ -42,7 +42,8 @@ class Tabled:
         return framed(self.rows())
 
     def _repr_html_(self) -> str:
-        return f"<div><pre>{html.escape(str(self))}</pre>{self.rows()._repr_html_()}<p><small>{html.escape(BESIDE)}</small></p></div>"
+        picture = self._repr_svg_() if hasattr(self, "_repr_svg_") else ""
+        return f"<div><pre>{html.escape(str(self))}</pre>{picture}{self.rows()._repr_html_()}<p><small>{html.escape(BESIDE)}</small></p></div>"
 
 
 def framed(rows: Table) -> Any:

@@ -144,8 +144,8 @@ class Bonds(unittest.TestCase):
         self.assertEqual((flows, notes), ([0, 7_500_000] * 3 + [0, 1_007_500_000], []))
         flows, notes = desk.Bond(1, "9M", coupons_a_year=1, redemption=101).flows(4)
         self.assertEqual((flows, notes), ([0, 0, 1_020_000_000], []))
-        flows, notes = desk.Bond("0.1", "1Y", coupons_a_year=12).flows(12)
-        self.assertEqual((flows[0], bool(notes)), (83_333, True))
+        flows, notes = desk.Bond("1.3", "1Y", coupons_a_year=12).flows(12)
+        self.assertEqual((flows[0], bool(notes)), (1_083_333, True))
 
     def test_accrued_clean_and_dirty(self):
         answer = desk.price(desk.Bond("1.5", datetime.date(2036, 8, 16), valuation=TODAY), CURVE, MODEL)
@@ -160,18 +160,21 @@ class Bonds(unittest.TestCase):
             desk.Bond("1.2", "5Y").callable(on=["2Y3M", "3Y"], at=101)
 
     def test_days_that_fall_on_no_row_name_those_that_do(self):
+        flat = desk.Curve({"10Y": 1}, compounding="yearly")
         for ask, words in (
-                (lambda: desk.Bond(1, "10Y1M").flows(4), "maturity: 10Y1M falls on no row of 4 steps a year; the nearest rows: 10Y and 10Y3M; no frequency does"),
-                (lambda: desk.Bond(1, "2Y1M").flows(4), "maturity: 2Y1M falls on no row of 4 steps a year; the nearest rows: 2Y and 2Y3M; frequencies that do: 12"),
+                (lambda: desk.Bond(1, "10Y1M").flows(4), "maturity: 10Y1M falls on no row of 4 steps a year; "
+                                                         "the nearest rows: 10Y and 10Y3M; no frequency does"),
+                (lambda: desk.Bond(1, "2Y1M").flows(4), "maturity: 2Y1M falls on no row of 4 steps a year; "
+                                                        "the nearest rows: 2Y and 2Y3M; frequencies that do: 12"),
                 (lambda: desk.Bond(1, "10Y").flows(12), "maturity: 10Y is row 120 at 12 steps a year, and a tree has at most 60; frequencies that do: 4, 2, 1"),
                 (lambda: desk.Bond(1, "5Y", coupons_a_year=4).flows(2), "coupons_a_year: 3M falls on no row of 2 steps a year; "
                                                                        "the nearest rows: 0M and 6M; frequencies that do: 12, 4"),
                 (lambda: desk.Bond(1, "5Y").callable(on="2Y1M").dates(4), "on: 2Y1M falls on no row of 4 steps a year; "
                                                                          "the nearest rows: 2Y and 2Y3M; frequencies that do: 12"),
-                (lambda: desk.Bond(1, datetime.date(2028, 11, 17), valuation=TODAY), "maturity: 2028-11-17 is no whole number of months after the valuation date "
-                                                                                   "2026-11-16; the nearest days that are: 2028-11-16, 2028-12-16"),
-                (lambda: desk.price(desk.Bond(1, "61M"), desk.Curve({"10Y": 1}, compounding="yearly"), MODEL), "maturity: no frequency has all days to 5Y1M on at most 60 rows; "
-                                                                               "days that do not fall on a year's row: 1M, 1Y1M, 2Y1M, 3Y1M, 4Y1M, 5Y1M")):
+                (lambda: desk.Bond(1, datetime.date(2028, 11, 17), valuation=TODAY),
+                 "maturity: 2028-11-17 is no whole number of months after the valuation date 2026-11-16; the nearest days that are: 2028-11-16, 2028-12-16"),
+                (lambda: desk.price(desk.Bond(1, "61M"), flat, MODEL), "maturity: no frequency has all days to 5Y1M on at most 60 rows; "
+                                                                       "days that do not fall on a year's row: 1M, 1Y1M, 2Y1M, 3Y1M, 4Y1M, 5Y1M")):
             with self.assertRaises(desk.InputError) as raised:
                 ask()
             self.assertEqual(str(raised.exception), words)
@@ -217,7 +220,7 @@ class Prices(unittest.TestCase):
         found = desk.strip(NOTE, CURVE, MODEL, at=[98, "99.5", Decimal(101)])
         for at, answer in zip(found.at, found.answers):
             single = desk.price(BOND.callable(on=BOND.coupon_days(first="5Y"), at=at), CURVE, MODEL)
-            self.assertEqual((answer.option, answer.total, answer.clean), (single.option, single.total, single.clean))
+            self.assertEqual((answer.option, answer.total, answer.clean, answer.estimate), (single.option, single.total, single.clean, single.estimate))
         self.assertEqual([row["at"] for row in found.rows()], [98, Decimal("99.5"), 101])
 
     def test_everything_is_decimal(self):
@@ -296,7 +299,8 @@ class BadInput(unittest.TestCase):
                 ("at", lambda: desk.strip(NOTE, CURVE, MODEL, at=[])), ("at", lambda: desk.strip(NOTE, CURVE, MODEL, at=[100] * 17)),
                 ("at", lambda: desk.strip(NOTE, CURVE, MODEL, at="100")), (r"at\[1\]", lambda: desk.strip(NOTE, CURVE, MODEL, at=[100, "x"])),
                 ("instrument", lambda: desk.strip(BOND, CURVE, MODEL, at=[100])), ("instrument", lambda: desk.price(1, CURVE, MODEL)),
-                ("curve", lambda: desk.price(BOND, EUR, MODEL)), ("model", lambda: desk.price(BOND, CURVE, 70)), ("frequency", lambda: desk.price(BOND, CURVE, MODEL, frequency=3)),
+                ("curve", lambda: desk.price(BOND, EUR, MODEL)), ("model", lambda: desk.price(BOND, CURVE, 70)),
+                ("frequency", lambda: desk.price(BOND, CURVE, MODEL, frequency=3)), ("volatility_bp", lambda: MODEL.with_volatility(-1)),
                 ("curve", lambda: desk.price(desk.Bond(1, "11Y"), CURVE, MODEL)), ("curve", lambda: desk.sensitivities(BOND, EUR, MODEL)),
                 ("keys", lambda: desk.sensitivities(BOND, CURVE, MODEL, keys="10Y")), ("keys", lambda: desk.sensitivities(BOND, CURVE, MODEL, keys=["x"])),
                 ("move_bp", lambda: desk.sensitivities(BOND, CURVE, MODEL, move_bp=0)), ("instrument", lambda: desk.oas(None, CURVE, MODEL, clean=90)),
@@ -308,18 +312,48 @@ class BadInput(unittest.TestCase):
     def test_a_csv_that_cannot_be_read_names_its_line(self):
         with tempfile.TemporaryDirectory() as folder:
             path = os.path.join(folder, "curve.csv")
-            for text, words in (("tenor,percent\n1Y,2,5\n2Y,x\n", "line 3 of "), ("when,percent\n", "path: "), ("", "path: "), ("tenor,percent\n1Y,\n", "line 2 of "),
-                                ("date,percent\nsoon,1\n", "line 2 of "), ("tenor,percent\n1Y,1\n1Y,2\n", "line 3 of ")):
+            for text, words in (("tenor,percent\n1Y,2,5\n2Y,x\n", "line 3 of "), ("when,percent\n", "path: "), ("", "path: "),
+                                ("tenor,percent\n1Y,\n", "line 2 of "), ("date,percent\nsoon,1\n", "line 2 of "), ("tenor,percent\n1Y,1\n1Y,2\n", "line 3 of ")):
                 with open(path, "w") as file:
                     file.write(text)
                 with self.assertRaisesRegex(desk.InputError, f"^{words}"):
                     desk.Curve.from_csv(path, compounding="yearly")
 
+    def test_odd_arguments_never_show_the_internals(self):
+        """Whatever stands for one argument, the answer is one, or an InputError or a refusal."""
+        odd = (None, True, -1, 0, 7, 2**32 + 4, 2**80, 1e300, float("inf"), "", "1e9", "9999Y", "4", b"1Y", [], [None], [[]], {}, {"1Y": None}, set(), object(),
+               TODAY, datetime.datetime.now(), Decimal("sNaN"), 1j, BOND, CURVE, "\0")
+        calls = (
+            (desk.Curve, ({"1Y": 1},), {"compounding": "yearly", "valuation": None}), (desk.Curve.from_discounts, ({"1Y": 1},), {"valuation": None}),
+            (desk.Curve.from_csv, ("/nowhere",), {"compounding": None, "valuation": None}), (desk.Curve.from_series, (Series({"1Y": 1}),), {"compounding": "simple"}),
+            (desk.Curve.from_quantlib, (Structure(),), {"until": "1Y", "every": "3M"}), (CURVE.moved, (1,), {"at": "1Y", "keys": ["1Y"]}),
+            (CURVE.discount, ("1Y",), {}), (CURVE.quotes, (4, 4), {}), (CURVE.rows, (4,), {}), (desk.Model, (70, 0), {"version": 1}),
+            (MODEL.handed, (4,), {}), (MODEL.rows, (4,), {}), (MODEL.with_volatility, (4,), {}),
+            (desk.Bond, (1, "1Y"), {"coupons_a_year": 1, "redemption": 100, "valuation": None}), (BOND.coupon_days, ("5Y", "6Y"), {}),
+            (BOND.callable, ("5Y", 100), {}), (desk.price, (NOTE, CURVE, MODEL), {"frequency": 1}), (desk.strip, (NOTE, CURVE, MODEL, [100]), {"frequency": 1}),
+            (desk.sensitivities, (NOTE, CURVE, MODEL), {"frequency": 1, "keys": ["1Y"], "move_bp": 1, "convexity_bp": 25}),
+            (desk.oas, (NOTE, CURVE, MODEL), {"clean": 90, "frequency": 1}), (desk.fitted, (CURVE, MODEL), {"frequency": 1, "until": "5Y"}))
+        wrong = []
+        with warnings.catch_warnings():
+            warnings.simplefilter("ignore")
+            for function, given, named in calls:
+                for value in odd:
+                    tries = [((*given[:place], value, *given[place + 1:]), named) for place in range(len(given))]
+                    tries += [(given, {**named, name: value}) for name in named]
+                    for arguments, names in tries:
+                        try:
+                            function(*arguments, **names)
+                        except (desk.InputError, m.Refused):
+                            pass
+                        except Exception as error:
+                            wrong.append(f"{function.__name__}{arguments!r:.80} {names!r:.120}: {error!r}")
+        self.assertEqual("\n".join(wrong), "")
+
     def test_figures_that_look_like_another_unit_are_warned_of(self):
         for name, ask in (
                 ("rates", lambda: desk.Curve({"1Y": 25}, compounding="yearly")), ("rates", lambda: desk.Curve({"1Y": 0.03}, compounding="yearly")),
                 ("volatility_bp", lambda: desk.Model(501, 0)), ("volatility_bp", lambda: desk.Model(0.007, 0)), ("reversion", lambda: desk.Model(70, 3)),
-                ("coupon", lambda: desk.Bond(102, "1Y")), ("redemption", lambda: desk.Bond(1, "1Y", redemption=1000)),
+                ("coupon", lambda: desk.Bond(102, "1Y")), ("coupon", lambda: desk.Bond("0.015", "1Y")), ("redemption", lambda: desk.Bond(1, "1Y", redemption=1000)),
                 ("redemption", lambda: desk.Bond(1, "1Y", redemption="0.05")), ("at", lambda: BOND.callable(on="5Y", at=1)),
                 ("at", lambda: BOND.callable(on="5Y", at=1000))):
             with self.assertWarnsRegex(desk.UnitWarning, f"^{name}: ") as caught:

@@ -16,7 +16,8 @@ MODEL = desk.Model(volatility_bp=70, reversion="0.03")
 BOND = desk.Bond(coupon="1.5", maturity="10Y")
 NOTE = BOND.callable(on=BOND.coupon_days(first="5Y"), at=100)
 TABLES = {"curve": CURVE, "model": MODEL, "answer": desk.price(NOTE, CURVE, MODEL), "strip": desk.strip(NOTE, CURVE, MODEL, at=[99, 100]),
-          "sensitivities": desk.sensitivities(NOTE, CURVE, MODEL)}
+          "sensitivities": desk.sensitivities(NOTE, CURVE, MODEL), "tree": desk.fitted(CURVE, MODEL, frequency=2, until="3Y")}
+VOID = {"rect", "line", "circle", "path"}
 
 
 class Balance(html.parser.HTMLParser):
@@ -27,9 +28,12 @@ class Balance(html.parser.HTMLParser):
         self.open, self.text = [], ""
 
     def handle_starttag(self, tag, attributes):
-        self.open.append(tag)
+        if tag not in VOID:
+            self.open.append(tag)
 
     def handle_endtag(self, tag):
+        if tag in VOID:
+            return
         assert self.open.pop() == tag, tag
 
     def handle_data(self, data):
@@ -70,11 +74,15 @@ class Tables(unittest.TestCase):
             page = Balance()
             page.feed(thing._repr_html_())
             self.assertEqual(page.open, [], name)
-        for name in ("answer", "strip", "sensitivities"):
+        for name in ("answer", "strip", "sensitivities", "tree"):
             page = Balance()
             page.feed(TABLES[name]._repr_html_())
             self.assertIn("exact on this tree", page.text, name)
             self.assertIn("Beside the proved core", page.text, name)
+
+    def test_pictures_stand_in_the_html(self):
+        for name in ("curve", "answer", "tree"):
+            self.assertIn("<svg", TABLES[name]._repr_html_(), name)
 
     def test_everything_public_has_a_docstring(self):
         self.assertIn("beside the proved core", desk.__doc__)
