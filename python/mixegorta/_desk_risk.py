@@ -52,14 +52,15 @@ class Sensitivities(Tabled):
 def _prices(instrument: Instrument, cases: Sequence[Case], frequency: int) -> List[Priced]:
     """The totals of all cases, on all processors."""
     with ThreadPoolExecutor(max_workers=os.cpu_count()) as pool:
-        return list(pool.map(lambda case: once(instrument, *case, frequency).total, cases))
+        return list(pool.map(lambda case: once(instrument, case[0], case[1], frequency).total, cases))
 
 
 def _quotient(name: str, unit: str, parts: Sequence[Tuple[int, Priced]], over: Decimal) -> Sensitivity:
     """A sum of prices with these factors, over a number above zero; the bounds add up by the sizes of the factors."""
     value = sum((factor * price.value for factor, price in parts), Decimal(0)) / over
     width = sum((abs(factor) * price.bound for factor, price in parts), Decimal(0)) / over
-    return Sensitivity(name, *((each.quantize(DIGITS)) for each in (value, value - width, value + width)), unit)
+    low, high = (value - width).quantize(DIGITS), (value + width).quantize(DIGITS)
+    return Sensitivity(name, value.quantize(DIGITS), low, high, unit)
 
 
 def sensitivities(instrument: Instrument, curve: Curve, model: Model, *, frequency: Optional[int] = None, keys: Sequence[str] = (), move_bp: Number = 1,

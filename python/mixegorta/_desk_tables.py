@@ -1,5 +1,6 @@
 """Tables of a desk: plain rows, a DataFrame where pandas is installed, and HTML. Beside the proved core; nothing here is proved."""
 import html
+import importlib
 from typing import Any, Dict, List, Sequence
 
 BESIDE = "Beside the proved core: the prices are the engine's, with its bounds; what is worked out from them is not proved."
@@ -49,7 +50,7 @@ class Tabled:
 def framed(rows: Table) -> Any:
     """The rows as a DataFrame, or as they are without pandas."""
     try:
-        import pandas
+        pandas = importlib.import_module("pandas")
     except ImportError:
         return rows
     return pandas.DataFrame(list(rows), columns=rows.columns)
