@@ -10,7 +10,7 @@ from pictures import signed
 
 HERE = pathlib.Path(__file__).resolve().parent
 ABOVE_TREE, BELOW_TREE = 46, 52
-CENTIMES = 2
+DIGITS_OF_100 = 2
 BOUND = ('The last column says how far the exact price on this tree may be, per 100. It is no distance from the market: what the length of the steps costs '
          'shows in the same job with other steps.')
 HINT = 'Point at a node, or tap it, for its numbers; a click keeps them, and the arrow keys go from node to node.'
@@ -58,7 +58,7 @@ def tree_data(drawing):
 
 def per_100(amount):
     """An amount of the sheet, for a notional of one, for a hundred: the same digits."""
-    return f'{Decimal(amount).scaleb(CENTIMES):f}'
+    return f'{Decimal(amount).scaleb(DIGITS_OF_100):f}'
 
 
 def price_lines(drawing):
@@ -128,7 +128,7 @@ def row_line(drawing, row):
 def rows_table(drawing):
     rate = 'yearly rate, %' if drawing.job else 'step rate, %'
     names = ['row'] + (['years'] if drawing.job else []) + ['nodes', f'lowest {rate}', f'highest {rate}', 'quoted discount',
-                                                              'sum of state prices', 'bound, billionths'] + (
+                                                              'sum of state prices', 'exact on this tree to, billionths'] + (
         ['flow, per 100', 'option'] if drawing.job else [])
     lines = [row_line(drawing, row) for row in range(len(drawing.sheet.rows) + 1)]
     heads = ''.join(f'<th scope="col">{name}</th>' for name in names)

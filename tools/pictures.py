@@ -354,7 +354,7 @@ def price_list(drawing, top):
     across = (WIDTH - RIGHT - left) / LIST_COLUMNS
     edges = (18, 97, 178, 216)
     length = f'; {counted(job.frequency, "row")} a year' if job else ''
-    yield words(left, top, f'Discount curve: quote, sum of the row\u2019s state prices, and error bound of that sum in billionths{length}', 13)
+    yield words(left, top, f'Discount curve: quote, sum of the row\u2019s state prices, and to how many billionths that is exact on this tree{length}', 13)
     for k in range(math.ceil(len(quotes) / each)):
         for edge, name in zip(edges, ('row', 'quote', 'sum', 'bound')):
             yield words(left + k * across + edge, top + 22, name, 10.5, SOFT, 'end')

@@ -46,7 +46,12 @@ class FittedTree(Tabled):
     def __init__(self, curve: Curve, model: Model, frequency: int, steps: int) -> None:
         reversion, volatility = model.handed(frequency)
         self.curve, self.model, self.frequency, self.steps = curve, model, frequency, steps
-        self.tree = Tree(frequency, steps, reversion, volatility, curve.quotes(frequency, steps), version=model.version)
+        try:
+            self.tree = Tree(frequency, steps, reversion, volatility, curve.quotes(frequency, steps), version=model.version)
+        except Refused as refused:
+            if refused.volatility is not None:
+                refused.__notes__.append(f"As volatility_bp {Decimal(refused.volatility) / 100} is accepted.")
+            raise
 
     def rates(self) -> List[List[float]]:
         """The yearly rate of each node in percent, by row, lowest node first: the step rate times the steps a year."""

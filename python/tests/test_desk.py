@@ -231,6 +231,11 @@ class Prices(unittest.TestCase):
         with self.assertRaises(m.VolatilityTooLarge), warnings.catch_warnings():
             warnings.simplefilter("ignore")
             desk.price(desk.Bond(1, "10Y"), CURVE, desk.Model(volatility_bp=5000, reversion=0), frequency=1)
+        with self.assertRaises(m.NodeDiscountOutOfRange) as raised:
+            desk.price(BOND, CURVE, desk.Model(volatility_bp=400, reversion=0), frequency=1)
+        accepted = Decimal(raised.exception.volatility) / 100
+        self.assertEqual(raised.exception.__notes__[-1], f"As volatility_bp {accepted} is accepted.")
+        desk.price(BOND, CURVE, desk.Model(volatility_bp=accepted, reversion=0), frequency=1)
         with self.assertRaises(m.FlowTooLarge), warnings.catch_warnings():
             warnings.simplefilter("ignore")
             desk.price(desk.Bond(1, "10Y", redemption=201), CURVE, MODEL)
