@@ -5,7 +5,7 @@ use crate::rules::{self, Carried, Contract, Curve, DatedOption, FitInput, Outcom
 use std::ptr;
 
 #[allow(dead_code)]
-#[path = "../rust/src/raw.rs"]
+#[path = "../../rust/src/raw.rs"]
 mod raw;
 
 use raw::*;
