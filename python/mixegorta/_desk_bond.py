@@ -18,6 +18,7 @@ class Bond:
 
     maturity is a tenor such as "10Y", or a date with valuation, the date of today's row. redemption is paid with the last coupon. Today's
     coupon, if today is its day, is not part of the bond. Accrued interest is by whole months: the coupon times the part of its period that is gone.
+    Days are whole months apart and not adjusted to a calendar.
     """
 
     def __init__(self, coupon: Number, maturity: When, *, coupons_a_year: int = 1, redemption: Number = HUNDRED,

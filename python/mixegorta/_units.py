@@ -38,12 +38,21 @@ UNITS: Dict[str, str] = {
     "price": f"in billionths, 0 to {MAX_VALUE:,}",
     "bands": f"at most {MAX_BANDS} of Band(first_row, last_row, lowest_price, highest_price, haircut)",
 }
+for _tree in ("rate", "spread"):
+    UNITS.update({f"{_tree}_steps": f"steps of the {_tree} tree, n, the same in both trees, 1 to MAX_PAIR_STEPS", f"{_tree}_reversion": UNITS["reversion"],
+                  f"{_tree}_discounts": UNITS["discounts"], f"{_tree}s": f"the {_tree} Tree, of the same steps as the other, 1 to MAX_PAIR_STEPS"})
+UNITS.update(jobs=f"of bytes, at most {MAX_JOB:,} each for a job that is accepted", file="the bytes of a book, as book_of_jobs gives them")
 # where a name means another thing than elsewhere
 OTHERS: Dict[str, Dict[str, str]] = {
     "row_range": {"kind": PART}, "Tree.row": {"kind": PART}, "JobQuote.of": {"kind": "DISCOUNT_FACTOR, YEARLY_RATE or YEARLY_YIELD"},
     "billionths": {"name": "what a message calls the amount"},
     "lending_worth": {"row": f"the bond's last row, 1 to {MAX_STEPS}"}, "Bands.worth": {"row": f"the bond's last row, 1 to {MAX_STEPS}"},
     "Job.write_into": {"out": f"memory to write, at least as many bytes as the job has, at most {MAX_JOB:,}"},
+    "book_report_into": {"out": "memory to write, at least BOOK_ROOM bytes"},
+    "prices_of_job_into": {"discounts": "memory to write, for billionths, MAX_DISCOUNTS numbers serve every job",
+                           "state_prices": "memory to write, for billionths, MAX_STATE_PRICES numbers serve every job"},
+    "fit_into": {"discounts": "memory to write, for billionths, as many as discounts_needed answers",
+                 "state_prices": "memory to write, for billionths, as many as state_prices_needed answers"},
     "value_by_state_prices": {"state_prices": "in billionths, those of one row, lowest node first"},
 }
 
