@@ -108,6 +108,9 @@ def page(made):
 
 
 def main(arguments):
+    if '-h' in arguments or '--help' in arguments:
+        print(__doc__.strip())
+        return 0
     how = arguments[1:]
     if not arguments or how not in ([], ['--check']) and (len(how) != 2 or how[0] != '--page') or not pathlib.Path(arguments[0]).is_file():
         sys.exit('usage: tools/notebook.py FILE.py [--check | --page PAGE.html]')
