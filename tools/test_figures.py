@@ -18,6 +18,8 @@ SCRIPTS = sorted((ROOT / 'crates').glob('*/vectors.py'))
 FILES = ('stdin', 'stdout')
 # Arguments of scripts that print what the program must print; the others write their files beside themselves.
 PRINTING = {'exhibits': [], 'pricing_figures': [], 'quote_figures': ['stdout']}
+# A script that also writes the files of another program.
+BESIDE = {'book_cases': ['book']}
 
 
 class Figures(unittest.TestCase):
@@ -28,6 +30,8 @@ class Figures(unittest.TestCase):
         for script in SCRIPTS:
             (root / 'crates' / script.parent.name).mkdir(parents=True)
             shutil.copy(script, root / 'crates' / script.parent.name)
+        for crate in sum(BESIDE.values(), []):
+            (root / 'crates' / crate).mkdir()
         for name in ('reference', 'compare', 'examples', 'tools', 'python'):
             (root / name).symlink_to(ROOT / name)
         return root
@@ -40,9 +44,9 @@ class Figures(unittest.TestCase):
             with self.subTest(crate):
                 made = subprocess.run([sys.executable, '-B', f'crates/{crate}/vectors.py', *(PRINTING.get(crate) or [])], cwd=root, capture_output=True)
                 self.assertEqual((made.returncode, made.stderr), (0, b''))
-                written = [name for name in FILES if (root / 'crates' / crate / name).exists()]
+                written = [f'{each}/{name}' for each in [crate, *BESIDE.get(crate, [])] for name in FILES if (root / 'crates' / each / name).exists()]
                 for name in written:
-                    self.assertEqual((root / 'crates' / crate / name).read_bytes(), (script.parent / name).read_bytes(), name)
+                    self.assertEqual((root / 'crates' / name).read_bytes(), (ROOT / 'crates' / name).read_bytes(), name)
                 if not written:
                     self.assertEqual(made.stdout, (script.parent / 'stdout').read_bytes())
 
