@@ -137,6 +137,8 @@ def proved(command, crates, log):
                     progress.done(line.decode(errors='replace'))
             progress.show()
         status = running.wait()
+    if status == 0:
+        progress.left.clear()
     progress.show(last=True)
     keep_times(progress.took)
     return status == 0
