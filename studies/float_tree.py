@@ -14,15 +14,20 @@ def branch(pull, top, node):
 
 
 def fitted(frequency, steps, reversion, volatility, curve_yield):
-    """Discounts of rows 0 to steps - 1 by node, each lowest first, and the branches by node."""
-    step, pull = 1 / frequency, reversion / frequency
+    """The tree of a flat yield."""
+    return fitted_to([math.exp(-curve_yield * (row + 1) / frequency) for row in range(steps)], frequency, reversion, volatility)
+
+
+def fitted_to(curve, frequency, reversion, volatility):
+    """Discounts of rows 0 to n - 1 by node, each lowest first, and the branches by node; the curve has the discounts of rows 1 to n."""
+    steps, step, pull = len(curve), 1 / frequency, reversion / frequency
     top = math.floor(0.184 / pull) + 1 if pull else steps + 1
     spacing = volatility * math.sqrt(3 * step) * step
     branches = {j: branch(pull, top, j) for j in range(-min(steps, top), min(steps, top) + 1)}
     prices, rows = {0: 1.0}, []
     for i in range(steps):
         total = sum(price * math.exp(-j * spacing) for j, price in prices.items())
-        level = math.exp(-curve_yield * (i + 1) * step) / total
+        level = curve[i] / total
         row = {j: level * math.exp(-j * spacing) for j in prices}
         later = dict.fromkeys(range(-min(i + 1, top), min(i + 1, top) + 1), 0.0)
         for j, price in prices.items():
@@ -52,3 +57,15 @@ def call(frequency, terms, reversion, volatility, curve_yield, strike):
         if i == expiry:
             values = {j: max(value - strike, 0.0) for j, value in values.items()}
     return values[0]
+
+
+def bond_and_call(curve, frequency, reversion, volatility, flows, days, strike):
+    """A bond with these flows of rows 1 to n, and the right to buy it without the row's flow on these rows."""
+    rows, branches = fitted_to(curve, frequency, reversion, volatility)
+    bond, option = dict.fromkeys(branches, 0.0), dict.fromkeys(branches, 0.0)
+    for i in range(len(curve) - 1, -1, -1):
+        bond = rolled(rows[i], branches, {j: value + flows[i] for j, value in bond.items()})
+        option = rolled(rows[i], branches, option)
+        if i in days:
+            option = {j: max(value, bond[j] - strike) for j, value in option.items()}
+    return bond[0], option[0]

@@ -20,7 +20,7 @@ import reference
 
 class Documents(unittest.TestCase):
     def test_tables_and_pictures_are_as_committed(self):
-        for name in ('accepted.py', 'closed_form.py'):
+        for name in ('accepted.py', 'closed_form.py', 'desk_note.py'):
             run = subprocess.run([sys.executable, '-B', common.ROOT / 'studies' / name, '--check'], stdout=subprocess.PIPE, text=True)
             self.assertEqual(run.returncode, 0, run.stdout)
 

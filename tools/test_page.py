@@ -1,12 +1,14 @@
 #!/usr/bin/env python3
 """Tests pages and pictures of tools/draw in a real browser, headless Chromium: they load without a complaint and ask for nothing else,
-show every node, and no text is cut or stands on another.
+show every node, and no text is cut or stands on another. MIXEGORTA_SCREENSHOTS names a folder that gets pictures of them.
 
     python3 tools/test_page.py [-v]
 
 Without a browser nothing is tested: it says so, with exit status 2. MIXEGORTA_BROWSER names one that is not found by itself.
 """
+import os
 import pathlib
+import re
 import subprocess
 import sys
 import tempfile
@@ -19,6 +21,7 @@ ROOT = pathlib.Path(__file__).resolve().parent.parent
 EXAMPLES = [path for path in sorted((ROOT / 'examples').glob('*.txt')) if path.stem not in ('refused', 'one-step')]
 BELOW, ABOVE = 'rgb(213, 94, 0)', 'rgb(0, 114, 178)'
 MOST_POINTED_AT = 120
+EUR = {0.25: -0.25, 0.5: -0.15, 1: 0.1, 2: 0.6, 3: 1.0, 5: 1.6, 7: 2.1, 10: 2.5}
 
 MARKS = '''[...document.querySelectorAll('.node')].map(mark => {
     const box = mark.getBoundingClientRect();
@@ -47,6 +50,11 @@ def drawn(sheet, *arguments):
     if made.stderr:
         raise AssertionError(made.stderr.decode())
     return made.stdout
+
+
+def light(colour):
+    """How light a colour is, 0 to 255."""
+    return sum(weight * int(part) for weight, part in zip((0.3, 0.59, 0.11), re.findall(r'\d+', colour)))
 
 
 def sheet_of(path):
@@ -107,7 +115,7 @@ class Pages(unittest.TestCase):
         for k in range(0, len(lines), len(lines) // MOST_POINTED_AT + 1):
             self.check_node(value, marks[k], lines[k])
         self.assertEqual(value(CROWDED), [])
-        self.assertEqual(value("document.querySelectorAll('tbody tr').length"), int(lines[-1][1]) + 2)
+        self.assertEqual(value("document.querySelectorAll('#rows tbody tr').length"), int(lines[-1][1]) + 2)
 
     def test_every_node_of_the_examples(self):
         for path in EXAMPLES:
@@ -140,14 +148,86 @@ class Pages(unittest.TestCase):
         path = ROOT / 'examples/negative-curve.txt'
         value = self.opened(drawn(path.with_suffix('.sheet').read_bytes(), '--page', '--job', path), width=390, height=800, touch=True)
         self.assertLessEqual(value('document.documentElement.scrollWidth'), 390)
-        shown = [mark for mark in value(MARKS) if mark['x'] < 370]
-        self.assertGreater(len(shown), 8)
+        shown = value(MARKS)
+        self.assertTrue(all(20 < mark['x'] < 385 for mark in shown))
         for mark in shown:
-            self.browser.tap(mark['x'], mark['y'])
-            self.check_place(value(NOTE), mark, 390, 800)
-        self.assertIn('Row 2, node 2', value(NOTE)['text'])
+            value(f"window.scrollTo(0, {mark['y']} - 400)")
+            seen = {**mark, 'y': mark['y'] - value('window.scrollY')}
+            self.browser.tap(seen['x'], seen['y'])
+            self.check_place(value(NOTE), seen, 390, 800)
+        self.assertIn('Row 7, node 7', value(NOTE)['text'])
+        value('window.scrollTo(0, 0)')
         self.browser.tap(shown[0]['x'], shown[0]['y'] - 100)
         self.assertTrue(value(NOTE)['hidden'])
+
+    def test_a_curve_that_starts_below_zero(self):
+        """The EUR curve and callable note of docs/notebooks, at a desk and on a phone: all nodes in the window, and the scale made for the state price."""
+        sheet, path = self.eur()
+        page = drawn(sheet, '--page', '--job', path)
+        for width, height, touch in ((1280, 800, False), (390, 844, True)):
+            value = self.opened(page, width=width, height=height, touch=touch)
+            marks = value(MARKS)
+            self.assertEqual(len(marks), 1_390)
+            self.assertTrue(all(0 < mark['x'] < width for mark in marks))
+            self.assertLessEqual(value('document.documentElement.scrollWidth'), width)
+            today, zero = marks[0], value("document.getElementById('zero').getBoundingClientRect().top")
+            self.assertEqual((today['shape'], today['colour']), ('rect', BELOW))
+            self.assertGreater(today['y'] - zero, 5)
+            self.assertIn('today \u22120.2502344%', value("[...document.querySelectorAll('#tree text')].map(text => text.textContent)"))
+            after = value("document.querySelectorAll('.node')[1389].compareDocumentPosition(document.getElementById('zero')) & Node.DOCUMENT_POSITION_FOLLOWING")
+            self.assertTrue(after)
+            self.keep(f'eur-{width}')
+
+    def test_inputs_prices_and_exercise_are_told(self):
+        sheet, path = self.eur()
+        value = self.opened(drawn(sheet, '--page', '--job', path))
+        bond, option = (int(line.split()[1].replace('.', '')) for line in sheet.decode().splitlines()[-2:])
+        cells = value("[...document.querySelectorAll('#prices td')].map(cell => cell.textContent)")
+        self.assertEqual(cells[::2], [f'{price / 10**7:.7f}' for price in (bond, option, bond - option)])
+        self.assertEqual(cells[1::2], ['0.0000137', '0.0000137', '0.0000274'])
+        self.assertIn('exact on this tree', value("document.getElementById('prices').textContent"))
+        told = value("document.getElementById('inputs').textContent")
+        for words in ('40, 4 a year', '0.0075 a step, 0.03 a year', '0.7 % a year, 70 basis points', 'row 20 (5 years), row 24 (6 years)', 'row 36 (9 years)'):
+            self.assertIn(words, told)
+        rows = value("[...document.querySelectorAll('#rows tbody tr')].filter(row => row.lastChild.textContent === 'exercise').map(row => row.firstChild.textContent)")
+        self.assertEqual(rows, ['20', '24', '28', '32', '36'])
+
+    def test_a_dark_screen_and_paper(self):
+        """On a dark screen everything that is drawn stands off the ground; on paper nothing is lost at the right, and colours are those of paper."""
+        sheet, path = self.eur()
+        page = drawn(sheet, '--page', '--job', path)
+        try:
+            self.browser.call('Emulation.setEmulatedMedia', features=[{'name': 'prefers-color-scheme', 'value': 'dark'}])
+            value = self.opened(page)
+            ground = light(value('getComputedStyle(document.body).backgroundColor'))
+            for part in ('.node', '#zero', '#tree text', '#prices td', 'td.below', '#legend'):
+                what = 'stroke' if part == '#zero' else 'fill' if part in ('.node', '#tree text') else 'color'
+                self.assertGreater(light(value(f"getComputedStyle(document.querySelector('{part}')).{what}")) - ground, 80, part)
+            self.keep('eur-dark')
+            self.browser.call('Emulation.setEmulatedMedia', media='print', features=[{'name': 'prefers-color-scheme', 'value': 'light'}])
+            value = self.opened(page, width=720, height=1_000)
+            self.assertLessEqual(value('document.documentElement.scrollWidth'), 720)
+            self.assertEqual(value("[...document.querySelectorAll('#rows td')].filter(cell => cell.getBoundingClientRect().right > 720).length"), 0)
+            self.assertEqual(value(MARKS)[0]['colour'], BELOW)
+            self.assertEqual(value("getComputedStyle(document.querySelector('.hint')).display"), 'none')
+        finally:
+            self.browser.call('Emulation.setEmulatedMedia', media='', features=[])
+
+    def eur(self):
+        """The sheet of the EUR curve and the note of docs/notebooks, quarterly, and its text."""
+        known = {0: 1.0, **{years: (1 + rate / 100) ** -years for years, rate in EUR.items()}}
+        lines = ['frequency 4', 'reversion 75', 'volatility 7000', 'option dated call 1 20 24 28 32 36']
+        for row in range(1, 41):
+            low, high = max(time for time in known if time < row / 4), min(time for time in known if time >= row / 4)
+            part = (row / 4 - low) / (high - low)
+            lines += [f'discount {known[low] ** (1 - part) * known[high] ** part!r}', f'flow {"1.015" if row == 40 else "0.015" if row % 4 == 0 else "0"}']
+        path = self.text(lines)
+        return sheet_of(path), path
+
+    def keep(self, name):
+        """A screenshot for people to look at, where MIXEGORTA_SCREENSHOTS names a folder."""
+        if os.environ.get('MIXEGORTA_SCREENSHOTS'):
+            self.browser.picture(os.path.join(os.environ['MIXEGORTA_SCREENSHOTS'], f'{name}.png'))
 
     def test_the_arrow_keys(self):
         value = self.opened(drawn((ROOT / 'examples/callable-note.sheet').read_bytes(), '--page'))

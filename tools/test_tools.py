@@ -524,6 +524,29 @@ class Drawing(unittest.TestCase):
             root = ElementTree.fromstring(run('draw', path.with_suffix('.sheet').read_bytes(), '--job', str(path)).stdout)
             self.assertTrue(any((text.text or '').startswith(f'{told} \u00b7 ') for text in root.iter(SVG + 'text')), told)
 
+    def test_the_scale_is_where_the_state_price_lies(self):
+        """With a job 99 % of each row's state price stands on the scale, between the torn lines, and all of it in the frame; zero is drawn after the nodes."""
+        text = text_of(frequency=4, reversion=75, volatility=7_000, quotes=[f'yield {(row - 4) * 0.0006:.4f}' for row in range(1, 41)], flows=['flow 0.01 x 40'])
+        with tempfile.TemporaryDirectory() as folder:
+            path = pathlib.Path(folder) / 'job.txt'
+            path.write_text(text)
+            root = ElementTree.fromstring(run('draw', sheet_of(text), '--job', str(path)).stdout)
+        upper, lower = sorted(float(part.get('d').split('l')[0].split()[1]) for part in root.iter() if part.get('class') == 'cut')
+        held, whole = {}, {}
+        for mark in root.iter():
+            if mark.get('class') == 'node':
+                words = mark.find(SVG + 'title').text.split()
+                row, price = int(words[1].rstrip(',')), float(words[-1])
+                down = float(mark.get('cy') or float(mark.get('y')) + float(mark.get('height')) / 2)
+                whole[row] = whole.get(row, 0) + price
+                held[row] = held.get(row, 0) + price * (upper <= down <= lower)
+                self.assertTrue(100 < down < 580, down)
+        self.assertEqual(len(held), 40)
+        for row, price in held.items():
+            self.assertGreaterEqual(price, 0.99 * whole[row])
+        order = [part.get('class') or part.get('id') for part in root.iter() if part.get('class') == 'node' or part.get('id') == 'zero']
+        self.assertEqual(order[-1], 'zero')
+
     def test_areas_are_state_prices(self):
         path = ROOT / 'examples/negative-curve.txt'
         root = ElementTree.fromstring(run('draw', path.with_suffix('.sheet').read_bytes(), '--job', str(path)).stdout)

@@ -173,9 +173,10 @@ def python_limits(limits):
 
 
 def python_causes(refusals):
-    names = ['"CAUSES"', '"Refused"', *(f'"{refusal.exception}"' for refusal in refusals)]
+    names = ['"ADVICE"', '"CAUSES"', '"Refused"', *(f'"{refusal.exception}"' for refusal in refusals)]
     lines = [*python_wrapped('__all__ = [', names, ']'), '', 'CAUSES: Dict[int, str] = {']
-    return [*lines, *(f'    {refusal.number}: "{refusal.cause}",' for refusal in refusals), '}']
+    lines += [*(f'    {refusal.number}: "{refusal.cause}",' for refusal in refusals), '}', '', '# what to do about each', 'ADVICE: Dict[int, str] = {']
+    return [*lines, *(f'    {refusal.number}: "{refusal.remedy}",' for refusal in refusals), '}']
 
 
 def python_classes(refusals):

@@ -21,7 +21,7 @@ The shared object is that of the package, or in a source folder ../target/libmix
 """
 __version__ = "0.14.0"
 
-from . import _bands, _books, _engine, _job, _limits, _pair, refusals
+from . import _bands, _books, _engine, _job, _limits, _pair, _units, refusals
 from ._bands import *
 from ._books import *
 from ._engine import *
@@ -41,3 +41,4 @@ __all__ += _job.__all__
 __all__ += _limits.__all__
 __all__ += _pair.__all__
 __all__ += refusals.__all__
+_units.describe(__all__, globals())

@@ -39,7 +39,12 @@ def refusal(number: int, name: str, given: Tuple[Any, ...], verdict: Any = None)
         return kind(number, "bands", place=verdict.place)
     if number in (17, 18):
         return kind(number, "bands", verdict.row, verdict.price)
-    return kind(number, *_place(number, dict(zip(DECLARATIONS[name][1], given))))
+    named = dict(zip(DECLARATIONS[name][1], given))
+    argument, row = _place(number, named)
+    lower = _lower_volatility(number, named)
+    if lower is not None and argument == "points":
+        argument = "volatility"
+    return kind(number, argument, row, volatility=lower)
 
 
 def accepted(number: int, name: str, given: Tuple[Any, ...], verdict: Any = None) -> None:
@@ -216,6 +221,30 @@ def _unfitted_row(given: Given) -> int:
         else:
             low = steps
     return int(high)
+
+
+def _lower_volatility(number: int, given: Given) -> Optional[int]:
+    """Of a fit that is refused for its nodes, the greatest lower volatility that is found accepted by halving; None where there is none."""
+    if number not in (8, 9):
+        return None
+    if "job" in given:
+        given = _fit_and_flows(bytes(given["job"]))
+    elif "shelf" in given and "rows" in given:
+        given = {**given, **_tree_on_shelf(given)}
+    if not {"rows", "volatility"} <= given.keys():
+        return None
+    memories = [own_memory(_needed(name, given)) for name in ("discounts_needed", "state_prices_needed")]
+    low, high = -1, given["volatility"]
+    while high - low > 1:
+        middle = 0 if low < 0 else (low + high) // 2
+        if call("fit_version", given.get("version", 1), given["frequency"], given["steps"], given["reversion"], middle,
+                *(given[name] for name in ("rows", "kinds", "figures")), *memories):
+            if middle == 0:
+                return None
+            high = middle
+        else:
+            low = middle
+    return low if low >= 0 else None
 
 
 def _flow(given: Given) -> Place:

@@ -1,12 +1,13 @@
 """A fitted tree with memories of its own."""
 from array import array
 from functools import lru_cache
-from typing import Any, Iterable, Optional, Tuple
+from typing import Any, Callable, Iterable, Optional, Tuple
 
 from . import _engine as engine
 from ._arguments import amounts, own_memory, u64
 from ._faults import call, refusal
 from .amounts import Amount, Amounts
+from .refusals import NotInTree
 
 
 def _sizes(steps: int, reversion: int) -> Tuple[int, int]:
@@ -86,6 +87,21 @@ class Tree:
         place = engine.row_range(self._discounts, self._state_prices, kind, self.steps, self.working_reversion, row)
         memory = self._discounts if kind == engine.DISCOUNTS else self._state_prices
         return array("Q", memory.values[place.start:place.stop].tobytes()) if place else None
+
+    def step_rates(self, row: Optional[int] = None) -> "array[int]":
+        """The signed rates of one step in a row, 0 to n - 1, lowest node first, in billionths; below 0 where a discount is above one. Without
+        a row those of the whole tree, each in the place of its discount. As array('q'): signed numbers of 64 bits, which numpy takes as such."""
+        return self._rates(engine.step_rate, row)
+
+    def continuous_rates(self, row: Optional[int] = None) -> "array[int]":
+        """The signed rates over one step by continuous compounding, as step_rates gives the simple ones."""
+        return self._rates(engine.continuous_rate, row)
+
+    def _rates(self, rate: Callable[[int], int], row: Optional[int]) -> "array[int]":
+        discounts = self._discounts.values if row is None else self.row(engine.DISCOUNTS, row)
+        if discounts is None:
+            raise NotInTree(6, "row")
+        return array("q", map(rate, discounts))
 
     def state_price_error_bound(self, row: int) -> int:
         """How far below the exact ones the state prices of a row may be in sum."""

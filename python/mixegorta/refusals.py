@@ -1,10 +1,10 @@
 """The engine's refusals, one exception class for each number."""
-from typing import Dict, Optional, Type
+from typing import Dict, List, Optional, Type
 
 # ---- begin: written by tools/declarations.py
 __all__ = [
-    "CAUSES", "Refused", "MalformedJob", "UnknownFrequency", "StepsOutOfRange", "ReversionTooLarge", "VolatilityTooLarge", "NotInTree",
-    "QuoteOutOfRange", "NodesTooFarApart", "NodeDiscountOutOfRange", "FlowTooLarge", "OptionTermsOutOfRange", "ValueTooLarge",
+    "ADVICE", "CAUSES", "Refused", "MalformedJob", "UnknownFrequency", "StepsOutOfRange", "ReversionTooLarge", "VolatilityTooLarge",
+    "NotInTree", "QuoteOutOfRange", "NodesTooFarApart", "NodeDiscountOutOfRange", "FlowTooLarge", "OptionTermsOutOfRange", "ValueTooLarge",
     "ExerciseDatesOutOfOrder", "ShelfFull", "WrongName", "BadBand", "PairInNoBand", "PairInSeveralBands", "PairStepsOutOfRange",
 ]
 
@@ -29,6 +29,29 @@ CAUSES: Dict[int, str] = {
     18: "a row and a price are in two or more bands",
     19: "the steps of a pair are above 20, or its two trees differ in them",
 }
+
+# what to do about each
+ADVICE: Dict[int, str] = {
+    1: "compare the order of its fields, their lengths and byte order, and the counts of quotes and flows with the steps",
+    2: "build the curve for one of these step lengths",
+    3: "take fewer steps: 60 monthly steps are five years, 60 yearly ones sixty",
+    4: "check its unit, ten-thousandths a step; a true reversion so strong needs shorter steps",
+    5: "check its unit, millionths a year, and that it is absolute, not relative to the rate",
+    6: "correct the calling program",
+    7: "look for a rate in percent (3.2 for 0.032), or a rate given as a discount",
+    8: "the tree is too wide: less volatility, fewer or shorter steps, or more reversion narrow it",
+    9: "look for a quote out of line with its neighbours; then less volatility, more reversion, fewer or shorter steps help",
+    10: "give flows for a notional of one and multiply the price",
+    11: "expiry is a row before the last one, not a year, and the strike is for a notional of one",
+    12: "give flows and strike for a smaller notional and multiply the price",
+    13: "list rows in order, each once, the last one before the last row",
+    14: "release a tree first, or ask for fewer steps or more reversion",
+    15: "ask for a tree before its commit, commit it once, and release it before its name is asked for again",
+    16: "correct the band at the place that is shown, counted from 1; place 41 says that only the number of bands is wrong",
+    17: "add a band for the pair that is shown, or let one reach it; both ends belong to a band",
+    18: "shorten one of the bands that have the pair that is shown; both ends belong to a band",
+    19: "fit rate and spread with the same steps, at most 20; longer steps reach further",
+}
 # ---- end
 
 
@@ -37,7 +60,8 @@ class Refused(ValueError):
 
     number is the engine's. argument names the argument at fault. row is the row of the quote or flow at fault, of the lent
     discount, or of the pair that haircut bands fail; price is that pair's price in billionths, and place that of a bad band, counted
-    from 1. Each is None where there is no such thing.
+    from 1. volatility is a lower one, in millionths, that the same fit accepts. Each is None where there is no such thing. advice says what
+    to do; Python 3.11 and later show it below the message.
     """
 
     number: int
@@ -45,19 +69,27 @@ class Refused(ValueError):
     row: Optional[int]
     price: Optional[int]
     place: Optional[int]
+    volatility: Optional[int]
 
     def __init__(self, number: int, argument: Optional[str] = None, row: Optional[int] = None, price: Optional[int] = None,
-                 place: Optional[int] = None) -> None:
-        super().__init__(number, argument, row, price, place)
-        self.number, self.argument, self.row, self.price, self.place = number, argument, row, price, place
+                 place: Optional[int] = None, volatility: Optional[int] = None) -> None:
+        super().__init__(number, argument, row, price, place, volatility)
+        self.number, self.argument, self.row, self.price, self.place, self.volatility = number, argument, row, price, place, volatility
+        self.__notes__: List[str] = [f"What to do: {self.advice}."]
+
+    @property
+    def advice(self) -> str:
+        """What to do about it, without a full stop."""
+        return ADVICE.get(self.number, "look it up in docs/MANUAL.md")
 
     def __str__(self) -> str:
         shown = [f"{word} {value}" for word, value in (("row", self.row), ("price", self.price), ("band", self.place)) if value is not None]
         told = ", ".join(([self.argument] if self.argument else []) + shown)
+        told += "" if self.volatility is None else f"; {self.volatility} millionths of volatility are accepted"
         return f"refused {self.number}: {CAUSES.get(self.number, 'not listed')}" + (f" ({told})" if told else "")
 
     def __repr__(self) -> str:
-        more = "".join(f", {word}={value}" for word, value in (("price", self.price), ("place", self.place)) if value is not None)
+        more = "".join(f", {word}={value}" for word, value in (("price", self.price), ("place", self.place), ("volatility", self.volatility)) if value is not None)
         return f"{type(self).__name__}(number={self.number}, argument={self.argument!r}, row={self.row}{more})"
 
 
@@ -95,7 +127,8 @@ class NodesTooFarApart(Refused):
 
 
 class NodeDiscountOutOfRange(Refused):
-    """9: a node discount is 0 or above 1,100,000,000. Of a fit, row is that of the first quote to which no tree can be fitted."""
+    """9: a node discount is 0 or above 1,100,000,000. Of a fit, row is that of the first quote to which no tree can be fitted; where a
+    lower volatility is accepted, argument is volatility, and volatility tells one."""
 
 
 class FlowTooLarge(Refused):

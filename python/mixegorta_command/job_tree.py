@@ -12,7 +12,7 @@ OPTION_KINDS = {1: 'European call', 2: 'European put', 3: 'American call', 4: 'A
 SIDES = {1: 'call', 2: 'put'}
 
 # State prices by row, each a list of texts from the lowest node up; branches by node, as pairs of an end and the text of its probability.
-JobTree = namedtuple('JobTree', 'frequency reversion version working_reversion volatility state_prices branches option')
+JobTree = namedtuple('JobTree', 'frequency reversion version working_reversion volatility state_prices branches option flows dates')
 
 
 def compared(wanted, sheet):
@@ -41,15 +41,25 @@ def option_words(reference, terms, frequency):
     return f'{SIDES[terms.side]} on rows {" ".join(map(str, terms.dates))}, strike {reference.amount(terms.strike)}'
 
 
+def exercise_rows(reference, terms):
+    """The rows on which the option may be exercised."""
+    if terms is None:
+        return ()
+    if isinstance(terms, reference.Kind):
+        return (terms.expiry,) if terms.kind in (1, 2) else tuple(range(terms.expiry + 1))
+    return tuple(terms.dates)
+
+
 def job_tree(job, sheet):
     """The job's tree, for the bytes of a sheet that is no refusal."""
     reference = rules.module()
     compared(reference.sheet(job), sheet)
-    f, n, b, s, version, quoted, _, terms = reference.read(job)
+    f, n, b, s, version, quoted, flows, terms = reference.read(job)
     version = version or 1
     quotes = [reference.quote(f, row, kind, pattern) for row, (kind, pattern) in enumerate(quoted, 1)]
     working = reference.working_reversion(version, b)
     _, prices = reference.fit(n, working, reference.version_spacing(version, f, s, b), quotes)
     state_prices = [[reference.amount(row[j]) for j in sorted(row)] for row in prices]
     branches = {j: [(end, shown_share(share)) for end, share in reference.branches(working, j)] for j in reference.nodes(working, n - 1)}
-    return JobTree(f, b, version, working, s, state_prices, branches, option_words(reference, terms, f))
+    return JobTree(f, b, version, working, s, state_prices, branches, option_words(reference, terms, f),
+                   [reference.amount(flow) for flow in flows], exercise_rows(reference, terms))

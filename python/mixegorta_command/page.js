@@ -10,6 +10,40 @@
     let chosen = null;
     let pinned = false;
 
+    // In a narrow window the rows stand closer, so that the whole tree is seen; what is left of the axis stays, and heights do.
+    const [, top, wide, height] = svg.getAttribute('viewBox').split(' ').map(Number);
+    const [start, rim] = [Number(svg.dataset.left), Number(svg.dataset.right)];
+    const small = window.matchMedia('(max-width: 720px)');
+    const narrow = 520;
+    const moved = (x, to) => x <= start ? x : start + (x - start) * (to - start - rim) / (wide - start - rim);
+    const kept = new Map();
+
+    function keep(part) {
+        if (!kept.has(part)) kept.set(part, Object.fromEntries(['x', 'x1', 'x2', 'cx', 'd', 'width'].map(name => [name, part.getAttribute(name)])));
+        return kept.get(part);
+    }
+
+    function place(part, to) {
+        const old = keep(part);
+        for (const name of ['x1', 'x2', 'cx']) if (old[name] !== null) part.setAttribute(name, moved(Number(old[name]), to));
+        if (part.classList.contains('ground')) part.setAttribute('width', moved(start + Number(old.width), to) - start);
+        else if (old.x !== null) part.setAttribute('x', moved(Number(old.x) + (old.width / 2 || 0), to) - (old.width / 2 || 0));
+        if (part.classList.contains('cut')) part.setAttribute('d', old.d.replace(/l([\d.]+) /g, (all, step) => `l${step * (moved(wide, to) - start) / (wide - start)} `));
+        else if (old.d !== null) part.setAttribute('d', old.d.replace(/([ML])([\d.]+) /g, (all, letter, x) => `${letter}${moved(Number(x), to)} `));
+    }
+
+    function lay() {
+        const to = small.matches ? narrow : wide;
+        svg.classList.toggle('narrow', small.matches);
+        svg.setAttribute('viewBox', `0 ${top} ${to} ${height}`);
+        for (const part of svg.querySelectorAll('line, circle:not(#ring), rect, path, text:not([transform])')) if (!part.closest('.legend')) place(part, to);
+        for (const node of tree.nodes) {
+            node.wide ??= node.x;
+            node.x = moved(node.wide, to);
+        }
+        if (chosen) show(chosen);
+    }
+
     const signed = text => text.replace('-', '\u2212');
 
     function nearest(event) {
@@ -83,6 +117,9 @@
         const found = row.find(node => node.number === number) || (rows && row[number < 0 ? 0 : row.length - 1]);
         if (found) show(found);
     }
+
+    small.addEventListener('change', lay);
+    if (small.matches) lay();
 
     const steps = {ArrowLeft: [-1, 0], ArrowRight: [1, 0], ArrowUp: [0, 1], ArrowDown: [0, -1]};
     svg.addEventListener('pointermove', event => { if (event.pointerType === 'mouse' && !pinned) show(nearest(event)); });
