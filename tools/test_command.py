@@ -57,7 +57,7 @@ class Command(unittest.TestCase):
         return made
 
     def test_prices_first(self):
-        wanted = ''.join(f'{name:6}  {price}   within {bound} billionths of the exact price\n' for name, price, bound in PRICES)
+        wanted = ''.join(f'{name:6}  {price}   exact on this tree to {bound} billionths\n' for name, price, bound in PRICES)
         job = self.shown('job', COUPON).stdout
         for arguments, given in (((COUPON,), b''), ((), COUPON.read_bytes()), (('-',), job)):
             self.assertEqual(self.shown('price', *arguments, given=given).stdout.decode(), wanted)

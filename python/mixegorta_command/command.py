@@ -135,7 +135,7 @@ def price(given, called):
     elif given.tree:
         put(found.printed)
     else:
-        put(''.join(f'{name:6}  {value}   within {bound} billionths of the exact price\n' for name, value, bound in answers.prices(found.sheet)).encode())
+        put(''.join(f'{name:6}  {value}   exact on this tree to {bound} billionths\n' for name, value, bound in answers.prices(found.sheet)).encode())
     return answers.SHOWN
 
 
