@@ -8,6 +8,7 @@ Sheets are worked out by reference/reference.py. The tools stand outside the pro
 import functools
 import os
 import pathlib
+import re
 import shutil
 import subprocess
 import sys
@@ -156,6 +157,23 @@ class Jobs(unittest.TestCase):
         for number, text in cases:
             with self.subTest(number=number, text=text):
                 self.assertEqual(sheet_of(text), b'refused %d\n' % number)
+
+    def test_figures_of_another_unit_are_told_and_taken(self):
+        note = dict(quotes=['rate 0.01', 'yield -0.2'], flows=['flow 0', 'flow 2'], option='option american put 1 0.001')
+        plain = run('job', text_of(**note))
+        self.assertEqual((plain.returncode, plain.stderr), (0, b''))
+        for change, words in ((dict(quotes=['rate -0.25', 'rate 0.01']), 'rate -0.25 is -25 % a year'), (dict(quotes=['yield 0.21', 'rate 0.01']), 'yield 0.21 is 21 % a year'),
+                              (dict(flows=['flow 0', 'flow 2.000000001']), 'flow 2.000000001 is far from one'), (dict(flows=['flow 0.0009', 'flow 1']), 'flow 0.0009 is far from one'),
+                              (dict(option='option dated call 0.000000001 1'), 'strike 0.000000001 is far from one'),
+                              (dict(option='option european call 1 2.1'), 'strike 2.1 is far from one'),
+                              (dict(frequency=12, reversion=834), 'reversion 834 is 1.0008 a year')):
+            made = run('job', text_of(**{**note, **change}))
+            self.assertEqual(made.returncode, 0)
+            self.assertRegex(made.stderr.decode(), rf'\Astandard input:\d+: warning: {re.escape(words)}; [^\n]+\n\Z')
+            self.assertEqual(reference.read(made.stdout).n, 2)
+        self.assertEqual(run('job', text_of(frequency=12, reversion=833, **note)).stderr, b'')
+        many = run('job', text_of(quotes=['rate 0.3\n' * 25], flows=['flow 1 x 25']))
+        self.assertEqual(many.stderr.decode().splitlines()[-1], 'standard input: 5 more warnings')
 
     def test_the_longest_job(self):
         job = run('job', text_of(quotes=['rate 0 x 255'], flows=['flow 0 x 255'], option='option american put 255 0')).stdout

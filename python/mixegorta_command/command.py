@@ -22,7 +22,8 @@ ENTRIES = '''One entry to a line, in any order; # starts a comment:
     option dated put 1.01 2 4 6   ... or dated, call or put, strike, and the rows of exercise, none or more
 
 `x COUNT` after a discount, rate, yield or flow repeats it: `flow 0.02 x 59`. All but steps, version and option must be given.
-Only what no job can hold is an error here. Limits are left to the engine, so that its refusal can be seen.'''
+Only what no job can hold is an error here. Limits are left to the engine, so that its refusal can be seen. A figure that looks like another unit
+(a rate above 20 %, a flow or strike above 2 or below a thousandth, a reversion above 1 a year) is taken, and standard error warns of it.'''
 OUTSIDE = 'A convenience outside the proved core: the engine is proved, this command is not.'
 
 # What each part says of itself: a line for the list of parts, then what --help tells.

@@ -3,7 +3,7 @@ import re
 import struct
 from decimal import Decimal
 
-from .streams import Stop
+from .streams import Stop, tell
 
 LARGEST_BYTE, LARGEST_TWO, LARGEST_FOUR = 0xFF, 0xFFFF, 0xFFFFFFFF
 DECIMALS = 9
@@ -14,6 +14,7 @@ OTHER_NAMES = {'pull': 'reversion'}
 QUOTE_KINDS = {'discount': 5, 'rate': 6, 'yield': 9}
 OPTION_KINDS = {('european', 'call'): 1, ('european', 'put'): 2, ('american', 'call'): 3, ('american', 'put'): 4}
 SIDES = {'call': 1, 'put': 2}
+STRIKE_OF = {8: 4, 10: 3}
 MOST_DATES = LARGEST_TWO - 5
 FLOAT = re.compile(r'[+-]?((\d+\.?\d*|\.\d+)(e[+-]?\d+)?|nan|inf|infinity)', re.ASCII | re.IGNORECASE)
 MOST_ERRORS = 20
@@ -21,10 +22,35 @@ UTF_16_MARKS = (b'\xff\xfe', b'\xfe\xff')
 LOW_TAG = re.compile(rb'[\x01-\x08]')
 LINE_END = re.compile(r'\r\n?|\n')
 AMOUNT = re.compile(r'-?(\d+\.?\d*|\.\d+)', re.ASCII)
+ODD_RATE, LEAST_AMOUNT, MOST_AMOUNT = 0.2, 10 ** (DECIMALS - 3), 2 * 10 ** DECIMALS
 
 
 class Wrong(Exception):
     """Something in the text that no job can hold."""
+
+
+# Figures that look like another unit: they are taken as they stand, and told.
+
+def odd_quote(name, value):
+    """What is odd about a rate or a yield; None where nothing is."""
+    if name == 'discount' or not ODD_RATE < abs(value) < float('inf'):
+        return None
+    return f'{name} {value:g} is {100 * value:g} % a year; it is a part of one, {value / 100:g} for {value:g} %'
+
+
+def odd_amount(name, amount):
+    """What is odd about a flow or a strike in billionths; None where nothing is."""
+    if amount == 0 or LEAST_AMOUNT <= amount <= MOST_AMOUNT:
+        return None
+    return f'{name} {Decimal(amount).scaleb(-DECIMALS).normalize():f} is far from one; amounts are for a notional of one, 1.02 for 102 per 100'
+
+
+def odd_reversion(single):
+    """What is odd about the reversion of a step over a year; None where nothing is."""
+    yearly = Decimal(single['reversion'] * single['frequency']).scaleb(-4)
+    if yearly <= 1:
+        return None
+    return f'reversion {single["reversion"]} is {yearly:f} a year; it is per step, in ten-thousandths: a yearly one of 0.03 with monthly steps is 25'
 
 
 # Words
@@ -97,10 +123,14 @@ def option(words):
 # Lines
 
 class Text:
-    """What the lines say: single entries by name, quotes as (kind, float), flows in billionths."""
+    """What the lines say: single entries by name, quotes as (kind, float), flows in billionths; odd is what looks like another unit."""
 
     def __init__(self):
-        self.single, self.line_of, self.quotes, self.flows = {}, {}, [], []
+        self.single, self.line_of, self.quotes, self.flows, self.odd = {}, {}, [], [], []
+
+    def note(self, line, words):
+        if words:
+            self.odd.append((line, words))
 
     def put_once(self, name, value, line):
         if name in self.single:
@@ -120,11 +150,15 @@ class Text:
         elif name in QUOTE_KINDS:
             word, count = repeated(rest, name)
             self.quotes += [(QUOTE_KINDS[name], figure(word, name))] * count
+            self.note(line, odd_quote(name, figure(word, name)))
         elif name == 'flow':
             word, count = repeated(rest, name)
             self.flows += [billionths(word, name)] * count
+            self.note(line, odd_amount(name, billionths(word, name)))
         elif name == 'option':
-            self.put_once(name, option(rest), line)
+            found = option(rest)
+            self.put_once(name, found, line)
+            self.note(line, odd_amount('strike', found[STRIKE_OF[found[0]]]))
         else:
             raise Wrong(f'unknown entry {words[0]!r}')
 
@@ -185,7 +219,17 @@ def job_of_text(content, name):
     if errors:
         more = [f'{name}: {len(errors) - MOST_ERRORS} more lines are wrong'] if len(errors) > MOST_ERRORS else []
         raise Stop('\n'.join([f'{name}:{line}: {message}' if line else f'{name}: {message}' for line, message in errors[:MOST_ERRORS]] + more))
+    tell_odd(text, name)
     return encode(text)
+
+
+def tell_odd(text, name):
+    """Tells on standard error what looks like another unit; it is taken as it stands."""
+    text.note(text.line_of['reversion'], odd_reversion(text.single))
+    for line, words in text.odd[:MOST_ERRORS]:
+        tell(f'{name}:{line}: warning: {words}')
+    if len(text.odd) > MOST_ERRORS:
+        tell(f'{name}: {len(text.odd) - MOST_ERRORS} more warnings')
 
 
 def job_of(content, name):
