@@ -55,7 +55,7 @@ class Pair:
     def __repr__(self) -> str:
         return f"Pair({self.rates!r}, {self.spreads!r})"
 
-    def _lent(self) -> Tuple[Any, ...]:
+    def _lent(self) -> Tuple[int, int, Amounts, int, int, Amounts]:
         rates, spreads = self.rates, self.spreads
         return rates.steps, rates.working_reversion, rates.discounts, spreads.steps, spreads.working_reversion, spreads.discounts
 
