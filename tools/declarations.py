@@ -11,7 +11,7 @@ import sys
 
 sys.dont_write_bytecode = True
 import exports
-import tables
+import source_tables
 import usage
 import writers
 
@@ -172,9 +172,9 @@ def main(arguments):
     usage.answer(__doc__, arguments, ('--check',))
     try:
         functions, records = exports.exported()
-        refusals, limits = tables.refusals(), tables.limits()
+        refusals, limits = source_tables.refusals(), source_tables.limits()
         files = written(functions, records, refusals, limits)
-    except (exports.NotUnderstood, tables.Broken) as why:
+    except (exports.NotUnderstood, source_tables.Broken) as why:
         sys.exit(str(why))
     found = [*stale(files, bool(arguments)), *differences(functions, records, refusals, limits)]
     print(*found, f'{len(functions)} functions, {len(records)} structs, {len(refusals)} refusals, {len(limits)} limits: {len(found)} differences', sep='\n')

@@ -21,7 +21,7 @@ ROOT = pathlib.Path(__file__).resolve().parent.parent
 sys.path[:0] = [str(ROOT / 'reference'), str(ROOT / 'python'), str(ROOT / 'tools')]
 import building
 import reference
-import tables
+import source_tables
 from mixegorta_command import command, exact, pages
 
 EXAMPLES = sorted((ROOT / 'examples').glob('*.txt'))
@@ -77,7 +77,7 @@ class Command(unittest.TestCase):
         self.assertEqual([[str(value) for value in row.values()] for row in told['rows']], [line[1:] for line in lines if line[0] == 'row'])
 
     def test_a_refusal_in_every_form(self):
-        path, words = ROOT / 'examples/refused.txt', tables.refusals()[8]
+        path, words = ROOT / 'examples/refused.txt', source_tables.refusals()[8]
         for form, read in ((None, lambda made: made.stdout.decode()), ('--json', lambda made: json.loads(made.stdout)), ('--csv', rows_of)):
             made = self.run_part('price', path, *([form] if form else []))
             wanted = {None: 'refused 9\n', '--json': {'refused': 9, 'cause': words.cause, 'remedy': words.remedy},

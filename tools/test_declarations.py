@@ -16,7 +16,7 @@ HERE = pathlib.Path(__file__).resolve().parent
 sys.path[:0] = [str(HERE)]
 import declarations
 import exports
-import tables
+import source_tables
 import writers
 
 CC = os.environ.get('CC', 'cc')
@@ -236,7 +236,7 @@ class Differences(unittest.TestCase):
     def setUp(self):
         self.header = (declarations.ROOT / 'c/mixegorta.h').read_text()
         self.functions, self.records = exports.exported()
-        self.refusals, self.limits = tables.refusals(), tables.limits()
+        self.refusals, self.limits = source_tables.refusals(), source_tables.limits()
 
     def changed(self, old, new):
         self.assertIn(old, self.header)
@@ -293,16 +293,16 @@ class Differences(unittest.TestCase):
 class Tables(unittest.TestCase):
     def test_broken_tables_say_so(self):
         for text in ('limit\n', '    value 3\n', 'limit A\n    value 3\n', 'limit A\n    value 3\n    type u64\n    says B\n    more C\n', 'limits A B\nlost\n'):
-            with self.assertRaises(tables.Broken):
-                tables.limits(text)
+            with self.assertRaises(source_tables.Broken):
+                source_tables.limits(text)
         fields = '    constant A\n    exception B\n    cause c {MAX_STEPS}\n    remedy d\n    entries e f\n'
-        self.assertEqual(tables.refusals('refusal 1\n' + fields)[0], tables.Refusal(1, 'A', 'B', 'c 60', '', '', 'd', ['e', 'f']))
+        self.assertEqual(source_tables.refusals('refusal 1\n' + fields)[0], source_tables.Refusal(1, 'A', 'B', 'c 60', '', '', 'd', ['e', 'f']))
         for text in ('refusal 2\n' + fields, 'refusal 1\n' + fields + '    cause d\n', 'refusal 1\n' + fields.replace('remedy', 'advice')):
-            with self.assertRaises(tables.Broken):
-                tables.refusals(text)
+            with self.assertRaises(source_tables.Broken):
+                source_tables.refusals(text)
 
     def test_names_stand_once(self):
-        found = tables.refusals()
+        found = source_tables.refusals()
         for field in ('constant', 'exception', 'cause'):
             self.assertEqual(len({getattr(refusal, field) for refusal in found}), len(found), field)
 

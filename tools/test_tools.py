@@ -22,7 +22,7 @@ sys.dont_write_bytecode = True
 import book
 import records
 import reference
-import tables
+import source_tables
 
 EXAMPLES = sorted((ROOT / 'examples').glob('*.txt'))
 PICTURES = sorted((ROOT / 'docs/pictures').glob('*.svg'))
@@ -304,7 +304,7 @@ class Pricing(Tool):
             self.assertEqual(self.price(path).stdout, path.with_suffix('.sheet').read_bytes(), path.name)
 
     def test_refusals_are_explained(self):
-        for number in range(1, len(tables.refusals()) + 1):
+        for number in range(1, len(source_tables.refusals()) + 1):
             made = self.price(EXAMPLES[0], program=self.program(f'cat >/dev/null; echo refused {number}'))
             self.assertEqual((made.returncode, made.stdout), (1, b'refused %d\n' % number))
             self.assertRegex(made.stderr.decode(), rf'\Arefused {number}: [^\n]+\. What to do: [^\n]+\.\n\Z')
@@ -600,7 +600,7 @@ class Drawing(unittest.TestCase):
             self.assertEqual((made.returncode, made.stdout, made.stderr.count(b'\n')), (2, b'', 1))
 
     def test_a_refusal_is_drawn(self):
-        for number in range(1, len(tables.refusals()) + 1):
+        for number in range(1, len(source_tables.refusals()) + 1):
             made = run('draw', f'refused {number}\n')
             self.assertEqual(made.returncode, 1)
             texts = [part.text for part in ElementTree.fromstring(made.stdout).iter(SVG + 'text')]

@@ -13,12 +13,12 @@ import unittest
 sys.dont_write_bytecode = True
 ROOT = pathlib.Path(__file__).resolve().parent.parent
 sys.path[:0] = [str(ROOT / 'python'), str(ROOT / 'tools')]
-import tables
+import source_tables
 import usage
 
 mixegorta = usage.library(__doc__)
 
-WANTED = [f'refused {refusal.number}: {refusal.cause}' for refusal in tables.refusals()]
+WANTED = [f'refused {refusal.number}: {refusal.cause}' for refusal in source_tables.refusals()]
 
 
 class Words(unittest.TestCase):
@@ -42,7 +42,7 @@ class Words(unittest.TestCase):
         self.assertEqual([str(mixegorta.refusals.CLASSES[number](number)) for number in mixegorta.CAUSES], WANTED)
 
     def test_price(self):
-        for refusal, words in zip(tables.refusals(), WANTED):
+        for refusal, words in zip(source_tables.refusals(), WANTED):
             with tempfile.TemporaryDirectory() as folder:
                 program = pathlib.Path(folder) / 'program'
                 program.write_text(f'#!/bin/sh\ncat >/dev/null\necho refused {refusal.number}\n')

@@ -132,8 +132,8 @@ class Test(unittest.TestCase):
     def test_each_listed_refusal_is_given(self):
         sys.path.append(TOOLS)
         self.addCleanup(sys.path.remove, TOOLS)
-        import tables
-        wanted = {name: {refusal.number for refusal in tables.refusals() if name in refusal.entries} for name in DECLARATIONS}
+        import source_tables
+        wanted = {name: {refusal.number for refusal in source_tables.refusals() if name in refusal.entries} for name in DECLARATIONS}
         self.assertEqual({name: set(changes) for name, (_, changes) in CASES.items()}, {name: numbers for name, numbers in wanted.items() if numbers})
         for name, (given, changes) in CASES.items():
             self.assertEqual(number(name, given), 0, name)
