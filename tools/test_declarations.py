@@ -5,6 +5,7 @@ import ctypes
 import os
 import pathlib
 import re
+import shutil
 import subprocess
 import sys
 import tempfile
@@ -197,6 +198,7 @@ class Layouts(InFolder):
         lines = self.places(lambda name: ctypes.sizeof(getattr(module, 'C' + name)), lambda name, field: getattr(getattr(module, 'C' + name), field).offset)
         return ''.join(f'{line}\n' for line in lines)
 
+    @unittest.skipUnless(shutil.which(CC) and shutil.which('rustc'), 'a C compiler or rustc is not installed')
     def test_layouts_and_calls(self):
         library = self.folder / 'libmade_up.so'
         (self.folder / 'library.c').write_text(self.header + LIBRARY)
