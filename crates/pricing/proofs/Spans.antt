@@ -8,7 +8,9 @@ use lib.ListN.{length}
 use Rattle.row_branches.specs.RowBranches.{lowest, rowBranch}
 use Rattle.row_branches.proofs.BranchLaws.{branch-leads, lowest-grown, lowest-first, lowest-inner, lowest-last}
 use Rattle.arithmetic.proofs.Numbers.{by-order}
-use Rattle.pricing.specs.Rows.{growingSpan, lowestSpan, innerSpan, highestSpan, Rollable, Leads}
+use borrow.Author.Tests.{lt-ltb, le-ltb}
+use Rattle.pricing.specs.declared.rows.Span.{Span}
+use Rattle.pricing.specs.Rows.{growingSpan, lowestSpan, innerSpan, highestSpan, edgeNodes, betweenEdges, Rollable, Leads}
 
 module _ (downs discounts : List ℕ) (next : ℕ) (r : Rollable downs discounts next) where
   leads-to : (k : ℕ) → k < length discounts → rowBranch downs next k .low ≡ lowest (length downs) next k
@@ -63,3 +65,25 @@ module _ (downs discounts : List ℕ) (next : ℕ) (r : Rollable downs discounts
           leads = λ k from to.
               leads-to k to ∙ sym (lowest-last (length downs) next k narrow (omega (arith, wide)) (omega (arith, wide, r .paired)));
         }
+
+  -- the edges are one node or none, and fit
+  pub edge-growing : (edge : ℕ) → edge ≡ edgeNodes (length discounts) next → length discounts < next → edge ≡ 0
+  edge-growing edge e g = e ∙ rw (lt-ltb (length discounts) next g)
+
+  pub edge-capped : (edge : ℕ) → edge ≡ edgeNodes (length discounts) next → next ≤ length discounts → edge ≡ 1
+  edge-capped edge e c = e ∙ rw (le-ltb (length discounts) next c)
+
+  pub edge-fits : (edge : ℕ) → edge ≡ edgeNodes (length discounts) next → (edge ≤ 1) × (edge + edge ≤ length discounts)
+  edge-fits edge e =
+      by-order next (length discounts)
+      (λ c. let z = edge-capped edge e c in (omega arith, omega (arith, wide c)))
+      (λ g. let z = edge-growing edge e g in (omega arith, omega arith))
+
+  pub leads-between : (edge : ℕ) → edge ≡ edgeNodes (length discounts) next →
+      (span : Span) → span ≡ betweenEdges edge (length discounts) next → Leads downs span (length discounts)
+  leads-between edge e span es =
+      rw es
+      (by-order next (length discounts)
+      (λ c. rw (edge-capped edge e c) (leads-inner c))
+      (λ g. let z : length discounts ≡ length discounts - 0 = omega arith in
+      rw (edge-growing edge e g, ← z) (leads-growing g)))

@@ -1,9 +1,10 @@
 -- One row, as the code holds it: the later row, the row's discounts, and the row's part of the table of down-probabilities.
 -- Assumes nothing.
 use mathlib.Core.Path.{_≡_}
-use mathlib.Core.Bool.{Bool}
+use mathlib.Core.Bool.{Bool, cond}
 use mathlib.Core.List.{List, [], _∷_}
 use Prim.Native.Nat.{ℕ, _+_, _-_, _*_, _≤_, _<_, max}
+use lib.Dec.{ltb}
 use lib.ListN.{length}
 use Rattle.arithmetic.specs.Rounding.{one}
 use Rattle.arithmetic.specs.Row.{values}
@@ -57,6 +58,13 @@ innerSpan count next = record { next = next; from = 1; to = count - 1; shift = 1
 
 abbrev pub highestSpan : ℕ → ℕ → Span
 highestSpan count next = record { next = next; from = count - 1; to = count; shift = 2 }
+
+-- the nodes on each edge of a row that branch inwards, and those between the edges
+abbrev pub edgeNodes : ℕ → ℕ → ℕ
+edgeNodes count next = cond (ltb count next) 0 1
+
+abbrev pub betweenEdges : ℕ → ℕ → ℕ → Span
+betweenEdges edge count next = record { next = next; from = edge; to = count - edge; shift = edge }
 
 -- a node's branch by the shift of its span
 abbrev pub spanBranch : List ℕ → ℕ → ℕ → RowBranch

@@ -17,6 +17,8 @@ ghost use Rattle.pricing.specs.Rows.{
   innerSpan,
   highestSpan,
   spanBranch,
+  edgeNodes,
+  betweenEdges,
   Leads,
   branchRoll,
   bondValues,
@@ -414,7 +416,59 @@ fn strike_nodes(
     top
 }
 
-// Rolls one option back by one row, beside a row of the bond that was kept without its flow. Gives the greatest value of the row.
+// 1 where a row's edges branch inwards, else 0.
+fn edge_nodes(count: usize, next: usize) -> usize
+    ensures { λ r. ⌜ r ≡ edgeNodes count next ⌝ }
+{
+    if count < next { 0 } else { 1 }
+}
+
+// One option on the edge nodes of one side of a row, one or none, behind those that are done; with the greatest value so far.
+fn strike_edge(
+    right: RowRight,
+    edge: usize,
+    index: usize,
+    downs: &[u64],
+    discounts: &[u64],
+    bare: &[u64],
+    options: &[u64],
+    option: &mut [u64],
+    greatest: u64,
+) -> u64
+    requires { ⌜ Rollable (now downs) (now discounts) (right .next) × Later (now options) (right .next)
+        × (length (now discounts) ≤ length (now bare)) × (length (now discounts) ≤ length (now option))
+        × (edge ≤ 1) × (index + edge ≤ length (now discounts))
+        × FilledRow (now option) index
+        (strikeValues (side (right .call)) (right .strike) (right .listed) (now bare) (now options) (now downs) (now discounts) (right .next)) greatest ⌝ }
+    ensures { λ r. ⌜ FilledRow (now (option .exit)) (index + edge)
+        (strikeValues (side (right .call)) (right .strike) (right .listed)
+        (now (bare .entry)) (now (options .entry)) (now (downs .entry)) (now (discounts .entry)) (right .next)) r ⌝ }
+{
+    if edge == 0 {
+        return greatest;
+    }
+    let branch = row_branches::row_branch(downs, right.next, index);
+    let roll = roll_node(branch, options, discounts[index]);
+    let held = exercise::held_value(right.call, right.strike, right.listed, roll, bare[index]);
+    option[index] = held;
+    arithmetic::larger(greatest, held)
+}
+
+// The nodes between the edges.
+fn between_edges(edge: usize, count: usize, next: usize) -> Span
+    requires { ⌜ edge ≤ count ⌝ }
+    ensures { λ r. ⌜ r ≡ betweenEdges edge count next ⌝ }
+{
+    Span {
+        next,
+        from: edge,
+        to: count - edge,
+        shift: edge,
+    }
+}
+
+// Rolls one option back by one row, beside a row of the bond that was kept without its flow. Gives the greatest value of the row. A strip does this for
+// every strike: the loop stands once, so that it is compiled in place.
 pub(crate) fn strike_row(
     right: RowRight,
     downs: &[u64],
@@ -430,15 +484,19 @@ pub(crate) fn strike_row(
         (now (bare .entry)) (now (options .entry)) (now (downs .entry)) (now (discounts .entry)) (right .next)) r ⌝ }
 {
     let count = discounts.len();
-    let next = right.next;
-    if count < next {
-        let whole = growing(count, next);
-        return strike_nodes(right, whole, downs, discounts, bare, options, option, 0);
-    }
-    let first = lowest(next);
-    let low = strike_nodes(right, first, downs, discounts, bare, options, option, 0);
-    let second = inner(count, next);
-    let middle = strike_nodes(right, second, downs, discounts, bare, options, option, low);
-    let last = highest(count, next);
-    strike_nodes(right, last, downs, discounts, bare, options, option, middle)
+    let edge = edge_nodes(count, right.next);
+    let span = between_edges(edge, count, right.next);
+    let low = strike_edge(right, edge, 0, downs, discounts, bare, options, option, 0);
+    let inner = strike_nodes(right, span, downs, discounts, bare, options, option, low);
+    strike_edge(
+        right,
+        edge,
+        count - edge,
+        downs,
+        discounts,
+        bare,
+        options,
+        option,
+        inner,
+    )
 }

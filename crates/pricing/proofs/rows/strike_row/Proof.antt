@@ -1,71 +1,74 @@
--- `pricing::rows::strike_row` meets its contract: its spans one after the other.
+-- `pricing::rows::strike_row` meets its contract: the lower edge, the nodes between, the upper edge.
 -- Assumes nothing.
+use mathlib.Core.Path.{_≡_, refl}
+use Prim.Native.Nat.{ℕ, _+_, _-_, _≤_}
 use native.Mathlib.Omega.{arith}
+use lib.ListN.{length}
+use denote.Ref.{now}
 use Rattle.pricing.proofs.RowSteps.{row-none}
-use Rattle.pricing.proofs.Spans.{leads-growing, leads-lowest, leads-inner, leads-highest}
+use Rattle.pricing.proofs.Spans.{edge-fits, leads-between}
 use borrow.Author.Needs.{needs}
 use Rattle.pricing.proofs.rows.strike_row.Statement.{statement}
 use Rattle.pricing.proofs.rows.strike_row.Tie as tie
 
-growing-requires : tie.Need-growing-requires
-growing-requires c κs = search needs
+edge-nodes-requires : tie.Need-edge-nodes-requires
+edge-nodes-requires c κs = search needs
+
+-- the edges fit
+fits : (c : tie.After-edge-nodes) →
+    let edge = c .edge-nodes .result in (edge ≤ 1) × (edge + edge ≤ length (now (c .before .before .before .before .before .before .args .discounts)))
+fits c = edge-fits _ _ _ (c .before .before .before .before .before .before .pre .0) _ (c .edge-nodes .ensures)
+
+between-edges-requires : tie.Need-between-edges-requires
+between-edges-requires c κs = omega (arith, fits c .1)
+
+strike-edge-requires : tie.Need-strike-edge-requires
+strike-edge-requires c κs =
+    let s = c .before .before .before .before .before .before .before .before in
+    let f = fits (c .before .before) in
+    (s .pre .0, s .pre .1, s .pre .2, s .pre .3, f .0, omega (arith, f .1), row-none _ _)
 
 strike-nodes-requires : tie.Need-strike-nodes-requires
 strike-nodes-requires c κs =
-    let s = c .before .before .before .before .before .before .before .before in
-    rw (c .before .growing .ensures) (s .pre .0, s .pre .1, s .pre .2, s .pre .3, leads-growing _ _ _ (s .pre .0) (c .before .before .if1 .taken), row-none _ _)
+    let s = c .before .before .before .before .before .before .before .before .before .before .before .before in
+    let edge = c .before .before .before .before .before .before .edge-nodes .result in
+    let z : 0 + edge ≡ edge = omega arith in
+    let done = rw z at (c .before .before .before .strike-edge .ensures) in
+    rw (c .before .before .before .before .before .between-edges .ensures)
+    (s .pre .0, s .pre .1, s .pre .2, omega (arith, s .pre .3), leads-between _ _ _ (s .pre .0) _ (c .before .before .before .before .before .before .edge-nodes .ensures) _ refl, done)
+
+sub-strike-edge : tie.Need-sub-strike-edge
+sub-strike-edge c = let f = fits (c .before .before .before .before .before .before .before .before .before) in omega (arith, f .1)
+
+strike-edge-requires-2 : tie.Need-strike-edge-requires-2
+strike-edge-requires-2 c κs =
+    let s = c .before .before .before .before .before .before .before .before .before .before .before .before .before .before .before .before in
+    let f = fits (c .before .before .before .before .before .before .before .before .before .before) in
+    let first = c .before .before .before .before .before .before .before .strike-edge in
+    let second = c .before .before .before .strike-nodes in
+    let done = rw (c .before .before .before .before .before .before .before .before .before .between-edges .ensures) at (c .before .before .before .strike-nodes .ensures) in
+    (s .pre .0, s .pre .1, s .pre .2, omega (arith, first .kept .1 .1 .1 .1 .1 .1 .1 .0, second .kept .1 .1 .1 .1 .1 .1 .0, s .pre .3), f .0, omega (arith, f .1), done)
 
 same-length : tie.Need-same-length
 same-length c = search needs
 
 returns : tie.Need-returns
-returns c = rw (c .before .before .before .before .growing .ensures) at (c .before .before .strike-nodes .ensures)
-
-lowest-requires : tie.Need-lowest-requires
-lowest-requires c κs = search needs
-
-strike-nodes-requires-2 : tie.Need-strike-nodes-requires-2
-strike-nodes-requires-2 c κs =
-    let s = c .before .before .before .before .before .before .before .before in
-    rw (c .before .lowest .ensures) (s .pre .0, s .pre .1, s .pre .2, s .pre .3, leads-lowest _ _ _ (s .pre .0) (c .before .before .if1 .left), row-none _ _)
-
-inner-requires : tie.Need-inner-requires
-inner-requires c κs = omega (arith, c .before .before .before .before .before .before .before .before .before .before .before .pre .0 .some)
-
-strike-nodes-requires-3 : tie.Need-strike-nodes-requires-3
-strike-nodes-requires-3 c κs =
-    let s = c .before .before .before .before .before .before .before .before .before .before .before .before .before in
-    let done = rw (c .before .before .before .before .before .before .lowest .ensures) at (c .before .before .before .before .strike-nodes2 .ensures) in
-    rw (c .before .inner .ensures) (s .pre .0, s .pre .1, s .pre .2, omega arith, leads-inner _ _ _ (s .pre .0) (c .before .before .before .before .before .before .before .if1 .left), done)
-
-highest-requires : tie.Need-highest-requires
-highest-requires c κs = omega (arith, c .before .before .before .before .before .before .before .before .before .before .before .before .before .before .before .before .pre .0 .some)
-
-strike-nodes-requires-4 : tie.Need-strike-nodes-requires-4
-strike-nodes-requires-4 c κs =
-    let s = c .before .before .before .before .before .before .before .before .before .before .before .before .before .before .before .before .before .before in
-    let done = rw (c .before .before .before .before .before .before .inner .ensures) at (c .before .before .before .before .strike-nodes3 .ensures) in
-    rw (c .before .highest .ensures) (s .pre .0, s .pre .1, s .pre .2, omega arith, leads-highest _ _ _ (s .pre .0) (c .before .before .before .before .before .before .before .before .before .before .before .before .if1 .left), done)
-
-same-length-2 : tie.Need-same-length-2
-same-length-2 c = search needs
-
-returns-2 : tie.Need-returns-2
-returns-2 c = rw (c .before .before .before .before .highest .ensures) at (c .before .before .strike-nodes4 .ensures)
+returns c =
+    let f = fits (c .before .before .before .before .before .before .before .before .before .before .before .before .before) in
+    let edge = c .before .before .before .before .before .before .before .before .before .before .before .before .before .edge-nodes .result in
+    let count = length (now (c .before .before .before .before .before .before .before .before .before .before .before .before .before .before .before .before .before .before .before .args .discounts)) in
+    let z : count - edge + edge ≡ count = omega (arith, f .1) in
+    rw z at (c .before .before .strike-edge2 .ensures)
 
 pub strike-row-spec : {M : Type 1} → statement M
 strike-row-spec =
     tie.close
     (tie.spec
-    growing-requires
+    edge-nodes-requires
+    between-edges-requires
+    strike-edge-requires
     strike-nodes-requires
+    sub-strike-edge
+    strike-edge-requires-2
     same-length
-    returns
-    lowest-requires
-    strike-nodes-requires-2
-    inner-requires
-    strike-nodes-requires-3
-    highest-requires
-    strike-nodes-requires-4
-    same-length-2
-    returns-2)
+    returns)
