@@ -67,7 +67,8 @@ bound-cong : (g h : ℕ → ℕ) (s i : ℕ) → ((k : ℕ) → i ≤ k → k < 
 unfolding errorBoundFrom
 bound-cong g h zero i e = refl
 bound-cong g h (suc s) i e =
-    ap₂ (λ (x y : ℕ). roundUp (x * y) one + rollLoss) (e i (omega arith) (omega arith)) (bound-cong g h s (suc i) (λ k l u. e k (omega arith) (omega arith)))
+    ap₂ (λ (x y : ℕ). roundUp (x * y) one + rollLoss) (e i (omega arith) (omega arith))
+    (bound-cong g h s (suc i) (λ k l u. e k (omega arith) (omega arith)))
 
 module _ (n b : ℕ) (discounts : List ℕ) (a : Accepted n b discounts) (rows : List ℕ) (er : rows ≡ greatestDiscounts n b discounts) where
   abbrev by-row : ℕ → ℕ
@@ -191,7 +192,8 @@ pub zero-refused : (l : List ℕ) (k : ℕ) → k < length l → values l k < 1 
 zero-refused l k h z = sym (each-fails (length l) k (λ j. isDiscount (values l j)) h (rw (lt-leb 1 (values l k) z)))
 
 -- all rows, one after the other
-pub rows-refused : (n b : ℕ) (discounts : List ℕ) (i : ℕ) (t : Bool) → i < n → t ≡ rowAccepted b discounts i → t ≡ false → false ≡ acceptedDiscounts n b discounts
+pub rows-refused : (n b : ℕ) (discounts : List ℕ) (i : ℕ) (t : Bool) → i < n → t ≡ rowAccepted b discounts i → t ≡ false → false
+    ≡ acceptedDiscounts n b discounts
 rows-refused n b discounts i t h e f =
     sym (accepted-by-row n b discounts ∙ each-fails n i (rowAccepted b discounts) h (sym e ∙ f))
 
@@ -233,7 +235,8 @@ module _ (n b : ℕ) (discounts : List ℕ) where
 
       pub range-refused : (r : TreeErrorBounds) → t ≡ false → r ≡ refusedBounds 9 → r ≡ treeBoundsAnswer n b discounts
       range-refused r f h =
-          h ∙ bounds-refused 9 (sym (cause-is ∙ ap (λ (x : Bool). cond x 0 9) f)) (replicate mostSteps 0) (λ none. let no : ⊥ = omega arith in absurd no) refl
+          h ∙ bounds-refused 9 (sym (cause-is ∙ ap (λ (x : Bool). cond x 0 9) f)) (replicate mostSteps 0)
+          (λ none. let no : ⊥ = omega arith in absurd no) refl
 
       pub range-accepted : t ≡ true → 0 ≡ discountsCause n b discounts
       range-accepted f = sym (cause-is ∙ ap (λ (x : Bool). cond x 0 9) f)

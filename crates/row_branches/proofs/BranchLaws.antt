@@ -75,7 +75,11 @@ module _ (downs : List ℕ) (next k : ℕ) where
       by-order (length downs) k
       (λ past. absurd (refused-total (branch-past downs next k past) t))
       (λ h. by-order (values downs k + opposite downs k) probabilityTotal
-      (λ g. let e = branch-found downs next k h _ refl g in (g, ap (λ (x : RowBranch). record { low = x .low; probabilities = filled-branch .probabilities }) (sym e) ∙ e))
+      (λ g. let e = branch-found downs next k h _ refl g in (
+        g,
+        ap
+            (λ (x : RowBranch). record { low = x .low; probabilities = filled-branch .probabilities }) (sym e) ∙ e,
+      ))
       (λ over. absurd (refused-total (branch-over downs next k h over) t)))
 
   pub branch-leads : branchTotal (rowBranch downs next k) ≡ probabilityTotal → k < length downs → rowBranch downs next k .low ≡ lowest (length downs) next k

@@ -26,7 +26,11 @@ shared-slice-read-discount : tie.Need-shared-slice-read-discount Inv-loop μ-loo
 shared-slice-read-discount c = omega arith
 
 returns : tie.Need-returns Inv-loop μ-loop
-returns c = (zero-refused (now (c .before .before .before .before .before .args .discounts)) (c .before .before .before .loop .k) (c .before .before .loop-test .taken) (c .if1 .taken), λ e. let none : _≡_ {A = ℕ} 0 1 = cc in absurd (omega arith))
+returns c = (
+  zero-refused (now (c .before .before .before .before .before .args .discounts)) (c .before .before .before .loop .k)
+      (c .before .before .loop-test .taken) (c .if1 .taken),
+  λ e. let none : _≡_ {A = ℕ} 0 1 = cc in absurd (omega arith),
+)
 
 larger-requires : tie.Need-larger-requires Inv-loop μ-loop
 larger-requires c κs = search needs
@@ -38,7 +42,11 @@ loop-less : tie.Need-loop-less Inv-loop μ-loop
 loop-less c = omega arith
 
 loop-again : tie.Need-loop-again Inv-loop μ-loop
-loop-again c = (omega arith, ranged-next _ (c .before .before .before .before .loop .top) (c .before .before .before .before .loop .k) _ (c .before .before .before .before .loop .inv .1) (c .before .if1 .left) (c .larger .ensures))
+loop-again c = (
+  omega arith,
+  ranged-next _ (c .before .before .before .before .loop .top) (c .before .before .before .before .loop .k) _
+      (c .before .before .before .before .loop .inv .1) (c .before .if1 .left) (c .larger .ensures),
+)
 
 returns-2 : tie.Need-returns-2 Inv-loop μ-loop
 returns-2 c =

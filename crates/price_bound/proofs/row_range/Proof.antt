@@ -14,7 +14,8 @@ row-shape-requires : tie.Need-row-shape-requires
 row-shape-requires c κs = search needs
 
 -- the row's part is within the discounts
-room : (c : tie.After-struct-known) → c .before .row-shape .result .start + c .before .row-shape .result .count ≤ length (now (c .before .before .before .args .discounts))
+room : (c : tie.After-struct-known) → c .before .row-shape .result .start + c .before .row-shape .result .count ≤ length
+    (now (c .before .before .before .args .discounts))
 room c = part-room _ _ _ _ (c .before .before .before .pre .0) (c .before .before .before .pre .1) _ (c .before .row-shape .ensures)
 
 add-end : tie.Need-add-end

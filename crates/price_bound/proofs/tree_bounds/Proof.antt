@@ -28,11 +28,14 @@ refused-bounds-requires-2 c κs = search needs
 
 returns-2 : tie.Need-returns-2
 returns-2 c =
-    range-refused _ _ _ _ (c .before .before .before .before .before .room-cause .ensures) (c .before .before .before .before .if1 .left) _ (c .before .before .before .tree-range .ensures .0) _ (not-true _ (c .before .if2 .taken)) (c .refused-bounds2 .ensures)
+    range-refused _ _ _ _ (c .before .before .before .before .before .room-cause .ensures) (c .before .before .before .before .if1 .left) _
+    (c .before .before .before .tree-range .ensures .0) _ (not-true _ (c .before .if2 .taken)) (c .refused-bounds2 .ensures)
 
 -- where the discounts have been judged
-none : (c : tie.Else2) → let a = c .before .before .before .before .before .before .args in _≡_ {A = ℕ} 0 (discountsCause (a .steps) (a .reversion) (now (a .discounts)))
-none c = range-accepted _ _ _ _ (c .before .before .before .before .room-cause .ensures) (c .before .before .before .if1 .left) _ (c .before .before .tree-range .ensures .0) (not-false _ (c .if2 .left))
+none : (c : tie.Else2) → let a = c .before .before .before .before .before .before .args in _≡_ {A = ℕ} 0
+    (discountsCause (a .steps) (a .reversion) (now (a .discounts)))
+none c = range-accepted _ _ _ _ (c .before .before .before .before .room-cause .ensures) (c .before .before .before .if1 .left) _
+    (c .before .before .tree-range .ensures .0) (not-false _ (c .if2 .left))
 
 tree : (c : tie.Else2) → let a = c .before .before .before .before .before .before .args in Accepted (a .steps) (a .reversion) (now (a .discounts))
 tree c = accepted _ _ _ (sym (none c))

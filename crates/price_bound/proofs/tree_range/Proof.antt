@@ -37,7 +37,8 @@ row-range-requires c κs = (c .before .before .before .before .pre, omega arith)
 
 returns : tie.Need-returns Inv-loop μ-loop
 returns c = (
-  rows-refused _ _ _ (c .before .before .before .before .loop .row) _ (c .before .before .before .loop-test .taken) (c .before .before .row-range .ensures .0) (not-true _ (c .if1 .taken)),
+  rows-refused _ _ _ (c .before .before .before .before .loop .row) _ (c .before .before .before .loop-test .taken)
+      (c .before .before .row-range .ensures .0) (not-true _ (c .if1 .taken)),
   λ e. let none : _≡_ {A = ℕ} 0 1 = cc in absurd (omega arith),
 )
 
@@ -60,7 +61,8 @@ loop-again c =
     let within = not-false _ (c .if1 .left) in (
       omega (arith, c .before .before .before .loop-test .taken),
       each-more _ _ (l .inv .1) (sym (ranged .ensures .0) ∙ within),
-      filled-next _ _ _ _ _ (l .inv .2) (omega (arith, c .before .before .before .before .before .before .before .pre .steps-within-limit)) (ranged .ensures .1 within),
+      filled-next _ _ _ _ _ (l .inv .2) (omega (arith, c .before .before .before .before .before .before .before .pre .steps-within-limit))
+          (ranged .ensures .1 within),
     )
 
 returns-2 : tie.Need-returns-2 Inv-loop μ-loop

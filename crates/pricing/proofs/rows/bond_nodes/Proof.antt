@@ -20,7 +20,12 @@ abbrev μ-loop : tie.MeasureT-loop
 μ-loop row₀ later downs discounts flow greatest next to shift top₀ k₀ row top k = to - k
 
 loop-holds : tie.Need-loop-holds Inv-loop μ-loop
-loop-holds c = (omega arith, omega (arith, c .before .before .before .before .pre .4 .ordered), row-resume _ _ _ _ (c .before .before .before .before .pre .5))
+loop-holds c = (
+  omega arith,
+  omega (arith, c .before .before .before .before .pre .4 .ordered),
+  row-resume _ _ _ _
+      (c .before .before .before .before .pre .5),
+)
 
 span-branch-requires : tie.Need-span-branch-requires Inv-loop μ-loop
 span-branch-requires c κs =
@@ -55,10 +60,20 @@ add-value : tie.Need-add-value Inv-loop μ-loop
 add-value c = omega (arith, c .roll-node .ensures .1, c .before .before .before .before .before .before .before .before .before .pre .3)
 
 mul-row : tie.Need-mul-row Inv-loop μ-loop
-mul-row c = omega (arith, c .before .before .before .before .loop .inv .2 .filled .same, c .before .before .before .before .before .before .before .before .before .pre .2, c .before .before .before .before .before .before .before .before .before .pre .4 .ends)
+mul-row c = omega (
+  arith,
+  c .before .before .before .before .loop .inv .2 .filled .same,
+  c .before .before .before .before .before .before .before .before .before .pre .2,
+  c .before .before .before .before .before .before .before .before .before .pre .4 .ends,
+)
 
 slice-write-row : tie.Need-slice-write-row Inv-loop μ-loop
-slice-write-row c = omega (arith, c .before .before .before .before .loop .inv .2 .filled .same, c .before .before .before .before .before .before .before .before .before .pre .2, c .before .before .before .before .before .before .before .before .before .pre .4 .ends)
+slice-write-row c = omega (
+  arith,
+  c .before .before .before .before .loop .inv .2 .filled .same,
+  c .before .before .before .before .before .before .before .before .before .pre .2,
+  c .before .before .before .before .before .before .before .before .before .pre .4 .ends,
+)
 
 larger-requires : tie.Need-larger-requires Inv-loop μ-loop
 larger-requires c κs = search needs
@@ -74,7 +89,8 @@ loop-again c =
     let s = c .before .before .before .before .before .before .before .before .before .before in
     let l = c .before .before .before .before .before .loop in
     let h : l .k < length (now (s .args .discounts)) = omega (arith, s .pre .4 .ends) in
-    let e = span-is _ _ _ _ (s .pre .0) (s .pre .4) (l .inv .0) (c .before .before .before .before .loop-test .taken) _ (c .before .before .before .span-branch .ensures) in
+    let e = span-is _ _ _ _ (s .pre .0) (s .pre .4) (l .inv .0) (c .before .before .before .before .loop-test .taken) _
+    (c .before .before .before .span-branch .ensures) in
     let b = branch-rolled _ _ _ _ _ (s .pre .0) (s .pre .1) h _ e _ (c .before .roll-node .ensures .0) in (
       omega arith,
       omega arith,

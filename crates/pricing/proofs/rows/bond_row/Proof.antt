@@ -36,7 +36,15 @@ bond-nodes-requires-3 : tie.Need-bond-nodes-requires-3
 bond-nodes-requires-3 c κs =
     let s = c .before .before .before .before .before .before .before .before .before .before .before .before in
     let done = rw (c .before .before .before .before .before .lowest .ensures) at (c .before .before .before .before .bond-nodes2 .ensures) in
-    rw (c .inner .ensures) (s .pre .0, s .pre .1, omega arith, s .pre .3, leads-inner _ _ _ (s .pre .0) (c .before .before .before .before .before .before .before .if1 .left), done)
+    rw (c .inner .ensures) (
+      s .pre .0,
+      s .pre .1,
+      omega arith,
+      s .pre .3,
+      leads-inner _ _ _ (s .pre .0)
+          (c .before .before .before .before .before .before .before .if1 .left),
+      done,
+    )
 
 highest-requires : tie.Need-highest-requires
 highest-requires c κs = search needs
@@ -45,7 +53,15 @@ bond-nodes-requires-4 : tie.Need-bond-nodes-requires-4
 bond-nodes-requires-4 c κs =
     let s = c .before .before .before .before .before .before .before .before .before .before .before .before .before .before .before .before .before in
     let done = rw (c .before .before .before .before .before .inner .ensures) at (c .before .before .before .before .bond-nodes3 .ensures) in
-    rw (c .highest .ensures) (s .pre .0, s .pre .1, omega arith, s .pre .3, leads-highest _ _ _ (s .pre .0) (c .before .before .before .before .before .before .before .before .before .before .before .before .if1 .left), done)
+    rw (c .highest .ensures) (
+      s .pre .0,
+      s .pre .1,
+      omega arith,
+      s .pre .3,
+      leads-highest _ _ _ (s .pre .0)
+          (c .before .before .before .before .before .before .before .before .before .before .before .before .if1 .left),
+      done,
+    )
 
 same-length-2 : tie.Need-same-length-2
 same-length-2 c = search needs

@@ -27,7 +27,12 @@ abbrev μ-loop : tie.MeasureT-loop
 μ-loop downs discounts bonds options bond₀ option₀ greatest call strike listed flow next to shift top₀ k₀ bond option top k = to - k
 
 loop-holds : tie.Need-loop-holds Inv-loop μ-loop
-loop-holds c = (omega arith, omega (arith, c .before .before .before .before .before .before .pre .6 .ordered), rows-resume _ _ _ _ _ _ (c .before .before .before .before .before .before .pre .7))
+loop-holds c = (
+  omega arith,
+  omega (arith, c .before .before .before .before .before .before .pre .6 .ordered),
+  rows-resume _ _ _ _ _ _
+      (c .before .before .before .before .before .before .pre .7),
+)
 
 span-branch-requires : tie.Need-span-branch-requires Inv-loop μ-loop
 span-branch-requires c κs =
@@ -47,16 +52,26 @@ shared-slice-read-discount : tie.Need-shared-slice-read-discount Inv-loop μ-loo
 shared-slice-read-discount c = omega (arith, c .before .before .before .before .before .before .before .before .before .before .pre .6 .ends)
 
 -- the node stands in the row
-inside : (c : tie.After-shared-slice-known5 Inv-loop μ-loop) → c .before .before .before .loop .k < length (now (c .before .before .before .before .before .before .before .before .before .before .args .discounts))
-inside c = omega (arith, c .before .before .before .before .before .before .before .before .before .before .pre .6 .ends, c .before .before .loop-test .taken)
+inside : (c : tie.After-shared-slice-known5 Inv-loop μ-loop) → c .before .before .before .loop .k < length
+    (now (c .before .before .before .before .before .before .before .before .before .before .args .discounts))
+inside c = omega (
+  arith,
+  c .before .before .before .before .before .before .before .before .before .before .pre .6 .ends,
+  c .before .before .loop-test .taken,
+)
 
 -- the node's branch is the row's
 branch : (c : tie.After-shared-slice-known5 Inv-loop μ-loop) →
-    c .before .span-branch .result ≡ rowBranch (now (c .before .before .before .before .before .before .before .before .before .before .args .downs)) (c .before .before .before .before .before .before .before .before .before .before .args .span .next) (c .before .before .before .loop .k)
-branch c = span-is _ (now (c .before .before .before .before .before .before .before .before .before .before .args .discounts)) _ _ (c .before .before .before .before .before .before .before .before .before .before .pre .0) (c .before .before .before .before .before .before .before .before .before .before .pre .6) (c .before .before .before .loop .inv .0) (c .before .before .loop-test .taken) _ (c .before .span-branch .ensures)
+    c .before .span-branch .result ≡ rowBranch (now (c .before .before .before .before .before .before .before .before .before .before .args .downs))
+    (c .before .before .before .before .before .before .before .before .before .before .args .span .next) (c .before .before .before .loop .k)
+branch c = span-is _ (now (c .before .before .before .before .before .before .before .before .before .before .args .discounts)) _ _
+    (c .before .before .before .before .before .before .before .before .before .before .pre .0)
+    (c .before .before .before .before .before .before .before .before .before .before .pre .6) (c .before .before .before .loop .inv .0)
+    (c .before .before .loop-test .taken) _ (c .before .span-branch .ensures)
 
 -- what the roll of a row asks
-rolls : (c : tie.After-shared-slice-known5 Inv-loop μ-loop) (later : List ℕ) → Later later (c .before .before .before .before .before .before .before .before .before .before .args .span .next) →
+rolls : (c : tie.After-shared-slice-known5 Inv-loop μ-loop) (later : List ℕ) → Later later
+    (c .before .before .before .before .before .before .before .before .before .before .args .span .next) →
     let branch = c .before .span-branch .result in
     (branch .low + 2 < length later) × (branchTotal branch ≡ 600000000) × Limited later (branch .low + 3)
 rolls c later l =
@@ -67,8 +82,11 @@ rolls c later l =
       branch-limited _ _ later _ _ ready l (inside c) _ e,
     )
 
-discounted : (c : tie.After-shared-slice-known5 Inv-loop μ-loop) → values (now (c .before .before .before .before .before .before .before .before .before .before .args .discounts)) (c .before .before .before .loop .k) ≤ 1100000000
-discounted c = c .before .before .before .before .before .before .before .before .before .before .pre .0 .discounted (c .before .before .before .loop .k) (inside c)
+discounted : (c : tie.After-shared-slice-known5 Inv-loop μ-loop) → values
+    (now (c .before .before .before .before .before .before .before .before .before .before .args .discounts)) (c .before .before .before .loop .k)
+    ≤ 1100000000
+discounted c = c .before .before .before .before .before .before .before .before .before .before .pre .0 .discounted
+    (c .before .before .before .loop .k) (inside c)
 
 roll-node-requires : tie.Need-roll-node-requires Inv-loop μ-loop
 roll-node-requires c κs =
@@ -94,8 +112,21 @@ room : (c : tie.After-held-value Inv-loop μ-loop) →
     let l = c .before .before .before .before .before .before .loop in (l .k < length (l .bond)) × (l .k < length (l .option))
 room c =
     let l = c .before .before .before .before .before .before .loop in
-    let h = inside (c .before .before .before) in
-    (omega (arith, h, l .inv .2 .bond-filled .same, c .before .before .before .before .before .before .before .before .before .before .before .before .before .pre .3), omega (arith, h, l .inv .2 .option-filled .same, c .before .before .before .before .before .before .before .before .before .before .before .before .before .pre .4))
+    let h = inside (c .before .before .before) in (
+      omega (
+        arith,
+        h,
+        l .inv .2 .bond-filled .same,
+        c .before .before .before .before .before .before .before .before .before .before .before .before
+            .before .pre .3,
+      ),
+      omega (
+        arith,
+        h,
+        l .inv .2 .option-filled .same,
+        c .before .before .before .before .before .before .before .before .before .before .before .before .before .pre .4,
+      ),
+    )
 
 mul-bond : tie.Need-mul-bond Inv-loop μ-loop
 mul-bond c = let at = room c .0 in omega arith

@@ -13,7 +13,17 @@ growing-requires c κs = search needs
 option-nodes-requires : tie.Need-option-nodes-requires
 option-nodes-requires c κs =
     let s = c .before .before .before .before .before .before .before .before .before .before in
-    rw (c .before .before .growing .ensures) (s .pre .0, s .pre .1, s .pre .2, s .pre .3, s .pre .4, s .pre .5, leads-growing _ _ _ (s .pre .0) (c .before .before .before .if1 .taken), rows-none _ _ _ _)
+    rw (c .before .before .growing .ensures) (
+      s .pre .0,
+      s .pre .1,
+      s .pre .2,
+      s .pre .3,
+      s .pre .4,
+      s .pre .5,
+      leads-growing _ _ _ (s .pre .0)
+          (c .before .before .before .if1 .taken),
+      rows-none _ _ _ _,
+    )
 
 same-length : tie.Need-same-length
 same-length c = search needs
@@ -30,26 +40,58 @@ lowest-requires c κs = search needs
 option-nodes-requires-2 : tie.Need-option-nodes-requires-2
 option-nodes-requires-2 c κs =
     let s = c .before .before .before .before .before .before .before .before .before .before in
-    rw (c .before .before .lowest .ensures) (s .pre .0, s .pre .1, s .pre .2, s .pre .3, s .pre .4, s .pre .5, leads-lowest _ _ _ (s .pre .0) (c .before .before .before .if1 .left), rows-none _ _ _ _)
+    rw (c .before .before .lowest .ensures) (
+      s .pre .0,
+      s .pre .1,
+      s .pre .2,
+      s .pre .3,
+      s .pre .4,
+      s .pre .5,
+      leads-lowest _ _ _ (s .pre .0)
+          (c .before .before .before .if1 .left),
+      rows-none _ _ _ _,
+    )
 
 inner-requires : tie.Need-inner-requires
-inner-requires c κs = omega (arith, c .before .before .before .before .before .before .before .before .before .before .before .before .before .before .before .pre .0 .some)
+inner-requires c κs = omega (
+  arith,
+  c .before .before .before .before .before .before .before .before .before .before .before .before .before .before
+      .before .pre .0 .some,
+)
 
 option-nodes-requires-3 : tie.Need-option-nodes-requires-3
 option-nodes-requires-3 c κs =
-    let s = c .before .before .before .before .before .before .before .before .before .before .before .before .before .before .before .before .before .before in
-    let done = rw (c .before .before .before .before .before .before .before .before .before .before .lowest .ensures) at (c .before .before .before .before .before .before .before .option-nodes2 .ensures) in
-    rw (c .before .before .inner .ensures) (s .pre .0, s .pre .1, s .pre .2, omega arith, omega arith, s .pre .5, leads-inner _ _ _ (s .pre .0) (c .before .before .before .before .before .before .before .before .before .before .before .if1 .left), done)
+    let s = c .before .before .before .before .before .before .before .before .before .before .before .before .before .before .before .before .before
+    .before in
+    let done = rw (c .before .before .before .before .before .before .before .before .before .before .lowest .ensures) at
+    (c .before .before .before .before .before .before .before .option-nodes2 .ensures) in
+    rw (c .before .before .inner .ensures) (
+      s .pre .0,
+      s .pre .1,
+      s .pre .2,
+      omega arith,
+      omega arith,
+      s .pre .5,
+      leads-inner _ _ _ (s .pre .0)
+          (c .before .before .before .before .before .before .before .before .before .before .before .if1 .left),
+      done,
+    )
 
 highest-requires : tie.Need-highest-requires
-highest-requires c κs = omega (arith, c .before .before .before .before .before .before .before .before .before .before .before .before .before .before .before .before .before .before .before .before .before .before .before .pre .0 .some)
+highest-requires c κs = omega (
+  arith,
+  c .before .before .before .before .before .before .before .before .before .before .before .before .before
+      .before .before .before .before .before .before .before .before .before .before .pre .0 .some,
+)
 
 option-nodes-requires-4 : tie.Need-option-nodes-requires-4
 option-nodes-requires-4 c κs =
-    let s = c .before .before .before .before .before .before .before .before .before .before .before .before .before .before .before .before .before .before .before .before .before .before .before .before .before .before in
+    let s = c .before .before .before .before .before .before .before .before .before .before .before .before .before .before .before .before .before
+    .before .before .before .before .before .before .before .before .before in
     let first = c .before .before .before .before .before .before .before .before .before .before .before .before .before .before .before .option-nodes2 in
     let second = c .before .before .before .before .before .before .before .option-nodes3 in
-    let done = rw (c .before .before .before .before .before .before .before .before .before .before .inner .ensures) at (c .before .before .before .before .before .before .before .option-nodes3 .ensures) in
+    let done = rw (c .before .before .before .before .before .before .before .before .before .before .inner .ensures) at
+    (c .before .before .before .before .before .before .before .option-nodes3 .ensures) in
     rw (c .before .before .highest .ensures) (
       s .pre .0,
       s .pre .1,
@@ -57,7 +99,8 @@ option-nodes-requires-4 c κs =
       omega (arith, first .kept .1 .1 .1 .1 .1 .1 .0, second .kept .1 .1 .1 .1 .1 .1 .0, s .pre .3),
       omega (arith, first .kept .1 .1 .1 .1 .1 .1 .1 .0, second .kept .1 .1 .1 .1 .1 .1 .1 .0, s .pre .4),
       s .pre .5,
-      leads-highest _ _ _ (s .pre .0) (c .before .before .before .before .before .before .before .before .before .before .before .before .before .before .before .before .before .before .before .if1 .left),
+      leads-highest _ _ _ (s .pre .0) (c .before .before .before .before .before .before .before .before .before .before .before .before .before
+          .before .before .before .before .before .before .if1 .left),
       done,
     )
 
@@ -68,7 +111,8 @@ same-length-4 : tie.Need-same-length-4
 same-length-4 c = search needs
 
 returns-2 : tie.Need-returns-2
-returns-2 c = rw (c .before .before .before .before .before .before .before .highest .ensures) at (c .before .before .before .before .option-nodes4 .ensures)
+returns-2 c = rw (c .before .before .before .before .before .before .before .highest .ensures) at
+    (c .before .before .before .before .option-nodes4 .ensures)
 
 pub option-row-spec : {M : Type 1} → statement M
 option-row-spec =

@@ -13,7 +13,8 @@ use Rattle.pricing.proofs.rows.strike_edge.Statement.{statement}
 use Rattle.pricing.proofs.rows.strike_edge.Tie as tie
 
 returns : tie.Need-returns
-returns c = row-done _ _ _ _ (c .before .before .before .before .before .before .args .index) _ (row-resume _ _ _ _ (c .before .before .before .before .before .before .pre .6)) (omega (arith, c .if1 .taken))
+returns c = row-done _ _ _ _ (c .before .before .before .before .before .before .args .index) _
+    (row-resume _ _ _ _ (c .before .before .before .before .before .before .pre .6)) (omega (arith, c .if1 .taken))
 
 row-branch-requires : tie.Need-row-branch-requires
 row-branch-requires c κs = search needs
@@ -25,7 +26,8 @@ shared-slice-read-roll-node : tie.Need-shared-slice-read-roll-node
 shared-slice-read-roll-node c = search needs
 
 -- the node stands in the row
-inside : (c : tie.Else1) → c .before .before .before .before .before .before .args .index < length (now (c .before .before .before .before .before .before .args .discounts))
+inside : (c : tie.Else1) → c .before .before .before .before .before .before .args .index < length
+    (now (c .before .before .before .before .before .before .args .discounts))
 inside c = omega (arith, c .before .before .before .before .before .before .pre .4, c .before .before .before .before .before .before .pre .5, c .if1 .left)
 
 roll-node-requires : tie.Need-roll-node-requires
@@ -65,7 +67,8 @@ returns-2 c =
     let s = c .before .before .before .before .before .before .before .before .before .before .before .before in
     let right = s .args .right in
     let h = inside (c .before .before .before .before .before .before) in
-    let roll = branch-rolled _ _ _ _ _ (s .pre .0) (s .pre .1) h _ (c .before .before .before .before .before .row-branch .ensures) _ (c .before .before .before .roll-node .ensures .0) in
+    let roll = branch-rolled _ _ _ _ _ (s .pre .0) (s .pre .1) h _ (c .before .before .before .before .before .row-branch .ensures) _
+    (c .before .before .before .roll-node .ensures .0) in
     row-done _ _ _ _ (s .args .index + 1) _
     (row-next _ (now (s .args .option)) _ (s .args .greatest) (s .args .index) _ _ (row-resume _ _ _ _ (s .pre .6)) (omega (arith, s .pre .3))
     (strike-from-roll (side (right .call)) (right .strike) (right .listed) (now (s .args .bare)) _ _ _ _ _ _ _ roll (c .before .held-value .ensures))

@@ -21,7 +21,12 @@ abbrev μ-loop : tie.MeasureT-loop
 μ-loop downs discounts bare options option₀ greatest call strike listed next to shift top₀ k₀ option top k = to - k
 
 loop-holds : tie.Need-loop-holds Inv-loop μ-loop
-loop-holds c = (omega arith, omega (arith, c .before .before .before .before .before .pre .4 .ordered), row-resume _ _ _ _ (c .before .before .before .before .before .pre .5))
+loop-holds c = (
+  omega arith,
+  omega (arith, c .before .before .before .before .before .pre .4 .ordered),
+  row-resume _ _ _ _
+      (c .before .before .before .before .before .pre .5),
+)
 
 span-branch-requires : tie.Need-span-branch-requires Inv-loop μ-loop
 span-branch-requires c κs =
@@ -53,19 +58,37 @@ roll-node-requires c κs =
     )
 
 mul-held-value : tie.Need-mul-held-value Inv-loop μ-loop
-mul-held-value c = omega (arith, c .before .before .before .before .before .before .before .before .before .before .pre .2, c .before .before .before .before .before .before .before .before .before .before .pre .4 .ends)
+mul-held-value c = omega (
+  arith,
+  c .before .before .before .before .before .before .before .before .before .before .pre .2,
+  c .before .before .before .before .before .before .before .before .before .before .pre .4 .ends,
+)
 
 shared-slice-read-held-value : tie.Need-shared-slice-read-held-value Inv-loop μ-loop
-shared-slice-read-held-value c = omega (arith, c .before .before .before .before .before .before .before .before .before .before .before .pre .2, c .before .before .before .before .before .before .before .before .before .before .before .pre .4 .ends)
+shared-slice-read-held-value c = omega (
+  arith,
+  c .before .before .before .before .before .before .before .before .before .before .before .pre .2,
+  c .before .before .before .before .before .before .before .before .before .before .before .pre .4 .ends,
+)
 
 held-value-requires : tie.Need-held-value-requires Inv-loop μ-loop
 held-value-requires c κs = search needs
 
 mul-option : tie.Need-mul-option Inv-loop μ-loop
-mul-option c = omega (arith, c .before .before .before .before .before .before .loop .inv .2 .filled .same, c .before .before .before .before .before .before .before .before .before .before .before .before .pre .3, c .before .before .before .before .before .before .before .before .before .before .before .before .pre .4 .ends)
+mul-option c = omega (
+  arith,
+  c .before .before .before .before .before .before .loop .inv .2 .filled .same,
+  c .before .before .before .before .before .before .before .before .before .before .before .before .pre .3,
+  c .before .before .before .before .before .before .before .before .before .before .before .before .pre .4 .ends,
+)
 
 slice-write-option : tie.Need-slice-write-option Inv-loop μ-loop
-slice-write-option c = omega (arith, c .before .before .before .before .before .before .loop .inv .2 .filled .same, c .before .before .before .before .before .before .before .before .before .before .before .before .pre .3, c .before .before .before .before .before .before .before .before .before .before .before .before .pre .4 .ends)
+slice-write-option c = omega (
+  arith,
+  c .before .before .before .before .before .before .loop .inv .2 .filled .same,
+  c .before .before .before .before .before .before .before .before .before .before .before .before .pre .3,
+  c .before .before .before .before .before .before .before .before .before .before .before .before .pre .4 .ends,
+)
 
 larger-requires : tie.Need-larger-requires Inv-loop μ-loop
 larger-requires c κs = search needs
@@ -82,7 +105,8 @@ loop-again c =
     let right = s .args .right in
     let l = c .before .before .before .before .before .before .before .loop in
     let h : l .k < length (now (s .args .discounts)) = omega (arith, s .pre .4 .ends) in
-    let e = span-is _ _ _ _ (s .pre .0) (s .pre .4) (l .inv .0) (c .before .before .before .before .before .before .loop-test .taken) _ (c .before .before .before .before .before .span-branch .ensures) in
+    let e = span-is _ _ _ _ (s .pre .0) (s .pre .4) (l .inv .0) (c .before .before .before .before .before .before .loop-test .taken) _
+    (c .before .before .before .before .before .span-branch .ensures) in
     let roll = branch-rolled _ _ _ _ _ (s .pre .0) (s .pre .1) h _ e _ (c .before .before .before .roll-node .ensures .0) in (
       omega arith,
       omega arith,

@@ -34,8 +34,15 @@ strike-nodes-requires c κs =
     let edge = c .before .before .before .before .before .before .edge-nodes .result in
     let z : 0 + edge ≡ edge = omega arith in
     let done = rw z at (c .before .before .before .strike-edge .ensures) in
-    rw (c .before .before .before .before .before .between-edges .ensures)
-    (s .pre .0, s .pre .1, s .pre .2, omega (arith, s .pre .3), leads-between _ _ _ (s .pre .0) _ (c .before .before .before .before .before .before .edge-nodes .ensures) _ refl, done)
+    rw (c .before .before .before .before .before .between-edges .ensures) (
+      s .pre .0,
+      s .pre .1,
+      s .pre .2,
+      omega (arith, s .pre .3),
+      leads-between _ _ _ (s .pre .0) _
+          (c .before .before .before .before .before .before .edge-nodes .ensures) _ refl,
+      done,
+    )
 
 sub-strike-edge : tie.Need-sub-strike-edge
 sub-strike-edge c = let f = fits (c .before .before .before .before .before .before .before .before .before) in omega (arith, f .1)
@@ -46,8 +53,17 @@ strike-edge-requires-2 c κs =
     let f = fits (c .before .before .before .before .before .before .before .before .before .before) in
     let first = c .before .before .before .before .before .before .before .strike-edge in
     let second = c .before .before .before .strike-nodes in
-    let done = rw (c .before .before .before .before .before .before .before .before .before .between-edges .ensures) at (c .before .before .before .strike-nodes .ensures) in
-    (s .pre .0, s .pre .1, s .pre .2, omega (arith, first .kept .1 .1 .1 .1 .1 .1 .1 .0, second .kept .1 .1 .1 .1 .1 .1 .0, s .pre .3), f .0, omega (arith, f .1), done)
+    let done = rw (c .before .before .before .before .before .before .before .before .before .between-edges .ensures) at
+    (c .before .before .before .strike-nodes .ensures) in (
+      s .pre .0,
+      s .pre .1,
+      s .pre .2,
+      omega (arith, first .kept .1 .1 .1 .1 .1 .1 .1 .0, second .kept .1 .1 .1 .1 .1 .1 .0, s .pre .3),
+      f .0,
+      omega
+          (arith, f .1),
+      done,
+    )
 
 same-length : tie.Need-same-length
 same-length c = search needs
@@ -56,7 +72,8 @@ returns : tie.Need-returns
 returns c =
     let f = fits (c .before .before .before .before .before .before .before .before .before .before .before .before .before) in
     let edge = c .before .before .before .before .before .before .before .before .before .before .before .before .before .edge-nodes .result in
-    let count = length (now (c .before .before .before .before .before .before .before .before .before .before .before .before .before .before .before .before .before .before .before .args .discounts)) in
+    let count = length (now (c .before .before .before .before .before .before .before .before .before .before .before .before .before .before .before
+    .before .before .before .before .args .discounts)) in
     let z : count - edge + edge ≡ count = omega (arith, f .1) in
     rw z at (c .before .before .strike-edge2 .ensures)
 
