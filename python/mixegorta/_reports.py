@@ -77,7 +77,8 @@ def _handed(name: str, report: Any) -> CReport:
 
 
 def _taken(answer: Any) -> Report:
-    return Report(**{word: tuple(answer.refused) if word == "refused" else int(getattr(answer, word)) for word in Report._fields})
+    return Report(answer.books, answer.fields, answer.priced, tuple(answer.refused), answer.bonds, answer.options, answer.error_bounds, answer.dearest,
+                  answer.book, answer.place)
 
 
 def empty_report() -> Report:
