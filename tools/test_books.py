@@ -148,6 +148,25 @@ class Here(Folder):
         self.assertEqual((made.returncode, made.stdout), (1, self.lines_of(files).replace(b'unvalued 0', b'unvalued 1')), made.stderr)
         self.assertIn(b'deadly.book: not valued: the process that valued it died', made.stderr)
 
+    def test_processes_end_with_the_command(self):
+        """Killed, it leaves no process behind."""
+        files = self.large(6)
+        with subprocess.Popen([sys.executable, '-m', 'mixegorta_command', 'books', '--processes', '2', *map(str, files)], env=settings(), stdout=subprocess.DEVNULL,
+                              stderr=subprocess.DEVNULL) as running:
+            children = pathlib.Path(f'/proc/{running.pid}/task/{running.pid}/children')
+            if not children.exists():
+                self.skipTest('the system does not tell the children of a process')
+            while running.poll() is None and len(children.read_text().split()) < 2:
+                time.sleep(0.005)
+            left = children.read_text().split()
+            running.kill()
+        self.assertEqual(len(left), 2)
+        for _ in range(200):
+            if not any(pathlib.Path(f'/proc/{child}').exists() for child in left):
+                break
+            time.sleep(0.02)
+        self.assertFalse(any(pathlib.Path(f'/proc/{child}').exists() for child in left))
+
     def test_more_bytes_than_a_book_has(self):
         """A file is read as far as its report depends on it."""
         book = m.book_of_jobs([bytes(65_535)] * 500)
@@ -279,6 +298,38 @@ class OnACluster(Folder):
         made = self.books(*self.small(3))
         self.assertEqual((made.returncode, made.stdout, made.stderr.count(b'\n')), (2, b'', 1), made.stderr)
         self.assertIn(b'install mixegorta', made.stderr)
+
+
+class PlainProcesses(Folder):
+    """The examples of examples/night, with a command `mixegorta` on the path that is this one."""
+
+    def setUp(self):
+        super().setUp()
+        program = self.folder / 'bin/mixegorta'
+        program.parent.mkdir()
+        program.write_text(f'#!/bin/sh\nexec "{sys.executable}" -m mixegorta_command "$@"\n')
+        program.chmod(0o755)
+        (self.folder / 'books').mkdir()
+        self.files = [file.rename(self.folder / 'books' / file.name) for file in self.small(250)]
+
+    def script(self, name, *arguments, **more):
+        path = {'PATH': f'{self.folder}/bin:{os.environ["PATH"]}'}
+        return subprocess.run(['sh', ROOT / 'examples/night' / name, *map(str, arguments)], env=settings(**path, **more), capture_output=True, timeout=SECONDS)
+
+    def test_xargs(self):
+        for _ in range(2):
+            made = self.script('xargs.sh', self.folder / 'books', self.folder / 'parts', 2)
+            self.assertEqual((made.returncode, made.stdout, made.stderr), (0, self.lines_of(self.files), b''))
+            (self.folder / 'parts/names.000001.json').unlink()
+
+    def test_slurm(self):
+        """The tasks of an array in another order, one of them twice, as Slurm runs them."""
+        self.assertEqual(self.script('names.sh', self.folder / 'books', self.folder / 'parts', 60).stdout, b'5\n')
+        for task in ('4', '1', '0', '1', '3', '2'):
+            made = self.script('slurm.sh', self.folder / 'parts', SLURM_ARRAY_TASK_ID=task)
+            self.assertEqual((made.returncode, made.stdout, made.stderr), (0, b'', b''))
+        parts = sorted((self.folder / 'parts').glob('names.*.json'))
+        self.assertEqual((len(parts), books('--join', *parts).stdout), (5, self.lines_of(self.files)))
 
 
 class WithoutDask(unittest.TestCase):

@@ -9,8 +9,8 @@ from .valuing import valued
 INSTALL = 'install Dask, in Debian by `apt install python3-distributed`, or leave --scheduler out, which values on the processors of this machine'
 CONNECT_SECONDS, WORKER_SECONDS, ALONE_SECONDS, ASK_SECONDS = 10, 30, 60, 2
 TASKS_A_THREAD, FEWEST_TASKS = 3, 4
-# So many tasks after one another whose workers all died, and none that was answered: it is the cluster and not a file.
-MOST_DEATHS = 3
+# So many tasks after one another whose workers all died: it is the cluster and not a file. Fewer tell it as long as no task was answered.
+FIRST_DEATHS, MOST_DEATHS = 3, 12
 GO_ON = 'what is done is kept with --resume, and the same command goes on'
 
 
@@ -23,7 +23,8 @@ class Cluster:
         except ImportError:
             raise Stop(f'--scheduler: {INSTALL}')
         warnings.filterwarnings('ignore', module='distributed')
-        self.distributed, self.address, self.running, self.deaths, self.number = distributed, address, {}, 0, 0
+        self.distributed, self.address, self.running = distributed, address, {}
+        self.deaths, self.answered, self.number = 0, 0, 0
         self.late = TimeoutError, distributed.TimeoutError
         try:
             self.client = distributed.Client(address, timeout=CONNECT_SECONDS)
@@ -73,7 +74,7 @@ class Cluster:
         if future.status in ('cancelled', 'lost'):
             raise Stop(f'--scheduler {self.address}: it is lost; {GO_ON}')
         if future.status == 'finished':
-            self.deaths = 0
+            self.deaths, self.answered = 0, self.answered + 1
             return [Answer(batch, reports_of(future.result()))]
         return self._failed(future.exception(), batch)
 
@@ -82,7 +83,7 @@ class Cluster:
             version = library().__version__
             raise Stop(f'a worker could not value ({type(error).__name__}: {error}): install mixegorta {version} where the workers run')
         self.deaths += 1
-        if self.deaths >= MOST_DEATHS:
+        if self.deaths >= (MOST_DEATHS if self.answered else FIRST_DEATHS):
             raise Stop(f'--scheduler {self.address}: every worker that took a task died, {self.deaths} tasks in a row; look at the logs of the workers; {GO_ON}')
         if len(batch.places) == 1:
             return [Answer(batch, None)]

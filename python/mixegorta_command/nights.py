@@ -1,7 +1,9 @@
 """A night of books: files to batches, batches to workers, and each file's report to its place. The order in which answers come changes nothing."""
+import ctypes
 import hashlib
 import json
 import os
+import signal
 import sys
 import tempfile
 import time
@@ -14,6 +16,7 @@ from .valuing import MOST_BYTES, valued
 
 # Some 50 milliseconds of work, so that a lost batch costs little and its way to a worker costs less.
 BATCH_BYTES, BATCH_FILES = 65_536, 32
+PARENT_DEATH_SIGNAL = 1
 DIED = 'the process that valued it died, alone with it too'
 
 # Files of a batch by their places among all, with their bytes and their keys.
@@ -146,11 +149,22 @@ class Here:
         pass
 
 
+def obey():
+    """A process of the pool leaves an interrupt to the command, and ends with it, killed or not, where the system is Linux."""
+    signal.signal(signal.SIGINT, signal.SIG_IGN)
+    if sys.platform == 'linux':
+        ctypes.CDLL(None).prctl(PARENT_DEATH_SIGNAL, signal.SIGKILL)
+
+
+def pool_of(count):
+    return futures.ProcessPoolExecutor(count, initializer=obey)
+
+
 class Processes:
     """Some processes of this machine. A process that dies takes the pool with it: what ran then is run again, each file alone."""
 
     def __init__(self, count):
-        self.count, self.running, self.pool = count, {}, futures.ProcessPoolExecutor(count)
+        self.count, self.running, self.pool = count, {}, pool_of(count)
 
     def submit(self, batch):
         try:
@@ -167,10 +181,10 @@ class Processes:
 
     def _renew(self):
         self.pool.shutdown(wait=False)
-        self.pool = futures.ProcessPoolExecutor(self.count)
+        self.pool = pool_of(self.count)
 
-    def finished(self):
-        done, _ = futures.wait(self.running, return_when=futures.FIRST_COMPLETED)
+    def _taken(self, done):
+        """The answers of tasks that are done, and the batches of those whose pool broke."""
         answers, died = [], []
         for future in done:
             batch = self.running.pop(future)
@@ -178,14 +192,20 @@ class Processes:
                 answers.append(Answer(batch, reports_of(future.result())))
             except BrokenProcessPool:
                 died.append(batch)
+        return answers, died
+
+    def finished(self):
+        answers, died = self._taken(futures.wait(self.running, return_when=futures.FIRST_COMPLETED).done)
         if died:
+            more, also = self._taken(futures.wait(self.running).done)
+            answers, died = answers + more, died + also
             self._renew()
         return answers + [answer for batch in died for answer in map(self._alone, singles(batch))]
 
     @staticmethod
     def _alone(batch):
         """A batch of one file in a process of its own."""
-        with futures.ProcessPoolExecutor(1) as pool:
+        with pool_of(1) as pool:
             try:
                 return Answer(batch, reports_of(pool.submit(valued, batch.contents).result()))
             except BrokenProcessPool:
