@@ -199,11 +199,11 @@ def lines_of(rows):
     return ''.join('  '.join([line[0].ljust(widths[0]), *(cell.rjust(width) for cell, width in zip(line[1:], widths[1:]))]).rstrip() + '\n' for line in cells)
 
 
-LABEL, BARS, NUMBER, LINE, MOST_BARS = 190, 440, 150, 22, 60
+LABEL, BARS, NUMBER, LINE, MOST_BARS = 190, 400, 240, 22, 60
 
 
 def picture_of(rows):
-    """The differences from the base as bars, the worst on top. Places are floats."""
+    """The totals, and their differences from the base as bars, the worst on top. Places are floats."""
     base, drawn = rows[0], rows[1:MOST_BARS + 1]
     values = [float(row.from_base) for row in drawn]
     low, high = min([0.0, *values]), max([0.0, *values])
@@ -212,13 +212,14 @@ def picture_of(rows):
     height = LINE * (len(drawn) + 2 + bool(left_out)) + 8
     parts = [f'<svg xmlns="http://www.w3.org/2000/svg" width="{LABEL + BARS + NUMBER}" height="{height}" font-family="sans-serif" font-size="13" role="img">',
              f'<title>Totals of a book under {len(rows) - 1} scenarios, from a base of {base.bonds}</title>',
-             '<rect width="100%" height="100%" fill="white"/>', f'<text x="8" y="{LINE - 6}">Sum of bonds from the base of {base.bonds}, the greatest loss first</text>']
+             '<rect width="100%" height="100%" fill="white"/>', f'<text x="8" y="{LINE - 6}">From the base of {base.bonds}, the greatest loss first</text>',
+             f'<text x="{LABEL + BARS + 8}" y="{LINE - 6}">sum of bonds, from the base</text>']
     for place, (row, value) in enumerate(zip(drawn, values), 1):
         top, wide = LINE * place + 6, abs(value) * scale
         label = row.scenario if len(row.scenario) <= 26 else row.scenario[:25] + '…'
         parts += [f'<text x="{LABEL - 8}" y="{top + 13}" text-anchor="end">{escape(label)}</text>',
                   f'<rect x="{zero - wide if value < 0 else zero:.2f}" y="{top + 2}" width="{wide:.2f}" height="{LINE - 6}" fill="{"#b5462f" if value < 0 else "#2f6fb5"}"/>',
-                  f'<text x="{LABEL + BARS + 8}" y="{top + 13}">{row.from_base}</text>']
+                  f'<text x="{LABEL + BARS + 8}" y="{top + 13}">{row.bonds}, {"" if value < 0 else "+"}{row.from_base}</text>']
     parts.append(f'<line x1="{zero:.2f}" x2="{zero:.2f}" y1="{LINE + 6}" y2="{LINE * (len(drawn) + 1) + 6}" stroke="black"/>')
     if left_out:
         parts.append(f'<text x="8" y="{height - 10}">and {left_out:,} scenarios that lose less or gain more</text>')
