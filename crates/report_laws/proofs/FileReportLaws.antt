@@ -3,11 +3,11 @@
 use mathlib.Core.Path.{_≡_, refl, sym, ap, _∙_}
 use mathlib.Core.Bool.{Bool, true, false, not, cond, _&&_, _||_}
 use mathlib.Core.List.{List, [], _∷_, _++_}
-use mathlib.Core.Logic.{_⊎_, inl, inr}
+use mathlib.Core.Logic.{inl, inr}
 use Prim.Native.Nat.{ℕ, zero, suc, _+_, _*_, _≤_, _<_}
 use native.Mathlib.Omega.{arith}
-use borrow.Author.Tests.{eq-eqb, ne-eqb, eqb-true, eqb-false, le-leb, lt-leb, ltb-true, ltb-false}
-use lib.Dec.{eqb, leb, ltb}
+use borrow.Author.Tests.{eq-eqb, ne-eqb, ltb-true, ltb-false}
+use lib.Dec.{eqb, ltb}
 use lib.ListN.{length, getD, length-append}
 use Rattle.arithmetic.specs.Row.{values}
 use Rattle.arithmetic.specs.Sum.{sum, only}
@@ -16,15 +16,14 @@ use Rattle.arithmetic.proofs.RowLaws.{values-row, length-row, zeros}
 use Rattle.arithmetic.proofs.SumLaws.{sum-cong, sum-add, sum-const, sum-only, only-same, only-other}
 use Rattle.limits.specs.Limits.{valueLimit}
 use Rattle.book_laws.specs.Bounds.{jobPrices, mostNumber, mostErrorBound}
-use Rattle.book_laws.specs.Books.{mostFields, countsWithin}
-use Rattle.book_laws.specs.Files.{jobsOf, restOf, fileBook}
+use Rattle.book_laws.specs.Books.{mostFields}
+use Rattle.book_laws.specs.Files.{restOf, fileBook}
 use Rattle.book_laws.specs.Totals.{numberOf, bondOf, boundOf, optionPriceOf, countOf, sumOf, Dearest, Tally, brokenOf}
 use Rattle.book_laws.proofs.BoundLaws.{bounded}
 use Rattle.book_laws.proofs.OpenLaws.{within-counts, option-most}
 use Rattle.book_laws.proofs.TotalLaws.{count-most}
 use Rattle.book_laws.proofs.TallyLaws.{file-tally, jobs-few}
 use Rattle.report_laws.specs.declared.Report.{Report}
-use Rattle.report_laws.specs.declared.Joined.{Joined}
 use Rattle.report_laws.specs.Reports.{emptyReport, bookReport, isLater, sumReport}
 use Rattle.report_laws.specs.Joins.{sizeOf, mostSize, countsTotal, refusedJoin, givenJoin, joinedReport}
 use Rattle.report_laws.specs.FileReports.{fileReport, filesReport, fileJobs, allJobs, filesSize, brokenFiles, jobAt, Priced, DearestOf, FilesTally}

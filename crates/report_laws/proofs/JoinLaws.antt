@@ -1,11 +1,11 @@
 -- Joining reports is associative, refusals too, and has the empty report as unit.
 -- Assumes nothing.
 use mathlib.Core.Path.{_≡_, refl, sym, ap, _∙_}
-use mathlib.Core.Bool.{Bool, true, false, cond, _&&_}
-use Prim.Native.Nat.{ℕ, _+_, _≤_, _<_}
+use mathlib.Core.Bool.{true, false, cond}
+use Prim.Native.Nat.{_+_, _≤_, _<_}
 use native.Mathlib.Omega.{arith}
 use borrow.Author.Tests.{le-leb, lt-leb}
-use lib.Dec.{eqb, leb}
+use lib.Dec.{leb}
 use lib.ListN.{length}
 use Rattle.arithmetic.proofs.Numbers.{by-order}
 use Rattle.book_laws.specs.Bounds.{mostNumber}
@@ -13,7 +13,7 @@ use Rattle.report_laws.specs.declared.Report.{Report}
 use Rattle.report_laws.specs.declared.Joined.{Joined}
 use Rattle.report_laws.specs.Reports.{emptyReport, sumReport}
 use Rattle.report_laws.specs.Joins.{sizeOf, mostSize, isReport, refusedJoin, givenJoin, joinedReport, andThen}
-use Rattle.report_laws.proofs.SumLaws.{Plain, empty-plain, sum-assoc, sum-empty-left, sum-empty-right}
+use Rattle.report_laws.proofs.SumLaws.{Plain, sum-assoc, sum-empty-left, sum-empty-right}
 use Rattle.report_laws.proofs.SoundLaws.{Sound, report-sound, sound-report, empty-sound, sum-size, sum-sound}
 
 -- ---- what a join answers

@@ -1,6 +1,6 @@
 -- Reports of books: what one book gives, and the sum of two.
 -- Assumes nothing.
-use Prim.Native.Nat.{ℕ, _+_}
+use Prim.Native.Nat.{_+_}
 use mathlib.Core.Bool.{Bool, not, cond, _&&_, _||_}
 use lib.Dec.{eqb, ltb}
 use lib.ListN.{replicate}

@@ -3,22 +3,21 @@
 use mathlib.Core.Path.{_≡_, refl, sym}
 use mathlib.Core.Bool.{Bool, true, false}
 use mathlib.Core.List.{List, [], _∷_}
-use Prim.Native.Nat.{ℕ, _^_, _≤_}
+use Prim.Native.Nat.{ℕ, _^_}
 use native.Mathlib.Omega.{arith}
 use Rattle.arithmetic.specs.Within.{Within}
 use Rattle.tree.specs.Tree.{unit}
-use Rattle.book_laws.specs.Files.{fileBook}
 use Rattle.book_promises.specs.BookPromises.{exactTotal}
 use Rattle.book_promises.proofs.BookKept.{exact-total}
 use Rattle.report_laws.specs.declared.Report.{Report}
-use Rattle.report_laws.specs.Reports.{bookReport, emptyReport}
+use Rattle.report_laws.specs.Reports.{emptyReport}
 use Rattle.report_laws.specs.Joins.{isReport, joinedReport}
 use Rattle.report_laws.specs.FileReports.{filesReport, fileReport, allJobs}
 use Rattle.report_laws.proofs.SoundLaws.{report-sound, sound-report}
 use Rattle.report_laws.proofs.SumLaws.{sum-empty-right}
 use Rattle.report_laws.proofs.JoinLaws.{first-refused, second-refused, join-assoc, join-empty-left, join-empty-right}
 use Rattle.report_laws.proofs.FileReportLaws.{files-tally, files-sound, files-joined, files-refused, file-plain}
-use Rattle.report_promises.specs.ReportPromises.{Refused, Reported, Fits, ReportPromises}
+use Rattle.report_promises.specs.ReportPromises.{Refused, Fits, ReportPromises}
 
 -- THE EXACT TOTAL OF ALL FILES: within the error bounds of their report
 pub files-total : (files : List (List ℕ)) →

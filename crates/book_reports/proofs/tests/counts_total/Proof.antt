@@ -1,12 +1,12 @@
 -- `book_reports::tests::counts_total` meets its contract: the counts passed are summed.
 -- Assumes nothing.
-use mathlib.Core.Path.{_≡_, refl, sym, ap, _∙_}
+use mathlib.Core.Path.{_≡_, refl, ap, _∙_}
 use Prim.Native.Nat.{ℕ, _*_, _-_, _≤_}
 use native.Mathlib.Omega.{arith}
 use borrow.Author.Needs.{needs}
 use Rattle.arithmetic.specs.Row.{values}
 use Rattle.arithmetic.specs.Sum.{sum}
-use Rattle.arithmetic.proofs.SumLaws.{sum-next, sum-most}
+use Rattle.arithmetic.proofs.SumLaws.{sum-next}
 use Rattle.book_laws.specs.Bounds.{mostNumber}
 use Rattle.book_laws.proofs.OpenLaws.{counts-within}
 use Rattle.report_laws.specs.Joins.{mostSize, countsTotal}

@@ -2,7 +2,7 @@
 -- Assumes nothing.
 use mathlib.Core.Path.{_≡_, sym, ap, _∙_}
 use mathlib.Core.Bool.{true}
-use Prim.Native.Nat.{ℕ, _+_, _≤_}
+use Prim.Native.Nat.{ℕ, _+_}
 use lib.ListN.{length}
 use native.Mathlib.Omega.{arith}
 use borrow.Author.Needs.{needs}
@@ -10,7 +10,7 @@ use borrow.Author.Tests.{not-true, not-false}
 use Rattle.book_laws.specs.Bounds.{mostNumber}
 use Rattle.book_laws.specs.Books.{countsWithin}
 use Rattle.book_laws.proofs.OpenLaws.{counts-tested, counts-within, within-counts}
-use Rattle.report_laws.specs.Joins.{mostSize, countsTotal}
+use Rattle.report_laws.specs.Joins.{mostSize}
 use Rattle.report_laws.proofs.SoundLaws.{uncounted, counted-less, counted-last, total-most}
 use Rattle.book_reports.proofs.tests.is_counted.Statement.{statement}
 use Rattle.book_reports.proofs.tests.is_counted.Tie as tie
