@@ -1258,7 +1258,7 @@ static void set_sheet(size_t n, uint64_t b)
 
 static void sheets(int turns)
 {
-    static const struct { size_t n; uint64_t b; } shapes[] = {{60, 0}, {60, 83}, {60, 1000}, {20, 0}, {1, 0}};
+    static const struct { size_t n; uint64_t b; } shapes[] = {{60, 0}, {60, 83}, {60, 1000}, {20, 0}, {5, 0}};
     printf("\na sheet                           library        plain C      ratio\n");
     for (int i = 0; i < 5; i++) {
         char name[64];

@@ -84,9 +84,10 @@ double double_prices(const struct double_tree *tree, const double *flows, size_t
             const size_t low = lowest(w, next, k);
             const struct branch *q = &p[from + k];
             const double bare = discounts[k] * (q->down * later[low] + q->middle * later[low + 1] + q->up * later[low + 2]);
-            const double kept = i < expiry ? discounts[k] * (q->down * held[low] + q->middle * held[low + 1] + q->up * held[low + 2]) : 0;
-            if (i <= expiry)
-                option[k] = fmax(kept, fmax(bare - strike, 0));
+            if (i <= expiry) {
+                const double kept = i < expiry ? discounts[k] * (q->down * held[low] + q->middle * held[low + 1] + q->up * held[low + 2]) : 0;
+                option[k] = kept > bare - strike ? kept : bare - strike;
+            }
             now[k] = bare + flow;
         }
     }
