@@ -55,6 +55,14 @@ def settings(**more):
     return {**os.environ, 'PYTHONPATH': str(ROOT / 'python'), 'PYTHONDONTWRITEBYTECODE': '1', **more}
 
 
+def alive(process):
+    """Whether a process runs: it is there, and not only waits for its end to be told."""
+    try:
+        return pathlib.Path(f'/proc/{process}/stat').read_text().rpartition(')')[2].split()[0] != 'Z'
+    except OSError:
+        return False
+
+
 def books(*arguments, python=sys.executable, path=None, given=None):
     more = {'PYTHONPATH': path} if path else {}
     return subprocess.run([python, '-m', 'mixegorta_command', 'books', *map(str, arguments)], input=given, env=settings(**more), capture_output=True,
@@ -161,11 +169,10 @@ class Here(Folder):
             left = children.read_text().split()
             running.kill()
         self.assertEqual(len(left), 2)
-        for _ in range(200):
-            if not any(pathlib.Path(f'/proc/{child}').exists() for child in left):
-                break
+        until = time.monotonic() + SECONDS
+        while any(map(alive, left)) and time.monotonic() < until:
             time.sleep(0.02)
-        self.assertFalse(any(pathlib.Path(f'/proc/{child}').exists() for child in left))
+        self.assertFalse(any(map(alive, left)))
 
     def test_more_bytes_than_a_book_has(self):
         """A file is read as far as its report depends on it."""

@@ -68,10 +68,11 @@ class Cluster:
             return []
         except (OSError, RuntimeError) as error:
             raise Stop(f'--scheduler {self.address}: it is lost ({type(error).__name__}); {GO_ON}')
-        return [answer for future in done for answer in self._answers(future, self.running.pop(future))]
+        # an answer that was lost with its worker before it came here is worked out again
+        return [answer for future in done if future.status != 'lost' for answer in self._answers(future, self.running.pop(future))]
 
     def _answers(self, future, batch):
-        if future.status in ('cancelled', 'lost'):
+        if future.status == 'cancelled':
             raise Stop(f'--scheduler {self.address}: it is lost; {GO_ON}')
         if future.status == 'finished':
             self.deaths, self.answered = 0, self.answered + 1

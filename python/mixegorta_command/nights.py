@@ -149,15 +149,17 @@ class Here:
         pass
 
 
-def obey():
+def obey(command):
     """A process of the pool leaves an interrupt to the command, and ends with it, killed or not, where the system is Linux."""
     signal.signal(signal.SIGINT, signal.SIG_IGN)
     if sys.platform == 'linux':
         ctypes.CDLL(None).prctl(PARENT_DEATH_SIGNAL, signal.SIGKILL)
+    if os.getppid() != command:
+        os._exit(1)
 
 
 def pool_of(count):
-    return futures.ProcessPoolExecutor(count, initializer=obey)
+    return futures.ProcessPoolExecutor(count, initializer=obey, initargs=(os.getpid(),))
 
 
 class Processes:
