@@ -5,7 +5,8 @@ by tools/promises.py, which this runs too.
     tools/documents.py
 
 A name stands for what its block, a row of a table or a paragraph, named before it, as in docs/PROMISES.md. A path with `*` must fit a file. Every file of specs/
-of the crates of promises stands in docs/READING.md. Exit status 1 where anything is wrong.
+of the crates of promises stands in docs/READING.md. The rooms of crates.txt, its comments, are those of docs/LAYERS.md, with the same crates. Exit status 1 where
+anything is wrong.
 """
 import pathlib
 import re
@@ -77,11 +78,43 @@ def faults_of_reading(root=ROOT):
                 yield f'docs/READING.md does not name {crate}/specs/{path.stem}'
 
 
+def rooms_of_crates(text):
+    """The rooms of crates.txt, each with its crates: a room is the first word of a comment, before its comma."""
+    rooms = [['', []]]
+    for line in text.splitlines():
+        if line.startswith('#'):
+            rooms.append([line[1:].partition(',')[0].strip(), []])
+        elif ':' in line:
+            rooms[-1][1].append(line.partition(':')[0])
+    return [(room, crates) for room, crates in rooms if room or crates]
+
+
+def rooms_of_layers(text):
+    """The rooms of docs/LAYERS.md: its headings of the third level, each with the crates of its table's first column."""
+    parts = re.split(r'^### (.*)$', text.partition('\n## Crates\n')[2].partition('\n## ')[0], flags=re.M)
+    cells = [[row.split('|')[1] for row in part.splitlines() if row.startswith('| `')] for part in parts[2::2]]
+    return [(room.strip(), promises.TOKEN.findall(' '.join(rows))) for room, rows in zip(parts[1::2], cells)]
+
+
+def faults_of_rooms(root=ROOT):
+    """Where crates.txt and docs/LAYERS.md tell the house differently."""
+    listed = rooms_of_crates((root / 'crates.txt').read_text(encoding='utf-8'))
+    told = rooms_of_layers((root / 'docs/LAYERS.md').read_text(encoding='utf-8'))
+    if any(line.startswith('#') and ':' in line for line in (root / 'crates.txt').read_text(encoding='utf-8').splitlines()):
+        yield 'a comment of crates.txt has a colon, by which its readers in Python and Rust tell a crate'
+    if [room for room, _ in listed] != [room for room, _ in told]:
+        yield f'the rooms of crates.txt, {[room for room, _ in listed]}, are not those of docs/LAYERS.md, {[room for room, _ in told]}'
+        return
+    for (room, crates), (_, names) in zip(listed, told):
+        if crates != names:
+            yield f'{room}: crates.txt has {" ".join(crates)}, docs/LAYERS.md {" ".join(names)}'
+
+
 def main(arguments):
     usage.answer(__doc__, arguments)
     faults = [fault for name in LINKED if (ROOT / name).exists() for fault in faults_of_links(name)]
     faults += [fault for name in HELD for fault in faults_of_names(name)]
-    faults += list(faults_of_reading())
+    faults += [*faults_of_reading(), *faults_of_rooms()]
     print(*faults, f'{len(LINKED)} documents: {len(faults)} faults', sep='\n')
     sys.argv[1:] = []
     return max(int(bool(faults)), promises.main())

@@ -250,6 +250,28 @@ class Documents(unittest.TestCase):
         self.assertIn('docs/READING.md does not name promises/specs/Promises', self.faults(READING='# Reading\n\n## The end\n'))
 
 
+class Rooms(unittest.TestCase):
+    CRATES = '# Ground, numbers\narithmetic:\ntree: arithmetic\n\n# Doors\ncapi: tree\n'
+    LAYERS = '# Layers\n\n## Crates\n\n### Ground\n\n| Crate | Gives |\n|---|---|\n| `arithmetic` | `rows` |\n| `tree` | trees |\n\n### Doors\n\n| `capi` | all |\n\n## Level one\n\n| `none` |\n'
+
+    def faults(self, crates, layers):
+        with tempfile.TemporaryDirectory() as folder:
+            root = pathlib.Path(folder)
+            (root / 'docs').mkdir()
+            (root / 'crates.txt').write_text(crates)
+            (root / 'docs/LAYERS.md').write_text(layers)
+            return list(documents.faults_of_rooms(root))
+
+    def test_right(self):
+        self.assertEqual(self.faults(self.CRATES, self.LAYERS), [])
+
+    def test_wrong(self):
+        for crates, layers in ((self.CRATES.replace('# Doors', '# Yard'), self.LAYERS), (self.CRATES.replace('tree: arithmetic\n', ''), self.LAYERS),
+                               (self.CRATES, self.LAYERS.replace('| `tree` | trees |\n', '')), (self.CRATES.replace('# Ground,', '# Ground, of:'), self.LAYERS),
+                               (self.CRATES, self.LAYERS.replace('`capi`', '`capi`, `sheet`'))):
+            self.assertEqual(len(self.faults(crates, layers)), 1, (crates, layers))
+
+
 class Stack(unittest.TestCase):
     TEXTS = {'docs/MANUAL.md': 'x 768 KiB of stack are enough', 'engine.py': '768 KiB of stack are enough, so'}
 
