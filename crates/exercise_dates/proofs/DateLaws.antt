@@ -22,7 +22,8 @@ use Rattle.pricing_laws.proofs.Schedules.{Alike}
 use Rattle.exercise.specs.declared.Terms.{Terms}
 use Rattle.exercise.specs.Terms.{side}
 use Rattle.exercise_dates.specs.declared.Dates.{Dates}
-use Rattle.exercise_dates.specs.Dates.{rowsOfATree, marksOf, datedTerms, held, datesOfKind, datesTo}
+use Rattle.exercise_dates.specs.Dates.{rowsOfATree, marksOf, datedTerms, held, datesOfKind}
+use Rattle.exercise_dates.specs.inside.Dates.{datesTo}
 
 -- ---- a list is tested from its start: the first k rows rise
 

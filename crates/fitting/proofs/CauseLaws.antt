@@ -16,7 +16,7 @@ use Rattle.lattice.proofs.TreeEntries.{Accepted, tree-accepted, tree-value, row
 use Rattle.arithmetic.specs.Answers.{lowestCause}
 use Rattle.arithmetic.proofs.CauseLaws.{lowest-none}
 use Rattle.fitting.specs.Entry.{earlyCause}
-use Rattle.fitting.specs.Plans.{mostSpacing, Numbers, Planned}
+use Rattle.fitting.specs.inside.Plans.{mostSpacing, Numbers, Planned}
 
 -- the memories hold the tree
 pub memory-none : (n b ds ps : ℕ) → memoryCause n b ds ps ≡ 0 → (discountsNeededAnswer n b .value ≤ ds) × (statePricesNeededAnswer n b .value ≤ ps)

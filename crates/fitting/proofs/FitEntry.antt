@@ -32,10 +32,11 @@ use Rattle.limits.specs.Limits.{mostSteps, mostReversion, isSteps, leastQuote, 
 use Rattle.curve.specs.Curve.{discountAt, convertsAt, inPlace, curveNumber, curveMemory}
 use Rattle.curve.proofs.CurveLaws.{curve-range, curve-stored}
 use Rattle.fitting.specs.declared.causes.Plan.{Plan}
-use Rattle.fitting.specs.Fit.{curveDiscount, curvePrice, curveAccepted, rowsOrZeros, TreeFitted}
-use Rattle.fitting.specs.Preconditions.{QuotesReady}
+use Rattle.fitting.specs.Fit.{curveDiscount, curvePrice, curveAccepted}
+use Rattle.fitting.specs.inside.TableFit.{rowsOrZeros, TreeFitted}
+use Rattle.fitting.specs.inside.Preconditions.{QuotesReady}
 use Rattle.fitting.specs.Entry.{quotesOf, earlyCause, lateCause, fittedNumber, fitMemory, fitDiscounts, fitPrices}
-use Rattle.fitting.specs.Plans.{SpacingKnown, Planned}
+use Rattle.fitting.specs.inside.Plans.{SpacingKnown, Planned}
 use Rattle.fitting.proofs.CauseLaws.{numbers-of}
 
 -- causes 2 to 7 are at most 7

@@ -14,8 +14,8 @@ use Rattle.tree.specs.Tree.{chance, incoming}
 use Rattle.tree.proofs.StepLaws.{incoming-none}
 use Rattle.row_branches.specs.RowBranches.{rowBranch, rowTransition}
 use Rattle.fit_laws.specs.Step.{carried}
-use Rattle.fit_laws.specs.Bounds.{mostFactor, mostRowSum}
-use Rattle.fitting.specs.Preconditions.{StepReady, SpreadReady}
+use Rattle.fit_laws.specs.inside.Bounds.{mostFactor, mostRowSum}
+use Rattle.fitting.specs.inside.Preconditions.{StepReady, SpreadReady}
 use Rattle.fitting.proofs.StepRows.{AtNode, quoted-small, node-asks, sums-small, product-most, amount-most, sums-next}
 
 -- quote × factor / Z

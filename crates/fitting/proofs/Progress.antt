@@ -15,7 +15,8 @@ use Rattle.arithmetic.specs.Row.{row, values, place, each}
 use Rattle.arithmetic.proofs.SumLaws.{sum-cong}
 use Rattle.arithmetic.proofs.RowLaws.{row-cong, values-row, each-none, each-more, each-fails, each-cong}
 use Rattle.tree.specs.Tree.{Sound}
-use Rattle.tree.specs.Layout.{start, laid}
+use Rattle.tree.specs.Layout.{laid}
+use Rattle.tree.specs.inside.Layout.{start}
 use Rattle.tree.proofs.LayoutLaws.{start-suc, start-grow, laid-row, laid-next, laid-past, laid-length}
 use Rattle.lattice.specs.Shape.{nodeCount, rowStart}
 use Rattle.lattice.specs.RateTree.{rateTree}
@@ -28,10 +29,11 @@ use Rattle.fit_laws.specs.StatePrices.{fittedPrice, fittedDiscount, acceptedRow
 use Rattle.fit_laws.proofs.StepLaws.{discount-cong, next-cong}
 use Rattle.fit_laws.proofs.Repricing.{Fittable}
 use Rattle.fit_laws.proofs.WholeFit.{Curve, fittable}
-use Rattle.fit_laws.specs.Bounds.{leastFactor, mostFactor}
-use Rattle.fitting.specs.Rows.{RowFitted, rowPrices, rowDiscounts, tableFactor}
-use Rattle.fitting.specs.Preconditions.{TreeRowReady, RowsReady}
-use Rattle.fitting.specs.Fit.{quoted, tableDiscount, tablePrice, tableAccepted, TreeFitted, PastKept}
+use Rattle.fit_laws.specs.inside.Bounds.{leastFactor, mostFactor}
+use Rattle.fitting.specs.inside.Rows.{RowFitted, rowPrices, rowDiscounts, tableFactor}
+use Rattle.fitting.specs.inside.Preconditions.{TreeRowReady, RowsReady}
+use Rattle.fitting.specs.Fit.{quoted}
+use Rattle.fitting.specs.inside.TableFit.{tableDiscount, tablePrice, tableAccepted, TreeFitted, PastKept}
 use Rattle.lattice.proofs.ShapeLaws.{table-room}
 
 -- what holds after i rows

@@ -28,10 +28,10 @@ use Rattle.curve.proofs.CurveLaws.{curve-range}
 use Rattle.fit_laws.specs.StatePrices.{acceptedRow, exactStatePrice, statePriceErrorBound}
 use Rattle.fit_laws.proofs.Shortfall.{state-below, state-price-shortfall}
 use Rattle.fit_laws.proofs.WholeFit.{Curve, fitted-is-state, quotes-repriced}
-use Rattle.fit_laws.specs.Bounds.{leastFactor, mostFactor}
+use Rattle.fit_laws.specs.inside.Bounds.{leastFactor, mostFactor}
 use Rattle.fitting.specs.Fit.{quoted, curveAccepted, nodeFactor}
 use Rattle.fitting.specs.Entry.{quotesOf, earlyCause, lateCause, fittedNumber, fitDiscount, fitPrice}
-use Rattle.fitting.specs.Plans.{Numbers}
+use Rattle.fitting.specs.inside.Plans.{Numbers}
 use Rattle.fitting.proofs.CauseLaws.{numbers-of}
 
 late-parts : (w a : Bool) → _≡_ {A = ℕ} (cond w 8 (cond a 0 9)) 0 → (w ≡ false) × (a ≡ true)

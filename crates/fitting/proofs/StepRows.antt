@@ -21,8 +21,8 @@ use Rattle.limits.specs.Limits.{mostDiscount, isDiscount, mostQuote}
 use Rattle.limits.proofs.LimitLaws.{discount-most}
 use Rattle.fit_laws.specs.Step.{carried}
 use Rattle.fit_laws.proofs.StepLaws.{carried-le}
-use Rattle.fitting.specs.Preconditions.{Factors, SpreadReady}
-use Rattle.fit_laws.specs.Bounds.{mostFactor, mostRowSum, mostCarried, mostIncoming}
+use Rattle.fitting.specs.inside.Preconditions.{Factors, SpreadReady}
+use Rattle.fit_laws.specs.inside.Bounds.{mostFactor, mostRowSum, mostCarried, mostIncoming}
 
 -- the sum of state price × factor over the first k nodes, and one node more
 abbrev pub weighed : List ℕ → List ℕ → ℕ → ℕ

@@ -16,7 +16,7 @@ use Rattle.tree.proofs.LayoutLaws.{laid-cong}
 use Rattle.lattice.specs.Shape.{halfWidth, nodeCount, rowStart, discountsNeeded, statePricesNeeded}
 use Rattle.lattice.specs.Branching.{downProbability}
 use Rattle.lattice.specs.RateTree.{nodeOfIndex, node, rateTree}
-use Rattle.lattice.specs.Entries.{tableOf, discountsNeededAnswer, statePricesNeededAnswer}
+use Rattle.lattice.specs.Entries.{tableOf, discountsNeededAnswer, statePricesNeededAnswer, tableOffset}
 use Rattle.lattice.proofs.EntryLaws.{tree-found}
 use Rattle.lattice.proofs.Differences.{sub-is, sub-size}
 use Rattle.lattice.proofs.RateTreeLaws.{same-node}
@@ -26,22 +26,11 @@ use Rattle.factor.proofs.FactorLaws.{index-below, index-above, side-accepted, n
 use Rattle.limits.specs.Limits.{mostSteps, isDiscount}
 use Rattle.fit_laws.specs.StatePrices.{acceptedRow}
 use Rattle.fit_laws.proofs.WholeFit.{price-by, fitted-discount-by}
-use Rattle.fit_laws.specs.Bounds.{leastFactor, mostFactor}
-use Rattle.fitting.specs.Rows.{tableFactor}
-use Rattle.fitting.specs.Preconditions.{Tables, QuotesReady}
-use Rattle.fitting.specs.Fit.{
-  quoted,
-  tableDiscount,
-  tablePrice,
-  tableAccepted,
-  curveDiscount,
-  curvePrice,
-  curveAccepted,
-  nodeFactor,
-  TreeFitted,
-  PastKept,
-}
-use Rattle.lattice.specs.Entries.{tableOffset}
+use Rattle.fit_laws.specs.inside.Bounds.{leastFactor, mostFactor}
+use Rattle.fitting.specs.inside.Rows.{tableFactor}
+use Rattle.fitting.specs.inside.Preconditions.{Tables, QuotesReady}
+use Rattle.fitting.specs.Fit.{quoted, curveDiscount, curvePrice, curveAccepted, nodeFactor}
+use Rattle.fitting.specs.inside.TableFit.{tableDiscount, tablePrice, tableAccepted, TreeFitted, PastKept}
 use Rattle.lattice.proofs.Sizes.{half-within}
 use Rattle.lattice.proofs.ShapeLaws.{table-room, offset-is}
 

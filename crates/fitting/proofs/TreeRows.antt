@@ -24,8 +24,8 @@ use Rattle.row_branches.proofs.TableParts.{table-part, part-within, table-part-
 use Rattle.limits.specs.Limits.{mostSteps, mostReversion, mostNodes, isDiscount}
 use Rattle.fit_laws.specs.Step.{normaliser, discount, carried, nextPrice}
 use Rattle.lattice.specs.declared.RowShape.{RowShape}
-use Rattle.fitting.specs.Rows.{RowFitted, rowPrices, tableFactor}
-use Rattle.fitting.specs.Preconditions.{RowReady, TreeRowReady}
+use Rattle.fitting.specs.inside.Rows.{RowFitted, rowPrices, tableFactor}
+use Rattle.fitting.specs.inside.Preconditions.{RowReady, TreeRowReady}
 
 -- the shape that code holds of a row of the tree
 module _ {b n i : ℕ} {s : RowShape} (reverting : b ≤ mostReversion) (few : n ≤ mostSteps) (h : i < n) (e : s ≡ rowShapeAnswer b (n - 1) i) where

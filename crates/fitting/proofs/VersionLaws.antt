@@ -23,15 +23,7 @@ use Rattle.spacing.specs.Spacing.{spacing, spacingAnswer, versionSpacingAnswer}
 use Rattle.spacing.proofs.SpacingLaws.{spacing-unlisted, spacing-volatile, spacing-accepted}
 use Rattle.spacing.proofs.VersionLaws.{version-first, answer-unlisted, answer-reverting}
 use Rattle.curve.specs.Curve.{curveNumber}
-use Rattle.fitting.specs.Entry.{earlyCause, fittedNumber, fitNumber, fitDiscount, fitPrice, versionNumber, versionDiscount, versionPrice}
-
--- node discounts and state prices
-module _ (f n b s : ℕ) (kinds : List ℕ) (figures : List Float) where
-  pub first-discount : versionDiscount 1 f n b s kinds figures ≡ fitDiscount f n b (spacing f s) kinds figures
-  first-discount = rw (working-first b, version-first f s b)
-
-  pub first-price : versionPrice 1 f n b s kinds figures ≡ fitPrice f n b (spacing f s) kinds figures
-  first-price = rw (working-first b, version-first f s b)
+use Rattle.fitting.specs.Entry.{earlyCause, fittedNumber, fitNumber, versionNumber}
 
 -- ---- the number: a reversion beyond its limit is a cause of the tree and of the spacing by version
 

@@ -82,12 +82,6 @@ pricesAfter f n b s rows kinds figures discounts prices =
 abbrev pub versionNumber : ℕ → ℕ → ℕ → ℕ → ℕ → List ℕ → List ℕ → List Float → ℕ → ℕ → ℕ
 versionNumber v f n b s = fittedNumber f n (workingReversion v b) (versionSpacingAnswer v f s b .number) (versionSpacing v f s b)
 
-abbrev pub versionDiscount : ℕ → ℕ → ℕ → ℕ → ℕ → List ℕ → List Float → ℕ → ℕ → ℕ
-versionDiscount v f n b s = fitDiscount f n (workingReversion v b) (versionSpacing v f s b)
-
-abbrev pub versionPrice : ℕ → ℕ → ℕ → ℕ → ℕ → List ℕ → List Float → ℕ → ℕ → ℕ
-versionPrice v f n b s = fitPrice f n (workingReversion v b) (versionSpacing v f s b)
-
 abbrev pub versionDiscounts : ℕ → ℕ → ℕ → ℕ → ℕ → List ℕ → List Float → List ℕ
 versionDiscounts v f n b s = fitDiscounts f n (workingReversion v b) (versionSpacing v f s b)
 

@@ -1,5 +1,5 @@
 // The causes 2 to 8 of a fit.
-ghost use Rattle.fitting.specs.Plans.{SpacingKnown, Planned};
+ghost use Rattle.fitting.specs.inside.Plans.{SpacingKnown, Planned};
 use arithmetic::Answer;
 
 // What a fit needs to know of its numbers, or the number of a cause.

@@ -8,7 +8,7 @@ use arithmetic::Answer;
 use tables::Grid;
 ghost use mathlib.Core.Path.{_≡_};
 ghost use lib.ListN.{length};
-ghost use Rattle.fitting.specs.Plans.{SpacingKnown};
+ghost use Rattle.fitting.specs.inside.Plans.{SpacingKnown};
 ghost use Rattle.fitting.specs.Entry.{
   fittedNumber,
   fitMemory,

@@ -8,9 +8,9 @@ ghost use Rattle.arithmetic.specs.Row.{values};
 ghost use Rattle.row_branches.specs.RowBranches.{rowTransition};
 ghost use Rattle.lattice.specs.Shape.{nodeCount, rowStart};
 ghost use Rattle.lattice.specs.RateTree.{rateTree};
-ghost use Rattle.fitting.specs.Rows.{tableFactor, RowFitted};
-ghost use Rattle.fitting.specs.Preconditions.{RowReady, TreeRowReady, RowsReady};
-ghost use Rattle.fitting.specs.Fit.{tableDiscount, tablePrice, tableAccepted, TreeFitted, PastKept};
+ghost use Rattle.fitting.specs.inside.Rows.{tableFactor, RowFitted};
+ghost use Rattle.fitting.specs.inside.Preconditions.{RowReady, TreeRowReady, RowsReady};
+ghost use Rattle.fitting.specs.inside.TableFit.{tableDiscount, tablePrice, tableAccepted, TreeFitted, PastKept};
 
 // Where a row starts in both memories, the next row's node count, and the next row's quote.
 struct RowPlace {

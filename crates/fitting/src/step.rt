@@ -16,9 +16,9 @@ ghost use Rattle.row_branches.specs.RowBranches.{
 };
 ghost use Rattle.limits.specs.Limits.{isDiscount};
 ghost use Rattle.fit_laws.specs.Step.{normaliser, carried};
-ghost use Rattle.fit_laws.specs.Bounds.{mostRowSum};
-ghost use Rattle.fitting.specs.Rows.{RowStepped};
-ghost use Rattle.fitting.specs.Preconditions.{Factors, StepReady, SpreadReady};
+ghost use Rattle.fit_laws.specs.inside.Bounds.{mostRowSum};
+ghost use Rattle.fitting.specs.inside.Rows.{RowStepped};
+ghost use Rattle.fitting.specs.inside.Preconditions.{Factors, StepReady, SpreadReady};
 
 const ONE: u64 = 1_000_000_000;
 

@@ -15,12 +15,12 @@ use Rattle.lattice.proofs.TreeEntries.{Accepted}
 use Rattle.curve.specs.Curve.{discountAt, curveNumber, curveMemory}
 use Rattle.spacing.specs.Spacing.{versionSpacingAnswer}
 use Rattle.fitting.specs.Entry.{versionNumber, fitMemory, versionDiscounts, versionPrices}
-use Rattle.fitting.specs.Plans.{Numbers}
+use Rattle.fitting.specs.inside.Plans.{Numbers}
 use Rattle.fitting.proofs.FittedTree.{fit-discounts-length, fit-prices-length}
 use Rattle.fitting.proofs.Promised.{fit-numbers}
 use Rattle.job_record.specs.declared.Job.{Job}
-use Rattle.job_fit.specs.RecordFit.{meantVersion, meantReversion, jobReversion, jobRows, jobKinds, jobFigures, jobQuotes, jobDiscounts, jobStatePrices}
-use Rattle.job_fit.specs.RecordFit.{recordQuotes, recordFit, memoryAfter}
+use Rattle.job_fit.specs.RecordFit.{meantVersion, meantReversion, jobReversion, jobRows, jobKinds, jobFigures}
+use Rattle.job_fit.specs.RecordFit.{jobQuotes, jobDiscounts, jobStatePrices, recordQuotes, recordFit, memoryAfter}
 
 -- ---- the version that a record means
 

@@ -31,8 +31,9 @@ use Rattle.job_record.specs.Reader.{readingOf}
 use Rattle.job_fit.specs.RecordFit.{jobReversion, jobFlows, jobDiscounts, jobStatePrices, recordFit, memoryAfter}
 use Rattle.job_fit.proofs.FitLaws as fits
 use Rattle.job_prices.specs.declared.JobPrices.{JobPrices}
-use Rattle.job_prices.specs.JobPrices.{optionForm, optionDates, taggedOption, treeNumber, refusedPrices, pricesOf, treePrices}
-use Rattle.job_prices.specs.JobPrices.{recordNumber, recordPrices, bytesNumber, bytesPrices}
+use Rattle.job_prices.specs.JobPrices.{optionForm, optionDates, taggedOption, treeNumber, refusedPrices}
+use Rattle.job_prices.specs.JobPrices.{pricesOf, recordNumber, recordPrices, bytesNumber, bytesPrices}
+use Rattle.job_prices.specs.inside.TreePrices.{treePrices}
 
 pub all-placed : (l₀ l part : List ℕ) (i : ℕ) → Filled l₀ l (values part) i → i ≡ length part → length part ≤ length l₀ → l ≡ place l₀ 0 part
 all-placed l₀ l part i filled e fits =

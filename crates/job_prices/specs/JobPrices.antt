@@ -54,10 +54,6 @@ unfoldable pub pricesOf : ℕ → Price → Bool → Price → JobPrices
 pricesOf number bond present option =
     cond (eqb number 0) (record { number = 0; bond = bond; «has_option» = present; option = option }) (refusedPrices number)
 
-unfoldable pub treePrices : ℕ → ℕ → List ℕ → List ℕ → OptionRecord → JobPrices
-treePrices n b discounts flows option =
-    pricesOf (treeNumber n b discounts flows option) (bondPrice n b discounts flows) (hasOption option) (treeOption n b discounts flows option)
-
 module _ (job : Job) where
   -- 1, then the lowest of causes 2 to 9 and of 6 for lent memories of so many numbers, then causes 10 to 13
   unfoldable pub recordNumber : ℕ → ℕ → ℕ

@@ -8,14 +8,8 @@ ghost use lib.ListN.{length};
 ghost use Rattle.job_fit.specs.RecordFit.{jobFlows, jobDiscounts, jobStatePrices, memoryAfter};
 ghost use Rattle.job_record.specs.Form.{mostDates};
 ghost use Rattle.job_record.specs.Reader.{readingOf};
-ghost use Rattle.job_prices.specs.JobPrices.{
-  treeNumber,
-  treePrices,
-  recordNumber,
-  recordPrices,
-  bytesNumber,
-  bytesPrices,
-};
+ghost use Rattle.job_prices.specs.JobPrices.{treeNumber, recordNumber, recordPrices, bytesNumber, bytesPrices};
+ghost use Rattle.job_prices.specs.inside.TreePrices.{treePrices};
 use job_record::Job;
 use price_laws::Price;
 

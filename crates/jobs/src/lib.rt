@@ -4,10 +4,32 @@ ghost use mathlib.Core.Bool.{true};
 ghost use Prim.Native.Nat.{_+_, _*_, _^_, _≤_, _<_};
 ghost use lib.ListN.{length, replicate};
 ghost use Rattle.arithmetic.specs.Row.{padded};
-ghost use Rattle.job_record.specs.Bytes.{mostWidth, numberAt};
-ghost use Rattle.job_record.specs.Form.{mostBytes, mostJobSteps, mostDates, afterField, afterFields, farthest, restAt, isKind, hasTag};
-ghost use Rattle.job_record.specs.Form.{versionAt, hasVersion, quotesAt, optionWidth, datesAt, datesLeft};
-ghost use Rattle.job_record.specs.Form.{fieldAt, fieldsFrom, headFormed, kindFormed, listFormed, restFormed, bodyFormed, wellFormed};
+ghost use Rattle.job_record.specs.Bytes.{numberAt};
+ghost use Rattle.job_record.specs.inside.Widths.{mostWidth, farthest};
+ghost use Rattle.job_record.specs.Form.{
+  mostBytes,
+  mostJobSteps,
+  mostDates,
+  afterField,
+  afterFields,
+  restAt,
+  isKind,
+  hasTag,
+  versionAt,
+  hasVersion,
+  quotesAt,
+  optionWidth,
+  datesAt,
+  datesLeft,
+  fieldAt,
+  fieldsFrom,
+  headFormed,
+  kindFormed,
+  listFormed,
+  restFormed,
+  bodyFormed,
+  wellFormed,
+};
 ghost use Rattle.job_record.specs.Reader.{tagOf, dataOf, dateOf, noOption, kindOptionAt, listOptionAt, optionAt, versionOf, jobOf, noJob, readingOf};
 ghost use Rattle.job_record.specs.Grammar.{ReadsAs};
 use job_record::Job;

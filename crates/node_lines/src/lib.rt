@@ -5,10 +5,11 @@ ghost use lib.ListN.{length};
 ghost use Rattle.limits.specs.Limits.{mostDiscount};
 ghost use Rattle.lattice.specs.RateTree.{nodeOfIndex};
 ghost use Rattle.text_laws.specs.Lines.{lineOfNode};
-ghost use Rattle.text_laws.specs.Put.{Put, putBefore, withText};
+ghost use Rattle.text_laws.specs.Put.{putBefore, withText};
+ghost use Rattle.text_laws.specs.inside.Put.{Put};
 ghost use Rattle.node_lines.specs.Rows.{rowText, hasRoomFor, isRow};
 ghost use Rattle.node_lines.specs.Reading.{standBefore, nodesBefore, readNumber, drawnOf};
-ghost use Rattle.node_lines.specs.Preconditions.{Readable};
+ghost use Rattle.node_lines.specs.inside.Preconditions.{Readable};
 
 // Discounts exist for rows 0 to 59.
 const LAST_ROW: u64 = 59;

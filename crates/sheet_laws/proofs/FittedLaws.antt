@@ -24,15 +24,15 @@ use Rattle.fitting.specs.Entry.{fitPrice}
 use Rattle.fitting.proofs.Promised.{fit-repriced}
 use Rattle.fitting.proofs.FittedTree.{fit-discounts-lent}
 use Rattle.job_record.specs.declared.Job.{Job}
-use Rattle.job_fit.specs.RecordFit.{meantReversion, jobReversion, jobSpacing, jobKinds, jobFigures, jobQuotes, jobDiscounts, jobStatePrices}
-use Rattle.job_fit.specs.RecordFit.{recordQuotes, memoryAfter}
+use Rattle.job_fit.specs.RecordFit.{meantReversion, jobReversion, jobSpacing, jobKinds, jobFigures}
+use Rattle.job_fit.specs.RecordFit.{jobQuotes, jobDiscounts, jobStatePrices, recordQuotes, memoryAfter}
 use Rattle.job_fit.proofs.FitLaws as fits
 use Rattle.job_prices.specs.declared.JobPrices.{JobPrices}
 use Rattle.job_prices.specs.JobPrices.{recordNumber, recordPrices}
 use Rattle.job_prices.proofs.Accepted.{record-accepted}
 use Rattle.node_lines.specs.Rows.{acceptedNodes}
 use Rattle.sheet_laws.specs.TreeSheet.{rowPart}
-use Rattle.sheet_laws.specs.Stored.{Stored, Summed, Fitted}
+use Rattle.sheet_laws.specs.inside.Stored.{Stored, Summed, Fitted}
 
 pub total-row : (b : ℕ) (f : ℕ → ℕ → ℕ) (n i : ℕ) → i < n → sumOf (rowPart b (laid (rateTree b) f n) i) ≡ sum (nodeCount b i) (f i)
 unfolding sumOf rowPart

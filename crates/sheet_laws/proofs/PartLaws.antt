@@ -22,7 +22,7 @@ use Rattle.row_view.specs.declared.RowKind.{RowKind}
 use Rattle.row_view.specs.RowView.{isTree, holdsTree, storesRow, memoryOf, isShown, viewStart, viewCount, PartOf}
 use Rattle.row_view.proofs.ViewLaws.{is-stored}
 use Rattle.text_laws.specs.declared.Placed.{Placed}
-use Rattle.text_laws.specs.Put.{Put}
+use Rattle.text_laws.specs.inside.Put.{Put}
 use Rattle.node_lines.specs.declared.Drawn.{Drawn}
 use Rattle.node_lines.specs.Rows.{nodeText, rowText, acceptedNodes}
 use Rattle.node_lines.specs.Reading.{nodesBefore, readNumber}
@@ -36,7 +36,7 @@ use Rattle.arithmetic.specs.declared.Answer.{Answer}
 use Rattle.state_price_bound.specs.ErrorBound.{statePriceErrorBoundAnswer}
 use Rattle.state_price_bound.proofs.BoundLaws.{bound-most}
 use Rattle.sheet_laws.specs.TreeSheet.{rowPart, nodesOfRow, nodeLines, lineOfRow, rowLines, optionLines, priceLines, treeSheet}
-use Rattle.sheet_laws.specs.Stored.{Lent, Stored, Summed}
+use Rattle.sheet_laws.specs.inside.Stored.{Lent, Stored, Summed}
 use Rattle.node_lines.proofs.LineLoop.{lines-fit}
 
 -- the rows that a memory of just a tree's discounts holds

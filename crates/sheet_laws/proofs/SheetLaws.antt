@@ -19,7 +19,8 @@ use Rattle.job_prices.specs.declared.JobPrices.{JobPrices}
 use Rattle.job_prices.specs.JobPrices.{hasOption, jobBond, jobOption, recordNumber, recordPrices}
 use Rattle.job_prices.proofs.PriceLaws.{prices-given, prices-number}
 use Rattle.text_laws.specs.declared.Placed.{Placed}
-use Rattle.text_laws.specs.Put.{putBefore, Put, placeOf, withText}
+use Rattle.text_laws.specs.Put.{putBefore, placeOf, withText}
+use Rattle.text_laws.specs.inside.Put.{Put}
 use Rattle.text_laws.specs.Lines.{refusedLine, lineNumber}
 use Rattle.text_laws.proofs.PutLaws.{Answered, put-answered, put-whole}
 use Rattle.sheet_room.specs.Room.{sheetRoom}

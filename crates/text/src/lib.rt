@@ -4,7 +4,8 @@ ghost use mathlib.Core.Path.{_≡_};
 ghost use mathlib.Core.List.{[], _∷_, _++_};
 ghost use Prim.Native.Nat.{_+_, _-_, _≤_, _<_};
 ghost use lib.ListN.{length};
-ghost use Rattle.text_laws.specs.Decimal.{natural, fraction, decimal, signOf, signedDecimal};
+ghost use Rattle.text_laws.specs.Decimal.{natural, decimal, signOf, signedDecimal};
+ghost use Rattle.text_laws.specs.inside.Decimal.{fraction};
 ghost use Rattle.text_laws.specs.Lines.{
   space,
   newline,
@@ -22,7 +23,8 @@ ghost use Rattle.text_laws.specs.Lines.{
   lineAnswer,
   withLine,
 };
-ghost use Rattle.text_laws.specs.Put.{Put, placeOf, withText};
+ghost use Rattle.text_laws.specs.Put.{placeOf, withText};
+ghost use Rattle.text_laws.specs.inside.Put.{Put};
 ghost use Rattle.text_laws.specs.WordLines.{wholeLine, pairLine, amountLine, wordNumber, wordAnswer, withWord};
 pub use text_laws::Placed;
 

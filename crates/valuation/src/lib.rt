@@ -7,7 +7,8 @@ ghost use lib.ListN.{length};
 ghost use Rattle.arithmetic.specs.Row.{greatestOf, sumOf};
 ghost use Rattle.limits.specs.Limits.{valueLimit, sumLimit};
 ghost use Rattle.valuation_laws.specs.Valuation.{valuationBound};
-ghost use Rattle.valuation.specs.Entries.{sumOfProducts, payoffsCause, valueByStatePricesAnswer, valuationErrorBoundAnswer};
+ghost use Rattle.valuation.specs.Entries.{payoffsCause, valueByStatePricesAnswer, valuationErrorBoundAnswer};
+ghost use Rattle.valuation.specs.inside.Products.{sumOfProducts};
 
 const ONE: u64 = 1_000_000_000;
 

@@ -6,7 +6,7 @@ use mathlib.Core.Path.{_≡_}
 use Prim.Native.Nat.{_-_, _≤_}
 use lib.ListN.{length}
 use Rattle.bands.specs.Bands.{bandsOf}
-use Rattle.bands.specs.Stops.{StopAt}
+use Rattle.bands.specs.inside.Stops.{StopAt}
 use Rattle.bands.proofs.StopLaws.{stop-none, stop-more, covering-most}
 use Rattle.bands.proofs.stop_at.Statement.{statement}
 use Rattle.bands.proofs.stop_at.Tie as tie

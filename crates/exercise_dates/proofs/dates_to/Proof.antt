@@ -7,7 +7,8 @@ use native.Mathlib.Omega.{arith}
 use lib.Dec.{leb}
 use lib.ListN.{replicate}
 use Rattle.arithmetic.proofs.RowLaws.{Filled, filled-start, filled-next, filled-all}
-use Rattle.exercise_dates.specs.Dates.{rowsOfATree, datesTo}
+use Rattle.exercise_dates.specs.Dates.{rowsOfATree}
+use Rattle.exercise_dates.specs.inside.Dates.{datesTo}
 use borrow.Author.Needs.{needs}
 use Rattle.exercise_dates.proofs.dates_to.Statement.{statement}
 use Rattle.exercise_dates.proofs.dates_to.Tie as tie

@@ -8,7 +8,8 @@ use Rattle.job_fit.specs.RecordFit.{jobFlows}
 use Rattle.job_fit.proofs.FitLaws.{lent-column}
 use borrow.Author.Needs.{needs}
 use Rattle.job_prices.specs.declared.JobPrices.{JobPrices}
-use Rattle.job_prices.specs.JobPrices.{treeNumber, treePrices}
+use Rattle.job_prices.specs.JobPrices.{treeNumber}
+use Rattle.job_prices.specs.inside.TreePrices.{treePrices}
 use Rattle.job_prices.proofs.PriceLaws as laws
 use Rattle.job_prices.proofs.prices_of_tree.Statement.{statement}
 use Rattle.job_prices.proofs.prices_of_tree.Tie as tie

@@ -7,7 +7,7 @@ use lib.ListN.{length}
 use Rattle.arithmetic.specs.Row.{place}
 use Rattle.job_record.specs.Grammar.{joined}
 use Rattle.job_record.proofs.Reread.{number-size}
-use Rattle.writer_laws.specs.Parts.{quoteOf}
+use Rattle.writer_laws.specs.inside.Parts.{quoteOf}
 use Rattle.writer_laws.proofs.PutLaws.{fields-none, fields-more}
 use borrow.Author.Needs.{needs}
 use Rattle.job_writer.proofs.put_quotes.Statement.{statement}

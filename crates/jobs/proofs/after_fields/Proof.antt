@@ -5,7 +5,7 @@ use Prim.Native.Nat.{_+_, _*_, _≤_}
 use native.Mathlib.Nat.{mul-le-mul}
 use native.Mathlib.Omega.{arith}
 use mathlib.Core.Path.{refl}
-use Rattle.job_record.specs.Bytes.{mostWidth}
+use Rattle.job_record.specs.inside.Widths.{mostWidth}
 use Rattle.job_record.specs.Form.{mostJobSteps}
 use Rattle.jobs.proofs.after_fields.Statement.{statement}
 use Rattle.jobs.proofs.after_fields.Tie as tie

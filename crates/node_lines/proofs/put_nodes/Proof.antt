@@ -9,7 +9,7 @@ use lib.ListN.{length, getD}
 use borrow.Author.Needs.{needs}
 use Rattle.lattice.specs.RateTree.{nodeOfIndex}
 use Rattle.text_laws.specs.Lines.{lineOfNode}
-use Rattle.text_laws.specs.Put.{Put}
+use Rattle.text_laws.specs.inside.Put.{Put}
 use Rattle.node_lines.specs.Rows.{nodeText, lines}
 use Rattle.node_lines.specs.Reading.{nodesBefore}
 use Rattle.node_lines.proofs.RowLaws.{discount-read, line-room}

@@ -8,7 +8,7 @@ use borrow.Author.Needs.{needs}
 use Rattle.limits.specs.Limits.{mostDiscounts, mostStatePrices}
 use Rattle.job_prices.specs.JobPrices.{recordPrices}
 use Rattle.sheet_room.specs.Room.{sheetRoom}
-use Rattle.sheet_laws.specs.Stored.{Fitted}
+use Rattle.sheet_laws.specs.inside.Stored.{Fitted}
 use Rattle.sheet_laws.specs.WholeJob.{jobNumber}
 use Rattle.sheet_laws.proofs.FittedLaws as fits
 use Rattle.sheet_laws.proofs.SheetLaws as laws

@@ -7,7 +7,7 @@ use lib.IntN.{natAbs}
 use mir.Facts.{toZ-ofZ}
 use borrow.Author.Needs.{needs}
 use Rattle.text_laws.specs.Decimal.{decimal}
-use Rattle.text_laws.specs.Put.{Put}
+use Rattle.text_laws.specs.inside.Put.{Put}
 use Rattle.text_laws.proofs.DecimalLaws.{signed-length, signed-parts}
 use Rattle.text_laws.proofs.PutLaws.{put-before}
 use Rattle.text.proofs.put_signed_field.Statement.{statement}

@@ -14,8 +14,8 @@ use Rattle.lattice.specs.Branching.{downProbability}
 use Rattle.lattice.specs.RateTree.{node}
 use Rattle.row_branches.specs.declared.RowBranch.{RowBranch}
 use Rattle.row_branches.specs.RowBranches.{branchTotal, rowTransition}
-use Rattle.fit_laws.specs.Bounds.{leastFactor, mostFactor, leastRowSum, mostRowSum, mostCarried, mostIncoming}
-use Rattle.fitting.specs.Rows.{rowPrices}
+use Rattle.fit_laws.specs.inside.Bounds.{leastFactor, mostFactor, leastRowSum, mostRowSum, mostCarried, mostIncoming}
+use Rattle.fitting.specs.inside.Rows.{rowPrices}
 
 -- the factors of a row of n nodes, within the bounds of the series
 pub record Factors (u : List ℕ) (n : ℕ) : Type 0 where
