@@ -7,7 +7,7 @@ ghost use Rattle.limits.specs.Limits.{mostDiscount};
 ghost use Rattle.continuous.specs.Continuous.{sideDiscount};
 ghost use Rattle.continuous_rate.specs.Least.{firstLeast};
 ghost use Rattle.continuous_rate.specs.ContinuousRate.{continuousRateAnswer};
-ghost use Rattle.continuous_rate.specs.Search.{sideMiss, windowMiss, before, Passes};
+ghost use Rattle.continuous_rate.specs.inside.Search.{sideMiss, windowMiss, before, Passes};
 use step_rate::Rate;
 
 const ONE: u64 = 1_000_000_000;

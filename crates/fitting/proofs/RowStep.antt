@@ -11,7 +11,7 @@ use Rattle.arithmetic.specs.Row.{row, values, each}
 use Rattle.arithmetic.proofs.SumLaws.{sum-weigh-ge}
 use Rattle.arithmetic.proofs.RowLaws.{length-row}
 use Rattle.tree.specs.Tree.{incoming}
-use Rattle.row_branches.specs.RowBranches.{rowTransition}
+use Rattle.row_branches.specs.inside.Transitions.{rowTransition}
 use Rattle.limits.specs.Limits.{isDiscount}
 use Rattle.fit_laws.specs.Step.{normaliser, discount, carried}
 use Rattle.fit_laws.proofs.StepLaws.{normaliser-ge}

@@ -19,7 +19,7 @@ use Rattle.lattice.specs.Entries.{tableOffset, shapeOf, rowShapeAnswer}
 use Rattle.lattice.proofs.Sizes.{row-ends, start-suc, count-within}
 use Rattle.lattice.proofs.ShapeLaws.{shape-found, shape-fits}
 use Rattle.lattice.proofs.RateTreeLaws.{rate-tree-sound}
-use Rattle.row_branches.specs.RowBranches.{rowTransition}
+use Rattle.row_branches.specs.inside.Transitions.{rowTransition}
 use Rattle.row_branches.proofs.TableParts.{table-part, part-within, table-part-length, table-part-value, part-low, part-down, part-middle, part-up}
 use Rattle.limits.specs.Limits.{mostSteps, mostReversion, mostNodes, isDiscount}
 use Rattle.fit_laws.specs.Step.{normaliser, discount, carried, nextPrice}

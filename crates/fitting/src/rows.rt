@@ -5,7 +5,7 @@ ghost use mathlib.Core.Bool.{true};
 ghost use Prim.Native.Nat.{suc};
 ghost use lib.ListN.{length};
 ghost use Rattle.arithmetic.specs.Row.{values};
-ghost use Rattle.row_branches.specs.RowBranches.{rowTransition};
+ghost use Rattle.row_branches.specs.inside.Transitions.{rowTransition};
 ghost use Rattle.lattice.specs.Shape.{nodeCount, rowStart};
 ghost use Rattle.lattice.specs.RateTree.{rateTree};
 ghost use Rattle.fitting.specs.inside.Rows.{tableFactor, RowFitted};

@@ -7,13 +7,8 @@ ghost use lib.ListN.{length};
 ghost use Rattle.arithmetic.specs.Sum.{sum, only};
 ghost use Rattle.arithmetic.specs.Row.{row, values, each};
 ghost use Rattle.tree.specs.Tree.{chance, incoming, probabilityTotal};
-ghost use Rattle.row_branches.specs.RowBranches.{
-  branchUp,
-  branchMiddle,
-  branchDown,
-  rowBranch,
-  rowTransition,
-};
+ghost use Rattle.row_branches.specs.RowBranches.{rowBranch};
+ghost use Rattle.row_branches.specs.inside.Transitions.{branchUp, branchMiddle, branchDown, rowTransition};
 ghost use Rattle.limits.specs.Limits.{isDiscount};
 ghost use Rattle.fit_laws.specs.Step.{normaliser, carried};
 ghost use Rattle.fit_laws.specs.inside.Bounds.{mostRowSum};

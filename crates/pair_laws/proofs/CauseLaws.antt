@@ -27,8 +27,8 @@ use Rattle.price_causes.proofs.CheckLaws.{flows-accepted}
 use Rattle.price_laws.specs.Prices.{firstCause}
 use Rattle.price_laws.proofs.Accuracy.{first-none}
 use Rattle.pair_laws.specs.Pair.{combined}
-use Rattle.pair_laws.specs.PairCauses.{mostPairSteps, pairStepsCause, discounted, combinedCause, pairDiscountsCause, pairCause, least}
-use Rattle.pair_laws.specs.States.{AcceptedTrees, AcceptedPair}
+use Rattle.pair_laws.specs.PairCauses.{mostPairSteps, pairStepsCause, discounted, combinedCause, pairDiscountsCause, pairCause, least, AcceptedTrees}
+use Rattle.pair_laws.specs.inside.States.{AcceptedPair}
 
 -- the first of two causes
 pub first-some : (c later : ℕ) → (c ≡ 0 → ⊥) → firstCause c later ≡ c

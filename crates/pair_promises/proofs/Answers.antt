@@ -25,9 +25,9 @@ use Rattle.price_laws.specs.Prices.{flowAt, firstCause, priced, datedCause}
 use Rattle.price_laws.proofs.Accuracy.{Given, first-none}
 use Rattle.pair_laws.specs.Pair.{at, Stands, pairUnit, combined}
 use Rattle.pair_laws.specs.PairCauses.{pairCause}
-use Rattle.pair_laws.specs.PairPrices.{pricerOf, pairBound, pairBondValue, pairBondPeak, exactPairBond, pairOptionValue, pairOptionLimit, exactPairDated}
-use Rattle.pair_laws.specs.PairPrices.{pairBondPrice, pairDatedPrice}
-use Rattle.pair_laws.specs.States.{AcceptedPair}
+use Rattle.pair_laws.specs.PairPrices.{pricerOf, pairBound, pairBondValue, pairBondPeak, exactPairBond}
+use Rattle.pair_laws.specs.PairPrices.{pairOptionValue, pairOptionLimit, exactPairDated, pairBondPrice, pairDatedPrice}
+use Rattle.pair_laws.specs.inside.States.{AcceptedPair}
 use Rattle.pair_laws.proofs.CauseLaws.{pair-accepted}
 use Rattle.pair_laws.proofs.PairLaws.{pair-bond-accurate, pair-option-accurate, pair-bound-a-step, pair-monotone, pair-root}
 use Rattle.pair_promises.specs.PairPromises.{NoPairAboveOne}

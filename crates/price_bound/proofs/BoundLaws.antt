@@ -31,7 +31,7 @@ use Rattle.pricing_laws.specs.TreePricer.{rollLoss, greatestDiscount, priceErro
 use Rattle.pricing_laws.proofs.PriceLaws.{error-bound-small}
 use Rattle.pricing_laws.proofs.Recurrences.{error-bound-last, error-bound-before}
 use Rattle.price_bound.specs.declared.TreeErrorBounds.{TreeErrorBounds}
-use Rattle.price_bound.specs.Rows.{RowsBounded}
+use Rattle.price_bound.specs.inside.Rows.{RowsBounded}
 use Rattle.price_bound.specs.PriceBound.{treeErrorBound, priceErrorBoundAnswer, greatestDiscounts, treeBoundsAnswer}
 
 pub discount-within :

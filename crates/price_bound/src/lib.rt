@@ -10,7 +10,7 @@ ghost use Rattle.arithmetic.specs.Row.{values};
 ghost use Rattle.pricing_laws.specs.Pricer.{errorBound};
 ghost use Rattle.pricing_laws.specs.TreePricer.{greatestDiscount, rollLoss};
 ghost use Rattle.price_bound.specs.PriceBound.{priceErrorBoundAnswer, greatestDiscounts, treeBoundsAnswer};
-ghost use Rattle.price_bound.specs.Rows.{RowsBounded};
+ghost use Rattle.price_bound.specs.inside.Rows.{RowsBounded};
 
 // What is known of a tree: its error bound, and the greatest discount of each row, 0 for rows that the tree has not; a refusal's number with zeros.
 #[repr(C)]

@@ -24,13 +24,14 @@ use Rattle.pricing_laws.specs.TreePricer.{exact}
 use Rattle.pricing_laws.proofs.Dates.{dates-accepted, schedule-last}
 use Rattle.price_bound.specs.PriceBound.{treeErrorBound}
 use Rattle.price_bound.proofs.BoundLaws.{discount-within}
-use Rattle.price_causes.specs.Causes.{AcceptedFlows, flowsCause, optionCause, termsCause}
+use Rattle.price_causes.specs.Causes.{flowsCause, optionCause, termsCause}
+use Rattle.price_causes.specs.inside.Flows.{AcceptedFlows}
 use Rattle.price_causes.proofs.CheckLaws.{flows-accepted, option-accepted}
 use Rattle.arithmetic.specs.Within.{Within}
 use Rattle.pricing_laws.proofs.PriceLaws.{Discounts-at-most, bond-accurate, option-accurate, error-bound-a-step}
 use Rattle.price_laws.specs.declared.Price.{Price}
-use Rattle.price_laws.specs.Prices.{flowAt, bondValue, bondPeak, optionValue, optionLimit, treeCause, firstCause, priced, scheduledPrice}
-use Rattle.price_laws.specs.Prices.{bondPrice, optionPrice, bondAndOption, datedCause, datedPrice, bondAndDatedOption}
+use Rattle.price_laws.specs.Prices.{flowAt, bondValue, bondPeak, optionValue, optionLimit, treeCause, firstCause, priced}
+use Rattle.price_laws.specs.Prices.{scheduledPrice, bondPrice, optionPrice, bondAndOption, datedCause, datedPrice, bondAndDatedOption}
 use Rattle.price_laws.specs.Exact.{exactBond, exactOption, exactDated}
 
 -- an answer with number 0 has the price, and no cause

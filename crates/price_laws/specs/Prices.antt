@@ -58,10 +58,6 @@ bondValue n b discounts flows = bond (engine (rateTree b) (stored b discounts)) 
 unfoldable pub bondPeak : ℕ → ℕ → List ℕ → List ℕ → ℕ
 bondPeak n b discounts flows = peak (greatestValue (rateTree b) (bondValue n b discounts flows)) n 0
 
--- the price of an accepted tree's bond, with its error bound; 12 for a value above 8 × one
-abbrev pub acceptedBond : ℕ → ℕ → List ℕ → List ℕ → ℕ → Price
-acceptedBond n b discounts flows bound = priced (limitCause (bondPeak n b discounts flows)) (bondValue n b discounts flows 0 0) bound
-
 unfoldable pub bondPrice : ℕ → ℕ → List ℕ → List ℕ → Price
 bondPrice n b discounts flows =
     priced (firstCause (treeCause n b discounts flows) (limitCause (bondPeak n b discounts flows)))
@@ -81,10 +77,6 @@ module _ (n b : ℕ) (discounts flows : List ℕ) (side : Side) (strike : ℕ) (
   -- 12: a value of bond or option above 8 × one
   unfoldable pub optionLimit : ℕ
   optionLimit = limitCause (max (bondPeak n b discounts flows) optionPeak)
-
-  -- the price of an accepted tree's option, with its error bound
-  abbrev pub acceptedOption : ℕ → Price
-  acceptedOption bound = priced optionLimit (optionValue 0 0) bound
 
   -- the answer, where the option itself has a cause or none: a cause about the tree comes first, 12 last
   abbrev pub scheduledPrice : ℕ → Price
@@ -119,7 +111,3 @@ bondAndDatedOption n b discounts flows side dates strike =
 
 abbrev pub bothValues : BondAndOption → BondAndOptionValues
 bothValues both = record { bond = valueAlone (both .bond); option = valueAlone (both .option) }
-
--- and with a bound that is known
-abbrev pub bothWith : BondAndOptionValues → ℕ → BondAndOption
-bothWith both bound = record { bond = withBound (both .bond) bound; option = withBound (both .option) bound }

@@ -13,8 +13,9 @@ use Rattle.arithmetic.proofs.RowLaws.{Filled, filled-start, filled-next}
 use Rattle.tree.specs.Tree.{probabilityTotal}
 use Rattle.pricing_laws.specs.Pricer.{Side, exercise, heldOrExercised}
 use Rattle.row_branches.specs.declared.RowBranch.{RowBranch}
-use Rattle.row_branches.specs.RowBranches.{branchTotal, rowBranch}
-use Rattle.pricing.specs.Rows.{branchRoll, rolledRow, optionValues, Rollable, Limited, Later, FilledRow, FilledRows}
+use Rattle.row_branches.specs.RowBranches.{rowBranch}
+use Rattle.row_branches.specs.inside.Transitions.{branchTotal}
+use Rattle.pricing.specs.inside.Rows.{branchRoll, rolledRow, optionValues, Rollable, Limited, Later, FilledRow, FilledRows}
 
 -- what the roll of a node asks of its branch
 module _ (downs discounts later : List ℕ) (next k : ℕ) (r : Rollable downs discounts next) (l : Later later next) (hk : k < length discounts)

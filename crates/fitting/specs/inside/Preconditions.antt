@@ -13,7 +13,7 @@ use Rattle.lattice.specs.Shape.{halfWidth, nodeCount, rowStart}
 use Rattle.lattice.specs.Branching.{downProbability}
 use Rattle.lattice.specs.RateTree.{node}
 use Rattle.row_branches.specs.declared.RowBranch.{RowBranch}
-use Rattle.row_branches.specs.RowBranches.{branchTotal, rowTransition}
+use Rattle.row_branches.specs.inside.Transitions.{branchTotal, rowTransition}
 use Rattle.fit_laws.specs.inside.Bounds.{leastFactor, mostFactor, leastRowSum, mostRowSum, mostCarried, mostIncoming}
 use Rattle.fitting.specs.inside.Rows.{rowPrices}
 

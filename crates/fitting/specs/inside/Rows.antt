@@ -7,7 +7,7 @@ use Prim.Native.Nat.{ℕ, _+_, _-_}
 use lib.ListN.{length, take, drop}
 use Rattle.arithmetic.specs.Row.{row, values, place, each}
 use Rattle.tree.specs.Tree.{Transition, incoming}
-use Rattle.row_branches.specs.RowBranches.{rowTransition}
+use Rattle.row_branches.specs.inside.Transitions.{rowTransition}
 use Rattle.limits.specs.Limits.{isDiscount}
 use Rattle.lattice.specs.Entries.{tableOffset}
 use Rattle.fit_laws.specs.Step.{discount, carried, nextPrice}

@@ -1,4 +1,4 @@
--- Two accepted trees, what the loops hold of bond and option at row i in squares of memory, and what a walk down to a row leaves.
+-- Two accepted trees with their flows, what the loops hold of bond and option at row i in squares of memory, and what a walk down to a row leaves.
 -- Assumes nothing.
 use Prim.Native.Nat.{ℕ, _+_, _-_, _≤_, _<_, max}
 use mathlib.Core.Path.{_≡_}
@@ -6,24 +6,18 @@ use mathlib.Core.Bool.{Bool}
 use mathlib.Core.List.{List}
 use Rattle.limits.specs.Limits.{valueLimit}
 use Rattle.lattice.specs.RateTree.{rateTree}
-use Rattle.lent_tree.specs.LentTree.{Accepted}
-use Rattle.price_causes.specs.Causes.{AcceptedFlows}
+use Rattle.price_causes.specs.inside.Flows.{AcceptedFlows}
 use Rattle.pricing_laws.specs.Pricer.{Side, Schedule, exercise, heldOrExercised}
 use Rattle.pricing_laws.proofs.Backward.{Bond-state, Option-state}
 use Rattle.price_laws.specs.Prices.{flowAt}
-use Rattle.pricing.specs.Trees.{downTable}
+use Rattle.pricing.specs.inside.Trees.{downTable}
 use Rattle.pair_laws.specs.Pair.{Pair, Stands}
-use Rattle.pair_laws.specs.PairCauses.{mostPairSteps}
-use Rattle.pair_laws.specs.PairPrices.{rollOf, greatestPair, pairBondPeak, pairOptionPeak}
-use Rattle.pair_laws.specs.Square.{square}
+use Rattle.pair_laws.specs.PairCauses.{AcceptedTrees}
+use Rattle.pair_laws.specs.PairPrices.{greatestPair, pairBondPeak, pairOptionPeak}
+use Rattle.pair_laws.specs.inside.Accepted.{rollOf}
+use Rattle.pair_laws.specs.inside.Square.{square}
 
--- both trees after the causes were tested
-pub record AcceptedTrees (n b c : ℕ) (rates spreads : List ℕ) : Type 0 where
-  pub rate-tree : Accepted n b rates
-  pub spread-tree : Accepted n c spreads
-  pub few : n ≤ mostPairSteps
-
--- with their flows, and with their tables of down-probabilities
+-- both trees after the causes were tested with their flows; their tables of down-probabilities
 pub record AcceptedPair (n b c : ℕ) (rates spreads flows : List ℕ) : Type 0 where
   pub trees : AcceptedTrees n b c rates spreads
   pub paid : AcceptedFlows n flows

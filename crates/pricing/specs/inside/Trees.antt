@@ -19,11 +19,12 @@ use Rattle.pricing_laws.specs.TreePricer.{rollRounding, roll}
 use Rattle.exercise.specs.declared.Terms.{Terms}
 use Rattle.lent_tree.specs.LentTree.{stored, Accepted}
 use Rattle.price_bound.specs.PriceBound.{treeErrorBound}
-use Rattle.price_causes.specs.Causes.{mostFlow, mostStrike, AcceptedFlows}
+use Rattle.price_causes.specs.Causes.{mostFlow, mostStrike}
+use Rattle.price_causes.specs.inside.Flows.{AcceptedFlows}
 use Rattle.pricing.specs.declared.walk.OptionStep.{OptionStep}
 use Rattle.pricing.specs.declared.walk.Rolled.{Rolled}
 use Rattle.price_laws.specs.Prices.{flowAt, treeCause, bondValue, optionValue, optionLimit}
-use Rattle.pricing.specs.Rows.{Holds}
+use Rattle.pricing.specs.inside.Rows.{Holds}
 
 -- the down-probabilities of all nodes of row n
 unfoldable pub downTable : ℕ → ℕ → List ℕ

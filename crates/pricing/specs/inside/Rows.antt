@@ -13,7 +13,8 @@ use Rattle.limits.specs.Limits.{mostDiscount, valueLimit}
 use Rattle.pricing_laws.specs.Pricer.{Side, exercise, heldOrExercised}
 use Rattle.pricing_laws.specs.TreePricer.{rollRounding}
 use Rattle.row_branches.specs.declared.RowBranch.{RowBranch}
-use Rattle.row_branches.specs.RowBranches.{branchUp, branchMiddle, branchDown, branchTotal, rowBranch}
+use Rattle.row_branches.specs.RowBranches.{rowBranch}
+use Rattle.row_branches.specs.inside.Transitions.{branchUp, branchMiddle, branchDown, branchTotal}
 
 -- the sum over a branch of probability × later value: up, middle, down
 abbrev pub branchSum : RowBranch → (ℕ → ℕ) → ℕ

@@ -15,8 +15,8 @@ use Rattle.exercise_dates.specs.Dates.{marksOf}
 use Rattle.pricing.specs.declared.strips.Shared.{Shared}
 use Rattle.pricing.specs.declared.walk.Rolled.{Rolled}
 use Rattle.price_laws.specs.Prices.{flowAt, treeCause, bondValue, bondPeak}
-use Rattle.pricing.specs.Rows.{rolledRow}
-use Rattle.pricing.specs.Trees.{Ready, rolledAt}
+use Rattle.pricing.specs.inside.Rows.{rolledRow}
+use Rattle.pricing.specs.inside.Trees.{Ready, rolledAt}
 
 -- the bond without the flow of its row
 abbrev pub bareValue : ℕ → ℕ → List ℕ → List ℕ → ℕ → ℕ → ℕ

@@ -14,9 +14,10 @@ use Rattle.pricing_laws.specs.Pricer.{exercise, heldOrExercised}
 use Rattle.pricing_laws.specs.TreePricer.{rollRounding}
 use Rattle.exercise.specs.Terms.{side}
 use Rattle.row_branches.specs.declared.RowBranch.{RowBranch}
-use Rattle.row_branches.specs.RowBranches.{branchTotal, rowBranch}
+use Rattle.row_branches.specs.RowBranches.{rowBranch}
+use Rattle.row_branches.specs.inside.Transitions.{branchTotal}
 use Rattle.price_causes.specs.Causes.{mostFlow}
-use Rattle.pricing.specs.Rows.{branchSum}
+use Rattle.pricing.specs.inside.Rows.{branchSum}
 use Rattle.pair_laws.specs.Pair.{Pair, Stands}
 
 -- the places of a line and of a square
