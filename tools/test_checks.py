@@ -1,5 +1,5 @@
 #!/usr/bin/env python3
-"""Tests of tools/promises.py, tools/documents.py, tools/reach, tools/trials, tools/stack.py and reference/widths.py: what is wrong is found, and what is right is let through.
+"""Tests of tools/promises.py, tools/documents.py, tools/reach, tools/shorten, tools/trials, tools/stack.py and reference/widths.py: what is wrong is found, and what is right is let through.
 
     python3 tools/test_checks.py
 """
@@ -30,7 +30,7 @@ def script(name):
     return module
 
 
-reach, trials = script('reach'), script('trials')
+reach, shorten, trials = script('reach'), script('shorten'), script('trials')
 
 SOURCE = '''ghost use lib.IntN.{
   natAbs,
@@ -363,6 +363,42 @@ pub data Seen : ℕ → Type 0 where
     def test_lines(self):
         self.assertEqual(set(reach.lines()), {'code', 'specs', 'inside', 'proofs'})
         self.assertTrue(all(reach.lines().values()))
+
+
+class Shorten(unittest.TestCase):
+    LONG = """use Rattle.lattice.proofs.half_width.Tie as tie
+
+abbrev Inv-loop : tie.InvT-loop
+Inv-loop row i = i ≤ row
+
+-- why it holds
+loop-holds : tie.Need-loop-holds Inv-loop
+loop-holds c = omega arith
+
+add-i : tie.Need-add-i Inv-loop
+add-i c = search needs
+
+expect-requires : tie.Need-expect-requires
+expect-requires c κs = tt
+
+shared : tie.Need-shared Inv-loop
+shared c = search needs
+
+returns : tie.Need-returns Inv-loop
+returns c = omega (arith, shared c)
+
+pub half-width-spec : {M : Type 1} → statement M
+half-width-spec = tie.close (tie.spec Inv-loop loop-holds add-i expect-requires shared returns)
+"""
+
+    def test_needs_that_say_nothing(self):
+        short = shorten.shortened(self.LONG)
+        self.assertIn('(tie.spec Inv-loop loop-holds (λ c. search needs) (λ c κs. tt) shared returns)', short)
+        self.assertEqual([name for name in ('loop-holds :', 'add-i', 'expect-requires', 'shared :', 'returns :') if name in short], ['loop-holds :', 'shared :', 'returns :'])
+        self.assertEqual(shorten.shortened(short), short)
+
+    def test_without_a_last_answer(self):
+        self.assertEqual(shorten.shortened(self.LONG.partition('pub half')[0]), self.LONG.partition('pub half')[0])
 
 
 class Stack(unittest.TestCase):

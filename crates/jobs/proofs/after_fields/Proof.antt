@@ -14,9 +14,6 @@ use Rattle.jobs.proofs.after_fields.Tie as tie
 near : (c : tie.Start) → (c .args .width + 3) * c .args .count ≤ (mostWidth + 3) * mostJobSteps
 near c = mul-le-mul {n₁ = c .args .width + 3} {m₁ = c .args .count} {n₂ = mostWidth + 3} {m₂ = mostJobSteps} (omega arith) (omega arith)
 
-add-result : tie.Need-add-result
-add-result c = search needs
-
 mul-result : tie.Need-mul-result
 mul-result c = omega (arith, near c)
 
@@ -27,4 +24,4 @@ returns : tie.Need-returns
 returns c = (refl, omega (arith, near c))
 
 pub after-fields-spec : {M : Type 1} → statement M
-after-fields-spec = tie.close (tie.spec add-result mul-result add-result-2 returns)
+after-fields-spec = tie.close (tie.spec (λ c. search needs) mul-result add-result-2 returns)

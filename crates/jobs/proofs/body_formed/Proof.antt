@@ -12,18 +12,12 @@ use Rattle.job_record.proofs.Forms.{refuse-quotes, refuse-flows, formed-by-rest
 use Rattle.jobs.proofs.body_formed.Statement.{statement}
 use Rattle.jobs.proofs.body_formed.Tie as tie
 
-fields-from-requires : tie.Need-fields-from-requires
-fields-from-requires c κs = search needs
-
 returns : tie.Need-returns
 returns c = refuse-quotes _ _ _ (failed (c .before .fields-from .ensures) (c .if1 .taken))
 
 -- where both tests have passed, the quotes and the flows are formed
 quotes : (c : tie.Else1) → let a = c .before .before .before .args in fieldsFrom (now (a .bytes)) (a .quotes) AnyKind 8 (a .steps) ≡ true
 quotes c = passed (c .before .fields-from .ensures) (c .if1 .left)
-
-after-fields-requires : tie.Need-after-fields-requires
-after-fields-requires c κs = search needs
 
 fields-from-requires-2 : tie.Need-fields-from-requires-2
 fields-from-requires-2 c κs = omega (arith, c .after-fields .ensures .0)
@@ -40,9 +34,6 @@ flows c = passed (c .before .fields-from2 .ensures) (c .if2 .left)
 after-fields-requires-2 : tie.Need-after-fields-requires-2
 after-fields-requires-2 c κs = omega (arith, c .before .before .after-fields .ensures .0)
 
-rest-formed-requires : tie.Need-rest-formed-requires
-rest-formed-requires c κs = search needs
-
 returns-3 : tie.Need-returns-3
 returns-3 c =
     let rest-at = c .before in
@@ -55,11 +46,11 @@ pub body-formed-spec : {M : Type 1} → statement M
 body-formed-spec =
     tie.close
     (tie.spec
-    fields-from-requires
+    (λ c κs. search needs)
     returns
-    after-fields-requires
+    (λ c κs. search needs)
     fields-from-requires-2
     returns-2
     after-fields-requires-2
-    rest-formed-requires
+    (λ c κs. search needs)
     returns-3)

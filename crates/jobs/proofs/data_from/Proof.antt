@@ -24,28 +24,10 @@ abbrev μ-loop : tie.MeasureT-loop
 loop-holds : tie.Need-loop-holds Inv-loop μ-loop
 loop-holds c = (omega arith, filled-start _ _)
 
-after-fields-requires : tie.Need-after-fields-requires Inv-loop μ-loop
-after-fields-requires c κs = search needs
-
-add-number : tie.Need-add-number Inv-loop μ-loop
-add-number c = search needs
-
 number-requires : tie.Need-number-requires Inv-loop μ-loop
 number-requires c κs =
     let start = c .before .before .before .before .args in
     omega (arith, c .after-fields .ensures .0, field-within (start .from) (start .width) (c .before .before .loop .i) (start .count) (omega arith))
-
-mul-numbers : tie.Need-mul-numbers Inv-loop μ-loop
-mul-numbers c = search needs
-
-array-write-numbers : tie.Need-array-write-numbers Inv-loop μ-loop
-array-write-numbers c = search needs
-
-add-i : tie.Need-add-i Inv-loop μ-loop
-add-i c = search needs
-
-loop-less : tie.Need-loop-less Inv-loop μ-loop
-loop-less c = search needs
 
 loop-again : tie.Need-loop-again Inv-loop μ-loop
 loop-again c =
@@ -65,12 +47,12 @@ data-from-spec =
     Inv-loop
     μ-loop
     loop-holds
-    after-fields-requires
-    add-number
+    (λ c κs. search needs)
+    (λ c. search needs)
     number-requires
-    mul-numbers
-    array-write-numbers
-    add-i
-    loop-less
+    (λ c. search needs)
+    (λ c. search needs)
+    (λ c. search needs)
+    (λ c. search needs)
     loop-again
     returns)

@@ -18,26 +18,8 @@ Inv-loop bytes from count dates₀ i₀ dates i = (i ≤ count) × Filled (repli
 abbrev μ-loop : tie.MeasureT-loop
 μ-loop bytes from count dates₀ i₀ dates i = count - i
 
-no-dates-requires : tie.Need-no-dates-requires Inv-loop μ-loop
-no-dates-requires c κs = search needs
-
 loop-holds : tie.Need-loop-holds Inv-loop μ-loop
 loop-holds c = (omega arith, rw (c .no-dates .ensures) (filled-start _ _))
-
-add-dates : tie.Need-add-dates Inv-loop μ-loop
-add-dates c = search needs
-
-shared-slice-read-dates : tie.Need-shared-slice-read-dates Inv-loop μ-loop
-shared-slice-read-dates c = search needs
-
-array-write-dates : tie.Need-array-write-dates Inv-loop μ-loop
-array-write-dates c = search needs
-
-add-i : tie.Need-add-i Inv-loop μ-loop
-add-i c = search needs
-
-loop-less : tie.Need-loop-less Inv-loop μ-loop
-loop-less c = search needs
 
 loop-again : tie.Need-loop-again Inv-loop μ-loop
 loop-again c = (omega arith, filled-next _ _ _ _ _ (c .before .before .loop .inv .1) (search needs) refl)
@@ -53,12 +35,12 @@ dates-from-spec =
     (tie.spec
     Inv-loop
     μ-loop
-    no-dates-requires
+    (λ c κs. search needs)
     loop-holds
-    add-dates
-    shared-slice-read-dates
-    array-write-dates
-    add-i
-    loop-less
+    (λ c. search needs)
+    (λ c. search needs)
+    (λ c. search needs)
+    (λ c. search needs)
+    (λ c. search needs)
     loop-again
     returns)

@@ -7,31 +7,13 @@ use Rattle.job_record.proofs.Answers.{passed, failed}
 use Rattle.jobs.proofs.field_at.Statement.{statement}
 use Rattle.jobs.proofs.field_at.Tie as tie
 
-add-if1 : tie.Need-add-if1
-add-if1 c = search needs
-
-add-if1-2 : tie.Need-add-if1-2
-add-if1-2 c = search needs
-
 returns : tie.Need-returns
 unfolding fieldAt
 returns c = simp (lt-leb _ _ (c .if1 .taken))
 
-shared-slice-read-has-tag : tie.Need-shared-slice-read-has-tag
-shared-slice-read-has-tag c = search needs
-
-has-tag-requires : tie.Need-has-tag-requires
-has-tag-requires c κs = search needs
-
 returns-2 : tie.Need-returns-2
 unfolding fieldAt
 returns-2 c = simp (le-leb _ _ (c .before .before .before .if1 .left), failed (c .before .has-tag .ensures) (c .if2 .taken))
-
-add-number : tie.Need-add-number
-add-number c = search needs
-
-number-requires : tie.Need-number-requires
-number-requires c κs = search needs
 
 returns-3 : tie.Need-returns-3
 unfolding fieldAt
@@ -43,12 +25,12 @@ pub field-at-spec : {M : Type 1} → statement M
 field-at-spec =
     tie.close
     (tie.spec
-    add-if1
-    add-if1-2
+    (λ c. search needs)
+    (λ c. search needs)
     returns
-    shared-slice-read-has-tag
-    has-tag-requires
+    (λ c. search needs)
+    (λ c κs. search needs)
     returns-2
-    add-number
-    number-requires
+    (λ c. search needs)
+    (λ c κs. search needs)
     returns-3)

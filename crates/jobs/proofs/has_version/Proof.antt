@@ -10,20 +10,11 @@ use Rattle.job_record.proofs.Forms.{field-whole, version-absent, version-by-num
 use Rattle.jobs.proofs.has_version.Statement.{statement}
 use Rattle.jobs.proofs.has_version.Tie as tie
 
-field-at-requires : tie.Need-field-at-requires
-field-at-requires c κs = search needs
-
 returns : tie.Need-returns
 returns c = version-absent _ (failed (c .before .field-at .ensures) (c .if1 .taken))
 
-add-number : tie.Need-add-number
-add-number c = search needs
-
 number-requires : tie.Need-number-requires
 number-requires c κs = omega (arith, field-whole _ versionAt (Only 11) 1 (passed (c .before .field-at .ensures) (c .if1 .left)))
-
-is-version-requires : tie.Need-is-version-requires
-is-version-requires c κs = search needs
 
 returns-2 : tie.Need-returns-2
 returns-2 c =
@@ -33,4 +24,4 @@ returns-2 c =
 
 pub has-version-spec : {M : Type 1} → statement M
 has-version-spec =
-    tie.close (tie.spec field-at-requires returns add-number number-requires is-version-requires returns-2)
+    tie.close (tie.spec (λ c κs. search needs) returns (λ c. search needs) number-requires (λ c κs. search needs) returns-2)

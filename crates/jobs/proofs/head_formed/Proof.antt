@@ -12,9 +12,6 @@ use borrow.Author.Needs.{needs}
 use Rattle.jobs.proofs.head_formed.Statement.{statement}
 use Rattle.jobs.proofs.head_formed.Tie as tie
 
-field-at-requires : tie.Need-field-at-requires
-field-at-requires c κs = search needs
-
 returns : tie.Need-returns
 unfolding headFormed
 returns c = simp (failed (c .before .field-at .ensures) (c .if1 .taken))
@@ -26,9 +23,6 @@ bytes c = now (c .before .before .before .args .bytes)
 frequency : (c : tie.Else1) → fieldAt (bytes c) frequencyAt (Only 1) 1 ≡ true
 frequency c = passed (c .before .field-at .ensures) (c .if1 .left)
 
-field-at-requires-2 : tie.Need-field-at-requires-2
-field-at-requires-2 c κs = search needs
-
 returns-2 : tie.Need-returns-2
 unfolding headFormed
 returns-2 c =
@@ -39,9 +33,6 @@ returns-2 c =
 
 steps : (c : tie.Else2) → fieldAt (bytes (c .before .before)) stepsAt (Only 2) 1 ≡ true
 steps c = passed (c .before .field-at2 .ensures) (c .if2 .left)
-
-field-at-requires-3 : tie.Need-field-at-requires-3
-field-at-requires-3 c κs = search needs
 
 returns-3 : tie.Need-returns-3
 unfolding headFormed
@@ -55,9 +46,6 @@ returns-3 c =
 
 reversion : (c : tie.Else3) → fieldAt (bytes (c .before .before .before .before)) reversionAt (Only 3) 2 ≡ true
 reversion c = passed (c .before .field-at3 .ensures) (c .if3 .left)
-
-field-at-requires-4 : tie.Need-field-at-requires-4
-field-at-requires-4 c κs = search needs
 
 returns-4 : tie.Need-returns-4
 unfolding headFormed
@@ -75,11 +63,11 @@ pub head-formed-spec : {M : Type 1} → statement M
 head-formed-spec =
     tie.close
     (tie.spec
-    field-at-requires
+    (λ c κs. search needs)
     returns
-    field-at-requires-2
+    (λ c κs. search needs)
     returns-2
-    field-at-requires-3
+    (λ c κs. search needs)
     returns-3
-    field-at-requires-4
+    (λ c κs. search needs)
     returns-4)

@@ -12,14 +12,8 @@ use Rattle.job_record.proofs.Forms.{well-body, well-length, quotes-from, body-r
 use Rattle.jobs.proofs.job_of.Statement.{statement}
 use Rattle.jobs.proofs.job_of.Tie as tie
 
-add-number : tie.Need-add-number
-add-number c = search needs
-
 number-requires : tie.Need-number-requires
 number-requires c κs = omega (arith, well-length _ (c .before .pre), quotes-from (now (c .before .args .bytes)))
-
-quotes-at-requires : tie.Need-quotes-at-requires
-quotes-at-requires c κs = search needs
 
 -- the number of steps and the place of the quotes as they were read, and the place after the flows
 known : (c : tie.After-quotes-at) →
@@ -82,26 +76,14 @@ option-at-requires c κs =
     let there = rest-place c ∙ ap (λ (n : ℕ). restAt quotes n) (counted c .number .ensures .0) in
     (c .after-fields2 .ensures .1, rw there formed, rw there few)
 
-add-number-2 : tie.Need-add-number-2
-add-number-2 c = search needs
-
 number-requires-2 : tie.Need-number-requires-2
 number-requires-2 c κs = omega (arith, long (c .before))
-
-add-number-3 : tie.Need-add-number-3
-add-number-3 c = search needs
 
 number-requires-3 : tie.Need-number-requires-3
 number-requires-3 c κs = omega (arith, long (c .before .before))
 
-add-number-4 : tie.Need-add-number-4
-add-number-4 c = search needs
-
 number-requires-4 : tie.Need-number-requires-4
 number-requires-4 c κs = omega (arith, long (c .before .before .before))
-
-version-of-requires : tie.Need-version-of-requires
-version-of-requires c κs = search needs
 
 returns : tie.Need-returns
 unfolding jobOf
@@ -129,20 +111,20 @@ pub job-of-spec : {M : Type 1} → statement M
 job-of-spec =
     tie.close
     (tie.spec
-    add-number
+    (λ c. search needs)
     number-requires
-    quotes-at-requires
+    (λ c κs. search needs)
     after-fields-requires
     tags-from-requires
     data-from-requires
     data-from-requires-2
     after-fields-requires-2
     option-at-requires
-    add-number-2
+    (λ c. search needs)
     number-requires-2
-    add-number-3
+    (λ c. search needs)
     number-requires-3
-    add-number-4
+    (λ c. search needs)
     number-requires-4
-    version-of-requires
+    (λ c κs. search needs)
     returns)

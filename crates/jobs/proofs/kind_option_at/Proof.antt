@@ -5,27 +5,6 @@ use Rattle.job_record.specs.Reader.{kindOptionAt}
 use Rattle.jobs.proofs.kind_option_at.Statement.{statement}
 use Rattle.jobs.proofs.kind_option_at.Tie as tie
 
-add-kind-at : tie.Need-add-kind-at
-add-kind-at c = search needs
-
-add-expiry-at : tie.Need-add-expiry-at
-add-expiry-at c = search needs
-
-no-dates-requires : tie.Need-no-dates-requires
-no-dates-requires c κs = search needs
-
-number-requires : tie.Need-number-requires
-number-requires c κs = search needs
-
-number-requires-2 : tie.Need-number-requires-2
-number-requires-2 c κs = search needs
-
-add-number : tie.Need-add-number
-add-number c = search needs
-
-number-requires-3 : tie.Need-number-requires-3
-number-requires-3 c κs = search needs
-
 returns : tie.Need-returns
 unfolding kindOptionAt
 returns c =
@@ -40,11 +19,11 @@ pub kind-option-at-spec : {M : Type 1} → statement M
 kind-option-at-spec =
     tie.close
     (tie.spec
-    add-kind-at
-    add-expiry-at
-    no-dates-requires
-    number-requires
-    number-requires-2
-    add-number
-    number-requires-3
+    (λ c. search needs)
+    (λ c. search needs)
+    (λ c κs. search needs)
+    (λ c κs. search needs)
+    (λ c κs. search needs)
+    (λ c. search needs)
+    (λ c κs. search needs)
     returns)

@@ -5,12 +5,9 @@ use Rattle.job_record.specs.Reader.{noJob}
 use Rattle.jobs.proofs.no_job.Statement.{statement}
 use Rattle.jobs.proofs.no_job.Tie as tie
 
-no-option-requires : tie.Need-no-option-requires
-no-option-requires c κs = search needs
-
 returns : tie.Need-returns
 unfolding noJob
 returns c = rw (c .no-option .ensures)
 
 pub no-job-spec : {M : Type 1} → statement M
-no-job-spec = tie.close (tie.spec no-option-requires returns)
+no-job-spec = tie.close (tie.spec (λ c κs. search needs) returns)

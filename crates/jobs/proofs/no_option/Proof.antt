@@ -4,11 +4,8 @@ use borrow.Author.Needs.{needs}
 use Rattle.jobs.proofs.no_option.Statement.{statement}
 use Rattle.jobs.proofs.no_option.Tie as tie
 
-no-dates-requires : tie.Need-no-dates-requires
-no-dates-requires c κs = search needs
-
 returns : tie.Need-returns
 returns c = rw (c .no-dates .ensures)
 
 pub no-option-spec : {M : Type 1} → statement M
-no-option-spec = tie.close (tie.spec no-dates-requires returns)
+no-option-spec = tie.close (tie.spec (λ c κs. search needs) returns)

@@ -8,9 +8,6 @@ use Rattle.job_record.proofs.Options.{option-none, option-kind, option-list}
 use Rattle.jobs.proofs.option_at.Statement.{statement}
 use Rattle.jobs.proofs.option_at.Tie as tie
 
-no-option-requires : tie.Need-no-option-requires
-no-option-requires c κs = search needs
-
 returns : tie.Need-returns
 returns c = c .no-option .ensures ∙ sym (option-none _ _ (c .before .if1 .taken))
 
@@ -35,7 +32,7 @@ pub option-at-spec : {M : Type 1} → statement M
 option-at-spec =
     tie.close
     (tie.spec
-    no-option-requires
+    (λ c κs. search needs)
     returns
     shared-slice-read-if2
     kind-option-at-requires

@@ -7,9 +7,6 @@ use Rattle.job_record.proofs.Forms.{quotes-after, quotes-there}
 use Rattle.jobs.proofs.quotes_at.Statement.{statement}
 use Rattle.jobs.proofs.quotes_at.Tie as tie
 
-has-version-requires : tie.Need-has-version-requires
-has-version-requires c κs = search needs
-
 returns : tie.Need-returns
 returns c = (sym (quotes-after _ (sym (c .before .has-version .ensures) ∙ c .if1 .taken)), omega arith)
 
@@ -17,4 +14,4 @@ returns-2 : tie.Need-returns-2
 returns-2 c = (sym (quotes-there _ (sym (c .before .has-version .ensures) ∙ c .if1 .left)), omega arith)
 
 pub quotes-at-spec : {M : Type 1} → statement M
-quotes-at-spec = tie.close (tie.spec has-version-requires returns returns-2)
+quotes-at-spec = tie.close (tie.spec (λ c κs. search needs) returns returns-2)

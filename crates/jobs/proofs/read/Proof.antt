@@ -7,12 +7,6 @@ use borrow.Author.Needs.{needs}
 use Rattle.jobs.proofs.read.Statement.{statement}
 use Rattle.jobs.proofs.read.Tie as tie
 
-well-formed-requires : tie.Need-well-formed-requires
-well-formed-requires c κs = search needs
-
-no-job-requires : tie.Need-no-job-requires
-no-job-requires c κs = search needs
-
 returns : tie.Need-returns
 returns c =
     read-bad _ (λ i. omega (arith, c .before .before .before .shared-slice-known .given i)) _ (c .no-job .ensures)
@@ -28,4 +22,4 @@ returns-2 c =
 
 pub read-spec : {M : Type 1} → statement M
 read-spec =
-    tie.close (tie.spec well-formed-requires no-job-requires returns job-of-requires returns-2)
+    tie.close (tie.spec (λ c κs. search needs) (λ c κs. search needs) returns job-of-requires returns-2)

@@ -11,15 +11,9 @@ returns : tie.Need-returns
 unfolding restFormed
 returns c = simp (eq-eqb _ _ (c .if1 .taken))
 
-kind-formed-requires : tie.Need-kind-formed-requires
-kind-formed-requires c κs = search needs
-
 returns-2 : tie.Need-returns-2
 unfolding restFormed
 returns-2 c = simp (ne-eqb _ _ (c .before .before .if1 .left), sym (c .before .kind-formed .ensures) ∙ c .if2 .taken)
-
-list-formed-requires : tie.Need-list-formed-requires
-list-formed-requires c κs = search needs
 
 returns-3 : tie.Need-returns-3
 unfolding restFormed
@@ -29,4 +23,4 @@ returns-3 c =
 
 pub rest-formed-spec : {M : Type 1} → statement M
 rest-formed-spec =
-    tie.close (tie.spec returns kind-formed-requires returns-2 list-formed-requires returns-3)
+    tie.close (tie.spec returns (λ c κs. search needs) returns-2 (λ c κs. search needs) returns-3)

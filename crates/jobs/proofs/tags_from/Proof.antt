@@ -23,23 +23,11 @@ abbrev μ-loop : tie.MeasureT-loop
 loop-holds : tie.Need-loop-holds Inv-loop μ-loop
 loop-holds c = (omega arith, filled-start _ _)
 
-after-fields-requires : tie.Need-after-fields-requires Inv-loop μ-loop
-after-fields-requires c κs = search needs
-
 shared-slice-read-tags : tie.Need-shared-slice-read-tags Inv-loop μ-loop
 shared-slice-read-tags c =
     let start = c .before .before .before .before .before .args in
     let i = c .before .before .before .loop .i in
     omega (arith, c .before .after-fields .ensures .0, field-within (start .from) (start .width) i (start .count) (omega arith))
-
-array-write-tags : tie.Need-array-write-tags Inv-loop μ-loop
-array-write-tags c = search needs
-
-add-i : tie.Need-add-i Inv-loop μ-loop
-add-i c = search needs
-
-loop-less : tie.Need-loop-less Inv-loop μ-loop
-loop-less c = search needs
 
 loop-again : tie.Need-loop-again Inv-loop μ-loop
 loop-again c =
@@ -58,10 +46,10 @@ tags-from-spec =
     Inv-loop
     μ-loop
     loop-holds
-    after-fields-requires
+    (λ c κs. search needs)
     shared-slice-read-tags
-    array-write-tags
-    add-i
-    loop-less
+    (λ c. search needs)
+    (λ c. search needs)
+    (λ c. search needs)
     loop-again
     returns)

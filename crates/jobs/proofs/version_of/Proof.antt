@@ -10,14 +10,8 @@ use Rattle.job_record.proofs.Forms.{field-whole, version-field, version-read, v
 use Rattle.jobs.proofs.version_of.Statement.{statement}
 use Rattle.jobs.proofs.version_of.Tie as tie
 
-has-version-requires : tie.Need-has-version-requires
-has-version-requires c κs = search needs
-
 returns : tie.Need-returns
 returns c = sym (version-missing _ (failed (c .before .has-version .ensures) (c .if1 .taken)))
-
-add-number : tie.Need-add-number
-add-number c = search needs
 
 number-requires : tie.Need-number-requires
 number-requires c κs =
@@ -29,4 +23,4 @@ returns-2 c =
     c .number .ensures .0 ∙ sym (version-read _ (passed (tested .before .has-version .ensures) (tested .if1 .left)))
 
 pub version-of-spec : {M : Type 1} → statement M
-version-of-spec = tie.close (tie.spec has-version-requires returns add-number number-requires returns-2)
+version-of-spec = tie.close (tie.spec (λ c κs. search needs) returns (λ c. search needs) number-requires returns-2)

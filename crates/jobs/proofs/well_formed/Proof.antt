@@ -11,20 +11,11 @@ use Rattle.jobs.proofs.well_formed.Tie as tie
 returns : tie.Need-returns
 returns c = refuse-long _ (c .if1 .taken)
 
-head-formed-requires : tie.Need-head-formed-requires
-head-formed-requires c κs = search needs
-
 returns-2 : tie.Need-returns-2
 returns-2 c = refuse-head _ (c .before .before .if1 .left) (failed (c .before .head-formed .ensures) (c .if2 .taken))
 
-add-number : tie.Need-add-number
-add-number c = search needs
-
 number-requires : tie.Need-number-requires
 number-requires c κs = omega (arith, head-whole _ (passed (c .before .head-formed .ensures) (c .if2 .left)))
-
-quotes-at-requires : tie.Need-quotes-at-requires
-quotes-at-requires c κs = search needs
 
 body-formed-requires : tie.Need-body-formed-requires
 body-formed-requires c κs = omega (arith, c .before .number .ensures .1, c .quotes-at .ensures .1)
@@ -42,10 +33,10 @@ well-formed-spec =
     tie.close
     (tie.spec
     returns
-    head-formed-requires
+    (λ c κs. search needs)
     returns-2
-    add-number
+    (λ c. search needs)
     number-requires
-    quotes-at-requires
+    (λ c κs. search needs)
     body-formed-requires
     returns-3)

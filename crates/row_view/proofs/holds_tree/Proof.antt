@@ -6,9 +6,6 @@ use borrow.Author.Needs.{needs}
 use Rattle.row_view.proofs.holds_tree.Statement.{statement}
 use Rattle.row_view.proofs.holds_tree.Tie as tie
 
-discounts-needed-requires : tie.Need-discounts-needed-requires
-discounts-needed-requires c κs = search needs
-
 returns : tie.Need-returns
 returns c = laws.refused-tree _ _ _ _ _ _ (c .before .before .discounts-needed .ensures) (c .if1 .taken)
 
@@ -19,9 +16,6 @@ returns-2 : tie.Need-returns-2
 returns-2 c =
     let e = c .before .before in
     laws.short-discounts _ _ _ _ (accepted e) _ (tree-value _ _ _ _ (e .before .before .discounts-needed .ensures) (accepted e)) (c .if2 .taken)
-
-state-prices-needed-requires : tie.Need-state-prices-needed-requires
-state-prices-needed-requires c κs = search needs
 
 returns-3 : tie.Need-returns-3
 returns-3 c =
@@ -34,4 +28,4 @@ returns-3 c =
 pub holds-tree-spec : {M : Type 1} → statement M
 holds-tree-spec =
     tie.close
-    (tie.spec discounts-needed-requires returns returns-2 state-prices-needed-requires returns-3)
+    (tie.spec (λ c κs. search needs) returns returns-2 (λ c κs. search needs) returns-3)

@@ -28,29 +28,8 @@ part-is c =
     (laws.shown (a .discounts) (a .state-prices) StatePrices (a .tree .steps) (a .tree .reversion) (a .before + 1) (c .row-view .result) (s .pre .1)
     (le-leb (a .before + 1) (a .tree .steps) (omega (arith, s .pre .0))) (c .row-view .ensures))
 
-add-row : tie.Need-add-row
-add-row c = search needs
-
-row-view-requires : tie.Need-row-view-requires
-row-view-requires c κs = search needs
-
 row-total-requires : tie.Need-row-total-requires
 row-total-requires c κs = rw (part-is c) (start c .pre .3)
-
-state-price-error-bound-requires : tie.Need-state-price-error-bound-requires
-state-price-error-bound-requires c κs = search needs
-
-mul-row-line : tie.Need-mul-row-line
-mul-row-line c = search needs
-
-shared-slice-read-row-line : tie.Need-shared-slice-read-row-line
-shared-slice-read-row-line c = search needs
-
-row-line-requires : tie.Need-row-line-requires
-row-line-requires c κs = search needs
-
-same-length : tie.Need-same-length
-same-length c = search needs
 
 -- where the sum and the allowance are known
 total-is : (c : tie.After-row-total) →
@@ -83,12 +62,12 @@ pub put-row-spec : {M : Type 1} → statement M
 put-row-spec =
     tie.close
     (tie.spec
-    add-row
-    row-view-requires
+    (λ c. search needs)
+    (λ c κs. search needs)
     row-total-requires
-    state-price-error-bound-requires
-    mul-row-line
-    shared-slice-read-row-line
-    row-line-requires
-    same-length
+    (λ c κs. search needs)
+    (λ c. search needs)
+    (λ c. search needs)
+    (λ c κs. search needs)
+    (λ c. search needs)
     returns)

@@ -37,9 +37,6 @@ loop-holds c =
     let s = start c in
     begun (line s) (λ (i : ℕ). 128 * i) (s .args .steps) (fits c) (s .args .out .now) (s .args .end) (s .pre .0 .2)
 
-sub-left : tie.Need-sub-left Inv-loop μ-loop
-sub-left c = search needs
-
 put-row-requires : tie.Need-put-row-requires Inv-loop μ-loop
 put-row-requires c κs =
     let looping = c .before .before in
@@ -53,9 +50,6 @@ put-row-requires c κs =
       omega (arith, p .enough),
       omega (arith, p .below, p .same, pre .0 .3),
     )
-
-loop-less : tie.Need-loop-less Inv-loop μ-loop
-loop-less c = search needs
 
 loop-again : tie.Need-loop-again Inv-loop μ-loop
 loop-again c =
@@ -82,9 +76,9 @@ put-rows-spec =
     Inv-loop
     μ-loop
     loop-holds
-    sub-left
+    (λ c. search needs)
     put-row-requires
-    loop-less
+    (λ c. search needs)
     loop-again
     same-length
     returns)
