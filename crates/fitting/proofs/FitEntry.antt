@@ -182,7 +182,7 @@ module _ {f n b : ℕ} {spaced : Answer} {rows kinds : List ℕ} {figures : List
     quoted-all = ap (curveNumber f n rows kinds figures) (k .memory-length) ∙ k .planned .numbers z .quotes-converted
 
     pub steps-few : n ≤ mostSteps
-    steps-few = k .planned .numbers z .steps-within-limit
+    steps-few = k .planned .numbers z .limits .steps-within-limit
 
     quotes-are : take n after ≡ quotesOf f n kinds figures
     unfolding place
@@ -203,9 +203,7 @@ module _ {f n b : ℕ} {spaced : Answer} {rows kinds : List ℕ} {figures : List
     quotes-ready =
         let numbers = k .planned .numbers z in
         record {
-          steps-positive = rw quotes-length (numbers .steps-positive);
-          steps-within-limit = rw quotes-length (numbers .steps-within-limit);
-          reversion-within-limit = numbers .reversion-within-limit;
+          limits = rw quotes-length (numbers .limits);
           widest-is = rw quotes-length (k .planned .widest-is z);
           spacing-within-one = k .planned .spacing-within-one z;
           quotes-least = λ i h. in-range i (rw quotes-length at h) .0;

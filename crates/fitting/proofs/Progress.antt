@@ -86,7 +86,7 @@ module _ {b : ℕ} {l u downs d₀ p₀ a : List ℕ} (k : RowsReady b l u downs
   unfolding quoted rateTree
   curve =
       record {
-        steps = k .tables .steps-within-limit;
+        steps = k .tables .limits .steps-within-limit;
         counts = count-most;
         quote-low = k .quotes-least;
         quote-high = k .quotes-most;
@@ -95,7 +95,7 @@ module _ {b : ℕ} {l u downs d₀ p₀ a : List ℕ} (k : RowsReady b l u downs
       }
 
   sound : Sound (rateTree b)
-  sound = rate-tree-sound b (k .tables .reversion-within-limit)
+  sound = rate-tree-sound b (k .tables .limits .reversion-within-limit)
 
   ready : (i : ℕ) → i < length l →
       Fittable (rateTree b .step i) (nodeCount b i) (nodeCount b (suc i)) (quoted l (suc i))

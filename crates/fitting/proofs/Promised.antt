@@ -78,7 +78,7 @@ module _ (f n b spaced h : ℕ) (rows kinds : List ℕ) (figures : List Float) (
       ∙ parts .1
 
   pub fit-sound : Sound (rateTree b)
-  fit-sound = rate-tree-sound b (fit-numbers .reversion-within-limit)
+  fit-sound = rate-tree-sound b (fit-numbers .limits .reversion-within-limit)
 
   range : (i : ℕ) → i < n → (leastQuote ≤ discountAt f kinds figures i) × (discountAt f kinds figures i ≤ mostQuote)
   range = curve-range f n rows kinds figures mostSteps (fit-numbers .quotes-converted)
@@ -109,7 +109,7 @@ module _ (f n b spaced h : ℕ) (rows kinds : List ℕ) (figures : List Float) (
   unfolding rateTree
   curve =
       record {
-        steps = fit-numbers .steps-within-limit;
+        steps = fit-numbers .limits .steps-within-limit;
         counts = count-most;
         quote-low = λ i l. rw (quote-is i l) (range i l .0);
         quote-high = λ i l. rw (quote-is i l) (range i l .1);

@@ -8,6 +8,7 @@ use native.Mathlib.Omega.{arith}
 use lib.Dec.{leb}
 use lib.Ieee.{Float}
 use borrow.Author.Tests.{le-ltb, eq-eqb, ne-eqb}
+use Rattle.limits.specs.inside.WithinLimits.{WithinLimits}
 use Rattle.arithmetic.specs.Answers.{lowestCause}
 use Rattle.arithmetic.specs.Frequency.{listed}
 use Rattle.arithmetic.specs.declared.Answer.{Answer}
@@ -16,7 +17,7 @@ use Rattle.arithmetic.proofs.CauseLaws.{lowest-second}
 use Rattle.limits.specs.Limits.{mostSteps, mostReversion}
 use Rattle.lattice.specs.Shape.{discountsNeeded}
 use Rattle.lattice.specs.Entries.{discountsNeededAnswer, statePricesNeededAnswer, memoryCause}
-use Rattle.lattice.proofs.TreeEntries.{Accepted, by-tree}
+use Rattle.lattice.proofs.TreeEntries.{by-tree}
 use Rattle.reversion.specs.Reversion.{isVersion}
 use Rattle.reversion.proofs.ReversionLaws.{working-first}
 use Rattle.spacing.specs.Spacing.{spacing, spacingAnswer, versionSpacingAnswer}
@@ -70,7 +71,7 @@ module _ (f n b s : ℕ) where
     tree-low : (discountsNeededAnswer n b .number ≡ 0 → ⊥) × (discountsNeededAnswer n b .number ≤ 4)
     tree-low =
         by-tree n b (discountsNeeded n b) (λ a. (a .number ≡ 0 → ⊥) × (a .number ≤ 4)) (λ _. (three, omega arith)) (λ _. (three, omega arith))
-        (λ _ _ _. (four, omega arith)) (λ (k : Accepted n b). absurd (beyond (k .reversion-within-limit)))
+        (λ _ _ _. (four, omega arith)) (λ (k : WithinLimits n b). absurd (beyond (k .reversion-within-limit)))
       where
         three : _≡_ {A = ℕ} 3 0 → ⊥
         three z = omega arith

@@ -35,7 +35,7 @@ pub(crate) fn plan_of(
         };
     }
     let widest = lattice::half_width(reversion, steps - 1);
-    if 1_000_000_000 < widest.value * spaced.value {
+    if arithmetic::ONE < widest.value * spaced.value {
         return Plan {
             number: 8,
             spacing: 0,

@@ -110,7 +110,7 @@ pub(crate) fn fit_rows(
     ensures kept { λ _. ⌜ PastKept reversion (length (now (quotes .entry)))
         (now (discounts .entry)) (now (prices .entry)) (now (discounts .exit)) (now (prices .exit)) ⌝ }
 {
-    prices[0] = 1_000_000_000;
+    prices[0] = arithmetic::ONE;
     let steps = quotes.len();
     let mut row: usize = 0;
     while row < steps {

@@ -1,4 +1,5 @@
 // One step of the fit, over one row: the sums, divisions and branches of document 01.
+use arithmetic::ONE;
 use row_branches::RowBranch;
 ghost use mathlib.Core.Path.{_≡_};
 ghost use mathlib.Core.Bool.{true};
@@ -14,8 +15,6 @@ ghost use Rattle.fit_laws.specs.Step.{normaliser, carried};
 ghost use Rattle.fit_laws.specs.inside.Bounds.{mostRowSum};
 ghost use Rattle.fitting.specs.inside.Rows.{RowStepped};
 ghost use Rattle.fitting.specs.inside.Preconditions.{Factors, StepReady, SpreadReady};
-
-const ONE: u64 = 1_000_000_000;
 
 // Z of a row.
 pub(crate) fn normaliser_of(prices: &[u64], factors: &[u64]) -> u64

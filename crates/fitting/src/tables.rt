@@ -124,9 +124,9 @@ pub(crate) fn fit_quotes(
         (now (discounts .entry)) (now (prices .entry)) (now (discounts .exit)) (now (prices .exit)) ⌝ }
 {
     let count = 2 * grid.widest + 1;
-    let mut factors = [0u64; 121];
-    let mut downs = [0u64; 121];
-    let mut sums = [0u64; 121];
+    let mut factors = [0u64; limits::MOST_NODES];
+    let mut downs = [0u64; limits::MOST_NODES];
+    let mut sums = [0u64; limits::MOST_NODES];
     if fit_tables(
         grid,
         quotes,

@@ -7,7 +7,7 @@ use Prim.Native.Nat.{ℕ, _≤_, _<_}
 use native.Mathlib.Omega.{arith}
 use borrow.Author.Tests.{eq-eqb, ne-eqb, le-leb, lt-leb}
 use lib.ListN.{length, take}
-use Rattle.arithmetic.specs.Answers.{lowestCause}
+use Rattle.arithmetic.specs.Answers.{lowestCause, firstCause}
 use Rattle.arithmetic.specs.Row.{values, place}
 use Rattle.arithmetic.specs.declared.Answer.{Answer}
 use Rattle.arithmetic.proofs.CauseLaws.{lowest-none}
@@ -22,7 +22,7 @@ use Rattle.fitting.proofs.CauseLaws.{memory-none}
 use Rattle.fitting.proofs.FittedTree.{fit-placed}
 use Rattle.price_laws.specs.declared.Price.{Price}
 use Rattle.price_laws.specs.declared.BondAndOption.{BondAndOption}
-use Rattle.price_laws.specs.Prices.{refusedPrice, firstCause, bondPrice, optionPrice, datedPrice}
+use Rattle.price_laws.specs.Prices.{refusedPrice, bondPrice, optionPrice, datedPrice}
 use Rattle.job_record.specs.declared.OptionRecord.{OptionRecord}
 use Rattle.job_record.specs.declared.Job.{Job}
 use Rattle.job_record.specs.declared.Reading.{Reading}

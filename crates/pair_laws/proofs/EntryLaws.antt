@@ -6,7 +6,7 @@ use Prim.Native.Nat.{ℕ, _≤_, _<_, max}
 use native.Mathlib.Omega.{arith}
 use borrow.Author.Tests.{eq-eqb, ne-eqb}
 use Rattle.arithmetic.specs.Row.{values}
-use Rattle.arithmetic.specs.Answers.{lowestCause}
+use Rattle.arithmetic.specs.Answers.{lowestCause, firstCause}
 use Rattle.arithmetic.proofs.CauseLaws.{lowest-none}
 use Rattle.limits.specs.Limits.{valueLimit, limitCause}
 use Rattle.limits.proofs.LimitLaws.{limit-above, limit-kept}
@@ -22,7 +22,7 @@ use Rattle.exercise_dates.proofs.DateLaws.{dates-alike, marks-room, dated-side,
 use Rattle.price_causes.specs.Causes.{termsCause}
 use Rattle.price_causes.proofs.CheckLaws.{terms-accepted}
 use Rattle.price_laws.specs.declared.Price.{Price}
-use Rattle.price_laws.specs.Prices.{flowAt, firstCause, refusedPrice, priced, datedCause}
+use Rattle.price_laws.specs.Prices.{flowAt, refusedPrice, priced, datedCause}
 use Rattle.pricing.specs.inside.Trees.{Exercisable}
 use Rattle.pair_laws.specs.Pair.{Pair, at}
 use Rattle.pair_laws.specs.PairCauses.{pairCause}

@@ -6,13 +6,12 @@ use mathlib.Core.Bool.{Bool, cond, _&&_}
 use mathlib.Core.List.{List}
 use lib.Dec.{eqb, leb, ltb}
 use Rattle.arithmetic.specs.Row.{each}
-use Rattle.arithmetic.specs.Answers.{lowestCause}
+use Rattle.arithmetic.specs.Answers.{lowestCause, firstCause}
 use Rattle.limits.specs.Limits.{mostDiscount, isSteps}
 use Rattle.lattice.specs.Shape.{nodeCount}
 use Rattle.lattice.specs.RateTree.{rateTree}
 use Rattle.lent_tree.specs.LentTree.{stored, discountsCause, Accepted}
 use Rattle.price_causes.specs.Causes.{flowsCause}
-use Rattle.price_laws.specs.Prices.{firstCause}
 use Rattle.pair_laws.specs.Pair.{Pair, at, combined}
 
 -- n of two trees together: 1 to 20

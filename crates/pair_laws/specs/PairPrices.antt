@@ -13,7 +13,8 @@ use Rattle.pricing_laws.specs.Schedule.{numberedSide, datedSchedule}
 use Rattle.pricing_laws.specs.TreePricer.{rollRounding}
 use Rattle.pricing_laws.specs.Peak.{peak}
 use Rattle.price_laws.specs.declared.Price.{Price}
-use Rattle.price_laws.specs.Prices.{flowAt, firstCause, priced, datedCause}
+use Rattle.arithmetic.specs.Answers.{firstCause}
+use Rattle.price_laws.specs.Prices.{flowAt, priced, datedCause}
 use Rattle.pair_laws.specs.Pair.{Pair, at, pairRoll, pairEngine, exactPair, greatestCombined, pairErrorBound}
 use Rattle.pair_laws.specs.PairCauses.{pairCause}
 

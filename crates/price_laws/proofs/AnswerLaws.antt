@@ -20,7 +20,8 @@ use Rattle.exercise_dates.proofs.DateLaws.{dates-alike}
 use Rattle.price_laws.specs.declared.Price.{Price}
 use Rattle.price_laws.specs.declared.BondAndOption.{BondAndOption}
 use Rattle.price_laws.specs.declared.BondAndOptionValues.{BondAndOptionValues}
-use Rattle.price_laws.specs.Prices.{flowAt, treeCause, firstCause, refusedPrice, priced, bondPeak, optionValue, optionPeak, optionLimit, scheduledPrice}
+use Rattle.arithmetic.specs.Answers.{firstCause}
+use Rattle.price_laws.specs.Prices.{flowAt, treeCause, refusedPrice, priced, bondPeak, optionValue, optionPeak, optionLimit, scheduledPrice}
 use Rattle.price_laws.specs.inside.Accepted.{acceptedOption}
 
 -- a refusal and a price, by the number

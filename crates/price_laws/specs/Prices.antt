@@ -5,7 +5,7 @@ use mathlib.Core.Bool.{cond}
 use mathlib.Core.List.{List}
 use lib.Dec.{eqb}
 use Rattle.arithmetic.specs.Row.{values}
-use Rattle.arithmetic.specs.Answers.{lowestCause}
+use Rattle.arithmetic.specs.Answers.{lowestCause, firstCause}
 use Rattle.limits.specs.Limits.{limitCause}
 use Rattle.lattice.specs.RateTree.{rateTree}
 use Rattle.pricing_laws.specs.Pricer.{Side, Schedule, bond, option}
@@ -28,10 +28,6 @@ flowAt flows (suc t) = values flows t
 -- 3, 4, 6, 9, 10 about a tree, its lent discounts and its flows, lowest number first; 0 where there is none
 unfoldable pub treeCause : ℕ → ℕ → List ℕ → List ℕ → ℕ
 treeCause n b discounts flows = lowestCause (discountsCause n b discounts) (flowsCause n flows)
-
--- the first of two causes
-unfoldable pub firstCause : ℕ → ℕ → ℕ
-firstCause cause later = cond (eqb cause 0) later cause
 
 -- a refusal's number with zeros
 abbrev pub refusedPrice : ℕ → Price

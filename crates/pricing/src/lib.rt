@@ -23,6 +23,7 @@ ghost use Rattle.pricing_laws.specs.inside.Marks.{marked};
 ghost use Rattle.exercise.specs.Terms.{side};
 ghost use Rattle.lent_tree.specs.LentTree.{Accepted};
 ghost use Rattle.price_causes.specs.inside.Flows.{AcceptedFlows};
+ghost use Rattle.arithmetic.specs.Answers.{firstCause};
 ghost use Rattle.price_laws.specs.Prices.{
   refusedPrice,
   bondPrice,
@@ -32,7 +33,6 @@ ghost use Rattle.price_laws.specs.Prices.{
   bondAndDatedOption,
   treeCause,
   scheduledPrice,
-  firstCause,
   valueAlone,
   withBound,
   bothValues,

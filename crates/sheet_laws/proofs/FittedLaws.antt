@@ -6,6 +6,7 @@ use mathlib.Core.List.{List, [], append-nil}
 use Prim.Native.Nat.{ℕ, suc, _≤_, _<_}
 use native.Mathlib.Omega.{arith}
 use lib.ListN.{length, take, length-take}
+use Rattle.limits.specs.inside.WithinLimits.{WithinLimits}
 use Rattle.arithmetic.specs.Row.{sumOf}
 use Rattle.arithmetic.specs.Sum.{sum}
 use Rattle.arithmetic.specs.declared.Answer.{Answer}
@@ -17,7 +18,7 @@ use Rattle.lattice.specs.Shape.{nodeCount, discountsNeeded, statePricesNeeded}
 use Rattle.lattice.specs.RateTree.{rateTree}
 use Rattle.lattice.specs.Entries.{discountsNeededAnswer, statePricesNeededAnswer}
 use Rattle.lattice.proofs.LaidLaws.{laid-part}
-use Rattle.lattice.proofs.TreeEntries.{Accepted, tree-value}
+use Rattle.lattice.proofs.TreeEntries.{tree-value}
 use Rattle.lent_tree.specs.LentTree.{acceptedDiscounts}
 use Rattle.lent_tree.proofs.LentLaws.{accepted-all}
 use Rattle.fitting.specs.Entry.{fitPrice}
@@ -74,7 +75,7 @@ module _ (job : Job) (d₀ p₀ : List ℕ) (ld : length d₀ ≡ mostDiscounts)
 -- ---- what a caller takes of it
 
 module _ (job : Job) (d p : List ℕ) (h : Fitted job d p) where
-  pub accepted : Accepted (job .steps) (jobReversion job)
+  pub accepted : WithinLimits (job .steps) (jobReversion job)
   accepted = fits.accepted job _ _ (h .accepted)
 
   -- the quotes, converted into a memory of 60
@@ -129,9 +130,7 @@ module _ (job : Job) (d p : List ℕ) (h : Fitted job d p) where
     stored-by =
         record {
           lent = record {
-            steps-positive = accepted .steps-positive;
-            steps-within-limit = accepted .steps-within-limit;
-            reversion-within-limit = accepted .reversion-within-limit;
+            limits = accepted;
             size = discounts-size;
             accepted = discounted;
           };

@@ -5,6 +5,7 @@ use mathlib.Core.Bool.{cond}
 use mathlib.Core.List.{List, _++_}
 use lib.Dec.{eqb}
 use lib.ListN.{length, take, drop}
+use Rattle.arithmetic.specs.Answers.{unlessRefused}
 use Rattle.text_laws.specs.declared.Placed.{Placed}
 
 -- a buffer with a text that ends just before a place, everything else as it was
@@ -17,4 +18,4 @@ placeOf number end text = cond (eqb number 0) (record { number = 0; start = end 
 
 -- the buffer afterwards: with the text, or as it was
 unfoldable pub withText : ℕ → List ℕ → ℕ → List ℕ → List ℕ
-withText number out end text = cond (eqb number 0) (putBefore out end text) out
+withText number out end text = unlessRefused number (putBefore out end text) out

@@ -35,4 +35,17 @@ unfolding datesTo
 returns c = filled-all _ _ _ _ (c .before .loop .inv .1) (omega arith)
 
 pub dates-to-spec : {M : Type 1} → statement M
-dates-to-spec = tie.close (tie.spec Inv-loop μ-loop loop-holds (λ c. search needs) (λ c κs. search needs) (λ c. search needs) array-write-rows (λ c. search needs) (λ c. search needs) loop-again returns)
+dates-to-spec =
+    tie.close
+    (tie.spec
+    Inv-loop
+    μ-loop
+    loop-holds
+    (λ c. search needs)
+    (λ c κs. search needs)
+    (λ c. search needs)
+    array-write-rows
+    (λ c. search needs)
+    (λ c. search needs)
+    loop-again
+    returns)

@@ -41,4 +41,16 @@ returns : tie.Need-returns Inv-loop μ-loop
 returns c = marking-all _ _ _ (c .before .loop .inv .1) (omega arith)
 
 pub marks-of-spec : {M : Type 1} → statement M
-marks-of-spec = tie.close (tie.spec Inv-loop μ-loop loop-holds (λ c. search needs) cast-row array-write-marks (λ c. search needs) (λ c. search needs) loop-again returns)
+marks-of-spec =
+    tie.close
+    (tie.spec
+    Inv-loop
+    μ-loop
+    loop-holds
+    (λ c. search needs)
+    cast-row
+    array-write-marks
+    (λ c. search needs)
+    (λ c. search needs)
+    loop-again
+    returns)

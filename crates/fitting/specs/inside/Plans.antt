@@ -2,11 +2,11 @@
 -- Assumes nothing.
 use mathlib.Core.Path.{_≡_}
 use mathlib.Core.Bool.{cond}
-use Prim.Native.Nat.{ℕ, suc, _-_, _*_, _≤_, _<_}
+use Prim.Native.Nat.{ℕ, suc, _-_, _*_, _≤_}
 use lib.Dec.{eqb, ltb}
+use Rattle.limits.specs.inside.WithinLimits.{WithinLimits}
 use Rattle.arithmetic.specs.Rounding.{one}
 use Rattle.arithmetic.specs.declared.Answer.{Answer}
-use Rattle.limits.specs.Limits.{mostSteps, mostReversion}
 use Rattle.lattice.specs.Shape.{halfWidth, rowStart}
 use Rattle.fitting.specs.declared.causes.Plan.{Plan}
 use Rattle.fitting.specs.Entry.{earlyCause}
@@ -24,9 +24,7 @@ pub record SpacingKnown (spaced : Answer) : Type 0 where
 pub record Numbers (n w converted spaced discounts prices : ℕ) : Type 0 where
   pub quotes-converted : converted ≡ 0
   pub spacing-found : spaced ≡ 0
-  pub steps-positive : 0 < n
-  pub steps-within-limit : n ≤ mostSteps
-  pub reversion-within-limit : w ≤ mostReversion
+  pub limits : WithinLimits n w
   pub room-discounts : rowStart w n ≤ discounts
   pub room-prices : rowStart w (suc n) ≤ prices
 

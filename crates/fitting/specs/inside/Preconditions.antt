@@ -4,11 +4,12 @@ use mathlib.Core.Path.{_≡_}
 use mathlib.Core.List.{List}
 use Prim.Native.Nat.{ℕ, suc, _+_, _-_, _*_, _≤_, _<_}
 use lib.ListN.{length}
+use Rattle.limits.specs.inside.WithinLimits.{WithinLimits}
 use Rattle.arithmetic.specs.Rounding.{one}
 use Rattle.arithmetic.specs.Sum.{sum}
 use Rattle.arithmetic.specs.Row.{values}
 use Rattle.tree.specs.Tree.{Inside, Total, probabilityTotal}
-use Rattle.limits.specs.Limits.{mostSteps, mostReversion, mostNodes, leastQuote, mostQuote}
+use Rattle.limits.specs.Limits.{mostNodes, leastQuote, mostQuote}
 use Rattle.lattice.specs.Shape.{halfWidth, nodeCount, rowStart}
 use Rattle.lattice.specs.Branching.{downProbability}
 use Rattle.lattice.specs.RateTree.{node}
@@ -56,9 +57,7 @@ pub record RowReady (at next quote : ℕ) (factors downs discounts prices sums :
 
 -- the tables of a tree of n steps and reversion b, as long as row n − 1
 pub record Tables (b n : ℕ) (factors downs : List ℕ) : Type 0 where
-  pub steps-positive : 0 < n
-  pub steps-within-limit : n ≤ mostSteps
-  pub reversion-within-limit : b ≤ mostReversion
+  pub limits : WithinLimits n b
   pub factors-bounded : Factors factors (nodeCount b (n - 1))
   pub downs-length : length downs ≡ nodeCount b (n - 1)
   pub downs-hold : (k : ℕ) → k < nodeCount b (n - 1) → values downs k ≡ downProbability b (node b (n - 1) k)
@@ -85,9 +84,7 @@ pub record RowsReady (b : ℕ) (quotes factors downs discounts prices sums : Lis
 
 -- a fit of converted quotes, once causes 2 to 8 were tested: w is the half width of row n − 1, and the memories have these lengths
 pub record QuotesReady (b h w : ℕ) (quotes : List ℕ) (discounts prices : ℕ) : Type 0 where
-  pub steps-positive : 0 < length quotes
-  pub steps-within-limit : length quotes ≤ mostSteps
-  pub reversion-within-limit : b ≤ mostReversion
+  pub limits : WithinLimits (length quotes) b
   pub widest-is : w ≡ halfWidth b (length quotes - 1)
   pub spacing-within-one : w * h ≤ one
   pub quotes-least : (i : ℕ) → i < length quotes → leastQuote ≤ values quotes i

@@ -21,7 +21,7 @@ working c = c .before .before
 abbrev fitted : tie.After-lowest-cause → tie.After-fit-of-record
 fitted c = working c .before .before .before
 
-abbrev memories : tie.After-lowest-cause → tie.After-state-prices
+abbrev memories : tie.After-lowest-cause → tie.After-state-price-room
 memories c = fitted c .before .before .before
 
 abbrev formed : tie.After-lowest-cause → tie.Else1
@@ -40,8 +40,8 @@ returns-2 c =
     let found = refusing .before in
     let a = start found .args in
     let fit = fitted found .fit-of-record in
-    let own-d = memories found .before .discounts in
-    let own-p = memories found .state-prices in
+    let own-d = memories found .before .discount-room in
+    let own-p = memories found .state-price-room in
     laws.record-refused (a .job) (form-none found) (own-d .result) (own-p .result) _ _ (fit .result) (own-d .ensures) (own-p .ensures) (fit .ensures)
     (working found .meant-reversion .result) (working found .meant-reversion .ensures)
     (a .discounts .now) (a .state-prices .now) _ _ (found .before .memory-cause .ensures) (found .lowest-cause .ensures) _
@@ -59,8 +59,8 @@ held c =
     let found = accepted .before in
     let a = start found .args in
     let fit = fitted found .fit-of-record in
-    let own-d = memories found .before .discounts in
-    let own-p = memories found .state-prices in
+    let own-d = memories found .before .discount-room in
+    let own-p = memories found .state-price-room in
     laws.held (a .job) (form-none found) (own-d .result) (own-p .result) _ _ (fit .result) (own-d .ensures) (own-p .ensures) (fit .ensures)
     (working found .meant-reversion .result) (working found .meant-reversion .ensures)
     (a .discounts .now) (a .state-prices .now) _ _ (found .before .memory-cause .ensures) (found .lowest-cause .ensures) (accepted .if2 .left)

@@ -5,6 +5,7 @@ use mathlib.Core.Path.{_≡_}
 use mathlib.Core.Bool.{true}
 use mathlib.Core.List.{List}
 use lib.ListN.{length}
+use Rattle.text_laws.specs.Lines.{longestLine}
 use Rattle.node_lines.specs.Rows.{acceptedNodes}
 use Rattle.node_lines.specs.Reading.{nodesBefore}
 
@@ -15,5 +16,5 @@ pub record Readable (discounts : List ℕ) (next count end size : ℕ) : Type 0 
   -- row 59, the last that has discounts, has at most 119 nodes
   pub within-row : count ≤ 119
   pub accepted : acceptedNodes (nodesBefore discounts next count) ≡ true
-  pub room : 128 * count ≤ end
+  pub room : longestLine * count ≤ end
   pub inside : end ≤ size

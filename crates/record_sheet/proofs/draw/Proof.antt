@@ -23,7 +23,7 @@ known : (c : tie.After-state-prices-needed) →
     (c .before .discounts-needed .result .value) (c .state-prices-needed .result .value)
 known c =
     let s = start c in
-    let own = converted c .before .before .quotes in
+    let own = converted c .before .before .quote-room in
     drawn (s .args .job) _ _ (s .pre .0 .0) (own .result) _ (own .ensures) (converted c .quotes-of-record .ensures .1) _
     (working c .meant-reversion .ensures) _ _ (c .before .discounts-needed .ensures) (c .state-prices-needed .ensures)
 

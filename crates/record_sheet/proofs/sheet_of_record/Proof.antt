@@ -17,7 +17,7 @@ use Rattle.record_sheet.proofs.sheet_of_record.Statement.{statement}
 use Rattle.record_sheet.proofs.sheet_of_record.Tie as tie
 
 -- where the record is priced, in memories of the largest tree
-abbrev memories : tie.After-prices-of-record → tie.After-state-prices
+abbrev memories : tie.After-prices-of-record → tie.After-state-price-room
 memories c = c .before .before .before
 
 abbrev start : tie.After-prices-of-record → tie.Start
@@ -25,8 +25,8 @@ start c = memories c .before .before .before
 
 largest : (c : tie.After-prices-of-record) → c .prices-of-record .result ≡ recordPrices (start c .args .job) mostDiscounts mostStatePrices
 largest c =
-    let own-d = memories c .before .discounts in
-    let own-p = memories c .state-prices in
+    let own-d = memories c .before .discount-room in
+    let own-p = memories c .state-price-room in
     fits.prices-largest (start c .args .job) (own-d .result) (own-p .result) (own-d .ensures) (own-p .ensures) _ (c .prices-of-record .ensures .0)
 
 -- where the lowest cause is known
@@ -65,8 +65,8 @@ fitted : (c : tie.Else1) →
 fitted c =
     let p = priced (c .before) in
     let job = start p .args .job in
-    let own-d = memories p .before .discounts in
-    let own-p = memories p .state-prices in
+    let own-d = memories p .before .discount-room in
+    let own-p = memories p .state-price-room in
     let left = p .prices-of-record .ensures .1 in
     fits.fitted job (own-d .result) (own-p .result) (own-d .ensures) (own-p .ensures) _ _ (sym (laws.prices-number-is job _ (largest p)) ∙ no-cause c)
     (left .0) (left .1)

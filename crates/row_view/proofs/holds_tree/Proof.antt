@@ -1,6 +1,7 @@
 -- `row_view::holds_tree` meets its contract.
 -- Assumes nothing.
-use Rattle.lattice.proofs.TreeEntries.{Accepted, tree-accepted, tree-value}
+use Rattle.limits.specs.inside.WithinLimits.{WithinLimits}
+use Rattle.lattice.proofs.TreeEntries.{tree-accepted, tree-value}
 use Rattle.row_view.proofs.ViewLaws as laws
 use borrow.Author.Needs.{needs}
 use Rattle.row_view.proofs.holds_tree.Statement.{statement}
@@ -9,7 +10,7 @@ use Rattle.row_view.proofs.holds_tree.Tie as tie
 returns : tie.Need-returns
 returns c = laws.refused-tree _ _ _ _ _ _ (c .before .before .discounts-needed .ensures) (c .if1 .taken)
 
-accepted : (c : tie.Else1) → Accepted (c .before .before .before .before .before .args .steps) (c .before .before .before .before .before .args .reversion)
+accepted : (c : tie.Else1) → WithinLimits (c .before .before .before .before .before .args .steps) (c .before .before .before .before .before .args .reversion)
 accepted c = tree-accepted _ _ _ _ (c .before .before .discounts-needed .ensures) (c .if1 .left)
 
 returns-2 : tie.Need-returns-2

@@ -5,8 +5,10 @@ use mathlib.Core.Bool.{true}
 use mathlib.Core.List.{List}
 use mathlib.Core.Path.{_≡_}
 use lib.ListN.{length, take}
+use Rattle.limits.specs.inside.WithinLimits.{WithinLimits}
+use Rattle.text_laws.specs.Lines.{longestLine}
 use Rattle.arithmetic.specs.Row.{sumOf}
-use Rattle.limits.specs.Limits.{mostSteps, mostReversion, mostDiscounts, mostStatePrices, sumLimit}
+use Rattle.limits.specs.Limits.{mostDiscounts, mostStatePrices, sumLimit}
 use Rattle.lattice.specs.Shape.{discountsNeeded, statePricesNeeded}
 use Rattle.job_record.specs.declared.Job.{Job}
 use Rattle.job_fit.specs.RecordFit.{jobReversion, jobDiscounts, jobStatePrices, recordFit}
@@ -15,9 +17,7 @@ use Rattle.sheet_laws.specs.TreeSheet.{rowPart}
 
 -- a tree within its limits, and a memory of just its node discounts, each accepted
 pub record Lent (n b : ℕ) (discounts : List ℕ) : Type 0 where
-  pub steps-positive : 0 < n
-  pub steps-within-limit : n ≤ mostSteps
-  pub reversion-within-limit : b ≤ mostReversion
+  pub limits : WithinLimits n b
   pub size : length discounts ≡ discountsNeeded n b
   pub accepted : acceptedNodes discounts ≡ true
 
@@ -25,7 +25,7 @@ pub record Lent (n b : ℕ) (discounts : List ℕ) : Type 0 where
 pub record Drawing (n b : ℕ) (discounts : List ℕ) (next end size : ℕ) : Type 0 where
   pub lent : Lent n b discounts
   pub place : next ≡ discountsNeeded n b
-  pub room : 128 * discountsNeeded n b ≤ end
+  pub room : longestLine * discountsNeeded n b ≤ end
   pub inside : end ≤ size
 
 -- the same tree with a memory of just its state prices

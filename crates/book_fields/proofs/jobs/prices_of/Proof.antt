@@ -12,7 +12,7 @@ returns c =
     let at-prices-of-job = c .before .before in
     let at-state-prices = at-prices-of-job .before .before .before in
     let at-discounts = at-state-prices .before in
-    at-prices-of-job .prices-of-job .ensures .0 ∙ rw (at-discounts .discounts .ensures, at-state-prices .state-prices .ensures)
+    at-prices-of-job .prices-of-job .ensures .0 ∙ rw (at-discounts .discount-room .ensures, at-state-prices .state-price-room .ensures)
 
 pub prices-of-spec : {M : Type 1} → statement M
 prices-of-spec =

@@ -21,7 +21,7 @@ returns : tie.Need-returns
 returns c = laws.plan-early (tested (c .before)) (c .if1 .taken)
 
 sub-half-width : tie.Need-sub-half-width
-sub-half-width c = omega (arith, laws.known (tested (c .before)) (c .if1 .left) .steps-positive)
+sub-half-width c = omega (arith, laws.known (tested (c .before)) (c .if1 .left) .limits .steps-positive)
 
 mul-if2 : tie.Need-mul-if2
 mul-if2 c =

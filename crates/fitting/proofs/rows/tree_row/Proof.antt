@@ -18,14 +18,14 @@ known : (c : tie.After-row-shape) →
     c .row-shape .result ≡ shapeOf (start c .args .at .reversion) (start c .args .at .steps - 1) (start c .args .at .row)
 known c =
     let s = start c in
-    laws.shape-known (s .pre .tables .reversion-within-limit) (s .pre .tables .steps-within-limit) (s .pre .in-tree) (c .row-shape .ensures)
+    laws.shape-known (s .pre .tables .limits .reversion-within-limit) (s .pre .tables .limits .steps-within-limit) (s .pre .in-tree) (c .row-shape .ensures)
 
 room : (c : tie.After-row-shape) →
     (c .row-shape .result .offset + c .row-shape .result .count ≤ nodeCount (start c .args .at .reversion) (start c .args .at .steps - 1))
     × (nodeCount (start c .args .at .reversion) (start c .args .at .steps - 1) ≤ mostNodes)
 room c =
     let s = start c in
-    laws.shape-room (s .pre .tables .reversion-within-limit) (s .pre .tables .steps-within-limit) (s .pre .in-tree) (c .row-shape .ensures)
+    laws.shape-room (s .pre .tables .limits .reversion-within-limit) (s .pre .tables .limits .steps-within-limit) (s .pre .in-tree) (c .row-shape .ensures)
 
 sub-row-shape : tie.Need-sub-row-shape
 sub-row-shape c = omega (arith, c .before .before .before .before .before .before .pre .in-tree)

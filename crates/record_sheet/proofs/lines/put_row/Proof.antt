@@ -31,16 +31,16 @@ part-is c =
 row-total-requires : tie.Need-row-total-requires
 row-total-requires c κs = rw (part-is c) (start c .pre .3)
 
--- where the sum and the allowance are known
+-- where the sum and its error bound are known
 total-is : (c : tie.After-row-total) →
     let a = start (c .before) .args in
     c .row-total .result ≡ sumOf (rowPart (a .tree .reversion) (a .state-prices .now) (suc (a .before)))
 total-is c = c .row-total .ensures ∙ ap sumOf (part-is (c .before))
 
-allowance-is : (c : tie.After-state-price-error-bound) →
+bound-is : (c : tie.After-state-price-error-bound) →
     let a = start (c .before .before) .args in
     c .state-price-error-bound .result ≡ statePriceErrorBoundAnswer (a .tree .steps) (a .tree .reversion) (a .discounts .now) (suc (a .before))
-allowance-is c =
+bound-is c =
     let a = start (c .before .before) .args in
     subst
     (λ (i : ℕ). c .state-price-error-bound .result ≡ statePriceErrorBoundAnswer (a .tree .steps) (a .tree .reversion) (a .discounts .now) i)
@@ -55,8 +55,9 @@ returns c =
     let pre = start viewed .pre in
     let quotes = viewed .before .before .before .shared-slice-known in
     laws.row-line-stands (a .tree .steps) (a .tree .reversion) (a .quotes .now) (a .discounts .now) (a .state-prices .now) (a .before) (a .end)
-    (bounded .before .row-total .result) (a .out .now) _ (bounded .state-price-error-bound .result) (total-is (bounded .before)) (allowance-is bounded)
-    (omega (arith, pre .0, pre .1 .lent .steps-within-limit)) (quotes .given (a .before) .fits) (search needs) (pre .4) (pre .5) (drawn .row-line .ensures)
+    (bounded .before .row-total .result) (a .out .now) _ (bounded .state-price-error-bound .result) (total-is (bounded .before)) (bound-is bounded)
+    (omega (arith, pre .0, pre .1 .lent .limits .steps-within-limit))
+    (quotes .given (a .before) .fits) (search needs) (pre .4) (pre .5) (drawn .row-line .ensures)
 
 pub put-row-spec : {M : Type 1} → statement M
 put-row-spec =

@@ -29,7 +29,7 @@ fits : (c : tie.After-shared-slice-known3 Inv-loop μ-loop) (i : ℕ) → i < st
 fits c =
     let s = start c in
     let a = s .args in
-    laws.rows-fit (a .steps) (a .reversion) (a .quotes .now) (a .discounts .now) (a .state-prices .now) (s .pre .0 .0 .lent .steps-within-limit)
+    laws.rows-fit (a .steps) (a .reversion) (a .quotes .now) (a .discounts .now) (a .state-prices .now) (s .pre .0 .0 .lent .limits .steps-within-limit)
     (λ j. c .before .before .shared-slice-known .given j .fits) (s .pre .1)
 
 loop-holds : tie.Need-loop-holds Inv-loop μ-loop
