@@ -258,6 +258,30 @@ class Documents(unittest.TestCase):
         self.assertIn('docs/READING.md does not name promises/specs/Promises', self.faults(READING='# Reading\n\n## The end\n'))
 
 
+class Mentions(unittest.TestCase):
+    FILES = {'crates/lattice/specs/Shape.antt': 'unfoldable pub halfWidth : ℕ → ℕ\n', 'crates/lattice/specs/Lib.antt': '', 'crates/lattice/src/lib.rt': 'pub fn half_width() {}\n',
+             'rust/src/lib.rs': 'pub struct LentTree;\n'}
+    RIGHT = 'See `lattice/specs/Shape` `halfWidth`, `lattice::half_width`, `LentTree`, `specs/Lib.antt`, `rust/src/lib.rs`, `target/made.log`, `a + b`, `half_*`.'
+
+    def faults(self, text):
+        with tempfile.TemporaryDirectory() as folder:
+            root = pathlib.Path(folder)
+            for name, content in {**self.FILES, 'docs/DECISIONS.md': text}.items():
+                (root / name).parent.mkdir(parents=True, exist_ok=True)
+                (root / name).write_text(content, encoding='utf-8')
+            return list(documents.faults_of_mentions('docs/DECISIONS.md', documents.words_of_sources(root), root))
+
+    def test_right(self):
+        self.assertEqual(self.faults(self.RIGHT), [])
+
+    def test_wrong(self):
+        for old, new, words in (('`lattice/specs/Shape`', '`lattice/specs/Width`', 'there is no lattice/specs/Width'), ('`halfWidth`', '`wholeWidth`', 'no source has wholeWidth'),
+                                ('lattice::half_width', 'lattice::whole_width', 'no source has whole_width'), ('`LentTree`', '`Lent`', 'no source has Lent'),
+                                ('rust/src/lib.rs', 'rust/src/raw.rs', 'there is no rust/src/raw.rs')):
+            faults = self.faults(self.RIGHT.replace(old, new))
+            self.assertEqual([words in fault for fault in faults], [True], (words, faults))
+
+
 class Rooms(unittest.TestCase):
     CRATES = '# Ground, numbers\narithmetic:\ntree: arithmetic\n\n# Doors\ncapi: tree\n'
     LAYERS = '# Layers\n\n## Crates\n\n### Ground\n\n| Crate | Gives |\n|---|---|\n| `arithmetic` | `rows` |\n| `tree` | trees |\n\n### Doors\n\n| `capi` | all |\n\n## Level one\n\n| `none` |\n'
