@@ -105,7 +105,7 @@ pub fn prices_of_job(job: &[u8], discounts: &mut [u64], state_prices: &mut [u64]
         (bytesNumber (now (job .entry)) (length (now (discounts .entry))) (length (now («state_prices» .entry))))
         (jobStatePrices (readingOf (now (job .entry)) .job)) (now («state_prices» .entry)) ⌝ }
 {
-    let reading = jobs::read(job);
+    let reading = job_reader::read(job);
     if reading.number != 0 {
         return priced::refused(reading.number);
     }
