@@ -182,7 +182,7 @@ class Processes:
         return bool(self.running)
 
     def _renew(self):
-        self.pool.shutdown(wait=False)
+        self.pool.shutdown()
         self.pool = pool_of(self.count)
 
     def _taken(self, done):
@@ -214,7 +214,7 @@ class Processes:
                 return Answer(batch, None)
 
     def close(self):
-        self.pool.shutdown(wait=False, cancel_futures=True)
+        self.pool.shutdown(cancel_futures=True)
 
 
 def singles(batch):
