@@ -3,8 +3,10 @@
 #include "../c/mixegorta.h"
 #include "plain.h"
 #include "plain_bands.h"
+#include "plain_double.h"
 #include "plain_job.h"
 #include "plain_pair.h"
+#include "plain_sheet.h"
 #include <math.h>
 #include <stdio.h>
 #include <stdlib.h>
@@ -1236,6 +1238,138 @@ static void books(int turns)
     }
 }
 
+/* ---- sheets of jobs */
+
+static uint8_t sheet_room[MIXEGORTA_SHEET_ROOM], plain_room[MIXEGORTA_SHEET_ROOM];
+
+static void sheet_by_library(void) { last_worth = mixegorta_sheet(book.file + 3, book.size - 3, sheet_room, sizeof sheet_room).size; }
+static void sheet_by_plain_c(void) { last_worth = plain_sheet(book.file + 3, book.size - 3, plain_room); }
+
+/* One job in the file, whose sheet both must print alike. */
+static void set_sheet(size_t n, uint64_t b)
+{
+    const struct work w = work_of(n, b, 0.02, 0.0003);
+    book.size = put_job(0, &w);
+    const struct mixegorta_written made = mixegorta_sheet(book.file + 3, book.size - 3, sheet_room, sizeof sheet_room);
+    const size_t size = plain_sheet(book.file + 3, book.size - 3, plain_room);
+    if (made.number || made.size != size || memcmp(sheet_room + sizeof sheet_room - size, plain_room, size))
+        fail("DIFFERENT sheets of library and plain C");
+}
+
+static void sheets(int turns)
+{
+    static const struct { size_t n; uint64_t b; } shapes[] = {{60, 0}, {60, 83}, {60, 1000}, {20, 0}, {5, 0}};
+    printf("\na sheet                           library        plain C      ratio\n");
+    for (int i = 0; i < 5; i++) {
+        char name[64];
+        set_sheet(shapes[i].n, shapes[i].b);
+        snprintf(name, sizeof name, "n = %zu, b = %llu", shapes[i].n, (unsigned long long)shapes[i].b);
+        line_of_moves(name, sheet_by_library, sheet_by_plain_c, turns);
+    }
+}
+
+/* ---- the same tree in doubles */
+
+/* Fit, bond and option as doubles, rounded to billionths. */
+static void by_doubles(const struct work *w, struct result *r, int parts)
+{
+    static struct double_tree tree;
+    double flows[MOST_STEPS], bond = 0, option = 0;
+    for (size_t t = 0; t < w->n; t++)
+        flows[t] = (double)w->flows[t] / ONE;
+    if (parts & FIT)
+        double_fit(&tree, (double)w->f, w->n, (double)w->b / 1e4 * (double)w->f, (double)w->s / 1e6, w->figures);
+    if (parts & BOTH)
+        option = double_prices(&tree, flows, w->expiry, (double)w->strike / ONE, &bond);
+    r->both.bond.value = (uint64_t)llround(bond * ONE);
+    r->both.option.value = (uint64_t)llround(option * ONE);
+}
+
+static void against_doubles(int turns)
+{
+    static struct result x, y;
+    static const uint64_t reversions[] = {0, 83, 1000};
+    printf("\nfit, bond and option, n = 60      library       doubles      ratio    bond, option (library; doubles)\n");
+    for (int i = 0; i < 3; i++) {
+        const struct work w = work_of(60, reversions[i], 0.02, 0.0003);
+        const struct timing t = side_by_side(by_library, by_doubles, &w, WHOLE_JOB, turns, 20);
+        by_library(&w, &x, WHOLE_JOB);
+        by_doubles(&w, &y, WHOLE_JOB);
+        if (llabs((long long)(x.both.bond.value - y.both.bond.value)) > 5000 || llabs((long long)(x.both.option.value - y.both.option.value)) > 5000)
+            fail("DIFFERENT prices of library and doubles");
+        printf("b = %-5llu %22s %8.1f us    %8.1f us     %6.2f    %.9f %.9f; %.9f %.9f\n", (unsigned long long)w.b, "", t.first, t.second, t.ratio,
+               x.both.bond.value / 1e9, x.both.option.value / 1e9, y.both.bond.value / 1e9, y.both.option.value / 1e9);
+    }
+}
+
+/* ---- lines whose instructions bench/instructions counts */
+
+static const uint64_t counted_discount = 995000000;
+static void rate_once_by_library(void) { last_rate = rate_by_library(counted_discount); }
+static void rate_once_by_plain_c(void) { last_rate = rate_by_plain_c(counted_discount); }
+
+enum subject { PARTS, RATE, BOUNDS, SHELF, PAIR_BOND, PAIR_OPTION, SHEET, BOOK };
+
+static const struct counted {
+    const char *name;
+    enum subject subject;
+    int parts;
+    size_t n;
+} counted[] = {
+    {"fit, bond and option", PARTS, WHOLE_JOB, 60}, {"fit", PARTS, FIT, 60}, {"bond and option", PARTS, BOTH, 60}, {"bond", PARTS, BOND, 60},
+    {"American option", PARTS, OPTION, 60}, {"dated option", PARTS, DATED, 60}, {"16 strikes, American", PARTS, STRIP, 60},
+    {"16 strikes, dates", PARTS, DATED_STRIP, 60}, {"a tree's bounds", BOUNDS, 0, 60}, {"bond on a shelf", SHELF, BOND, 60},
+    {"option on a shelf", SHELF, OPTION, 60}, {"a sheet", SHEET, 0, 60}, {"a book of 20 jobs", BOOK, 0, 60}, {"bond of a pair", PAIR_BOND, 0, 20},
+    {"option of a pair", PAIR_OPTION, 0, 20}, {"a continuous rate", RATE, 0, 0}};
+
+enum { COUNTED = sizeof counted / sizeof *counted };
+
+static void repeat(move library, move plain, int by_plain, int calls)
+{
+    while (calls-- > 0)
+        (by_plain ? plain : library)();
+}
+
+/* One line, so many times, by the library or by plain C. */
+static void count_line(const struct counted *line, uint64_t b, int by_plain, int calls)
+{
+    static struct result r;
+    const struct work w = work_of(line->n ? line->n : 1, b, 0.02, 0.0003);
+    by_library(&w, &r, FIT);
+    if (line->subject == SHELF || line->subject == BOUNDS)
+        set_up(&w);
+    if (line->subject == PAIR_BOND || line->subject == PAIR_OPTION)
+        set_pair(line->n, b, b);
+    if (line->subject == SHEET)
+        set_sheet(line->n, b);
+    if (line->subject == BOOK)
+        fill_book(line->n, b);
+    switch (line->subject) {
+    case PARTS: while (calls-- > 0) (by_plain ? by_plain_c : by_library)(&w, &r, line->parts); break;
+    case SHELF: while (calls-- > 0) (by_plain ? by_plain_shelf : by_shelf)(&w, &r, line->parts); break;
+    case RATE: repeat(rate_once_by_library, rate_once_by_plain_c, by_plain, calls); break;
+    case BOUNDS: repeat(bounds_by_library, bounds_by_plain_c, by_plain, calls); break;
+    case PAIR_BOND: repeat(pair_bond_by_library, pair_bond_by_plain_c, by_plain, calls); break;
+    case PAIR_OPTION: repeat(pair_option_by_library, pair_option_by_plain_c, by_plain, calls); break;
+    case SHEET: repeat(sheet_by_library, sheet_by_plain_c, by_plain, calls); break;
+    case BOOK: repeat(report_by_library, book_by_plain_c, by_plain, calls); break;
+    }
+}
+
+/* bench lines: the counted lines, number, steps and name; bench count NUMBER REVERSION library|plain CALLS: one of them. */
+static int count(int argc, char **argv)
+{
+    if (strcmp(argv[1], "lines") == 0) {
+        for (int i = 0; i < COUNTED; i++)
+            printf("%d %zu %s\n", i, counted[i].n, counted[i].name);
+        return 0;
+    }
+    if (argc != 6 || atoi(argv[2]) >= COUNTED || atoi(argv[2]) < 0)
+        return fprintf(stderr, "count NUMBER REVERSION library|plain CALLS\n"), 2;
+    count_line(&counted[atoi(argv[2])], strtoull(argv[3], NULL, 10), strcmp(argv[4], "plain") == 0, atoi(argv[5]));
+    return 0;
+}
+
 #ifdef HAVE_QUANTLIB
 void quantlib_curve(size_t n, double step, const double *factors);
 double quantlib_prices(size_t n, double step, double reversion, double volatility, const double *flows, size_t expiry, double strike,
@@ -1282,6 +1416,8 @@ static void against_quantlib(int turns)
 
 int main(int argc, char **argv)
 {
+    if (argc > 1 && (strcmp(argv[1], "lines") == 0 || strcmp(argv[1], "count") == 0))
+        return count(argc, argv);
     int turns = argc > 1 ? atoi(argv[1]) : 201;
     if (turns < 1 || turns > MOST_TURNS)
         return fprintf(stderr, "turns: 1 to %d\n", MOST_TURNS), 2;
@@ -1303,6 +1439,8 @@ int main(int argc, char **argv)
     jobs(turns);
     pairs(turns);
     books(turns);
+    sheets(turns);
+    against_doubles(turns);
     against_quantlib(turns / 4 + 1);
     return 0;
 }

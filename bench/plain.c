@@ -109,7 +109,7 @@ static int yield_discount(uint64_t f, uint64_t t, int64_t figure, int64_t *out)
     return 0;
 }
 
-static uint64_t quote(uint64_t f, uint64_t t, uint8_t kind, double x, uint64_t *out)
+uint64_t plain_quote(uint64_t f, uint64_t t, uint8_t kind, double x, uint64_t *out)
 {
     int64_t figure;
     if (refused_figure(x, &figure) || (kind != 5 && kind != 6 && kind != 9))
@@ -164,7 +164,8 @@ static void factors(uint64_t *table, size_t w, uint64_t h)
     }
 }
 
-/* Halves down to where the discounts pass this one, then tries the quotients about it: over a hundred of them a discount falls. */
+/* Halves down to where the discounts pass this one, then tries the quotients about it: over nineteen of them a discount falls, to the half of one,
+ * and over a hundred beyond it. */
 struct plain_rate plain_continuous_rate(uint64_t discount)
 {
     if (discount == 0 || discount > DISCOUNT_LIMIT)
@@ -178,7 +179,7 @@ struct plain_rate plain_continuous_rate(uint64_t discount)
         else
             high = middle;
     }
-    const uint64_t about = below ? 0 : 100, first = low < about ? 0 : low - about, last = low + about + 1 < ONE ? low + about + 1 : ONE;
+    const uint64_t about = below ? 0 : low < 499999000 ? 19 : 100, first = low < about ? 0 : low - about, last = low + about + 1 < ONE ? low + about + 1 : ONE;
     uint64_t best = first, least = UINT64_MAX;
     for (uint64_t q = first; q <= last; q++) {
         const uint64_t found = continuous(q, below), miss = found < discount ? discount - found : found - discount;
@@ -234,7 +235,7 @@ uint64_t plain_fit_version(uint64_t version, uint64_t f, size_t n, uint64_t reve
         if (rows[t - 1] != t)
             return 6;
     for (size_t t = 1; t <= n; t++)
-        if (quote(f, t, kinds[t - 1], figures[t - 1], &quotes[t - 1]))
+        if (plain_quote(f, t, kinds[t - 1], figures[t - 1], &quotes[t - 1]))
             return 7;
     if (version != 1 && version != 2)
         return 7;

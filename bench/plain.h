@@ -17,6 +17,8 @@ struct plain_rate {
     int64_t value;
 };
 
+/* The discount factor that a quote of row t means; 0, or 7. */
+uint64_t plain_quote(uint64_t f, uint64_t t, uint8_t kind, double x, uint64_t *out);
 uint64_t plain_fit(uint64_t f, size_t n, uint64_t b, uint64_t s, const uint64_t *rows, const uint8_t *kinds,
                    const double *figures, uint64_t *discounts, uint64_t *state_prices);
 /* For a version 1 or 2 and a reversion within its limit. */

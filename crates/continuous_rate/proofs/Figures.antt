@@ -21,7 +21,7 @@ use Rattle.continuous.specs.Continuous.{squareDown, fourthPower, sideDiscount}
 use Rattle.continuous.proofs.Sides.{hundred-lower, at-zero}
 use Rattle.continuous_rate.specs.Least.{firstLeast}
 use Rattle.continuous_rate.specs.ContinuousRate.{distance, continuousRate, continuousRateAnswer}
-use Rattle.continuous_rate.specs.Search.{sideMiss, windowMiss}
+use Rattle.continuous_rate.specs.Search.{sideMiss, windowMiss, reachOf}
 use Rattle.continuous_rate.proofs.LeastLaws.{least-only}
 use Rattle.continuous_rate.proofs.Window.{FallsPast, RisesPast, above-window, below-stays, below-moves}
 use Rattle.continuous_rate.proofs.Candidates.{rate-above, rate-below}
@@ -94,35 +94,39 @@ lowest-discounts v l h = accepted v _ l (omega arith) (rate-above v 999999997 (o
 -- ---- where halving alone is wrong: 484,106,437 is passed at 181,362,621, and 181,362,620 is nearer
 
 abbrev scanned : ℕ → ℕ
-scanned = windowMiss 484106437 181362521
+scanned = windowMiss 484106437 181362602
 
 passed : FallsPast 484106437 181362621
 unfolding sideDiscount fourthPower squareDown series sum term roundDown
 passed = record { top = lit≤ tt; passed = lit≤ tt; next = λ h. lit≤ tt }
 
-scanned-best : scanned 99 ≡ 1
+near : 19 ≡ reachOf 181362621
+unfolding reachOf
+near = refl
+
+scanned-best : scanned 18 ≡ 1
 unfolding distance sideDiscount fourthPower squareDown series sum term roundDown
 scanned-best = refl
 
-scanned-first : each 99 (λ k. ltb 1 (scanned k)) ≡ true
+scanned-first : each 18 (λ k. ltb 1 (scanned k)) ≡ true
 unfolding each distance sideDiscount fourthPower squareDown series sum term roundDown
 scanned-first = refl
 
-scanned-low : each 202 (λ k. leb 1 (scanned k)) ≡ true
+scanned-low : each 40 (λ k. leb 1 (scanned k)) ≡ true
 unfolding each distance sideDiscount fourthPower squareDown series sum term roundDown
 scanned-low = refl
 
 pub rate-by-scan : continuousRateAnswer 484106437 ≡ answeredRate (pos 725450480)
-rate-by-scan = accepted 484106437 _ (lit≤ tt) (lit≤ tt) (rate-above 484106437 181362620 (lit≤ tt) (ap (λ (k : ℕ). 181362521 + k) here ∙ window))
+rate-by-scan = accepted 484106437 _ (lit≤ tt) (lit≤ tt) (rate-above 484106437 181362620 (lit≤ tt) (ap (λ (k : ℕ). 181362602 + k) here ∙ window))
   where
-    here : 99 ≡ firstLeast scanned 201
+    here : 18 ≡ firstLeast scanned 39
     here =
-        least-only scanned 201 99 (lit≤ tt)
-        (λ k l. rw scanned-best (leb-true 1 _ (each-holds 202 k (λ i. leb 1 (scanned i)) scanned-low (omega arith))))
-        (λ k l. rw scanned-best (ltb-true 1 _ (each-holds 99 k (λ i. ltb 1 (scanned i)) scanned-first l)))
+        least-only scanned 39 18 (lit≤ tt)
+        (λ k l. rw scanned-best (leb-true 1 _ (each-holds 40 k (λ i. leb 1 (scanned i)) scanned-low (omega arith))))
+        (λ k l. rw scanned-best (ltb-true 1 _ (each-holds 18 k (λ i. ltb 1 (scanned i)) scanned-first l)))
 
-    window : 181362521 + firstLeast scanned 201 ≡ firstLeast (sideMiss 484106437 false) one
-    window = above-window 484106437 181362621 181362521 201 passed (omega arith) (lit≤ tt) (lit≤ tt) (λ h. lit≤ tt)
+    window : 181362602 + firstLeast scanned 39 ≡ firstLeast (sideMiss 484106437 false) one
+    window = above-window 484106437 181362621 19 181362602 39 passed near (omega arith) (lit≤ tt) (lit≤ tt) (λ h. lit≤ tt)
 
 -- ---- about one
 

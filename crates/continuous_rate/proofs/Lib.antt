@@ -1,4 +1,5 @@
 pub mod LeastLaws
+pub mod Near
 pub mod Window
 pub mod Candidates
 pub mod RateLaws

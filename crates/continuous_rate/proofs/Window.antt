@@ -10,10 +10,11 @@ use Rattle.arithmetic.specs.Rounding.{one}
 use Rattle.arithmetic.proofs.Numbers.{by-order}
 use Rattle.continuous.specs.Continuous.{sideDiscount}
 use Rattle.limits.specs.Limits.{mostDiscount}
-use Rattle.continuous.proofs.Sides.{hundred-lower, next-higher, at-zero, below-end}
+use Rattle.continuous.proofs.Sides.{next-higher, at-zero, below-end}
 use Rattle.continuous_rate.specs.Least.{firstLeast}
 use Rattle.continuous_rate.specs.ContinuousRate.{distance}
-use Rattle.continuous_rate.specs.Search.{sideMiss, windowMiss, before, Passes}
+use Rattle.continuous_rate.specs.Search.{sideMiss, windowMiss, before, reachOf, Passes}
+use Rattle.continuous_rate.proofs.Near.{reach-low, reach-high}
 use Rattle.continuous_rate.proofs.LeastLaws.{least-within, least-low, least-first, least-only, least-moves, least-stays}
 
 -- of two discounts on one side of v, the farther one
@@ -71,10 +72,10 @@ pub starts-below : (v : ℕ) → one ≤ v → before v true 0 ≡ true
 unfolding before
 starts-below v l = le-leb (sideDiscount 0 true) v (omega (arith, at-zero true))
 
--- ---- above 0: the quotients from 100 before the passing one to 101 after it, as far as there are such
+-- ---- above 0: the quotients from so many before the passing one to one more after it, as far as there are such
 
-module _ (v q from count : ℕ) (crossing : FallsPast v q) (start : from ≡ q - 100) (inside : q ≤ from + count)
-    (fits : from + count ≤ one) (reach : from + count < one → q + 101 ≤ from + count) where
+module _ (v q r from count : ℕ) (crossing : FallsPast v q) (far : r ≡ reachOf q) (start : from ≡ q - r) (inside : q ≤ from + count)
+    (fits : from + count ≤ one) (reach : from + count < one → q + r + 1 ≤ from + count) where
   abbrev best : ℕ
   best = from + firstLeast (windowMiss v from) count
 
@@ -91,17 +92,17 @@ module _ (v q from count : ℕ) (crossing : FallsPast v q) (start : from ≡ q -
       omega (
         arith,
         near q (omega arith) inside,
-        farther-above (sideDiscount k false) (sideDiscount q false) v (crossing .passed) (hundred-lower k q (omega arith) (crossing .top)),
+        farther-above (sideDiscount k false) (sideDiscount q false) v (crossing .passed) (reach-low q r far (crossing .top) k (omega arith)),
       )
 
   after : (k : ℕ) → k ≤ one → from + count < k → sideMiss v false best < sideMiss v false k
   after k l h =
-      let r : q + 101 ≤ from + count = reach (omega arith) in
+      let room : q + r + 1 ≤ from + count = reach (omega arith) in
       let lower : sideDiscount (q + 1) false < v = crossing .next (omega arith) in
       omega (
         arith,
         near (q + 1) (omega arith) (omega arith),
-        farther-below (sideDiscount k false) (sideDiscount (q + 1) false) v (le-of-lt lower) (hundred-lower (q + 1) k (omega arith) l),
+        farther-below (sideDiscount k false) (sideDiscount (q + 1) false) v (le-of-lt lower) (reach-high q r far k (omega arith) l),
       )
 
   low : (k : ℕ) → k ≤ one → sideMiss v false best ≤ sideMiss v false k

@@ -2,8 +2,8 @@
 -- Assumes nothing.
 use mathlib.Core.Path.{_≡_}
 use Prim.Native.Nat.{ℕ, _+_, _≤_, _<_}
-use mathlib.Core.Bool.{Bool, true, false}
-use lib.Dec.{leb}
+use mathlib.Core.Bool.{Bool, true, false, cond}
+use lib.Dec.{leb, ltb}
 use Rattle.arithmetic.specs.Rounding.{one}
 use Rattle.continuous.specs.Continuous.{sideDiscount}
 use Rattle.continuous_rate.specs.ContinuousRate.{distance}
@@ -20,6 +20,10 @@ windowMiss v from = λ k. distance (sideDiscount (from + k) false) v
 unfoldable pub before : ℕ → Bool → ℕ → Bool
 before v true q = leb (sideDiscount q true) v
 before v false q = leb v (sideDiscount q false)
+
+-- how far from the passing quotient the nearest one may stand
+unfoldable pub reachOf : ℕ → ℕ
+reachOf q = cond (ltb q 499999000) 19 100
 
 -- they have not passed v at the quotient q, and have at the next one, where there is one
 pub record Passes (v : ℕ) (below : Bool) (q : ℕ) : Type 0 where

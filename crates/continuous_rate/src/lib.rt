@@ -7,7 +7,7 @@ ghost use Rattle.limits.specs.Limits.{mostDiscount};
 ghost use Rattle.continuous.specs.Continuous.{sideDiscount};
 ghost use Rattle.continuous_rate.specs.Least.{firstLeast};
 ghost use Rattle.continuous_rate.specs.ContinuousRate.{continuousRateAnswer};
-ghost use Rattle.continuous_rate.specs.Search.{sideMiss, windowMiss, before, Passes};
+ghost use Rattle.continuous_rate.specs.Search.{sideMiss, windowMiss, before, reachOf, Passes};
 use step_rate::Rate;
 
 const ONE: u64 = 1_000_000_000;
@@ -81,35 +81,46 @@ fn nearest_between(discount: u64, from: u64, count: u64) -> u64
     best
 }
 
-// A quotient less 100, or 0.
-fn window_start(quotient: u64) -> u64
-    ensures { λ r. ⌜ r ≡ quotient - 100 ⌝ }
+// How far from the passing quotient the nearest one may stand: over so many the discounts fall.
+fn reach(quotient: u64) -> u64
+    ensures { λ r. ⌜ r ≡ reachOf quotient ⌝ }
 {
-    if quotient < 100 {
-        return 0;
+    if quotient < 499_999_000 {
+        return 19;
     }
-    quotient - 100
+    100
 }
 
-// A quotient and 101, at most one.
-fn window_end(quotient: u64) -> u64
-    requires { ⌜ quotient ≤ one ⌝ }
-    ensures { λ r. ⌜ (quotient ≤ r) × (r ≤ one) × (r < one → quotient + 101 ≤ r) ⌝ }
+// A quotient less its reach, or 0.
+fn window_start(quotient: u64, reach: u64) -> u64
+    ensures { λ r. ⌜ r ≡ quotient - reach ⌝ }
 {
-    if quotient < 999_999_899 {
-        return quotient + 101;
+    if quotient < reach {
+        return 0;
+    }
+    quotient - reach
+}
+
+// A quotient with its reach and one more, at most one.
+fn window_end(quotient: u64, reach: u64) -> u64
+    requires { ⌜ (quotient ≤ one) × (reach ≤ 100) ⌝ }
+    ensures { λ r. ⌜ (quotient ≤ r) × (r ≤ one) × (r < one → quotient + reach + 1 ≤ r) ⌝ }
+{
+    if quotient + reach < ONE {
+        return quotient + reach + 1;
     }
     ONE
 }
 
-// The first quotient above zero whose discount is nearest. Discounts do not fall at every quotient, but over a hundred they do.
+// The first quotient above zero whose discount is nearest. Discounts do not fall at every quotient, but over the reach they do.
 fn nearest_above(discount: u64) -> u64
     requires { ⌜ discount ≤ one ⌝ }
     ensures { λ r. ⌜ r ≡ firstLeast (sideMiss discount false) one ⌝ }
 {
     let place = passing(discount, false);
-    let from = window_start(place);
-    nearest_between(discount, from, window_end(place) - from)
+    let far = reach(place);
+    let from = window_start(place, far);
+    nearest_between(discount, from, window_end(place, far) - from)
 }
 
 // The first quotient below zero whose discount is nearest.

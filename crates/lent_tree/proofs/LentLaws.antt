@@ -19,7 +19,7 @@ use Rattle.lattice.specs.Shape.{nodeCount, rowStart, discountsNeeded}
 use Rattle.lattice.specs.Entries.{aboutTree}
 use Rattle.lattice.proofs.Sizes.{start-first, start-suc}
 use Rattle.lattice.proofs.EntryLaws.{tree-number, tree-result}
-use Rattle.lent_tree.specs.LentTree.{stored, acceptedDiscounts, discountsCause, Accepted}
+use Rattle.lent_tree.specs.LentTree.{stored, acceptedDiscounts, roomCause, discountsCause, Lent, Accepted}
 
 -- a test of the first x numbers, made on that part
 each-part : (low high x : ℕ) (l : List ℕ) → x ≤ length l →
@@ -34,7 +34,7 @@ module _ (n b : ℕ) (discounts : List ℕ) (a : Answer) (e : a ≡ aboutTree n 
   numbers-refused nz = let s = tree-number n b (discountsNeeded n b) a e in sym (rw (← s, ne-eqb (a .number) 0 nz))
 
   module _ (z : a .number ≡ 0) where
-    shaped : shapeCause n b ≡ 0
+    pub shaped : shapeCause n b ≡ 0
     shaped = sym (tree-number n b (discountsNeeded n b) a e) ∙ z
 
     pub needed-value : a .value ≡ discountsNeeded n b
@@ -57,6 +57,63 @@ module _ (n b : ℕ) (discounts : List ℕ) (a : Answer) (e : a ≡ aboutTree n 
       pub lent-passed : r ≡ true → 0 ≡ discountsCause n b discounts
       unfolding discountsCause
       lent-passed h = sym (rw (shaped, le-leb (discountsNeeded n b) (length discounts) (rw needed-value at room), judged, h))
+
+-- the room alone
+module _ (n b : ℕ) (discounts : List ℕ) (a : Answer) (e : a ≡ aboutTree n b (discountsNeeded n b)) where
+  pub room-number : (a .number ≡ 0 → ⊥) → a .number ≡ roomCause n b discounts
+  unfolding roomCause
+  room-number nz = let s = tree-number n b (discountsNeeded n b) a e in sym (rw (← s, ne-eqb (a .number) 0 nz))
+
+  module _ (z : a .number ≡ 0) where
+    pub room-short : length discounts < a .value → 6 ≡ roomCause n b discounts
+    unfolding roomCause
+    room-short h =
+        sym (rw (shaped n b discounts a e z, lt-leb (discountsNeeded n b) (length discounts) (rw (needed-value n b discounts a e z) at h)))
+
+    pub room-enough : a .value ≤ length discounts → 0 ≡ roomCause n b discounts
+    unfolding roomCause
+    room-enough h =
+        sym (rw (shaped n b discounts a e z, le-leb (discountsNeeded n b) (length discounts) (rw (needed-value n b discounts a e z) at h)))
+
+room-found : (p q : Bool) (x : ℕ) → (p ≡ false → x ≡ 0 → ⊥) → _≡_ {A = ℕ} (cond p (cond q 0 6) x) 0 → (p ≡ true) × (q ≡ true)
+room-found true true x h e = (refl, refl)
+room-found true false x h e = absurd (omega arith)
+room-found false q x h e = absurd (h refl e)
+
+both-tests : (n b : ℕ) → eqb (shapeCause n b) 0 ≡ false → eqb (shapeCause n b) 0 ≡ true → ⊥
+both-tests n b p q = let z : _≡_ {A = ℕ} 0 1 = cc in omega arith
+
+-- no cause about the room: what is left are the discounts
+module _ (n b : ℕ) (discounts : List ℕ) where
+  room-parts : roomCause n b discounts ≡ 0 → (eqb (shapeCause n b) 0 ≡ true) × (leb (discountsNeeded n b) (length discounts) ≡ true)
+  unfolding roomCause
+  room-parts none =
+      room-found (eqb (shapeCause n b) 0) (leb (discountsNeeded n b) (length discounts)) (shapeCause n b) (λ p q. both-tests n b p (rw q)) none
+
+  pub lent : roomCause n b discounts ≡ 0 → Lent n b discounts
+  unfolding discountsNeeded
+  lent none =
+      let t = room-parts none in
+      let s = shape-accepted n b (eqb-true (shapeCause n b) 0 (t .0)) in
+      record {
+        steps-within-limit = s .1;
+        reversion-within-limit = s .2;
+        room = leb-true (discountsNeeded n b) (length discounts) (t .1);
+      }
+
+  pub judged-after-room : roomCause n b discounts ≡ 0 → discountsCause n b discounts ≡ cond (acceptedDiscounts n b discounts) 0 9
+  unfolding discountsCause
+  judged-after-room none = let t = room-parts none in rw (t .0, t .1)
+
+  pub refused-for-room : (roomCause n b discounts ≡ 0 → ⊥) → roomCause n b discounts ≡ discountsCause n b discounts
+  unfolding roomCause discountsCause
+  refused-for-room some =
+      go (eqb (shapeCause n b) 0) (leb (discountsNeeded n b) (length discounts)) (acceptedDiscounts n b discounts) (shapeCause n b) some
+    where
+      go : (p q r : Bool) (x : ℕ) → (_≡_ {A = ℕ} (cond p (cond q 0 6) x) 0 → ⊥) → _≡_ {A = ℕ} (cond p (cond q 0 6) x) (cond p (cond q (cond r 0 9) 6) x)
+      go true true r x h = absurd (h refl)
+      go true false r x h = refl
+      go false q r x h = refl
 
 none-found : (p q r : Bool) (x : ℕ) → (p ≡ false → x ≡ 0 → ⊥) → _≡_ {A = ℕ} (cond p (cond q (cond r 0 9) 6) x) 0 → (p ≡ true) × (q ≡ true) × (r ≡ true)
 none-found true true true x h e = (refl, refl, refl)
@@ -110,3 +167,7 @@ pub lent-accepted : (n b : ℕ) (discounts : List ℕ) → shapeCause n b ≡ 0 
     acceptedDiscounts n b discounts ≡ true → discountsCause n b discounts ≡ 0
 unfolding discountsCause
 lent-accepted n b discounts shape room all = rw (shape, le-leb (discountsNeeded n b) (length discounts) room, all)
+
+pub accepted-lent : (n b : ℕ) (discounts : List ℕ) → Accepted n b discounts → Lent n b discounts
+accepted-lent n b discounts a =
+    record { steps-within-limit = a .steps-within-limit; reversion-within-limit = a .reversion-within-limit; room = a .room }

@@ -17,6 +17,10 @@ stored b memory i = λ k. values memory (rowStart b i + k)
 unfoldable pub acceptedDiscounts : ℕ → ℕ → List ℕ → Bool
 acceptedDiscounts n b discounts = allDiscounts (discountsNeeded n b) discounts
 
+-- 3 and 4 about the numbers, 6 for too short a memory, whatever it holds; 0 where there is none
+unfoldable pub roomCause : ℕ → ℕ → List ℕ → ℕ
+roomCause n b discounts = cond (eqb (shapeCause n b) 0) (cond (leb (discountsNeeded n b) (length discounts)) 0 6) (shapeCause n b)
+
 -- 3 and 4 about the numbers, 6 for too short a memory, 9 for a discount, lowest number first; 0 where there is none
 unfoldable pub discountsCause : ℕ → ℕ → List ℕ → ℕ
 discountsCause n b discounts =
@@ -25,6 +29,12 @@ discountsCause n b discounts =
     (cond (acceptedDiscounts n b discounts) 0 9)
     6)
     (shapeCause n b)
+
+-- a tree whose discounts have room, before they are judged
+pub record Lent (n b : ℕ) (discounts : List ℕ) : Type 0 where
+  pub steps-within-limit : n ≤ mostSteps
+  pub reversion-within-limit : b ≤ mostReversion
+  pub room : rowStart b n ≤ length discounts
 
 -- a tree and its discounts after the causes were tested
 pub record Accepted (n b : ℕ) (discounts : List ℕ) : Type 0 where

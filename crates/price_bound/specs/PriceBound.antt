@@ -27,9 +27,12 @@ priceErrorBoundAnswer n b discounts =
 unfoldable pub greatestDiscounts : ℕ → ℕ → List ℕ → List ℕ
 greatestDiscounts n b discounts = padded mostSteps n (greatestDiscount (rateTree b) (stored b discounts))
 
+abbrev pub refusedBounds : ℕ → TreeErrorBounds
+refusedBounds number = record { number = number; bound = 0; greatest = replicate mostSteps 0 }
+
 -- both, or a refusal's number with zeros
 unfoldable pub treeBoundsAnswer : ℕ → ℕ → List ℕ → TreeErrorBounds
 treeBoundsAnswer n b discounts =
     cond (eqb (discountsCause n b discounts) 0)
     (record { number = 0; bound = treeErrorBound n b discounts; greatest = greatestDiscounts n b discounts })
-    (record { number = discountsCause n b discounts; bound = 0; greatest = replicate mostSteps 0 })
+    (refusedBounds (discountsCause n b discounts))

@@ -1,5 +1,6 @@
 pub mod NodeLaws
 pub mod RowSteps
+pub mod Spans
 pub mod TreeRows
 pub mod StepParts
 pub mod WalkStates

@@ -1,20 +1,43 @@
 -- One row as the code rolls it: where branches lead, and the state of the loop over the row's nodes.
 -- Assumes nothing.
-use mathlib.Core.Path.{_≡_, sym, ap, ap₂, _∙_}
+use mathlib.Core.Path.{_≡_, refl, sym, ap, ap₂, _∙_}
 use mathlib.Core.Bool.{Bool}
 use mathlib.Core.List.{List}
-use Prim.Native.Nat.{ℕ, _+_, _-_, _<_, max}
+use Prim.Native.Nat.{ℕ, _+_, _-_, _≤_, _<_, max}
+use native.Mathlib.Nat.{not-suc-le-zero}
 use native.Mathlib.Omega.{arith}
 use lib.ListN.{length, set}
 use Rattle.arithmetic.specs.Row.{values}
 use Rattle.arithmetic.specs.Sum.{greatest}
 use Rattle.arithmetic.proofs.SumLaws.{greatest-none, greatest-next}
-use Rattle.arithmetic.proofs.RowLaws.{Filled, filled-start, filled-next}
+use Rattle.arithmetic.proofs.RowLaws.{Filled, filled-next}
 use Rattle.tree.specs.Tree.{probabilityTotal}
 use Rattle.pricing_laws.specs.Pricer.{Side, exercise, heldOrExercised}
 use Rattle.row_branches.specs.declared.RowBranch.{RowBranch}
-use Rattle.row_branches.specs.RowBranches.{branchTotal, rowBranch}
-use Rattle.pricing.specs.Rows.{branchRoll, rolledRow, optionValues, Rollable, Limited, Later, FilledRow, FilledRows}
+use Rattle.row_branches.specs.RowBranches.{opposite, branchTotal, rowBranch}
+use Rattle.row_branches.proofs.BranchLaws.{branch-filled}
+use Rattle.pricing.specs.declared.rows.Span.{Span}
+use Rattle.pricing.specs.Rows.{branchRoll, rolledRow, optionValues, spanBranch, Rollable, Leads, Limited, Later, FilledRow, FilledRows}
+
+-- a node of a span: what its branch asks, and that it is the row's
+module _ (downs discounts : List ℕ) (span : Span) (k : ℕ) (r : Rollable downs discounts (span .next)) (l : Leads downs span (length discounts))
+    (from : span .from ≤ k) (to : k < span .to) where
+  within : k < length discounts
+  within = omega (arith, l .ends)
+
+  pub span-inside : k < length downs
+  span-inside = omega (arith, within, r .paired)
+
+  pub span-shifted : span .shift ≤ k
+  span-shifted = omega (arith, l .shifted)
+
+  pub span-whole : values downs k + opposite downs k ≤ probabilityTotal
+  span-whole = branch-filled downs (span .next) k (r .total k within) .0
+
+  pub span-is : (b : RowBranch) → b ≡ spanBranch downs (span .shift) k → b ≡ rowBranch downs (span .next) k
+  span-is b e =
+      e ∙ ap (λ (x : ℕ). record { low = x; probabilities = spanBranch downs (span .shift) k .probabilities }) (sym (l .leads k from to))
+      ∙ branch-filled downs (span .next) k (r .total k within) .1
 
 -- what the roll of a node asks of its branch
 module _ (downs discounts later : List ℕ) (next k : ℕ) (r : Rollable downs discounts next) (l : Later later next) (hk : k < length discounts)
@@ -40,8 +63,12 @@ pub record Row-state (row₀ row : List ℕ) (f : ℕ → ℕ) (top k : ℕ) : T
   pub filled : Filled row₀ row f k
   pub found : top ≡ greatest k f
 
-pub row-start : (row : List ℕ) (f : ℕ → ℕ) → Row-state row row f 0 0
-row-start row f = record { filled = filled-start row f; found = sym (greatest-none f) }
+pub row-none : (row : List ℕ) (f : ℕ → ℕ) → FilledRow row 0 f 0
+row-none row f = record { held = λ k h. absurd (not-suc-le-zero h); found = sym (greatest-none f) }
+
+-- behind nodes that are done
+pub row-resume : (row : List ℕ) (f : ℕ → ℕ) (top k : ℕ) → FilledRow row k f top → Row-state row row f top k
+row-resume row f top k s = record { filled = record { same = refl; done = s .held; rest = λ j h. refl }; found = s .found }
 
 pub row-next :
     (row₀ row : List ℕ) (f : ℕ → ℕ) (top k x top′ : ℕ) → Row-state row₀ row f top k → k < length row → x ≡ f k → top′ ≡ max top x →
@@ -63,9 +90,22 @@ pub record Rows-state (bond₀ bond option₀ option : List ℕ) (f g : ℕ → 
   pub option-filled : Filled option₀ option g k
   pub found : top ≡ greatest k (λ j. max (f j) (g j))
 
-pub rows-start : (bond option : List ℕ) (f g : ℕ → ℕ) → Rows-state bond bond option option f g 0 0
-rows-start bond option f g =
-    record { bond-filled = filled-start bond f; option-filled = filled-start option g; found = sym (greatest-none (λ j. max (f j) (g j))) }
+pub rows-none : (bond option : List ℕ) (f g : ℕ → ℕ) → FilledRows bond option 0 f g 0
+rows-none bond option f g =
+    record {
+      bond-held = λ k h. absurd (not-suc-le-zero h);
+      option-held = λ k h. absurd (not-suc-le-zero h);
+      found = sym (greatest-none (λ j. max (f j) (g j)));
+    }
+
+-- behind nodes that are done
+pub rows-resume : (bond option : List ℕ) (f g : ℕ → ℕ) (top k : ℕ) → FilledRows bond option k f g top → Rows-state bond bond option option f g top k
+rows-resume bond option f g top k s =
+    record {
+      bond-filled = record { same = refl; done = s .bond-held; rest = λ j h. refl };
+      option-filled = record { same = refl; done = s .option-held; rest = λ j h. refl };
+      found = s .found;
+    }
 
 pub rows-next :
     (bond₀ bond option₀ option : List ℕ) (f g : ℕ → ℕ) (top k x y z top′ : ℕ) → Rows-state bond₀ bond option₀ option f g top k →

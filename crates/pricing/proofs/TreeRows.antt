@@ -1,6 +1,6 @@
 -- The rows of an accepted tree, as parts of the lent discounts and of the table of down-probabilities.
 -- Assumes nothing.
-use mathlib.Core.Path.{_≡_, refl, ap, ap₂, _∙_}
+use mathlib.Core.Path.{_≡_, refl, sym, ap, ap₂, _∙_}
 use mathlib.Core.Bool.{Bool}
 use mathlib.Core.List.{List}
 use Prim.Native.Nat.{ℕ, zero, suc, _+_, _-_, _*_, _≤_, _<_, max}
@@ -15,7 +15,7 @@ use Rattle.tree.specs.Tree.{probabilityTotal, outgoing}
 use Rattle.lattice.specs.Shape.{nodeCount, rowStart}
 use Rattle.lattice.specs.Branching.{upProbability, middleProbability, downProbability, probabilities}
 use Rattle.lattice.specs.RateTree.{node, low, rateTree}
-use Rattle.lattice.proofs.Sizes.{row-ends}
+use Rattle.lattice.proofs.Sizes.{row-ends, count-positive}
 use Rattle.lattice.proofs.RateTreeLaws.{low-within, index-laws}
 use Rattle.lent_tree.specs.LentTree.{stored, Accepted}
 use Rattle.row_branches.specs.RowBranches.{rowBranch}
@@ -68,6 +68,8 @@ module _ (n b i : ℕ) (hi : i < n) (discounts : List ℕ) (a : Accepted n b dis
   pub rollable : Rollable table-part discount-part (nodeCount b (suc i))
   rollable =
       record {
+        some = omega (arith, discount-part-length, count-positive b i);
+        paired = tables.table-part-length b n i (omega arith) (downTable n b) (table-size n b) ∙ sym discount-part-length;
         inside = λ k h.
             let h′ : k < nodeCount b i = rw discount-part-length at h in
             rw (branch-is k h′) (low-within b i k h′);

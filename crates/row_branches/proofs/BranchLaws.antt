@@ -1,6 +1,6 @@
 -- A row's branches by the tests that code makes, and what they are on a row of the lattice.
 -- Assumes nothing.
-use mathlib.Core.Path.{_≡_, sym, ap, _∙_}
+use mathlib.Core.Path.{_≡_, refl, sym, ap, _∙_}
 use mathlib.Core.List.{List, [], _∷_}
 use Prim.Native.Nat.{ℕ, suc, _+_, _-_, _*_, _≤_, _<_}
 use native.Mathlib.Omega.{arith}
@@ -15,7 +15,7 @@ use Rattle.lattice.specs.RateTree.{node, low, rateTree}
 use Rattle.lattice.proofs.Sizes.{half-grows, half-full, highest-positive}
 use Rattle.lattice.proofs.RateTreeLaws.{low-growing, low-lowest, low-highest, low-inner, up-is-down, index-laws}
 use Rattle.row_branches.specs.declared.RowBranch.{RowBranch}
-use Rattle.row_branches.specs.RowBranches.{lowest, opposite, noBranch, rowBranch, branchUp, branchMiddle, branchDown, rowTransition}
+use Rattle.row_branches.specs.RowBranches.{lowest, opposite, noBranch, rowBranch, branchUp, branchMiddle, branchDown, branchTotal, rowTransition}
 
 -- a branch sums up, middle, down; a transition sums from the lowest node on
 pub backwards : (up middle down : ℕ) → up + middle + down ≡ down + middle + up
@@ -56,6 +56,34 @@ module _ (downs : List ℕ) (next k : ℕ) where
         (rowBranch downs next k)
     unfolding rowBranch
     branch-found l e g = rw (lt-leb (length downs) k h, le-ltb probabilityTotal (values downs k + opposite downs k) g, e)
+
+-- a branch whose probabilities sum to their total is no refusal's
+module _ (downs : List ℕ) (next k : ℕ) where
+  abbrev filled-branch : RowBranch
+  filled-branch =
+      record {
+        low = rowBranch downs next k .low;
+        probabilities = opposite downs k ∷ (probabilityTotal - values downs k - opposite downs k) ∷ values downs k ∷ [];
+      }
+
+  refused-total : noBranch ≡ rowBranch downs next k → branchTotal (rowBranch downs next k) ≡ probabilityTotal → ⊥
+  refused-total e t = let z : branchTotal (rowBranch downs next k) ≡ 0 = ap branchTotal (sym e) in omega arith
+
+  pub branch-filled : branchTotal (rowBranch downs next k) ≡ probabilityTotal →
+      (values downs k + opposite downs k ≤ probabilityTotal) × (filled-branch ≡ rowBranch downs next k)
+  branch-filled t =
+      by-order (length downs) k
+      (λ past. absurd (refused-total (branch-past downs next k past) t))
+      (λ h. by-order (values downs k + opposite downs k) probabilityTotal
+      (λ g. let e = branch-found downs next k h _ refl g in (
+        g,
+        ap
+            (λ (x : RowBranch). record { low = x .low; probabilities = filled-branch .probabilities }) (sym e) ∙ e,
+      ))
+      (λ over. absurd (refused-total (branch-over downs next k h over) t)))
+
+  pub branch-leads : branchTotal (rowBranch downs next k) ≡ probabilityTotal → k < length downs → rowBranch downs next k .low ≡ lowest (length downs) next k
+  branch-leads t h = ap (λ (x : RowBranch). x .low) (sym (branch-found downs next k h _ refl (branch-filled t .0)))
 
 -- where branches lead, by the node counts of the two rows
 pub lowest-is : (b i k : ℕ) → k < nodeCount b i → low b i k ≡ lowest (nodeCount b i) (nodeCount b (suc i)) k

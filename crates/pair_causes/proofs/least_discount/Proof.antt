@@ -6,6 +6,7 @@ use native.Mathlib.Omega.{arith}
 use lib.ListN.{length}
 use denote.Ref.{now}
 use borrow.Author.Needs.{needs}
+use Rattle.lent_tree.proofs.LentLaws.{accepted-lent}
 use Rattle.price_bound.proofs.BoundLaws.{part-room}
 use Rattle.pair_laws.proofs.RowParts.{least-part}
 use Rattle.pair_causes.proofs.least_discount.Statement.{statement}
@@ -16,7 +17,7 @@ room : (c : tie.After-struct-known) →
     c .before .row-shape .result .start + c .before .row-shape .result .count ≤ length (now (c .before .before .before .args .discounts))
 room c =
     let s = c .before .before .before in
-    part-room _ _ _ _ (s .pre .0) (s .pre .1) _ (c .before .row-shape .ensures)
+    part-room _ _ _ _ (accepted-lent _ _ _ (s .pre .0)) (s .pre .1) _ (c .before .row-shape .ensures)
 
 row-shape-requires : tie.Need-row-shape-requires
 row-shape-requires c κs = search needs

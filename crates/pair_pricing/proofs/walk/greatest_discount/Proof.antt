@@ -6,6 +6,7 @@ use native.Mathlib.Omega.{arith}
 use lib.ListN.{length}
 use denote.Ref.{now}
 use borrow.Author.Needs.{needs}
+use Rattle.lent_tree.proofs.LentLaws.{accepted-lent}
 use Rattle.price_bound.proofs.BoundLaws.{part-room, greatest-part}
 use Rattle.pair_pricing.proofs.walk.greatest_discount.Statement.{statement}
 use Rattle.pair_pricing.proofs.walk.greatest_discount.Tie as tie
@@ -15,7 +16,7 @@ room : (c : tie.After-struct-known) →
     c .before .row-shape .result .start + c .before .row-shape .result .count ≤ length (now (c .before .before .before .args .discounts))
 room c =
     let s = c .before .before .before in
-    part-room _ _ _ _ (s .pre .0) (s .pre .1) _ (c .before .row-shape .ensures)
+    part-room _ _ _ _ (accepted-lent _ _ _ (s .pre .0)) (s .pre .1) _ (c .before .row-shape .ensures)
 
 row-shape-requires : tie.Need-row-shape-requires
 row-shape-requires c κs = search needs
@@ -41,7 +42,7 @@ greatest-of-requires c κs = search needs
 returns : tie.Need-returns
 returns c =
     let s = c .before .before .before .before .before in
-    greatest-part _ _ _ _ (s .pre .0) (s .pre .1) _ (c .before .before .before .row-shape .ensures) _ _ refl (c .greatest-of .ensures)
+    greatest-part _ _ _ _ (accepted-lent _ _ _ (s .pre .0)) (s .pre .1) _ (c .before .before .before .row-shape .ensures) _ _ refl (c .greatest-of .ensures)
 
 pub greatest-discount-spec : {M : Type 1} → statement M
 greatest-discount-spec =

@@ -1,107 +1,87 @@
--- `pricing::rows::bond_row` meets its contract: the loop fills the row from its lowest node.
+-- `pricing::rows::bond_row` meets its contract: its spans one after the other.
 -- Assumes nothing.
-use mathlib.Core.Path.{ap}
-use Prim.Native.Nat.{ℕ, _+_, _-_, _≤_, _<_}
 use native.Mathlib.Omega.{arith}
-use lib.ListN.{length}
-use denote.Ref.{now}
-use Rattle.pricing.specs.Rows.{bondValues}
-use Rattle.pricing.proofs.RowSteps.{branch-inside, branch-whole, branch-limited, branch-rolled, Row-state, row-start, row-next, row-done}
+use Rattle.pricing.proofs.RowSteps.{row-none}
+use Rattle.pricing.proofs.Spans.{leads-growing, leads-lowest, leads-inner, leads-highest}
 use borrow.Author.Needs.{needs}
 use Rattle.pricing.proofs.rows.bond_row.Statement.{statement}
 use Rattle.pricing.proofs.rows.bond_row.Tie as tie
 
-abbrev Inv-loop : tie.InvT-loop
-Inv-loop row₀ later downs discounts next flow top₀ k₀ row top k =
-    (k ≤ length discounts) × Row-state row₀ row (bondValues later downs discounts next flow) top k
+growing-requires : tie.Need-growing-requires
+growing-requires c κs = search needs
 
-abbrev μ-loop : tie.MeasureT-loop
-μ-loop row₀ later downs discounts next flow top₀ k₀ row top k = length discounts - k
+bond-nodes-requires : tie.Need-bond-nodes-requires
+bond-nodes-requires c κs =
+    let s = c .before .before .before .before .before .before .before in
+    rw (c .growing .ensures) (s .pre .0, s .pre .1, s .pre .2, s .pre .3, leads-growing _ _ _ (s .pre .0) (c .before .before .if1 .taken), row-none _ _)
 
-loop-holds : tie.Need-loop-holds Inv-loop μ-loop
-loop-holds c = (omega arith, row-start _ _)
+same-length : tie.Need-same-length
+same-length c = search needs
 
-row-branch-requires : tie.Need-row-branch-requires Inv-loop μ-loop
-row-branch-requires c κs = search needs
+returns : tie.Need-returns
+returns c = rw (c .before .before .before .growing .ensures) at (c .before .before .bond-nodes .ensures)
 
-mul-roll-node : tie.Need-mul-roll-node Inv-loop μ-loop
-mul-roll-node c = omega arith
+lowest-requires : tie.Need-lowest-requires
+lowest-requires c κs = search needs
 
-shared-slice-read-roll-node : tie.Need-shared-slice-read-roll-node Inv-loop μ-loop
-shared-slice-read-roll-node c = omega arith
+bond-nodes-requires-2 : tie.Need-bond-nodes-requires-2
+bond-nodes-requires-2 c κs =
+    let s = c .before .before .before .before .before .before .before in
+    rw (c .lowest .ensures) (s .pre .0, s .pre .1, s .pre .2, s .pre .3, leads-lowest _ _ _ (s .pre .0) (c .before .before .if1 .left), row-none _ _)
 
--- where the node's branch is known
-abbrev start : tie.After-shared-slice-known4 Inv-loop μ-loop → tie.Start Inv-loop μ-loop
-start c = c .before .before .before .before .before .before .before .before
+inner-requires : tie.Need-inner-requires
+inner-requires c κs = search needs
 
-roll-node-requires : tie.Need-roll-node-requires Inv-loop μ-loop
-roll-node-requires c κs =
-    let s = start c in
-    let e = c .before .row-branch .ensures in (
-      branch-inside _ _ (now (s .args .later)) _ _ (s .pre .0) (s .pre .1) (omega arith) _ e,
-      branch-whole _ _ (now (s .args .later)) _ _ (s .pre .0) (s .pre .1) (omega arith) _ e,
-      branch-limited _ _ (now (s .args .later)) _ _ (s .pre .0) (s .pre .1) (omega arith) _ e,
-      s .pre .0 .discounted (c .before .before .before .loop .k) (omega arith),
-    )
-
-add-value : tie.Need-add-value Inv-loop μ-loop
-add-value c = omega (arith, c .roll-node .ensures .1, start (c .before) .pre .3)
-
--- the row has a place for the node
-room : (c : tie.After-roll-node Inv-loop μ-loop) → let l = c .before .before .before .before .loop in l .k < length (l .row)
-room c =
-    let l = c .before .before .before .before .loop in
-    omega (arith, l .inv .1 .filled .same, start (c .before) .pre .2)
-
-mul-row : tie.Need-mul-row Inv-loop μ-loop
-mul-row c = let at = room c in omega arith
-
-slice-write-row : tie.Need-slice-write-row Inv-loop μ-loop
-slice-write-row c = room c
-
-larger-requires : tie.Need-larger-requires Inv-loop μ-loop
-larger-requires c κs = search needs
-
-add-k : tie.Need-add-k Inv-loop μ-loop
-add-k c = omega arith
-
-loop-less : tie.Need-loop-less Inv-loop μ-loop
-loop-less c = omega arith
-
-loop-again : tie.Need-loop-again Inv-loop μ-loop
-loop-again c =
-    let rolled = c .before in
-    let node = rolled .before in
-    let s = start node in
-    let l = node .before .before .before .loop in
-    let b = branch-rolled _ _ _ _ _ (s .pre .0) (s .pre .1) (omega arith) _ (node .before .row-branch .ensures) _ (rolled .roll-node .ensures .0) in (
+bond-nodes-requires-3 : tie.Need-bond-nodes-requires-3
+bond-nodes-requires-3 c κs =
+    let s = c .before .before .before .before .before .before .before .before .before .before .before .before in
+    let done = rw (c .before .before .before .before .before .lowest .ensures) at (c .before .before .before .before .bond-nodes2 .ensures) in
+    rw (c .inner .ensures) (
+      s .pre .0,
+      s .pre .1,
       omega arith,
-      row-next _ (l .row) _ (l .top) (l .k) _ _ (l .inv .1) (room rolled) (ap (λ (x : ℕ). x + s .args .flow) b) (c .larger .ensures),
+      s .pre .3,
+      leads-inner _ _ _ (s .pre .0)
+          (c .before .before .before .before .before .before .before .if1 .left),
+      done,
     )
 
-same-length : tie.Need-same-length Inv-loop μ-loop
-same-length c = c .before .loop .inv .1 .filled .same
+highest-requires : tie.Need-highest-requires
+highest-requires c κs = search needs
 
-returns : tie.Need-returns Inv-loop μ-loop
-returns c = row-done _ _ _ _ _ _ (c .before .loop .inv .1) (omega arith)
+bond-nodes-requires-4 : tie.Need-bond-nodes-requires-4
+bond-nodes-requires-4 c κs =
+    let s = c .before .before .before .before .before .before .before .before .before .before .before .before .before .before .before .before .before in
+    let done = rw (c .before .before .before .before .before .inner .ensures) at (c .before .before .before .before .bond-nodes3 .ensures) in
+    rw (c .highest .ensures) (
+      s .pre .0,
+      s .pre .1,
+      omega arith,
+      s .pre .3,
+      leads-highest _ _ _ (s .pre .0)
+          (c .before .before .before .before .before .before .before .before .before .before .before .before .if1 .left),
+      done,
+    )
+
+same-length-2 : tie.Need-same-length-2
+same-length-2 c = search needs
+
+returns-2 : tie.Need-returns-2
+returns-2 c = rw (c .before .before .before .highest .ensures) at (c .before .before .bond-nodes4 .ensures)
 
 pub bond-row-spec : {M : Type 1} → statement M
 bond-row-spec =
     tie.close
     (tie.spec
-    Inv-loop
-    μ-loop
-    loop-holds
-    row-branch-requires
-    mul-roll-node
-    shared-slice-read-roll-node
-    roll-node-requires
-    add-value
-    mul-row
-    slice-write-row
-    larger-requires
-    add-k
-    loop-less
-    loop-again
+    growing-requires
+    bond-nodes-requires
     same-length
-    returns)
+    returns
+    lowest-requires
+    bond-nodes-requires-2
+    inner-requires
+    bond-nodes-requires-3
+    highest-requires
+    bond-nodes-requires-4
+    same-length-2
+    returns-2)
