@@ -158,6 +158,50 @@ static void every_case(const char *files, const char *wanted) {
     EXPECT(count >= 69 && end == size && memcmp(told, known, end) == 0);
 }
 
+/* Every file of the cases joined from the front, and by twos: the same report, which has all fields; the empty report is neutral. */
+static void joins(const char *files) {
+    const size_t all = content(files, cases);
+    struct mixegorta_report whole = mixegorta_empty_report(), pairs = mixegorta_empty_report(), waiting = mixegorta_empty_report();
+    size_t count = 0;
+    for (size_t at = 0, next; at + 2 <= all; at = next, count++) {
+        next = at + 2 + (size_t)cases[at] * 256 + cases[at + 1];
+        const struct mixegorta_report one = mixegorta_report_of_file(cases + at + 2, next - at - 2);
+        struct mixegorta_joined j = mixegorta_joined_reports(whole, one);
+        EXPECT(j.number == 0 && one.books == 1);
+        whole = j.report;
+        if (count % 2 == 0) {
+            waiting = one;
+            continue;
+        }
+        j = mixegorta_joined_reports(pairs, mixegorta_joined_reports(waiting, one).report);
+        EXPECT(j.number == 0);
+        pairs = j.report;
+    }
+    if (count % 2 == 1) pairs = mixegorta_joined_reports(pairs, waiting).report;
+    EXPECT(memcmp(&whole, &pairs, sizeof whole) == 0 && whole.books == count);
+    EXPECT(whole.priced == 81 && whole.fields == 2705 && whole.bonds == UINT64_C(87416503240) && whole.book == 57 && whole.place == 11);
+    struct mixegorta_joined j = mixegorta_joined_reports(mixegorta_empty_report(), whole);
+    EXPECT(j.number == 0 && memcmp(&j.report, &whole, sizeof whole) == 0);
+}
+
+static void join_refusals(void) {
+    const struct mixegorta_report none = mixegorta_empty_report();
+    struct mixegorta_report one = mixegorta_report_of_file(NULL, 0), other = one;
+    EXPECT(one.books == 1 && one.fields == 0 && one.book == 0 && one.place == 0);
+    other.fields = UINT64_MAX;
+    struct mixegorta_joined j = mixegorta_joined_reports(other, one);
+    EXPECT(j.number == 1 && memcmp(&j.report, &none, sizeof none) == 0);
+    EXPECT(mixegorta_joined_reports(one, other).number == 1);
+    other = none;
+    other.books = MIXEGORTA_MAX_REPORT_SIZE - 1;
+    j = mixegorta_joined_reports(other, one);
+    EXPECT(j.number == 0 && j.report.books == MIXEGORTA_MAX_REPORT_SIZE);
+    j = mixegorta_joined_reports(j.report, one);
+    EXPECT(j.number == 12 && memcmp(&j.report, &none, sizeof none) == 0);
+    other.books = MIXEGORTA_MAX_REPORT_SIZE + 1;
+    EXPECT(mixegorta_joined_reports(other, none).number == 1);
+}
+
 int main(int count, char **arguments) {
     if (count != 3) return 2;
     prices();
@@ -166,6 +210,8 @@ int main(int count, char **arguments) {
     limits();
     long_field();
     every_case(arguments[1], arguments[2]);
+    joins(arguments[1]);
+    join_refusals();
     printf("C, books: %u checks, %u failed\n", checks, failures);
     return failures != 0;
 }

@@ -71,8 +71,8 @@ extern "C" {
 /* The version of header and library, in three numbers and as a text. The shared object's name for the loader carries the first. */
 #define MIXEGORTA_VERSION_MAJOR 0
 #define MIXEGORTA_VERSION_MINOR 14
-#define MIXEGORTA_VERSION_PATCH 0
-#define MIXEGORTA_VERSION "0.14.0"
+#define MIXEGORTA_VERSION_PATCH 1
+#define MIXEGORTA_VERSION "0.14.1"
 
 /* The same as one number, which mixegorta_version() of this header's own library answers. */
 #define MIXEGORTA_VERSION_NUMBER \
@@ -112,6 +112,9 @@ extern "C" {
 /* The most fields of a book of jobs, and room for the report of every book, in bytes. */
 #define MIXEGORTA_MAX_FIELDS 500
 #define MIXEGORTA_BOOK_ROOM 2304
+
+/* The most books and fields of a report together. */
+#define MIXEGORTA_MAX_REPORT_SIZE UINT64_C(2305843009)
 
 /* The limits of arguments and values. */
 #define MIXEGORTA_MAX_REVERSION 6000
@@ -268,6 +271,28 @@ struct mixegorta_job_prices {
 struct mixegorta_book_text {
     uint64_t number;
     size_t size;
+};
+
+/* The totals over so many books: how many fields they have, how many of these are priced and, at place k - 1, refused with number k, the sums of
+ * the bonds, the options and the bonds' error bounds, and the dearest bond, the first one if equal: its price, the number of its book and its
+ * place among that book's fields, both from 1. These three are 0 where none is priced. */
+struct mixegorta_report {
+    uint64_t books;
+    uint64_t fields;
+    uint64_t priced;
+    uint64_t refused[13];
+    uint64_t bonds;
+    uint64_t options;
+    uint64_t error_bounds;
+    uint64_t dearest;
+    uint64_t book;
+    uint64_t place;
+};
+
+/* Two reports that were joined; the report is the empty one where refused. */
+struct mixegorta_joined {
+    uint64_t number;
+    struct mixegorta_report report;
 };
 
 /* What a shelf keeps of a name: MIXEGORTA_NO_TREE, MIXEGORTA_AWAITING or MIXEGORTA_FITTED, the tree's steps and reversion, and of a fitted
@@ -529,6 +554,19 @@ struct mixegorta_answer mixegorta_write_job(struct mixegorta_job job, uint8_t *o
  * `size` bytes of out, without a zero byte behind it; the bytes before it are as they were. A job that is refused is counted, and no
  * refusal of the call. Refusal, which leaves out as it was: 6 out too short. */
 struct mixegorta_book_text mixegorta_book_report(const uint8_t *file, size_t file_len, uint8_t *out, size_t out_len);
+
+/* ---- Reports that add up: the totals of any number of books, valued anywhere, joined in any grouping as long as the order of the books stays. */
+
+/* The report of no book, which is neutral when joined. */
+struct mixegorta_report mixegorta_empty_report(void);
+
+/* The totals of a file of jobs, whose lines mixegorta_book_report writes, as a report of one book. Nothing is refused. */
+struct mixegorta_report mixegorta_report_of_file(const uint8_t *file, size_t file_len);
+
+/* The report of the books of both, the second's numbered after the first's. Of three the same comes out whichever two are joined first. A
+ * report is one that files can give if its figures fit so many books and fields; that files did give it is not told by its figures.
+ * Refusals: 1 a report that no files give, 12 more than 2,305,843,009 books and fields together, whose sums could wrap. */
+struct mixegorta_joined mixegorta_joined_reports(struct mixegorta_report first, struct mixegorta_report second);
 
 /* ---- A shelf: up to eight trees in one memory of 3,600 discounts.
  *

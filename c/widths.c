@@ -283,6 +283,24 @@ static void prices_of_job(void) {
     answer_memory(2, p.number == 0 ? 16 : 0);
 }
 
+/* A report is its 22 numbers. */
+static struct mixegorta_report report(size_t place) {
+    const uint64_t *n = given[place].items;
+    struct mixegorta_report r = {.books = n[0], .fields = n[1], .priced = n[2], .bonds = n[16], .options = n[17], .error_bounds = n[18]};
+    memcpy(r.refused, n + 3, sizeof r.refused);
+    r.dearest = n[19], r.book = n[20], r.place = n[21];
+    return r;
+}
+
+static void joined_reports(void) {
+    const struct mixegorta_joined j = mixegorta_joined_reports(report(0), report(1));
+    uint64_t fields[22] = {j.report.books, j.report.fields, j.report.priced};
+    memcpy(fields + 3, j.report.refused, sizeof j.report.refused);
+    const uint64_t last[] = {j.report.bonds, j.report.options, j.report.error_bounds, j.report.dearest, j.report.book, j.report.place};
+    memcpy(fields + 16, last, sizeof last);
+    answer(j.number, fields, 22);
+}
+
 /* Verdicts show more than a number where they refuse, so all of their fields are compared. */
 static void answer_verdict(struct mixegorta_verdict v) {
     const uint64_t fields[] = {v.number, v.row, v.price, v.place};
@@ -356,7 +374,7 @@ static const struct {
              CALL(shelf_option_price), CALL(shelf_bond_and_option), CALL(shelf_dated_option_price), CALL(shelf_bond_and_dated_option),
              CALL(option_strip), CALL(option_strip_of_kind), CALL(shelf_option_strip), CALL(shelf_option_strip_of_kind),
              CALL(check_bands), CALL(lending_worth), CALL(read_job), CALL(write_job), CALL(pair_bond_price),
-             CALL(pair_dated_option_price), CALL(prices_of_job)};
+             CALL(pair_dated_option_price), CALL(prices_of_job), CALL(joined_reports)};
 
 static bool called(const char *name) {
     found.count = 0;

@@ -8,7 +8,7 @@ A line of widths.txt is the name of an export, its arguments in the header's ord
 ends in 256 zeros here, or @9, a memory of nine numbers to be written. Figures stand as their 64 bits. A shelf is a list of 512 numbers, status, steps,
 reversion, bound and sixty greatest discounts of each name, beside its memory of 3,600. An answer is a refusal's number alone, or its fields; a memory's part
 that was written comes as a list, a shelf's changed memory whole, and the numbers, values and bounds of a strip as three lists. What is said of haircut
-bands has all its fields, refused or not. A job record is a list of 5,447 numbers, each of its places in the header's order, and memory for a job has bytes.
+bands has all its fields, refused or not. A job record is a list of 5,447 numbers, each of its places in the header's order, and memory for a job has bytes. A report is a list of 22.
 Tests in C, Rust and Python read the lines. Each entry's first line is the call that the others change.
 """
 import os
@@ -23,6 +23,7 @@ sys.dont_write_bytecode = True
 import bands
 import pair
 import records
+import reports
 import reference as rules
 from reference import ONE, Kind, Option, Refused, refuse_if
 
@@ -342,6 +343,12 @@ def lending_worth(*given):
     return [worth, number, *shown]
 
 
+def joined_reports(*given):
+    """A report is its 22 numbers, thirteen counts from the fourth on."""
+    found = reports.joined(*(reports.Report(*each[:3], tuple(each[3:16]), *each[16:]) for each in given))
+    return [*found[:3], *found.refused, *found[4:]]
+
+
 # Places of a job record: its first five numbers, the first and the last figure and flow, and the numbers of its option.
 FIGURES_AT, FLOWS_AT, OPTION_AT = 5 + records.STEPS, 5 + 2 * records.STEPS, 5 + 3 * records.STEPS
 RECORD_PLACES = (*range(5), FIGURES_AT, FLOWS_AT - 1, FLOWS_AT, OPTION_AT - 1, *range(OPTION_AT, OPTION_AT + 5))
@@ -442,6 +449,10 @@ JOB = records.written(records.Record(3, 3, 800, 10_000, 2, [5, 6, 9] + HEAD[3:],
 DATED_JOB = records.written(records.Record(12, 1, 0, 0, 0, [9] + HEAD[1:], figures_of(0.01) + HEAD[1:], [ONE] + HEAD[1:], records.DATED, 2, 0, ONE, 3,
                                            records.padded([255, 0, 7], records.DATES)), rules.LONGEST_JOB)
 
+# Three books with a broken end among them, and two of which the second has the dearer bond.
+REPORTS = (('first', 'report', [3, 7, 5, 1, 0, 0, 0, 0, 0, 0, 0, 1, 0, 0, 0, 1, 5 * ONE, ONE, 40, ONE + 300, 2, 3]),
+           ('second', 'report', [2, 4, 4] + [0] * 13 + [5 * ONE, 0, 20, 2 * ONE, 1, 2]))
+
 # The rate tree of the prices above, and a narrower spread tree of as many steps.
 PAIR = (('rate_steps', 'number', 3), ('rate_reversion', 'number', 800), ('rate_discounts', 'least', DISCOUNTS[2]), ('spread_steps', 'number', 3),
         ('spread_reversion', 'number', 2_000),
@@ -477,11 +488,12 @@ ENTRIES = [
     entry(read_job, ('bytes', 'bytes', list(JOB))),
     entry(write_job, ('job', 'record', places(records.reading(JOB))), ('out', 'memory', Memory(len(JOB)))),
     entry(write_job, ('job', 'record', places(records.reading(DATED_JOB))), ('out', 'memory', Memory(len(DATED_JOB)))),
+    entry(joined_reports, *REPORTS),
     entry(pair_bond_price, *PAIR), entry(pair_dated_option_price, *PAIR, *DATED),
 ]
-# A job is bytes, and the room for its sheet has one size: crates/sheet_cases has both, and crates/book_cases a book and the room for its report. Version
-# and empty shelf are asked for without arguments.
-WITHOUT_NUMBERS = {'sheet', 'book_report', 'version', 'empty_shelf'}
+# A job is bytes, and the room for its sheet has one size: crates/sheet_cases has both, and crates/book_cases a book and the room for its report. Version,
+# empty shelf and empty report are asked for without arguments.
+WITHOUT_NUMBERS = {'sheet', 'book_report', 'report_of_file', 'version', 'empty_shelf', 'empty_report'}
 
 
 # The lines
@@ -493,10 +505,11 @@ def multiple(length, bits):
 
 def changed_places(kind, value):
     """The places of a list's numbers that are changed: the first, the middle and the last, of a memory those of its fitted tree, of a shelf the numbers of two
-    trees, of what they carry the bounds and, of the fitted one, the first, the last and the last place's greatest discount, of a record those that have 64 bits."""
+    trees, of what they carry the bounds and, of the fitted one, the first, the last and the last place's greatest discount, of a record those that have 64 bits, of
+    a report all."""
     if kind in ('exact', 'least'):
         return sorted({0, len(value) // 2, len(value) - 1})
-    return {'record': RECORD_PLACES, 'room': (9, 13, 17), 'slots': (*range(64, 68), *range(128, 133), 134, 191)}.get(kind, ())
+    return {'record': RECORD_PLACES, 'report': range(22), 'room': (9, 13, 17), 'slots': (*range(64, 68), *range(128, 133), 134, 191)}.get(kind, ())
 
 
 def changes(argument):

@@ -1,9 +1,11 @@
 #!/usr/bin/env python3
-"""The files of this crate and of the program book, and the report of each, worked out by reference/reference.py from documents 01 and 02 alone.
+"""The files of this crate and of the programs book and report_cases, and the report of each, worked out by reference/reference.py from documents 01
+and 02 alone.
 
-    vectors.py    writes the files stdin and stdout beside itself and in ../book
+    vectors.py    writes the files stdin and stdout beside itself, in ../book and in ../report_cases
 
-stdin: files one after the other, each after its length in two bytes, high byte first; of the program book one file. stdout: their reports.
+stdin: files one after the other, each after its length in two bytes, high byte first; of the program book one file. stdout: their reports; of
+report_cases the report of all files together, twice.
 """
 import importlib.util
 import os
@@ -43,7 +45,8 @@ def prices(job):
     return known[job]
 
 
-def report(data):
+def totals(data):
+    """Fields, counts of refusals, priced jobs, sums of bonds, options and allowances, and the dearest bond with its place."""
     refused, priced, sums, best, place = [0] * 14, 0, [0, 0, 0], -1, 0
     at = seen = 0
     while at < len(data):
@@ -61,9 +64,38 @@ def report(data):
         sums = [total + one for total, one in zip(sums, (bond, option, allowance))]
         if bond > best:
             best, place = bond, seen
+    return seen, refused, priced, sums, best, place
+
+
+def amount(word, value):
+    return '%s %d.%09d' % ((word,) + divmod(value, 10 ** 9))
+
+
+def figures(priced, refused, sums):
     lines = ['priced %d' % priced] + ['refused %d %d' % (k, refused[k]) for k in range(1, 14)]
-    lines += ['%s %d.%09d' % ((word,) + divmod(total, 10 ** 9)) for word, total in zip(('bonds', 'options'), sums)]
-    return '\n'.join(lines + ['allowances %d' % sums[2], 'dearest %d' % place]).encode() + b'\n'
+    return lines + [amount('bonds', sums[0]), amount('options', sums[1]), 'allowances %d' % sums[2]]
+
+
+def text(lines):
+    return '\n'.join(lines).encode() + b'\n'
+
+
+def report(data):
+    _, refused, priced, sums, _, place = totals(data)
+    return text(figures(priced, refused, sums) + ['dearest %d' % place])
+
+
+def joined(cases):
+    fields, refused, priced, sums, dearest = 0, [0] * 14, 0, [0, 0, 0], (-1, 0, 0)
+    for book, case in enumerate(cases, 1):
+        seen, numbers, some, three, best, place = totals(case)
+        fields, priced = fields + seen, priced + some
+        refused = [total + one for total, one in zip(refused, numbers)]
+        sums = [total + one for total, one in zip(sums, three)]
+        if best > dearest[0]:
+            dearest = best, book, place
+    lines = ['books %d' % len(cases), 'fields %d' % fields] + figures(priced, refused, sums)
+    return text(lines + [amount('price', max(dearest[0], 0)), 'dearest %d %d' % dearest[1:]])
 
 
 def field(job, tag=TAG):
@@ -133,7 +165,10 @@ def main():
     told = {job[VERSION_AT + 3] if job[VERSION_AT] == 11 else None for job in priced}
     if told != set(VERSIONS) or not any(struct.pack('>BH', 10, 6) in job for job in priced):
         raise SystemExit('a version or a list of dates is missing')
-    write('stdin', b''.join(struct.pack('>H', len(case)) + case for case in cases))
+    framed = b''.join(struct.pack('>H', len(case)) + case for case in cases)
+    write('stdin', framed)
+    write('../report_cases/stdin', framed)
+    write('../report_cases/stdout', joined(cases) * 2)
     write('stdout', b''.join(map(report, cases)))
     whole = long_file(small)
     write('../book/stdin', whole)

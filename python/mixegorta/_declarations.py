@@ -98,6 +98,21 @@ class CBookText(ctypes.Structure):
     _fields_ = [("number", U64), ("size", SIZE)]
 
 
+class CReport(ctypes.Structure):
+    """The totals over so many books. The count of refusals with number k stands at place k - 1. The dearest bond is that of the field `place` of the book with the number `book`, both from 1, and both are 0 where none is priced."""
+
+    _fields_ = [
+        ("books", U64), ("fields", U64), ("priced", U64), ("refused", U64 * 13), ("bonds", U64), ("options", U64), ("error_bounds", U64),
+        ("dearest", U64), ("book", U64), ("place", U64),
+    ]
+
+
+class CJoined(ctypes.Structure):
+    """Number 0 and a report, or a refusal's number with the empty report."""
+
+    _fields_ = [("number", U64), ("report", CReport)]
+
+
 class CSlot(ctypes.Structure):
     """What a shelf keeps of a name: status 0 no tree, 1 a tree that awaits a commit, 2 a fitted tree; then its steps and its reversion. A fitted tree carries its price error bound and the greatest discount of each of its rows; all else is 0."""
 
@@ -192,6 +207,9 @@ DECLARATIONS: Dict[str, Tuple[Any, Dict[str, Any]]] = {
     "read_job": (CReading, {"bytes": SliceOf(U8)}),
     "write_job": (CAnswer, {"job": CJob, "out": SliceOf(U8)}),
     "book_report": (CBookText, {"file": SliceOf(U8), "out": SliceOf(U8)}),
+    "empty_report": (CReport, {}),
+    "report_of_file": (CReport, {"file": SliceOf(U8)}),
+    "joined_reports": (CJoined, {"first": CReport, "second": CReport}),
     "empty_shelf": (CShelf, {}),
     "shelf_part": (CPart, {"shelf": CShelf, "name": SIZE}),
     "shelf_ask": (CShelved, {"shelf": CShelf, "memory": PointerTo(U64 * 3600), "name": SIZE, "steps": SIZE, "reversion": U64}),

@@ -3,8 +3,8 @@
 __all__ = [
     "ONE", "PROBABILITY_ONE", "MAX_STEPS", "MAX_NODES", "MAX_DISCOUNTS", "MAX_STATE_PRICES", "MAX_STRIKES", "MAX_NAME", "SHELF_ROOM",
     "MAX_BANDS", "MAX_HAIRCUT", "MAX_PAIR_STEPS", "MAX_JOB", "MAX_JOB_STEPS", "MAX_JOB_DATES", "SHEET_ROOM", "MAX_FIELDS", "BOOK_ROOM",
-    "MAX_REVERSION", "MAX_VOLATILITY", "MIN_QUOTE_DISCOUNT", "MAX_QUOTE_DISCOUNT", "MAX_NODE_DISCOUNT", "MAX_FLOW", "MAX_STRIKE",
-    "MAX_VALUE", "MAX_STATE_PRICE_SUM",
+    "MAX_REPORT_SIZE", "MAX_REVERSION", "MAX_VOLATILITY", "MIN_QUOTE_DISCOUNT", "MAX_QUOTE_DISCOUNT", "MAX_NODE_DISCOUNT", "MAX_FLOW",
+    "MAX_STRIKE", "MAX_VALUE", "MAX_STATE_PRICE_SUM",
 ]
 
 # billionths in one
@@ -43,6 +43,8 @@ SHEET_ROOM = 468_736
 MAX_FIELDS = 500
 # room for the report of every book in bytes
 BOOK_ROOM = 2_304
+# the most books and fields of a report together
+MAX_REPORT_SIZE = 2_305_843_009
 # the largest reversion per step, in ten-thousandths
 MAX_REVERSION = 6_000
 # the largest yearly volatility, in millionths

@@ -41,7 +41,9 @@ UNITS: Dict[str, str] = {
 for _tree in ("rate", "spread"):
     UNITS.update({f"{_tree}_steps": f"steps of the {_tree} tree, n, the same in both trees, 1 to MAX_PAIR_STEPS", f"{_tree}_reversion": UNITS["reversion"],
                   f"{_tree}_discounts": UNITS["discounts"], f"{_tree}s": f"the {_tree} Tree, of the same steps as the other, 1 to MAX_PAIR_STEPS"})
-UNITS.update(jobs=f"of bytes, at most {MAX_JOB:,} each for a job that is accepted", file="the bytes of a book, as book_of_jobs gives them")
+UNITS.update(jobs=f"of bytes, at most {MAX_JOB:,} each for a job that is accepted", file="the bytes of a book, as book_of_jobs gives them",
+             first="a Report of the books that come first", second="a Report of the books after them",
+             reports="each a Report, in the order of their books")
 # where a name means another thing than elsewhere
 OTHERS: Dict[str, Dict[str, str]] = {
     "row_range": {"kind": PART}, "Tree.row": {"kind": PART}, "JobQuote.of": {"kind": "DISCOUNT_FACTOR, YEARLY_RATE or YEARLY_YIELD"},

@@ -3,7 +3,7 @@ import argparse
 import os
 import sys
 
-from . import answers, book, drawing, exact, jobs
+from . import answers, book, books, drawing, exact, jobs, scenarios
 from .streams import Stop, content_of, named, put, run
 
 SUMMARY = 'A Hull-White trinomial rate tree in whole billionths, fitted, priced and proved.'
@@ -59,6 +59,31 @@ input of the book program: one field for each job, in this order.
 The report tells how many jobs are priced, how many refused with each number, the sums, and the place of the dearest bond. More than 500 files are left to
 the engine, which counts one of the rest under 1. Exit status: 0 the report is shown; 2 there is none, and standard error tells why.
 MIXEGORTA_BOOK names another program than the engine's own.'''),
+    'books': ('report many books as one, on all processors or on a Dask cluster', """Values many books and shows one report of them all.
+
+Each FILE is a book: fields of tag 10 (hex) with one job each, as `mixegorta book --frame` writes it. The report is that of all books in the order of
+their names: how many, their fields, the jobs priced and refused with each number, the sums, the price of the dearest bond, the first one if equal, and the
+number of its book with its place there, both from 1. The reports of the files are joined by the engine's proved entry, so that the result is the same
+bytes whatever the number of processes or workers and whatever is lost and run again.
+
+A file that cannot be read, or that kills every process that values it, is named, counted as `unvalued`, and has no number among the books. The rest goes on.
+--scheduler hands the files to the workers of a Dask cluster, which need this version of mixegorta; files are read here. --resume STATE is a folder where the
+report of each finished file is kept, by the hash of its bytes and the version, so that the same command goes on where one was broken off.
+--join takes reports that --json wrote instead of books, and joins them in their order. --progress shows the bar where standard error is no terminal too.
+
+Exit status: 0 the report is shown; 1 it is shown, and some file is not in it, which standard error names; 2 there is none, and standard error tells why."""),
+    'scenarios': ('value one book under many curves, the worst first', """Values a book as it is and under each curve of a table.
+
+FILE is a book, as `mixegorta book --frame` writes it. TABLE is CSV: the head `scenario,frequency,kind,1,2,..`, and then lines of a scenario's name, the
+steps a year, `discount`, `rate` or `yield`, and a figure for each row of the curve. A scenario has a line for each frequency of the book's jobs, with at
+least as many figures as these have steps. Its figures take the place of every job's quotes, and the engine's proved writer writes the job.
+
+Shown are the base, which is the book as it is, and then a row for each scenario, the greatest loss first: jobs priced and refused, the sums, how far the
+total of the bonds may be from the exact one, and its difference from the base with the least and the most that the exact difference can be. The difference
+is over the jobs that base and scenario both price; `compared` tells how many.
+--keep FOLDER writes the book of each scenario there. --picture FILE draws the totals as SVG.
+
+Exit status: 0 the scenarios are shown; 2 they are not, and standard error tells why."""),
     'check': ("hold a job's prices against the exact ones", '''Works the exact prices of a job out in fractions and shows them beside the engine's.
 
 FILE is a text as `mixegorta job --help` describes it, or a job. The reference, written apart from the engine, fits the tree itself and prices on it
@@ -78,14 +103,14 @@ class Parser(argparse.ArgumentParser):
 
 
 def file_and_forms(parser, forms=('json', 'csv'), files=False):
-    parser.add_argument('file', nargs='*' if files else '?', metavar='FILE', help='a text or a job; without it standard input')
+    parser.add_argument('file', nargs='*' if files else '?', metavar='FILE', help='a book' if parser.prog.endswith(('books', 'scenarios')) else 'a text or a job; without it standard input')
     for form in forms:
         parser.add_argument(f'--{form}', dest='form', action='store_const', const=form, help=f'in the form of {form.upper()}')
 
 
 def fill(parser, part):
     """The arguments of a part."""
-    file_and_forms(parser, files=part == 'book')
+    file_and_forms(parser, files=part in ('book', 'books'))
     if part == 'price':
         parser.add_argument('--tree', action='store_true', help='the whole sheet: nodes, rows and prices')
     if part == 'draw':
@@ -93,6 +118,22 @@ def fill(parser, part):
         parser.add_argument('--page', action='store_true', help='a page of HTML instead of a picture')
     if part == 'book':
         parser.add_argument('--frame', action='store_true', help='write the book instead of its report')
+    if part == 'books':
+        fill_books(parser)
+    if part == 'scenarios':
+        parser.add_argument('--curves', metavar='TABLE', help='the curves: CSV with a line for each scenario and frequency')
+        parser.add_argument('--keep', metavar='FOLDER', help="write each scenario's book there")
+        parser.add_argument('--picture', metavar='FILE', help='draw the totals, as SVG')
+        parser.add_argument('--processes', metavar='N', help='so many processes; without it one for each processor')
+
+
+def fill_books(parser):
+    parser.add_argument('--names', metavar='NAMES', help='a file with the names of further books, one to a line; - is standard input')
+    parser.add_argument('--processes', metavar='N', help='so many processes; without it one for each processor')
+    parser.add_argument('--scheduler', metavar='ADDRESS', help='the scheduler of a Dask cluster, as tcp://host:8786')
+    parser.add_argument('--resume', metavar='STATE', help='a folder that keeps what is done')
+    parser.add_argument('--progress', action='store_true', help='show the progress without a terminal too')
+    parser.add_argument('--join', action='store_true', help='join reports that --json wrote')
 
 
 def part_parser(part, name):
@@ -103,7 +144,7 @@ def part_parser(part, name):
 
 
 def overview():
-    listed = ''.join(f'    mixegorta {part:6} {ABOUT[part][0]}\n' for part in ABOUT)
+    listed = ''.join(f'    mixegorta {part:9} {ABOUT[part][0]}\n' for part in ABOUT)
     return f'{SUMMARY}\n\n{listed}\n`mixegorta PART --help` tells more of each, `mixegorta --version` the version.\n'
 
 
@@ -156,12 +197,21 @@ def report(given, called):
     return book.put_report(given.file, given.form, given.frame, lambda: content(None, called))
 
 
+def many(given, called):
+    return books.put_books(given)
+
+
+def scenario(given, called):
+    return scenarios.put_scenarios(given)
+
+
 def check(given, called):
     found = answers.answer(content(given.file, called), named(given.file))
     return answers.refused(found.sheet, given.form) if isinstance(found.sheet, int) else exact.put_check(found, given.form)
 
 
 PARTS = {'price': (price, answers.NOT_SHOWN), 'job': (job, answers.REFUSED), 'draw': (draw, answers.NOT_SHOWN), 'book': (report, answers.NOT_SHOWN),
+         'books': (many, answers.NOT_SHOWN), 'scenarios': (scenario, answers.NOT_SHOWN),
          'check': (check, answers.NOT_SHOWN)}
 
 

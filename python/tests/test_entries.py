@@ -4,9 +4,9 @@ import struct
 import sys
 import unittest
 
-from mixegorta import BOOK_ROOM, ONE, SHEET_ROOM, SHELF_ROOM
+from mixegorta import BOOK_ROOM, MAX_REPORT_SIZE, ONE, SHEET_ROOM, SHELF_ROOM
 from mixegorta._arguments import amounts, dates, job_bytes, kept_memory, own_memory, quotes
-from mixegorta._declarations import DECLARATIONS, CJob, CPoint, CShelf, CSlot
+from mixegorta._declarations import DECLARATIONS, CJob, CPoint, CReport, CShelf, CSlot
 from mixegorta._faults import call
 
 TOOLS = os.path.join(os.path.dirname(os.path.abspath(__file__)), "..", "..", "tools")
@@ -117,6 +117,8 @@ CASES = {
     "pair_bond_price": (PAIR_BOND, PAIR_BONDS), "pair_dated_option_price": (PAIR_LISTED, {**PAIR_BONDS, 11: LISTS[11], 13: LISTS[13]}),
     "sheet": ({**job(), "out": own_memory(SHEET_ROOM, "B")}, {**JOBS, 6: {"out": own_memory(9, "B")}}),
     "prices_of_job": ({**job(), "discounts": own_memory(3600), "state_prices": own_memory(3721)}, {**JOBS, 6: {"discounts": own_memory(0)}}),
+    "joined_reports": ({"first": CReport(books=1), "second": CReport(books=2)},
+                       {1: {"second": CReport(bonds=1)}, 12: {"first": CReport(books=MAX_REPORT_SIZE)}}),
     "book_report": ({"file": own_memory(0, "B"), "out": own_memory(BOOK_ROOM, "B")}, {6: {"out": own_memory(BOOK_ROOM - 1, "B")}}),
 }
 

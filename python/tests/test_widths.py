@@ -227,8 +227,14 @@ def prices_of_job(job, discounts, state_prices):
     return [0, *found.bond, *option, *(number for number in chain(discounts, state_prices) if number != PATTERN)]
 
 
+def joined_reports(*given):
+    """A report is its 22 numbers."""
+    found = m.joined_reports(*(m.Report(*each[:3], tuple(each[3:16]), *each[16:]) for each in given))
+    return [0, *found[:3], *found.refused, *found[4:]]
+
+
 LISTS_OF_QUOTES = "curve_discounts", "fit", "fit_version", "shelf_commit"
-CALLS = {"read_job": read_job, "write_job": write_job, "prices_of_job": prices_of_job,
+CALLS = {"read_job": read_job, "write_job": write_job, "prices_of_job": prices_of_job, "joined_reports": joined_reports,
          "check_bands": check_bands, "lending_worth": lending_worth,
          "quote_discount": quote_discount, "curve_discounts": curve_discounts, "fit": fit, "fit_version": fit_version, "row_range": row_range,
          "tree_bounds": tree_bounds, "bond_and_option": both(m.bond_and_option), "bond_and_dated_option": both(m.bond_and_dated_option),

@@ -5,7 +5,8 @@
 //! A [`Tree`] is one fitted tree with memories of its own, a [`Shelf`] up to eight trees in one memory, and [`Bands`] a table of haircuts. [`Tree::fit_version`]
 //! takes a version: 2 has the model's own mean and variance of a step. [`Tree::option_strip`] prices up to 16 strikes of one option together,
 //! [`pair_bond_price`] and [`pair_dated_option_price`] price on a rate tree and a spread tree together. A [`Job`] is read from bytes and written to the
-//! same bytes, and [`sheet`] draws its sheet. [`book_report`] values a whole book of jobs, [`prices_of_job`] one of them.
+//! same bytes, and [`sheet`] draws its sheet. [`book_report`] values a whole book of jobs, [`prices_of_job`] one of them;
+//! [`report_of_file`] gives the totals of a book and [`joined_reports`] those of many.
 //!
 #![cfg_attr(without_library, doc = "```ignore")]
 #![cfg_attr(not(without_library), doc = "```")]
@@ -40,6 +41,7 @@ mod limits;
 mod pair;
 mod raw;
 mod refusals;
+mod reports;
 mod shapes;
 mod shelf;
 mod tree;
@@ -50,6 +52,7 @@ pub use books::{prices_of_job, prices_of_job_into, JobPrices};
 pub use job::{Job, JobError, JobOption, JobQuote};
 pub use limits::*;
 pub use pair::{pair_bond_price, pair_dated_option_price, LentTree};
+pub use reports::{empty_report, joined_reports, report_of_file, JoinRefusal, Report};
 pub use shelf::{Shelf, ShelvedTree};
 pub use tree::Tree;
 

@@ -36,6 +36,8 @@ pub const SHEET_ROOM: usize = 468_736;
 pub const MAX_FIELDS: usize = 500;
 /// Room for the report of every book in bytes.
 pub const BOOK_ROOM: usize = 2_304;
+/// The most books and fields of a report together.
+pub const MAX_REPORT_SIZE: u64 = 2_305_843_009;
 /// The largest reversion per step, in ten-thousandths.
 pub const MAX_REVERSION: u64 = 6_000;
 /// The largest yearly volatility, in millionths.

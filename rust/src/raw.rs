@@ -140,6 +140,31 @@ pub struct BookText {
     pub size: usize,
 }
 
+/// The totals over so many books. The count of refusals with number k stands at place k - 1. The dearest bond is that of the
+/// field `place` of the book with the number `book`, both from 1, and both are 0 where none is priced.
+#[repr(C)]
+#[derive(Clone, Copy)]
+pub struct Report {
+    pub books: u64,
+    pub fields: u64,
+    pub priced: u64,
+    pub refused: [u64; 13],
+    pub bonds: u64,
+    pub options: u64,
+    pub error_bounds: u64,
+    pub dearest: u64,
+    pub book: u64,
+    pub place: u64,
+}
+
+/// Number 0 and a report, or a refusal's number with the empty report.
+#[repr(C)]
+#[derive(Clone, Copy)]
+pub struct Joined {
+    pub number: u64,
+    pub report: Report,
+}
+
 /// What a shelf keeps of a name: status 0 no tree, 1 a tree that awaits a commit, 2 a fitted tree; then its steps and its
 /// reversion. A fitted tree carries its price error bound and the greatest discount of each of its rows; all else is 0.
 #[repr(C)]
@@ -392,6 +417,9 @@ extern "C" {
         out: *mut u8,
         out_len: usize,
     ) -> BookText;
+    pub fn mixegorta_empty_report() -> Report;
+    pub fn mixegorta_report_of_file(file: *const u8, file_len: usize) -> Report;
+    pub fn mixegorta_joined_reports(first: Report, second: Report) -> Joined;
     pub fn mixegorta_empty_shelf() -> Shelf;
     pub fn mixegorta_shelf_part(shelf: Shelf, name: usize) -> Part;
     pub fn mixegorta_shelf_ask(

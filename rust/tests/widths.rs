@@ -403,6 +403,35 @@ fn job_prices(g: &Given) -> Vec<u64> {
     memories
 }
 
+/// A report is its 22 numbers.
+fn report(numbers: &[u64]) -> Report {
+    Report {
+        books: numbers[0],
+        fields: numbers[1],
+        priced: numbers[2],
+        refused: numbers[3..16].try_into().expect("thirteen counts"),
+        bonds: numbers[16],
+        options: numbers[17],
+        error_bounds: numbers[18],
+        dearest: numbers[19],
+        book: numbers[20],
+        place: numbers[21],
+    }
+}
+
+fn joined(g: &Given) -> Vec<u64> {
+    match joined_reports(&report(g.list(0)), &report(g.list(1))) {
+        Err(refusal) => vec![refusal.number()],
+        Ok(r) => {
+            let mut found = vec![0, r.books, r.fields, r.priced];
+            found.extend(r.refused);
+            found.extend([r.bonds, r.options, r.error_bounds, r.dearest]);
+            found.extend([r.book, r.place]);
+            found
+        }
+    }
+}
+
 /// What a call of level one answers; none where the types of this crate have no such argument.
 fn shape_or_fit(name: &str, g: &Given) -> Option<Vec<u64>> {
     match name {
@@ -434,6 +463,7 @@ fn shape_or_fit(name: &str, g: &Given) -> Option<Vec<u64>> {
         "check_bands" => Some(checked(g)),
         "prices_of_job" => Some(job_prices(g)),
         "lending_worth" => Some(lent(g)),
+        "joined_reports" => Some(joined(g)),
         "read_job" => Some(read_job(g)),
         "write_job" => write_job(g),
         "pair_bond_price" => Some(paired(g)),
@@ -636,7 +666,7 @@ fn numbers_past_a_width() {
             *called.entry(name).or_default() += 1;
         }
     }
-    assert_eq!(called.len(), 44, "{called:?}");
+    assert_eq!(called.len(), 45, "{called:?}");
     assert!(called.values().all(|lines| *lines > 2), "{called:?}");
 }
 

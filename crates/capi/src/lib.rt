@@ -30,6 +30,9 @@ ghost use Rattle.job_fit.specs.RecordFit.{jobDiscounts, jobStatePrices, memoryA
 ghost use Rattle.job_prices.specs.JobPrices.{bytesNumber, bytesPrices};
 ghost use Rattle.book_laws.specs.Files.{fileBook};
 ghost use Rattle.book_laws.specs.Report.{bookLines, linesAnswer, linesMemory};
+ghost use Rattle.report_laws.specs.Reports.{emptyReport};
+ghost use Rattle.report_laws.specs.FileReports.{fileReport};
+ghost use Rattle.report_laws.specs.Joins.{joinedReport};
 ghost use Rattle.shelf_laws.specs.Shelf.{
   emptySlots,
   partOf,
@@ -63,6 +66,8 @@ use price_laws::BondAndOption;
 use price_laws::Price;
 use price_laws::Strip;
 use quotes::Point;
+use report_laws::Joined;
+use report_laws::Report;
 use row_view::RowRange;
 use shelf_laws::Part;
 use shelf_laws::Shelf;
@@ -74,7 +79,7 @@ use step_rate::Rate;
 pub extern "C" fn mixegorta_version() -> u64
     ensures { λ r. ⌜ r ≡ version ⌝ }
 {
-    14_000
+    14_001
 }
 
 // ---- the shape of a tree
@@ -462,6 +467,29 @@ pub extern "C" fn mixegorta_book_report(file: &[u8], out: &mut [u8]) -> BookText
     ensures memory { λ _. ⌜ now (out .exit) ≡ linesMemory (bookLines (fileBook (now (file .entry)))) (now (out .entry)) ⌝ }
 {
     book_report::report(file, out)
+}
+
+// ---- reports of books that add up
+
+#[no_mangle]
+pub extern "C" fn mixegorta_empty_report() -> Report
+    ensures { λ r. ⌜ r ≡ emptyReport ⌝ }
+{
+    book_reports::empty()
+}
+
+#[no_mangle]
+pub extern "C" fn mixegorta_report_of_file(file: &[u8]) -> Report
+    ensures { λ r. ⌜ r ≡ fileReport (now (file .entry)) ⌝ }
+{
+    book_reports::of_file(file)
+}
+
+#[no_mangle]
+pub extern "C" fn mixegorta_joined_reports(first: Report, second: Report) -> Joined
+    ensures { λ r. ⌜ r ≡ joinedReport first second ⌝ }
+{
+    book_reports::joined(first, second)
 }
 
 // ---- a shelf of trees

@@ -1,0 +1,4 @@
+pub mod SumLaws
+pub mod SoundLaws
+pub mod JoinLaws
+pub mod FileReportLaws

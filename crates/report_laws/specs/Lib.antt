@@ -1,0 +1,3 @@
+pub mod Reports
+pub mod Joins
+pub mod FileReports
