@@ -18,8 +18,8 @@ SCRIPTS = sorted((ROOT / 'crates').glob('*/vectors.py'))
 FILES = ('stdin', 'stdout')
 # Arguments of scripts that print what the program must print; the others write their files beside themselves.
 PRINTING = {'exhibits': [], 'pricing_figures': [], 'quote_figures': ['stdout']}
-# A script that also writes the files of another program.
-BESIDE = {'book_cases': ['book']}
+# A script that also writes the files of other programs.
+BESIDE = {'book_cases': ['book', 'report_cases']}
 
 
 class Figures(unittest.TestCase):
