@@ -25,6 +25,7 @@ NAME = re.compile(r'[^\W\d][\w-]*')
 STATEMENT, STATED, COLUMNS = 'AllPromises', ('promises', 'sheet_promises'), '| Record | Field | Line | Wrong edit |'
 RECORD = re.compile(r'^pub record (\w+).*\n((?:(?:  .*)?\n)*)', re.M)
 FIELD = re.compile(r'^  pub ([\w-]+) :(.*)', re.M)
+EVERY = re.compile(r'^ \(.*\) → (\w+Promises)(?: \w+)*$')
 # Words of the language that a contract is written in.
 WORDS = {'requires', 'ensures'}
 # What the first error of a wrong edit must not be about: these say that a proof does not fit, not that a fact is false. The first are words of an error's
@@ -125,10 +126,14 @@ def faults_of_text(text, tree):
 
 
 def fields_of(records, name):
-    """The fields of a record, each with the record in which it stands; a field that is a record itself, all of it, stands for that one's fields."""
+    """The fields of a record, each with the record in which it stands; a field that is a record itself, all of it, stands for that one's fields, and so does one
+    that is a record of promises for every argument."""
     for field, stated in records.get(name, ()):
+        promised = EVERY.search(stated)
         if stated.strip() in records:
             yield from fields_of(records, stated.strip())
+        elif promised and promised[1] in records:
+            yield from fields_of(records, promised[1])
         else:
             yield name, field
 

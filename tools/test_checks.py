@@ -1,5 +1,5 @@
 #!/usr/bin/env python3
-"""Tests of tools/promises.py, tools/documents.py, tools/trials, tools/stack.py and reference/widths.py: what is wrong is found, and what is right is let through.
+"""Tests of tools/promises.py, tools/documents.py, tools/reach, tools/shorten, tools/trials, tools/stack.py and reference/widths.py: what is wrong is found, and what is right is let through.
 
     python3 tools/test_checks.py
 """
@@ -20,9 +20,17 @@ import promises
 import stack
 import widths
 
-loader = importlib.machinery.SourceFileLoader('trials', str(ROOT / 'tools/trials'))
-trials = importlib.util.module_from_spec(importlib.util.spec_from_loader('trials', loader))
-loader.exec_module(trials)
+
+
+def script(name):
+    """A script of tools/ without a suffix, as a module."""
+    loader = importlib.machinery.SourceFileLoader(name, str(ROOT / 'tools' / name))
+    module = importlib.util.module_from_spec(importlib.util.spec_from_loader(name, loader))
+    loader.exec_module(module)
+    return module
+
+
+reach, shorten, trials = script('reach'), script('shorten'), script('trials')
 
 SOURCE = '''ghost use lib.IntN.{
   natAbs,
@@ -248,6 +256,173 @@ class Documents(unittest.TestCase):
 
     def test_a_definition_that_reading_leaves_out(self):
         self.assertIn('docs/READING.md does not name promises/specs/Promises', self.faults(READING='# Reading\n\n## The end\n'))
+
+
+class Mentions(unittest.TestCase):
+    FILES = {'crates/lattice/specs/Shape.antt': 'unfoldable pub halfWidth : ℕ → ℕ\n', 'crates/lattice/specs/Lib.antt': '', 'crates/lattice/src/lib.rt': 'pub fn half_width() {}\n',
+             'rust/src/lib.rs': 'pub struct LentTree;\n'}
+    RIGHT = 'See `lattice/specs/Shape` `halfWidth`, `lattice::half_width`, `LentTree`, `specs/Lib.antt`, `rust/src/lib.rs`, `target/made.log`, `a + b`, `half_*`.'
+
+    def faults(self, text):
+        with tempfile.TemporaryDirectory() as folder:
+            root = pathlib.Path(folder)
+            for name, content in {**self.FILES, 'docs/DECISIONS.md': text}.items():
+                (root / name).parent.mkdir(parents=True, exist_ok=True)
+                (root / name).write_text(content, encoding='utf-8')
+            return list(documents.faults_of_mentions('docs/DECISIONS.md', documents.words_of_sources(root), root))
+
+    def test_right(self):
+        self.assertEqual(self.faults(self.RIGHT), [])
+
+    def test_wrong(self):
+        for old, new, words in (('`lattice/specs/Shape`', '`lattice/specs/Width`', 'there is no lattice/specs/Width'), ('`halfWidth`', '`wholeWidth`', 'no source has wholeWidth'),
+                                ('lattice::half_width', 'lattice::whole_width', 'no source has whole_width'), ('`LentTree`', '`Lent`', 'no source has Lent'),
+                                ('rust/src/lib.rs', 'rust/src/raw.rs', 'there is no rust/src/raw.rs')):
+            faults = self.faults(self.RIGHT.replace(old, new))
+            self.assertEqual([words in fault for fault in faults], [True], (words, faults))
+
+
+class Rooms(unittest.TestCase):
+    CRATES = '# Ground, numbers\narithmetic:\ntree: arithmetic\n\n# Doors\ncapi: tree\n'
+    LAYERS = '# Layers\n\n## Crates\n\n### Ground\n\n| Crate | Gives |\n|---|---|\n| `arithmetic` | `rows` |\n| `tree` | trees |\n\n### Doors\n\n| `capi` | all |\n\n## Level one\n\n| `none` |\n'
+
+    def faults(self, crates, layers):
+        with tempfile.TemporaryDirectory() as folder:
+            root = pathlib.Path(folder)
+            (root / 'docs').mkdir()
+            (root / 'crates.txt').write_text(crates)
+            (root / 'docs/LAYERS.md').write_text(layers)
+            return list(documents.faults_of_rooms(root))
+
+    def test_right(self):
+        self.assertEqual(self.faults(self.CRATES, self.LAYERS), [])
+
+    def test_wrong(self):
+        for crates, layers in ((self.CRATES.replace('# Doors', '# Yard'), self.LAYERS), (self.CRATES.replace('tree: arithmetic\n', ''), self.LAYERS),
+                               (self.CRATES, self.LAYERS.replace('| `tree` | trees |\n', '')), (self.CRATES.replace('# Ground,', '# Ground, of:'), self.LAYERS),
+                               (self.CRATES, self.LAYERS.replace('`capi`', '`capi`, `sheet`'))):
+            self.assertEqual(len(self.faults(crates, layers)), 1, (crates, layers))
+
+
+class Reach(unittest.TestCase):
+    """Two crates: a contract, a theorem and a statement, each of which reaches what it names, and what nothing reaches."""
+
+    FILES = {
+        'crates/lattice/src/lib.rt': """ghost use Rattle.lattice.specs.Shape.{halfWidth};
+ghost use Rattle.lattice.specs.inside.Loops.{Held};
+
+fn held(row: usize) -> usize
+    requires { ⌜ Held row ⌝ }
+{
+    row
+}
+
+pub fn half_width(row: usize) -> usize
+    ensures { λ r. ⌜ r ≡ halfWidth row ⌝ }
+{
+    held(row)
+}
+""",
+        'crates/lattice/specs/Shape.antt': """use Prim.Native.Nat.{ℕ, _+_}
+
+-- half the width, as node says
+unfoldable pub halfWidth : ℕ → ℕ
+halfWidth i = doubled i + steps i
+
+abbrev pub doubled : ℕ → ℕ
+doubled i = i + i
+
+module _ (b : ℕ) where
+  abbrev pub steps : ℕ
+  steps = b
+
+  pub record Signed (i : ℕ) : Type 0 where
+    pub width : b ≡ i
+""",
+        'crates/lattice/specs/inside/Loops.antt': """use Rattle.lattice.specs.Shape.{doubled}
+
+pub record Held (row : ℕ) : Type 0 where
+  pub most : row .doubled ≤ doubled row
+""",
+        'crates/lattice/proofs/Laws.antt': """use Rattle.lattice.specs.Shape.{Signed}
+
+pub as-written : (i : ℕ) → Signed i i
+as-written i = refl
+""",
+        'crates/all_promises/specs/All.antt': """use Rattle.lattice.specs.Shape as shape
+
+pub record AllPromises : Type 0 where
+  pub widths : (i : ℕ) → Seen (shape.halfWidth i)
+
+pub data Seen : ℕ → Type 0 where
+  seen : (i : ℕ) → Seen i
+""",
+        'docs/PROMISES.md': '| signs | `lattice/proofs/Laws` `as-written` |\n',
+    }
+
+    def faults(self, *changes):
+        with tempfile.TemporaryDirectory() as folder:
+            root = pathlib.Path(folder)
+            for name, text in self.FILES.items():
+                for file, old, new in changes:
+                    if file == name:
+                        self.assertEqual(text.count(old), 1, old)
+                        text = text.replace(old, new)
+                (root / name).parent.mkdir(parents=True, exist_ok=True)
+                (root / name).write_text(text, encoding='utf-8')
+            return list(reach.faults(reach.House(root)))
+
+    def test_right(self):
+        self.assertEqual(self.faults(), [])
+
+    def test_wrong(self):
+        shape, laws = 'crates/lattice/specs/Shape.antt', 'docs/PROMISES.md'
+        for change, faults in (
+                ((shape, 'halfWidth i = doubled i + steps i', 'halfWidth i = i + steps i'), ['lattice/specs/Shape doubled is help, and stands outside specs/inside/']),
+                ((laws, 'as-written', 'as-meant'), ['lattice/specs/Shape Signed is help, and stands outside specs/inside/']),
+                (('crates/lattice/src/lib.rt', 'r ≡ halfWidth row', '(r ≡ halfWidth row) × Held r'), ['lattice/specs/inside/Loops Held is meaning, and stands in specs/inside/']),
+                (('crates/all_promises/specs/All.antt', 'Seen (shape.halfWidth i)', 'i ≡ i'), [f'all_promises/specs/All {name} is help, and stands outside specs/inside/' for name in ('Seen', 'seen')])):
+            self.assertEqual(self.faults(change), faults)
+
+    def test_lines(self):
+        self.assertEqual(set(reach.lines()), {'code', 'specs', 'inside', 'proofs'})
+        self.assertTrue(all(reach.lines().values()))
+
+
+class Shorten(unittest.TestCase):
+    LONG = """use Rattle.lattice.proofs.half_width.Tie as tie
+
+abbrev Inv-loop : tie.InvT-loop
+Inv-loop row i = i ≤ row
+
+-- why it holds
+loop-holds : tie.Need-loop-holds Inv-loop
+loop-holds c = omega arith
+
+add-i : tie.Need-add-i Inv-loop
+add-i c = search needs
+
+expect-requires : tie.Need-expect-requires
+expect-requires c κs = tt
+
+shared : tie.Need-shared Inv-loop
+shared c = search needs
+
+returns : tie.Need-returns Inv-loop
+returns c = omega (arith, shared c)
+
+pub half-width-spec : {M : Type 1} → statement M
+half-width-spec = tie.close (tie.spec Inv-loop loop-holds add-i expect-requires shared returns)
+"""
+
+    def test_needs_that_say_nothing(self):
+        short = shorten.shortened(self.LONG)
+        self.assertIn('(tie.spec Inv-loop loop-holds (λ c. search needs) (λ c κs. tt) shared returns)', short)
+        self.assertEqual([name for name in ('loop-holds :', 'add-i', 'expect-requires', 'shared :', 'returns :') if name in short], ['loop-holds :', 'shared :', 'returns :'])
+        self.assertEqual(shorten.shortened(short), short)
+
+    def test_without_a_last_answer(self):
+        self.assertEqual(shorten.shortened(self.LONG.partition('pub half')[0]), self.LONG.partition('pub half')[0])
 
 
 class Stack(unittest.TestCase):

@@ -9,6 +9,9 @@ ghost use Rattle.arithmetic.specs.Power.{powerOfTen};
 ghost use Rattle.arithmetic.specs.Frequency.{listed};
 ghost use Rattle.arithmetic.specs.Answers.{lowestCause};
 
+// One, in billionths.
+pub const ONE: u64 = 1_000_000_000;
+
 // An answer that can be a refusal: number 0 with the value, or the refusal's number with value 0.
 #[repr(C)]
 pub struct Answer {

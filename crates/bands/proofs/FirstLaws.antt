@@ -7,7 +7,8 @@ use Prim.Native.Nat.{ℕ, zero, suc, _+_, _-_, _≤_, _<_}
 use native.Mathlib.Nat.{le-refl, eq-or-lt-of-le}
 use native.Mathlib.Omega.{arith}
 use native.Mathlib.Decide.{decLe}
-use Rattle.bands.specs.Search.{searchFrom, first, First}
+use Rattle.bands.specs.Search.{searchFrom, first}
+use Rattle.bands.specs.inside.Search.{First}
 
 module _ (test : ℕ → Bool) where
   -- a passing start

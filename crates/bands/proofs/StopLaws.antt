@@ -9,7 +9,8 @@ use native.Mathlib.Omega.{arith}
 use borrow.Author.Tests.{le-leb, lt-leb}
 use Rattle.limits.specs.Limits.{valueLimit}
 use Rattle.bands.specs.Bands.{Bands, within, contains, flag, covering}
-use Rattle.bands.specs.Stops.{Added, StopAt}
+use Rattle.bands.specs.Stops.{Added}
+use Rattle.bands.specs.inside.Stops.{StopAt}
 
 module _ (f l lo hi row q : ℕ) where
   pub row-before : row < f → within f l lo hi row q ≡ false

@@ -9,10 +9,11 @@ use borrow.Author.Tests.{le-leb, lt-leb, leb-true, leb-false, eq-eqb, ne-eqb, eq
 use lib.Dec.{eqb}
 use Rattle.arithmetic.proofs.BetweenLaws.{and-left, and-right}
 use lib.ListN.{length}
-use Rattle.bands.specs.Search.{First}
+use Rattle.bands.specs.inside.Search.{First}
 use Rattle.limits.specs.Limits.{valueLimit}
-use Rattle.bands.specs.Bands.{Bands, Parallel, sameLengths, coverage, failing, fails, failingPrice}
-use Rattle.bands.specs.Stops.{StopAt}
+use Rattle.bands.specs.Bands.{Bands, sameLengths, coverage, failing, fails, failingPrice}
+use Rattle.bands.specs.inside.Lists.{Parallel}
+use Rattle.bands.specs.inside.Stops.{StopAt}
 use Rattle.bands.proofs.FirstLaws.{first-is, first-found}
 
 module _ (b : Bands) (row price : ℕ) where

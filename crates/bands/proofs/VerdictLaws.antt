@@ -6,7 +6,7 @@ use mathlib.Core.List.{List}
 use Prim.Native.Nat.{ℕ, _+_, _≤_, _<_}
 use native.Mathlib.Omega.{arith}
 use borrow.Author.Tests.{le-leb, lt-leb, lt-ltb, le-ltb, eq-eqb, ne-eqb}
-use Rattle.bands.specs.Search.{First}
+use Rattle.bands.specs.inside.Search.{First}
 use Rattle.limits.specs.Limits.{valueLimit}
 use Rattle.arithmetic.specs.Row.{values}
 use Rattle.bands.specs.Bands.{Bands, bandsOf, coverage, fails, failingPrice, failingRow, badIndex}

@@ -26,11 +26,6 @@ pub record Bands : Type 0 where
   pub lowest : ℕ → ℕ
   pub highest : ℕ → ℕ
 
--- four lists of one length
-abbrev pub Parallel : List ℕ → List ℕ → List ℕ → List ℕ → Type 0
-Parallel firsts lasts lowests highests =
-    (length lasts ≡ length firsts) × (length lowests ≡ length firsts) × (length highests ≡ length firsts)
-
 abbrev pub bandsOf : List ℕ → List ℕ → List ℕ → List ℕ → Bands
 bandsOf firsts lasts lowests highests =
     record { count = length firsts; firstRow = values firsts; lastRow = values lasts; lowest = values lowests; highest = values highests }

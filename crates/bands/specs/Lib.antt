@@ -3,3 +3,4 @@ pub mod Bands
 pub mod SoundBand
 pub mod Stops
 pub mod Judged
+pub mod inside

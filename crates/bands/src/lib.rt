@@ -4,18 +4,10 @@ ghost use mathlib.Core.Path.{_≡_};
 ghost use Prim.Native.Nat.{_<_, _≤_};
 ghost use lib.ListN.{length};
 ghost use Rattle.arithmetic.specs.Row.{values};
-ghost use Rattle.bands.specs.Bands.{
-  sound,
-  Parallel,
-  bandsOf,
-  badIndex,
-  failingPrice,
-  failingRow,
-  pairsVerdict,
-  sameLengths,
-  verdict,
-};
-ghost use Rattle.bands.specs.Stops.{Added, StopAt};
+ghost use Rattle.bands.specs.Bands.{sound, bandsOf, badIndex, failingPrice, failingRow, pairsVerdict, sameLengths, verdict};
+ghost use Rattle.bands.specs.inside.Lists.{Parallel};
+ghost use Rattle.bands.specs.Stops.{Added};
+ghost use Rattle.bands.specs.inside.Stops.{StopAt};
 
 // The price after the highest.
 const END: u64 = limits::VALUE_LIMIT + 1;

@@ -9,8 +9,9 @@ use lib.Dec.{eqb, leb, ltb}
 use lib.Ieee.{Float}
 use lib.ListN.{length}
 use borrow.Author.Tests.{eq-eqb, ne-eqb}
+use Rattle.arithmetic.proofs.CauseLaws.{first-most, first-none}
 use Rattle.arithmetic.specs.declared.Answer.{Answer}
-use Rattle.arithmetic.specs.Answers.{lowestCause, refused, answered}
+use Rattle.arithmetic.specs.Answers.{lowestCause, refused, answered, firstCause}
 use Rattle.arithmetic.specs.Frequency.{listed}
 use Rattle.arithmetic.specs.Rounding.{one}
 use Rattle.arithmetic.specs.Row.{values, each, between}
@@ -36,9 +37,9 @@ use Rattle.price_causes.specs.Causes.{mostFlow, mostStrike, flowsCause, optionC
 use Rattle.price_bound.proofs.BoundLaws.{discount-within}
 use Rattle.price_bound.specs.PriceBound.{treeErrorBound}
 use Rattle.price_laws.specs.declared.Price.{Price}
-use Rattle.price_laws.specs.Prices.{treeCause, firstCause, priced, bondValue, bondPeak, bondPrice, optionValue, optionPeak, optionLimit}
-use Rattle.price_laws.specs.Prices.{scheduledPrice, optionPrice, datedCause, datedPrice}
-use Rattle.price_laws.proofs.Accuracy.{first-none, tree-lent, bond-given, option-given, dated-given}
+use Rattle.price_laws.specs.Prices.{treeCause, priced, bondValue, bondPeak, bondPrice, optionValue}
+use Rattle.price_laws.specs.Prices.{optionPeak, optionLimit, scheduledPrice, optionPrice, datedCause, datedPrice}
+use Rattle.price_laws.proofs.Accuracy.{tree-lent, bond-given, option-given, dated-given}
 use Rattle.job_record.specs.declared.Job.{Job}
 use Rattle.job_record.specs.declared.OptionRecord.{OptionRecord}
 use Rattle.job_record.specs.declared.Reading.{Reading}
@@ -55,10 +56,6 @@ use Rattle.book_laws.specs.Bounds.{jobPrices, mostNumber, mostErrorBound
 chosen-most : (t : Bool) (x y k : ℕ) → x ≤ k → y ≤ k → cond t x y ≤ k
 chosen-most true x y k h l = h
 chosen-most false x y k h l = l
-
-first-most : (cause later k : ℕ) → cause ≤ k → later ≤ k → firstCause cause later ≤ k
-unfolding firstCause
-first-most cause later k h l = chosen-most (eqb cause 0) later cause k l h
 
 lowest-most : (a b k : ℕ) → a ≤ k → b ≤ k → lowestCause a b ≤ k
 unfolding lowestCause

@@ -12,7 +12,8 @@ use lib.Seq.{take-length, drop-drop}
 use Rattle.book_laws.specs.declared.Book.{Book}
 use Rattle.book_laws.specs.declared.Head.{Head}
 use Rattle.book_laws.specs.Books.{mostFields, emptyBook, withField, withFields, closedBook}
-use Rattle.book_laws.specs.Files.{headSound, fieldSize, headOf, startsWhole, firstJob, afterFirst, fieldEnd, jobsOf, restOf, fileBook, streamed}
+use Rattle.book_laws.specs.Files.{headSound, fieldSize, headOf, startsWhole, firstJob, afterFirst, jobsOf, restOf, fileBook, streamed}
+use Rattle.book_laws.specs.inside.Files.{fieldEnd}
 
 -- ---- the book of the jobs, closed by what is left, is what a program gives that goes field by field
 

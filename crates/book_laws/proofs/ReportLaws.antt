@@ -8,15 +8,15 @@ use borrow.Author.Tests.{lt-ltb, le-ltb}
 use lib.ListN.{length, length-append}
 use Rattle.arithmetic.specs.Row.{values}
 use Rattle.text_laws.specs.declared.Placed.{Placed}
-use Rattle.text_laws.specs.Put.{Put}
+use Rattle.text_laws.specs.inside.Put.{Put}
 use Rattle.text_laws.specs.Lines.{refusedWord}
 use Rattle.text_laws.specs.WordLines.{wholeLine, pairLine, amountLine, wordNumber}
 use Rattle.text_laws.proofs.PutLaws.{put-none, put-before, Answered}
 use Rattle.text_laws.proofs.WordLineLaws.{whole-room, pair-room, amount-room, word-stands, word-before}
 use Rattle.book_laws.specs.declared.Book.{Book}
 use Rattle.book_laws.specs.Bounds.{mostNumber}
-use Rattle.book_laws.specs.Report.{pricedWord, bondsWord, optionsWord, allowancesWord, dearestWord}
-use Rattle.book_laws.specs.Report.{linesFrom, refusalsLine, refusalLines, sumLines, bookLines, bookRoom, linesAnswer, linesMemory}
+use Rattle.book_laws.specs.Report.{pricedWord, bondsWord, optionsWord, allowancesWord, dearestWord, linesFrom, refusalsLine}
+use Rattle.book_laws.specs.Report.{refusalLines, sumLines, bookLines, bookRoom, linesAnswer, linesMemory}
 
 -- what a line with a word leaves
 abbrev pub Lined : List ℕ → List ℕ → ℕ → List ℕ → Placed → List ℕ → Type 0

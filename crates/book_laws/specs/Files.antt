@@ -30,10 +30,6 @@ firstJob file = take (fieldSize file) (drop 3 file)
 unfoldable pub afterFirst : List ℕ → List ℕ
 afterFirst file = drop (3 + fieldSize file) file
 
--- where the field ends that starts at a place; the place itself where none does
-unfoldable pub fieldEnd : List ℕ → ℕ → ℕ
-fieldEnd file at = cond (startsWhole (drop at file)) (at + (3 + fieldSize (drop at file))) at
-
 -- the jobs of at most so many fields, and what is left of the file
 unfoldable pub jobsOf : ℕ → List ℕ → List (List ℕ)
 jobsOf zero file = []

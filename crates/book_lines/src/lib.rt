@@ -2,7 +2,7 @@
 ghost use mathlib.Core.Path.{_≡_};
 ghost use Prim.Native.Nat.{_+_, _≤_};
 ghost use lib.ListN.{length};
-ghost use Rattle.text_laws.specs.Put.{Put};
+ghost use Rattle.text_laws.specs.inside.Put.{Put};
 ghost use Rattle.book_laws.specs.Bounds.{mostNumber};
 ghost use Rattle.book_laws.specs.Report.{refusalLines, sumLines, bookLines, bookRoom, linesAnswer, linesMemory};
 use book_laws::Book;

@@ -132,7 +132,7 @@ module _ (job : List ℕ) (z : numberOf job ≡ 0) where
   unfolding exactBondOf
   bond-near =
       subst (λ (p : Price). Within (p .bound) (unit ^ stepsOf job) (p .value) (exactOf (readingOf job .job))) (sym given)
-      (promises-kept .prices .bond-accurate _ _ _ _ (accepted .bond))
+      (promises-kept .prices .on-tree _ _ _ _ .bond-accurate (accepted .bond))
 
 -- THE EXACT TOTAL: of any jobs, it differs from the sum of their bonds by at most the sum of their error bounds
 pub exact-total : (jobs : List (List ℕ)) → Within (sumOf boundOf jobs) (unit ^ mostSteps) (sumOf bondOf jobs) (exactTotal jobs)

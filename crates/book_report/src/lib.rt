@@ -2,7 +2,8 @@
 ghost use mathlib.Core.Path.{_≡_};
 ghost use Prim.Native.Nat.{_≤_, _<_};
 ghost use lib.ListN.{length};
-ghost use Rattle.book_laws.specs.Files.{headOf, fieldEnd, fileBook};
+ghost use Rattle.book_laws.specs.Files.{headOf, fileBook};
+ghost use Rattle.book_laws.specs.inside.Files.{fieldEnd};
 ghost use Rattle.book_laws.specs.Report.{bookLines, linesAnswer, linesMemory};
 use book_laws::Book;
 use book_laws::BookText;

@@ -447,7 +447,7 @@ pub extern "C" fn mixegorta_read_job(bytes: &[u8]) -> Reading
     ensures reading { λ r. ⌜ r ≡ readingOf (now (bytes .entry)) ⌝ }
     ensures grammar { λ r. ⌜ ReadsAs (now (bytes .entry)) r ⌝ }
 {
-    jobs::read(bytes)
+    job_reader::read(bytes)
 }
 
 #[no_mangle]

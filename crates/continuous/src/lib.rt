@@ -3,8 +3,7 @@ ghost use mathlib.Core.Path.{_≡_};
 ghost use Prim.Native.Nat.{_≤_};
 ghost use Rattle.continuous.specs.Continuous.{fourthPower, quotientAnswer, continuousAnswer};
 use arithmetic::Answer;
-
-const ONE: u64 = 1_000_000_000;
+use arithmetic::ONE;
 
 // Squared twice, each time divided by one, down. The second square can need 66 bits, so it is taken in two parts.
 fn fourth_power(series: u64) -> u64

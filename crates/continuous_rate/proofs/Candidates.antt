@@ -15,7 +15,7 @@ use Rattle.continuous.proofs.Sides.{above-most, below-least, at-zero}
 use Rattle.continuous.proofs.Answers.{discount-above, discount-below}
 use Rattle.continuous_rate.specs.Least.{firstLeast}
 use Rattle.continuous_rate.specs.ContinuousRate.{distance, candidate, miss, continuousRate, Nearest}
-use Rattle.continuous_rate.specs.Search.{sideMiss}
+use Rattle.continuous_rate.specs.inside.Search.{sideMiss}
 use Rattle.continuous_rate.proofs.LeastLaws.{least-within, least-low, least-first, least-only}
 
 -- the place of a candidate

@@ -21,7 +21,7 @@ use Rattle.continuous.specs.Continuous.{squareDown, fourthPower, sideDiscount}
 use Rattle.continuous.proofs.Sides.{hundred-lower, at-zero}
 use Rattle.continuous_rate.specs.Least.{firstLeast}
 use Rattle.continuous_rate.specs.ContinuousRate.{distance, continuousRate, continuousRateAnswer}
-use Rattle.continuous_rate.specs.Search.{sideMiss, windowMiss, reachOf}
+use Rattle.continuous_rate.specs.inside.Search.{sideMiss, windowMiss, reachOf}
 use Rattle.continuous_rate.proofs.LeastLaws.{least-only}
 use Rattle.continuous_rate.proofs.Window.{FallsPast, RisesPast, above-window, below-stays, below-moves}
 use Rattle.continuous_rate.proofs.Candidates.{rate-above, rate-below}

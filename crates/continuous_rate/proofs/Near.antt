@@ -16,7 +16,7 @@ use Rattle.continuous.specs.Continuous.{squareDown, fourthPower, sideDiscount}
 use Rattle.continuous.proofs.Squares.{square-grows}
 use Rattle.continuous.proofs.Sides.{hundred-lower}
 use borrow.Author.Tests.{lt-ltb, le-ltb}
-use Rattle.continuous_rate.specs.Search.{reachOf}
+use Rattle.continuous_rate.specs.inside.Search.{reachOf}
 
 -- a product that grows by at most c divisors has a quotient that grows by at most c
 quotient : (x y m c : ℕ) → 0 < m → x ≤ y + c * m → x / m ≤ y / m + c

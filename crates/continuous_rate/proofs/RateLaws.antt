@@ -23,7 +23,7 @@ use Rattle.step_rate.proofs.RateLaws as step
 use Rattle.continuous.proofs.Sides.{at-zero}
 use Rattle.continuous_rate.specs.Least.{firstLeast}
 use Rattle.continuous_rate.specs.ContinuousRate.{distance, continuousRate, continuousRateAnswer, Nearest, SameSign}
-use Rattle.continuous_rate.specs.Search.{sideMiss}
+use Rattle.continuous_rate.specs.inside.Search.{sideMiss}
 use Rattle.continuous_rate.proofs.LeastLaws.{least-within, least-only}
 use Rattle.continuous_rate.proofs.Candidates.{rate-nearest, rate-only, rate-above, rate-below}
 

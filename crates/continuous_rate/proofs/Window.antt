@@ -13,7 +13,7 @@ use Rattle.limits.specs.Limits.{mostDiscount}
 use Rattle.continuous.proofs.Sides.{next-higher, at-zero, below-end}
 use Rattle.continuous_rate.specs.Least.{firstLeast}
 use Rattle.continuous_rate.specs.ContinuousRate.{distance}
-use Rattle.continuous_rate.specs.Search.{sideMiss, windowMiss, before, reachOf, Passes}
+use Rattle.continuous_rate.specs.inside.Search.{sideMiss, windowMiss, before, reachOf, Passes}
 use Rattle.continuous_rate.proofs.Near.{reach-low, reach-high}
 use Rattle.continuous_rate.proofs.LeastLaws.{least-within, least-low, least-first, least-only, least-moves, least-stays}
 

@@ -1,3 +1,3 @@
 pub mod Least
 pub mod ContinuousRate
-pub mod Search
+pub mod inside

@@ -7,10 +7,9 @@ ghost use Rattle.limits.specs.Limits.{mostDiscount};
 ghost use Rattle.continuous.specs.Continuous.{sideDiscount};
 ghost use Rattle.continuous_rate.specs.Least.{firstLeast};
 ghost use Rattle.continuous_rate.specs.ContinuousRate.{continuousRateAnswer};
-ghost use Rattle.continuous_rate.specs.Search.{sideMiss, windowMiss, before, reachOf, Passes};
+ghost use Rattle.continuous_rate.specs.inside.Search.{sideMiss, windowMiss, before, reachOf, Passes};
+use arithmetic::ONE;
 use step_rate::Rate;
-
-const ONE: u64 = 1_000_000_000;
 
 fn side_discount(quotient: u64, below: bool) -> u64
     requires { ⌜ quotient ≤ one ⌝ }

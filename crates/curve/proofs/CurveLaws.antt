@@ -9,6 +9,7 @@ use borrow.Author.Tests.{lt-leb, le-leb, leb-true, eq-eqb, ne-eqb, eqb-true}
 use lib.Dec.{leb, eqb}
 use lib.ListN.{length, getD}
 use lib.Ieee.{Float, nan}
+use Rattle.arithmetic.proofs.CauseLaws.{unless-accepted, unless-refused}
 use Rattle.arithmetic.specs.declared.Answer.{Answer}
 use Rattle.arithmetic.specs.Row.{row, values, place, each}
 use Rattle.arithmetic.proofs.RowLaws.{length-row, each-holds}
@@ -166,13 +167,13 @@ module _ (f n : ℕ) (rows kinds : List ℕ) (figures : List Float) (memory : Li
   -- a refusal leaves the memory as it was
   pub curve-kept : (curveNumber f n rows kinds figures (length memory) ≡ 0 → ⊥) → curveMemory f n rows kinds figures memory ≡ memory
   unfolding curveMemory
-  curve-kept h = rw (ne-eqb (curveNumber f n rows kinds figures (length memory)) 0 h)
+  curve-kept h = unless-refused (curveNumber f n rows kinds figures (length memory)) _ memory h
 
   module _ (h : curveNumber f n rows kinds figures (length memory) ≡ 0) where
     -- an accepted curve stands at the memory's start
     pub curve-stored : curveMemory f n rows kinds figures memory ≡ place memory 0 (row n (discountAt f kinds figures))
     unfolding curveMemory
-    curve-stored = rw h
+    curve-stored = unless-accepted (curveNumber f n rows kinds figures (length memory)) _ memory h
 
     fits : 0 + length (row n (discountAt f kinds figures)) ≤ length memory
     fits = omega (arith, length-row n (discountAt f kinds figures), accepted f n rows kinds figures (length memory) h .room-enough)

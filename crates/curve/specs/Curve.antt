@@ -6,6 +6,7 @@ use mathlib.Core.List.{List}
 use lib.Dec.{leb, eqb}
 use lib.ListN.{length, getD}
 use lib.Ieee.{Float, nan}
+use Rattle.arithmetic.specs.Answers.{unlessRefused}
 use Rattle.arithmetic.specs.declared.Answer.{Answer}
 use Rattle.arithmetic.specs.Row.{row, values, place, each}
 use Rattle.arithmetic.specs.Frequency.{listed}
@@ -47,6 +48,4 @@ curveNumber f n rows kinds figures room =
 unfoldable pub curveMemory : ℕ → ℕ → List ℕ → List ℕ → List Float → List ℕ → List ℕ
 unfolding curveNumber place row
 curveMemory f n rows kinds figures memory =
-    cond (eqb (curveNumber f n rows kinds figures (length memory)) 0)
-    (place memory 0 (row n (discountAt f kinds figures)))
-    memory
+    unlessRefused (curveNumber f n rows kinds figures (length memory)) (place memory 0 (row n (discountAt f kinds figures))) memory

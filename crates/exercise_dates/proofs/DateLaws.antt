@@ -16,13 +16,15 @@ use Rattle.arithmetic.proofs.RowLaws.{length-row, values-row, row-of, each-none
 use Rattle.arithmetic.proofs.PaddedLaws.{padded-of, padded-length, padded-take}
 use Rattle.limits.specs.Limits.{mostSteps}
 use Rattle.pricing_laws.specs.Pricer.{call, put}
-use Rattle.pricing_laws.specs.Schedule.{among, inDates, lastDate, datedSchedule, rising, numberedSide, everyRow, kindDates, marked}
+use Rattle.pricing_laws.specs.Schedule.{among, inDates, lastDate, datedSchedule, rising, numberedSide, everyRow, kindDates}
+use Rattle.pricing_laws.specs.inside.Marks.{marked}
 use Rattle.pricing_laws.proofs.Dates.{among-hit, among-miss, among-none}
 use Rattle.pricing_laws.proofs.Schedules.{Alike}
 use Rattle.exercise.specs.declared.Terms.{Terms}
 use Rattle.exercise.specs.Terms.{side}
 use Rattle.exercise_dates.specs.declared.Dates.{Dates}
-use Rattle.exercise_dates.specs.Dates.{rowsOfATree, marksOf, datedTerms, held, datesOfKind, datesTo}
+use Rattle.exercise_dates.specs.Dates.{rowsOfATree, marksOf, datedTerms, held, datesOfKind}
+use Rattle.exercise_dates.specs.inside.Dates.{datesTo}
 
 -- ---- a list is tested from its start: the first k rows rise
 

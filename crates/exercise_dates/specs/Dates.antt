@@ -2,7 +2,7 @@
 -- Assumes nothing.
 use Prim.Native.Nat.{ℕ, suc}
 use mathlib.Core.Bool.{cond}
-use mathlib.Core.List.{List, [], _∷_}
+use mathlib.Core.List.{List, []}
 use lib.Dec.{eqb, leb}
 use lib.ListN.{length}
 use Rattle.arithmetic.specs.Row.{row, values, padded}
@@ -30,7 +30,3 @@ held dates = record { count = length dates; rows = padded rowsOfATree (length da
 -- the list of a kind; none where no tree has the expiry
 unfoldable pub datesOfKind : ℕ → ℕ → Dates
 datesOfKind kind expiry = held (cond (leb expiry mostSteps) (kindDates kind expiry) [])
-
--- every row to expiry
-unfoldable pub datesTo : ℕ → List ℕ
-datesTo expiry = row rowsOfATree (λ i. cond (leb i expiry) i 0)

@@ -6,8 +6,7 @@ ghost use Rattle.arithmetic.specs.Sum.{sum};
 ghost use Rattle.factor.specs.Series.{term, even, odd};
 ghost use Rattle.factor.specs.Factor.{sideAnswer, nodeAnswer};
 use arithmetic::Answer;
-
-const ONE: u64 = 1_000_000_000;
+use arithmetic::ONE;
 
 fn next_term(last: u64, y: u64, divisor: u64) -> u64
     requires { ⌜ (last ≤ one) × (y ≤ one) × (0 < divisor) ⌝ }

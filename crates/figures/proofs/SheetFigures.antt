@@ -6,7 +6,7 @@ use mathlib.Core.List.{List, [], _∷_, _++_}
 use Prim.Native.Nat.{ℕ, _≤_}
 use lib.Ieee.{isNan, ofBits}
 use borrow.Author.Tests.{le-ltb}
-use Rattle.arithmetic.specs.Answers.{lowestCause}
+use Rattle.arithmetic.specs.Answers.{lowestCause, firstCause}
 use Rattle.arithmetic.specs.Frequency.{listed}
 use Rattle.arithmetic.specs.Rounding.{nearest, roundDown, roundUp}
 use Rattle.arithmetic.specs.Row.{row, overlay, each, padded, sumOf}
@@ -38,7 +38,7 @@ use Rattle.pricing_laws.specs.Peak.{peakFrom, peak, greatestValue}
 use Rattle.price_bound.specs.PriceBound.{treeErrorBound}
 use Rattle.price_causes.specs.Causes.{flowsCause, optionCause}
 use Rattle.price_laws.specs.declared.Price.{Price}
-use Rattle.price_laws.specs.Prices.{flowAt, treeCause, firstCause, priced, bondValue, bondPeak, bondPrice, optionPrice}
+use Rattle.price_laws.specs.Prices.{flowAt, treeCause, priced, bondValue, bondPeak, bondPrice, optionPrice}
 use Rattle.job_record.specs.declared.OptionRecord.{OptionRecord}
 use Rattle.job_record.specs.declared.Job.{Job}
 use Rattle.job_record.specs.declared.Reading.{Reading}

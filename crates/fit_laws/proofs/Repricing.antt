@@ -9,7 +9,7 @@ use Rattle.limits.specs.Limits.{mostQuote}
 use Rattle.arithmetic.specs.Sum.{sum}
 use Rattle.arithmetic.specs.Rounding.{one}
 use Rattle.tree.specs.Tree.{Transition, Inside, Total}
-use Rattle.fit_laws.specs.Bounds.{leastFactor, mostFactor, leastRowSum, mostRowSum}
+use Rattle.fit_laws.specs.inside.Bounds.{leastFactor, mostFactor, leastRowSum, mostRowSum}
 use Rattle.fit_laws.specs.Step.{normaliser, discount, carried, nextPrice}
 use Rattle.arithmetic.proofs.SumLaws.{sum-weigh-ge, sum-weigh-le, sum-grow}
 use Rattle.fit_laws.proofs.StepLaws.{carried-le, carried-ge, next-le, next-ge, discount-le, discount-ge, normaliser-le, normaliser-ge}

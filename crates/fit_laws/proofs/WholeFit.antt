@@ -6,7 +6,7 @@ use native.Mathlib.Omega.{arith}
 use Rattle.arithmetic.specs.Sum.{sum}
 use Rattle.arithmetic.specs.Rounding.{one}
 use Rattle.limits.specs.Limits.{mostSteps, leastQuote, mostQuote}
-use Rattle.fit_laws.specs.Bounds.{leastFactor, mostFactor, leastRowSum, mostRowSum}
+use Rattle.fit_laws.specs.inside.Bounds.{leastFactor, mostFactor, leastRowSum, mostRowSum}
 use Rattle.fit_laws.specs.Step.{normaliser, discount, nextPrice}
 use Rattle.tree.specs.Tree.{Tree, Sound}
 use Rattle.fit_laws.specs.StatePrices.{statePrice, fittedPrice, fittedDiscount}

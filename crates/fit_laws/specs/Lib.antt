@@ -1,3 +1,3 @@
 pub mod Step
 pub mod StatePrices
-pub mod Bounds
+pub mod inside

@@ -5,6 +5,7 @@ use Prim.Native.Nat.{ℕ, suc, _-_, _*_, _≤_, _<_}
 use native.Mathlib.Nat.{mul-le-mul}
 use native.Mathlib.Omega.{arith}
 use borrow.Author.Tests.{eq-eqb, ne-eqb, lt-ltb, le-ltb}
+use Rattle.limits.specs.inside.WithinLimits.{WithinLimits}
 use Rattle.arithmetic.specs.declared.Answer.{Answer}
 use Rattle.arithmetic.specs.Rounding.{one}
 use Rattle.arithmetic.proofs.Numbers.{by-order}
@@ -12,11 +13,11 @@ use Rattle.lattice.specs.Shape.{halfWidth, rowStart, discountsNeeded, statePric
 use Rattle.lattice.specs.Entries.{discountsNeededAnswer, statePricesNeededAnswer, halfWidthAnswer, memoryCause}
 use Rattle.lattice.proofs.Sizes.{half-within}
 use Rattle.lattice.proofs.MemoryLaws.{memory-short, memory-lacks}
-use Rattle.lattice.proofs.TreeEntries.{Accepted, tree-accepted, tree-value, row-value}
+use Rattle.lattice.proofs.TreeEntries.{tree-accepted, tree-value, row-value}
 use Rattle.arithmetic.specs.Answers.{lowestCause}
 use Rattle.arithmetic.proofs.CauseLaws.{lowest-none}
 use Rattle.fitting.specs.Entry.{earlyCause}
-use Rattle.fitting.specs.Plans.{mostSpacing, Numbers, Planned}
+use Rattle.fitting.specs.inside.Plans.{mostSpacing, Numbers, Planned}
 
 -- the memories hold the tree
 pub memory-none : (n b ds ps : ℕ) → memoryCause n b ds ps ≡ 0 → (discountsNeededAnswer n b .value ≤ ds) × (statePricesNeededAnswer n b .value ≤ ps)
@@ -41,7 +42,7 @@ module _ (n w converted spaced ds ps : ℕ) (z : earlyCause converted n w spaced
   rights : (spaced ≡ 0) × (memoryCause n w ds ps ≡ 0)
   rights = lowest-none spaced (memoryCause n w ds ps) (sides .1)
 
-  accepted : Accepted n w
+  accepted : WithinLimits n w
   accepted = tree-accepted n w (discountsNeeded n w) (discountsNeededAnswer n w) refl (lefts .1)
 
   pub numbers-of : Numbers n w converted spaced ds ps
@@ -51,9 +52,7 @@ module _ (n w converted spaced ds ps : ℕ) (z : earlyCause converted n w spaced
       record {
         quotes-converted = lefts .0;
         spacing-found = rights .0;
-        steps-positive = accepted .steps-positive;
-        steps-within-limit = accepted .steps-within-limit;
-        reversion-within-limit = accepted .reversion-within-limit;
+        limits = accepted;
         room-discounts = rw (tree-value n w (rowStart w n) (discountsNeededAnswer n w) refl accepted) at (room .0);
         room-prices = rw (tree-value n w (rowStart w (suc n)) (statePricesNeededAnswer n w) refl accepted) at (room .1);
       }
@@ -91,12 +90,12 @@ module _ {n w converted spaced h ds ps early : ℕ} (t : Tested n w converted sp
     module _ {half : Answer} (eh : half ≡ halfWidthAnswer w (n - 1)) where
       half-known : half .value ≡ halfWidth w (n - 1)
       half-known =
-          row-value w (n - 1) (halfWidth w (n - 1)) half eh (known .reversion-within-limit) (omega (arith, known .steps-within-limit))
+          row-value w (n - 1) (halfWidth w (n - 1)) half eh (known .limits .reversion-within-limit) (omega (arith, known .limits .steps-within-limit))
 
       pub product-fits : half .value * h ≤ 5109549860
       product-fits =
           mul-le-mul {n₁ = half .value} {m₁ = h} {n₂ = 59} {m₂ = mostSpacing}
-          (omega (arith, half-known, half-within w (n - 1), known .steps-within-limit)) (t .spacing-small)
+          (omega (arith, half-known, half-within w (n - 1), known .limits .steps-within-limit)) (t .spacing-small)
 
       pub plan-wide : one < half .value * h → Planned n w converted spaced h ds ps (record { number = 8; spacing = 0; widest = 0 })
       plan-wide l =

@@ -32,10 +32,11 @@ use Rattle.limits.specs.Limits.{mostSteps, mostReversion, isSteps, leastQuote, 
 use Rattle.curve.specs.Curve.{discountAt, convertsAt, inPlace, curveNumber, curveMemory}
 use Rattle.curve.proofs.CurveLaws.{curve-range, curve-stored}
 use Rattle.fitting.specs.declared.causes.Plan.{Plan}
-use Rattle.fitting.specs.Fit.{curveDiscount, curvePrice, curveAccepted, rowsOrZeros, TreeFitted}
-use Rattle.fitting.specs.Preconditions.{QuotesReady}
+use Rattle.fitting.specs.Fit.{curveDiscount, curvePrice, curveAccepted}
+use Rattle.fitting.specs.inside.TableFit.{rowsOrZeros, TreeFitted}
+use Rattle.fitting.specs.inside.Preconditions.{QuotesReady}
 use Rattle.fitting.specs.Entry.{quotesOf, earlyCause, lateCause, fittedNumber, fitMemory, fitDiscounts, fitPrices}
-use Rattle.fitting.specs.Plans.{SpacingKnown, Planned}
+use Rattle.fitting.specs.inside.Plans.{SpacingKnown, Planned}
 use Rattle.fitting.proofs.CauseLaws.{numbers-of}
 
 -- causes 2 to 7 are at most 7
@@ -181,7 +182,7 @@ module _ {f n b : ℕ} {spaced : Answer} {rows kinds : List ℕ} {figures : List
     quoted-all = ap (curveNumber f n rows kinds figures) (k .memory-length) ∙ k .planned .numbers z .quotes-converted
 
     pub steps-few : n ≤ mostSteps
-    steps-few = k .planned .numbers z .steps-within-limit
+    steps-few = k .planned .numbers z .limits .steps-within-limit
 
     quotes-are : take n after ≡ quotesOf f n kinds figures
     unfolding place
@@ -202,9 +203,7 @@ module _ {f n b : ℕ} {spaced : Answer} {rows kinds : List ℕ} {figures : List
     quotes-ready =
         let numbers = k .planned .numbers z in
         record {
-          steps-positive = rw quotes-length (numbers .steps-positive);
-          steps-within-limit = rw quotes-length (numbers .steps-within-limit);
-          reversion-within-limit = numbers .reversion-within-limit;
+          limits = rw quotes-length (numbers .limits);
           widest-is = rw quotes-length (k .planned .widest-is z);
           spacing-within-one = k .planned .spacing-within-one z;
           quotes-least = λ i h. in-range i (rw quotes-length at h) .0;

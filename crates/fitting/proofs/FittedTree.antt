@@ -7,6 +7,7 @@ use native.Mathlib.Omega.{arith}
 use lib.Ieee.{Float}
 use lib.ListN.{length}
 use borrow.Author.Tests.{eq-eqb}
+use Rattle.arithmetic.proofs.CauseLaws.{unless-accepted}
 use Rattle.arithmetic.specs.Row.{values, place}
 use Rattle.arithmetic.proofs.RowLaws.{each-cong}
 use Rattle.limits.specs.Limits.{isDiscount, shapeCause}
@@ -23,7 +24,7 @@ use Rattle.fitting.proofs.Promised.{fit-numbers, fit-accepted}
 -- a memory after a fit
 pub fit-placed : (number : ℕ) (part memory : List ℕ) → number ≡ 0 → fitMemory number part memory ≡ place memory 0 part
 unfolding fitMemory
-fit-placed number part memory z = rw (eq-eqb number 0 z)
+fit-placed number part memory z = unless-accepted number _ _ z
 
 module _ (f n b h : ℕ) (kinds : List ℕ) (figures : List Float) where
   pub fit-discounts-length : length (fitDiscounts f n b h kinds figures) ≡ discountsNeeded n b
@@ -46,7 +47,7 @@ module _ (f n b h : ℕ) (kinds : List ℕ) (figures : List Float) where
     fit-shape : shapeCause n b ≡ 0
     fit-shape =
         let m = fit-numbers f n b spaced h rows kinds figures ds ps z in
-        shape-found n b (m .steps-positive) (m .steps-within-limit) (m .reversion-within-limit)
+        shape-found n b (m .limits .steps-positive) (m .limits .steps-within-limit) (m .limits .reversion-within-limit)
 
     -- an accepted fit is an accepted tree, in any memory that holds its discounts
     pub fit-lent : (discounts : List ℕ) → discountsNeeded n b ≤ length discounts →

@@ -12,10 +12,11 @@ use Rattle.arithmetic.proofs.RowLaws.{Filled, filled-start, filled-next, filled
 use Rattle.limits.specs.Limits.{mostDiscount, isDiscount, mostQuote}
 use Rattle.tree.specs.Tree.{chance, incoming}
 use Rattle.tree.proofs.StepLaws.{incoming-none}
-use Rattle.row_branches.specs.RowBranches.{rowBranch, rowTransition}
+use Rattle.row_branches.specs.RowBranches.{rowBranch}
+use Rattle.row_branches.specs.inside.Transitions.{rowTransition}
 use Rattle.fit_laws.specs.Step.{carried}
-use Rattle.fit_laws.specs.Bounds.{mostFactor, mostRowSum}
-use Rattle.fitting.specs.Preconditions.{StepReady, SpreadReady}
+use Rattle.fit_laws.specs.inside.Bounds.{mostFactor, mostRowSum}
+use Rattle.fitting.specs.inside.Preconditions.{StepReady, SpreadReady}
 use Rattle.fitting.proofs.StepRows.{AtNode, quoted-small, node-asks, sums-small, product-most, amount-most, sums-next}
 
 -- quote × factor / Z

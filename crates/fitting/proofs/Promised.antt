@@ -28,10 +28,10 @@ use Rattle.curve.proofs.CurveLaws.{curve-range}
 use Rattle.fit_laws.specs.StatePrices.{acceptedRow, exactStatePrice, statePriceErrorBound}
 use Rattle.fit_laws.proofs.Shortfall.{state-below, state-price-shortfall}
 use Rattle.fit_laws.proofs.WholeFit.{Curve, fitted-is-state, quotes-repriced}
-use Rattle.fit_laws.specs.Bounds.{leastFactor, mostFactor}
+use Rattle.fit_laws.specs.inside.Bounds.{leastFactor, mostFactor}
 use Rattle.fitting.specs.Fit.{quoted, curveAccepted, nodeFactor}
 use Rattle.fitting.specs.Entry.{quotesOf, earlyCause, lateCause, fittedNumber, fitDiscount, fitPrice}
-use Rattle.fitting.specs.Plans.{Numbers}
+use Rattle.fitting.specs.inside.Plans.{Numbers}
 use Rattle.fitting.proofs.CauseLaws.{numbers-of}
 
 late-parts : (w a : Bool) → _≡_ {A = ℕ} (cond w 8 (cond a 0 9)) 0 → (w ≡ false) × (a ≡ true)
@@ -78,7 +78,7 @@ module _ (f n b spaced h : ℕ) (rows kinds : List ℕ) (figures : List Float) (
       ∙ parts .1
 
   pub fit-sound : Sound (rateTree b)
-  fit-sound = rate-tree-sound b (fit-numbers .reversion-within-limit)
+  fit-sound = rate-tree-sound b (fit-numbers .limits .reversion-within-limit)
 
   range : (i : ℕ) → i < n → (leastQuote ≤ discountAt f kinds figures i) × (discountAt f kinds figures i ≤ mostQuote)
   range = curve-range f n rows kinds figures mostSteps (fit-numbers .quotes-converted)
@@ -109,7 +109,7 @@ module _ (f n b spaced h : ℕ) (rows kinds : List ℕ) (figures : List Float) (
   unfolding rateTree
   curve =
       record {
-        steps = fit-numbers .steps-within-limit;
+        steps = fit-numbers .limits .steps-within-limit;
         counts = count-most;
         quote-low = λ i l. rw (quote-is i l) (range i l .0);
         quote-high = λ i l. rw (quote-is i l) (range i l .1);

@@ -12,11 +12,11 @@ use Rattle.arithmetic.specs.Row.{row, values, place, each}
 use Rattle.arithmetic.proofs.PartLaws.{part-is, part-length}
 use Rattle.arithmetic.proofs.RowLaws.{row-cong, values-row, length-row}
 use Rattle.tree.specs.Tree.{incoming, probabilityTotal}
-use Rattle.row_branches.specs.RowBranches.{rowTransition}
+use Rattle.row_branches.specs.inside.Transitions.{rowTransition}
 use Rattle.limits.specs.Limits.{isDiscount}
 use Rattle.fit_laws.specs.Step.{carried, nextPrice}
-use Rattle.fitting.specs.Rows.{RowStepped, RowFitted, rowPrices, rowDiscounts}
-use Rattle.fitting.specs.Preconditions.{StepReady, RowReady}
+use Rattle.fitting.specs.inside.Rows.{RowStepped, RowFitted, rowPrices, rowDiscounts}
+use Rattle.fitting.specs.inside.Preconditions.{StepReady, RowReady}
 use Rattle.fitting.proofs.StepRows.{never}
 
 -- a memory with k places from place a on replaced, as lending a part leaves it

@@ -11,13 +11,13 @@ use Rattle.arithmetic.specs.Row.{row, values, each}
 use Rattle.arithmetic.proofs.SumLaws.{sum-weigh-ge}
 use Rattle.arithmetic.proofs.RowLaws.{length-row}
 use Rattle.tree.specs.Tree.{incoming}
-use Rattle.row_branches.specs.RowBranches.{rowTransition}
+use Rattle.row_branches.specs.inside.Transitions.{rowTransition}
 use Rattle.limits.specs.Limits.{isDiscount}
 use Rattle.fit_laws.specs.Step.{normaliser, discount, carried}
 use Rattle.fit_laws.proofs.StepLaws.{normaliser-ge}
-use Rattle.fit_laws.specs.Bounds.{leastFactor, leastRowSum}
-use Rattle.fitting.specs.Rows.{RowStepped}
-use Rattle.fitting.specs.Preconditions.{StepReady}
+use Rattle.fit_laws.specs.inside.Bounds.{leastFactor, leastRowSum}
+use Rattle.fitting.specs.inside.Rows.{RowStepped}
+use Rattle.fitting.specs.inside.Preconditions.{StepReady}
 
 -- Z is not 0
 normaliser-positive : (n : ℕ) (q u : ℕ → ℕ) → leastRowSum ≤ sum n q → ((k : ℕ) → k < n → leastFactor ≤ u k) → 0 < normaliser n q u

@@ -15,14 +15,15 @@ use Rattle.arithmetic.proofs.RowLaws.{row-cong, values-row, length-row, each-ho
 use Rattle.tree.specs.Tree.{Transition, Inside, Total, chance, incoming, probabilityTotal}
 use Rattle.tree.proofs.StepLaws.{incoming-next, incoming-total, chance-times}
 use Rattle.row_branches.specs.declared.RowBranch.{RowBranch}
-use Rattle.row_branches.specs.RowBranches.{branchUp, branchMiddle, branchDown, branchTotal, rowBranch, rowTransition}
+use Rattle.row_branches.specs.RowBranches.{rowBranch}
+use Rattle.row_branches.specs.inside.Transitions.{branchUp, branchMiddle, branchDown, branchTotal, rowTransition}
 use Rattle.row_branches.proofs.BranchLaws.{backwards}
 use Rattle.limits.specs.Limits.{mostDiscount, isDiscount, mostQuote}
 use Rattle.limits.proofs.LimitLaws.{discount-most}
 use Rattle.fit_laws.specs.Step.{carried}
 use Rattle.fit_laws.proofs.StepLaws.{carried-le}
-use Rattle.fitting.specs.Preconditions.{Factors, SpreadReady}
-use Rattle.fit_laws.specs.Bounds.{mostFactor, mostRowSum, mostCarried, mostIncoming}
+use Rattle.fitting.specs.inside.Preconditions.{Factors, SpreadReady}
+use Rattle.fit_laws.specs.inside.Bounds.{mostFactor, mostRowSum, mostCarried, mostIncoming}
 
 -- the sum of state price × factor over the first k nodes, and one node more
 abbrev pub weighed : List ℕ → List ℕ → ℕ → ℕ

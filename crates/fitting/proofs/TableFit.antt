@@ -16,7 +16,7 @@ use Rattle.tree.proofs.LayoutLaws.{laid-cong}
 use Rattle.lattice.specs.Shape.{halfWidth, nodeCount, rowStart, discountsNeeded, statePricesNeeded}
 use Rattle.lattice.specs.Branching.{downProbability}
 use Rattle.lattice.specs.RateTree.{nodeOfIndex, node, rateTree}
-use Rattle.lattice.specs.Entries.{tableOf, discountsNeededAnswer, statePricesNeededAnswer}
+use Rattle.lattice.specs.Entries.{tableOf, discountsNeededAnswer, statePricesNeededAnswer, tableOffset}
 use Rattle.lattice.proofs.EntryLaws.{tree-found}
 use Rattle.lattice.proofs.Differences.{sub-is, sub-size}
 use Rattle.lattice.proofs.RateTreeLaws.{same-node}
@@ -26,22 +26,11 @@ use Rattle.factor.proofs.FactorLaws.{index-below, index-above, side-accepted, n
 use Rattle.limits.specs.Limits.{mostSteps, isDiscount}
 use Rattle.fit_laws.specs.StatePrices.{acceptedRow}
 use Rattle.fit_laws.proofs.WholeFit.{price-by, fitted-discount-by}
-use Rattle.fit_laws.specs.Bounds.{leastFactor, mostFactor}
-use Rattle.fitting.specs.Rows.{tableFactor}
-use Rattle.fitting.specs.Preconditions.{Tables, QuotesReady}
-use Rattle.fitting.specs.Fit.{
-  quoted,
-  tableDiscount,
-  tablePrice,
-  tableAccepted,
-  curveDiscount,
-  curvePrice,
-  curveAccepted,
-  nodeFactor,
-  TreeFitted,
-  PastKept,
-}
-use Rattle.lattice.specs.Entries.{tableOffset}
+use Rattle.fit_laws.specs.inside.Bounds.{leastFactor, mostFactor}
+use Rattle.fitting.specs.inside.Rows.{tableFactor}
+use Rattle.fitting.specs.inside.Preconditions.{Tables, QuotesReady}
+use Rattle.fitting.specs.Fit.{quoted, curveDiscount, curvePrice, curveAccepted, nodeFactor}
+use Rattle.fitting.specs.inside.TableFit.{tableDiscount, tablePrice, tableAccepted, TreeFitted, PastKept}
 use Rattle.lattice.proofs.Sizes.{half-within}
 use Rattle.lattice.proofs.ShapeLaws.{table-room, offset-is}
 
@@ -71,7 +60,7 @@ table-bounds w k h within l = factor-bounds (subℕ k w) h (nearer-within (natAb
 
 -- the half width of row n − 1 is below the number of steps
 pub widest-small : {b h w : ℕ} {q : List ℕ} {ds ps : ℕ} → QuotesReady b h w q ds ps → w + 1 ≤ mostSteps
-widest-small {b} {h} {w} {q} f = omega (arith, f .widest-is, f .steps-positive, f .steps-within-limit, half-within b (length q - 1))
+widest-small {b} {h} {w} {q} f = omega (arith, f .widest-is, f .limits .steps-positive, f .limits .steps-within-limit, half-within b (length q - 1))
 
 module _ {b h w : ℕ} {q : List ℕ} {ds ps : ℕ} (f : QuotesReady b h w q ds ps) {factors : List ℕ} (count : ℕ) (long : count ≡ 2 * w + 1)
     (ef : factors ≡ row count (λ k. factor (nodeOfIndex w k) h)) where
@@ -91,9 +80,7 @@ module _ {b h w : ℕ} {q : List ℕ} {ds ps : ℕ} (f : QuotesReady b h w q ds 
   pub tables-of : (downs : List ℕ) {after : List ℕ} → length downs ≡ 2 * w + 1 → after ≡ tableOf b w downs → Tables b (length q) factors after
   tables-of downs {after} ed ea =
       record {
-        steps-positive = f .steps-positive;
-        steps-within-limit = f .steps-within-limit;
-        reversion-within-limit = f .reversion-within-limit;
+        limits = f .limits;
         factors-bounded = record {
           length-is = factors-long;
           at-least = λ k l. rw (factors-value k l) (factors-range k l .0);
@@ -106,7 +93,7 @@ module _ {b h w : ℕ} {q : List ℕ} {ds ps : ℕ} (f : QuotesReady b h w q ds 
       known : after ≡ row (nodeCount b (length q - 1)) (λ k. downProbability b (node b (length q - 1) k))
       known =
           ea ∙ ap (λ (x : ℕ). tableOf b x downs) (f .widest-is)
-          ∙ table-fits b (length q - 1) downs (f .reversion-within-limit) (omega (arith, f .steps-within-limit)) (ed ∙ sym long ∙ count-is) .1
+          ∙ table-fits b (length q - 1) downs (f .limits .reversion-within-limit) (omega (arith, f .limits .steps-within-limit)) (ed ∙ sym long ∙ count-is) .1
 
   -- each row's factors are those of its nodes
   factor-by : (i k : ℕ) → i < length q → k < nodeCount b i → tableFactor b (length q) factors i k ≡ nodeFactor b h i k
@@ -148,15 +135,15 @@ module _ {b h w : ℕ} {q : List ℕ} {ds ps : ℕ} (f : QuotesReady b h w q ds 
 -- what the lattice answers about the sizes of an accepted tree
 module _ {b n : ℕ} {factors downs : List ℕ} (t : Tables b n factors downs) where
   nonzero : n ≡ 0 → ⊥
-  nonzero z = omega (arith, t .steps-positive)
+  nonzero z = omega (arith, t .limits .steps-positive)
 
   pub needed-discounts : {a : Answer} → a ≡ discountsNeededAnswer n b → a .value ≡ rowStart b n
   unfolding discountsNeeded
-  needed-discounts e = ap (λ (x : Answer). x .value) (e ∙ tree-found n b _ nonzero (t .steps-within-limit) (t .reversion-within-limit))
+  needed-discounts e = ap (λ (x : Answer). x .value) (e ∙ tree-found n b _ nonzero (t .limits .steps-within-limit) (t .limits .reversion-within-limit))
 
   pub needed-prices : {a : Answer} → a ≡ statePricesNeededAnswer n b → a .value ≡ rowStart b (suc n)
   unfolding statePricesNeeded
-  needed-prices e = ap (λ (x : Answer). x .value) (e ∙ tree-found n b _ nonzero (t .steps-within-limit) (t .reversion-within-limit))
+  needed-prices e = ap (λ (x : Answer). x .value) (e ∙ tree-found n b _ nonzero (t .limits .steps-within-limit) (t .limits .reversion-within-limit))
 
 -- memories whose fronts were cleared, x and y places long
 module _ {b n x y : ℕ} {discount price : ℕ → ℕ → ℕ} {d p d₁ p₁ d₂ p₂ : List ℕ} (kept : PastKept b n d p d₁ p₁)

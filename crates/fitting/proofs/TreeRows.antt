@@ -19,13 +19,13 @@ use Rattle.lattice.specs.Entries.{tableOffset, shapeOf, rowShapeAnswer}
 use Rattle.lattice.proofs.Sizes.{row-ends, start-suc, count-within}
 use Rattle.lattice.proofs.ShapeLaws.{shape-found, shape-fits}
 use Rattle.lattice.proofs.RateTreeLaws.{rate-tree-sound}
-use Rattle.row_branches.specs.RowBranches.{rowTransition}
+use Rattle.row_branches.specs.inside.Transitions.{rowTransition}
 use Rattle.row_branches.proofs.TableParts.{table-part, part-within, table-part-length, table-part-value, part-low, part-down, part-middle, part-up}
 use Rattle.limits.specs.Limits.{mostSteps, mostReversion, mostNodes, isDiscount}
 use Rattle.fit_laws.specs.Step.{normaliser, discount, carried, nextPrice}
 use Rattle.lattice.specs.declared.RowShape.{RowShape}
-use Rattle.fitting.specs.Rows.{RowFitted, rowPrices, tableFactor}
-use Rattle.fitting.specs.Preconditions.{RowReady, TreeRowReady}
+use Rattle.fitting.specs.inside.Rows.{RowFitted, rowPrices, tableFactor}
+use Rattle.fitting.specs.inside.Preconditions.{RowReady, TreeRowReady}
 
 -- the shape that code holds of a row of the tree
 module _ {b n i : ℕ} {s : RowShape} (reverting : b ≤ mostReversion) (few : n ≤ mostSteps) (h : i < n) (e : s ≡ rowShapeAnswer b (n - 1) i) where
@@ -98,30 +98,30 @@ module _ {b n i quote : ℕ} {factors downs discounts prices sums : List ℕ} (r
   lows : (k : ℕ) → k < nodeCount b i → rowTransition (part b n i downs) (nodeCount b (suc i)) .low k ≡ rateTree b .step i .low k
   lows k h =
       ap (λ (l : List ℕ). rowTransition l (nodeCount b (suc i)) .low k) (lent downs)
-      ∙ part-low b (n - 1) i inside downs (r .tables .downs-length) (r .tables .downs-hold) (r .tables .reversion-within-limit) k h
+      ∙ part-low b (n - 1) i inside downs (r .tables .downs-length) (r .tables .downs-hold) (r .tables .limits .reversion-within-limit) k h
 
   ups : (k : ℕ) → k < nodeCount b i → rowTransition (part b n i downs) (nodeCount b (suc i)) .up k ≡ rateTree b .step i .up k
   ups k h =
       ap (λ (l : List ℕ). rowTransition l (nodeCount b (suc i)) .up k) (lent downs)
-      ∙ part-up b (n - 1) i inside downs (r .tables .downs-length) (r .tables .downs-hold) (r .tables .reversion-within-limit) k h
+      ∙ part-up b (n - 1) i inside downs (r .tables .downs-length) (r .tables .downs-hold) (r .tables .limits .reversion-within-limit) k h
 
   middles : (k : ℕ) → k < nodeCount b i → rowTransition (part b n i downs) (nodeCount b (suc i)) .middle k ≡ rateTree b .step i .middle k
   middles k h =
       ap (λ (l : List ℕ). rowTransition l (nodeCount b (suc i)) .middle k) (lent downs)
-      ∙ part-middle b (n - 1) i inside downs (r .tables .downs-length) (r .tables .downs-hold) (r .tables .reversion-within-limit) k h
+      ∙ part-middle b (n - 1) i inside downs (r .tables .downs-length) (r .tables .downs-hold) (r .tables .limits .reversion-within-limit) k h
 
   downs-are : (k : ℕ) → k < nodeCount b i → rowTransition (part b n i downs) (nodeCount b (suc i)) .down k ≡ rateTree b .step i .down k
   downs-are k h =
       ap (λ (l : List ℕ). rowTransition l (nodeCount b (suc i)) .down k) (lent downs)
-      ∙ part-down b (n - 1) i inside downs (r .tables .downs-length) (r .tables .downs-hold) (r .tables .reversion-within-limit) k h
+      ∙ part-down b (n - 1) i inside downs (r .tables .downs-length) (r .tables .downs-hold) (r .tables .limits .reversion-within-limit) k h
 
   tree-inside : (k : ℕ) → k < nodeCount b i → rateTree b .step i .low k + 2 < nodeCount b (suc i)
   unfolding rateTree
-  tree-inside k h = rate-tree-sound b (r .tables .reversion-within-limit) .inside i k h
+  tree-inside k h = rate-tree-sound b (r .tables .limits .reversion-within-limit) .inside i k h
 
   tree-total : (k : ℕ) → k < nodeCount b i → rateTree b .step i .down k + rateTree b .step i .middle k + rateTree b .step i .up k ≡ probabilityTotal
   unfolding rateTree
-  tree-total k h = rate-tree-sound b (r .tables .reversion-within-limit) .total i k h
+  tree-total k h = rate-tree-sound b (r .tables .limits .reversion-within-limit) .total i k h
 
   row-ready : RowReady (rowStart b i) (nodeCount b (suc i)) quote (part b n i factors) (part b n i downs) discounts prices sums
   row-ready =
@@ -138,7 +138,7 @@ module _ {b n i quote : ℕ} {factors downs discounts prices sums : List ℕ} (r
         branches-total = λ k h. let l = rw factors-length at h in rw (downs-are k l, middles k l, ups k l) (tree-total k l);
         room-discounts = rw factors-length (omega (arith, row-ends b i n (r .in-tree), r .room-discounts));
         room-prices = rw factors-length (omega (arith, start-suc b i, row-ends b (suc i) (suc n) (omega (arith, r .in-tree)), r .room-prices));
-        room-sums = omega (arith, count-within b (suc i) (omega (arith, r .in-tree, r .tables .steps-within-limit)), r .room-sums);
+        room-sums = omega (arith, count-within b (suc i) (omega (arith, r .in-tree, r .tables .limits .steps-within-limit)), r .room-sums);
         row-sum-least = rw factors-length (r .row-sum-least);
         row-sum-most = rw factors-length (r .row-sum-most);
         quote-within-limit = r .quote-within-limit;

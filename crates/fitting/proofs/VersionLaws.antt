@@ -8,6 +8,7 @@ use native.Mathlib.Omega.{arith}
 use lib.Dec.{leb}
 use lib.Ieee.{Float}
 use borrow.Author.Tests.{le-ltb, eq-eqb, ne-eqb}
+use Rattle.limits.specs.inside.WithinLimits.{WithinLimits}
 use Rattle.arithmetic.specs.Answers.{lowestCause}
 use Rattle.arithmetic.specs.Frequency.{listed}
 use Rattle.arithmetic.specs.declared.Answer.{Answer}
@@ -16,22 +17,14 @@ use Rattle.arithmetic.proofs.CauseLaws.{lowest-second}
 use Rattle.limits.specs.Limits.{mostSteps, mostReversion}
 use Rattle.lattice.specs.Shape.{discountsNeeded}
 use Rattle.lattice.specs.Entries.{discountsNeededAnswer, statePricesNeededAnswer, memoryCause}
-use Rattle.lattice.proofs.TreeEntries.{Accepted, by-tree}
+use Rattle.lattice.proofs.TreeEntries.{by-tree}
 use Rattle.reversion.specs.Reversion.{isVersion}
 use Rattle.reversion.proofs.ReversionLaws.{working-first}
 use Rattle.spacing.specs.Spacing.{spacing, spacingAnswer, versionSpacingAnswer}
 use Rattle.spacing.proofs.SpacingLaws.{spacing-unlisted, spacing-volatile, spacing-accepted}
 use Rattle.spacing.proofs.VersionLaws.{version-first, answer-unlisted, answer-reverting}
 use Rattle.curve.specs.Curve.{curveNumber}
-use Rattle.fitting.specs.Entry.{earlyCause, fittedNumber, fitNumber, fitDiscount, fitPrice, versionNumber, versionDiscount, versionPrice}
-
--- node discounts and state prices
-module _ (f n b s : ℕ) (kinds : List ℕ) (figures : List Float) where
-  pub first-discount : versionDiscount 1 f n b s kinds figures ≡ fitDiscount f n b (spacing f s) kinds figures
-  first-discount = rw (working-first b, version-first f s b)
-
-  pub first-price : versionPrice 1 f n b s kinds figures ≡ fitPrice f n b (spacing f s) kinds figures
-  first-price = rw (working-first b, version-first f s b)
+use Rattle.fitting.specs.Entry.{earlyCause, fittedNumber, fitNumber, versionNumber}
 
 -- ---- the number: a reversion beyond its limit is a cause of the tree and of the spacing by version
 
@@ -78,7 +71,7 @@ module _ (f n b s : ℕ) where
     tree-low : (discountsNeededAnswer n b .number ≡ 0 → ⊥) × (discountsNeededAnswer n b .number ≤ 4)
     tree-low =
         by-tree n b (discountsNeeded n b) (λ a. (a .number ≡ 0 → ⊥) × (a .number ≤ 4)) (λ _. (three, omega arith)) (λ _. (three, omega arith))
-        (λ _ _ _. (four, omega arith)) (λ (k : Accepted n b). absurd (beyond (k .reversion-within-limit)))
+        (λ _ _ _. (four, omega arith)) (λ (k : WithinLimits n b). absurd (beyond (k .reversion-within-limit)))
       where
         three : _≡_ {A = ℕ} 3 0 → ⊥
         three z = omega arith

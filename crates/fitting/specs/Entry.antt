@@ -9,7 +9,7 @@ use Prim.Native.Nat.{ℕ, suc, _-_, _*_}
 use lib.Dec.{eqb, ltb}
 use lib.Ieee.{Float}
 use lib.ListN.{length}
-use Rattle.arithmetic.specs.Answers.{lowestCause}
+use Rattle.arithmetic.specs.Answers.{unlessRefused, lowestCause}
 use Rattle.arithmetic.specs.Rounding.{one}
 use Rattle.arithmetic.specs.Row.{row, place}
 use Rattle.limits.specs.Limits.{mostSteps}
@@ -54,7 +54,7 @@ fittedNumber f n w spaced h rows kinds figures discounts prices =
 -- a memory afterwards: the rows at its start; zeros in their place on 9; as it was on any other refusal. Nothing past them changes.
 unfoldable pub fitMemory : ℕ → List ℕ → List ℕ → List ℕ
 fitMemory number rows memory =
-    cond (eqb number 0) (place memory 0 rows) (cond (eqb number 9) (place memory 0 (row (length rows) (λ k. 0))) memory)
+    unlessRefused number (place memory 0 rows) (cond (eqb number 9) (place memory 0 (row (length rows) (λ k. 0))) memory)
 
 -- discounts of rows 0 to n − 1, state prices of rows 0 to n, row after row
 abbrev pub fitDiscounts : ℕ → ℕ → ℕ → ℕ → List ℕ → List Float → List ℕ
@@ -81,12 +81,6 @@ pricesAfter f n b s rows kinds figures discounts prices =
 
 abbrev pub versionNumber : ℕ → ℕ → ℕ → ℕ → ℕ → List ℕ → List ℕ → List Float → ℕ → ℕ → ℕ
 versionNumber v f n b s = fittedNumber f n (workingReversion v b) (versionSpacingAnswer v f s b .number) (versionSpacing v f s b)
-
-abbrev pub versionDiscount : ℕ → ℕ → ℕ → ℕ → ℕ → List ℕ → List Float → ℕ → ℕ → ℕ
-versionDiscount v f n b s = fitDiscount f n (workingReversion v b) (versionSpacing v f s b)
-
-abbrev pub versionPrice : ℕ → ℕ → ℕ → ℕ → ℕ → List ℕ → List Float → ℕ → ℕ → ℕ
-versionPrice v f n b s = fitPrice f n (workingReversion v b) (versionSpacing v f s b)
 
 abbrev pub versionDiscounts : ℕ → ℕ → ℕ → ℕ → ℕ → List ℕ → List Float → List ℕ
 versionDiscounts v f n b s = fitDiscounts f n (workingReversion v b) (versionSpacing v f s b)

@@ -1,33 +1,18 @@
--- The fit of a tree from its converted quotes and its table of factors.
+-- The fit of a tree from its converted quotes.
 -- Assumes nothing.
-use mathlib.Core.Bool.{Bool, cond}
-use mathlib.Core.List.{List, _++_}
-use mathlib.Core.Path.{_≡_}
+use mathlib.Core.Bool.{Bool}
+use mathlib.Core.List.{List}
 use Prim.Native.Nat.{ℕ, zero, suc}
-use lib.ListN.{length, drop}
-use Rattle.arithmetic.specs.Row.{row, values, each}
-use Rattle.tree.specs.Layout.{laid}
-use Rattle.lattice.specs.Shape.{rowStart}
+use lib.ListN.{length}
+use Rattle.arithmetic.specs.Row.{values, each}
 use Rattle.lattice.specs.RateTree.{node, rateTree}
 use Rattle.factor.specs.Factor.{factor}
 use Rattle.fit_laws.specs.StatePrices.{fittedPrice, fittedDiscount, acceptedRow}
-use Rattle.fitting.specs.Rows.{tableFactor}
 
 -- the quotes of rows 1 to n by row; row 0 has none
 unfoldable pub quoted : List ℕ → ℕ → ℕ
 quoted quotes zero = 0
 quoted quotes (suc i) = values quotes i
-
--- discounts and state prices by row and node
-abbrev pub tableDiscount : ℕ → List ℕ → List ℕ → ℕ → ℕ → ℕ
-tableDiscount b quotes factors = fittedDiscount (rateTree b) (tableFactor b (length quotes) factors) (quoted quotes)
-
-abbrev pub tablePrice : ℕ → List ℕ → List ℕ → ℕ → ℕ → ℕ
-tablePrice b quotes factors = fittedPrice (rateTree b) (tableFactor b (length quotes) factors) (quoted quotes)
-
--- whether every discount of every row is accepted
-unfoldable pub tableAccepted : ℕ → List ℕ → List ℕ → Bool
-tableAccepted b quotes factors = each (length quotes) (acceptedRow (rateTree b) (tableDiscount b quotes factors))
 
 -- the fit of converted quotes: U(j) of each node with spacing h
 abbrev pub nodeFactor : ℕ → ℕ → ℕ → ℕ → ℕ
@@ -41,24 +26,3 @@ curvePrice b h quotes = fittedPrice (rateTree b) (nodeFactor b h) (quoted quotes
 
 unfoldable pub curveAccepted : ℕ → ℕ → List ℕ → Bool
 curveAccepted b h quotes = each (length quotes) (acceptedRow (rateTree b) (curveDiscount b h quotes))
-
--- a memory once a fit was tried: rows 0 to n − 1 at its start where every discount is accepted, zeros in their place where one is not
-abbrev pub rowsOrZeros : ℕ → ℕ → Bool → (ℕ → ℕ → ℕ) → List ℕ → List ℕ
-rowsOrZeros b n accepted value memory =
-    cond accepted (laid (rateTree b) value n) (row (rowStart b n) (λ j. 0)) ++ drop (rowStart b n) memory
-
--- both memories once a fit was tried
-pub record TreeFitted (b n : ℕ) (accepted : Bool) (discount price : ℕ → ℕ → ℕ) (discounts prices discounts′ prices′ : List ℕ) : Type 0 where
-  pub discounted : discounts′ ≡ rowsOrZeros b n accepted discount discounts
-  pub priced : prices′ ≡ rowsOrZeros b (suc n) accepted price prices
-
--- the same, with the answer: whether every discount is accepted
-pub record FitTried (b n : ℕ) (accepted : Bool) (discount price : ℕ → ℕ → ℕ)
-    (discounts prices discounts′ prices′ : List ℕ) (answer : Bool) : Type 0 where
-  pub tested : answer ≡ accepted
-  pub memories : TreeFitted b n answer discount price discounts prices discounts′ prices′
-
--- nothing changed past the tree in either memory
-pub record PastKept (b n : ℕ) (discounts prices discounts′ prices′ : List ℕ) : Type 0 where
-  pub discounted : drop (rowStart b n) discounts′ ≡ drop (rowStart b n) discounts
-  pub priced : drop (rowStart b (suc n)) prices′ ≡ drop (rowStart b (suc n)) prices

@@ -1,5 +1,5 @@
 // The causes 2 to 8 of a fit.
-ghost use Rattle.fitting.specs.Plans.{SpacingKnown, Planned};
+ghost use Rattle.fitting.specs.inside.Plans.{SpacingKnown, Planned};
 use arithmetic::Answer;
 
 // What a fit needs to know of its numbers, or the number of a cause.
@@ -35,7 +35,7 @@ pub(crate) fn plan_of(
         };
     }
     let widest = lattice::half_width(reversion, steps - 1);
-    if 1_000_000_000 < widest.value * spaced.value {
+    if arithmetic::ONE < widest.value * spaced.value {
         return Plan {
             number: 8,
             spacing: 0,

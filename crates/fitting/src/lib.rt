@@ -8,7 +8,7 @@ use arithmetic::Answer;
 use tables::Grid;
 ghost use mathlib.Core.Path.{_≡_};
 ghost use lib.ListN.{length};
-ghost use Rattle.fitting.specs.Plans.{SpacingKnown};
+ghost use Rattle.fitting.specs.inside.Plans.{SpacingKnown};
 ghost use Rattle.fitting.specs.Entry.{
   fittedNumber,
   fitMemory,
@@ -44,7 +44,7 @@ fn fit_tree(
         (now (rows .entry)) (now (kinds .entry)) (now (figures .entry)) (length (now (discounts .entry))) (length (now (prices .entry))))
         (fitPrices frequency steps reversion (spaced .value) (now (kinds .entry)) (now (figures .entry))) (now (prices .entry)) ⌝ }
 {
-    let mut quotes = [0u64; 60];
+    let mut quotes = [0u64; limits::MOST_STEPS];
     let converted = curve::convert(frequency, steps, rows, kinds, figures, &mut quotes);
     let plan = causes::plan_of(
         steps,

@@ -5,12 +5,12 @@ ghost use mathlib.Core.Bool.{true};
 ghost use Prim.Native.Nat.{suc};
 ghost use lib.ListN.{length};
 ghost use Rattle.arithmetic.specs.Row.{values};
-ghost use Rattle.row_branches.specs.RowBranches.{rowTransition};
+ghost use Rattle.row_branches.specs.inside.Transitions.{rowTransition};
 ghost use Rattle.lattice.specs.Shape.{nodeCount, rowStart};
 ghost use Rattle.lattice.specs.RateTree.{rateTree};
-ghost use Rattle.fitting.specs.Rows.{tableFactor, RowFitted};
-ghost use Rattle.fitting.specs.Preconditions.{RowReady, TreeRowReady, RowsReady};
-ghost use Rattle.fitting.specs.Fit.{tableDiscount, tablePrice, tableAccepted, TreeFitted, PastKept};
+ghost use Rattle.fitting.specs.inside.Rows.{tableFactor, RowFitted};
+ghost use Rattle.fitting.specs.inside.Preconditions.{RowReady, TreeRowReady, RowsReady};
+ghost use Rattle.fitting.specs.inside.TableFit.{tableDiscount, tablePrice, tableAccepted, TreeFitted, PastKept};
 
 // Where a row starts in both memories, the next row's node count, and the next row's quote.
 struct RowPlace {
@@ -110,7 +110,7 @@ pub(crate) fn fit_rows(
     ensures kept { λ _. ⌜ PastKept reversion (length (now (quotes .entry)))
         (now (discounts .entry)) (now (prices .entry)) (now (discounts .exit)) (now (prices .exit)) ⌝ }
 {
-    prices[0] = 1_000_000_000;
+    prices[0] = arithmetic::ONE;
     let steps = quotes.len();
     let mut row: usize = 0;
     while row < steps {

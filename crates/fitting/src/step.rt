@@ -1,4 +1,5 @@
 // One step of the fit, over one row: the sums, divisions and branches of document 01.
+use arithmetic::ONE;
 use row_branches::RowBranch;
 ghost use mathlib.Core.Path.{_≡_};
 ghost use mathlib.Core.Bool.{true};
@@ -7,20 +8,13 @@ ghost use lib.ListN.{length};
 ghost use Rattle.arithmetic.specs.Sum.{sum, only};
 ghost use Rattle.arithmetic.specs.Row.{row, values, each};
 ghost use Rattle.tree.specs.Tree.{chance, incoming, probabilityTotal};
-ghost use Rattle.row_branches.specs.RowBranches.{
-  branchUp,
-  branchMiddle,
-  branchDown,
-  rowBranch,
-  rowTransition,
-};
+ghost use Rattle.row_branches.specs.RowBranches.{rowBranch};
+ghost use Rattle.row_branches.specs.inside.Transitions.{branchUp, branchMiddle, branchDown, rowTransition};
 ghost use Rattle.limits.specs.Limits.{isDiscount};
 ghost use Rattle.fit_laws.specs.Step.{normaliser, carried};
-ghost use Rattle.fit_laws.specs.Bounds.{mostRowSum};
-ghost use Rattle.fitting.specs.Rows.{RowStepped};
-ghost use Rattle.fitting.specs.Preconditions.{Factors, StepReady, SpreadReady};
-
-const ONE: u64 = 1_000_000_000;
+ghost use Rattle.fit_laws.specs.inside.Bounds.{mostRowSum};
+ghost use Rattle.fitting.specs.inside.Rows.{RowStepped};
+ghost use Rattle.fitting.specs.inside.Preconditions.{Factors, StepReady, SpreadReady};
 
 // Z of a row.
 pub(crate) fn normaliser_of(prices: &[u64], factors: &[u64]) -> u64

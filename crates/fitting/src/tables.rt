@@ -11,17 +11,9 @@ ghost use Rattle.arithmetic.specs.Row.{row};
 ghost use Rattle.limits.specs.Limits.{mostSteps, mostNodes};
 ghost use Rattle.lattice.specs.RateTree.{nodeOfIndex};
 ghost use Rattle.factor.specs.Factor.{factor};
-ghost use Rattle.fitting.specs.Preconditions.{RowsReady, QuotesReady};
-ghost use Rattle.fitting.specs.Fit.{
-  tableDiscount,
-  tablePrice,
-  tableAccepted,
-  curveAccepted,
-  curveDiscount,
-  curvePrice,
-  TreeFitted,
-  FitTried,
-};
+ghost use Rattle.fitting.specs.inside.Preconditions.{RowsReady, QuotesReady};
+ghost use Rattle.fitting.specs.Fit.{curveAccepted, curveDiscount, curvePrice};
+ghost use Rattle.fitting.specs.inside.TableFit.{tableDiscount, tablePrice, tableAccepted, TreeFitted, FitTried};
 
 // A tree's reversion, the spacing of its nodes, and the half width of its widest row that has discounts.
 pub(crate) struct Grid {
@@ -132,9 +124,9 @@ pub(crate) fn fit_quotes(
         (now (discounts .entry)) (now (prices .entry)) (now (discounts .exit)) (now (prices .exit)) ⌝ }
 {
     let count = 2 * grid.widest + 1;
-    let mut factors = [0u64; 121];
-    let mut downs = [0u64; 121];
-    let mut sums = [0u64; 121];
+    let mut factors = [0u64; limits::MOST_NODES];
+    let mut downs = [0u64; limits::MOST_NODES];
+    let mut sums = [0u64; limits::MOST_NODES];
     if fit_tables(
         grid,
         quotes,

@@ -14,7 +14,7 @@ fn write_refusal(number: u64) {
 
 // Writes one job again, by way of its record.
 fn copy(bytes: &[u8], room: &mut [u8]) {
-    let reading = jobs::read(bytes);
+    let reading = job_reader::read(bytes);
     if reading.number != 0 {
         write_refusal(reading.number);
         return;
@@ -56,6 +56,6 @@ fn copy_all(input: &[u8], room: &mut [u8]) {
 fn main() {
     let mut input = frames::input_room();
     let count = io::read_full(0, &mut input);
-    let mut room = [0u8; jobs::MOST_BYTES];
+    let mut room = [0u8; job_reader::MOST_BYTES];
     copy_all(&input[..count], &mut room);
 }

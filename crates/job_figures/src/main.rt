@@ -101,7 +101,7 @@ fn show_job(number: u64, job: Job)
 }
 
 fn show(bytes: &[u8]) {
-    let reading = jobs::read(bytes);
+    let reading = job_reader::read(bytes);
     show_job(reading.number, reading.job);
 }
 

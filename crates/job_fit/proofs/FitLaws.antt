@@ -7,20 +7,21 @@ use native.Mathlib.Omega.{arith}
 use borrow.Author.Tests.{lt-ltb, le-ltb, eq-eqb, ne-eqb}
 use lib.Ieee.{Float}
 use lib.ListN.{length, take, length-take}
+use Rattle.limits.specs.inside.WithinLimits.{WithinLimits}
+use Rattle.arithmetic.proofs.CauseLaws.{unless-accepted, unless-refused}
 use Rattle.arithmetic.specs.Row.{place}
 use Rattle.arithmetic.proofs.Numbers.{by-order}
 use Rattle.arithmetic.proofs.RowLaws.{length-row}
 use Rattle.lattice.specs.Shape.{discountsNeeded, statePricesNeeded}
-use Rattle.lattice.proofs.TreeEntries.{Accepted}
 use Rattle.curve.specs.Curve.{discountAt, curveNumber, curveMemory}
 use Rattle.spacing.specs.Spacing.{versionSpacingAnswer}
 use Rattle.fitting.specs.Entry.{versionNumber, fitMemory, versionDiscounts, versionPrices}
-use Rattle.fitting.specs.Plans.{Numbers}
+use Rattle.fitting.specs.inside.Plans.{Numbers}
 use Rattle.fitting.proofs.FittedTree.{fit-discounts-length, fit-prices-length}
 use Rattle.fitting.proofs.Promised.{fit-numbers}
 use Rattle.job_record.specs.declared.Job.{Job}
-use Rattle.job_fit.specs.RecordFit.{meantVersion, meantReversion, jobReversion, jobRows, jobKinds, jobFigures, jobQuotes, jobDiscounts, jobStatePrices}
-use Rattle.job_fit.specs.RecordFit.{recordQuotes, recordFit, memoryAfter}
+use Rattle.job_fit.specs.RecordFit.{meantVersion, meantReversion, jobReversion, jobRows, jobKinds, jobFigures}
+use Rattle.job_fit.specs.RecordFit.{jobQuotes, jobDiscounts, jobStatePrices, recordQuotes, recordFit, memoryAfter}
 
 -- ---- the version that a record means
 
@@ -41,11 +42,11 @@ lent-column l n h = simp length-take (omega arith)
 
 pub memory-placed : (number : ℕ) (part memory : List ℕ) → number ≡ 0 → memoryAfter number part memory ≡ place memory 0 part
 unfolding memoryAfter
-memory-placed number part memory z = rw (eq-eqb number 0 z)
+memory-placed number part memory z = unless-accepted number _ _ z
 
 pub memory-kept : (number : ℕ) (part memory : List ℕ) → (number ≡ 0 → ⊥) → memory ≡ memoryAfter number part memory
 unfolding memoryAfter
-memory-kept number part memory nz = rw (ne-eqb number 0 nz)
+memory-kept number part memory nz = sym (unless-refused number _ memory nz)
 
 -- ---- the number and the memories of a record
 
@@ -182,12 +183,8 @@ module _ (job : Job) where
     unfolding meantReversion
     numbers = fit-numbers _ _ _ _ _ _ _ _ ds ps fit-none
 
-    pub accepted : Accepted (job .steps) (jobReversion job)
-    accepted = record {
-      steps-positive = numbers .steps-positive;
-      steps-within-limit = numbers .steps-within-limit;
-      reversion-within-limit = numbers .reversion-within-limit;
-    }
+    pub accepted : WithinLimits (job .steps) (jobReversion job)
+    accepted = numbers .limits
 
     pub quotes-none : recordQuotes job 60 ≡ 0
     unfolding recordQuotes

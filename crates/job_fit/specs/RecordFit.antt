@@ -6,6 +6,8 @@ use mathlib.Core.List.{List, map}
 use lib.Dec.{eqb, ltb}
 use lib.Ieee.{Float}
 use lib.ListN.{take}
+use Rattle.job_record.specs.Form.{mostJobSteps}
+use Rattle.arithmetic.specs.Answers.{unlessRefused}
 use Rattle.arithmetic.specs.Row.{row, place}
 use Rattle.figure.specs.Figure.{patternFloat}
 use Rattle.curve.specs.Curve.{curveNumber}
@@ -56,15 +58,15 @@ module _ (job : Job) where
   -- 1: no job's bytes give more than 255 steps; then the causes of the conversion into a memory of so many numbers
   unfoldable pub recordQuotes : ℕ → ℕ
   recordQuotes room =
-      cond (ltb 255 (job .steps)) 1 (curveNumber (job .frequency) (job .steps) jobRows jobKinds jobFigures room)
+      cond (ltb mostJobSteps (job .steps)) 1 (curveNumber (job .frequency) (job .steps) jobRows jobKinds jobFigures room)
 
   -- 1, then causes 2 to 9, in memories of so many numbers
   unfoldable pub recordFit : ℕ → ℕ → ℕ
   recordFit discounts prices =
-      cond (ltb 255 (job .steps)) 1
+      cond (ltb mostJobSteps (job .steps)) 1
       (versionNumber (meantVersion (job .version)) (job .frequency) (job .steps) (job .reversion) (job .volatility)
       jobRows jobKinds jobFigures discounts prices)
 
 -- a memory afterwards: the part at its start and the rest as it was, or all as it was on a refusal
 unfoldable pub memoryAfter : ℕ → List ℕ → List ℕ → List ℕ
-memoryAfter number part memory = cond (eqb number 0) (place memory 0 part) memory
+memoryAfter number part memory = unlessRefused number (place memory 0 part) memory

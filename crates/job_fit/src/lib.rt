@@ -37,7 +37,7 @@ pub fn quotes_of_record(job: Job, quotes: &mut [u64]) -> u64
     ensures memory { λ _. ⌜ now (quotes .exit) ≡ memoryAfter (recordQuotes job (length (now (quotes .entry)))) (jobQuotes job) (now (quotes .entry)) ⌝ }
 {
     let steps = job.steps;
-    if steps > 255 {
+    if steps > job_record::MOST_STEPS {
         return 1;
     }
     let kinds = job.kinds;
@@ -66,7 +66,7 @@ pub fn fit_of_record(job: Job, discounts: &mut [u64], state_prices: &mut [u64]) 
         (jobStatePrices job) (now («state_prices» .entry)) ⌝ }
 {
     let steps = job.steps;
-    if steps > 255 {
+    if steps > job_record::MOST_STEPS {
         return 1;
     }
     let kinds = job.kinds;

@@ -7,24 +7,20 @@ use Prim.Native.Nat.{ℕ}
 use native.Mathlib.Omega.{arith}
 use lib.Dec.{eqb}
 use borrow.Author.Tests.{eq-eqb, ne-eqb}
+use Rattle.arithmetic.proofs.CauseLaws.{first-both, lowest-none, first-none}
 use Rattle.lattice.specs.Entries.{memoryCause}
-use Rattle.arithmetic.proofs.CauseLaws.{lowest-none}
 use Rattle.arithmetic.proofs.Numbers.{by-equal, by-test}
 use Rattle.limits.specs.Limits.{mostDiscounts, mostStatePrices}
 use Rattle.limits.proofs.LimitLaws.{limit-kept, limit-accepted}
-use Rattle.price_laws.proofs.Accuracy.{first-none}
 use Rattle.pricing_laws.specs.Pricer.{Side, Schedule}
 use Rattle.price_laws.specs.declared.Price.{Price}
-use Rattle.price_laws.specs.Prices.{firstCause, bondPeak, optionLimit, priced, scheduledPrice, bondPrice, optionPrice, datedPrice}
+use Rattle.arithmetic.specs.Answers.{firstCause}
+use Rattle.price_laws.specs.Prices.{bondPeak, optionLimit, priced, scheduledPrice, bondPrice, optionPrice, datedPrice}
 use Rattle.job_record.specs.declared.Job.{Job}
 use Rattle.job_record.specs.declared.OptionRecord.{OptionRecord}
 use Rattle.job_record.specs.Reader.{readingOf}
 use Rattle.job_fit.specs.RecordFit.{jobReversion, jobFlows, jobDiscounts, recordFit}
 use Rattle.job_prices.specs.JobPrices.{hasOption, taggedOption, treeNumber, jobBond, recordNumber, bytesNumber}
-
-first-both : (cause later : ℕ) → cause ≡ 0 → later ≡ 0 → firstCause cause later ≡ 0
-unfolding firstCause
-first-both cause later z l = rw (eq-eqb cause 0 z) l
 
 priced-number : (number price bound : ℕ) → priced number price bound .number ≡ number
 unfolding priced

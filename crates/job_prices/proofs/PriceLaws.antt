@@ -7,7 +7,7 @@ use Prim.Native.Nat.{ℕ, _≤_, _<_}
 use native.Mathlib.Omega.{arith}
 use borrow.Author.Tests.{eq-eqb, ne-eqb, le-leb, lt-leb}
 use lib.ListN.{length, take}
-use Rattle.arithmetic.specs.Answers.{lowestCause}
+use Rattle.arithmetic.specs.Answers.{lowestCause, firstCause}
 use Rattle.arithmetic.specs.Row.{values, place}
 use Rattle.arithmetic.specs.declared.Answer.{Answer}
 use Rattle.arithmetic.proofs.CauseLaws.{lowest-none}
@@ -22,7 +22,7 @@ use Rattle.fitting.proofs.CauseLaws.{memory-none}
 use Rattle.fitting.proofs.FittedTree.{fit-placed}
 use Rattle.price_laws.specs.declared.Price.{Price}
 use Rattle.price_laws.specs.declared.BondAndOption.{BondAndOption}
-use Rattle.price_laws.specs.Prices.{refusedPrice, firstCause, bondPrice, optionPrice, datedPrice}
+use Rattle.price_laws.specs.Prices.{refusedPrice, bondPrice, optionPrice, datedPrice}
 use Rattle.job_record.specs.declared.OptionRecord.{OptionRecord}
 use Rattle.job_record.specs.declared.Job.{Job}
 use Rattle.job_record.specs.declared.Reading.{Reading}
@@ -31,8 +31,9 @@ use Rattle.job_record.specs.Reader.{readingOf}
 use Rattle.job_fit.specs.RecordFit.{jobReversion, jobFlows, jobDiscounts, jobStatePrices, recordFit, memoryAfter}
 use Rattle.job_fit.proofs.FitLaws as fits
 use Rattle.job_prices.specs.declared.JobPrices.{JobPrices}
-use Rattle.job_prices.specs.JobPrices.{optionForm, optionDates, taggedOption, treeNumber, refusedPrices, pricesOf, treePrices}
-use Rattle.job_prices.specs.JobPrices.{recordNumber, recordPrices, bytesNumber, bytesPrices}
+use Rattle.job_prices.specs.JobPrices.{optionForm, optionDates, taggedOption, treeNumber, refusedPrices}
+use Rattle.job_prices.specs.JobPrices.{pricesOf, recordNumber, recordPrices, bytesNumber, bytesPrices}
+use Rattle.job_prices.specs.inside.TreePrices.{treePrices}
 
 pub all-placed : (l₀ l part : List ℕ) (i : ℕ) → Filled l₀ l (values part) i → i ≡ length part → length part ≤ length l₀ → l ≡ place l₀ 0 part
 all-placed l₀ l part i filled e fits =

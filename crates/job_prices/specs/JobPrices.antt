@@ -7,10 +7,10 @@ use mathlib.Core.List.{List}
 use lib.Dec.{eqb, leb}
 use lib.ListN.{take}
 use Rattle.lattice.specs.Entries.{memoryCause}
-use Rattle.arithmetic.specs.Answers.{lowestCause}
+use Rattle.arithmetic.specs.Answers.{lowestCause, firstCause}
 use Rattle.limits.specs.Limits.{mostDiscounts, mostStatePrices}
 use Rattle.price_laws.specs.declared.Price.{Price}
-use Rattle.price_laws.specs.Prices.{refusedPrice, firstCause, bondPrice, optionPrice, datedPrice}
+use Rattle.price_laws.specs.Prices.{refusedPrice, bondPrice, optionPrice, datedPrice}
 use Rattle.job_record.specs.declared.OptionRecord.{OptionRecord}
 use Rattle.job_record.specs.declared.Job.{Job}
 use Rattle.job_record.specs.Form.{mostDates}
@@ -53,10 +53,6 @@ refusedPrices number = record { number = number; bond = refusedPrice 0; «has_op
 unfoldable pub pricesOf : ℕ → Price → Bool → Price → JobPrices
 pricesOf number bond present option =
     cond (eqb number 0) (record { number = 0; bond = bond; «has_option» = present; option = option }) (refusedPrices number)
-
-unfoldable pub treePrices : ℕ → ℕ → List ℕ → List ℕ → OptionRecord → JobPrices
-treePrices n b discounts flows option =
-    pricesOf (treeNumber n b discounts flows option) (bondPrice n b discounts flows) (hasOption option) (treeOption n b discounts flows option)
 
 module _ (job : Job) where
   -- 1, then the lowest of causes 2 to 9 and of 6 for lent memories of so many numbers, then causes 10 to 13

@@ -1,1 +1,2 @@
 pub mod JobPrices
+pub mod inside

@@ -6,16 +6,10 @@ ghost use mathlib.Core.Path.{_≡_};
 ghost use Prim.Native.Nat.{_≤_};
 ghost use lib.ListN.{length};
 ghost use Rattle.job_fit.specs.RecordFit.{jobFlows, jobDiscounts, jobStatePrices, memoryAfter};
-ghost use Rattle.job_record.specs.Form.{mostDates};
+ghost use Rattle.job_record.specs.Form.{mostJobSteps, mostDates};
 ghost use Rattle.job_record.specs.Reader.{readingOf};
-ghost use Rattle.job_prices.specs.JobPrices.{
-  treeNumber,
-  treePrices,
-  recordNumber,
-  recordPrices,
-  bytesNumber,
-  bytesPrices,
-};
+ghost use Rattle.job_prices.specs.JobPrices.{treeNumber, recordNumber, recordPrices, bytesNumber, bytesPrices};
+ghost use Rattle.job_prices.specs.inside.TreePrices.{treePrices};
 use job_record::Job;
 use price_laws::Price;
 
@@ -37,7 +31,7 @@ fn prices_of_tree(
     discounts: &mut [u64],
     state_prices: &mut [u64],
 ) -> JobPrices
-    requires { ⌜ (job .steps ≤ 255) × (job .option .count ≤ mostDates) × (length (now «fitted_discounts») ≤ length (now discounts))
+    requires { ⌜ (job .steps ≤ mostJobSteps) × (job .option .count ≤ mostDates) × (length (now «fitted_discounts») ≤ length (now discounts))
         × (length (now «fitted_prices») ≤ length (now «state_prices»)) ⌝ }
     ensures answer { λ r. ⌜ r ≡ treePrices (job .steps) reversion (now («fitted_discounts» .entry)) (jobFlows job) (job .option) ⌝ }
     ensures discounted { λ _. ⌜ now (discounts .exit) ≡ memoryAfter
@@ -79,8 +73,8 @@ pub fn prices_of_record(job: Job, discounts: &mut [u64], state_prices: &mut [u64
     if form != 0 {
         return priced::refused(form);
     }
-    let mut fitted_discounts = memories::discounts();
-    let mut fitted_prices = memories::state_prices();
+    let mut fitted_discounts = limits::discount_room();
+    let mut fitted_prices = limits::state_price_room();
     let fitted = job_fit::fit_of_record(job, &mut fitted_discounts, &mut fitted_prices);
     let steps = job.steps;
     let reversion = job_fit::meant_reversion(job.version, job.reversion);
@@ -111,7 +105,7 @@ pub fn prices_of_job(job: &[u8], discounts: &mut [u64], state_prices: &mut [u64]
         (bytesNumber (now (job .entry)) (length (now (discounts .entry))) (length (now («state_prices» .entry))))
         (jobStatePrices (readingOf (now (job .entry)) .job)) (now («state_prices» .entry)) ⌝ }
 {
-    let reading = jobs::read(job);
+    let reading = job_reader::read(job);
     if reading.number != 0 {
         return priced::refused(reading.number);
     }

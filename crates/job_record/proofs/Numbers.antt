@@ -8,7 +8,8 @@ use mathlib.Core.List.{List}
 use mathlib.Core.Path.{_≡_, refl}
 use lib.ListN.{getD}
 use lib.Arith.{digits-lt}
-use Rattle.job_record.specs.Bytes.{Bytes, mostWidth, numberAt}
+use Rattle.job_record.specs.Bytes.{Bytes, numberAt}
+use Rattle.job_record.specs.inside.Widths.{mostWidth}
 
 pub number-nothing : (s : List ℕ) (o : ℕ) → numberAt s o 0 ≡ 0
 unfolding numberAt

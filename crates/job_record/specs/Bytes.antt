@@ -8,10 +8,6 @@ use lib.ListN.{getD}
 abbrev pub Bytes : List ℕ → Type 0
 Bytes s = (i : ℕ) → getD s i 0 < 256
 
--- a number of so many bytes fits 64 bits
-abbrev pub mostWidth : ℕ
-mostWidth = 8
-
 -- a number in width bytes
 unfoldable pub numberBytes : ℕ → ℕ → List ℕ
 numberBytes zero v = []

@@ -8,7 +8,7 @@ use lib.ListN.{length, getD}
 use lib.Dec.{leb, eqb}
 use Rattle.arithmetic.specs.Row.{each}
 use Rattle.reversion.specs.Reversion.{isVersion}
-use Rattle.job_record.specs.Bytes.{mostWidth, numberAt}
+use Rattle.job_record.specs.Bytes.{numberAt}
 use Rattle.job_record.specs.declared.Tags.{Tags}
 use Rattle.job_record.specs.declared.Tags.the-variants.{AnyKind, Only}
 
@@ -38,10 +38,6 @@ afterField at width = dataAt at + width
 
 abbrev pub afterFields : ℕ → ℕ → ℕ → ℕ
 afterFields from width count = from + (width + fieldHead) * count
-
--- no field is looked for beyond this place
-abbrev pub farthest : ℕ
-farthest = afterFields mostBytes mostWidth mostJobSteps
 
 -- the kinds of quotes: 5 a discount factor, 6 a simple yearly rate, 9 a yearly yield
 unfoldable pub isKind : ℕ → Bool

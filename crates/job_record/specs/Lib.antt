@@ -3,3 +3,4 @@ pub mod Form
 pub mod Reader
 pub mod Grammar
 pub mod Example
+pub mod inside

@@ -19,7 +19,7 @@ pub fn sheet(job: &[u8], out: &mut [u8]) -> Written
     ensures answer { λ r. ⌜ r ≡ answerOf (sheetNumber (now (job .entry)) (length (now (out .entry)))) (sheetText (now (job .entry))) ⌝ }
     ensures memory { λ _. ⌜ now (out .exit) ≡ sheetMemory (now (job .entry)) (now (out .entry)) ⌝ }
 {
-    let reading = jobs::read(job);
+    let reading = job_reader::read(job);
     if reading.number != 0 {
         return Written {
             number: reading.number,

@@ -58,7 +58,7 @@ fn are_kinds(kinds: &[u8], count: usize) -> bool
 {
     let mut k: usize = 0;
     while k < count {
-        if !jobs::is_kind(kinds[k]) {
+        if !job_reader::is_kind(kinds[k]) {
             return false;
         }
         k += 1;

@@ -5,10 +5,11 @@ ghost use Prim.Native.Nat.{_+_, _≤_};
 ghost use lib.ListN.{length};
 ghost use Rattle.arithmetic.specs.Row.{place};
 ghost use Rattle.arithmetic.specs.Answers.{refused};
-ghost use Rattle.job_record.specs.Bytes.{mostWidth, numberBytes};
+ghost use Rattle.job_record.specs.Bytes.{numberBytes};
+ghost use Rattle.job_record.specs.inside.Widths.{mostWidth};
 ghost use Rattle.job_record.specs.Form.{mostJobSteps, mostDates, versionAt, dataAt, afterField, afterFields, optionWidth, restAt, datesAt};
 ghost use Rattle.job_record.specs.Grammar.{field, joined, optionField, versionField, encode, SoundOption, SoundJob};
-ghost use Rattle.writer_laws.specs.Parts.{headFields, quotesFrom, quoteOf, flowOf, kindBytes, listBytes, optionSize};
+ghost use Rattle.writer_laws.specs.inside.Parts.{headFields, quotesFrom, quoteOf, flowOf, kindBytes, listBytes, optionSize};
 ghost use Rattle.writer_laws.specs.Writer.{written, writtenMemory};
 use arithmetic::Answer;
 use job_record::Job;
@@ -40,7 +41,7 @@ fn put_field(out: &mut [u8], at: usize, tag: u8, width: usize, value: u64)
     ensures { λ _. ⌜ now (out .exit) ≡ place (now (out .entry)) at (field tag (numberBytes width value)) ⌝ }
 {
     put_tag(out, at, tag, width);
-    put_number(out, at + jobs::FIELD_HEAD, width, value);
+    put_number(out, at + job_reader::FIELD_HEAD, width, value);
 }
 
 // Writes the fields that stand once, at the front.
@@ -48,10 +49,10 @@ fn put_head(out: &mut [u8], frequency: u64, steps: u64, reversion: u64, volatili
     requires { ⌜ versionAt ≤ length (now out) ⌝ }
     ensures { λ _. ⌜ now (out .exit) ≡ place (now (out .entry)) 0 (headFields frequency steps reversion volatility) ⌝ }
 {
-    put_field(out, jobs::FREQUENCY_AT, 1, 1, frequency);
-    put_field(out, jobs::STEPS_AT, 2, 1, steps);
-    put_field(out, jobs::REVERSION_AT, 3, 2, reversion);
-    put_field(out, jobs::VOLATILITY_AT, 4, 4, volatility);
+    put_field(out, job_reader::FREQUENCY_AT, 1, 1, frequency);
+    put_field(out, job_reader::STEPS_AT, 2, 1, steps);
+    put_field(out, job_reader::REVERSION_AT, 3, 2, reversion);
+    put_field(out, job_reader::VOLATILITY_AT, 4, 4, volatility);
 }
 
 // Writes the version, if there is one.
@@ -60,7 +61,7 @@ fn put_version(out: &mut [u8], version: u64)
     ensures { λ _. ⌜ now (out .exit) ≡ place (now (out .entry)) versionAt (versionField version) ⌝ }
 {
     if version != 0 {
-        put_field(out, jobs::VERSION_AT, 11, 1, version);
+        put_field(out, job_reader::VERSION_AT, 11, 1, version);
     }
 }
 
@@ -69,9 +70,9 @@ fn quotes_from(version: u64) -> usize
     ensures { λ r. ⌜ (r ≡ quotesFrom version) × (r ≤ afterField versionAt 1) ⌝ }
 {
     if version == 0 {
-        return jobs::VERSION_AT;
+        return job_reader::VERSION_AT;
     }
-    jobs::QUOTES_AT
+    job_reader::QUOTES_AT
 }
 
 // Writes `count` quotes from a place on.
@@ -83,7 +84,7 @@ fn put_quotes(out: &mut [u8], from: usize, kinds: &[u8], figures: &[u64], count:
     while i < count {
         put_field(
             out,
-            from + (8 + jobs::FIELD_HEAD) * i,
+            from + (8 + job_reader::FIELD_HEAD) * i,
             kinds[i],
             8,
             figures[i],
@@ -99,7 +100,7 @@ fn put_flows(out: &mut [u8], from: usize, flows: &[u64], count: usize)
 {
     let mut i: usize = 0;
     while i < count {
-        put_field(out, from + (4 + jobs::FIELD_HEAD) * i, 7, 4, flows[i]);
+        put_field(out, from + (4 + job_reader::FIELD_HEAD) * i, 7, 4, flows[i]);
         i += 1;
     }
 }
@@ -121,8 +122,8 @@ fn put_kind(out: &mut [u8], at: usize, kind: u64, expiry: u64, strike: u64)
     requires { ⌜ afterField at optionWidth ≤ length (now out) ⌝ }
     ensures { λ _. ⌜ now (out .exit) ≡ place (now (out .entry)) at (field 8 (kindBytes kind expiry strike)) ⌝ }
 {
-    let kind_at = at + jobs::FIELD_HEAD;
-    put_tag(out, at, 8, jobs::OPTION_WIDTH);
+    let kind_at = at + job_reader::FIELD_HEAD;
+    put_tag(out, at, 8, job_reader::OPTION_WIDTH);
     put_number(out, kind_at, 1, kind);
     put_number(out, kind_at + 1, 1, expiry);
     put_number(out, kind_at + 2, 4, strike);
@@ -133,11 +134,11 @@ fn put_list(out: &mut [u8], at: usize, side: u64, strike: u64, dates: &[u8])
     requires { ⌜ datesAt at + length (now dates) ≤ length (now out) ⌝ }
     ensures { λ _. ⌜ now (out .exit) ≡ place (now (out .entry)) at (field 10 (listBytes side strike (now (dates .entry)))) ⌝ }
 {
-    let side_at = at + jobs::FIELD_HEAD;
-    put_tag(out, at, 10, jobs::LIST_HEAD + dates.len());
+    let side_at = at + job_reader::FIELD_HEAD;
+    put_tag(out, at, 10, job_reader::LIST_HEAD + dates.len());
     put_number(out, side_at, 1, side);
     put_number(out, side_at + 1, 4, strike);
-    put_dates(out, side_at + jobs::LIST_HEAD, dates);
+    put_dates(out, side_at + job_reader::LIST_HEAD, dates);
 }
 
 // Writes an option, if there is one.
@@ -162,10 +163,10 @@ fn option_size(tag: u64, count: usize) -> usize
     ensures { λ r. ⌜ r ≡ optionSize tag count ⌝ }
 {
     if tag == 8 {
-        return jobs::FIELD_HEAD + jobs::OPTION_WIDTH;
+        return job_reader::FIELD_HEAD + job_reader::OPTION_WIDTH;
     }
     if tag == 10 {
-        return jobs::FIELD_HEAD + jobs::LIST_HEAD + count;
+        return job_reader::FIELD_HEAD + job_reader::LIST_HEAD + count;
     }
     0
 }
@@ -181,7 +182,7 @@ fn put_job(out: &mut [u8], job: Job)
     let flows = job.flows;
     let option = job.option;
     let quotes_at = quotes_from(job.version);
-    let flows_at = quotes_at + (8 + jobs::FIELD_HEAD) * steps;
+    let flows_at = quotes_at + (8 + job_reader::FIELD_HEAD) * steps;
     put_head(
         out,
         job.frequency,
@@ -192,7 +193,7 @@ fn put_job(out: &mut [u8], job: Job)
     put_version(out, job.version);
     put_quotes(out, quotes_at, &kinds, &figures, steps);
     put_flows(out, flows_at, &flows, steps);
-    put_option(out, flows_at + (4 + jobs::FIELD_HEAD) * steps, option);
+    put_option(out, flows_at + (4 + job_reader::FIELD_HEAD) * steps, option);
 }
 
 // How many bytes a record is written in.
@@ -200,8 +201,8 @@ fn job_size(version: u64, steps: usize, tag: u64, count: usize) -> usize
     requires { ⌜ (steps ≤ mostJobSteps) × (count ≤ mostDates) ⌝ }
     ensures { λ r. ⌜ r ≡ restAt (quotesFrom version) steps + optionSize tag count ⌝ }
 {
-    let flows_at = quotes_from(version) + (8 + jobs::FIELD_HEAD) * steps;
-    flows_at + (4 + jobs::FIELD_HEAD) * steps + option_size(tag, count)
+    let flows_at = quotes_from(version) + (8 + job_reader::FIELD_HEAD) * steps;
+    flows_at + (4 + job_reader::FIELD_HEAD) * steps + option_size(tag, count)
 }
 
 fn refusal(cause: u64) -> Answer
@@ -224,7 +225,7 @@ pub fn write(job: Job, out: &mut [u8]) -> Answer
     }
     let option = job.option;
     let size = job_size(job.version, job.steps, option.tag, option.count);
-    if jobs::MOST_BYTES < size {
+    if job_reader::MOST_BYTES < size {
         return refusal(1);
     }
     if out.len() < size {

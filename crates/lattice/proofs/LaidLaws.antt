@@ -5,7 +5,8 @@ use mathlib.Core.List.{List, _++_}
 use Prim.Native.Nat.{ℕ, _+_, _<_}
 use lib.ListN.{length, take, drop}
 use Rattle.arithmetic.specs.Row.{row, values}
-use Rattle.tree.specs.Layout.{start, laid}
+use Rattle.tree.specs.Layout.{laid}
+use Rattle.tree.specs.inside.Layout.{start}
 use Rattle.tree.proofs.LayoutLaws as layout
 use Rattle.lattice.specs.Shape.{nodeCount, rowStart}
 use Rattle.lattice.specs.RateTree.{rateTree}

@@ -9,10 +9,9 @@ use borrow.Author.Tests.{eqb-true, eqb-false}
 use lib.IntN.{ℤ, pos, negsuc, natAbs, subℕ, _+ℤ_}
 use Rattle.arithmetic.proofs.Numbers.{by-order, by-test}
 use Rattle.tree.specs.Tree.{Sound}
-use Rattle.tree.specs.Layout.{start}
+use Rattle.tree.specs.inside.Layout.{start}
 use Rattle.lattice.specs.Shape.{highestNode, halfWidth, nodeCount, rowStart}
-use Rattle.lattice.specs.Branching.{Branching, ordinary, top, bottom, branching, lowestOf, zOf, upFormula, downFormula}
-use Rattle.lattice.specs.Branching.{upProbability, downProbability}
+use Rattle.lattice.specs.Branching.{Branching, ordinary, top, bottom, branching, lowestOf, zOf, upFormula, downFormula, upProbability, downProbability}
 use Rattle.lattice.specs.RateTree.{nodeOfIndex, node, low, rateTree}
 use Rattle.lattice.proofs.Sizes.{within-row, half-flat, half-capped, half-root, half-full, highest-positive}
 use Rattle.lattice.proofs.Differences.{sub-high, sub-low, sub-same, sub-less, sub-more, sub-size}

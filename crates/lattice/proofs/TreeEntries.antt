@@ -4,6 +4,7 @@ use mathlib.Core.Path.{_≡_, sym, ap, _∙_, subst}
 use Prim.Native.Nat.{ℕ, suc, _≤_, _<_}
 use native.Mathlib.Nat.{pos-of-ne-zero}
 use native.Mathlib.Omega.{arith}
+use Rattle.limits.specs.inside.WithinLimits.{WithinLimits}
 use Rattle.arithmetic.specs.Answers.{refused, answered}
 use Rattle.arithmetic.specs.declared.Answer.{Answer}
 use Rattle.arithmetic.proofs.Numbers.{by-order, by-equal}
@@ -14,12 +15,6 @@ use Rattle.lattice.proofs.EntryLaws.{row-found, tree-empty, tree-long, 
 pub row-value : (b i x : ℕ) (a : Answer) → a ≡ aboutRow b i x → b ≤ 6000 → i ≤ 60 → a .value ≡ x
 row-value b i x a e hb hi = ap (λ (r : Answer). r .value) (e ∙ row-found b i x hb hi)
 
--- steps and reversion within their limits
-pub record Accepted (n b : ℕ) : Type 0 where
-  pub steps-positive : 0 < n
-  pub steps-within-limit : n ≤ 60
-  pub reversion-within-limit : b ≤ 6000
-
 module _ (n b x : ℕ) where
   -- a property of an answer about a tree, from what each of its cases says
   pub by-tree :
@@ -27,7 +22,7 @@ module _ (n b x : ℕ) where
       → (n ≡ 0 → P (refused 3))
       → (60 < n → P (refused 3))
       → (0 < n → n ≤ 60 → 6000 < b → P (refused 4))
-      → (Accepted n b → P (answered x))
+      → (WithinLimits n b → P (answered x))
       → P (aboutTree n b x)
   by-tree P empty long steep found =
       by-equal n 0
@@ -40,9 +35,9 @@ module _ (n b x : ℕ) where
 
   module _ (a : Answer) (e : a ≡ aboutTree n b x) where
     -- number 0: the limits hold
-    pub tree-accepted : a .number ≡ 0 → Accepted n b
+    pub tree-accepted : a .number ≡ 0 → WithinLimits n b
     tree-accepted z =
-        by-tree (λ r. r .number ≡ 0 → Accepted n b)
+        by-tree (λ r. r .number ≡ 0 → WithinLimits n b)
         (λ h k. absurd (apart k)) (λ h k. absurd (apart k)) (λ p h s k. absurd (apart k)) (λ l k. l)
         (sym (ap (λ (r : Answer). r .number) e) ∙ z)
       where
@@ -50,7 +45,7 @@ module _ (n b x : ℕ) where
         apart k = omega arith
 
     -- and then the value is the one asked for
-    pub tree-value : Accepted n b → a .value ≡ x
+    pub tree-value : WithinLimits n b → a .value ≡ x
     tree-value l =
         ap (λ (r : Answer). r .value) (e ∙ tree-found n b x (λ z. none z) (l .steps-within-limit) (l .reversion-within-limit))
       where

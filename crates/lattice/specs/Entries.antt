@@ -6,9 +6,9 @@ use mathlib.Core.List.{List, [], _∷_}
 use lib.Dec.{eqb, leb, ltb}
 use lib.IntN.{ℤ, pos, natAbs}
 use lib.ListN.{length}
+use Rattle.arithmetic.specs.Answers.{unlessRefused, refused, answered}
 use Rattle.arithmetic.specs.Row.{row}
 use Rattle.arithmetic.specs.declared.Answer.{Answer}
-use Rattle.arithmetic.specs.Answers.{refused, answered}
 use Rattle.limits.specs.Limits.{mostSteps, mostReversion, shapeCause}
 use Rattle.lattice.specs.Shape.{halfWidth, nodeCount, rowStart, discountsNeeded, statePricesNeeded}
 use Rattle.lattice.specs.Branching.{branching, lowestOf, probabilities, downProbability}
@@ -83,4 +83,4 @@ unfoldable pub tableNumber : ℕ → ℕ → ℕ → ℕ
 tableNumber b w size = cond (ltb mostReversion b) 4 (cond (isHalfWidth b w && eqb size (2 * w + 1)) 0 6)
 
 unfoldable pub tableOf : ℕ → ℕ → List ℕ → List ℕ
-tableOf b w table = cond (eqb (tableNumber b w (length table)) 0) (row (2 * w + 1) (λ k. downProbability b (nodeOfIndex w k))) table
+tableOf b w table = unlessRefused (tableNumber b w (length table)) (row (2 * w + 1) (λ k. downProbability b (nodeOfIndex w k))) table

@@ -10,7 +10,7 @@ use native.Mathlib.Omega.{arith}
 use native.Mathlib.Decide.{decLe}
 use borrow.Author.Tests.{le-leb, lt-leb, ne-eqb, not-false}
 use lib.ListN.{length}
-use Rattle.bands.specs.Search.{First}
+use Rattle.bands.specs.inside.Search.{First}
 use Rattle.bands.specs.declared.Verdict.{Verdict}
 use Rattle.lending.specs.declared.Worth.{Worth}
 use Rattle.limits.specs.Limits.{valueLimit}

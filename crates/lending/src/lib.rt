@@ -2,7 +2,8 @@
 // highest prices, haircuts.
 use bands::Verdict;
 ghost use mathlib.Core.Path.{_≡_};
-ghost use Rattle.bands.specs.Bands.{within, Parallel, bandsOf};
+ghost use Rattle.bands.specs.Bands.{within, bandsOf};
+ghost use Rattle.bands.specs.inside.Lists.{Parallel};
 ghost use Rattle.lending.specs.Lending.{bandIndex, lendingWorth, refusedWorth};
 
 // The lending worth, 0 where it is refused, and the verdict.

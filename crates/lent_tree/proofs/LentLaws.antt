@@ -19,7 +19,8 @@ use Rattle.lattice.specs.Shape.{nodeCount, rowStart, discountsNeeded}
 use Rattle.lattice.specs.Entries.{aboutTree}
 use Rattle.lattice.proofs.Sizes.{start-first, start-suc}
 use Rattle.lattice.proofs.EntryLaws.{tree-number, tree-result}
-use Rattle.lent_tree.specs.LentTree.{stored, acceptedDiscounts, roomCause, discountsCause, Lent, Accepted}
+use Rattle.lent_tree.specs.LentTree.{stored, acceptedDiscounts, roomCause, discountsCause, Accepted}
+use Rattle.lent_tree.specs.inside.Lent.{Lent}
 
 -- a test of the first x numbers, made on that part
 each-part : (low high x : ℕ) (l : List ℕ) → x ≤ length l →

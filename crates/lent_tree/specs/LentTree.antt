@@ -30,12 +30,6 @@ discountsCause n b discounts =
     6)
     (shapeCause n b)
 
--- a tree whose discounts have room, before they are judged
-pub record Lent (n b : ℕ) (discounts : List ℕ) : Type 0 where
-  pub steps-within-limit : n ≤ mostSteps
-  pub reversion-within-limit : b ≤ mostReversion
-  pub room : rowStart b n ≤ length discounts
-
 -- a tree and its discounts after the causes were tested
 pub record Accepted (n b : ℕ) (discounts : List ℕ) : Type 0 where
   pub steps-positive : 0 < n

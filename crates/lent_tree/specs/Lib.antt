@@ -1,1 +1,2 @@
 pub mod LentTree
+pub mod inside

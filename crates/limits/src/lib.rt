@@ -1,6 +1,7 @@
-// The limits of steps, reversions, discounts and values, tested in one place.
+// The limits of steps, reversions, discounts and values, tested in one place, and memories of the widest tree.
 ghost use mathlib.Core.Path.{_≡_};
-ghost use Rattle.limits.specs.Limits.{isSteps, isReversion, isDiscount, shapeCause, limitCause};
+ghost use lib.ListN.{length};
+ghost use Rattle.limits.specs.Limits.{mostDiscounts, mostStatePrices, isSteps, isReversion, isDiscount, shapeCause, limitCause};
 
 pub const MOST_STEPS: usize = 60;
 
@@ -11,6 +12,10 @@ pub const MOST_DISCOUNT: u64 = 1_100_000_000;
 pub const VALUE_LIMIT: u64 = 8_000_000_000;
 
 pub const MOST_NODES: usize = 121;
+
+pub const MOST_DISCOUNTS: usize = 3_600;
+
+pub const MOST_STATE_PRICES: usize = 3_721;
 
 // Whether the steps are 1 to 60.
 pub fn is_steps(steps: usize) -> bool
@@ -57,4 +62,18 @@ pub fn limit_cause(value: u64) -> u64
     ensures { λ r. ⌜ r ≡ limitCause value ⌝ }
 {
     if VALUE_LIMIT < value { 12 } else { 0 }
+}
+
+// Room for the discounts of the widest tree.
+pub fn discount_room() -> [u64; MOST_DISCOUNTS]
+    ensures { λ r. ⌜ length r ≡ mostDiscounts ⌝ }
+{
+    [0; MOST_DISCOUNTS]
+}
+
+// Room for the state prices of the widest tree.
+pub fn state_price_room() -> [u64; MOST_STATE_PRICES]
+    ensures { λ r. ⌜ length r ≡ mostStatePrices ⌝ }
+{
+    [0; MOST_STATE_PRICES]
 }

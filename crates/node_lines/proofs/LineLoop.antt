@@ -5,7 +5,8 @@ use mathlib.Core.List.{List}
 use Prim.Native.Nat.{ℕ, zero, suc, _+_, _-_, _≤_, _<_}
 use native.Mathlib.Omega.{arith}
 use lib.ListN.{length, length-append}
-use Rattle.text_laws.specs.Put.{putBefore, Put}
+use Rattle.text_laws.specs.Put.{putBefore}
+use Rattle.text_laws.specs.inside.Put.{Put}
 use Rattle.text_laws.proofs.PutLaws.{put-nothing, put-whole}
 use Rattle.node_lines.specs.Rows.{lines}
 use Rattle.node_lines.proofs.RowLaws.{lines-none, line-less, length-less}

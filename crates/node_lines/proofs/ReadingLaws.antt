@@ -12,12 +12,13 @@ use Rattle.arithmetic.proofs.PartLaws.{part-length, part-value}
 use Rattle.limits.specs.Limits.{mostDiscount}
 use Rattle.lattice.specs.RateTree.{nodeOfIndex}
 use Rattle.text_laws.specs.Lines.{lineOfNode}
-use Rattle.text_laws.specs.Put.{Put, putBefore, withText}
+use Rattle.text_laws.specs.Put.{putBefore, withText}
+use Rattle.text_laws.specs.inside.Put.{Put}
 use Rattle.text_laws.proofs.PutLaws.{put-whole}
 use Rattle.node_lines.specs.declared.Drawn.{Drawn}
 use Rattle.node_lines.specs.Rows.{nodeText, isRow, hasRoomFor, acceptedNodes, rowNumber}
 use Rattle.node_lines.specs.Reading.{standBefore, nodesBefore, readNumber, drawnOf}
-use Rattle.node_lines.specs.Preconditions.{Readable}
+use Rattle.node_lines.specs.inside.Preconditions.{Readable}
 use Rattle.node_lines.proofs.RowLaws.{and-both, row-none, row-short, row-judged, row-room, row-accepted, row-within, row-discount}
 
 -- ---- the nodes before a place

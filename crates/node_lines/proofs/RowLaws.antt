@@ -26,7 +26,8 @@ use Rattle.node_reader.specs.declared.Node.{Node}
 use Rattle.node_reader.specs.Reading.{nodeAt}
 use Rattle.text_laws.specs.declared.Placed.{Placed}
 use Rattle.text_laws.specs.Lines.{lineOfNode, nodeNumber}
-use Rattle.text_laws.specs.Put.{putBefore, Put}
+use Rattle.text_laws.specs.Put.{putBefore}
+use Rattle.text_laws.specs.inside.Put.{Put}
 use Rattle.text_laws.proofs.LineLaws.{node-line-room, node-stands}
 use Rattle.text_laws.proofs.PutLaws.{put-joined, Answered}
 use Rattle.node_lines.specs.Rows.{nodeText, lines, hasRoomFor, isRow, acceptedNodes, rowNumber}

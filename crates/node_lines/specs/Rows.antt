@@ -5,9 +5,9 @@ use mathlib.Core.Bool.{Bool, cond, _&&_}
 use mathlib.Core.List.{List, [], _++_}
 use lib.Dec.{eqb, leb}
 use lib.ListN.{length, getD}
+use Rattle.text_laws.specs.Lines.{longestLine, lineOfNode}
 use Rattle.limits.specs.Limits.{allDiscounts}
 use Rattle.lattice.specs.RateTree.{nodeOfIndex}
-use Rattle.text_laws.specs.Lines.{lineOfNode}
 
 -- the line of the node at an index; the row's half width follows from its node count, 2 w + 1
 unfoldable pub nodeText : ℕ → List ℕ → ℕ → List ℕ
@@ -23,7 +23,7 @@ rowText row discounts = lines (nodeText row discounts) (length discounts)
 
 -- n lines are put where the place is in the buffer and at least 128 bytes a line stand before it
 unfoldable pub hasRoomFor : ℕ → ℕ → ℕ → Bool
-hasRoomFor n size end = leb (128 * n) end && leb end size
+hasRoomFor n size end = leb (longestLine * n) end && leb end size
 
 -- a row that has discounts, 0 to 59, with an odd number of nodes, at most 2 row + 1
 unfoldable pub isRow : ℕ → ℕ → Bool

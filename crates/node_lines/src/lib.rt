@@ -1,14 +1,16 @@
 // The node lines of a row, put into a lent buffer from its end by a reader that goes down from node to node.
+use text_laws::LONGEST_LINE;
 ghost use mathlib.Core.Path.{_≡_};
 ghost use Prim.Native.Nat.{_-_, _≤_, _<_};
 ghost use lib.ListN.{length};
+ghost use Rattle.text_laws.specs.Lines.{longestLine, lineOfNode};
 ghost use Rattle.limits.specs.Limits.{mostDiscount};
 ghost use Rattle.lattice.specs.RateTree.{nodeOfIndex};
-ghost use Rattle.text_laws.specs.Lines.{lineOfNode};
-ghost use Rattle.text_laws.specs.Put.{Put, putBefore, withText};
+ghost use Rattle.text_laws.specs.Put.{putBefore, withText};
+ghost use Rattle.text_laws.specs.inside.Put.{Put};
 ghost use Rattle.node_lines.specs.Rows.{rowText, hasRoomFor, isRow};
 ghost use Rattle.node_lines.specs.Reading.{standBefore, nodesBefore, readNumber, drawnOf};
-ghost use Rattle.node_lines.specs.Preconditions.{Readable};
+ghost use Rattle.node_lines.specs.inside.Preconditions.{Readable};
 
 // Discounts exist for rows 0 to 59.
 const LAST_ROW: u64 = 59;
@@ -23,7 +25,7 @@ pub struct Drawn {
 fn has_room(count: usize, size: usize, end: usize) -> bool
     ensures { λ r. ⌜ r ≡ hasRoomFor count size end ⌝ }
 {
-    if end / 128 < count {
+    if end / LONGEST_LINE < count {
         return false;
     }
     end <= size
@@ -86,7 +88,7 @@ fn put_node(
     index: usize,
     discount: u64,
 ) -> usize
-    requires { ⌜ («half_width» < 60) × (index < 119) × (0 < discount) × (discount ≤ mostDiscount) × (128 ≤ end) × (end ≤ length (now out)) ⌝ }
+    requires { ⌜ («half_width» < 60) × (index < 119) × (0 < discount) × (discount ≤ mostDiscount) × (longestLine ≤ end) × (end ≤ length (now out)) ⌝ }
     ensures { λ r. ⌜ Put (now (out .entry)) end (lineOfNode row (nodeOfIndex «half_width» index) discount) r (now (out .exit)) ⌝ }
 {
     let node = index as i64 - half_width as i64;

@@ -5,8 +5,7 @@ ghost use lib.ListN.{length};
 ghost use Rattle.arithmetic.specs.Row.{values};
 ghost use Rattle.lattice.specs.Shape.{nodeCount};
 ghost use Rattle.lent_tree.specs.LentTree.{stored, Accepted};
-ghost use Rattle.pair_laws.specs.PairCauses.{pairStepsCause, discounted, combinedCause, pairCause, least};
-ghost use Rattle.pair_laws.specs.States.{AcceptedTrees};
+ghost use Rattle.pair_laws.specs.PairCauses.{pairStepsCause, discounted, combinedCause, pairCause, least, AcceptedTrees};
 
 const MOST_PAIR_STEPS: usize = 20;
 

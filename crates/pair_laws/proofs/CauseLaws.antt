@@ -9,13 +9,13 @@ use native.Mathlib.Numerals.{add-one}
 use native.Mathlib.Omega.{arith}
 use lib.Dec.{eqb, leb, ltb}
 use borrow.Author.Tests.{lt-leb, le-leb, eq-eqb, ne-eqb, lt-ltb, le-ltb, leb-true, eqb-true}
+use Rattle.arithmetic.proofs.CauseLaws.{first-some, first-later, lowest-none, first-none}
 use Rattle.arithmetic.specs.Rounding.{one}
 use Rattle.arithmetic.specs.Row.{each}
-use Rattle.arithmetic.specs.Answers.{lowestCause}
+use Rattle.arithmetic.specs.Answers.{lowestCause, firstCause}
 use Rattle.arithmetic.proofs.Numbers.{by-equal, by-order}
 use Rattle.arithmetic.proofs.BetweenLaws.{and-left, and-right}
 use Rattle.arithmetic.proofs.RowLaws.{each-all, each-fails}
-use Rattle.arithmetic.proofs.CauseLaws.{lowest-none}
 use Rattle.limits.specs.Limits.{mostDiscount, isSteps}
 use Rattle.lattice.specs.Shape.{nodeCount}
 use Rattle.lattice.proofs.Sizes.{count-positive}
@@ -24,20 +24,9 @@ use Rattle.lent_tree.proofs.LentLaws.{accepted}
 use Rattle.price_bound.proofs.BoundLaws.{discount-within}
 use Rattle.price_causes.specs.Causes.{flowsCause}
 use Rattle.price_causes.proofs.CheckLaws.{flows-accepted}
-use Rattle.price_laws.specs.Prices.{firstCause}
-use Rattle.price_laws.proofs.Accuracy.{first-none}
 use Rattle.pair_laws.specs.Pair.{combined}
-use Rattle.pair_laws.specs.PairCauses.{mostPairSteps, pairStepsCause, discounted, combinedCause, pairDiscountsCause, pairCause, least}
-use Rattle.pair_laws.specs.States.{AcceptedTrees, AcceptedPair}
-
--- the first of two causes
-pub first-some : (c later : ℕ) → (c ≡ 0 → ⊥) → firstCause c later ≡ c
-unfolding firstCause
-first-some c later h = rw (ne-eqb c 0 h)
-
-pub first-later : (c later : ℕ) → c ≡ 0 → firstCause c later ≡ later
-unfolding firstCause
-first-later c later e = rw (eq-eqb c 0 e)
+use Rattle.pair_laws.specs.PairCauses.{mostPairSteps, pairStepsCause, discounted, combinedCause, pairDiscountsCause, pairCause, least, AcceptedTrees}
+use Rattle.pair_laws.specs.inside.States.{AcceptedPair}
 
 -- ---- 3 and 19
 

@@ -6,12 +6,13 @@ use Prim.Native.Nat.{ℕ, _≤_, _<_, max}
 use native.Mathlib.Omega.{arith}
 use borrow.Author.Tests.{eq-eqb, ne-eqb}
 use Rattle.arithmetic.specs.Row.{values}
-use Rattle.arithmetic.specs.Answers.{lowestCause}
+use Rattle.arithmetic.specs.Answers.{lowestCause, firstCause}
 use Rattle.arithmetic.proofs.CauseLaws.{lowest-none}
 use Rattle.limits.specs.Limits.{valueLimit, limitCause}
 use Rattle.limits.proofs.LimitLaws.{limit-above, limit-kept}
 use Rattle.pricing_laws.specs.Pricer.{Side, Schedule}
-use Rattle.pricing_laws.specs.Schedule.{lastDate, datedSchedule, numberedSide, datesCause, marked}
+use Rattle.pricing_laws.specs.Schedule.{lastDate, datedSchedule, numberedSide, datesCause}
+use Rattle.pricing_laws.specs.inside.Marks.{marked}
 use Rattle.pricing_laws.proofs.Dates.{dates-accepted}
 use Rattle.pricing_laws.proofs.Schedules.{Alike, option-alike}
 use Rattle.exercise.specs.Terms.{side}
@@ -21,13 +22,14 @@ use Rattle.exercise_dates.proofs.DateLaws.{dates-alike, marks-room, dated-side,
 use Rattle.price_causes.specs.Causes.{termsCause}
 use Rattle.price_causes.proofs.CheckLaws.{terms-accepted}
 use Rattle.price_laws.specs.declared.Price.{Price}
-use Rattle.price_laws.specs.Prices.{flowAt, firstCause, refusedPrice, priced, datedCause}
-use Rattle.pricing.specs.Trees.{Exercisable}
+use Rattle.price_laws.specs.Prices.{flowAt, refusedPrice, priced, datedCause}
+use Rattle.pricing.specs.inside.Trees.{Exercisable}
 use Rattle.pair_laws.specs.Pair.{Pair, at}
 use Rattle.pair_laws.specs.PairCauses.{pairCause}
-use Rattle.pair_laws.specs.PairPrices.{pricerOf, greatestPair, pairBound, pairBondPeak, pairOptionValue, pairOptionPeak}
-use Rattle.pair_laws.specs.PairPrices.{pairOptionLimit, acceptedPairBond, acceptedPairOption, pairBondPrice, pairDatedPrice}
-use Rattle.pair_laws.specs.States.{AcceptedPair, RolledBond, RolledBoth}
+use Rattle.pair_laws.specs.PairPrices.{pricerOf, greatestPair, pairBound, pairBondPeak, pairOptionValue}
+use Rattle.pair_laws.specs.PairPrices.{pairOptionPeak, pairOptionLimit, pairBondPrice, pairDatedPrice}
+use Rattle.pair_laws.specs.inside.Accepted.{acceptedPairBond, acceptedPairOption}
+use Rattle.pair_laws.specs.inside.States.{AcceptedPair, RolledBond, RolledBoth}
 use Rattle.pair_laws.proofs.CauseLaws.{pair-accepted}
 use Rattle.pair_laws.proofs.WalkStates.{bonds-value, bonds-peak, options-value, both-peak}
 use Rattle.pricing_laws.specs.Peak.{peak}

@@ -31,14 +31,15 @@ use Rattle.price_causes.specs.Causes.{mostFlow}
 use Rattle.pricing_laws.specs.Pricer.{exercise, heldOrExercised}
 use Rattle.pricing_laws.specs.TreePricer.{rollRounding}
 use Rattle.exercise.specs.Terms.{side}
-use Rattle.pricing.specs.Rows.{Holds}
-use Rattle.pricing.specs.Trees.{downTable}
+use Rattle.pricing.specs.inside.Rows.{Holds}
+use Rattle.pricing.specs.inside.Trees.{downTable}
 use Rattle.pair_laws.specs.Pair.{Pair, at, Stands, combined, pairRoll}
-use Rattle.pair_laws.specs.PairCauses.{mostPairSteps}
-use Rattle.pair_laws.specs.PairPrices.{rollOf, greatestPair}
-use Rattle.pair_laws.specs.Square.{lineSize, squareSize, cell, square, LimitedPairs, AtMost, Cells, Most, Branched}
-use Rattle.pair_laws.specs.Square.{branchAverage, rateAverage, spreadValue, PairRow, rolledCell, RollablePair, exercised}
-use Rattle.pair_laws.specs.States.{AcceptedTrees, Tables}
+use Rattle.pair_laws.specs.PairCauses.{mostPairSteps, AcceptedTrees}
+use Rattle.pair_laws.specs.PairPrices.{greatestPair}
+use Rattle.pair_laws.specs.inside.Accepted.{rollOf}
+use Rattle.pair_laws.specs.inside.Square.{lineSize, squareSize, cell, square, LimitedPairs, AtMost, Cells, Most}
+use Rattle.pair_laws.specs.inside.Square.{Branched, branchAverage, rateAverage, spreadValue, PairRow, rolledCell, RollablePair, exercised}
+use Rattle.pair_laws.specs.inside.States.{Tables}
 
 -- a row of at most 20 steps fits a line
 pub row-fits : (b i : ℕ) → i ≤ mostPairSteps → nodeCount b i ≤ lineSize

@@ -20,10 +20,11 @@ use Rattle.pricing_laws.specs.Pricer.{exercise, heldOrExercised}
 use Rattle.pricing_laws.specs.TreePricer.{rollRounding}
 use Rattle.exercise.specs.Terms.{side}
 use Rattle.row_branches.specs.declared.RowBranch.{RowBranch}
-use Rattle.row_branches.specs.RowBranches.{branchUp, branchMiddle, branchDown, branchTotal, rowBranch}
+use Rattle.row_branches.specs.RowBranches.{rowBranch}
+use Rattle.row_branches.specs.inside.Transitions.{branchUp, branchMiddle, branchDown, branchTotal}
 use Rattle.pricing.proofs.NodeLaws.{nearest-by-half}
-use Rattle.pair_laws.specs.Square.{lineSize, cell, Cells, Most, Line, Column, Branched}
-use Rattle.pair_laws.specs.Square.{branchAverage, rateAverage, spreadValue, PairRow, rolledCell, RollablePair, exercised}
+use Rattle.pair_laws.specs.inside.Square.{lineSize, cell, Cells, Most, Line, Column, Branched}
+use Rattle.pair_laws.specs.inside.Square.{branchAverage, rateAverage, spreadValue, PairRow, rolledCell, RollablePair, exercised}
 
 -- ---- one place
 

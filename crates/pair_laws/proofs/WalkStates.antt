@@ -20,22 +20,23 @@ use Rattle.lattice.proofs.RateTreeLaws.{rate-tree-sound}
 use Rattle.lent_tree.specs.LentTree.{stored, Accepted}
 use Rattle.pricing_laws.specs.Pricer.{Side, call, put, Schedule, exercise, heldOrExercised}
 use Rattle.pricing_laws.specs.TreePricer.{rollRounding, rollLoss, greatestDiscount}
-use Rattle.pricing_laws.specs.Schedule.{marked}
+use Rattle.pricing_laws.specs.inside.Marks.{marked}
 use Rattle.pricing_laws.specs.Peak.{peak}
-use Rattle.pricing_laws.proofs.Backward.{Greatest, Local, bond-limit, bond-first, bond-over, bond-step}
-use Rattle.pricing_laws.proofs.Backward.{option-limit, option-first, option-over, option-step}
+use Rattle.pricing_laws.proofs.Backward.{Greatest, Local, bond-limit, bond-first, bond-over, bond-step, option-limit, option-first, option-over, option-step}
 use Rattle.pricing_laws.proofs.Peaks.{peak-grows}
 use Rattle.pricing_laws.proofs.PriceLaws.{Discounts-at-most, roll-rounds}
 use Rattle.pricing_laws.proofs.Recurrences.{error-bound-last, error-bound-before}
 use Rattle.price_bound.proofs.BoundLaws.{discount-within}
 use Rattle.price_causes.specs.Causes.{mostStrike}
 use Rattle.price_laws.specs.Prices.{flowAt}
-use Rattle.pricing.specs.Rows.{Holds}
+use Rattle.pricing.specs.inside.Rows.{Holds}
 use Rattle.pricing.proofs.TreeRows.{flow-within}
 use Rattle.pair_laws.specs.Pair.{Pair, at, Stands, combined, greatestCombined, pairErrorBound}
-use Rattle.pair_laws.specs.PairPrices.{rollOf, greatestOfRow, greatestPair, pairBound, pairBondValue, pairBondPeak, pairOptionValue, pairOptionPeak}
-use Rattle.pair_laws.specs.Square.{squareSize, square, LimitedPairs}
-use Rattle.pair_laws.specs.States.{AcceptedTrees, AcceptedPair, Bonds, RolledBond, Options, RolledBoth, BondRow, OptionRow}
+use Rattle.pair_laws.specs.PairPrices.{greatestOfRow, greatestPair, pairBound, pairBondValue, pairBondPeak, pairOptionValue, pairOptionPeak}
+use Rattle.pair_laws.specs.inside.Accepted.{rollOf}
+use Rattle.pair_laws.specs.inside.Square.{squareSize, square, LimitedPairs}
+use Rattle.pair_laws.specs.inside.States.{AcceptedPair, Bonds, RolledBond, Options, RolledBoth, BondRow, OptionRow}
+use Rattle.pair_laws.specs.PairCauses.{AcceptedTrees}
 use Rattle.pair_laws.proofs.PairLaws.{pair-local, pair-bound-small}
 use Rattle.pair_laws.proofs.SquareRows.{pair-place}
 

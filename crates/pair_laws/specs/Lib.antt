@@ -1,5 +1,4 @@
 pub mod Pair
 pub mod PairCauses
 pub mod PairPrices
-pub mod Square
-pub mod States
+pub mod inside

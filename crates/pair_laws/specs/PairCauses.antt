@@ -1,18 +1,17 @@
 -- When two trees, their lent discounts and their flows are refused (document 02, request (xiii)). Of the rate tree n, b and rates, of the spread
 -- tree m, c and spreads.
 -- Assumes nothing.
-use Prim.Native.Nat.{ℕ, zero, suc, min}
+use Prim.Native.Nat.{ℕ, zero, suc, min, _≤_}
 use mathlib.Core.Bool.{Bool, cond, _&&_}
 use mathlib.Core.List.{List}
 use lib.Dec.{eqb, leb, ltb}
 use Rattle.arithmetic.specs.Row.{each}
-use Rattle.arithmetic.specs.Answers.{lowestCause}
+use Rattle.arithmetic.specs.Answers.{lowestCause, firstCause}
 use Rattle.limits.specs.Limits.{mostDiscount, isSteps}
 use Rattle.lattice.specs.Shape.{nodeCount}
 use Rattle.lattice.specs.RateTree.{rateTree}
-use Rattle.lent_tree.specs.LentTree.{stored, discountsCause}
+use Rattle.lent_tree.specs.LentTree.{stored, discountsCause, Accepted}
 use Rattle.price_causes.specs.Causes.{flowsCause}
-use Rattle.price_laws.specs.Prices.{firstCause}
 use Rattle.pair_laws.specs.Pair.{Pair, at, combined}
 
 -- n of two trees together: 1 to 20
@@ -49,3 +48,9 @@ pairCause n b rates m c spreads flows =
 unfoldable pub least : ℕ → (ℕ → ℕ) → ℕ
 least zero f = mostDiscount
 least (suc n) f = min (least n f) (f n)
+
+-- both trees after the causes were tested
+pub record AcceptedTrees (n b c : ℕ) (rates spreads : List ℕ) : Type 0 where
+  pub rate-tree : Accepted n b rates
+  pub spread-tree : Accepted n c spreads
+  pub few : n ≤ mostPairSteps

@@ -13,7 +13,8 @@ use Rattle.pricing_laws.specs.Schedule.{numberedSide, datedSchedule}
 use Rattle.pricing_laws.specs.TreePricer.{rollRounding}
 use Rattle.pricing_laws.specs.Peak.{peak}
 use Rattle.price_laws.specs.declared.Price.{Price}
-use Rattle.price_laws.specs.Prices.{flowAt, firstCause, priced, datedCause}
+use Rattle.arithmetic.specs.Answers.{firstCause}
+use Rattle.price_laws.specs.Prices.{flowAt, priced, datedCause}
 use Rattle.pair_laws.specs.Pair.{Pair, at, pairRoll, pairEngine, exactPair, greatestCombined, pairErrorBound}
 use Rattle.pair_laws.specs.PairCauses.{pairCause}
 
@@ -22,10 +23,7 @@ unfoldable pub greatestPair : ℕ → ℕ → ℕ → (Pair → ℕ) → ℕ
 greatestPair b c i v = greatest (nodeCount b i) (λ j. greatest (nodeCount c i) (λ l. v (at j l)))
 
 module _ (b c : ℕ) (rates spreads : List ℕ) where
-  -- the roll of two lent trees, the engine and the exact pricer on them
-  abbrev pub rollOf : ℕ → (Pair → ℕ) → Pair → ℕ
-  rollOf = pairRoll (rateTree b) (rateTree c) (stored b rates) (stored c spreads) rollRounding
-
+  -- the engine and the exact pricer on two lent trees
   abbrev pub pricerOf : Pricer Pair
   pricerOf = pairEngine (rateTree b) (rateTree c) (stored b rates) (stored c spreads)
 
@@ -67,13 +65,6 @@ module _ (n b c : ℕ) (rates spreads : List ℕ) where
     unfoldable pub exactPairDated : ℕ → List ℕ → ℕ → ℕ
     exactPairDated side dates strike =
         option (exactOf b c rates spreads) (flowAt flows) n (numberedSide side) strike (datedSchedule dates) 0 (at 0 0)
-
-    -- the prices of accepted trees: 12, or the value with its error bound
-    abbrev pub acceptedPairBond : Price
-    acceptedPairBond = priced (limitCause pairBondPeak) (pairBondValue 0 (at 0 0)) pairBound
-
-    abbrev pub acceptedPairOption : Side → ℕ → Schedule → Price
-    acceptedPairOption side strike rows = priced (pairOptionLimit side strike rows) (pairOptionValue side strike rows 0 (at 0 0)) pairBound
 
 -- of the rate tree n, b and rates, of the spread tree m, c and spreads: a cause about the trees comes first, 12 last
 unfoldable pub pairBondPrice : ℕ → ℕ → List ℕ → ℕ → ℕ → List ℕ → List ℕ → Price

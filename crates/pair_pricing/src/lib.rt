@@ -12,11 +12,12 @@ ghost use lib.ListN.{length, take};
 ghost use Rattle.limits.specs.Limits.{mostSteps, mostReversion};
 ghost use Rattle.lattice.specs.Shape.{nodeCount};
 ghost use Rattle.exercise.specs.Terms.{side};
-ghost use Rattle.pricing_laws.specs.Schedule.{marked};
+ghost use Rattle.pricing_laws.specs.inside.Marks.{marked};
 ghost use Rattle.price_laws.specs.Prices.{refusedPrice};
-ghost use Rattle.pricing.specs.Trees.{downTable, Exercisable};
-ghost use Rattle.pair_laws.specs.PairPrices.{acceptedPairBond, acceptedPairOption, pairBondPrice, pairDatedPrice};
-ghost use Rattle.pair_laws.specs.States.{AcceptedPair};
+ghost use Rattle.pricing.specs.inside.Trees.{downTable, Exercisable};
+ghost use Rattle.pair_laws.specs.PairPrices.{pairBondPrice, pairDatedPrice};
+ghost use Rattle.pair_laws.specs.inside.Accepted.{acceptedPairBond, acceptedPairOption};
+ghost use Rattle.pair_laws.specs.inside.States.{AcceptedPair};
 
 fn refused(number: u64) -> Price
     ensures { λ r. ⌜ r ≡ refusedPrice number ⌝ }

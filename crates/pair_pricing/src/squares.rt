@@ -9,9 +9,10 @@ ghost use Rattle.tree.specs.Tree.{probabilityTotal};
 ghost use Rattle.limits.specs.Limits.{mostDiscount, valueLimit};
 ghost use Rattle.price_causes.specs.Causes.{mostFlow};
 ghost use Rattle.pricing_laws.specs.TreePricer.{rollRounding};
-ghost use Rattle.row_branches.specs.RowBranches.{branchUp, branchMiddle, branchDown, branchTotal, rowBranch};
-ghost use Rattle.pricing.specs.Rows.{Holds};
-ghost use Rattle.pair_laws.specs.Square.{
+ghost use Rattle.row_branches.specs.RowBranches.{rowBranch};
+ghost use Rattle.row_branches.specs.inside.Transitions.{branchUp, branchMiddle, branchDown, branchTotal};
+ghost use Rattle.pricing.specs.inside.Rows.{Holds};
+ghost use Rattle.pair_laws.specs.inside.Square.{
   lineSize,
   squareSize,
   cell,

@@ -11,16 +11,17 @@ ghost use Rattle.lattice.specs.RateTree.{rateTree};
 ghost use Rattle.lent_tree.specs.LentTree.{stored, Accepted};
 ghost use Rattle.price_causes.specs.Causes.{mostFlow};
 ghost use Rattle.pricing_laws.specs.Pricer.{exercise};
-ghost use Rattle.pricing_laws.specs.Schedule.{marked};
+ghost use Rattle.pricing_laws.specs.inside.Marks.{marked};
 ghost use Rattle.pricing_laws.specs.TreePricer.{greatestDiscount, rollLoss};
 ghost use Rattle.exercise.specs.Terms.{side};
 ghost use Rattle.price_laws.specs.Prices.{flowAt};
-ghost use Rattle.pricing.specs.Trees.{Exercisable};
+ghost use Rattle.pricing.specs.inside.Trees.{Exercisable};
 ghost use Rattle.pair_laws.specs.Pair.{Pair, Stands};
-ghost use Rattle.pair_laws.specs.PairCauses.{mostPairSteps};
-ghost use Rattle.pair_laws.specs.PairPrices.{rollOf, greatestOfRow, greatestPair, pairBound};
-ghost use Rattle.pair_laws.specs.Square.{square, LimitedPairs};
-ghost use Rattle.pair_laws.specs.States.{AcceptedTrees, AcceptedPair, Tables, Bonds, RolledBond, Options, RolledBoth, BondRow, OptionRow};
+ghost use Rattle.pair_laws.specs.PairCauses.{mostPairSteps, AcceptedTrees};
+ghost use Rattle.pair_laws.specs.PairPrices.{greatestOfRow, greatestPair, pairBound};
+ghost use Rattle.pair_laws.specs.inside.Accepted.{rollOf};
+ghost use Rattle.pair_laws.specs.inside.Square.{square, LimitedPairs};
+ghost use Rattle.pair_laws.specs.inside.States.{AcceptedPair, Tables, Bonds, RolledBond, Options, RolledBoth, BondRow, OptionRow};
 
 // The number of steps of two trees, and their reversions.
 pub(crate) struct Trees {

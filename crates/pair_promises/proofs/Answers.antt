@@ -8,7 +8,7 @@ use native.Mathlib.Omega.{arith}
 use lib.Dec.{eqb}
 use borrow.Author.Tests.{eqb-true, eqb-false}
 use Rattle.arithmetic.specs.Within.{Within}
-use Rattle.arithmetic.proofs.CauseLaws.{lowest-none}
+use Rattle.arithmetic.proofs.CauseLaws.{lowest-none, first-none}
 use Rattle.limits.specs.Limits.{limitCause}
 use Rattle.lattice.specs.RateTree.{rateTree}
 use Rattle.lattice.proofs.RateTreeLaws.{rate-tree-sound}
@@ -21,13 +21,14 @@ use Rattle.pricing_laws.proofs.PriceLaws.{Discounts-at-most, roll-rounds}
 use Rattle.price_bound.proofs.BoundLaws.{discount-within}
 use Rattle.price_causes.specs.Causes.{termsCause}
 use Rattle.price_laws.specs.declared.Price.{Price}
-use Rattle.price_laws.specs.Prices.{flowAt, firstCause, priced, datedCause}
-use Rattle.price_laws.proofs.Accuracy.{Given, first-none}
+use Rattle.arithmetic.specs.Answers.{firstCause}
+use Rattle.price_laws.specs.Prices.{flowAt, priced, datedCause}
+use Rattle.price_laws.proofs.Accuracy.{Given}
 use Rattle.pair_laws.specs.Pair.{at, Stands, pairUnit, combined}
 use Rattle.pair_laws.specs.PairCauses.{pairCause}
-use Rattle.pair_laws.specs.PairPrices.{pricerOf, pairBound, pairBondValue, pairBondPeak, exactPairBond, pairOptionValue, pairOptionLimit, exactPairDated}
-use Rattle.pair_laws.specs.PairPrices.{pairBondPrice, pairDatedPrice}
-use Rattle.pair_laws.specs.States.{AcceptedPair}
+use Rattle.pair_laws.specs.PairPrices.{pricerOf, pairBound, pairBondValue, pairBondPeak, exactPairBond}
+use Rattle.pair_laws.specs.PairPrices.{pairOptionValue, pairOptionLimit, exactPairDated, pairBondPrice, pairDatedPrice}
+use Rattle.pair_laws.specs.inside.States.{AcceptedPair}
 use Rattle.pair_laws.proofs.CauseLaws.{pair-accepted}
 use Rattle.pair_laws.proofs.PairLaws.{pair-bond-accurate, pair-option-accurate, pair-bound-a-step, pair-monotone, pair-root}
 use Rattle.pair_promises.specs.PairPromises.{NoPairAboveOne}

@@ -9,7 +9,7 @@ use lib.ListN.{length}
 use Rattle.arithmetic.specs.Rounding.{one}
 use Rattle.arithmetic.specs.Row.{values, each}
 use Rattle.arithmetic.specs.Sum.{greatest}
-use Rattle.arithmetic.specs.Answers.{lowestCause}
+use Rattle.arithmetic.specs.Answers.{lowestCause, firstCause}
 use Rattle.arithmetic.proofs.RowLaws.{each-cong}
 use Rattle.limits.specs.Limits.{isSteps, isReversion, shapeCause, limitCause}
 use Rattle.lattice.specs.Shape.{nodeCount, rowStart, discountsNeeded}
@@ -18,14 +18,14 @@ use Rattle.pricing_laws.specs.Peak.{peak}
 use Rattle.pricing_laws.specs.Pricer.{Side, Schedule}
 use Rattle.pricing_laws.specs.Schedule.{numberedSide, datedSchedule}
 use Rattle.price_causes.specs.Causes.{flowsCause}
-use Rattle.price_laws.specs.Prices.{firstCause, datedCause}
+use Rattle.price_laws.specs.Prices.{datedCause}
 use Rattle.promises.specs.Causes.{Cause, cause, firstOf, discountsAccepted, flowsAccepted, termsAccepted, datesAccepted}
 use Rattle.promises.proofs.CauseTables.{not-leb, seven, first-append, number-priced, larger-above, greatest-above, peak-above}
 use Rattle.promises.proofs.PriceCauses.{list-cause, flows-alike}
 use Rattle.pair_laws.specs.Pair.{Pair, at, combined}
 use Rattle.pair_laws.specs.PairCauses.{pairStepsCause, discounted, combinedCause, pairDiscountsCause, pairCause}
-use Rattle.pair_laws.specs.PairPrices.{greatestPair, pairBound, pairBondValue, pairBondPeak, pairOptionValue, pairOptionPeak, pairOptionLimit}
-use Rattle.pair_laws.specs.PairPrices.{pairBondPrice, pairDatedPrice}
+use Rattle.pair_laws.specs.PairPrices.{greatestPair, pairBound, pairBondValue, pairBondPeak, pairOptionValue}
+use Rattle.pair_laws.specs.PairPrices.{pairOptionPeak, pairOptionLimit, pairBondPrice, pairDatedPrice}
 use Rattle.pair_promises.specs.Causes.{pairsDiscounted, pairsAccepted, pairCauses, bondWithin, optionWithin, PairCausePromises}
 
 -- ---- the trees and their flows: the definitions' combination of tests and the table's

@@ -13,12 +13,12 @@ use borrow.Author.Tests.{lt-ltb, ne-eqb}
 use Rattle.arithmetic.specs.Rounding.{one}
 use Rattle.arithmetic.specs.Sum.{greatest}
 use Rattle.arithmetic.specs.Row.{values, each, between}
-use Rattle.arithmetic.specs.Answers.{lowestCause}
+use Rattle.arithmetic.specs.Answers.{lowestCause, firstCause}
 use Rattle.arithmetic.proofs.Numbers.{by-equal, by-order}
 use Rattle.arithmetic.proofs.SumLaws.{greatest-ge, greatest-le, greatest-cong}
 use Rattle.arithmetic.proofs.RowLaws.{each-all}
 use Rattle.arithmetic.proofs.BetweenLaws.{between-holds}
-use Rattle.arithmetic.proofs.CauseLaws.{lowest-first, lowest-second, lowest-less, lowest-alone, lowest-none}
+use Rattle.arithmetic.proofs.CauseLaws.{lowest-first, lowest-second, lowest-less, lowest-alone, lowest-none, first-some, first-later, first-none}
 use Rattle.limits.specs.Limits.{mostSteps, mostDiscount, isSteps, limitCause, shapeCause}
 use Rattle.limits.proofs.LimitLaws.{from-one-none, from-one-holds, shape-steps, shape-found}
 use Rattle.lattice.specs.Shape.{nodeCount, rowStart, discountsNeeded}
@@ -36,14 +36,15 @@ use Rattle.pricing_laws.proofs.PriceLaws.{roll-rounds}
 use Rattle.pricing_laws.proofs.Follows.{Follows, Top-follows, bond-follows, option-follows, bond-peak-follows, option-peak-follows, error-bound-same}
 use Rattle.price_bound.specs.PriceBound.{treeErrorBound}
 use Rattle.price_causes.specs.Causes.{mostFlow, flowsCause, termsCause}
-use Rattle.price_laws.specs.Prices.{flowAt, treeCause, firstCause, refusedPrice, priced, bondValue, bondPeak, optionValue, optionPeak, optionLimit}
-use Rattle.price_laws.specs.Prices.{bondPrice, datedCause, datedPrice}
-use Rattle.price_laws.proofs.Accuracy.{first-none, tree-lent}
+use Rattle.price_laws.specs.Prices.{flowAt, treeCause, refusedPrice, priced, bondValue, bondPeak}
+use Rattle.price_laws.specs.Prices.{optionValue, optionPeak, optionLimit, bondPrice, datedCause, datedPrice}
+use Rattle.price_laws.proofs.Accuracy.{tree-lent}
 use Rattle.pair_laws.specs.Pair.{Pair, at, Stands, combined, greatestCombined}
 use Rattle.pair_laws.specs.PairCauses.{mostPairSteps, pairStepsCause, discounted, combinedCause, pairDiscountsCause, pairCause}
-use Rattle.pair_laws.specs.PairPrices.{rollOf, greatestPair, pairBound, pairBondValue, pairBondPeak, pairOptionValue, pairOptionPeak, pairOptionLimit}
-use Rattle.pair_laws.specs.PairPrices.{pairBondPrice, pairDatedPrice}
-use Rattle.pair_laws.proofs.CauseLaws.{first-some, first-later, rate-steps-refused, steps-passed, combined-passed}
+use Rattle.pair_laws.specs.PairPrices.{greatestPair, pairBound, pairBondValue, pairBondPeak, pairOptionValue}
+use Rattle.pair_laws.specs.PairPrices.{pairOptionPeak, pairOptionLimit, pairBondPrice, pairDatedPrice}
+use Rattle.pair_laws.specs.inside.Accepted.{rollOf}
+use Rattle.pair_laws.proofs.CauseLaws.{rate-steps-refused, steps-passed, combined-passed}
 use Rattle.pair_laws.proofs.PairLaws.{follows-rates, follows-spreads}
 use Rattle.pair_promises.specs.PairPromises.{Ones}
 

@@ -9,7 +9,6 @@ use lib.ListN.{length}
 use Rattle.arithmetic.specs.Rounding.{one, nearest, roundUp}
 use Rattle.arithmetic.specs.Row.{values}
 use Rattle.arithmetic.specs.Sum.{greatest}
-use Rattle.arithmetic.specs.Within.{Within}
 use Rattle.tree.specs.Tree.{Tree, outgoing}
 use Rattle.limits.specs.Limits.{mostReversion}
 use Rattle.lattice.specs.Shape.{nodeCount, rowStart}
@@ -17,6 +16,7 @@ use Rattle.lattice.specs.RateTree.{rateTree}
 use Rattle.lent_tree.specs.LentTree.{stored}
 use Rattle.pricing_laws.specs.Pricer.{Pricer, Side, Schedule, exercise, bond, bareBond, option}
 use Rattle.pricing_laws.specs.Schedule.{numberedSide, datedSchedule, Contained}
+use Rattle.price_laws.specs.Exact.{Accurate}
 use Rattle.price_laws.specs.Prices.{flowAt, bondPrice, datedPrice}
 use Rattle.pair_laws.specs.Pair.{Pair, at, pairEngine, exactPair, greatestCombined, pairErrorBound}
 use Rattle.pair_laws.specs.PairPrices.{exactPairBond, exactPairDated, pairBondPrice, pairDatedPrice}
@@ -125,7 +125,7 @@ pub record Ones (n b : ℕ) (discounts : List ℕ) : Type 0 where
   pub ones : (k : ℕ) → k < rowStart b n → values discounts k ≡ one
 
 pub record PairPromises : Type 0 where
-  -- engine, exact pricer and allowance row by row, on any two trees, and the entries' answers by them
+  -- engine, exact pricer and error bound row by row, on any two trees, and the entries' answers by them
   pub pair-rows : (rates spreads : Tree) (rateDiscount spreadDiscount : ℕ → ℕ → ℕ) (flow : ℕ → ℕ) (n : ℕ) (side : Side) (strike : ℕ) (rows : Schedule) →
       PairRows rates spreads rateDiscount spreadDiscount flow n side strike rows
   pub exact-rows : (rates spreads : Tree) (rateDiscount spreadDiscount : ℕ → ℕ → ℕ) (flow : ℕ → ℕ) (n : ℕ) (side : Side) (strike : ℕ) (rows : Schedule) →
@@ -134,20 +134,19 @@ pub record PairPromises : Type 0 where
   pub priced-by-pairs : (n b : ℕ) (rates : List ℕ) (m c : ℕ) (spreads flows : List ℕ) → PricedByPairs n b rates m c spreads flows
   -- the number of every answer
   pub causes : PairCausePromises
-  -- prices that are not refused stand within their allowance of the exact price
+  -- prices that are not refused stand within their error bound of the exact price
   pub bond-accurate : (n b : ℕ) (rates : List ℕ) (m c : ℕ) (spreads flows : List ℕ) → pairBondPrice n b rates m c spreads flows .number ≡ 0 →
-      Within (pairBondPrice n b rates m c spreads flows .bound) (exactScale ^ n) (pairBondPrice n b rates m c spreads flows .value)
-      (exactPairBond n b c rates spreads flows)
+      Accurate (exactScale ^ n) (pairBondPrice n b rates m c spreads flows) (exactPairBond n b c rates spreads flows)
   pub dated-accurate : (n b : ℕ) (rates : List ℕ) (m c : ℕ) (spreads flows : List ℕ) (side : ℕ) (dates : List ℕ) (strike : ℕ) →
       pairDatedPrice n b rates m c spreads flows side dates strike .number ≡ 0 →
-      Within (pairDatedPrice n b rates m c spreads flows side dates strike .bound) (exactScale ^ n)
-      (pairDatedPrice n b rates m c spreads flows side dates strike .value) (exactPairDated n b c rates spreads flows side dates strike)
+      Accurate (exactScale ^ n) (pairDatedPrice n b rates m c spreads flows side dates strike)
+      (exactPairDated n b c rates spreads flows side dates strike)
   -- at most 2 billionths a step
   pub bond-a-step : (n b : ℕ) (rates : List ℕ) (m c : ℕ) (spreads flows : List ℕ) → NoPairAboveOne n b c rates spreads →
       pairBondPrice n b rates m c spreads flows .bound ≤ 2 * n
   pub dated-a-step : (n b : ℕ) (rates : List ℕ) (m c : ℕ) (spreads flows : List ℕ) (side : ℕ) (dates : List ℕ) (strike : ℕ) →
       NoPairAboveOne n b c rates spreads → pairDatedPrice n b rates m c spreads flows side dates strike .bound ≤ 2 * n
-  -- with a spread tree of ones the whole answer, refusal or price with its allowance, is that of the entry for the rate tree alone
+  -- with a spread tree of ones the whole answer, refusal or price with its error bound, is that of the entry for the rate tree alone
   pub bond-of-rates : (n b : ℕ) (rates : List ℕ) (c : ℕ) (spreads flows : List ℕ) → n ≤ 20 → Ones n c spreads →
       pairBondPrice n b rates n c spreads flows ≡ bondPrice n b rates flows
   pub dated-of-rates : (n b : ℕ) (rates : List ℕ) (c : ℕ) (spreads flows : List ℕ) → n ≤ 20 → Ones n c spreads →

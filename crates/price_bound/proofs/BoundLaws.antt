@@ -26,14 +26,15 @@ use Rattle.lattice.specs.declared.RowShape.{RowShape}
 use Rattle.lattice.specs.Entries.{shapeOf, rowShapeAnswer}
 use Rattle.lattice.proofs.Sizes.{row-ends}
 use Rattle.lattice.proofs.ShapeLaws.{shape-found}
-use Rattle.lent_tree.specs.LentTree.{stored, acceptedDiscounts, Lent, Accepted, roomCause, discountsCause}
+use Rattle.lent_tree.specs.LentTree.{stored, acceptedDiscounts, Accepted, roomCause, discountsCause}
+use Rattle.lent_tree.specs.inside.Lent.{Lent}
 use Rattle.lent_tree.proofs.LentLaws.{accepted-by-row, judged-after-room, refused-for-room}
 use Rattle.pricing_laws.specs.Pricer.{errorBoundFrom, errorBound}
 use Rattle.pricing_laws.specs.TreePricer.{rollLoss, greatestDiscount, priceErrorBound}
 use Rattle.pricing_laws.proofs.PriceLaws.{error-bound-small}
 use Rattle.pricing_laws.proofs.Recurrences.{error-bound-last, error-bound-before}
 use Rattle.price_bound.specs.declared.TreeErrorBounds.{TreeErrorBounds}
-use Rattle.price_bound.specs.Rows.{rowAccepted, RowsBounded}
+use Rattle.price_bound.specs.inside.Rows.{rowAccepted, RowsBounded}
 use Rattle.price_bound.specs.PriceBound.{treeErrorBound, priceErrorBoundAnswer, greatestDiscounts, refusedBounds, treeBoundsAnswer}
 
 pub discount-within :

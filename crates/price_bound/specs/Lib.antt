@@ -1,2 +1,2 @@
 pub mod PriceBound
-pub mod Rows
+pub mod inside

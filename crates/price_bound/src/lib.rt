@@ -6,13 +6,14 @@ ghost use Prim.Native.Nat.{_<_};
 ghost use lib.ListN.{length, replicate};
 ghost use Rattle.limits.specs.Limits.{mostSteps, isDiscount};
 ghost use Rattle.lattice.specs.RateTree.{rateTree};
-ghost use Rattle.lent_tree.specs.LentTree.{stored, acceptedDiscounts, Lent};
+ghost use Rattle.lent_tree.specs.LentTree.{stored, acceptedDiscounts};
+ghost use Rattle.lent_tree.specs.inside.Lent.{Lent};
 ghost use Rattle.arithmetic.specs.Row.{values, each};
 ghost use Rattle.arithmetic.specs.Sum.{greatest};
 ghost use Rattle.pricing_laws.specs.Pricer.{errorBound};
 ghost use Rattle.pricing_laws.specs.TreePricer.{greatestDiscount, rollLoss};
 ghost use Rattle.price_bound.specs.PriceBound.{priceErrorBoundAnswer, greatestDiscounts, refusedBounds, treeBoundsAnswer};
-ghost use Rattle.price_bound.specs.Rows.{rowAccepted, RowsBounded};
+ghost use Rattle.price_bound.specs.inside.Rows.{rowAccepted, RowsBounded};
 
 // What is known of a tree: its error bound, and the greatest discount of each row, 0 for rows that the tree has not; a refusal's number with zeros.
 #[repr(C)]

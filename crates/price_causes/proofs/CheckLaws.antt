@@ -12,7 +12,8 @@ use Rattle.arithmetic.specs.Row.{values, each, between}
 use Rattle.arithmetic.proofs.Numbers.{by-order}
 use Rattle.arithmetic.proofs.RowLaws.{each-holds}
 use Rattle.arithmetic.proofs.BetweenLaws.{and-left, and-right, between-most}
-use Rattle.price_causes.specs.Causes.{mostFlow, mostStrike, flowsCause, optionCause, termsCause, AcceptedFlows}
+use Rattle.price_causes.specs.Causes.{mostFlow, mostStrike, flowsCause, optionCause, termsCause}
+use Rattle.price_causes.specs.inside.Flows.{AcceptedFlows}
 
 -- where a cause of 0 was found, each test passed
 cond-zero-else : (p : Bool) (x m : ℕ) → cond p x (suc m) ≡ 0 → (p ≡ true) × (x ≡ 0)

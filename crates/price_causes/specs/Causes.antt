@@ -1,7 +1,6 @@
 -- Causes of refusal about flows and about an option (document 01, When the engine declines).
 -- Assumes nothing.
-use mathlib.Core.Path.{_≡_}
-use Prim.Native.Nat.{ℕ, _≤_, _<_}
+use Prim.Native.Nat.{ℕ}
 use mathlib.Core.Bool.{cond, _&&_}
 use mathlib.Core.List.{List}
 use lib.Dec.{eqb, leb, ltb}
@@ -26,8 +25,3 @@ optionCause n kind expiry strike = cond (leb 1 kind && leb kind 4 && ltb expiry 
 -- 11 of a dated option: a side that is neither 1 nor 2, or a strike above its limit
 unfoldable pub termsCause : ℕ → ℕ → ℕ
 termsCause side strike = cond (leb 1 side && leb side 2 && leb strike mostStrike) 0 11
-
--- flows after the causes were tested
-pub record AcceptedFlows (n : ℕ) (flows : List ℕ) : Type 0 where
-  pub count : length flows ≡ n
-  pub flowing : (k : ℕ) → k < n → values flows k ≤ mostFlow

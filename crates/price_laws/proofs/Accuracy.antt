@@ -7,6 +7,7 @@ use Prim.Native.Nat.{ℕ, _+_, _*_, _^_, _≤_, _<_}
 use native.Mathlib.Omega.{arith}
 use lib.Dec.{eqb}
 use borrow.Author.Tests.{eqb-true, eqb-false}
+use Rattle.arithmetic.proofs.CauseLaws.{first-none, lowest-none}
 use Rattle.arithmetic.specs.Rounding.{one}
 use Rattle.arithmetic.specs.Row.{values}
 use Rattle.tree.specs.Tree.{unit}
@@ -17,20 +18,21 @@ use Rattle.lattice.proofs.RateTreeLaws.{rate-tree-sound}
 use Rattle.limits.specs.Limits.{limitCause}
 use Rattle.lent_tree.specs.LentTree.{stored, Accepted, discountsCause}
 use Rattle.lent_tree.proofs.LentLaws.{accepted}
-use Rattle.arithmetic.proofs.CauseLaws.{lowest-none}
 use Rattle.pricing_laws.specs.Pricer.{Side, Schedule, option}
 use Rattle.pricing_laws.specs.Schedule.{sideOf, scheduleOf, numberedSide, datedSchedule, datesCause}
 use Rattle.pricing_laws.specs.TreePricer.{exact}
 use Rattle.pricing_laws.proofs.Dates.{dates-accepted, schedule-last}
 use Rattle.price_bound.specs.PriceBound.{treeErrorBound}
 use Rattle.price_bound.proofs.BoundLaws.{discount-within}
-use Rattle.price_causes.specs.Causes.{AcceptedFlows, flowsCause, optionCause, termsCause}
+use Rattle.price_causes.specs.Causes.{flowsCause, optionCause, termsCause}
+use Rattle.price_causes.specs.inside.Flows.{AcceptedFlows}
 use Rattle.price_causes.proofs.CheckLaws.{flows-accepted, option-accepted}
 use Rattle.arithmetic.specs.Within.{Within}
 use Rattle.pricing_laws.proofs.PriceLaws.{Discounts-at-most, bond-accurate, option-accurate, error-bound-a-step}
 use Rattle.price_laws.specs.declared.Price.{Price}
-use Rattle.price_laws.specs.Prices.{flowAt, bondValue, bondPeak, optionValue, optionLimit, treeCause, firstCause, priced, scheduledPrice}
-use Rattle.price_laws.specs.Prices.{bondPrice, optionPrice, bondAndOption, datedCause, datedPrice, bondAndDatedOption}
+use Rattle.arithmetic.specs.Answers.{firstCause}
+use Rattle.price_laws.specs.Prices.{flowAt, bondValue, bondPeak, optionValue, optionLimit, treeCause, priced}
+use Rattle.price_laws.specs.Prices.{scheduledPrice, bondPrice, optionPrice, bondAndOption, datedCause, datedPrice, bondAndDatedOption}
 use Rattle.price_laws.specs.Exact.{exactBond, exactOption, exactDated}
 
 -- an answer with number 0 has the price, and no cause
@@ -48,15 +50,6 @@ given cause v e h = go (eqb cause 0) refl h
         Given cause v e (cond {A = Price} t (record { number = 0; value = v; bound = e }) (record { number = cause; value = 0; bound = 0 }))
     go true q z = record { none = eqb-true cause 0 q; value = refl; bound = refl }
     go false q z = absurd (eqb-false cause 0 q z)
-
--- neither cause was found
-pub first-none : (c later : ℕ) → firstCause c later ≡ 0 → (c ≡ 0) × (later ≡ 0)
-unfolding firstCause
-first-none c later h = go (eqb c 0) refl h
-  where
-    go : (t : Bool) → eqb c 0 ≡ t → cond t later c ≡ 0 → (c ≡ 0) × (later ≡ 0)
-    go true q z = (eqb-true c 0 q, z)
-    go false q z = absurd (eqb-false c 0 q z)
 
 -- no cause about the tree and its flows: both are accepted
 pub tree-lent : (n b : ℕ) (discounts flows : List ℕ) → treeCause n b discounts flows ≡ 0 → Accepted n b discounts

@@ -10,7 +10,8 @@ use Rattle.limits.specs.Limits.{mostSteps, limitCause}
 use Rattle.lattice.specs.RateTree.{rateTree}
 use Rattle.lent_tree.specs.LentTree.{stored}
 use Rattle.pricing_laws.specs.Pricer.{Side, Schedule}
-use Rattle.pricing_laws.specs.Schedule.{lastDate, datedSchedule, marked}
+use Rattle.pricing_laws.specs.Schedule.{lastDate, datedSchedule}
+use Rattle.pricing_laws.specs.inside.Marks.{marked}
 use Rattle.pricing_laws.specs.TreePricer.{engine}
 use Rattle.pricing_laws.specs.Peak.{peak, greatestValue}
 use Rattle.pricing_laws.proofs.Schedules.{Alike, option-alike}
@@ -19,9 +20,9 @@ use Rattle.exercise_dates.proofs.DateLaws.{dates-alike}
 use Rattle.price_laws.specs.declared.Price.{Price}
 use Rattle.price_laws.specs.declared.BondAndOption.{BondAndOption}
 use Rattle.price_laws.specs.declared.BondAndOptionValues.{BondAndOptionValues}
-use Rattle.price_laws.specs.Prices.{flowAt, treeCause, firstCause, refusedPrice, priced}
-use Rattle.price_laws.specs.Prices.{bondPeak}
-use Rattle.price_laws.specs.Prices.{optionValue, optionPeak, optionLimit, acceptedOption, scheduledPrice}
+use Rattle.arithmetic.specs.Answers.{firstCause}
+use Rattle.price_laws.specs.Prices.{flowAt, treeCause, refusedPrice, priced, bondPeak, optionValue, optionPeak, optionLimit, scheduledPrice}
+use Rattle.price_laws.specs.inside.Accepted.{acceptedOption}
 
 -- a refusal and a price, by the number
 pub priced-refused : (number cause v e : ℕ) → number ≡ cause → (number ≡ 0 → ⊥) → refusedPrice number ≡ priced cause v e

@@ -22,8 +22,9 @@ use Rattle.price_causes.specs.Causes.{optionCause, termsCause}
 use Rattle.price_causes.proofs.CheckLaws.{option-accepted, kind-terms}
 use Rattle.price_laws.specs.declared.Price.{Price}
 use Rattle.price_laws.specs.declared.BondAndOption.{BondAndOption}
-use Rattle.price_laws.specs.Prices.{treeCause, valueAlone, withBound, bothValues, bothWith, bondPrice, scheduledPrice}
+use Rattle.price_laws.specs.Prices.{treeCause, valueAlone, withBound, bothValues, bondPrice, scheduledPrice}
 use Rattle.price_laws.specs.Prices.{optionPrice, bondAndOption, datedCause, datedPrice, bondAndDatedOption}
+use Rattle.price_laws.specs.inside.Accepted.{bothWith}
 use Rattle.price_laws.proofs.Accuracy.{tree-lent}
 use Rattle.price_laws.proofs.AnswerLaws.{refused-alike, both-are}
 

@@ -4,7 +4,7 @@ use mathlib.Core.Path.{_≡_, sym, ap, _∙_}
 use mathlib.Core.List.{List}
 use Prim.Native.Nat.{ℕ, _+_, _≤_}
 use native.Mathlib.Omega.{arith}
-use Rattle.arithmetic.proofs.CauseLaws.{lowest-none}
+use Rattle.arithmetic.proofs.CauseLaws.{lowest-none, first-none}
 use Rattle.lattice.specs.RateTree.{rateTree}
 use Rattle.lattice.proofs.RateTreeLaws.{rate-tree-sound}
 use Rattle.lent_tree.specs.LentTree.{stored}
@@ -16,7 +16,7 @@ use Rattle.price_causes.specs.Causes.{optionCause, termsCause}
 use Rattle.price_causes.proofs.CheckLaws.{option-accepted, kind-known}
 use Rattle.price_laws.specs.declared.Price.{Price}
 use Rattle.price_laws.specs.Prices.{flowAt, optionValue, optionPrice, datedCause, datedPrice}
-use Rattle.price_laws.proofs.Accuracy.{first-none, tree-lent, option-given, dated-given}
+use Rattle.price_laws.proofs.Accuracy.{tree-lent, option-given, dated-given}
 use Rattle.price_laws.proofs.OptionLaws.{kind-is-list}
 
 module _ (n b : ℕ) (discounts flows : List ℕ) where

@@ -23,9 +23,10 @@ use Rattle.price_causes.specs.Causes.{mostStrike, optionCause}
 use Rattle.price_causes.proofs.CheckLaws.{option-accepted, kind-known}
 use Rattle.price_laws.specs.declared.Price.{Price}
 use Rattle.price_laws.specs.declared.Strip.{Strip}
-use Rattle.price_laws.specs.Prices.{treeCause, firstCause, refusedPrice, valueAlone, withBound, optionPrice, datedPrice}
-use Rattle.price_laws.specs.Strips.{mostStrikes, stripCause, refusedStrip, stripOf, stripAnswer, strikePrice, kindPrice, optionStrip, kindStrip, eachWith}
-use Rattle.price_laws.specs.Strips.{Placed, Shown}
+use Rattle.arithmetic.specs.Answers.{firstCause}
+use Rattle.price_laws.specs.Prices.{treeCause, refusedPrice, valueAlone, withBound, optionPrice, datedPrice}
+use Rattle.price_laws.specs.Strips.{mostStrikes, stripCause, refusedStrip, stripOf, stripAnswer, strikePrice}
+use Rattle.price_laws.specs.Strips.{kindPrice, optionStrip, kindStrip, eachWith, Placed, Shown}
 use Rattle.price_laws.proofs.OptionLaws.{kind-is-list}
 use Rattle.price_laws.proofs.ValueLaws.{option-refused, option-cause, option-whole, dated-whole}
 

@@ -8,10 +8,12 @@ use Rattle.arithmetic.proofs.Numbers.{by-equal}
 use Rattle.pricing_laws.specs.Pricer.{Side, Schedule}
 use Rattle.price_bound.specs.PriceBound.{treeErrorBound}
 use Rattle.price_laws.specs.declared.Price.{Price}
-use Rattle.price_laws.specs.Prices.{treeCause, firstCause, refusedPrice, priced, valueAlone, withBound, bothValues, bothWith}
-use Rattle.price_laws.specs.Prices.{acceptedBond, bondPrice, acceptedOption, scheduledPrice, optionPrice, datedPrice, bondAndOption, bondAndDatedOption}
+use Rattle.arithmetic.specs.Answers.{firstCause}
+use Rattle.price_laws.specs.Prices.{treeCause, refusedPrice, priced, valueAlone, withBound, bothValues}
+use Rattle.price_laws.specs.Prices.{bondPrice, scheduledPrice, optionPrice, datedPrice, bondAndOption, bondAndDatedOption}
+use Rattle.price_laws.specs.inside.Accepted.{bothWith, acceptedBond, acceptedOption}
 use Rattle.price_laws.proofs.AnswerLaws.{priced-refused, refused-first, passed-first, both-are, values-are}
-use Rattle.price_laws.proofs.Accuracy.{first-none}
+use Rattle.arithmetic.proofs.CauseLaws.{first-none}
 
 -- ---- a price by its number
 

@@ -4,12 +4,14 @@
 -- Assumes nothing.
 use Prim.Native.Nat.{ℕ}
 use mathlib.Core.List.{List}
+use Rattle.arithmetic.specs.Within.{Within}
 use Rattle.arithmetic.specs.Row.{values}
 use Rattle.lattice.specs.RateTree.{rateTree}
 use Rattle.pricing_laws.specs.Pricer.{bond, option, payoffValue}
 use Rattle.pricing_laws.specs.Schedule.{sideOf, scheduleOf, numberedSide, datedSchedule}
 use Rattle.pricing_laws.specs.TreePricer.{exact}
 use Rattle.lent_tree.specs.LentTree.{stored}
+use Rattle.price_laws.specs.declared.Price.{Price}
 use Rattle.price_laws.specs.Prices.{flowAt}
 
 unfoldable pub exactBond : ℕ → ℕ → List ℕ → List ℕ → ℕ
@@ -26,3 +28,7 @@ exactDated n b discounts flows side dates strike =
 -- payoffs on row t, rolled to row 0 without flows
 unfoldable pub exactPayoff : ℕ → List ℕ → ℕ → List ℕ → ℕ
 exactPayoff b discounts t payoffs = payoffValue (exact (rateTree b) (stored b discounts)) (values payoffs) t 0 0
+
+-- a price is within its own error bound of the exact price, which is held times a scale
+abbrev pub Accurate : ℕ → Price → ℕ → Type 0
+Accurate scale price exactPrice = Within (price .bound) scale (price .value) exactPrice

@@ -1,3 +1,4 @@
 pub mod Prices
 pub mod Exact
 pub mod Strips
+pub mod inside

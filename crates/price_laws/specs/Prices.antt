@@ -5,7 +5,7 @@ use mathlib.Core.Bool.{cond}
 use mathlib.Core.List.{List}
 use lib.Dec.{eqb}
 use Rattle.arithmetic.specs.Row.{values}
-use Rattle.arithmetic.specs.Answers.{lowestCause}
+use Rattle.arithmetic.specs.Answers.{lowestCause, firstCause}
 use Rattle.limits.specs.Limits.{limitCause}
 use Rattle.lattice.specs.RateTree.{rateTree}
 use Rattle.pricing_laws.specs.Pricer.{Side, Schedule, bond, option}
@@ -28,10 +28,6 @@ flowAt flows (suc t) = values flows t
 -- 3, 4, 6, 9, 10 about a tree, its lent discounts and its flows, lowest number first; 0 where there is none
 unfoldable pub treeCause : ℕ → ℕ → List ℕ → List ℕ → ℕ
 treeCause n b discounts flows = lowestCause (discountsCause n b discounts) (flowsCause n flows)
-
--- the first of two causes
-unfoldable pub firstCause : ℕ → ℕ → ℕ
-firstCause cause later = cond (eqb cause 0) later cause
 
 -- a refusal's number with zeros
 abbrev pub refusedPrice : ℕ → Price
@@ -58,10 +54,6 @@ bondValue n b discounts flows = bond (engine (rateTree b) (stored b discounts)) 
 unfoldable pub bondPeak : ℕ → ℕ → List ℕ → List ℕ → ℕ
 bondPeak n b discounts flows = peak (greatestValue (rateTree b) (bondValue n b discounts flows)) n 0
 
--- the price of an accepted tree's bond, with its error bound; 12 for a value above 8 × one
-abbrev pub acceptedBond : ℕ → ℕ → List ℕ → List ℕ → ℕ → Price
-acceptedBond n b discounts flows bound = priced (limitCause (bondPeak n b discounts flows)) (bondValue n b discounts flows 0 0) bound
-
 unfoldable pub bondPrice : ℕ → ℕ → List ℕ → List ℕ → Price
 bondPrice n b discounts flows =
     priced (firstCause (treeCause n b discounts flows) (limitCause (bondPeak n b discounts flows)))
@@ -81,10 +73,6 @@ module _ (n b : ℕ) (discounts flows : List ℕ) (side : Side) (strike : ℕ) (
   -- 12: a value of bond or option above 8 × one
   unfoldable pub optionLimit : ℕ
   optionLimit = limitCause (max (bondPeak n b discounts flows) optionPeak)
-
-  -- the price of an accepted tree's option, with its error bound
-  abbrev pub acceptedOption : ℕ → Price
-  acceptedOption bound = priced optionLimit (optionValue 0 0) bound
 
   -- the answer, where the option itself has a cause or none: a cause about the tree comes first, 12 last
   abbrev pub scheduledPrice : ℕ → Price
@@ -119,7 +107,3 @@ bondAndDatedOption n b discounts flows side dates strike =
 
 abbrev pub bothValues : BondAndOption → BondAndOptionValues
 bothValues both = record { bond = valueAlone (both .bond); option = valueAlone (both .option) }
-
--- and with a bound that is known
-abbrev pub bothWith : BondAndOptionValues → ℕ → BondAndOption
-bothWith both bound = record { bond = withBound (both .bond) bound; option = withBound (both .option) bound }

@@ -11,7 +11,8 @@ use Rattle.arithmetic.specs.Row.{values, padded}
 use Rattle.limits.specs.Limits.{shapeCause}
 use Rattle.price_laws.specs.declared.Price.{Price}
 use Rattle.price_laws.specs.declared.Strip.{Strip}
-use Rattle.price_laws.specs.Prices.{firstCause, refusedPrice, valueAlone, withBound, optionPrice, datedPrice}
+use Rattle.arithmetic.specs.Answers.{firstCause}
+use Rattle.price_laws.specs.Prices.{refusedPrice, valueAlone, withBound, optionPrice, datedPrice}
 
 abbrev pub mostStrikes : ℕ
 mostStrikes = 16

@@ -33,11 +33,12 @@ use Rattle.price_bound.proofs.BoundLaws.{bound-number}
 use Rattle.price_causes.specs.Causes.{flowsCause, optionCause}
 use Rattle.price_causes.proofs.CheckLaws.{option-accepted, terms-accepted}
 use Rattle.price_laws.specs.declared.Price.{Price}
-use Rattle.price_laws.specs.Prices.{treeCause, refusedPrice, bondPeak, acceptedBond, optionLimit, acceptedOption, datedCause}
+use Rattle.price_laws.specs.Prices.{treeCause, refusedPrice, bondPeak, optionLimit, datedCause}
+use Rattle.price_laws.specs.inside.Accepted.{acceptedBond, acceptedOption}
 use Rattle.price_laws.proofs.AnswerLaws.{priced-refused, priced-given}
 use Rattle.price_laws.proofs.OptionLaws.{dated-accepted}
 use Rattle.pricing.specs.declared.walk.Rolled.{Rolled}
-use Rattle.pricing.specs.Trees.{downTable, TreeBounded, Exercisable, ExercisedOn, BondRolled, BothRolled}
+use Rattle.pricing.specs.inside.Trees.{downTable, TreeBounded, Exercisable, ExercisedOn, BondRolled, BothRolled}
 use Rattle.pricing.proofs.TreeRows.{table-size}
 
 -- what the lattice answers about row n

@@ -14,10 +14,11 @@ use Rattle.arithmetic.proofs.RowLaws.{Filled, filled-next}
 use Rattle.tree.specs.Tree.{probabilityTotal}
 use Rattle.pricing_laws.specs.Pricer.{Side, exercise, heldOrExercised}
 use Rattle.row_branches.specs.declared.RowBranch.{RowBranch}
-use Rattle.row_branches.specs.RowBranches.{opposite, branchTotal, rowBranch}
+use Rattle.row_branches.specs.RowBranches.{opposite, rowBranch}
+use Rattle.row_branches.specs.inside.Transitions.{branchTotal}
 use Rattle.row_branches.proofs.BranchLaws.{branch-filled}
 use Rattle.pricing.specs.declared.rows.Span.{Span}
-use Rattle.pricing.specs.Rows.{branchRoll, rolledRow, optionValues, spanBranch, Rollable, Leads, Limited, Later, FilledRow, FilledRows}
+use Rattle.pricing.specs.inside.Rows.{branchRoll, rolledRow, optionValues, spanBranch, Rollable, Leads, Limited, Later, FilledRow, FilledRows}
 
 -- a node of a span: what its branch asks, and that it is the row's
 module _ (downs discounts : List ℕ) (span : Span) (k : ℕ) (r : Rollable downs discounts (span .next)) (l : Leads downs span (length discounts))

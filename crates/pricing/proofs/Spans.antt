@@ -10,7 +10,7 @@ use Rattle.row_branches.proofs.BranchLaws.{branch-leads, lowest-grown, lowest-f
 use Rattle.arithmetic.proofs.Numbers.{by-order}
 use borrow.Author.Tests.{lt-ltb, le-ltb}
 use Rattle.pricing.specs.declared.rows.Span.{Span}
-use Rattle.pricing.specs.Rows.{growingSpan, lowestSpan, innerSpan, highestSpan, edgeNodes, betweenEdges, Rollable, Leads}
+use Rattle.pricing.specs.inside.Rows.{growingSpan, lowestSpan, innerSpan, highestSpan, edgeNodes, betweenEdges, Rollable, Leads}
 
 module _ (downs discounts : List ℕ) (next : ℕ) (r : Rollable downs discounts next) where
   leads-to : (k : ℕ) → k < length discounts → rowBranch downs next k .low ≡ lowest (length downs) next k

@@ -16,9 +16,9 @@ use Rattle.lattice.proofs.Sizes.{count-within, row-ends, start-most}
 use Rattle.lattice.proofs.ShapeLaws as shapes
 use Rattle.lent_tree.specs.LentTree.{Accepted}
 use Rattle.pricing_laws.specs.Pricer.{Side}
-use Rattle.pricing.specs.Rows.{bondValues, optionValues, Rollable, Limited, Later, FilledRow, FilledRows}
-use Rattle.pricing.specs.Trees.{downTable, bondStep, optionStep}
-use Rattle.pricing.specs.Strips.{strikeValues, strikeStep}
+use Rattle.pricing.specs.inside.Rows.{bondValues, optionValues, Rollable, Limited, Later, FilledRow, FilledRows}
+use Rattle.pricing.specs.inside.Trees.{downTable, bondStep, optionStep}
+use Rattle.pricing.specs.inside.Strips.{strikeValues, strikeStep}
 use Rattle.pricing.proofs.TreeRows as rows
 
 module _ (n b i : ℕ) (discounts : List ℕ) (a : Accepted n b discounts) (hi : i < n) (s : RowShape) (es : s ≡ rowShapeAnswer b n i) where

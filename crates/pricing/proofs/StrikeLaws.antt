@@ -7,20 +7,22 @@ use native.Mathlib.Omega.{arith}
 use Rattle.arithmetic.specs.declared.Answer.{Answer}
 use Rattle.arithmetic.specs.Answers.{refused}
 use Rattle.limits.specs.Limits.{mostSteps, limitCause}
-use Rattle.pricing_laws.specs.Schedule.{datedSchedule, marked}
+use Rattle.pricing_laws.specs.Schedule.{datedSchedule}
+use Rattle.pricing_laws.specs.inside.Marks.{marked}
 use Rattle.exercise.specs.declared.Terms.{Terms}
 use Rattle.exercise.specs.Terms.{side}
 use Rattle.exercise_dates.specs.Dates.{marksOf, datedTerms}
 use Rattle.exercise_dates.proofs.DateLaws.{marks-room}
 use Rattle.lent_tree.specs.LentTree.{Accepted}
-use Rattle.price_causes.specs.Causes.{AcceptedFlows}
+use Rattle.price_causes.specs.inside.Flows.{AcceptedFlows}
 use Rattle.price_laws.specs.declared.Price.{Price}
-use Rattle.price_laws.specs.Prices.{treeCause, refusedPrice, valueAlone, withBound, bondPeak, acceptedOption, datedCause, datedPrice}
+use Rattle.price_laws.specs.Prices.{treeCause, refusedPrice, valueAlone, withBound, bondPeak, datedCause, datedPrice}
+use Rattle.price_laws.specs.inside.Accepted.{acceptedOption}
 use Rattle.price_laws.proofs.AnswerLaws.{marked-price}
 use Rattle.price_laws.proofs.OptionLaws.{dated-price}
 use Rattle.price_laws.proofs.ValueLaws.{option-cause, option-passed}
-use Rattle.pricing.specs.Trees.{Exercisable, BothRolled}
-use Rattle.pricing.specs.Strips.{besideBond}
+use Rattle.pricing.specs.inside.Trees.{Exercisable, BothRolled}
+use Rattle.pricing.specs.inside.Strips.{besideBond}
 use Rattle.pricing.proofs.EntryLaws.{dated-exercised, option-refused, option-given}
 use Rattle.pricing.proofs.WalkStates.{bond-over}
 

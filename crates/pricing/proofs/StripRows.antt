@@ -11,8 +11,8 @@ use lib.Seq.{getD-set-same, getD-set-other}
 use Rattle.arithmetic.specs.Row.{values}
 use Rattle.arithmetic.proofs.Numbers.{by-equal}
 use Rattle.pricing_laws.specs.Pricer.{Side, exercise, heldOrExercised}
-use Rattle.pricing.specs.Rows.{rolledRow}
-use Rattle.pricing.specs.Strips.{Laid, strikeValues}
+use Rattle.pricing.specs.inside.Rows.{rolledRow}
+use Rattle.pricing.specs.inside.Strips.{Laid, strikeValues}
 
 -- k nodes laid from a place on
 pub record Laying (before after : List ℕ) (start : ℕ) (f : ℕ → ℕ) (k : ℕ) : Type 0 where

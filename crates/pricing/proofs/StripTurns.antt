@@ -17,14 +17,14 @@ use Rattle.lattice.specs.Shape.{nodeCount, rowStart}
 use Rattle.lattice.specs.Entries.{rowShapeAnswer}
 use Rattle.lattice.proofs.Sizes.{row-ends}
 use Rattle.pricing_laws.specs.Pricer.{Side, Schedule, exercise}
-use Rattle.pricing_laws.specs.Schedule.{marked}
+use Rattle.pricing_laws.specs.inside.Marks.{marked}
 use Rattle.exercise.specs.declared.Terms.{Terms}
 use Rattle.exercise.specs.Terms.{side}
 use Rattle.pricing.specs.declared.walk.OptionStep.{OptionStep}
 use Rattle.price_laws.specs.Prices.{flowAt, bondPeak}
-use Rattle.pricing.specs.Rows.{Limited, Holds, FilledRow}
-use Rattle.pricing.specs.Trees.{Ready, Steppable, Exercisable, optionStepAt, BondRolled, BothRolled}
-use Rattle.pricing.specs.Strips.{bareValue, KeptFrom, Laid, BondKept, strikeStep, besideBond}
+use Rattle.pricing.specs.inside.Rows.{Limited, Holds, FilledRow}
+use Rattle.pricing.specs.inside.Trees.{Ready, Steppable, Exercisable, optionStepAt, BondRolled, BothRolled}
+use Rattle.pricing.specs.inside.Strips.{bareValue, KeptFrom, Laid, BondKept, strikeStep, besideBond}
 use Rattle.pricing.proofs.TreeRows.{flow-within}
 use Rattle.pricing.proofs.StepParts as parts
 use Rattle.pricing.proofs.WalkStates as walk

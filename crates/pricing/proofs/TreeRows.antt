@@ -24,11 +24,11 @@ use Rattle.row_branches.proofs.TableParts as tables
 use Rattle.pricing_laws.specs.Pricer.{Side, exercise, heldOrExercised}
 use Rattle.pricing_laws.specs.TreePricer.{rollRounding, nodeRoll, roll}
 use Rattle.price_bound.proofs.BoundLaws.{discount-within}
-use Rattle.price_causes.specs.Causes.{AcceptedFlows}
+use Rattle.price_causes.specs.inside.Flows.{AcceptedFlows}
 use Rattle.price_laws.specs.Prices.{flowAt}
-use Rattle.pricing.specs.Rows.{branchRoll, rolledRow, bondValues, optionValues, Rollable, FilledRow, FilledRows}
-use Rattle.pricing.specs.Trees.{downTable, rolledAt, bondStep, optionStep}
-use Rattle.pricing.specs.Strips.{strikeValues, strikeStep}
+use Rattle.pricing.specs.inside.Rows.{branchRoll, rolledRow, bondValues, optionValues, Rollable, FilledRow, FilledRows}
+use Rattle.pricing.specs.inside.Trees.{downTable, rolledAt, bondStep, optionStep}
+use Rattle.pricing.specs.inside.Strips.{strikeValues, strikeStep}
 
 pub table-size : (n b : ℕ) → length (downTable n b) ≡ nodeCount b n
 unfolding downTable

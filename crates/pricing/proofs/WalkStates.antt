@@ -26,11 +26,11 @@ use Rattle.pricing_laws.proofs.PriceLaws.{On, row-greatest, roll-local}
 use Rattle.pricing_laws.proofs.Backward as back
 use Rattle.pricing.specs.declared.walk.Rolled.{Rolled}
 use Rattle.price_laws.specs.Prices.{flowAt, bondValue, bondPeak, optionValue, optionPeak, optionLimit}
-use Rattle.pricing.specs.Rows.{Limited, Holds, FilledRow, FilledRows}
-use Rattle.pricing.specs.Trees.{rolledAt, bondStep, optionStep, BondRolled, BothRolled}
-use Rattle.pricing.specs.Strips.{bareValue, KeptFrom, strikeStep, besideBond}
+use Rattle.pricing.specs.inside.Rows.{Limited, Holds, FilledRow, FilledRows}
+use Rattle.pricing.specs.inside.Trees.{rolledAt, bondStep, optionStep, BondRolled, BothRolled}
+use Rattle.pricing.specs.inside.Strips.{bareValue, KeptFrom, strikeStep, besideBond}
 use Rattle.lent_tree.specs.LentTree.{stored, Accepted}
-use Rattle.price_causes.specs.Causes.{AcceptedFlows}
+use Rattle.price_causes.specs.inside.Flows.{AcceptedFlows}
 use Rattle.pricing.proofs.TreeRows.{flow-within}
 
 -- the greatest of two rows together

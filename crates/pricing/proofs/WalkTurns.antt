@@ -11,13 +11,13 @@ use Rattle.arithmetic.proofs.SumLaws.{greatest-cong}
 use Rattle.limits.specs.Limits.{valueLimit}
 use Rattle.lattice.specs.Shape.{nodeCount}
 use Rattle.pricing_laws.specs.Pricer.{exercise}
-use Rattle.pricing_laws.specs.Schedule.{marked}
+use Rattle.pricing_laws.specs.inside.Marks.{marked}
 use Rattle.exercise.specs.declared.Terms.{Terms}
 use Rattle.exercise.specs.Terms.{side}
 use Rattle.pricing.specs.declared.walk.OptionStep.{OptionStep}
 use Rattle.price_laws.specs.Prices.{flowAt}
-use Rattle.pricing.specs.Rows.{Limited, Holds, FilledRow, FilledRows}
-use Rattle.pricing.specs.Trees.{Ready, Steppable, Exercisable, optionStepAt, bondStep, optionStep, BondRolled, BothRolled}
+use Rattle.pricing.specs.inside.Rows.{Limited, Holds, FilledRow, FilledRows}
+use Rattle.pricing.specs.inside.Trees.{Ready, Steppable, Exercisable, optionStepAt, bondStep, optionStep, BondRolled, BothRolled}
 use Rattle.pricing.proofs.TreeRows.{flow-within}
 use Rattle.pricing.proofs.WalkStates as walk
 use Rattle.pricing.proofs.WalkStates.{Bonds, Options, passed, stood}

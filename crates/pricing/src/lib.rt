@@ -18,14 +18,14 @@ ghost use Prim.Native.Nat.{_≤_};
 ghost use lib.ListN.{length, take};
 ghost use Rattle.limits.specs.Limits.{mostSteps, mostReversion};
 ghost use Rattle.lattice.specs.Shape.{nodeCount};
-ghost use Rattle.pricing_laws.specs.Schedule.{marked, datedSchedule, kindSide};
+ghost use Rattle.pricing_laws.specs.Schedule.{datedSchedule, kindSide};
+ghost use Rattle.pricing_laws.specs.inside.Marks.{marked};
 ghost use Rattle.exercise.specs.Terms.{side};
 ghost use Rattle.lent_tree.specs.LentTree.{Accepted};
-ghost use Rattle.price_causes.specs.Causes.{AcceptedFlows};
+ghost use Rattle.price_causes.specs.inside.Flows.{AcceptedFlows};
+ghost use Rattle.arithmetic.specs.Answers.{firstCause};
 ghost use Rattle.price_laws.specs.Prices.{
   refusedPrice,
-  acceptedBond,
-  acceptedOption,
   bondPrice,
   optionPrice,
   bondAndOption,
@@ -33,14 +33,13 @@ ghost use Rattle.price_laws.specs.Prices.{
   bondAndDatedOption,
   treeCause,
   scheduledPrice,
-  firstCause,
   valueAlone,
   withBound,
   bothValues,
-  bothWith,
 };
+ghost use Rattle.price_laws.specs.inside.Accepted.{acceptedBond, acceptedOption, bothWith};
 ghost use Rattle.price_laws.specs.Strips.{mostStrikes, stripOf, stripAnswer, strikePrice, kindPrice, optionStrip, kindStrip, eachWith};
-ghost use Rattle.pricing.specs.Trees.{downTable, TreeBounded, Exercisable, ExercisedOn};
+ghost use Rattle.pricing.specs.inside.Trees.{downTable, TreeBounded, Exercisable, ExercisedOn};
 
 pub(crate) fn refused(number: u64) -> Price
     ensures { λ r. ⌜ r ≡ refusedPrice number ⌝ }

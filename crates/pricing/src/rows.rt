@@ -10,8 +10,9 @@ ghost use Rattle.limits.specs.Limits.{mostDiscount, mostNodes};
 ghost use Rattle.price_causes.specs.Causes.{mostFlow};
 ghost use Rattle.pricing_laws.specs.Pricer.{exercise};
 ghost use Rattle.exercise.specs.Terms.{side};
-ghost use Rattle.row_branches.specs.RowBranches.{opposite, branchTotal};
-ghost use Rattle.pricing.specs.Rows.{
+ghost use Rattle.row_branches.specs.RowBranches.{opposite};
+ghost use Rattle.row_branches.specs.inside.Transitions.{branchTotal};
+ghost use Rattle.pricing.specs.inside.Rows.{
   growingSpan,
   lowestSpan,
   innerSpan,
@@ -30,7 +31,7 @@ ghost use Rattle.pricing.specs.Rows.{
   FilledRow,
   FilledRows,
 };
-ghost use Rattle.pricing.specs.Strips.{Laid, strikeValues};
+ghost use Rattle.pricing.specs.inside.Strips.{Laid, strikeValues};
 
 // The nodes of the widest row.
 const MOST_NODES: usize = 121;

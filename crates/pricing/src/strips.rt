@@ -10,7 +10,7 @@ ghost use lib.ListN.{length, replicate};
 ghost use Rattle.limits.specs.Limits.{mostDiscounts};
 ghost use Rattle.price_laws.specs.Prices.{refusedPrice, valueAlone, withBound, datedPrice};
 ghost use Rattle.price_laws.specs.Strips.{mostStrikes, stripCause, refusedStrip, stripOf, strikePrice, eachWith};
-ghost use Rattle.pricing.specs.Strips.{Shareable};
+ghost use Rattle.pricing.specs.inside.Strips.{Shareable};
 
 // Rows 0 to 59 of the widest tree: 1, 3, 5 and so on.
 const MOST_DISCOUNTS: usize = limits::MOST_STEPS * limits::MOST_STEPS;

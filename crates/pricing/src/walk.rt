@@ -9,11 +9,11 @@ ghost use lib.ListN.{length, take, drop};
 ghost use Rattle.arithmetic.specs.Row.{values};
 ghost use Rattle.arithmetic.specs.Answers.{refused, answered};
 ghost use Rattle.lattice.specs.Shape.{nodeCount};
-ghost use Rattle.pricing_laws.specs.Schedule.{marked};
+ghost use Rattle.pricing_laws.specs.inside.Marks.{marked};
 ghost use Rattle.exercise.specs.Terms.{side};
 ghost use Rattle.price_laws.specs.Prices.{flowAt};
-ghost use Rattle.pricing.specs.Rows.{Limited, FilledRow, FilledRows};
-ghost use Rattle.pricing.specs.Trees.{
+ghost use Rattle.pricing.specs.inside.Rows.{Limited, FilledRow, FilledRows};
+ghost use Rattle.pricing.specs.inside.Trees.{
   Ready,
   Exercisable,
   Steppable,
@@ -24,7 +24,7 @@ ghost use Rattle.pricing.specs.Trees.{
   BothRolled,
 };
 ghost use Rattle.limits.specs.Limits.{mostDiscounts};
-ghost use Rattle.pricing.specs.Strips.{BondKept, strikeStep, besideBond};
+ghost use Rattle.pricing.specs.inside.Strips.{BondKept, strikeStep, besideBond};
 
 // A tree's number of steps and its reversion.
 pub(crate) struct Tree {

@@ -2,3 +2,4 @@ pub mod Pricer
 pub mod Schedule
 pub mod TreePricer
 pub mod Peak
+pub mod inside

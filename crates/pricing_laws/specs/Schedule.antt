@@ -65,7 +65,3 @@ kindSide kind = cond (eqb kind 1 || eqb kind 3) 1 2
 
 unfoldable pub scheduleOf : ℕ → ℕ → Schedule
 scheduleOf kind expiry = datedSchedule (kindDates kind expiry)
-
--- the rows that marks name: row i where mark i is 1
-unfoldable pub marked : ℕ → List ℕ → Schedule
-marked last marks = record { last = last; listed = λ i. eqb (values marks i) 1 }

@@ -8,7 +8,7 @@ use native.Mathlib.Nat.{le-trans, zero-add}
 use native.Mathlib.Omega.{arith}
 use borrow.Author.Tests.{eq-eqb, ne-eqb, eqb-true, ltb-true, ltb-false, leb-true, le-leb, lt-leb, lt-ltb, le-ltb}
 use lib.Dec.{eqb, leb, ltb}
-use Rattle.arithmetic.specs.Answers.{refused, answered}
+use Rattle.arithmetic.specs.Answers.{refused, answered, firstCause}
 use Rattle.arithmetic.proofs.Numbers.{by-order, by-equal}
 use Rattle.arithmetic.proofs.BetweenLaws.{and-left, and-right}
 use Rattle.arithmetic.proofs.RowLaws.{each-all, each-holds}
@@ -17,7 +17,7 @@ use Rattle.arithmetic.specs.Sum.{greatest}
 use Rattle.arithmetic.specs.Row.{each}
 use Rattle.pricing_laws.specs.Peak.{peakFrom, peak}
 use Rattle.pricing_laws.proofs.Peaks.{peak-grows, row-in-peak}
-use Rattle.price_laws.specs.Prices.{firstCause, priced}
+use Rattle.price_laws.specs.Prices.{priced}
 use Rattle.promises.specs.Causes.{Cause, cause, firstOf}
 
 -- ---- tests

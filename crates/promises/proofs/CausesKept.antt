@@ -8,11 +8,10 @@ use lib.Dec.{eqb, leb, ltb}
 use lib.Ieee.{Float}
 use lib.IntN.{ℤ, natAbs}
 use lib.ListN.{length}
-use Rattle.arithmetic.specs.Answers.{refused, answered}
+use Rattle.arithmetic.specs.Answers.{refused, answered, firstCause}
 use Rattle.limits.specs.Limits.{isSteps, isReversion, isDiscount, shapeCause}
 use Rattle.lattice.specs.Shape.{halfWidth, nodeCount, rowStart, discountsNeeded, statePricesNeeded}
-use Rattle.lattice.specs.Entries.{aboutRow, aboutTree}
-use Rattle.lattice.specs.Entries.{branchAnswer, branchOf, refusedBranch}
+use Rattle.lattice.specs.Entries.{aboutRow, aboutTree, branchAnswer, branchOf, refusedBranch}
 use Rattle.figure.specs.Figure.{beyond, billionthsOf, figureOf, refusedFigure, acceptedFigure}
 use Rattle.spacing.specs.Spacing.{spacing}
 use Rattle.factor.specs.Factor.{nodeAnswer, factor}
@@ -20,16 +19,15 @@ use Rattle.step_rate.specs.StepRate.{rateAnswer, stepRate, refusedRate, answere
 use Rattle.continuous.specs.Continuous.{continuousAnswer, continuousDiscount}
 use Rattle.continuous_rate.specs.ContinuousRate.{continuousRateAnswer, continuousRate}
 use Rattle.price_laws.specs.declared.Price.{Price}
-use Rattle.price_laws.specs.Prices.{firstCause}
 use Rattle.price_laws.specs.Strips.{stripCause, stripAnswer}
 use Rattle.price_laws.proofs.StripLaws.{strip-number}
 use Rattle.promises.specs.Causes.{CausePromises, cause, firstOf, treeCauses}
 use Rattle.promises.proofs.CauseTables.{not-leb, ltb-not, number-of}
-use Rattle.promises.proofs.QuoteCauses.{lone-causes, curve-causes, shape-first, spacing-causes, fit-causes}
-use Rattle.promises.proofs.QuoteCauses.{by-version-causes, version-spacing-causes, version-causes}
+use Rattle.promises.proofs.QuoteCauses.{lone-causes, curve-causes, shape-first, spacing-causes}
+use Rattle.promises.proofs.QuoteCauses.{fit-causes, by-version-causes, version-spacing-causes, version-causes}
 use Rattle.reversion.specs.Reversion.{workingReversion, versionRatio}
-use Rattle.promises.proofs.PriceCauses.{price-bound-causes, tree-bounds-causes, state-price-bound-causes, bond-causes, option-causes, dated-causes}
-use Rattle.promises.proofs.PriceCauses.{weighing-causes, weighing-bound-causes}
+use Rattle.promises.proofs.PriceCauses.{price-bound-causes, tree-bounds-causes, state-price-bound-causes, bond-causes}
+use Rattle.promises.proofs.PriceCauses.{option-causes, dated-causes, weighing-causes, weighing-bound-causes}
 
 -- ---- rows, sizes and branches
 

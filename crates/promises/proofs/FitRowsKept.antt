@@ -17,7 +17,8 @@ use Rattle.arithmetic.specs.Row.{values, place}
 use Rattle.arithmetic.specs.Sum.{sum}
 use Rattle.arithmetic.proofs.SumLaws.{sum-single}
 use Rattle.tree.specs.Tree.{Tree}
-use Rattle.tree.specs.Layout.{start, laid}
+use Rattle.tree.specs.Layout.{laid}
+use Rattle.tree.specs.inside.Layout.{start}
 use Rattle.tree.proofs.LayoutLaws as layout
 use Rattle.lattice.specs.Shape.{halfWidth, nodeCount, rowStart}
 use Rattle.lattice.specs.RateTree.{nodeOfIndex, node, rateTree}

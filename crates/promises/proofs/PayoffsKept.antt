@@ -58,7 +58,7 @@ bound-given n b discounts r payoffs z = go (valuationCause n b discounts r payof
     go x v true e k = refl
     go x v false e k = absurd (eqb-false x 0 e k)
 
--- the value and its allowance, spelled out
+-- the value and its error bound, spelled out
 pub weighed-kept : (prices payoffs : List ℕ) (n b : ℕ) (discounts : List ℕ) (r : ℕ) → Weighed prices payoffs n b discounts r
 unfolding valueOf valueByStatePrices valuationErrorBound valuationBound rateTree
 weighed-kept prices payoffs n b discounts r = record { value-is = value-given prices payoffs; bound-is = bound-given n b discounts r payoffs }

@@ -8,7 +8,7 @@ use native.Mathlib.Omega.{arith}
 use borrow.Author.Tests.{leb-true, le-leb}
 use lib.Dec.{eqb, leb, ltb}
 use lib.ListN.{length}
-use Rattle.arithmetic.specs.Answers.{refused, answered, lowestCause}
+use Rattle.arithmetic.specs.Answers.{refused, answered, lowestCause, firstCause}
 use Rattle.arithmetic.specs.Rounding.{one}
 use Rattle.arithmetic.specs.Row.{values, each, between, sumOf}
 use Rattle.arithmetic.specs.Sum.{sum}
@@ -29,8 +29,7 @@ use Rattle.price_bound.proofs.BoundLaws.{bounds-number}
 use Rattle.pricing_laws.specs.Peak.{greatestValue}
 use Rattle.pricing_laws.specs.Pricer.{Side, Schedule}
 use Rattle.pricing_laws.specs.Schedule.{rising, lastDate, datesCause, sideOf, scheduleOf, numberedSide, datedSchedule}
-use Rattle.price_laws.specs.Prices.{firstCause, treeCause, bondValue, bondPeak, bondPrice}
-use Rattle.price_laws.specs.Prices.{optionValue, optionPeak, optionLimit, optionPrice, datedCause, datedPrice}
+use Rattle.price_laws.specs.Prices.{treeCause, bondValue, bondPeak, bondPrice, optionValue, optionPeak, optionLimit, optionPrice, datedCause, datedPrice}
 use Rattle.valuation_laws.specs.Valuation.{valueByStatePrices}
 use Rattle.valuation.specs.Entries.{valueOf, fitARow, valueByStatePricesAnswer, payoffsCause, valuationCause, valuationErrorBoundAnswer}
 use Rattle.promises.specs.Causes.{Cause, cause, firstOf, lentCauses, flowCauses, discountsAccepted, flowsAccepted}

@@ -9,7 +9,7 @@ use lib.Dec.{eqb, leb, ltb}
 use lib.Ieee.{Float}
 use lib.IntN.{ℤ}
 use lib.ListN.{length}
-use Rattle.arithmetic.specs.Answers.{refused, answered, lowestCause}
+use Rattle.arithmetic.specs.Answers.{refused, answered, lowestCause, firstCause}
 use Rattle.arithmetic.specs.Rounding.{one}
 use Rattle.arithmetic.specs.Row.{each}
 use Rattle.arithmetic.specs.Frequency.{listed}
@@ -32,7 +32,6 @@ use Rattle.fit_laws.specs.StatePrices.{acceptedRow}
 use Rattle.fitting.specs.Fit.{curveAccepted}
 use Rattle.fitting.specs.Entry.{quotesOf, earlyCause, lateCause, fittedNumber, fitNumber, fitDiscount, versionNumber}
 use Rattle.fitting.proofs.VersionLaws.{first-number}
-use Rattle.price_laws.specs.Prices.{firstCause}
 use Rattle.promises.specs.Causes.{Cause, cause, firstOf, treeCauses, isKind, kindDiscount, quoteInRange, quotesPlaced, quotesConverted, everyNode}
 use Rattle.promises.proofs.CauseTables.{not-leb, seven, first-append, number-of}
 

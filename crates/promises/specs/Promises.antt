@@ -42,7 +42,7 @@ use Rattle.pricing_laws.specs.TreePricer.{engine, exact, greatestDiscount, pric
 use Rattle.price_bound.specs.declared.TreeErrorBounds.{TreeErrorBounds}
 use Rattle.price_bound.specs.PriceBound.{treeBoundsAnswer}
 use Rattle.price_laws.specs.Prices.{flowAt, bondPrice, optionPrice, datedPrice}
-use Rattle.price_laws.specs.Exact.{exactBond, exactOption, exactDated, exactPayoff}
+use Rattle.price_laws.specs.Exact.{exactBond, exactOption, exactDated, exactPayoff, Accurate}
 use Rattle.valuation.specs.Entries.{valueByStatePricesAnswer, valuationErrorBoundAnswer}
 use Rattle.promises.specs.Quoted.{QuotePromises}
 use Rattle.promises.specs.Versions.{VersionPromises}
@@ -135,10 +135,10 @@ pub record Repriced (quote total : ℕ) : Type 0 where
   pub below : quote ≤ total + 300
   pub above : total ≤ quote + 300
 
--- fitted state prices of row i: at most the exact ones, which are held times m^i, and short of them in sum by at most the allowance
-pub record StatePriced (b i : ℕ) (fitted exact : ℕ → ℕ) (allowance : ℕ) : Type 0 where
+-- fitted state prices of row i: at most the exact ones, which are held times m^i, and short of them in sum by at most the error bound
+pub record StatePriced (b i : ℕ) (fitted exact : ℕ → ℕ) (bound : ℕ) : Type 0 where
   pub below : (k : ℕ) → k < nodeCount b i → unit ^ i * fitted k ≤ exact k
-  pub short : sum (nodeCount b i) (λ k. exact k - unit ^ i * fitted k) ≤ unit ^ i * allowance
+  pub short : sum (nodeCount b i) (λ k. exact k - unit ^ i * fitted k) ≤ unit ^ i * bound
 
 -- The state prices that follow from node discounts, whoever stored them, rounded as the fit rounds and exact, the latter held times m^i; and the
 -- state-price allowance, with the greatest discount of the row before: times the former / one, up, plus both rows' node counts.
@@ -194,7 +194,7 @@ pub record TreePromises : Type 0 where
   pub sums-weighable : (f n w spaced h : ℕ) (rows kinds : List ℕ) (figures : List Float) (room-discounts room-prices : ℕ) →
       fittedNumber f n w spaced h rows kinds figures room-discounts room-prices ≡ 0 → (i : ℕ) → i ≤ n →
       sum (nodeCount w i) (fitPrice f n w h kinds figures i) ≤ 2000000100
-  -- state prices, exact and rounded, and their allowance row by row, on any tree; the entry's answer is this allowance
+  -- state prices, exact and rounded, and their error bound row by row, on any tree; the entry's answer is this bound
   pub state-price-rows : (t : Tree) (discount : ℕ → ℕ → ℕ) → StatePriceRows t discount
   pub state-price-bound-is : (n b : ℕ) (discounts : List ℕ) (i : ℕ) → statePriceErrorBoundAnswer n b discounts i .number ≡ 0 →
       statePriceErrorBoundAnswer n b discounts i .value ≡ statePriceErrorBound (rateTree b) (stored b discounts) i
@@ -202,7 +202,7 @@ pub record TreePromises : Type 0 where
   pub lent-state-prices-near : (n b : ℕ) (discounts : List ℕ) (i : ℕ) → statePriceErrorBoundAnswer n b discounts i .number ≡ 0 →
       StatePriced b i (statePrice (rateTree b) (stored b discounts) i) (exactStatePrice (rateTree b) (stored b discounts) i)
       (statePriceErrorBoundAnswer n b discounts i .value)
-  -- against the exact state prices of the same fit's node discounts, with the allowance that the entry gives for these
+  -- against the exact state prices of the same fit's node discounts, with the error bound that the entry gives for these
   pub state-prices-near : (f n w spaced h : ℕ) (rows kinds : List ℕ) (figures : List Float) (room-discounts room-prices : ℕ) →
       fittedNumber f n w spaced h rows kinds figures room-discounts room-prices ≡ 0 → (i : ℕ) → i ≤ n →
       (statePriceErrorBoundAnswer n w (fitDiscounts f n w h kinds figures) i .number ≡ 0)
@@ -211,10 +211,10 @@ pub record TreePromises : Type 0 where
 
 -- ---- prices
 
--- never above the exact price, and short of it by at most the allowance
-pub record ShortOf (allowance M price x : ℕ) : Type 0 where
+-- never above the exact price, and short of it by at most the error bound
+pub record ShortOf (bound M price x : ℕ) : Type 0 where
   pub never-above : price * M ≤ x
-  pub short : x ≤ (price + allowance) * M
+  pub short : x ≤ (price + bound) * M
 
 -- no node discount that is needed is above one
 abbrev pub NoneAboveOne : ℕ → ℕ → List ℕ → Type 0
@@ -267,32 +267,36 @@ pub record Kinds (expiry : ℕ) : Type 0 where
   pub call-every : EveryRow expiry (kindDates 3 expiry)
   pub put-every : EveryRow expiry (kindDates 4 expiry)
 
--- The engine row by row: the sum of probability × later value, divided by 600,000,000, nearest; then × discount / one, nearest. Row n is its flow,
--- an earlier row the rolled value plus its flow; without its flow the bond is the rolled value. On an option's last row the exercise value, on the bond
--- without the flow of its row; earlier, listed rows take the larger of roll and exercise and the rest roll. So European rolls, American takes the larger.
+-- a value rolled from the next row: the sum of probability × later value, divided by 600,000,000, nearest; then × discount / one, nearest
+abbrev pub rolled : Tree → (ℕ → ℕ → ℕ) → ℕ → (ℕ → ℕ) → ℕ → ℕ
+rolled t discount i later k = nearest (nearest (outgoing (t .step i) later k) 600000000 * discount i k) one
+
+-- The engine row by row. Row n is its flow, an earlier row the rolled value plus its flow; without its flow the bond is the rolled value. On an
+-- option's last row the exercise value, on the bond without the flow of its row; earlier, listed rows take the larger of roll and exercise and the rest
+-- roll. So European rolls, American takes the larger.
 pub record EngineRows (t : Tree) (discount : ℕ → ℕ → ℕ) (flow : ℕ → ℕ) (n : ℕ) (side : Side) (strike expiry : ℕ) : Type 0 where
   pub bond-last : (k : ℕ) → bond (engine t discount) flow n n k ≡ flow n
   pub bond-before : (i : ℕ) → i < n → (k : ℕ) →
       bond (engine t discount) flow n i k
-      ≡ nearest (nearest (outgoing (t .step i) (bond (engine t discount) flow n (suc i)) k) 600000000 * discount i k) one + flow i
+      ≡ rolled t discount i (bond (engine t discount) flow n (suc i)) k + flow i
   pub bare-before : (i : ℕ) → i < n → (k : ℕ) →
       bareBond (engine t discount) flow n i k
-      ≡ nearest (nearest (outgoing (t .step i) (bond (engine t discount) flow n (suc i)) k) 600000000 * discount i k) one
+      ≡ rolled t discount i (bond (engine t discount) flow n (suc i)) k
   pub option-last : (rows : Schedule) (k : ℕ) →
       option (engine t discount) flow n side strike rows (rows .last) k ≡ exercise side strike (bareBond (engine t discount) flow n (rows .last) k)
   pub listed-before : (rows : Schedule) (i : ℕ) → i < rows .last → rows .listed i ≡ true → (k : ℕ) →
       option (engine t discount) flow n side strike rows i k
-      ≡ max (nearest (nearest (outgoing (t .step i) (option (engine t discount) flow n side strike rows (suc i)) k) 600000000 * discount i k) one)
+      ≡ max (rolled t discount i (option (engine t discount) flow n side strike rows (suc i)) k)
       (exercise side strike (bareBond (engine t discount) flow n i k))
   pub unlisted-before : (rows : Schedule) (i : ℕ) → i < rows .last → rows .listed i ≡ false → (k : ℕ) →
       option (engine t discount) flow n side strike rows i k
-      ≡ nearest (nearest (outgoing (t .step i) (option (engine t discount) flow n side strike rows (suc i)) k) 600000000 * discount i k) one
+      ≡ rolled t discount i (option (engine t discount) flow n side strike rows (suc i)) k
   pub european-before : (i : ℕ) → i < expiry → (k : ℕ) →
       option (engine t discount) flow n side strike (european expiry) i k
-      ≡ nearest (nearest (outgoing (t .step i) (option (engine t discount) flow n side strike (european expiry) (suc i)) k) 600000000 * discount i k) one
+      ≡ rolled t discount i (option (engine t discount) flow n side strike (european expiry) (suc i)) k
   pub american-before : (i : ℕ) → i < expiry → (k : ℕ) →
       option (engine t discount) flow n side strike (american expiry) i k
-      ≡ max (nearest (nearest (outgoing (t .step i) (option (engine t discount) flow n side strike (american expiry) (suc i)) k) 600000000 * discount i k) one)
+      ≡ max (rolled t discount i (option (engine t discount) flow n side strike (american expiry) (suc i)) k)
       (exercise side strike (bareBond (engine t discount) flow n i k))
 
 -- The exact pricer, row i held times m^(n − i): it rounds nothing.
@@ -372,6 +376,46 @@ pub record Weighed (prices payoffs : List ℕ) (n b : ℕ) (discounts : List ℕ
       valuationErrorBoundAnswer n b discounts r payoffs .value
       ≡ roundUp (greatest (nodeCount b r) (values payoffs) * statePriceErrorBound (rateTree b) (stored b discounts) r) one + 1
 
+-- Prices on a tree of n steps and reversion b with lent discounts, of a bond with these flows.
+pub record TreePricePromises (n b : ℕ) (discounts flows : List ℕ) : Type 0 where
+  pub by-rows : PricedByRows n b discounts flows
+  pub bond-accurate : bondPrice n b discounts flows .number ≡ 0 →
+      Accurate (unit ^ n) (bondPrice n b discounts flows) (exactBond n b discounts flows)
+  -- the four kinds of option
+  pub option-accurate : (kind expiry strike : ℕ) →
+      optionPrice n b discounts flows kind expiry strike .number ≡ 0 →
+      Accurate (unit ^ n) (optionPrice n b discounts flows kind expiry strike) (exactOption n b discounts flows kind expiry strike)
+  -- options on listed rows (document 02, request (iii)); a kind and its list give one whole answer wherever expiry is below n
+  pub dated-accurate : (side : ℕ) (dates : List ℕ) (strike : ℕ) →
+      datedPrice n b discounts flows side dates strike .number ≡ 0 →
+      Accurate (unit ^ n) (datedPrice n b discounts flows side dates strike) (exactDated n b discounts flows side dates strike)
+  pub kinds-are-lists : (kind expiry strike : ℕ) → 1 ≤ kind → kind ≤ 4 → expiry < n →
+      optionPrice n b discounts flows kind expiry strike ≡ datedPrice n b discounts flows (kindSide kind) (kindDates kind expiry) strike
+  -- more rights cost no less (document 02, request (v)), in the engine's own billionths: on one tree, bond, side and strike, where both are priced
+  pub dates-no-less : (side strike : ℕ) (few many : List ℕ) →
+      datedPrice n b discounts flows side few strike .number ≡ 0 → datedPrice n b discounts flows side many strike .number ≡ 0 → Contained few many →
+      datedPrice n b discounts flows side few strike .value ≤ datedPrice n b discounts flows side many strike .value
+  -- kind 3 against 1 and 4 against 2, of one expiry; no other kind has both priced
+  pub american-no-less : (kind expiry strike : ℕ) →
+      optionPrice n b discounts flows kind expiry strike .number ≡ 0 → optionPrice n b discounts flows (kind + 2) expiry strike .number ≡ 0 →
+      optionPrice n b discounts flows kind expiry strike .value ≤ optionPrice n b discounts flows (kind + 2) expiry strike .value
+  -- a kind against a list of its side, either way
+  pub kind-no-more : (kind expiry strike : ℕ) → optionPrice n b discounts flows kind expiry strike .number ≡ 0 →
+      (dates : List ℕ) → datedPrice n b discounts flows (kindSide kind) dates strike .number ≡ 0 → Contained (kindDates kind expiry) dates →
+      optionPrice n b discounts flows kind expiry strike .value ≤ datedPrice n b discounts flows (kindSide kind) dates strike .value
+  pub kind-no-less : (kind expiry strike : ℕ) → optionPrice n b discounts flows kind expiry strike .number ≡ 0 →
+      (dates : List ℕ) → datedPrice n b discounts flows (kindSide kind) dates strike .number ≡ 0 → Contained dates (kindDates kind expiry) →
+      datedPrice n b discounts flows (kindSide kind) dates strike .value ≤ optionPrice n b discounts flows kind expiry strike .value
+  -- at most 2 billionths a step
+  pub bond-a-step : bondPrice n b discounts flows .number ≡ 0 → NoneAboveOne n b discounts →
+      bondPrice n b discounts flows .bound ≤ 2 * n
+  pub option-a-step : (kind expiry strike : ℕ) →
+      optionPrice n b discounts flows kind expiry strike .number ≡ 0 → NoneAboveOne n b discounts →
+      optionPrice n b discounts flows kind expiry strike .bound ≤ 2 * n
+  pub dated-a-step : (side : ℕ) (dates : List ℕ) (strike : ℕ) →
+      datedPrice n b discounts flows side dates strike .number ≡ 0 → NoneAboveOne n b discounts →
+      datedPrice n b discounts flows side dates strike .bound ≤ 2 * n
+
 -- Prices on any accepted tree, whoever lent its discounts; and payoffs valued by fitted state prices, unaltered since.
 pub record PricePromises : Type 0 where
   -- engine and exact pricer row by row, on any tree, and the entries' answers by them
@@ -385,45 +429,7 @@ pub record PricePromises : Type 0 where
   pub exercise-values : (strike price : ℕ) → Exercised strike price
   pub listed-rows : (dates : List ℕ) → ListedRows dates
   pub four-kinds : (expiry : ℕ) → Kinds expiry
-  pub priced-by-rows : (n b : ℕ) (discounts flows : List ℕ) → PricedByRows n b discounts flows
-  pub bond-accurate : (n b : ℕ) (discounts flows : List ℕ) → bondPrice n b discounts flows .number ≡ 0 →
-      Within (bondPrice n b discounts flows .bound) (unit ^ n) (bondPrice n b discounts flows .value) (exactBond n b discounts flows)
-  -- the four kinds of option
-  pub option-accurate : (n b : ℕ) (discounts flows : List ℕ) (kind expiry strike : ℕ) →
-      optionPrice n b discounts flows kind expiry strike .number ≡ 0 →
-      Within (optionPrice n b discounts flows kind expiry strike .bound) (unit ^ n) (optionPrice n b discounts flows kind expiry strike .value)
-      (exactOption n b discounts flows kind expiry strike)
-  -- options on listed rows (document 02, request (iii)); a kind and its list give one whole answer wherever expiry is below n
-  pub dated-accurate : (n b : ℕ) (discounts flows : List ℕ) (side : ℕ) (dates : List ℕ) (strike : ℕ) →
-      datedPrice n b discounts flows side dates strike .number ≡ 0 →
-      Within (datedPrice n b discounts flows side dates strike .bound) (unit ^ n) (datedPrice n b discounts flows side dates strike .value)
-      (exactDated n b discounts flows side dates strike)
-  pub kinds-are-lists : (n b : ℕ) (discounts flows : List ℕ) (kind expiry strike : ℕ) → 1 ≤ kind → kind ≤ 4 → expiry < n →
-      optionPrice n b discounts flows kind expiry strike ≡ datedPrice n b discounts flows (kindSide kind) (kindDates kind expiry) strike
-  -- more rights cost no less (document 02, request (v)), in the engine's own billionths: on one tree, bond, side and strike, where both are priced
-  pub dates-no-less : (n b : ℕ) (discounts flows : List ℕ) (side strike : ℕ) (few many : List ℕ) →
-      datedPrice n b discounts flows side few strike .number ≡ 0 → datedPrice n b discounts flows side many strike .number ≡ 0 → Contained few many →
-      datedPrice n b discounts flows side few strike .value ≤ datedPrice n b discounts flows side many strike .value
-  -- kind 3 against 1 and 4 against 2, of one expiry; no other kind has both priced
-  pub american-no-less : (n b : ℕ) (discounts flows : List ℕ) (kind expiry strike : ℕ) →
-      optionPrice n b discounts flows kind expiry strike .number ≡ 0 → optionPrice n b discounts flows (kind + 2) expiry strike .number ≡ 0 →
-      optionPrice n b discounts flows kind expiry strike .value ≤ optionPrice n b discounts flows (kind + 2) expiry strike .value
-  -- a kind against a list of its side, either way
-  pub kind-no-more : (n b : ℕ) (discounts flows : List ℕ) (kind expiry strike : ℕ) → optionPrice n b discounts flows kind expiry strike .number ≡ 0 →
-      (dates : List ℕ) → datedPrice n b discounts flows (kindSide kind) dates strike .number ≡ 0 → Contained (kindDates kind expiry) dates →
-      optionPrice n b discounts flows kind expiry strike .value ≤ datedPrice n b discounts flows (kindSide kind) dates strike .value
-  pub kind-no-less : (n b : ℕ) (discounts flows : List ℕ) (kind expiry strike : ℕ) → optionPrice n b discounts flows kind expiry strike .number ≡ 0 →
-      (dates : List ℕ) → datedPrice n b discounts flows (kindSide kind) dates strike .number ≡ 0 → Contained dates (kindDates kind expiry) →
-      datedPrice n b discounts flows (kindSide kind) dates strike .value ≤ optionPrice n b discounts flows kind expiry strike .value
-  -- at most 2 billionths a step
-  pub bond-a-step : (n b : ℕ) (discounts flows : List ℕ) → bondPrice n b discounts flows .number ≡ 0 → NoneAboveOne n b discounts →
-      bondPrice n b discounts flows .bound ≤ 2 * n
-  pub option-a-step : (n b : ℕ) (discounts flows : List ℕ) (kind expiry strike : ℕ) →
-      optionPrice n b discounts flows kind expiry strike .number ≡ 0 → NoneAboveOne n b discounts →
-      optionPrice n b discounts flows kind expiry strike .bound ≤ 2 * n
-  pub dated-a-step : (n b : ℕ) (discounts flows : List ℕ) (side : ℕ) (dates : List ℕ) (strike : ℕ) →
-      datedPrice n b discounts flows side dates strike .number ≡ 0 → NoneAboveOne n b discounts →
-      datedPrice n b discounts flows side dates strike .bound ≤ 2 * n
+  pub on-tree : (n b : ℕ) (discounts flows : List ℕ) → TreePricePromises n b discounts flows
   pub weighed : (prices payoffs : List ℕ) (n b : ℕ) (discounts : List ℕ) (r : ℕ) → Weighed prices payoffs n b discounts r
   -- whatever was fitted, payoffs valued by the fitted state prices of any row, against the exact price on the same fit's node discounts
   pub payoffs-accurate : (f n w spaced h : ℕ) (rows kinds : List ℕ) (figures : List Float) (room-discounts room-prices : ℕ) →

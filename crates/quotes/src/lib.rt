@@ -7,8 +7,10 @@ ghost use Rattle.arithmetic.specs.Answers.{refused};
 ghost use Rattle.continuous.specs.Continuous.{continuousAnswer};
 ghost use Rattle.quotes.specs.Quotes.{factorDiscount, rateDiscount, yieldDiscount, rangedAnswer, figureAnswer, quoteAnswer, kindAnswer, loneAnswer};
 use arithmetic::Answer;
+use arithmetic::ONE;
 
-const ONE: u64 = 1_000_000_000;
+// Quotes exist for rows 1 to 60.
+const LAST_ROW: u64 = limits::MOST_STEPS as u64;
 
 // A quoted point: a row number and a figure.
 #[repr(C)]
@@ -162,7 +164,7 @@ pub fn lone_point(frequency: u64, kind: u8, point: Point) -> Answer
     if row < 1 {
         return refusal(6);
     }
-    if row > 60 {
+    if row > LAST_ROW {
         return refusal(6);
     }
     of_point(frequency, kind, point)

@@ -9,7 +9,8 @@ use lib.ListN.{length}
 use Rattle.arithmetic.proofs.Numbers.{by-equal}
 use Rattle.job_record.specs.declared.Reading.{Reading}
 use Rattle.job_record.specs.Reader.{readingOf}
-use Rattle.text_laws.specs.Put.{Put, withText}
+use Rattle.text_laws.specs.Put.{withText}
+use Rattle.text_laws.specs.inside.Put.{Put}
 use Rattle.sheet_laws.specs.WholeJob.{jobNumber, jobText, sheetNumber, sheetText}
 use Rattle.sheet_laws.proofs.SheetLaws.{memory-refused, memory-put, number-accepted}
 use Rattle.record_sheet.specs.declared.Written.{Written}

@@ -1,21 +1,20 @@
 // The sheet of a job's record.
 mod lines;
-mod memories;
 
 ghost use mathlib.Core.Path.{_≡_};
 ghost use Prim.Native.Nat.{_≤_};
 ghost use lib.ListN.{length};
+ghost use Rattle.limits.specs.Limits.{mostSteps};
 ghost use Rattle.job_prices.specs.JobPrices.{hasOption, jobBond, jobOption};
 ghost use Rattle.sheet_room.specs.Room.{sheetRoom};
-ghost use Rattle.text_laws.specs.Put.{Put, withText};
-ghost use Rattle.sheet_laws.specs.Stored.{Fitted};
+ghost use Rattle.text_laws.specs.Put.{withText};
+ghost use Rattle.text_laws.specs.inside.Put.{Put};
+ghost use Rattle.sheet_laws.specs.inside.Stored.{Fitted};
 ghost use Rattle.sheet_laws.specs.WholeJob.{roomCause, jobNumber, jobText};
 ghost use Rattle.record_sheet.specs.Answers.{refusedSheet, answerOf};
 use job_prices::JobPrices;
 use job_record::Job;
-
-// Room for the longest sheet: 3,600 nodes, 60 rows and two prices, 128 bytes a line.
-const SHEET_ROOM: usize = 468_736;
+use sheet_room::SHEET_ROOM;
 
 // A sheet that stands at the end of the lent room and is so many bytes long; a refusal's number with a zero.
 #[repr(C)]
@@ -39,6 +38,13 @@ fn room_cause(room: usize) -> u64
     0
 }
 
+// Room for the quotes of the longest tree.
+fn quote_room() -> [u64; limits::MOST_STEPS]
+    ensures { λ r. ⌜ length r ≡ mostSteps ⌝ }
+{
+    [0; limits::MOST_STEPS]
+}
+
 // Draws the priced tree that stands at the start of both memories.
 fn draw<'a>(
     job: Job,
@@ -53,7 +59,7 @@ fn draw<'a>(
 {
     let steps = job.steps;
     let reversion = job_fit::meant_reversion(job.version, job.reversion);
-    let mut quotes = memories::quotes();
+    let mut quotes = quote_room();
     job_fit::quotes_of_record(job, &mut quotes);
     let discount_count = lattice::discounts_needed(steps, reversion);
     let price_count = lattice::state_prices_needed(steps, reversion);
@@ -75,8 +81,8 @@ pub fn sheet_of_record(job: Job, out: &mut [u8]) -> Written
     ensures memory { λ _. ⌜ now (out .exit) ≡ withText (jobNumber job (length (now (out .entry)))) (now (out .entry)) (length (now (out .entry)))
         (jobText job) ⌝ }
 {
-    let mut discounts = memories::discounts();
-    let mut state_prices = memories::state_prices();
+    let mut discounts = limits::discount_room();
+    let mut state_prices = limits::state_price_room();
     let prices = job_prices::prices_of_record(job, &mut discounts, &mut state_prices);
     let room = out.len();
     let cause = arithmetic::lowest_cause(prices.number, room_cause(room));

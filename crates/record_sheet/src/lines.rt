@@ -2,11 +2,13 @@
 ghost use mathlib.Core.Path.{_≡_};
 ghost use Prim.Native.Nat.{suc, _+_, _*_, _≤_, _<_};
 ghost use lib.ListN.{length};
+ghost use Rattle.sheet_room.specs.Room.{sheetRoom};
+ghost use Rattle.text_laws.specs.Lines.{longestLine};
 ghost use Rattle.arithmetic.specs.Row.{sumOf};
 ghost use Rattle.limits.specs.Limits.{sumLimit};
-ghost use Rattle.text_laws.specs.Put.{Put};
+ghost use Rattle.text_laws.specs.inside.Put.{Put};
 ghost use Rattle.sheet_laws.specs.TreeSheet.{rowPart, nodeLines, lineOfRow, rowLines, optionLines, priceLines, treeSheet};
-ghost use Rattle.sheet_laws.specs.Stored.{Drawing, Stored, Summed};
+ghost use Rattle.sheet_laws.specs.inside.Stored.{Drawing, Stored, Summed};
 use job_prices::JobPrices;
 use node_reader::NodeReader;
 use price_laws::Price;
@@ -110,7 +112,7 @@ fn put_row<'a>(
     before: usize,
 ) -> usize
     requires { ⌜ (before < tree .steps) × Stored (tree .steps) (tree .reversion) (now discounts) (now «state_prices») × (length (now quotes) ≡ tree .steps) ×
-        (sumOf (rowPart (tree .reversion) (now «state_prices») (suc before)) ≤ sumLimit) × (128 ≤ end) × (end ≤ length (now out)) ⌝ }
+        (sumOf (rowPart (tree .reversion) (now «state_prices») (suc before)) ≤ sumLimit) × (longestLine ≤ end) × (end ≤ length (now out)) ⌝ }
     ensures { λ r. ⌜ Put (now (out .entry)) end (lineOfRow (tree .steps) (tree .reversion) (now (quotes .entry)) (now (discounts .entry))
         (now («state_prices» .entry)) before) r (now (out .exit)) ⌝ }
 {
@@ -144,8 +146,8 @@ fn put_rows<'a>(
     discounts: &'a [u64],
     state_prices: &'a [u64],
 ) -> usize
-    requires { ⌜ Stored steps reversion (now discounts) (now «state_prices») × (length (now quotes) ≡ steps) × (128 * steps ≤ end) × (end ≤ length (now out))
-        ⌝ }
+    requires { ⌜ Stored steps reversion (now discounts) (now «state_prices») × (length (now quotes) ≡ steps)
+        × (longestLine * steps ≤ end) × (end ≤ length (now out)) ⌝ }
     requires { ⌜ Summed steps reversion (now «state_prices») ⌝ }
     ensures { λ r. ⌜ Put (now (out .entry)) end (rowLines steps reversion (now (quotes .entry)) (now (discounts .entry)) (now («state_prices» .entry))) r
         (now (out .exit)) ⌝ }
@@ -178,7 +180,7 @@ fn put_prices(out: &mut [u8], end: usize, bond: Price, present: bool, option: Pr
 }
 
 fn put_option(out: &mut [u8], end: usize, present: bool, option: Price) -> usize
-    requires { ⌜ (128 ≤ end) × (end ≤ length (now out)) ⌝ }
+    requires { ⌜ (longestLine ≤ end) × (end ≤ length (now out)) ⌝ }
     ensures { λ r. ⌜ Put (now (out .entry)) end (optionLines present option) r (now (out .exit)) ⌝ }
 {
     if present {
@@ -198,7 +200,7 @@ pub(crate) fn put_sheet<'a>(
     state_prices: &'a [u64],
     prices: JobPrices,
 ) -> usize
-    requires { ⌜ Stored steps reversion (now discounts) (now «state_prices») × (length (now quotes) ≡ steps) × (468736 ≤ length (now out)) ⌝ }
+    requires { ⌜ Stored steps reversion (now discounts) (now «state_prices») × (length (now quotes) ≡ steps) × (sheetRoom ≤ length (now out)) ⌝ }
     requires { ⌜ Summed steps reversion (now «state_prices») ⌝ }
     ensures { λ r. ⌜ Put (now (out .entry)) (length (now (out .entry)))
         (treeSheet steps reversion (now (quotes .entry)) (now (discounts .entry)) (now («state_prices» .entry))

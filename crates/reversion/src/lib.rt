@@ -14,8 +14,7 @@ ghost use Rattle.reversion.specs.Reversion.{
   ratioAnswer,
 };
 use arithmetic::Answer;
-
-const ONE: u64 = 1_000_000_000;
+use arithmetic::ONE;
 
 // Whether there is such a version.
 pub fn is_version(version: u64) -> bool

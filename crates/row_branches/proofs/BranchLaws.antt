@@ -15,7 +15,8 @@ use Rattle.lattice.specs.RateTree.{node, low, rateTree}
 use Rattle.lattice.proofs.Sizes.{half-grows, half-full, highest-positive}
 use Rattle.lattice.proofs.RateTreeLaws.{low-growing, low-lowest, low-highest, low-inner, up-is-down, index-laws}
 use Rattle.row_branches.specs.declared.RowBranch.{RowBranch}
-use Rattle.row_branches.specs.RowBranches.{lowest, opposite, noBranch, rowBranch, branchUp, branchMiddle, branchDown, branchTotal, rowTransition}
+use Rattle.row_branches.specs.RowBranches.{lowest, opposite, noBranch, rowBranch}
+use Rattle.row_branches.specs.inside.Transitions.{branchUp, branchMiddle, branchDown, branchTotal, rowTransition}
 
 -- a branch sums up, middle, down; a transition sums from the lowest node on
 pub backwards : (up middle down : ℕ) → up + middle + down ≡ down + middle + up

@@ -14,7 +14,8 @@ use Rattle.lattice.specs.RateTree.{nodeOfIndex, node, low, rateTree}
 use Rattle.lattice.specs.Entries.{tableOffset}
 use Rattle.lattice.proofs.ShapeLaws.{offset-is, table-room}
 use Rattle.lattice.proofs.TableLaws.{down-from-table}
-use Rattle.row_branches.specs.RowBranches.{rowBranch, rowTransition}
+use Rattle.row_branches.specs.RowBranches.{rowBranch}
+use Rattle.row_branches.specs.inside.Transitions.{rowTransition}
 use Rattle.row_branches.proofs.BranchLaws as branch
 
 -- row i's part of a table of row w

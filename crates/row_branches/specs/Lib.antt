@@ -1,1 +1,2 @@
 pub mod RowBranches
+pub mod inside

@@ -6,7 +6,7 @@ use mathlib.Core.List.{List, [], _∷_}
 use lib.Dec.{eqb, leb, ltb}
 use lib.ListN.{length}
 use Rattle.arithmetic.specs.Row.{values}
-use Rattle.tree.specs.Tree.{Transition, probabilityTotal}
+use Rattle.tree.specs.Tree.{probabilityTotal}
 use Rattle.row_branches.specs.declared.RowBranch.{RowBranch}
 
 -- the lowest node that node k of a row of count nodes leads to, in a row of next nodes: the row grows, or its edges branch inwards
@@ -28,26 +28,3 @@ rowBranch downs next k =
       low = lowest (length downs) next k;
       probabilities = opposite downs k ∷ (probabilityTotal - values downs k - opposite downs k) ∷ values downs k ∷ [];
     })
-
--- the three probabilities of a branch by their places, and their sum
-abbrev pub branchUp : RowBranch → ℕ
-branchUp b = values (b .probabilities) 0
-
-abbrev pub branchMiddle : RowBranch → ℕ
-branchMiddle b = values (b .probabilities) 1
-
-abbrev pub branchDown : RowBranch → ℕ
-branchDown b = values (b .probabilities) 2
-
-abbrev pub branchTotal : RowBranch → ℕ
-branchTotal b = branchUp b + branchMiddle b + branchDown b
-
--- the branches of a row as a transition
-unfoldable pub rowTransition : List ℕ → ℕ → Transition
-rowTransition downs next =
-    record {
-      low = λ k. rowBranch downs next k .low;
-      up = λ k. branchUp (rowBranch downs next k);
-      middle = λ k. branchMiddle (rowBranch downs next k);
-      down = λ k. branchDown (rowBranch downs next k);
-    }

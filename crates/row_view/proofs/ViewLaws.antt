@@ -10,6 +10,7 @@ use lib.Dec.{leb}
 use lib.ListN.{length, take, drop, length-drop}
 use lib.Seq.{length-take-le, getD-take, getD-drop}
 use borrow.Author.Tests.{ltb-true, leb-true, le-leb, lt-leb, eq-eqb, ne-eqb}
+use Rattle.limits.specs.inside.WithinLimits.{WithinLimits}
 use Rattle.arithmetic.specs.Row.{values}
 use Rattle.arithmetic.specs.declared.Answer.{Answer}
 use Rattle.arithmetic.proofs.BetweenLaws.{and-left, and-right}
@@ -19,9 +20,8 @@ use Rattle.lattice.proofs.Sizes.{row-ends}
 use Rattle.row_view.specs.declared.RowKind.{RowKind}
 use Rattle.row_view.specs.declared.RowKind.the-variants.{Discounts, StatePrices}
 use Rattle.row_view.specs.declared.RowRange.{RowRange}
-use Rattle.row_view.specs.RowView.{isTree, holdsTree, storesRow, memoryOf, isShown, viewStart, viewCount}
-use Rattle.row_view.specs.RowView.{rangeOfRow, noRange, rangeByNumber, PartOf}
-use Rattle.lattice.proofs.TreeEntries.{Accepted, by-tree}
+use Rattle.row_view.specs.RowView.{isTree, holdsTree, storesRow, memoryOf, isShown, viewStart, viewCount, rangeOfRow, noRange, rangeByNumber, PartOf}
+use Rattle.lattice.proofs.TreeEntries.{by-tree}
 
 -- ---- whether both memories hold the tree, by the tests that code makes
 
@@ -40,7 +40,7 @@ module _ (discounts prices : List ℕ) (n b : ℕ) where
       (λ l k. absurd (k refl))
       (λ z. nz (ap (λ (r : Answer). r .number) e ∙ z))
 
-  module _ (l : Accepted n b) where
+  module _ (l : WithinLimits n b) where
     a-tree : isTree n b ≡ true
     unfolding isTree
     a-tree = simp (le-leb 1 n (l .steps-positive), le-leb n 60 (l .steps-within-limit), le-leb b 6000 (l .reversion-within-limit))

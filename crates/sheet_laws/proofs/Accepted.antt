@@ -5,7 +5,7 @@ use mathlib.Core.Path.{_≡_}
 use mathlib.Core.Bool.{true}
 use mathlib.Core.List.{List}
 use Prim.Native.Nat.{ℕ, _≤_}
-use Rattle.arithmetic.proofs.CauseLaws.{lowest-none}
+use Rattle.arithmetic.proofs.CauseLaws.{lowest-none, first-none}
 use Rattle.limits.specs.Limits.{mostDiscounts, mostStatePrices}
 use Rattle.fitting.specs.Entry.{versionNumber}
 use Rattle.job_record.specs.declared.Job.{Job}
@@ -13,7 +13,6 @@ use Rattle.job_record.specs.Reader.{readingOf}
 use Rattle.job_fit.specs.RecordFit.{meantVersion, jobReversion, jobRows, jobKinds, jobFigures, jobFlows, jobDiscounts}
 use Rattle.job_fit.proofs.FitLaws.{fit-none}
 use Rattle.job_prices.specs.JobPrices.{hasOption, taggedOption, jobBond}
-use Rattle.price_laws.proofs.Accuracy.{first-none}
 use Rattle.job_prices.proofs.Accepted.{record-accepted}
 use Rattle.sheet_room.specs.Room.{sheetRoom}
 use Rattle.sheet_laws.specs.WholeJob.{jobNumber, sheetNumber}

@@ -6,6 +6,7 @@ use mathlib.Core.List.{List, [], append-nil}
 use Prim.Native.Nat.{ℕ, suc, _≤_, _<_}
 use native.Mathlib.Omega.{arith}
 use lib.ListN.{length, take, length-take}
+use Rattle.limits.specs.inside.WithinLimits.{WithinLimits}
 use Rattle.arithmetic.specs.Row.{sumOf}
 use Rattle.arithmetic.specs.Sum.{sum}
 use Rattle.arithmetic.specs.declared.Answer.{Answer}
@@ -17,22 +18,22 @@ use Rattle.lattice.specs.Shape.{nodeCount, discountsNeeded, statePricesNeeded}
 use Rattle.lattice.specs.RateTree.{rateTree}
 use Rattle.lattice.specs.Entries.{discountsNeededAnswer, statePricesNeededAnswer}
 use Rattle.lattice.proofs.LaidLaws.{laid-part}
-use Rattle.lattice.proofs.TreeEntries.{Accepted, tree-value}
+use Rattle.lattice.proofs.TreeEntries.{tree-value}
 use Rattle.lent_tree.specs.LentTree.{acceptedDiscounts}
 use Rattle.lent_tree.proofs.LentLaws.{accepted-all}
 use Rattle.fitting.specs.Entry.{fitPrice}
 use Rattle.fitting.proofs.Promised.{fit-repriced}
 use Rattle.fitting.proofs.FittedTree.{fit-discounts-lent}
 use Rattle.job_record.specs.declared.Job.{Job}
-use Rattle.job_fit.specs.RecordFit.{meantReversion, jobReversion, jobSpacing, jobKinds, jobFigures, jobQuotes, jobDiscounts, jobStatePrices}
-use Rattle.job_fit.specs.RecordFit.{recordQuotes, memoryAfter}
+use Rattle.job_fit.specs.RecordFit.{meantReversion, jobReversion, jobSpacing, jobKinds, jobFigures}
+use Rattle.job_fit.specs.RecordFit.{jobQuotes, jobDiscounts, jobStatePrices, recordQuotes, memoryAfter}
 use Rattle.job_fit.proofs.FitLaws as fits
 use Rattle.job_prices.specs.declared.JobPrices.{JobPrices}
 use Rattle.job_prices.specs.JobPrices.{recordNumber, recordPrices}
 use Rattle.job_prices.proofs.Accepted.{record-accepted}
 use Rattle.node_lines.specs.Rows.{acceptedNodes}
 use Rattle.sheet_laws.specs.TreeSheet.{rowPart}
-use Rattle.sheet_laws.specs.Stored.{Stored, Summed, Fitted}
+use Rattle.sheet_laws.specs.inside.Stored.{Stored, Summed, Fitted}
 
 pub total-row : (b : ℕ) (f : ℕ → ℕ → ℕ) (n i : ℕ) → i < n → sumOf (rowPart b (laid (rateTree b) f n) i) ≡ sum (nodeCount b i) (f i)
 unfolding sumOf rowPart
@@ -74,7 +75,7 @@ module _ (job : Job) (d₀ p₀ : List ℕ) (ld : length d₀ ≡ mostDiscounts)
 -- ---- what a caller takes of it
 
 module _ (job : Job) (d p : List ℕ) (h : Fitted job d p) where
-  pub accepted : Accepted (job .steps) (jobReversion job)
+  pub accepted : WithinLimits (job .steps) (jobReversion job)
   accepted = fits.accepted job _ _ (h .accepted)
 
   -- the quotes, converted into a memory of 60
@@ -129,9 +130,7 @@ module _ (job : Job) (d p : List ℕ) (h : Fitted job d p) where
     stored-by =
         record {
           lent = record {
-            steps-positive = accepted .steps-positive;
-            steps-within-limit = accepted .steps-within-limit;
-            reversion-within-limit = accepted .reversion-within-limit;
+            limits = accepted;
             size = discounts-size;
             accepted = discounted;
           };

@@ -22,7 +22,7 @@ use Rattle.row_view.specs.declared.RowKind.{RowKind}
 use Rattle.row_view.specs.RowView.{isTree, holdsTree, storesRow, memoryOf, isShown, viewStart, viewCount, PartOf}
 use Rattle.row_view.proofs.ViewLaws.{is-stored}
 use Rattle.text_laws.specs.declared.Placed.{Placed}
-use Rattle.text_laws.specs.Put.{Put}
+use Rattle.text_laws.specs.inside.Put.{Put}
 use Rattle.node_lines.specs.declared.Drawn.{Drawn}
 use Rattle.node_lines.specs.Rows.{nodeText, rowText, acceptedNodes}
 use Rattle.node_lines.specs.Reading.{nodesBefore, readNumber}
@@ -36,7 +36,7 @@ use Rattle.arithmetic.specs.declared.Answer.{Answer}
 use Rattle.state_price_bound.specs.ErrorBound.{statePriceErrorBoundAnswer}
 use Rattle.state_price_bound.proofs.BoundLaws.{bound-most}
 use Rattle.sheet_laws.specs.TreeSheet.{rowPart, nodesOfRow, nodeLines, lineOfRow, rowLines, optionLines, priceLines, treeSheet}
-use Rattle.sheet_laws.specs.Stored.{Lent, Stored, Summed}
+use Rattle.sheet_laws.specs.inside.Stored.{Lent, Stored, Summed}
 use Rattle.node_lines.proofs.LineLoop.{lines-fit}
 
 -- the rows that a memory of just a tree's discounts holds
@@ -47,16 +47,16 @@ module _ (n b : ℕ) (discounts : List ℕ) (h : Lent n b discounts) where
 
   pub lines-few : discountsNeeded n b ≤ 3600
   unfolding discountsNeeded
-  lines-few = omega (arith, start-most b n, mul-le-mul (h .steps-within-limit) (h .steps-within-limit))
+  lines-few = omega (arith, start-most b n, mul-le-mul (h .limits .steps-within-limit) (h .limits .steps-within-limit))
 
 module _ (n b : ℕ) (discounts prices : List ℕ) (h : Stored n b discounts prices) where
   pub held : holdsTree discounts prices n b ≡ true
   unfolding holdsTree isTree
   held =
       rw (
-        le-leb 1 n (h .lent .steps-positive),
-        le-leb n 60 (h .lent .steps-within-limit),
-        le-leb b 6000 (h .lent .reversion-within-limit),
+        le-leb 1 n (h .lent .limits .steps-positive),
+        le-leb n 60 (h .lent .limits .steps-within-limit),
+        le-leb b 6000 (h .lent .limits .reversion-within-limit),
         le-leb (discountsNeeded n b) (length discounts) (omega (arith, h .lent .size)),
         le-leb (statePricesNeeded n b) (length prices) (omega (arith, h .prices-size)),
       )
@@ -139,8 +139,8 @@ module _ (n b : ℕ) (discounts : List ℕ) (h : Lent n b discounts) (small : (j
   pub nodes-length : (i : ℕ) → i < n → length (nodesOfRow b discounts i) ≤ 128 * nodeCount b i
   nodes-length i l =
       let s = part-size b i discounts (discounts-end n b discounts h i l) in
-      let c = count-within b i (omega (arith, h .steps-within-limit)) in
-      let long = row-length i (rowPart b discounts i) (omega (arith, h .steps-within-limit)) (omega (arith, s, c))
+      let c = count-within b i (omega (arith, h .limits .steps-within-limit)) in
+      let long = row-length i (rowPart b discounts i) (omega (arith, h .limits .steps-within-limit)) (omega (arith, s, c))
       (λ k below. part-below b i k (2 ^ 64) discounts small (omega (arith, s))) in
       omega (arith, s, long)
 
@@ -151,7 +151,7 @@ module _ (n b : ℕ) (discounts : List ℕ) (h : Lent n b discounts) (small : (j
 module _ (n b : ℕ) (discounts : List ℕ) (h : Lent n b discounts) (left place : ℕ) (count : Answer) (some : 0 < left) (upto : left ≤ n)
     (ec : count ≡ nodeCountAnswer b (left - 1)) (ep : place ≡ rowStart b left) where
   count-is : count .value ≡ nodeCount b (left - 1)
-  count-is = row-value b (left - 1) _ count ec (h .reversion-within-limit) (omega (arith, h .steps-within-limit))
+  count-is = row-value b (left - 1) _ count ec (h .limits .reversion-within-limit) (omega (arith, h .limits .steps-within-limit))
 
   ends : rowStart b left ≡ rowStart b (left - 1) + nodeCount b (left - 1)
   ends = let e : suc (left - 1) ≡ left = omega arith in rw e at (start-suc b (left - 1))
@@ -167,7 +167,7 @@ module _ (n b : ℕ) (discounts : List ℕ) (h : Lent n b discounts) (left place
       Put out end (nodesOfRow b discounts (left - 1)) (answer .start) after × (answer .next ≡ rowStart b (left - 1))
   before-put small out end answer after room inside d =
       let l : left - 1 < n = omega arith in
-      row-stands out end b (left - 1) discounts place (omega (arith, h .steps-within-limit)) (h .accepted) (ep ∙ ends) before-end
+      row-stands out end b (left - 1) discounts place (omega (arith, h .limits .steps-within-limit)) (h .accepted) (ep ∙ ends) before-end
       (omega (arith, ends)) inside (nodes-length n b discounts h small (left - 1) l)
       (subst (λ (k : ℕ). Drew (readNumber (length out) end (left - 1) discounts place k) out end
       (rowText (left - 1) (nodesBefore discounts place k)) (place - k) answer after) count-is d)
@@ -245,13 +245,14 @@ module _ (n b : ℕ) (quotes discounts prices : List ℕ) (bond : Price) (presen
   module _ {out priced : List ℕ} {end p₁ : ℕ} (h : Stored n b discounts prices) (fb : Fits bond) (fo : Fits option) (long : 468736 ≤ end)
       (p : Put out end (priceLines bond present option) p₁ priced) where
     pub rows-room : (128 * n ≤ p₁) × (p₁ ≤ length priced)
-    rows-room = (omega (arith, h .lent .steps-within-limit, prices-length bond present option fb fo, p .place), omega (arith, p .place, p .within, p .same))
+    rows-room =
+        (omega (arith, h .lent .limits .steps-within-limit, prices-length bond present option fb fo, p .place), omega (arith, p .place, p .within, p .same))
 
     module _ {rowed : List ℕ} {p₂ : ℕ} (q : Put priced p₁ (rowLines n b quotes discounts prices) p₂ rowed) (small : (j : ℕ) → getD quotes j 0 < 2 ^ 64)
         (summed : Summed n b prices) where
       pub nodes-room : (128 * discountsNeeded n b ≤ p₂) × (p₂ ≤ length rowed)
       nodes-room =
-          let few = h .lent .steps-within-limit in (
+          let few = h .lent .limits .steps-within-limit in (
             omega (arith, few, prices-length bond present option fb fo, p .place, q .place, rows-length few small summed, lines-few n b discounts (h .lent)),
             omega (arith, q .place, q .within, q .same),
           )

@@ -6,11 +6,10 @@ use Prim.Native.Nat.{ℕ, _+_, _-_, _≤_, _<_}
 use native.Mathlib.Omega.{arith}
 use borrow.Author.Tests.{lt-ltb, le-ltb, eq-eqb, ne-eqb}
 use lib.ListN.{length, take, drop, length-append}
-use Rattle.arithmetic.specs.Answers.{lowestCause}
-use Rattle.arithmetic.proofs.CauseLaws.{lowest-none}
+use Rattle.arithmetic.proofs.CauseLaws.{unless-refused, lowest-none}
+use Rattle.arithmetic.specs.Answers.{lowestCause, firstCause}
 use Rattle.arithmetic.proofs.Numbers.{by-order, by-equal}
 use Rattle.limits.specs.Limits.{mostDiscounts, mostStatePrices}
-use Rattle.price_laws.specs.Prices.{firstCause}
 use Rattle.job_record.specs.declared.Job.{Job}
 use Rattle.job_record.specs.declared.Reading.{Reading}
 use Rattle.job_record.specs.Reader.{readingOf}
@@ -19,7 +18,8 @@ use Rattle.job_prices.specs.declared.JobPrices.{JobPrices}
 use Rattle.job_prices.specs.JobPrices.{hasOption, jobBond, jobOption, recordNumber, recordPrices}
 use Rattle.job_prices.proofs.PriceLaws.{prices-given, prices-number}
 use Rattle.text_laws.specs.declared.Placed.{Placed}
-use Rattle.text_laws.specs.Put.{putBefore, Put, placeOf, withText}
+use Rattle.text_laws.specs.Put.{putBefore, placeOf, withText}
+use Rattle.text_laws.specs.inside.Put.{Put}
 use Rattle.text_laws.specs.Lines.{refusedLine, lineNumber}
 use Rattle.text_laws.proofs.PutLaws.{Answered, put-answered, put-whole}
 use Rattle.sheet_room.specs.Room.{sheetRoom}
@@ -79,7 +79,7 @@ text-put job b quotes discounts state-prices prices eb eq ed es ep out end start
 
 pub memory-refused : (number : ℕ) (text out : List ℕ) → (number ≡ 0 → ⊥) → out ≡ withText number out (length out) text
 unfolding withText
-memory-refused number text out nz = rw (ne-eqb number 0 nz)
+memory-refused number text out nz = sym (unless-refused number _ out nz)
 
 pub memory-put : (number : ℕ) (text out : List ℕ) (start : ℕ) (after : List ℕ) → number ≡ 0 → Put out (length out) text start after →
     after ≡ withText number out (length out) text

@@ -1,3 +1,3 @@
 pub mod TreeSheet
 pub mod WholeJob
-pub mod Stored
+pub mod inside

@@ -9,7 +9,8 @@ use native.Mathlib.Omega.{arith}
 use borrow.Author.Tests.{leb-true, le-leb}
 use lib.Dec.{leb, ltb}
 use lib.Ieee.{Float}
-use Rattle.arithmetic.specs.Answers.{lowestCause}
+use Rattle.limits.specs.inside.WithinLimits.{WithinLimits}
+use Rattle.arithmetic.specs.Answers.{lowestCause, firstCause}
 use Rattle.arithmetic.specs.Rounding.{one}
 use Rattle.arithmetic.specs.Frequency.{listed}
 use Rattle.arithmetic.proofs.Numbers.{by-test}
@@ -18,12 +19,11 @@ use Rattle.limits.specs.Limits.{mostDiscounts, mostStatePrices, isSteps, isReve
 use Rattle.lattice.specs.Shape.{halfWidth, rowStart, discountsNeeded, statePricesNeeded}
 use Rattle.lattice.specs.Entries.{discountsNeededAnswer, statePricesNeededAnswer, memoryCause}
 use Rattle.lattice.proofs.Sizes.{start-most, start-within}
-use Rattle.lattice.proofs.TreeEntries.{Accepted, tree-value}
+use Rattle.lattice.proofs.TreeEntries.{tree-value}
 use Rattle.reversion.specs.Reversion.{isVersion, workingReversion}
 use Rattle.reversion.proofs.ReversionLaws.{working-limit}
 use Rattle.spacing.specs.Spacing.{versionSpacing}
 use Rattle.fitting.specs.Entry.{versionNumber, fitDiscount}
-use Rattle.price_laws.specs.Prices.{firstCause}
 use Rattle.job_record.specs.declared.Job.{Job}
 use Rattle.job_record.specs.Form.{wellFormed}
 use Rattle.job_record.specs.Reader.{readingOf, jobOf, acceptedReading, malformed}
@@ -87,7 +87,7 @@ module _ (v f n b s : ℕ) (rows kinds : List ℕ) (figures : List Float) (disco
     most : n ≤ 60
     most = leb-true n 60 (and-right (leb 1 n) (leb n 60) es)
 
-    accepted : Accepted n w
+    accepted : WithinLimits n w
     accepted =
         let least : 1 ≤ n = leb-true 1 n (and-left (leb 1 n) (leb n 60) es) in
         record { steps-positive = omega arith; steps-within-limit = most; reversion-within-limit = working-limit v b (leb-true b 6000 er) }

@@ -29,6 +29,7 @@ use Rattle.step_rate.specs.declared.Rate.{Rate}
 use Rattle.step_rate.proofs.RateLaws.{answer-known}
 use Rattle.fitting.specs.Entry.{fitPrice}
 use Rattle.fitting.proofs.FittedTree.{fit-discounts-lent}
+use Rattle.price_laws.specs.Exact.{Accurate}
 use Rattle.price_laws.specs.declared.Price.{Price}
 use Rattle.job_record.specs.declared.OptionRecord.{OptionRecord}
 use Rattle.job_record.specs.declared.Job.{Job}
@@ -65,16 +66,14 @@ sign-shown v z = go (ltb one v) refl
 
 -- an option that is priced is near its exact price, whichever tag it has
 tagged-near : (n b : ℕ) (discounts flows : List ℕ) (option : OptionRecord) → taggedOption n b discounts flows option .number ≡ 0 →
-    Within (taggedOption n b discounts flows option .bound) (unit ^ n) (taggedOption n b discounts flows option .value)
-    (exactTagged n b discounts flows option)
+    Accurate (unit ^ n) (taggedOption n b discounts flows option) (exactTagged n b discounts flows option)
 unfolding taggedOption exactTagged
 tagged-near n b discounts flows option =
-    go (eqb (option .tag) 8) _ _ _ _ (promises-kept .prices .option-accurate n b discounts flows _ _ _)
-    (promises-kept .prices .dated-accurate n b discounts flows _ _ _)
+    go (eqb (option .tag) 8) _ _ _ _ (promises-kept .prices .on-tree n b discounts flows .option-accurate _ _ _)
+    (promises-kept .prices .on-tree n b discounts flows .dated-accurate _ _ _)
   where
-    go : (t : Bool) (p q : Price) (x y : ℕ) → (p .number ≡ 0 → Within (p .bound) (unit ^ n) (p .value) x) →
-        (q .number ≡ 0 → Within (q .bound) (unit ^ n) (q .value) y) → cond t p q .number ≡ 0 →
-        Within (cond t p q .bound) (unit ^ n) (cond t p q .value) (cond t x y)
+    go : (t : Bool) (p q : Price) (x y : ℕ) → (p .number ≡ 0 → Accurate (unit ^ n) p x) → (q .number ≡ 0 → Accurate (unit ^ n) q y) →
+        cond t p q .number ≡ 0 → Accurate (unit ^ n) (cond t p q) (cond t x y)
     go true p q x y near other z = near z
     go false p q x y near other z = other z
 
@@ -84,7 +83,7 @@ tagged-a-step : (n b : ℕ) (discounts flows : List ℕ) (option : OptionRecord)
 unfolding taggedOption
 tagged-a-step n b discounts flows option =
     by-test (eqb (option .tag) 8) (λ (p : Price). p .number ≡ 0 → NoneAboveOne n b discounts → p .bound ≤ 2 * n) _ _
-    (λ t. promises-kept .prices .option-a-step n b discounts flows _ _ _) (λ t. promises-kept .prices .dated-a-step n b discounts flows _ _ _)
+    (λ t. promises-kept .prices .on-tree n b discounts flows .option-a-step _ _ _) (λ t. promises-kept .prices .on-tree n b discounts flows .dated-a-step _ _ _)
 
 -- half of a row's node count is its half width
 half-of : (w : ℕ) → (2 * w + 1) / 2 ≡ w
@@ -161,7 +160,7 @@ module _ (job : Job) (room : ℕ) (known : AcceptedJob job room) where
         nodes = λ i k hi hk. node-shown n b (jobDiscounts job) tree i k hi hk (rated i k hi hk);
         rows = row-shown;
         bond-given = known .bond;
-        bond-near = promises-kept .prices .bond-accurate n b (jobDiscounts job) _ (known .bond);
+        bond-near = promises-kept .prices .on-tree n b (jobDiscounts job) _ .bond-accurate (known .bond);
         option-given = option-number;
         option-near = λ e. rw e (tagged-near n b (jobDiscounts job) (jobFlows job) (job .option) (known .option-priced e));
       }
@@ -183,8 +182,8 @@ module _ (job : Job) (ds ps : ℕ) (known : AcceptedRecord job ds ps) where
         bond-is = refl;
         option-is = refl;
         bond-given = known .bond;
-        bond-near = promises-kept .prices .bond-accurate (job .steps) (jobReversion job) (jobDiscounts job) (jobFlows job) (known .bond);
-        bond-a-step = promises-kept .prices .bond-a-step (job .steps) (jobReversion job) (jobDiscounts job) (jobFlows job) (known .bond);
+        bond-near = promises-kept .prices .on-tree (job .steps) (jobReversion job) (jobDiscounts job) (jobFlows job) .bond-accurate (known .bond);
+        bond-a-step = promises-kept .prices .on-tree (job .steps) (jobReversion job) (jobDiscounts job) (jobFlows job) .bond-a-step (known .bond);
         option-told = refl;
         option-given = λ e. rw e (known .option-priced e);
         option-near = λ e. rw e (tagged-near (job .steps) (jobReversion job) (jobDiscounts job) (jobFlows job) (job .option) (known .option-priced e));

@@ -6,10 +6,9 @@ use mathlib.Core.Bool.{Bool, not, cond, _&&_, _||_}
 use mathlib.Core.List.{List, [], _∷_}
 use Prim.Native.Nat.{ℕ}
 use lib.Dec.{eqb, leb, ltb}
-use Rattle.arithmetic.specs.Answers.{lowestCause}
+use Rattle.arithmetic.specs.Answers.{lowestCause, firstCause}
 use Rattle.limits.specs.Limits.{mostDiscounts, mostStatePrices}
 use Rattle.fitting.specs.Entry.{versionNumber}
-use Rattle.price_laws.specs.Prices.{firstCause}
 use Rattle.job_record.specs.declared.OptionRecord.{OptionRecord}
 use Rattle.job_record.specs.declared.Job.{Job}
 use Rattle.job_record.specs.Form.{wellFormed}

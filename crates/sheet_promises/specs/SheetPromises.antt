@@ -6,7 +6,6 @@ use mathlib.Core.Bool.{true, cond}
 use mathlib.Core.List.{List, [], _∷_, _++_}
 use Prim.Native.Nat.{ℕ, suc, _*_, _^_, _≤_, _<_}
 use lib.Dec.{eqb, ltb}
-use Rattle.arithmetic.specs.Within.{Within}
 use Rattle.arithmetic.specs.Rounding.{one}
 use Rattle.arithmetic.specs.Row.{values, sumOf}
 use Rattle.tree.specs.Tree.{unit}
@@ -15,7 +14,7 @@ use Rattle.lattice.specs.RateTree.{node}
 use Rattle.lent_tree.specs.LentTree.{stored}
 use Rattle.step_rate.specs.StepRate.{rateAnswer}
 use Rattle.state_price_bound.specs.ErrorBound.{statePriceErrorBoundAnswer}
-use Rattle.price_laws.specs.Exact.{exactBond, exactOption, exactDated}
+use Rattle.price_laws.specs.Exact.{exactBond, exactOption, exactDated, Accurate}
 use Rattle.job_record.specs.declared.OptionRecord.{OptionRecord}
 use Rattle.job_record.specs.declared.Job.{Job}
 use Rattle.job_record.specs.Reader.{readingOf}
@@ -62,12 +61,11 @@ pub record SheetShown (job : Job) (text : List ℕ) : Type 0 where
   pub rows : (i : ℕ) → i < job .steps → RowShown (job .steps) (jobReversion job) (jobQuotes job) (jobDiscounts job) (jobStatePrices job) i
   pub bond-given : jobBond job .number ≡ 0
   pub bond-near :
-      Within (jobBond job .bound) (unit ^ job .steps) (jobBond job .value)
-      (exactBond (job .steps) (jobReversion job) (jobDiscounts job) (jobFlows job))
+      Accurate (unit ^ job .steps) (jobBond job) (exactBond (job .steps) (jobReversion job) (jobDiscounts job) (jobFlows job))
   pub option-given : hasOption (job .option) ≡ true → jobOption job .number ≡ 0
   pub option-near :
       hasOption (job .option) ≡ true →
-      Within (jobOption job .bound) (unit ^ job .steps) (jobOption job .value)
+      Accurate (unit ^ job .steps) (jobOption job)
       (exactTagged (job .steps) (jobReversion job) (jobDiscounts job) (jobFlows job) (job .option))
 
 -- of a job's bytes
@@ -81,13 +79,13 @@ pub record PricesPromised (job : Job) (prices : JobPrices) : Type 0 where
   pub option-is : prices .option ≡ jobOption job
   pub bond-given : prices .bond .number ≡ 0
   pub bond-near :
-      Within (prices .bond .bound) (unit ^ job .steps) (prices .bond .value) (exactBond (job .steps) (jobReversion job) (jobDiscounts job) (jobFlows job))
+      Accurate (unit ^ job .steps) (prices .bond) (exactBond (job .steps) (jobReversion job) (jobDiscounts job) (jobFlows job))
   pub bond-a-step : NoneAboveOne (job .steps) (jobReversion job) (jobDiscounts job) → prices .bond .bound ≤ 2 * job .steps
   pub option-told : prices .«has_option» ≡ hasOption (job .option)
   pub option-given : prices .«has_option» ≡ true → prices .option .number ≡ 0
   pub option-near :
       prices .«has_option» ≡ true →
-      Within (prices .option .bound) (unit ^ job .steps) (prices .option .value)
+      Accurate (unit ^ job .steps) (prices .option)
       (exactTagged (job .steps) (jobReversion job) (jobDiscounts job) (jobFlows job) (job .option))
   pub option-a-step :
       prices .«has_option» ≡ true → NoneAboveOne (job .steps) (jobReversion job) (jobDiscounts job) → prices .option .bound ≤ 2 * job .steps

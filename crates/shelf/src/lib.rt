@@ -88,7 +88,7 @@ pub fn part_of(shelf: Shelf, name: usize) -> Part
 // reversion, 14 nodes that pass 3,600 with those held.
 pub fn ask(
     shelf: Shelf,
-    memory: &mut [u64; 3600],
+    memory: &mut [u64; shelf_laws::ROOM],
     name: usize,
     steps: usize,
     reversion: u64,
@@ -112,7 +112,7 @@ pub fn ask(
 // fit's causes, which leave the tree awaiting a commit.
 pub fn commit(
     shelf: Shelf,
-    memory: &mut [u64; 3600],
+    memory: &mut [u64; shelf_laws::ROOM],
     name: usize,
     frequency: u64,
     volatility: u64,
@@ -140,7 +140,7 @@ pub fn commit(
 }
 
 // Releases a tree: its nodes are given back. 15 a name without a tree.
-pub fn release(shelf: Shelf, memory: &mut [u64; 3600], name: usize) -> Shelved
+pub fn release(shelf: Shelf, memory: &mut [u64; shelf_laws::ROOM], name: usize) -> Shelved
     ensures number { λ r. ⌜ r .number ≡ nameCause (shelf .slots) name ⌝ }
     ensures slots { λ r. ⌜ r .shelf .slots ≡ releaseSlots (shelf .slots) name ⌝ }
     ensures memory { λ _. ⌜ now (memory .exit) ≡ releaseMemory (shelf .slots) (now (memory .entry)) name ⌝ }

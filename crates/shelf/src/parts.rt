@@ -70,13 +70,6 @@ pub(crate) fn close_part(memory: &mut [u64], at: usize, count: usize)
     clear(&mut memory[from..end]);
 }
 
-// Room for the state prices of the widest tree.
-fn state_prices() -> [u64; 3721]
-    ensures { λ r. ⌜ length r ≡ mostStatePrices ⌝ }
-{
-    [0u64; 3721]
-}
-
 // The fit of a tree, on the part of the memory where its discounts stand.
 pub(crate) fn fit_part(
     memory: &mut [u64],
@@ -94,7 +87,7 @@ pub(crate) fn fit_part(
         (fitMemory r (fitDiscounts frequency (tree .steps) (tree .reversion) (spacing frequency volatility) (now (kinds .entry)) (now (figures .entry)))
         (part (now (memory .entry)) (tree .start) (tree .count))) ⌝ }
 {
-    let mut prices = state_prices();
+    let mut prices = limits::state_price_room();
     let start = tree.start;
     let end = start + tree.count;
     fitting::fit(

@@ -8,6 +8,7 @@ use mathlib.Core.List.{List, []}
 use lib.Dec.{eqb, ltb}
 use lib.Ieee.{Float}
 use lib.ListN.{getD, set, replicate}
+use Rattle.arithmetic.specs.Answers.{unlessRefused}
 use Rattle.arithmetic.specs.Row.{place}
 use Rattle.limits.specs.Limits.{mostSteps, mostStatePrices, shapeCause}
 use Rattle.lattice.specs.Shape.{discountsNeeded}
@@ -119,10 +120,10 @@ module _ (slots : List Slot) where
       15
 
   unfoldable pub askSlots : ℕ → ℕ → ℕ → List Slot
-  askSlots name n b = cond (eqb (askNumber name n b) 0) (set slots (name - 1) (awaitingSlot n b)) slots
+  askSlots name n b = unlessRefused (askNumber name n b) (set slots (name - 1) (awaitingSlot n b)) slots
 
   unfoldable pub askMemory : List ℕ → ℕ → ℕ → ℕ → List ℕ
-  askMemory memory name n b = cond (eqb (askNumber name n b) 0) (opened memory (startOf slots name) (discountsNeeded n b)) memory
+  askMemory memory name n b = unlessRefused (askNumber name n b) (opened memory (startOf slots name) (discountsNeeded n b)) memory
 
 -- ---- committing: 15 for the name, or the fit's number on the tree's own part of the memory
 
@@ -142,7 +143,7 @@ module _ (slots : List Slot) (name f s : ℕ) (rows kinds : List ℕ) (figures :
 -- slots and memory afterwards
 unfoldable pub commitSlots : List Slot → List ℕ → ℕ → ℕ → ℕ → List ℕ → List ℕ → List Float → List Slot
 commitSlots slots memory name f s rows kinds figures =
-    cond (eqb (commitNumber slots name f s rows kinds figures) 0)
+    unlessRefused (commitNumber slots name f s rows kinds figures)
     (set slots (name - 1)
     (fittedSlot (slotOf slots name .steps) (slotOf slots name .reversion) (commitPart slots name f s rows kinds figures memory)))
     slots
@@ -154,8 +155,8 @@ commitMemory slots memory name f s rows kinds figures =
 -- ---- releasing: 15 for the name
 
 unfoldable pub releaseSlots : List Slot → ℕ → List Slot
-releaseSlots slots name = cond (eqb (nameCause slots name) 0) (set slots (name - 1) emptySlot) slots
+releaseSlots slots name = unlessRefused (nameCause slots name) (set slots (name - 1) emptySlot) slots
 
 unfoldable pub releaseMemory : List Slot → List ℕ → ℕ → List ℕ
 releaseMemory slots memory name =
-    cond (eqb (nameCause slots name) 0) (closed memory (startOf slots name) (nodesOf (slotOf slots name))) memory
+    unlessRefused (nameCause slots name) (closed memory (startOf slots name) (nodesOf (slotOf slots name))) memory

@@ -1,5 +1,8 @@
 // What a shelf of trees holds, laid out for C, with the definitions and laws of its entries. No code: the entries are in shelf and shelf_prices.
 
+// The numbers in the memory of a shelf, which are the nodes that it has for all its trees.
+pub const ROOM: usize = 3_600;
+
 // What a shelf keeps of a name: status 0 no tree, 1 a tree that awaits a commit, 2 a fitted tree; then its steps and its reversion. A fitted tree
 // carries its price error bound and the greatest discount of each of its rows; all else is 0.
 #[repr(C)]

@@ -54,7 +54,12 @@ fn carried(value: Answer, bound: u64) -> Price
 
 // The price at row 0 of the bond with these flows on a name's tree. 15 a name without a tree; then what `pricing::bond_price` answers for the
 // tree's discounts, 9 for a tree that awaits its commit. The error bound is the one that the tree carries.
-pub fn bond_price(shelf: Shelf, memory: &[u64; 3600], name: usize, flows: &[u64]) -> Price
+pub fn bond_price(
+    shelf: Shelf,
+    memory: &[u64; shelf_laws::ROOM],
+    name: usize,
+    flows: &[u64],
+) -> Price
     ensures { λ r. ⌜ r ≡ shelfBond (shelf .slots) (now (memory .entry)) name (now (flows .entry)) ⌝ }
 {
     let tree = shelf::tree_of(shelf, name);
@@ -71,7 +76,7 @@ pub fn bond_price(shelf: Shelf, memory: &[u64; 3600], name: usize, flows: &[u64]
 // The same for an option by its kind, as `pricing::option_price` answers.
 pub fn option_price(
     shelf: Shelf,
-    memory: &[u64; 3600],
+    memory: &[u64; shelf_laws::ROOM],
     name: usize,
     flows: &[u64],
     kind: u64,
@@ -87,7 +92,7 @@ pub fn option_price(
 // The same for an option on listed rows, as `pricing::dated_option_price` answers.
 pub fn dated_option_price(
     shelf: Shelf,
-    memory: &[u64; 3600],
+    memory: &[u64; shelf_laws::ROOM],
     name: usize,
     flows: &[u64],
     side: u64,
@@ -103,7 +108,7 @@ pub fn dated_option_price(
 // Bond and option in one roll, each as its own entry answers.
 pub fn bond_and_option(
     shelf: Shelf,
-    memory: &[u64; 3600],
+    memory: &[u64; shelf_laws::ROOM],
     name: usize,
     flows: &[u64],
     kind: u64,
@@ -137,7 +142,7 @@ pub fn bond_and_option(
 // The same with an option on listed rows.
 pub fn bond_and_dated_option(
     shelf: Shelf,
-    memory: &[u64; 3600],
+    memory: &[u64; shelf_laws::ROOM],
     name: usize,
     flows: &[u64],
     side: u64,
@@ -184,7 +189,7 @@ fn no_strip() -> Strip
 // `pricing::option_strip`.
 pub fn option_strip(
     shelf: Shelf,
-    memory: &[u64; 3600],
+    memory: &[u64; shelf_laws::ROOM],
     name: usize,
     flows: &[u64],
     side: u64,
@@ -211,7 +216,7 @@ pub fn option_strip(
 // The same for one of the four kinds and an expiry, each answer as `option_price` gives it.
 pub fn option_strip_of_kind(
     shelf: Shelf,
-    memory: &[u64; 3600],
+    memory: &[u64; shelf_laws::ROOM],
     name: usize,
     flows: &[u64],
     kind: u64,

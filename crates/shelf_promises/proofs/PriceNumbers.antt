@@ -9,7 +9,7 @@ use borrow.Author.Tests.{le-leb, eq-eqb, ne-eqb, eqb-true, eqb-false}
 use lib.Dec.{eqb, leb, ltb}
 use lib.ListN.{length}
 use Rattle.arithmetic.specs.Row.{values, each, between}
-use Rattle.arithmetic.specs.Answers.{lowestCause}
+use Rattle.arithmetic.specs.Answers.{lowestCause, firstCause}
 use Rattle.arithmetic.proofs.Numbers.{by-equal, by-order}
 use Rattle.arithmetic.proofs.RowLaws.{length-row, values-row, each-fails}
 use Rattle.arithmetic.proofs.CauseLaws.{lowest-first, lowest-second, lowest-less, lowest-more}
@@ -21,7 +21,7 @@ use Rattle.lent_tree.specs.LentTree.{acceptedDiscounts, discountsCause}
 use Rattle.pricing_laws.specs.Schedule.{rising, lastDate, datesCause}
 use Rattle.price_causes.specs.Causes.{mostFlow, mostStrike, flowsCause, optionCause, termsCause}
 use Rattle.price_laws.specs.declared.Price.{Price}
-use Rattle.price_laws.specs.Prices.{treeCause, firstCause, priced, bondPrice, optionPrice, datedCause, datedPrice, optionLimit}
+use Rattle.price_laws.specs.Prices.{treeCause, priced, bondPrice, optionPrice, datedCause, datedPrice, optionLimit}
 use Rattle.shelf_laws.specs.Parts.{zeros}
 use Rattle.shelf_promises.specs.Model.{Pricing, bond, option, dated, flowsOf, plainPrice}
 

@@ -20,7 +20,7 @@ use Rattle.state_price_bound.specs.ErrorBound.{boundCause, statePriceErr
 use Rattle.state_price_bound.proofs.BoundLaws.{not-refused}
 
 module _ (n b : ℕ) (discounts : List ℕ) (i : ℕ) where
-  -- the answer's number is the refusal's, and without one its value is the allowance
+  -- the answer's number is the refusal's, and without one its value is the error bound
   pub answer-number : statePriceErrorBoundAnswer n b discounts i .number ≡ boundCause n b discounts i
   unfolding statePriceErrorBoundAnswer
   answer-number = go (eqb (boundCause n b discounts i) 0) refl

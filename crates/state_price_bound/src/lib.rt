@@ -1,5 +1,6 @@
 // How far, in sum, the rounded state prices of a row may fall short of the exact ones, from the tree's discounts.
 use arithmetic::Answer;
+use arithmetic::ONE;
 ghost use mathlib.Core.Path.{_≡_};
 ghost use Prim.Native.Nat.{ℕ, _+_, _*_, _<_, _≤_};
 ghost use lib.ListN.{length};
@@ -11,8 +12,6 @@ ghost use Rattle.lattice.specs.RateTree.{rateTree};
 ghost use Rattle.lent_tree.specs.LentTree.{stored};
 ghost use Rattle.fit_laws.specs.StatePrices.{statePriceErrorBound};
 ghost use Rattle.state_price_bound.specs.ErrorBound.{rowCause, statePriceErrorBoundAnswer};
-
-const ONE: u64 = 1_000_000_000;
 
 // The bound of the next row. No row has more than 121 nodes, and 60 steps keep the bound below a million.
 fn next_bound(greatest: u64, bound: u64, nodes: u64, next_nodes: u64) -> u64

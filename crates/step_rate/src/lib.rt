@@ -1,11 +1,10 @@
 // The rate of one step, with its sign, from the step's discount.
+use arithmetic::ONE;
 ghost use mathlib.Core.Path.{_≡_};
 ghost use Prim.Native.Nat.{_*_, _≤_};
 ghost use Rattle.arithmetic.specs.Rounding.{one, nearest};
 ghost use Rattle.limits.specs.Limits.{mostDiscount};
 ghost use Rattle.step_rate.specs.StepRate.{rateAnswer};
-
-const ONE: u64 = 1_000_000_000;
 
 // Number 0 with the signed rate in billionths, or refusal 9 with value 0.
 #[repr(C)]

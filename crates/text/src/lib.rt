@@ -4,8 +4,8 @@ ghost use mathlib.Core.Path.{_≡_};
 ghost use mathlib.Core.List.{[], _∷_, _++_};
 ghost use Prim.Native.Nat.{_+_, _-_, _≤_, _<_};
 ghost use lib.ListN.{length};
-ghost use Rattle.text_laws.specs.Decimal.{natural, fraction, decimal, signOf, signedDecimal};
 ghost use Rattle.text_laws.specs.Lines.{
+  longestLine,
   space,
   newline,
   wholeNumber,
@@ -22,12 +22,13 @@ ghost use Rattle.text_laws.specs.Lines.{
   lineAnswer,
   withLine,
 };
-ghost use Rattle.text_laws.specs.Put.{Put, placeOf, withText};
+ghost use Rattle.text_laws.specs.Decimal.{natural, decimal, signOf, signedDecimal};
+ghost use Rattle.text_laws.specs.inside.Decimal.{fraction};
+ghost use Rattle.text_laws.specs.Put.{placeOf, withText};
+ghost use Rattle.text_laws.specs.inside.Put.{Put};
 ghost use Rattle.text_laws.specs.WordLines.{wholeLine, pairLine, amountLine, wordNumber, wordAnswer, withWord};
+use text_laws::LONGEST_LINE;
 pub use text_laws::Placed;
-
-// No line is longer.
-const LONGEST_LINE: usize = 128;
 
 // No word that a caller chooses is longer.
 const LONGEST_WORD: usize = 16;
@@ -159,7 +160,7 @@ fn put_bounded(out: &mut [u8], end: usize, value: u64, bound: u64) -> usize
 
 // The fields of a node's line: the rate is in billionths, and is put in percent.
 fn put_node(out: &mut [u8], end: usize, row: u64, node: i64, discount: u64, rate: i64) -> usize
-    requires { ⌜ (128 ≤ end) × (end ≤ length (now out)) ⌝ }
+    requires { ⌜ (longestLine ≤ end) × (end ≤ length (now out)) ⌝ }
     ensures { λ r. ⌜ Put (now (out .entry)) end (nodeLine row node discount rate) r (now (out .exit)) ⌝ }
 {
     let rate_start = put_signed_field(out, end, rate, 7, b'\n');

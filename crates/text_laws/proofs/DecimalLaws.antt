@@ -10,7 +10,8 @@ use borrow.Author.Tests.{lt-ltb, le-ltb, ltb-true, ltb-false}
 use lib.Dec.{ltb, lit<}
 use lib.IntN.{ℤ, pos, negsuc, natAbs}
 use lib.ListN.{length, length-append}
-use Rattle.text_laws.specs.Decimal.{digit, naturalWithin, natural, lastDigits, fraction, decimal, signOf, signedDecimal}
+use Rattle.text_laws.specs.Decimal.{digit, naturalWithin, natural, lastDigits, decimal, signOf, signedDecimal}
+use Rattle.text_laws.specs.inside.Decimal.{fraction}
 
 -- ---- the last digit
 

@@ -15,7 +15,7 @@ use Rattle.step_rate.specs.declared.Rate.{Rate}
 use Rattle.step_rate.specs.StepRate.{rateAnswer}
 use Rattle.step_rate.proofs.RateLaws.{answer-known, value-bound}
 use Rattle.text_laws.specs.declared.Placed.{Placed}
-use Rattle.text_laws.specs.Put.{Put}
+use Rattle.text_laws.specs.inside.Put.{Put}
 use Rattle.text_laws.specs.Lines.{space, newline, wholeNumber, amount, nodeLine, rowLine, priceLine, lineNumber, nodeNumber, lineOfNode}
 use Rattle.text_laws.proofs.DecimalLaws.{decimal-room, field-room, signed-room}
 use Rattle.text_laws.proofs.PutLaws.{put-before, Answered, put-refused, put-answered, answered-put}

@@ -8,7 +8,8 @@ use borrow.Author.Tests.{eq-eqb, ne-eqb}
 use lib.ListN.{length, drop, take, set, length-append, length-drop, take-append-drop}
 use lib.Seq.{set-split, drop-at, length-take-le, take-append-le, take-take}
 use Rattle.text_laws.specs.declared.Placed.{Placed}
-use Rattle.text_laws.specs.Put.{putBefore, Put, placeOf, withText}
+use Rattle.text_laws.specs.Put.{putBefore, placeOf, withText}
+use Rattle.text_laws.specs.inside.Put.{Put}
 
 -- putting nothing changes nothing
 pub put-nothing : (out : List ℕ) (end : ℕ) → putBefore out end [] ≡ out

@@ -8,7 +8,7 @@ use borrow.Author.Tests.{le-leb, lt-leb}
 use lib.ListN.{length, length-append}
 use Rattle.arithmetic.proofs.Numbers.{by-order}
 use Rattle.text_laws.specs.declared.Placed.{Placed}
-use Rattle.text_laws.specs.Put.{Put}
+use Rattle.text_laws.specs.inside.Put.{Put}
 use Rattle.text_laws.specs.Decimal.{natural, naturalWithin, lastDigits, decimal}
 use Rattle.text_laws.specs.Lines.{lineNumber}
 use Rattle.text_laws.specs.WordLines.{wholeLine, pairLine, amountLine, longestWord, wordNumber}

@@ -24,11 +24,6 @@ unfoldable pub lastDigits : ℕ → ℕ → List ℕ
 lastDigits zero n = []
 lastDigits (suc k) n = lastDigits k (n / 10) ++ (digit (n % 10) ∷ [])
 
--- the point and the k decimals of n over 10 ^ k; without decimals there is no point
-unfoldable pub fraction : ℕ → ℕ → List ℕ
-fraction zero n = []
-fraction (suc k) n = 46 ∷ lastDigits (suc k) n
-
 -- n over 10 ^ k, with k decimals; without decimals there is no point
 unfoldable pub decimal : ℕ → ℕ → List ℕ
 decimal zero n = natural n

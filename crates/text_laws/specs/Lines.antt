@@ -76,9 +76,13 @@ refusedLine number = refusedWord ++ (wholeNumber number ++ newline)
 unfoldable pub lineOfNode : ℕ → ℤ → ℕ → List ℕ
 lineOfNode row node discount = nodeLine row node discount (rateAnswer discount .value)
 
--- a line is put where the place is in the buffer and at least 128 bytes stand before it, and else refused with 6; no line is longer
+-- no line is longer
+abbrev pub longestLine : ℕ
+longestLine = 128
+
+-- a line is put where the place is in the buffer and at least 128 bytes stand before it, and else refused with 6
 unfoldable pub lineNumber : ℕ → ℕ → ℕ
-lineNumber size end = cond (leb 128 end && leb end size) 0 6
+lineNumber size end = cond (leb longestLine end && leb end size) 0 6
 
 -- the answer to a line, and the buffer afterwards
 abbrev pub lineAnswer : List ℕ → ℕ → List ℕ → Placed

@@ -10,7 +10,8 @@ use lib.Seq.{take-at, drop-at, drop-drop}
 use Rattle.arithmetic.specs.Sum.{sum}
 use Rattle.arithmetic.specs.Row.{row, values, place}
 use Rattle.tree.specs.Tree.{Tree}
-use Rattle.tree.specs.Layout.{start, laid}
+use Rattle.tree.specs.Layout.{laid}
+use Rattle.tree.specs.inside.Layout.{start}
 use Rattle.arithmetic.proofs.SumLaws.{sum-suc, sum-grow}
 use Rattle.arithmetic.proofs.RowLaws.{length-row, values-row, row-cong}
 use Rattle.arithmetic.proofs.PartLaws.{part-value}

@@ -2,13 +2,8 @@
 -- Assumes nothing.
 use mathlib.Core.List.{List, [], _++_}
 use Prim.Native.Nat.{ℕ, zero, suc}
-use Rattle.arithmetic.specs.Sum.{sum}
 use Rattle.arithmetic.specs.Row.{row}
 use Rattle.tree.specs.Tree.{Tree}
-
--- the nodes of the rows before row i: where row i starts
-unfoldable pub start : Tree → ℕ → ℕ
-start t i = sum i (t .nodes)
 
 -- rows 0 to i - 1 of values by row and node
 unfoldable pub laid : Tree → (ℕ → ℕ → ℕ) → ℕ → List ℕ

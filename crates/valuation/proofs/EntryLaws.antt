@@ -28,8 +28,8 @@ use Rattle.state_price_bound.specs.ErrorBound.{boundCause, statePriceErrorBound
 use Rattle.state_price_bound.proofs.Meaning.{answer-number, answer-value}
 use Rattle.state_price_bound.proofs.BoundLaws.{Lent, not-refused, row-there, bound-most}
 use Rattle.valuation_laws.specs.Valuation.{valueByStatePrices, valuationBound, valuationErrorBound}
-use Rattle.valuation.specs.Entries.{sumOfProducts, valueOf, fitARow, valueByStatePricesAnswer}
-use Rattle.valuation.specs.Entries.{payoffsCause, valuationCause, valuationErrorBoundAnswer}
+use Rattle.valuation.specs.Entries.{valueOf, fitARow, valueByStatePricesAnswer, payoffsCause, valuationCause, valuationErrorBoundAnswer}
+use Rattle.valuation.specs.inside.Products.{sumOfProducts}
 
 -- ---- the running sum
 

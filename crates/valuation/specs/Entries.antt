@@ -1,11 +1,10 @@
 -- The answers of valuation by state prices (document 01, Prices: weighing; When the engine declines), lowest number first.
 -- Assumes nothing.
-use Prim.Native.Nat.{ℕ, _*_, _%_}
+use Prim.Native.Nat.{ℕ, _%_}
 use mathlib.Core.Bool.{Bool, cond, not, _&&_}
 use mathlib.Core.List.{List}
 use lib.Dec.{eqb, leb, ltb}
 use lib.ListN.{length}
-use Rattle.arithmetic.specs.Sum.{sum}
 use Rattle.arithmetic.specs.Row.{values, sumOf, greatestOf}
 use Rattle.arithmetic.specs.declared.Answer.{Answer}
 use Rattle.arithmetic.specs.Answers.{refused, answered, lowestCause}
@@ -15,10 +14,6 @@ use Rattle.lattice.specs.Entries.{nodeCountAnswer}
 use Rattle.lent_tree.specs.LentTree.{stored}
 use Rattle.state_price_bound.specs.ErrorBound.{boundCause}
 use Rattle.valuation_laws.specs.Valuation.{valueByStatePrices, valuationErrorBound}
-
--- the sum of state price × payoff
-unfoldable pub sumOfProducts : List ℕ → List ℕ → ℕ
-sumOfProducts prices payoffs = sum (length prices) (λ k. values prices k * values payoffs k)
 
 -- the value of payoffs by the state prices of their row
 unfoldable pub valueOf : List ℕ → List ℕ → ℕ

@@ -1,5 +1,6 @@
 // What payoffs on a row are worth by the row's state prices, and how far that may fall short of their exact price.
 use arithmetic::Answer;
+use arithmetic::ONE;
 ghost use mathlib.Core.Path.{_≡_};
 ghost use Prim.Native.Nat.{_≤_};
 ghost use lib.Dec.{ltb};
@@ -7,9 +8,8 @@ ghost use lib.ListN.{length};
 ghost use Rattle.arithmetic.specs.Row.{greatestOf, sumOf};
 ghost use Rattle.limits.specs.Limits.{valueLimit, sumLimit};
 ghost use Rattle.valuation_laws.specs.Valuation.{valuationBound};
-ghost use Rattle.valuation.specs.Entries.{sumOfProducts, payoffsCause, valueByStatePricesAnswer, valuationErrorBoundAnswer};
-
-const ONE: u64 = 1_000_000_000;
+ghost use Rattle.valuation.specs.Entries.{payoffsCause, valueByStatePricesAnswer, valuationErrorBoundAnswer};
+ghost use Rattle.valuation.specs.inside.Products.{sumOfProducts};
 
 fn refused(number: u64) -> Answer
     ensures { λ r. ⌜ r ≡ record { number = number; value = 0 } ⌝ }

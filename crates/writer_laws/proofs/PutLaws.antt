@@ -15,7 +15,7 @@ use Rattle.job_record.specs.Form.{stepsAt, reversionAt, volatilityAt, versionAt
 use Rattle.job_record.specs.Grammar.{field, joined}
 use Rattle.job_record.proofs.Places.{digits-length, joined-size}
 use Rattle.job_record.proofs.Reread.{number-size}
-use Rattle.writer_laws.specs.Parts.{headFields, kindBytes, listBytes}
+use Rattle.writer_laws.specs.inside.Parts.{headFields, kindBytes, listBytes}
 
 pub place-none : (out : List ℕ) (at : ℕ) → place out at [] ≡ out
 unfolding place

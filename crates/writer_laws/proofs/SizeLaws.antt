@@ -17,7 +17,7 @@ use Rattle.job_record.proofs.Options.{field-kind, field-list, field-none}
 use Rattle.job_record.proofs.Places.{digits-length, field-size}
 use Rattle.job_record.proofs.ReadLaws.{lent-length}
 use Rattle.job_record.proofs.Reread.{number-size, fields-size}
-use Rattle.writer_laws.specs.Parts.{headFields, quotesFrom, quoteOf, flowOf, optionSize}
+use Rattle.writer_laws.specs.inside.Parts.{headFields, quotesFrom, quoteOf, flowOf, optionSize}
 use Rattle.writer_laws.proofs.PutLaws.{place-two, place-four}
 
 module _ (option : OptionRecord) where

@@ -1,3 +1,3 @@
 pub mod Sound
 pub mod Writer
-pub mod Parts
+pub mod inside

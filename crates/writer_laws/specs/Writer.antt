@@ -5,8 +5,8 @@ use mathlib.Core.List.{List}
 use mathlib.Core.Bool.{Bool, cond, _&&_}
 use lib.ListN.{length}
 use lib.Dec.{leb, eqb}
+use Rattle.arithmetic.specs.Answers.{unlessRefused, refused, answered}
 use Rattle.arithmetic.specs.Row.{place}
-use Rattle.arithmetic.specs.Answers.{refused, answered}
 use Rattle.arithmetic.specs.declared.Answer.{Answer}
 use Rattle.job_record.specs.Form.{mostBytes}
 use Rattle.job_record.specs.Grammar.{encode}
@@ -24,4 +24,4 @@ written job room =
 
 -- the record's bytes at the front of the memory; with a refusal the memory as it was
 unfoldable pub writtenMemory : Job → List ℕ → List ℕ
-writtenMemory job out = cond (eqb (written job (length out) .number) 0) (place out 0 (encode job)) out
+writtenMemory job out = unlessRefused (written job (length out) .number) (place out 0 (encode job)) out

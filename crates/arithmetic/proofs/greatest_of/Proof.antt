@@ -20,15 +20,6 @@ abbrev μ-loop : tie.MeasureT-loop
 loop-holds : tie.Need-loop-holds Inv-loop μ-loop
 loop-holds c = (omega arith, sym (greatest-none _))
 
-mul-x : tie.Need-mul-x Inv-loop μ-loop
-mul-x c = omega arith
-
-shared-slice-read-x : tie.Need-shared-slice-read-x Inv-loop μ-loop
-shared-slice-read-x c = omega arith
-
-add-next-above : tie.Need-add-next-above Inv-loop μ-loop
-add-next-above c = omega arith
-
 next-above-requires : tie.Need-next-above-requires Inv-loop μ-loop
 next-above-requires c κs =
     let e = greatest-next (c .before .before .before .loop .k) (values (c .before .before .before .before .before .args .xs .now)) in
@@ -51,9 +42,9 @@ greatest-of-spec =
     Inv-loop
     μ-loop
     loop-holds
-    mul-x
-    shared-slice-read-x
-    add-next-above
+    (λ c. omega arith)
+    (λ c. omega arith)
+    (λ c. omega arith)
     next-above-requires
     loop-less
     loop-again

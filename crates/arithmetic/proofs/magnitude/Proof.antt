@@ -35,8 +35,5 @@ cast-result-2 c =
     let h : ltZ (s .args .number) (pos 0) ≡ false = rw (toZ-ofZ (s .fits .number)) at (c .if2 .left) in
     rw (toZ-ofZ (s .fits .number)) (is-whole (s .args .number) h, record { fits = omega (arith, size-most (s .args .number) (s .fits .number)) })
 
-returns-3 : tie.Need-returns-3
-returns-3 c = search needs
-
 pub magnitude-spec : {M : Type 1} → statement M
-magnitude-spec = tie.close (tie.spec returns sub-size cast-result returns-2 cast-result-2 returns-3)
+magnitude-spec = tie.close (tie.spec returns sub-size cast-result returns-2 cast-result-2 (λ c. search needs))

@@ -6,9 +6,6 @@ use Rattle.arithmetic.proofs.PowerLaws.{power-listed, power-past}
 use Rattle.arithmetic.proofs.power_of_ten.Statement.{statement}
 use Rattle.arithmetic.proofs.power_of_ten.Tie as tie
 
-table-entry-requires : tie.Need-table-entry-requires
-table-entry-requires c κs = search needs
-
 returns : tie.Need-returns
 returns c = c .table-entry .ensures ∙ sym (power-listed _ (c .before .if1 .taken))
 
@@ -16,4 +13,4 @@ returns-2 : tie.Need-returns-2
 returns-2 c = sym (power-past _ (c .if1 .left))
 
 pub power-of-ten-spec : {M : Type 1} → statement M
-power-of-ten-spec = tie.close (tie.spec table-entry-requires returns returns-2)
+power-of-ten-spec = tie.close (tie.spec (λ c κs. search needs) returns returns-2)

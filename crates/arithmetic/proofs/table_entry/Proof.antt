@@ -19,15 +19,9 @@ table =
 right : ℕ → ℕ → Bool
 right k x = eqb x (10 ^ k)
 
-mul-result : tie.Need-mul-result
-mul-result c = search needs
-
-array-read-result : tie.Need-array-read-result
-array-read-result c = search needs
-
 returns : tie.Need-returns
 unfolding table right
 returns c = eqb→eq (getD table (c .args .exponent) 0) (10 ^ (c .args .exponent)) (at right table tt (c .args .exponent) (search needs))
 
 pub table-entry-spec : {M : Type 1} → statement M
-table-entry-spec = tie.close (tie.spec mul-result array-read-result returns)
+table-entry-spec = tie.close (tie.spec (λ c. search needs) (λ c. search needs) returns)

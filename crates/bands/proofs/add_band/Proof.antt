@@ -21,17 +21,8 @@ returns-4 c = added-none _ _ _ _ _ _ _ _ _ (omega arith) (omega arith) (λ q l m
 returns-5 : tie.Need-returns-5
 returns-5 c = added-none _ _ _ _ _ _ _ _ _ (omega arith) (omega arith) (λ q l m. price-above _ _ _ _ _ _ (omega arith))
 
-add-t10 : tie.Need-add-t10
-add-t10 c = search needs
-
-add-t11 : tie.Need-add-t11
-add-t11 c = search needs
-
 returns-6 : tie.Need-returns-6
 returns-6 c = added-one _ _ _ _ _ _ _ _ _ (omega arith) (omega arith) (λ q l m. inside _ _ _ _ _ _ (omega arith) (omega arith) (omega arith) (omega arith))
-
-add-t12 : tie.Need-add-t12
-add-t12 c = search needs
 
 returns-7 : tie.Need-returns-7
 returns-7 c = added-one _ _ _ _ _ _ _ _ _ (omega arith) (omega arith) (λ q l m. inside _ _ _ _ _ _ (omega arith) (omega arith) (omega arith) (omega arith))
@@ -45,8 +36,8 @@ add-band-spec =
     returns-3
     returns-4
     returns-5
-    add-t10
-    add-t11
+    (λ c. search needs)
+    (λ c. search needs)
     returns-6
-    add-t12
+    (λ c. search needs)
     returns-7)

@@ -10,9 +10,6 @@ use borrow.Author.Needs.{needs}
 use Rattle.bands.proofs.check_bands.Statement.{statement}
 use Rattle.bands.proofs.check_bands.Tie as tie
 
-have-one-length-requires : tie.Need-have-one-length-requires
-have-one-length-requires c κs = search needs
-
 returns : tie.Need-returns
 returns c = verdict-lengths _ _ _ _ _ (sym (c .before .have-one-length .ensures) ∙ not-true (c .before .have-one-length .result) (c .if1 .taken))
 
@@ -27,9 +24,6 @@ agree c =
 
 first-bad-requires : tie.Need-first-bad-requires
 first-bad-requires c κs = lengths-agree _ _ _ _ _ (agree c)
-
-add-t10 : tie.Need-add-t10
-add-t10 c = search needs
 
 returns-2 : tie.Need-returns-2
 returns-2 c =
@@ -56,10 +50,10 @@ pub check-bands-spec : {M : Type 1} → statement M
 check-bands-spec =
     tie.close
     (tie.spec
-    have-one-length-requires
+    (λ c κs. search needs)
     returns
     first-bad-requires
-    add-t10
+    (λ c. search needs)
     returns-2
     returns-3
     judge-pairs-requires

@@ -19,9 +19,6 @@ abbrev μ-loop : tie.MeasureT-loop
 loop-holds : tie.Need-loop-holds Inv-loop μ-loop
 loop-holds c = searched-start _ _ _ (omega arith)
 
-stop-at-requires : tie.Need-stop-at-requires Inv-loop μ-loop
-stop-at-requires c κs = search needs
-
 returns : tie.Need-returns Inv-loop μ-loop
 unfolding failingPrice
 returns c =
@@ -47,4 +44,4 @@ returns-2 c =
 pub failing-price-spec : {M : Type 1} → statement M
 failing-price-spec =
     tie.close
-    (tie.spec Inv-loop μ-loop loop-holds stop-at-requires returns loop-less loop-again returns-2)
+    (tie.spec Inv-loop μ-loop loop-holds (λ c κs. search needs) returns loop-less loop-again returns-2)

@@ -19,20 +19,11 @@ abbrev μ-loop : tie.MeasureT-loop
 loop-holds : tie.Need-loop-holds Inv-loop μ-loop
 loop-holds c = searched-start _ _ _ (omega arith)
 
-failing-price-requires : tie.Need-failing-price-requires Inv-loop μ-loop
-failing-price-requires c κs = search needs
-
 returns : tie.Need-returns Inv-loop μ-loop
 unfolding failingRow
 returns c =
     searched-found _ _ _ (c .before .before .before .loop .row) (c .before .before .before .loop .inv) (omega arith)
     (fails-true _ _ (c .before .failing-price .result) (c .before .failing-price .ensures) (omega arith))
-
-add-row : tie.Need-add-row Inv-loop μ-loop
-add-row c = search needs
-
-loop-less : tie.Need-loop-less Inv-loop μ-loop
-loop-less c = search needs
 
 loop-again : tie.Need-loop-again Inv-loop μ-loop
 loop-again c =
@@ -52,9 +43,9 @@ failing-row-spec =
     Inv-loop
     μ-loop
     loop-holds
-    failing-price-requires
+    (λ c κs. search needs)
     returns
-    add-row
-    loop-less
+    (λ c. search needs)
+    (λ c. search needs)
     loop-again
     returns-2)

@@ -22,51 +22,12 @@ abbrev μ-loop : tie.MeasureT-loop
 loop-holds : tie.Need-loop-holds Inv-loop μ-loop
 loop-holds c = searched-start _ _ _ (omega arith)
 
-mul-is-sound : tie.Need-mul-is-sound Inv-loop μ-loop
-mul-is-sound c = search needs
-
-shared-slice-read-is-sound : tie.Need-shared-slice-read-is-sound Inv-loop μ-loop
-shared-slice-read-is-sound c = search needs
-
-mul-is-sound-2 : tie.Need-mul-is-sound-2 Inv-loop μ-loop
-mul-is-sound-2 c = search needs
-
-shared-slice-read-is-sound-2 : tie.Need-shared-slice-read-is-sound-2 Inv-loop μ-loop
-shared-slice-read-is-sound-2 c = search needs
-
-mul-is-sound-3 : tie.Need-mul-is-sound-3 Inv-loop μ-loop
-mul-is-sound-3 c = search needs
-
-shared-slice-read-is-sound-3 : tie.Need-shared-slice-read-is-sound-3 Inv-loop μ-loop
-shared-slice-read-is-sound-3 c = search needs
-
-mul-is-sound-4 : tie.Need-mul-is-sound-4 Inv-loop μ-loop
-mul-is-sound-4 c = search needs
-
-shared-slice-read-is-sound-4 : tie.Need-shared-slice-read-is-sound-4 Inv-loop μ-loop
-shared-slice-read-is-sound-4 c = search needs
-
-mul-is-sound-5 : tie.Need-mul-is-sound-5 Inv-loop μ-loop
-mul-is-sound-5 c = search needs
-
-shared-slice-read-is-sound-5 : tie.Need-shared-slice-read-is-sound-5 Inv-loop μ-loop
-shared-slice-read-is-sound-5 c = search needs
-
-is-sound-requires : tie.Need-is-sound-requires Inv-loop μ-loop
-is-sound-requires c κs = search needs
-
 returns : tie.Need-returns Inv-loop μ-loop
 unfolding badIndex
 returns c =
     let loop = c .before .before .before .before .before .before .before .before .loop in
     searched-found _ _ _ (loop .k) (loop .inv) (omega arith)
     (ap not (sym (c .before .is-sound .ensures)) ∙ c .if1 .taken)
-
-add-k : tie.Need-add-k Inv-loop μ-loop
-add-k c = search needs
-
-loop-less : tie.Need-loop-less Inv-loop μ-loop
-loop-less c = search needs
 
 loop-again : tie.Need-loop-again Inv-loop μ-loop
 loop-again c =
@@ -88,19 +49,19 @@ first-bad-spec =
     Inv-loop
     μ-loop
     loop-holds
-    mul-is-sound
-    shared-slice-read-is-sound
-    mul-is-sound-2
-    shared-slice-read-is-sound-2
-    mul-is-sound-3
-    shared-slice-read-is-sound-3
-    mul-is-sound-4
-    shared-slice-read-is-sound-4
-    mul-is-sound-5
-    shared-slice-read-is-sound-5
-    is-sound-requires
+    (λ c. search needs)
+    (λ c. search needs)
+    (λ c. search needs)
+    (λ c. search needs)
+    (λ c. search needs)
+    (λ c. search needs)
+    (λ c. search needs)
+    (λ c. search needs)
+    (λ c. search needs)
+    (λ c. search needs)
+    (λ c κs. search needs)
     returns
-    add-k
-    loop-less
+    (λ c. search needs)
+    (λ c. search needs)
     loop-again
     returns-2)

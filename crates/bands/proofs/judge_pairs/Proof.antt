@@ -6,14 +6,8 @@ use borrow.Author.Needs.{needs}
 use Rattle.bands.proofs.judge_pairs.Statement.{statement}
 use Rattle.bands.proofs.judge_pairs.Tie as tie
 
-failing-row-requires : tie.Need-failing-row-requires
-failing-row-requires c κs = search needs
-
 returns : tie.Need-returns
 returns c = pairs-accepted _ _ (c .before .failing-row .ensures) (c .if1 .taken)
-
-failing-price-requires : tie.Need-failing-price-requires
-failing-price-requires c κs = search needs
 
 stop-at-requires : tie.Need-stop-at-requires
 stop-at-requires c κs =
@@ -38,9 +32,9 @@ pub judge-pairs-spec : {M : Type 1} → statement M
 judge-pairs-spec =
     tie.close
     (tie.spec
-    failing-row-requires
+    (λ c κs. search needs)
     returns
-    failing-price-requires
+    (λ c κs. search needs)
     stop-at-requires
     returns-2
     returns-3)

@@ -6,7 +6,7 @@ use mathlib.Core.Path.{_≡_}
 use Prim.Native.Nat.{_-_, _≤_}
 use lib.ListN.{length}
 use Rattle.bands.specs.Bands.{bandsOf}
-use Rattle.bands.specs.Stops.{StopAt}
+use Rattle.bands.specs.inside.Stops.{StopAt}
 use Rattle.bands.proofs.StopLaws.{stop-none, stop-more, covering-most}
 use Rattle.bands.proofs.stop_at.Statement.{statement}
 use Rattle.bands.proofs.stop_at.Tie as tie
@@ -21,30 +21,6 @@ abbrev μ-loop : tie.MeasureT-loop
 loop-holds : tie.Need-loop-holds Inv-loop μ-loop
 loop-holds c = (search needs, stop-none _ _ _ _ (omega arith) (omega arith))
 
-mul-add-band : tie.Need-mul-add-band Inv-loop μ-loop
-mul-add-band c = search needs
-
-shared-slice-read-add-band : tie.Need-shared-slice-read-add-band Inv-loop μ-loop
-shared-slice-read-add-band c = search needs
-
-mul-add-band-2 : tie.Need-mul-add-band-2 Inv-loop μ-loop
-mul-add-band-2 c = search needs
-
-shared-slice-read-add-band-2 : tie.Need-shared-slice-read-add-band-2 Inv-loop μ-loop
-shared-slice-read-add-band-2 c = search needs
-
-mul-add-band-3 : tie.Need-mul-add-band-3 Inv-loop μ-loop
-mul-add-band-3 c = search needs
-
-shared-slice-read-add-band-3 : tie.Need-shared-slice-read-add-band-3 Inv-loop μ-loop
-shared-slice-read-add-band-3 c = search needs
-
-mul-add-band-4 : tie.Need-mul-add-band-4 Inv-loop μ-loop
-mul-add-band-4 c = search needs
-
-shared-slice-read-add-band-4 : tie.Need-shared-slice-read-add-band-4 Inv-loop μ-loop
-shared-slice-read-add-band-4 c = search needs
-
 add-band-requires : tie.Need-add-band-requires Inv-loop μ-loop
 add-band-requires c κs =
     let a = c .before .before .before .before .before .before .before .before .before .before .args in
@@ -52,12 +28,6 @@ add-band-requires c κs =
     let few = covering-most b (a .row) (a .price) (c .before .before .before .before .before .loop .k) in
     let stop = c .before .before .before .before .before .loop .inv .1 in
     (omega (arith, few, stop .counted), stop .further, stop .most)
-
-add-k : tie.Need-add-k Inv-loop μ-loop
-add-k c = search needs
-
-loop-less : tie.Need-loop-less Inv-loop μ-loop
-loop-less c = search needs
 
 loop-again : tie.Need-loop-again Inv-loop μ-loop
 loop-again c = (search needs, stop-more _ _ _ _ _ _ _ _ (c .before .before .before .before .before .before .loop .inv .1) (c .add-band .ensures))
@@ -75,16 +45,16 @@ stop-at-spec =
     Inv-loop
     μ-loop
     loop-holds
-    mul-add-band
-    shared-slice-read-add-band
-    mul-add-band-2
-    shared-slice-read-add-band-2
-    mul-add-band-3
-    shared-slice-read-add-band-3
-    mul-add-band-4
-    shared-slice-read-add-band-4
+    (λ c. search needs)
+    (λ c. search needs)
+    (λ c. search needs)
+    (λ c. search needs)
+    (λ c. search needs)
+    (λ c. search needs)
+    (λ c. search needs)
+    (λ c. search needs)
     add-band-requires
-    add-k
-    loop-less
+    (λ c. search needs)
+    (λ c. search needs)
     loop-again
     returns)

@@ -7,9 +7,6 @@ use Rattle.book_laws.proofs.OpenLaws.{broken-shut, broken-ends}
 use Rattle.book_fields.proofs.broken.Statement.{statement}
 use Rattle.book_fields.proofs.broken.Tie as tie
 
-is-open-requires : tie.Need-is-open-requires
-is-open-requires c κs = search needs
-
 returns : tie.Need-returns
 returns c = broken-shut _ (sym (c .before .is-open .ensures) ∙ not-true _ (c .if1 .taken))
 
@@ -20,4 +17,4 @@ returns-2 : tie.Need-returns-2
 returns-2 c = c .ended .ensures ∙ broken-ends _ (sym (c .before .before .is-open .ensures) ∙ not-false _ (c .before .if1 .left))
 
 pub broken-spec : {M : Type 1} → statement M
-broken-spec = tie.close (tie.spec is-open-requires returns ended-requires returns-2)
+broken-spec = tie.close (tie.spec (λ c κs. search needs) returns ended-requires returns-2)

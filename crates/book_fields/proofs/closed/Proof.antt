@@ -9,11 +9,8 @@ use Rattle.book_fields.proofs.closed.Tie as tie
 returns : tie.Need-returns
 returns c = closed-whole _ _ (c .if1 .taken)
 
-broken-requires : tie.Need-broken-requires
-broken-requires c κs = search needs
-
 returns-2 : tie.Need-returns-2
 returns-2 c = c .broken .ensures ∙ closed-broken _ _ (c .before .if1 .left)
 
 pub closed-spec : {M : Type 1} → statement M
-closed-spec = tie.close (tie.spec returns broken-requires returns-2)
+closed-spec = tie.close (tie.spec returns (λ c κs. search needs) returns-2)

@@ -9,17 +9,11 @@ use Rattle.book_laws.proofs.BoundLaws.{bounded}
 use Rattle.book_fields.proofs.with_field.Statement.{statement}
 use Rattle.book_fields.proofs.with_field.Tie as tie
 
-is-open-requires : tie.Need-is-open-requires
-is-open-requires c κs = search needs
-
 returns : tie.Need-returns
 returns c = field-shut _ _ (sym (c .before .is-open .ensures) ∙ not-true _ (c .if1 .taken))
 
 returns-2 : tie.Need-returns-2
 returns-2 c = field-full _ _ (c .if2 .taken)
-
-prices-of-requires : tie.Need-prices-of-requires
-prices-of-requires c κs = search needs
 
 with-prices-requires : tie.Need-with-prices-requires
 with-prices-requires c κs =
@@ -38,4 +32,4 @@ returns-3 c =
 pub with-field-spec : {M : Type 1} → statement M
 with-field-spec =
     tie.close
-    (tie.spec is-open-requires returns returns-2 prices-of-requires with-prices-requires returns-3)
+    (tie.spec (λ c κs. search needs) returns returns-2 (λ c κs. search needs) with-prices-requires returns-3)

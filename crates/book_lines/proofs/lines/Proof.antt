@@ -10,15 +10,6 @@ use Rattle.book_lines.proofs.lines.Tie as tie
 returns : tie.Need-returns
 returns c = (answer-short _ (c .before .before .args .out .now) (c .if1 .taken), (omega arith, memory-short _ _ (c .if1 .taken)))
 
-put-book-requires : tie.Need-put-book-requires
-put-book-requires c κs = search needs
-
-sub-t8 : tie.Need-sub-t8
-sub-t8 c = search needs
-
-same-length : tie.Need-same-length
-same-length c = search needs
-
 returns-2 : tie.Need-returns-2
 returns-2 c =
     let a = c .before .before .before .before .before .before .args in
@@ -28,4 +19,4 @@ returns-2 c =
     (answer-put text (a .out .now) long put, (omega arith, memory-put text (a .out .now) long put))
 
 pub lines-spec : {M : Type 1} → statement M
-lines-spec = tie.close (tie.spec returns put-book-requires sub-t8 same-length returns-2)
+lines-spec = tie.close (tie.spec returns (λ c κs. search needs) (λ c. search needs) (λ c. search needs) returns-2)

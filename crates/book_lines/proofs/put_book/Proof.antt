@@ -8,12 +8,6 @@ use Rattle.book_laws.proofs.ReportLaws.{refusals-room-left, book-stands}
 use Rattle.book_lines.proofs.put_book.Statement.{statement}
 use Rattle.book_lines.proofs.put_book.Tie as tie
 
-put-sums-requires : tie.Need-put-sums-requires
-put-sums-requires c κs = search needs
-
-slice-aggregate-put-refusals : tie.Need-slice-aggregate-put-refusals
-slice-aggregate-put-refusals c = search needs
-
 -- the room that the sums leave
 after-sums : (c : tie.After-put-sums) → (1664 + 128 ≤ c .put-sums .result) × (c .put-sums .result ≤ length (c .put-sums .last .0))
 after-sums c =
@@ -29,15 +23,6 @@ put-refusals-requires c κs =
     let r = after-sums (c .before .before .before .before .before) in
     (search needs, omega arith, r .1)
 
-slice-aggregate-whole-line : tie.Need-slice-aggregate-whole-line
-slice-aggregate-whole-line c = search needs
-
-whole-line-requires : tie.Need-whole-line-requires
-whole-line-requires c κs = search needs
-
-same-length : tie.Need-same-length
-same-length c = search needs
-
 returns : tie.Need-returns
 returns c =
     let at-whole-line = c .before .before in
@@ -52,4 +37,4 @@ returns c =
 pub put-book-spec : {M : Type 1} → statement M
 put-book-spec =
     tie.close
-    (tie.spec put-sums-requires slice-aggregate-put-refusals put-refusals-requires slice-aggregate-whole-line whole-line-requires same-length returns)
+    (tie.spec (λ c κs. search needs) (λ c. search needs) put-refusals-requires (λ c. search needs) (λ c κs. search needs) (λ c. search needs) returns)

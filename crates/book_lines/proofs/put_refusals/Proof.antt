@@ -18,27 +18,6 @@ loop-holds c =
     let s = c .before .before in
     standing-first (s .args .counts .now) (s .args .out .now) (s .args .end) (s .pre .2)
 
-sub-left : tie.Need-sub-left Inv-loop μ-loop
-sub-left c = search needs
-
-slice-aggregate-pair-line : tie.Need-slice-aggregate-pair-line Inv-loop μ-loop
-slice-aggregate-pair-line c = search needs
-
-add-pair-line : tie.Need-add-pair-line Inv-loop μ-loop
-add-pair-line c = search needs
-
-mul-pair-line : tie.Need-mul-pair-line Inv-loop μ-loop
-mul-pair-line c = search needs
-
-shared-slice-read-pair-line : tie.Need-shared-slice-read-pair-line Inv-loop μ-loop
-shared-slice-read-pair-line c = search needs
-
-pair-line-requires : tie.Need-pair-line-requires Inv-loop μ-loop
-pair-line-requires c κs = search needs
-
-loop-less : tie.Need-loop-less Inv-loop μ-loop
-loop-less c = search needs
-
 loop-again : tie.Need-loop-again Inv-loop μ-loop
 loop-again c =
     let at-pair-line = c .before .before in
@@ -63,13 +42,13 @@ put-refusals-spec =
     Inv-loop
     μ-loop
     loop-holds
-    sub-left
-    slice-aggregate-pair-line
-    add-pair-line
-    mul-pair-line
-    shared-slice-read-pair-line
-    pair-line-requires
-    loop-less
+    (λ c. search needs)
+    (λ c. search needs)
+    (λ c. search needs)
+    (λ c. search needs)
+    (λ c. search needs)
+    (λ c κs. search needs)
+    (λ c. search needs)
     loop-again
     same-length
     returns)

@@ -16,20 +16,8 @@ Inv-loop file book₀ at₀ left₀ book at left = (at ≤ length file) × (stre
 abbrev μ-loop : tie.MeasureT-loop
 μ-loop file book₀ at₀ left₀ book at left = left
 
-empty-requires : tie.Need-empty-requires Inv-loop μ-loop
-empty-requires c κs = search needs
-
 loop-holds : tie.Need-loop-holds Inv-loop μ-loop
 loop-holds c = (omega arith, rw (c .empty .ensures) (walk-start (c .before .before .args .file .now)))
-
-field-end-requires : tie.Need-field-end-requires Inv-loop μ-loop
-field-end-requires c κs = search needs
-
-sub-closed : tie.Need-sub-closed Inv-loop μ-loop
-sub-closed c = search needs
-
-closed-requires : tie.Need-closed-requires Inv-loop μ-loop
-closed-requires c κs = search needs
 
 returns : tie.Need-returns Inv-loop μ-loop
 returns c =
@@ -65,15 +53,6 @@ part-with-field-start c = let r = inside (c) in omega arith
 part-with-field-end : tie.Need-part-with-field-end Inv-loop μ-loop
 part-with-field-end c = let r = inside (c) in omega arith
 
-with-field-requires : tie.Need-with-field-requires Inv-loop μ-loop
-with-field-requires c κs = search needs
-
-sub-left : tie.Need-sub-left Inv-loop μ-loop
-sub-left c = search needs
-
-loop-less : tie.Need-loop-less Inv-loop μ-loop
-loop-less c = search needs
-
 loop-again : tie.Need-loop-again Inv-loop μ-loop
 loop-again c =
     let at-if1 = c .before .before in
@@ -86,12 +65,6 @@ loop-again c =
     (l .inv .1) in
     (inside at-if1 .1, rw (c .with-field .ensures) (step (omega arith) moved))
 
-sub-closed-2 : tie.Need-sub-closed-2 Inv-loop μ-loop
-sub-closed-2 c = search needs
-
-closed-requires-2 : tie.Need-closed-requires-2 Inv-loop μ-loop
-closed-requires-2 c κs = search needs
-
 returns-2 : tie.Need-returns-2 Inv-loop μ-loop
 returns-2 c =
     let l = c .before .before .loop in
@@ -103,20 +76,20 @@ file-book-spec =
     (tie.spec
     Inv-loop
     μ-loop
-    empty-requires
+    (λ c κs. search needs)
     loop-holds
-    field-end-requires
-    sub-closed
-    closed-requires
+    (λ c κs. search needs)
+    (λ c. search needs)
+    (λ c κs. search needs)
     returns
     add-from
     sub-with-field
     part-with-field-start
     part-with-field-end
-    with-field-requires
-    sub-left
-    loop-less
+    (λ c κs. search needs)
+    (λ c. search needs)
+    (λ c. search needs)
     loop-again
-    sub-closed-2
-    closed-requires-2
+    (λ c. search needs)
+    (λ c κs. search needs)
     returns-2)

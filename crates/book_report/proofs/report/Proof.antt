@@ -4,15 +4,6 @@ use borrow.Author.Needs.{needs}
 use Rattle.book_report.proofs.report.Statement.{statement}
 use Rattle.book_report.proofs.report.Tie as tie
 
-file-book-requires : tie.Need-file-book-requires
-file-book-requires c κs = search needs
-
-lines-requires : tie.Need-lines-requires
-lines-requires c κs = search needs
-
-same-length : tie.Need-same-length
-same-length c = search needs
-
 returns : tie.Need-returns
 returns c =
     let of-file = c .before .before .before .before .file-book .ensures in
@@ -20,4 +11,4 @@ returns c =
     (rw (← of-file) (written .0), (written .1 .0, rw (← of-file) (written .1 .1)))
 
 pub report-spec : {M : Type 1} → statement M
-report-spec = tie.close (tie.spec file-book-requires lines-requires same-length returns)
+report-spec = tie.close (tie.spec (λ c κs. search needs) (λ c κs. search needs) (λ c. search needs) returns)

@@ -4,7 +4,7 @@ use mathlib.Core.Path.{ap}
 use Prim.Native.Nat.{ℕ}
 use lib.Dec.{leb}
 use borrow.Author.Needs.{needs}
-use Rattle.continuous_rate.specs.Search.{before}
+use Rattle.continuous_rate.specs.inside.Search.{before}
 use Rattle.continuous_rate.proofs.is_before.Statement.{statement}
 use Rattle.continuous_rate.proofs.is_before.Tie as tie
 

@@ -6,7 +6,7 @@ use Prim.Native.Nat.{_+_, _-_, _≤_}
 use native.Mathlib.Omega.{arith}
 use borrow.Author.Needs.{needs}
 use Rattle.continuous_rate.specs.Least.{firstLeast}
-use Rattle.continuous_rate.specs.Search.{sideMiss, windowMiss}
+use Rattle.continuous_rate.specs.inside.Search.{sideMiss, windowMiss}
 use Rattle.continuous_rate.proofs.LeastLaws.{least-none}
 use Rattle.continuous_rate.proofs.Window.{scan-moves, scan-stays}
 use Rattle.continuous_rate.proofs.nearest_between.Statement.{statement}

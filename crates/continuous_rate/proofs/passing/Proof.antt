@@ -6,7 +6,7 @@ use Prim.Native.Nat.{_+_, _-_, _≤_, _<_}
 use native.Mathlib.Omega.{arith}
 use borrow.Author.Needs.{needs}
 use Rattle.arithmetic.specs.Rounding.{one}
-use Rattle.continuous_rate.specs.Search.{before}
+use Rattle.continuous_rate.specs.inside.Search.{before}
 use Rattle.continuous_rate.proofs.passing.Statement.{statement}
 use Rattle.continuous_rate.proofs.passing.Tie as tie
 

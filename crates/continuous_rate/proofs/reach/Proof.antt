@@ -1,7 +1,7 @@
 -- `continuous_rate::reach` meets its contract.
 -- Assumes nothing.
 use borrow.Author.Tests.{lt-ltb, le-ltb}
-use Rattle.continuous_rate.specs.Search.{reachOf}
+use Rattle.continuous_rate.specs.inside.Search.{reachOf}
 use Rattle.continuous_rate.proofs.reach.Statement.{statement}
 use Rattle.continuous_rate.proofs.reach.Tie as tie
 

@@ -22,9 +22,6 @@ abbrev μ-loop : tie.MeasureT-loop
 loop-holds : tie.Need-loop-holds Inv-loop μ-loop
 loop-holds c = (search needs, each-none _)
 
-answer-at-requires : tie.Need-answer-at-requires Inv-loop μ-loop
-answer-at-requires c κs = omega arith
-
 -- where the quote's answer is known
 abbrev start : tie.After-answer-at Inv-loop μ-loop → tie.Start Inv-loop μ-loop
 start c = c .before .before .before .before .before
@@ -39,12 +36,6 @@ returns c =
     let i = answered .before .before .loop .i in
     sym (each-fails (length (a .kinds .now)) i (test answered) (answered .before .loop-test .taken)
     (refuses (a .frequency) (a .kinds .now) (a .figures .now) i (answered .answer-at .result) (answered .answer-at .ensures) (c .if1 .taken)))
-
-add-i : tie.Need-add-i Inv-loop μ-loop
-add-i c = search needs
-
-loop-less : tie.Need-loop-less Inv-loop μ-loop
-loop-less c = search needs
 
 loop-again : tie.Need-loop-again Inv-loop μ-loop
 loop-again c =
@@ -70,9 +61,9 @@ all-convert-spec =
     Inv-loop
     μ-loop
     loop-holds
-    answer-at-requires
+    (λ c κs. omega arith)
     returns
-    add-i
-    loop-less
+    (λ c. search needs)
+    (λ c. search needs)
     loop-again
     returns-2)

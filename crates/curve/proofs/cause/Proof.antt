@@ -11,9 +11,6 @@ use borrow.Author.Needs.{needs}
 use Rattle.curve.proofs.cause.Statement.{statement}
 use Rattle.curve.proofs.cause.Tie as tie
 
-is-listed-requires : tie.Need-is-listed-requires
-is-listed-requires c κs = search needs
-
 returns : tie.Need-returns
 returns c =
     sym (number-frequency _ _ _ _ _ _ (sym (c .before .is-listed .ensures) ∙ not-true (c .before .is-listed .result) (c .if1 .taken)))
@@ -25,9 +22,6 @@ start c = c .before .before .before .before .before
 known : (c : tie.Else1) → listed (start c .args .frequency) ≡ true
 known c = sym (c .before .is-listed .ensures) ∙ not-false (c .before .is-listed .result) (c .if1 .left)
 
-is-steps-requires : tie.Need-is-steps-requires
-is-steps-requires c κs = search needs
-
 returns-2 : tie.Need-returns-2
 returns-2 c = sym (number-steps _ _ _ _ _ _ (known (c .before .before)) (sym (c .before .is-steps .ensures) ∙ not-true _ (c .if2 .taken)))
 
@@ -36,9 +30,6 @@ listed-at c = c .before .before
 
 few : (c : tie.Else2) → isSteps (start (listed-at c) .args .steps) ≡ true
 few c = sym (c .before .is-steps .ensures) ∙ not-false _ (c .if2 .left)
-
-is-in-place-requires : tie.Need-is-in-place-requires
-is-in-place-requires c κs = search needs
 
 abbrev test : tie.After-is-in-place → Bool
 test c = let a = start (listed-at (c .before)) .args in inPlace (a .steps) (a .rows .now) (a .kinds .now) (a .figures .now) (a .room)
@@ -81,11 +72,11 @@ pub cause-spec : {M : Type 1} → statement M
 cause-spec =
     tie.close
     (tie.spec
-    is-listed-requires
+    (λ c κs. search needs)
     returns
-    is-steps-requires
+    (λ c κs. search needs)
     returns-2
-    is-in-place-requires
+    (λ c κs. search needs)
     returns-3
     all-convert-requires
     returns-4

@@ -5,9 +5,6 @@ use Rattle.curve.proofs.CurveLaws.{entry-refused, entry-room, entry-sto
 use Rattle.curve.proofs.convert.Statement.{statement}
 use Rattle.curve.proofs.convert.Tie as tie
 
-cause-requires : tie.Need-cause-requires
-cause-requires c κs = search needs
-
 returns : tie.Need-returns
 returns c = entry-refused _ _ _ _ _ _ _ (c .before .cause .ensures) (c .if1 .taken)
 
@@ -16,13 +13,10 @@ store-requires c κs =
     let a = c .before .before .before .before .before .before .before .args in
     entry-room _ _ _ _ _ (a .discounts .now) _ (c .before .before .cause .ensures) (c .before .if1 .left)
 
-same-length : tie.Need-same-length
-same-length c = search needs
-
 returns-2 : tie.Need-returns-2
 returns-2 c =
     let e = c .before .before .before .before in
     entry-stored _ _ _ _ _ _ _ (e .before .cause .ensures) (e .if1 .left) _ (c .before .before .store .ensures)
 
 pub convert-spec : {M : Type 1} → statement M
-convert-spec = tie.close (tie.spec cause-requires returns store-requires same-length returns-2)
+convert-spec = tie.close (tie.spec (λ c κs. search needs) returns store-requires (λ c. search needs) returns-2)

@@ -22,9 +22,6 @@ returns-4 : tie.Need-returns-4
 returns-4 c =
     sym (place-short _ _ _ _ _ (c .before .before .before .if1 .left) (c .before .before .if2 .left) (c .before .if3 .left) (c .if4 .taken))
 
-in-order-requires : tie.Need-in-order-requires
-in-order-requires c κs = search needs
-
 returns-5 : tie.Need-returns-5
 returns-5 c =
     let e = c .before in
@@ -33,4 +30,4 @@ returns-5 c =
 
 pub is-in-place-spec : {M : Type 1} → statement M
 is-in-place-spec =
-    tie.close (tie.spec returns returns-2 returns-3 returns-4 in-order-requires returns-5)
+    tie.close (tie.spec returns returns-2 returns-3 returns-4 (λ c κs. search needs) returns-5)

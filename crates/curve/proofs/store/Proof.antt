@@ -22,21 +22,6 @@ abbrev μ-loop : tie.MeasureT-loop
 loop-holds : tie.Need-loop-holds Inv-loop μ-loop
 loop-holds c = (search needs, refl, filled-start _ _)
 
-answer-at-requires : tie.Need-answer-at-requires Inv-loop μ-loop
-answer-at-requires c κs = omega arith
-
-mul-discounts : tie.Need-mul-discounts Inv-loop μ-loop
-mul-discounts c = omega arith
-
-slice-write-discounts : tie.Need-slice-write-discounts Inv-loop μ-loop
-slice-write-discounts c = omega arith
-
-add-i : tie.Need-add-i Inv-loop μ-loop
-add-i c = omega arith
-
-loop-less : tie.Need-loop-less Inv-loop μ-loop
-loop-less c = omega arith
-
 loop-again : tie.Need-loop-again Inv-loop μ-loop
 loop-again c =
     let a = c .before .before .before .before .before .before .args in
@@ -65,11 +50,11 @@ store-spec =
     Inv-loop
     μ-loop
     loop-holds
-    answer-at-requires
-    mul-discounts
-    slice-write-discounts
-    add-i
-    loop-less
+    (λ c κs. omega arith)
+    (λ c. omega arith)
+    (λ c. omega arith)
+    (λ c. omega arith)
+    (λ c. omega arith)
     loop-again
     same-length
     returns)

@@ -5,17 +5,11 @@ use borrow.Author.Needs.{needs}
 use Rattle.exercise.proofs.exercise_value.Statement.{statement}
 use Rattle.exercise.proofs.exercise_value.Tie as tie
 
-excess-requires : tie.Need-excess-requires
-excess-requires c κs = search needs
-
 returns : tie.Need-returns
 returns c = call-value _ _ _ _ (c .before .if1 .taken) (c .excess .ensures)
-
-excess-requires-2 : tie.Need-excess-requires-2
-excess-requires-2 c κs = search needs
 
 returns-2 : tie.Need-returns-2
 returns-2 c = put-value _ _ _ _ (c .before .if1 .left) (c .excess2 .ensures)
 
 pub exercise-value-spec : {M : Type 1} → statement M
-exercise-value-spec = tie.close (tie.spec excess-requires returns excess-requires-2 returns-2)
+exercise-value-spec = tie.close (tie.spec (λ c κs. search needs) returns (λ c κs. search needs) returns-2)

@@ -7,16 +7,10 @@ use Rattle.exercise.specs.Terms.{side}
 use Rattle.exercise.proofs.expiry_value.Statement.{statement}
 use Rattle.exercise.proofs.expiry_value.Tie as tie
 
-excess-requires : tie.Need-excess-requires
-excess-requires c κs = search needs
-
-exercise-value-requires : tie.Need-exercise-value-requires
-exercise-value-requires c κs = search needs
-
 returns : tie.Need-returns
 returns c =
     let a = c .before .before .args in
     c .exercise-value .ensures ∙ ap (exercise (side (a .call)) (a .strike)) (c .before .excess .ensures)
 
 pub expiry-value-spec : {M : Type 1} → statement M
-expiry-value-spec = tie.close (tie.spec excess-requires exercise-value-requires returns)
+expiry-value-spec = tie.close (tie.spec (λ c κs. search needs) (λ c κs. search needs) returns)

@@ -7,12 +7,6 @@ use borrow.Author.Needs.{needs}
 use Rattle.exercise.proofs.held_value.Statement.{statement}
 use Rattle.exercise.proofs.held_value.Tie as tie
 
-exercise-value-requires : tie.Need-exercise-value-requires
-exercise-value-requires c κs = search needs
-
-larger-requires : tie.Need-larger-requires
-larger-requires c κs = search needs
-
 returns : tie.Need-returns
 returns c =
     let s = c .before .before .before in
@@ -24,4 +18,4 @@ returns-2 : tie.Need-returns-2
 returns-2 c = unlisted-value _ _ _ (c .if1 .left)
 
 pub held-value-spec : {M : Type 1} → statement M
-held-value-spec = tie.close (tie.spec exercise-value-requires larger-requires returns returns-2)
+held-value-spec = tie.close (tie.spec (λ c κs. search needs) (λ c κs. search needs) returns returns-2)

@@ -11,16 +11,10 @@ use Rattle.exercise_dates.proofs.dates_cause.Tie as tie
 returns : tie.Need-returns
 returns c = cause-empty _ _ (c .if1 .taken)
 
-is-rising-requires : tie.Need-is-rising-requires
-is-rising-requires c κs = search needs
-
 returns-2 : tie.Need-returns-2
 returns-2 c =
     let tested = c .before in
     cause-order _ _ (tested .before .if1 .left) (sym (tested .is-rising .ensures) ∙ not-true _ (c .if2 .taken))
-
-last-date-requires : tie.Need-last-date-requires
-last-date-requires c κs = search needs
 
 returns-3 : tie.Need-returns-3
 returns-3 c =
@@ -37,4 +31,4 @@ returns-4 c =
     (omega (arith, c .before .last-date .ensures, c .if3 .left))
 
 pub dates-cause-spec : {M : Type 1} → statement M
-dates-cause-spec = tie.close (tie.spec returns is-rising-requires returns-2 last-date-requires returns-3 returns-4)
+dates-cause-spec = tie.close (tie.spec returns (λ c κs. search needs) returns-2 (λ c κs. search needs) returns-3 returns-4)

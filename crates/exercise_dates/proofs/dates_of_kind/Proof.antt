@@ -9,23 +9,11 @@ use Rattle.exercise_dates.proofs.dates_of_kind.Tie as tie
 returns : tie.Need-returns
 returns c = no-list _ _ (c .if1 .taken)
 
-cast-rows : tie.Need-cast-rows
-cast-rows c = search needs
-
-array-write-rows : tie.Need-array-write-rows
-array-write-rows c = search needs
-
 returns-2 : tie.Need-returns-2
 returns-2 c = alone-list _ _ (c .before .if1 .left) (c .if2 .taken)
-
-add-t10 : tie.Need-add-t10
-add-t10 c = search needs
-
-dates-to-requires : tie.Need-dates-to-requires
-dates-to-requires c κs = search needs
 
 returns-3 : tie.Need-returns-3
 returns-3 c = every-list _ _ (c .before .before .if1 .left) _ (c .before .if2 .left) (c .dates-to .ensures)
 
 pub dates-of-kind-spec : {M : Type 1} → statement M
-dates-of-kind-spec = tie.close (tie.spec returns cast-rows array-write-rows returns-2 add-t10 dates-to-requires returns-3)
+dates-of-kind-spec = tie.close (tie.spec returns (λ c. search needs) (λ c. search needs) returns-2 (λ c. search needs) (λ c κs. search needs) returns-3)

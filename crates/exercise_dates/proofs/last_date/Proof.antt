@@ -12,17 +12,8 @@ use Rattle.exercise_dates.proofs.last_date.Tie as tie
 returns : tie.Need-returns
 returns c = none-last (now (c .before .args .dates)) (c .if1 .taken)
 
-sub-result : tie.Need-sub-result
-sub-result c = search needs
-
-shared-slice-read-result : tie.Need-shared-slice-read-result
-shared-slice-read-result c = search needs
-
 cast-result : tie.Need-cast-result
 cast-result c = omega (arith, c .shared-slice-known .given (length (now (c .before .before .args .dates)) - 1))
 
-returns-2 : tie.Need-returns-2
-returns-2 c = search needs
-
 pub last-date-spec : {M : Type 1} → statement M
-last-date-spec = tie.close (tie.spec returns sub-result shared-slice-read-result cast-result returns-2)
+last-date-spec = tie.close (tie.spec returns (λ c. search needs) (λ c. search needs) cast-result (λ c. search needs))

@@ -21,20 +21,11 @@ abbrev μ-loop : tie.MeasureT-loop
 loop-holds : tie.Need-loop-holds Inv-loop μ-loop
 loop-holds c = (omega arith, marking-start _)
 
-shared-slice-read-row : tie.Need-shared-slice-read-row Inv-loop μ-loop
-shared-slice-read-row c = search needs
-
 cast-row : tie.Need-cast-row Inv-loop μ-loop
 cast-row c = omega (arith, c .shared-slice-known .given (c .before .before .loop .k))
 
 array-write-marks : tie.Need-array-write-marks Inv-loop μ-loop
 array-write-marks c = omega (arith, c .before .before .before .loop .inv .1 .size)
-
-add-k : tie.Need-add-k Inv-loop μ-loop
-add-k c = search needs
-
-loop-less : tie.Need-loop-less Inv-loop μ-loop
-loop-less c = search needs
 
 loop-again : tie.Need-loop-again Inv-loop μ-loop
 loop-again c =
@@ -50,4 +41,16 @@ returns : tie.Need-returns Inv-loop μ-loop
 returns c = marking-all _ _ _ (c .before .loop .inv .1) (omega arith)
 
 pub marks-of-spec : {M : Type 1} → statement M
-marks-of-spec = tie.close (tie.spec Inv-loop μ-loop loop-holds shared-slice-read-row cast-row array-write-marks add-k loop-less loop-again returns)
+marks-of-spec =
+    tie.close
+    (tie.spec
+    Inv-loop
+    μ-loop
+    loop-holds
+    (λ c. search needs)
+    cast-row
+    array-write-marks
+    (λ c. search needs)
+    (λ c. search needs)
+    loop-again
+    returns)

@@ -5,12 +5,9 @@ use borrow.Author.Needs.{needs}
 use Rattle.exercise_dates.proofs.terms_on.Statement.{statement}
 use Rattle.exercise_dates.proofs.terms_on.Tie as tie
 
-last-date-requires : tie.Need-last-date-requires
-last-date-requires c κs = search needs
-
 returns : tie.Need-returns
 unfolding datedTerms
 returns c = rw (c .last-date .ensures)
 
 pub terms-on-spec : {M : Type 1} → statement M
-terms-on-spec = tie.close (tie.spec last-date-requires returns)
+terms-on-spec = tie.close (tie.spec (λ c κs. search needs) returns)

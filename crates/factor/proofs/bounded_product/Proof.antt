@@ -22,14 +22,8 @@ returns c = rw (c .if1 .taken) (omega arith)
 returns-2 : tie.Need-returns-2
 returns-2 c = rw (c .if2 .taken) (omega arith)
 
-add-result : tie.Need-add-result
-add-result c = search needs
-
 returns-3 : tie.Need-returns-3
 returns-3 c = beyond _ _ (c .if3 .taken) (c .before .if2 .left)
-
-add-result-2 : tie.Need-add-result-2
-add-result-2 c = search needs
 
 returns-4 : tie.Need-returns-4
 returns-4 c = rw mul-comm (beyond _ _ (c .if4 .taken) (c .before .before .before .if1 .left))
@@ -37,26 +31,17 @@ returns-4 c = rw mul-comm (beyond _ _ (c .if4 .taken) (c .before .before .before
 mul-product : tie.Need-mul-product
 mul-product c = omega (arith, mul-le-mul (c .before .if3 .left) (c .if4 .left))
 
-add-result-3 : tie.Need-add-result-3
-add-result-3 c = search needs
-
-returns-5 : tie.Need-returns-5
-returns-5 c = search needs
-
-returns-6 : tie.Need-returns-6
-returns-6 c = search needs
-
 pub bounded-product-spec : {M : Type 1} → statement M
 bounded-product-spec =
     tie.close
     (tie.spec
     returns
     returns-2
-    add-result
+    (λ c. search needs)
     returns-3
-    add-result-2
+    (λ c. search needs)
     returns-4
     mul-product
-    add-result-3
-    returns-5
-    returns-6)
+    (λ c. search needs)
+    (λ c. search needs)
+    (λ c. search needs))

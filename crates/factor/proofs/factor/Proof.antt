@@ -12,14 +12,8 @@ use Rattle.factor.proofs.factor.Tie as tie
 same : (c : tie.Else1) → c .before .bounded-product .result ≡ c .before .before .args .distance * c .before .before .args .spacing
 same c = omega arith
 
-bounded-product-requires : tie.Need-bounded-product-requires
-bounded-product-requires c κs = search needs
-
 returns : tie.Need-returns
 returns c = sym (side-refused _ _ _ (omega arith))
-
-series-sums-requires : tie.Need-series-sums-requires
-series-sums-requires c κs = search needs
 
 add-t7 : tie.Need-add-t7
 add-t7 c =
@@ -49,9 +43,9 @@ pub factor-spec : {M : Type 1} → statement M
 factor-spec =
     tie.close
     (tie.spec
-    bounded-product-requires
+    (λ c κs. search needs)
     returns
-    series-sums-requires
+    (λ c κs. search needs)
     add-t7
     returns-2
     sub-t8

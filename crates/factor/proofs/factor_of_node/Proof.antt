@@ -20,9 +20,6 @@ add-factor c =
     rw (nearer-held _ (c .before .fits .node) (c .if1 .taken))
     (omega (arith, nearer-less _ (c .before .fits .node) (c .if1 .taken)))
 
-factor-requires : tie.Need-factor-requires
-factor-requires c κs = search needs
-
 returns : tie.Need-returns
 returns c =
     (rw (nearer-held _ (c .before .before .fits .node) (c .before .if1 .taken)) at (c .factor .ensures))
@@ -30,9 +27,6 @@ returns c =
 
 cast-factor-2 : tie.Need-cast-factor-2
 cast-factor-2 c = whole-cast _ (c .before .fits .node) (c .if1 .left)
-
-factor-requires-2 : tie.Need-factor-requires-2
-factor-requires-2 c κs = search needs
 
 returns-2 : tie.Need-returns-2
 returns-2 c = c .factor2 .ensures ∙ node-above _ (c .before .before .fits .node) (c .before .if1 .left) _
@@ -44,8 +38,8 @@ factor-of-node-spec =
     sub-nearer
     cast-factor
     add-factor
-    factor-requires
+    (λ c κs. search needs)
     returns
     cast-factor-2
-    factor-requires-2
+    (λ c κs. search needs)
     returns-2)

@@ -11,12 +11,9 @@ use Rattle.factor.proofs.next_term.Tie as tie
 mul-result : tie.Need-mul-result
 mul-result c = omega (arith, mul-le-mul (c .pre .0) (c .pre .1))
 
-div-result : tie.Need-div-result
-div-result c = search needs
-
 returns : tie.Need-returns
 unfolding roundDown
 returns c = refl
 
 pub next-term-spec : {M : Type 1} → statement M
-next-term-spec = tie.close (tie.spec mul-result div-result returns)
+next-term-spec = tie.close (tie.spec mul-result (λ c. search needs) returns)

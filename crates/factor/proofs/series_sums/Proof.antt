@@ -39,27 +39,9 @@ second-most c = omega (arith, second-is c, term-most _ (2 * c .before .before .b
 loop-holds : tie.Need-loop-holds Inv-loop μ-loop
 loop-holds c = (omega arith, summed-start _)
 
-mul-next-term : tie.Need-mul-next-term Inv-loop μ-loop
-mul-next-term c = search needs
-
-add-next-term : tie.Need-add-next-term Inv-loop μ-loop
-add-next-term c = search needs
-
-mul-next-term-2 : tie.Need-mul-next-term-2 Inv-loop μ-loop
-mul-next-term-2 c = search needs
-
 next-term-requires : tie.Need-next-term-requires Inv-loop μ-loop
 next-term-requires c κs =
     let s = c .before .before in (latest-most _ _ _ _ _ (s .pre) (c .before .loop .inv .1), s .pre, omega arith)
-
-mul-next-term-3 : tie.Need-mul-next-term-3 Inv-loop μ-loop
-mul-next-term-3 c = search needs
-
-add-next-term-2 : tie.Need-add-next-term-2 Inv-loop μ-loop
-add-next-term-2 c = search needs
-
-mul-next-term-4 : tie.Need-mul-next-term-4 Inv-loop μ-loop
-mul-next-term-4 c = search needs
 
 next-term-requires-2 : tie.Need-next-term-requires-2 Inv-loop μ-loop
 next-term-requires-2 c κs = (first-most c, start c .pre, omega arith)
@@ -73,12 +55,6 @@ add-even : tie.Need-add-even Inv-loop μ-loop
 add-even c =
     let first = c .before in
     omega (arith, second-most c, even-most _ _ _ _ _ (start first .pre) (first .before .before .loop .inv .1))
-
-add-pair : tie.Need-add-pair Inv-loop μ-loop
-add-pair c = search needs
-
-loop-less : tie.Need-loop-less Inv-loop μ-loop
-loop-less c = search needs
 
 loop-again : tie.Need-loop-again Inv-loop μ-loop
 loop-again c = (omega arith, summed-next _ _ _ _ _ _ _ (c .before .before .before .loop .inv .1) (first-is (c .before)) (second-is c))
@@ -96,17 +72,17 @@ series-sums-spec =
     Inv-loop
     μ-loop
     loop-holds
-    mul-next-term
-    add-next-term
-    mul-next-term-2
+    (λ c. search needs)
+    (λ c. search needs)
+    (λ c. search needs)
     next-term-requires
-    mul-next-term-3
-    add-next-term-2
-    mul-next-term-4
+    (λ c. search needs)
+    (λ c. search needs)
+    (λ c. search needs)
     next-term-requires-2
     add-odd
     add-even
-    add-pair
-    loop-less
+    (λ c. search needs)
+    (λ c. search needs)
     loop-again
     returns)

@@ -15,9 +15,6 @@ use Rattle.arithmetic.proofs.Signed.{minus-fits, minus-back}
 use Rattle.figure.proofs.billionths.Statement.{statement}
 use Rattle.figure.proofs.billionths.Tie as tie
 
-is-beyond-requires : tie.Need-is-beyond-requires
-is-beyond-requires c κs = search needs
-
 returns : tie.Need-returns
 returns c = sym (figure-refused (c .before .before .args .x) (sym (c .before .is-beyond .ensures) ∙ c .if1 .taken))
 
@@ -72,7 +69,7 @@ pub billionths-spec : {M : Type 1} → statement M
 billionths-spec =
     tie.close
     (tie.spec
-    is-beyond-requires
+    (λ c κs. search needs)
     returns
     float-to-bits-bits
     magnitude-requires

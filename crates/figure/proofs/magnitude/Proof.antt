@@ -10,20 +10,8 @@ use Rattle.figure.proofs.Patterns.{pattern-zero, pattern-later, fieldOf
 use Rattle.figure.proofs.magnitude.Statement.{statement}
 use Rattle.figure.proofs.magnitude.Tie as tie
 
-scaled-requires : tie.Need-scaled-requires
-scaled-requires c κs = search needs
-
 returns : tie.Need-returns
 returns c = c .scaled .ensures ∙ sym (pattern-zero (c .before .before .args .bits) (c .before .if1 .taken))
-
-add-scaled : tie.Need-add-scaled
-add-scaled c = search needs
-
-sub-scaled : tie.Need-sub-scaled
-sub-scaled c = search needs
-
-scaled-requires-2 : tie.Need-scaled-requires-2
-scaled-requires-2 c κs = search needs
 
 returns-2 : tie.Need-returns-2
 returns-2 c =
@@ -35,4 +23,4 @@ returns-2 c =
 
 pub magnitude-spec : {M : Type 1} → statement M
 magnitude-spec =
-    tie.close (tie.spec scaled-requires returns add-scaled sub-scaled scaled-requires-2 returns-2)
+    tie.close (tie.spec (λ c κs. search needs) returns (λ c. search needs) (λ c. search needs) (λ c κs. search needs) returns-2)

@@ -16,9 +16,6 @@ returns c =
     let a = c .before .args in
     sym (nearest-zero (a .significand * one) (2 ^ (a .shift)) (omega (arith, pow-mono {i = 85} {j = a .shift} (omega arith))))
 
-power-of-ten-requires : tie.Need-power-of-ten-requires
-power-of-ten-requires c κs = search needs
-
 mul-whole : tie.Need-mul-whole
 mul-whole c = rw (table-one _ (c .power-of-ten .ensures)) (omega arith)
 
@@ -27,12 +24,6 @@ mul-whole-2 c = rw (table-one _ (c .power-of-ten .ensures)) (omega arith)
 
 add-whole : tie.Need-add-whole
 add-whole c = rw (table-one _ (c .power-of-ten .ensures)) (omega arith)
-
-sub-half : tie.Need-sub-half
-sub-half c = search needs
-
-shl-half : tie.Need-shl-half
-shl-half c = search needs
 
 add-result : tie.Need-add-result
 add-result c =
@@ -61,12 +52,12 @@ scaled-spec =
     tie.close
     (tie.spec
     returns
-    power-of-ten-requires
+    (λ c κs. search needs)
     mul-whole
     mul-whole-2
     add-whole
-    sub-half
-    shl-half
+    (λ c. search needs)
+    (λ c. search needs)
     add-result
     mul-result
     div-result

@@ -5,17 +5,8 @@ use Rattle.fitting.proofs.FitEntry as laws
 use Rattle.fitting.proofs.fit.Statement.{statement}
 use Rattle.fitting.proofs.fit.Tie as tie
 
-spacing-requires : tie.Need-spacing-requires
-spacing-requires c κs = search needs
-
 fit-tree-requires : tie.Need-fit-tree-requires
 fit-tree-requires c κs = laws.spacing-known _ _ _ (c .before .before .spacing .ensures)
-
-same-length : tie.Need-same-length
-same-length c = search needs
-
-same-length-2 : tie.Need-same-length-2
-same-length-2 c = search needs
 
 returns : tie.Need-returns
 returns c =
@@ -27,4 +18,4 @@ returns c =
 
 pub fit-spec : {M : Type 1} → statement M
 fit-spec =
-    tie.close (tie.spec spacing-requires fit-tree-requires same-length same-length-2 returns)
+    tie.close (tie.spec (λ c κs. search needs) fit-tree-requires (λ c. search needs) (λ c. search needs) returns)

@@ -18,15 +18,6 @@ prepared c =
     let s = c .before .before .before .before .before .before .before .before .before in
     laws.prepared _ (s .pre) refl (converted .ensures .0) (converted .ensures .1) (c .plan-of .ensures)
 
-slice-aggregate-convert : tie.Need-slice-aggregate-convert
-slice-aggregate-convert c = search needs
-
-convert-requires : tie.Need-convert-requires
-convert-requires c κs = search needs
-
-plan-of-requires : tie.Need-plan-of-requires
-plan-of-requires c κs = search needs
-
 returns : tie.Need-returns
 returns c = laws.fit-refused (prepared (c .before .before)) (c .if1 .taken)
 
@@ -43,12 +34,6 @@ fit-quotes-requires c κs =
     let planned = c .before .before .before in
     laws.quotes-ready (prepared (planned .before .before)) (planned .if1 .left)
 
-same-length : tie.Need-same-length
-same-length c = search needs
-
-same-length-2 : tie.Need-same-length-2
-same-length-2 c = search needs
-
 returns-2 : tie.Need-returns-2
 returns-2 c =
     let fitted = c .before .before .before .before in
@@ -59,13 +44,13 @@ pub fit-tree-spec : {M : Type 1} → statement M
 fit-tree-spec =
     tie.close
     (tie.spec
-    slice-aggregate-convert
-    convert-requires
-    plan-of-requires
+    (λ c. search needs)
+    (λ c κs. search needs)
+    (λ c κs. search needs)
     returns
     array-share-prefix-quotes
     slice-aggregate-fit-quotes
     fit-quotes-requires
-    same-length
-    same-length-2
+    (λ c. search needs)
+    (λ c. search needs)
     returns-2)

@@ -5,20 +5,8 @@ use Rattle.fitting.proofs.FitEntry as laws
 use Rattle.fitting.proofs.fit_version.Statement.{statement}
 use Rattle.fitting.proofs.fit_version.Tie as tie
 
-working-or-same-requires : tie.Need-working-or-same-requires
-working-or-same-requires c κs = search needs
-
-version-spacing-requires : tie.Need-version-spacing-requires
-version-spacing-requires c κs = search needs
-
 fit-tree-requires : tie.Need-fit-tree-requires
 fit-tree-requires c κs = laws.version-known _ _ _ _ _ (c .before .before .version-spacing .ensures)
-
-same-length : tie.Need-same-length
-same-length c = search needs
-
-same-length-2 : tie.Need-same-length-2
-same-length-2 c = search needs
 
 returns : tie.Need-returns
 returns c =
@@ -34,9 +22,9 @@ pub fit-version-spec : {M : Type 1} → statement M
 fit-version-spec =
     tie.close
     (tie.spec
-    working-or-same-requires
-    version-spacing-requires
+    (λ c κs. search needs)
+    (λ c κs. search needs)
     fit-tree-requires
-    same-length
-    same-length-2
+    (λ c. search needs)
+    (λ c. search needs)
     returns)

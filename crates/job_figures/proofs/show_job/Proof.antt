@@ -8,9 +8,6 @@ use borrow.Author.Needs.{needs}
 use Rattle.job_figures.proofs.show_job.Statement.{statement}
 use Rattle.job_figures.proofs.show_job.Tie as tie
 
-show-head-requires : tie.Need-show-head-requires
-show-head-requires c κs = search needs
-
 -- where the columns are copied
 abbrev start : tie.After-flows → tie.Start
 start c = c .before .before .before .before
@@ -54,17 +51,11 @@ show-rows-requires c κs =
     let copied = c .before .before .before in
     (figures-lent copied ∙ sym (kinds-lent copied), flows-lent copied ∙ sym (kinds-lent copied))
 
-show-option-requires : tie.Need-show-option-requires
-show-option-requires c κs = search needs
-
-returns : tie.Need-returns
-returns c = search needs
-
 pub show-job-spec : {M : Type 1} → statement M
 show-job-spec =
     tie.close
     (tie.spec
-    show-head-requires
+    (λ c κs. search needs)
     array-share-prefix-kinds
     slice-aggregate-show-rows
     array-share-prefix-figures
@@ -72,5 +63,5 @@ show-job-spec =
     array-share-prefix-flows
     slice-aggregate-show-rows-3
     show-rows-requires
-    show-option-requires
-    returns)
+    (λ c κs. search needs)
+    (λ c. search needs))

@@ -20,15 +20,6 @@ returns c =
 abbrev start : tie.After-figures-of → tie.Start
 start c = c .before .before .before .before .before .before .before
 
-rows-of-requires : tie.Need-rows-of-requires
-rows-of-requires c κs = search needs
-
-figures-of-requires : tie.Need-figures-of-requires
-figures-of-requires c κs = search needs
-
-array-share-prefix-rows : tie.Need-array-share-prefix-rows
-array-share-prefix-rows c = search needs
-
 slice-aggregate-fit-version : tie.Need-slice-aggregate-fit-version
 slice-aggregate-fit-version c =
     let made = c .before .before in
@@ -42,25 +33,10 @@ slice-aggregate-fit-version-2 c =
     let s = start (c .before .before .before) in
     laws.lent-column (s .args .job .kinds) (s .args .job .steps) (omega (arith, kinds-size s))
 
-array-share-prefix-figures : tie.Need-array-share-prefix-figures
-array-share-prefix-figures c = search needs
-
 slice-aggregate-fit-version-3 : tie.Need-slice-aggregate-fit-version-3
 slice-aggregate-fit-version-3 c =
     let made = c .before .before .before .before in
     laws.lent-column (made .figures-of .result) (start made .args .job .steps) (search needs)
-
-meant-version-requires : tie.Need-meant-version-requires
-meant-version-requires c κs = search needs
-
-fit-version-requires : tie.Need-fit-version-requires
-fit-version-requires c κs = search needs
-
-same-length : tie.Need-same-length
-same-length c = search needs
-
-same-length-2 : tie.Need-same-length-2
-same-length-2 c = search needs
 
 returns-2 : tie.Need-returns-2
 returns-2 c =
@@ -76,16 +52,16 @@ fit-of-record-spec =
     tie.close
     (tie.spec
     returns
-    rows-of-requires
-    figures-of-requires
-    meant-version-requires
-    array-share-prefix-rows
+    (λ c κs. search needs)
+    (λ c κs. search needs)
+    (λ c κs. search needs)
+    (λ c. search needs)
     slice-aggregate-fit-version
     array-share-prefix-kinds
     slice-aggregate-fit-version-2
-    array-share-prefix-figures
+    (λ c. search needs)
     slice-aggregate-fit-version-3
-    fit-version-requires
-    same-length
-    same-length-2
+    (λ c κs. search needs)
+    (λ c. search needs)
+    (λ c. search needs)
     returns-2)

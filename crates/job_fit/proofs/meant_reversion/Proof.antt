@@ -8,12 +8,6 @@ use Rattle.job_fit.specs.RecordFit.{meantReversion}
 use Rattle.job_fit.proofs.meant_reversion.Statement.{statement}
 use Rattle.job_fit.proofs.meant_reversion.Tie as tie
 
-meant-version-requires : tie.Need-meant-version-requires
-meant-version-requires c κs = search needs
-
-working-or-same-requires : tie.Need-working-or-same-requires
-working-or-same-requires c κs = search needs
-
 returns : tie.Need-returns
 unfolding meantReversion
 returns c =
@@ -21,4 +15,4 @@ returns c =
     c .working-or-same .ensures ∙ ap (λ (v : ℕ). workingReversion v (meant .before .args .reversion)) (meant .meant-version .ensures)
 
 pub meant-reversion-spec : {M : Type 1} → statement M
-meant-reversion-spec = tie.close (tie.spec meant-version-requires working-or-same-requires returns)
+meant-reversion-spec = tie.close (tie.spec (λ c κs. search needs) (λ c κs. search needs) returns)

@@ -18,15 +18,6 @@ returns c = laws.quotes-refused (c .before .before .args .job) (c .if1 .taken) (
 abbrev start : tie.After-figures-of → tie.Start
 start c = c .before .before .before .before .before .before
 
-rows-of-requires : tie.Need-rows-of-requires
-rows-of-requires c κs = search needs
-
-figures-of-requires : tie.Need-figures-of-requires
-figures-of-requires c κs = search needs
-
-array-share-prefix-rows : tie.Need-array-share-prefix-rows
-array-share-prefix-rows c = search needs
-
 slice-aggregate-convert : tie.Need-slice-aggregate-convert
 slice-aggregate-convert c =
     let made = c .before in
@@ -40,19 +31,10 @@ slice-aggregate-convert-2 c =
     let s = start (c .before .before) in
     laws.lent-column (s .args .job .kinds) (s .args .job .steps) (omega (arith, kinds-size s))
 
-array-share-prefix-figures : tie.Need-array-share-prefix-figures
-array-share-prefix-figures c = search needs
-
 slice-aggregate-convert-3 : tie.Need-slice-aggregate-convert-3
 slice-aggregate-convert-3 c =
     let made = c .before .before .before in
     laws.lent-column (made .figures-of .result) (start made .args .job .steps) (search needs)
-
-convert-requires : tie.Need-convert-requires
-convert-requires c κs = search needs
-
-same-length : tie.Need-same-length
-same-length c = search needs
 
 returns-2 : tie.Need-returns-2
 returns-2 c =
@@ -67,14 +49,14 @@ quotes-of-record-spec =
     tie.close
     (tie.spec
     returns
-    rows-of-requires
-    figures-of-requires
-    array-share-prefix-rows
+    (λ c κs. search needs)
+    (λ c κs. search needs)
+    (λ c. search needs)
     slice-aggregate-convert
     array-share-prefix-kinds
     slice-aggregate-convert-2
-    array-share-prefix-figures
+    (λ c. search needs)
     slice-aggregate-convert-3
-    convert-requires
-    same-length
+    (λ c κs. search needs)
+    (λ c. search needs)
     returns-2)

@@ -5,12 +5,6 @@ use Rattle.job_prices.proofs.PriceLaws as laws
 use Rattle.job_prices.proofs.prices_of_job.Statement.{statement}
 use Rattle.job_prices.proofs.prices_of_job.Tie as tie
 
-read-requires : tie.Need-read-requires
-read-requires c κs = search needs
-
-refused-requires : tie.Need-refused-requires
-refused-requires c κs = search needs
-
 -- where the record is read
 abbrev start : tie.After-read → tie.Start
 start c = c .before .before .before .before
@@ -22,15 +16,6 @@ returns c =
     let a = start reading .args in
     laws.bytes-refused (a .job .now) (a .discounts .now) (a .state-prices .now) (reading .read .result) (reading .read .ensures .0) (refusing .if1 .taken) _
     (c .refused .ensures)
-
-prices-of-record-requires : tie.Need-prices-of-record-requires
-prices-of-record-requires c κs = search needs
-
-same-length : tie.Need-same-length
-same-length c = search needs
-
-same-length-2 : tie.Need-same-length-2
-same-length-2 c = search needs
 
 returns-2 : tie.Need-returns-2
 returns-2 c =
@@ -44,4 +29,4 @@ returns-2 c =
 pub prices-of-job-spec : {M : Type 1} → statement M
 prices-of-job-spec =
     tie.close
-    (tie.spec read-requires refused-requires returns prices-of-record-requires same-length same-length-2 returns-2)
+    (tie.spec (λ c κs. search needs) (λ c κs. search needs) returns (λ c κs. search needs) (λ c. search needs) (λ c. search needs) returns-2)

@@ -7,45 +7,12 @@ use Rattle.job_prices.proofs.PriceLaws as laws
 use Rattle.job_prices.proofs.prices_of_record.Statement.{statement}
 use Rattle.job_prices.proofs.prices_of_record.Tie as tie
 
-option-form-requires : tie.Need-option-form-requires
-option-form-requires c κs = search needs
-
-refused-requires : tie.Need-refused-requires
-refused-requires c κs = search needs
-
 returns : tie.Need-returns
 returns c =
     let refusing = c .before in
     let formed = refusing .before in
     let a = formed .before .before .before .before .args in
     laws.form-refused (a .job) (a .discounts .now) (a .state-prices .now) _ (formed .option-form .ensures) (refusing .if1 .taken) _ (c .refused .ensures)
-
-discounts-requires : tie.Need-discounts-requires
-discounts-requires c κs = search needs
-
-state-prices-requires : tie.Need-state-prices-requires
-state-prices-requires c κs = search needs
-
-slice-aggregate-fit-of-record : tie.Need-slice-aggregate-fit-of-record
-slice-aggregate-fit-of-record c = search needs
-
-slice-aggregate-fit-of-record-2 : tie.Need-slice-aggregate-fit-of-record-2
-slice-aggregate-fit-of-record-2 c = search needs
-
-fit-of-record-requires : tie.Need-fit-of-record-requires
-fit-of-record-requires c κs = search needs
-
-meant-reversion-requires : tie.Need-meant-reversion-requires
-meant-reversion-requires c κs = search needs
-
-memory-cause-requires : tie.Need-memory-cause-requires
-memory-cause-requires c κs = search needs
-
-lowest-cause-requires : tie.Need-lowest-cause-requires
-lowest-cause-requires c κs = search needs
-
-refused-requires-2 : tie.Need-refused-requires-2
-refused-requires-2 c κs = search needs
 
 -- where the lowest cause is known: the record is fitted, in memories of the function's own
 abbrev working : tie.After-lowest-cause → tie.After-meant-reversion
@@ -54,7 +21,7 @@ working c = c .before .before
 abbrev fitted : tie.After-lowest-cause → tie.After-fit-of-record
 fitted c = working c .before .before .before
 
-abbrev memories : tie.After-lowest-cause → tie.After-state-prices
+abbrev memories : tie.After-lowest-cause → tie.After-state-price-room
 memories c = fitted c .before .before .before
 
 abbrev formed : tie.After-lowest-cause → tie.Else1
@@ -73,18 +40,12 @@ returns-2 c =
     let found = refusing .before in
     let a = start found .args in
     let fit = fitted found .fit-of-record in
-    let own-d = memories found .before .discounts in
-    let own-p = memories found .state-prices in
+    let own-d = memories found .before .discount-room in
+    let own-p = memories found .state-price-room in
     laws.record-refused (a .job) (form-none found) (own-d .result) (own-p .result) _ _ (fit .result) (own-d .ensures) (own-p .ensures) (fit .ensures)
     (working found .meant-reversion .result) (working found .meant-reversion .ensures)
     (a .discounts .now) (a .state-prices .now) _ _ (found .before .memory-cause .ensures) (found .lowest-cause .ensures) _
     (c .refused2 .ensures) (refusing .if2 .taken)
-
-discounts-needed-requires : tie.Need-discounts-needed-requires
-discounts-needed-requires c κs = search needs
-
-state-prices-needed-requires : tie.Need-state-prices-needed-requires
-state-prices-needed-requires c κs = search needs
 
 -- where no cause refuses the record and both counts are known
 held : (c : tie.After-state-prices-needed) →
@@ -98,8 +59,8 @@ held c =
     let found = accepted .before in
     let a = start found .args in
     let fit = fitted found .fit-of-record in
-    let own-d = memories found .before .discounts in
-    let own-p = memories found .state-prices in
+    let own-d = memories found .before .discount-room in
+    let own-p = memories found .state-price-room in
     laws.held (a .job) (form-none found) (own-d .result) (own-p .result) _ _ (fit .result) (own-d .ensures) (own-p .ensures) (fit .ensures)
     (working found .meant-reversion .result) (working found .meant-reversion .ensures)
     (a .discounts .now) (a .state-prices .now) _ _ (found .before .memory-cause .ensures) (found .lowest-cause .ensures) (accepted .if2 .left)
@@ -120,12 +81,6 @@ slice-aggregate-prices-of-tree-2 c = laws.prices-count _ _ _ _ _ _ _ (held (c .b
 prices-of-tree-requires : tie.Need-prices-of-tree-requires
 prices-of-tree-requires c κs = laws.tree-fits _ _ _ _ _ _ _ (held (c .before .before .before .before))
 
-same-length : tie.Need-same-length
-same-length c = search needs
-
-same-length-2 : tie.Need-same-length-2
-same-length-2 c = search needs
-
 returns-3 : tie.Need-returns-3
 returns-3 c =
     let priced = c .before .before .before .before in
@@ -137,26 +92,26 @@ pub prices-of-record-spec : {M : Type 1} → statement M
 prices-of-record-spec =
     tie.close
     (tie.spec
-    option-form-requires
-    refused-requires
+    (λ c κs. search needs)
+    (λ c κs. search needs)
     returns
-    discounts-requires
-    state-prices-requires
-    slice-aggregate-fit-of-record
-    slice-aggregate-fit-of-record-2
-    fit-of-record-requires
-    meant-reversion-requires
-    memory-cause-requires
-    lowest-cause-requires
-    refused-requires-2
+    (λ c κs. search needs)
+    (λ c κs. search needs)
+    (λ c. search needs)
+    (λ c. search needs)
+    (λ c κs. search needs)
+    (λ c κs. search needs)
+    (λ c κs. search needs)
+    (λ c κs. search needs)
+    (λ c κs. search needs)
     returns-2
-    discounts-needed-requires
-    state-prices-needed-requires
+    (λ c κs. search needs)
+    (λ c κs. search needs)
     array-share-prefix-fitted-discounts
     slice-aggregate-prices-of-tree
     array-share-prefix-fitted-prices
     slice-aggregate-prices-of-tree-2
     prices-of-tree-requires
-    same-length
-    same-length-2
+    (λ c. search needs)
+    (λ c. search needs)
     returns-3)

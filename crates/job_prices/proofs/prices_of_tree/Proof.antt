@@ -8,7 +8,8 @@ use Rattle.job_fit.specs.RecordFit.{jobFlows}
 use Rattle.job_fit.proofs.FitLaws.{lent-column}
 use borrow.Author.Needs.{needs}
 use Rattle.job_prices.specs.declared.JobPrices.{JobPrices}
-use Rattle.job_prices.specs.JobPrices.{treeNumber, treePrices}
+use Rattle.job_prices.specs.JobPrices.{treeNumber}
+use Rattle.job_prices.specs.inside.TreePrices.{treePrices}
 use Rattle.job_prices.proofs.PriceLaws as laws
 use Rattle.job_prices.proofs.prices_of_tree.Statement.{statement}
 use Rattle.job_prices.proofs.prices_of_tree.Tie as tie
@@ -27,9 +28,6 @@ slice-aggregate-tree-prices : tie.Need-slice-aggregate-tree-prices
 slice-aggregate-tree-prices c =
     let s = start (c .before) in
     lent-column (s .args .job .flows) (s .args .job .steps) (omega (arith, flows-size s, s .pre .0))
-
-tree-prices-requires : tie.Need-tree-prices-requires
-tree-prices-requires c κs = search needs
 
 abbrev number : tie.Start → ℕ
 number s = let a = s .args in treeNumber (a .job .steps) (a .reversion) (a .fitted-discounts .now) (jobFlows (a .job)) (a .job .option)
@@ -54,18 +52,6 @@ returns c =
     laws.left-refused (number s) (prices s) (a .fitted-discounts .now) (a .fitted-prices .now) (a .discounts .now) (a .state-prices .now) _
     (priced .tree-prices .ensures) (λ z. c .if1 .taken (number-is priced ∙ z))
 
-place-requires : tie.Need-place-requires
-place-requires c κs = search needs
-
-place-requires-2 : tie.Need-place-requires-2
-place-requires-2 c κs = search needs
-
-same-length : tie.Need-same-length
-same-length c = search needs
-
-same-length-2 : tie.Need-same-length-2
-same-length-2 c = search needs
-
 returns-2 : tie.Need-returns-2
 returns-2 c =
     let placed-prices = c .before .before in
@@ -83,10 +69,10 @@ prices-of-tree-spec =
     (tie.spec
     array-share-prefix-flows
     slice-aggregate-tree-prices
-    tree-prices-requires
+    (λ c κs. search needs)
     returns
-    place-requires
-    place-requires-2
-    same-length
-    same-length-2
+    (λ c κs. search needs)
+    (λ c κs. search needs)
+    (λ c. search needs)
+    (λ c. search needs)
     returns-2)

@@ -9,12 +9,6 @@ use Rattle.record_sheet.proofs.AnswerLaws as answers
 use Rattle.job_sheet.proofs.printed.Statement.{statement}
 use Rattle.job_sheet.proofs.printed.Tie as tie
 
-sheet-requires : tie.Need-sheet-requires
-sheet-requires c κs = tt
-
-refused-line-requires : tie.Need-refused-line-requires
-refused-line-requires c κs = tt
-
 -- where the sheet is made or refused
 abbrev start : tie.After-sheet → tie.Start
 start c = c .before .before .before .before
@@ -26,9 +20,6 @@ number-is c = answers.answer-number _ _ (c .sheet .result) (c .sheet .ensures .0
 
 size-is : (c : tie.After-sheet) → c .sheet .result .number ≡ 0 → c .sheet .result .size ≡ length (sheetText (start c .args .job .now))
 size-is c = answers.answer-size _ _ (c .sheet .result) (c .sheet .ensures .0)
-
-same-length : tie.Need-same-length
-same-length c = search needs
 
 returns : tie.Need-returns
 returns c =
@@ -51,9 +42,6 @@ sub-start c =
     let a = start made .args in
     laws.size-within (a .job .now) (a .out .now) _ _ _ (number-is made) (size-is made) (made .sheet .ensures .1) (accepted .if1 .left) (search needs)
 
-same-length-2 : tie.Need-same-length-2
-same-length-2 c = search needs
-
 returns-2 : tie.Need-returns-2
 returns-2 c =
     let accepted = c .before in
@@ -64,4 +52,4 @@ returns-2 c =
     (printed .0, (laws.start-within _ _ _ _ (printed .0), printed .1))
 
 pub printed-spec : {M : Type 1} → statement M
-printed-spec = tie.close (tie.spec sheet-requires refused-line-requires same-length returns sub-start same-length-2 returns-2)
+printed-spec = tie.close (tie.spec (λ c κs. tt) (λ c κs. tt) (λ c. search needs) returns sub-start (λ c. search needs) returns-2)

@@ -8,9 +8,6 @@ use Rattle.record_sheet.proofs.AnswerLaws as answers
 use Rattle.job_sheet.proofs.sheet.Statement.{statement}
 use Rattle.job_sheet.proofs.sheet.Tie as tie
 
-read-requires : tie.Need-read-requires
-read-requires c κs = tt
-
 returns : tie.Need-returns
 returns c =
     let a = c .before .before .before .before .before .args in
@@ -18,12 +15,6 @@ returns c =
     let refusing = c .if1 .taken in
     let number = laws.number-refused (a .job .now) (length (a .out .now)) (read .result) (read .ensures .0) refusing in
     answers.refused-by _ _ _ (a .out .now) _ refl number refusing
-
-sheet-of-record-requires : tie.Need-sheet-of-record-requires
-sheet-of-record-requires c κs = tt
-
-same-length : tie.Need-same-length
-same-length c = search needs
 
 returns-2 : tie.Need-returns-2
 returns-2 c =
@@ -36,4 +27,4 @@ returns-2 c =
     answers.read-made (a .job .now) (a .out .now) (read .result) _ _ (read .ensures .0) (if1 .left) (sheet-of-record .ensures)
 
 pub sheet-spec : {M : Type 1} → statement M
-sheet-spec = tie.close (tie.spec read-requires returns sheet-of-record-requires same-length returns-2)
+sheet-spec = tie.close (tie.spec (λ c κs. tt) returns (λ c κs. tt) (λ c. search needs) returns-2)

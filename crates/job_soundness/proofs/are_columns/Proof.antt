@@ -7,14 +7,8 @@ use borrow.Author.Needs.{needs}
 use Rattle.job_soundness.proofs.are_columns.Statement.{statement}
 use Rattle.job_soundness.proofs.are_columns.Tie as tie
 
-are-kinds-requires : tie.Need-are-kinds-requires
-are-kinds-requires c κs = search needs
-
 returns : tie.Need-returns
 returns c = no-kinds _ _ _ _ (failed (c .before .are-kinds .ensures) (c .if1 .taken))
-
-is-byte-column-requires : tie.Need-is-byte-column-requires
-is-byte-column-requires c κs = search needs
 
 returns-2 : tie.Need-returns-2
 returns-2 c =
@@ -22,18 +16,12 @@ returns-2 c =
     no-tags _ _ _ _ (passed (c .before .before .before .are-kinds .ensures) (c .before .before .if1 .left))
     (failed (column-here _ _ _ _ (pre .1) (c .before .is-byte-column .ensures)) (c .if2 .taken))
 
-is-column-requires : tie.Need-is-column-requires
-is-column-requires c κs = search needs
-
 returns-3 : tie.Need-returns-3
 returns-3 c =
     let pre = c .before .before .before .before .before .before .before .before .before .pre in
     no-figures _ _ _ _ (passed (c .before .before .before .before .before .are-kinds .ensures) (c .before .before .before .before .if1 .left))
     (passed (column-here _ _ _ _ (pre .1) (c .before .before .before .is-byte-column .ensures)) (c .before .before .if2 .left))
     (failed (column-here _ _ _ _ (pre .2) (c .before .is-column .ensures)) (c .if3 .taken))
-
-is-column-requires-2 : tie.Need-is-column-requires-2
-is-column-requires-2 c κs = search needs
 
 returns-4 : tie.Need-returns-4
 returns-4 c =
@@ -53,11 +41,11 @@ pub are-columns-spec : {M : Type 1} → statement M
 are-columns-spec =
     tie.close
     (tie.spec
-    are-kinds-requires
+    (λ c κs. search needs)
     returns
-    is-byte-column-requires
+    (λ c κs. search needs)
     returns-2
-    is-column-requires
+    (λ c κs. search needs)
     returns-3
-    is-column-requires-2
+    (λ c κs. search needs)
     returns-4)

@@ -29,9 +29,6 @@ returns-4 c =
       lt-leb _ _ (c .if4 .taken),
     )
 
-version-fits-requires : tie.Need-version-fits-requires
-version-fits-requires c κs = search needs
-
 returns-5 : tie.Need-returns-5
 unfolding headFits
 returns-5 c =
@@ -44,4 +41,4 @@ returns-5 c =
     )
 
 pub head-fits-spec : {M : Type 1} → statement M
-head-fits-spec = tie.close (tie.spec returns returns-2 returns-3 returns-4 version-fits-requires returns-5)
+head-fits-spec = tie.close (tie.spec returns returns-2 returns-3 returns-4 (λ c κs. search needs) returns-5)

@@ -8,18 +8,6 @@ use borrow.Author.Needs.{needs}
 use Rattle.job_soundness.proofs.is_byte_column.Statement.{statement}
 use Rattle.job_soundness.proofs.is_byte_column.Tie as tie
 
-sub-all-zero : tie.Need-sub-all-zero
-sub-all-zero c = search needs
-
-part-all-zero-start : tie.Need-part-all-zero-start
-part-all-zero-start c = search needs
-
-part-all-zero-end : tie.Need-part-all-zero-end
-part-all-zero-end c = search needs
-
-all-zero-requires : tie.Need-all-zero-requires
-all-zero-requires c κs = search needs
-
 returns : tie.Need-returns
 returns c =
     let a = c .before .before .before .args in
@@ -28,4 +16,4 @@ returns c =
 pub is-byte-column-spec : {M : Type 1} → statement M
 is-byte-column-spec =
     tie.close
-    (tie.spec sub-all-zero part-all-zero-start part-all-zero-end all-zero-requires returns)
+    (tie.spec (λ c. search needs) (λ c. search needs) (λ c. search needs) (λ c κs. search needs) returns)

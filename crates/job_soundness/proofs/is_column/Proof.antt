@@ -12,28 +12,10 @@ use Rattle.job_soundness.proofs.is_column.Tie as tie
 slice-aggregate-all-between : tie.Need-slice-aggregate-all-between
 slice-aggregate-all-between c = simp length-take (omega arith)
 
-all-between-requires : tie.Need-all-between-requires
-all-between-requires c κs = search needs
-
 returns : tie.Need-returns
 returns c =
     let a = c .before .before .before .before .args in
     column-fails (a .column .now) (a .count) (a .most) (failed (c .before .all-between .ensures) (c .if1 .taken))
-
-mul-all-between : tie.Need-mul-all-between
-mul-all-between c = search needs
-
-sub-all-between : tie.Need-sub-all-between
-sub-all-between c = search needs
-
-part-all-between-start : tie.Need-part-all-between-start
-part-all-between-start c = search needs
-
-part-all-between-end : tie.Need-part-all-between-end
-part-all-between-end c = search needs
-
-all-between-requires-2 : tie.Need-all-between-requires-2
-all-between-requires-2 c κs = search needs
 
 returns-2 : tie.Need-returns-2
 returns-2 c =
@@ -46,11 +28,11 @@ is-column-spec =
     tie.close
     (tie.spec
     slice-aggregate-all-between
-    all-between-requires
+    (λ c κs. search needs)
     returns
-    mul-all-between
-    sub-all-between
-    part-all-between-start
-    part-all-between-end
-    all-between-requires-2
+    (λ c. search needs)
+    (λ c. search needs)
+    (λ c. search needs)
+    (λ c. search needs)
+    (λ c κs. search needs)
     returns-2)

@@ -19,24 +19,12 @@ figures-long c = search needs
 flows-long : (c : tie.Start) → length (c .args .job .flows) ≡ mostJobSteps
 flows-long c = search needs
 
-head-fits-requires : tie.Need-head-fits-requires
-head-fits-requires c κs = search needs
-
 returns : tie.Need-returns
 returns c = job-misfits _ (failed (c .before .head-fits .ensures) (c .if1 .taken))
 
 -- the numbers of the head fit
 fitting : (c : tie.Else1) → head (c .before .before .args .job) ≡ true
 fitting c = passed (c .before .head-fits .ensures) (c .if1 .left)
-
-slice-aggregate-are-columns : tie.Need-slice-aggregate-are-columns
-slice-aggregate-are-columns c = search needs
-
-slice-aggregate-are-columns-2 : tie.Need-slice-aggregate-are-columns-2
-slice-aggregate-are-columns-2 c = search needs
-
-slice-aggregate-are-columns-3 : tie.Need-slice-aggregate-are-columns-3
-slice-aggregate-are-columns-3 c = search needs
 
 are-columns-requires : tie.Need-are-columns-requires
 are-columns-requires c κs =
@@ -49,9 +37,6 @@ returns-2 c =
     let fits = c .before .before .before .before .before .before .before .before in
     job-columns _ (fitting fits) (failed (c .before .are-columns .ensures) (c .if2 .taken))
 
-is-sound-option-requires : tie.Need-is-sound-option-requires
-is-sound-option-requires c κs = search needs
-
 returns-3 : tie.Need-returns-3
 returns-3 c =
     let tested = c .before .before in
@@ -62,12 +47,12 @@ pub is-sound-spec : {M : Type 1} → statement M
 is-sound-spec =
     tie.close
     (tie.spec
-    head-fits-requires
+    (λ c κs. search needs)
     returns
-    slice-aggregate-are-columns
-    slice-aggregate-are-columns-2
-    slice-aggregate-are-columns-3
+    (λ c. search needs)
+    (λ c. search needs)
+    (λ c. search needs)
     are-columns-requires
     returns-2
-    is-sound-option-requires
+    (λ c κs. search needs)
     returns-3)

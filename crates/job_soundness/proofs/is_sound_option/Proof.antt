@@ -14,9 +14,6 @@ use Rattle.job_soundness.proofs.is_sound_option.Tie as tie
 dates-long : (c : tie.Start) → length (c .args .option .dates) ≡ mostDates
 dates-long c = search needs
 
-option-fits-requires : tie.Need-option-fits-requires
-option-fits-requires c κs = search needs
-
 returns : tie.Need-returns
 returns c = option-misfits _ (failed (c .before .option-fits .ensures) (c .if1 .taken))
 
@@ -24,14 +21,8 @@ returns c = option-misfits _ (failed (c .before .option-fits .ensures) (c .if1 .
 fitting : (c : tie.Else1) → fits (c .before .before .args .option) ≡ true
 fitting c = passed (c .before .option-fits .ensures) (c .if1 .left)
 
-option-belongs-requires : tie.Need-option-belongs-requires
-option-belongs-requires c κs = search needs
-
 returns-2 : tie.Need-returns-2
 returns-2 c = option-alien _ (fitting (c .before .before)) (failed (c .before .option-belongs .ensures) (c .if2 .taken))
-
-slice-aggregate-is-byte-column : tie.Need-slice-aggregate-is-byte-column
-slice-aggregate-is-byte-column c = search needs
 
 is-byte-column-requires : tie.Need-is-byte-column-requires
 is-byte-column-requires c κs =
@@ -49,10 +40,10 @@ pub is-sound-option-spec : {M : Type 1} → statement M
 is-sound-option-spec =
     tie.close
     (tie.spec
-    option-fits-requires
+    (λ c κs. search needs)
     returns
-    option-belongs-requires
+    (λ c κs. search needs)
     returns-2
-    slice-aggregate-is-byte-column
+    (λ c. search needs)
     is-byte-column-requires
     returns-3)

@@ -12,11 +12,8 @@ returns c = sym (belongs-kind _ _ _ _ _ (c .if1 .taken))
 returns-2 : tie.Need-returns-2
 returns-2 c = sym (belongs-list _ _ _ _ _ (c .before .if1 .left) (c .if2 .taken))
 
-is-absent-requires : tie.Need-is-absent-requires
-is-absent-requires c κs = search needs
-
 returns-3 : tie.Need-returns-3
 returns-3 c = c .is-absent .ensures ∙ sym (belongs-none _ _ _ _ _ (c .before .before .if1 .left) (c .before .if2 .left))
 
 pub option-belongs-spec : {M : Type 1} → statement M
-option-belongs-spec = tie.close (tie.spec returns returns-2 is-absent-requires returns-3)
+option-belongs-spec = tie.close (tie.spec returns returns-2 (λ c κs. search needs) returns-3)

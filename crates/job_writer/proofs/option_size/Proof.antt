@@ -1,23 +1,14 @@
 -- `job_writer::option_size` meets its contract.
 -- Assumes nothing.
 use borrow.Author.Tests.{eq-eqb, ne-eqb}
-use Rattle.writer_laws.specs.Parts.{optionSize}
+use Rattle.writer_laws.specs.inside.Parts.{optionSize}
 use borrow.Author.Needs.{needs}
 use Rattle.job_writer.proofs.option_size.Statement.{statement}
 use Rattle.job_writer.proofs.option_size.Tie as tie
 
-add-result : tie.Need-add-result
-add-result c = search needs
-
 returns : tie.Need-returns
 unfolding optionSize
 returns c = simp (eq-eqb _ 8 (c .if1 .taken))
-
-add-result-2 : tie.Need-add-result-2
-add-result-2 c = search needs
-
-add-result-3 : tie.Need-add-result-3
-add-result-3 c = search needs
 
 returns-2 : tie.Need-returns-2
 unfolding optionSize
@@ -29,4 +20,4 @@ returns-3 c = simp (ne-eqb _ 8 (c .before .if1 .left), ne-eqb _ 10 (c .if2 .left
 
 pub option-size-spec : {M : Type 1} → statement M
 option-size-spec =
-    tie.close (tie.spec add-result returns add-result-2 add-result-3 returns-2 returns-3)
+    tie.close (tie.spec (λ c. search needs) returns (λ c. search needs) (λ c. search needs) returns-2 returns-3)

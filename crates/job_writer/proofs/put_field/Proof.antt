@@ -7,18 +7,6 @@ use borrow.Author.Needs.{needs}
 use Rattle.job_writer.proofs.put_field.Statement.{statement}
 use Rattle.job_writer.proofs.put_field.Tie as tie
 
-put-tag-requires : tie.Need-put-tag-requires
-put-tag-requires c κs = search needs
-
-add-put-number : tie.Need-add-put-number
-add-put-number c = search needs
-
-put-number-requires : tie.Need-put-number-requires
-put-number-requires c κs = search needs
-
-same-length : tie.Need-same-length
-same-length c = search needs
-
 returns : tie.Need-returns
 returns c =
     let c₁ = c .before .before in
@@ -29,4 +17,4 @@ returns c =
 
 pub put-field-spec : {M : Type 1} → statement M
 put-field-spec =
-    tie.close (tie.spec put-tag-requires add-put-number put-number-requires same-length returns)
+    tie.close (tie.spec (λ c κs. search needs) (λ c. search needs) (λ c κs. search needs) (λ c. search needs) returns)

@@ -7,18 +7,6 @@ use borrow.Author.Needs.{needs}
 use Rattle.job_writer.proofs.put_job.Statement.{statement}
 use Rattle.job_writer.proofs.put_job.Tie as tie
 
-quotes-from-requires : tie.Need-quotes-from-requires
-quotes-from-requires c κs = search needs
-
-add-flows-at : tie.Need-add-flows-at
-add-flows-at c = search needs
-
-mul-flows-at : tie.Need-mul-flows-at
-mul-flows-at c = search needs
-
-add-flows-at-2 : tie.Need-add-flows-at-2
-add-flows-at-2 c = search needs
-
 put-head-requires : tie.Need-put-head-requires
 put-head-requires c κs =
     let c₁ = c .before .before .before .before .before .before .before in
@@ -29,21 +17,12 @@ put-version-requires c κs =
     let c₁ = c .before .before .before .before .before .before .before .before .before .before .before in
     omega (arith, encode-size (c₁ .args .job), c₁ .pre .1)
 
-slice-aggregate-put-quotes : tie.Need-slice-aggregate-put-quotes
-slice-aggregate-put-quotes c = search needs
-
-slice-aggregate-put-quotes-2 : tie.Need-slice-aggregate-put-quotes-2
-slice-aggregate-put-quotes-2 c = search needs
-
 put-quotes-requires : tie.Need-put-quotes-requires
 put-quotes-requires c κs =
     let c₀ = c .before .before .before .before .before .before .before .before .before .before .before in
     let c₁ = c₀ .before .before .before .before .before .before in
     let sound = c₁ .pre .0 in
     omega (arith, c₀ .quotes-from .ensures .0, encode-size (c₁ .args .job), c₁ .pre .1, sound .steps, sound .kinds .size, sound .figures .size)
-
-slice-aggregate-put-flows : tie.Need-slice-aggregate-put-flows
-slice-aggregate-put-flows c = search needs
 
 put-flows-requires : tie.Need-put-flows-requires
 put-flows-requires c κs =
@@ -56,24 +35,12 @@ put-flows-requires c κs =
     flows-room (c₅ .args .job) sound _ (c₄ .quotes-from .ensures .0) _ _ (c₅ .pre .1)
     (c₁ .put-quotes .kept .0 ∙ c₂ .put-version .kept .0 ∙ c₃ .put-head .kept .0)
 
-add-put-option : tie.Need-add-put-option
-add-put-option c = search needs
-
-mul-put-option : tie.Need-mul-put-option
-mul-put-option c = search needs
-
-add-put-option-2 : tie.Need-add-put-option-2
-add-put-option-2 c = search needs
-
 put-option-requires : tie.Need-put-option-requires
 put-option-requires c κs =
     let c₀ = c .before .before .before .before .before .before .before .before .before .before in
     let c₁ = c₀ .before .before .before .before .before .before .before .before .before .before in
     let c₂ = c₁ .before .before .before .before .before .before in
     (c₂ .pre .0 .option, omega (arith, c₁ .quotes-from .ensures .0, encode-size (c₂ .args .job), c₂ .pre .1))
-
-same-length : tie.Need-same-length
-same-length c = search needs
 
 returns : tie.Need-returns
 returns c =
@@ -92,20 +59,20 @@ pub put-job-spec : {M : Type 1} → statement M
 put-job-spec =
     tie.close
     (tie.spec
-    quotes-from-requires
-    add-flows-at
-    mul-flows-at
-    add-flows-at-2
+    (λ c κs. search needs)
+    (λ c. search needs)
+    (λ c. search needs)
+    (λ c. search needs)
     put-head-requires
     put-version-requires
-    slice-aggregate-put-quotes
-    slice-aggregate-put-quotes-2
+    (λ c. search needs)
+    (λ c. search needs)
     put-quotes-requires
-    slice-aggregate-put-flows
+    (λ c. search needs)
     put-flows-requires
-    add-put-option
-    mul-put-option
-    add-put-option-2
+    (λ c. search needs)
+    (λ c. search needs)
+    (λ c. search needs)
     put-option-requires
-    same-length
+    (λ c. search needs)
     returns)

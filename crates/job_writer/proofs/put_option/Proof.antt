@@ -12,18 +12,12 @@ use Rattle.job_writer.proofs.put_option.Tie as tie
 put-kind-requires : tie.Need-put-kind-requires
 put-kind-requires c κs = omega (arith, kind-size (c .before .before .before .before .args .option) (c .before .if1 .taken))
 
-same-length : tie.Need-same-length
-same-length c = search needs
-
 returns : tie.Need-returns
 returns c =
     let c₁ = c .before .before in
     let c₂ = c₁ .before .before in
     let c₃ = c₂ .before .before .before in
     rw (field-kind (c₃ .args .option) (c₂ .if1 .taken)) (c₁ .put-kind .ensures)
-
-array-share-prefix-dates : tie.Need-array-share-prefix-dates
-array-share-prefix-dates c = search needs
 
 slice-aggregate-put-list : tie.Need-slice-aggregate-put-list
 slice-aggregate-put-list c = sym (dates-lent _ (c .before .before .before .before .before .before .before .before .pre .0))
@@ -36,9 +30,6 @@ put-list-requires c κs =
     let option = c₃ .args .option in
     let sound = c₃ .pre .0 in
     omega (arith, dates-lent option sound, list-size option sound (c₂ .if1 .left) (c₁ .if2 .taken))
-
-same-length-2 : tie.Need-same-length-2
-same-length-2 c = search needs
 
 returns-2 : tie.Need-returns-2
 returns-2 c =
@@ -56,11 +47,11 @@ put-option-spec =
     tie.close
     (tie.spec
     put-kind-requires
-    same-length
+    (λ c. search needs)
     returns
-    array-share-prefix-dates
+    (λ c. search needs)
     slice-aggregate-put-list
     put-list-requires
-    same-length-2
+    (λ c. search needs)
     returns-2
     returns-3)

@@ -8,12 +8,6 @@ use borrow.Author.Needs.{needs}
 use Rattle.job_writer.proofs.put_tag.Statement.{statement}
 use Rattle.job_writer.proofs.put_tag.Tie as tie
 
-slice-write-out : tie.Need-slice-write-out
-slice-write-out c = search needs
-
-add-put-number : tie.Need-add-put-number
-add-put-number c = search needs
-
 put-number-requires : tie.Need-put-number-requires
 put-number-requires c κs = simp length-set (omega arith)
 
@@ -25,4 +19,4 @@ returns c = tag-placed _ _ _ _ _ (c .before .before .before .before .before .pre
 
 pub put-tag-spec : {M : Type 1} → statement M
 put-tag-spec =
-    tie.close (tie.spec slice-write-out add-put-number put-number-requires same-length returns)
+    tie.close (tie.spec (λ c. search needs) (λ c. search needs) put-number-requires same-length returns)

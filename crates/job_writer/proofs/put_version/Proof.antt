@@ -14,9 +14,6 @@ put-field-requires c κs =
     let c₂ = c₁ .before .before in
     (omega arith, omega (arith, c₂ .pre, quotes-behind (c₂ .args .version) (c₁ .if1 .taken)))
 
-same-length : tie.Need-same-length
-same-length c = search needs
-
 returns : tie.Need-returns
 returns c =
     let c₁ = c .before .before in
@@ -28,4 +25,4 @@ returns-2 : tie.Need-returns-2
 returns-2 c = rw (version-absent (c .before .before .args .version) (c .if1 .left)) (sym (place-none _ _))
 
 pub put-version-spec : {M : Type 1} → statement M
-put-version-spec = tie.close (tie.spec put-field-requires same-length returns returns-2)
+put-version-spec = tie.close (tie.spec put-field-requires (λ c. search needs) returns returns-2)

@@ -2,7 +2,7 @@
 -- Assumes nothing.
 use native.Mathlib.Omega.{arith}
 use borrow.Author.Tests.{eq-eqb, ne-eqb}
-use Rattle.writer_laws.specs.Parts.{quotesFrom}
+use Rattle.writer_laws.specs.inside.Parts.{quotesFrom}
 use Rattle.job_writer.proofs.quotes_from.Statement.{statement}
 use Rattle.job_writer.proofs.quotes_from.Tie as tie
 

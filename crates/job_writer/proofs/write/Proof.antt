@@ -9,12 +9,6 @@ use borrow.Author.Needs.{needs}
 use Rattle.job_writer.proofs.write.Statement.{statement}
 use Rattle.job_writer.proofs.write.Tie as tie
 
-is-sound-requires : tie.Need-is-sound-requires
-is-sound-requires c κs = search needs
-
-refusal-requires : tie.Need-refusal-requires
-refusal-requires c κs = search needs
-
 returns : tie.Need-returns
 returns c =
     let c₁ = c .before .before in
@@ -25,9 +19,6 @@ job-size-requires c κs =
     let sound = sound-job (c .before .before .before .before .args .job) (passed (c .before .before .is-sound .ensures) (c .before .if1 .left)) in
     omega (arith, sound .steps, sound .option .few)
 
-refusal-requires-2 : tie.Need-refusal-requires-2
-refusal-requires-2 c κs = search needs
-
 returns-2 : tie.Need-returns-2
 returns-2 c =
     let c₁ = c .before .before in
@@ -37,9 +28,6 @@ returns-2 c =
     let size = size-is (c₄ .args .job) _ (c₁ .job-size .ensures) (sound-job (c₄ .args .job) (passed (c₃ .is-sound .ensures) (c₂ .if1 .left)) .option) in
     refused-with _ _ _ 1 (λ none. omega arith) (c .refusal2 .ensures)
     (written-long _ _ (passed (c₃ .is-sound .ensures) (c₂ .if1 .left)) (omega (arith, size, c .before .if2 .taken)))
-
-refusal-requires-3 : tie.Need-refusal-requires-3
-refusal-requires-3 c κs = search needs
 
 returns-3 : tie.Need-returns-3
 returns-3 c =
@@ -61,9 +49,6 @@ put-job-requires c κs =
     let size = size-is (c₄ .args .job) _ (c₁ .job-size .ensures) (sound-job (c₄ .args .job) (passed (c₃ .is-sound .ensures) (c₂ .if1 .left)) .option) in
     (sound-job (c₄ .args .job) (passed (c₃ .is-sound .ensures) (c₂ .if1 .left)), omega (arith, size, c .before .if3 .left))
 
-same-length : tie.Need-same-length
-same-length c = search needs
-
 returns-4 : tie.Need-returns-4
 returns-4 c =
     let c₁ = c .before .before in
@@ -81,14 +66,14 @@ pub write-spec : {M : Type 1} → statement M
 write-spec =
     tie.close
     (tie.spec
-    is-sound-requires
-    refusal-requires
+    (λ c κs. search needs)
+    (λ c κs. search needs)
     returns
     job-size-requires
-    refusal-requires-2
+    (λ c κs. search needs)
     returns-2
-    refusal-requires-3
+    (λ c κs. search needs)
     returns-3
     put-job-requires
-    same-length
+    (λ c. search needs)
     returns-4)

@@ -6,9 +6,6 @@ use Rattle.lattice.proofs.EntryLaws.{tree-refused, tree-answered}
 use Rattle.lattice.proofs.about_tree.Statement.{statement}
 use Rattle.lattice.proofs.about_tree.Tie as tie
 
-shape-cause-requires : tie.Need-shape-cause-requires
-shape-cause-requires c κs = search needs
-
 returns : tie.Need-returns
 returns c = sym (tree-refused _ _ _ _ (c .before .shape-cause .ensures) (c .if1 .taken))
 
@@ -16,4 +13,4 @@ returns-2 : tie.Need-returns-2
 returns-2 c = sym (tree-answered _ _ _ (sym (c .before .shape-cause .ensures) ∙ c .if1 .left))
 
 pub about-tree-spec : {M : Type 1} → statement M
-about-tree-spec = tie.close (tie.spec shape-cause-requires returns returns-2)
+about-tree-spec = tie.close (tie.spec (λ c κs. search needs) returns returns-2)

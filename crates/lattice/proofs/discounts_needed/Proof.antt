@@ -8,15 +8,6 @@ use borrow.Author.Needs.{needs}
 use Rattle.lattice.proofs.discounts_needed.Statement.{statement}
 use Rattle.lattice.proofs.discounts_needed.Tie as tie
 
-clipped-requires : tie.Need-clipped-requires
-clipped-requires c κs = search needs
-
-row-start-of-requires : tie.Need-row-start-of-requires
-row-start-of-requires c κs = search needs
-
-about-tree-requires : tie.Need-about-tree-requires
-about-tree-requires c κs = search needs
-
 returns : tie.Need-returns
 unfolding discountsNeeded
 returns c =
@@ -25,4 +16,4 @@ returns c =
 
 pub discounts-needed-spec : {M : Type 1} → statement M
 discounts-needed-spec =
-    tie.close (tie.spec clipped-requires row-start-of-requires about-tree-requires returns)
+    tie.close (tie.spec (λ c κs. search needs) (λ c κs. search needs) (λ c κs. search needs) returns)

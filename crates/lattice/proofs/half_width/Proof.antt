@@ -7,18 +7,9 @@ use borrow.Author.Needs.{needs}
 use Rattle.lattice.proofs.half_width.Statement.{statement}
 use Rattle.lattice.proofs.half_width.Tie as tie
 
-clipped-requires : tie.Need-clipped-requires
-clipped-requires c κs = search needs
-
-half-width-of-requires : tie.Need-half-width-of-requires
-half-width-of-requires c κs = search needs
-
-about-row-requires : tie.Need-about-row-requires
-about-row-requires c κs = search needs
-
 returns : tie.Need-returns
 returns c = c .about-row .ensures ∙ entry.row-answer _ _ (halfWidth _) _ _ (c .before .before .clipped .ensures) (c .before .half-width-of .ensures)
 
 pub half-width-spec : {M : Type 1} → statement M
 half-width-spec =
-    tie.close (tie.spec clipped-requires half-width-of-requires about-row-requires returns)
+    tie.close (tie.spec (λ c κs. search needs) (λ c κs. search needs) (λ c κs. search needs) returns)

@@ -11,9 +11,6 @@ use Rattle.lattice.proofs.half_width_of.Tie as tie
 returns : tie.Need-returns
 returns c = sym (half-flat _ _ (c .if1 .taken))
 
-div-highest : tie.Need-div-highest
-div-highest c = search needs
-
 add-highest : tie.Need-add-highest
 add-highest c = record { fits = entry.highest-fits _ _ (omega arith) }
 
@@ -24,4 +21,4 @@ returns-3 : tie.Need-returns-3
 returns-3 c = entry.half-from _ _ (c .before .if1 .left) (c .if2 .left)
 
 pub half-width-of-spec : {M : Type 1} → statement M
-half-width-of-spec = tie.close (tie.spec returns div-highest add-highest returns-2 returns-3)
+half-width-of-spec = tie.close (tie.spec returns (λ c. search needs) add-highest returns-2 returns-3)

@@ -5,12 +5,6 @@ use borrow.Author.Needs.{needs}
 use Rattle.lattice.proofs.memory_cause.Statement.{statement}
 use Rattle.lattice.proofs.memory_cause.Tie as tie
 
-discounts-needed-requires : tie.Need-discounts-needed-requires
-discounts-needed-requires c κs = search needs
-
-state-prices-needed-requires : tie.Need-state-prices-needed-requires
-state-prices-needed-requires c κs = search needs
-
 returns : tie.Need-returns
 returns c =
     let found = c .before .before in
@@ -31,4 +25,4 @@ returns-3 c =
 pub memory-cause-spec : {M : Type 1} → statement M
 memory-cause-spec =
     tie.close
-    (tie.spec discounts-needed-requires state-prices-needed-requires returns returns-2 returns-3)
+    (tie.spec (λ c κs. search needs) (λ c κs. search needs) returns returns-2 returns-3)

@@ -13,20 +13,11 @@ use Rattle.lattice.proofs.node_count.Tie as tie
 small : (c : tie.After-half-width-of) → c .half-width-of .result ≤ 60
 small c = omega (arith, half-within (c .before .before .args .reversion) (c .before .clipped .result))
 
-clipped-requires : tie.Need-clipped-requires
-clipped-requires c κs = search needs
-
-half-width-of-requires : tie.Need-half-width-of-requires
-half-width-of-requires c κs = search needs
-
 mul-about-row : tie.Need-mul-about-row
 mul-about-row c = omega (arith, small c)
 
 add-about-row : tie.Need-add-about-row
 add-about-row c = omega (arith, small c)
-
-about-row-requires : tie.Need-about-row-requires
-about-row-requires c κs = search needs
 
 returns : tie.Need-returns
 unfolding nodeCount
@@ -38,9 +29,9 @@ pub node-count-spec : {M : Type 1} → statement M
 node-count-spec =
     tie.close
     (tie.spec
-    clipped-requires
-    half-width-of-requires
+    (λ c κs. search needs)
+    (λ c κs. search needs)
     mul-about-row
     add-about-row
-    about-row-requires
+    (λ c κs. search needs)
     returns)

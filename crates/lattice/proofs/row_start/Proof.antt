@@ -7,18 +7,9 @@ use borrow.Author.Needs.{needs}
 use Rattle.lattice.proofs.row_start.Statement.{statement}
 use Rattle.lattice.proofs.row_start.Tie as tie
 
-clipped-requires : tie.Need-clipped-requires
-clipped-requires c κs = search needs
-
-row-start-of-requires : tie.Need-row-start-of-requires
-row-start-of-requires c κs = search needs
-
-about-row-requires : tie.Need-about-row-requires
-about-row-requires c κs = search needs
-
 returns : tie.Need-returns
 returns c = c .about-row .ensures ∙ entry.row-answer _ _ (rowStart _) _ _ (c .before .before .clipped .ensures) (c .before .row-start-of .ensures)
 
 pub row-start-spec : {M : Type 1} → statement M
 row-start-spec =
-    tie.close (tie.spec clipped-requires row-start-of-requires about-row-requires returns)
+    tie.close (tie.spec (λ c κs. search needs) (λ c κs. search needs) (λ c κs. search needs) returns)

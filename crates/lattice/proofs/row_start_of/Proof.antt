@@ -6,9 +6,6 @@ use borrow.Author.Needs.{needs}
 use Rattle.lattice.proofs.row_start_of.Statement.{statement}
 use Rattle.lattice.proofs.row_start_of.Tie as tie
 
-half-width-of-requires : tie.Need-half-width-of-requires
-half-width-of-requires c κs = search needs
-
 mul-result : tie.Need-mul-result
 mul-result c = omega (arith, entry.start-fits _ _ _ (c .half-width-of .ensures) (c .before .pre))
 
@@ -34,7 +31,7 @@ pub row-start-of-spec : {M : Type 1} → statement M
 row-start-of-spec =
     tie.close
     (tie.spec
-    half-width-of-requires
+    (λ c κs. search needs)
     mul-result
     sub-result
     mul-result-2

@@ -14,18 +14,6 @@ narrow c =
     let s = c .before .before .before in
     (omega (arith, half-within (s .args .reversion) (s .args .row)), omega (arith, half-within (s .args .reversion) (s .args .row + 1)))
 
-half-width-of-requires : tie.Need-half-width-of-requires
-half-width-of-requires c κs = search needs
-
-add-half-width-of : tie.Need-add-half-width-of
-add-half-width-of c = search needs
-
-half-width-of-requires-2 : tie.Need-half-width-of-requires-2
-half-width-of-requires-2 c κs = search needs
-
-row-start-of-requires : tie.Need-row-start-of-requires
-row-start-of-requires c κs = search needs
-
 mul-t7 : tie.Need-mul-t7
 mul-t7 c = omega (arith, narrow c)
 
@@ -37,9 +25,6 @@ mul-t9 c = omega (arith, narrow c)
 
 add-t10 : tie.Need-add-t10
 add-t10 c = omega (arith, narrow c)
-
-half-width-of-requires-3 : tie.Need-half-width-of-requires-3
-half-width-of-requires-3 c κs = search needs
 
 sub-t12 : tie.Need-sub-t12
 sub-t12 c =
@@ -55,14 +40,14 @@ pub shape-of-spec : {M : Type 1} → statement M
 shape-of-spec =
     tie.close
     (tie.spec
-    half-width-of-requires
-    add-half-width-of
-    half-width-of-requires-2
-    row-start-of-requires
+    (λ c κs. search needs)
+    (λ c. search needs)
+    (λ c κs. search needs)
+    (λ c κs. search needs)
     mul-t7
     add-t8
     mul-t9
     add-t10
-    half-width-of-requires-3
+    (λ c κs. search needs)
     sub-t12
     returns)

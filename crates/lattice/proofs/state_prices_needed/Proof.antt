@@ -9,18 +9,6 @@ use borrow.Author.Needs.{needs}
 use Rattle.lattice.proofs.state_prices_needed.Statement.{statement}
 use Rattle.lattice.proofs.state_prices_needed.Tie as tie
 
-clipped-requires : tie.Need-clipped-requires
-clipped-requires c κs = search needs
-
-add-row-start-of : tie.Need-add-row-start-of
-add-row-start-of c = search needs
-
-row-start-of-requires : tie.Need-row-start-of-requires
-row-start-of-requires c κs = search needs
-
-about-tree-requires : tie.Need-about-tree-requires
-about-tree-requires c κs = search needs
-
 returns : tie.Need-returns
 unfolding statePricesNeeded
 returns c =
@@ -31,4 +19,4 @@ returns c =
 pub state-prices-needed-spec : {M : Type 1} → statement M
 state-prices-needed-spec =
     tie.close
-    (tie.spec clipped-requires add-row-start-of row-start-of-requires about-tree-requires returns)
+    (tie.spec (λ c κs. search needs) (λ c. search needs) (λ c κs. search needs) (λ c κs. search needs) returns)

@@ -20,44 +20,11 @@ abbrev μ-loop : tie.MeasureT-loop
 loop-holds : tie.Need-loop-holds Inv-loop μ-loop
 loop-holds c = searched-start _ _ _ (omega arith)
 
-mul-is-within : tie.Need-mul-is-within Inv-loop μ-loop
-mul-is-within c = search needs
-
-shared-slice-read-is-within : tie.Need-shared-slice-read-is-within Inv-loop μ-loop
-shared-slice-read-is-within c = search needs
-
-mul-is-within-2 : tie.Need-mul-is-within-2 Inv-loop μ-loop
-mul-is-within-2 c = search needs
-
-shared-slice-read-is-within-2 : tie.Need-shared-slice-read-is-within-2 Inv-loop μ-loop
-shared-slice-read-is-within-2 c = search needs
-
-mul-is-within-3 : tie.Need-mul-is-within-3 Inv-loop μ-loop
-mul-is-within-3 c = search needs
-
-shared-slice-read-is-within-3 : tie.Need-shared-slice-read-is-within-3 Inv-loop μ-loop
-shared-slice-read-is-within-3 c = search needs
-
-mul-is-within-4 : tie.Need-mul-is-within-4 Inv-loop μ-loop
-mul-is-within-4 c = search needs
-
-shared-slice-read-is-within-4 : tie.Need-shared-slice-read-is-within-4 Inv-loop μ-loop
-shared-slice-read-is-within-4 c = search needs
-
-is-within-requires : tie.Need-is-within-requires Inv-loop μ-loop
-is-within-requires c κs = search needs
-
 returns : tie.Need-returns Inv-loop μ-loop
 unfolding bandIndex
 returns c =
     let loop = c .before .before .before .before .before .before .before .loop in
     searched-found _ _ _ (loop .k) (loop .inv) (omega arith) (sym (c .before .is-within .ensures) ∙ c .if1 .taken)
-
-add-k : tie.Need-add-k Inv-loop μ-loop
-add-k c = search needs
-
-loop-less : tie.Need-loop-less Inv-loop μ-loop
-loop-less c = search needs
 
 loop-again : tie.Need-loop-again Inv-loop μ-loop
 loop-again c =
@@ -78,17 +45,17 @@ find-band-spec =
     Inv-loop
     μ-loop
     loop-holds
-    mul-is-within
-    shared-slice-read-is-within
-    mul-is-within-2
-    shared-slice-read-is-within-2
-    mul-is-within-3
-    shared-slice-read-is-within-3
-    mul-is-within-4
-    shared-slice-read-is-within-4
-    is-within-requires
+    (λ c. search needs)
+    (λ c. search needs)
+    (λ c. search needs)
+    (λ c. search needs)
+    (λ c. search needs)
+    (λ c. search needs)
+    (λ c. search needs)
+    (λ c. search needs)
+    (λ c κs. search needs)
     returns
-    add-k
-    loop-less
+    (λ c. search needs)
+    (λ c. search needs)
     loop-again
     returns-2)

@@ -14,23 +14,11 @@ use borrow.Author.Needs.{needs}
 use Rattle.lending.proofs.lending_worth.Statement.{statement}
 use Rattle.lending.proofs.lending_worth.Tie as tie
 
-refused-requires : tie.Need-refused-requires
-refused-requires c κs = search needs
-
 returns : tie.Need-returns
 returns c = c .refused .ensures ∙ lending-row-low _ _ _ _ _ _ _ (c .before .if1 .taken)
 
-refused-requires-2 : tie.Need-refused-requires-2
-refused-requires-2 c κs = search needs
-
 returns-2 : tie.Need-returns-2
 returns-2 c = c .refused2 .ensures ∙ lending-row-high _ _ _ _ _ _ _ (c .before .if2 .taken)
-
-have-one-length-requires : tie.Need-have-one-length-requires
-have-one-length-requires c κs = search needs
-
-refused-requires-3 : tie.Need-refused-requires-3
-refused-requires-3 c κs = search needs
 
 returns-3 : tie.Need-returns-3
 returns-3 c =
@@ -48,17 +36,11 @@ agree :
     (c .before .before .before .before .before .before .before .before .before .args .haircuts .now) ≡ true
 agree c = sym (c .before .have-one-length .ensures) ∙ not-false (c .before .have-one-length .result) (c .if3 .left)
 
-refused-requires-4 : tie.Need-refused-requires-4
-refused-requires-4 c κs = search needs
-
 returns-4 : tie.Need-returns-4
 returns-4 c =
     let if2 = c .before .before .before .before .if2 in
     let if1 = c .before .before .before .before .before .if1 in
     c .refused4 .ensures ∙ lending-price _ _ _ _ _ _ _ (if1 .left) (if2 .left) (agree (c .before .before)) (c .before .if4 .taken)
-
-check-bands-requires : tie.Need-check-bands-requires
-check-bands-requires c κs = search needs
 
 returns-5 : tie.Need-returns-5
 returns-5 c =
@@ -123,16 +105,16 @@ pub lending-worth-spec : {M : Type 1} → statement M
 lending-worth-spec =
     tie.close
     (tie.spec
-    refused-requires
+    (λ c κs. search needs)
     returns
-    refused-requires-2
+    (λ c κs. search needs)
     returns-2
-    have-one-length-requires
-    refused-requires-3
+    (λ c κs. search needs)
+    (λ c κs. search needs)
     returns-3
-    refused-requires-4
+    (λ c κs. search needs)
     returns-4
-    check-bands-requires
+    (λ c κs. search needs)
     returns-5
     find-band-requires
     mul-haircut

@@ -7,14 +7,8 @@ use Rattle.limits.proofs.LimitLaws.{shape-steps, shape-reversion, shape
 use Rattle.limits.proofs.shape_cause.Statement.{statement}
 use Rattle.limits.proofs.shape_cause.Tie as tie
 
-is-steps-requires : tie.Need-is-steps-requires
-is-steps-requires c κs = search needs
-
 returns : tie.Need-returns
 returns c = shape-steps _ _ (sym (c .before .is-steps .ensures) ∙ not-true _ (c .if1 .taken))
-
-is-reversion-requires : tie.Need-is-reversion-requires
-is-reversion-requires c κs = search needs
 
 returns-2 : tie.Need-returns-2
 returns-2 c =
@@ -28,4 +22,4 @@ returns-3 c =
 
 pub shape-cause-spec : {M : Type 1} → statement M
 shape-cause-spec =
-    tie.close (tie.spec is-steps-requires returns is-reversion-requires returns-2 returns-3)
+    tie.close (tie.spec (λ c κs. search needs) returns (λ c κs. search needs) returns-2 returns-3)

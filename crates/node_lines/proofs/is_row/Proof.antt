@@ -18,12 +18,6 @@ returns-2 c =
     let if2 = c .if2 in
     sym (row-even (s .args .row) (s .args .count) (omega arith) (if2 .taken))
 
-mul-result : tie.Need-mul-result
-mul-result c = search needs
-
-add-result : tie.Need-add-result
-add-result c = search needs
-
 returns-3 : tie.Need-returns-3
 returns-3 c =
     let s = c .before .before in
@@ -31,4 +25,4 @@ returns-3 c =
     sym (row-test (s .args .row) (s .args .count) (omega arith) (if2 .left))
 
 pub is-row-spec : {M : Type 1} → statement M
-is-row-spec = tie.close (tie.spec returns returns-2 mul-result add-result returns-3)
+is-row-spec = tie.close (tie.spec returns returns-2 (λ c. search needs) (λ c. search needs) returns-3)

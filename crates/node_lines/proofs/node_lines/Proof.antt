@@ -9,9 +9,6 @@ use Rattle.node_lines.proofs.ReadingLaws.{read-known, drawn-refused, dr
 use Rattle.node_lines.proofs.node_lines.Statement.{statement}
 use Rattle.node_lines.proofs.node_lines.Tie as tie
 
-row-number-requires : tie.Need-row-number-requires
-row-number-requires c κs = search needs
-
 returns : tie.Need-returns
 returns c =
     let a = c .before .before .before .before .args in
@@ -29,9 +26,6 @@ put-nodes-requires c κs =
     let a = e .before .before .before .before .args in
     read-known (length (a .out .now)) (a .end) (a .row) (a .discounts .now) (a .next) (a .count) (accepted e)
 
-same-length : tie.Need-same-length
-same-length c = search needs
-
 returns-2 : tie.Need-returns-2
 returns-2 c =
     let e = c .before .before .before .before in
@@ -40,4 +34,4 @@ returns-2 c =
     drawn-answered _ (a .out .now) (a .end) _ (a .next - a .count) (accepted e) (drawn .0) (drawn .1)
 
 pub node-lines-spec : {M : Type 1} → statement M
-node-lines-spec = tie.close (tie.spec row-number-requires returns put-nodes-requires same-length returns-2)
+node-lines-spec = tie.close (tie.spec (λ c κs. search needs) returns put-nodes-requires (λ c. search needs) returns-2)

@@ -8,20 +8,8 @@ use Rattle.node_lines.proofs.RowLaws.{node-fits, node-is, line-room, li
 use Rattle.node_lines.proofs.put_node.Statement.{statement}
 use Rattle.node_lines.proofs.put_node.Tie as tie
 
-cast-node : tie.Need-cast-node
-cast-node c = search needs
-
-cast-node-2 : tie.Need-cast-node-2
-cast-node-2 c = search needs
-
 sub-node : tie.Need-sub-node
 sub-node c = let a = c .before .args in node-fits (a .index) (a .half-width) (omega arith) (omega arith)
-
-node-line-requires : tie.Need-node-line-requires
-node-line-requires c κs = search needs
-
-same-length : tie.Need-same-length
-same-length c = search needs
 
 returns : tie.Need-returns
 returns c =
@@ -34,4 +22,4 @@ returns c =
     (c .before .before .node-line .ensures)
 
 pub put-node-spec : {M : Type 1} → statement M
-put-node-spec = tie.close (tie.spec cast-node cast-node-2 sub-node node-line-requires same-length returns)
+put-node-spec = tie.close (tie.spec (λ c. search needs) (λ c. search needs) sub-node (λ c κs. search needs) (λ c. search needs) returns)

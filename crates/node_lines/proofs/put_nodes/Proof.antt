@@ -9,7 +9,7 @@ use lib.ListN.{length, getD}
 use borrow.Author.Needs.{needs}
 use Rattle.lattice.specs.RateTree.{nodeOfIndex}
 use Rattle.text_laws.specs.Lines.{lineOfNode}
-use Rattle.text_laws.specs.Put.{Put}
+use Rattle.text_laws.specs.inside.Put.{Put}
 use Rattle.node_lines.specs.Rows.{nodeText, lines}
 use Rattle.node_lines.specs.Reading.{nodesBefore}
 use Rattle.node_lines.proofs.RowLaws.{discount-read, line-room}
@@ -43,14 +43,8 @@ loop-holds c =
     let a = s .args in
     (begun _ (λ (i : ℕ). 128 * i) (a .count) (fits c) (a .out .now) (a .end) (s .pre .room), omega (arith, s .pre .standing))
 
-sub-left : tie.Need-sub-left Inv-loop μ-loop
-sub-left c = search needs
-
 sub-place : tie.Need-sub-place Inv-loop μ-loop
 sub-place c = let l = c .before .loop in omega (arith, l .inv .1)
-
-node-at-requires : tie.Need-node-at-requires Inv-loop μ-loop
-node-at-requires c κs = search needs
 
 -- the place of the node that is drawn next
 place-is : (c : tie.In-loop Inv-loop μ-loop) → let a = c .before .before .before .before .args in
@@ -83,9 +77,6 @@ put-node-requires c κs =
       omega (arith, p .enough),
       omega (arith, p .below, p .same, s .pre .inside),
     )
-
-loop-less : tie.Need-loop-less Inv-loop μ-loop
-loop-less c = search needs
 
 loop-again : tie.Need-loop-again Inv-loop μ-loop
 loop-again c =
@@ -124,11 +115,11 @@ put-nodes-spec =
     Inv-loop
     μ-loop
     loop-holds
-    sub-left
+    (λ c. search needs)
     sub-place
-    node-at-requires
+    (λ c κs. search needs)
     put-node-requires
-    loop-less
+    (λ c. search needs)
     loop-again
     same-length
     returns)

@@ -13,9 +13,6 @@ use Rattle.node_lines.proofs.ReadingLaws.{stand-known, before-lent, rea
 use Rattle.node_lines.proofs.row_number.Statement.{statement}
 use Rattle.node_lines.proofs.row_number.Tie as tie
 
-stand-before-requires : tie.Need-stand-before-requires
-stand-before-requires c κs = search needs
-
 returns : tie.Need-returns
 returns c =
     let a = c .before .before .before .args in
@@ -29,9 +26,6 @@ stands c = sym (c .before .stand-before .ensures) ∙ not-false _ (c .if1 .left)
 standing : (c : tie.Else1) → let a = c .before .before .before .args in (a .count ≤ a .next) × (a .next ≤ length (a .discounts .now))
 standing c = let a = c .before .before .before .args in stand-known (a .count) (a .next) (length (a .discounts .now)) (stands c)
 
-is-row-requires : tie.Need-is-row-requires
-is-row-requires c κs = search needs
-
 returns-2 : tie.Need-returns-2
 returns-2 c =
     let e = c .before .before in
@@ -42,9 +36,6 @@ returns-2 c =
 -- where the row is one
 shaped : (c : tie.Else2) → let a = c .before .before .before .before .before .args in isRow (a .row) (a .count) ≡ true
 shaped c = sym (c .before .is-row .ensures) ∙ not-false _ (c .if2 .left)
-
-has-room-requires : tie.Need-has-room-requires
-has-room-requires c κs = search needs
 
 returns-3 : tie.Need-returns-3
 returns-3 c =
@@ -64,12 +55,6 @@ sub-all-between c = standing (c .before .before .before .before) .0
 mul-all-between : tie.Need-mul-all-between
 mul-all-between c = let ends = standing (c .before .before .before .before) .1 in search needs
 
-sub-all-between-2 : tie.Need-sub-all-between-2
-sub-all-between-2 c = search needs
-
-part-all-between-start : tie.Need-part-all-between-start
-part-all-between-start c = search needs
-
 part-all-between-end : tie.Need-part-all-between-end
 part-all-between-end c = standing (c .before .before .before .before) .1
 
@@ -82,9 +67,6 @@ tested c =
     let a = e .before .before .before .args in
     let lent = before-lent (a .discounts .now) (a .next) (a .count) (standing e .0) (standing e .1) in
     ap acceptedNodes (sym lent) ∙ accepted-found _ (c .all-between .result) (c .all-between .ensures)
-
-all-between-requires : tie.Need-all-between-requires
-all-between-requires c κs = search needs
 
 returns-4 : tie.Need-returns-4
 returns-4 c =
@@ -108,17 +90,17 @@ pub row-number-spec : {M : Type 1} → statement M
 row-number-spec =
     tie.close
     (tie.spec
-    stand-before-requires
+    (λ c κs. search needs)
     returns
-    is-row-requires
+    (λ c κs. search needs)
     returns-2
-    has-room-requires
+    (λ c κs. search needs)
     returns-3
     sub-all-between
     mul-all-between
-    sub-all-between-2
-    part-all-between-start
+    (λ c. search needs)
+    (λ c. search needs)
     part-all-between-end
-    all-between-requires
+    (λ c κs. search needs)
     returns-4
     returns-5)

@@ -5,7 +5,7 @@ use denote.Ref.{now}
 use borrow.Author.Needs.{needs}
 use Rattle.pricing.proofs.EntryLaws.{prefix-room, prefix-is, prefix-length}
 use Rattle.exercise.specs.Terms.{side}
-use Rattle.pricing_laws.specs.Schedule.{marked}
+use Rattle.pricing_laws.specs.inside.Marks.{marked}
 use Rattle.pair_laws.proofs.EntryLaws.{option-above, option-given}
 use Rattle.pair_pricing.proofs.accepted_option.Statement.{statement}
 use Rattle.pair_pricing.proofs.accepted_option.Tie as tie

@@ -11,7 +11,7 @@ use Rattle.limits.specs.Limits.{mostSteps}
 use Rattle.lattice.specs.RateTree.{rateTree}
 use Rattle.lent_tree.specs.LentTree.{stored}
 use Rattle.pricing_laws.specs.TreePricer.{greatestDiscount}
-use Rattle.price_bound.specs.Rows.{rowAccepted}
+use Rattle.price_bound.specs.inside.Rows.{rowAccepted}
 use Rattle.price_bound.proofs.BoundLaws.{rows-filled, rows-refused, rows-accepted}
 use borrow.Author.Needs.{needs}
 use borrow.Author.Tests.{not-true, not-false}

@@ -9,9 +9,6 @@ use Rattle.price_causes.proofs.flows_cause.Tie as tie
 returns : tie.Need-returns
 returns c = flows-miscounted _ _ (c .if1 .taken)
 
-all-between-requires : tie.Need-all-between-requires
-all-between-requires c κs = search needs
-
 returns-2 : tie.Need-returns-2
 returns-2 c = flow-refused _ _ (c .before .before .if1 .left) _ (c .before .all-between .ensures) (not-true _ (c .if2 .taken))
 
@@ -19,4 +16,4 @@ returns-3 : tie.Need-returns-3
 returns-3 c = flows-passed _ _ (c .before .before .if1 .left) _ (c .before .all-between .ensures) (not-false _ (c .if2 .left))
 
 pub flows-cause-spec : {M : Type 1} → statement M
-flows-cause-spec = tie.close (tie.spec returns all-between-requires returns-2 returns-3)
+flows-cause-spec = tie.close (tie.spec returns (λ c κs. search needs) returns-2 returns-3)

@@ -6,7 +6,7 @@ use lib.ListN.{length, take}
 use denote.Ref.{now}
 use Rattle.lent_tree.specs.LentTree.{Accepted}
 use Rattle.price_laws.proofs.Accuracy.{tree-lent, tree-paid}
-use Rattle.pricing.specs.Trees.{Ready}
+use Rattle.pricing.specs.inside.Trees.{Ready}
 use Rattle.pricing.proofs.EntryLaws.{prefix-room, prefix-is, prefix-length}
 use borrow.Author.Needs.{needs}
 use Rattle.pricing.proofs.accepted_strip.Statement.{statement}

@@ -8,7 +8,7 @@ use Rattle.price_laws.specs.Prices.{treeCause}
 use Rattle.price_laws.proofs.Accuracy.{tree-lent, tree-paid}
 use Rattle.price_laws.proofs.AnswerLaws.{marked-price}
 use Rattle.price_laws.proofs.ValueLaws as answers
-use Rattle.pricing.specs.Trees.{ExercisedOn}
+use Rattle.pricing.specs.inside.Trees.{ExercisedOn}
 use Rattle.pricing.proofs.EntryLaws.{marks-exercisable}
 use borrow.Author.Needs.{needs}
 use Rattle.pricing.proofs.judged_both.Statement.{statement}

@@ -3,7 +3,8 @@
 use mathlib.Core.Path.{_≡_, sym, ap, _∙_}
 use Prim.Native.Nat.{ℕ}
 use borrow.Author.Tests.{eq-eqb, ne-eqb}
-use Rattle.price_laws.specs.Prices.{firstCause, refusedPrice}
+use Rattle.arithmetic.specs.Answers.{firstCause}
+use Rattle.price_laws.specs.Prices.{refusedPrice}
 use Rattle.price_laws.specs.Strips.{stripOf}
 use Rattle.price_laws.proofs.StripLaws.{strip-few, strip-refused, strip-given}
 use borrow.Author.Needs.{needs}

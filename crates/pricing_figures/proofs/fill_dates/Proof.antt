@@ -15,12 +15,6 @@ Inv-loop dates₀ base step place₀ dates place = (place ≤ length dates₀) �
 abbrev μ-loop : tie.MeasureT-loop
 μ-loop dates₀ base step place₀ dates place = length dates₀ - place
 
-loop-holds : tie.Need-loop-holds Inv-loop μ-loop
-loop-holds c = omega arith
-
-cast-k : tie.Need-cast-k Inv-loop μ-loop
-cast-k c = omega arith
-
 mul-dates : tie.Need-mul-dates Inv-loop μ-loop
 mul-dates c =
     let l = c .before .loop in
@@ -33,23 +27,8 @@ add-dates c =
     let s = c .before .before in
     omega (arith, mul-le-mul {n₁ = l .place % 60} {m₁ = s .args .step} {n₂ = 59} {m₂ = 3} (omega arith) (s .pre .1))
 
-slice-write-dates : tie.Need-slice-write-dates Inv-loop μ-loop
-slice-write-dates c = omega arith
-
-add-place : tie.Need-add-place Inv-loop μ-loop
-add-place c = omega arith
-
-loop-less : tie.Need-loop-less Inv-loop μ-loop
-loop-less c = omega arith
-
 loop-again : tie.Need-loop-again Inv-loop μ-loop
 loop-again c = (omega arith, simp length-set (c .before .loop .inv .1))
-
-same-length : tie.Need-same-length Inv-loop μ-loop
-same-length c = search needs
-
-returns : tie.Need-returns Inv-loop μ-loop
-returns c = search needs
 
 pub fill-dates-spec : {M : Type 1} → statement M
 fill-dates-spec =
@@ -57,13 +36,13 @@ fill-dates-spec =
     (tie.spec
     Inv-loop
     μ-loop
-    loop-holds
-    cast-k
+    (λ c. omega arith)
+    (λ c. omega arith)
     mul-dates
     add-dates
-    slice-write-dates
-    add-place
-    loop-less
+    (λ c. omega arith)
+    (λ c. omega arith)
+    (λ c. omega arith)
     loop-again
-    same-length
-    returns)
+    (λ c. search needs)
+    (λ c. search needs))

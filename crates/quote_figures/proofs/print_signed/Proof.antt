@@ -11,18 +11,6 @@ use Rattle.quote_figures.proofs.print_signed.Tie as tie
 small : (s : tie.Start) → natAbs (s .args .value) < 2 ^ 63
 small s = omega (arith, s .pre)
 
-print-refusal-requires : tie.Need-print-refusal-requires
-print-refusal-requires c κs = search needs
-
-returns : tie.Need-returns
-returns c = search needs
-
-slice-aggregate-write-all : tie.Need-slice-aggregate-write-all
-slice-aggregate-write-all c = search needs
-
-write-all-requires : tie.Need-write-all-requires
-write-all-requires c κs = search needs
-
 sub-print-decimal : tie.Need-sub-print-decimal
 sub-print-decimal c =
     let s = c .before .before .before .before in
@@ -34,36 +22,24 @@ cast-print-decimal c =
     rw (negated-back (s .args .value) (small s) (s .fits .value) (c .before .before .if2 .taken))
     (tt, record { fits = omega (arith, small s) })
 
-print-decimal-requires : tie.Need-print-decimal-requires
-print-decimal-requires c κs = search needs
-
-returns-2 : tie.Need-returns-2
-returns-2 c = search needs
-
 cast-print-decimal-2 : tie.Need-cast-print-decimal-2
 cast-print-decimal-2 c =
     let s = c .before .before in
     let same = back (s .args .value) (small s) (s .fits .value) in
     rw same (is-whole (s .args .value) (rw same at (c .if2 .left)), record { fits = omega (arith, small s) })
 
-print-decimal-requires-2 : tie.Need-print-decimal-requires-2
-print-decimal-requires-2 c κs = search needs
-
-returns-3 : tie.Need-returns-3
-returns-3 c = search needs
-
 pub print-signed-spec : {M : Type 1} → statement M
 print-signed-spec =
     tie.close
     (tie.spec
-    print-refusal-requires
-    returns
-    slice-aggregate-write-all
-    write-all-requires
+    (λ c κs. search needs)
+    (λ c. search needs)
+    (λ c. search needs)
+    (λ c κs. search needs)
     sub-print-decimal
     cast-print-decimal
-    print-decimal-requires
-    returns-2
+    (λ c κs. search needs)
+    (λ c. search needs)
     cast-print-decimal-2
-    print-decimal-requires-2
-    returns-3)
+    (λ c κs. search needs)
+    (λ c. search needs))

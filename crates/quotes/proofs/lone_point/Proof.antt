@@ -10,21 +10,12 @@ use borrow.Author.Needs.{needs}
 use Rattle.quotes.proofs.lone_point.Statement.{statement}
 use Rattle.quotes.proofs.lone_point.Tie as tie
 
-is-listed-requires : tie.Need-is-listed-requires
-is-listed-requires c κs = search needs
-
-refusal-requires : tie.Need-refusal-requires
-refusal-requires c κs = search needs
-
 returns : tie.Need-returns
 returns c =
     let l = c .before .before in
     let a = l .before .args in
     c .refusal .ensures
     ∙ sym (lone-frequency (a .frequency) (a .kind) (a .point) (sym (l .is-listed .ensures) ∙ not-true (l .is-listed .result) (c .before .if1 .taken)))
-
-refusal-requires-2 : tie.Need-refusal-requires-2
-refusal-requires-2 c κs = search needs
 
 known : (c : tie.Else1) → listed (c .before .before .args .frequency) ≡ true
 known c = sym (c .before .is-listed .ensures) ∙ not-false (c .before .is-listed .result) (c .if1 .left)
@@ -34,9 +25,6 @@ returns-2 c =
     let l = c .before .before in
     let a = l .before .before .args in
     c .refusal2 .ensures ∙ sym (lone-row (a .frequency) (a .kind) (a .point) (known l) (row-low (a .point .row) (c .before .if2 .taken)))
-
-refusal-requires-3 : tie.Need-refusal-requires-3
-refusal-requires-3 c κs = search needs
 
 returns-3 : tie.Need-returns-3
 returns-3 c =
@@ -62,12 +50,12 @@ pub lone-point-spec : {M : Type 1} → statement M
 lone-point-spec =
     tie.close
     (tie.spec
-    is-listed-requires
-    refusal-requires
+    (λ c κs. search needs)
+    (λ c κs. search needs)
     returns
-    refusal-requires-2
+    (λ c κs. search needs)
     returns-2
-    refusal-requires-3
+    (λ c κs. search needs)
     returns-3
     of-point-requires
     returns-4)

@@ -10,12 +10,6 @@ use Rattle.quotes.specs.Quotes.{rangedAnswer}
 use Rattle.quotes.proofs.of_amount.Statement.{statement}
 use Rattle.quotes.proofs.of_amount.Tie as tie
 
-discount-requires : tie.Need-discount-requires
-discount-requires c κs = search needs
-
-ranged-requires : tie.Need-ranged-requires
-ranged-requires c κs = search needs
-
 returns : tie.Need-returns
 returns c =
     c .ranged .ensures
@@ -23,4 +17,4 @@ returns c =
     ∙ ap (λ (z : ℤ). rangedAnswer (continuousAnswer z .value)) (toZ-ofZ (c .before .before .fits .amount))
 
 pub of-amount-spec : {M : Type 1} → statement M
-of-amount-spec = tie.close (tie.spec discount-requires ranged-requires returns)
+of-amount-spec = tie.close (tie.spec (λ c κs. search needs) (λ c κs. search needs) returns)

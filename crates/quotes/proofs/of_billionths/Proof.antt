@@ -16,15 +16,6 @@ use borrow.Author.Needs.{needs}
 use Rattle.quotes.proofs.of_billionths.Statement.{statement}
 use Rattle.quotes.proofs.of_billionths.Tie as tie
 
-mul-divisor : tie.Need-mul-divisor
-mul-divisor c = search needs
-
-cast-divisor : tie.Need-cast-divisor
-cast-divisor c = search needs
-
-cast-divisor-2 : tie.Need-cast-divisor-2
-cast-divisor-2 c = search needs
-
 mul-divisor-2 : tie.Need-mul-divisor-2
 mul-divisor-2 c = product-fits (c .args .frequency) (c .args .row) (c .args .rate) (c .pre .0) (c .pre .1) (c .pre .2) (c .fits .rate)
 
@@ -54,12 +45,6 @@ returns c =
     c .refusal .ensures
     ∙ sym (ranged-none _ (quotient-none (one * one * s .args .frequency) (divisor s) (rw (back s) at (c .before .if1 .taken))))
 
-mul-ranged : tie.Need-mul-ranged
-mul-ranged c = search needs
-
-mul-ranged-2 : tie.Need-mul-ranged-2
-mul-ranged-2 c = search needs
-
 positive : (c : tie.Else1) → leZ (divisor (c .before)) (pos 0) ≡ false
 positive c = rw (back (c .before)) at (c .if1 .left)
 
@@ -68,9 +53,6 @@ cast-ranged c = rw (back (c .before)) (quotient-some 0 (divisor (c .before)) (po
 
 div-ranged : tie.Need-div-ranged
 div-ranged c = rw (back (c .before)) (quotient-some 0 (divisor (c .before)) (positive c) .1)
-
-ranged-requires : tie.Need-ranged-requires
-ranged-requires c κs = search needs
 
 returns-2 : tie.Need-returns-2
 unfolding rateDiscount
@@ -83,16 +65,16 @@ pub of-billionths-spec : {M : Type 1} → statement M
 of-billionths-spec =
     tie.close
     (tie.spec
-    mul-divisor
-    cast-divisor
-    cast-divisor-2
+    (λ c. search needs)
+    (λ c. search needs)
+    (λ c. search needs)
     mul-divisor-2
     add-divisor
     refusal-requires
     returns
-    mul-ranged
-    mul-ranged-2
+    (λ c. search needs)
+    (λ c. search needs)
     cast-ranged
     div-ranged
-    ranged-requires
+    (λ c κs. search needs)
     returns-2)

@@ -14,19 +14,10 @@ use Rattle.quotes.proofs.QuoteLaws.{ranged-none, figure-refused, figure
 use Rattle.quotes.proofs.of_factor.Statement.{statement}
 use Rattle.quotes.proofs.of_factor.Tie as tie
 
-billionths-requires : tie.Need-billionths-requires
-billionths-requires c κs = search needs
-
-refusal-requires : tie.Need-refusal-requires
-refusal-requires c κs = search needs
-
 returns : tie.Need-returns
 returns c =
     let b = c .before .before .before in
     c .refusal .ensures ∙ sym (figure-refused (b .before .args .figure) factorDiscount (b .billionths .result) (b .billionths .ensures) (c .before .if1 .taken))
-
-refusal-requires-2 : tie.Need-refusal-requires-2
-refusal-requires-2 c κs = search needs
 
 returns-2 : tie.Need-returns-2
 returns-2 c =
@@ -53,9 +44,6 @@ cast-ranged c =
     let size = value-bound (b .before .args .figure) (b .billionths .result) (b .billionths .ensures) in
     rw (back c) (factor-whole (value c) (whole c) .0, record { fits = omega (arith, size) })
 
-ranged-requires : tie.Need-ranged-requires
-ranged-requires c κs = search needs
-
 returns-3 : tie.Need-returns-3
 returns-3 c =
     let b = c .before .before .before .before .before in
@@ -67,11 +55,11 @@ pub of-factor-spec : {M : Type 1} → statement M
 of-factor-spec =
     tie.close
     (tie.spec
-    billionths-requires
-    refusal-requires
+    (λ c κs. search needs)
+    (λ c κs. search needs)
     returns
-    refusal-requires-2
+    (λ c κs. search needs)
     returns-2
     cast-ranged
-    ranged-requires
+    (λ c κs. search needs)
     returns-3)

@@ -6,31 +6,19 @@ use Rattle.quotes.specs.Quotes.{kindAnswer}
 use Rattle.quotes.proofs.of_point.Statement.{statement}
 use Rattle.quotes.proofs.of_point.Tie as tie
 
-of-quote-requires : tie.Need-of-quote-requires
-of-quote-requires c κs = search needs
-
 returns : tie.Need-returns
 unfolding kindAnswer
 returns c = simp (eq-eqb _ 5 (c .before .if1 .taken)) (c .of-quote .ensures)
 
-of-quote-requires-2 : tie.Need-of-quote-requires-2
-of-quote-requires-2 c κs = search needs
-
 returns-2 : tie.Need-returns-2
 unfolding kindAnswer
 returns-2 c = simp (ne-eqb _ 5 (c .before .before .if1 .left), eq-eqb _ 6 (c .before .if2 .taken)) (c .of-quote2 .ensures)
-
-of-quote-requires-3 : tie.Need-of-quote-requires-3
-of-quote-requires-3 c κs = search needs
 
 returns-3 : tie.Need-returns-3
 unfolding kindAnswer
 returns-3 c =
     simp (ne-eqb _ 5 (c .before .before .before .if1 .left), ne-eqb _ 6 (c .before .before .if2 .left), eq-eqb _ 9 (c .before .if3 .taken))
     (c .of-quote3 .ensures)
-
-refusal-requires : tie.Need-refusal-requires
-refusal-requires c κs = search needs
 
 returns-4 : tie.Need-returns-4
 unfolding kindAnswer
@@ -42,11 +30,11 @@ pub of-point-spec : {M : Type 1} → statement M
 of-point-spec =
     tie.close
     (tie.spec
-    of-quote-requires
+    (λ c κs. search needs)
     returns
-    of-quote-requires-2
+    (λ c κs. search needs)
     returns-2
-    of-quote-requires-3
+    (λ c κs. search needs)
     returns-3
-    refusal-requires
+    (λ c κs. search needs)
     returns-4)

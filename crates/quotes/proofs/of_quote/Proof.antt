@@ -6,24 +6,6 @@ use borrow.Author.Needs.{needs}
 use Rattle.quotes.proofs.of_quote.Statement.{statement}
 use Rattle.quotes.proofs.of_quote.Tie as tie
 
-enum-known-quote : tie.Need-enum-known-quote
-enum-known-quote c = search needs
-
-of-factor-requires : tie.Need-of-factor-requires
-of-factor-requires c κs = search needs
-
-enum-known-quote-2 : tie.Need-enum-known-quote-2
-enum-known-quote-2 c = search needs
-
-of-rate-requires : tie.Need-of-rate-requires
-of-rate-requires c κs = search needs
-
-enum-known-quote-3 : tie.Need-enum-known-quote-3
-enum-known-quote-3 c = search needs
-
-of-yield-requires : tie.Need-of-yield-requires
-of-yield-requires c κs = search needs
-
 returns : tie.Need-returns
 unfolding quoteAnswer
 returns c =
@@ -46,12 +28,12 @@ pub of-quote-spec : {M : Type 1} → statement M
 of-quote-spec =
     tie.close
     (tie.spec
-    enum-known-quote
-    of-factor-requires
-    enum-known-quote-2
-    of-rate-requires
-    enum-known-quote-3
-    of-yield-requires
+    (λ c. search needs)
+    (λ c κs. search needs)
+    (λ c. search needs)
+    (λ c κs. search needs)
+    (λ c. search needs)
+    (λ c κs. search needs)
     returns
     returns-2
     returns-3)

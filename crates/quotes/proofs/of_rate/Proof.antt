@@ -9,12 +9,6 @@ use Rattle.quotes.proofs.QuoteLaws.{figure-refused, figure-accepted}
 use Rattle.quotes.proofs.of_rate.Statement.{statement}
 use Rattle.quotes.proofs.of_rate.Tie as tie
 
-billionths-requires : tie.Need-billionths-requires
-billionths-requires c κs = search needs
-
-refusal-requires : tie.Need-refusal-requires
-refusal-requires c κs = search needs
-
 returns : tie.Need-returns
 returns c =
     let b = c .before .before .before in
@@ -40,4 +34,4 @@ returns-2 c =
 pub of-rate-spec : {M : Type 1} → statement M
 of-rate-spec =
     tie.close
-    (tie.spec billionths-requires refusal-requires returns of-billionths-requires returns-2)
+    (tie.spec (λ c κs. search needs) (λ c κs. search needs) returns of-billionths-requires returns-2)

@@ -18,9 +18,6 @@ use Rattle.quotes.proofs.YieldLaws.{amount-above, amount-below, quotien
 use Rattle.quotes.proofs.of_yearly.Statement.{statement}
 use Rattle.quotes.proofs.of_yearly.Tie as tie
 
-magnitude-requires : tie.Need-magnitude-requires
-magnitude-requires c κs = search needs
-
 -- the rate, read back from its bits: its size, its sign, and the product
 size : (c : tie.After-magnitude) → c .magnitude .result ≡ natAbs (c .before .args .rate)
 size c = rw (toZ-ofZ (c .before .fits .rate)) at (c .magnitude .ensures)
@@ -49,23 +46,14 @@ below-small c = quotient-small _ _ (omega (arith, product c, c .before .pre .1))
 mul-size : tie.Need-mul-size
 mul-size c = omega (arith, product c)
 
-sub-of-amount : tie.Need-sub-of-amount
-sub-of-amount c = search needs
-
 add-of-amount : tie.Need-add-of-amount
 add-of-amount c = omega (arith, product (c .before), c .before .before .pre .1)
-
-div-of-amount : tie.Need-div-of-amount
-div-of-amount c = search needs
 
 cast-of-amount : tie.Need-cast-of-amount
 cast-of-amount c = record { sfits = omega (arith, below-small (c .before)) }
 
 sub-of-amount-2 : tie.Need-sub-of-amount-2
 sub-of-amount-2 c = minus-fits (below (c .before)) (omega (arith, below-small (c .before)))
-
-of-amount-requires : tie.Need-of-amount-requires
-of-amount-requires c κs = search needs
 
 returns : tie.Need-returns
 unfolding yieldDiscount
@@ -76,14 +64,8 @@ returns c =
     (minus-back (below m) (omega (arith, below-small m))
     ∙ amount-below _ _ _ (m .before .args .rate) (m .before .pre .0) (size m) (sign (m .before) _ (c .before .if1 .taken)))
 
-div-of-amount-2 : tie.Need-div-of-amount-2
-div-of-amount-2 c = search needs
-
 cast-of-amount-2 : tie.Need-cast-of-amount-2
 cast-of-amount-2 c = record { sfits = omega (arith, above-small (c .before)) }
-
-of-amount-requires-2 : tie.Need-of-amount-requires-2
-of-amount-requires-2 c κs = search needs
 
 returns-2 : tie.Need-returns-2
 unfolding yieldDiscount
@@ -97,16 +79,16 @@ pub of-yearly-spec : {M : Type 1} → statement M
 of-yearly-spec =
     tie.close
     (tie.spec
-    magnitude-requires
+    (λ c κs. search needs)
     mul-size
-    sub-of-amount
+    (λ c. search needs)
     add-of-amount
-    div-of-amount
+    (λ c. search needs)
     cast-of-amount
     sub-of-amount-2
-    of-amount-requires
+    (λ c κs. search needs)
     returns
-    div-of-amount-2
+    (λ c. search needs)
     cast-of-amount-2
-    of-amount-requires-2
+    (λ c κs. search needs)
     returns-2)

@@ -7,24 +7,6 @@ use Rattle.record_sheet.proofs.DrawLaws.{Drawn, drawn}
 use Rattle.record_sheet.proofs.draw.Statement.{statement}
 use Rattle.record_sheet.proofs.draw.Tie as tie
 
-meant-reversion-requires : tie.Need-meant-reversion-requires
-meant-reversion-requires c κs = search needs
-
-quotes-requires : tie.Need-quotes-requires
-quotes-requires c κs = tt
-
-slice-aggregate-quotes-of-record : tie.Need-slice-aggregate-quotes-of-record
-slice-aggregate-quotes-of-record c = search needs
-
-quotes-of-record-requires : tie.Need-quotes-of-record-requires
-quotes-of-record-requires c κs = tt
-
-discounts-needed-requires : tie.Need-discounts-needed-requires
-discounts-needed-requires c κs = tt
-
-state-prices-needed-requires : tie.Need-state-prices-needed-requires
-state-prices-needed-requires c κs = tt
-
 -- where the quotes are converted and both counts are known
 abbrev converted : tie.After-state-prices-needed → tie.After-quotes-of-record
 converted c = c .before .before .before
@@ -41,7 +23,7 @@ known : (c : tie.After-state-prices-needed) →
     (c .before .discounts-needed .result .value) (c .state-prices-needed .result .value)
 known c =
     let s = start c in
-    let own = converted c .before .before .quotes in
+    let own = converted c .before .before .quote-room in
     drawn (s .args .job) _ _ (s .pre .0 .0) (own .result) _ (own .ensures) (converted c .quotes-of-record .ensures .1) _
     (working c .meant-reversion .ensures) _ _ (c .before .discounts-needed .ensures) (c .state-prices-needed .ensures)
 
@@ -63,9 +45,6 @@ put-sheet-requires c κs =
     let k = known counted in
     ((k .stored, sym (k .quotes-count), start counted .pre .0 .1), k .summed)
 
-same-length : tie.Need-same-length
-same-length c = search needs
-
 returns : tie.Need-returns
 returns c =
     let put = c .before .before in
@@ -79,16 +58,16 @@ pub draw-spec : {M : Type 1} → statement M
 draw-spec =
     tie.close
     (tie.spec
-    meant-reversion-requires
-    quotes-requires
-    slice-aggregate-quotes-of-record
-    quotes-of-record-requires
-    discounts-needed-requires
-    state-prices-needed-requires
+    (λ c κs. search needs)
+    (λ c κs. tt)
+    (λ c. search needs)
+    (λ c κs. tt)
+    (λ c κs. tt)
+    (λ c κs. tt)
     array-share-prefix-quotes
     slice-aggregate-put-sheet
     slice-aggregate-put-sheet-2
     slice-aggregate-put-sheet-3
     put-sheet-requires
-    same-length
+    (λ c. search needs)
     returns)

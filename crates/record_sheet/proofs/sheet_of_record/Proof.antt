@@ -8,7 +8,7 @@ use borrow.Author.Needs.{needs}
 use Rattle.limits.specs.Limits.{mostDiscounts, mostStatePrices}
 use Rattle.job_prices.specs.JobPrices.{recordPrices}
 use Rattle.sheet_room.specs.Room.{sheetRoom}
-use Rattle.sheet_laws.specs.Stored.{Fitted}
+use Rattle.sheet_laws.specs.inside.Stored.{Fitted}
 use Rattle.sheet_laws.specs.WholeJob.{jobNumber}
 use Rattle.sheet_laws.proofs.FittedLaws as fits
 use Rattle.sheet_laws.proofs.SheetLaws as laws
@@ -16,32 +16,8 @@ use Rattle.record_sheet.proofs.AnswerLaws as answers
 use Rattle.record_sheet.proofs.sheet_of_record.Statement.{statement}
 use Rattle.record_sheet.proofs.sheet_of_record.Tie as tie
 
-discounts-requires : tie.Need-discounts-requires
-discounts-requires c κs = tt
-
-state-prices-requires : tie.Need-state-prices-requires
-state-prices-requires c κs = tt
-
-slice-aggregate-prices-of-record : tie.Need-slice-aggregate-prices-of-record
-slice-aggregate-prices-of-record c = search needs
-
-slice-aggregate-prices-of-record-2 : tie.Need-slice-aggregate-prices-of-record-2
-slice-aggregate-prices-of-record-2 c = search needs
-
-prices-of-record-requires : tie.Need-prices-of-record-requires
-prices-of-record-requires c κs = tt
-
-room-cause-requires : tie.Need-room-cause-requires
-room-cause-requires c κs = tt
-
-lowest-cause-requires : tie.Need-lowest-cause-requires
-lowest-cause-requires c κs = tt
-
-refused-requires : tie.Need-refused-requires
-refused-requires c κs = tt
-
 -- where the record is priced, in memories of the largest tree
-abbrev memories : tie.After-prices-of-record → tie.After-state-prices
+abbrev memories : tie.After-prices-of-record → tie.After-state-price-room
 memories c = c .before .before .before
 
 abbrev start : tie.After-prices-of-record → tie.Start
@@ -49,8 +25,8 @@ start c = memories c .before .before .before
 
 largest : (c : tie.After-prices-of-record) → c .prices-of-record .result ≡ recordPrices (start c .args .job) mostDiscounts mostStatePrices
 largest c =
-    let own-d = memories c .before .discounts in
-    let own-p = memories c .state-prices in
+    let own-d = memories c .before .discount-room in
+    let own-p = memories c .state-price-room in
     fits.prices-largest (start c .args .job) (own-d .result) (own-p .result) (own-d .ensures) (own-p .ensures) _ (c .prices-of-record .ensures .0)
 
 -- where the lowest cause is known
@@ -69,12 +45,6 @@ returns c =
     let refusing = c .before in
     let a = start (priced (refusing .before)) .args in
     answers.refused-by _ _ _ (a .out .now) _ (c .refused .ensures) (number-is (refusing .before)) (refusing .if1 .taken)
-
-slice-aggregate-draw : tie.Need-slice-aggregate-draw
-slice-aggregate-draw c = search needs
-
-slice-aggregate-draw-2 : tie.Need-slice-aggregate-draw-2
-slice-aggregate-draw-2 c = search needs
 
 -- where no cause refuses the job
 no-cause : (c : tie.Else1) → priced (c .before) .prices-of-record .result .number ≡ 0
@@ -95,8 +65,8 @@ fitted : (c : tie.Else1) →
 fitted c =
     let p = priced (c .before) in
     let job = start p .args .job in
-    let own-d = memories p .before .discounts in
-    let own-p = memories p .state-prices in
+    let own-d = memories p .before .discount-room in
+    let own-p = memories p .state-price-room in
     let left = p .prices-of-record .ensures .1 in
     fits.fitted job (own-d .result) (own-p .result) (own-d .ensures) (own-p .ensures) _ _ (sym (laws.prices-number-is job _ (largest p)) ∙ no-cause c)
     (left .0) (left .1)
@@ -110,9 +80,6 @@ draw-requires c κs =
 sub-t23 : tie.Need-sub-t23
 sub-t23 c = omega (arith, c .before .before .draw .ensures .place)
 
-same-length : tie.Need-same-length
-same-length c = search needs
-
 returns-2 : tie.Need-returns-2
 returns-2 c =
     let drawn = c .before .before in
@@ -124,18 +91,18 @@ pub sheet-of-record-spec : {M : Type 1} → statement M
 sheet-of-record-spec =
     tie.close
     (tie.spec
-    discounts-requires
-    state-prices-requires
-    slice-aggregate-prices-of-record
-    slice-aggregate-prices-of-record-2
-    prices-of-record-requires
-    room-cause-requires
-    lowest-cause-requires
-    refused-requires
+    (λ c κs. tt)
+    (λ c κs. tt)
+    (λ c. search needs)
+    (λ c. search needs)
+    (λ c κs. tt)
+    (λ c κs. tt)
+    (λ c κs. tt)
+    (λ c κs. tt)
     returns
-    slice-aggregate-draw
-    slice-aggregate-draw-2
+    (λ c. search needs)
+    (λ c. search needs)
     draw-requires
     sub-t23
-    same-length
+    (λ c. search needs)
     returns-2)

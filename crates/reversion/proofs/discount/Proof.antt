@@ -5,11 +5,8 @@ use Rattle.reversion.proofs.ReversionLaws.{discount-found}
 use Rattle.reversion.proofs.discount.Statement.{statement}
 use Rattle.reversion.proofs.discount.Tie as tie
 
-discount-of-quotient-requires : tie.Need-discount-of-quotient-requires
-discount-of-quotient-requires c κs = search needs
-
 returns : tie.Need-returns
 returns c = discount-found _ _ (c .discount-of-quotient .ensures) (c .before .pre)
 
 pub discount-spec : {M : Type 1} → statement M
-discount-spec = tie.close (tie.spec discount-of-quotient-requires returns)
+discount-spec = tie.close (tie.spec (λ c κs. search needs) returns)

@@ -18,9 +18,6 @@ known c = sym (c .before .is-version .ensures) ∙ not-false _ (c .if2 .left)
 returns : tie.Need-returns
 returns c = sym (answer-beyond _ _ _ (c .if1 .taken))
 
-is-version-requires : tie.Need-is-version-requires
-is-version-requires c κs = search needs
-
 returns-2 : tie.Need-returns-2
 returns-2 c =
     let tested = c .before in
@@ -31,9 +28,6 @@ returns-3 c = sym (ratio-answer-first _ _ (omega arith) (known (c .before)) (c .
 
 returns-4 : tie.Need-returns-4
 returns-4 c = sym (ratio-answer-none _ _ (omega arith) (known (c .before .before)) (c .if4 .taken))
-
-exact-ratio-requires : tie.Need-exact-ratio-requires
-exact-ratio-requires c κs = search needs
 
 returns-5 : tie.Need-returns-5
 returns-5 c =
@@ -46,9 +40,9 @@ variance-ratio-spec =
     tie.close
     (tie.spec
     returns
-    is-version-requires
+    (λ c κs. search needs)
     returns-2
     returns-3
     returns-4
-    exact-ratio-requires
+    (λ c κs. search needs)
     returns-5)

@@ -13,11 +13,8 @@ returns c = sym (working-other _ _ (c .if1 .taken))
 returns-2 : tie.Need-returns-2
 returns-2 c = sym (working-beyond _ _ (c .if2 .taken))
 
-exact-reversion-requires : tie.Need-exact-reversion-requires
-exact-reversion-requires c κs = search needs
-
 returns-3 : tie.Need-returns-3
 returns-3 c = c .exact-reversion .ensures ∙ sym (working-second _ _ (omega arith) (omega arith))
 
 pub working-or-same-spec : {M : Type 1} → statement M
-working-or-same-spec = tie.close (tie.spec returns returns-2 exact-reversion-requires returns-3)
+working-or-same-spec = tie.close (tie.spec returns returns-2 (λ c κs. search needs) returns-3)

@@ -11,16 +11,10 @@ use Rattle.reversion.proofs.working_reversion.Tie as tie
 returns : tie.Need-returns
 returns c = sym (answer-beyond _ _ _ (c .if1 .taken))
 
-is-version-requires : tie.Need-is-version-requires
-is-version-requires c κs = search needs
-
 returns-2 : tie.Need-returns-2
 returns-2 c =
     let tested = c .before in
     sym (answer-unknown _ _ _ (tested .before .if1 .left) (sym (tested .is-version .ensures) ∙ not-true _ (c .if2 .taken)))
-
-working-or-same-requires : tie.Need-working-or-same-requires
-working-or-same-requires c κs = search needs
 
 returns-3 : tie.Need-returns-3
 returns-3 c =
@@ -30,4 +24,4 @@ returns-3 c =
 
 pub working-reversion-spec : {M : Type 1} → statement M
 working-reversion-spec =
-    tie.close (tie.spec returns is-version-requires returns-2 working-or-same-requires returns-3)
+    tie.close (tie.spec returns (λ c κs. search needs) returns-2 (λ c κs. search needs) returns-3)

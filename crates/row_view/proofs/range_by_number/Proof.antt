@@ -6,14 +6,8 @@ use borrow.Author.Needs.{needs}
 use Rattle.row_view.proofs.range_by_number.Statement.{statement}
 use Rattle.row_view.proofs.range_by_number.Tie as tie
 
-row-range-requires : tie.Need-row-range-requires
-row-range-requires c κs = search needs
-
 returns : tie.Need-returns
 returns c = c .row-range .ensures ∙ laws.numbered-discounts _ _ _ _ _ _ (c .before .if1 .taken)
-
-row-range-requires-2 : tie.Need-row-range-requires-2
-row-range-requires-2 c κs = search needs
 
 returns-2 : tie.Need-returns-2
 returns-2 c = c .row-range2 .ensures ∙ laws.numbered-prices _ _ _ _ _ _ (c .before .before .if1 .left) (c .before .if2 .taken)
@@ -23,4 +17,4 @@ returns-3 c = laws.numbered-otherwise _ _ _ _ _ _ (c .before .if1 .left) (c .if2
 
 pub range-by-number-spec : {M : Type 1} → statement M
 range-by-number-spec =
-    tie.close (tie.spec row-range-requires returns row-range-requires-2 returns-2 returns-3)
+    tie.close (tie.spec (λ c κs. search needs) returns (λ c κs. search needs) returns-2 returns-3)

@@ -11,16 +11,10 @@ use borrow.Author.Needs.{needs}
 use Rattle.row_view.proofs.row_range.Statement.{statement}
 use Rattle.row_view.proofs.row_range.Tie as tie
 
-holds-tree-requires : tie.Need-holds-tree-requires
-holds-tree-requires c κs = search needs
-
 returns : tie.Need-returns
 returns c =
     laws.hidden-range _ _ _ _ _ _
     (laws.not-held _ _ _ _ _ _ (sym (c .before .holds-tree .ensures) ∙ not-true _ (c .if1 .taken)))
-
-stores-row-requires : tie.Need-stores-row-requires
-stores-row-requires c κs = search needs
 
 returns-2 : tie.Need-returns-2
 returns-2 c =
@@ -39,12 +33,6 @@ stored :
     storesRow (a .kind) (a .steps) (a .row) ≡ true
 stored c = sym (c .before .stores-row .ensures) ∙ not-false _ (c .if2 .left)
 
-row-start-requires : tie.Need-row-start-requires
-row-start-requires c κs = search needs
-
-node-count-requires : tie.Need-node-count-requires
-node-count-requires c κs = search needs
-
 returns-3 : tie.Need-returns-3
 returns-3 c =
     let a = c .before .before .before .before .before .before .before .before .args in
@@ -59,10 +47,10 @@ pub row-range-spec : {M : Type 1} → statement M
 row-range-spec =
     tie.close
     (tie.spec
-    holds-tree-requires
+    (λ c κs. search needs)
     returns
-    stores-row-requires
+    (λ c κs. search needs)
     returns-2
-    row-start-requires
-    node-count-requires
+    (λ c κs. search needs)
+    (λ c κs. search needs)
     returns-3)

@@ -10,12 +10,6 @@ use borrow.Author.Needs.{needs}
 use Rattle.row_view.proofs.row_view.Statement.{statement}
 use Rattle.row_view.proofs.row_view.Tie as tie
 
-memory-of-requires : tie.Need-memory-of-requires
-memory-of-requires c κs = search needs
-
-row-range-requires : tie.Need-row-range-requires
-row-range-requires c κs = search needs
-
 within :
     (c : tie.After-struct-known) →
     let r = c .before .row-range .result in
@@ -31,12 +25,6 @@ add-end c = omega (arith, within c)
 mul-result : tie.Need-mul-result
 mul-result c = omega (arith, within c)
 
-sub-result : tie.Need-sub-result
-sub-result c = search needs
-
-part-result-start : tie.Need-part-result-start
-part-result-start c = search needs
-
 part-result-end : tie.Need-part-result-end
 part-result-end c = within c
 
@@ -50,11 +38,11 @@ pub row-view-spec : {M : Type 1} → statement M
 row-view-spec =
     tie.close
     (tie.spec
-    memory-of-requires
-    row-range-requires
+    (λ c κs. search needs)
+    (λ c κs. search needs)
     add-end
     mul-result
-    sub-result
-    part-result-start
+    (λ c. search needs)
+    (λ c. search needs)
     part-result-end
     returns)

@@ -4,12 +4,6 @@ use borrow.Author.Needs.{needs}
 use Rattle.row_view.proofs.stores_row.Statement.{statement}
 use Rattle.row_view.proofs.stores_row.Tie as tie
 
-enum-told : tie.Need-enum-told
-enum-told c = search needs
-
-enum-told-2 : tie.Need-enum-told-2
-enum-told-2 c = search needs
-
 returns : tie.Need-returns
 returns c = rw (c .enum-told .given .1)
 
@@ -17,4 +11,4 @@ returns-2 : tie.Need-returns-2
 returns-2 c = rw (c .enum-told2 .given .1)
 
 pub stores-row-spec : {M : Type 1} → statement M
-stores-row-spec = tie.close (tie.spec enum-told enum-told-2 returns returns-2)
+stores-row-spec = tie.close (tie.spec (λ c. search needs) (λ c. search needs) returns returns-2)

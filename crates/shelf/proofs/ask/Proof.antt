@@ -19,12 +19,6 @@ zero c = omega arith
 told : (c : tie.Else1) → let a = c .before .before .args in Asked (a .shelf .slots) (a .name) (a .steps) (a .reversion)
 told c = asked _ _ _ _ (zero c)
 
-ask-number-requires : tie.Need-ask-number-requires
-ask-number-requires c κs = search needs
-
-refused-requires : tie.Need-refused-requires
-refused-requires c κs = search needs
-
 returns : tie.Need-returns
 returns c =
     let number = c .before .before .ask-number .ensures in
@@ -37,9 +31,6 @@ sub-nodes-before c = omega (arith, told c .name-known .low)
 
 nodes-before-requires : tie.Need-nodes-before-requires
 nodes-before-requires c κs = omega (arith, told c .name-known .high)
-
-discounts-needed-requires : tie.Need-discounts-needed-requires
-discounts-needed-requires c κs = search needs
 
 -- as many nodes as are asked for
 counted : (c : tie.After-discounts-needed) →
@@ -60,9 +51,6 @@ open-part-requires c κs =
       counted (c .before),
       ends-before (a .shelf .slots) (a .name - 1) 8 (omega (arith, t .name-known .high, t .name-known .low)),
     )
-
-awaiting-slot-requires : tie.Need-awaiting-slot-requires
-awaiting-slot-requires c κs = search needs
 
 sub-replaced : tie.Need-sub-replaced
 sub-replaced c = omega (arith, told (c .before .before .before .before .before) .name-known .low)
@@ -89,14 +77,14 @@ pub ask-spec : {M : Type 1} → statement M
 ask-spec =
     tie.close
     (tie.spec
-    ask-number-requires
-    refused-requires
+    (λ c κs. search needs)
+    (λ c κs. search needs)
     returns
     sub-nodes-before
     nodes-before-requires
-    discounts-needed-requires
+    (λ c κs. search needs)
     open-part-requires
-    awaiting-slot-requires
+    (λ c κs. search needs)
     sub-replaced
     replaced-requires
     returns-2)

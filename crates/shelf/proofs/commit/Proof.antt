@@ -15,12 +15,6 @@ told : (c : tie.Else1) →
     There (a .shelf .slots) (a .name) (tree .result) (tree .ensures)
 told c = awaiting _ _ _ (c .before .before .tree-of .ensures) (omega arith) .0
 
-tree-of-requires : tie.Need-tree-of-requires
-tree-of-requires c κs = search needs
-
-refused-requires : tie.Need-refused-requires
-refused-requires c κs = search needs
-
 returns : tie.Need-returns
 returns c =
     let none = not-awaiting _ _ _ (c .before .before .before .tree-of .ensures) (c .before .if1 .taken) in
@@ -30,9 +24,6 @@ returns c =
 
 fit-part-requires : tie.Need-fit-part-requires
 fit-part-requires c κs = omega (arith, told (c .before) .fits)
-
-refused-requires-2 : tie.Need-refused-requires-2
-refused-requires-2 c κs = search needs
 
 returns-2 : tie.Need-returns-2
 returns-2 c =
@@ -78,11 +69,11 @@ pub commit-spec : {M : Type 1} → statement M
 commit-spec =
     tie.close
     (tie.spec
-    tree-of-requires
-    refused-requires
+    (λ c κs. search needs)
+    (λ c κs. search needs)
     returns
     fit-part-requires
-    refused-requires-2
+    (λ c κs. search needs)
     returns-2
     fitted-slot-requires
     sub-replaced

@@ -8,12 +8,9 @@ use borrow.Author.Needs.{needs}
 use Rattle.shelf.proofs.empty_shelf.Statement.{statement}
 use Rattle.shelf.proofs.empty_shelf.Tie as tie
 
-empty-slot-requires : tie.Need-empty-slot-requires
-empty-slot-requires c κs = search needs
-
 returns : tie.Need-returns
 unfolding emptySlots
 returns c = ap (λ (s : Slot). replicate 8 s) (c .empty-slot .ensures)
 
 pub empty-shelf-spec : {M : Type 1} → statement M
-empty-shelf-spec = tie.close (tie.spec empty-slot-requires returns)
+empty-shelf-spec = tie.close (tie.spec (λ c κs. search needs) returns)

@@ -5,11 +5,8 @@ use borrow.Author.Needs.{needs}
 use Rattle.shelf.proofs.part_of.Statement.{statement}
 use Rattle.shelf.proofs.part_of.Tie as tie
 
-tree-of-requires : tie.Need-tree-of-requires
-tree-of-requires c κs = search needs
-
 returns : tie.Need-returns
 returns c = part-is (c .before .args .shelf .slots) (c .before .args .name) (c .tree-of .result) (c .tree-of .ensures)
 
 pub part-of-spec : {M : Type 1} → statement M
-part-of-spec = tie.close (tie.spec tree-of-requires returns)
+part-of-spec = tie.close (tie.spec (λ c κs. search needs) returns)

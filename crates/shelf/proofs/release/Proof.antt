@@ -15,12 +15,6 @@ told : (c : tie.Else1) →
     There (a .shelf .slots) (a .name) (tree .result) (tree .ensures)
 told c = tree-found _ _ _ (c .before .before .tree-of .ensures) (search needs)
 
-tree-of-requires : tie.Need-tree-of-requires
-tree-of-requires c κs = search needs
-
-refused-requires : tie.Need-refused-requires
-refused-requires c κs = search needs
-
 returns : tie.Need-returns
 returns c =
     let none = none-found _ _ _ (c .before .before .before .tree-of .ensures) (search needs) in
@@ -29,9 +23,6 @@ returns c =
 
 close-part-requires : tie.Need-close-part-requires
 close-part-requires c κs = omega (arith, told (c .before) .fits)
-
-empty-slot-requires : tie.Need-empty-slot-requires
-empty-slot-requires c κs = search needs
 
 sub-replaced : tie.Need-sub-replaced
 sub-replaced c = omega (arith, told (c .before .before .before) .name-known .low)
@@ -52,11 +43,11 @@ pub release-spec : {M : Type 1} → statement M
 release-spec =
     tie.close
     (tie.spec
-    tree-of-requires
-    refused-requires
+    (λ c κs. search needs)
+    (λ c κs. search needs)
     returns
     close-part-requires
-    empty-slot-requires
+    (λ c κs. search needs)
     sub-replaced
     replaced-requires
     returns-2)

@@ -11,12 +11,6 @@ use Rattle.shelf.proofs.tree_of.Tie as tie
 told : (c : tie.Else2) → Known (c .before .before .before .args .shelf .slots) (c .before .before .before .args .name)
 told c = known (c .before .before .before .args .shelf .slots) (c .before .before .before .args .name) (omega arith)
 
-status-of-requires : tie.Need-status-of-requires
-status-of-requires c κs = search needs
-
-no-tree-requires : tie.Need-no-tree-requires
-no-tree-requires c κs = search needs
-
 returns : tie.Need-returns
 returns c =
     let a = c .before .before .before .args in
@@ -24,9 +18,6 @@ returns c =
     c .no-tree .ensures
     ∙ located-none (a .shelf .slots) (a .name)
     (cause-outside (a .shelf .slots) (a .name) (s .result) (s .ensures) (λ (e : s .result ≡ 1). omega arith) (λ (e : s .result ≡ 2). omega arith))
-
-no-tree-requires-2 : tie.Need-no-tree-requires-2
-no-tree-requires-2 c κs = search needs
 
 returns-2 : tie.Need-returns-2
 returns-2 c =
@@ -48,9 +39,6 @@ sub-nodes-before c = omega (arith, told (c .before) .low)
 nodes-before-requires : tie.Need-nodes-before-requires
 nodes-before-requires c κs = omega (arith, told (c .before) .low, told (c .before) .high)
 
-nodes-of-requires : tie.Need-nodes-of-requires
-nodes-of-requires c κs = search needs
-
 returns-3 : tie.Need-returns-3
 returns-3 c =
     let status = c .before .before .before .before .before .status-of in
@@ -61,14 +49,14 @@ pub tree-of-spec : {M : Type 1} → statement M
 tree-of-spec =
     tie.close
     (tie.spec
-    status-of-requires
-    no-tree-requires
+    (λ c κs. search needs)
+    (λ c κs. search needs)
     returns
-    no-tree-requires-2
+    (λ c κs. search needs)
     returns-2
     sub-slot-at
     slot-at-requires
     sub-nodes-before
     nodes-before-requires
-    nodes-of-requires
+    (λ c κs. search needs)
     returns-3)

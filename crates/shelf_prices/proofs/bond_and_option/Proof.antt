@@ -18,12 +18,6 @@ told : (c : tie.Else1) →
     There (a .shelf .slots) (a .name) (tree .result) (tree .ensures)
 told c = tree-found _ _ _ (c .before .before .tree-of .ensures) (search needs)
 
-tree-of-requires : tie.Need-tree-of-requires
-tree-of-requires c κs = search needs
-
-no-prices-requires : tie.Need-no-prices-requires
-no-prices-requires c κs = search needs
-
 returns : tie.Need-returns
 returns c =
     let tree = c .before .before .before .tree-of in
@@ -36,23 +30,8 @@ add-end c = omega (arith, told (c .before .before) .fits)
 mul-bond-and-option-values : tie.Need-mul-bond-and-option-values
 mul-bond-and-option-values c = omega (arith, told (c .before .before) .fits)
 
-sub-bond-and-option-values : tie.Need-sub-bond-and-option-values
-sub-bond-and-option-values c = search needs
-
-part-bond-and-option-values-start : tie.Need-part-bond-and-option-values-start
-part-bond-and-option-values-start c = search needs
-
 part-bond-and-option-values-end : tie.Need-part-bond-and-option-values-end
 part-bond-and-option-values-end c = omega (arith, told (c .before .before) .fits)
-
-bond-and-option-values-requires : tie.Need-bond-and-option-values-requires
-bond-and-option-values-requires c κs = search needs
-
-carried-requires : tie.Need-carried-requires
-carried-requires c κs = search needs
-
-carried-requires-2 : tie.Need-carried-requires-2
-carried-requires-2 c κs = search needs
 
 returns-2 : tie.Need-returns-2
 returns-2 c =
@@ -67,15 +46,15 @@ pub bond-and-option-spec : {M : Type 1} → statement M
 bond-and-option-spec =
     tie.close
     (tie.spec
-    tree-of-requires
-    no-prices-requires
+    (λ c κs. search needs)
+    (λ c κs. search needs)
     returns
     add-end
     mul-bond-and-option-values
-    sub-bond-and-option-values
-    part-bond-and-option-values-start
+    (λ c. search needs)
+    (λ c. search needs)
     part-bond-and-option-values-end
-    bond-and-option-values-requires
-    carried-requires
-    carried-requires-2
+    (λ c κs. search needs)
+    (λ c κs. search needs)
+    (λ c κs. search needs)
     returns-2)

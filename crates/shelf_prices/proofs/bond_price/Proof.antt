@@ -18,12 +18,6 @@ told : (c : tie.Else1) →
     There (a .shelf .slots) (a .name) (tree .result) (tree .ensures)
 told c = tree-found _ _ _ (c .before .before .tree-of .ensures) (search needs)
 
-tree-of-requires : tie.Need-tree-of-requires
-tree-of-requires c κs = search needs
-
-no-price-requires : tie.Need-no-price-requires
-no-price-requires c κs = search needs
-
 returns : tie.Need-returns
 returns c =
     let tree = c .before .before .before .tree-of in
@@ -36,20 +30,8 @@ add-end c = omega (arith, told (c .before .before) .fits)
 mul-bond-value : tie.Need-mul-bond-value
 mul-bond-value c = omega (arith, told (c .before .before) .fits)
 
-sub-bond-value : tie.Need-sub-bond-value
-sub-bond-value c = search needs
-
-part-bond-value-start : tie.Need-part-bond-value-start
-part-bond-value-start c = search needs
-
 part-bond-value-end : tie.Need-part-bond-value-end
 part-bond-value-end c = omega (arith, told (c .before .before) .fits)
-
-bond-value-requires : tie.Need-bond-value-requires
-bond-value-requires c κs = search needs
-
-carried-requires : tie.Need-carried-requires
-carried-requires c κs = search needs
 
 returns-2 : tie.Need-returns-2
 returns-2 c =
@@ -63,14 +45,14 @@ pub bond-price-spec : {M : Type 1} → statement M
 bond-price-spec =
     tie.close
     (tie.spec
-    tree-of-requires
-    no-price-requires
+    (λ c κs. search needs)
+    (λ c κs. search needs)
     returns
     add-end
     mul-bond-value
-    sub-bond-value
-    part-bond-value-start
+    (λ c. search needs)
+    (λ c. search needs)
     part-bond-value-end
-    bond-value-requires
-    carried-requires
+    (λ c κs. search needs)
+    (λ c κs. search needs)
     returns-2)

@@ -6,11 +6,8 @@ use borrow.Author.Needs.{needs}
 use Rattle.shelf_prices.proofs.no_prices.Statement.{statement}
 use Rattle.shelf_prices.proofs.no_prices.Tie as tie
 
-no-price-requires : tie.Need-no-price-requires
-no-price-requires c κs = search needs
-
 returns : tie.Need-returns
 returns c = ap (λ (p : Price). record { bond = p; option = p }) (c .no-price .ensures)
 
 pub no-prices-spec : {M : Type 1} → statement M
-no-prices-spec = tie.close (tie.spec no-price-requires returns)
+no-prices-spec = tie.close (tie.spec (λ c κs. search needs) returns)

@@ -6,11 +6,8 @@ use borrow.Author.Needs.{needs}
 use Rattle.shelf_prices.proofs.option_price.Statement.{statement}
 use Rattle.shelf_prices.proofs.option_price.Tie as tie
 
-bond-and-option-requires : tie.Need-bond-and-option-requires
-bond-and-option-requires c κs = search needs
-
 returns : tie.Need-returns
 returns c = ap (λ (b : BondAndOption). b .option) (c .before .bond-and-option .ensures)
 
 pub option-price-spec : {M : Type 1} → statement M
-option-price-spec = tie.close (tie.spec bond-and-option-requires returns)
+option-price-spec = tie.close (tie.spec (λ c κs. search needs) returns)

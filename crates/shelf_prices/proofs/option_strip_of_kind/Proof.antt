@@ -18,12 +18,6 @@ told : (c : tie.Else1) →
     There (a .shelf .slots) (a .name) (c .before .before .tree-of .result) (c .before .before .tree-of .ensures)
 told c = tree-found _ _ _ (c .before .before .tree-of .ensures) (search needs)
 
-tree-of-requires : tie.Need-tree-of-requires
-tree-of-requires c κs = search needs
-
-no-strip-requires : tie.Need-no-strip-requires
-no-strip-requires c κs = search needs
-
 returns : tie.Need-returns
 returns c =
     let a = c .before .before .before .before .before .before .args in
@@ -37,17 +31,8 @@ add-end c = omega (arith, told (c .before .before) .fits)
 mul-bounded-strip-of-kind : tie.Need-mul-bounded-strip-of-kind
 mul-bounded-strip-of-kind c = omega (arith, told (c .before .before) .fits)
 
-sub-bounded-strip-of-kind : tie.Need-sub-bounded-strip-of-kind
-sub-bounded-strip-of-kind c = search needs
-
-part-bounded-strip-of-kind-start : tie.Need-part-bounded-strip-of-kind-start
-part-bounded-strip-of-kind-start c = search needs
-
 part-bounded-strip-of-kind-end : tie.Need-part-bounded-strip-of-kind-end
 part-bounded-strip-of-kind-end c = omega (arith, told (c .before .before) .fits)
-
-bounded-strip-of-kind-requires : tie.Need-bounded-strip-of-kind-requires
-bounded-strip-of-kind-requires c κs = search needs
 
 returns-2 : tie.Need-returns-2
 returns-2 c =
@@ -59,13 +44,13 @@ pub option-strip-of-kind-spec : {M : Type 1} → statement M
 option-strip-of-kind-spec =
     tie.close
     (tie.spec
-    tree-of-requires
-    no-strip-requires
+    (λ c κs. search needs)
+    (λ c κs. search needs)
     returns
     add-end
     mul-bounded-strip-of-kind
-    sub-bounded-strip-of-kind
-    part-bounded-strip-of-kind-start
+    (λ c. search needs)
+    (λ c. search needs)
     part-bounded-strip-of-kind-end
-    bounded-strip-of-kind-requires
+    (λ c κs. search needs)
     returns-2)

@@ -6,11 +6,8 @@ use Rattle.spacing.proofs.VersionLaws.{answer-first}
 use Rattle.spacing.proofs.spacing.Statement.{statement}
 use Rattle.spacing.proofs.spacing.Tie as tie
 
-version-spacing-requires : tie.Need-version-spacing-requires
-version-spacing-requires c κs = search needs
-
 returns : tie.Need-returns
 returns c = c .version-spacing .ensures ∙ answer-first _ _
 
 pub spacing-spec : {M : Type 1} → statement M
-spacing-spec = tie.close (tie.spec version-spacing-requires returns)
+spacing-spec = tie.close (tie.spec (λ c κs. search needs) returns)

@@ -34,9 +34,6 @@ fits c =
     let tested = c .before .before .before in
     ratio-fits _ _ _ _ _ (accepted (tested .before .before .before)) (omega arith) (omega arith) (tested .variance-ratio .ensures) (c .before .if4 .left)
 
-is-listed-requires : tie.Need-is-listed-requires
-is-listed-requires c κs = search needs
-
 returns : tie.Need-returns
 returns c = sym (answer-unlisted _ _ _ _ (sym (c .before .is-listed .ensures) ∙ not-true _ (c .if1 .taken)))
 
@@ -45,9 +42,6 @@ returns-2 c = sym (answer-reverting _ _ _ _ (accepted (c .before)) (c .if2 .take
 
 returns-3 : tie.Need-returns-3
 returns-3 c = sym (answer-volatile _ _ _ _ (accepted (c .before .before)) (omega arith) (c .if3 .taken))
-
-variance-ratio-requires : tie.Need-variance-ratio-requires
-variance-ratio-requires c κs = search needs
 
 returns-4 : tie.Need-returns-4
 returns-4 c =
@@ -85,11 +79,11 @@ pub version-spacing-spec : {M : Type 1} → statement M
 version-spacing-spec =
     tie.close
     (tie.spec
-    is-listed-requires
+    (λ c κs. search needs)
     returns
     returns-2
     returns-3
-    variance-ratio-requires
+    (λ c κs. search needs)
     returns-4
     mul-variance
     mul-variance-2

@@ -33,23 +33,8 @@ mul-greatest-of c =
     let l = c .before .loop in
     omega (arith, l .inv .1 .starts, start-within (c .before .before .before .args .reversion) (l .index) (omega arith))
 
-sub-greatest-of : tie.Need-sub-greatest-of Inv-loop μ-loop
-sub-greatest-of c = search needs
-
-part-greatest-of-start : tie.Need-part-greatest-of-start Inv-loop μ-loop
-part-greatest-of-start c = search needs
-
 part-greatest-of-end : tie.Need-part-greatest-of-end Inv-loop μ-loop
 part-greatest-of-end c = omega (arith, room c)
-
-greatest-of-requires : tie.Need-greatest-of-requires Inv-loop μ-loop
-greatest-of-requires c κs = search needs
-
-add-node-count : tie.Need-add-node-count Inv-loop μ-loop
-add-node-count c = search needs
-
-node-count-requires : tie.Need-node-count-requires Inv-loop μ-loop
-node-count-requires c κs = search needs
 
 counts :
     (c : tie.After-node-count Inv-loop μ-loop) →
@@ -62,12 +47,6 @@ next-bound-requires c κs =
     let i = c .before .before .before in
     laws.reached-sizes _ _ _ _ _ _ (i .before .loop .inv .1) _ (room i) (c .before .greatest-of .ensures) _ (counts c)
     _ (omega arith) (i .before .before .before .pre .1) (omega arith)
-
-add-index : tie.Need-add-index Inv-loop μ-loop
-add-index c = search needs
-
-loop-less : tie.Need-loop-less Inv-loop μ-loop
-loop-less c = search needs
 
 loop-again : tie.Need-loop-again Inv-loop μ-loop
 loop-again c =
@@ -89,14 +68,14 @@ bound-of-row-spec =
     loop-holds
     add-end
     mul-greatest-of
-    sub-greatest-of
-    part-greatest-of-start
+    (λ c. search needs)
+    (λ c. search needs)
     part-greatest-of-end
-    greatest-of-requires
-    add-node-count
-    node-count-requires
+    (λ c κs. search needs)
+    (λ c. search needs)
+    (λ c κs. search needs)
     next-bound-requires
-    add-index
-    loop-less
+    (λ c. search needs)
+    (λ c. search needs)
     loop-again
     returns)

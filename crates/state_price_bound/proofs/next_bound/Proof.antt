@@ -16,9 +16,6 @@ product c = mul-le-mul {n₁ = c .args .greatest} {m₁ = c .args .bound} {n₂ 
 mul-result : tie.Need-mul-result
 mul-result c = omega (arith, product c)
 
-sub-result : tie.Need-sub-result
-sub-result c = search needs
-
 add-result : tie.Need-add-result
 add-result c = omega (arith, product c)
 
@@ -34,4 +31,4 @@ returns c = refl
 
 pub next-bound-spec : {M : Type 1} → statement M
 next-bound-spec =
-    tie.close (tie.spec mul-result sub-result add-result add-result-2 add-result-3 returns)
+    tie.close (tie.spec mul-result (λ c. search needs) add-result add-result-2 add-result-3 returns)

@@ -15,15 +15,6 @@ joined : (c : tie.After-lowest-cause) →
 joined c =
     laws.refusal-is _ _ _ _ _ _ _ (c .before .before .discounts-cause .ensures) (c .before .row-cause .ensures) (c .lowest-cause .ensures)
 
-discounts-cause-requires : tie.Need-discounts-cause-requires
-discounts-cause-requires c κs = search needs
-
-row-cause-requires : tie.Need-row-cause-requires
-row-cause-requires c κs = search needs
-
-lowest-cause-requires : tie.Need-lowest-cause-requires
-lowest-cause-requires c κs = search needs
-
 returns : tie.Need-returns
 returns c = laws.bound-refused _ _ _ _ _ (joined (c .before)) (c .if1 .taken)
 
@@ -37,9 +28,9 @@ pub state-price-error-bound-spec : {M : Type 1} → statement M
 state-price-error-bound-spec =
     tie.close
     (tie.spec
-    discounts-cause-requires
-    row-cause-requires
-    lowest-cause-requires
+    (λ c κs. search needs)
+    (λ c κs. search needs)
+    (λ c κs. search needs)
     returns
     bound-of-row-requires
     returns-2)

@@ -18,9 +18,6 @@ use Rattle.step_rate.proofs.RateLaws.{ratio-small, rate-above, rate-wit
 use Rattle.step_rate.proofs.of_discount.Statement.{statement}
 use Rattle.step_rate.proofs.of_discount.Tie as tie
 
-is-discount-requires : tie.Need-is-discount-requires
-is-discount-requires c κs = search needs
-
 returns : tie.Need-returns
 returns c = sym (answer-refused (c .before .before .args .discount) (sym (c .before .is-discount .ensures) ∙ not-true _ (c .if1 .taken)))
 
@@ -29,9 +26,6 @@ accepted c = sym (c .before .is-discount .ensures) ∙ not-false _ (c .if1 .left
 
 known : (c : tie.Else1) → (1 ≤ c .before .before .args .discount) × (c .before .before .args .discount ≤ mostDiscount)
 known c = (discount-least (c .before .before .args .discount) (accepted c), discount-most (c .before .before .args .discount) (accepted c))
-
-sub-ratio : tie.Need-sub-ratio
-sub-ratio c = search needs
 
 ratio-requires : tie.Need-ratio-requires
 ratio-requires c κs = let k = known (c .before) in (omega arith, omega arith, omega arith)
@@ -84,9 +78,9 @@ pub of-discount-spec : {M : Type 1} → statement M
 of-discount-spec =
     tie.close
     (tie.spec
-    is-discount-requires
+    (λ c κs. search needs)
     returns
-    sub-ratio
+    (λ c. search needs)
     ratio-requires
     cast-t6
     sub-t7

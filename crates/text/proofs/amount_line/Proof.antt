@@ -12,9 +12,6 @@ use Rattle.text_laws.proofs.WordLineLaws.{word-known, word-refused, word-put}
 use Rattle.text.proofs.amount_line.Statement.{statement}
 use Rattle.text.proofs.amount_line.Tie as tie
 
-word-number-requires : tie.Need-word-number-requires
-word-number-requires c κs = search needs
-
 returns : tie.Need-returns
 returns c =
     let a = c .before .before .before .before .args in
@@ -48,9 +45,6 @@ put-word-requires c κs =
     let r = room (c .before .before .before .before .before) in
     (omega arith, p .1)
 
-same-length : tie.Need-same-length
-same-length c = search needs
-
 returns-2 : tie.Need-returns-2
 unfolding amountLine
 returns-2 c =
@@ -64,4 +58,4 @@ returns-2 c =
     (put-before (at-put-field .put-field .ensures) (at-put-word .put-word .ensures))
 
 pub amount-line-spec : {M : Type 1} → statement M
-amount-line-spec = tie.close (tie.spec word-number-requires returns put-field-requires put-word-requires same-length returns-2)
+amount-line-spec = tie.close (tie.spec (λ c κs. search needs) returns put-field-requires put-word-requires (λ c. search needs) returns-2)

@@ -11,15 +11,6 @@ use Rattle.text_laws.proofs.LineLaws.{node-cause, node-room-known, node-refused
 use Rattle.text.proofs.node_line.Statement.{statement}
 use Rattle.text.proofs.node_line.Tie as tie
 
-of-discount-requires : tie.Need-of-discount-requires
-of-discount-requires c κs = search needs
-
-line-number-requires : tie.Need-line-number-requires
-line-number-requires c κs = search needs
-
-lowest-cause-requires : tie.Need-lowest-cause-requires
-lowest-cause-requires c κs = search needs
-
 -- where both causes are known: the lower of them
 abbrev rated : tie.After-lowest-cause → tie.After-of-discount
 rated c = c .before .before
@@ -43,9 +34,6 @@ put-node-requires c κs =
     let accepted = c .before .before in
     node-room-known _ _ (start (accepted .before) .args .discount) _ (cause (accepted .before)) (accepted .if1 .left)
 
-same-length : tie.Need-same-length
-same-length c = search needs
-
 returns-2 : tie.Need-returns-2
 returns-2 c =
     let noded = c .before .before in
@@ -59,4 +47,4 @@ returns-2 c =
 
 pub node-line-spec : {M : Type 1} → statement M
 node-line-spec =
-    tie.close (tie.spec of-discount-requires line-number-requires lowest-cause-requires returns put-node-requires same-length returns-2)
+    tie.close (tie.spec (λ c κs. search needs) (λ c κs. search needs) (λ c κs. search needs) returns put-node-requires (λ c. search needs) returns-2)

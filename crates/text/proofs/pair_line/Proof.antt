@@ -11,9 +11,6 @@ use Rattle.text_laws.proofs.WordLineLaws.{word-known, word-refused, word-put}
 use Rattle.text.proofs.pair_line.Statement.{statement}
 use Rattle.text.proofs.pair_line.Tie as tie
 
-word-number-requires : tie.Need-word-number-requires
-word-number-requires c κs = search needs
-
 returns : tie.Need-returns
 returns c =
     let a = c .before .before .before .before .args in
@@ -47,9 +44,6 @@ put-label-requires c κs =
     let r = room (c .before .before .before .before .before) in
     (omega arith, p .1)
 
-same-length : tie.Need-same-length
-same-length c = search needs
-
 returns-2 : tie.Need-returns-2
 unfolding pairLine
 returns-2 c =
@@ -63,4 +57,4 @@ returns-2 c =
     (put-label (a .word .now) _ (at-put-field .put-field .ensures) (at-put-label .put-label .ensures))
 
 pub pair-line-spec : {M : Type 1} → statement M
-pair-line-spec = tie.close (tie.spec word-number-requires returns put-field-requires put-label-requires same-length returns-2)
+pair-line-spec = tie.close (tie.spec (λ c κs. search needs) returns put-field-requires put-label-requires (λ c. search needs) returns-2)

@@ -11,9 +11,6 @@ use Rattle.text_laws.proofs.PutLaws.{put-before}
 use Rattle.text.proofs.price_line.Statement.{statement}
 use Rattle.text.proofs.price_line.Tie as tie
 
-line-number-requires : tie.Need-line-number-requires
-line-number-requires c κs = search needs
-
 returns : tie.Need-returns
 returns c =
     let s = c .before .before .before .before in
@@ -46,9 +43,6 @@ put-word-requires c κs =
     let p = price-put (c .before .before .before) in
     (omega arith, p .1)
 
-same-length : tie.Need-same-length
-same-length c = search needs
-
 returns-2 : tie.Need-returns-2
 unfolding priceLine
 returns-2 c =
@@ -58,4 +52,4 @@ returns-2 c =
     line-put (a .out .now) (a .end) _ (room (fits-at priced) .0) (put-before (priced .put-bounded .ensures) (worded .put-word .ensures))
 
 pub price-line-spec : {M : Type 1} → statement M
-price-line-spec = tie.close (tie.spec line-number-requires returns put-bounded-requires put-word-requires same-length returns-2)
+price-line-spec = tie.close (tie.spec (λ c κs. search needs) returns put-bounded-requires put-word-requires (λ c. search needs) returns-2)

@@ -20,11 +20,8 @@ put-field-requires-2 c κs =
     let v = field-room 9 (s .args .value) 32 (s .fits .value .fits) in
     (omega arith, omega (arith, p .place, b, v), omega (arith, p .place, p .within, p .same))
 
-same-length : tie.Need-same-length
-same-length c = search needs
-
 returns : tie.Need-returns
 returns c = put-before (c .before .before .before .before .before .before .put-field .ensures) (c .before .before .put-field2 .ensures)
 
 pub put-bounded-spec : {M : Type 1} → statement M
-put-bounded-spec = tie.close (tie.spec put-field-requires put-field-requires-2 same-length returns)
+put-bounded-spec = tie.close (tie.spec put-field-requires put-field-requires-2 (λ c. search needs) returns)

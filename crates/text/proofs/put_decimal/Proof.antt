@@ -15,9 +15,6 @@ put-fraction-requires c κs =
     let s = c .before .before in
     (omega (arith, decimal-length (s .args .decimals) (s .args .number)), s .pre .2)
 
-power-of-ten-requires : tie.Need-power-of-ten-requires
-power-of-ten-requires c κs = search needs
-
 -- where the whole part is found
 abbrev fraction-put : tie.After-power-of-ten → tie.After-put-fraction
 fraction-put c = c .before .before .before .before
@@ -37,9 +34,6 @@ put-natural-requires c κs =
     let p = fraction-put c .put-fraction .ensures in
     rw (power c) (omega (arith, p .place, decimal-length (s .args .decimals) (s .args .number)), omega (arith, p .place, p .within, p .same))
 
-same-length : tie.Need-same-length
-same-length c = search needs
-
 returns : tie.Need-returns
 returns c =
     let divided = c .before .before .before in
@@ -48,4 +42,4 @@ returns c =
     rw (decimal-parts (s .args .decimals) (s .args .number)) (put-before (fraction-put divided .put-fraction .ensures) whole)
 
 pub put-decimal-spec : {M : Type 1} → statement M
-put-decimal-spec = tie.close (tie.spec put-fraction-requires power-of-ten-requires div-put-natural put-natural-requires same-length returns)
+put-decimal-spec = tie.close (tie.spec put-fraction-requires (λ c κs. search needs) div-put-natural put-natural-requires (λ c. search needs) returns)

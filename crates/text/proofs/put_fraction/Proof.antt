@@ -26,29 +26,14 @@ returns c =
     let s = c .before in
     rw (fraction-none (s .args .decimals) (s .args .number) (c .if1 .taken)) (put-none (s .args .out .now) (s .args .end) (s .pre .1))
 
-loop-holds : tie.Need-loop-holds Inv-loop μ-loop
-loop-holds c = search needs
-
 room : (c : tie.Else1 Inv-loop μ-loop) → 1 + c .before .args .decimals ≤ c .before .args .end
 room c = omega (arith, fraction-length (c .before .args .decimals) (c .before .args .number) (omega arith), c .before .pre .0)
 
 sub-start : tie.Need-sub-start Inv-loop μ-loop
 sub-start c = omega (arith, room (c .before .before))
 
-cast-out : tie.Need-cast-out Inv-loop μ-loop
-cast-out c = search needs
-
-add-out : tie.Need-add-out Inv-loop μ-loop
-add-out c = search needs
-
 slice-write-out : tie.Need-slice-write-out Inv-loop μ-loop
 slice-write-out c = omega (arith, room (c .before .before))
-
-sub-left : tie.Need-sub-left Inv-loop μ-loop
-sub-left c = search needs
-
-loop-less : tie.Need-loop-less Inv-loop μ-loop
-loop-less c = search needs
 
 loop-again : tie.Need-loop-again Inv-loop μ-loop
 loop-again c =
@@ -90,13 +75,13 @@ put-fraction-spec =
     Inv-loop
     μ-loop
     returns
-    loop-holds
+    (λ c. search needs)
     sub-start
-    cast-out
-    add-out
+    (λ c. search needs)
+    (λ c. search needs)
     slice-write-out
-    sub-left
-    loop-less
+    (λ c. search needs)
+    (λ c. search needs)
     loop-again
     sub-start-2
     slice-write-out-2

@@ -23,9 +23,6 @@ put-word-requires c κs =
     let p = fielded .put-field .ensures in
     (omega (arith, p .place, field-room 0 (s .args .number) (s .args .follower) (s .fits .number .fits)), omega (arith, p .place, p .within, p .same))
 
-same-length : tie.Need-same-length
-same-length c = search needs
-
 returns : tie.Need-returns
 returns c =
     let worded = c .before .before in
@@ -33,4 +30,4 @@ returns c =
     put-before (fielded .put-field .ensures) (worded .put-word .ensures)
 
 pub put-label-spec : {M : Type 1} → statement M
-put-label-spec = tie.close (tie.spec put-field-requires put-word-requires same-length returns)
+put-label-spec = tie.close (tie.spec put-field-requires put-word-requires (λ c. search needs) returns)

@@ -60,14 +60,8 @@ node-put c =
     let r = discount-put (discount-at c) in
     room-left 23 44 (c .put-signed-field2 .ensures) (omega arith) (held-room 0 32 (s .args .node) (s .fits .node))
 
-slice-aggregate-put-label : tie.Need-slice-aggregate-put-label
-slice-aggregate-put-label c = search needs
-
 put-label-requires : tie.Need-put-label-requires
 put-label-requires c κs = let r = node-put (c .before .before .before .before) in (omega arith, r .1)
-
-same-length : tie.Need-same-length
-same-length c = search needs
 
 returns : tie.Need-returns
 unfolding nodeLine
@@ -88,7 +82,7 @@ put-node-spec =
     put-signed-field-requires
     put-field-requires
     put-signed-field-requires-2
-    slice-aggregate-put-label
+    (λ c. search needs)
     put-label-requires
-    same-length
+    (λ c. search needs)
     returns)

@@ -28,9 +28,6 @@ sub-start c = room c
 slice-write-out : tie.Need-slice-write-out
 slice-write-out c = let r = room c in omega arith
 
-same-length : tie.Need-same-length
-same-length c = search needs
-
 returns : tie.Need-returns
 returns c = rw (negative c) (put-one (c .before .args .out .now) (c .before .args .end) 45 (room c) (c .before .pre .1))
 
@@ -41,4 +38,4 @@ returns-2 c =
     rw (sign-none (s .args .number) h) (put-none (s .args .out .now) (s .args .end) (s .pre .1))
 
 pub put-sign-spec : {M : Type 1} → statement M
-put-sign-spec = tie.close (tie.spec sub-start slice-write-out same-length returns returns-2)
+put-sign-spec = tie.close (tie.spec sub-start slice-write-out (λ c. search needs) returns returns-2)

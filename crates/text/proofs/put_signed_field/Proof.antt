@@ -7,14 +7,11 @@ use lib.IntN.{natAbs}
 use mir.Facts.{toZ-ofZ}
 use borrow.Author.Needs.{needs}
 use Rattle.text_laws.specs.Decimal.{decimal}
-use Rattle.text_laws.specs.Put.{Put}
+use Rattle.text_laws.specs.inside.Put.{Put}
 use Rattle.text_laws.proofs.DecimalLaws.{signed-length, signed-parts}
 use Rattle.text_laws.proofs.PutLaws.{put-before}
 use Rattle.text.proofs.put_signed_field.Statement.{statement}
 use Rattle.text.proofs.put_signed_field.Tie as tie
-
-magnitude-requires : tie.Need-magnitude-requires
-magnitude-requires c κs = search needs
 
 -- where the number without its sign is known
 abbrev start : tie.After-magnitude → tie.Start
@@ -43,9 +40,6 @@ put-sign-requires c κs =
     rw (toZ-ofZ (s .fits .number))
     (omega (arith, p .place, signed-length (a .decimals) (a .follower) (a .number)), omega (arith, p .place, p .same))
 
-same-length : tie.Need-same-length
-same-length c = search needs
-
 returns : tie.Need-returns
 returns c =
     let signed = c .before .before in
@@ -55,4 +49,4 @@ returns c =
     rw (signed-parts (s .args .decimals) (s .args .follower) (s .args .number)) (put-before (field-put fielded) sign)
 
 pub put-signed-field-spec : {M : Type 1} → statement M
-put-signed-field-spec = tie.close (tie.spec magnitude-requires put-field-requires put-sign-requires same-length returns)
+put-signed-field-spec = tie.close (tie.spec (λ c κs. search needs) put-field-requires put-sign-requires (λ c. search needs) returns)

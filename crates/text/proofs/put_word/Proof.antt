@@ -33,21 +33,6 @@ loop-holds c =
     let a = c .args in
     (search needs, search needs, refl, ap (λ (l : List ℕ). putBefore (a .out .now) (a .end) l) (take-length (a .word .now)))
 
-sub-left : tie.Need-sub-left Inv-loop μ-loop
-sub-left c = search needs
-
-sub-start : tie.Need-sub-start Inv-loop μ-loop
-sub-start c = search needs
-
-shared-slice-read-out : tie.Need-shared-slice-read-out Inv-loop μ-loop
-shared-slice-read-out c = search needs
-
-slice-write-out : tie.Need-slice-write-out Inv-loop μ-loop
-slice-write-out c = search needs
-
-loop-less : tie.Need-loop-less Inv-loop μ-loop
-loop-less c = search needs
-
 loop-again : tie.Need-loop-again Inv-loop μ-loop
 loop-again c =
     let l = c .before .before .loop in
@@ -57,9 +42,6 @@ loop-again c =
       simp length-set (search needs),
       less (l .out) word _ (l .start) (l .left) (omega arith) (omega arith) (omega arith) (omega arith) (l .inv .3),
     )
-
-same-length : tie.Need-same-length Inv-loop μ-loop
-same-length c = search needs
 
 returns : tie.Need-returns Inv-loop μ-loop
 returns c =
@@ -76,11 +58,11 @@ put-word-spec =
     Inv-loop
     μ-loop
     loop-holds
-    sub-left
-    sub-start
-    shared-slice-read-out
-    slice-write-out
-    loop-less
+    (λ c. search needs)
+    (λ c. search needs)
+    (λ c. search needs)
+    (λ c. search needs)
+    (λ c. search needs)
     loop-again
-    same-length
+    (λ c. search needs)
     returns)

@@ -9,18 +9,12 @@ use Rattle.text_laws.proofs.LineLaws.{room-known, line-refused, line-put}
 use Rattle.text.proofs.refused_line.Statement.{statement}
 use Rattle.text.proofs.refused_line.Tie as tie
 
-line-number-requires : tie.Need-line-number-requires
-line-number-requires c κs = search needs
-
 returns : tie.Need-returns
 returns c =
     let s = c .before .before .before in
     let line-number = c .before .line-number in
     let if1 = c .if1 in
     line-refused (s .args .out .now) (s .args .end) _ (line-number .result) (line-number .ensures) (if1 .taken)
-
-slice-aggregate-put-label : tie.Need-slice-aggregate-put-label
-slice-aggregate-put-label c = search needs
 
 put-label-requires : tie.Need-put-label-requires
 put-label-requires c κs =
@@ -29,9 +23,6 @@ put-label-requires c κs =
     let if1 = c .before .before .if1 in
     let r = room-known (length (s .args .out .now)) (s .args .end) (sym (line-number .ensures) ∙ if1 .left) in
     (omega arith, r .1)
-
-same-length : tie.Need-same-length
-same-length c = search needs
 
 returns-2 : tie.Need-returns-2
 unfolding refusedLine
@@ -44,4 +35,4 @@ returns-2 c =
     line-put (s .args .out .now) (s .args .end) _ (r .0) (put-label .ensures)
 
 pub refused-line-spec : {M : Type 1} → statement M
-refused-line-spec = tie.close (tie.spec line-number-requires returns slice-aggregate-put-label put-label-requires same-length returns-2)
+refused-line-spec = tie.close (tie.spec (λ c κs. search needs) returns (λ c. search needs) put-label-requires (λ c. search needs) returns-2)

@@ -13,9 +13,6 @@ use Rattle.text_laws.proofs.PutLaws.{put-before}
 use Rattle.text.proofs.row_line.Statement.{statement}
 use Rattle.text.proofs.row_line.Tie as tie
 
-line-number-requires : tie.Need-line-number-requires
-line-number-requires c κs = search needs
-
 returns : tie.Need-returns
 returns c =
     let s = c .before .before .before in
@@ -59,14 +56,8 @@ quote-put c =
     let r = total-put (total-at c) in
     room-left 31 44 (c .put-field .ensures) (omega arith) (field-room 9 (s .args .quote) 32 (s .fits .quote .fits))
 
-slice-aggregate-put-label : tie.Need-slice-aggregate-put-label
-slice-aggregate-put-label c = search needs
-
 put-label-requires : tie.Need-put-label-requires
 put-label-requires c κs = let r = quote-put (c .before .before .before .before) in (omega arith, r .1)
-
-same-length : tie.Need-same-length
-same-length c = search needs
 
 returns-2 : tie.Need-returns-2
 unfolding rowLine
@@ -82,11 +73,11 @@ pub row-line-spec : {M : Type 1} → statement M
 row-line-spec =
     tie.close
     (tie.spec
-    line-number-requires
+    (λ c κs. search needs)
     returns
     put-bounded-requires
     put-field-requires
-    slice-aggregate-put-label
+    (λ c. search needs)
     put-label-requires
-    same-length
+    (λ c. search needs)
     returns-2)

@@ -8,9 +8,6 @@ use Rattle.text_laws.proofs.WordLineLaws.{word-known, word-refused, word-put}
 use Rattle.text.proofs.whole_line.Statement.{statement}
 use Rattle.text.proofs.whole_line.Tie as tie
 
-word-number-requires : tie.Need-word-number-requires
-word-number-requires c κs = search needs
-
 returns : tie.Need-returns
 returns c =
     let a = c .before .before .before .before .args in
@@ -21,9 +18,6 @@ put-label-requires c κs =
     let a = c .before .before .before .before .before .args in
     let r = word-known (length (a .word .now)) (length (a .out .now)) (a .end) _ (c .before .before .word-number .ensures) (c .before .if1 .left) in
     (omega arith, r .2)
-
-same-length : tie.Need-same-length
-same-length c = search needs
 
 returns-2 : tie.Need-returns-2
 unfolding wholeLine
@@ -36,4 +30,4 @@ returns-2 c =
     word-put (a .word .now) (a .out .now) (a .end) _ _ (at-word-number .word-number .ensures) (at-if1 .if1 .left) (at-put-label .put-label .ensures)
 
 pub whole-line-spec : {M : Type 1} → statement M
-whole-line-spec = tie.close (tie.spec word-number-requires returns put-label-requires same-length returns-2)
+whole-line-spec = tie.close (tie.spec (λ c κs. search needs) returns put-label-requires (λ c. search needs) returns-2)

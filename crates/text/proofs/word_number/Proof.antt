@@ -9,11 +9,8 @@ use Rattle.text.proofs.word_number.Tie as tie
 returns : tie.Need-returns
 returns c = word-long _ _ _ (c .if1 .taken)
 
-line-number-requires : tie.Need-line-number-requires
-line-number-requires c κs = search needs
-
 returns-2 : tie.Need-returns-2
 returns-2 c = c .line-number .ensures ∙ word-short _ _ _ (c .before .if1 .left)
 
 pub word-number-spec : {M : Type 1} → statement M
-word-number-spec = tie.close (tie.spec returns line-number-requires returns-2)
+word-number-spec = tie.close (tie.spec returns (λ c κs. search needs) returns-2)

@@ -16,9 +16,6 @@ small c = omega (arith, mul-le-mul {n₁ = c .args .greatest} {m₁ = c .args .b
 mul-result : tie.Need-mul-result
 mul-result c = omega (arith, small c)
 
-sub-result : tie.Need-sub-result
-sub-result c = search needs
-
 add-result : tie.Need-add-result
 add-result c = omega (arith, small c)
 
@@ -34,7 +31,7 @@ bound-of-value-spec =
     tie.close
     (tie.spec
     mul-result
-    sub-result
+    (λ c. search needs)
     add-result
     add-result-2
     returns)

@@ -5,12 +5,6 @@ use Rattle.valuation.proofs.EntryLaws.{payoffs-few, payoffs-counted}
 use Rattle.valuation.proofs.payoffs_cause.Statement.{statement}
 use Rattle.valuation.proofs.payoffs_cause.Tie as tie
 
-limit-cause-requires : tie.Need-limit-cause-requires
-limit-cause-requires c κs = search needs
-
-lowest-cause-requires : tie.Need-lowest-cause-requires
-lowest-cause-requires c κs = search needs
-
 returns : tie.Need-returns
 returns c = payoffs-few _ _ _ _ _ (c .before .before .limit-cause .ensures) (c .before .if1 .taken) (c .lowest-cause .ensures)
 
@@ -18,4 +12,4 @@ returns-2 : tie.Need-returns-2
 returns-2 c = payoffs-counted _ _ _ _ (c .before .limit-cause .ensures) (c .if1 .left)
 
 pub payoffs-cause-spec : {M : Type 1} → statement M
-payoffs-cause-spec = tie.close (tie.spec limit-cause-requires lowest-cause-requires returns returns-2)
+payoffs-cause-spec = tie.close (tie.spec (λ c κs. search needs) (λ c κs. search needs) returns returns-2)

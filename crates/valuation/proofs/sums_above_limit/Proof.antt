@@ -20,29 +20,11 @@ loop-holds c = (search needs, laws.summed-start _)
 sub-if1 : tie.Need-sub-if1 Inv-loop μ-loop
 sub-if1 c = omega (arith, c .before .loop .inv .1 .small)
 
-mul-if1 : tie.Need-mul-if1 Inv-loop μ-loop
-mul-if1 c = search needs
-
-shared-slice-read-if1 : tie.Need-shared-slice-read-if1 Inv-loop μ-loop
-shared-slice-read-if1 c = search needs
-
 returns : tie.Need-returns Inv-loop μ-loop
 returns c = laws.summed-over _ _ _ (c .before .before .before .loop .inv .1) (omega arith) (c .if1 .taken)
 
-mul-total : tie.Need-mul-total Inv-loop μ-loop
-mul-total c = search needs
-
-shared-slice-read-total : tie.Need-shared-slice-read-total Inv-loop μ-loop
-shared-slice-read-total c = search needs
-
 add-total : tie.Need-add-total Inv-loop μ-loop
 add-total c = omega (arith, c .before .if1 .left, c .before .before .before .before .loop .inv .1 .small)
-
-add-index : tie.Need-add-index Inv-loop μ-loop
-add-index c = search needs
-
-loop-less : tie.Need-loop-less Inv-loop μ-loop
-loop-less c = search needs
 
 loop-again : tie.Need-loop-again Inv-loop μ-loop
 loop-again c = (search needs, laws.summed-next _ _ _ (c .before .before .before .before .loop .inv .1) (c .before .if1 .left))
@@ -58,13 +40,13 @@ sums-above-limit-spec =
     μ-loop
     loop-holds
     sub-if1
-    mul-if1
-    shared-slice-read-if1
+    (λ c. search needs)
+    (λ c. search needs)
     returns
-    mul-total
-    shared-slice-read-total
+    (λ c. search needs)
+    (λ c. search needs)
     add-total
-    add-index
-    loop-less
+    (λ c. search needs)
+    (λ c. search needs)
     loop-again
     returns-2)

@@ -27,24 +27,6 @@ found c =
       lowest = c .lowest-cause .ensures;
     }
 
-state-price-error-bound-requires : tie.Need-state-price-error-bound-requires
-state-price-error-bound-requires c κs = search needs
-
-node-count-requires : tie.Need-node-count-requires
-node-count-requires c κs = search needs
-
-greatest-of-requires : tie.Need-greatest-of-requires
-greatest-of-requires c κs = search needs
-
-payoffs-cause-requires : tie.Need-payoffs-cause-requires
-payoffs-cause-requires c κs = search needs
-
-lowest-cause-requires : tie.Need-lowest-cause-requires
-lowest-cause-requires c κs = search needs
-
-refused-requires : tie.Need-refused-requires
-refused-requires c κs = search needs
-
 returns : tie.Need-returns
 returns c = laws.refused-number _ _ _ _ _ _ _ _ _ _ (found (c .before .before)) (c .before .if1 .taken) _ (c .refused .ensures)
 
@@ -58,12 +40,12 @@ pub valuation-error-bound-spec : {M : Type 1} → statement M
 valuation-error-bound-spec =
     tie.close
     (tie.spec
-    state-price-error-bound-requires
-    node-count-requires
-    greatest-of-requires
-    payoffs-cause-requires
-    lowest-cause-requires
-    refused-requires
+    (λ c κs. search needs)
+    (λ c κs. search needs)
+    (λ c κs. search needs)
+    (λ c κs. search needs)
+    (λ c κs. search needs)
+    (λ c κs. search needs)
     returns
     bound-of-value-requires
     returns-2)

@@ -34,41 +34,20 @@ counted c = c .before .before
 low : (c : tie.Else4) → greatestOf (start (counted c) .args .payoffs .now) ≤ valueLimit
 low c = laws.low-payoffs (start (counted c) .args .payoffs .now) _ (c .before .greatest-of .ensures) (c .if4 .left)
 
-refused-requires : tie.Need-refused-requires
-refused-requires c κs = search needs
-
 returns : tie.Need-returns
 returns c = laws.unequal _ _ _ (c .refused .ensures) (c .before .if1 .taken)
-
-refused-requires-2 : tie.Need-refused-requires-2
-refused-requires-2 c κs = search needs
 
 returns-2 : tie.Need-returns-2
 returns-2 c = laws.even _ _ _ (c .refused2 .ensures) (c .before .if2 .taken)
 
-refused-requires-3 : tie.Need-refused-requires-3
-refused-requires-3 c κs = search needs
-
 returns-3 : tie.Need-returns-3
 returns-3 c = laws.too-long _ _ _ (c .refused3 .ensures) (c .before .if3 .taken)
-
-greatest-of-requires : tie.Need-greatest-of-requires
-greatest-of-requires c κs = search needs
-
-refused-requires-4 : tie.Need-refused-requires-4
-refused-requires-4 c κs = search needs
 
 returns-4 : tie.Need-returns-4
 returns-4 c =
     let e = c .before .before .before in
     laws.high-payoff _ _ (same e) (odd e) (few e)
     _ _ (c .refused4 .ensures) (c .before .before .greatest-of .ensures) (c .before .if4 .taken)
-
-sums-above-limit-requires : tie.Need-sums-above-limit-requires
-sums-above-limit-requires c κs = search needs
-
-refused-requires-5 : tie.Need-refused-requires-5
-refused-requires-5 c κs = search needs
 
 returns-5 : tie.Need-returns-5
 returns-5 c =
@@ -82,9 +61,6 @@ sum-of-products-requires c κs =
     let summed = c .before in
     let limited = summed .before in
     (same (counted limited), laws.low-sum _ _ (summed .sums-above-limit .ensures) (c .if5 .left), low limited)
-
-refused-requires-6 : tie.Need-refused-requires-6
-refused-requires-6 c κs = search needs
 
 returns-6 : tie.Need-returns-6
 returns-6 c =
@@ -108,19 +84,19 @@ pub value-by-state-prices-spec : {M : Type 1} → statement M
 value-by-state-prices-spec =
     tie.close
     (tie.spec
-    refused-requires
+    (λ c κs. search needs)
     returns
-    refused-requires-2
+    (λ c κs. search needs)
     returns-2
-    refused-requires-3
+    (λ c κs. search needs)
     returns-3
-    greatest-of-requires
-    refused-requires-4
+    (λ c κs. search needs)
+    (λ c κs. search needs)
     returns-4
-    sums-above-limit-requires
-    refused-requires-5
+    (λ c κs. search needs)
+    (λ c κs. search needs)
     returns-5
     sum-of-products-requires
-    refused-requires-6
+    (λ c κs. search needs)
     returns-6
     returns-7)

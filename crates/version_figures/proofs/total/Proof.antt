@@ -11,45 +11,18 @@ Inv-loop kind frequency volatility block sum₀ index₀ sum index = (index ≤ 
 abbrev μ-loop : tie.MeasureT-loop
 μ-loop kind frequency volatility block sum₀ index₀ sum index = 100 - index
 
-loop-holds : tie.Need-loop-holds Inv-loop μ-loop
-loop-holds c = search needs
-
-mul-figure : tie.Need-mul-figure Inv-loop μ-loop
-mul-figure c = search needs
-
-add-figure : tie.Need-add-figure Inv-loop μ-loop
-add-figure c = search needs
-
-figure-requires : tie.Need-figure-requires Inv-loop μ-loop
-figure-requires c κs = search needs
-
-add-sum : tie.Need-add-sum Inv-loop μ-loop
-add-sum c = search needs
-
-add-index : tie.Need-add-index Inv-loop μ-loop
-add-index c = search needs
-
-loop-less : tie.Need-loop-less Inv-loop μ-loop
-loop-less c = search needs
-
-loop-again : tie.Need-loop-again Inv-loop μ-loop
-loop-again c = search needs
-
-returns : tie.Need-returns Inv-loop μ-loop
-returns c = search needs
-
 pub total-spec : {M : Type 1} → statement M
 total-spec =
     tie.close
     (tie.spec
     Inv-loop
     μ-loop
-    loop-holds
-    mul-figure
-    add-figure
-    figure-requires
-    add-sum
-    add-index
-    loop-less
-    loop-again
-    returns)
+    (λ c. search needs)
+    (λ c. search needs)
+    (λ c. search needs)
+    (λ c κs. search needs)
+    (λ c. search needs)
+    (λ c. search needs)
+    (λ c. search needs)
+    (λ c. search needs)
+    (λ c. search needs))

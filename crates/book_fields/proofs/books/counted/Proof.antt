@@ -9,20 +9,8 @@ use Rattle.book_laws.specs.Books.{counted}
 use Rattle.book_fields.proofs.books.counted.Statement.{statement}
 use Rattle.book_fields.proofs.books.counted.Tie as tie
 
-sub-at : tie.Need-sub-at
-sub-at c = search needs
-
-mul-next : tie.Need-mul-next
-mul-next c = search needs
-
-array-read-next : tie.Need-array-read-next
-array-read-next c = search needs
-
 add-next : tie.Need-add-next
 add-next c = omega (arith, counts-within (c .args .counts) 500 (c .args .number - 1) (c .pre .2) (omega arith))
-
-array-write-next : tie.Need-array-write-next
-array-write-next c = search needs
 
 returns : tie.Need-returns
 unfolding counted
@@ -30,4 +18,4 @@ returns c = refl
 
 pub counted-spec : {M : Type 1} → statement M
 counted-spec =
-    tie.close (tie.spec sub-at mul-next array-read-next add-next array-write-next returns)
+    tie.close (tie.spec (λ c. search needs) (λ c. search needs) (λ c. search needs) add-next (λ c. search needs) returns)

@@ -18,20 +18,11 @@ returns-2 c = shut _ (λ w. omega (arith, w .fields, c .if2 .taken))
 returns-3 : tie.Need-returns-3
 returns-3 c = shut _ (λ w. omega (arith, w .priced, c .if3 .taken))
 
-mul-if4 : tie.Need-mul-if4
-mul-if4 c = search needs
-
 returns-4 : tie.Need-returns-4
 returns-4 c = shut _ (λ w. omega (arith, w .bonds, c .if4 .taken))
 
-mul-if5 : tie.Need-mul-if5
-mul-if5 c = search needs
-
 returns-5 : tie.Need-returns-5
 returns-5 c = shut _ (λ w. omega (arith, w .options, c .if5 .taken))
-
-mul-if6 : tie.Need-mul-if6
-mul-if6 c = search needs
 
 returns-6 : tie.Need-returns-6
 returns-6 c = shut _ (λ w. omega (arith, w .error-bounds, c .if6 .taken))
@@ -47,9 +38,6 @@ slice-aggregate-all-between : tie.Need-slice-aggregate-all-between
 slice-aggregate-all-between c =
     let s = c .before .before .before .before .before .before .before .before .before .before .before .before .before .before .before .before .before .before in
     sym (sized s)
-
-all-between-requires : tie.Need-all-between-requires
-all-between-requires c κs = search needs
 
 returns-8 : tie.Need-returns-8
 returns-8 c =
@@ -73,13 +61,13 @@ is-open-spec =
     returns
     returns-2
     returns-3
-    mul-if4
+    (λ c. search needs)
     returns-4
-    mul-if5
+    (λ c. search needs)
     returns-5
-    mul-if6
+    (λ c. search needs)
     returns-6
     returns-7
     slice-aggregate-all-between
-    all-between-requires
+    (λ c κs. search needs)
     returns-8)

@@ -7,9 +7,6 @@ use Rattle.book_laws.specs.Books.{withPriced}
 use Rattle.book_fields.proofs.books.with_priced.Statement.{statement}
 use Rattle.book_fields.proofs.books.with_priced.Tie as tie
 
-is-dearer-requires : tie.Need-is-dearer-requires
-is-dearer-requires c κs = search needs
-
 -- what is known of the book and of the prices
 known : (s : tie.Start) → Within (s .args .book)
 known s = open-within (s .args .book) (s .pre .0)
@@ -25,9 +22,6 @@ add-t7 c =
     let s = c .before .before .before .before .before .before in
     let w = known s in omega (arith, w .fields, w .bonds, s .pre .1 .bond)
 
-option-of-requires : tie.Need-option-of-requires
-option-of-requires c κs = search needs
-
 add-t9 : tie.Need-add-t9
 add-t9 c =
     let s = c .before .before .before .before .before .before .before .before in
@@ -38,12 +32,6 @@ add-t10 : tie.Need-add-t10
 add-t10 c =
     let s = c .before .before .before .before .before .before .before .before .before .before in
     let w = known s in omega (arith, w .fields, w .error-bounds, s .pre .1 .bound)
-
-chosen-requires : tie.Need-chosen-requires
-chosen-requires c κs = search needs
-
-chosen-requires-2 : tie.Need-chosen-requires-2
-chosen-requires-2 c κs = search needs
 
 returns : tie.Need-returns
 unfolding withPriced
@@ -57,13 +45,13 @@ pub with-priced-spec : {M : Type 1} → statement M
 with-priced-spec =
     tie.close
     (tie.spec
-    is-dearer-requires
+    (λ c κs. search needs)
     add-place
     add-t6
     add-t7
-    option-of-requires
+    (λ c κs. search needs)
     add-t9
     add-t10
-    chosen-requires
-    chosen-requires-2
+    (λ c κs. search needs)
+    (λ c κs. search needs)
     returns)

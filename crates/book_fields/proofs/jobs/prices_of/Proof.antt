@@ -6,36 +6,21 @@ use Rattle.book_laws.specs.Bounds.{jobPrices}
 use Rattle.book_fields.proofs.jobs.prices_of.Statement.{statement}
 use Rattle.book_fields.proofs.jobs.prices_of.Tie as tie
 
-discounts-requires : tie.Need-discounts-requires
-discounts-requires c κs = search needs
-
-state-prices-requires : tie.Need-state-prices-requires
-state-prices-requires c κs = search needs
-
-slice-aggregate-prices-of-job : tie.Need-slice-aggregate-prices-of-job
-slice-aggregate-prices-of-job c = search needs
-
-slice-aggregate-prices-of-job-2 : tie.Need-slice-aggregate-prices-of-job-2
-slice-aggregate-prices-of-job-2 c = search needs
-
-prices-of-job-requires : tie.Need-prices-of-job-requires
-prices-of-job-requires c κs = search needs
-
 returns : tie.Need-returns
 unfolding jobPrices
 returns c =
     let at-prices-of-job = c .before .before in
     let at-state-prices = at-prices-of-job .before .before .before in
     let at-discounts = at-state-prices .before in
-    at-prices-of-job .prices-of-job .ensures .0 ∙ rw (at-discounts .discounts .ensures, at-state-prices .state-prices .ensures)
+    at-prices-of-job .prices-of-job .ensures .0 ∙ rw (at-discounts .discount-room .ensures, at-state-prices .state-price-room .ensures)
 
 pub prices-of-spec : {M : Type 1} → statement M
 prices-of-spec =
     tie.close
     (tie.spec
-    discounts-requires
-    state-prices-requires
-    slice-aggregate-prices-of-job
-    slice-aggregate-prices-of-job-2
-    prices-of-job-requires
+    (λ c κs. search needs)
+    (λ c κs. search needs)
+    (λ c. search needs)
+    (λ c. search needs)
+    (λ c κs. search needs)
     returns)

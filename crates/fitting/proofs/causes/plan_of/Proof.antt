@@ -17,29 +17,11 @@ tested c =
     laws.tested (remembered .before .before .pre .within-limit) (remembered .before .discounts-needed .ensures) (remembered .memory-cause .ensures)
     (joined .lowest-cause .ensures) (c .before .lowest-cause2 .ensures) (c .lowest-cause3 .ensures)
 
-discounts-needed-requires : tie.Need-discounts-needed-requires
-discounts-needed-requires c κs = search needs
-
-memory-cause-requires : tie.Need-memory-cause-requires
-memory-cause-requires c κs = search needs
-
-lowest-cause-requires : tie.Need-lowest-cause-requires
-lowest-cause-requires c κs = search needs
-
-lowest-cause-requires-2 : tie.Need-lowest-cause-requires-2
-lowest-cause-requires-2 c κs = search needs
-
-lowest-cause-requires-3 : tie.Need-lowest-cause-requires-3
-lowest-cause-requires-3 c κs = search needs
-
 returns : tie.Need-returns
 returns c = laws.plan-early (tested (c .before)) (c .if1 .taken)
 
 sub-half-width : tie.Need-sub-half-width
-sub-half-width c = omega (arith, laws.known (tested (c .before)) (c .if1 .left) .steps-positive)
-
-half-width-requires : tie.Need-half-width-requires
-half-width-requires c κs = search needs
+sub-half-width c = omega (arith, laws.known (tested (c .before)) (c .if1 .left) .limits .steps-positive)
 
 mul-if2 : tie.Need-mul-if2
 mul-if2 c =
@@ -60,14 +42,14 @@ pub plan-of-spec : {M : Type 1} → statement M
 plan-of-spec =
     tie.close
     (tie.spec
-    discounts-needed-requires
-    memory-cause-requires
-    lowest-cause-requires
-    lowest-cause-requires-2
-    lowest-cause-requires-3
+    (λ c κs. search needs)
+    (λ c κs. search needs)
+    (λ c κs. search needs)
+    (λ c κs. search needs)
+    (λ c κs. search needs)
     returns
     sub-half-width
-    half-width-requires
+    (λ c κs. search needs)
     mul-if2
     returns-2
     returns-3)

@@ -27,92 +27,26 @@ stepped c = c .before .before .before .before .before
 accepted : (c : tie.Else1) → stepped c .step-row .result ≡ true
 accepted c = not-false _ (c .if1 .left)
 
-add-end : tie.Need-add-end
-add-end c = search needs
-
-add-last : tie.Need-add-last
-add-last c = search needs
-
-mul-step-row : tie.Need-mul-step-row
-mul-step-row c = search needs
-
-sub-step-row : tie.Need-sub-step-row
-sub-step-row c = search needs
-
-part-step-row-start : tie.Need-part-step-row-start
-part-step-row-start c = search needs
-
-part-step-row-end : tie.Need-part-step-row-end
-part-step-row-end c = search needs
-
-mul-step-row-2 : tie.Need-mul-step-row-2
-mul-step-row-2 c = search needs
-
-sub-step-row-2 : tie.Need-sub-step-row-2
-sub-step-row-2 c = search needs
-
-part-step-row-start-2 : tie.Need-part-step-row-start-2
-part-step-row-start-2 c = search needs
-
-part-step-row-end-2 : tie.Need-part-step-row-end-2
-part-step-row-end-2 c = search needs
-
-slice-relend-prefix-step-row : tie.Need-slice-relend-prefix-step-row
-slice-relend-prefix-step-row c = search needs
-
 slice-aggregate-step-row : tie.Need-slice-aggregate-step-row
 slice-aggregate-step-row c = sym (laws.front-length (lent c .pre))
 
 step-row-requires : tie.Need-step-row-requires
 step-row-requires c κs = laws.row-asks (lent c .pre)
 
-same-length : tie.Need-same-length
-same-length c = search needs
-
-same-length-2 : tie.Need-same-length-2
-same-length-2 c = search needs
-
-same-length-3 : tie.Need-same-length-3
-same-length-3 c = search needs
-
 returns : tie.Need-returns
 returns c =
     let step = c .before .before .before .before .before in
     laws.row-refused (start step .pre) (step .step-row .ensures) (long step) (not-true _ (c .if1 .taken))
-
-slice-reshare-prefix-divide : tie.Need-slice-reshare-prefix-divide
-slice-reshare-prefix-divide c = search needs
 
 slice-aggregate-divide : tie.Need-slice-aggregate-divide
 slice-aggregate-divide c =
     let step = stepped (c .before) in
     sym (laws.front-again (start step .pre) (step .step-row .ensures) (long step) (accepted (c .before)))
 
-mul-divide : tie.Need-mul-divide
-mul-divide c = search needs
-
-sub-divide : tie.Need-sub-divide
-sub-divide c = search needs
-
-part-divide-start : tie.Need-part-divide-start
-part-divide-start c = search needs
-
-part-divide-end : tie.Need-part-divide-end
-part-divide-end c = search needs
-
 divide-requires : tie.Need-divide-requires
 divide-requires c κs =
     let step = stepped (c .before .before) in
     laws.divide-asks (start step .pre) (step .step-row .ensures) (long step) (accepted (c .before .before))
-
-same-length-4 : tie.Need-same-length-4
-same-length-4 c = search needs
-
-same-length-5 : tie.Need-same-length-5
-same-length-5 c = search needs
-
-same-length-6 : tie.Need-same-length-6
-same-length-6 c = search needs
 
 returns-2 : tie.Need-returns-2
 returns-2 c =
@@ -125,31 +59,31 @@ pub fit-row-spec : {M : Type 1} → statement M
 fit-row-spec =
     tie.close
     (tie.spec
-    add-end
-    add-last
-    mul-step-row
-    sub-step-row
-    part-step-row-start
-    part-step-row-end
-    mul-step-row-2
-    sub-step-row-2
-    part-step-row-start-2
-    part-step-row-end-2
-    slice-relend-prefix-step-row
+    (λ c. search needs)
+    (λ c. search needs)
+    (λ c. search needs)
+    (λ c. search needs)
+    (λ c. search needs)
+    (λ c. search needs)
+    (λ c. search needs)
+    (λ c. search needs)
+    (λ c. search needs)
+    (λ c. search needs)
+    (λ c. search needs)
     slice-aggregate-step-row
     step-row-requires
-    same-length
-    same-length-2
-    same-length-3
+    (λ c. search needs)
+    (λ c. search needs)
+    (λ c. search needs)
     returns
-    slice-reshare-prefix-divide
+    (λ c. search needs)
     slice-aggregate-divide
-    mul-divide
-    sub-divide
-    part-divide-start
-    part-divide-end
+    (λ c. search needs)
+    (λ c. search needs)
+    (λ c. search needs)
+    (λ c. search needs)
     divide-requires
-    same-length-4
-    same-length-5
-    same-length-6
+    (λ c. search needs)
+    (λ c. search needs)
+    (λ c. search needs)
     returns-2)

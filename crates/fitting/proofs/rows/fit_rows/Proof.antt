@@ -37,27 +37,15 @@ slice-write-prices c = laws.prices-some (c .before .before .before .before .befo
 loop-holds : tie.Need-loop-holds Inv-loop μ-loop
 loop-holds c = (search needs, laws.begun (c .before .before .before .before .before .before .pre), refl, refl, refl)
 
-mul-t13 : tie.Need-mul-t13 Inv-loop μ-loop
-mul-t13 c = search needs
-
-shared-slice-read-t15 : tie.Need-shared-slice-read-t15 Inv-loop μ-loop
-shared-slice-read-t15 c = omega arith
-
 tree-row-requires : tie.Need-tree-row-requires Inv-loop μ-loop
 tree-row-requires c κs =
     let l = c .before .before .before .before in
     laws.row-asks (laws.stored-ready (start l .pre)) (l .before .loop .inv .1) (inside l) _ (l .before .loop .inv .2)
 
-same-length : tie.Need-same-length Inv-loop μ-loop
-same-length c = search needs
-
 same-length-2 : tie.Need-same-length-2 Inv-loop μ-loop
 same-length-2 c =
     let row = c .before .before .before .before .before .before .before in
     row .tree-row .kept .1 .1 .1 .1 .0 ∙ looped row .before .loop .inv .4 ∙ simp length-set
-
-same-length-3 : tie.Need-same-length-3 Inv-loop μ-loop
-same-length-3 c = search needs
 
 returns : tie.Need-returns Inv-loop μ-loop
 returns c =
@@ -70,12 +58,6 @@ returns c =
       (λ e. never e, laws.past-stored (laws.refused-past ready done (inside l) (row .tree-row .ensures) rejected)),
     )
 
-add-row : tie.Need-add-row Inv-loop μ-loop
-add-row c = search needs
-
-loop-less : tie.Need-loop-less Inv-loop μ-loop
-loop-less c = omega arith
-
 loop-again : tie.Need-loop-again Inv-loop μ-loop
 loop-again c =
     let row = c .before .before .before .before .before .before .before in
@@ -87,14 +69,8 @@ loop-again c =
       search needs,
     )
 
-same-length-4 : tie.Need-same-length-4 Inv-loop μ-loop
-same-length-4 c = search needs
-
 same-length-5 : tie.Need-same-length-5 Inv-loop μ-loop
 same-length-5 c = c .before .loop .inv .4 ∙ simp length-set
-
-same-length-6 : tie.Need-same-length-6 Inv-loop μ-loop
-same-length-6 c = search needs
 
 returns-2 : tie.Need-returns-2 Inv-loop μ-loop
 returns-2 c =
@@ -113,17 +89,17 @@ fit-rows-spec =
     μ-loop
     slice-write-prices
     loop-holds
-    mul-t13
-    shared-slice-read-t15
+    (λ c. search needs)
+    (λ c. omega arith)
     tree-row-requires
-    same-length
+    (λ c. search needs)
     same-length-2
-    same-length-3
+    (λ c. search needs)
     returns
-    add-row
-    loop-less
+    (λ c. search needs)
+    (λ c. omega arith)
     loop-again
-    same-length-4
+    (λ c. search needs)
     same-length-5
-    same-length-6
+    (λ c. search needs)
     returns-2)

@@ -18,20 +18,17 @@ known : (c : tie.After-row-shape) →
     c .row-shape .result ≡ shapeOf (start c .args .at .reversion) (start c .args .at .steps - 1) (start c .args .at .row)
 known c =
     let s = start c in
-    laws.shape-known (s .pre .tables .reversion-within-limit) (s .pre .tables .steps-within-limit) (s .pre .in-tree) (c .row-shape .ensures)
+    laws.shape-known (s .pre .tables .limits .reversion-within-limit) (s .pre .tables .limits .steps-within-limit) (s .pre .in-tree) (c .row-shape .ensures)
 
 room : (c : tie.After-row-shape) →
     (c .row-shape .result .offset + c .row-shape .result .count ≤ nodeCount (start c .args .at .reversion) (start c .args .at .steps - 1))
     × (nodeCount (start c .args .at .reversion) (start c .args .at .steps - 1) ≤ mostNodes)
 room c =
     let s = start c in
-    laws.shape-room (s .pre .tables .reversion-within-limit) (s .pre .tables .steps-within-limit) (s .pre .in-tree) (c .row-shape .ensures)
+    laws.shape-room (s .pre .tables .limits .reversion-within-limit) (s .pre .tables .limits .steps-within-limit) (s .pre .in-tree) (c .row-shape .ensures)
 
 sub-row-shape : tie.Need-sub-row-shape
 sub-row-shape c = omega (arith, c .before .before .before .before .before .before .pre .in-tree)
-
-row-shape-requires : tie.Need-row-shape-requires
-row-shape-requires c κs = search needs
 
 add-end : tie.Need-add-end
 add-end c = omega (arith, room (c .before))
@@ -39,23 +36,11 @@ add-end c = omega (arith, room (c .before))
 mul-fit-row : tie.Need-mul-fit-row
 mul-fit-row c = omega (arith, room (c .before))
 
-sub-fit-row : tie.Need-sub-fit-row
-sub-fit-row c = search needs
-
-part-fit-row-start : tie.Need-part-fit-row-start
-part-fit-row-start c = search needs
-
 part-fit-row-end : tie.Need-part-fit-row-end
 part-fit-row-end c = omega (arith, room (c .before), start (c .before) .pre .tables .factors-bounded .length-is)
 
 mul-fit-row-2 : tie.Need-mul-fit-row-2
 mul-fit-row-2 c = omega (arith, room (c .before .before))
-
-sub-fit-row-2 : tie.Need-sub-fit-row-2
-sub-fit-row-2 c = search needs
-
-part-fit-row-start-2 : tie.Need-part-fit-row-start-2
-part-fit-row-start-2 c = search needs
 
 part-fit-row-end-2 : tie.Need-part-fit-row-end-2
 part-fit-row-end-2 c = omega (arith, room (c .before .before), start (c .before .before) .pre .tables .downs-length)
@@ -64,15 +49,6 @@ fit-row-requires : tie.Need-fit-row-requires
 fit-row-requires c κs =
     let shaped = c .before .before .before .before .before .before in
     laws.shaped-ready (start shaped .pre) (known shaped)
-
-same-length : tie.Need-same-length
-same-length c = search needs
-
-same-length-2 : tie.Need-same-length-2
-same-length-2 c = search needs
-
-same-length-3 : tie.Need-same-length-3
-same-length-3 c = search needs
 
 returns : tie.Need-returns
 returns c =
@@ -85,18 +61,18 @@ tree-row-spec =
     tie.close
     (tie.spec
     sub-row-shape
-    row-shape-requires
+    (λ c κs. search needs)
     add-end
     mul-fit-row
-    sub-fit-row
-    part-fit-row-start
+    (λ c. search needs)
+    (λ c. search needs)
     part-fit-row-end
     mul-fit-row-2
-    sub-fit-row-2
-    part-fit-row-start-2
+    (λ c. search needs)
+    (λ c. search needs)
     part-fit-row-end-2
     fit-row-requires
-    same-length
-    same-length-2
-    same-length-3
+    (λ c. search needs)
+    (λ c. search needs)
+    (λ c. search needs)
     returns)

@@ -20,20 +20,8 @@ abbrev μ-loop : tie.MeasureT-loop
 loop-holds : tie.Need-loop-holds Inv-loop μ-loop
 loop-holds c = (search needs, filled-start _ (λ j. values (c .args .sums .now) j / probabilityTotal))
 
-mul-next : tie.Need-mul-next Inv-loop μ-loop
-mul-next c = search needs
-
 shared-slice-read-next : tie.Need-shared-slice-read-next Inv-loop μ-loop
 shared-slice-read-next c = omega (arith, c .before .before .before .pre, c .before .before .loop .inv .1 .same)
-
-mul-next-2 : tie.Need-mul-next-2 Inv-loop μ-loop
-mul-next-2 c = search needs
-
-slice-write-next : tie.Need-slice-write-next Inv-loop μ-loop
-slice-write-next c = search needs
-
-add-k : tie.Need-add-k Inv-loop μ-loop
-add-k c = search needs
 
 loop-less : tie.Need-loop-less Inv-loop μ-loop
 loop-less c = omega (arith, c .before .before .loop .inv .1 .same)
@@ -59,11 +47,11 @@ divide-spec =
     Inv-loop
     μ-loop
     loop-holds
-    mul-next
+    (λ c. search needs)
     shared-slice-read-next
-    mul-next-2
-    slice-write-next
-    add-k
+    (λ c. search needs)
+    (λ c. search needs)
+    (λ c. search needs)
     loop-less
     loop-again
     same-length

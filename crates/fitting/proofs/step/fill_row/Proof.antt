@@ -45,9 +45,6 @@ inside c = omega arith
 loop-holds : tie.Need-loop-holds Inv-loop μ-loop
 loop-holds c = let s = c .before .before .before .before .before in laws.stepping-start _ _ _ _ _ _ _ (s .pre .2)
 
-mul-discount : tie.Need-mul-discount Inv-loop μ-loop
-mul-discount c = search needs
-
 shared-slice-read-discount : tie.Need-shared-slice-read-discount Inv-loop μ-loop
 shared-slice-read-discount c =
     let l = c .before in
@@ -60,9 +57,6 @@ mul-discount-2 c =
 
 div-discount : tie.Need-div-discount Inv-loop μ-loop
 div-discount c = omega (arith, start (c .before) .pre .1)
-
-is-discount-requires : tie.Need-is-discount-requires Inv-loop μ-loop
-is-discount-requires c κs = search needs
 
 same-length : tie.Need-same-length Inv-loop μ-loop
 same-length c = c .before .before .before .before .loop .inv .filled .same
@@ -80,19 +74,10 @@ returns c =
       (λ e. never e, λ e. never e),
     )
 
-mul-discounts : tie.Need-mul-discounts Inv-loop μ-loop
-mul-discounts c = search needs
-
 slice-write-discounts : tie.Need-slice-write-discounts Inv-loop μ-loop
 slice-write-discounts c =
     let l = looped c in
     omega (arith, laws.discounts-length (start l .pre .0) (l .before .loop .inv))
-
-mul-spread-node : tie.Need-mul-spread-node Inv-loop μ-loop
-mul-spread-node c = search needs
-
-shared-slice-read-spread-node : tie.Need-shared-slice-read-spread-node Inv-loop μ-loop
-shared-slice-read-spread-node c = search needs
 
 mul-spread-node-2 : tie.Need-mul-spread-node-2 Inv-loop μ-loop
 mul-spread-node-2 c =
@@ -104,12 +89,6 @@ spread-node-requires c κs =
     let passed = c .before .before in
     let l = looped passed in
     laws.spread-asks (start l .pre .0) (l .before .loop .inv) (inside l) (accepted passed)
-
-add-k : tie.Need-add-k Inv-loop μ-loop
-add-k c = search needs
-
-loop-less : tie.Need-loop-less Inv-loop μ-loop
-loop-less c = search needs
 
 loop-again : tie.Need-loop-again Inv-loop μ-loop
 loop-again c =
@@ -139,22 +118,22 @@ fill-row-spec =
     Inv-loop
     μ-loop
     loop-holds
-    mul-discount
+    (λ c. search needs)
     shared-slice-read-discount
     mul-discount-2
     div-discount
-    is-discount-requires
+    (λ c κs. search needs)
     same-length
     same-length-2
     returns
-    mul-discounts
+    (λ c. search needs)
     slice-write-discounts
-    mul-spread-node
-    shared-slice-read-spread-node
+    (λ c. search needs)
+    (λ c. search needs)
     mul-spread-node-2
     spread-node-requires
-    add-k
-    loop-less
+    (λ c. search needs)
+    (λ c. search needs)
     loop-again
     same-length-3
     same-length-4

@@ -25,15 +25,6 @@ loop-holds : tie.Need-loop-holds Inv-loop μ-loop
 unfolding sum
 loop-holds c = (search needs, refl)
 
-mul-total : tie.Need-mul-total Inv-loop μ-loop
-mul-total c = search needs
-
-shared-slice-read-total : tie.Need-shared-slice-read-total Inv-loop μ-loop
-shared-slice-read-total c = search needs
-
-mul-total-2 : tie.Need-mul-total-2 Inv-loop μ-loop
-mul-total-2 c = search needs
-
 shared-slice-read-total-2 : tie.Need-shared-slice-read-total-2 Inv-loop μ-loop
 shared-slice-read-total-2 c = omega (arith, c .before .before .before .before .pre .0 .length-is)
 
@@ -48,12 +39,6 @@ add-total c =
     let l = c .before .before in
     let s = l .before .before in
     omega (arith, laws.weighed-small (s .args .prices .now) (s .args .factors .now) (s .pre .0) (s .pre .1) (l .before .loop .inv .1) (inside l))
-
-add-k : tie.Need-add-k Inv-loop μ-loop
-add-k c = search needs
-
-loop-less : tie.Need-loop-less Inv-loop μ-loop
-loop-less c = search needs
 
 loop-again : tie.Need-loop-again Inv-loop μ-loop
 loop-again c =
@@ -75,13 +60,13 @@ normaliser-of-spec =
     Inv-loop
     μ-loop
     loop-holds
-    mul-total
-    shared-slice-read-total
-    mul-total-2
+    (λ c. search needs)
+    (λ c. search needs)
+    (λ c. search needs)
     shared-slice-read-total-2
     mul-total-3
     add-total
-    add-k
-    loop-less
+    (λ c. search needs)
+    (λ c. search needs)
     loop-again
     returns)

@@ -14,23 +14,11 @@ first c = c .before .before .before .before
 abbrev second : tie.After-add-at2 → tie.After-add-at
 second c = c .before .before .before .before
 
-add-add-at : tie.Need-add-add-at
-add-add-at c = search needs
-
-array-read-add-at : tie.Need-array-read-add-at
-array-read-add-at c = search needs
-
 mul-add-at : tie.Need-mul-add-at
 mul-add-at c = omega (arith, laws.up-small (c .before .before .before .pre))
 
 add-at-requires : tie.Need-add-at-requires
 add-at-requires c κs = laws.up-fits (c .before .before .before .pre)
-
-add-add-at-2 : tie.Need-add-add-at-2
-add-add-at-2 c = search needs
-
-array-read-add-at-2 : tie.Need-array-read-add-at-2
-array-read-add-at-2 c = search needs
 
 mul-add-at-2 : tie.Need-mul-add-at-2
 mul-add-at-2 c = omega (arith, laws.middle-small (first (c .before .before .before) .pre))
@@ -40,9 +28,6 @@ add-at-requires-2 c κs =
     let up = c .before .before .before in
     laws.middle-fits (first up .pre) (up .add-at .ensures)
 
-array-read-add-at-3 : tie.Need-array-read-add-at-3
-array-read-add-at-3 c = search needs
-
 mul-add-at-3 : tie.Need-mul-add-at-3
 mul-add-at-3 c = omega (arith, laws.down-small (first (second (c .before .before .before)) .pre))
 
@@ -51,9 +36,6 @@ add-at-requires-3 c κs =
     let middle = c .before .before .before in
     let up = second middle in
     laws.down-fits (first up .pre) (up .add-at .ensures) (middle .add-at2 .ensures)
-
-same-length : tie.Need-same-length
-same-length c = search needs
 
 returns : tie.Need-returns
 returns c =
@@ -66,16 +48,16 @@ pub scatter-spec : {M : Type 1} → statement M
 scatter-spec =
     tie.close
     (tie.spec
-    add-add-at
-    array-read-add-at
+    (λ c. search needs)
+    (λ c. search needs)
     mul-add-at
     add-at-requires
-    add-add-at-2
-    array-read-add-at-2
+    (λ c. search needs)
+    (λ c. search needs)
     mul-add-at-2
     add-at-requires-2
-    array-read-add-at-3
+    (λ c. search needs)
     mul-add-at-3
     add-at-requires-3
-    same-length
+    (λ c. search needs)
     returns)

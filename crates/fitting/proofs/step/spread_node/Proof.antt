@@ -5,16 +5,10 @@ use Rattle.fitting.proofs.StepRows.{spread-once}
 use Rattle.fitting.proofs.step.spread_node.Statement.{statement}
 use Rattle.fitting.proofs.step.spread_node.Tie as tie
 
-row-branch-requires : tie.Need-row-branch-requires
-row-branch-requires c κs = search needs
-
 scatter-requires : tie.Need-scatter-requires
 scatter-requires c κs =
     let branched = c .before in
     rw (branched .row-branch .ensures) (branched .before .before .before .pre)
-
-same-length : tie.Need-same-length
-same-length c = search needs
 
 returns : tie.Need-returns
 returns c =
@@ -23,4 +17,4 @@ returns c =
     (c .before .before .before .before .row-branch .ensures) (c .before .before .scatter .ensures)
 
 pub spread-node-spec : {M : Type 1} → statement M
-spread-node-spec = tie.close (tie.spec row-branch-requires scatter-requires same-length returns)
+spread-node-spec = tie.close (tie.spec (λ c κs. search needs) scatter-requires (λ c. search needs) returns)

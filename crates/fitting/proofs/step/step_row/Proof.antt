@@ -8,9 +8,6 @@ use Rattle.fitting.proofs.step.step_row.Tie as tie
 normaliser-of-requires : tie.Need-normaliser-of-requires
 normaliser-of-requires c κs = let s = c .before .before .before .before .before in (s .pre .factors-bounded, s .pre .row-sum-most)
 
-clear-requires : tie.Need-clear-requires
-clear-requires c κs = search needs
-
 fill-row-requires : tie.Need-fill-row-requires
 fill-row-requires c κs =
     let cleared = c .before .before .before .before in
@@ -20,12 +17,6 @@ fill-row-requires c κs =
       laws.positive ready _ (weighed .normaliser-of .ensures),
       laws.cleared-again ready (cleared .clear .ensures),
     )
-
-same-length : tie.Need-same-length
-same-length c = search needs
-
-same-length-2 : tie.Need-same-length-2
-same-length-2 c = search needs
 
 returns : tie.Need-returns
 returns c =
@@ -39,8 +30,8 @@ step-row-spec =
     tie.close
     (tie.spec
     normaliser-of-requires
-    clear-requires
+    (λ c κs. search needs)
     fill-row-requires
-    same-length
-    same-length-2
+    (λ c. search needs)
+    (λ c. search needs)
     returns)

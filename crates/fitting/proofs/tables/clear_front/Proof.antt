@@ -13,17 +13,8 @@ use Rattle.fitting.proofs.tables.clear_front.Tie as tie
 front-length : (s : tie.Start) → length (take (s .args .count) (s .args .memory .now)) ≡ s .args .count
 front-length s = length-take-le (s .args .count) (s .args .memory .now) (s .pre)
 
-slice-relend-prefix-clear : tie.Need-slice-relend-prefix-clear
-slice-relend-prefix-clear c = search needs
-
 slice-aggregate-clear : tie.Need-slice-aggregate-clear
 slice-aggregate-clear c = sym (front-length (c .before .before))
-
-clear-requires : tie.Need-clear-requires
-clear-requires c κs = search needs
-
-same-length : tie.Need-same-length
-same-length c = search needs
 
 returns : tie.Need-returns
 returns c =
@@ -34,4 +25,4 @@ returns c =
 pub clear-front-spec : {M : Type 1} → statement M
 clear-front-spec =
     tie.close
-    (tie.spec slice-relend-prefix-clear slice-aggregate-clear clear-requires same-length returns)
+    (tie.spec (λ c. search needs) slice-aggregate-clear (λ c κs. search needs) (λ c. search needs) returns)

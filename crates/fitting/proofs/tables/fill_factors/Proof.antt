@@ -23,15 +23,6 @@ factor-at-requires c κs =
     let s = c .before .before .before in
     (s .pre .0, s .pre .1, omega (arith, s .pre .2, c .before .loop .inv .1 .same))
 
-mul-factors : tie.Need-mul-factors Inv-loop μ-loop
-mul-factors c = search needs
-
-slice-write-factors : tie.Need-slice-write-factors Inv-loop μ-loop
-slice-write-factors c = search needs
-
-add-k : tie.Need-add-k Inv-loop μ-loop
-add-k c = search needs
-
 loop-less : tie.Need-loop-less Inv-loop μ-loop
 loop-less c = omega (arith, c .before .before .loop .inv .1 .same)
 
@@ -60,9 +51,9 @@ fill-factors-spec =
     μ-loop
     loop-holds
     factor-at-requires
-    mul-factors
-    slice-write-factors
-    add-k
+    (λ c. search needs)
+    (λ c. search needs)
+    (λ c. search needs)
     loop-less
     loop-again
     same-length

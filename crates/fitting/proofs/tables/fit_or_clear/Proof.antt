@@ -25,23 +25,8 @@ prices-size : (c : tie.After-state-prices-needed) →
     c .state-prices-needed .result .value ≡ rowStart (start c .args .reversion) (suc (length (start c .args .quotes .now)))
 prices-size c = laws.needed-prices (start c .pre .tables) (c .state-prices-needed .ensures)
 
-discounts-needed-requires : tie.Need-discounts-needed-requires
-discounts-needed-requires c κs = search needs
-
-state-prices-needed-requires : tie.Need-state-prices-needed-requires
-state-prices-needed-requires c κs = search needs
-
 fit-rows-requires : tie.Need-fit-rows-requires
 fit-rows-requires c κs = start (c .before .before .before) .pre
-
-same-length : tie.Need-same-length
-same-length c = search needs
-
-same-length-2 : tie.Need-same-length-2
-same-length-2 c = search needs
-
-same-length-3 : tie.Need-same-length-3
-same-length-3 c = search needs
 
 returns : tie.Need-returns
 returns c =
@@ -57,15 +42,6 @@ clear-front-requires-2 : tie.Need-clear-front-requires-2
 clear-front-requires-2 c κs =
     let fitted = c .before .before .before .before .before .before .before .before .before .before .before .before in
     omega (arith, prices-size (sized fitted), start (sized fitted) .pre .room-prices, fitted .fit-rows .kept .1 .1 .1 .1 .1 .0)
-
-same-length-4 : tie.Need-same-length-4
-same-length-4 c = search needs
-
-same-length-5 : tie.Need-same-length-5
-same-length-5 c = search needs
-
-same-length-6 : tie.Need-same-length-6
-same-length-6 c = search needs
 
 returns-2 : tie.Need-returns-2
 returns-2 c =
@@ -83,16 +59,16 @@ pub fit-or-clear-spec : {M : Type 1} → statement M
 fit-or-clear-spec =
     tie.close
     (tie.spec
-    discounts-needed-requires
-    state-prices-needed-requires
+    (λ c κs. search needs)
+    (λ c κs. search needs)
     fit-rows-requires
-    same-length
-    same-length-2
-    same-length-3
+    (λ c. search needs)
+    (λ c. search needs)
+    (λ c. search needs)
     returns
     clear-front-requires
     clear-front-requires-2
-    same-length-4
-    same-length-5
-    same-length-6
+    (λ c. search needs)
+    (λ c. search needs)
+    (λ c. search needs)
     returns-2)

@@ -31,9 +31,6 @@ array-borrow-prefix-downs c = omega (arith, small (c .before .before .before .be
 slice-aggregate-fit-tables-2 : tie.Need-slice-aggregate-fit-tables-2
 slice-aggregate-fit-tables-2 c = simp length-take (omega (arith, small (c .before .before .before .before .before .before)))
 
-slice-aggregate-fit-tables-3 : tie.Need-slice-aggregate-fit-tables-3
-slice-aggregate-fit-tables-3 c = search needs
-
 fit-tables-requires : tie.Need-fit-tables-requires
 fit-tables-requires c κs =
     let s = c .before .before .before .before .before .before .before .before .before in (
@@ -43,22 +40,10 @@ fit-tables-requires c κs =
       omega arith,
     )
 
-same-length : tie.Need-same-length
-same-length c = search needs
-
-same-length-2 : tie.Need-same-length-2
-same-length-2 c = search needs
-
 returns : tie.Need-returns
 returns c =
     let fitted = c .before .before .before .before .before .before .before .before .fit-tables .ensures in
     (laws.number-none (fitted .tested) (c .if1 .taken), laws.fitted-as (fitted .tested) (fitted .memories))
-
-same-length-3 : tie.Need-same-length-3
-same-length-3 c = search needs
-
-same-length-4 : tie.Need-same-length-4
-same-length-4 c = search needs
 
 returns-2 : tie.Need-returns-2
 returns-2 c =
@@ -75,11 +60,11 @@ fit-quotes-spec =
     slice-aggregate-fit-tables
     array-borrow-prefix-downs
     slice-aggregate-fit-tables-2
-    slice-aggregate-fit-tables-3
+    (λ c. search needs)
     fit-tables-requires
-    same-length
-    same-length-2
+    (λ c. search needs)
+    (λ c. search needs)
     returns
-    same-length-3
-    same-length-4
+    (λ c. search needs)
+    (λ c. search needs)
     returns-2)

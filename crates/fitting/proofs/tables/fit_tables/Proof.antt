@@ -15,9 +15,6 @@ fill-factors-requires c κs =
     let s = c .before .before .before .before .before .before .before in
     (omega (arith, laws.widest-small (s .pre .0)), s .pre .0 .spacing-within-one, s .pre .1)
 
-down-probabilities-requires : tie.Need-down-probabilities-requires
-down-probabilities-requires c κs = search needs
-
 fit-or-clear-requires : tie.Need-fit-or-clear-requires
 fit-or-clear-requires c κs =
     let known = c .before .before .before .before .before .before .before in
@@ -34,21 +31,6 @@ fit-or-clear-requires c κs =
       room-sums = s .pre .3;
     }
 
-same-length : tie.Need-same-length
-same-length c = search needs
-
-same-length-2 : tie.Need-same-length-2
-same-length-2 c = search needs
-
-same-length-3 : tie.Need-same-length-3
-same-length-3 c = search needs
-
-same-length-4 : tie.Need-same-length-4
-same-length-4 c = search needs
-
-same-length-5 : tie.Need-same-length-5
-same-length-5 c = search needs
-
 returns : tie.Need-returns
 returns c =
     let fitted = c .before .before .before .before .before .before in
@@ -64,11 +46,11 @@ fit-tables-spec =
     tie.close
     (tie.spec
     fill-factors-requires
-    down-probabilities-requires
+    (λ c κs. search needs)
     fit-or-clear-requires
-    same-length
-    same-length-2
-    same-length-3
-    same-length-4
-    same-length-5
+    (λ c. search needs)
+    (λ c. search needs)
+    (λ c. search needs)
+    (λ c. search needs)
+    (λ c. search needs)
     returns)

@@ -19,27 +19,6 @@ abbrev μ-loop : tie.MeasureT-loop
 loop-holds : tie.Need-loop-holds Inv-loop μ-loop
 loop-holds c = (search needs, refl, laws.figured-start _ _)
 
-mul-of-pattern : tie.Need-mul-of-pattern Inv-loop μ-loop
-mul-of-pattern c = search needs
-
-shared-slice-read-of-pattern : tie.Need-shared-slice-read-of-pattern Inv-loop μ-loop
-shared-slice-read-of-pattern c = search needs
-
-of-pattern-requires : tie.Need-of-pattern-requires Inv-loop μ-loop
-of-pattern-requires c κs = search needs
-
-mul-figures : tie.Need-mul-figures Inv-loop μ-loop
-mul-figures c = search needs
-
-slice-write-figures : tie.Need-slice-write-figures Inv-loop μ-loop
-slice-write-figures c = search needs
-
-add-index : tie.Need-add-index Inv-loop μ-loop
-add-index c = search needs
-
-loop-less : tie.Need-loop-less Inv-loop μ-loop
-loop-less c = search needs
-
 loop-again : tie.Need-loop-again Inv-loop μ-loop
 loop-again c =
     let a = c .before .before .before .before .before .before .args in
@@ -62,13 +41,13 @@ fill-figures-spec =
     Inv-loop
     μ-loop
     loop-holds
-    mul-of-pattern
-    shared-slice-read-of-pattern
-    of-pattern-requires
-    mul-figures
-    slice-write-figures
-    add-index
-    loop-less
+    (λ c. search needs)
+    (λ c. search needs)
+    (λ c κs. search needs)
+    (λ c. search needs)
+    (λ c. search needs)
+    (λ c. search needs)
+    (λ c. search needs)
     loop-again
     same-length
     returns)

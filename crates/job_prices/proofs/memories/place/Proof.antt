@@ -19,23 +19,11 @@ abbrev μ-loop : tie.MeasureT-loop
 loop-holds : tie.Need-loop-holds Inv-loop μ-loop
 loop-holds c = (omega arith, filled-start _ _)
 
-mul-memory : tie.Need-mul-memory Inv-loop μ-loop
-mul-memory c = omega arith
-
-shared-slice-read-memory : tie.Need-shared-slice-read-memory Inv-loop μ-loop
-shared-slice-read-memory c = omega arith
-
 mul-memory-2 : tie.Need-mul-memory-2 Inv-loop μ-loop
 mul-memory-2 c = omega (arith, c .before .before .loop .inv .1 .same, c .before .before .before .pre)
 
 slice-write-memory : tie.Need-slice-write-memory Inv-loop μ-loop
 slice-write-memory c = omega (arith, c .before .before .loop .inv .1 .same, c .before .before .before .pre)
-
-add-index : tie.Need-add-index Inv-loop μ-loop
-add-index c = omega arith
-
-loop-less : tie.Need-loop-less Inv-loop μ-loop
-loop-less c = omega arith
 
 loop-again : tie.Need-loop-again Inv-loop μ-loop
 loop-again c =
@@ -55,12 +43,12 @@ place-spec =
     Inv-loop
     μ-loop
     loop-holds
-    mul-memory
-    shared-slice-read-memory
+    (λ c. omega arith)
+    (λ c. omega arith)
     mul-memory-2
     slice-write-memory
-    add-index
-    loop-less
+    (λ c. omega arith)
+    (λ c. omega arith)
     loop-again
     same-length
     returns)

@@ -12,9 +12,6 @@ use Rattle.job_prices.proofs.PriceLaws as laws
 use Rattle.job_prices.proofs.priced.both_of.Statement.{statement}
 use Rattle.job_prices.proofs.priced.both_of.Tie as tie
 
-bond-and-option-requires : tie.Need-bond-and-option-requires
-bond-and-option-requires c κs = search needs
-
 returns : tie.Need-returns
 returns c =
     let both = c .bond-and-option .ensures in
@@ -38,9 +35,6 @@ slice-aggregate-bond-and-dated-option c =
     let s = c .before .before .before .before .before .before in
     lent-column (s .args .option .dates) (s .args .option .count) (room s)
 
-bond-and-dated-option-requires : tie.Need-bond-and-dated-option-requires
-bond-and-dated-option-requires c κs = search needs
-
 returns-2 : tie.Need-returns-2
 returns-2 c =
     let both = c .bond-and-dated-option .ensures in
@@ -55,9 +49,9 @@ pub both-of-spec : {M : Type 1} → statement M
 both-of-spec =
     tie.close
     (tie.spec
-    bond-and-option-requires
+    (λ c κs. search needs)
     returns
     array-share-prefix-dates
     slice-aggregate-bond-and-dated-option
-    bond-and-dated-option-requires
+    (λ c κs. search needs)
     returns-2)

@@ -6,9 +6,6 @@ use Rattle.job_prices.proofs.PriceLaws as laws
 use Rattle.job_prices.proofs.priced.prices_of.Statement.{statement}
 use Rattle.job_prices.proofs.priced.prices_of.Tie as tie
 
-refused-requires : tie.Need-refused-requires
-refused-requires c κs = search needs
-
 returns : tie.Need-returns
 returns c = c .refused .ensures ∙ laws.prices-refused _ _ _ _ (c .before .if1 .taken)
 
@@ -16,4 +13,4 @@ returns-2 : tie.Need-returns-2
 returns-2 c = laws.prices-given _ _ _ _ (c .if1 .left)
 
 pub prices-of-spec : {M : Type 1} → statement M
-prices-of-spec = tie.close (tie.spec refused-requires returns returns-2)
+prices-of-spec = tie.close (tie.spec (λ c κs. search needs) returns returns-2)

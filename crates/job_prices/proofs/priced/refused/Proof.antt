@@ -4,14 +4,8 @@ use borrow.Author.Needs.{needs}
 use Rattle.job_prices.proofs.priced.refused.Statement.{statement}
 use Rattle.job_prices.proofs.priced.refused.Tie as tie
 
-no-price-requires : tie.Need-no-price-requires
-no-price-requires c κs = search needs
-
-no-price-requires-2 : tie.Need-no-price-requires-2
-no-price-requires-2 c κs = search needs
-
 returns : tie.Need-returns
 returns c = rw (c .before .no-price .ensures, c .no-price2 .ensures)
 
 pub refused-spec : {M : Type 1} → statement M
-refused-spec = tie.close (tie.spec no-price-requires no-price-requires-2 returns)
+refused-spec = tie.close (tie.spec (λ c κs. search needs) (λ c κs. search needs) returns)

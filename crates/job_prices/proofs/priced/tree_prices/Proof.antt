@@ -9,15 +9,6 @@ use Rattle.job_prices.proofs.PriceLaws as laws
 use Rattle.job_prices.proofs.priced.tree_prices.Statement.{statement}
 use Rattle.job_prices.proofs.priced.tree_prices.Tie as tie
 
-bond-price-requires : tie.Need-bond-price-requires
-bond-price-requires c κs = search needs
-
-no-price-requires : tie.Need-no-price-requires
-no-price-requires c κs = search needs
-
-prices-of-requires : tie.Need-prices-of-requires
-prices-of-requires c κs = search needs
-
 returns : tie.Need-returns
 returns c =
     let a = c .before .before .before .before .before .before .before .args in
@@ -26,12 +17,6 @@ returns c =
     laws.without-option (a .steps) (a .reversion) (a .discounts .now) (a .flows .now) (a .option) _ (bond .result) (c .before .before .before .if1 .taken)
     (bond .ensures)
     (c .prices-of .ensures ∙ none)
-
-both-of-requires : tie.Need-both-of-requires
-both-of-requires c κs = search needs
-
-prices-of-requires-2 : tie.Need-prices-of-requires-2
-prices-of-requires-2 c κs = search needs
 
 returns-2 : tie.Need-returns-2
 returns-2 c =
@@ -44,4 +29,4 @@ returns-2 c =
 pub tree-prices-spec : {M : Type 1} → statement M
 tree-prices-spec =
     tie.close
-    (tie.spec bond-price-requires no-price-requires prices-of-requires returns both-of-requires prices-of-requires-2 returns-2)
+    (tie.spec (λ c κs. search needs) (λ c κs. search needs) (λ c κs. search needs) returns (λ c κs. search needs) (λ c κs. search needs) returns-2)

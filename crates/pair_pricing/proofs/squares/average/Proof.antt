@@ -5,7 +5,7 @@ use native.Mathlib.Omega.{arith}
 use denote.Ref.{now}
 use borrow.Author.Needs.{needs}
 use Rattle.arithmetic.specs.Row.{values}
-use Rattle.row_branches.specs.RowBranches.{branchUp, branchMiddle, branchDown}
+use Rattle.row_branches.specs.inside.Transitions.{branchUp, branchMiddle, branchDown}
 use Rattle.pair_laws.proofs.Squares.{sum-fits, average-is}
 use Rattle.pair_pricing.proofs.squares.average.Statement.{statement}
 use Rattle.pair_pricing.proofs.squares.average.Tie as tie

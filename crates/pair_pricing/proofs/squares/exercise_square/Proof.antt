@@ -7,7 +7,7 @@ use lib.ListN.{length, length-set}
 use borrow.Author.Needs.{needs}
 use borrow.Author.Tests.{not-true, not-false}
 use Rattle.arithmetic.specs.Row.{values}
-use Rattle.pair_laws.specs.Square.{lineSize, squareSize, exercised}
+use Rattle.pair_laws.specs.inside.Square.{lineSize, squareSize, exercised}
 use Rattle.pair_laws.proofs.Squares.{Changed, changed-first, changed-more, exercised-not, exercised-on}
 use Rattle.pair_pricing.proofs.squares.exercise_square.Statement.{statement}
 use Rattle.pair_pricing.proofs.squares.exercise_square.Tie as tie

@@ -7,7 +7,7 @@ use denote.Ref.{now}
 use borrow.Author.Needs.{needs}
 use Rattle.arithmetic.specs.Sum.{greatest}
 use Rattle.arithmetic.proofs.SumLaws.{greatest-none}
-use Rattle.pair_laws.specs.Square.{cell}
+use Rattle.pair_laws.specs.inside.Square.{cell}
 use Rattle.pair_laws.proofs.Squares.{line-greatest, lines-greatest}
 use Rattle.pair_pricing.proofs.squares.greatest_value.Statement.{statement}
 use Rattle.pair_pricing.proofs.squares.greatest_value.Tie as tie

@@ -5,7 +5,7 @@ use Prim.Native.Nat.{_+_, _-_, _≤_}
 use native.Mathlib.Omega.{arith}
 use lib.ListN.{length, length-set}
 use denote.Ref.{now}
-use Rattle.pair_laws.specs.Square.{squareSize, cell, Line, branchAverage}
+use Rattle.pair_laws.specs.inside.Square.{squareSize, cell, Line, branchAverage}
 use Rattle.pair_laws.proofs.Squares.{cell-most, rate-from, line-first, line-more, line-done}
 use Rattle.pair_pricing.proofs.squares.rate_line.Statement.{statement}
 use Rattle.pair_pricing.proofs.squares.rate_line.Tie as tie

@@ -6,7 +6,7 @@ use native.Mathlib.Omega.{arith}
 use lib.ListN.{length}
 use denote.Ref.{now}
 use borrow.Author.Needs.{needs}
-use Rattle.pair_laws.specs.Square.{squareSize, Cells, rateAverage}
+use Rattle.pair_laws.specs.inside.Square.{squareSize, Cells, rateAverage}
 use Rattle.pair_laws.proofs.Squares.{cells-none, cells-line, cells-done, line-of-row, leads-inside, leads-whole, leads-limited}
 use Rattle.pair_pricing.proofs.squares.rate_side.Statement.{statement}
 use Rattle.pair_pricing.proofs.squares.rate_side.Tie as tie

@@ -6,7 +6,7 @@ use native.Mathlib.Omega.{arith}
 use lib.ListN.{length, length-set}
 use denote.Ref.{now}
 use Rattle.arithmetic.specs.Row.{values}
-use Rattle.pair_laws.specs.Square.{squareSize, cell, Column, spreadValue}
+use Rattle.pair_laws.specs.inside.Square.{squareSize, cell, Column, spreadValue}
 use Rattle.pair_laws.proofs.Squares.{cell-most, spread-from, column-first, column-more, column-done}
 use Rattle.pair_pricing.proofs.squares.spread_column.Statement.{statement}
 use Rattle.pair_pricing.proofs.squares.spread_column.Tie as tie

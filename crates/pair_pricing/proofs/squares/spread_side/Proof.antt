@@ -8,7 +8,7 @@ use denote.Ref.{now}
 use borrow.Author.Needs.{needs}
 use Rattle.arithmetic.specs.Row.{values}
 use Rattle.row_branches.specs.RowBranches.{rowBranch}
-use Rattle.pair_laws.specs.Square.{squareSize, cell, Cells, spreadValue}
+use Rattle.pair_laws.specs.inside.Square.{squareSize, cell, Cells, spreadValue}
 use Rattle.pair_laws.proofs.Squares.{cells-empty, cells-column, cells-done, column-of-row, leads-inside, leads-whole, leads-across}
 use Rattle.pair_pricing.proofs.squares.spread_side.Statement.{statement}
 use Rattle.pair_pricing.proofs.squares.spread_side.Tie as tie

@@ -3,8 +3,8 @@
 use native.Mathlib.Omega.{arith}
 use denote.Ref.{now}
 use borrow.Author.Needs.{needs}
-use Rattle.pair_laws.specs.PairPrices.{rollOf}
-use Rattle.pair_laws.specs.Square.{square}
+use Rattle.pair_laws.specs.inside.Accepted.{rollOf}
+use Rattle.pair_laws.specs.inside.Square.{square}
 use Rattle.pair_laws.proofs.SquareRows.{row-fits, option-from}
 use Rattle.pair_pricing.proofs.walk.option_row.Statement.{statement}
 use Rattle.pair_pricing.proofs.walk.option_row.Tie as tie

@@ -7,7 +7,7 @@ use lib.ListN.{length}
 use denote.Ref.{now}
 use borrow.Author.Needs.{needs}
 use Rattle.pricing.proofs.TreeRows.{flow-within}
-use Rattle.pair_laws.specs.States.{Bonds}
+use Rattle.pair_laws.specs.inside.States.{Bonds}
 use Rattle.pair_laws.proofs.WalkStates.{bonds-first, bonds-limited, bonds-over, bonds-step, bond-refused, bond-rolled}
 use Rattle.pair_pricing.proofs.walk.roll_bond.Statement.{statement}
 use Rattle.pair_pricing.proofs.walk.roll_bond.Tie as tie

@@ -4,11 +4,11 @@ use Prim.Native.Nat.{_-_, _≤_}
 use native.Mathlib.Omega.{arith}
 use denote.Ref.{now}
 use Rattle.exercise.specs.Terms.{side}
-use Rattle.pricing_laws.specs.Schedule.{marked}
+use Rattle.pricing_laws.specs.inside.Marks.{marked}
 use Rattle.pricing.proofs.TreeRows.{flow-within}
-use Rattle.pair_laws.specs.States.{Bonds, Options}
-use Rattle.pair_laws.proofs.WalkStates.{bonds-limited, bonds-over, bonds-step, options-limited, options-over, options-step}
-use Rattle.pair_laws.proofs.WalkStates.{both-bond, both-option, both-rolled, marked-listed}
+use Rattle.pair_laws.specs.inside.States.{Bonds, Options}
+use Rattle.pair_laws.proofs.WalkStates.{bonds-limited, bonds-over, bonds-step, options-limited, options-over}
+use Rattle.pair_laws.proofs.WalkStates.{options-step, both-bond, both-option, both-rolled, marked-listed}
 use Rattle.pair_pricing.proofs.walk.roll_both.Statement.{statement}
 use Rattle.pair_pricing.proofs.walk.roll_both.Tie as tie
 

@@ -3,7 +3,7 @@
 use denote.Ref.{now}
 use borrow.Author.Needs.{needs}
 use Rattle.exercise.specs.Terms.{side}
-use Rattle.pricing_laws.specs.Schedule.{marked}
+use Rattle.pricing_laws.specs.inside.Marks.{marked}
 use Rattle.pair_laws.proofs.WalkStates.{options-marked, both-over}
 use Rattle.pair_pricing.proofs.walk.roll_option.Statement.{statement}
 use Rattle.pair_pricing.proofs.walk.roll_option.Tie as tie

@@ -5,7 +5,7 @@ use Prim.Native.Nat.{ℕ, _+_, _-_, _≤_, _<_}
 use native.Mathlib.Omega.{arith}
 use lib.ListN.{length}
 use denote.Ref.{now}
-use Rattle.pricing.specs.Rows.{bondValues}
+use Rattle.pricing.specs.inside.Rows.{bondValues}
 use Rattle.pricing.proofs.RowSteps.{span-inside, span-shifted, span-whole, span-is}
 use Rattle.pricing.proofs.RowSteps.{branch-inside, branch-whole, branch-limited, branch-rolled, Row-state, row-resume, row-next, row-done}
 use borrow.Author.Needs.{needs}

@@ -8,8 +8,9 @@ use lib.ListN.{length}
 use denote.Ref.{now}
 use Rattle.arithmetic.specs.Row.{values}
 use Rattle.exercise.specs.Terms.{side}
-use Rattle.row_branches.specs.RowBranches.{branchTotal, rowBranch}
-use Rattle.pricing.specs.Rows.{bondValues, optionValues, Limited, Later}
+use Rattle.row_branches.specs.RowBranches.{rowBranch}
+use Rattle.row_branches.specs.inside.Transitions.{branchTotal}
+use Rattle.pricing.specs.inside.Rows.{bondValues, optionValues, Limited, Later}
 use Rattle.pricing.proofs.RowSteps.{span-inside, span-shifted, span-whole, span-is}
 use Rattle.pricing.proofs.RowSteps.{branch-inside, branch-whole, branch-limited, branch-rolled, option-from-roll}
 use Rattle.pricing.proofs.RowSteps.{Rows-state, rows-resume, rows-next, rows-done}

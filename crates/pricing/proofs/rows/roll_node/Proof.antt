@@ -4,7 +4,7 @@ use Prim.Native.Nat.{_+_, _*_, _/_, _≤_}
 use native.Mathlib.Omega.{arith}
 use denote.Ref.{now}
 use Rattle.arithmetic.specs.Row.{values}
-use Rattle.pricing.specs.Rows.{branchSum, branchRoll}
+use Rattle.pricing.specs.inside.Rows.{branchSum, branchRoll}
 use Rattle.pricing.proofs.NodeLaws.{sum-fits, product-fits, rolled-nearest}
 use borrow.Author.Needs.{needs}
 use Rattle.pricing.proofs.rows.roll_node.Statement.{statement}

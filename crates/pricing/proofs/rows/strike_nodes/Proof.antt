@@ -5,7 +5,7 @@ use native.Mathlib.Omega.{arith}
 use lib.ListN.{length}
 use denote.Ref.{now}
 use Rattle.exercise.specs.Terms.{side}
-use Rattle.pricing.specs.Strips.{strikeValues}
+use Rattle.pricing.specs.inside.Strips.{strikeValues}
 use Rattle.pricing.proofs.RowSteps.{span-inside, span-shifted, span-whole, span-is}
 use Rattle.pricing.proofs.RowSteps.{branch-inside, branch-whole, branch-limited, branch-rolled, Row-state, row-resume, row-next, row-done}
 use Rattle.pricing.proofs.StripRows.{strike-from-roll}

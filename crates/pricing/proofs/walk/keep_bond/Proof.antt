@@ -5,7 +5,7 @@ use Prim.Native.Nat.{_-_}
 use native.Mathlib.Omega.{arith}
 use lib.ListN.{length}
 use denote.Ref.{now}
-use Rattle.pricing.specs.Strips.{KeptFrom}
+use Rattle.pricing.specs.inside.Strips.{KeptFrom}
 use Rattle.pricing.proofs.StepParts.{shape-within, kept-room}
 use Rattle.pricing.proofs.WalkStates.{Bonds, bonds-first, bonds-inside}
 use Rattle.pricing.proofs.WalkTurns.{turn-steppable, turn-limited, turn-over, turn-next}

@@ -1,6 +1,6 @@
 -- `pricing::walk::roll_both` meets its contract.
 -- Assumes nothing.
-use Rattle.pricing_laws.specs.Schedule.{marked}
+use Rattle.pricing_laws.specs.inside.Marks.{marked}
 use Rattle.pricing.proofs.WalkStates.{late-refused, rolled-through, rolled-answer}
 use borrow.Author.Needs.{needs}
 use Rattle.pricing.proofs.walk.roll_both.Statement.{statement}

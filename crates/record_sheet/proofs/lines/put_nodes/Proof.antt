@@ -41,18 +41,6 @@ loop-holds c =
       s .pre .place ∙ needed (a .steps) (a .reversion),
     )
 
-sub-left : tie.Need-sub-left Inv-loop μ-loop
-sub-left c = search needs
-
-node-count-requires : tie.Need-node-count-requires Inv-loop μ-loop
-node-count-requires c κs = search needs
-
-node-lines-requires : tie.Need-node-lines-requires Inv-loop μ-loop
-node-lines-requires c κs = search needs
-
-loop-less : tie.Need-loop-less Inv-loop μ-loop
-loop-less c = search needs
-
 loop-again : tie.Need-loop-again Inv-loop μ-loop
 loop-again c =
     let counted = c .before .before .before .before in
@@ -90,10 +78,10 @@ put-nodes-spec =
     Inv-loop
     μ-loop
     loop-holds
-    sub-left
-    node-count-requires
-    node-lines-requires
-    loop-less
+    (λ c. search needs)
+    (λ c κs. search needs)
+    (λ c κs. search needs)
+    (λ c. search needs)
     loop-again
     same-length
     returns)

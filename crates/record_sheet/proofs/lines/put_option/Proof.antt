@@ -6,12 +6,6 @@ use borrow.Author.Needs.{needs}
 use Rattle.record_sheet.proofs.lines.put_option.Statement.{statement}
 use Rattle.record_sheet.proofs.lines.put_option.Tie as tie
 
-option-line-requires : tie.Need-option-line-requires
-option-line-requires c κs = search needs
-
-same-length : tie.Need-same-length
-same-length c = search needs
-
 returns : tie.Need-returns
 returns c =
     let s = c .before .before .before .before .before .before in
@@ -26,4 +20,4 @@ returns-2 c =
     laws.option-none (s .args .out .now) (s .args .end) (s .args .present) (s .args .option) (c .if1 .left) (s .pre .1)
 
 pub put-option-spec : {M : Type 1} → statement M
-put-option-spec = tie.close (tie.spec option-line-requires same-length returns returns-2)
+put-option-spec = tie.close (tie.spec (λ c κs. search needs) (λ c. search needs) returns returns-2)

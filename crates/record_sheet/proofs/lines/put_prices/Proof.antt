@@ -10,12 +10,6 @@ use Rattle.record_sheet.proofs.lines.put_prices.Tie as tie
 put-option-requires : tie.Need-put-option-requires
 put-option-requires c κs = (omega (arith, c .before .before .pre .0), c .before .before .pre .1)
 
-bond-line-requires : tie.Need-bond-line-requires
-bond-line-requires c κs = search needs
-
-same-length : tie.Need-same-length
-same-length c = search needs
-
 returns : tie.Need-returns
 returns c =
     let s = c .before .before .before .before .before .before .before .before .before in
@@ -25,4 +19,4 @@ returns c =
     (put-option .ensures) (bond-line .ensures)
 
 pub put-prices-spec : {M : Type 1} → statement M
-put-prices-spec = tie.close (tie.spec put-option-requires bond-line-requires same-length returns)
+put-prices-spec = tie.close (tie.spec put-option-requires (λ c κs. search needs) (λ c. search needs) returns)

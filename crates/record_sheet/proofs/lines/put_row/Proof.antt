@@ -28,40 +28,19 @@ part-is c =
     (laws.shown (a .discounts) (a .state-prices) StatePrices (a .tree .steps) (a .tree .reversion) (a .before + 1) (c .row-view .result) (s .pre .1)
     (le-leb (a .before + 1) (a .tree .steps) (omega (arith, s .pre .0))) (c .row-view .ensures))
 
-add-row : tie.Need-add-row
-add-row c = search needs
-
-row-view-requires : tie.Need-row-view-requires
-row-view-requires c κs = search needs
-
 row-total-requires : tie.Need-row-total-requires
 row-total-requires c κs = rw (part-is c) (start c .pre .3)
 
-state-price-error-bound-requires : tie.Need-state-price-error-bound-requires
-state-price-error-bound-requires c κs = search needs
-
-mul-row-line : tie.Need-mul-row-line
-mul-row-line c = search needs
-
-shared-slice-read-row-line : tie.Need-shared-slice-read-row-line
-shared-slice-read-row-line c = search needs
-
-row-line-requires : tie.Need-row-line-requires
-row-line-requires c κs = search needs
-
-same-length : tie.Need-same-length
-same-length c = search needs
-
--- where the sum and the allowance are known
+-- where the sum and its error bound are known
 total-is : (c : tie.After-row-total) →
     let a = start (c .before) .args in
     c .row-total .result ≡ sumOf (rowPart (a .tree .reversion) (a .state-prices .now) (suc (a .before)))
 total-is c = c .row-total .ensures ∙ ap sumOf (part-is (c .before))
 
-allowance-is : (c : tie.After-state-price-error-bound) →
+bound-is : (c : tie.After-state-price-error-bound) →
     let a = start (c .before .before) .args in
     c .state-price-error-bound .result ≡ statePriceErrorBoundAnswer (a .tree .steps) (a .tree .reversion) (a .discounts .now) (suc (a .before))
-allowance-is c =
+bound-is c =
     let a = start (c .before .before) .args in
     subst
     (λ (i : ℕ). c .state-price-error-bound .result ≡ statePriceErrorBoundAnswer (a .tree .steps) (a .tree .reversion) (a .discounts .now) i)
@@ -76,19 +55,20 @@ returns c =
     let pre = start viewed .pre in
     let quotes = viewed .before .before .before .shared-slice-known in
     laws.row-line-stands (a .tree .steps) (a .tree .reversion) (a .quotes .now) (a .discounts .now) (a .state-prices .now) (a .before) (a .end)
-    (bounded .before .row-total .result) (a .out .now) _ (bounded .state-price-error-bound .result) (total-is (bounded .before)) (allowance-is bounded)
-    (omega (arith, pre .0, pre .1 .lent .steps-within-limit)) (quotes .given (a .before) .fits) (search needs) (pre .4) (pre .5) (drawn .row-line .ensures)
+    (bounded .before .row-total .result) (a .out .now) _ (bounded .state-price-error-bound .result) (total-is (bounded .before)) (bound-is bounded)
+    (omega (arith, pre .0, pre .1 .lent .limits .steps-within-limit))
+    (quotes .given (a .before) .fits) (search needs) (pre .4) (pre .5) (drawn .row-line .ensures)
 
 pub put-row-spec : {M : Type 1} → statement M
 put-row-spec =
     tie.close
     (tie.spec
-    add-row
-    row-view-requires
+    (λ c. search needs)
+    (λ c κs. search needs)
     row-total-requires
-    state-price-error-bound-requires
-    mul-row-line
-    shared-slice-read-row-line
-    row-line-requires
-    same-length
+    (λ c κs. search needs)
+    (λ c. search needs)
+    (λ c. search needs)
+    (λ c κs. search needs)
+    (λ c. search needs)
     returns)

@@ -29,16 +29,13 @@ fits : (c : tie.After-shared-slice-known3 Inv-loop μ-loop) (i : ℕ) → i < st
 fits c =
     let s = start c in
     let a = s .args in
-    laws.rows-fit (a .steps) (a .reversion) (a .quotes .now) (a .discounts .now) (a .state-prices .now) (s .pre .0 .0 .lent .steps-within-limit)
+    laws.rows-fit (a .steps) (a .reversion) (a .quotes .now) (a .discounts .now) (a .state-prices .now) (s .pre .0 .0 .lent .limits .steps-within-limit)
     (λ j. c .before .before .shared-slice-known .given j .fits) (s .pre .1)
 
 loop-holds : tie.Need-loop-holds Inv-loop μ-loop
 loop-holds c =
     let s = start c in
     begun (line s) (λ (i : ℕ). 128 * i) (s .args .steps) (fits c) (s .args .out .now) (s .args .end) (s .pre .0 .2)
-
-sub-left : tie.Need-sub-left Inv-loop μ-loop
-sub-left c = search needs
 
 put-row-requires : tie.Need-put-row-requires Inv-loop μ-loop
 put-row-requires c κs =
@@ -53,9 +50,6 @@ put-row-requires c κs =
       omega (arith, p .enough),
       omega (arith, p .below, p .same, pre .0 .3),
     )
-
-loop-less : tie.Need-loop-less Inv-loop μ-loop
-loop-less c = search needs
 
 loop-again : tie.Need-loop-again Inv-loop μ-loop
 loop-again c =
@@ -82,9 +76,9 @@ put-rows-spec =
     Inv-loop
     μ-loop
     loop-holds
-    sub-left
+    (λ c. search needs)
     put-row-requires
-    loop-less
+    (λ c. search needs)
     loop-again
     same-length
     returns)

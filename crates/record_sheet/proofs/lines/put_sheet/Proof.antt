@@ -41,9 +41,6 @@ put-all-nodes-requires c κs =
     (λ j. known .shared-slice-known .given j .fits) (s .pre .1) in
     record { lent = s .pre .0 .0 .lent; place = s .pre .0 .0 .lent .size; room = room .0; inside = room .1 }
 
-same-length : tie.Need-same-length
-same-length c = search needs
-
 returns : tie.Need-returns
 returns c =
     let noded = c .before .before in
@@ -57,4 +54,4 @@ returns c =
 pub put-sheet-spec : {M : Type 1} → statement M
 put-sheet-spec =
     tie.close
-    (tie.spec put-prices-requires put-rows-requires put-all-nodes-requires same-length returns)
+    (tie.spec put-prices-requires put-rows-requires put-all-nodes-requires (λ c. search needs) returns)

@@ -15,30 +15,6 @@ use borrow.Author.Needs.{needs}
 use Rattle.shelf.proofs.parts.close_part.Statement.{statement}
 use Rattle.shelf.proofs.parts.close_part.Tie as tie
 
-move-down-requires : tie.Need-move-down-requires
-move-down-requires c κs = search needs
-
-sub-from : tie.Need-sub-from
-sub-from c = search needs
-
-mul-clear : tie.Need-mul-clear
-mul-clear c = search needs
-
-sub-clear : tie.Need-sub-clear
-sub-clear c = search needs
-
-part-clear-start : tie.Need-part-clear-start
-part-clear-start c = search needs
-
-part-clear-end : tie.Need-part-clear-end
-part-clear-end c = search needs
-
-clear-requires : tie.Need-clear-requires
-clear-requires c κs = search needs
-
-same-length : tie.Need-same-length
-same-length c = search needs
-
 returns : tie.Need-returns
 unfolding closed
 returns c =
@@ -62,12 +38,12 @@ pub close-part-spec : {M : Type 1} → statement M
 close-part-spec =
     tie.close
     (tie.spec
-    move-down-requires
-    sub-from
-    mul-clear
-    sub-clear
-    part-clear-start
-    part-clear-end
-    clear-requires
-    same-length
+    (λ c κs. search needs)
+    (λ c. search needs)
+    (λ c. search needs)
+    (λ c. search needs)
+    (λ c. search needs)
+    (λ c. search needs)
+    (λ c κs. search needs)
+    (λ c. search needs)
     returns)

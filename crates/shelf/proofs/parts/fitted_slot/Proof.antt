@@ -10,24 +10,6 @@ use borrow.Author.Needs.{needs}
 use Rattle.shelf.proofs.parts.fitted_slot.Statement.{statement}
 use Rattle.shelf.proofs.parts.fitted_slot.Tie as tie
 
-add-end : tie.Need-add-end
-add-end c = search needs
-
-mul-tree-bounds : tie.Need-mul-tree-bounds
-mul-tree-bounds c = search needs
-
-sub-tree-bounds : tie.Need-sub-tree-bounds
-sub-tree-bounds c = search needs
-
-part-tree-bounds-start : tie.Need-part-tree-bounds-start
-part-tree-bounds-start c = search needs
-
-part-tree-bounds-end : tie.Need-part-tree-bounds-end
-part-tree-bounds-end c = search needs
-
-tree-bounds-requires : tie.Need-tree-bounds-requires
-tree-bounds-requires c κs = search needs
-
 returns : tie.Need-returns
 returns c =
     let a = c .before .before .before .before .before .args in
@@ -39,10 +21,10 @@ pub fitted-slot-spec : {M : Type 1} → statement M
 fitted-slot-spec =
     tie.close
     (tie.spec
-    add-end
-    mul-tree-bounds
-    sub-tree-bounds
-    part-tree-bounds-start
-    part-tree-bounds-end
-    tree-bounds-requires
+    (λ c. search needs)
+    (λ c. search needs)
+    (λ c. search needs)
+    (λ c. search needs)
+    (λ c. search needs)
+    (λ c κs. search needs)
     returns)

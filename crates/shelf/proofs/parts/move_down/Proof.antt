@@ -21,32 +21,8 @@ Inv-loop memory₀ at count end k₀ memory k =
 abbrev μ-loop : tie.MeasureT-loop
 μ-loop memory₀ at count end k₀ memory k = end - k
 
-sub-end : tie.Need-sub-end Inv-loop μ-loop
-sub-end c = search needs
-
 loop-holds : tie.Need-loop-holds Inv-loop μ-loop
 loop-holds c = (search needs, search needs, search needs, down-start (c .args .memory .now) (c .args .at) (c .args .count) (omega arith))
-
-add-memory : tie.Need-add-memory Inv-loop μ-loop
-add-memory c = search needs
-
-mul-memory : tie.Need-mul-memory Inv-loop μ-loop
-mul-memory c = search needs
-
-slice-read-memory : tie.Need-slice-read-memory Inv-loop μ-loop
-slice-read-memory c = search needs
-
-mul-memory-2 : tie.Need-mul-memory-2 Inv-loop μ-loop
-mul-memory-2 c = search needs
-
-slice-write-memory : tie.Need-slice-write-memory Inv-loop μ-loop
-slice-write-memory c = search needs
-
-add-k : tie.Need-add-k Inv-loop μ-loop
-add-k c = search needs
-
-loop-less : tie.Need-loop-less Inv-loop μ-loop
-loop-less c = search needs
 
 loop-again : tie.Need-loop-again Inv-loop μ-loop
 loop-again c =
@@ -57,9 +33,6 @@ loop-again c =
       simp length-set (search needs),
       down-step (a .memory .now) (a .at) (a .count) (omega arith) (l .memory) (l .k) (omega arith) (omega arith) (l .inv .3),
     )
-
-same-length : tie.Need-same-length Inv-loop μ-loop
-same-length c = search needs
 
 returns : tie.Need-returns Inv-loop μ-loop
 returns c =
@@ -75,15 +48,15 @@ move-down-spec =
     (tie.spec
     Inv-loop
     μ-loop
-    sub-end
+    (λ c. search needs)
     loop-holds
-    add-memory
-    mul-memory
-    slice-read-memory
-    mul-memory-2
-    slice-write-memory
-    add-k
-    loop-less
+    (λ c. search needs)
+    (λ c. search needs)
+    (λ c. search needs)
+    (λ c. search needs)
+    (λ c. search needs)
+    (λ c. search needs)
+    (λ c. search needs)
     loop-again
-    same-length
+    (λ c. search needs)
     returns)

@@ -14,30 +14,6 @@ use borrow.Author.Needs.{needs}
 use Rattle.shelf.proofs.parts.open_part.Statement.{statement}
 use Rattle.shelf.proofs.parts.open_part.Tie as tie
 
-move-up-requires : tie.Need-move-up-requires
-move-up-requires c κs = search needs
-
-add-end : tie.Need-add-end
-add-end c = search needs
-
-mul-clear : tie.Need-mul-clear
-mul-clear c = search needs
-
-sub-clear : tie.Need-sub-clear
-sub-clear c = search needs
-
-part-clear-start : tie.Need-part-clear-start
-part-clear-start c = search needs
-
-part-clear-end : tie.Need-part-clear-end
-part-clear-end c = search needs
-
-clear-requires : tie.Need-clear-requires
-clear-requires c κs = search needs
-
-same-length : tie.Need-same-length
-same-length c = search needs
-
 returns : tie.Need-returns
 unfolding opened
 returns c =
@@ -56,12 +32,12 @@ pub open-part-spec : {M : Type 1} → statement M
 open-part-spec =
     tie.close
     (tie.spec
-    move-up-requires
-    add-end
-    mul-clear
-    sub-clear
-    part-clear-start
-    part-clear-end
-    clear-requires
-    same-length
+    (λ c κs. search needs)
+    (λ c. search needs)
+    (λ c. search needs)
+    (λ c. search needs)
+    (λ c. search needs)
+    (λ c. search needs)
+    (λ c κs. search needs)
+    (λ c. search needs)
     returns)

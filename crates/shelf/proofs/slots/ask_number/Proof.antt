@@ -12,20 +12,11 @@ use Rattle.shelf.proofs.slots.ask_number.Tie as tie
 free : (c : tie.Else1) → let s = c .before .before in statusOf (s .args .shelf .slots) (s .args .name) ≡ 0
 free c = omega arith
 
-status-of-requires : tie.Need-status-of-requires
-status-of-requires c κs = search needs
-
 returns : tie.Need-returns
 returns c = sym (ask-name _ _ _ _ (λ e. c .if1 .taken (c .before .status-of .ensures ∙ e)))
 
-discounts-needed-requires : tie.Need-discounts-needed-requires
-discounts-needed-requires c κs = search needs
-
 returns-2 : tie.Need-returns-2
 returns-2 c = ask-refused _ _ _ _ (free (c .before .before .before)) _ (c .before .before .discounts-needed .ensures) (c .if2 .taken)
-
-nodes-before-requires : tie.Need-nodes-before-requires
-nodes-before-requires c κs = search needs
 
 add-if3 : tie.Need-add-if3
 add-if3 c =
@@ -51,11 +42,11 @@ pub ask-number-spec : {M : Type 1} → statement M
 ask-number-spec =
     tie.close
     (tie.spec
-    status-of-requires
+    (λ c κs. search needs)
     returns
-    discounts-needed-requires
+    (λ c κs. search needs)
     returns-2
-    nodes-before-requires
+    (λ c κs. search needs)
     add-if3
     returns-3
     returns-4)

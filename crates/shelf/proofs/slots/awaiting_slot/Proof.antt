@@ -5,11 +5,8 @@ use borrow.Author.Needs.{needs}
 use Rattle.shelf.proofs.slots.awaiting_slot.Statement.{statement}
 use Rattle.shelf.proofs.slots.awaiting_slot.Tie as tie
 
-no-rows-requires : tie.Need-no-rows-requires
-no-rows-requires c κs = search needs
-
 returns : tie.Need-returns
 returns c = awaiting-is _ (c .no-rows .ensures) _ _
 
 pub awaiting-slot-spec : {M : Type 1} → statement M
-awaiting-slot-spec = tie.close (tie.spec no-rows-requires returns)
+awaiting-slot-spec = tie.close (tie.spec (λ c κs. search needs) returns)

@@ -5,11 +5,8 @@ use borrow.Author.Needs.{needs}
 use Rattle.shelf.proofs.slots.empty_slot.Statement.{statement}
 use Rattle.shelf.proofs.slots.empty_slot.Tie as tie
 
-no-rows-requires : tie.Need-no-rows-requires
-no-rows-requires c κs = search needs
-
 returns : tie.Need-returns
 returns c = empty-is _ (c .no-rows .ensures)
 
 pub empty-slot-spec : {M : Type 1} → statement M
-empty-slot-spec = tie.close (tie.spec no-rows-requires returns)
+empty-slot-spec = tie.close (tie.spec (λ c κs. search needs) returns)

@@ -19,27 +19,12 @@ loop-holds : tie.Need-loop-holds Inv-loop μ-loop
 unfolding nodesBefore
 loop-holds c = search needs
 
-mul-slot : tie.Need-mul-slot Inv-loop μ-loop
-mul-slot c = search needs
-
-element-copy-out-slot : tie.Need-element-copy-out-slot Inv-loop μ-loop
-element-copy-out-slot c = search needs
-
-nodes-of-requires : tie.Need-nodes-of-requires Inv-loop μ-loop
-nodes-of-requires c κs = search needs
-
 add-nodes : tie.Need-add-nodes Inv-loop μ-loop
 unfolding slotAt
 add-nodes c =
     let loop = c .before .before .before .loop in
     let slots = c .before .before .before .before .args .t1 .slots in
     omega (arith, before-most slots (loop .at), nodes-most (slotAt slots (loop .at)), c .nodes-of .ensures)
-
-add-at : tie.Need-add-at Inv-loop μ-loop
-add-at c = search needs
-
-loop-less : tie.Need-loop-less Inv-loop μ-loop
-loop-less c = search needs
 
 loop-again : tie.Need-loop-again Inv-loop μ-loop
 unfolding slotAt
@@ -61,11 +46,11 @@ nodes-before-spec =
     Inv-loop
     μ-loop
     loop-holds
-    mul-slot
-    element-copy-out-slot
-    nodes-of-requires
+    (λ c. search needs)
+    (λ c. search needs)
+    (λ c κs. search needs)
     add-nodes
-    add-at
-    loop-less
+    (λ c. search needs)
+    (λ c. search needs)
     loop-again
     returns)

@@ -12,9 +12,6 @@ returns c = sym (nodes-none _ (search needs))
 returns-2 : tie.Need-returns-2
 returns-2 c = sym (nodes-status _ (search needs))
 
-discounts-needed-requires : tie.Need-discounts-needed-requires
-discounts-needed-requires c κs = search needs
-
 returns-3 : tie.Need-returns-3
 returns-3 c =
     let s = c .before .before .before .before .before .before .before in
@@ -29,4 +26,4 @@ returns-4 c =
 
 pub nodes-of-spec : {M : Type 1} → statement M
 nodes-of-spec =
-    tie.close (tie.spec returns returns-2 discounts-needed-requires returns-3 returns-4)
+    tie.close (tie.spec returns returns-2 (λ c κs. search needs) returns-3 returns-4)

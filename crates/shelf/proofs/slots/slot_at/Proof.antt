@@ -6,15 +6,9 @@ use borrow.Author.Needs.{needs}
 use Rattle.shelf.proofs.slots.slot_at.Statement.{statement}
 use Rattle.shelf.proofs.slots.slot_at.Tie as tie
 
-mul-result : tie.Need-mul-result
-mul-result c = search needs
-
-element-copy-out-result : tie.Need-element-copy-out-result
-element-copy-out-result c = search needs
-
 returns : tie.Need-returns
 unfolding slotAt
 returns c = refl
 
 pub slot-at-spec : {M : Type 1} → statement M
-slot-at-spec = tie.close (tie.spec mul-result element-copy-out-result returns)
+slot-at-spec = tie.close (tie.spec (λ c. search needs) (λ c. search needs) returns)

@@ -14,17 +14,8 @@ returns c = let a = c .before .args in sym (status-zero (a .shelf .slots) (a .na
 returns-2 : tie.Need-returns-2
 returns-2 c = let a = c .before .before .args in sym (status-high (a .shelf .slots) (a .name) (search needs))
 
-nodes-before-requires : tie.Need-nodes-before-requires
-nodes-before-requires c κs = search needs
-
 returns-3 : tie.Need-returns-3
 returns-3 c = let a = c .before .before .before .before .args in sym (status-broken (a .shelf .slots) (a .name) (search needs) (search needs) (omega arith))
-
-sub-slot-at : tie.Need-sub-slot-at
-sub-slot-at c = search needs
-
-slot-at-requires : tie.Need-slot-at-requires
-slot-at-requires c κs = search needs
 
 returns-4 : tie.Need-returns-4
 returns-4 c =
@@ -37,8 +28,8 @@ status-of-spec =
     (tie.spec
     returns
     returns-2
-    nodes-before-requires
+    (λ c κs. search needs)
     returns-3
-    sub-slot-at
-    slot-at-requires
+    (λ c. search needs)
+    (λ c κs. search needs)
     returns-4)

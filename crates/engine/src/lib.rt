@@ -1,0 +1,1 @@
+// All that the engine promises, as one statement with its proof. No code.

@@ -1,0 +1,4 @@
+pub mod Rows
+pub mod Preconditions
+pub mod Plans
+pub mod TableFit

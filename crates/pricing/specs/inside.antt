@@ -1,0 +1,3 @@
+pub mod Rows
+pub mod Strips
+pub mod Trees
