@@ -44,10 +44,6 @@ use Rattle.price_bound.specs.PriceBound.{treeBoundsAnswer}
 use Rattle.price_laws.specs.Prices.{flowAt, bondPrice, optionPrice, datedPrice}
 use Rattle.price_laws.specs.Exact.{exactBond, exactOption, exactDated, exactPayoff, Accurate}
 use Rattle.valuation.specs.Entries.{valueByStatePricesAnswer, valuationErrorBoundAnswer}
-use Rattle.promises.specs.Quoted.{QuotePromises}
-use Rattle.promises.specs.Versions.{VersionPromises}
-use Rattle.promises.specs.Strips.{StripPromises}
-use Rattle.promises.specs.Causes.{CausePromises}
 
 -- ---- branching, spacing, factors, rates and fit
 
@@ -456,13 +452,3 @@ pub record YieldPromises : Type 0 where
   -- wherever it is not zero, its sign is the step rate's
   pub rates-signed : (v : ℕ) → continuousRateAnswer v .number ≡ 0 → continuousRateAnswer v .value ≢ pos 0 →
       SameSign (continuousRateAnswer v .value) (rateAnswer v .value)
-
--- All together, undivided: with what a quote gives, and which entry gives which number.
-pub record Promises : Type 0 where
-  pub quotes : QuotePromises
-  pub tree : TreePromises
-  pub prices : PricePromises
-  pub yields : YieldPromises
-  pub versions : VersionPromises
-  pub strips : StripPromises
-  pub causes : CausePromises

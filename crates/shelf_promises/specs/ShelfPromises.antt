@@ -8,7 +8,6 @@ use Prim.Native.Nat.{ℕ, suc, _+_, _-_, _*_, _^_, _≤_, _<_}
 use lib.Dec.{eqb}
 use lib.ListN.{length, replicate}
 use Rattle.arithmetic.specs.Row.{values}
-use Rattle.arithmetic.specs.Within.{Within}
 use Rattle.tree.specs.Tree.{unit}
 use Rattle.limits.specs.Limits.{mostSteps, shapeCause}
 use Rattle.lattice.specs.Shape.{discountsNeeded, statePricesNeeded}
@@ -17,6 +16,7 @@ use Rattle.fitting.specs.Entry.{fitNumber}
 use Rattle.price_bound.specs.PriceBound.{treeErrorBound, greatestDiscounts}
 use Rattle.price_laws.specs.declared.Price.{Price}
 use Rattle.price_laws.specs.Prices.{refusedPrice}
+use Rattle.price_laws.specs.Exact.{Accurate}
 use Rattle.price_laws.specs.Strips.{stripCause, Shown}
 use Rattle.promises.specs.Promises.{NoneAboveOne}
 use Rattle.shelf_laws.specs.Parts.{zeros, part}
@@ -69,7 +69,7 @@ pub record PricedTree (k : Kept) (name : ℕ) (p : Pricing) : Type 0 where
   pub carried : priceOf k name p .bound ≡ tree .bound
   pub answered : priceOf k name p ≡ plainPrice p (tree .steps) (tree .reversion) (tree .discounts)
   pub accurate :
-      Within (tree .bound) (unit ^ tree .steps) (priceOf k name p .value) (exactOf p (tree .steps) (tree .reversion) (tree .discounts))
+      Accurate (unit ^ tree .steps) (priceOf k name p) (exactOf p (tree .steps) (tree .reversion) (tree .discounts))
   pub a-step : NoneAboveOne (tree .steps) (tree .reversion) (tree .discounts) → tree .bound ≤ 2 * tree .steps
 
 -- ---- calls
