@@ -14,7 +14,7 @@ ghost use Rattle.curve.specs.Curve.{curveNumber, curveMemory};
 ghost use Rattle.step_rate.specs.StepRate.{rateAnswer};
 ghost use Rattle.continuous_rate.specs.ContinuousRate.{continuousRateAnswer};
 ghost use Rattle.reversion.specs.Reversion.{workingAnswer};
-ghost use Rattle.fitting.specs.Entry.{fitNumber, discountsAfter, pricesAfter, versionNumber, versionDiscountsAfter, versionPricesAfter};
+ghost use Rattle.fitting.specs.Entry.{fitNumber, discountsAfter, statePricesAfter, versionNumber, versionDiscountsAfter, versionStatePricesAfter};
 ghost use Rattle.row_view.specs.RowView.{rangeByNumber};
 ghost use Rattle.state_price_bound.specs.ErrorBound.{statePriceErrorBoundAnswer};
 ghost use Rattle.price_bound.specs.PriceBound.{priceErrorBoundAnswer, treeBoundsAnswer};
@@ -175,7 +175,7 @@ pub extern "C" fn mixegorta_fit(
         (length (now (discounts .entry))) (length (now («state_prices» .entry))) ⌝ }
     ensures discounted { λ _. ⌜ now (discounts .exit) ≡ discountsAfter frequency steps reversion volatility
         (now (rows .entry)) (now (kinds .entry)) (now (figures .entry)) (now (discounts .entry)) (now («state_prices» .entry)) ⌝ }
-    ensures priced { λ _. ⌜ now («state_prices» .exit) ≡ pricesAfter frequency steps reversion volatility
+    ensures priced { λ _. ⌜ now («state_prices» .exit) ≡ statePricesAfter frequency steps reversion volatility
         (now (rows .entry)) (now (kinds .entry)) (now (figures .entry)) (now (discounts .entry)) (now («state_prices» .entry)) ⌝ }
 {
     fitting::fit(
@@ -208,7 +208,7 @@ pub extern "C" fn mixegorta_fit_version(
         (now (rows .entry)) (now (kinds .entry)) (now (figures .entry)) (length (now (discounts .entry))) (length (now («state_prices» .entry))) ⌝ }
     ensures discounted { λ _. ⌜ now (discounts .exit) ≡ versionDiscountsAfter version frequency steps reversion volatility
         (now (rows .entry)) (now (kinds .entry)) (now (figures .entry)) (now (discounts .entry)) (now («state_prices» .entry)) ⌝ }
-    ensures priced { λ _. ⌜ now («state_prices» .exit) ≡ versionPricesAfter version frequency steps reversion volatility
+    ensures priced { λ _. ⌜ now («state_prices» .exit) ≡ versionStatePricesAfter version frequency steps reversion volatility
         (now (rows .entry)) (now (kinds .entry)) (now (figures .entry)) (now (discounts .entry)) (now («state_prices» .entry)) ⌝ }
 {
     fitting::fit_version(

@@ -27,8 +27,8 @@ use Rattle.spacing.specs.Spacing.{greatestPassing, greatestRoot, versionVarianc
 use Rattle.factor.specs.Series.{term, series}
 use Rattle.factor.specs.Factor.{factor}
 use Rattle.step_rate.specs.StepRate.{rateAnswer}
-use Rattle.fit_laws.specs.Step.{normaliser, discount, carried, nextPrice}
-use Rattle.fit_laws.specs.StatePrices.{fittedPrice, fittedDiscount, acceptedRow, statePriceErrorBound}
+use Rattle.fit_laws.specs.Step.{normaliser, discount, carried, nextStatePrice}
+use Rattle.fit_laws.specs.StatePrices.{fittedStatePrice, fittedDiscount, acceptedRow, statePriceErrorBound}
 use Rattle.fitting.specs.Fit.{quoted, curveAccepted}
 use Rattle.fitting.specs.Entry.{earlyCause, lateCause, fittedNumber}
 use Rattle.state_price_bound.specs.ErrorBound.{rowCause, boundCause, statePriceErrorBoundAnswer}
@@ -70,7 +70,7 @@ module _ (option : OptionRecord) where
       inRange factorDiscount billionthsOf magnitudeOf nearest beyond patternFloat isNan ofBits listed rowKnown aboutTree shapeCause memoryCause
       meantVersion workingReversion isVersion isExact versionVariance versionSpacing versionSpacingAnswer
       discountsNeeded statePricesNeeded rowStart sum nodeCount halfWidth lateCause greatestRoot greatestPassing curveAccepted acceptedRow rateTree
-      fittedDiscount discount normaliser fittedPrice factor nodeOfIndex series term roundDown quoted
+      fittedDiscount discount normaliser fittedStatePrice factor nodeOfIndex series term roundDown quoted
   fit-none = refl
 
   discounts-are : jobDiscounts (recordWith 5 option) ≡ 1002500000 ∷ []
@@ -78,7 +78,7 @@ module _ (option : OptionRecord) where
       inRange factorDiscount billionthsOf magnitudeOf nearest beyond patternFloat isNan ofBits listed rowKnown
       meantVersion meantReversion workingReversion isExact versionVariance versionSpacing
       sum nodeCount halfWidth greatestRoot greatestPassing rateTree
-      fittedDiscount discount normaliser fittedPrice factor nodeOfIndex series term roundDown quoted
+      fittedDiscount discount normaliser fittedStatePrice factor nodeOfIndex series term roundDown quoted
   discounts-are = refl
 
   prices-are : jobStatePrices (recordWith 5 option) ≡ 1000000000 ∷ 167083333 ∷ 668333333 ∷ 167083333 ∷ []
@@ -86,8 +86,8 @@ module _ (option : OptionRecord) where
       inRange factorDiscount billionthsOf magnitudeOf nearest beyond patternFloat isNan ofBits listed rowKnown
       meantVersion meantReversion workingReversion isExact versionVariance versionSpacing
       sum nodeCount halfWidth greatestRoot greatestPassing rateTree
-      fittedDiscount discount normaliser fittedPrice factor nodeOfIndex series term roundDown quoted
-      nextPrice carried incoming chance only low branching lowestOf zOf upFormula middleFormula downFormula upProbability middleProbability downProbability
+      fittedDiscount discount normaliser fittedStatePrice factor nodeOfIndex series term roundDown quoted
+      nextStatePrice carried incoming chance only low branching lowestOf zOf upFormula middleFormula downFormula upProbability middleProbability downProbability
   prices-are = refl
 
   -- without a cause of form or fit, the job's number is its tree's

@@ -33,7 +33,7 @@ use Rattle.figure.specs.Figure.{billionthsOf}
 use Rattle.quotes.specs.declared.Point.{Point}
 use Rattle.quotes.specs.Quotes.{yieldAmount, loneAnswer}
 use Rattle.curve.specs.Curve.{discountAt}
-use Rattle.fitting.specs.Entry.{fittedNumber, fitDiscount, fitPrice, fitMemory, fitDiscounts, fitPrices}
+use Rattle.fitting.specs.Entry.{fittedNumber, fitDiscount, fitStatePrice, fitMemory, fitDiscounts, fitStatePrices}
 use Rattle.fit_laws.specs.StatePrices.{statePrice, exactStatePrice, statePriceErrorBound}
 use Rattle.state_price_bound.specs.ErrorBound.{statePriceErrorBoundAnswer}
 use Rattle.pricing_laws.specs.Pricer.{Side, call, put, Schedule, bond, bareBond, exercise, option, payoffValue}
@@ -176,20 +176,20 @@ pub record TreePromises : Type 0 where
   -- an accepted fit is these rows, and leaves them in its two memories: discounts of rows 0 to n − 1, state prices of rows 0 to n
   pub fit-rows : (f n w spaced h : ℕ) (rows kinds : List ℕ) (figures : List Float) (room-discounts room-prices : ℕ) →
       fittedNumber f n w spaced h rows kinds figures room-discounts room-prices ≡ 0 →
-      FitRows w n h (discountAt f kinds figures) (fitDiscount f n w h kinds figures) (fitPrice f n w h kinds figures)
+      FitRows w n h (discountAt f kinds figures) (fitDiscount f n w h kinds figures) (fitStatePrice f n w h kinds figures)
   pub fit-laid : (f n w spaced h : ℕ) (rows kinds : List ℕ) (figures : List Float) (d q : List ℕ) →
       fittedNumber f n w spaced h rows kinds figures (length d) (length q) ≡ 0 →
       LaidOut w n (fitDiscount f n w h kinds figures) d
       (fitMemory (fittedNumber f n w spaced h rows kinds figures (length d) (length q)) (fitDiscounts f n w h kinds figures) d)
-      × LaidOut w (suc n) (fitPrice f n w h kinds figures) q
-      (fitMemory (fittedNumber f n w spaced h rows kinds figures (length d) (length q)) (fitPrices f n w h kinds figures) q)
+      × LaidOut w (suc n) (fitStatePrice f n w h kinds figures) q
+      (fitMemory (fittedNumber f n w spaced h rows kinds figures (length d) (length q)) (fitStatePrices f n w h kinds figures) q)
   pub quotes-repriced : (f n w spaced h : ℕ) (rows kinds : List ℕ) (figures : List Float) (room-discounts room-prices : ℕ) →
       fittedNumber f n w spaced h rows kinds figures room-discounts room-prices ≡ 0 → (i : ℕ) → i < n →
-      Repriced (discountAt f kinds figures i) (sum (nodeCount w (suc i)) (fitPrice f n w h kinds figures (suc i)))
+      Repriced (discountAt f kinds figures i) (sum (nodeCount w (suc i)) (fitStatePrice f n w h kinds figures (suc i)))
   -- no row's state prices sum above what weighing takes
   pub sums-weighable : (f n w spaced h : ℕ) (rows kinds : List ℕ) (figures : List Float) (room-discounts room-prices : ℕ) →
       fittedNumber f n w spaced h rows kinds figures room-discounts room-prices ≡ 0 → (i : ℕ) → i ≤ n →
-      sum (nodeCount w i) (fitPrice f n w h kinds figures i) ≤ 2000000100
+      sum (nodeCount w i) (fitStatePrice f n w h kinds figures i) ≤ 2000000100
   -- state prices, exact and rounded, and their error bound row by row, on any tree; the entry's answer is this bound
   pub state-price-rows : (t : Tree) (discount : ℕ → ℕ → ℕ) → StatePriceRows t discount
   pub state-price-bound-is : (n b : ℕ) (discounts : List ℕ) (i : ℕ) → statePriceErrorBoundAnswer n b discounts i .number ≡ 0 →
@@ -202,7 +202,7 @@ pub record TreePromises : Type 0 where
   pub state-prices-near : (f n w spaced h : ℕ) (rows kinds : List ℕ) (figures : List Float) (room-discounts room-prices : ℕ) →
       fittedNumber f n w spaced h rows kinds figures room-discounts room-prices ≡ 0 → (i : ℕ) → i ≤ n →
       (statePriceErrorBoundAnswer n w (fitDiscounts f n w h kinds figures) i .number ≡ 0)
-      × StatePriced w i (fitPrice f n w h kinds figures i) (exactStatePrice (rateTree w) (stored w (fitDiscounts f n w h kinds figures)) i)
+      × StatePriced w i (fitStatePrice f n w h kinds figures i) (exactStatePrice (rateTree w) (stored w (fitDiscounts f n w h kinds figures)) i)
       (statePriceErrorBoundAnswer n w (fitDiscounts f n w h kinds figures) i .value)
 
 -- ---- prices
@@ -221,7 +221,7 @@ pub record Unaltered (f n w h : ℕ) (kinds : List ℕ) (figures : List Float) (
   pub discounts-long : rowStart w n ≤ length discounts
   pub discounts-kept : (i k : ℕ) → i < n → k < nodeCount w i → values discounts (rowStart w i + k) ≡ fitDiscount f n w h kinds figures i k
   pub row-length : length prices ≡ nodeCount w r
-  pub prices-kept : (k : ℕ) → k < nodeCount w r → values prices k ≡ fitPrice f n w h kinds figures r k
+  pub prices-kept : (k : ℕ) → k < nodeCount w r → values prices k ≡ fitStatePrice f n w h kinds figures r k
 
 -- flows stand for rows 1 to n: none on row 0, flow t on row t
 pub record FlowRows (flows : List ℕ) : Type 0 where
@@ -438,7 +438,7 @@ pub record PricePromises : Type 0 where
   -- and those are what an accepted fit leaves in the two memories, d and q before it
   pub fit-stored : (f n w h : ℕ) (kinds : List ℕ) (figures : List Float) (d q : List ℕ) (r : ℕ) → r ≤ n →
       Unaltered f n w h kinds figures (fitMemory 0 (fitDiscounts f n w h kinds figures) d) r
-      (take (nodeCount w r) (drop (rowStart w r) (fitMemory 0 (fitPrices f n w h kinds figures) q)))
+      (take (nodeCount w r) (drop (rowStart w r) (fitMemory 0 (fitStatePrices f n w h kinds figures) q)))
 
 -- ---- yields by continuous compounding (document 02, request (i))
 

@@ -27,7 +27,7 @@ use Rattle.curve.specs.Curve.{discountAt}
 use Rattle.step_rate.specs.StepRate.{rateAnswer}
 use Rattle.step_rate.specs.declared.Rate.{Rate}
 use Rattle.step_rate.proofs.RateLaws.{answer-known}
-use Rattle.fitting.specs.Entry.{fitPrice}
+use Rattle.fitting.specs.Entry.{fitStatePrice}
 use Rattle.fitting.proofs.FittedTree.{fit-discounts-lent}
 use Rattle.price_laws.specs.Exact.{Accurate}
 use Rattle.price_laws.specs.declared.Price.{Price}
@@ -138,7 +138,7 @@ module _ (job : Job) (room : ℕ) (known : AcceptedJob job room) where
   unfolding jobQuotes jobDiscounts jobStatePrices meantReversion
   row-shown i hi =
       let f = job .frequency in
-      let price = fitPrice f n b h (jobKinds job) (jobFigures job) in
+      let price = fitStatePrice f n b h (jobKinds job) (jobFigures job) in
       let near
       = tree-kept .quotes-repriced f n b _ h (jobRows job) (jobKinds job) (jobFigures job) mostDiscounts mostStatePrices (known .fit) i hi in
       let quote = values-row n i (discountAt f (jobKinds job) (jobFigures job)) hi in
