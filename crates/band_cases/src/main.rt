@@ -66,7 +66,7 @@ fn count_of(number: u64) -> usize
 }
 
 // So many numbers from a place on, or all where there are fewer.
-fn part(numbers: &[u64], start: usize, count: usize) -> &[u64] {
+fn numbers_from(numbers: &[u64], start: usize, count: usize) -> &[u64] {
     if numbers.len() < start {
         return numbers;
     }
@@ -128,13 +128,13 @@ fn show_table(bytes: &[u8]) {
     let haircuts_at = highests_at + count_of(numbers[3]);
     let rows_at = haircuts_at + count_of(numbers[4]);
     let pairs = count_of(numbers[5]);
-    let firsts = part(&numbers, HEAD, lasts_at - HEAD);
-    let lasts = part(&numbers, lasts_at, lowests_at - lasts_at);
-    let lowests = part(&numbers, lowests_at, highests_at - lowests_at);
-    let highests = part(&numbers, highests_at, haircuts_at - highests_at);
-    let haircuts = part(&numbers, haircuts_at, rows_at - haircuts_at);
-    let rows = part(&numbers, rows_at, pairs);
-    let prices = part(&numbers, rows_at + pairs, pairs);
+    let firsts = numbers_from(&numbers, HEAD, lasts_at - HEAD);
+    let lasts = numbers_from(&numbers, lasts_at, lowests_at - lasts_at);
+    let lowests = numbers_from(&numbers, lowests_at, highests_at - lowests_at);
+    let highests = numbers_from(&numbers, highests_at, haircuts_at - highests_at);
+    let haircuts = numbers_from(&numbers, haircuts_at, rows_at - haircuts_at);
+    let rows = numbers_from(&numbers, rows_at, pairs);
+    let prices = numbers_from(&numbers, rows_at + pairs, pairs);
     io::write_all(1, b"table");
     show_verdict(bands::check_bands(firsts, lasts, lowests, highests, haircuts));
     show_worths(firsts, lasts, lowests, highests, haircuts, rows, prices);

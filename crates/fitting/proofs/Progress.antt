@@ -137,12 +137,12 @@ module _ {b : ℕ} {l u downs d₀ p₀ a : List ℕ} (k : RowsReady b l u downs
 module _ {b : ℕ} {l u downs d₀ p₀ a : List ℕ} (k : RowsReady b l u downs d₀ p₀ a) {d p : List ℕ} {i : ℕ}
     (g : Progress b l u d₀ p₀ d p i) (hi : i < length l) where
   -- the row's own part of the memory
-  part : take (nodeCount b i) (drop (rowStart b i) p) ≡ row (nodeCount b i) (tableStatePrice b l u i)
+  row-part : take (nodeCount b i) (drop (rowStart b i) p) ≡ row (nodeCount b i) (tableStatePrice b l u i)
   unfolding rateTree start rowStart
-  part = rw (g .state-prices) (laid-row (rateTree b) (tableStatePrice b l u) i (drop (start (rateTree b) (suc i)) p₀))
+  row-part = rw (g .state-prices) (laid-row (rateTree b) (tableStatePrice b l u) i (drop (start (rateTree b) (suc i)) p₀))
 
   part-value : (j : ℕ) → j < nodeCount b i → rowStatePrices (rowStart b i) (nodeCount b i) p j ≡ tableStatePrice b l u i j
-  part-value j h = ap (λ (x : List ℕ). values x j) part ∙ values-row (nodeCount b i) j (tableStatePrice b l u i) h
+  part-value j h = ap (λ (x : List ℕ). values x j) row-part ∙ values-row (nodeCount b i) j (tableStatePrice b l u i) h
 
   part-sum : sum (nodeCount b i) (rowStatePrices (rowStart b i) (nodeCount b i) p) ≡ sum (nodeCount b i) (tableStatePrice b l u i)
   part-sum = sum-cong (nodeCount b i) _ _ part-value

@@ -67,8 +67,8 @@ row-same {start} {n} {m} {p} {u} {w} {t} {s} {d} {q} {d′} {q′} {r} eu el ed 
     }
 
 -- a table's part for row i, as lending has it
-abbrev part : ℕ → ℕ → ℕ → List ℕ → List ℕ
-part b n i l = take (tableOffset b (n - 1) i + nodeCount b i - tableOffset b (n - 1) i) (drop (tableOffset b (n - 1) i) l)
+abbrev tablePart : ℕ → ℕ → ℕ → List ℕ → List ℕ
+tablePart b n i l = take (tableOffset b (n - 1) i + nodeCount b i - tableOffset b (n - 1) i) (drop (tableOffset b (n - 1) i) l)
 
 -- and by the shape that code holds
 abbrev pub shaped : RowShape → List ℕ → List ℕ
@@ -78,39 +78,39 @@ module _ {b n i quote : ℕ} {factors downs discounts state-prices sums : List �
   inside : i ≤ n - 1
   inside = omega (arith, r .in-tree)
 
-  lent : (l : List ℕ) → part b n i l ≡ table-part b (n - 1) i l
+  lent : (l : List ℕ) → tablePart b n i l ≡ table-part b (n - 1) i l
   lent l = part-is l (tableOffset b (n - 1) i) (nodeCount b i)
 
-  factors-length : length (part b n i factors) ≡ nodeCount b i
+  factors-length : length (tablePart b n i factors) ≡ nodeCount b i
   factors-length = ap length (lent factors) ∙ table-part-length b (n - 1) i inside factors (r .tables .factors-bounded .length-is)
 
-  downs-length : length (part b n i downs) ≡ nodeCount b i
+  downs-length : length (tablePart b n i downs) ≡ nodeCount b i
   downs-length = ap length (lent downs) ∙ table-part-length b (n - 1) i inside downs (r .tables .downs-length)
 
-  factor-value : (k : ℕ) → k < nodeCount b i → values (part b n i factors) k ≡ values factors (tableOffset b (n - 1) i + k)
+  factor-value : (k : ℕ) → k < nodeCount b i → values (tablePart b n i factors) k ≡ values factors (tableOffset b (n - 1) i + k)
   factor-value k h =
       ap (λ (l : List ℕ). values l k) (lent factors) ∙ table-part-value b (n - 1) i inside factors (r .tables .factors-bounded .length-is) k h
 
-  factor-is : (k : ℕ) → k < nodeCount b i → values (part b n i factors) k ≡ tableFactor b n factors i k
+  factor-is : (k : ℕ) → k < nodeCount b i → values (tablePart b n i factors) k ≡ tableFactor b n factors i k
   unfolding tableFactor
   factor-is k h = factor-value k h
 
-  lows : (k : ℕ) → k < nodeCount b i → rowTransition (part b n i downs) (nodeCount b (suc i)) .low k ≡ rateTree b .step i .low k
+  lows : (k : ℕ) → k < nodeCount b i → rowTransition (tablePart b n i downs) (nodeCount b (suc i)) .low k ≡ rateTree b .step i .low k
   lows k h =
       ap (λ (l : List ℕ). rowTransition l (nodeCount b (suc i)) .low k) (lent downs)
       ∙ part-low b (n - 1) i inside downs (r .tables .downs-length) (r .tables .downs-hold) (r .tables .limits .reversion-within-limit) k h
 
-  ups : (k : ℕ) → k < nodeCount b i → rowTransition (part b n i downs) (nodeCount b (suc i)) .up k ≡ rateTree b .step i .up k
+  ups : (k : ℕ) → k < nodeCount b i → rowTransition (tablePart b n i downs) (nodeCount b (suc i)) .up k ≡ rateTree b .step i .up k
   ups k h =
       ap (λ (l : List ℕ). rowTransition l (nodeCount b (suc i)) .up k) (lent downs)
       ∙ part-up b (n - 1) i inside downs (r .tables .downs-length) (r .tables .downs-hold) (r .tables .limits .reversion-within-limit) k h
 
-  middles : (k : ℕ) → k < nodeCount b i → rowTransition (part b n i downs) (nodeCount b (suc i)) .middle k ≡ rateTree b .step i .middle k
+  middles : (k : ℕ) → k < nodeCount b i → rowTransition (tablePart b n i downs) (nodeCount b (suc i)) .middle k ≡ rateTree b .step i .middle k
   middles k h =
       ap (λ (l : List ℕ). rowTransition l (nodeCount b (suc i)) .middle k) (lent downs)
       ∙ part-middle b (n - 1) i inside downs (r .tables .downs-length) (r .tables .downs-hold) (r .tables .limits .reversion-within-limit) k h
 
-  downs-are : (k : ℕ) → k < nodeCount b i → rowTransition (part b n i downs) (nodeCount b (suc i)) .down k ≡ rateTree b .step i .down k
+  downs-are : (k : ℕ) → k < nodeCount b i → rowTransition (tablePart b n i downs) (nodeCount b (suc i)) .down k ≡ rateTree b .step i .down k
   downs-are k h =
       ap (λ (l : List ℕ). rowTransition l (nodeCount b (suc i)) .down k) (lent downs)
       ∙ part-down b (n - 1) i inside downs (r .tables .downs-length) (r .tables .downs-hold) (r .tables .limits .reversion-within-limit) k h
@@ -123,7 +123,7 @@ module _ {b n i quote : ℕ} {factors downs discounts state-prices sums : List �
   unfolding rateTree
   tree-total k h = rate-tree-sound b (r .tables .limits .reversion-within-limit) .total i k h
 
-  row-ready : RowReady (rowStart b i) (nodeCount b (suc i)) quote (part b n i factors) (part b n i downs) discounts state-prices sums
+  row-ready : RowReady (rowStart b i) (nodeCount b (suc i)) quote (tablePart b n i factors) (tablePart b n i downs) discounts state-prices sums
   row-ready =
       record {
         factors-bounded = record {
@@ -146,8 +146,8 @@ module _ {b n i quote : ℕ} {factors downs discounts state-prices sums : List �
 
   -- what the row's step leaves, in the lattice's terms
   tree-fitted : {d′ p′ : List ℕ} {accepted : Bool} →
-      RowFitted (rowStart b i) (length (part b n i factors)) (nodeCount b (suc i)) quote (values (part b n i factors))
-      (rowTransition (part b n i downs) (nodeCount b (suc i))) discounts state-prices d′ p′ accepted →
+      RowFitted (rowStart b i) (length (tablePart b n i factors)) (nodeCount b (suc i)) quote (values (tablePart b n i factors))
+      (rowTransition (tablePart b n i downs) (nodeCount b (suc i))) discounts state-prices d′ p′ accepted →
       RowFitted (rowStart b i) (nodeCount b i) (nodeCount b (suc i)) quote (tableFactor b n factors i) (rateTree b .step i)
       discounts state-prices d′ p′ accepted
   tree-fitted f = row-same factor-is lows downs-are middles ups (rw factors-length at f)
