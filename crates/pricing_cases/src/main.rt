@@ -1,4 +1,5 @@
 // Prices of trees of several shapes, held against reference.py, which works them out from documents 01 and 02 alone.
+use arithmetic::ONE;
 use price_laws::Price;
 ghost use Prim.Native.Nat.{_≤_, _<_};
 
@@ -181,7 +182,7 @@ fn dates_of_side(
     flows: &[u64],
     side: u64,
 ) {
-    let mut every = [0u8; 60];
+    let mut every = [0u8; limits::MOST_STEPS];
     fill_dates(&mut every, 0, 1);
     let mut thirds = [0u8; 20];
     fill_dates(&mut thirds, 1, 3);
@@ -221,7 +222,7 @@ fn trees(discounts: &[u64], flows: &[u64]) {
 // The job of document 01, whose option expires on the bond's last row, and the same with an option for today.
 fn example() {
     let discounts = [1_002_500_000u64];
-    let flows = [1_000_000_000u64];
+    let flows = [ONE];
     bond(1, 0, &discounts, &flows);
     option(1, 0, &discounts, &flows, 4, 1, 1_010_000_000);
     option(1, 0, &discounts, &flows, 4, 0, 1_010_000_000);
@@ -229,12 +230,12 @@ fn example() {
 
 // Values of 8 × one, and of one billionth more, at row 0 alone.
 fn limits() {
-    let level = [1_000_000_000u64; 16];
+    let level = [ONE; 16];
     let most = [2_000_000_000u64; 4];
     bond(4, 0, &level, &most);
     option(4, 0, &level, &most, 3, 3, 0);
     dated(4, 0, &level, &most, 1, &[0u8, 3], 0);
-    let mut above = [1_000_000_000u64; 16];
+    let mut above = [ONE; 16];
     above[0] = 1_000_000_001;
     bond(4, 0, &above, &most);
     option(4, 0, &above, &most, 2, 0, 4_000_000_000);
@@ -243,8 +244,8 @@ fn limits() {
 
 // A coupon on the expiry row, which stays with the seller: calls and puts on a bond of 1 without it.
 fn exercise_days() {
-    let level = [1_000_000_000u64; 4];
-    let flows = [100_000_000u64, 1_000_000_000];
+    let level = [ONE; 4];
+    let flows = [100_000_000u64, ONE];
     option(2, 0, &level, &flows, 1, 1, 900_000_000);
     option(2, 0, &level, &flows, 3, 1, 900_000_000);
     option(2, 0, &level, &flows, 2, 1, 1_050_000_000);
@@ -266,12 +267,12 @@ fn five_lists(discounts: &[u64], flows: &[u64], side: u64, strike: u64) {
 
 // Options that are best exercised on a coupon's row before their expiry.
 fn earlier_days() {
-    let flows = [100_000_000u64, 100_000_000, 1_000_000_000];
-    let mut low = [1_000_000_000u64; 9];
+    let flows = [100_000_000u64, 100_000_000, ONE];
+    let mut low = [ONE; 9];
     low[0] = 900_000_000;
-    option(3, 0, &low, &flows, 3, 2, 1_000_000_000);
-    five_lists(&low, &flows, 1, 1_000_000_000);
-    let mut later = [1_000_000_000u64; 9];
+    option(3, 0, &low, &flows, 3, 2, ONE);
+    five_lists(&low, &flows, 1, ONE);
+    let mut later = [ONE; 9];
     later[1] = 900_000_000;
     later[2] = 900_000_000;
     later[3] = 900_000_000;
@@ -303,16 +304,16 @@ fn steep() {
 
 // A list that is not accepted comes before the bond's value, and after side and strike.
 fn order_of_dates() {
-    let level = [1_000_000_000u64; 25];
+    let level = [ONE; 25];
     let most = [2_000_000_000u64; 5];
     let none: [u8; 0] = [];
-    dated(5, 0, &level, &most, 1, &[1u8], 1_000_000_000);
-    dated(5, 0, &level, &most, 1, &[5u8], 1_000_000_000);
-    dated(5, 0, &level, &most, 1, &[1u8, 1], 1_000_000_000);
-    dated(5, 0, &level, &most, 1, &none, 1_000_000_000);
-    dated(5, 0, &level, &most, 1, &[4u8, 3], 1_000_000_000);
-    dated(5, 0, &level, &most, 1, &[0u8, 255], 1_000_000_000);
-    dated(5, 0, &level, &most, 1, &[7u8; 256], 1_000_000_000);
+    dated(5, 0, &level, &most, 1, &[1u8], ONE);
+    dated(5, 0, &level, &most, 1, &[5u8], ONE);
+    dated(5, 0, &level, &most, 1, &[1u8, 1], ONE);
+    dated(5, 0, &level, &most, 1, &none, ONE);
+    dated(5, 0, &level, &most, 1, &[4u8, 3], ONE);
+    dated(5, 0, &level, &most, 1, &[0u8, 255], ONE);
+    dated(5, 0, &level, &most, 1, &[7u8; 256], ONE);
     dated(5, 0, &level, &most, 1, &[5u8], 4_000_000_001);
     dated(5, 0, &level, &most, 3, &none, 0);
     dated(5, 0, &level, &most, 0, &[1u8], 0);
@@ -354,7 +355,7 @@ fn strips(steps: usize, reversion: u64, discounts: &[u64], all_flows: &[u64], si
     fill(&mut strikes, 100_000_000, 97_531_000, 700_000_000);
     strikes[3] = strikes[1];
     strikes[5] = 4_000_000_001;
-    let mut every = [0u8; 60];
+    let mut every = [0u8; limits::MOST_STEPS];
     fill_dates(&mut every, 0, 1);
     let dates = first_dates(&every, steps / 2 + 1);
     let tree = Sided {
@@ -376,7 +377,7 @@ fn strips_of_trees(discounts: &[u64], flows: &[u64]) {
 // One strike is refused with 12, a lower one after it is priced; a strike above its limit beside a bad list, another side and a bond above its
 // own limit.
 fn strike_causes(steep: &[u64], none: &[u64]) {
-    let high = [5_000_000_000u64, 1_000_000_000, 5_000_000_000];
+    let high = [5_000_000_000u64, ONE, 5_000_000_000];
     strip(
         9,
         0,
@@ -384,24 +385,11 @@ fn strike_causes(steep: &[u64], none: &[u64]) {
         none,
         2,
         &[8u8],
-        &[
-            4_000_000_000u64,
-            3_000_000_000,
-            4_000_000_000,
-            1_000_000_000,
-        ],
+        &[4_000_000_000u64, 3_000_000_000, 4_000_000_000, ONE],
     );
     strip(9, 0, steep, none, 2, &[3u8, 3], &high);
     strip(9, 0, steep, none, 3, &[3u8], &high);
-    strip(
-        5,
-        0,
-        &[1_000_000_000u64; 25],
-        &[2_000_000_000u64; 5],
-        1,
-        &[1u8],
-        &high,
-    );
+    strip(5, 0, &[ONE; 25], &[2_000_000_000u64; 5], 1, &[1u8], &high);
 }
 
 // A cause about the tree in every place, and the strip's own causes.
@@ -435,13 +423,8 @@ fn tree_refusals(discounts: &[u64], flows: &[u64]) {
 
 fn number_refusals(discounts: &[u64], flows: &[u64]) {
     let over = [2_000_000_001u64, 0];
-    let zero = [1_000_000_000u64, 1_000_000_000, 1_000_000_000, 0];
-    let large = [
-        1_000_000_000u64,
-        1_100_000_001,
-        1_000_000_000,
-        1_000_000_000,
-    ];
+    let zero = [ONE, ONE, ONE, 0];
+    let large = [ONE, 1_100_000_001, ONE, ONE];
     bond(2, 0, &zero, &over);
     bond(2, 0, &large, &over);
     bond(2, 0, discounts, &over);
@@ -457,9 +440,9 @@ fn number_refusals(discounts: &[u64], flows: &[u64]) {
 }
 
 fn main() {
-    let mut discounts = [0u64; 3600];
+    let mut discounts = [0u64; limits::MOST_DISCOUNTS];
     fill(&mut discounts, 930_000_000, 7_919_003, 150_000_001);
-    let mut flows = [0u64; 60];
+    let mut flows = [0u64; limits::MOST_STEPS];
     fill(&mut flows, 20_000_000, 31_415_927, 80_000_009);
     example();
     trees(&discounts, &flows);
