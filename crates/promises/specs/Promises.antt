@@ -137,7 +137,7 @@ pub record StatePriced (b i : ℕ) (fitted exact : ℕ → ℕ) (bound : ℕ) : 
   pub short : sum (nodeCount b i) (λ k. exact k - unit ^ i * fitted k) ≤ unit ^ i * bound
 
 -- The state prices that follow from node discounts, whoever stored them, rounded as the fit rounds and exact, the latter held times m^i; and the
--- state-price allowance, with the greatest discount of the row before: times the former / one, up, plus both rows' node counts.
+-- error bound (document 01: state-price allowance), with the greatest discount of the row before: times the former / one, up, plus both rows' node counts.
 pub record StatePriceRows (t : Tree) (discount : ℕ → ℕ → ℕ) : Type 0 where
   pub first : (k : ℕ) → statePrice t discount 0 k ≡ one
   pub next : (i j : ℕ) →
@@ -323,14 +323,14 @@ pub record ExactRows (t : Tree) (discount : ℕ → ℕ → ℕ) (flow : ℕ →
   pub payoff-before : (payoff : ℕ → ℕ) (s i k : ℕ) →
       payoffValue (exact t discount) payoff (suc s) i k ≡ discount i k * outgoing (t .step i) (payoffValue (exact t discount) payoff s (suc i)) k
 
--- The price allowance, with G(i) the greatest discount of row i: 0 at row n, then G × later allowance / one, up, plus 2.
+-- The error bound (document 01: price allowance), with G(i) the greatest discount of row i: 0 at row n, then G × later bound / one, up, plus 2.
 pub record BoundRows (t : Tree) (discount : ℕ → ℕ → ℕ) (n : ℕ) : Type 0 where
   pub greatest-of-row : (i : ℕ) → greatestDiscount t discount i ≡ greatest (t .nodes i) (discount i)
   pub last : priceErrorBound t discount n n ≡ 0
   pub before : (i : ℕ) → i < n →
       priceErrorBound t discount n i ≡ roundUp (greatestDiscount t discount i * priceErrorBound t discount n (suc i)) one + 2
 
--- what is known of a tree of lent discounts (document 02, request (viii)): its price allowance, and the greatest discount of each row, in 60 places, 0 for rows
+-- what is known of a tree of lent discounts (document 02, request (viii)): its error bound, and the greatest discount of each row, in 60 places, 0 for rows
 -- that the tree has not
 pub record BoundsKnown (n b : ℕ) (discounts : List ℕ) (a : TreeErrorBounds) : Type 0 where
   pub bound-is : a .bound ≡ priceErrorBound (rateTree b) (stored b discounts) n 0
@@ -364,7 +364,7 @@ pub record PricedByRows (n b : ℕ) (discounts flows : List ℕ) : Type 0 where
   pub exact-payoff-is : (r : ℕ) (payoffs : List ℕ) →
       exactPayoff b discounts r payoffs ≡ payoffValue (exact (rateTree b) (stored b discounts)) (values payoffs) r 0 0
 
--- Weighing: the sum of state price × payoff, divided by one, down; its allowance: the greatest payoff × the state-price allowance / one, up, plus 1.
+-- Weighing: the sum of state price × payoff, divided by one, down; its error bound: the greatest payoff × that of the state prices / one, up, plus 1.
 pub record Weighed (prices payoffs : List ℕ) (n b : ℕ) (discounts : List ℕ) (r : ℕ) : Type 0 where
   pub value-is : valueByStatePricesAnswer prices payoffs .number ≡ 0 →
       valueByStatePricesAnswer prices payoffs .value ≡ sum (length prices) (λ k. values prices k * values payoffs k) / one

@@ -38,7 +38,7 @@ pub record NodeShown (b : ℕ) (discounts : List ℕ) (i k : ℕ) : Type 0 where
   pub rated : rateAnswer (stored b discounts i k) .number ≡ 0
   pub sign : signOf (rateAnswer (stored b discounts i k) .value) ≡ cond (ltb one (stored b discounts i k)) (45 ∷ []) []
 
--- the line of row i + 1: an allowance that the entry gives, and a quote within 300 of the sum of the row's state prices
+-- the line of row i + 1: an error bound that the entry gives, and a quote within 300 of the sum of the row's state prices
 pub record RowShown (n b : ℕ) (quotes discounts prices : List ℕ) (i : ℕ) : Type 0 where
   pub bounded : statePriceErrorBoundAnswer n b discounts (suc i) .number ≡ 0
   pub repriced : Repriced (values quotes i) (sumOf (rowPart b prices (suc i)))
