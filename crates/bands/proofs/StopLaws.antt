@@ -34,7 +34,7 @@ module _ (f l lo hi row q : ℕ) where
   inside a b c d = simp (le-leb f row a, le-leb row l b, le-leb lo q c, le-leb q hi d)
 
 -- a band that covers none, or all, of the prices from `price` to before `end′`
-module _ (f l lo hi row price count end end′ : ℕ) (further : price < end′) (earlier : end′ ≤ end) where
+module _ {f l lo hi row price count end end′ : ℕ} (further : price < end′) (earlier : end′ ≤ end) where
   pub added-none : ((q : ℕ) → price ≤ q → q < end′ → within f l lo hi row q ≡ false) → Added f l lo hi row price count end count end′
   added-none none =
       let here : within f l lo hi row price ≡ false = none price (le-refl price) further in

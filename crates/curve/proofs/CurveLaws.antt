@@ -97,7 +97,7 @@ number-none true true true false h = let none : ⊥ = omega arith in absurd none
 number-none true true true true h = (refl, refl, refl, refl)
 
 -- What an accepted curve is.
-pub record Accepted (f n : ℕ) (rows kinds : List ℕ) (figures : List Float) (room : ℕ) : Type 0 where
+pub record AcceptedCurve (f n : ℕ) (rows kinds : List ℕ) (figures : List Float) (room : ℕ) : Type 0 where
   pub frequency : listed f ≡ true
   pub least : 1 ≤ n
   pub most : n ≤ mostSteps
@@ -136,7 +136,7 @@ module _ (f n : ℕ) (rows kinds : List ℕ) (figures : List Float) (room : ℕ)
         number-accepted g = rw (a, h, p, all, g)
 
   -- number 0 says all of it
-  pub accepted : curveNumber f n rows kinds figures room ≡ 0 → Accepted f n rows kinds figures room
+  pub accepted : curveNumber f n rows kinds figures room ≡ 0 → AcceptedCurve f n rows kinds figures room
   unfolding curveNumber inPlace
   accepted h =
       let parts = number-none (listed f) (isSteps n) (inPlace n rows kinds figures room) (each n (convertsAt f kinds figures)) h in

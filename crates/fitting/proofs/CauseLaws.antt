@@ -54,7 +54,7 @@ module _ (n w converted spaced ds ps : ℕ) (z : earlyCause converted n w spaced
         spacing-found = rights .0;
         limits = accepted;
         room-discounts = rw (tree-value n w (rowStart w n) (discountsNeededAnswer n w) refl accepted) at (room .0);
-        room-prices = rw (tree-value n w (rowStart w (suc n)) (statePricesNeededAnswer n w) refl accepted) at (room .1);
+        room-state-prices = rw (tree-value n w (rowStart w (suc n)) (statePricesNeededAnswer n w) refl accepted) at (room .1);
       }
 
 -- what code holds once causes 2 to 7 were tested: the lowest cause

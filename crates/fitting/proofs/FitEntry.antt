@@ -32,10 +32,10 @@ use Rattle.limits.specs.Limits.{mostSteps, mostReversion, isSteps, leastQuote, 
 use Rattle.curve.specs.Curve.{discountAt, convertsAt, inPlace, curveNumber, curveMemory}
 use Rattle.curve.proofs.CurveLaws.{curve-range, curve-stored}
 use Rattle.fitting.specs.declared.causes.Plan.{Plan}
-use Rattle.fitting.specs.Fit.{curveDiscount, curvePrice, curveAccepted}
+use Rattle.fitting.specs.Fit.{curveDiscount, curveStatePrice, curveAccepted}
 use Rattle.fitting.specs.inside.TableFit.{rowsOrZeros, TreeFitted}
 use Rattle.fitting.specs.inside.Preconditions.{QuotesReady}
-use Rattle.fitting.specs.Entry.{quotesOf, earlyCause, lateCause, fittedNumber, fitMemory, fitDiscounts, fitPrices}
+use Rattle.fitting.specs.Entry.{quotesOf, earlyCause, lateCause, fittedNumber, fitMemory, fitDiscounts, fitStatePrices}
 use Rattle.fitting.specs.inside.Plans.{SpacingKnown, Planned}
 use Rattle.fitting.proofs.CauseLaws.{numbers-of}
 
@@ -120,7 +120,7 @@ abbrev pub Answered : ℕ → ℕ → ℕ → ℕ → ℕ → List ℕ → List 
 Answered f n b spaced h rows kinds figures d p r d′ p′ =
     (r ≡ fittedNumber f n b spaced h rows kinds figures (length d) (length p))
     × ((d′ ≡ fitMemory (fittedNumber f n b spaced h rows kinds figures (length d) (length p)) (fitDiscounts f n b h kinds figures) d)
-    × (p′ ≡ fitMemory (fittedNumber f n b spaced h rows kinds figures (length d) (length p)) (fitPrices f n b h kinds figures) p))
+    × (p′ ≡ fitMemory (fittedNumber f n b spaced h rows kinds figures (length d) (length p)) (fitStatePrices f n b h kinds figures) p))
 
 -- what code holds once the quotes were converted and the plan was made: the plan, and the memory of the quotes
 pub record Prepared (f n b : ℕ) (spaced : Answer) (rows kinds : List ℕ) (figures : List Float) (d p : List ℕ) (plan : Plan) (after : List ℕ) : Type 0 where
@@ -174,7 +174,7 @@ module _ {f n b : ℕ} {spaced : Answer} {rows kinds : List ℕ} {figures : List
 
     pub fit-refused : Answered f n b (spaced .number) (spaced .value) rows kinds figures d p (plan .number) d p
     fit-refused =
-        (number-refused, (kept-as (fitDiscounts f n b (spaced .value) kinds figures) d, kept-as (fitPrices f n b (spaced .value) kinds figures) p))
+        (number-refused, (kept-as (fitDiscounts f n b (spaced .value) kinds figures) d, kept-as (fitStatePrices f n b (spaced .value) kinds figures) p))
 
   -- accepted so far
   module _ (z : plan .number ≡ 0) where
@@ -209,7 +209,7 @@ module _ {f n b : ℕ} {spaced : Answer} {rows kinds : List ℕ} {figures : List
           quotes-least = λ i h. in-range i (rw quotes-length at h) .0;
           quotes-most = λ i h. in-range i (rw quotes-length at h) .1;
           room-discounts = rw quotes-length (numbers .room-discounts);
-          room-prices = rw quotes-length (numbers .room-prices);
+          room-state-prices = rw quotes-length (numbers .room-state-prices);
         }
 
     none-early : early ≡ 0
@@ -230,7 +230,7 @@ module _ {f n b : ℕ} {spaced : Answer} {rows kinds : List ℕ} {figures : List
     module _ {r : ℕ} {d′ p′ : List ℕ}
         (er : r ≡ cond (curveAccepted b (plan .spacing) (take n after)) 0 9)
         (t : TreeFitted b (length (take n after)) (curveAccepted b (plan .spacing) (take n after))
-        (curveDiscount b (plan .spacing) (take n after)) (curvePrice b (plan .spacing) (take n after)) d p d′ p′) where
+        (curveDiscount b (plan .spacing) (take n after)) (curveStatePrice b (plan .spacing) (take n after)) d p d′ p′) where
       pub fit-made : Answered f n b (spaced .number) (spaced .value) rows kinds figures d p r d′ p′
       fit-made =
           let named = rw (quotes-length, k .planned .spacing-is z, quotes-are) at t in (

@@ -29,8 +29,8 @@ use Rattle.fit_laws.proofs.WholeFit.{price-by, fitted-discount-by}
 use Rattle.fit_laws.specs.inside.Bounds.{leastFactor, mostFactor}
 use Rattle.fitting.specs.inside.Rows.{tableFactor}
 use Rattle.fitting.specs.inside.Preconditions.{Tables, QuotesReady}
-use Rattle.fitting.specs.Fit.{quoted, curveDiscount, curvePrice, curveAccepted, nodeFactor}
-use Rattle.fitting.specs.inside.TableFit.{tableDiscount, tablePrice, tableAccepted, TreeFitted, PastKept}
+use Rattle.fitting.specs.Fit.{quoted, curveDiscount, curveStatePrice, curveAccepted, nodeFactor}
+use Rattle.fitting.specs.inside.TableFit.{tableDiscount, tableStatePrice, tableAccepted, TreeFitted, PastKept}
 use Rattle.lattice.proofs.Sizes.{half-within}
 use Rattle.lattice.proofs.ShapeLaws.{table-room, offset-is}
 
@@ -121,16 +121,16 @@ module _ {b h w : ℕ} {q : List ℕ} {ds ps : ℕ} (f : QuotesReady b h w q ds 
   discounts-same : laid (rateTree b) (tableDiscount b q factors) (length q) ≡ laid (rateTree b) (curveDiscount b h q) (length q)
   discounts-same = laid-cong (rateTree b) _ _ (length q) discount-same
 
-  prices-same : laid (rateTree b) (tablePrice b q factors) (suc (length q)) ≡ laid (rateTree b) (curvePrice b h q) (suc (length q))
-  prices-same =
+  state-prices-same : laid (rateTree b) (tableStatePrice b q factors) (suc (length q)) ≡ laid (rateTree b) (curveStatePrice b h q) (suc (length q))
+  state-prices-same =
       laid-cong (rateTree b) _ _ (suc (length q))
       (λ i k l m. price-by (rateTree b) _ (nodeFactor b h) (quoted q) (length q) same i (omega arith) k)
 
   -- the fit from the tables is that of the definitions
   pub fitted-same : {r : Bool} {d p d′ p′ : List ℕ} →
-      TreeFitted b (length q) r (tableDiscount b q factors) (tablePrice b q factors) d p d′ p′ →
-      TreeFitted b (length q) r (curveDiscount b h q) (curvePrice b h q) d p d′ p′
-  fitted-same t = record { discounted = rw discounts-same at (t .discounted); priced = rw prices-same at (t .priced) }
+      TreeFitted b (length q) r (tableDiscount b q factors) (tableStatePrice b q factors) d p d′ p′ →
+      TreeFitted b (length q) r (curveDiscount b h q) (curveStatePrice b h q) d p d′ p′
+  fitted-same t = record { discounted = rw discounts-same at (t .discounted); priced = rw state-prices-same at (t .priced) }
 
 -- what the lattice answers about the sizes of an accepted tree
 module _ {b n : ℕ} {factors downs : List ℕ} (t : Tables b n factors downs) where
@@ -141,9 +141,9 @@ module _ {b n : ℕ} {factors downs : List ℕ} (t : Tables b n factors downs) w
   unfolding discountsNeeded
   needed-discounts e = ap (λ (x : Answer). x .value) (e ∙ tree-found n b _ nonzero (t .limits .steps-within-limit) (t .limits .reversion-within-limit))
 
-  pub needed-prices : {a : Answer} → a ≡ statePricesNeededAnswer n b → a .value ≡ rowStart b (suc n)
+  pub needed-state-prices : {a : Answer} → a ≡ statePricesNeededAnswer n b → a .value ≡ rowStart b (suc n)
   unfolding statePricesNeeded
-  needed-prices e = ap (λ (x : Answer). x .value) (e ∙ tree-found n b _ nonzero (t .limits .steps-within-limit) (t .limits .reversion-within-limit))
+  needed-state-prices e = ap (λ (x : Answer). x .value) (e ∙ tree-found n b _ nonzero (t .limits .steps-within-limit) (t .limits .reversion-within-limit))
 
 -- memories whose fronts were cleared, x and y places long
 module _ {b n x y : ℕ} {discount price : ℕ → ℕ → ℕ} {d p d₁ p₁ d₂ p₂ : List ℕ} (kept : PastKept b n d p d₁ p₁)

@@ -15,9 +15,9 @@ use Rattle.arithmetic.proofs.RowLaws.{length-row}
 use Rattle.lattice.specs.Shape.{discountsNeeded, statePricesNeeded}
 use Rattle.curve.specs.Curve.{discountAt, curveNumber, curveMemory}
 use Rattle.spacing.specs.Spacing.{versionSpacingAnswer}
-use Rattle.fitting.specs.Entry.{versionNumber, fitMemory, versionDiscounts, versionPrices}
+use Rattle.fitting.specs.Entry.{versionNumber, fitMemory, versionDiscounts, versionStatePrices}
 use Rattle.fitting.specs.inside.Plans.{Numbers}
-use Rattle.fitting.proofs.FittedTree.{fit-discounts-length, fit-prices-length}
+use Rattle.fitting.proofs.FittedTree.{fit-discounts-length, fit-state-prices-length}
 use Rattle.fitting.proofs.Promised.{fit-numbers}
 use Rattle.job_record.specs.declared.Job.{Job}
 use Rattle.job_fit.specs.RecordFit.{meantVersion, meantReversion, jobReversion, jobRows, jobKinds, jobFigures}
@@ -100,7 +100,7 @@ module _ (job : Job) where
     lentDiscounts v = versionDiscounts v (job .frequency) (job .steps) (job .reversion) (job .volatility) (jobKinds job) figures
 
     abbrev lentPrices : ℕ → List ℕ
-    lentPrices v = versionPrices v (job .frequency) (job .steps) (job .reversion) (job .volatility) (jobKinds job) figures
+    lentPrices v = versionStatePrices v (job .frequency) (job .steps) (job .reversion) (job .volatility) (jobKinds job) figures
 
     abbrev Made : ℕ → List ℕ → List ℕ → ℕ → List ℕ → List ℕ → Type 0
     Made v d p r after-d after-p =
@@ -163,7 +163,7 @@ module _ (job : Job) where
 
   pub prices-length : length (jobStatePrices job) ≡ statePricesNeeded (job .steps) (jobReversion job)
   unfolding jobStatePrices
-  prices-length = fit-prices-length _ _ _ _ (jobKinds job) (jobFigures job)
+  prices-length = fit-state-prices-length _ _ _ _ (jobKinds job) (jobFigures job)
 
   module _ (ds ps : ℕ) (z : recordFit job ds ps ≡ 0) where
     pub steps-few : job .steps ≤ 255

@@ -226,7 +226,7 @@ module _ (job : Job) (formed : optionForm (job .option .tag) (job .option .count
         let dl = fits.discounts-length job ∙ sym dn in
         let pl = fits.prices-length job ∙ sym pn in
         let long-d = ap length d-is ∙ length-place d₀ 0 (jobDiscounts job) (omega (arith, dl, dn, known .room-discounts, ld)) in
-        let long-p = ap length p-is ∙ length-place p₀ 0 (jobStatePrices job) (omega (arith, pl, pn, known .room-prices, lp)) in
+        let long-p = ap length p-is ∙ length-place p₀ 0 (jobStatePrices job) (omega (arith, pl, pn, known .room-state-prices, lp)) in
         record {
           steps-within-limit = fits.steps-few job _ _ record-none;
           dates-few = form-few _ _ formed;
@@ -235,7 +235,7 @@ module _ (job : Job) (formed : optionForm (job .option .tag) (job .option .count
           discounts-size = dl;
           prices-size = pl;
           discounts-end = omega (arith, long-d, ld, dn, known .room-discounts);
-          prices-end = omega (arith, long-p, lp, pn, known .room-prices);
+          prices-end = omega (arith, long-p, lp, pn, known .room-state-prices);
           discounts-room = rw (← en) at (enough .0);
           prices-room = rw (← ea) at (enough .1);
           number = number-is;

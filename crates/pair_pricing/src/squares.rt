@@ -1,8 +1,10 @@
 // Squares of values: a line of 41 places for each node of the rate side.
+use arithmetic::ONE;
 use row_branches::RowBranch;
 ghost use mathlib.Core.Path.{_≡_};
 ghost use Prim.Native.Nat.{_+_, _*_, _/_, _≤_, _<_};
 ghost use lib.ListN.{length, take, drop};
+ghost use Rattle.arithmetic.specs.Rounding.{one};
 ghost use Rattle.arithmetic.specs.Row.{values};
 ghost use Rattle.arithmetic.specs.Sum.{greatest};
 ghost use Rattle.tree.specs.Tree.{probabilityTotal};
@@ -69,9 +71,9 @@ fn average(branch: RowBranch, xs: &[u64], from: usize, stride: usize) -> u64
 // A value times the product of two discounts over one, down; over one, nearest. It takes all 64 bits.
 fn discounted(value: u64, rate: u64, spread: u64) -> u64
     requires { ⌜ (value ≤ valueLimit) × (rate ≤ mostDiscount) × (spread ≤ mostDiscount) ⌝ }
-    ensures { λ r. ⌜ (r ≡ rollRounding (value * (rate * spread / 1000000000)) 1000000000) × (r ≤ 9680000000) ⌝ }
+    ensures { λ r. ⌜ (r ≡ rollRounding (value * (rate * spread / one)) one) × (r ≤ 9680000000) ⌝ }
 {
-    (value * (rate * spread / 1_000_000_000) + 500_000_000) / 1_000_000_000
+    (value * (rate * spread / ONE) + 500_000_000) / ONE
 }
 
 // Along the rate side at one node of the rates, over every column of the later square.

@@ -1,10 +1,11 @@
 // The way back through two trees, row by row.
 use crate::squares;
+use arithmetic::ONE;
 use exercise::Terms;
 ghost use mathlib.Core.Path.{_≡_};
 ghost use Prim.Native.Nat.{_+_, _-_, _*_, _<_, _≤_};
 ghost use lib.ListN.{length};
-ghost use Rattle.arithmetic.specs.Rounding.{roundUp};
+ghost use Rattle.arithmetic.specs.Rounding.{one, roundUp};
 ghost use Rattle.limits.specs.Limits.{mostReversion};
 ghost use Rattle.lattice.specs.Shape.{nodeCount};
 ghost use Rattle.lattice.specs.RateTree.{rateTree};
@@ -307,12 +308,12 @@ fn greatest_discount(steps: usize, reversion: u64, row: usize, discounts: &[u64]
 // The error bound of a row from the later one. The greatest discount of a pair is that of the greatest of both rows.
 fn bound_step(trees: Trees, row: usize, rates: &[u64], spreads: &[u64], later: u64) -> u64
     requires { ⌜ AcceptedTrees (trees .steps) (trees .rate) (trees .spread) (now rates) (now spreads) × (row < trees .steps) × (later ≤ 1000000) ⌝ }
-    ensures { λ r. ⌜ r ≡ roundUp (greatestOfRow (trees .rate) (trees .spread) (now (rates .entry)) (now (spreads .entry)) row * later) 1000000000
+    ensures { λ r. ⌜ r ≡ roundUp (greatestOfRow (trees .rate) (trees .spread) (now (rates .entry)) (now (spreads .entry)) row * later) one
         + rollLoss ⌝ }
 {
     let rate = greatest_discount(trees.steps, trees.rate, row, rates);
     let spread = greatest_discount(trees.steps, trees.spread, row, spreads);
-    (rate * spread / 1_000_000_000 * later + 999_999_999) / 1_000_000_000 + 2
+    (rate * spread / ONE * later + 999_999_999) / ONE + 2
 }
 
 // The error bound of row 0.

@@ -21,7 +21,7 @@ use Rattle.lattice.proofs.LaidLaws.{laid-part}
 use Rattle.lattice.proofs.TreeEntries.{tree-value}
 use Rattle.lent_tree.specs.LentTree.{acceptedDiscounts}
 use Rattle.lent_tree.proofs.LentLaws.{accepted-all}
-use Rattle.fitting.specs.Entry.{fitPrice}
+use Rattle.fitting.specs.Entry.{fitStatePrice}
 use Rattle.fitting.proofs.Promised.{fit-repriced}
 use Rattle.fitting.proofs.FittedTree.{fit-discounts-lent}
 use Rattle.job_record.specs.declared.Job.{Job}
@@ -67,7 +67,7 @@ module _ (job : Job) (d₀ p₀ : List ℕ) (ld : length d₀ ≡ mostDiscounts)
       record {
         accepted = fit;
         discounts-room = ap length dp ∙ length-place d₀ 0 (jobDiscounts job) (omega (arith, dl, known .room-discounts, ld)) ∙ ld;
-        prices-room = ap length pp ∙ length-place p₀ 0 (jobStatePrices job) (omega (arith, pl, known .room-prices, lp)) ∙ lp;
+        prices-room = ap length pp ∙ length-place p₀ 0 (jobStatePrices job) (omega (arith, pl, known .room-state-prices, lp)) ∙ lp;
         discounts-front = ap (take (discountsNeeded (job .steps) (jobReversion job))) dp ∙ place-front d₀ (jobDiscounts job) _ dl;
         prices-front = ap (take (statePricesNeeded (job .steps) (jobReversion job))) pp ∙ place-front p₀ (jobStatePrices job) _ pl;
       }
@@ -140,7 +140,7 @@ module _ (job : Job) (d p : List ℕ) (h : Fitted job d p) where
     summed-by : Summed (job .steps) (jobReversion job) (take (all .value) p)
     unfolding jobStatePrices meantReversion
     summed-by i l =
-        let price = fitPrice (job .frequency) (job .steps) (jobReversion job) (jobSpacing job) (jobKinds job) (jobFigures job) in
+        let price = fitStatePrice (job .frequency) (job .steps) (jobReversion job) (jobSpacing job) (jobKinds job) (jobFigures job) in
         rw (prices-are, total-row (jobReversion job) price (suc (job .steps)) (suc i) (omega arith))
         (fit-repriced _ _ _ _ _ _ _ _ mostDiscounts mostStatePrices (fits.fit-none job _ _ (h .accepted)) i l .2)
 

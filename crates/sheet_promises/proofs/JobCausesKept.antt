@@ -34,7 +34,7 @@ use Rattle.job_prices.proofs.PriceLaws.{prices-number}
 use Rattle.sheet_room.specs.Room.{sheetRoom}
 use Rattle.sheet_laws.specs.WholeJob.{roomCause, jobNumber, sheetNumber}
 use Rattle.promises.specs.Causes.{cause, firstOf, quotesPlaced, quotesConverted, everyNode}
-use Rattle.promises.proofs.Kept.{promises-kept}
+use Rattle.promises.proofs.CausesKept.{causes-kept}
 use Rattle.sheet_promises.specs.JobCauses.{optionFormed, JobCauses}
 
 -- ---- a fit in memories of its own, and the lent ones beside it
@@ -119,8 +119,8 @@ module _ (v f n b s : ℕ) (rows kinds : List ℕ) (figures : List Float) (disco
   unfolding memoryCause firstOf tail held
   fit-lent =
       rw (
-        promises-kept .causes .version-fit v f n b s rows kinds figures mostDiscounts mostStatePrices,
-        promises-kept .causes .version-fit v f n b s rows kinds figures discounts prices,
+        causes-kept .version-fit v f n b s rows kinds figures mostDiscounts mostStatePrices,
+        causes-kept .version-fit v f n b s rows kinds figures discounts prices,
       )
       (merged (listed f) (isSteps n) (isReversion b) (ltb 50000 s)
       (quotesPlaced n rows kinds figures && leb (rowStart w n) 3600 && leb (rowStart w (suc n)) 3721) (isVersion v) (quotesConverted f n kinds figures)

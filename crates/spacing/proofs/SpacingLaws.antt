@@ -120,18 +120,18 @@ unfolding spacingAnswer
 spacing-accepted f s u h = rw (u, le-ltb 50000 s h)
 
 -- number 0 means accepted, and the value is h
-pub record Accepted (f s : ℕ) (answer : Answer) : Type 0 where
+pub record AcceptedSpacing (f s : ℕ) (answer : Answer) : Type 0 where
   pub frequency : listed f ≡ true
   pub volatility : s ≤ 50000
   pub value : answer .value ≡ spacing f s
 
-pub spacing-zero : (f s : ℕ) → spacingAnswer f s .number ≡ 0 → Accepted f s (spacingAnswer f s)
+pub spacing-zero : (f s : ℕ) → spacingAnswer f s .number ≡ 0 → AcceptedSpacing f s (spacingAnswer f s)
 spacing-zero f s e = by-listed (listed f) refl
   where
     impossible : (cause : ℕ) → 0 < cause → spacingAnswer f s ≡ refused cause → ⊥
     impossible cause p r = omega (arith, ap (λ (a : Answer). a .number) r)
 
-    by-listed : (t : Bool) → listed f ≡ t → Accepted f s (spacingAnswer f s)
+    by-listed : (t : Bool) → listed f ≡ t → AcceptedSpacing f s (spacingAnswer f s)
     by-listed false u = absurd (impossible 2 (omega arith) (spacing-unlisted f s u))
     by-listed true u =
         by-order s 50000

@@ -136,21 +136,21 @@ module _ (version f s b : ℕ) where
             ∙ ap answered (sym (root-of-quotient (f * f * f) (versionVariance version s b) (cube-positive (listed-small f u .0)) h low high))
 
 -- number 0 means accepted, and the value is h
-pub record Accepted (version f s b : ℕ) (answer : Answer) : Type 0 where
+pub record AcceptedVersion (version f s b : ℕ) (answer : Answer) : Type 0 where
   pub known : isVersion version ≡ true
   pub frequency : listed f ≡ true
   pub volatility : s ≤ 50000
   pub reversion : b ≤ mostReversion
   pub value : answer .value ≡ versionSpacing version f s b
 
-pub version-zero : (version f s b : ℕ) → versionSpacingAnswer version f s b .number ≡ 0 → Accepted version f s b (versionSpacingAnswer version f s b)
+pub version-zero : (version f s b : ℕ) → versionSpacingAnswer version f s b .number ≡ 0 → AcceptedVersion version f s b (versionSpacingAnswer version f s b)
 version-zero version f s b e = by-listed (listed f) refl
   where
     impossible : {X : Type 0} (cause : ℕ) → 0 < cause → versionSpacingAnswer version f s b ≡ refused cause → X
     impossible cause p r = absurd (let none : ⊥ = omega (arith, ap (λ (a : Answer). a .number) r) in none)
 
     by-known : listed f ≡ true → b ≤ mostReversion → s ≤ 50000 → (t : Bool) → isVersion version ≡ t →
-        Accepted version f s b (versionSpacingAnswer version f s b)
+        AcceptedVersion version f s b (versionSpacingAnswer version f s b)
     by-known u hb hs true v =
         record {
           known = v;
@@ -161,7 +161,7 @@ version-zero version f s b e = by-listed (listed f) refl
         }
     by-known u hb hs false v = impossible 7 (omega arith) (answer-unknown version f s b u hb hs v)
 
-    by-listed : (t : Bool) → listed f ≡ t → Accepted version f s b (versionSpacingAnswer version f s b)
+    by-listed : (t : Bool) → listed f ≡ t → AcceptedVersion version f s b (versionSpacingAnswer version f s b)
     by-listed false u = impossible 2 (omega arith) (answer-unlisted version f s b u)
     by-listed true u =
         by-order b mostReversion

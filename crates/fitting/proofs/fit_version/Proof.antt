@@ -14,7 +14,7 @@ returns c =
     let spaced = fitted .before .before .before in
     let working = spaced .before in
     let a = working .before .before .before .before .before .before .args in
-    laws.version-answered (a .frequency) (a .steps) (a .rows .now) (a .kinds .now) (a .figures .now) (a .discounts .now) (a .prices .now)
+    laws.version-answered (a .frequency) (a .steps) (a .rows .now) (a .kinds .now) (a .figures .now) (a .discounts .now) (a .state-prices .now)
     (a .version) (a .reversion) (a .volatility) (working .working-or-same .result) (spaced .version-spacing .result)
     (working .working-or-same .ensures) (spaced .version-spacing .ensures) (fitted .fit-tree .ensures)
 
