@@ -1,7 +1,7 @@
 // How far the prices on a tree may be from the exact ones, and the greatest discounts of its rows, from its lent discounts.
 use arithmetic::Answer;
 ghost use mathlib.Core.Path.{_≡_};
-ghost use mathlib.Core.Bool.{true};
+ghost use mathlib.Core.Bool.{true, false};
 ghost use Prim.Native.Nat.{_<_};
 ghost use lib.ListN.{length, replicate};
 ghost use Rattle.limits.specs.Limits.{mostSteps, isDiscount};
@@ -34,6 +34,16 @@ struct TreeRange {
     greatest: [u64; 60],
 }
 
+// A row with a discount that is not accepted.
+fn refused_row() -> RowRange
+    ensures { λ r. ⌜ r .within ≡ false ⌝ }
+{
+    RowRange {
+        within: false,
+        greatest: 0,
+    }
+}
+
 // One pass: the least discount and the greatest decide whether all are accepted.
 fn range_of(discounts: &[u64]) -> RowRange
     ensures within { λ r. ⌜ r .within ≡ each (length (now (discounts .entry))) (λ k. isDiscount (values (now (discounts .entry)) k)) ⌝ }
@@ -44,10 +54,7 @@ fn range_of(discounts: &[u64]) -> RowRange
     while k < discounts.len() {
         let discount = discounts[k];
         if discount < 1 {
-            return RowRange {
-                within: false,
-                greatest: 0,
-            };
+            return refused_row();
         }
         top = arithmetic::larger(top, discount);
         k += 1;
@@ -76,6 +83,17 @@ fn no_rows() -> [u64; 60]
     [0u64; 60]
 }
 
+// A tree with a row that is not accepted.
+fn refused_tree() -> TreeRange
+    ensures { λ r. ⌜ r .within ≡ false ⌝ }
+{
+    let none = no_rows();
+    TreeRange {
+        within: false,
+        greatest: none,
+    }
+}
+
 fn tree_range(steps: usize, reversion: u64, discounts: &[u64]) -> TreeRange
     requires { ⌜ Lent steps reversion (now discounts) ⌝ }
     ensures within { λ r. ⌜ r .within ≡ acceptedDiscounts steps reversion (now (discounts .entry)) ⌝ }
@@ -86,10 +104,7 @@ fn tree_range(steps: usize, reversion: u64, discounts: &[u64]) -> TreeRange
     while row < steps {
         let range = row_range(steps, reversion, row, discounts);
         if !range.within {
-            return TreeRange {
-                within: false,
-                greatest: rows,
-            };
+            return refused_tree();
         }
         rows[row] = range.greatest;
         row += 1;

@@ -1,6 +1,6 @@
 -- `price_bound::range_of` meets its contract.
 -- Assumes nothing.
-use mathlib.Core.Path.{_≡_}
+use mathlib.Core.Path.{_≡_, _∙_}
 use Prim.Native.Nat.{ℕ, _-_, _≤_}
 use native.Mathlib.Omega.{arith}
 use lib.ListN.{length}
@@ -25,11 +25,13 @@ mul-discount c = omega arith
 shared-slice-read-discount : tie.Need-shared-slice-read-discount Inv-loop μ-loop
 shared-slice-read-discount c = omega arith
 
+refused-row-requires : tie.Need-refused-row-requires Inv-loop μ-loop
+refused-row-requires c κs = search needs
+
 returns : tie.Need-returns Inv-loop μ-loop
 returns c = (
-  zero-refused (now (c .before .before .before .before .before .args .discounts)) (c .before .before .before .loop .k)
-      (c .before .before .loop-test .taken) (c .if1 .taken),
-  λ e. let none : _≡_ {A = ℕ} 0 1 = cc in absurd (omega arith),
+  c .refused-row .ensures ∙ zero-refused (now (c .before .before .before .before .before .before .args .discounts)) (c .before .before .before .before .loop .k) (c .before .before .before .loop-test .taken) (c .before .if1 .taken),
+  λ e. let refused = c .refused-row .ensures in let none : _≡_ {A = ℕ} 0 1 = cc in absurd (omega arith),
 )
 
 larger-requires : tie.Need-larger-requires Inv-loop μ-loop
@@ -63,6 +65,7 @@ range-of-spec =
     loop-holds
     mul-discount
     shared-slice-read-discount
+    refused-row-requires
     returns
     larger-requires
     add-k

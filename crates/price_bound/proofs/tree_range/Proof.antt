@@ -35,11 +35,13 @@ loop-holds c = (omega arith, each-none _, rw (c .no-rows .ensures) (filled-start
 row-range-requires : tie.Need-row-range-requires Inv-loop μ-loop
 row-range-requires c κs = (c .before .before .before .before .pre, omega arith)
 
+refused-tree-requires : tie.Need-refused-tree-requires Inv-loop μ-loop
+refused-tree-requires c κs = search needs
+
 returns : tie.Need-returns Inv-loop μ-loop
 returns c = (
-  rows-refused _ _ _ (c .before .before .before .before .loop .row) _ (c .before .before .before .loop-test .taken)
-      (c .before .before .row-range .ensures .0) (not-true _ (c .if1 .taken)),
-  λ e. let none : _≡_ {A = ℕ} 0 1 = cc in absurd (omega arith),
+  c .refused-tree .ensures ∙ rows-refused _ _ _ (c .before .before .before .before .before .loop .row) _ (c .before .before .before .before .loop-test .taken) (c .before .before .before .row-range .ensures .0) (not-true _ (c .before .if1 .taken)),
+  λ e. let refused = c .refused-tree .ensures in let none : _≡_ {A = ℕ} 0 1 = cc in absurd (omega arith),
 )
 
 mul-rows : tie.Need-mul-rows Inv-loop μ-loop
@@ -80,6 +82,7 @@ tree-range-spec =
     no-rows-requires
     loop-holds
     row-range-requires
+    refused-tree-requires
     returns
     mul-rows
     array-write-rows
