@@ -5,6 +5,7 @@ use Prim.Native.Nat.{_-_, _*_, _≤_}
 use native.Mathlib.Omega.{arith}
 use Rattle.arithmetic.specs.Row.{values}
 use Rattle.price_bound.proofs.BoundLaws.{bound-at, bound-first, bound-fits, bound-next}
+use borrow.Author.Needs.{needs}
 use Rattle.price_bound.proofs.error_bound.Statement.{statement}
 use Rattle.price_bound.proofs.error_bound.Tie as tie
 
@@ -36,6 +37,9 @@ array-read-bound c = omega (arith, c .before .before .pre .steps-within-limit)
 
 mul-bound-2 : tie.Need-mul-bound-2 Inv-loop μ-loop
 mul-bound-2 c = omega (arith, fits c)
+
+sub-bound : tie.Need-sub-bound Inv-loop μ-loop
+sub-bound c = search needs
 
 add-bound : tie.Need-add-bound Inv-loop μ-loop
 add-bound c = omega (arith, fits c)
@@ -70,6 +74,7 @@ error-bound-spec =
     mul-bound
     array-read-bound
     mul-bound-2
+    sub-bound
     add-bound
     add-bound-2
     loop-less
