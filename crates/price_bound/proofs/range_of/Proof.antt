@@ -19,29 +19,14 @@ abbrev μ-loop : tie.MeasureT-loop
 loop-holds : tie.Need-loop-holds Inv-loop μ-loop
 loop-holds c = (omega arith, ranged-start _)
 
-mul-discount : tie.Need-mul-discount Inv-loop μ-loop
-mul-discount c = omega arith
-
-shared-slice-read-discount : tie.Need-shared-slice-read-discount Inv-loop μ-loop
-shared-slice-read-discount c = omega arith
-
-refused-row-requires : tie.Need-refused-row-requires Inv-loop μ-loop
-refused-row-requires c κs = search needs
-
 returns : tie.Need-returns Inv-loop μ-loop
-returns c = (
-  c .refused-row .ensures ∙ zero-refused (now (c .before .before .before .before .before .before .args .discounts)) (c .before .before .before .before .loop .k) (c .before .before .before .loop-test .taken) (c .before .if1 .taken),
-  λ e. let refused = c .refused-row .ensures in let none : _≡_ {A = ℕ} 0 1 = cc in absurd (omega arith),
-)
-
-larger-requires : tie.Need-larger-requires Inv-loop μ-loop
-larger-requires c κs = search needs
-
-add-k : tie.Need-add-k Inv-loop μ-loop
-add-k c = omega arith
-
-loop-less : tie.Need-loop-less Inv-loop μ-loop
-loop-less c = omega arith
+returns c =
+    let c₁ = c .before .before .before in
+    let c₂ = c₁ .before in
+    let c₃ = c₂ .before .before in (
+      c .refused-row .ensures ∙ zero-refused (now (c₃ .args .discounts)) (c₂ .loop .k) (c₁ .loop-test .taken) (c .before .if1 .taken),
+      λ e. let refused = c .refused-row .ensures in let none : _≡_ {A = ℕ} 0 1 = cc in absurd (omega arith),
+    )
 
 loop-again : tie.Need-loop-again Inv-loop μ-loop
 loop-again c = (
@@ -63,12 +48,12 @@ range-of-spec =
     Inv-loop
     μ-loop
     loop-holds
-    mul-discount
-    shared-slice-read-discount
-    refused-row-requires
+    (λ c. omega arith)
+    (λ c. omega arith)
+    (λ c κs. search needs)
     returns
-    larger-requires
-    add-k
-    loop-less
+    (λ c κs. search needs)
+    (λ c. omega arith)
+    (λ c. omega arith)
     loop-again
     returns-2)
