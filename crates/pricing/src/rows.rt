@@ -246,6 +246,63 @@ fn option_nodes(
     top
 }
 
+// Bond and option on a row whose edges branch inwards, its spans one after the other.
+fn capped_option_row(
+    right: RowRight,
+    downs: &[u64],
+    discounts: &[u64],
+    bonds: &[u64],
+    options: &[u64],
+    bond: &mut [u64],
+    option: &mut [u64],
+) -> u64
+    requires { ⌜ Rollable (now downs) (now discounts) (right .next) × Later (now bonds) (right .next) × Later (now options) (right .next)
+        × (length (now discounts) ≤ length (now bond)) × (length (now discounts) ≤ length (now option)) × (right .flow ≤ mostFlow)
+        × (right .next ≤ length (now discounts)) ⌝ }
+    ensures { λ r. ⌜ FilledRows (now (bond .exit)) (now (option .exit)) (length (now (discounts .entry)))
+        (bondValues (now (bonds .entry)) (now (downs .entry)) (now (discounts .entry)) (right .next) (right .flow))
+        (optionValues (side (right .call)) (right .strike) (right .listed)
+        (now (bonds .entry)) (now (options .entry)) (now (downs .entry)) (now (discounts .entry)) (right .next)) r ⌝ }
+{
+    let count = discounts.len();
+    let first = lowest(right.next);
+    let low = option_nodes(
+        right,
+        first,
+        downs,
+        discounts,
+        bonds,
+        options,
+        bond,
+        option,
+        0,
+    );
+    let second = inner(count, right.next);
+    let middle = option_nodes(
+        right,
+        second,
+        downs,
+        discounts,
+        bonds,
+        options,
+        bond,
+        option,
+        low,
+    );
+    let last = highest(count, right.next);
+    option_nodes(
+        right,
+        last,
+        downs,
+        discounts,
+        bonds,
+        options,
+        bond,
+        option,
+        middle,
+    )
+}
+
 // Rolls bond and option back by one row together. The option is exercised on the bond before the row's flow is added. Gives the greatest value of the
 // two rows.
 pub(crate) fn option_row(
@@ -266,24 +323,13 @@ pub(crate) fn option_row(
 {
     let count = discounts.len();
     let next = right.next;
-    if count < next {
-        let whole = growing(count, next);
-        return option_nodes(
-            right,
-            whole,
-            downs,
-            discounts,
-            bonds,
-            options,
-            bond,
-            option,
-            0,
-        );
+    if next <= count {
+        return capped_option_row(right, downs, discounts, bonds, options, bond, option);
     }
-    let first = lowest(next);
-    let low = option_nodes(
+    let whole = growing(count, next);
+    option_nodes(
         right,
-        first,
+        whole,
         downs,
         discounts,
         bonds,
@@ -291,30 +337,6 @@ pub(crate) fn option_row(
         bond,
         option,
         0,
-    );
-    let second = inner(count, next);
-    let middle = option_nodes(
-        right,
-        second,
-        downs,
-        discounts,
-        bonds,
-        options,
-        bond,
-        option,
-        low,
-    );
-    let last = highest(count, next);
-    option_nodes(
-        right,
-        last,
-        downs,
-        discounts,
-        bonds,
-        options,
-        bond,
-        option,
-        middle,
     )
 }
 
