@@ -18,7 +18,7 @@ use Rattle.lent_tree.specs.LentTree.{Accepted}
 use Rattle.pricing_laws.specs.Pricer.{Side}
 use Rattle.pricing.specs.inside.Rows.{bondValues, optionValues, Rollable, Limited, Later, FilledRow, FilledRows}
 use Rattle.pricing.specs.inside.Trees.{downTable, bondStep, optionStep}
-use Rattle.pricing.specs.inside.Strips.{strikeValues, strikeStep}
+use Rattle.pricing.specs.inside.Strips.{Paid, Laid, strikeValues, strikeStep}
 use Rattle.pricing.proofs.TreeRows as rows
 
 module _ (n b i : ℕ) (discounts : List ℕ) (a : Accepted n b discounts) (hi : i < n) (s : RowShape) (es : s ≡ rowShapeAnswer b n i) where
@@ -48,6 +48,10 @@ module _ (n b i : ℕ) (discounts : List ℕ) (a : Accepted n b discounts) (hi :
   kept-room kept long =
       let few = a .steps-within-limit in
       omega (arith, start-is, count-is, row-ends b i n hi, start-most b n, mul-le-mul {n₁ = n} {m₁ = n} {n₂ = 60} {m₂ = 60} few few)
+
+  -- a row that is laid by its shape
+  pub part-laid : (before after : List ℕ) (f : ℕ → ℕ) → Laid before after (s .start) (s .count) f → Laid before after (rowStart b i) (nodeCount b i) f
+  part-laid before after f h = rw (start-is, count-is) at h
 
   -- a later row that may be rolled back: the next row is no wider than the widest
   pub later-next : (later : List ℕ) → length later ≡ 121 → Limited later (nodeCount b (i + 1)) → Later later (s .next)
@@ -88,6 +92,11 @@ module _ (n b i : ℕ) (discounts : List ℕ) (a : Accepted n b discounts) (hi :
             (later after : List ℕ) (top : ℕ) → FilledRow after (length part) (bondValues later table part (s .next) flow) top →
             FilledRow after (nodeCount b i) (bondStep b discounts flow i later) top
         part-bond later after top h = rows.bond-row-is n b i hi discounts a flow later after top (rw (table-is, part-is, next-is) at h)
+
+        -- each of its values has the row's flow
+        pub part-paid :
+            (later after : List ℕ) (top : ℕ) → FilledRow after (length part) (bondValues later table part (s .next) flow) top → Paid after (s .count) flow
+        part-paid later after top h k l = omega (arith, part-bond later after top h .held k (omega (arith, count-is)))
 
         pub part-option :
             (side : Side) (strike : ℕ) (listed : Bool) (bonds options bond option : List ℕ) (top : ℕ) →

@@ -31,7 +31,7 @@ ghost use Rattle.pricing.specs.inside.Rows.{
   FilledRow,
   FilledRows,
 };
-ghost use Rattle.pricing.specs.inside.Strips.{Laid, strikeValues};
+ghost use Rattle.pricing.specs.inside.Strips.{Paid, Laid, strikeValues};
 
 // The nodes of the widest row.
 const MOST_NODES: usize = 121;
@@ -366,21 +366,14 @@ pub(crate) fn fill_row(value: u64, row: &mut [u64])
     }
 }
 
-// The bond without the row's flow.
-fn without(bond: u64, flow: u64) -> u64
-    ensures { λ r. ⌜ r ≡ bond - flow ⌝ }
-{
-    if flow < bond { bond - flow } else { 0 }
-}
-
-// Keeps the first `count` nodes of a row of the bond, without its flow, from a place of a memory on.
+// Keeps the first `count` nodes of a row of the bond, each of which has the row's flow, without it, from a place of a memory on.
 pub(crate) fn keep_row(bond: &[u64; 121], flow: u64, kept: &mut [u64], start: usize, count: usize)
-    requires { ⌜ (count ≤ mostNodes) × (start + count ≤ length (now kept)) ⌝ }
+    requires { ⌜ (count ≤ mostNodes) × (start + count ≤ length (now kept)) × Paid (now bond) count flow ⌝ }
     ensures { λ _. ⌜ Laid (now (kept .entry)) (now (kept .exit)) start count (λ k. values (now (bond .entry)) k - flow) ⌝ }
 {
     let mut k: usize = 0;
     while k < count {
-        kept[start + k] = without(bond[k], flow);
+        kept[start + k] = bond[k] - flow;
         k += 1;
     }
 }

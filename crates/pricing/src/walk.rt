@@ -8,7 +8,7 @@ ghost use Prim.Native.Nat.{_+_, _-_, _*_, _<_, _≤_};
 ghost use lib.ListN.{length, take, drop};
 ghost use Rattle.arithmetic.specs.Row.{values};
 ghost use Rattle.arithmetic.specs.Answers.{refused, answered};
-ghost use Rattle.lattice.specs.Shape.{nodeCount};
+ghost use Rattle.lattice.specs.Shape.{nodeCount, rowStart};
 ghost use Rattle.pricing_laws.specs.inside.Marks.{marked};
 ghost use Rattle.exercise.specs.Terms.{side};
 ghost use Rattle.price_laws.specs.Prices.{flowAt};
@@ -24,7 +24,7 @@ ghost use Rattle.pricing.specs.inside.Trees.{
   BothRolled,
 };
 ghost use Rattle.limits.specs.Limits.{mostDiscounts};
-ghost use Rattle.pricing.specs.inside.Strips.{BondKept, strikeStep, besideBond};
+ghost use Rattle.pricing.specs.inside.Strips.{Laid, BondKept, strikeStep, besideBond};
 
 // A tree's number of steps and its reversion.
 pub(crate) struct Tree {
@@ -278,7 +278,38 @@ pub(crate) fn roll_both(
     roll_option(tree, terms, marks, downs, discounts, flows, &mut bond)
 }
 
-// The bond from row n back to row 0, each row before n kept without its flow. 12 where a value is above 8 × one.
+// As `bond_step`, and keeps the row without its flow.
+fn keep_step(
+    tree: Tree,
+    row: usize,
+    flow: u64,
+    downs: &[u64],
+    discounts: &[u64],
+    later: &[u64; 121],
+    bond: &mut [u64; 121],
+    kept: &mut [u64],
+) -> u64
+    requires { ⌜ Steppable (tree .steps) (tree .reversion) row flow (now downs) (now discounts)
+        × Limited (now later) (nodeCount (tree .reversion) (row + 1)) × (mostDiscounts ≤ length (now kept)) ⌝ }
+    ensures rolled { λ r. ⌜ FilledRow (now (bond .exit)) (nodeCount (tree .reversion) row)
+        (bondStep (tree .reversion) (now (discounts .entry)) flow row (now (later .entry))) r ⌝ }
+    ensures laid { λ _. ⌜ Laid (now (kept .entry)) (now (kept .exit)) (rowStart (tree .reversion) row) (nodeCount (tree .reversion) row)
+        (λ k. values (now (bond .exit)) k - flow) ⌝ }
+{
+    let shape = lattice::row_shape(tree.reversion, tree.steps, row);
+    let greatest = rows::bond_row(
+        bond,
+        later,
+        part(downs, shape.offset, shape.count),
+        part(discounts, shape.start, shape.count),
+        shape.next,
+        flow,
+    );
+    rows::keep_row(bond, flow, kept, shape.start, shape.count);
+    greatest
+}
+
+// The bond from row n back to row 0, two rows a turn, each row before n kept without its flow. 12 where a value is above 8 × one.
 pub(crate) fn keep_bond(
     tree: Tree,
     downs: &[u64],
@@ -296,12 +327,19 @@ pub(crate) fn keep_bond(
     while 0 < row {
         row -= 1;
         let flow = flow_of(flows, row);
-        if limits::VALUE_LIMIT < bond_step(tree, row, flow, downs, discounts, &bond, &mut other) {
+        let first = keep_step(tree, row, flow, downs, discounts, &bond, &mut other, kept);
+        if limits::VALUE_LIMIT < first {
             return 12;
         }
-        let shape = lattice::row_shape(tree.reversion, tree.steps, row);
-        rows::keep_row(&other, flow, kept, shape.start, shape.count);
-        bond = other;
+        if row == 0 {
+            return 0;
+        }
+        row -= 1;
+        let before = flow_of(flows, row);
+        let second = keep_step(tree, row, before, downs, discounts, &other, &mut bond, kept);
+        if limits::VALUE_LIMIT < second {
+            return 12;
+        }
     }
     0
 }
