@@ -153,7 +153,7 @@ module _ (n b : ℕ) (discounts flows : List ℕ) (a : Accepted n b discounts) (
     -- on the last row: the exercise values
     pub options-first :
         (bonds l : List ℕ) → strike ≤ 4000000000 → Bonds n b discounts flows (rows .last) bonds →
-        Holds l 121 (λ k. exercise side strike (values bonds k - flowAt flows (rows .last))) → Right (rows .last) l
+        Holds l (nodeCount b (rows .last)) (λ k. exercise side strike (values bonds k - flowAt flows (rows .last))) → Right (rows .last) l
     unfolding Bonds Options rateTree
     options-first bonds l hs s h =
         back.option-first n (On (rateTree b)) (top b) great the-roll local (flowAt flows) side strike rows (values bonds) (values l) s value-is
@@ -164,7 +164,7 @@ module _ (n b : ℕ) (discounts flows : List ℕ) (a : Accepted n b discounts) (
         less-flow x y h = omega arith
 
         value-is : (k : ℕ) → k < nodeCount b (rows .last) → values l k ≡ exercise side strike (values bonds k - flowAt flows (rows .last))
-        value-is k hk = h k (narrow (rows .last) k hl hk)
+        value-is k hk = h k hk
 
     pub options-limited : (i : ℕ) (later : List ℕ) → Right i later → Limited later (nodeCount b i)
     unfolding Options rateTree

@@ -340,16 +340,16 @@ pub(crate) fn option_row(
     )
 }
 
-// The exercise values of a row of the bond, which holds the row's flow.
-pub(crate) fn exercise_row(terms: Terms, flow: u64, bond: &[u64], option: &mut [u64])
-    requires { ⌜ length (now option) ≡ length (now bond) ⌝ }
-    ensures { λ _. ⌜ Holds (now (option .exit)) (length (now (option .entry)))
+// The exercise values of the first `count` nodes of a row of the bond, which holds the row's flow.
+pub(crate) fn exercise_row(terms: Terms, flow: u64, count: usize, bond: &[u64], option: &mut [u64])
+    requires { ⌜ (count ≤ length (now bond)) × (count ≤ length (now option)) ⌝ }
+    ensures { λ _. ⌜ Holds (now (option .exit)) count
         (λ k. exercise (side (terms .call)) (terms .strike) (values (now (bond .entry)) k - flow)) ⌝ }
 {
     let call = terms.call;
     let strike = terms.strike;
     let mut k: usize = 0;
-    while k < option.len() {
+    while k < count {
         option[k] = exercise::expiry_value(call, strike, bond[k], flow);
         k += 1;
     }

@@ -9,10 +9,11 @@ ghost use lib.ListN.{length, take, drop};
 ghost use Rattle.arithmetic.specs.Row.{values};
 ghost use Rattle.arithmetic.specs.Answers.{refused, answered};
 ghost use Rattle.lattice.specs.Shape.{nodeCount, rowStart};
+ghost use Rattle.pricing_laws.specs.Pricer.{exercise};
 ghost use Rattle.pricing_laws.specs.inside.Marks.{marked};
 ghost use Rattle.exercise.specs.Terms.{side};
 ghost use Rattle.price_laws.specs.Prices.{flowAt};
-ghost use Rattle.pricing.specs.inside.Rows.{Limited, FilledRow, FilledRows};
+ghost use Rattle.pricing.specs.inside.Rows.{Limited, Holds, FilledRow, FilledRows};
 ghost use Rattle.pricing.specs.inside.Trees.{
   Ready,
   Exercisable,
@@ -23,7 +24,7 @@ ghost use Rattle.pricing.specs.inside.Trees.{
   BondRolled,
   BothRolled,
 };
-ghost use Rattle.limits.specs.Limits.{mostDiscounts};
+ghost use Rattle.limits.specs.Limits.{mostSteps, mostReversion, mostDiscounts};
 ghost use Rattle.pricing.specs.inside.Strips.{Laid, BondKept, strikeStep, besideBond};
 
 // A tree's number of steps and its reversion.
@@ -202,6 +203,22 @@ fn over() -> Rolled
     }
 }
 
+// The option on its last row, beside the bond: the exercise values.
+fn exercise_step(
+    reversion: u64,
+    terms: Terms,
+    flows: &[u64],
+    bond: &[u64; 121],
+    option: &mut [u64; 121],
+)
+    requires { ⌜ (reversion ≤ mostReversion) × (terms .last ≤ mostSteps) × (terms .last ≤ length (now flows)) ⌝ }
+    ensures { λ _. ⌜ Holds (now (option .exit)) (nodeCount reversion (terms .last))
+        (λ k. exercise (side (terms .call)) (terms .strike) (values (now (bond .entry)) k - flowAt (now (flows .entry)) (terms .last))) ⌝ }
+{
+    let count = lattice::node_count(reversion, terms.last).value as usize;
+    rows::exercise_row(terms, flow_of(flows, terms.last), count, bond, option);
+}
+
 // The option from its last row back to row 0, and the bond with it, two rows a turn. 12 where a value on the way is above 8 × one.
 fn roll_option(
     tree: Tree,
@@ -218,7 +235,7 @@ fn roll_option(
         (marked (terms .last) (now (marks .entry))) r ⌝ }
 {
     let mut option = rows::empty_row();
-    rows::exercise_row(terms, flow_of(flows, terms.last), bond, &mut option);
+    exercise_step(tree.reversion, terms, flows, bond, &mut option);
     let mut bonds = rows::empty_row();
     let mut options = rows::empty_row();
     let mut row = terms.last;

@@ -1,12 +1,8 @@
 -- `pricing::walk::roll_option` meets its contract: bond and option stand at the row that the loop has reached, two rows a turn.
 -- Assumes nothing.
-use mathlib.Core.Path.{ap, _∙_}
-use Prim.Native.Nat.{ℕ, _-_, _<_}
+use Prim.Native.Nat.{_-_, _<_}
 use native.Mathlib.Omega.{arith}
 use denote.Ref.{now}
-use Rattle.arithmetic.specs.Row.{values}
-use Rattle.pricing_laws.specs.Pricer.{exercise}
-use Rattle.exercise.specs.Terms.{side}
 use Rattle.pricing.proofs.WalkStates.{rolled-answer}
 use Rattle.pricing.proofs.WalkTurns.{Both, both-first, both-done, both-before, turn-both-ready, turn-both-over, turn-both-next}
 use borrow.Author.Needs.{needs}
@@ -23,16 +19,12 @@ abbrev μ-loop : tie.MeasureT-loop
 empty-row-requires : tie.Need-empty-row-requires Inv-loop μ-loop
 empty-row-requires c κs = search needs
 
-flow-of-requires : tie.Need-flow-of-requires Inv-loop μ-loop
-flow-of-requires c κs =
-    let s = c .before .before .before .before .before in
-    omega (arith, s .pre .0 .paid .count, s .pre .1 .last-inside)
-
-slice-aggregate-exercise-row : tie.Need-slice-aggregate-exercise-row Inv-loop μ-loop
-slice-aggregate-exercise-row c = search needs
-
-exercise-row-requires : tie.Need-exercise-row-requires Inv-loop μ-loop
-exercise-row-requires c κs = search needs
+exercise-step-requires : tie.Need-exercise-step-requires Inv-loop μ-loop
+exercise-step-requires c κs =
+    let s = c .before .before .before .before .before .before .before in
+    let ready = s .pre .0 in
+    let inside = s .pre .1 .last-inside in
+    (ready .tree .reversion-within-limit, omega (arith, ready .tree .steps-within-limit), omega (arith, ready .paid .count))
 
 empty-row-requires-2 : tie.Need-empty-row-requires-2 Inv-loop μ-loop
 empty-row-requires-2 c κs = search needs
@@ -42,16 +34,12 @@ empty-row-requires-3 c κs = search needs
 
 loop-holds : tie.Need-loop-holds Inv-loop μ-loop
 loop-holds c =
-    let exercised = c .before .before .before in
-    let flow = exercised .before .before .before .before in
-    let s = flow .before .before .before .before .before .before in
-    let value = exercise (side (s .args .terms .call)) (s .args .terms .strike) in
-    both-first _ _ _ _ _ (s .pre .0) (s .args .terms) _ (s .pre .1) _ _ (s .pre .2)
-    (λ k h. exercised .exercise-row .ensures k (search needs) ∙ ap (λ (x : ℕ). value (values (now (s .args .bond)) k - x)) (flow .flow-of .ensures))
+    let s = c .before .before .before .before .before .before .before .before .before .before in
+    both-first _ _ _ _ _ (s .pre .0) (s .args .terms) _ (s .pre .1) _ _ (s .pre .2) (c .before .before .exercise-step .ensures)
 
 -- where the loop goes on
-abbrev start : tie.In-loop Inv-loop μ-loop → tie.Start Inv-loop μ-loop
-start c = c .before .before .before .before .before .before .before .before .before .before .before .before .before .before .before
+abbrev start : (c : tie.In-loop Inv-loop μ-loop) → tie.Start Inv-loop μ-loop
+start c = c .before .before .before .before .before .before .before .before .before .before .before .before
 
 sub-row : tie.Need-sub-row Inv-loop μ-loop
 sub-row c = omega arith
@@ -63,7 +51,8 @@ option-step-at-requires c κs =
 
 option-step-requires : tie.Need-option-step-requires Inv-loop μ-loop
 option-step-requires c κs =
-    let stepped = c .before .before .before .before in
+    let c₁ = c .before .before .before .before in
+    let stepped = c₁ in
     let in-loop = stepped .before in
     let l = in-loop .before .loop in
     turn-both-ready _ _ _ _ _ (start in-loop .pre .0) _ _ (start in-loop .pre .1) (l .row) (l .bond) (l .option) (in-loop .loop-test .taken) (l .inv) _
@@ -122,7 +111,8 @@ option-step-at-requires-2 c κs =
 
 option-step-requires-2 : tie.Need-option-step-requires-2 Inv-loop μ-loop
 option-step-requires-2 c κs =
-    let stepped = c .before .before .before .before in
+    let c₁ = c .before .before .before .before in
+    let stepped = c₁ in
     let second = stepped .before in
     let s = start (in-turn (second .before .before)) in
     turn-both-ready _ _ _ _ _ (s .pre .0) _ _ (s .pre .1) _ _ _ (again second) (first (second .before)) _ (stepped .option-step-at2 .ensures)
@@ -159,7 +149,7 @@ returns-4 : tie.Need-returns-4 Inv-loop μ-loop
 returns-4 c =
     let ended = c .before .before .before in
     let l = ended .before .loop in
-    let s = ended .before .before .before .before .before .before .before .before .before .before .before .before .before .before .before in
+    let s = c .before .before .before .before .before .before .before .before .before .before .before .before .before .before .before in
     rolled-answer (c .at-root2 .result) (c .at-root2 .ensures)
     (both-done _ _ _ _ _ (s .pre .0) _ _ (s .pre .1) (l .row) (l .bond) (l .option) (omega (arith, ended .loop-test .left)) (l .inv))
 
@@ -170,9 +160,7 @@ roll-option-spec =
     Inv-loop
     μ-loop
     empty-row-requires
-    flow-of-requires
-    slice-aggregate-exercise-row
-    exercise-row-requires
+    exercise-step-requires
     empty-row-requires-2
     empty-row-requires-3
     loop-holds
