@@ -10,7 +10,7 @@ use Rattle.arithmetic.specs.Answers.{refused, answered}
 use Rattle.arithmetic.specs.declared.Answer.{Answer}
 use Rattle.arithmetic.proofs.Numbers.{by-equal}
 use Rattle.arithmetic.proofs.PartLaws.{part-value, part-length}
-use Rattle.limits.specs.Limits.{mostDiscounts, valueLimit}
+use Rattle.limits.specs.Limits.{valueLimit, mostNodes, mostDiscounts}
 use Rattle.limits.proofs.LimitLaws.{limit-accepted}
 use Rattle.lattice.specs.declared.RowShape.{RowShape}
 use Rattle.lattice.specs.Shape.{nodeCount, rowStart}
@@ -101,7 +101,7 @@ module _ (n b : ℕ) (downs discounts flows : List ℕ) (ready : Ready n b downs
           ∙ part-length kept (shape .start) (shape .count) last-room
           ∙ parts.count-is n b (terms .last) discounts (ready .tree) before-end shape es
 
-      pub last-short : length bare ≤ 121
+      pub last-short : length bare ≤ mostNodes
       last-short =
           omega (
             arith,

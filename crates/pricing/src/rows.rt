@@ -1,6 +1,9 @@
 // One row of the tree, rolled back from the row after it.
+use arithmetic::ONE;
 use exercise::Terms;
+use limits::MOST_NODES;
 use row_branches::RowBranch;
+use tree::PROBABILITY_TOTAL;
 ghost use mathlib.Core.Path.{_≡_};
 ghost use Prim.Native.Nat.{_+_, _-_, _*_, _<_, _≤_};
 ghost use lib.ListN.{length};
@@ -22,6 +25,7 @@ ghost use Rattle.pricing.specs.inside.Rows.{
   betweenEdges,
   Leads,
   branchRoll,
+  mostRoll,
   bondValues,
   optionValues,
   Rollable,
@@ -33,28 +37,25 @@ ghost use Rattle.pricing.specs.inside.Rows.{
 };
 ghost use Rattle.pricing.specs.inside.Strips.{Paid, Laid, strikeValues};
 
-// The nodes of the widest row.
-const MOST_NODES: usize = 121;
-
 // A row's memory.
-pub(crate) fn empty_row() -> [u64; 121]
-    ensures { λ r. ⌜ length r ≡ 121 ⌝ }
+pub(crate) fn empty_row() -> [u64; MOST_NODES]
+    ensures { λ r. ⌜ length r ≡ mostNodes ⌝ }
 {
     [0; MOST_NODES]
 }
 
-// The roll of a node along its branch: divided by 600,000,000, nearest; then discounted, nearest.
+// The roll of a node along its branch: divided by the whole of the probabilities, nearest; then discounted, nearest.
 fn roll_node(branch: RowBranch, later: &[u64], discount: u64) -> u64
     requires { ⌜ (branch .low + 2 < length (now later)) × (branchTotal branch ≡ probabilityTotal)
         × Limited (now later) (branch .low + 3) × (discount ≤ mostDiscount) ⌝ }
-    ensures { λ r. ⌜ (r ≡ branchRoll branch (values (now (later .entry))) discount) × (r ≤ 8800000000) ⌝ }
+    ensures { λ r. ⌜ (r ≡ branchRoll branch (values (now (later .entry))) discount) × (r ≤ mostRoll) ⌝ }
 {
     let low = branch.low;
     let probabilities = branch.probabilities;
     let sum = probabilities[0] * later[low + 2]
         + probabilities[1] * later[low + 1]
         + probabilities[2] * later[low];
-    ((sum + 300_000_000) / 600_000_000 * discount + 500_000_000) / 1_000_000_000
+    ((sum + PROBABILITY_TOTAL / 2) / PROBABILITY_TOTAL * discount + ONE / 2) / ONE
 }
 
 // Nodes of a row that all branch alike: from one on, before another, each leads to the node of the next row at its own index less a shift, and to the
@@ -123,7 +124,7 @@ fn span_branch(downs: &[u64], shift: usize, index: usize) -> RowBranch
     let up = downs[downs.len() - 1 - index];
     RowBranch {
         low: index - shift,
-        probabilities: [up, 600_000_000 - down - up, down],
+        probabilities: [up, PROBABILITY_TOTAL - down - up, down],
     }
 }
 
@@ -367,7 +368,13 @@ pub(crate) fn fill_row(value: u64, row: &mut [u64])
 }
 
 // Keeps the first `count` nodes of a row of the bond, each of which has the row's flow, without it, from a place of a memory on.
-pub(crate) fn keep_row(bond: &[u64; 121], flow: u64, kept: &mut [u64], start: usize, count: usize)
+pub(crate) fn keep_row(
+    bond: &[u64; MOST_NODES],
+    flow: u64,
+    kept: &mut [u64],
+    start: usize,
+    count: usize,
+)
     requires { ⌜ (count ≤ mostNodes) × (start + count ≤ length (now kept)) × Paid (now bond) count flow ⌝ }
     ensures { λ _. ⌜ Laid (now (kept .entry)) (now (kept .exit)) start count (λ k. values (now (bond .entry)) k - flow) ⌝ }
 {

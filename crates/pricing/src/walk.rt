@@ -3,6 +3,7 @@ use crate::rows;
 use crate::rows::RowRight;
 use arithmetic::Answer;
 use exercise::Terms;
+use limits::MOST_NODES;
 ghost use mathlib.Core.Path.{_≡_};
 ghost use Prim.Native.Nat.{_+_, _-_, _*_, _<_, _≤_};
 ghost use lib.ListN.{length, take, drop};
@@ -93,8 +94,8 @@ fn bond_step(
     flow: u64,
     downs: &[u64],
     discounts: &[u64],
-    later: &[u64; 121],
-    bond: &mut [u64; 121],
+    later: &[u64; MOST_NODES],
+    bond: &mut [u64; MOST_NODES],
 ) -> u64
     requires { ⌜ Steppable (tree .steps) (tree .reversion) row flow (now downs) (now discounts)
         × Limited (now later) (nodeCount (tree .reversion) (row + 1)) ⌝ }
@@ -117,10 +118,10 @@ fn option_step(
     right: OptionStep,
     downs: &[u64],
     discounts: &[u64],
-    bonds: &[u64; 121],
-    options: &[u64; 121],
-    bond: &mut [u64; 121],
-    option: &mut [u64; 121],
+    bonds: &[u64; MOST_NODES],
+    options: &[u64; MOST_NODES],
+    bond: &mut [u64; MOST_NODES],
+    option: &mut [u64; MOST_NODES],
 ) -> u64
     requires { ⌜ Steppable (right .steps) (right .reversion) (right .row) (right .flow) (now downs) (now discounts)
         × Limited (now bonds) (nodeCount (right .reversion) (right .row + 1))
@@ -156,7 +157,7 @@ pub(crate) fn roll_bond(
     downs: &[u64],
     discounts: &[u64],
     flows: &[u64],
-    bond: &mut [u64; 121],
+    bond: &mut [u64; MOST_NODES],
 ) -> u64
     requires { ⌜ Ready (tree .steps) (tree .reversion) (now downs) (now discounts) (now flows) × (last ≤ tree .steps) ⌝ }
     ensures { λ r. ⌜ BondRolled (tree .steps) (tree .reversion) (now (discounts .entry)) (now (flows .entry)) last r (now (bond .exit)) ⌝ }
@@ -183,7 +184,7 @@ pub(crate) fn roll_bond(
     0
 }
 
-fn at_root(bond: &[u64; 121], option: &[u64; 121]) -> Rolled
+fn at_root(bond: &[u64; MOST_NODES], option: &[u64; MOST_NODES]) -> Rolled
     ensures { λ r. ⌜ r ≡ record { number = 0; bond = values (now (bond .entry)) 0; option = values (now (option .entry)) 0 } ⌝ }
 {
     Rolled {
@@ -208,8 +209,8 @@ fn exercise_step(
     reversion: u64,
     terms: Terms,
     flows: &[u64],
-    bond: &[u64; 121],
-    option: &mut [u64; 121],
+    bond: &[u64; MOST_NODES],
+    option: &mut [u64; MOST_NODES],
 )
     requires { ⌜ (reversion ≤ mostReversion) × (terms .last ≤ mostSteps) × (terms .last ≤ length (now flows)) ⌝ }
     ensures { λ _. ⌜ Holds (now (option .exit)) (nodeCount reversion (terms .last))
@@ -227,7 +228,7 @@ fn roll_option(
     downs: &[u64],
     discounts: &[u64],
     flows: &[u64],
-    bond: &mut [u64; 121],
+    bond: &mut [u64; MOST_NODES],
 ) -> Rolled
     requires { ⌜ Ready (tree .steps) (tree .reversion) (now downs) (now discounts) (now flows) × Exercisable terms (tree .steps) (now marks)
         × BondRolled (tree .steps) (tree .reversion) (now discounts) (now flows) (terms .last) 0 (now bond) ⌝ }
@@ -302,8 +303,8 @@ fn keep_step(
     flow: u64,
     downs: &[u64],
     discounts: &[u64],
-    later: &[u64; 121],
-    bond: &mut [u64; 121],
+    later: &[u64; MOST_NODES],
+    bond: &mut [u64; MOST_NODES],
     kept: &mut [u64],
 ) -> u64
     requires { ⌜ Steppable (tree .steps) (tree .reversion) row flow (now downs) (now discounts)
@@ -367,8 +368,8 @@ fn strike_step(
     downs: &[u64],
     discounts: &[u64],
     kept: &[u64],
-    options: &[u64; 121],
-    option: &mut [u64; 121],
+    options: &[u64; MOST_NODES],
+    option: &mut [u64; MOST_NODES],
 ) -> u64
     requires { ⌜ Steppable (right .steps) (right .reversion) (right .row) (right .flow) (now downs) (now discounts)
         × Limited (now options) (nodeCount (right .reversion) (right .row + 1)) × (mostDiscounts ≤ length (now kept)) ⌝ }
@@ -403,7 +404,7 @@ fn past_limit() -> Answer
     }
 }
 
-fn first_value(option: &[u64; 121]) -> Answer
+fn first_value(option: &[u64; MOST_NODES]) -> Answer
     ensures { λ r. ⌜ r ≡ answered (values (now (option .entry)) 0) ⌝ }
 {
     Answer {

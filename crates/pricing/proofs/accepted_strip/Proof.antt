@@ -40,8 +40,8 @@ ready c =
       table = prefix-is _ _ (t .steps-within-limit) (t .reversion-within-limit) _ _ (c .before .node-count .ensures) (c .table-of .ensures);
     }
 
-empty-rows-requires : tie.Need-empty-rows-requires
-empty-rows-requires c κs = search needs
+discount-room-requires : tie.Need-discount-room-requires
+discount-room-requires c κs = search needs
 
 array-share-prefix-table : tie.Need-array-share-prefix-table
 array-share-prefix-table c = room (c .before)
@@ -53,7 +53,7 @@ slice-aggregate-keep-bond-2 : tie.Need-slice-aggregate-keep-bond-2
 slice-aggregate-keep-bond-2 c = search needs
 
 keep-bond-requires : tie.Need-keep-bond-requires
-keep-bond-requires c κs = (ready (c .before .before .before), omega (arith, c .before .before .empty-rows .ensures))
+keep-bond-requires c κs = (ready (c .before .before .before), omega (arith, c .before .before .discount-room .ensures))
 
 marks-of-requires : tie.Need-marks-of-requires
 marks-of-requires c κs = search needs
@@ -82,7 +82,7 @@ strike-prices-requires c κs =
         list-is = c .before .before .before .dates-cause .ensures;
         marks-are = c .before .before .before .before .marks-of .ensures;
         bond-is = c .before .before .before .before .before .before .keep-bond .ensures;
-        room = omega (arith, kept .keep-bond .kept .1 .1 .1 .1 .0, kept .before .before .before .empty-rows .ensures);
+        room = omega (arith, kept .keep-bond .kept .1 .1 .1 .1 .0, kept .before .before .before .discount-room .ensures);
       },
       c .before .before .before .before .before .before .before .before .before .before .before .before .before .before .before .before .pre .1,
     )
@@ -96,7 +96,7 @@ accepted-strip-spec =
     (tie.spec
     node-count-requires
     table-of-requires
-    empty-rows-requires
+    discount-room-requires
     array-share-prefix-table
     slice-aggregate-keep-bond
     slice-aggregate-keep-bond-2

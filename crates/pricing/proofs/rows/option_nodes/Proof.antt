@@ -7,6 +7,8 @@ use native.Mathlib.Omega.{arith}
 use lib.ListN.{length}
 use denote.Ref.{now}
 use Rattle.arithmetic.specs.Row.{values}
+use Rattle.tree.specs.Tree.{probabilityTotal}
+use Rattle.limits.specs.Limits.{mostDiscount}
 use Rattle.exercise.specs.Terms.{side}
 use Rattle.row_branches.specs.RowBranches.{rowBranch}
 use Rattle.row_branches.specs.inside.Transitions.{branchTotal}
@@ -74,7 +76,7 @@ branch c = span-is _ (now (c .before .before .before .before .before .before .be
 rolls : (c : tie.After-shared-slice-known5 Inv-loop μ-loop) (later : List ℕ) → Later later
     (c .before .before .before .before .before .before .before .before .before .before .args .span .next) →
     let branch = c .before .span-branch .result in
-    (branch .low + 2 < length later) × (branchTotal branch ≡ 600000000) × Limited later (branch .low + 3)
+    (branch .low + 2 < length later) × (branchTotal branch ≡ probabilityTotal) × Limited later (branch .low + 3)
 rolls c later l =
     let ready = c .before .before .before .before .before .before .before .before .before .before .pre .0 in
     let e = branch c in (
@@ -85,7 +87,7 @@ rolls c later l =
 
 discounted : (c : tie.After-shared-slice-known5 Inv-loop μ-loop) → values
     (now (c .before .before .before .before .before .before .before .before .before .before .args .discounts)) (c .before .before .before .loop .k)
-    ≤ 1100000000
+    ≤ mostDiscount
 discounted c = c .before .before .before .before .before .before .before .before .before .before .pre .0 .discounted
     (c .before .before .before .loop .k) (inside c)
 

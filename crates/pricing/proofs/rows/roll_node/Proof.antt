@@ -4,6 +4,7 @@ use Prim.Native.Nat.{_+_, _*_, _/_, _≤_}
 use native.Mathlib.Omega.{arith}
 use denote.Ref.{now}
 use Rattle.arithmetic.specs.Row.{values}
+use Rattle.tree.specs.Tree.{probabilityTotal}
 use Rattle.pricing.specs.inside.Rows.{branchSum, branchRoll}
 use Rattle.pricing.proofs.NodeLaws.{sum-fits, product-fits, rolled-nearest}
 use borrow.Author.Needs.{needs}
@@ -13,7 +14,7 @@ use Rattle.pricing.proofs.rows.roll_node.Tie as tie
 sum : (s : tie.Start) → branchSum (s .args .branch) (values (now (s .args .later))) ≤ 4800000000000000000
 sum s = sum-fits _ _ _ _ _ _ _ (s .pre .1) (s .pre .2 _ (omega arith)) (s .pre .2 _ (omega arith)) (s .pre .2 _ (omega arith)) (s .pre .3)
 
-product : (s : tie.Start) → (branchSum (s .args .branch) (values (now (s .args .later))) + 300000000) / 600000000 * s .args .discount ≤ 8800000000000000000
+product : (s : tie.Start) → (branchSum (s .args .branch) (values (now (s .args .later))) + probabilityTotal / 2) / probabilityTotal * s .args .discount ≤ 8800000000000000000
 product s = product-fits _ _ _ _ _ _ _ (s .pre .1) (s .pre .2 _ (omega arith)) (s .pre .2 _ (omega arith)) (s .pre .2 _ (omega arith)) (s .pre .3)
 
 array-read-sum : tie.Need-array-read-sum

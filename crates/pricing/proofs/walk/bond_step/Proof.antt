@@ -4,16 +4,17 @@ use mathlib.Core.Path.{_≡_}
 use native.Mathlib.Omega.{arith}
 use lib.ListN.{length}
 use denote.Ref.{now}
+use Rattle.limits.specs.Limits.{mostNodes}
 use Rattle.pricing.proofs.StepParts.{table-room, discount-room, later-next, part-within, part-rollable, part-bond}
 use borrow.Author.Needs.{needs}
 use Rattle.pricing.proofs.walk.bond_step.Statement.{statement}
 use Rattle.pricing.proofs.walk.bond_step.Tie as tie
 
 -- both rows are whole
-long : (c : tie.After-bond-row-arg) → length (now (c .before .before .before .before .args .bond)) ≡ 121
+long : (c : tie.After-bond-row-arg) → length (now (c .before .before .before .before .args .bond)) ≡ mostNodes
 long c = search needs
 
-later-long : (c : tie.After-bond-row-arg2) → length (now (c .before .before .before .before .before .args .later)) ≡ 121
+later-long : (c : tie.After-bond-row-arg2) → length (now (c .before .before .before .before .before .args .later)) ≡ mostNodes
 later-long c = search needs
 
 row-shape-requires : tie.Need-row-shape-requires

@@ -5,6 +5,7 @@ use Prim.Native.Nat.{_-_, _<_}
 use native.Mathlib.Omega.{arith}
 use lib.ListN.{length}
 use denote.Ref.{now}
+use Rattle.limits.specs.Limits.{mostNodes}
 use Rattle.pricing.proofs.StripTurns.{Alone, last-room, last-short, alone-start, alone-before, alone-ready, turn-alone-over, turn-alone-next}
 use Rattle.pricing.proofs.StripTurns.{alone-done, beside-answer}
 use borrow.Author.Needs.{needs}
@@ -32,7 +33,7 @@ part-requires c κs =
 slice-aggregate-first-row : tie.Need-slice-aggregate-first-row Inv-loop μ-loop
 slice-aggregate-first-row c = search needs
 
-option-long : (c : tie.After-part Inv-loop μ-loop) → length (c .before .empty-row .result) ≡ 121
+option-long : (c : tie.After-part Inv-loop μ-loop) → length (c .before .empty-row .result) ≡ mostNodes
 option-long c = search needs
 
 first-row-requires : tie.Need-first-row-requires Inv-loop μ-loop

@@ -4,6 +4,7 @@ use mathlib.Core.Path.{_≡_}
 use native.Mathlib.Omega.{arith}
 use lib.ListN.{length}
 use denote.Ref.{now}
+use Rattle.limits.specs.Limits.{mostNodes}
 use Rattle.pricing.proofs.StepParts.{table-room, discount-room, kept-room, later-next, part-within, part-beside, part-rollable, part-strike}
 use borrow.Author.Needs.{needs}
 use Rattle.pricing.proofs.walk.strike_step.Statement.{statement}
@@ -30,10 +31,10 @@ part-requires-3 c κs =
     kept-room _ _ _ _ (ready .tree) (ready .inside) _ (c₁ .row-shape .ensures) (now (c₂ .args .kept)) (c₂ .pre .2)
 
 -- both rows are whole
-options-long : (c : tie.After-strike-row-arg) → length (now (c .before .before .before .before .before .before .before .before .args .options)) ≡ 121
+options-long : (c : tie.After-strike-row-arg) → length (now (c .before .before .before .before .before .before .before .before .args .options)) ≡ mostNodes
 options-long c = search needs
 
-option-long : (c : tie.After-strike-row-arg2) → length (now (c .before .before .before .before .before .before .before .before .before .args .option)) ≡ 121
+option-long : (c : tie.After-strike-row-arg2) → length (now (c .before .before .before .before .before .before .before .before .before .args .option)) ≡ mostNodes
 option-long c = search needs
 
 strike-row-requires : tie.Need-strike-row-requires
