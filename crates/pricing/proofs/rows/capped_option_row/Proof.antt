@@ -7,9 +7,6 @@ use borrow.Author.Needs.{needs}
 use Rattle.pricing.proofs.rows.capped_option_row.Statement.{statement}
 use Rattle.pricing.proofs.rows.capped_option_row.Tie as tie
 
-lowest-requires : tie.Need-lowest-requires
-lowest-requires c κs = search needs
-
 option-nodes-requires : tie.Need-option-nodes-requires
 option-nodes-requires c κs =
     let s = c .before .before .before .before .before .before .before .before .before in
@@ -75,12 +72,6 @@ option-nodes-requires-3 c κs =
       done,
     )
 
-same-length : tie.Need-same-length
-same-length c = search needs
-
-same-length-2 : tie.Need-same-length-2
-same-length-2 c = search needs
-
 returns : tie.Need-returns
 returns c =
     let c₁ = c .before .before .before .before in
@@ -91,12 +82,12 @@ pub capped-option-row-spec : {M : Type 1} → statement M
 capped-option-row-spec =
     tie.close
     (tie.spec
-    lowest-requires
+    (λ c κs. search needs)
     option-nodes-requires
     inner-requires
     option-nodes-requires-2
     highest-requires
     option-nodes-requires-3
-    same-length
-    same-length-2
+    (λ c. search needs)
+    (λ c. search needs)
     returns)

@@ -26,9 +26,6 @@ mul-expiry-value c = omega (arith, c .before .before .before .before .pre .0)
 shared-slice-read-expiry-value : tie.Need-shared-slice-read-expiry-value Inv-loop μ-loop
 shared-slice-read-expiry-value c = omega (arith, c .before .before .before .before .before .pre .0)
 
-expiry-value-requires : tie.Need-expiry-value-requires Inv-loop μ-loop
-expiry-value-requires c κs = search needs
-
 mul-option : tie.Need-mul-option Inv-loop μ-loop
 mul-option c = omega (arith, c .before .before .before .loop .inv .1 .same, c .before .before .before .before .before .before .pre .1)
 
@@ -37,12 +34,6 @@ slice-write-option c =
     let c₁ = c .before .before .before in
     let c₂ = c₁ .before .before .before in
     omega (arith, c₁ .loop .inv .1 .same, c₂ .pre .1)
-
-add-k : tie.Need-add-k Inv-loop μ-loop
-add-k c = omega arith
-
-loop-less : tie.Need-loop-less Inv-loop μ-loop
-loop-less c = omega arith
 
 loop-again : tie.Need-loop-again Inv-loop μ-loop
 loop-again c =
@@ -66,11 +57,11 @@ exercise-row-spec =
     loop-holds
     mul-expiry-value
     shared-slice-read-expiry-value
-    expiry-value-requires
+    (λ c κs. search needs)
     mul-option
     slice-write-option
-    add-k
-    loop-less
+    (λ c. omega arith)
+    (λ c. omega arith)
     loop-again
     same-length
     returns)

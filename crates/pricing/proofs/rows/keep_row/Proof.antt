@@ -21,9 +21,6 @@ loop-holds c = (omega arith, laying-start _ _ _)
 mul-kept : tie.Need-mul-kept Inv-loop μ-loop
 mul-kept c = omega (arith, c .before .before .pre .0)
 
-element-copy-out-kept : tie.Need-element-copy-out-kept Inv-loop μ-loop
-element-copy-out-kept c = search needs
-
 sub-kept : tie.Need-sub-kept Inv-loop μ-loop
 sub-kept c = omega (arith, c .before .before .before .pre .2 (c .before .before .loop .k) (omega arith))
 
@@ -35,12 +32,6 @@ mul-kept-2 c = omega (arith, c .before .before .loop .inv .1 .same, c .before .b
 
 slice-write-kept : tie.Need-slice-write-kept Inv-loop μ-loop
 slice-write-kept c = omega (arith, c .before .before .loop .inv .1 .same, c .before .before .before .pre .1)
-
-add-k : tie.Need-add-k Inv-loop μ-loop
-add-k c = search needs
-
-loop-less : tie.Need-loop-less Inv-loop μ-loop
-loop-less c = search needs
 
 loop-again : tie.Need-loop-again Inv-loop μ-loop
 loop-again c =
@@ -63,13 +54,13 @@ keep-row-spec =
     μ-loop
     loop-holds
     mul-kept
-    element-copy-out-kept
+    (λ c. search needs)
     sub-kept
     add-kept
     mul-kept-2
     slice-write-kept
-    add-k
-    loop-less
+    (λ c. search needs)
+    (λ c. search needs)
     loop-again
     same-length
     returns)

@@ -102,9 +102,6 @@ roll-node-requires-2 c κs =
     let asks = rolls node _ (c .before .before .before .before .before .before .before .before .before .before .before .pre .2) in
     (asks .0, asks .1, asks .2, discounted node)
 
-held-value-requires : tie.Need-held-value-requires Inv-loop μ-loop
-held-value-requires c κs = search needs
-
 add-value : tie.Need-add-value Inv-loop μ-loop
 add-value c =
     let flow = c .before .before .before .before .before .before .before .before .before .before .before .before .before .pre .5 in
@@ -142,12 +139,6 @@ mul-option c = let at = room c .1 in omega arith
 
 slice-write-option : tie.Need-slice-write-option Inv-loop μ-loop
 slice-write-option c = room c .1
-
-larger-requires : tie.Need-larger-requires Inv-loop μ-loop
-larger-requires c κs = search needs
-
-larger-requires-2 : tie.Need-larger-requires-2 Inv-loop μ-loop
-larger-requires-2 c κs = search needs
 
 add-k : tie.Need-add-k Inv-loop μ-loop
 add-k c = omega (arith, c .before .before .before .before .before .before .before .loop-test .taken)
@@ -193,14 +184,14 @@ option-nodes-spec =
     shared-slice-read-discount
     roll-node-requires
     roll-node-requires-2
-    held-value-requires
+    (λ c κs. search needs)
     add-value
     mul-bond
     slice-write-bond
     mul-option
     slice-write-option
-    larger-requires
-    larger-requires-2
+    (λ c κs. search needs)
+    (λ c κs. search needs)
     add-k
     loop-less
     loop-again

@@ -12,17 +12,8 @@ capped-option-row-requires c κs =
     let s = c .before .before .before .before .before .before .before .before .before in
     (s .pre .0, s .pre .1, s .pre .2, s .pre .3, s .pre .4, s .pre .5, c .before .before .if1 .taken)
 
-same-length : tie.Need-same-length
-same-length c = search needs
-
-same-length-2 : tie.Need-same-length-2
-same-length-2 c = search needs
-
 returns : tie.Need-returns
 returns c = c .before .before .before .before .capped-option-row .ensures
-
-growing-requires : tie.Need-growing-requires
-growing-requires c κs = search needs
 
 option-nodes-requires : tie.Need-option-nodes-requires
 option-nodes-requires c κs =
@@ -38,12 +29,6 @@ option-nodes-requires c κs =
       rows-none _ _ _ _,
     )
 
-same-length-3 : tie.Need-same-length-3
-same-length-3 c = search needs
-
-same-length-4 : tie.Need-same-length-4
-same-length-4 c = search needs
-
 returns-2 : tie.Need-returns-2
 returns-2 c =
     let c₁ = c .before .before .before .before in
@@ -55,11 +40,11 @@ option-row-spec =
     tie.close
     (tie.spec
     capped-option-row-requires
-    same-length
-    same-length-2
+    (λ c. search needs)
+    (λ c. search needs)
     returns
-    growing-requires
+    (λ c κs. search needs)
     option-nodes-requires
-    same-length-3
-    same-length-4
+    (λ c. search needs)
+    (λ c. search needs)
     returns-2)

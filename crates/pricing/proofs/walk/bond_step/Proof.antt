@@ -17,9 +17,6 @@ long c = search needs
 later-long : (c : tie.After-bond-row-arg2) → length (now (c .before .before .before .before .before .args .later)) ≡ mostNodes
 later-long c = search needs
 
-row-shape-requires : tie.Need-row-shape-requires
-row-shape-requires c κs = search needs
-
 part-requires : tie.Need-part-requires
 part-requires c κs =
     let ready = c .before .before .before .before .before .pre .0 in
@@ -55,4 +52,4 @@ returns c =
     (table .part .ensures) _ _ _ _ (c .bond-row .ensures)
 
 pub bond-step-spec : {M : Type 1} → statement M
-bond-step-spec = tie.close (tie.spec row-shape-requires part-requires part-requires-2 bond-row-requires returns)
+bond-step-spec = tie.close (tie.spec (λ c κs. search needs) part-requires part-requires-2 bond-row-requires returns)

@@ -15,9 +15,6 @@ use borrow.Author.Needs.{needs}
 use Rattle.pricing.proofs.walk.exercise_step.Statement.{statement}
 use Rattle.pricing.proofs.walk.exercise_step.Tie as tie
 
-node-count-requires : tie.Need-node-count-requires
-node-count-requires c κs = search needs
-
 flow-of-requires : tie.Need-flow-of-requires
 flow-of-requires c κs = c .before .before .pre .2
 
@@ -42,4 +39,4 @@ returns c =
     ∙ ap (λ (x : ℕ). exercise (side (terms .call)) (terms .strike) (values (now (s .args .bond)) k - x)) (c₁ .flow-of .ensures)
 
 pub exercise-step-spec : {M : Type 1} → statement M
-exercise-step-spec = tie.close (tie.spec node-count-requires flow-of-requires exercise-row-requires returns)
+exercise-step-spec = tie.close (tie.spec (λ c κs. search needs) flow-of-requires exercise-row-requires returns)

@@ -21,20 +21,8 @@ Inv-loop tree downs discounts flows kept₀ bond₀ other₀ row₀ kept bond ot
 abbrev μ-loop : tie.MeasureT-loop
 μ-loop tree downs discounts flows kept₀ bond₀ other₀ row₀ kept bond other row = row
 
-empty-row-requires : tie.Need-empty-row-requires Inv-loop μ-loop
-empty-row-requires c κs = search needs
-
 flow-of-requires : tie.Need-flow-of-requires Inv-loop μ-loop
 flow-of-requires c κs = omega (arith, c .before .before .before .before .before .pre .0 .paid .count)
-
-slice-aggregate-fill-row : tie.Need-slice-aggregate-fill-row Inv-loop μ-loop
-slice-aggregate-fill-row c = search needs
-
-fill-row-requires : tie.Need-fill-row-requires Inv-loop μ-loop
-fill-row-requires c κs = search needs
-
-empty-row-requires-2 : tie.Need-empty-row-requires-2 Inv-loop μ-loop
-empty-row-requires-2 c κs = search needs
 
 loop-holds : tie.Need-loop-holds Inv-loop μ-loop
 loop-holds c =
@@ -46,9 +34,6 @@ loop-holds c =
       bonds-first _ _ _ _ (ready .tree) (ready .paid) _ (λ k h. filled .ensures k (search needs) ∙ flow .ensures),
       kept-none _ _ _ _ _ ready (now (s .args .kept)),
     )
-
-sub-row : tie.Need-sub-row Inv-loop μ-loop
-sub-row c = omega arith
 
 flow-of-requires-2 : tie.Need-flow-of-requires-2 Inv-loop μ-loop
 flow-of-requires-2 c κs =
@@ -220,13 +205,13 @@ keep-bond-spec =
     (tie.spec
     Inv-loop
     μ-loop
-    empty-row-requires
+    (λ c κs. search needs)
     flow-of-requires
-    slice-aggregate-fill-row
-    fill-row-requires
-    empty-row-requires-2
+    (λ c. search needs)
+    (λ c κs. search needs)
+    (λ c κs. search needs)
     loop-holds
-    sub-row
+    (λ c. omega arith)
     flow-of-requires-2
     keep-step-requires
     same-length

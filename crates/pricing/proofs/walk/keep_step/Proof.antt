@@ -18,9 +18,6 @@ long c = search needs
 later-long : (c : tie.After-bond-row-arg2) → length (now (c .before .before .before .before .before .before .args .later)) ≡ mostNodes
 later-long c = search needs
 
-row-shape-requires : tie.Need-row-shape-requires
-row-shape-requires c κs = search needs
-
 part-requires : tie.Need-part-requires
 part-requires c κs =
     let ready = c .before .before .before .before .before .before .pre .0 in
@@ -57,9 +54,6 @@ keep-row-requires c κs =
           (c .before .before .bond-row .ensures),
     )
 
-same-length : tie.Need-same-length
-same-length c = search needs
-
 returns : tie.Need-returns
 returns c =
     let c₁ = c .before .before .before .before .before in
@@ -76,4 +70,4 @@ returns c =
 pub keep-step-spec : {M : Type 1} → statement M
 keep-step-spec =
     tie.close
-    (tie.spec row-shape-requires part-requires part-requires-2 bond-row-requires keep-row-requires same-length returns)
+    (tie.spec (λ c κs. search needs) part-requires part-requires-2 bond-row-requires keep-row-requires (λ c. search needs) returns)

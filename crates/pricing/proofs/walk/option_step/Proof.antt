@@ -10,9 +10,6 @@ use borrow.Author.Needs.{needs}
 use Rattle.pricing.proofs.walk.option_step.Statement.{statement}
 use Rattle.pricing.proofs.walk.option_step.Tie as tie
 
-row-shape-requires : tie.Need-row-shape-requires
-row-shape-requires c κs = search needs
-
 -- where the row's shape is known
 abbrev start : tie.After-row-shape → tie.Start
 start c = c .before .before .before
@@ -68,4 +65,4 @@ returns c =
     (parted .before .part .ensures) _ _ _ (s .args .right .listed) _ _ _ _ _ (c .option-row .ensures)
 
 pub option-step-spec : {M : Type 1} → statement M
-option-step-spec = tie.close (tie.spec row-shape-requires part-requires part-requires-2 option-row-requires returns)
+option-step-spec = tie.close (tie.spec (λ c κs. search needs) part-requires part-requires-2 option-row-requires returns)

@@ -16,21 +16,12 @@ Inv-loop tree terms marks downs discounts flows bond₀ option₀ bonds₀ optio
 abbrev μ-loop : tie.MeasureT-loop
 μ-loop tree terms marks downs discounts flows bond₀ option₀ bonds₀ options₀ row₀ bond option bonds options row = row
 
-empty-row-requires : tie.Need-empty-row-requires Inv-loop μ-loop
-empty-row-requires c κs = search needs
-
 exercise-step-requires : tie.Need-exercise-step-requires Inv-loop μ-loop
 exercise-step-requires c κs =
     let s = c .before .before .before .before .before .before .before in
     let ready = s .pre .0 in
     let inside = s .pre .1 .last-inside in
     (ready .tree .reversion-within-limit, omega (arith, ready .tree .steps-within-limit), omega (arith, ready .paid .count))
-
-empty-row-requires-2 : tie.Need-empty-row-requires-2 Inv-loop μ-loop
-empty-row-requires-2 c κs = search needs
-
-empty-row-requires-3 : tie.Need-empty-row-requires-3 Inv-loop μ-loop
-empty-row-requires-3 c κs = search needs
 
 loop-holds : tie.Need-loop-holds Inv-loop μ-loop
 loop-holds c =
@@ -40,9 +31,6 @@ loop-holds c =
 -- where the loop goes on
 abbrev start : (c : tie.In-loop Inv-loop μ-loop) → tie.Start Inv-loop μ-loop
 start c = c .before .before .before .before .before .before .before .before .before .before .before .before
-
-sub-row : tie.Need-sub-row Inv-loop μ-loop
-sub-row c = omega arith
 
 option-step-at-requires : tie.Need-option-step-at-requires Inv-loop μ-loop
 option-step-at-requires c κs =
@@ -57,9 +45,6 @@ option-step-requires c κs =
     let l = in-loop .before .loop in
     turn-both-ready _ _ _ _ _ (start in-loop .pre .0) _ _ (start in-loop .pre .1) (l .row) (l .bond) (l .option) (in-loop .loop-test .taken) (l .inv) _
     (stepped .option-step-at .ensures)
-
-over-requires : tie.Need-over-requires Inv-loop μ-loop
-over-requires c κs = search needs
 
 -- where the first row of the turn was rolled
 abbrev in-turn : tie.After-option-step Inv-loop μ-loop → tie.In-loop Inv-loop μ-loop
@@ -86,9 +71,6 @@ first c =
     let l = in-loop .before .loop in
     turn-both-next _ _ _ _ _ (start in-loop .pre .0) _ _ (start in-loop .pre .1) (l .row) (l .bond) (l .option) (in-loop .loop-test .taken) (l .inv) _
     (rolled .before .before .before .before .before .option-step-at .ensures) _ _ _ (rolled .option-step .ensures) (c .if1 .left)
-
-at-root-requires : tie.Need-at-root-requires Inv-loop μ-loop
-at-root-requires c κs = search needs
 
 returns-2 : tie.Need-returns-2 Inv-loop μ-loop
 returns-2 c =
@@ -117,9 +99,6 @@ option-step-requires-2 c κs =
     let s = start (in-turn (second .before .before)) in
     turn-both-ready _ _ _ _ _ (s .pre .0) _ _ (s .pre .1) _ _ _ (again second) (first (second .before)) _ (stepped .option-step-at2 .ensures)
 
-over-requires-2 : tie.Need-over-requires-2 Inv-loop μ-loop
-over-requires-2 c κs = search needs
-
 returns-3 : tie.Need-returns-3 Inv-loop μ-loop
 returns-3 c =
     let rolled = c .before .before in
@@ -142,9 +121,6 @@ loop-again c =
     turn-both-next _ _ _ _ _ (s .pre .0) _ _ (s .pre .1) _ _ _ (again second) (first (second .before)) _ (stepped .option-step-at2 .ensures) _ _ _
     (rolled .option-step2 .ensures) (c .if3 .left)
 
-at-root-requires-2 : tie.Need-at-root-requires-2 Inv-loop μ-loop
-at-root-requires-2 c κs = search needs
-
 returns-4 : tie.Need-returns-4 Inv-loop μ-loop
 returns-4 c =
     let ended = c .before .before .before in
@@ -159,24 +135,24 @@ roll-option-spec =
     (tie.spec
     Inv-loop
     μ-loop
-    empty-row-requires
+    (λ c κs. search needs)
     exercise-step-requires
-    empty-row-requires-2
-    empty-row-requires-3
+    (λ c κs. search needs)
+    (λ c κs. search needs)
     loop-holds
-    sub-row
+    (λ c. omega arith)
     option-step-at-requires
     option-step-requires
-    over-requires
+    (λ c κs. search needs)
     returns
-    at-root-requires
+    (λ c κs. search needs)
     returns-2
     sub-row-2
     option-step-at-requires-2
     option-step-requires-2
-    over-requires-2
+    (λ c κs. search needs)
     returns-3
     loop-less
     loop-again
-    at-root-requires-2
+    (λ c κs. search needs)
     returns-4)

@@ -10,9 +10,6 @@ use borrow.Author.Needs.{needs}
 use Rattle.pricing.proofs.walk.strike_step.Statement.{statement}
 use Rattle.pricing.proofs.walk.strike_step.Tie as tie
 
-row-shape-requires : tie.Need-row-shape-requires
-row-shape-requires c κs = search needs
-
 part-requires : tie.Need-part-requires
 part-requires c κs =
     let ready = c .before .before .before .before .pre .0 in
@@ -65,7 +62,7 @@ pub strike-step-spec : {M : Type 1} → statement M
 strike-step-spec =
     tie.close
     (tie.spec
-    row-shape-requires
+    (λ c κs. search needs)
     part-requires
     part-requires-2
     part-requires-3
