@@ -11,7 +11,7 @@ use Rattle.arithmetic.specs.Row.{values}
 use Rattle.arithmetic.specs.Answers.{lowestCause}
 use Rattle.arithmetic.specs.declared.Answer.{Answer}
 use Rattle.arithmetic.proofs.CauseLaws.{lowest-none}
-use Rattle.limits.specs.Limits.{mostSteps, limitCause}
+use Rattle.limits.specs.Limits.{mostSteps, mostReversion, mostNodes, limitCause}
 use Rattle.limits.proofs.LimitLaws.{limit-kept, limit-accepted}
 use Rattle.lattice.specs.Shape.{halfWidth, nodeCount}
 use Rattle.lattice.specs.Entries.{aboutRow, tableOf}
@@ -42,17 +42,17 @@ use Rattle.pricing.specs.inside.Trees.{downTable, TreeBounded, Exercisab
 use Rattle.pricing.proofs.TreeRows.{table-size}
 
 -- what the lattice answers about row n
-module _ (n b : ℕ) (hn : n ≤ 60) (hb : b ≤ 6000) (a : Answer) where
+module _ (n b : ℕ) (hn : n ≤ mostSteps) (hb : b ≤ mostReversion) (a : Answer) where
   pub answer-value : (x : ℕ) → a ≡ aboutRow b n x → a .value ≡ x
   answer-value x e = ap (λ (y : Answer). y .value) (e ∙ row-found b n x hb hn)
 
-  pub widest-fits : a ≡ aboutRow b n (halfWidth b n) → 2 * a .value + 1 ≤ 121
+  pub widest-fits : a ≡ aboutRow b n (halfWidth b n) → 2 * a .value + 1 ≤ mostNodes
   unfolding nodeCount
   widest-fits e = omega (arith, answer-value (halfWidth b n) e, count-within b n hn)
 
   -- the table that the lattice fills at the start of a row is the table of row n
   pub table-filled :
-      (t after : List ℕ) → length t ≡ 121 → a ≡ aboutRow b n (halfWidth b n) → after ≡ tableOf b (a .value) (take (2 * a .value + 1) t) →
+      (t after : List ℕ) → length t ≡ mostNodes → a ≡ aboutRow b n (halfWidth b n) → after ≡ tableOf b (a .value) (take (2 * a .value + 1) t) →
       take (nodeCount b n) (after ++ drop (2 * a .value + 1) t) ≡ downTable n b
   unfolding nodeCount downTable
   table-filled t after room e et =

@@ -71,7 +71,7 @@ module _ (n b : ℕ) (downs discounts flows : List ℕ) (ready : Ready n b downs
     (terms : Terms) (marks : List ℕ) (x : Exercisable terms n marks) where
   -- on the last row: the exercise values
   pub both-first : (bond option : List ℕ) → BondRolled n b discounts flows (terms .last) 0 bond →
-      Holds option 121 (λ k. exercise (side (terms .call)) (terms .strike) (values bond k - flowAt flows (terms .last))) →
+      Holds option (nodeCount b (terms .last)) (λ k. exercise (side (terms .call)) (terms .strike) (values bond k - flowAt flows (terms .last))) →
       Both n b discounts flows terms marks (terms .last) bond option
   unfolding marked
   both-first bond option rolled h =

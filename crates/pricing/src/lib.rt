@@ -52,7 +52,7 @@ pub(crate) fn refused(number: u64) -> Price
 }
 
 // The table of down-probabilities, worked out once for all rows.
-fn table_of(steps: usize, reversion: u64) -> [u64; 121]
+fn table_of(steps: usize, reversion: u64) -> [u64; limits::MOST_NODES]
     requires { ⌜ (steps ≤ mostSteps) × (reversion ≤ mostReversion) ⌝ }
     ensures { λ r. ⌜ take (nodeCount reversion steps) r ≡ downTable steps reversion ⌝ }
 {
@@ -412,7 +412,7 @@ fn accepted_strip(
 {
     let nodes = lattice::node_count(tree.reversion, tree.steps).value as usize;
     let table = table_of(tree.steps, tree.reversion);
-    let mut kept = strips::empty_rows();
+    let mut kept = limits::discount_room();
     let bond = walk::keep_bond(tree, &table[..nodes], discounts, flows, &mut kept);
     let marks = exercise_dates::marks_of(dates);
     let shared = Shared {

@@ -29,12 +29,6 @@ returns c =
     combined-refused _ _ _ _ _ (c .before .before .before .loop .row) (c .before .before .loop-test .taken)
     (sym (c .before .is-discounted .ensures) ∙ not-true _ (c .if1 .taken))
 
-add-row : tie.Need-add-row Inv-loop μ-loop
-add-row c = omega arith
-
-loop-less : tie.Need-loop-less Inv-loop μ-loop
-loop-less c = omega arith
-
 loop-again : tie.Need-loop-again Inv-loop μ-loop
 loop-again c =
     let l = c .before .before .before .loop in
@@ -52,7 +46,7 @@ combined-cause-spec =
     loop-holds
     is-discounted-requires
     returns
-    add-row
-    loop-less
+    (λ c. omega arith)
+    (λ c. omega arith)
     loop-again
     returns-2)

@@ -10,27 +10,6 @@ use Rattle.pair_laws.proofs.EntryLaws.{option-above, option-given}
 use Rattle.pair_pricing.proofs.accepted_option.Statement.{statement}
 use Rattle.pair_pricing.proofs.accepted_option.Tie as tie
 
-node-count-requires : tie.Need-node-count-requires
-node-count-requires c κs = search needs
-
-table-of-requires : tie.Need-table-of-requires
-table-of-requires c κs = search needs
-
-node-count-requires-2 : tie.Need-node-count-requires-2
-node-count-requires-2 c κs = search needs
-
-table-of-requires-2 : tie.Need-table-of-requires-2
-table-of-requires-2 c κs = search needs
-
-empty-square-requires : tie.Need-empty-square-requires
-empty-square-requires c κs = search needs
-
-empty-square-requires-2 : tie.Need-empty-square-requires-2
-empty-square-requires-2 c κs = search needs
-
-empty-square-requires-3 : tie.Need-empty-square-requires-3
-empty-square-requires-3 c κs = search needs
-
 array-share-prefix-rate-table : tie.Need-array-share-prefix-rate-table
 array-share-prefix-rate-table c =
     let table-of = c .before .before .before .before .before .table-of in
@@ -80,9 +59,6 @@ roll-option-requires c κs =
       s .pre .1,
     )
 
-refused-requires : tie.Need-refused-requires
-refused-requires c κs = search needs
-
 returns : tie.Need-returns
 returns c =
     let roll-option = c .before .before .roll-option in
@@ -93,9 +69,6 @@ returns c =
     c .refused .ensures
     ∙ option-above (t .steps) (t .rate) (t .spread) (now (s .args .rates)) (now (s .args .spreads)) (now (s .args .flows)) (s .pre .0)
     (side (m .call)) (m .strike) (marked (m .last) (now (s .args .marks))) _ _ _ (roll-option .ensures) (c .before .if1 .taken)
-
-array-read-t28 : tie.Need-array-read-t28
-array-read-t28 c = search needs
 
 error-bound-requires : tie.Need-error-bound-requires
 error-bound-requires c κs =
@@ -117,20 +90,20 @@ pub accepted-option-spec : {M : Type 1} → statement M
 accepted-option-spec =
     tie.close
     (tie.spec
-    node-count-requires
-    table-of-requires
-    node-count-requires-2
-    table-of-requires-2
-    empty-square-requires
-    empty-square-requires-2
-    empty-square-requires-3
+    (λ c κs. search needs)
+    (λ c κs. search needs)
+    (λ c κs. search needs)
+    (λ c κs. search needs)
+    (λ c κs. search needs)
+    (λ c κs. search needs)
+    (λ c κs. search needs)
     array-share-prefix-rate-table
     slice-aggregate-roll-option
     array-share-prefix-spread-table
     slice-aggregate-roll-option-2
     roll-option-requires
-    refused-requires
+    (λ c κs. search needs)
     returns
-    array-read-t28
+    (λ c. search needs)
     error-bound-requires
     returns-2)

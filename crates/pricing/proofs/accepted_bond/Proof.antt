@@ -7,15 +7,6 @@ use borrow.Author.Needs.{needs}
 use Rattle.pricing.proofs.accepted_bond.Statement.{statement}
 use Rattle.pricing.proofs.accepted_bond.Tie as tie
 
-node-count-requires : tie.Need-node-count-requires
-node-count-requires c κs = search needs
-
-table-of-requires : tie.Need-table-of-requires
-table-of-requires c κs = search needs
-
-empty-row-requires : tie.Need-empty-row-requires
-empty-row-requires c κs = search needs
-
 array-share-prefix-table : tie.Need-array-share-prefix-table
 array-share-prefix-table c =
     let tree = c .before .before .before .before .before .pre .0 in
@@ -42,14 +33,8 @@ roll-bond-requires c κs =
       omega arith,
     )
 
-refused-requires : tie.Need-refused-requires
-refused-requires c κs = search needs
-
 returns : tie.Need-returns
 returns c = c .refused .ensures ∙ bond-refused _ _ _ _ _ _ _ (c .before .before .roll-bond .ensures) (c .before .if1 .taken)
-
-array-read-t17 : tie.Need-array-read-t17
-array-read-t17 c = search needs
 
 returns-2 : tie.Need-returns-2
 returns-2 c = bond-given _ _ _ _ _ _ _ (c .before .roll-bond .ensures) (c .if1 .left)
@@ -58,13 +43,13 @@ pub accepted-bond-spec : {M : Type 1} → statement M
 accepted-bond-spec =
     tie.close
     (tie.spec
-    node-count-requires
-    table-of-requires
-    empty-row-requires
+    (λ c κs. search needs)
+    (λ c κs. search needs)
+    (λ c κs. search needs)
     array-share-prefix-table
     slice-aggregate-roll-bond
     roll-bond-requires
-    refused-requires
+    (λ c κs. search needs)
     returns
-    array-read-t17
+    (λ c. search needs)
     returns-2)

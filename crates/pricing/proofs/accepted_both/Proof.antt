@@ -6,9 +6,6 @@ use borrow.Author.Needs.{needs}
 use Rattle.pricing.proofs.accepted_both.Statement.{statement}
 use Rattle.pricing.proofs.accepted_both.Tie as tie
 
-node-count-requires : tie.Need-node-count-requires
-node-count-requires c κs = search needs
-
 table-of-requires : tie.Need-table-of-requires
 table-of-requires c κs = search needs
 
@@ -41,12 +38,6 @@ roll-both-requires c κs =
       s .pre .2,
     )
 
-accepted-bond-requires : tie.Need-accepted-bond-requires
-accepted-bond-requires c κs = search needs
-
-refused-requires : tie.Need-refused-requires
-refused-requires c κs = search needs
-
 returns : tie.Need-returns
 returns c =
     let over = c .before .before in (
@@ -63,12 +54,12 @@ pub accepted-both-spec : {M : Type 1} → statement M
 accepted-both-spec =
     tie.close
     (tie.spec
-    node-count-requires
+    (λ c κs. search needs)
     table-of-requires
     array-share-prefix-table
     slice-aggregate-roll-both
     roll-both-requires
-    accepted-bond-requires
-    refused-requires
+    (λ c κs. search needs)
+    (λ c κs. search needs)
     returns
     returns-2)

@@ -9,17 +9,8 @@ use borrow.Author.Needs.{needs}
 use Rattle.pricing.proofs.both_on_dates.Statement.{statement}
 use Rattle.pricing.proofs.both_on_dates.Tie as tie
 
-terms-cause-requires : tie.Need-terms-cause-requires
-terms-cause-requires c κs = search needs
-
-dates-cause-requires : tie.Need-dates-cause-requires
-dates-cause-requires c κs = search needs
-
 lowest-cause-requires : tie.Need-lowest-cause-requires
 lowest-cause-requires c κs = search needs
-
-terms-on-requires : tie.Need-terms-on-requires
-terms-on-requires c κs = search needs
 
 -- where the option's cause is known
 abbrev start : tie.After-lowest-cause → tie.Start
@@ -41,9 +32,9 @@ pub both-on-dates-spec : {M : Type 1} → statement M
 both-on-dates-spec =
     tie.close
     (tie.spec
-    terms-cause-requires
-    dates-cause-requires
+    (λ c κs. search needs)
+    (λ c κs. search needs)
     lowest-cause-requires
-    terms-on-requires
+    (λ c κs. search needs)
     judged-both-requires
     returns)

@@ -14,12 +14,6 @@ use borrow.Author.Needs.{needs}
 use Rattle.pricing.proofs.judged_both.Statement.{statement}
 use Rattle.pricing.proofs.judged_both.Tie as tie
 
-refused-requires : tie.Need-refused-requires
-refused-requires c κs = search needs
-
-refused-requires-2 : tie.Need-refused-requires-2
-refused-requires-2 c κs = search needs
-
 returns : tie.Need-returns
 returns c =
     let refusing = c .before .before in
@@ -41,9 +35,6 @@ tree c = tree-lent _ _ _ _ (none c)
 accepted-bond-requires : tie.Need-accepted-bond-requires
 accepted-bond-requires c κs = (tree (c .before), tree-paid _ _ _ _ (none (c .before)))
 
-refused-requires-3 : tie.Need-refused-requires-3
-refused-requires-3 c κs = search needs
-
 returns-2 : tie.Need-returns-2
 returns-2 c =
     let refusing = c .before .before in (
@@ -54,12 +45,6 @@ returns-2 c =
 -- where there is no cause about the option either
 exercised : (c : tie.Else2) → let a = start (c .before) .args in ExercisedOn (a .terms) (a .tree .steps) (now (a .dates))
 exercised c = start (c .before) .pre .1 (c .if2 .left) (tree (c .before) .steps-within-limit)
-
-marks-of-requires : tie.Need-marks-of-requires
-marks-of-requires c κs = search needs
-
-slice-aggregate-accepted-both : tie.Need-slice-aggregate-accepted-both
-slice-aggregate-accepted-both c = search needs
 
 accepted-both-requires : tie.Need-accepted-both-requires
 accepted-both-requires c κs =
@@ -85,13 +70,13 @@ pub judged-both-spec : {M : Type 1} → statement M
 judged-both-spec =
     tie.close
     (tie.spec
-    refused-requires
-    refused-requires-2
+    (λ c κs. search needs)
+    (λ c κs. search needs)
     returns
     accepted-bond-requires
-    refused-requires-3
+    (λ c κs. search needs)
     returns-2
-    marks-of-requires
-    slice-aggregate-accepted-both
+    (λ c κs. search needs)
+    (λ c. search needs)
     accepted-both-requires
     returns-3)

@@ -7,12 +7,6 @@ use borrow.Author.Needs.{needs}
 use Rattle.pricing.proofs.judged_strip.Statement.{statement}
 use Rattle.pricing.proofs.judged_strip.Tie as tie
 
-strip-cause-requires : tie.Need-strip-cause-requires
-strip-cause-requires c κs = search needs
-
-refused-strip-requires : tie.Need-refused-strip-requires
-refused-strip-requires c κs = search needs
-
 returns : tie.Need-returns
 returns c = c .refused-strip .ensures ∙ strip-refused _ _ _ _ _ (c .before .before .strip-cause .ensures) (c .before .if1 .taken)
 
@@ -41,8 +35,8 @@ pub judged-strip-spec : {M : Type 1} → statement M
 judged-strip-spec =
     tie.close
     (tie.spec
-    strip-cause-requires
-    refused-strip-requires
+    (λ c κs. search needs)
+    (λ c κs. search needs)
     returns
     refused-prices-requires
     returns-2

@@ -20,12 +20,6 @@ by-later : (count found cause : ℕ) → found ≡ 0 → stripOf count (λ k. re
 unfolding firstCause
 by-later count found cause z = rw (eq-eqb found 0 z)
 
-strip-cause-requires : tie.Need-strip-cause-requires
-strip-cause-requires c κs = search needs
-
-refused-strip-requires : tie.Need-refused-strip-requires
-refused-strip-requires c κs = search needs
-
 returns : tie.Need-returns
 returns c = c .refused-strip .ensures ∙ strip-refused _ _ _ _ _ (c .before .before .strip-cause .ensures) (c .before .if1 .taken)
 
@@ -49,8 +43,8 @@ pub refused-kind-spec : {M : Type 1} → statement M
 refused-kind-spec =
     tie.close
     (tie.spec
-    strip-cause-requires
-    refused-strip-requires
+    (λ c κs. search needs)
+    (λ c κs. search needs)
     returns
     refused-prices-requires
     returns-2

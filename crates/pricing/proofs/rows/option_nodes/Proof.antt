@@ -7,6 +7,8 @@ use native.Mathlib.Omega.{arith}
 use lib.ListN.{length}
 use denote.Ref.{now}
 use Rattle.arithmetic.specs.Row.{values}
+use Rattle.tree.specs.Tree.{probabilityTotal}
+use Rattle.limits.specs.Limits.{mostDiscount}
 use Rattle.exercise.specs.Terms.{side}
 use Rattle.row_branches.specs.RowBranches.{rowBranch}
 use Rattle.row_branches.specs.inside.Transitions.{branchTotal}
@@ -74,7 +76,7 @@ branch c = span-is _ (now (c .before .before .before .before .before .before .be
 rolls : (c : tie.After-shared-slice-known5 Inv-loop μ-loop) (later : List ℕ) → Later later
     (c .before .before .before .before .before .before .before .before .before .before .args .span .next) →
     let branch = c .before .span-branch .result in
-    (branch .low + 2 < length later) × (branchTotal branch ≡ 600000000) × Limited later (branch .low + 3)
+    (branch .low + 2 < length later) × (branchTotal branch ≡ probabilityTotal) × Limited later (branch .low + 3)
 rolls c later l =
     let ready = c .before .before .before .before .before .before .before .before .before .before .pre .0 in
     let e = branch c in (
@@ -85,7 +87,7 @@ rolls c later l =
 
 discounted : (c : tie.After-shared-slice-known5 Inv-loop μ-loop) → values
     (now (c .before .before .before .before .before .before .before .before .before .before .args .discounts)) (c .before .before .before .loop .k)
-    ≤ 1100000000
+    ≤ mostDiscount
 discounted c = c .before .before .before .before .before .before .before .before .before .before .pre .0 .discounted
     (c .before .before .before .loop .k) (inside c)
 
@@ -99,9 +101,6 @@ roll-node-requires-2 c κs =
     let node = c .before in
     let asks = rolls node _ (c .before .before .before .before .before .before .before .before .before .before .before .pre .2) in
     (asks .0, asks .1, asks .2, discounted node)
-
-held-value-requires : tie.Need-held-value-requires Inv-loop μ-loop
-held-value-requires c κs = search needs
 
 add-value : tie.Need-add-value Inv-loop μ-loop
 add-value c =
@@ -140,12 +139,6 @@ mul-option c = let at = room c .1 in omega arith
 
 slice-write-option : tie.Need-slice-write-option Inv-loop μ-loop
 slice-write-option c = room c .1
-
-larger-requires : tie.Need-larger-requires Inv-loop μ-loop
-larger-requires c κs = search needs
-
-larger-requires-2 : tie.Need-larger-requires-2 Inv-loop μ-loop
-larger-requires-2 c κs = search needs
 
 add-k : tie.Need-add-k Inv-loop μ-loop
 add-k c = omega (arith, c .before .before .before .before .before .before .before .loop-test .taken)
@@ -191,14 +184,14 @@ option-nodes-spec =
     shared-slice-read-discount
     roll-node-requires
     roll-node-requires-2
-    held-value-requires
+    (λ c κs. search needs)
     add-value
     mul-bond
     slice-write-bond
     mul-option
     slice-write-option
-    larger-requires
-    larger-requires-2
+    (λ c κs. search needs)
+    (λ c κs. search needs)
     add-k
     loop-less
     loop-again

@@ -16,15 +16,6 @@ returns : tie.Need-returns
 returns c = row-done _ _ _ _ (c .before .before .before .before .before .before .args .index) _
     (row-resume _ _ _ _ (c .before .before .before .before .before .before .pre .6)) (omega (arith, c .if1 .taken))
 
-row-branch-requires : tie.Need-row-branch-requires
-row-branch-requires c κs = search needs
-
-mul-roll-node : tie.Need-mul-roll-node
-mul-roll-node c = search needs
-
-shared-slice-read-roll-node : tie.Need-shared-slice-read-roll-node
-shared-slice-read-roll-node c = search needs
-
 -- the node stands in the row
 inside : (c : tie.Else1) → c .before .before .before .before .before .before .args .index < length
     (now (c .before .before .before .before .before .before .args .discounts))
@@ -40,27 +31,6 @@ roll-node-requires c κs =
       branch-limited _ _ (now (s .args .options)) _ _ (s .pre .0) (s .pre .1) h _ e,
       s .pre .0 .discounted (s .args .index) h,
     )
-
-mul-held-value : tie.Need-mul-held-value
-mul-held-value c = search needs
-
-shared-slice-read-held-value : tie.Need-shared-slice-read-held-value
-shared-slice-read-held-value c = search needs
-
-held-value-requires : tie.Need-held-value-requires
-held-value-requires c κs = search needs
-
-mul-option : tie.Need-mul-option
-mul-option c = search needs
-
-slice-write-option : tie.Need-slice-write-option
-slice-write-option c = search needs
-
-larger-requires : tie.Need-larger-requires
-larger-requires c κs = search needs
-
-same-length : tie.Need-same-length
-same-length c = search needs
 
 returns-2 : tie.Need-returns-2
 returns-2 c =
@@ -80,15 +50,15 @@ strike-edge-spec =
     tie.close
     (tie.spec
     returns
-    row-branch-requires
-    mul-roll-node
-    shared-slice-read-roll-node
+    (λ c κs. search needs)
+    (λ c. search needs)
+    (λ c. search needs)
     roll-node-requires
-    mul-held-value
-    shared-slice-read-held-value
-    held-value-requires
-    mul-option
-    slice-write-option
-    larger-requires
-    same-length
+    (λ c. search needs)
+    (λ c. search needs)
+    (λ c κs. search needs)
+    (λ c. search needs)
+    (λ c. search needs)
+    (λ c κs. search needs)
+    (λ c. search needs)
     returns-2)

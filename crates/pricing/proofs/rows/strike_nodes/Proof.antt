@@ -71,9 +71,6 @@ shared-slice-read-held-value c = omega (
   c .before .before .before .before .before .before .before .before .before .before .before .pre .4 .ends,
 )
 
-held-value-requires : tie.Need-held-value-requires Inv-loop μ-loop
-held-value-requires c κs = search needs
-
 mul-option : tie.Need-mul-option Inv-loop μ-loop
 mul-option c = omega (
   arith,
@@ -89,15 +86,6 @@ slice-write-option c = omega (
   c .before .before .before .before .before .before .before .before .before .before .before .before .pre .3,
   c .before .before .before .before .before .before .before .before .before .before .before .before .pre .4 .ends,
 )
-
-larger-requires : tie.Need-larger-requires Inv-loop μ-loop
-larger-requires c κs = search needs
-
-add-k : tie.Need-add-k Inv-loop μ-loop
-add-k c = omega arith
-
-loop-less : tie.Need-loop-less Inv-loop μ-loop
-loop-less c = omega arith
 
 loop-again : tie.Need-loop-again Inv-loop μ-loop
 loop-again c =
@@ -135,12 +123,12 @@ strike-nodes-spec =
     roll-node-requires
     mul-held-value
     shared-slice-read-held-value
-    held-value-requires
+    (λ c κs. search needs)
     mul-option
     slice-write-option
-    larger-requires
-    add-k
-    loop-less
+    (λ c κs. search needs)
+    (λ c. omega arith)
+    (λ c. omega arith)
     loop-again
     same-length
     returns)

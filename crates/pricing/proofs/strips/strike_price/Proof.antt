@@ -11,12 +11,6 @@ use borrow.Author.Needs.{needs}
 use Rattle.pricing.proofs.strips.strike_price.Statement.{statement}
 use Rattle.pricing.proofs.strips.strike_price.Tie as tie
 
-terms-cause-requires : tie.Need-terms-cause-requires
-terms-cause-requires c κs = search needs
-
-lowest-cause-requires : tie.Need-lowest-cause-requires
-lowest-cause-requires c κs = search needs
-
 -- the cause about the strike and the list
 cause : (c : tie.After-lowest-cause) → let a = c .before .before .before .before .before .before .before .before .args in
     c .lowest-cause .result ≡ datedCause (a .shared .steps) (a .shared .side) (now (a .dates)) (a .strike)
@@ -24,18 +18,12 @@ cause c =
     let c₁ = c .before .before .before .before .before .before .before .before in
     dated-cause-is _ _ _ _ _ _ _ (c .before .terms-cause .ensures) (c₁ .pre .list-is) (c .lowest-cause .ensures)
 
-refused-requires : tie.Need-refused-requires
-refused-requires c κs = search needs
-
 returns : tie.Need-returns
 returns c =
     let c₁ = c .before .before in
     let c₂ = c₁ .before .before .before .before .before .before .before .before in
     c .refused .ensures
     ∙ strike-refused _ _ _ _ _ _ _ _ (c₂ .pre .none) (cause c₁) _ (c .before .if1 .taken)
-
-refused-requires-2 : tie.Need-refused-requires-2
-refused-requires-2 c κs = search needs
 
 returns-2 : tie.Need-returns-2
 returns-2 c =
@@ -49,9 +37,6 @@ returns-2 c =
     (datedTerms (s .args .shared .side) (now (s .args .dates)) (s .args .strike)) refl _ (s .pre .marks-are) (ready .tree) (ready .paid) _
     (s .pre .bond-is .cause) (c .before .if2 .taken)
 
-terms-on-requires : tie.Need-terms-on-requires
-terms-on-requires c κs = search needs
-
 roll-strike-requires : tie.Need-roll-strike-requires
 roll-strike-requires c κs =
     let c₁ = c .before .before .before in
@@ -63,9 +48,6 @@ roll-strike-requires c κs =
     exercisable _ _ _ _ _ _ _ _ (s .pre .none) (cause c₂) (s .args .shared .bound) (c₁ .if1 .left) (ready .tree .steps-within-limit) _ (c .terms-on .ensures) _
     (s .pre .marks-are) in
     (ready, on .0, on .1, kept-through _ _ _ _ _ _ (s .pre .bond-is) (c .before .if2 .left), s .pre .room)
-
-refused-requires-3 : tie.Need-refused-requires-3
-refused-requires-3 c κs = search needs
 
 returns-3 : tie.Need-returns-3
 returns-3 c =
@@ -96,14 +78,14 @@ pub strike-price-spec : {M : Type 1} → statement M
 strike-price-spec =
     tie.close
     (tie.spec
-    terms-cause-requires
-    lowest-cause-requires
-    refused-requires
+    (λ c κs. search needs)
+    (λ c κs. search needs)
+    (λ c κs. search needs)
     returns
-    refused-requires-2
+    (λ c κs. search needs)
     returns-2
-    terms-on-requires
+    (λ c κs. search needs)
     roll-strike-requires
-    refused-requires-3
+    (λ c κs. search needs)
     returns-3
     returns-4)

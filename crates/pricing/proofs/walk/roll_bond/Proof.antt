@@ -20,12 +20,6 @@ abbrev μ-loop : tie.MeasureT-loop
 flow-of-requires : tie.Need-flow-of-requires Inv-loop μ-loop
 flow-of-requires c κs = omega (arith, c .before .before .before .pre .0 .paid .count)
 
-fill-row-requires : tie.Need-fill-row-requires Inv-loop μ-loop
-fill-row-requires c κs = search needs
-
-empty-row-requires : tie.Need-empty-row-requires Inv-loop μ-loop
-empty-row-requires c κs = search needs
-
 loop-holds : tie.Need-loop-holds Inv-loop μ-loop
 loop-holds c =
     let filled = c .before in
@@ -36,9 +30,6 @@ loop-holds c =
 -- where the loop goes on
 abbrev start : tie.In-loop Inv-loop μ-loop → tie.Start Inv-loop μ-loop
 start c = c .before .before .before .before .before .before .before .before .before
-
-sub-row : tie.Need-sub-row Inv-loop μ-loop
-sub-row c = omega arith
 
 some : (c : tie.In-loop Inv-loop μ-loop) → 0 < c .before .loop .row
 some c = omega (arith, c .loop-test .taken)
@@ -139,10 +130,10 @@ roll-bond-spec =
     Inv-loop
     μ-loop
     flow-of-requires
-    fill-row-requires
-    empty-row-requires
+    (λ c κs. search needs)
+    (λ c κs. search needs)
     loop-holds
-    sub-row
+    (λ c. omega arith)
     flow-of-requires-2
     bond-step-requires
     returns

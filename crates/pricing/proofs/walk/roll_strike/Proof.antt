@@ -5,6 +5,7 @@ use Prim.Native.Nat.{_-_, _<_}
 use native.Mathlib.Omega.{arith}
 use lib.ListN.{length}
 use denote.Ref.{now}
+use Rattle.limits.specs.Limits.{mostNodes}
 use Rattle.pricing.proofs.StripTurns.{Alone, last-room, last-short, alone-start, alone-before, alone-ready, turn-alone-over, turn-alone-next}
 use Rattle.pricing.proofs.StripTurns.{alone-done, beside-answer}
 use borrow.Author.Needs.{needs}
@@ -18,21 +19,12 @@ Inv-loop tree terms marks downs discounts flows kept option₀ other₀ row₀ o
 abbrev μ-loop : tie.MeasureT-loop
 μ-loop tree terms marks downs discounts flows kept option₀ other₀ row₀ option other row = row
 
-row-shape-requires : tie.Need-row-shape-requires Inv-loop μ-loop
-row-shape-requires c κs = search needs
-
-empty-row-requires : tie.Need-empty-row-requires Inv-loop μ-loop
-empty-row-requires c κs = search needs
-
 part-requires : tie.Need-part-requires Inv-loop μ-loop
 part-requires c κs =
     let s = c .before .before .before .before .before .before .before in
     last-room _ _ _ _ _ (s .pre .0) _ _ (s .pre .1) (s .pre .2) _ (s .pre .3) (s .pre .4) _ (c .before .row-shape .ensures)
 
-slice-aggregate-first-row : tie.Need-slice-aggregate-first-row Inv-loop μ-loop
-slice-aggregate-first-row c = search needs
-
-option-long : (c : tie.After-part Inv-loop μ-loop) → length (c .before .empty-row .result) ≡ 121
+option-long : (c : tie.After-part Inv-loop μ-loop) → length (c .before .empty-row .result) ≡ mostNodes
 option-long c = search needs
 
 first-row-requires : tie.Need-first-row-requires Inv-loop μ-loop
@@ -42,9 +34,6 @@ first-row-requires c κs =
     let short =
     last-short _ _ _ _ _ (s .pre .0) _ _ (s .pre .1) (s .pre .2) _ (s .pre .3) (s .pre .4) _ (shaped .row-shape .ensures) _ (c .before .part .ensures) in
     omega (arith, short, option-long (c .before))
-
-empty-row-requires-2 : tie.Need-empty-row-requires-2 Inv-loop μ-loop
-empty-row-requires-2 c κs = search needs
 
 loop-holds : tie.Need-loop-holds Inv-loop μ-loop
 loop-holds c =
@@ -59,9 +48,6 @@ loop-holds c =
 -- where the loop goes on
 abbrev start : tie.In-loop Inv-loop μ-loop → tie.Start Inv-loop μ-loop
 start c = c .before .before .before .before .before .before .before .before .before .before .before .before .before .before
-
-sub-row : tie.Need-sub-row Inv-loop μ-loop
-sub-row c = omega arith
 
 option-step-at-requires : tie.Need-option-step-at-requires Inv-loop μ-loop
 option-step-at-requires c κs =
@@ -79,9 +65,6 @@ strike-step-requires c κs =
     alone-ready _ _ _ _ _ (s .pre .0) _ _ (s .pre .1) (s .pre .2) _ (s .pre .3) (s .pre .4) (l .row) (l .option) (in-loop .loop-test .taken) (l .inv) _
     (stepped .option-step-at .ensures) in
     (asks .0, asks .1, s .pre .4)
-
-past-limit-requires : tie.Need-past-limit-requires Inv-loop μ-loop
-past-limit-requires c κs = search needs
 
 returns : tie.Need-returns Inv-loop μ-loop
 returns c =
@@ -107,9 +90,6 @@ first c =
     let l = in-turn c .before .loop in
     turn-alone-next _ _ _ _ _ (s .pre .0) _ _ (s .pre .1) (s .pre .2) _ (s .pre .3) (s .pre .4) (l .row) (l .option) (in-turn c .loop-test .taken) (l .inv) _
     (c .before .before .before .before .option-step-at .ensures) _ _ (c .before .strike-step .ensures) (c .if1 .left)
-
-first-value-requires : tie.Need-first-value-requires Inv-loop μ-loop
-first-value-requires c κs = search needs
 
 returns-2 : tie.Need-returns-2 Inv-loop μ-loop
 returns-2 c =
@@ -140,9 +120,6 @@ strike-step-requires-2 c κs =
     (stepped .option-step-at2 .ensures) in
     (asks .0, asks .1, s .pre .4)
 
-past-limit-requires-2 : tie.Need-past-limit-requires-2 Inv-loop μ-loop
-past-limit-requires-2 c κs = search needs
-
 returns-3 : tie.Need-returns-3 Inv-loop μ-loop
 returns-3 c =
     let rolled = c .before .before in
@@ -165,9 +142,6 @@ loop-again c =
     turn-alone-next _ _ _ _ _ (s .pre .0) _ _ (s .pre .1) (s .pre .2) _ (s .pre .3) (s .pre .4) _ _ (again second) (first (second .before)) _
     (stepped .option-step-at2 .ensures) _ _ (rolled .strike-step2 .ensures) (c .if3 .left)
 
-first-value-requires-2 : tie.Need-first-value-requires-2 Inv-loop μ-loop
-first-value-requires-2 c κs = search needs
-
 returns-4 : tie.Need-returns-4 Inv-loop μ-loop
 returns-4 c =
     let after = c .before .before in
@@ -183,26 +157,26 @@ roll-strike-spec =
     (tie.spec
     Inv-loop
     μ-loop
-    row-shape-requires
-    empty-row-requires
+    (λ c κs. search needs)
+    (λ c κs. search needs)
     part-requires
-    slice-aggregate-first-row
+    (λ c. search needs)
     first-row-requires
-    empty-row-requires-2
+    (λ c κs. search needs)
     loop-holds
-    sub-row
+    (λ c. omega arith)
     option-step-at-requires
     strike-step-requires
-    past-limit-requires
+    (λ c κs. search needs)
     returns
-    first-value-requires
+    (λ c κs. search needs)
     returns-2
     sub-row-2
     option-step-at-requires-2
     strike-step-requires-2
-    past-limit-requires-2
+    (λ c κs. search needs)
     returns-3
     loop-less
     loop-again
-    first-value-requires-2
+    (λ c κs. search needs)
     returns-4)
