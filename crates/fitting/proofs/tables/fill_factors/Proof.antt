@@ -38,8 +38,8 @@ loop-again c =
     let near = c .before .loop-test .taken in (
       omega arith,
       around-next _ _ _ _ _ _ _ (loop .inv .1) near (omega (arith, s .pre .2, loop .inv .1 .same))
-      (laws.below-side _ _ _ (s .pre .1) near (c .both-sides .ensures))
-      (laws.above-side _ _ _ (s .pre .1) near (c .both-sides .ensures)),
+          (laws.below-side _ _ _ (s .pre .1) near (c .both-sides .ensures))
+          (laws.above-side _ _ _ (s .pre .1) near (c .both-sides .ensures)),
     )
 
 same-length : tie.Need-same-length Inv-loop μ-loop
