@@ -21,7 +21,8 @@ use Rattle.lattice.proofs.EntryLaws.{tree-found}
 use Rattle.lattice.proofs.Differences.{sub-is, sub-size}
 use Rattle.lattice.proofs.RateTreeLaws.{same-node}
 use Rattle.lattice.proofs.TableLaws.{table-fits}
-use Rattle.factor.specs.Factor.{factor, sideAnswer}
+use Rattle.factor.specs.declared.Sides.{Sides}
+use Rattle.factor.specs.Factor.{factor, sideAnswer, sidesAnswer}
 use Rattle.factor.proofs.FactorLaws.{index-below, index-above, side-accepted, nearer-within, factor-bounds}
 use Rattle.limits.specs.Limits.{mostSteps, isDiscount}
 use Rattle.fit_laws.specs.StatePrices.{acceptedRow}
@@ -38,19 +39,32 @@ use Rattle.lattice.proofs.ShapeLaws.{table-room, offset-is}
 abbrev pub factors-at : ℕ → ℕ → ℕ → ℕ
 factors-at w h k = factor (nodeOfIndex w k) h
 
--- the factor's entry on either side of the middle
-module _ (w k h : ℕ) {a : Answer} (within : w * h ≤ one) where
-  pub below-value : k < w → a ≡ sideAnswer (w - k) true h → a .value ≡ factor (nodeOfIndex w k) h
+-- the factors of both sides at a distance from the middle
+module _ (w k h : ℕ) (within : w * h ≤ one) where
+  below-value : k < w → sideAnswer (w - k) true h .value ≡ factors-at w h k
   unfolding nodeOfIndex
-  below-value l e =
-      ap (λ (x : Answer). x .value) (e ∙ side-accepted (w - k) true h (nearer-within (w - k) w h (omega arith) within))
+  below-value l =
+      ap (λ (x : Answer). x .value) (side-accepted (w - k) true h (nearer-within (w - k) w h (omega arith) within))
       ∙ sym (index-below w k h l) ∙ ap (λ (j : ℤ). factor j h) (sym (sub-is k w))
 
-  pub above-value : w ≤ k → k ≤ 2 * w → a ≡ sideAnswer (k - w) false h → a .value ≡ factor (nodeOfIndex w k) h
+  above-value : w ≤ k → k ≤ 2 * w → sideAnswer (k - w) false h .value ≡ factors-at w h k
   unfolding nodeOfIndex
-  above-value l m e =
-      ap (λ (x : Answer). x .value) (e ∙ side-accepted (k - w) false h (nearer-within (k - w) w h (omega arith) within))
+  above-value l m =
+      ap (λ (x : Answer). x .value) (side-accepted (k - w) false h (nearer-within (k - w) w h (omega arith) within))
       ∙ sym (index-above w k h l) ∙ ap (λ (j : ℤ). factor j h) (sym (sub-is k w))
+
+module _ (w d h : ℕ) {a : Sides} (within : w * h ≤ one) (near : d ≤ w) (e : a ≡ sidesAnswer d h) where
+  pub below-side : 0 < d → a .below ≡ factors-at w h (w - d)
+  unfolding sidesAnswer
+  below-side l =
+      let back : d ≡ w - (w - d) = omega arith in
+      ap (λ (x : Sides). x .below) e ∙ ap (λ (x : ℕ). sideAnswer x true h .value) back ∙ below-value w (w - d) h within (omega arith)
+
+  pub above-side : a .above ≡ factors-at w h (w + d)
+  unfolding sidesAnswer
+  above-side =
+      let back : d ≡ w + d - w = omega arith in
+      ap (λ (x : Sides). x .above) e ∙ ap (λ (x : ℕ). sideAnswer x false h .value) back ∙ above-value w (w + d) h within (omega arith) (omega arith)
 
 -- every node of a row has a factor within the bounds of the series
 table-bounds : (w k h : ℕ) → w * h ≤ one → k < 2 * w + 1 →

@@ -22,27 +22,17 @@ pub(crate) struct Grid {
     pub(crate) widest: usize,
 }
 
-// The factor of the node at an index of a row of this half width.
-fn factor_at(widest: usize, spacing: u64, index: usize) -> u64
-    requires { ⌜ (widest ≤ mostSteps) × (widest * spacing ≤ one) × (index ≤ 2 * widest) ⌝ }
-    ensures { λ r. ⌜ r ≡ factor (nodeOfIndex widest index) spacing ⌝ }
-{
-    if index < widest {
-        let below = factor::factor((widest - index) as u64, true, spacing);
-        return below.value;
-    }
-    let above = factor::factor((index - widest) as u64, false, spacing);
-    above.value
-}
-
+// The factors of a row, from the middle node outwards: one series gives those of both sides.
 fn fill_factors(widest: usize, spacing: u64, factors: &mut [u64])
     requires { ⌜ (widest ≤ mostSteps) × (widest * spacing ≤ one) × (length (now factors) ≡ 2 * widest + 1) ⌝ }
     ensures { λ _. ⌜ now (factors .exit) ≡ row (length (now (factors .entry))) (λ k. factor (nodeOfIndex widest k) spacing) ⌝ }
 {
-    let mut k: usize = 0;
-    while k < factors.len() {
-        factors[k] = factor_at(widest, spacing, k);
-        k += 1;
+    let mut distance: usize = 0;
+    while distance <= widest {
+        let sides = factor::both_sides(distance as u64, spacing);
+        factors[widest - distance] = sides.below;
+        factors[widest + distance] = sides.above;
+        distance += 1;
     }
 }
 

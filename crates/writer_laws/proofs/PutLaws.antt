@@ -7,7 +7,7 @@ use native.Mathlib.Omega.{arith}
 use mathlib.Core.List.{List, [], _∷_, _++_, append-assoc}
 use mathlib.Core.Path.{_≡_, refl, sym, ap, _∙_}
 use lib.ListN.{length, getD, take, drop, set, length-append, take-append-drop}
-use lib.Seq.{length-take-le, take-at, take-suc, drop-append-add, drop-drop, set-split}
+use lib.Seq.{length-take-le, take-at, drop-at, take-suc, take-set-le, drop-append-add, drop-drop, set-split}
 use Rattle.arithmetic.specs.Row.{place}
 use Rattle.arithmetic.proofs.PlaceLaws.{length-place}
 use Rattle.job_record.specs.Bytes.{numberBytes}
@@ -50,28 +50,33 @@ pub set-place : (out : List ℕ) (i x : ℕ) → i < length out → set out i x 
 unfolding place
 set-place out i x h = rw add-one (set-split out i x h)
 
--- no byte of a number, and its last one
+-- no byte of a number; and its last byte, with the others placed before it
 pub number-none : (out : List ℕ) (at width value : ℕ) → width ≤ 0 → out ≡ place out at (numberBytes width value)
 unfolding numberBytes
 number-none out at width value h =
     let none : width ≡ 0 = omega arith in
     rw none (sym (place-none out at))
 
+number-before :
+    (out : List ℕ) (at k value : ℕ) → at + suc k ≤ length out
+    → place (set out (at + k) (value % 256)) at (numberBytes k (value / 256)) ≡ place out at (numberBytes (suc k) value)
+unfolding place numberBytes
+number-before out at k value h =
+    let a = numberBytes k (value / 256) in
+    let x = value % 256 in
+    let size : length a ≡ k = digits-length k (value / 256) in
+    let longer : at + length (a ++ (x ∷ [])) ≡ suc (at + k) = simp length-append (omega (arith, size)) in
+    let front : take at (set out (at + k) x) ≡ take at out = take-set-le at out (at + k) x (omega arith) in
+    let back : drop (at + k) (set out (at + k) x) ≡ x ∷ drop (suc (at + k)) out =
+    ap (drop (at + k)) (set-split out (at + k) x (omega arith))
+    ∙ drop-at (take (at + k) out) (x ∷ drop (suc (at + k)) out) (at + k) (length-take-le (at + k) out (omega arith)) in
+    rw (front, size, back, longer, append-assoc)
+
 pub number-last :
-    (out l : List ℕ) (at width value : ℕ) → 0 < width → at + width ≤ length out → l ≡ place out at (numberBytes (width - 1) (value / 256))
-    → set l (at + width - 1) (value % 256) ≡ place out at (numberBytes width value)
-unfolding numberBytes
-number-last out l at zero value pos h e = absurd (not-suc-le-zero pos)
-number-last out l at (suc k) value pos h e =
-    let less : suc k - 1 ≡ k = omega arith in
-    let size : length (numberBytes k (value / 256)) ≡ k = digits-length k (value / 256) in
-    let end : at + suc k - 1 ≡ at + length (numberBytes k (value / 256)) = omega arith in
-    let before : l ≡ place out at (numberBytes k (value / 256)) = rw less at e in
-    let inside : at + length (numberBytes k (value / 256)) < length l =
-    rw before (rw (length-place out at (numberBytes k (value / 256)) (omega arith)) (omega arith)) in
-    rw end
-    (set-place l (at + length (numberBytes k (value / 256))) (value % 256) inside
-    ∙ place-then out l at (at + length (numberBytes k (value / 256))) (numberBytes k (value / 256)) (value % 256 ∷ []) before refl (omega arith))
+    (out : List ℕ) (at width value : ℕ) → 0 < width → at + width ≤ length out
+    → place (set out (at + (width - 1)) (value % 256)) at (numberBytes (width - 1) (value / 256)) ≡ place out at (numberBytes width value)
+number-last out at zero value some h = absurd (not-suc-le-zero some)
+number-last out at (suc k) value some h = let less : suc k - 1 ≡ k = omega arith in rw less (number-before out at k value h)
 
 -- two, three and four lists, each placed where the one before it ends
 module _ (out l₁ l₂ : List ℕ) (at p : ℕ) (a b : List ℕ) (e₁ : l₁ ≡ place out at a) (first : p ≡ at + length a) (e₂ : l₂ ≡ place l₁ p b) where
