@@ -33,8 +33,9 @@ use Rattle.text_laws.proofs.LineLaws.{row-room, price-room, line-stands, line-b
 use Rattle.text_laws.proofs.PutLaws.{put-none, put-before, Answered}
 use Rattle.price_laws.specs.declared.Price.{Price}
 use Rattle.arithmetic.specs.declared.Answer.{Answer}
-use Rattle.state_price_bound.specs.ErrorBound.{statePriceErrorBoundAnswer}
+use Rattle.state_price_bound.specs.ErrorBound.{statePriceErrorBoundAnswer, statePriceErrorBoundsAnswer}
 use Rattle.state_price_bound.proofs.BoundLaws.{bound-most}
+use Rattle.state_price_bound.proofs.Meaning.{bounds-at}
 use Rattle.sheet_laws.specs.TreeSheet.{rowPart, nodesOfRow, nodeLines, lineOfRow, rowLines, optionLines, priceLines, treeSheet}
 use Rattle.sheet_laws.specs.inside.Stored.{Lent, Stored, Summed}
 use Rattle.node_lines.proofs.LineLoop.{lines-fit}
@@ -182,17 +183,23 @@ module _ (n b : ℕ) (quotes discounts prices : List ℕ) (few : n ≤ 60) (smal
   pub rows-fit : (i : ℕ) → i < n → 128 * i + length (lineOfRow n b quotes discounts prices i) ≤ 128 * suc i
   rows-fit i l = omega (arith, line-length i l)
 
+-- the bound of a row among those of all rows
+pub bound-of : (n b : ℕ) (discounts bounds : List ℕ) (k i : ℕ) → k ≡ suc i → bounds ≡ statePriceErrorBoundsAnswer n b discounts .bounds →
+    values bounds k ≡ statePriceErrorBoundAnswer n b discounts (suc i) .value
+bound-of n b discounts bounds k i e eb =
+    ap (λ (l : List ℕ). values l k) eb ∙ bounds-at n b discounts k ∙ ap (λ (j : ℕ). statePriceErrorBoundAnswer n b discounts j .value) e
+
 -- the line that the code puts is the row's
-pub row-line-stands : (n b : ℕ) (quotes discounts prices : List ℕ) (i end added : ℕ) (out after : List ℕ) (bound : Answer) {answer : Placed} →
-    added ≡ sumOf (rowPart b prices (suc i)) → bound ≡ statePriceErrorBoundAnswer n b discounts (suc i) → i < 60 → getD quotes i 0 < 2 ^ 64 → added < 2 ^ 64 →
-    128 ≤ end → end ≤ length out →
-    Answered (lineNumber (length out) end) out end (rowLine (i + 1) (values quotes i) added (bound .value)) answer after →
+pub row-line-stands : (n b : ℕ) (quotes discounts prices : List ℕ) (i end added : ℕ) (out after : List ℕ) (bound : ℕ) {answer : Placed} →
+    added ≡ sumOf (rowPart b prices (suc i)) → bound ≡ statePriceErrorBoundAnswer n b discounts (suc i) .value → i < 60 → getD quotes i 0 < 2 ^ 64 →
+    added < 2 ^ 64 → 128 ≤ end → end ≤ length out →
+    Answered (lineNumber (length out) end) out end (rowLine (i + 1) (values quotes i) added bound) answer after →
     Put out end (lineOfRow n b quotes discounts prices i) (answer .start) after
 unfolding lineOfRow
 row-line-stands n b quotes discounts prices i end added out after bound {answer} es eb few q s h p a =
     let sum = sumOf (rowPart b prices (suc i)) in
     let allowed = statePriceErrorBoundAnswer n b discounts (suc i) .value in
-    let same : rowLine (i + 1) (values quotes i) added (bound .value) ≡ rowLine (suc i) (values quotes i) sum allowed = rw (← es, ← eb, add-one i) in
+    let same : rowLine (i + 1) (values quotes i) added bound ≡ rowLine (suc i) (values quotes i) sum allowed = rw (← es, ← eb, add-one i) in
     line-stands out end _ h p
     (row-room (suc i) (values quotes i) sum allowed (omega arith) q (omega arith) (omega (arith, bound-most n b discounts (suc i))))
     (subst (λ (x : List ℕ). Answered (lineNumber (length out) end) out end x answer after) same a)
