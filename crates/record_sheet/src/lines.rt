@@ -42,7 +42,7 @@ fn row_total(row: &[u64]) -> u64
 
 // The node lines of all rows, whose nodes stand before `next`. The last row's come first, so that the lines stand in order; the place goes down
 // with each node and is handed on from row to row.
-fn put_nodes(
+fn put_node_rows(
     out: &mut [u8],
     end: usize,
     steps: usize,
@@ -84,7 +84,7 @@ fn draw_nodes<'a>(
     requires { ⌜ Drawing steps reversion (now (reader .discounts)) (reader .next) end (length (now out)) ⌝ }
     ensures { λ r. ⌜ Put (now (out .entry)) end (nodeLines steps reversion (now (reader .entry .discounts))) r (now (out .exit)) ⌝ }
 {
-    put_nodes(out, end, steps, reversion, reader.discounts, reader.next)
+    put_node_rows(out, end, steps, reversion, reader.discounts, reader.next)
 }
 
 // One reader a sheet: it keeps the lent discounts and stands behind the last of them.

@@ -1,4 +1,4 @@
--- `record_sheet::lines::put_nodes` meets its contract.
+-- `record_sheet::lines::put_node_rows` meets its contract.
 -- Assumes nothing.
 use mathlib.Core.Path.{_≡_, refl, _∙_}
 use Prim.Native.Nat.{ℕ, suc, _+_, _*_, _≤_, _<_}
@@ -9,8 +9,8 @@ use Rattle.node_lines.proofs.LineLoop.{Progress, begun, gone, ended}
 use Rattle.sheet_laws.proofs.PartLaws as laws
 use borrow.Author.Needs.{needs}
 use native.Mathlib.Omega.{arith}
-use Rattle.record_sheet.proofs.lines.put_nodes.Statement.{statement}
-use Rattle.record_sheet.proofs.lines.put_nodes.Tie as tie
+use Rattle.record_sheet.proofs.lines.put_node_rows.Statement.{statement}
+use Rattle.record_sheet.proofs.lines.put_node_rows.Tie as tie
 
 abbrev Inv-loop : tie.InvT-loop
 Inv-loop out₀ end steps reversion discounts next start₀ place₀ left₀ out start place left =
@@ -71,8 +71,8 @@ returns c =
     ended (nodesOfRow (a .reversion) (a .discounts .now)) (λ (i : ℕ). 128 * rowStart (a .reversion) i) (a .steps) (fits (c .before .before))
     (a .out .now) (a .end) (l .inv .0) (omega arith) (s .pre .inside)
 
-pub put-nodes-spec : {M : Type 1} → statement M
-put-nodes-spec =
+pub put-node-rows-spec : {M : Type 1} → statement M
+put-node-rows-spec =
     tie.close
     (tie.spec
     Inv-loop
