@@ -128,12 +128,12 @@ fn put_row<'a>(
     let before = row.before;
     let number = before + 1;
     let part = row_view::row_view(
-        discounts,
-        state_prices,
-        RowKind::StatePrices,
         tree.steps,
         tree.reversion,
         number,
+        RowKind::StatePrices,
+        discounts,
+        state_prices,
     );
     let sum = row_total(part);
     let line = text::row_line(out, end, number as u64, quotes[before], sum, row.bound);

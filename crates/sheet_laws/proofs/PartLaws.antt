@@ -51,7 +51,7 @@ module _ (n b : ℕ) (discounts : List ℕ) (h : Lent n b discounts) where
   lines-few = omega (arith, start-most b n, mul-le-mul (h .limits .steps-within-limit) (h .limits .steps-within-limit))
 
 module _ (n b : ℕ) (discounts prices : List ℕ) (h : Stored n b discounts prices) where
-  pub held : holdsTree discounts prices n b ≡ true
+  pub held : holdsTree n b discounts prices ≡ true
   unfolding holdsTree isTree
   held =
       rw (
@@ -81,10 +81,10 @@ module _ (discounts prices : RefT (List ℕ)) (kind : RowKind) (n b i : ℕ) (pa
   -- the part that the view shows
   abbrev Shown : Type 0
   Shown =
-      PartOf (memoryOf discounts prices kind) (viewStart (discounts .now) (prices .now) kind n b i)
-      (viewCount (discounts .now) (prices .now) kind n b i) part
+      PartOf (memoryOf discounts prices kind) (viewStart n b i kind (discounts .now) (prices .now))
+      (viewCount n b i kind (discounts .now) (prices .now)) part
 
-  shown-by : isShown (discounts .now) (prices .now) kind n b i ≡ true → Shown → part .now ≡ rowPart b (memoryOf discounts prices kind .now) i
+  shown-by : isShown n b i kind (discounts .now) (prices .now) ≡ true → Shown → part .now ≡ rowPart b (memoryOf discounts prices kind .now) i
   unfolding rowPart viewStart viewCount
   shown-by s p = rw s at (p .contents)
 
