@@ -1,5 +1,5 @@
--- `record_sheet::lines::draw_nodes` meets its contract: a walk of its MIR, by hand. The reader is taken apart, and its slice and its place go to `put_node_rows`
--- with the buffer.
+-- `record_sheet::lines::draw_nodes` meets its contract: a walk of its MIR, by hand. The reader is taken apart, and its slice and its place go to
+-- `put_node_rows` with the buffer.
 -- The reader is Copy: what it owns is had twice, and one copy is kept for the exit. The buffer's borrow is given up for good, at its own lifetime, share and
 -- ghost name.
 -- Assumes nothing.

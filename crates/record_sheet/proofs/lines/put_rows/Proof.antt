@@ -3,6 +3,7 @@
 use Prim.Native.Nat.{ℕ, suc, _+_, _-_, _*_, _≤_, _<_}
 use mathlib.Core.List.{List}
 use lib.ListN.{length}
+use Rattle.text_laws.specs.Lines.{longestLine}
 use Rattle.sheet_laws.specs.TreeSheet.{lineOfRow}
 use Rattle.node_lines.proofs.LineLoop.{Progress, begun, gone, ended}
 use Rattle.sheet_laws.proofs.PartLaws as laws
@@ -13,7 +14,7 @@ use Rattle.record_sheet.proofs.lines.put_rows.Tie as tie
 
 abbrev Inv-loop : tie.InvT-loop
 Inv-loop out₀ end tree quotes discounts state-prices bounds start₀ left₀ out start left =
-    Progress (lineOfRow (tree .steps) (tree .reversion) quotes discounts state-prices) (λ (i : ℕ). 128 * i) out₀ end (tree .steps) out start left
+    Progress (lineOfRow (tree .steps) (tree .reversion) quotes discounts state-prices) (λ (i : ℕ). longestLine * i) out₀ end (tree .steps) out start left
 
 abbrev μ-loop : tie.MeasureT-loop
 μ-loop out₀ end tree quotes discounts state-prices bounds start₀ left₀ out start left = left
@@ -25,17 +26,19 @@ line s = lineOfRow (s .args .tree .steps) (s .args .tree .reversion) (s .args .q
 abbrev start : tie.After-shared-slice-known4 Inv-loop μ-loop → tie.Start Inv-loop μ-loop
 start c = c .before .before .before .before .before
 
-fits : (c : tie.After-shared-slice-known4 Inv-loop μ-loop) (i : ℕ) → i < start c .args .tree .steps → 128 * i + length (line (start c) i) ≤ 128 * suc i
+fits : (c : tie.After-shared-slice-known4 Inv-loop μ-loop) (i : ℕ) → i < start c .args .tree .steps →
+    longestLine * i + length (line (start c) i) ≤ longestLine * suc i
 fits c =
     let s = start c in
     let a = s .args in
-    laws.rows-fit (a .tree .steps) (a .tree .reversion) (a .quotes .now) (a .discounts .now) (a .state-prices .now) (s .pre .0 .0 .lent .limits .steps-within-limit)
+    laws.rows-fit (a .tree .steps) (a .tree .reversion) (a .quotes .now) (a .discounts .now) (a .state-prices .now)
+    (s .pre .0 .0 .lent .limits .steps-within-limit)
     (λ j. c .before .before .before .shared-slice-known .given j .fits) (s .pre .1 .0)
 
 loop-holds : tie.Need-loop-holds Inv-loop μ-loop
 loop-holds c =
     let s = start c in
-    begun (line s) (λ (i : ℕ). 128 * i) (s .args .tree .steps) (fits c) (s .args .out .now) (s .args .end) (s .pre .0 .2)
+    begun (line s) (λ (i : ℕ). longestLine * i) (s .args .tree .steps) (fits c) (s .args .out .now) (s .args .end) (s .pre .0 .2)
 
 -- the row's bound is among those lent
 there : (c : tie.In-loop Inv-loop μ-loop) → c .before .loop .left < length (start (c .before .before) .args .bounds .now)
@@ -63,7 +66,8 @@ loop-again c =
     let put = c .before .before in
     let looping = put .before .before .before .before in
     let s = start (looping .before) in
-    gone (line s) (λ (i : ℕ). 128 * i) (s .args .tree .steps) (fits (looping .before)) (s .args .out .now) (s .args .end) (looping .loop .inv) (omega arith)
+    gone (line s) (λ (i : ℕ). longestLine * i) (s .args .tree .steps) (fits (looping .before)) (s .args .out .now) (s .args .end)
+    (looping .loop .inv) (omega arith)
     (put .put-row .ensures)
 
 same-length : tie.Need-same-length Inv-loop μ-loop
@@ -73,7 +77,8 @@ returns : tie.Need-returns Inv-loop μ-loop
 returns c =
     let looping = c .before in
     let s = start (looping .before) in
-    ended (line s) (λ (i : ℕ). 128 * i) (s .args .tree .steps) (fits (looping .before)) (s .args .out .now) (s .args .end) (looping .loop .inv) (omega arith)
+    ended (line s) (λ (i : ℕ). longestLine * i) (s .args .tree .steps) (fits (looping .before)) (s .args .out .now) (s .args .end)
+    (looping .loop .inv) (omega arith)
     (s .pre .0 .3)
 
 pub put-rows-spec : {M : Type 1} → statement M
