@@ -234,9 +234,9 @@ pub extern "C" fn mixegorta_row_range(
     reversion: u64,
     row: usize,
 ) -> RowRange
-    ensures { λ r. ⌜ r ≡ rangeByNumber (now (discounts .entry)) (now («state_prices» .entry)) kind steps reversion row ⌝ }
+    ensures { λ r. ⌜ r ≡ rangeByNumber steps reversion row kind (now (discounts .entry)) (now («state_prices» .entry)) ⌝ }
 {
-    row_view::range_by_number(discounts, state_prices, kind, steps, reversion, row)
+    row_view::range_by_number(steps, reversion, row, kind, discounts, state_prices)
 }
 
 #[no_mangle]

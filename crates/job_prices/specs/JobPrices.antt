@@ -7,8 +7,9 @@ use mathlib.Core.List.{List}
 use lib.Dec.{eqb, leb}
 use lib.ListN.{take}
 use Rattle.lattice.specs.Entries.{memoryCause}
-use Rattle.arithmetic.specs.Answers.{lowestCause, firstCause}
+use Rattle.arithmetic.specs.Answers.{unlessRefused, lowestCause, firstCause}
 use Rattle.limits.specs.Limits.{mostDiscounts, mostStatePrices}
+use Rattle.fitting.specs.Entry.{fitMemory}
 use Rattle.price_laws.specs.declared.Price.{Price}
 use Rattle.price_laws.specs.Prices.{refusedPrice, bondPrice, optionPrice, datedPrice}
 use Rattle.job_record.specs.declared.OptionRecord.{OptionRecord}
@@ -71,6 +72,11 @@ module _ (job : Job) where
 
   unfoldable pub recordPrices : ℕ → ℕ → JobPrices
   recordPrices discounts prices = pricesOf (recordNumber discounts prices) jobBond (hasOption (job .option)) jobOption
+
+  -- a memory in which the record is fitted and priced: as it was where the option has no job's form, else as the fit leaves it, whatever the prices are
+  unfoldable pub fittedMemory : ℕ → ℕ → List ℕ → List ℕ → List ℕ
+  fittedMemory discounts prices rows memory =
+      unlessRefused (optionForm (job .option .tag) (job .option .count)) (fitMemory (recordFit job discounts prices) rows memory) memory
 
 -- of a job's bytes: 1 first
 unfoldable pub bytesNumber : List ℕ → ℕ → ℕ → ℕ

@@ -26,11 +26,12 @@ use Rattle.fitting.proofs.Promised.{fit-repriced}
 use Rattle.fitting.proofs.FittedTree.{fit-discounts-lent}
 use Rattle.job_record.specs.declared.Job.{Job}
 use Rattle.job_fit.specs.RecordFit.{meantReversion, jobReversion, jobSpacing, jobKinds, jobFigures}
-use Rattle.job_fit.specs.RecordFit.{jobQuotes, jobDiscounts, jobStatePrices, recordQuotes, memoryAfter}
+use Rattle.job_fit.specs.RecordFit.{jobQuotes, jobDiscounts, jobStatePrices, recordQuotes, recordFit, memoryAfter}
 use Rattle.job_fit.proofs.FitLaws as fits
 use Rattle.job_prices.specs.declared.JobPrices.{JobPrices}
-use Rattle.job_prices.specs.JobPrices.{recordNumber, recordPrices}
-use Rattle.job_prices.proofs.Accepted.{record-accepted}
+use Rattle.job_prices.specs.JobPrices.{recordNumber, recordPrices, fittedMemory}
+use Rattle.job_prices.proofs.Accepted.{record-accepted, record-formed}
+use Rattle.job_prices.proofs.PriceLaws.{fitted-placed}
 use Rattle.node_lines.specs.Rows.{acceptedNodes}
 use Rattle.sheet_laws.specs.TreeSheet.{rowPart}
 use Rattle.sheet_laws.specs.inside.Stored.{Stored, Summed, Fitted}
@@ -44,24 +45,22 @@ total-row b f n i h =
 -- ---- the fit in memories of the largest tree
 
 module _ (job : Job) (d₀ p₀ : List ℕ) (ld : length d₀ ≡ mostDiscounts) (lp : length p₀ ≡ mostStatePrices) where
-  abbrev lentNumber : ℕ
-  lentNumber = recordNumber job (length d₀) (length p₀)
-
-  number-is : lentNumber ≡ recordNumber job mostDiscounts mostStatePrices
-  number-is = rw (ld, lp)
+  fit-is : recordFit job (length d₀) (length p₀) ≡ recordFit job mostDiscounts mostStatePrices
+  fit-is = rw (ld, lp)
 
   pub prices-largest : (prices : JobPrices) → prices ≡ recordPrices job (length d₀) (length p₀) → prices ≡ recordPrices job mostDiscounts mostStatePrices
   prices-largest prices e = e ∙ rw (ld, lp)
 
   pub fitted : (d p : List ℕ) → recordNumber job mostDiscounts mostStatePrices ≡ 0 →
-      d ≡ memoryAfter lentNumber (jobDiscounts job) d₀ → p ≡ memoryAfter lentNumber (jobStatePrices job) p₀ → Fitted job d p
+      d ≡ fittedMemory job (length d₀) (length p₀) (jobDiscounts job) d₀ → p ≡ fittedMemory job (length d₀) (length p₀) (jobStatePrices job) p₀ →
+      Fitted job d p
   unfolding discountsNeeded statePricesNeeded
   fitted d p none ed ep =
       let fit = record-accepted job _ _ none .fit in
-      let z = number-is ∙ none in
+      let placed = fitted-placed job (length d₀) (length p₀) (record-formed job _ _ none) (fit-is ∙ fit) in
       let known = fits.numbers job _ _ fit in
-      let dp = ed ∙ fits.memory-placed _ (jobDiscounts job) d₀ z in
-      let pp = ep ∙ fits.memory-placed _ (jobStatePrices job) p₀ z in
+      let dp = ed ∙ placed (jobDiscounts job) d₀ in
+      let pp = ep ∙ placed (jobStatePrices job) p₀ in
       let dl = fits.discounts-length job in
       let pl = fits.prices-length job in
       record {

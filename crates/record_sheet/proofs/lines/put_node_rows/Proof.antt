@@ -1,20 +1,21 @@
--- `record_sheet::lines::put_nodes` meets its contract.
+-- `record_sheet::lines::put_node_rows` meets its contract.
 -- Assumes nothing.
 use mathlib.Core.Path.{_≡_, refl, _∙_}
 use Prim.Native.Nat.{ℕ, suc, _+_, _*_, _≤_, _<_}
 use lib.ListN.{length}
+use Rattle.text_laws.specs.Lines.{longestLine}
 use Rattle.lattice.specs.Shape.{rowStart, discountsNeeded}
 use Rattle.sheet_laws.specs.TreeSheet.{nodesOfRow}
 use Rattle.node_lines.proofs.LineLoop.{Progress, begun, gone, ended}
 use Rattle.sheet_laws.proofs.PartLaws as laws
 use borrow.Author.Needs.{needs}
 use native.Mathlib.Omega.{arith}
-use Rattle.record_sheet.proofs.lines.put_nodes.Statement.{statement}
-use Rattle.record_sheet.proofs.lines.put_nodes.Tie as tie
+use Rattle.record_sheet.proofs.lines.put_node_rows.Statement.{statement}
+use Rattle.record_sheet.proofs.lines.put_node_rows.Tie as tie
 
 abbrev Inv-loop : tie.InvT-loop
 Inv-loop out₀ end steps reversion discounts next start₀ place₀ left₀ out start place left =
-    Progress (nodesOfRow reversion discounts) (λ (i : ℕ). 128 * rowStart reversion i) out₀ end steps out start left × (place ≡ rowStart reversion left)
+    Progress (nodesOfRow reversion discounts) (λ (i : ℕ). longestLine * rowStart reversion i) out₀ end steps out start left × (place ≡ rowStart reversion left)
 
 abbrev μ-loop : tie.MeasureT-loop
 μ-loop out₀ end steps reversion discounts next start₀ place₀ left₀ out start place left = left
@@ -23,9 +24,9 @@ needed : (n b : ℕ) → discountsNeeded n b ≡ rowStart b n
 unfolding discountsNeeded
 needed n b = refl
 
-fits : (c : tie.After-shared-slice-known Inv-loop μ-loop) (i : ℕ) → i < c .before .before .args .steps → 128 * rowStart
+fits : (c : tie.After-shared-slice-known Inv-loop μ-loop) (i : ℕ) → i < c .before .before .args .steps → longestLine * rowStart
     (c .before .before .args .reversion) i + length (nodesOfRow (c .before .before .args .reversion)
-    (c .before .before .args .discounts .now) i) ≤ 128 * rowStart (c .before .before .args .reversion) (suc i)
+    (c .before .before .args .discounts .now) i) ≤ longestLine * rowStart (c .before .before .args .reversion) (suc i)
 fits c =
     let s = c .before .before in
     let shared-slice-known = c .shared-slice-known in
@@ -36,7 +37,7 @@ loop-holds : tie.Need-loop-holds Inv-loop μ-loop
 loop-holds c =
     let s = c .before .before in
     let a = s .args in (
-      begun (nodesOfRow (a .reversion) (a .discounts .now)) (λ (i : ℕ). 128 * rowStart (a .reversion) i) (a .steps) (fits c) (a .out .now) (a .end)
+      begun (nodesOfRow (a .reversion) (a .discounts .now)) (λ (i : ℕ). longestLine * rowStart (a .reversion) i) (a .steps) (fits c) (a .out .now) (a .end)
           (omega (arith, needed (a .steps) (a .reversion), s .pre .room)),
       s .pre .place ∙ needed (a .steps) (a .reversion),
     )
@@ -55,7 +56,7 @@ loop-again c =
     let put = laws.before-put (a .steps) (a .reversion) (a .discounts .now) (s .pre .lent) (l .left) (l .place) (counted .node-count .result) some
     (p .upto) (counted .node-count .ensures) (l .inv .1) (λ j. known .shared-slice-known .given j .fits) (l .out) (l .start) (lines .result) _ (p .enough)
     (omega (arith, p .below, p .same, s .pre .inside)) (lines .ensures) in (
-      gone (nodesOfRow (a .reversion) (a .discounts .now)) (λ (i : ℕ). 128 * rowStart (a .reversion) i) (a .steps) (fits known)
+      gone (nodesOfRow (a .reversion) (a .discounts .now)) (λ (i : ℕ). longestLine * rowStart (a .reversion) i) (a .steps) (fits known)
           (a .out .now) (a .end) p some (put .0),
       put .1,
     )
@@ -68,11 +69,11 @@ returns c =
     let s = c .before .before .before .before in
     let l = c .before .loop in
     let a = s .args in
-    ended (nodesOfRow (a .reversion) (a .discounts .now)) (λ (i : ℕ). 128 * rowStart (a .reversion) i) (a .steps) (fits (c .before .before))
+    ended (nodesOfRow (a .reversion) (a .discounts .now)) (λ (i : ℕ). longestLine * rowStart (a .reversion) i) (a .steps) (fits (c .before .before))
     (a .out .now) (a .end) (l .inv .0) (omega arith) (s .pre .inside)
 
-pub put-nodes-spec : {M : Type 1} → statement M
-put-nodes-spec =
+pub put-node-rows-spec : {M : Type 1} → statement M
+put-node-rows-spec =
     tie.close
     (tie.spec
     Inv-loop

@@ -1,4 +1,4 @@
--- `node_lines::put_nodes` meets its contract. The invariant: the lines that are left, put before the start, give the whole, and the place is behind
+-- `node_lines::put_row_nodes` meets its contract. The invariant: the lines that are left, put before the start, give the whole, and the place is behind
 -- the last node that is left.
 -- Assumes nothing.
 use mathlib.Core.Path.{_≡_, sym, ap, _∙_, subst}
@@ -8,26 +8,26 @@ use native.Mathlib.Omega.{arith}
 use lib.ListN.{length, getD}
 use borrow.Author.Needs.{needs}
 use Rattle.lattice.specs.RateTree.{nodeOfIndex}
-use Rattle.text_laws.specs.Lines.{lineOfNode}
+use Rattle.text_laws.specs.Lines.{lineOfNode, longestLine}
 use Rattle.text_laws.specs.inside.Put.{Put}
 use Rattle.node_lines.specs.Rows.{nodeText, lines}
 use Rattle.node_lines.specs.Reading.{nodesBefore}
 use Rattle.node_lines.proofs.RowLaws.{discount-read, line-room}
 use Rattle.node_lines.proofs.LineLoop.{Progress, begun, gone, ended}
 use Rattle.node_lines.proofs.ReadingLaws.{before-length, before-text, before-discount, drawn-whole}
-use Rattle.node_lines.proofs.put_nodes.Statement.{statement}
-use Rattle.node_lines.proofs.put_nodes.Tie as tie
+use Rattle.node_lines.proofs.put_row_nodes.Statement.{statement}
+use Rattle.node_lines.proofs.put_row_nodes.Tie as tie
 
 abbrev Inv-loop : tie.InvT-loop
 Inv-loop out₀ end row discounts next count half-width start₀ place₀ left₀ out start place left =
-    Progress (nodeText row (nodesBefore discounts next count)) (λ (i : ℕ). 128 * i) out₀ end count out start left × (place ≡ next - count + left)
+    Progress (nodeText row (nodesBefore discounts next count)) (λ (i : ℕ). longestLine * i) out₀ end count out start left × (place ≡ next - count + left)
 
 abbrev μ-loop : tie.MeasureT-loop
 μ-loop out₀ end row discounts next count half-width start₀ place₀ left₀ out start place left = left
 
 fits : (c : tie.After-shared-slice-known Inv-loop μ-loop) (i : ℕ) → i < c .before .before .args .count →
     let a = c .before .before .args in
-    128 * i + length (nodeText (a .row) (nodesBefore (a .discounts .now) (a .next) (a .count)) i) ≤ 128 * suc i
+    longestLine * i + length (nodeText (a .row) (nodesBefore (a .discounts .now) (a .next) (a .count)) i) ≤ longestLine * suc i
 fits c i h =
     let s = c .before .before in
     let a = s .args in
@@ -41,7 +41,7 @@ loop-holds : tie.Need-loop-holds Inv-loop μ-loop
 loop-holds c =
     let s = c .before .before in
     let a = s .args in
-    (begun _ (λ (i : ℕ). 128 * i) (a .count) (fits c) (a .out .now) (a .end) (s .pre .room), omega (arith, s .pre .standing))
+    (begun _ (λ (i : ℕ). longestLine * i) (a .count) (fits c) (a .out .now) (a .end) (s .pre .room), omega (arith, s .pre .standing))
 
 sub-place : tie.Need-sub-place Inv-loop μ-loop
 sub-place c = let l = c .before .loop in omega (arith, l .inv .1)
@@ -61,8 +61,8 @@ read c =
     discount-read (a .discounts .now) (l .place - 1) (c .node-at .result) (c .node-at .ensures) within
     ∙ ap (λ (k : ℕ). getD (a .discounts .now) k 0) (place-is (c .before))
 
-put-node-requires : tie.Need-put-node-requires Inv-loop μ-loop
-put-node-requires c κs =
+put-node-line-requires : tie.Need-put-node-line-requires Inv-loop μ-loop
+put-node-line-requires c κs =
     let at-node = c .before in
     let s = at-node .before .before .before .before .before in
     let a = s .args in
@@ -89,9 +89,9 @@ loop-again c =
     let some : 0 < l .left = omega arith in
     let text = ap (λ (d : ℕ). lineOfNode (a .row) (nodeOfIndex (a .count / 2) (l .left - 1)) d) (read at-node)
     ∙ before-text (a .discounts .now) (a .next) (a .count) (s .pre .standing) (s .pre .held) (a .row) (l .left - 1) (omega (arith, p .upto)) in
-    let put = subst (λ (t : List ℕ). Put (l .out) (l .start) t (c .before .before .put-node .result) (c .before .before .put-node .last .0)) text
-    (c .before .before .put-node .ensures) in
-    (gone _ (λ (i : ℕ). 128 * i) (a .count) (fits (in-loop .before .before)) (a .out .now) (a .end) p some put, place-is in-loop)
+    let put = subst (λ (t : List ℕ). Put (l .out) (l .start) t (c .before .before .put-node-line .result) (c .before .before .put-node-line .last .0)) text
+    (c .before .before .put-node-line .ensures) in
+    (gone _ (λ (i : ℕ). longestLine * i) (a .count) (fits (in-loop .before .before)) (a .out .now) (a .end) p some put, place-is in-loop)
 
 same-length : tie.Need-same-length Inv-loop μ-loop
 same-length c = c .before .loop .inv .0 .same
@@ -102,14 +102,14 @@ returns c =
     let a = s .args in
     let l = c .before .loop in
     let none : l .left ≡ 0 = omega arith in
-    let put = ended _ (λ (i : ℕ). 128 * i) (a .count) (fits (c .before .before)) (a .out .now) (a .end) (l .inv .0) none (s .pre .inside) in
+    let put = ended _ (λ (i : ℕ). longestLine * i) (a .count) (fits (c .before .before)) (a .out .now) (a .end) (l .inv .0) none (s .pre .inside) in
     let counted = before-length (a .discounts .now) (a .next) (a .count) (s .pre .standing) (s .pre .held) in
     let line = nodeText (a .row) (nodesBefore (a .discounts .now) (a .next) (a .count)) in
     drawn-whole 0 (a .out .now) (a .end) _ (a .next - a .count)
     (subst (λ (n : ℕ). Put (a .out .now) (a .end) (lines line n) (l .start) (l .out)) (sym counted) put) (omega (arith, l .inv .1))
 
-pub put-nodes-spec : {M : Type 1} → statement M
-put-nodes-spec =
+pub put-row-nodes-spec : {M : Type 1} → statement M
+put-row-nodes-spec =
     tie.close
     (tie.spec
     Inv-loop
@@ -118,7 +118,7 @@ put-nodes-spec =
     (λ c. search needs)
     sub-place
     (λ c κs. search needs)
-    put-node-requires
+    put-node-line-requires
     (λ c. search needs)
     loop-again
     same-length
