@@ -35,7 +35,7 @@ use Rattle.job_fit.specs.RecordFit.{jobReversion, jobFlows, jobDiscounts, jobSt
 use Rattle.job_fit.proofs.FitLaws as fits
 use Rattle.job_prices.specs.declared.JobPrices.{JobPrices}
 use Rattle.job_prices.specs.JobPrices.{optionForm, optionDates, taggedOption, treeNumber, refusedPrices, fittedMemory}
-use Rattle.job_prices.specs.JobPrices.{pricesOf, recordNumber, recordPrices, bytesNumber, bytesPrices}
+use Rattle.job_prices.specs.JobPrices.{pricesOf, recordNumber, recordPrices, bytesNumber, bytesPrices, bytesMemory}
 use Rattle.job_prices.specs.inside.TreePrices.{treePrices}
 use Rattle.job_prices.proofs.Accepted.{record-accepted, record-formed}
 use Rattle.job_prices.proofs.FitLaws.{memory-widest, fit-in, short-refused}
@@ -369,6 +369,11 @@ Bytes bytes d p =
     Left (bytesNumber bytes (length d) (length p)) (bytesPrices bytes (length d) (length p))
     (jobDiscounts (readingOf bytes .job)) (jobStatePrices (readingOf bytes .job)) d p
 
+abbrev pub BytesInPlace : List ℕ → List ℕ → List ℕ → JobPrices → List ℕ → List ℕ → Type 0
+BytesInPlace bytes d p r after-d after-p =
+    (r ≡ bytesPrices bytes (length d) (length p))
+    × ((after-d ≡ bytesMemory bytes (length d) (length p) jobDiscounts d) × (after-p ≡ bytesMemory bytes (length d) (length p) jobStatePrices p))
+
 module _ (bytes d p : List ℕ) (q : Reading) (e : q ≡ readingOf bytes) where
   number-read : q .number ≡ readingOf bytes .number
   number-read = ap (λ (q : Reading). q .number) e
@@ -382,6 +387,14 @@ module _ (bytes d p : List ℕ) (q : Reading) (e : q ≡ readingOf bytes) where
     unfolding bytesPrices
     bytes-refused = found-left (q .number) _ _ _ _ _ _ d p read-found nz
 
+    bytes-kept : (rows : Job → List ℕ) (memory : List ℕ) → memory ≡ bytesMemory bytes (length d) (length p) rows memory
+    unfolding bytesMemory
+    bytes-kept rows memory = sym (unless-refused _ _ memory (λ z. nz (number-read ∙ z)))
+
+    pub in-place-refused : (r : JobPrices) → r ≡ refusedPrices (q .number) → BytesInPlace bytes d p r d p
+    unfolding bytesPrices
+    in-place-refused r given = (number-given (q .number) _ _ _ _ read-found nz r given, (bytes-kept jobDiscounts d, bytes-kept jobStatePrices p))
+
   module _ (z : q .number ≡ 0) where
     bytes-number : recordNumber (readingOf bytes .job) (length d) (length p) ≡ bytesNumber bytes (length d) (length p)
     unfolding bytesNumber firstCause
@@ -394,3 +407,14 @@ module _ (bytes d p : List ℕ) (q : Reading) (e : q ≡ readingOf bytes) where
     pub bytes-made : (r : JobPrices) (after-d after-p : List ℕ) → Record (q .job) d p r after-d after-p → Bytes bytes d p r after-d after-p
     bytes-made r after-d after-p made =
         rw (← bytes-number, ← bytes-prices) (subst (λ (x : Reading). Record (x .job) d p r after-d after-p) e made)
+
+    bytes-left : (rows : Job → List ℕ) (memory after : List ℕ) →
+        after ≡ fittedMemory (readingOf bytes .job) (length d) (length p) (rows (readingOf bytes .job)) memory →
+        after ≡ bytesMemory bytes (length d) (length p) rows memory
+    unfolding bytesMemory
+    bytes-left rows memory after left = left ∙ sym (unless-accepted _ _ memory (sym number-read ∙ z))
+
+    pub in-place-made : (r : JobPrices) (after-d after-p : List ℕ) → InPlace (q .job) d p r after-d after-p → BytesInPlace bytes d p r after-d after-p
+    in-place-made r after-d after-p made =
+        let read = subst (λ (x : Reading). InPlace (x .job) d p r after-d after-p) e made in
+        (read .0 ∙ bytes-prices, (bytes-left jobDiscounts d after-d (read .1 .0), bytes-left jobStatePrices p after-p (read .1 .1)))

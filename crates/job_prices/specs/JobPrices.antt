@@ -85,3 +85,8 @@ bytesNumber bytes discounts prices = firstCause (readingOf bytes .number) (recor
 unfoldable pub bytesPrices : List ℕ → ℕ → ℕ → JobPrices
 bytesPrices bytes discounts prices =
     pricesOf (bytesNumber bytes discounts prices) (jobBond (readingOf bytes .job)) (hasOption (readingOf bytes .job .option)) (jobOption (readingOf bytes .job))
+
+-- a memory in which a job's bytes are fitted and priced: as it was where they are no job's
+unfoldable pub bytesMemory : List ℕ → ℕ → ℕ → (Job → List ℕ) → List ℕ → List ℕ
+bytesMemory bytes discounts prices rows memory =
+    unlessRefused (readingOf bytes .number) (fittedMemory (readingOf bytes .job) discounts prices (rows (readingOf bytes .job)) memory) memory

@@ -6,7 +6,7 @@ ghost use mathlib.Core.Path.{_≡_};
 ghost use lib.ListN.{length};
 ghost use Rattle.job_fit.specs.RecordFit.{jobDiscounts, jobStatePrices, memoryAfter};
 ghost use Rattle.job_record.specs.Reader.{readingOf};
-ghost use Rattle.job_prices.specs.JobPrices.{recordNumber, recordPrices, fittedMemory, bytesNumber, bytesPrices};
+ghost use Rattle.job_prices.specs.JobPrices.{recordNumber, recordPrices, fittedMemory, bytesNumber, bytesPrices, bytesMemory};
 use job_record::Job;
 use price_laws::Price;
 
@@ -97,4 +97,19 @@ pub fn prices_of_job(job: &[u8], discounts: &mut [u64], state_prices: &mut [u64]
         return priced::refused(reading.number);
     }
     prices_of_record(reading.job, discounts, state_prices)
+}
+
+// The same in the lent memories themselves, which are as they were where the bytes are no job's, and as the fit of its record leaves them otherwise.
+pub fn job_in_place(job: &[u8], discounts: &mut [u64], state_prices: &mut [u64]) -> JobPrices
+    ensures answer { λ r. ⌜ r ≡ bytesPrices (now (job .entry)) (length (now (discounts .entry))) (length (now («state_prices» .entry))) ⌝ }
+    ensures discounted { λ _. ⌜ now (discounts .exit) ≡ bytesMemory (now (job .entry))
+        (length (now (discounts .entry))) (length (now («state_prices» .entry))) jobDiscounts (now (discounts .entry)) ⌝ }
+    ensures priced { λ _. ⌜ now («state_prices» .exit) ≡ bytesMemory (now (job .entry))
+        (length (now (discounts .entry))) (length (now («state_prices» .entry))) jobStatePrices (now («state_prices» .entry)) ⌝ }
+{
+    let read = job_reader::read(job);
+    if read.number != 0 {
+        return priced::refused(read.number);
+    }
+    prices_in_place(read.job, discounts, state_prices)
 }
