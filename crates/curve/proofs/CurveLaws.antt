@@ -13,7 +13,7 @@ use Rattle.arithmetic.proofs.CauseLaws.{unless-accepted, unless-refused}
 use Rattle.arithmetic.specs.declared.Answer.{Answer}
 use Rattle.arithmetic.specs.Row.{row, values, place, each}
 use Rattle.arithmetic.proofs.RowLaws.{length-row, each-holds}
-use Rattle.arithmetic.specs.Frequency.{listed}
+use Rattle.arithmetic.specs.Frequency.{isFrequency}
 use Rattle.quotes.proofs.QuoteLaws.{lone-told}
 use Rattle.limits.specs.Limits.{mostSteps, isSteps}
 use Rattle.limits.proofs.LimitLaws.{from-one}
@@ -98,7 +98,7 @@ number-none true true true true h = (refl, refl, refl, refl)
 
 -- What an accepted curve is.
 pub record AcceptedCurve (f n : ℕ) (rows kinds : List ℕ) (figures : List Float) (room : ℕ) : Type 0 where
-  pub frequency : listed f ≡ true
+  pub frequency : isFrequency f ≡ true
   pub least : 1 ≤ n
   pub most : n ≤ mostSteps
   pub rows-long : length rows ≡ n
@@ -109,11 +109,11 @@ pub record AcceptedCurve (f n : ℕ) (rows kinds : List ℕ) (figures : List Flo
   pub converted : (k : ℕ) → k < n → answerAt f kinds figures k .number ≡ 0
 
 module _ (f n : ℕ) (rows kinds : List ℕ) (figures : List Float) (room : ℕ) where
-  pub number-frequency : listed f ≡ false → curveNumber f n rows kinds figures room ≡ 2
+  pub number-frequency : isFrequency f ≡ false → curveNumber f n rows kinds figures room ≡ 2
   unfolding curveNumber
   number-frequency h = rw h
 
-  module _ (a : listed f ≡ true) where
+  module _ (a : isFrequency f ≡ true) where
     pub number-steps : isSteps n ≡ false → curveNumber f n rows kinds figures room ≡ 3
     unfolding curveNumber
     number-steps h = rw (a, h)
@@ -139,7 +139,7 @@ module _ (f n : ℕ) (rows kinds : List ℕ) (figures : List Float) (room : ℕ)
   pub accepted : curveNumber f n rows kinds figures room ≡ 0 → AcceptedCurve f n rows kinds figures room
   unfolding curveNumber inPlace
   accepted h =
-      let parts = number-none (listed f) (isSteps n) (inPlace n rows kinds figures room) (each n (convertsAt f kinds figures)) h in
+      let parts = number-none (isFrequency f) (isSteps n) (inPlace n rows kinds figures room) (each n (convertsAt f kinds figures)) h in
       let steps = from-one mostSteps n (parts .1) in
       let places = five (eqb (length rows) n) (eqb (length kinds) n) (eqb (length figures) n) (leb n room) (each n (placeAt rows)) (parts .2) in
       record {

@@ -23,7 +23,7 @@ use Rattle.lattice.specs.RateTree.{rateTree}
 use Rattle.lattice.specs.Entries.{discountsNeededAnswer, statePricesNeededAnswer, memoryCause}
 use Rattle.lattice.proofs.RateTreeLaws.{start-is}
 use Rattle.lattice.proofs.TreeEntries.{by-tree}
-use Rattle.arithmetic.specs.Frequency.{listed}
+use Rattle.arithmetic.specs.Frequency.{isFrequency}
 use Rattle.reversion.specs.Reversion.{isVersion, workingReversion}
 use Rattle.spacing.specs.Spacing.{spacing, spacingAnswer, versionSpacing, versionSpacingAnswer}
 use Rattle.spacing.proofs.SpacingLaws.{spacing-zero}
@@ -50,7 +50,7 @@ chain-small false false false false = omega arith
 curve-small : (f n : ℕ) (rows kinds : List ℕ) (figures : List Float) (room : ℕ) → curveNumber f n rows kinds figures room ≤ 7
 unfolding curveNumber
 curve-small f n rows kinds figures room =
-    chain-small (not (listed f)) (not (isSteps n)) (not (inPlace n rows kinds figures room)) (not (each n (convertsAt f kinds figures)))
+    chain-small (not (isFrequency f)) (not (isSteps n)) (not (inPlace n rows kinds figures room)) (not (each n (convertsAt f kinds figures)))
 
 tree-small : (n b : ℕ) → discountsNeededAnswer n b .number ≤ 7
 tree-small n b =
@@ -251,7 +251,7 @@ pub version-known : (v f s b : ℕ) (a : Answer) → a ≡ versionSpacingAnswer 
 unfolding versionSpacingAnswer
 version-known v f s b a e =
     rw e record {
-      cause-most = answer-small (not (listed f)) (ltb mostReversion b) (ltb 50000 s) (not (isVersion v)) (versionSpacing v f s b);
+      cause-most = answer-small (not (isFrequency f)) (ltb mostReversion b) (ltb 50000 s) (not (isVersion v)) (versionSpacing v f s b);
       within-limit = version-answer-most v f s b;
     }
 

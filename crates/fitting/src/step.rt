@@ -1,6 +1,7 @@
 // One step of the fit, over one row: the sums, divisions and branches of document 01.
 use arithmetic::ONE;
 use row_branches::RowBranch;
+use tree::PROBABILITY_TOTAL;
 ghost use mathlib.Core.Path.{_≡_};
 ghost use mathlib.Core.Bool.{true};
 ghost use Prim.Native.Nat.{_+_, _*_, _/_, _≤_, _<_};
@@ -111,7 +112,7 @@ pub(crate) fn divide(sums: &[u64], next: &mut [u64])
 {
     let mut k: usize = 0;
     while k < next.len() {
-        next[k] = sums[k] / 600_000_000;
+        next[k] = sums[k] / PROBABILITY_TOTAL;
         k += 1;
     }
 }

@@ -1,6 +1,6 @@
 // The strikes of a strip, one after the other, and what they share.
 use crate::walk;
-use crate::walk::Tree;
+use crate::walk::TreeShape;
 use price_laws::MOST_STRIKES;
 use price_laws::Price;
 use price_laws::Strip;
@@ -100,7 +100,7 @@ fn strike_price(
         return crate::refused(shared.bond);
     }
     let terms = exercise_dates::terms_on(shared.side, dates, strike);
-    let tree = Tree {
+    let tree = TreeShape {
         steps: shared.steps,
         reversion: shared.reversion,
     };

@@ -29,7 +29,7 @@ ghost use Rattle.limits.specs.Limits.{mostSteps, mostReversion, mostDiscounts};
 ghost use Rattle.pricing.specs.inside.Strips.{Laid, BondKept, strikeStep, besideBond};
 
 // A tree's number of steps and its reversion.
-pub(crate) struct Tree {
+pub(crate) struct TreeShape {
     pub(crate) steps: usize,
     pub(crate) reversion: u64,
 }
@@ -72,7 +72,13 @@ fn part(memory: &[u64], start: usize, count: usize) -> &[u64]
     &memory[start..end]
 }
 
-fn option_step_at(tree: Tree, flows: &[u64], terms: Terms, marks: &[u8], row: usize) -> OptionStep
+fn option_step_at(
+    tree: TreeShape,
+    flows: &[u64],
+    terms: Terms,
+    marks: &[u8],
+    row: usize,
+) -> OptionStep
     requires { ⌜ (row ≤ length (now flows)) × (row < length (now marks)) ⌝ }
     ensures { λ r. ⌜ r ≡ optionStepAt (tree .steps) (tree .reversion) (now (flows .entry)) terms (now (marks .entry)) row ⌝ }
 {
@@ -89,7 +95,7 @@ fn option_step_at(tree: Tree, flows: &[u64], terms: Terms, marks: &[u8], row: us
 
 // The bond one row back, with the row's flow. Gives the row's greatest value.
 fn bond_step(
-    tree: Tree,
+    tree: TreeShape,
     row: usize,
     flow: u64,
     downs: &[u64],
@@ -152,7 +158,7 @@ fn option_step(
 
 // The bond from row n back to row `last`, two rows a turn, so that no row is copied on the way. 12 where a value is above 8 × one.
 pub(crate) fn roll_bond(
-    tree: Tree,
+    tree: TreeShape,
     last: usize,
     downs: &[u64],
     discounts: &[u64],
@@ -222,7 +228,7 @@ fn exercise_step(
 
 // The option from its last row back to row 0, and the bond with it, two rows a turn. 12 where a value on the way is above 8 × one.
 fn roll_option(
-    tree: Tree,
+    tree: TreeShape,
     terms: Terms,
     marks: &[u8],
     downs: &[u64],
@@ -278,7 +284,7 @@ fn roll_option(
 
 // The bond back to the option's last row, then both together: one pass over the tree.
 pub(crate) fn roll_both(
-    tree: Tree,
+    tree: TreeShape,
     terms: Terms,
     marks: &[u8],
     downs: &[u64],
@@ -298,7 +304,7 @@ pub(crate) fn roll_both(
 
 // As `bond_step`, and keeps the row without its flow.
 fn keep_step(
-    tree: Tree,
+    tree: TreeShape,
     row: usize,
     flow: u64,
     downs: &[u64],
@@ -329,7 +335,7 @@ fn keep_step(
 
 // The bond from row n back to row 0, two rows a turn, each row before n kept without its flow. 12 where a value is above 8 × one.
 pub(crate) fn keep_bond(
-    tree: Tree,
+    tree: TreeShape,
     downs: &[u64],
     discounts: &[u64],
     flows: &[u64],
@@ -415,7 +421,7 @@ fn first_value(option: &[u64; MOST_NODES]) -> Answer
 
 // One option from its last row back to row 0, beside the kept rows of the bond, two rows a turn. 12 where a value on the way is above 8 × one.
 pub(crate) fn roll_strike(
-    tree: Tree,
+    tree: TreeShape,
     terms: Terms,
     marks: &[u8],
     downs: &[u64],

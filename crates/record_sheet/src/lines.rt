@@ -16,7 +16,7 @@ use price_laws::Price;
 use row_view::RowKind;
 
 // A tree's number of steps and its reversion.
-struct Tree {
+struct TreeShape {
     steps: usize,
     reversion: u64,
 }
@@ -112,7 +112,7 @@ fn put_all_nodes(
 fn put_row<'a>(
     out: &mut [u8],
     end: usize,
-    tree: Tree,
+    tree: TreeShape,
     row: Row,
     quotes: &[u64],
     discounts: &'a [u64],
@@ -144,7 +144,7 @@ fn put_row<'a>(
 fn put_rows<'a>(
     out: &mut [u8],
     end: usize,
-    tree: Tree,
+    tree: TreeShape,
     quotes: &[u64],
     discounts: &'a [u64],
     state_prices: &'a [u64],
@@ -225,7 +225,7 @@ pub(crate) fn put_sheet<'a>(
     let rows_start = put_rows(
         out,
         prices_start,
-        Tree { steps, reversion },
+        TreeShape { steps, reversion },
         quotes,
         discounts,
         state_prices,

@@ -12,7 +12,7 @@ use lib.Ieee.{Float}
 use Rattle.limits.specs.inside.WithinLimits.{WithinLimits}
 use Rattle.arithmetic.specs.Answers.{lowestCause, firstCause}
 use Rattle.arithmetic.specs.Rounding.{one}
-use Rattle.arithmetic.specs.Frequency.{listed}
+use Rattle.arithmetic.specs.Frequency.{isFrequency}
 use Rattle.arithmetic.proofs.Numbers.{by-test}
 use Rattle.arithmetic.proofs.BetweenLaws.{and-left, and-right}
 use Rattle.limits.specs.Limits.{mostDiscounts, mostStatePrices, isSteps, isReversion, isDiscount}
@@ -122,7 +122,7 @@ module _ (v f n b s : ℕ) (rows kinds : List ℕ) (figures : List Float) (disco
         causes-kept .version-fit v f n b s rows kinds figures mostDiscounts mostStatePrices,
         causes-kept .version-fit v f n b s rows kinds figures discounts prices,
       )
-      (merged (listed f) (isSteps n) (isReversion b) (ltb 50000 s)
+      (merged (isFrequency f) (isSteps n) (isReversion b) (ltb 50000 s)
       (quotesPlaced n rows kinds figures && leb (rowStart w n) 3600 && leb (rowStart w (suc n)) 3721) (isVersion v) (quotesConverted f n kinds figures)
       (ltb one (halfWidth w (n - 1) * h)) (not (everyNode w n (λ i k. isDiscount (fitDiscount f n w h kinds figures i k)))) held _ lengths)
 

@@ -7,7 +7,7 @@ use Prim.Native.Nat.{ℕ, _≤_}
 use lib.Ieee.{isNan, ofBits}
 use borrow.Author.Tests.{le-ltb}
 use Rattle.arithmetic.specs.Answers.{lowestCause, firstCause}
-use Rattle.arithmetic.specs.Frequency.{listed}
+use Rattle.arithmetic.specs.Frequency.{isFrequency}
 use Rattle.arithmetic.specs.Rounding.{nearest, roundDown, roundUp}
 use Rattle.arithmetic.specs.Row.{row, overlay, each, padded, sumOf}
 use Rattle.arithmetic.specs.Sum.{sum, only, greatest}
@@ -62,12 +62,12 @@ use Rattle.worked_examples.specs.Sheets.{Sheets}
 module _ (option : OptionRecord) where
   quotes-are : jobQuotes (recordWith 5 option) ≡ 1002500000 ∷ []
   unfolding jobQuotes row answerAt loneAnswer kindAnswer quoteAnswer figureAnswer rangedAnswer inRange factorDiscount billionthsOf magnitudeOf nearest beyond
-      patternFloat isNan ofBits listed rowKnown
+      patternFloat isNan ofBits isFrequency rowKnown
   quotes-are = refl
 
   fit-none : recordFit (recordWith 5 option) 3600 3721 ≡ 0
   unfolding recordFit fittedNumber earlyCause lowestCause curveNumber inPlace each row answerAt loneAnswer kindAnswer quoteAnswer figureAnswer rangedAnswer
-      inRange factorDiscount billionthsOf magnitudeOf nearest beyond patternFloat isNan ofBits listed rowKnown aboutTree shapeCause memoryCause
+      inRange factorDiscount billionthsOf magnitudeOf nearest beyond patternFloat isNan ofBits isFrequency rowKnown aboutTree shapeCause memoryCause
       meantVersion workingReversion isVersion isExact versionVariance versionSpacing versionSpacingAnswer
       discountsNeeded statePricesNeeded rowStart sum nodeCount halfWidth lateCause greatestRoot greatestPassing curveAccepted acceptedRow rateTree
       fittedDiscount discount normaliser fittedStatePrice factor nodeOfIndex series term roundDown quoted
@@ -75,7 +75,7 @@ module _ (option : OptionRecord) where
 
   discounts-are : jobDiscounts (recordWith 5 option) ≡ 1002500000 ∷ []
   unfolding jobDiscounts laid row answerAt loneAnswer kindAnswer quoteAnswer figureAnswer rangedAnswer
-      inRange factorDiscount billionthsOf magnitudeOf nearest beyond patternFloat isNan ofBits listed rowKnown
+      inRange factorDiscount billionthsOf magnitudeOf nearest beyond patternFloat isNan ofBits isFrequency rowKnown
       meantVersion meantReversion workingReversion isExact versionVariance versionSpacing
       sum nodeCount halfWidth greatestRoot greatestPassing rateTree
       fittedDiscount discount normaliser fittedStatePrice factor nodeOfIndex series term roundDown quoted
@@ -83,7 +83,7 @@ module _ (option : OptionRecord) where
 
   prices-are : jobStatePrices (recordWith 5 option) ≡ 1000000000 ∷ 167083333 ∷ 668333333 ∷ 167083333 ∷ []
   unfolding jobStatePrices laid row answerAt loneAnswer kindAnswer quoteAnswer figureAnswer rangedAnswer
-      inRange factorDiscount billionthsOf magnitudeOf nearest beyond patternFloat isNan ofBits listed rowKnown
+      inRange factorDiscount billionthsOf magnitudeOf nearest beyond patternFloat isNan ofBits isFrequency rowKnown
       meantVersion meantReversion workingReversion isExact versionVariance versionSpacing
       sum nodeCount halfWidth greatestRoot greatestPassing rateTree
       fittedDiscount discount normaliser fittedStatePrice factor nodeOfIndex series term roundDown quoted
