@@ -27,4 +27,6 @@ nearest-by-half a h =
 
 -- both divisions of the roll
 pub rolled-nearest : (a d : ℕ) → ((a + probabilityTotal / 2) / probabilityTotal * d + one / 2) / one ≡ nearest (nearest a probabilityTotal * d) one
-rolled-nearest a d = nearest-by-half ((a + probabilityTotal / 2) / probabilityTotal * d) (one / 2) ∙ ap (λ (x : ℕ). nearest (x * d) one) (nearest-by-half a (probabilityTotal / 2))
+rolled-nearest a d =
+    nearest-by-half ((a + probabilityTotal / 2) / probabilityTotal * d) (one / 2)
+    ∙ ap (λ (x : ℕ). nearest (x * d) one) (nearest-by-half a (probabilityTotal / 2))

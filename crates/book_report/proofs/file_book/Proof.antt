@@ -68,7 +68,8 @@ loop-again c =
 returns-2 : tie.Need-returns-2 Inv-loop μ-loop
 returns-2 c =
     let l = c .before .before .loop in
-    c .closed2 .ensures ∙ walk-full (c .before .before .before .before .before .before .before .args .file .now) (l .at) (l .left) (l .book) _ (l .inv .1) (omega arith)
+    let s = c .before .before .before .before .before .before .before in
+    c .closed2 .ensures ∙ walk-full (s .args .file .now) (l .at) (l .left) (l .book) _ (l .inv .1) (omega arith)
 
 pub file-book-spec : {M : Type 1} → statement M
 file-book-spec =

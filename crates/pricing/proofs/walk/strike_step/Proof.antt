@@ -31,7 +31,8 @@ part-requires-3 c κs =
 options-long : (c : tie.After-strike-row-arg) → length (now (c .before .before .before .before .before .before .before .before .args .options)) ≡ mostNodes
 options-long c = search needs
 
-option-long : (c : tie.After-strike-row-arg2) → length (now (c .before .before .before .before .before .before .before .before .before .args .option)) ≡ mostNodes
+option-long : (c : tie.After-strike-row-arg2) →
+    length (now (c .before .before .before .before .before .before .before .before .before .args .option)) ≡ mostNodes
 option-long c = search needs
 
 strike-row-requires : tie.Need-strike-row-requires
