@@ -8,9 +8,6 @@ use Rattle.lent_tree.proofs.LentLaws.{numbers-refused, room-refused, di
 use Rattle.lent_tree.proofs.discounts_cause.Statement.{statement}
 use Rattle.lent_tree.proofs.discounts_cause.Tie as tie
 
-discounts-needed-requires : tie.Need-discounts-needed-requires
-discounts-needed-requires c κs = search needs
-
 returns : tie.Need-returns
 returns c = numbers-refused _ _ _ _ (c .before .before .discounts-needed .ensures) (c .if1 .taken)
 
@@ -49,7 +46,7 @@ pub discounts-cause-spec : {M : Type 1} → statement M
 discounts-cause-spec =
     tie.close
     (tie.spec
-    discounts-needed-requires
+    (λ c κs. search needs)
     returns
     returns-2
     slice-aggregate-all-between

@@ -6,9 +6,6 @@ use borrow.Author.Needs.{needs}
 use Rattle.pricing.proofs.accepted_both.Statement.{statement}
 use Rattle.pricing.proofs.accepted_both.Tie as tie
 
-table-of-requires : tie.Need-table-of-requires
-table-of-requires c κs = search needs
-
 -- where the table is worked out
 abbrev start : tie.After-table-of → tie.Start
 start c = c .before .before .before .before .before
@@ -55,7 +52,7 @@ accepted-both-spec =
     tie.close
     (tie.spec
     (λ c κs. search needs)
-    table-of-requires
+    (λ c κs. search needs)
     array-share-prefix-table
     slice-aggregate-roll-both
     roll-both-requires

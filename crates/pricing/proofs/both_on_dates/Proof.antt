@@ -9,9 +9,6 @@ use borrow.Author.Needs.{needs}
 use Rattle.pricing.proofs.both_on_dates.Statement.{statement}
 use Rattle.pricing.proofs.both_on_dates.Tie as tie
 
-lowest-cause-requires : tie.Need-lowest-cause-requires
-lowest-cause-requires c κs = search needs
-
 -- where the option's cause is known
 abbrev start : tie.After-lowest-cause → tie.Start
 start c = c .before .before .before .before .before .before
@@ -34,7 +31,7 @@ both-on-dates-spec =
     (tie.spec
     (λ c κs. search needs)
     (λ c κs. search needs)
-    lowest-cause-requires
+    (λ c κs. search needs)
     (λ c κs. search needs)
     judged-both-requires
     returns)
