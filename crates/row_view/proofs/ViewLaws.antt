@@ -56,8 +56,7 @@ module _ (discounts prices : List ℕ) (n b : ℕ) where
 
 -- what memories that hold the tree tell
 pub record Holding (discounts prices : List ℕ) (n b : ℕ) : Type 0 where
-  pub steps-within-limit : n ≤ 60
-  pub reversion-within-limit : b ≤ 6000
+  pub limits : WithinLimits n b
   pub discounts-room : rowStart b n ≤ length discounts
   pub prices-room : rowStart b (suc n) ≤ length prices
 
@@ -70,10 +69,14 @@ holding discounts prices n b h =
     let t₄ = leb (rowStart b n) (length discounts) in
     let t₅ = leb (rowStart b (suc n)) (length prices) in
     let room = and-left (t₁ && t₂ && t₃ && t₄) t₅ h in
-    let limits = and-left (t₁ && t₂ && t₃) t₄ room in
+    let tree = and-left (t₁ && t₂ && t₃) t₄ room in
+    let steps = and-left (t₁ && t₂) t₃ tree in
     record {
-      steps-within-limit = leb-true n 60 (and-right t₁ t₂ (and-left (t₁ && t₂) t₃ limits));
-      reversion-within-limit = leb-true b 6000 (and-right (t₁ && t₂) t₃ limits);
+      limits = record {
+        steps-positive = leb-true 1 n (and-left t₁ t₂ steps);
+        steps-within-limit = leb-true n 60 (and-right t₁ t₂ steps);
+        reversion-within-limit = leb-true b 6000 (and-right (t₁ && t₂) t₃ tree);
+      };
       discounts-room = leb-true (rowStart b n) (length discounts) (and-right (t₁ && t₂ && t₃) t₄ room);
       prices-room = leb-true (rowStart b (suc n)) (length prices) (and-right (t₁ && t₂ && t₃ && t₄) t₅ h);
     }
