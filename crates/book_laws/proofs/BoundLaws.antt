@@ -207,7 +207,7 @@ module _ (n b : ℕ) (discounts flows : List ℕ) where
       omega (arith, row-greatest (rateTree b) .at-most 0 (value 0) 0 h, row-in-peak (λ i. greatestValue (rateTree b) value i) last 0 (omega arith))
 
   rooted : Accepted n b discounts → 0 < rateTree b .nodes 0
-  rooted a = omega (arith, rate-tree-sound b (a .reversion-within-limit) .root)
+  rooted a = omega (arith, rate-tree-sound b (a .limits .reversion-within-limit) .root)
 
   module _ (z : bondPrice n b discounts flows .number ≡ 0) where
     pub bond-tree : Accepted n b discounts
@@ -224,7 +224,7 @@ module _ (n b : ℕ) (discounts flows : List ℕ) where
     bond-bound-most =
         rw (bond-given n b discounts flows z .bound)
         (error-bound-small (rateTree b) (stored b discounts) n (λ r k hr hk. discount-within n b r hr discounts bond-tree k hk)
-        (bond-tree .steps-within-limit) 0 (omega arith))
+        (bond-tree .limits .steps-within-limit) 0 (omega arith))
 
   -- an option's value, where its cause and its limit are none
   scheduled-value : (side : Side) (strike : ℕ) (rows : Schedule) (cause : ℕ) →

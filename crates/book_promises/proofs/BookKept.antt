@@ -125,7 +125,7 @@ module _ (job : List ℕ) (z : numberOf job ≡ 0) where
   accepted = bytes-accepted job mostDiscounts mostStatePrices unrefused .1
 
   steps-few : stepsOf job ≤ mostSteps
-  steps-few = bond-tree _ _ _ _ (accepted .bond) .steps-within-limit
+  steps-few = bond-tree _ _ _ _ (accepted .bond) .limits .steps-within-limit
 
   -- DEMAND 3 OF ITS BOND
   pub bond-near : Within (boundOf job) (unit ^ stepsOf job) (bondOf job) (exactBondOf job)

@@ -30,7 +30,7 @@ use Rattle.fit_laws.proofs.StepLaws.{discount-cong, next-cong}
 use Rattle.fit_laws.proofs.Repricing.{Fittable}
 use Rattle.fit_laws.proofs.WholeFit.{Curve, fittable}
 use Rattle.fit_laws.specs.inside.Bounds.{leastFactor, mostFactor}
-use Rattle.fitting.specs.inside.Rows.{RowFitted, rowStatePrices, rowDiscounts, tableFactor}
+use Rattle.fitting.specs.inside.Rows.{RowFitted, partValues, rowDiscounts, tableFactor}
 use Rattle.fitting.specs.inside.Preconditions.{TreeRowReady, RowsReady}
 use Rattle.fitting.specs.Fit.{quoted}
 use Rattle.fitting.specs.inside.TableFit.{tableDiscount, tableStatePrice, tableAccepted, TreeFitted, PastKept}
@@ -141,10 +141,10 @@ module _ {b : ℕ} {l u downs d₀ p₀ a : List ℕ} (k : RowsReady b l u downs
   unfolding rateTree start rowStart
   row-part = rw (g .state-prices) (laid-row (rateTree b) (tableStatePrice b l u) i (drop (start (rateTree b) (suc i)) p₀))
 
-  part-value : (j : ℕ) → j < nodeCount b i → rowStatePrices (rowStart b i) (nodeCount b i) p j ≡ tableStatePrice b l u i j
+  part-value : (j : ℕ) → j < nodeCount b i → partValues (rowStart b i) (nodeCount b i) p j ≡ tableStatePrice b l u i j
   part-value j h = ap (λ (x : List ℕ). values x j) row-part ∙ values-row (nodeCount b i) j (tableStatePrice b l u i) h
 
-  part-sum : sum (nodeCount b i) (rowStatePrices (rowStart b i) (nodeCount b i) p) ≡ sum (nodeCount b i) (tableStatePrice b l u i)
+  part-sum : sum (nodeCount b i) (partValues (rowStart b i) (nodeCount b i) p) ≡ sum (nodeCount b i) (tableStatePrice b l u i)
   part-sum = sum-cong (nodeCount b i) _ _ part-value
 
   discounts-length : length d ≡ length d₀
@@ -176,7 +176,7 @@ module _ {b : ℕ} {l u downs d₀ p₀ a : List ℕ} (k : RowsReady b l u downs
   discount-is j = discount-cong (nodeCount b i) (values l i) _ (tableStatePrice b l u i) (tableFactor b (length l) u i) part-value j
 
   price-is : (j : ℕ) →
-      nextStatePrice (rateTree b .step i) (nodeCount b i) (rowStatePrices (rowStart b i) (nodeCount b i) p)
+      nextStatePrice (rateTree b .step i) (nodeCount b i) (partValues (rowStart b i) (nodeCount b i) p)
       (rowDiscounts (rowStart b i) (nodeCount b i) (values l i) (tableFactor b (length l) u i) p) j
       ≡ tableStatePrice b l u (suc i) j
   unfolding fittedStatePrice quoted rateTree

@@ -15,7 +15,7 @@ use Rattle.tree.specs.Tree.{incoming, probabilityTotal}
 use Rattle.row_branches.specs.inside.Transitions.{rowTransition}
 use Rattle.limits.specs.Limits.{isDiscount}
 use Rattle.fit_laws.specs.Step.{carried, nextStatePrice}
-use Rattle.fitting.specs.inside.Rows.{RowStepped, RowFitted, rowStatePrices, rowDiscounts}
+use Rattle.fitting.specs.inside.Rows.{RowStepped, RowFitted, partValues, rowDiscounts}
 use Rattle.fitting.specs.inside.Preconditions.{StepReady, RowReady}
 use Rattle.fitting.proofs.StepRows.{never}
 
@@ -102,7 +102,7 @@ module _ {at next quote : ℕ} {factors downs discounts state-prices sums : List
     -- all were
     module _ (t : r ≡ true) where
       sums-known : s′ ≡ row next (incoming (rowTransition downs next) (length factors)
-          (carried (rowStatePrices at (length factors) state-prices) (rowDiscounts at (length factors) quote (values factors) state-prices)))
+          (carried (partValues at (length factors) state-prices) (rowDiscounts at (length factors) quote (values factors) state-prices)))
       sums-known = step .spreads t ∙ rw (front-length, lent-state-prices, part-is state-prices at (length factors))
 
       sums-length : length s′ ≡ next
@@ -124,7 +124,7 @@ module _ {at next quote : ℕ} {factors downs discounts state-prices sums : List
           (divided : p′ ≡ row (length (lent (at + length factors) next state-prices))
           (λ j. values (take next (s′ ++ drop next sums)) j / probabilityTotal)) where
         next-state-prices : p′ ≡ row next
-            (nextStatePrice (rowTransition downs next) (length factors) (rowStatePrices at (length factors) state-prices)
+            (nextStatePrice (rowTransition downs next) (length factors) (partValues at (length factors) state-prices)
             (rowDiscounts at (length factors) quote (values factors) state-prices))
         unfolding nextStatePrice
         next-state-prices =

@@ -24,7 +24,7 @@ use Rattle.row_branches.proofs.TableParts.{table-part, part-within, table-part-
 use Rattle.limits.specs.Limits.{mostSteps, mostReversion, mostNodes, isDiscount}
 use Rattle.fit_laws.specs.Step.{normaliser, discount, carried, nextStatePrice}
 use Rattle.lattice.specs.declared.RowShape.{RowShape}
-use Rattle.fitting.specs.inside.Rows.{RowFitted, rowStatePrices, tableFactor}
+use Rattle.fitting.specs.inside.Rows.{RowFitted, partValues, tableFactor}
 use Rattle.fitting.specs.inside.Preconditions.{RowReady, TreeRowReady}
 
 -- the shape that code holds of a row of the tree
@@ -57,13 +57,13 @@ row-same : {start n m p : ℕ} {u w : ℕ → ℕ} {t s : Transition} {d q d′ 
     → ((k : ℕ) → k < n → t .middle k ≡ s .middle k) → ((k : ℕ) → k < n → t .up k ≡ s .up k)
     → RowFitted start n m p u t d q d′ q′ r → RowFitted start n m p w s d q d′ q′ r
 row-same {start} {n} {m} {p} {u} {w} {t} {s} {d} {q} {d′} {q′} {r} eu el ed em eh f =
-    let v = discount-same n p (rowStatePrices start n q) u w eu in
+    let v = discount-same n p (partValues start n q) u w eu in
     record {
       tested = f .tested ∙ each-cong n _ _ (λ k h. ap isDiscount (v k h));
       filled = λ e. f .filled e ∙ ap (place d start) (row-cong n _ _ v);
       kept = f .kept;
       stepped = f .stepped
-          ∙ ap (λ (l : List ℕ). cond r (place q (start + n) l) q) (row-cong m _ _ (λ j _. next-same n t s (rowStatePrices start n q) _ _ el ed em eh v j));
+          ∙ ap (λ (l : List ℕ). cond r (place q (start + n) l) q) (row-cong m _ _ (λ j _. next-same n t s (partValues start n q) _ _ el ed em eh v j));
     }
 
 -- a table's part for row i, as lending has it

@@ -181,7 +181,7 @@ module _ (n b : ℕ) (rates : List ℕ) (c : ℕ) (spreads flows : List ℕ) (fe
       Follows n (Stands (rateTree b) (rateTree c)) (λ k. k .rate) (rollOf b c rates spreads) (roll (rateTree b) (stored b rates) rollRounding)
   unfolding rateTree
   rates-follow a =
-      follows-rates rollRounding 1 1 roll-rounds (rateTree b) (rateTree c) (rate-tree-sound b (a .reversion-within-limit))
+      follows-rates rollRounding 1 1 roll-rounds (rateTree b) (rateTree c) (rate-tree-sound b (a .limits .reversion-within-limit))
       (rate-tree-sound c (o .reversion)) (stored b rates) (stored c spreads) n (λ i k hi hk. one-at n c spreads o i k hi hk)
 
   rates-top : Top-follows (Stands (rateTree b) (rateTree c)) (λ k. k .rate) (greatestPair b c) (λ i v. greatest (nodeCount b i) v)
@@ -231,7 +231,7 @@ module _ (n b : ℕ) (rates : List ℕ) (c : ℕ) (spreads flows : List ℕ) (fe
   unfolding rateTree
   spreads-follow a =
       follows-spreads rollRounding 1 1 roll-rounds (rateTree b) (rateTree c) (rate-tree-sound b (o .reversion))
-      (rate-tree-sound c (a .reversion-within-limit)) (stored b rates) (stored c spreads) n (λ i k hi hk. one-at n b rates o i k hi hk)
+      (rate-tree-sound c (a .limits .reversion-within-limit)) (stored b rates) (stored c spreads) n (λ i k hi hk. one-at n b rates o i k hi hk)
 
   spreads-top : Top-follows (Stands (rateTree b) (rateTree c)) (λ k. k .spread) (greatestPair b c) (λ i v. greatest (nodeCount c i) v)
   unfolding greatestPair rateTree

@@ -77,7 +77,7 @@ module _ (n b : ℕ) (discounts : List ℕ) (a : Accepted n b discounts) (rows :
 
   rows-are : (k : ℕ) → k < n → values rows k ≡ by-row k
   unfolding greatestDiscounts
-  rows-are k h = ap (λ (l : List ℕ). values l k) er ∙ padded-at mostSteps n by-row k (a .steps-within-limit) h
+  rows-are k h = ap (λ (l : List ℕ). values l k) er ∙ padded-at mostSteps n by-row k (a .limits .steps-within-limit) h
 
   same-bound : (i : ℕ) → i ≤ n → errorBound rollLoss (values rows) n i ≡ priceErrorBound (rateTree b) (stored b discounts) n i
   unfolding errorBound
@@ -87,14 +87,14 @@ module _ (n b : ℕ) (discounts : List ℕ) (a : Accepted n b discounts) (rows :
   unfolding rateTree greatestDiscount
   rows-bounded =
       record {
-        steps-within-limit = a .steps-within-limit;
+        steps-within-limit = a .limits .steps-within-limit;
         discounted = λ i h.
             omega (arith, rows-are i h, greatest-le (nodeCount b i) (stored b discounts i) mostDiscount (discount-within n b i h discounts a));
         bounds-small = λ i h.
             omega (
               arith,
               same-bound i h,
-              error-bound-small (rateTree b) (stored b discounts) n (λ r k hr hk. discount-within n b r hr discounts a k hk) (a .steps-within-limit) i h,
+              error-bound-small (rateTree b) (stored b discounts) n (λ r k hr hk. discount-within n b r hr discounts a k hk) (a .limits .steps-within-limit) i h,
             );
       }
 
@@ -109,7 +109,7 @@ module _ (n b i : ℕ) (discounts : List ℕ) (a : Lent n b discounts) (hi : i <
 
   module _ (s : RowShape) (es : s ≡ rowShapeAnswer b n i) where
     shape : s ≡ shapeOf b n i
-    shape = es ∙ sym (shape-found b n i (a .reversion-within-limit) (a .steps-within-limit) (omega arith) (omega (arith, a .steps-within-limit)))
+    shape = es ∙ sym (shape-found b n i (a .limits .reversion-within-limit) (a .limits .steps-within-limit) (omega arith) (omega (arith, a .limits .steps-within-limit)))
 
     count-is : s .count ≡ nodeCount b i
     count-is = ap (λ (x : RowShape). x .count) shape

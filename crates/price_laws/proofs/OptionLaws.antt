@@ -38,7 +38,7 @@ module _ (n kind expiry strike : ℕ) (cause : ℕ) (ec : cause ≡ optionCause 
   -- an expiry that no tree has is a cause
   expiry-judged : (b : ℕ) (discounts flows : List ℕ) → mostSteps < expiry → treeCause n b discounts flows ≡ 0 → cause ≡ 0 → ⊥
   expiry-judged b discounts flows many z none =
-      omega (arith, tree-lent n b discounts flows z .steps-within-limit, option-accepted n kind expiry strike (sym ec ∙ none) .0)
+      omega (arith, tree-lent n b discounts flows z .limits .steps-within-limit, option-accepted n kind expiry strike (sym ec ∙ none) .0)
 
   same-rows : (b : ℕ) (discounts flows : List ℕ) →
       scheduledPrice n b discounts flows (sideOf kind) strike (datedSchedule handed) cause

@@ -23,7 +23,7 @@ use Rattle.pricing.proofs.TreeRows as rows
 
 module _ (n b i : ℕ) (discounts : List ℕ) (a : Accepted n b discounts) (hi : i < n) (s : RowShape) (es : s ≡ rowShapeAnswer b n i) where
   shape : s ≡ shapeOf b n i
-  shape = es ∙ sym (shapes.shape-found b n i (a .reversion-within-limit) (a .steps-within-limit) (omega arith) (omega (arith, a .steps-within-limit)))
+  shape = es ∙ sym (shapes.shape-found b n i (a .limits .reversion-within-limit) (a .limits .steps-within-limit) (omega arith) (omega (arith, a .limits .steps-within-limit)))
 
   pub count-is : s .count ≡ nodeCount b i
   count-is = ap (λ (x : RowShape). x .count) shape
@@ -41,12 +41,12 @@ module _ (n b i : ℕ) (discounts : List ℕ) (a : Accepted n b discounts) (hi :
   discount-room = rw (start-is, count-is) (rows.discounts-fit n b i hi discounts a)
 
   pub shape-within : s .count ≤ mostNodes
-  shape-within = omega (arith, count-is, count-within b i (omega (arith, a .steps-within-limit)))
+  shape-within = omega (arith, count-is, count-within b i (omega (arith, a .limits .steps-within-limit)))
 
   -- the memory of the kept rows holds every row
   pub kept-room : (kept : List ℕ) → mostDiscounts ≤ length kept → s .start + s .count ≤ length kept
   kept-room kept long =
-      let few = a .steps-within-limit in
+      let few = a .limits .steps-within-limit in
       omega (arith, start-is, count-is, row-ends b i n hi, start-most b n, mul-le-mul {n₁ = n} {m₁ = n} {n₂ = mostSteps} {m₂ = mostSteps} few few)
 
   -- a row that is laid by its shape
@@ -57,7 +57,7 @@ module _ (n b i : ℕ) (discounts : List ℕ) (a : Accepted n b discounts) (hi :
   pub later-next : (later : List ℕ) → length later ≡ mostNodes → Limited later (nodeCount b (i + 1)) → Later later (s .next)
   later-next later room l =
       let z : nodeCount b (i + 1) ≡ s .next = ap (nodeCount b) (omega arith) ∙ sym next-is in
-      record { room = omega (arith, next-is, count-within b (suc i) (omega (arith, a .steps-within-limit))); limited = λ k h. l k (omega arith) }
+      record { room = omega (arith, next-is, count-within b (suc i) (omega (arith, a .limits .steps-within-limit))); limited = λ k h. l k (omega arith) }
 
   module _ (part : List ℕ) (ep : part ≡ take (s .count) (drop (s .start) discounts)) where
     part-is : part ≡ rows.discount-part n b i hi discounts a
@@ -75,7 +75,7 @@ module _ (n b i : ℕ) (discounts : List ℕ) (a : Accepted n b discounts) (hi :
         )
 
     pub part-within : length part ≤ mostNodes
-    part-within = omega (arith, ap length part-is, rows.discount-part-length n b i hi discounts a, count-within b i (omega (arith, a .steps-within-limit)))
+    part-within = omega (arith, ap length part-is, rows.discount-part-length n b i hi discounts a, count-within b i (omega (arith, a .limits .steps-within-limit)))
 
     module _ (downs : List ℕ) (et : downs ≡ downTable n b) (table : List ℕ) (ed : table ≡ take (s .count) (drop (s .offset) downs)) where
       table-is : table ≡ rows.table-part n b i hi discounts a

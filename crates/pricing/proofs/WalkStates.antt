@@ -74,10 +74,10 @@ module _ (n b : ℕ) (discounts flows : List ℕ) (a : Accepted n b discounts) (
   great = row-greatest (rateTree b)
 
   local : back.Local (On (rateTree b)) the-roll
-  local = roll-local (rateTree b) (rate-tree-sound b (a .reversion-within-limit)) (stored b discounts) rollRounding
+  local = roll-local (rateTree b) (rate-tree-sound b (a .limits .reversion-within-limit)) (stored b discounts) rollRounding
 
   narrow : (i k : ℕ) → i ≤ n → k < nodeCount b i → k < mostNodes
-  narrow i k h l = omega (arith, count-within b i (omega (arith, a .steps-within-limit)))
+  narrow i k h l = omega (arith, count-within b i (omega (arith, a .limits .steps-within-limit)))
 
   -- row n: its flow
   pub bonds-first : (l : List ℕ) → Holds l mostNodes (λ k. flowAt flows n) → Bonds n b discounts flows n l

@@ -8,7 +8,8 @@ ghost use Rattle.arithmetic.specs.Row.{sumOf};
 ghost use Rattle.limits.specs.Limits.{sumLimit};
 ghost use Rattle.text_laws.specs.inside.Put.{Put};
 ghost use Rattle.state_price_bound.specs.ErrorBound.{statePriceErrorBoundAnswer, statePriceErrorBoundsAnswer};
-ghost use Rattle.sheet_laws.specs.TreeSheet.{rowPart, nodeLines, lineOfRow, rowLines, optionLines, priceLines, treeSheet};
+ghost use Rattle.lent_tree.specs.LentTree.{storedRow};
+ghost use Rattle.sheet_laws.specs.TreeSheet.{nodeLines, lineOfRow, rowLines, optionLines, priceLines, treeSheet};
 ghost use Rattle.sheet_laws.specs.inside.Stored.{Drawing, Stored, Summed};
 use job_prices::JobPrices;
 use node_reader::NodeReader;
@@ -119,7 +120,7 @@ fn put_row<'a>(
     state_prices: &'a [u64],
 ) -> usize
     requires { ⌜ (row .before < tree .steps) × Stored (tree .steps) (tree .reversion) (now discounts) (now «state_prices»)
-        × (length (now quotes) ≡ tree .steps) × (sumOf (rowPart (tree .reversion) (now «state_prices») (suc (row .before))) ≤ sumLimit)
+        × (length (now quotes) ≡ tree .steps) × (sumOf (storedRow (tree .reversion) (now «state_prices») (suc (row .before))) ≤ sumLimit)
         × (longestLine ≤ end) × (end ≤ length (now out)) ⌝ }
     requires { ⌜ row .bound ≡ statePriceErrorBoundAnswer (tree .steps) (tree .reversion) (now discounts) (suc (row .before)) .value ⌝ }
     ensures { λ r. ⌜ Put (now (out .entry)) end (lineOfRow (tree .steps) (tree .reversion) (now (quotes .entry)) (now (discounts .entry))

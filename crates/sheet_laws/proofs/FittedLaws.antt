@@ -6,7 +6,7 @@ use mathlib.Core.List.{List, [], append-nil}
 use Prim.Native.Nat.{ℕ, suc, _≤_, _<_}
 use native.Mathlib.Omega.{arith}
 use lib.ListN.{length, take, length-take}
-use Rattle.limits.specs.inside.WithinLimits.{WithinLimits}
+use Rattle.limits.specs.WithinLimits.{WithinLimits}
 use Rattle.arithmetic.specs.Row.{sumOf}
 use Rattle.arithmetic.specs.Sum.{sum}
 use Rattle.arithmetic.specs.declared.Answer.{Answer}
@@ -19,7 +19,7 @@ use Rattle.lattice.specs.RateTree.{rateTree}
 use Rattle.lattice.specs.Entries.{discountsNeededAnswer, statePricesNeededAnswer}
 use Rattle.lattice.proofs.LaidLaws.{laid-part}
 use Rattle.lattice.proofs.TreeEntries.{tree-value}
-use Rattle.lent_tree.specs.LentTree.{acceptedDiscounts}
+use Rattle.lent_tree.specs.LentTree.{storedRow, acceptedDiscounts}
 use Rattle.lent_tree.proofs.LentLaws.{accepted-all}
 use Rattle.fitting.specs.Entry.{fitStatePrice}
 use Rattle.fitting.proofs.Promised.{fit-repriced}
@@ -33,11 +33,10 @@ use Rattle.job_prices.specs.JobPrices.{recordNumber, recordPrices, fittedMemory
 use Rattle.job_prices.proofs.Accepted.{record-accepted, record-formed}
 use Rattle.job_prices.proofs.PriceLaws.{fitted-placed}
 use Rattle.node_lines.specs.Rows.{acceptedNodes}
-use Rattle.sheet_laws.specs.TreeSheet.{rowPart}
 use Rattle.sheet_laws.specs.inside.Stored.{Stored, Summed, Fitted}
 
-pub total-row : (b : ℕ) (f : ℕ → ℕ → ℕ) (n i : ℕ) → i < n → sumOf (rowPart b (laid (rateTree b) f n) i) ≡ sum (nodeCount b i) (f i)
-unfolding sumOf rowPart
+pub total-row : (b : ℕ) (f : ℕ → ℕ → ℕ) (n i : ℕ) → i < n → sumOf (storedRow b (laid (rateTree b) f n) i) ≡ sum (nodeCount b i) (f i)
+unfolding sumOf storedRow
 total-row b f n i h =
     let part = rw (append-nil (laid (rateTree b) f n)) at (laid-part b f n i h []) in
     rw part (sum-row (nodeCount b i) (f i))

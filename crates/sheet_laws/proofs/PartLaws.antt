@@ -36,7 +36,8 @@ use Rattle.arithmetic.specs.declared.Answer.{Answer}
 use Rattle.state_price_bound.specs.ErrorBound.{statePriceErrorBoundAnswer, statePriceErrorBoundsAnswer}
 use Rattle.state_price_bound.proofs.BoundLaws.{bound-most}
 use Rattle.state_price_bound.proofs.Meaning.{bounds-at}
-use Rattle.sheet_laws.specs.TreeSheet.{rowPart, nodesOfRow, nodeLines, lineOfRow, rowLines, optionLines, priceLines, treeSheet}
+use Rattle.lent_tree.specs.LentTree.{storedRow}
+use Rattle.sheet_laws.specs.TreeSheet.{nodesOfRow, nodeLines, lineOfRow, rowLines, optionLines, priceLines, treeSheet}
 use Rattle.sheet_laws.specs.inside.Stored.{Lent, Stored, Summed}
 use Rattle.node_lines.proofs.LineLoop.{lines-fit}
 
@@ -68,13 +69,13 @@ module _ (n b : ℕ) (discounts prices : List ℕ) (h : Stored n b discounts pri
 
 -- ---- the part of a row
 
-pub part-size : (b i : ℕ) (memory : List ℕ) → rowStart b i + nodeCount b i ≤ length memory → length (rowPart b memory i) ≡ nodeCount b i
-unfolding rowPart
+pub part-size : (b i : ℕ) (memory : List ℕ) → rowStart b i + nodeCount b i ≤ length memory → length (storedRow b memory i) ≡ nodeCount b i
+unfolding storedRow
 part-size b i memory h = part-length memory (rowStart b i) (nodeCount b i) h
 
 pub part-below : (b i k bound : ℕ) (memory : List ℕ) → ((j : ℕ) → getD memory j 0 < bound) → k < nodeCount b i →
-    getD (rowPart b memory i) k 0 < bound
-unfolding rowPart
+    getD (storedRow b memory i) k 0 < bound
+unfolding storedRow
 part-below b i k bound memory each h = rw (part-value memory (rowStart b i) (nodeCount b i) k h) (each (rowStart b i + k))
 
 module _ (discounts prices : RefT (List ℕ)) (kind : RowKind) (n b i : ℕ) (part : RefT (List ℕ)) where
@@ -84,13 +85,13 @@ module _ (discounts prices : RefT (List ℕ)) (kind : RowKind) (n b i : ℕ) (pa
       PartOf (memoryOf discounts prices kind) (viewStart n b i kind (discounts .now) (prices .now))
       (viewCount n b i kind (discounts .now) (prices .now)) part
 
-  shown-by : isShown n b i kind (discounts .now) (prices .now) ≡ true → Shown → part .now ≡ rowPart b (memoryOf discounts prices kind .now) i
-  unfolding rowPart viewStart viewCount
+  shown-by : isShown n b i kind (discounts .now) (prices .now) ≡ true → Shown → part .now ≡ storedRow b (memoryOf discounts prices kind .now) i
+  unfolding storedRow viewStart viewCount
   shown-by s p = rw s at (p .contents)
 
   -- the row that the view shows is the part of its memory
   pub shown : Stored n b (discounts .now) (prices .now) → storesRow kind n i ≡ true → Shown →
-      part .now ≡ rowPart b (memoryOf discounts prices kind .now) i
+      part .now ≡ storedRow b (memoryOf discounts prices kind .now) i
   shown h s p = shown-by (is-stored (discounts .now) (prices .now) kind n b i (held n b _ _ h) s) p
 
 -- ---- the lines of a row, put by a call
@@ -101,7 +102,7 @@ pub row-stands : (out : List ℕ) (end b i : ℕ) (memory : List ℕ) (next : �
     Drew (readNumber (length out) end i memory next (nodeCount b i)) out end (rowText i (nodesBefore memory next (nodeCount b i)))
     (next - nodeCount b i) answer after →
     Put out end (nodesOfRow b memory i) (answer .start) after × (answer .next ≡ rowStart b i)
-unfolding rowPart nodesBefore
+unfolding storedRow nodesBefore
 row-stands out end b i memory next few accepted ends within h p l d =
     let count = nodeCount b i in
     let first : next - count ≡ rowStart b i = omega arith in
@@ -141,7 +142,7 @@ module _ (n b : ℕ) (discounts : List ℕ) (h : Lent n b discounts) (small : (j
   nodes-length i l =
       let s = part-size b i discounts (discounts-end n b discounts h i l) in
       let c = count-within b i (omega (arith, h .limits .steps-within-limit)) in
-      let long = row-length i (rowPart b discounts i) (omega (arith, h .limits .steps-within-limit)) (omega (arith, s, c))
+      let long = row-length i (storedRow b discounts i) (omega (arith, h .limits .steps-within-limit)) (omega (arith, s, c))
       (λ k below. part-below b i k (2 ^ 64) discounts small (omega (arith, s))) in
       omega (arith, s, long)
 
@@ -177,7 +178,7 @@ module _ (n b : ℕ) (quotes discounts prices : List ℕ) (few : n ≤ 60) (smal
   pub line-length : (i : ℕ) → i < n → length (lineOfRow n b quotes discounts prices i) ≤ longestLine
   unfolding lineOfRow
   line-length i l =
-      row-room (suc i) (values quotes i) (sumOf (rowPart b prices (suc i))) (statePriceErrorBoundAnswer n b discounts (suc i) .value) (omega arith) (small i)
+      row-room (suc i) (values quotes i) (sumOf (storedRow b prices (suc i))) (statePriceErrorBoundAnswer n b discounts (suc i) .value) (omega arith) (small i)
       (omega (arith, summed i l)) (omega (arith, bound-most n b discounts (suc i)))
 
   pub rows-fit : (i : ℕ) → i < n → longestLine * i + length (lineOfRow n b quotes discounts prices i) ≤ longestLine * suc i
@@ -191,13 +192,13 @@ bound-of n b discounts bounds k i e eb =
 
 -- the line that the code puts is the row's
 pub row-line-stands : (n b : ℕ) (quotes discounts prices : List ℕ) (i end added : ℕ) (out after : List ℕ) (bound : ℕ) {answer : Placed} →
-    added ≡ sumOf (rowPart b prices (suc i)) → bound ≡ statePriceErrorBoundAnswer n b discounts (suc i) .value → i < 60 → getD quotes i 0 < 2 ^ 64 →
+    added ≡ sumOf (storedRow b prices (suc i)) → bound ≡ statePriceErrorBoundAnswer n b discounts (suc i) .value → i < 60 → getD quotes i 0 < 2 ^ 64 →
     added < 2 ^ 64 → longestLine ≤ end → end ≤ length out →
     Answered (lineNumber (length out) end) out end (rowLine (i + 1) (values quotes i) added bound) answer after →
     Put out end (lineOfRow n b quotes discounts prices i) (answer .start) after
 unfolding lineOfRow
 row-line-stands n b quotes discounts prices i end added out after bound {answer} es eb few q s h p a =
-    let sum = sumOf (rowPart b prices (suc i)) in
+    let sum = sumOf (storedRow b prices (suc i)) in
     let allowed = statePriceErrorBoundAnswer n b discounts (suc i) .value in
     let same : rowLine (i + 1) (values quotes i) added bound ≡ rowLine (suc i) (values quotes i) sum allowed = rw (← es, ← eb, add-one i) in
     line-stands out end _ h p

@@ -9,7 +9,7 @@ use native.Mathlib.Omega.{arith}
 use borrow.Author.Tests.{leb-true, le-leb}
 use lib.Dec.{leb, ltb}
 use lib.Ieee.{Float}
-use Rattle.limits.specs.inside.WithinLimits.{WithinLimits}
+use Rattle.limits.specs.WithinLimits.{WithinLimits}
 use Rattle.arithmetic.specs.Answers.{lowestCause, firstCause}
 use Rattle.arithmetic.specs.Rounding.{one}
 use Rattle.arithmetic.specs.Frequency.{isFrequency}

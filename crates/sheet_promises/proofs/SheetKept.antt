@@ -21,7 +21,7 @@ use Rattle.limits.specs.Limits.{mostDiscounts, mostStatePrices}
 use Rattle.lattice.specs.Shape.{halfWidth, nodeCount, rowStart}
 use Rattle.lattice.specs.RateTree.{nodeOfIndex, node}
 use Rattle.lattice.proofs.Sizes.{row-ends}
-use Rattle.lent_tree.specs.LentTree.{Accepted, stored}
+use Rattle.lent_tree.specs.LentTree.{Accepted, stored, storedRow}
 use Rattle.lent_tree.proofs.LentLaws.{accepted}
 use Rattle.curve.specs.Curve.{discountAt}
 use Rattle.step_rate.specs.StepRate.{rateAnswer}
@@ -42,7 +42,7 @@ use Rattle.text_laws.specs.Decimal.{signOf}
 use Rattle.text_laws.specs.Lines.{nodeLine, lineOfNode}
 use Rattle.text_laws.proofs.Signs.{sign-negative, sign-none}
 use Rattle.node_lines.specs.Rows.{nodeText}
-use Rattle.sheet_laws.specs.TreeSheet.{rowPart, treeSheet}
+use Rattle.sheet_laws.specs.TreeSheet.{treeSheet}
 use Rattle.sheet_laws.specs.WholeJob.{jobText, sheetNumber, sheetText, printedText}
 use Rattle.sheet_laws.proofs.PartLaws.{part-size}
 use Rattle.sheet_laws.proofs.FittedLaws.{total-row}
@@ -93,12 +93,12 @@ module _ (n b : ℕ) (discounts : List ℕ) (a : Accepted n b discounts) (i k : 
   row-room : rowStart b i + nodeCount b i ≤ length discounts
   row-room = omega (arith, row-ends b i n hi, a .room)
 
-  place-shown : nodeOfIndex (length (rowPart b discounts i) / 2) k ≡ node b i k
+  place-shown : nodeOfIndex (length (storedRow b discounts i) / 2) k ≡ node b i k
   unfolding nodeCount
   place-shown = ap (λ (x : ℕ). nodeOfIndex (x / 2) k) (part-size b i discounts row-room) ∙ ap (λ (w : ℕ). nodeOfIndex w k) (half-of (halfWidth b i))
 
-  discount-shown : values (rowPart b discounts i) k ≡ stored b discounts i k
-  unfolding rowPart stored
+  discount-shown : values (storedRow b discounts i) k ≡ stored b discounts i k
+  unfolding storedRow stored
   discount-shown = part-value discounts (rowStart b i) (nodeCount b i) k hk
 
   node-shown : rateAnswer (stored b discounts i k) .number ≡ 0 → NodeShown b discounts i k

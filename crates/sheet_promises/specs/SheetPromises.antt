@@ -11,7 +11,7 @@ use Rattle.arithmetic.specs.Row.{values, sumOf}
 use Rattle.tree.specs.Tree.{unit}
 use Rattle.lattice.specs.Shape.{nodeCount}
 use Rattle.lattice.specs.RateTree.{node}
-use Rattle.lent_tree.specs.LentTree.{stored}
+use Rattle.lent_tree.specs.LentTree.{stored, storedRow}
 use Rattle.step_rate.specs.StepRate.{rateAnswer}
 use Rattle.state_price_bound.specs.ErrorBound.{statePriceErrorBoundAnswer}
 use Rattle.price_laws.specs.Exact.{exactBond, exactOption, exactDated, Accurate}
@@ -24,7 +24,7 @@ use Rattle.job_prices.specs.declared.JobPrices.{JobPrices}
 use Rattle.text_laws.specs.Decimal.{signOf}
 use Rattle.text_laws.specs.Lines.{nodeLine}
 use Rattle.node_lines.specs.Rows.{nodeText}
-use Rattle.sheet_laws.specs.TreeSheet.{rowPart, nodeLines, rowLines, priceLines}
+use Rattle.sheet_laws.specs.TreeSheet.{nodeLines, rowLines, priceLines}
 use Rattle.sheet_laws.specs.WholeJob.{sheetNumber, sheetText, printedText}
 use Rattle.promises.specs.Promises.{Repriced, NoneAboveOne}
 use Rattle.sheet_promises.specs.JobMeant.{JobMeant}
@@ -33,7 +33,7 @@ use Rattle.sheet_promises.specs.JobMeant.{JobMeant}
 -- is above one
 pub record NodeShown (b : ℕ) (discounts : List ℕ) (i k : ℕ) : Type 0 where
   pub line :
-      nodeText i (rowPart b discounts i) k
+      nodeText i (storedRow b discounts i) k
       ≡ nodeLine i (node b i k) (stored b discounts i k) (rateAnswer (stored b discounts i k) .value)
   pub rated : rateAnswer (stored b discounts i k) .number ≡ 0
   pub sign : signOf (rateAnswer (stored b discounts i k) .value) ≡ cond (ltb one (stored b discounts i k)) (45 ∷ []) []
@@ -41,7 +41,7 @@ pub record NodeShown (b : ℕ) (discounts : List ℕ) (i k : ℕ) : Type 0 where
 -- the line of row i + 1: an error bound that the entry gives, and a quote within 300 of the sum of the row's state prices
 pub record RowShown (n b : ℕ) (quotes discounts prices : List ℕ) (i : ℕ) : Type 0 where
   pub bounded : statePriceErrorBoundAnswer n b discounts (suc i) .number ≡ 0
-  pub repriced : Repriced (values quotes i) (sumOf (rowPart b prices (suc i)))
+  pub repriced : Repriced (values quotes i) (sumOf (storedRow b prices (suc i)))
 
 -- the exact price of a job's option: of a kind and an expiry by tag 8, of a side and listed rows by tag 10
 unfoldable pub exactTagged : ℕ → ℕ → List ℕ → List ℕ → OptionRecord → ℕ

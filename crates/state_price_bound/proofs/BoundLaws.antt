@@ -57,8 +57,8 @@ pub before-row : (n b : ℕ) (discounts : List ℕ) → Accepted n b discounts �
 before-row n b discounts a i h =
     let s = start-grow b i n h in
     record {
-      reversion-within-limit = a .reversion-within-limit;
-      row-within-limit = omega (arith, a .steps-within-limit);
+      reversion-within-limit = a .limits .reversion-within-limit;
+      row-within-limit = omega (arith, a .limits .steps-within-limit);
       room = omega (arith, a .room);
       discounted = λ k l. a .discounted k (omega arith);
     }

@@ -78,7 +78,7 @@ module _ (n b : ℕ) (discounts : List ℕ) where
     unfolding statePriceErrorBounds
     row-there-answered z h =
         padded-at (mostSteps + 1) (n + 1) (statePriceErrorBound (rateTree b) (stored b discounts)) i
-        (omega (arith, accepted n b discounts z .steps-within-limit)) (omega arith)
+        (omega (arith, accepted n b discounts z .limits .steps-within-limit)) (omega arith)
         ∙ sym (answer-value n b discounts i (row-answered i z h))
 
     row-past-answered : n < i → RowAnswered i (statePriceErrorBounds n b discounts)
@@ -114,5 +114,5 @@ bound-covers n b discounts i z =
       below = state-below (rateTree b) (stored b discounts) i;
       short =
           rw (answer-value n b discounts i none)
-          (state-price-shortfall (rateTree b) (rate-tree-sound b (not-refused n b discounts i none .tree .reversion-within-limit)) (stored b discounts) i);
+          (state-price-shortfall (rateTree b) (rate-tree-sound b (not-refused n b discounts i none .tree .limits .reversion-within-limit)) (stored b discounts) i);
     }

@@ -214,8 +214,8 @@ module _ (n b : ℕ) (discounts : List ℕ) (i : ℕ) (payoffs : List ℕ) where
       counted : length payoffs ≡ nodeCount b i
       counted =
           known .0
-          ∙ row-value b i (nodeCount b i) nodes (f .row-nodes) (lent .tree .reversion-within-limit)
-          (omega (arith, lent .present, lent .tree .steps-within-limit))
+          ∙ row-value b i (nodeCount b i) nodes (f .row-nodes) (lent .tree .limits .reversion-within-limit)
+          (omega (arith, lent .present, lent .tree .limits .steps-within-limit))
 
       pub none-sizes : (g ≤ valueLimit) × (bound .value ≤ 1000000)
       none-sizes = (known .1, omega (arith, ap (λ (a : Answer). a .value) (f .row-bound), bound-most n b discounts i))
@@ -234,7 +234,7 @@ module _ (n b : ℕ) (discounts : List ℕ) (i : ℕ) (payoffs : List ℕ) where
   unfolding valuationErrorBoundAnswer valuationCause boundCause lowestCause
   bound-given d h e g =
       let l = accepted n b discounts d in
-      let count = e ∙ sym (row-value b i (nodeCount b i) (nodeCountAnswer b i) refl (l .reversion-within-limit) (omega (arith, l .steps-within-limit))) in
+      let count = e ∙ sym (row-value b i (nodeCount b i) (nodeCountAnswer b i) refl (l .limits .reversion-within-limit) (omega (arith, l .limits .steps-within-limit))) in
       rw (
         d,
         ← row-there n i h,

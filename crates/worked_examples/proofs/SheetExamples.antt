@@ -18,7 +18,7 @@ use Rattle.lattice.specs.Shape.{highestNode, halfWidth, nodeCount, rowStart, di
 use Rattle.lattice.specs.Branching.{branching, lowestOf, zOf, upFormula, middleFormula, downFormula, upProbability, middleProbability, downProbability}
 use Rattle.lattice.specs.RateTree.{nodeOfIndex, low, rateTree}
 use Rattle.lattice.specs.Entries.{aboutTree, memoryCause}
-use Rattle.lent_tree.specs.LentTree.{stored, acceptedDiscounts, discountsCause}
+use Rattle.lent_tree.specs.LentTree.{stored, storedRow, acceptedDiscounts, discountsCause}
 use Rattle.figure.specs.Figure.{magnitudeOf, billionthsOf, beyond, patternFloat}
 use Rattle.quotes.specs.Quotes.{rowKnown, inRange, factorDiscount, rangedAnswer, figureAnswer, quoteAnswer, kindAnswer, loneAnswer}
 use Rattle.curve.specs.Curve.{inPlace, answerAt, curveNumber}
@@ -53,7 +53,7 @@ use Rattle.text_laws.specs.Decimal.{natural, naturalWithin, lastDigits, decimal
 use Rattle.text_laws.specs.Lines.{lineOfNode, nodeLine, rowLine, priceLine, refusedLine}
 use Rattle.node_lines.specs.Rows.{nodeText, lines}
 use Rattle.sheet_room.specs.Room.{sheetRoom}
-use Rattle.sheet_laws.specs.TreeSheet.{rowPart, lineOfRow, priceLines, treeSheet}
+use Rattle.sheet_laws.specs.TreeSheet.{lineOfRow, priceLines, treeSheet}
 use Rattle.sheet_laws.specs.WholeJob.{roomCause, jobNumber, jobText, sheetNumber, sheetText, printedText}
 use Rattle.worked_examples.specs.Sheets.{Sheets}
 
@@ -165,7 +165,7 @@ tree-text : (option : Price) →
     treeSheet 1 0 (1002500000 ∷ []) (1002500000 ∷ []) (1000000000 ∷ 167083333 ∷ 668333333 ∷ 167083333 ∷ [])
     (record { number = 0; value = 1002500000; bound = 2 }) false option
     ≡ nodeBytes ++ (rowBytes ++ bondBytes)
-unfolding treeSheet lines nodeText lineOfNode nodeOfIndex rowPart rowStart sum nodeCount halfWidth nodeLine natural naturalWithin lastDigits decimal
+unfolding treeSheet lines nodeText lineOfNode nodeOfIndex storedRow rowStart sum nodeCount halfWidth nodeLine natural naturalWithin lastDigits decimal
     signedDecimal rateAnswer nearest lineOfRow rowLine sumOf statePriceErrorBoundAnswer boundCause rowCause lowestCause discountsCause shapeCause
     acceptedDiscounts each discountsNeeded statePriceErrorBound greatest rateTree stored roundUp priceLines priceLine
 tree-text option = refl

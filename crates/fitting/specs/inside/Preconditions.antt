@@ -4,7 +4,7 @@ use mathlib.Core.Path.{_≡_}
 use mathlib.Core.List.{List}
 use Prim.Native.Nat.{ℕ, suc, _+_, _-_, _*_, _≤_, _<_}
 use lib.ListN.{length}
-use Rattle.limits.specs.inside.WithinLimits.{WithinLimits}
+use Rattle.limits.specs.WithinLimits.{WithinLimits}
 use Rattle.arithmetic.specs.Rounding.{one}
 use Rattle.arithmetic.specs.Sum.{sum}
 use Rattle.arithmetic.specs.Row.{values}
@@ -16,7 +16,7 @@ use Rattle.lattice.specs.RateTree.{node}
 use Rattle.row_branches.specs.declared.RowBranch.{RowBranch}
 use Rattle.row_branches.specs.inside.Transitions.{branchTotal, rowTransition}
 use Rattle.fit_laws.specs.inside.Bounds.{leastFactor, mostFactor, leastRowSum, mostRowSum, mostCarried, mostIncoming}
-use Rattle.fitting.specs.inside.Rows.{rowStatePrices}
+use Rattle.fitting.specs.inside.Rows.{partValues}
 
 -- the factors of a row of n nodes, within the bounds of the series
 pub record Factors (u : List ℕ) (n : ℕ) : Type 0 where
@@ -51,8 +51,8 @@ pub record RowReady (at next quote : ℕ) (factors downs discounts state-prices 
   pub room-discounts : at + length factors ≤ length discounts
   pub room-state-prices : at + length factors + next ≤ length state-prices
   pub room-sums : next ≤ length sums
-  pub row-sum-least : leastRowSum ≤ sum (length factors) (rowStatePrices at (length factors) state-prices)
-  pub row-sum-most : sum (length factors) (rowStatePrices at (length factors) state-prices) ≤ mostRowSum
+  pub row-sum-least : leastRowSum ≤ sum (length factors) (partValues at (length factors) state-prices)
+  pub row-sum-most : sum (length factors) (partValues at (length factors) state-prices) ≤ mostRowSum
   pub quote-within-limit : quote ≤ mostQuote
 
 -- the tables of a tree of n steps and reversion b, as long as row n − 1
@@ -69,8 +69,8 @@ pub record TreeRowReady (b n i quote : ℕ) (factors downs discounts state-price
   pub room-discounts : rowStart b n ≤ length discounts
   pub room-state-prices : rowStart b (suc n) ≤ length state-prices
   pub room-sums : mostNodes ≤ length sums
-  pub row-sum-least : leastRowSum ≤ sum (nodeCount b i) (rowStatePrices (rowStart b i) (nodeCount b i) state-prices)
-  pub row-sum-most : sum (nodeCount b i) (rowStatePrices (rowStart b i) (nodeCount b i) state-prices) ≤ mostRowSum
+  pub row-sum-least : leastRowSum ≤ sum (nodeCount b i) (partValues (rowStart b i) (nodeCount b i) state-prices)
+  pub row-sum-most : sum (nodeCount b i) (partValues (rowStart b i) (nodeCount b i) state-prices) ≤ mostRowSum
   pub quote-within-limit : quote ≤ mostQuote
 
 -- a fit from tables: quotes within their range, and room for the tree in both memories and for a row's sums

@@ -17,11 +17,11 @@ unfoldable pub tableFactor : ℕ → ℕ → List ℕ → ℕ → ℕ → ℕ
 tableFactor b n factors i k = values factors (tableOffset b (n - 1) i + k)
 
 -- the state prices of the row of so many nodes that starts at a place of a memory, and the discounts that follow from them
-abbrev pub rowStatePrices : ℕ → ℕ → List ℕ → ℕ → ℕ
-rowStatePrices start count state-prices = values (take count (drop start state-prices))
+abbrev pub partValues : ℕ → ℕ → List ℕ → ℕ → ℕ
+partValues start count state-prices = values (take count (drop start state-prices))
 
 abbrev pub rowDiscounts : ℕ → ℕ → ℕ → (ℕ → ℕ) → List ℕ → ℕ → ℕ
-rowDiscounts start count quote factor state-prices = discount count (rowStatePrices start count state-prices) factor quote
+rowDiscounts start count quote factor state-prices = discount count (partValues start count state-prices) factor quote
 
 -- what the step of a row leaves: its discounts, and the sums over the branches into each node of the next row
 pub record RowStepped (quote next : ℕ) (state-prices factors downs discounts′ sums′ : List ℕ) (accepted : Bool) : Type 0 where
@@ -38,4 +38,4 @@ pub record RowFitted (start count next quote : ℕ) (factor : ℕ → ℕ) (t : 
   pub filled : accepted ≡ true → discounts′ ≡ place discounts start (row count (rowDiscounts start count quote factor state-prices))
   pub kept : drop (start + count) discounts′ ≡ drop (start + count) discounts
   pub stepped : state-prices′ ≡ cond accepted (place state-prices (start + count) (row next
-      (nextStatePrice t count (rowStatePrices start count state-prices) (rowDiscounts start count quote factor state-prices)))) state-prices
+      (nextStatePrice t count (partValues start count state-prices) (rowDiscounts start count quote factor state-prices)))) state-prices

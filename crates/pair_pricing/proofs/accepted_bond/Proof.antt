@@ -15,7 +15,7 @@ array-share-prefix-rate-table c =
     let node-count = c .before .before .before .before .before .node-count in
     let s = c .before .before .before .before .before .before .before .before .before in
     let a = c .before .before .before .before .before .before .before .before .before .pre .trees .rate-tree in
-    prefix-room _ _ (a .steps-within-limit) (a .reversion-within-limit) _ _ (node-count .ensures) (table-of .ensures)
+    prefix-room _ _ (a .limits .steps-within-limit) (a .limits .reversion-within-limit) _ _ (node-count .ensures) (table-of .ensures)
 
 slice-aggregate-roll-bond : tie.Need-slice-aggregate-roll-bond
 slice-aggregate-roll-bond c =
@@ -23,7 +23,7 @@ slice-aggregate-roll-bond c =
     let node-count = c .before .before .before .before .before .before .node-count in
     let s = c .before .before .before .before .before .before .before .before .before .before in
     let a = c .before .before .before .before .before .before .before .before .before .before .pre .trees .rate-tree in
-    prefix-length _ _ (prefix-room _ _ (a .steps-within-limit) (a .reversion-within-limit) _ _ (node-count .ensures) (table-of .ensures))
+    prefix-length _ _ (prefix-room _ _ (a .limits .steps-within-limit) (a .limits .reversion-within-limit) _ _ (node-count .ensures) (table-of .ensures))
 
 array-share-prefix-spread-table : tie.Need-array-share-prefix-spread-table
 array-share-prefix-spread-table c =
@@ -31,7 +31,7 @@ array-share-prefix-spread-table c =
     let node-count2 = c .before .before .before .before .node-count2 in
     let s = c .before .before .before .before .before .before .before .before .before .before in
     let a = c .before .before .before .before .before .before .before .before .before .before .pre .trees .spread-tree in
-    prefix-room _ _ (a .steps-within-limit) (a .reversion-within-limit) _ _ (node-count2 .ensures) (table-of2 .ensures)
+    prefix-room _ _ (a .limits .steps-within-limit) (a .limits .reversion-within-limit) _ _ (node-count2 .ensures) (table-of2 .ensures)
 
 slice-aggregate-roll-bond-2 : tie.Need-slice-aggregate-roll-bond-2
 slice-aggregate-roll-bond-2 c =
@@ -39,7 +39,7 @@ slice-aggregate-roll-bond-2 c =
     let node-count2 = c .before .before .before .before .before .node-count2 in
     let s = c .before .before .before .before .before .before .before .before .before .before .before in
     let a = c .before .before .before .before .before .before .before .before .before .before .before .pre .trees .spread-tree in
-    prefix-length _ _ (prefix-room _ _ (a .steps-within-limit) (a .reversion-within-limit) _ _ (node-count2 .ensures) (table-of2 .ensures))
+    prefix-length _ _ (prefix-room _ _ (a .limits .steps-within-limit) (a .limits .reversion-within-limit) _ _ (node-count2 .ensures) (table-of2 .ensures))
 
 roll-bond-requires : tie.Need-roll-bond-requires
 roll-bond-requires c κs =
@@ -52,8 +52,8 @@ roll-bond-requires c κs =
     let q = s .pre .trees .spread-tree in (
       s .pre,
       record {
-        rate-table = prefix-is _ _ (r .steps-within-limit) (r .reversion-within-limit) _ _ (node-count .ensures) (table-of .ensures);
-        spread-table = prefix-is _ _ (q .steps-within-limit) (q .reversion-within-limit) _ _ (node-count2 .ensures) (table-of2 .ensures);
+        rate-table = prefix-is _ _ (r .limits .steps-within-limit) (r .limits .reversion-within-limit) _ _ (node-count .ensures) (table-of .ensures);
+        spread-table = prefix-is _ _ (q .limits .steps-within-limit) (q .limits .reversion-within-limit) _ _ (node-count2 .ensures) (table-of2 .ensures);
       },
       omega arith,
     )

@@ -16,7 +16,7 @@ array-share-prefix-rate-table c =
     let node-count = c .before .before .before .before .before .before .node-count in
     let s = c .before .before .before .before .before .before .before .before .before .before .before in
     let a = c .before .before .before .before .before .before .before .before .before .before .before .pre .0 .trees .rate-tree in
-    prefix-room _ _ (a .steps-within-limit) (a .reversion-within-limit) _ _ (node-count .ensures) (table-of .ensures)
+    prefix-room _ _ (a .limits .steps-within-limit) (a .limits .reversion-within-limit) _ _ (node-count .ensures) (table-of .ensures)
 
 slice-aggregate-roll-option : tie.Need-slice-aggregate-roll-option
 slice-aggregate-roll-option c =
@@ -24,7 +24,7 @@ slice-aggregate-roll-option c =
     let node-count = c .before .before .before .before .before .before .before .node-count in
     let s = c .before .before .before .before .before .before .before .before .before .before .before .before in
     let a = c .before .before .before .before .before .before .before .before .before .before .before .before .pre .0 .trees .rate-tree in
-    prefix-length _ _ (prefix-room _ _ (a .steps-within-limit) (a .reversion-within-limit) _ _ (node-count .ensures) (table-of .ensures))
+    prefix-length _ _ (prefix-room _ _ (a .limits .steps-within-limit) (a .limits .reversion-within-limit) _ _ (node-count .ensures) (table-of .ensures))
 
 array-share-prefix-spread-table : tie.Need-array-share-prefix-spread-table
 array-share-prefix-spread-table c =
@@ -32,7 +32,7 @@ array-share-prefix-spread-table c =
     let node-count2 = c .before .before .before .before .before .node-count2 in
     let s = c .before .before .before .before .before .before .before .before .before .before .before .before in
     let a = c .before .before .before .before .before .before .before .before .before .before .before .before .pre .0 .trees .spread-tree in
-    prefix-room _ _ (a .steps-within-limit) (a .reversion-within-limit) _ _ (node-count2 .ensures) (table-of2 .ensures)
+    prefix-room _ _ (a .limits .steps-within-limit) (a .limits .reversion-within-limit) _ _ (node-count2 .ensures) (table-of2 .ensures)
 
 slice-aggregate-roll-option-2 : tie.Need-slice-aggregate-roll-option-2
 slice-aggregate-roll-option-2 c =
@@ -40,7 +40,7 @@ slice-aggregate-roll-option-2 c =
     let node-count2 = c .before .before .before .before .before .before .node-count2 in
     let s = c .before .before .before .before .before .before .before .before .before .before .before .before .before in
     let a = c .before .before .before .before .before .before .before .before .before .before .before .before .before .pre .0 .trees .spread-tree in
-    prefix-length _ _ (prefix-room _ _ (a .steps-within-limit) (a .reversion-within-limit) _ _ (node-count2 .ensures) (table-of2 .ensures))
+    prefix-length _ _ (prefix-room _ _ (a .limits .steps-within-limit) (a .limits .reversion-within-limit) _ _ (node-count2 .ensures) (table-of2 .ensures))
 
 roll-option-requires : tie.Need-roll-option-requires
 roll-option-requires c κs =
@@ -53,8 +53,8 @@ roll-option-requires c κs =
     let q = s .pre .0 .trees .spread-tree in (
       s .pre .0,
       record {
-        rate-table = prefix-is _ _ (r .steps-within-limit) (r .reversion-within-limit) _ _ (node-count .ensures) (table-of .ensures);
-        spread-table = prefix-is _ _ (q .steps-within-limit) (q .reversion-within-limit) _ _ (node-count2 .ensures) (table-of2 .ensures);
+        rate-table = prefix-is _ _ (r .limits .steps-within-limit) (r .limits .reversion-within-limit) _ _ (node-count .ensures) (table-of .ensures);
+        spread-table = prefix-is _ _ (q .limits .steps-within-limit) (q .limits .reversion-within-limit) _ _ (node-count2 .ensures) (table-of2 .ensures);
       },
       s .pre .1,
     )

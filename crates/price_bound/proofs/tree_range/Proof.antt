@@ -42,13 +42,13 @@ returns c =
     )
 
 mul-rows : tie.Need-mul-rows Inv-loop μ-loop
-mul-rows c = omega (arith, c .before .before .before .before .before .before .before .pre .steps-within-limit)
+mul-rows c = omega (arith, c .before .before .before .before .before .before .before .pre .limits .steps-within-limit)
 
 array-write-rows : tie.Need-array-write-rows Inv-loop μ-loop
-array-write-rows c = omega (arith, c .before .before .before .before .before .before .before .pre .steps-within-limit)
+array-write-rows c = omega (arith, c .before .before .before .before .before .before .before .pre .limits .steps-within-limit)
 
 add-row : tie.Need-add-row Inv-loop μ-loop
-add-row c = omega (arith, c .before .before .before .before .before .before .before .pre .steps-within-limit)
+add-row c = omega (arith, c .before .before .before .before .before .before .before .pre .limits .steps-within-limit)
 
 loop-again : tie.Need-loop-again Inv-loop μ-loop
 loop-again c =
@@ -57,7 +57,7 @@ loop-again c =
     let within = not-false _ (c .if1 .left) in (
       omega (arith, c .before .before .before .loop-test .taken),
       each-more _ _ (l .inv .1) (sym (ranged .ensures .0) ∙ within),
-      filled-next _ _ _ _ _ (l .inv .2) (omega (arith, c .before .before .before .before .before .before .before .pre .steps-within-limit))
+      filled-next _ _ _ _ _ (l .inv .2) (omega (arith, c .before .before .before .before .before .before .before .pre .limits .steps-within-limit))
           (ranged .ensures .1 within),
     )
 

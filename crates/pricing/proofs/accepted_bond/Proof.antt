@@ -10,13 +10,13 @@ use Rattle.pricing.proofs.accepted_bond.Tie as tie
 array-share-prefix-table : tie.Need-array-share-prefix-table
 array-share-prefix-table c =
     let tree = c .before .before .before .before .before .pre .0 in
-    prefix-room _ _ (tree .steps-within-limit) (tree .reversion-within-limit) _ _ (c .before .before .node-count .ensures) (c .before .table-of .ensures)
+    prefix-room _ _ (tree .limits .steps-within-limit) (tree .limits .reversion-within-limit) _ _ (c .before .before .node-count .ensures) (c .before .table-of .ensures)
 
 slice-aggregate-roll-bond : tie.Need-slice-aggregate-roll-bond
 slice-aggregate-roll-bond c =
     let s = c .before .before .before .before .before .before in
-    let few = s .pre .0 .steps-within-limit in
-    let low = s .pre .0 .reversion-within-limit in
+    let few = s .pre .0 .limits .steps-within-limit in
+    let low = s .pre .0 .limits .reversion-within-limit in
     prefix-length _ _ (prefix-room _ _ few low _ _ (c .before .before .before .node-count .ensures) (c .before .before .table-of .ensures))
 
 roll-bond-requires : tie.Need-roll-bond-requires
@@ -28,7 +28,7 @@ roll-bond-requires c κs =
       record {
         tree = s .pre .0;
         paid = s .pre .1;
-        table = prefix-is _ _ (s .pre .0 .steps-within-limit) (s .pre .0 .reversion-within-limit) _ _ (node-count .ensures) (table-of .ensures);
+        table = prefix-is _ _ (s .pre .0 .limits .steps-within-limit) (s .pre .0 .limits .reversion-within-limit) _ _ (node-count .ensures) (table-of .ensures);
       },
       omega arith,
     )

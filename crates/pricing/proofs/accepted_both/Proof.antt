@@ -13,13 +13,13 @@ start c = c .before .before .before .before .before
 array-share-prefix-table : tie.Need-array-share-prefix-table
 array-share-prefix-table c =
     let tree = start c .pre .0 in
-    prefix-room _ _ (tree .steps-within-limit) (tree .reversion-within-limit) _ _ (c .before .node-count .ensures) (c .table-of .ensures)
+    prefix-room _ _ (tree .limits .steps-within-limit) (tree .limits .reversion-within-limit) _ _ (c .before .node-count .ensures) (c .table-of .ensures)
 
 slice-aggregate-roll-both : tie.Need-slice-aggregate-roll-both
 slice-aggregate-roll-both c =
     let made = c .before in
     let tree = start made .pre .0 in
-    let room = prefix-room _ _ (tree .steps-within-limit) (tree .reversion-within-limit) _ _ (made .before .node-count .ensures) (made .table-of .ensures) in
+    let room = prefix-room _ _ (tree .limits .steps-within-limit) (tree .limits .reversion-within-limit) _ _ (made .before .node-count .ensures) (made .table-of .ensures) in
     prefix-length _ _ room
 
 roll-both-requires : tie.Need-roll-both-requires
@@ -30,7 +30,7 @@ roll-both-requires c κs =
       record {
         tree = tree;
         paid = s .pre .1;
-        table = prefix-is _ _ (tree .steps-within-limit) (tree .reversion-within-limit) _ _ (made .before .node-count .ensures) (made .table-of .ensures);
+        table = prefix-is _ _ (tree .limits .steps-within-limit) (tree .limits .reversion-within-limit) _ _ (made .before .node-count .ensures) (made .table-of .ensures);
       },
       s .pre .2,
     )

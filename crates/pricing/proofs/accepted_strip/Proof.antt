@@ -19,13 +19,13 @@ tree s = tree-lent _ _ _ _ (s .pre .0)
 table-of-requires : tie.Need-table-of-requires
 table-of-requires c κs =
     let t = tree (c .before .before .before .before .before) in
-    (t .steps-within-limit, t .reversion-within-limit)
+    (t .limits .steps-within-limit, t .limits .reversion-within-limit)
 
 -- the table that is lent on
 room : (c : tie.After-table-of) → c .before .node-count .result .value ≤ length (c .table-of .result)
 room c =
     let t = tree (c .before .before .before .before .before .before) in
-    prefix-room _ _ (t .steps-within-limit) (t .reversion-within-limit) _ _ (c .before .node-count .ensures) (c .table-of .ensures)
+    prefix-room _ _ (t .limits .steps-within-limit) (t .limits .reversion-within-limit) _ _ (c .before .node-count .ensures) (c .table-of .ensures)
 
 ready : (c : tie.After-table-of) → let a = c .before .before .before .before .before .before .args in
     Ready (a .tree .steps) (a .tree .reversion) (take (c .before .node-count .result .value) (c .table-of .result)) (now (a .discounts)) (now (a .flows))
@@ -34,7 +34,7 @@ ready c =
     record {
       tree = t;
       paid = tree-paid _ _ _ _ (c .before .before .before .before .before .before .pre .0);
-      table = prefix-is _ _ (t .steps-within-limit) (t .reversion-within-limit) _ _ (c .before .node-count .ensures) (c .table-of .ensures);
+      table = prefix-is _ _ (t .limits .steps-within-limit) (t .limits .reversion-within-limit) _ _ (c .before .node-count .ensures) (c .table-of .ensures);
     }
 
 array-share-prefix-table : tie.Need-array-share-prefix-table

@@ -44,14 +44,14 @@ returns-2 c =
 
 -- where there is no cause about the option either
 exercised : (c : tie.Else2) → let a = start (c .before) .args in ExercisedOn (a .terms) (a .tree .steps) (now (a .dates))
-exercised c = start (c .before) .pre .1 (c .if2 .left) (tree (c .before) .steps-within-limit)
+exercised c = start (c .before) .pre .1 (c .if2 .left) (tree (c .before) .limits .steps-within-limit)
 
 accepted-both-requires : tie.Need-accepted-both-requires
 accepted-both-requires c κs =
     let marked = c .before in
     let on = exercised (marked .before) in
     let on-tree = tree (marked .before .before) in
-    let few = on-tree .steps-within-limit in
+    let few = on-tree .limits .steps-within-limit in
     (on-tree, tree-paid _ _ _ _ (none (marked .before .before)), marks-exercisable _ _ _ _ on few (marked .marks-of .ensures))
 
 returns-3 : tie.Need-returns-3
@@ -59,7 +59,7 @@ returns-3 c =
     let marked = c .before .before in
     let on = exercised (marked .before) in
     let on-tree = marked .before .before in
-    let few = tree on-tree .steps-within-limit in (
+    let few = tree on-tree .limits .steps-within-limit in (
       answers.bond-passed _ _ _ _ _ (none on-tree) _ (c .accepted-both .ensures .0),
       answers.option-passed _ _ _ _ _ _ _ _ _ (none on-tree) (marked .before .if2 .left) _
           (marked-price _ _ _ _ _ _ _ _ _ _ _ (omega (arith, on .before-end)) (on .last-listed) (marked .marks-of .ensures)

@@ -33,7 +33,7 @@ returns-2 c =
     let s = c₃ in
     let ready = s .pre .ready in
     c .refused2 .ensures
-    ∙ bond-refuses _ _ _ _ _ _ _ _ (s .pre .none) (cause c₂) _ (c₁ .if1 .left) (ready .tree .steps-within-limit)
+    ∙ bond-refuses _ _ _ _ _ _ _ _ (s .pre .none) (cause c₂) _ (c₁ .if1 .left) (ready .tree .limits .steps-within-limit)
     (datedTerms (s .args .shared .side) (now (s .args .dates)) (s .args .strike)) refl _ (s .pre .marks-are) (ready .tree) (ready .paid) _
     (s .pre .bond-is .cause) (c .before .if2 .taken)
 
@@ -45,7 +45,7 @@ roll-strike-requires c κs =
     let s = c₃ in
     let ready = s .pre .ready in
     let on =
-    exercisable _ _ _ _ _ _ _ _ (s .pre .none) (cause c₂) (s .args .shared .bound) (c₁ .if1 .left) (ready .tree .steps-within-limit) _ (c .terms-on .ensures) _
+    exercisable _ _ _ _ _ _ _ _ (s .pre .none) (cause c₂) (s .args .shared .bound) (c₁ .if1 .left) (ready .tree .limits .steps-within-limit) _ (c .terms-on .ensures) _
     (s .pre .marks-are) in
     (ready, on .0, on .1, kept-through _ _ _ _ _ _ (s .pre .bond-is) (c .before .if2 .left), s .pre .room)
 
@@ -60,7 +60,7 @@ returns-3 c =
     let ready = s .pre .ready in
     c .refused3 .ensures
     ∙ rolled-refuses _ _ _ _ _ _ _ _ (s .pre .none) (cause c₄) _ (c₃ .if1 .left)
-    (ready .tree .steps-within-limit) _ (c₂ .terms-on .ensures) _ (s .pre .marks-are) _ (c₁ .roll-strike .ensures) (c .before .if3 .taken)
+    (ready .tree .limits .steps-within-limit) _ (c₂ .terms-on .ensures) _ (s .pre .marks-are) _ (c₁ .roll-strike .ensures) (c .before .if3 .taken)
 
 returns-4 : tie.Need-returns-4
 returns-4 c =
@@ -72,7 +72,7 @@ returns-4 c =
     let s = c₅ in
     let ready = s .pre .ready in
     rolled-gives _ _ _ _ _ _ _ _ (s .pre .none) (cause c₄) _ (c₃ .if1 .left)
-    (ready .tree .steps-within-limit) _ (c₂ .terms-on .ensures) _ (s .pre .marks-are) _ (c₁ .roll-strike .ensures) (c .if3 .left)
+    (ready .tree .limits .steps-within-limit) _ (c₂ .terms-on .ensures) _ (s .pre .marks-are) _ (c₁ .roll-strike .ensures) (c .if3 .left)
 
 pub strike-price-spec : {M : Type 1} → statement M
 strike-price-spec =

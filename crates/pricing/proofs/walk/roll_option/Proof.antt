@@ -21,7 +21,7 @@ exercise-step-requires c κs =
     let s = c .before .before .before .before .before .before .before in
     let ready = s .pre .0 in
     let inside = s .pre .1 .last-inside in
-    (ready .tree .reversion-within-limit, omega (arith, ready .tree .steps-within-limit), omega (arith, ready .paid .count))
+    (ready .tree .limits .reversion-within-limit, omega (arith, ready .tree .limits .steps-within-limit), omega (arith, ready .paid .count))
 
 loop-holds : tie.Need-loop-holds Inv-loop μ-loop
 loop-holds c =

@@ -3,9 +3,9 @@
 use mathlib.Core.Path.{_≡_, ap, _∙_}
 use Prim.Native.Nat.{suc, _+_, _-_}
 use borrow.Author.Tests.{le-leb}
+use Rattle.lent_tree.specs.LentTree.{storedRow}
 use Rattle.arithmetic.specs.Row.{sumOf}
 use Rattle.row_view.specs.declared.RowKind.the-variants.{StatePrices}
-use Rattle.sheet_laws.specs.TreeSheet.{rowPart}
 use native.Mathlib.Numerals.{add-one}
 use Rattle.sheet_laws.proofs.PartLaws as laws
 use borrow.Author.Needs.{needs}
@@ -19,7 +19,7 @@ start c = c .before .before .before .before .before
 
 part-is : (c : tie.After-row-view) →
     let a = start c .args in
-    c .row-view .result .now ≡ rowPart (a .tree .reversion) (a .state-prices .now) (suc (a .row .before))
+    c .row-view .result .now ≡ storedRow (a .tree .reversion) (a .state-prices .now) (suc (a .row .before))
 part-is c =
     let s = start c in
     let a = s .args in
@@ -33,7 +33,7 @@ row-total-requires c κs = rw (part-is c) (start c .pre .0 .3)
 -- where the sum is known
 total-is : (c : tie.After-row-total) →
     let a = start (c .before) .args in
-    c .row-total .result ≡ sumOf (rowPart (a .tree .reversion) (a .state-prices .now) (suc (a .row .before)))
+    c .row-total .result ≡ sumOf (storedRow (a .tree .reversion) (a .state-prices .now) (suc (a .row .before)))
 total-is c = c .row-total .ensures ∙ ap sumOf (part-is (c .before))
 
 returns : tie.Need-returns
