@@ -42,8 +42,8 @@ pub filled-start : (l : List ℕ) (f : ℕ → ℕ) → Filled l l f 0
 filled-start l f = record { same = refl; done = λ j h. absurd (not-suc-le-zero h); rest = λ j h. refl }
 
 pub filled-next :
-    (l₀ l : List ℕ) (f : ℕ → ℕ) (i x : ℕ) → Filled l₀ l f i → i < length l → x ≡ f i → Filled l₀ (set l i x) f (i + 1)
-filled-next l₀ l f i x s h e =
+    {l₀ l : List ℕ} {f : ℕ → ℕ} {i x : ℕ} → Filled l₀ l f i → i < length l → x ≡ f i → Filled l₀ (set l i x) f (i + 1)
+filled-next {l} {f} {i} {x} s h e =
     record {
       same = length-set l i x ∙ s .same;
       done = λ j b. go j b (eq-or-lt-of-le (before j b));
@@ -87,9 +87,9 @@ pub around-start : (w : ℕ) (f : ℕ → ℕ) (l : List ℕ) → Around w f l l
 around-start w f l = record { same = refl; done = λ k p q. omega arith }
 
 pub around-next :
-    (w : ℕ) (f : ℕ → ℕ) (l₀ l : List ℕ) (d x y : ℕ) → Around w f l₀ l d → d ≤ w → w + d < length l → (0 < d → x ≡ f (w - d)) → y ≡ f (w + d)
+    {w : ℕ} {f : ℕ → ℕ} {l₀ l : List ℕ} {d x y : ℕ} → Around w f l₀ l d → d ≤ w → w + d < length l → (0 < d → x ≡ f (w - d)) → y ≡ f (w + d)
     → Around w f l₀ (set (set l (w - d) x) (w + d) y) (d + 1)
-around-next w f l₀ l d x y s near room low high =
+around-next {w} {f} {l} {d} {x} {y} s near room low high =
     record {
       same = length-set (set l (w - d) x) (w + d) y ∙ (length-set l (w - d) x ∙ s .same);
       done = λ k p q. upper k p q (eq-or-lt-of-le (within k q));
@@ -108,8 +108,8 @@ around-next w f l₀ l d x y s near room low high =
     upper k p q (inr m) = getD-set-other (set l (w - d) x) (w + d) k y 0 (λ n. omega arith) ∙ lower k p m (lt-or-eq (w - d) k)
 
 pub around-all :
-    (w : ℕ) (f : ℕ → ℕ) (l₀ l : List ℕ) (d : ℕ) → Around w f l₀ l d → w < d → length l₀ ≡ 2 * w + 1 → l ≡ row (length l₀) f
-around-all w f l₀ l d s past long = row-of l (length l₀) f (s .same) (λ k h. s .done k (omega arith) (omega arith))
+    {w : ℕ} {f : ℕ → ℕ} {l₀ l : List ℕ} {d : ℕ} → Around w f l₀ l d → w < d → length l₀ ≡ 2 * w + 1 → l ≡ row (length l₀) f
+around-all {f} {l₀} {l} s past long = row-of l (length l₀) f (s .same) (λ k h. s .done k (omega arith) (omega arith))
 
 -- adding an amount at one place
 pub set-only :

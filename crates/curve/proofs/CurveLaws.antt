@@ -36,7 +36,7 @@ five false b c d e h = absurd (true≢false (sym h))
 
 -- ---- the points' places, by their tests
 
-module _ (n : ℕ) (rows kinds : List ℕ) (figures : List Float) (room : ℕ) where
+module _ {n : ℕ} (rows kinds : List ℕ) (figures : List Float) (room : ℕ) where
   pub place-rows : (length rows ≡ n → ⊥) → inPlace n rows kinds figures room ≡ false
   unfolding inPlace
   place-rows h = rw (ne-eqb (length rows) n h)
@@ -125,7 +125,7 @@ module _ (f n : ℕ) (rows kinds : List ℕ) (figures : List Float) (room : ℕ)
 
       module _ (p : inPlace n rows kinds figures room ≡ true) where
         all : each n (convertsAt f kinds figures) ≡ each (length kinds) (convertsAt f kinds figures)
-        all = ap (λ (m : ℕ). each m (convertsAt f kinds figures)) (sym (placed-kinds n rows kinds figures room p))
+        all = ap (λ (m : ℕ). each m (convertsAt f kinds figures)) (sym (placed-kinds rows kinds figures room p))
 
         pub number-quotes : each (length kinds) (convertsAt f kinds figures) ≡ false → curveNumber f n rows kinds figures room ≡ 7
         unfolding curveNumber

@@ -101,7 +101,7 @@ pub node-refused : (j : ℤ) (h : ℕ) → one < natAbs j * h → nodeAnswer j h
 node-refused j h l = node-side j h ∙ side-refused (natAbs j) (ltZ j (pos 0)) h l
 
 -- Where y is |j| × h and at most one, the sums of the even and of the odd terms give the value answered.
-module _ (d h y e o : ℕ) (same : y ≡ d * h) (l : y ≤ one) (p : e ≡ sum 7 (even (term y))) (q : o ≡ sum 6 (odd (term y))) where
+module _ (d h : ℕ) {y e o : ℕ} (same : y ≡ d * h) (l : y ≤ one) (p : e ≡ sum 7 (even (term y))) (q : o ≡ sum 6 (odd (term y))) where
   side-found : (below : Bool) (x : ℕ) → x ≡ series below (term y) → answered x ≡ sideAnswer d below h
   unfolding sideFactor
   side-found below x found =

@@ -24,8 +24,8 @@ pub memory-none : (n b ds ps : ℕ) → memoryCause n b ds ps ≡ 0 → (discoun
 memory-none n b ds ps e =
     by-order (discountsNeededAnswer n b .value) ds
     (λ h. by-order (statePricesNeededAnswer n b .value) ps (λ g. (h, g))
-    (λ g. absurd (six (memory-lacks n b ds ps (discountsNeededAnswer n b) (statePricesNeededAnswer n b) refl refl h g ∙ e))))
-    (λ h. absurd (six (memory-short n b ds ps (discountsNeededAnswer n b) (statePricesNeededAnswer n b) refl refl h ∙ e)))
+    (λ g. absurd (six (memory-lacks n b ps {needed = discountsNeededAnswer n b} {all = statePricesNeededAnswer n b} refl refl h g ∙ e))))
+    (λ h. absurd (six (memory-short n b ps {needed = discountsNeededAnswer n b} {all = statePricesNeededAnswer n b} refl refl h ∙ e)))
   where
     six : _≡_ {A = ℕ} 6 0 → ⊥
     six z = omega arith

@@ -247,16 +247,16 @@ answer-small false false true v x = omega arith
 answer-small false false false true x = omega arith
 answer-small false false false false x = omega arith
 
-pub version-known : (v f s b : ℕ) (a : Answer) → a ≡ versionSpacingAnswer v f s b → SpacingKnown a
+pub version-known : (v f s b : ℕ) {a : Answer} → a ≡ versionSpacingAnswer v f s b → SpacingKnown a
 unfolding versionSpacingAnswer
-version-known v f s b a e =
+version-known v f s b e =
     rw e record {
       cause-most = answer-small (not (isFrequency f)) (ltb mostReversion b) (ltb 50000 s) (not (isVersion v)) (versionSpacing v f s b);
       within-limit = version-answer-most v f s b;
     }
 
 pub spacing-known : (f s : ℕ) (a : Answer) → a ≡ spacingAnswer f s → SpacingKnown a
-spacing-known f s a e = version-known 1 f s 0 a (e ∙ sym (answer-first f s))
+spacing-known f s a e = version-known 1 f s 0 (e ∙ sym (answer-first f s))
 
 -- the spacing counts only where it has no cause of its own
 module _ (f n b spaced : ℕ) (rows kinds : List ℕ) (figures : List Float) (some : spaced ≡ 0 → ⊥) (small : spaced ≤ 7) where
@@ -309,6 +309,6 @@ module _ (f n : ℕ) (rows kinds : List ℕ) (figures : List Float) (d p : List 
       Answered f n (workingReversion v b) (versionSpacingAnswer v f s b .number) (versionSpacing v f s b) rows kinds figures d p r d′ p′
   version-answered v b s w a ew e made =
       spacing-alike (workingReversion v b) (versionSpacingAnswer v f s b .number) (versionSpacingAnswer v f s b .value) (versionSpacing v f s b)
-      (version-known v f s b (versionSpacingAnswer v f s b) refl .cause-most) (λ z. version-zero v f s b z .value)
+      (version-known v f s b {a = versionSpacingAnswer v f s b} refl .cause-most) (λ z. version-zero v f s b z .value)
       (subst (λ (x : Answer). Answered f n (workingReversion v b) (x .number) (x .value) rows kinds figures d p r d′ p′) e
       (subst (λ (x : ℕ). Answered f n x (a .number) (a .value) rows kinds figures d p r d′ p′) ew made))

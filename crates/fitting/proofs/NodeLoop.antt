@@ -34,9 +34,9 @@ pub record Stepping (quote z : ℕ) (state-prices factors downs d₀ s₀ d s : 
   pub spread : s ≡ spread-sums quote factors z state-prices downs (length s₀) k
   pub good : each k (λ i. isDiscount (ratio quote factors z i)) ≡ true
 
-pub stepping-start : (quote z : ℕ) (state-prices factors downs d₀ s₀ : List ℕ) → s₀ ≡ row (length s₀) (λ j. 0) →
+pub stepping-start : {quote z : ℕ} {state-prices factors downs d₀ s₀ : List ℕ} → s₀ ≡ row (length s₀) (λ j. 0) →
     Stepping quote z state-prices factors downs d₀ s₀ d₀ s₀ 0
-stepping-start quote z state-prices factors downs d₀ s₀ e =
+stepping-start {quote} {z} {state-prices} {factors} {downs} {d₀} {s₀} e =
     record {
       within = omega arith;
       filled = filled-start d₀ (ratio quote factors z);
@@ -94,7 +94,7 @@ module _ {quote z : ℕ} {state-prices factors downs d₀ s₀ : List ℕ} (read
       stepping-next s′ e =
           record {
             within = omega arith;
-            filled = filled-next d₀ d (ratio quote factors z) k (ratio quote factors z k) (g .filled) (omega (arith, discounts-length)) refl;
+            filled = filled-next {f = ratio quote factors z} {x = ratio quote factors z k} (g .filled) (omega (arith, discounts-length)) refl;
             spread =
                 sums-next at-node this s s′ (values state-prices k * ratio quote factors z k / one) refl (g .spread)
                 (e ∙ ap (λ (m : ℕ). row (length s) (λ j. values s j + chance (rowTransition downs m) k j

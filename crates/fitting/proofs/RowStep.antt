@@ -40,7 +40,7 @@ module _ {quote discounts next : ℕ} {state-prices factors downs : List ℕ} (r
     cleared-again = e ∙ ap (λ (m : ℕ). row m (λ j. 0)) (sym cleared-length)
 
 -- what the loop leaves, by the step's definitions; the sums before it were cleared
-module _ (quote z next : ℕ) (state-prices factors downs : List ℕ) (ez : z ≡ normaliser (length state-prices) (values state-prices) (values factors))
+module _ {quote z next : ℕ} {state-prices factors downs : List ℕ} (ez : z ≡ normaliser (length state-prices) (values state-prices) (values factors))
     (cleared discounts sums : List ℕ) (r : Bool) (ec : cleared ≡ row next (λ j. 0))
     (er : r ≡ each (length state-prices) (λ k. isDiscount (quote * values factors k / z)))
     (ed : r ≡ true → discounts ≡ row (length state-prices) (λ k. quote * values factors k / z))

@@ -49,7 +49,7 @@ module _ (n b : ℕ) where
 
   pub memory-widest : memoryCause n b mostDiscounts mostStatePrices ≡ 0
   memory-widest =
-      sym (memory-enough n b mostDiscounts mostStatePrices (discountsNeededAnswer n b) (statePricesNeededAnswer n b) refl refl
+      sym (memory-enough n b mostStatePrices {needed = discountsNeededAnswer n b} {all = statePricesNeededAnswer n b} refl refl
       (within (discountsNeeded n b) mostDiscounts discounts-most) (within (statePricesNeeded n b) mostStatePrices prices-most))
 
 -- ---- causes as plain numbers: 6 beside others, and a last one that is above it

@@ -49,7 +49,7 @@ whole = bandsOf (1 ∷ []) (60 ∷ []) (0 ∷ []) (8000000000 ∷ [])
 
 whole-covers : (row price : ℕ) → 1 ≤ row → row ≤ 60 → price ≤ valueLimit → coverage whole row price ≡ 1
 unfolding covering
-whole-covers row price l m p = rw (inside 1 60 0 8000000000 row price l m (omega arith) p)
+whole-covers row price l m p = rw (inside {lo = 0} {hi = 8000000000} l m (omega arith) p)
 
 whole-sound : (haircut : ℕ) → haircut ≤ 10000 → AllSound whole (values (haircut ∷ []))
 unfolding sound

@@ -43,6 +43,6 @@ module _ (n b i : ℕ) (discounts : List ℕ) (a : Accepted n b discounts) (hi :
       (λ k h. ap (λ (x : List ℕ). values x k) p ∙ part-value discounts (rowStart b i) (nodeCount b i) k h)
 
 -- the product of the least of two rows fits
-pub least-fits : (n m x y : ℕ) (f g : ℕ → ℕ) → x ≡ least n f → y ≡ least m g → x * y ≤ 1210000000000000000
-least-fits n m x y f g ex ey =
+pub least-fits : (n m : ℕ) {x y : ℕ} (f g : ℕ → ℕ) → x ≡ least n f → y ≡ least m g → x * y ≤ 1210000000000000000
+least-fits n m {x} {y} f g ex ey =
     mul-le-mul {n₁ = x} {m₁ = y} {n₂ = mostDiscount} {m₂ = mostDiscount} (omega (arith, ex, least-most n f)) (omega (arith, ey, least-most m g))

@@ -9,7 +9,8 @@ use Rattle.arithmetic.specs.Rounding.{one, nearest}
 use Rattle.tree.specs.Tree.{probabilityTotal}
 
 -- three probabilities and values up to 8 × one: the sum fits 64 bits, and so does its quotient times a discount
-module _ (p q r x y z d : ℕ) (h : p + q + r ≡ probabilityTotal) (hx : x ≤ valueLimit) (hy : y ≤ valueLimit) (hz : z ≤ valueLimit) (hd : d ≤ mostDiscount) where
+module _ (p q r : ℕ) {x y z d : ℕ} (h : p + q + r ≡ probabilityTotal) (hx : x ≤ valueLimit) (hy : y ≤ valueLimit) (hz : z ≤ valueLimit)
+    (hd : d ≤ mostDiscount) where
   pub sum-fits : p * x + q * y + r * z ≤ 4800000000000000000
   sum-fits = omega (arith, mul-le-mul-left p hx, mul-le-mul-left q hy, mul-le-mul-left r hz)
 

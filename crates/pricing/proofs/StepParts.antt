@@ -99,21 +99,21 @@ module _ (n b i : ℕ) (discounts : List ℕ) (a : Accepted n b discounts) (hi :
         part-paid later after top h k l = omega (arith, part-bond later after top h .held k (omega (arith, count-is)))
 
         pub part-option :
-            (side : Side) (strike : ℕ) (listed : Bool) (bonds options bond option : List ℕ) (top : ℕ) →
+            (side : Side) (strike : ℕ) (listed : Bool) (bonds options : List ℕ) {bond option : List ℕ} {top : ℕ} →
             FilledRows bond option (length part) (bondValues bonds table part (s .next) flow)
             (optionValues side strike listed bonds options table part (s .next)) top →
             FilledRows bond option (nodeCount b i) (bondStep b discounts flow i bonds)
             (optionStep side strike listed b discounts i bonds options) top
-        part-option side strike listed bonds options bond option top h =
+        part-option side strike listed bonds options {bond} {option} {top} h =
             rows.option-row-is n b i hi discounts a flow side strike listed bonds options bond option top
             (rw (table-is, part-is, next-is) at h)
 
         pub part-strike :
-            (side : Side) (strike : ℕ) (listed : Bool) (kept bare options option : List ℕ) (top : ℕ) →
+            (side : Side) (strike : ℕ) (listed : Bool) (kept : List ℕ) {bare : List ℕ} (options : List ℕ) {option : List ℕ} {top : ℕ} →
             bare ≡ take (s .count) (drop (s .start) kept) →
             FilledRow option (length part) (strikeValues side strike listed bare options table part (s .next)) top →
             FilledRow option (nodeCount b i) (strikeStep side strike listed b discounts i kept options) top
-        part-strike side strike listed kept bare options option top eb h =
+        part-strike side strike listed kept options {option} {top} eb h =
             let bare-is = eb ∙ ap₂ (λ (x y : ℕ). take x (drop y kept)) count-is start-is in
             rows.strike-row-is n b i hi discounts a side strike listed kept options option top
             (rw (table-is, part-is, next-is, bare-is) at h)

@@ -32,7 +32,7 @@ use Rattle.pricing.proofs.WalkStates.{Bonds, Options}
 
 -- ---- the bond
 
-module _ (n b : ℕ) (downs discounts flows : List ℕ) (ready : Ready n b downs discounts flows) where
+module _ {n b : ℕ} {downs discounts flows : List ℕ} (ready : Ready n b downs discounts flows) where
   -- no row before row n is kept yet
   pub kept-none : (kept : List ℕ) → KeptFrom n b discounts flows n kept
   kept-none kept i k h l m = let none : ⊥ = omega arith in absurd none
@@ -72,9 +72,9 @@ module _ (n b : ℕ) (downs discounts flows : List ℕ) (ready : Ready n b downs
 
 -- a bond that was not refused
 pub kept-through :
-    (n b : ℕ) (discounts flows : List ℕ) (number : ℕ) (kept : List ℕ) → BondKept n b discounts flows number kept → number ≡ 0 →
+    {n b : ℕ} {discounts flows : List ℕ} {number : ℕ} {kept : List ℕ} → BondKept n b discounts flows number kept → number ≡ 0 →
     BondKept n b discounts flows 0 kept
-kept-through n b discounts flows number kept s z = subst (λ (x : ℕ). BondKept n b discounts flows x kept) z s
+kept-through {n} {b} {discounts} {flows} {kept} s z = subst (λ (x : ℕ). BondKept n b discounts flows x kept) z s
 
 -- ---- one option
 
@@ -83,7 +83,7 @@ pub record Alone (n b : ℕ) (discounts flows : List ℕ) (terms : Terms) (marks
   pub upto : r ≤ terms .last
   pub options : Options n b discounts flows (side (terms .call)) (terms .strike) (marked (terms .last) marks) r option
 
-module _ (n b : ℕ) (downs discounts flows : List ℕ) (ready : Ready n b downs discounts flows)
+module _ {n b : ℕ} {downs discounts flows : List ℕ} (ready : Ready n b downs discounts flows)
     (terms : Terms) (marks : List ℕ) (x : Exercisable terms n marks) (before-end : terms .last < n)
     (kept : List ℕ) (whole : BondKept n b discounts flows 0 kept) (long : mostDiscounts ≤ length kept) where
   within : bondPeak n b discounts flows ≤ valueLimit

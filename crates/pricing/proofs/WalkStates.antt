@@ -56,9 +56,9 @@ pub Bonds : ℕ → ℕ → List ℕ → List ℕ → ℕ → List ℕ → Type 
 Bonds n b discounts flows i l =
     back.Bond-state n (On (rateTree b)) (top b) (roll (rateTree b) (stored b discounts) rollRounding) (flowAt flows) i (values l)
 
-pub bonds-inside : (n b : ℕ) (discounts flows : List ℕ) (i : ℕ) (l : List ℕ) → Bonds n b discounts flows i l → i ≤ n
+pub bonds-inside : {n : ℕ} (b : ℕ) (discounts flows : List ℕ) {i : ℕ} (l : List ℕ) → Bonds n b discounts flows i l → i ≤ n
 unfolding Bonds
-bonds-inside n b discounts flows i l s = s .in-tree
+bonds-inside b discounts flows l s = s .in-tree
 
 -- the option at row i stands in a list
 pub Options : ℕ → ℕ → List ℕ → List ℕ → Side → ℕ → Schedule → ℕ → List ℕ → Type 0
@@ -412,9 +412,9 @@ module _ (n b : ℕ) (discounts flows : List ℕ) (a : Accepted n b discounts) (
 
 -- a walk that was not refused
 pub rolled-through :
-    (n b : ℕ) (discounts flows : List ℕ) (i number : ℕ) (l : List ℕ) → number ≡ 0 → BondRolled n b discounts flows i number l →
+    {n b : ℕ} {discounts flows : List ℕ} {i number : ℕ} {l : List ℕ} → number ≡ 0 → BondRolled n b discounts flows i number l →
     BondRolled n b discounts flows i 0 l
-rolled-through n b discounts flows i number l z s = subst (λ (x : ℕ). BondRolled n b discounts flows i x l) z s
+rolled-through {n} {b} {discounts} {flows} {i} {l} z s = subst (λ (x : ℕ). BondRolled n b discounts flows i x l) z s
 
 -- what a walk came to, as the code answers it
 pub rolled-answer : {n b : ℕ} {discounts flows : List ℕ} {side : Side} {strike : ℕ} {rows : Schedule} {found : Rolled} (r : Rolled) → r ≡ found →

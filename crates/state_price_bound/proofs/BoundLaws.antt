@@ -64,9 +64,9 @@ before-row n b discounts a i h =
     }
 
 module _ (n b : ℕ) (discounts : List ℕ) (i : ℕ) where
-  pub refusal-is : (x d r : ℕ) → d ≡ discountsCause n b discounts → r ≡ rowCause n i → x ≡ lowestCause d r → x ≡ boundCause n b discounts i
+  pub refusal-is : {x d r : ℕ} → d ≡ discountsCause n b discounts → r ≡ rowCause n i → x ≡ lowestCause d r → x ≡ boundCause n b discounts i
   unfolding boundCause
-  refusal-is x d r ed er e = e ∙ rw (ed, er)
+  refusal-is ed er e = e ∙ rw (ed, er)
 
   pub not-refused : boundCause n b discounts i ≡ 0 → Lent n b discounts i
   unfolding boundCause
@@ -74,7 +74,7 @@ module _ (n b : ℕ) (discounts : List ℕ) (i : ℕ) where
       let z = lowest-none (discountsCause n b discounts) (rowCause n i) e in
       record { tree = accepted n b discounts (z .0); present = row-present n i (z .1) }
 
-  module _ (x : ℕ) (ex : x ≡ boundCause n b discounts i) where
+  module _ {x : ℕ} (ex : x ≡ boundCause n b discounts i) where
     pub bound-refused : (x ≡ 0 → ⊥) → refused x ≡ statePriceErrorBoundAnswer n b discounts i
     unfolding statePriceErrorBoundAnswer
     bound-refused nz = rw (← ex, ne-eqb x 0 nz)
@@ -141,9 +141,9 @@ bound-below t v (suc i) wide high =
 
 -- ---- the loops over rows
 
-pub reached-start : (b : ℕ) (discounts : List ℕ) (start nodes bound : ℕ) → (start ≡ 0) × (nodes ≡ 1) × (bound ≡ 0) → Reached b discounts 0 start nodes bound
+pub reached-start : {b : ℕ} {discounts : List ℕ} {start nodes bound : ℕ} → (start ≡ 0) × (nodes ≡ 1) × (bound ≡ 0) → Reached b discounts 0 start nodes bound
 unfolding statePriceErrorBound nodeCount
-reached-start b discounts start nodes bound e =
+reached-start {b} e =
     record { starts = e .0 ∙ sym (start-first b); counts = omega (arith, e .1, half-root b); bounds = e .2 }
 
 -- the row after a row that is before a last one
@@ -175,7 +175,7 @@ module _ (b : ℕ) (discounts : List ℕ) (row : ℕ) (h : Bounded b discounts r
         ceiling-most i (omega (arith, h .row-within-limit)),
       )
 
-module _ (b : ℕ) (discounts : List ℕ) (i start nodes bound : ℕ) (r : Reached b discounts i start nodes bound) where
+module _ {b : ℕ} {discounts : List ℕ} {i start nodes bound : ℕ} (r : Reached b discounts i start nodes bound) where
   pub reached-last : (row : ℕ) → i ≡ row → bound ≡ statePriceErrorBound (rateTree b) (stored b discounts) row
   reached-last row e = r .bounds ∙ ap (statePriceErrorBound (rateTree b) (stored b discounts)) e
 
@@ -253,4 +253,4 @@ unfolding statePriceErrorBoundAnswer
 bound-most n b discounts i = by-equal (boundCause n b discounts i) 0 (λ z. rw z (within z)) (λ nz. rw (ne-eqb (boundCause n b discounts i) 0 nz) (omega arith))
   where
     within : boundCause n b discounts i ≡ 0 → statePriceErrorBound (rateTree b) (stored b discounts) i ≤ 1000000
-    within z = bound-within b discounts i (row-needs n b discounts i (boundCause n b discounts i) refl z) i (le-refl i)
+    within z = bound-within b discounts i (row-needs n b discounts i {x = boundCause n b discounts i} refl z) i (le-refl i)

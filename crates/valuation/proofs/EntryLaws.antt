@@ -156,10 +156,10 @@ module _ (prices payoffs : List ℕ) where
 
 -- ---- the error bound
 
-pub payoffs-few : (count nodes greatest high x : ℕ) → high ≡ limitCause greatest → (count ≡ nodes → ⊥) → x ≡ lowestCause 6 high →
+pub payoffs-few : {count nodes : ℕ} (greatest : ℕ) {high x : ℕ} → high ≡ limitCause greatest → (count ≡ nodes → ⊥) → x ≡ lowestCause 6 high →
     x ≡ payoffsCause count nodes greatest
 unfolding payoffsCause
-payoffs-few count nodes greatest high x eh h e = e ∙ rw (ne-eqb count nodes h, eh)
+payoffs-few {count} {nodes} greatest eh h e = e ∙ rw (ne-eqb count nodes h, eh)
 
 pub payoffs-counted : (count nodes greatest high : ℕ) → high ≡ limitCause greatest → count ≡ nodes → high ≡ payoffsCause count nodes greatest
 unfolding payoffsCause
@@ -184,8 +184,8 @@ pub record Found (n b : ℕ) (discounts : List ℕ) (i : ℕ) (payoffs : List �
   pub of-payoffs : p ≡ payoffsCause (length payoffs) (nodes .value) g
   pub lowest : x ≡ lowestCause (bound .number) p
 
-module _ (n b : ℕ) (discounts : List ℕ) (i : ℕ) (payoffs : List ℕ) where
-  module _ (bound nodes : Answer) (g p x : ℕ) (f : Found n b discounts i payoffs bound nodes g p x) where
+module _ {n : ℕ} (b : ℕ) (discounts : List ℕ) {i : ℕ} (payoffs : List ℕ) where
+  module _ {bound nodes : Answer} {g p x : ℕ} (f : Found n b discounts i payoffs bound nodes g p x) where
     row-number : bound .number ≡ boundCause n b discounts i
     row-number = ap (λ (a : Answer). a .number) (f .row-bound) ∙ answer-number n b discounts i
 

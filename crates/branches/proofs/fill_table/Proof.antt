@@ -34,7 +34,7 @@ loop-less c = omega (arith, c .before .before .loop .inv .1 .same)
 loop-again : tie.Need-loop-again Inv-loop μ-loop
 loop-again c =
     let filled = c .before .before .loop .inv .1 in
-    (omega (arith, filled .same), filled-next _ _ (downs (c .before .before .before .before)) _ _ filled (search needs) (c .down-of .ensures))
+    (omega (arith, filled .same), filled-next {f = downs (c .before .before .before .before)} filled (search needs) (c .down-of .ensures))
 
 same-length : tie.Need-same-length Inv-loop μ-loop
 same-length c = c .before .loop .inv .1 .same

@@ -27,12 +27,12 @@ loop-holds c =
 loop-again : tie.Need-loop-again Inv-loop μ-loop
 loop-again c =
     let i = c .before .before .before .loop .inv in
-    (omega arith, scan-moves _ _ _ _ _ _ (i .1) (i .2) (c .before .side-miss2 .ensures) (c .if1 .taken), c .before .side-miss2 .ensures)
+    (omega arith, scan-moves _ _ _ (i .1) (i .2) (c .before .side-miss2 .ensures) (c .if1 .taken), c .before .side-miss2 .ensures)
 
 loop-again-2 : tie.Need-loop-again-2 Inv-loop μ-loop
 loop-again-2 c =
     let i = c .before .before .before .loop .inv in
-    (omega arith, scan-stays _ _ _ _ _ _ (i .1) (i .2) (c .before .side-miss2 .ensures) (c .if1 .left), i .2)
+    (omega arith, scan-stays _ _ _ (i .1) (i .2) (c .before .side-miss2 .ensures) (c .if1 .left), i .2)
 
 returns : tie.Need-returns Inv-loop μ-loop
 returns c =

@@ -51,8 +51,8 @@ counted c = c .before .before
 all-convert-requires : tie.Need-all-convert-requires
 all-convert-requires c κs =
     let a = start (listed-at (counted c)) .args in
-    placed-figures (a .steps) (a .rows .now) (a .kinds .now) (a .figures .now) (a .room) (placed c)
-    ∙ sym (placed-kinds (a .steps) (a .rows .now) (a .kinds .now) (a .figures .now) (a .room) (placed c))
+    placed-figures (a .rows .now) (a .kinds .now) (a .figures .now) (a .room) (placed c)
+    ∙ sym (placed-kinds (a .rows .now) (a .kinds .now) (a .figures .now) (a .room) (placed c))
 
 returns-4 : tie.Need-returns-4
 returns-4 c =

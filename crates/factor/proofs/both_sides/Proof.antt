@@ -19,19 +19,19 @@ add-t6 : tie.Need-add-t6
 add-t6 c =
     let e = c .before .before in
     let sums = c .before .series-sums .ensures in
-    omega (arith, sums-fit _ _ _ _ _ (same e) (e .if1 .left) (sums .0) (sums .1))
+    omega (arith, sums-fit _ _ (same e) (e .if1 .left) (sums .0) (sums .1))
 
 sub-t7 : tie.Need-sub-t7
 sub-t7 c =
     let e = c .before .before .before in
     let sums = c .before .before .series-sums .ensures in
-    odd-within _ _ _ _ _ (same e) (e .if1 .left) (sums .0) (sums .1)
+    odd-within _ _ (same e) (e .if1 .left) (sums .0) (sums .1)
 
 returns-2 : tie.Need-returns-2
 returns-2 c =
     let e = c .before .before .before in
     let sums = c .before .before .series-sums .ensures in
-    sums-both _ _ _ _ _ (same e) (e .if1 .left) (sums .0) (sums .1)
+    sums-both _ _ (same e) (e .if1 .left) (sums .0) (sums .1)
 
 pub both-sides-spec : {M : Type 1} → statement M
 both-sides-spec =

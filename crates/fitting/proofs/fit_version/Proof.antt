@@ -6,7 +6,7 @@ use Rattle.fitting.proofs.fit_version.Statement.{statement}
 use Rattle.fitting.proofs.fit_version.Tie as tie
 
 fit-tree-requires : tie.Need-fit-tree-requires
-fit-tree-requires c κs = laws.version-known _ _ _ _ _ (c .before .before .version-spacing .ensures)
+fit-tree-requires c κs = laws.version-known _ _ _ _ (c .before .before .version-spacing .ensures)
 
 returns : tie.Need-returns
 returns c =

@@ -21,9 +21,6 @@ returns-2 c = room-refused _ _ _ _ (needed (c .before) .discounts-needed .ensure
 slice-aggregate-all-between : tie.Need-slice-aggregate-all-between
 slice-aggregate-all-between c = simp length-take (omega arith)
 
-all-between-requires : tie.Need-all-between-requires
-all-between-requires c κs = search needs
-
 -- where the discounts have been tested
 abbrev lent : tie.After-all-between → tie.Else2
 lent c = c .before .before
@@ -50,6 +47,6 @@ discounts-cause-spec =
     returns
     returns-2
     slice-aggregate-all-between
-    all-between-requires
+    (λ c κs. search needs)
     returns-3
     returns-4)

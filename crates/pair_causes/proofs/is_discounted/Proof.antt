@@ -8,12 +8,12 @@ use Rattle.pair_causes.proofs.is_discounted.Statement.{statement}
 use Rattle.pair_causes.proofs.is_discounted.Tie as tie
 
 mul-result : tie.Need-mul-result
-mul-result c = omega (arith, least-fits _ _ _ _ _ _ (c .before .least-discount .ensures) (c .least-discount2 .ensures))
+mul-result c = omega (arith, least-fits _ _ _ _ (c .before .least-discount .ensures) (c .least-discount2 .ensures))
 
 returns : tie.Need-returns
 returns c =
     let s = c .before .before .before .before in
-    row-discounted _ _ _ _ _ _ _ _ (s .pre .0 .rate-tree) (s .pre .0 .spread-tree) (s .pre .1) (c .before .least-discount .ensures)
+    row-discounted (s .pre .0 .rate-tree) (s .pre .0 .spread-tree) (s .pre .1) (c .before .least-discount .ensures)
     (c .least-discount2 .ensures)
 
 pub is-discounted-spec : {M : Type 1} → statement M

@@ -9,7 +9,7 @@ returns : tie.Need-returns
 returns c = bond-refused _ _ _ _ _ _ _ _ (c .before .before .pair-cause .ensures) _ (c .refused .ensures) (c .before .if1 .taken)
 
 accepted-bond-requires : tie.Need-accepted-bond-requires
-accepted-bond-requires c κs = entry-accepted _ _ _ _ _ _ _ _ (c .before .pair-cause .ensures) (c .if1 .left)
+accepted-bond-requires c κs = entry-accepted _ (c .before .pair-cause .ensures) (c .if1 .left)
 
 returns-2 : tie.Need-returns-2
 returns-2 c = bond-found _ _ _ _ _ _ _ _ (c .before .before .pair-cause .ensures) _ (c .before .if1 .left) (c .accepted-bond .ensures)

@@ -27,7 +27,7 @@ accepted-option-requires c κs =
     let if1 = c .before .before .before .before .before .before .before .if1 in
     let terms-cause = c .before .before .before .before .before .before .terms-cause in
     let pair-cause = c .before .before .before .before .before .before .before .before .pair-cause in (
-      entry-accepted _ _ _ _ _ _ _ _ (pair-cause .ensures) (if1 .left),
+      entry-accepted _ (pair-cause .ensures) (if1 .left),
       exercisable _ _ _ _ _ _ _ _ (pair-cause .ensures) _ _ _ (if1 .left) _ _ _ (terms-cause .ensures) (dates-cause .ensures)
           (lowest-cause .ensures) (if2 .left) _ _ (terms-on .ensures) (c .before .marks-of .ensures),
     )

@@ -57,7 +57,7 @@ loop-again c =
     let within = not-false _ (c .if1 .left) in (
       omega (arith, c .before .before .before .loop-test .taken),
       each-more _ _ (l .inv .1) (sym (ranged .ensures .0) ∙ within),
-      filled-next _ _ _ _ _ (l .inv .2) (omega (arith, c .before .before .before .before .before .before .before .pre .limits .steps-within-limit))
+      filled-next (l .inv .2) (omega (arith, c .before .before .before .before .before .before .before .pre .limits .steps-within-limit))
           (ranged .ensures .1 within),
     )
 

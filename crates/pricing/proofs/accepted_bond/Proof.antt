@@ -34,10 +34,10 @@ roll-bond-requires c κs =
     )
 
 returns : tie.Need-returns
-returns c = c .refused .ensures ∙ bond-refused _ _ _ _ _ _ _ (c .before .before .roll-bond .ensures) (c .before .if1 .taken)
+returns c = c .refused .ensures ∙ bond-refused _ (c .before .before .roll-bond .ensures) (c .before .if1 .taken)
 
 returns-2 : tie.Need-returns-2
-returns-2 c = bond-given _ _ _ _ _ _ _ (c .before .roll-bond .ensures) (c .if1 .left)
+returns-2 c = bond-given _ (c .before .roll-bond .ensures) (c .if1 .left)
 
 pub accepted-bond-spec : {M : Type 1} → statement M
 accepted-bond-spec =

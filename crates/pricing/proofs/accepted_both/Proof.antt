@@ -39,13 +39,13 @@ returns : tie.Need-returns
 returns c =
     let over = c .before .before in (
       c .before .accepted-bond .ensures,
-      c .refused .ensures ∙ option-refused _ _ _ _ _ _ _ _ _ (over .before .before .roll-both .ensures) (over .if1 .taken),
+      c .refused .ensures ∙ option-refused _ (over .before .before .roll-both .ensures) (over .if1 .taken),
     )
 
 returns-2 : tie.Need-returns-2
 returns-2 c =
     let rolled = c .before .before .roll-both .ensures in
-    (beside-given _ _ _ _ _ _ _ _ _ rolled (c .if1 .left), option-given _ _ _ _ _ _ _ _ _ rolled (c .if1 .left))
+    (beside-given _ rolled (c .if1 .left), option-given _ rolled (c .if1 .left))
 
 pub accepted-both-spec : {M : Type 1} → statement M
 accepted-both-spec =

@@ -10,7 +10,7 @@ both-on-dates-requires : tie.Need-both-on-dates-requires
 both-on-dates-requires c κs = c .tree-bound .ensures .cause-is
 
 returns : tie.Need-returns
-returns c = c .both-on-dates .ensures ∙ dates-whole _ _ _ _ _ (c .before .tree-bound .ensures .bound-is) _ _ _
+returns c = c .both-on-dates .ensures ∙ dates-whole _ _ _ _ (c .before .tree-bound .ensures .bound-is) _ _ _
 
 pub bond-and-dated-option-spec : {M : Type 1} → statement M
 bond-and-dated-option-spec = tie.close (tie.spec (λ c κs. search needs) both-on-dates-requires returns)

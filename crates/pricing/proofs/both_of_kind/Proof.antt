@@ -18,7 +18,7 @@ judged-both-requires c κs =
     let listed = c .before .before in
     let termed = listed .before in (
       termed .before .before .before .before .pre,
-      kind-exercised _ _ _ _ _ (termed .before .option-cause .ensures) _ (termed .terms-of .ensures) _ (listed .dates-of-kind .ensures),
+      kind-exercised _ _ _ _ (termed .before .option-cause .ensures) _ (termed .terms-of .ensures) _ (listed .dates-of-kind .ensures),
     )
 
 returns : tie.Need-returns
@@ -26,7 +26,7 @@ returns c =
     let listed = c .before .before .before in
     let termed = listed .before in
     let both = c .judged-both .ensures in
-    kind-both _ _ _ _ _ (termed .before .option-cause .ensures) _ (termed .terms-of .ensures) _ (listed .dates-of-kind .ensures) _ _ _ _ _ (both .0) (both .1)
+    kind-both _ _ _ _ (termed .before .option-cause .ensures) _ (termed .terms-of .ensures) _ (listed .dates-of-kind .ensures) _ _ _ _ (both .0) (both .1)
 
 pub both-of-kind-spec : {M : Type 1} → statement M
 both-of-kind-spec =

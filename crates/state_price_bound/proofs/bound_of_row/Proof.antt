@@ -16,7 +16,7 @@ abbrev μ-loop : tie.MeasureT-loop
 μ-loop reversion discounts row reached₀ index₀ reached index = row - index
 
 loop-holds : tie.Need-loop-holds Inv-loop μ-loop
-loop-holds c = (omega arith, laws.reached-start _ _ _ _ _ (c .first-row .ensures))
+loop-holds c = (omega arith, laws.reached-start (c .first-row .ensures))
 
 next-row-requires : tie.Need-next-row-requires Inv-loop μ-loop
 next-row-requires c κs =
@@ -27,7 +27,7 @@ loop-again : tie.Need-loop-again Inv-loop μ-loop
 loop-again c = (omega (arith, c .before .loop-test .taken), c .next-row .ensures)
 
 returns : tie.Need-returns Inv-loop μ-loop
-returns c = let l = c .before .loop in laws.reached-last _ _ _ _ _ _ (l .inv .1) _ (omega arith)
+returns c = let l = c .before .loop in laws.reached-last (l .inv .1) _ (omega arith)
 
 pub bound-of-row-spec : {M : Type 1} → statement M
 bound-of-row-spec =

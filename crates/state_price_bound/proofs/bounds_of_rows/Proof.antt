@@ -24,7 +24,7 @@ abbrev μ-loop : tie.MeasureT-loop
 μ-loop steps reversion discounts bounds₀ reached₀ index₀ bounds reached index = steps - index
 
 loop-holds : tie.Need-loop-holds Inv-loop μ-loop
-loop-holds c = (omega arith, laws.reached-start _ _ _ _ _ (c .first-row .ensures), rw (c .before .no-bounds .ensures) (laws.bounds-start _ _))
+loop-holds c = (omega arith, laws.reached-start (c .first-row .ensures), rw (c .before .no-bounds .ensures) (laws.bounds-start _ _))
 
 next-row-requires : tie.Need-next-row-requires Inv-loop μ-loop
 next-row-requires c κs =
@@ -42,7 +42,7 @@ loop-again c =
     let within = c .before .before .before .before .before .before .pre .row-within-limit in (
       omega (arith, c .before .loop-test .taken),
       c .next-row .ensures,
-      filled-next _ _ _ (l .index + 1) _ (l .inv .2) (omega (arith, c .before .loop-test .taken, within)) (c .next-row .ensures .bounds),
+      filled-next {i = l .index + 1} (l .inv .2) (omega (arith, c .before .loop-test .taken, within)) (c .next-row .ensures .bounds),
     )
 
 returns : tie.Need-returns Inv-loop μ-loop

@@ -13,7 +13,7 @@ use Rattle.state_price_bound.proofs.next_row.Tie as tie
 
 -- the row lies within the discounts
 room : (s : tie.Start) → let a = s .args in (a .row .start + a .row .nodes ≤ length (a .discounts .now)) × (a .row .start + a .row .nodes ≤ 3721)
-room s = laws.reached-room _ _ _ _ _ _ (s .pre .1) (s .pre .0)
+room s = laws.reached-room (s .pre .1) (s .pre .0)
 
 add-end : tie.Need-add-end
 add-end c = omega (arith, room (c .before))
@@ -32,12 +32,12 @@ counts c =
 next-bound-requires : tie.Need-next-bound-requires
 next-bound-requires c κs =
     let s = c .before .before .before .before in
-    laws.reached-sizes _ _ _ _ _ _ (s .pre .1) (s .pre .0) _ (c .before .greatest-of .ensures) _ (counts c)
+    laws.reached-sizes (s .pre .1) (s .pre .0) _ (c .before .greatest-of .ensures) _ (counts c)
 
 returns : tie.Need-returns
 returns c =
     let s = c .before .before .before .before .before in
-    laws.reached-next _ _ _ _ _ _ (s .pre .1) (s .pre .0) _ (c .before .before .greatest-of .ensures) _ (counts (c .before)) _ (c .next-bound .ensures)
+    laws.reached-next (s .pre .1) (s .pre .0) _ (c .before .before .greatest-of .ensures) _ (counts (c .before)) _ (c .next-bound .ensures)
 
 pub next-row-spec : {M : Type 1} → statement M
 next-row-spec =

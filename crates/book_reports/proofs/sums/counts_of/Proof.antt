@@ -36,7 +36,7 @@ add-sums c =
 loop-again : tie.Need-loop-again Inv-loop μ-loop
 loop-again c =
     let l = c .before .loop in
-    (l .inv .0, omega arith, filled-next _ _ _ (l .k) _ (l .inv .2) (omega (arith, l .inv .2 .same)) refl)
+    (l .inv .0, omega arith, filled-next (l .inv .2) (omega (arith, l .inv .2 .same)) refl)
 
 returns : tie.Need-returns Inv-loop μ-loop
 returns c =

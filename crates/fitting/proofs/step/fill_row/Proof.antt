@@ -43,7 +43,7 @@ inside : (c : tie.In-loop Inv-loop μ-loop) → c .before .loop .k < length (sta
 inside c = omega arith
 
 loop-holds : tie.Need-loop-holds Inv-loop μ-loop
-loop-holds c = let s = c .before .before .before .before .before in laws.stepping-start _ _ _ _ _ _ _ (s .pre .2)
+loop-holds c = let s = c .before .before .before .before .before in laws.stepping-start (s .pre .2)
 
 shared-slice-read-discount : tie.Need-shared-slice-read-discount Inv-loop μ-loop
 shared-slice-read-discount c =

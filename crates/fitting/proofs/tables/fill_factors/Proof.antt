@@ -37,7 +37,7 @@ loop-again c =
     let loop = c .before .before .loop in
     let near = c .before .loop-test .taken in (
       omega arith,
-      around-next _ _ _ _ _ _ _ (loop .inv .1) near (omega (arith, s .pre .2, loop .inv .1 .same))
+      around-next (loop .inv .1) near (omega (arith, s .pre .2, loop .inv .1 .same))
           (laws.below-side _ _ _ (s .pre .1) near (c .both-sides .ensures))
           (laws.above-side _ _ _ (s .pre .1) near (c .both-sides .ensures)),
     )
@@ -48,7 +48,7 @@ same-length c = c .before .loop .inv .1 .same
 returns : tie.Need-returns Inv-loop μ-loop
 returns c =
     let s = c .before .before .before in
-    around-all _ _ _ _ _ (c .before .loop .inv .1) (omega (arith, c .loop-test .left)) (s .pre .2)
+    around-all (c .before .loop .inv .1) (omega (arith, c .loop-test .left)) (s .pre .2)
 
 pub fill-factors-spec : {M : Type 1} → statement M
 fill-factors-spec =

@@ -14,7 +14,7 @@ sum : (s : tie.Start) →
     branchUp (s .args .branch) * values (now (s .args .xs)) (s .args .from + 2 * s .args .stride)
     + branchMiddle (s .args .branch) * values (now (s .args .xs)) (s .args .from + s .args .stride)
     + branchDown (s .args .branch) * values (now (s .args .xs)) (s .args .from) ≤ 4800000000000000000
-sum s = sum-fits _ _ _ _ _ _ (s .pre .0) (s .pre .4) (s .pre .3) (s .pre .2)
+sum s = sum-fits _ _ _ (s .pre .0) (s .pre .4) (s .pre .3) (s .pre .2)
 
 mul-sum-3 : tie.Need-mul-sum-3
 mul-sum-3 c = omega (arith, sum (c .before .before))
@@ -35,7 +35,7 @@ add-result : tie.Need-add-result
 add-result c = omega (arith, sum (c .before .before .before .before))
 
 returns : tie.Need-returns
-returns c = let s = c .before .before .before .before in average-is _ _ _ _ _ _ (s .pre .0) (s .pre .4) (s .pre .3) (s .pre .2)
+returns c = let s = c .before .before .before .before in average-is _ _ _ (s .pre .0) (s .pre .4) (s .pre .3) (s .pre .2)
 
 pub average-spec : {M : Type 1} → statement M
 average-spec =

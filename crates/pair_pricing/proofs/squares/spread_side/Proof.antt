@@ -76,7 +76,7 @@ same-length : tie.Need-same-length Inv-loop μ-loop
 same-length c = c .before .loop .inv .2
 
 returns : tie.Need-returns Inv-loop μ-loop
-returns c = (c .before .loop .inv .1, cells-done _ _ _ _ _ _ (c .before .loop .inv .3) (omega arith) (omega (arith, c .loop-test .left)))
+returns c = (c .before .loop .inv .1, cells-done (c .before .loop .inv .3) (omega arith) (omega (arith, c .loop-test .left)))
 
 pub spread-side-spec : {M : Type 1} → statement M
 spread-side-spec =

@@ -40,7 +40,7 @@ loop-again c =
     let c₁ = c .before .before .before in
     let c₂ = c₁ .before .before .before in
     let l = c₁ .loop in
-    (omega arith, filled-next _ _ _ _ _ (l .inv .1) (omega (arith, l .inv .1 .same, c₂ .pre .1)) (c .expiry-value .ensures))
+    (omega arith, filled-next (l .inv .1) (omega (arith, l .inv .1 .same, c₂ .pre .1)) (c .expiry-value .ensures))
 
 same-length : tie.Need-same-length Inv-loop μ-loop
 same-length c = c .before .loop .inv .1 .same

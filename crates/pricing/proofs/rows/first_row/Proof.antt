@@ -31,7 +31,7 @@ loop-again : tie.Need-loop-again Inv-loop μ-loop
 loop-again c =
     let c₁ = c .before .before .before in
     let c₂ = c₁ .before .before .before in
-    (omega arith, filled-next _ _ _ _ _ (c₁ .loop .inv .1) (omega (arith, c₁ .loop .inv .1 .same, c₂ .pre)) (c .exercise-value .ensures))
+    (omega arith, filled-next (c₁ .loop .inv .1) (omega (arith, c₁ .loop .inv .1 .same, c₂ .pre)) (c .exercise-value .ensures))
 
 same-length : tie.Need-same-length Inv-loop μ-loop
 same-length c = c .before .loop .inv .1 .same

@@ -36,7 +36,7 @@ slice-write-kept c = omega (arith, c .before .before .loop .inv .1 .same, c .bef
 loop-again : tie.Need-loop-again Inv-loop μ-loop
 loop-again c =
     let l = c .before .before .loop in
-    (omega arith, laying-next _ _ _ _ _ _ (l .inv .1) (omega (arith, l .inv .1 .same, c .before .before .before .pre .1)) refl)
+    (omega arith, laying-next (l .inv .1) (omega (arith, l .inv .1 .same, c .before .before .before .pre .1)) refl)
 
 same-length : tie.Need-same-length Inv-loop μ-loop
 same-length c = c .before .loop .inv .1 .same

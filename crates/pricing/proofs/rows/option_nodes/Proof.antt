@@ -33,7 +33,7 @@ loop-holds : tie.Need-loop-holds Inv-loop μ-loop
 loop-holds c = (
   omega arith,
   omega (arith, c .before .before .before .before .before .before .pre .6 .ordered),
-  rows-resume _ _ _ _ _ _
+  rows-resume
       (c .before .before .before .before .before .before .pre .7),
 )
 
@@ -80,9 +80,9 @@ rolls : (c : tie.After-shared-slice-known5 Inv-loop μ-loop) (later : List ℕ) 
 rolls c later l =
     let ready = c .before .before .before .before .before .before .before .before .before .before .pre .0 in
     let e = branch c in (
-      branch-inside _ _ later _ _ ready l (inside c) _ e,
-      branch-whole _ _ later _ _ ready l (inside c) _ e,
-      branch-limited _ _ later _ _ ready l (inside c) _ e,
+      branch-inside ready l (inside c) _ e,
+      branch-whole ready l (inside c) _ e,
+      branch-limited ready l (inside c) _ e,
     )
 
 discounted : (c : tie.After-shared-slice-known5 Inv-loop μ-loop) → values
@@ -154,8 +154,8 @@ loop-again c =
     let right = s .args .right in
     let l = c .before .before .before .before .before .before .before .before .loop in
     let e = branch node in
-    let bare = branch-rolled _ _ _ _ _ (s .pre .0) (s .pre .1) (inside node) _ e _ (c .before .before .before .before .roll-node .ensures .0) in
-    let o = branch-rolled _ _ _ _ _ (s .pre .0) (s .pre .2) (inside node) _ e _ (c .before .before .before .roll-node2 .ensures .0) in (
+    let bare = branch-rolled (s .pre .0) (s .pre .1) (inside node) _ e _ (c .before .before .before .before .roll-node .ensures .0) in
+    let o = branch-rolled (s .pre .0) (s .pre .2) (inside node) _ e _ (c .before .before .before .roll-node2 .ensures .0) in (
       omega (arith, l .inv .0),
       omega (arith, c .before .before .before .before .before .before .before .loop-test .taken),
       rows-next _ (l .bond) _ (l .option) _ _ (l .top) (l .k) _ _ _ _ (l .inv .2) (room rolled .0) (room rolled .1) (ap (λ (x : ℕ). x + right .flow) bare)
@@ -170,7 +170,7 @@ same-length-2 : tie.Need-same-length-2 Inv-loop μ-loop
 same-length-2 c = c .before .loop .inv .2 .option-filled .same
 
 returns : tie.Need-returns Inv-loop μ-loop
-returns c = rows-done _ _ _ _ _ _ _ _ _ (c .before .loop .inv .2) (omega (arith, c .before .loop .inv .1, c .loop-test .left))
+returns c = rows-done (c .before .loop .inv .2) (omega (arith, c .before .loop .inv .1, c .loop-test .left))
 
 pub option-nodes-spec : {M : Type 1} → statement M
 option-nodes-spec =

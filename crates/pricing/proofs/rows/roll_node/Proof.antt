@@ -12,11 +12,11 @@ use Rattle.pricing.proofs.rows.roll_node.Statement.{statement}
 use Rattle.pricing.proofs.rows.roll_node.Tie as tie
 
 sum : (s : tie.Start) → branchSum (s .args .branch) (values (now (s .args .later))) ≤ 4800000000000000000
-sum s = sum-fits _ _ _ _ _ _ _ (s .pre .1) (s .pre .2 _ (omega arith)) (s .pre .2 _ (omega arith)) (s .pre .2 _ (omega arith)) (s .pre .3)
+sum s = sum-fits _ _ _ (s .pre .1) (s .pre .2 _ (omega arith)) (s .pre .2 _ (omega arith)) (s .pre .2 _ (omega arith)) (s .pre .3)
 
 product : (s : tie.Start) →
     (branchSum (s .args .branch) (values (now (s .args .later))) + probabilityTotal / 2) / probabilityTotal * s .args .discount ≤ 8800000000000000000
-product s = product-fits _ _ _ _ _ _ _ (s .pre .1) (s .pre .2 _ (omega arith)) (s .pre .2 _ (omega arith)) (s .pre .2 _ (omega arith)) (s .pre .3)
+product s = product-fits _ _ _ (s .pre .1) (s .pre .2 _ (omega arith)) (s .pre .2 _ (omega arith)) (s .pre .2 _ (omega arith)) (s .pre .3)
 
 mul-sum-2 : tie.Need-mul-sum-2
 mul-sum-2 c = omega (arith, sum (c .before .before))

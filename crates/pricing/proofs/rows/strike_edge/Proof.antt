@@ -13,7 +13,7 @@ use Rattle.pricing.proofs.rows.strike_edge.Statement.{statement}
 use Rattle.pricing.proofs.rows.strike_edge.Tie as tie
 
 returns : tie.Need-returns
-returns c = row-done _ _ _ _ (c .before .before .before .before .before .before .args .index) _
+returns c = row-done
     (row-resume _ _ _ _ (c .before .before .before .before .before .before .pre .6)) (omega (arith, c .if1 .taken))
 
 -- the node stands in the row
@@ -26,9 +26,9 @@ roll-node-requires c κs =
     let s = c .before .before .before .before .before .before .before .before in
     let h = inside (c .before .before) in
     let e = c .before .row-branch .ensures in (
-      branch-inside _ _ (now (s .args .options)) _ _ (s .pre .0) (s .pre .1) h _ e,
-      branch-whole _ _ (now (s .args .options)) _ _ (s .pre .0) (s .pre .1) h _ e,
-      branch-limited _ _ (now (s .args .options)) _ _ (s .pre .0) (s .pre .1) h _ e,
+      branch-inside {later = now (s .args .options)} (s .pre .0) (s .pre .1) h _ e,
+      branch-whole {later = now (s .args .options)} (s .pre .0) (s .pre .1) h _ e,
+      branch-limited {later = now (s .args .options)} (s .pre .0) (s .pre .1) h _ e,
       s .pre .0 .discounted (s .args .index) h,
     )
 
@@ -37,9 +37,9 @@ returns-2 c =
     let s = c .before .before .before .before .before .before .before .before .before .before .before .before in
     let right = s .args .right in
     let h = inside (c .before .before .before .before .before .before) in
-    let roll = branch-rolled _ _ _ _ _ (s .pre .0) (s .pre .1) h _ (c .before .before .before .before .before .row-branch .ensures) _
+    let roll = branch-rolled (s .pre .0) (s .pre .1) h _ (c .before .before .before .before .before .row-branch .ensures) _
     (c .before .before .before .roll-node .ensures .0) in
-    row-done _ _ _ _ (s .args .index + 1) _
+    row-done {k = s .args .index + 1}
     (row-next _ (now (s .args .option)) _ (s .args .greatest) (s .args .index) _ _ (row-resume _ _ _ _ (s .pre .6)) (omega (arith, s .pre .3))
     (strike-from-roll (side (right .call)) (right .strike) (right .listed) (now (s .args .bare)) _ _ _ _ _ _ _ roll (c .before .held-value .ensures))
     (c .larger .ensures))

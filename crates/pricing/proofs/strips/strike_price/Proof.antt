@@ -16,7 +16,7 @@ cause : (c : tie.After-lowest-cause) → let a = c .before .before .before .befo
     c .lowest-cause .result ≡ datedCause (a .shared .steps) (a .shared .side) (now (a .dates)) (a .strike)
 cause c =
     let c₁ = c .before .before .before .before .before .before .before .before in
-    dated-cause-is _ _ _ _ _ _ _ (c .before .terms-cause .ensures) (c₁ .pre .list-is) (c .lowest-cause .ensures)
+    dated-cause-is _ _ _ _ (c .before .terms-cause .ensures) (c₁ .pre .list-is) (c .lowest-cause .ensures)
 
 returns : tie.Need-returns
 returns c =
@@ -47,7 +47,7 @@ roll-strike-requires c κs =
     let on =
     exercisable _ _ _ _ _ _ _ _ (s .pre .none) (cause c₂) (s .args .shared .bound) (c₁ .if1 .left) (ready .tree .limits .steps-within-limit) _ (c .terms-on .ensures) _
     (s .pre .marks-are) in
-    (ready, on .0, on .1, kept-through _ _ _ _ _ _ (s .pre .bond-is) (c .before .if2 .left), s .pre .room)
+    (ready, on .0, on .1, kept-through (s .pre .bond-is) (c .before .if2 .left), s .pre .room)
 
 returns-3 : tie.Need-returns-3
 returns-3 c =

@@ -78,9 +78,9 @@ loop-again c =
     let l = c₁ .loop in
     let e = c .strike-price .ensures in (
       omega arith,
-      filled-next _ _ _ _ _ (l .inv .1) (omega (arith, c₂ .pre .1, numbers-long c)) (ap (λ (x : Price). x .number) e),
-      filled-next _ _ _ _ _ (l .inv .2) (omega (arith, c₂ .pre .1, values-long c)) (ap (λ (x : Price). x .value) e),
-      filled-next _ _ _ _ _ (l .inv .3) (omega (arith, c₂ .pre .1, bounds-long c)) (ap (λ (x : Price). x .bound) e),
+      filled-next (l .inv .1) (omega (arith, c₂ .pre .1, numbers-long c)) (ap (λ (x : Price). x .number) e),
+      filled-next (l .inv .2) (omega (arith, c₂ .pre .1, values-long c)) (ap (λ (x : Price). x .value) e),
+      filled-next (l .inv .3) (omega (arith, c₂ .pre .1, bounds-long c)) (ap (λ (x : Price). x .bound) e),
     )
 
 returns : tie.Need-returns Inv-loop μ-loop

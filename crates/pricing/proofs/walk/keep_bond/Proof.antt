@@ -32,14 +32,14 @@ loop-holds c =
     let ready = s .pre .0 in (
       refl,
       bonds-first _ _ _ _ (ready .tree) (ready .paid) _ (λ k h. filled .ensures k (search needs) ∙ flow .ensures),
-      kept-none _ _ _ _ _ ready (now (s .args .kept)),
+      kept-none ready (now (s .args .kept)),
     )
 
 flow-of-requires-2 : tie.Need-flow-of-requires-2 Inv-loop μ-loop
 flow-of-requires-2 c κs =
     let c₁ = c .before .before .before .before .before .before .before .before .before .before .before .before in
     let l = c .before .loop in
-    omega (arith, c₁ .pre .0 .paid .count, bonds-inside _ _ _ _ (l .row) _ (l .inv .1))
+    omega (arith, c₁ .pre .0 .paid .count, bonds-inside _ _ _ _ (l .inv .1))
 
 keep-step-requires : tie.Need-keep-step-requires Inv-loop μ-loop
 keep-step-requires c κs =
@@ -51,8 +51,8 @@ keep-step-requires c κs =
     let l = c₃ .loop in
     let some = c₂ .loop-test .taken in
     let e = c₁ .flow-of2 .ensures in (
-      turn-steppable _ _ _ _ _ (s .pre .0) (l .row) (l .bond) some (l .inv .1) _ e,
-      turn-limited _ _ _ _ _ (s .pre .0) (l .row) (l .bond) some (l .inv .1) _ e,
+      turn-steppable (s .pre .0) (l .row) (l .bond) some (l .inv .1) _ e,
+      turn-limited (s .pre .0) (l .row) (l .bond) some (l .inv .1) _ e,
       omega (arith, l .inv .0, s .pre .1),
     )
 
@@ -72,8 +72,8 @@ returns c =
     let ready = c₅ .pre .0 in
     let l = c₄ .loop in
     let some = c₃ .loop-test .taken in
-    kept-refused _ _ _ _ _ ready _ (l .bond)
-    (turn-over _ _ _ _ _ ready (l .row) (l .bond) some (l .inv .1) _ (c₂ .flow-of2 .ensures) _ _ (c₁ .keep-step .ensures .0) 0 _ some (c .if1 .taken))
+    kept-refused ready _ (l .bond)
+    (turn-over ready (l .row) (l .bond) some (l .inv .1) _ (c₂ .flow-of2 .ensures) _ _ (c₁ .keep-step .ensures .0) 0 _ some (c .if1 .taken))
 
 -- where the loop goes on
 abbrev start : tie.In-loop Inv-loop μ-loop → tie.Start Inv-loop μ-loop
@@ -94,7 +94,7 @@ first c =
     let c₄ = c₃ .before in
     let c₅ = c₄ .before .before .before .before .before .before .before .before .before .before .before in
     let l = c₄ .loop in
-    turn-next _ _ _ _ _ (c₅ .pre .0) (l .row) (l .bond) (c₃ .loop-test .taken) (l .inv .1) _ (c₂ .flow-of2 .ensures) _ _
+    turn-next (c₅ .pre .0) (l .row) (l .bond) (c₃ .loop-test .taken) (l .inv .1) _ (c₂ .flow-of2 .ensures) _ _
     (c₁ .keep-step .ensures .0) (c .if1 .left)
 
 first-kept : (c : tie.Else1 Inv-loop μ-loop) →
@@ -108,7 +108,7 @@ first-kept c =
     let c₄ = c₃ .before in
     let c₅ = c₄ .before .before .before .before .before .before .before .before .before .before .before in
     let l = c₄ .loop in
-    kept-next _ _ _ _ _ (c₅ .pre .0) (l .row) (c₃ .loop-test .taken) (l .kept) _ _ (l .inv .2) (first c) _ (c₂ .flow-of2 .ensures)
+    kept-next (c₅ .pre .0) (l .row) (c₃ .loop-test .taken) (l .kept) _ _ (l .inv .2) (first c) _ (c₂ .flow-of2 .ensures)
     (c₁ .keep-step .ensures .1)
 
 same-length-2 : tie.Need-same-length-2 Inv-loop μ-loop
@@ -119,7 +119,7 @@ same-length-2 c =
 
 returns-2 : tie.Need-returns-2 Inv-loop μ-loop
 returns-2 c =
-    kept-whole _ _ _ _ _ (start (in-turn (c .before)) .pre .0) _ _ _ (c .if2 .taken) (first (c .before)) (first-kept (c .before))
+    kept-whole (start (in-turn (c .before)) .pre .0) _ _ _ (c .if2 .taken) (first (c .before)) (first-kept (c .before))
 
 -- where the turn goes on to its second row
 again : (c : tie.Else2 Inv-loop μ-loop) → 0 < in-turn (c .before) .before .loop .row - 1
@@ -130,7 +130,7 @@ sub-row-2 c = omega (arith, again c)
 
 flow-of-requires-3 : tie.Need-flow-of-requires-3 Inv-loop μ-loop
 flow-of-requires-3 c κs =
-    omega (arith, start (in-turn (c .before)) .pre .0 .paid .count, bonds-inside _ _ _ _ _ _ (first (c .before)))
+    omega (arith, start (in-turn (c .before)) .pre .0 .paid .count, bonds-inside _ _ _ _ (first (c .before)))
 
 keep-step-requires-2 : tie.Need-keep-step-requires-2 Inv-loop μ-loop
 keep-step-requires-2 c κs =
@@ -144,8 +144,8 @@ keep-step-requires-2 c κs =
     let some = again c₂ in
     let bonds = first c₃ in
     let e = c₁ .flow-of3 .ensures in (
-      turn-steppable _ _ _ _ _ (s .pre .0) _ _ some bonds _ e,
-      turn-limited _ _ _ _ _ (s .pre .0) _ _ some bonds _ e,
+      turn-steppable (s .pre .0) _ _ some bonds _ e,
+      turn-limited (s .pre .0) _ _ some bonds _ e,
       omega (arith, c₄ .keep-step .kept .1 .1 .1 .1 .1 .1 .1 .0, c₅ .loop .inv .0, s .pre .1),
     )
 
@@ -166,8 +166,8 @@ returns-3 c =
     let c₆ = c₅ .before .before .before .before .before .before .before .before .before .before .before in
     let ready = c₆ .pre .0 in
     let some = again c₃ in
-    kept-refused _ _ _ _ _ ready _ (c₅ .loop .bond)
-    (turn-over _ _ _ _ _ ready _ _ some (first c₄) _ (c₂ .flow-of3 .ensures) _ _ (c₁ .keep-step2 .ensures .0) 0 _ some (c .if3 .taken))
+    kept-refused ready _ (c₅ .loop .bond)
+    (turn-over ready _ _ some (first c₄) _ (c₂ .flow-of3 .ensures) _ _ (c₁ .keep-step2 .ensures .0) 0 _ some (c .if3 .taken))
 
 loop-less : tie.Need-loop-less Inv-loop μ-loop
 loop-less c = omega (arith, again (c .before .before .before .before .before .before .before .before))
@@ -184,10 +184,10 @@ loop-again c =
     let ready = c₇ .pre .0 in
     let some = again c₃ in
     let e = c₂ .flow-of3 .ensures in
-    let next = turn-next _ _ _ _ _ ready _ _ some (first c₄) _ e _ _ (c₁ .keep-step2 .ensures .0) (c .if3 .left) in (
+    let next = turn-next ready _ _ some (first c₄) _ e _ _ (c₁ .keep-step2 .ensures .0) (c .if3 .left) in (
       c₁ .keep-step2 .kept .1 .1 .1 .1 .1 .1 .1 .0 ∙ c₅ .keep-step .kept .1 .1 .1 .1 .1 .1 .1 .0 ∙ c₆ .loop .inv .0,
       next,
-      kept-next _ _ _ _ _ ready _ some _ _ _ (first-kept c₄) next _ e (c₁ .keep-step2 .ensures .1),
+      kept-next ready _ some _ _ _ (first-kept c₄) next _ e (c₁ .keep-step2 .ensures .1),
     )
 
 same-length-4 : tie.Need-same-length-4 Inv-loop μ-loop
@@ -197,7 +197,7 @@ returns-4 : tie.Need-returns-4 Inv-loop μ-loop
 returns-4 c =
     let c₁ = c .before .before .before .before .before .before .before .before .before .before .before .before in
     let l = c .before .loop in
-    kept-whole _ _ _ _ _ (c₁ .pre .0) (l .row) (l .kept) (l .bond) (omega (arith, c .loop-test .left)) (l .inv .1) (l .inv .2)
+    kept-whole (c₁ .pre .0) (l .row) (l .kept) (l .bond) (omega (arith, c .loop-test .left)) (l .inv .1) (l .inv .2)
 
 pub keep-bond-spec : {M : Type 1} → statement M
 keep-bond-spec =

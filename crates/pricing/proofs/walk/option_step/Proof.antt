@@ -62,7 +62,7 @@ returns c =
     let s = start shaped in
     let ready = s .pre .0 in
     part-option _ _ _ _ (ready .tree) (ready .inside) _ (shaped .row-shape .ensures) _ (parted .part2 .ensures) _ (ready .table) _
-    (parted .before .part .ensures) _ _ _ (s .args .right .listed) _ _ _ _ _ (c .option-row .ensures)
+    (parted .before .part .ensures) _ _ _ (s .args .right .listed) _ _ (c .option-row .ensures)
 
 pub option-step-spec : {M : Type 1} → statement M
 option-step-spec = tie.close (tie.spec (λ c κs. search needs) part-requires part-requires-2 option-row-requires returns)

@@ -27,7 +27,7 @@ roll-option-requires : tie.Need-roll-option-requires
 roll-option-requires c κs =
     let rolled = c .before .before in
     let s = start rolled in
-    (s .pre .0, s .pre .1, rolled-through _ _ _ _ _ _ _ (c .before .if1 .left) (rolled .roll-bond .ensures))
+    (s .pre .0, s .pre .1, rolled-through (c .before .if1 .left) (rolled .roll-bond .ensures))
 
 pub roll-both-spec : {M : Type 1} → statement M
 roll-both-spec =

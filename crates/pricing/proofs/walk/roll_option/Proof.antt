@@ -26,7 +26,7 @@ exercise-step-requires c κs =
 loop-holds : tie.Need-loop-holds Inv-loop μ-loop
 loop-holds c =
     let s = c .before .before .before .before .before .before .before .before .before .before in
-    both-first _ _ _ _ _ (s .pre .0) (s .args .terms) _ (s .pre .1) _ _ (s .pre .2) (c .before .before .exercise-step .ensures)
+    both-first (s .pre .0) (s .args .terms) _ (s .pre .1) _ _ (s .pre .2) (c .before .before .exercise-step .ensures)
 
 -- where the loop goes on
 abbrev start : (c : tie.In-loop Inv-loop μ-loop) → tie.Start Inv-loop μ-loop
@@ -35,7 +35,7 @@ start c = c .before .before .before .before .before .before .before .before .bef
 option-step-at-requires : tie.Need-option-step-at-requires Inv-loop μ-loop
 option-step-at-requires c κs =
     let l = c .before .loop in
-    both-before _ _ _ _ _ (start c .pre .0) _ _ (start c .pre .1) (l .row) (l .bond) (l .option) (c .loop-test .taken) (l .inv)
+    both-before (start c .pre .0) _ _ (start c .pre .1) (l .row) (l .bond) (l .option) (c .loop-test .taken) (l .inv)
 
 option-step-requires : tie.Need-option-step-requires Inv-loop μ-loop
 option-step-requires c κs =
@@ -43,7 +43,7 @@ option-step-requires c κs =
     let stepped = c₁ in
     let in-loop = stepped .before in
     let l = in-loop .before .loop in
-    turn-both-ready _ _ _ _ _ (start in-loop .pre .0) _ _ (start in-loop .pre .1) (l .row) (l .bond) (l .option) (in-loop .loop-test .taken) (l .inv) _
+    turn-both-ready (start in-loop .pre .0) _ _ (start in-loop .pre .1) (l .row) (l .bond) (l .option) (in-loop .loop-test .taken) (l .inv) _
     (stepped .option-step-at .ensures)
 
 -- where the first row of the turn was rolled
@@ -56,7 +56,7 @@ returns c =
     let in-loop = in-turn rolled in
     let l = in-loop .before .loop in
     rolled-answer (c .over .result) (c .over .ensures)
-    (turn-both-over _ _ _ _ _ (start in-loop .pre .0) _ _ (start in-loop .pre .1) (l .row) (l .bond) (l .option) (in-loop .loop-test .taken) (l .inv) _
+    (turn-both-over (start in-loop .pre .0) _ _ (start in-loop .pre .1) (l .row) (l .bond) (l .option) (in-loop .loop-test .taken) (l .inv) _
     (rolled .before .before .before .before .before .option-step-at .ensures) _ _ _ (rolled .option-step .ensures) (c .before .if1 .taken))
 
 -- where it has passed: it stands in the other two rows
@@ -69,7 +69,7 @@ first c =
     let rolled = c .before in
     let in-loop = in-turn rolled in
     let l = in-loop .before .loop in
-    turn-both-next _ _ _ _ _ (start in-loop .pre .0) _ _ (start in-loop .pre .1) (l .row) (l .bond) (l .option) (in-loop .loop-test .taken) (l .inv) _
+    turn-both-next (start in-loop .pre .0) _ _ (start in-loop .pre .1) (l .row) (l .bond) (l .option) (in-loop .loop-test .taken) (l .inv) _
     (rolled .before .before .before .before .before .option-step-at .ensures) _ _ _ (rolled .option-step .ensures) (c .if1 .left)
 
 returns-2 : tie.Need-returns-2 Inv-loop μ-loop
@@ -77,7 +77,7 @@ returns-2 c =
     let last = c .before .before .before in
     let s = start (in-turn (last .before .before)) in
     rolled-answer (c .at-root .result) (c .at-root .ensures)
-    (both-done _ _ _ _ _ (s .pre .0) _ _ (s .pre .1) _ _ _ (last .if2 .taken) (first (last .before)))
+    (both-done (s .pre .0) _ _ (s .pre .1) _ _ _ (last .if2 .taken) (first (last .before)))
 
 -- where the turn goes on to its second row
 again : (c : tie.Else2 Inv-loop μ-loop) → 0 < in-turn (c .before .before) .before .loop .row - 1
@@ -89,7 +89,7 @@ sub-row-2 c = again c
 option-step-at-requires-2 : tie.Need-option-step-at-requires-2 Inv-loop μ-loop
 option-step-at-requires-2 c κs =
     let s = start (in-turn (c .before .before)) in
-    both-before _ _ _ _ _ (s .pre .0) _ _ (s .pre .1) _ _ _ (again c) (first (c .before))
+    both-before (s .pre .0) _ _ (s .pre .1) _ _ _ (again c) (first (c .before))
 
 option-step-requires-2 : tie.Need-option-step-requires-2 Inv-loop μ-loop
 option-step-requires-2 c κs =
@@ -97,7 +97,7 @@ option-step-requires-2 c κs =
     let stepped = c₁ in
     let second = stepped .before in
     let s = start (in-turn (second .before .before)) in
-    turn-both-ready _ _ _ _ _ (s .pre .0) _ _ (s .pre .1) _ _ _ (again second) (first (second .before)) _ (stepped .option-step-at2 .ensures)
+    turn-both-ready (s .pre .0) _ _ (s .pre .1) _ _ _ (again second) (first (second .before)) _ (stepped .option-step-at2 .ensures)
 
 returns-3 : tie.Need-returns-3 Inv-loop μ-loop
 returns-3 c =
@@ -106,7 +106,7 @@ returns-3 c =
     let second = stepped .before in
     let s = start (in-turn (second .before .before)) in
     rolled-answer (c .over2 .result) (c .over2 .ensures)
-    (turn-both-over _ _ _ _ _ (s .pre .0) _ _ (s .pre .1) _ _ _ (again second) (first (second .before)) _ (stepped .option-step-at2 .ensures) _ _ _
+    (turn-both-over (s .pre .0) _ _ (s .pre .1) _ _ _ (again second) (first (second .before)) _ (stepped .option-step-at2 .ensures) _ _ _
     (rolled .option-step2 .ensures) (c .before .if3 .taken))
 
 loop-less : tie.Need-loop-less Inv-loop μ-loop
@@ -118,7 +118,7 @@ loop-again c =
     let stepped = rolled .before .before .before .before .before in
     let second = stepped .before in
     let s = start (in-turn (second .before .before)) in
-    turn-both-next _ _ _ _ _ (s .pre .0) _ _ (s .pre .1) _ _ _ (again second) (first (second .before)) _ (stepped .option-step-at2 .ensures) _ _ _
+    turn-both-next (s .pre .0) _ _ (s .pre .1) _ _ _ (again second) (first (second .before)) _ (stepped .option-step-at2 .ensures) _ _ _
     (rolled .option-step2 .ensures) (c .if3 .left)
 
 returns-4 : tie.Need-returns-4 Inv-loop μ-loop
@@ -127,7 +127,7 @@ returns-4 c =
     let l = ended .before .loop in
     let s = c .before .before .before .before .before .before .before .before .before .before .before .before .before .before .before in
     rolled-answer (c .at-root2 .result) (c .at-root2 .ensures)
-    (both-done _ _ _ _ _ (s .pre .0) _ _ (s .pre .1) (l .row) (l .bond) (l .option) (omega (arith, ended .loop-test .left)) (l .inv))
+    (both-done (s .pre .0) _ _ (s .pre .1) (l .row) (l .bond) (l .option) (omega (arith, ended .loop-test .left)) (l .inv))
 
 pub roll-option-spec : {M : Type 1} → statement M
 roll-option-spec =

@@ -57,7 +57,7 @@ returns c =
     let s = c₅ in
     let ready = s .pre .0 in
     part-strike _ _ _ _ (ready .tree) (ready .inside) _ (c₄ .row-shape .ensures) _ (c₂ .part2 .ensures) _ (ready .table) _
-    (c₃ .part .ensures) 0 _ _ (s .args .right .listed) _ _ _ _ _ (c₁ .part3 .ensures) (c .strike-row .ensures)
+    (c₃ .part .ensures) 0 _ _ (s .args .right .listed) _ _ (c₁ .part3 .ensures) (c .strike-row .ensures)
 
 pub strike-step-spec : {M : Type 1} → statement M
 strike-step-spec =
