@@ -20,7 +20,9 @@ use Rattle.pair_laws.proofs.CauseLaws.{least-cong, least-most}
 
 module _ (n b i : ℕ) (discounts : List ℕ) (a : Accepted n b discounts) (hi : i < n) (s : RowShape) (es : s ≡ rowShapeAnswer b n i) where
   shape : s ≡ shapeOf b n i
-  shape = es ∙ sym (shape-found b n i (a .limits .reversion-within-limit) (a .limits .steps-within-limit) (omega arith) (omega (arith, a .limits .steps-within-limit)))
+  shape =
+      let few = a .limits .steps-within-limit in
+      es ∙ sym (shape-found b n i (a .limits .reversion-within-limit) few (omega arith) (omega (arith, few)))
 
   count-is : s .count ≡ nodeCount b i
   count-is = ap (λ (x : RowShape). x .count) shape

@@ -94,7 +94,8 @@ module _ (n b : ℕ) (discounts : List ℕ) (a : Accepted n b discounts) (rows :
             omega (
               arith,
               same-bound i h,
-              error-bound-small (rateTree b) (stored b discounts) n (λ r k hr hk. discount-within n b r hr discounts a k hk) (a .limits .steps-within-limit) i h,
+              error-bound-small (rateTree b) (stored b discounts) n (λ r k hr hk. discount-within n b r hr discounts a k hk)
+                  (a .limits .steps-within-limit) i h,
             );
       }
 
@@ -109,7 +110,9 @@ module _ (n b i : ℕ) (discounts : List ℕ) (a : Lent n b discounts) (hi : i <
 
   module _ (s : RowShape) (es : s ≡ rowShapeAnswer b n i) where
     shape : s ≡ shapeOf b n i
-    shape = es ∙ sym (shape-found b n i (a .limits .reversion-within-limit) (a .limits .steps-within-limit) (omega arith) (omega (arith, a .limits .steps-within-limit)))
+    shape =
+        let few = a .limits .steps-within-limit in
+        es ∙ sym (shape-found b n i (a .limits .reversion-within-limit) few (omega arith) (omega (arith, few)))
 
     count-is : s .count ≡ nodeCount b i
     count-is = ap (λ (x : RowShape). x .count) shape

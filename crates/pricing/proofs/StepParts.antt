@@ -23,7 +23,9 @@ use Rattle.pricing.proofs.TreeRows as rows
 
 module _ (n b i : ℕ) (discounts : List ℕ) (a : Accepted n b discounts) (hi : i < n) (s : RowShape) (es : s ≡ rowShapeAnswer b n i) where
   shape : s ≡ shapeOf b n i
-  shape = es ∙ sym (shapes.shape-found b n i (a .limits .reversion-within-limit) (a .limits .steps-within-limit) (omega arith) (omega (arith, a .limits .steps-within-limit)))
+  shape =
+      let few = a .limits .steps-within-limit in
+      es ∙ sym (shapes.shape-found b n i (a .limits .reversion-within-limit) few (omega arith) (omega (arith, few)))
 
   pub count-is : s .count ≡ nodeCount b i
   count-is = ap (λ (x : RowShape). x .count) shape
@@ -75,7 +77,9 @@ module _ (n b i : ℕ) (discounts : List ℕ) (a : Accepted n b discounts) (hi :
         )
 
     pub part-within : length part ≤ mostNodes
-    part-within = omega (arith, ap length part-is, rows.discount-part-length n b i hi discounts a, count-within b i (omega (arith, a .limits .steps-within-limit)))
+    part-within =
+        let count = count-within b i (omega (arith, a .limits .steps-within-limit)) in
+        omega (arith, ap length part-is, rows.discount-part-length n b i hi discounts a, count)
 
     module _ (downs : List ℕ) (et : downs ≡ downTable n b) (table : List ℕ) (ed : table ≡ take (s .count) (drop (s .offset) downs)) where
       table-is : table ≡ rows.table-part n b i hi discounts a

@@ -114,5 +114,6 @@ bound-covers n b discounts i z =
       below = state-below (rateTree b) (stored b discounts) i;
       short =
           rw (answer-value n b discounts i none)
-          (state-price-shortfall (rateTree b) (rate-tree-sound b (not-refused n b discounts i none .tree .limits .reversion-within-limit)) (stored b discounts) i);
+          (state-price-shortfall (rateTree b) (rate-tree-sound b (not-refused n b discounts i none .tree .limits .reversion-within-limit))
+          (stored b discounts) i);
     }

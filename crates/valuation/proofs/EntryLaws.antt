@@ -233,8 +233,8 @@ module _ {n : ℕ} (b : ℕ) (discounts : List ℕ) {i : ℕ} (payoffs : List �
       valuationErrorBoundAnswer n b discounts i payoffs .number ≡ 0
   unfolding valuationErrorBoundAnswer valuationCause boundCause lowestCause
   bound-given d h e g =
-      let l = accepted n b discounts d in
-      let count = e ∙ sym (row-value b i (nodeCount b i) (nodeCountAnswer b i) refl (l .limits .reversion-within-limit) (omega (arith, l .limits .steps-within-limit))) in
+      let l = accepted n b discounts d .limits in
+      let count = e ∙ sym (row-value b i (nodeCount b i) (nodeCountAnswer b i) refl (l .reversion-within-limit) (omega (arith, l .steps-within-limit))) in
       rw (
         d,
         ← row-there n i h,

@@ -9,8 +9,8 @@ use Rattle.pricing.proofs.accepted_bond.Tie as tie
 
 array-share-prefix-table : tie.Need-array-share-prefix-table
 array-share-prefix-table c =
-    let tree = c .before .before .before .before .before .pre .0 in
-    prefix-room _ _ (tree .limits .steps-within-limit) (tree .limits .reversion-within-limit) _ _ (c .before .before .node-count .ensures) (c .before .table-of .ensures)
+    let within = c .before .before .before .before .before .pre .0 .limits in
+    prefix-room _ _ (within .steps-within-limit) (within .reversion-within-limit) _ _ (c .before .before .node-count .ensures) (c .before .table-of .ensures)
 
 slice-aggregate-roll-bond : tie.Need-slice-aggregate-roll-bond
 slice-aggregate-roll-bond c =

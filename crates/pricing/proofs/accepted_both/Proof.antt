@@ -18,8 +18,9 @@ array-share-prefix-table c =
 slice-aggregate-roll-both : tie.Need-slice-aggregate-roll-both
 slice-aggregate-roll-both c =
     let made = c .before in
-    let tree = start made .pre .0 in
-    let room = prefix-room _ _ (tree .limits .steps-within-limit) (tree .limits .reversion-within-limit) _ _ (made .before .node-count .ensures) (made .table-of .ensures) in
+    let within = start made .pre .0 .limits in
+    let room =
+    prefix-room _ _ (within .steps-within-limit) (within .reversion-within-limit) _ _ (made .before .node-count .ensures) (made .table-of .ensures) in
     prefix-length _ _ room
 
 roll-both-requires : tie.Need-roll-both-requires
@@ -30,7 +31,9 @@ roll-both-requires c κs =
       record {
         tree = tree;
         paid = s .pre .1;
-        table = prefix-is _ _ (tree .limits .steps-within-limit) (tree .limits .reversion-within-limit) _ _ (made .before .node-count .ensures) (made .table-of .ensures);
+        table =
+            prefix-is _ _ (tree .limits .steps-within-limit) (tree .limits .reversion-within-limit) _ _ (made .before .node-count .ensures)
+            (made .table-of .ensures);
       },
       s .pre .2,
     )

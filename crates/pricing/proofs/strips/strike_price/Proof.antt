@@ -45,8 +45,8 @@ roll-strike-requires c κs =
     let s = c₃ in
     let ready = s .pre .ready in
     let on =
-    exercisable _ _ _ _ _ _ _ _ (s .pre .none) (cause c₂) (s .args .shared .bound) (c₁ .if1 .left) (ready .tree .limits .steps-within-limit) _ (c .terms-on .ensures) _
-    (s .pre .marks-are) in
+    exercisable _ _ _ _ _ _ _ _ (s .pre .none) (cause c₂) (s .args .shared .bound) (c₁ .if1 .left) (ready .tree .limits .steps-within-limit)
+    _ (c .terms-on .ensures) _ (s .pre .marks-are) in
     (ready, on .0, on .1, kept-through (s .pre .bond-is) (c .before .if2 .left), s .pre .room)
 
 returns-3 : tie.Need-returns-3
