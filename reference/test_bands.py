@@ -1,6 +1,6 @@
 #!/usr/bin/env python3
 """Tables of haircut bands that were worked out by hand from document 02, request (xi), against the reference; its walk over change points against
-every pair of small tables, where the highest price is made small; and the tables of crates/band_figures, whose output was worked out apart.
+every pair of small tables, where the highest price is made small; and the tables of crates/band_cases, whose output was worked out apart.
 
     python3 reference/test_bands.py
 """
@@ -17,7 +17,7 @@ import bands
 from bands import ACCEPTED, HIGHEST_PRICE, ROWS, Band, lending_worth, verdict
 from reference import ONE
 
-FIGURES = pathlib.Path(__file__).resolve().parent.parent / 'crates/band_figures'
+FIGURES = pathlib.Path(__file__).resolve().parent.parent / 'crates/band_cases'
 ALL = Band(1, 60, 0, HIGHEST_PRICE, 250)
 
 

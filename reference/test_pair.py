@@ -1,6 +1,6 @@
 #!/usr/bin/env python3
 """Prices on a rate tree and a spread tree that were worked out by hand from document 02, request (xiii), against the reference; its promises on random pairs; a
-tree of ones on either side; the order of its causes; and the output of crates/pair_figures, whose inputs stand here once more.
+tree of ones on either side; the order of its causes; and the output of crates/pair_cases, whose inputs stand here once more.
 
     python3 reference/test_pair.py
 """
@@ -16,7 +16,7 @@ import widths
 from pair import Tree, bond_price, dated_option_price, exact_bond, exact_dated_option, needed, number_of
 from reference import CALL, ONE, PUT, Refused
 
-FIGURES = pathlib.Path(__file__).resolve().parent.parent / 'crates/pair_figures/stdout'
+FIGURES = pathlib.Path(__file__).resolve().parent.parent / 'crates/pair_cases/stdout'
 TOP = 1_100_000_000
 
 

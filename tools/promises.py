@@ -21,8 +21,9 @@ FUNCTION = re.compile(r'^\s*pub (?:extern "C" )?fn (\w+)', re.M)
 PATH = re.compile(r'[\w.-]+(/[\w.-]+)+')
 CALL = re.compile(r'(\w+)::(\w+\*?)')
 NAME = re.compile(r'[^\W\d][\w-]*')
-# The joint statement: its record, the crates that state it, and the columns of the table of its fields. A record of specs/, with its fields.
-STATEMENT, STATED, COLUMNS = 'AllPromises', ('promises', 'sheet_promises'), '| Record | Field | Line | Wrong edit |'
+# The joint statement; the crates whose records are told in one table with their wrong edits, and its columns: the other fields of the statement have tables of
+# their own. A record of specs/, with its fields.
+STATEMENT, STATED, COLUMNS = 'Engine', ('engine', 'promises', 'sheet_promises'), '| Record | Field | Line | Wrong edit |'
 RECORD = re.compile(r'^pub record (\w+).*\n((?:(?:  .*)?\n)*)', re.M)
 FIELD = re.compile(r'^  pub ([\w-]+) :(.*)', re.M)
 EVERY = re.compile(r'^ \(.*\) → (\w+Promises)(?: \w+)*$')
@@ -143,7 +144,7 @@ def faults_of_fields(text, root):
     specs = [path for crate in STATED for path in sorted((root / 'crates' / crate / 'specs').glob('*.antt'))]
     records = {name: FIELD.findall(body) for path in specs for name, body in RECORD.findall(path.read_text(encoding='utf-8'))}
     rows = [re.findall(TOKEN, row) for row in text.partition(COLUMNS)[2].partition('\n\n')[0].splitlines()[2:]]
-    there, named = set(fields_of(records, STATEMENT)), {tuple(row[:2]) for row in rows}
+    there, named = {each for each in fields_of(records, STATEMENT) if each[0] != STATEMENT}, {tuple(row[:2]) for row in rows}
     faults = [f'no wrong edit of {record} {field}' for record, field in sorted(there - named)]
     faults += [f'{" ".join(each)} is no field of the statement' for each in sorted(named - there)]
     faults += [f'no wrong edit in the row of {" ".join(row[:2])}' for row in rows if '/must-fail/' not in row[-1]]

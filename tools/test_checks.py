@@ -80,11 +80,9 @@ pub record TreePromises : Type 0 where
   pub tree-rows : (i : ℕ) → Rows i
   pub tree-sound : (i : ℕ) →
       i ≤ i
-
-pub record Promises : Type 0 where
-  pub tree : TreePromises
 ''',
-    'crates/sheet_promises/specs/SheetPromises.antt': 'pub record AllPromises : Type 0 where\n  pub engine : Promises\n  pub sheets : ℕ\n',
+    'crates/sheet_promises/specs/SheetPromises.antt': 'pub record SheetPromises : Type 0 where\n  pub sheets : ℕ\n',
+    'crates/engine/specs/Engine.antt': 'pub record Engine : Type 0 where\n  pub tree : TreePromises\n  pub sheets : SheetPromises\n  pub shelf : ShelfPromises\n',
     'crates/promises/must-fail/one_row.edit': '',
     'crates/promises/must-fail/no_row.edit': '',
     'crates/sheet_promises/must-fail/no_sheet.edit': '',
@@ -94,7 +92,7 @@ FIELDS = '''| Record | Field | Line | Wrong edit |
 | `TreePromises` | `tree-rows` | `first` | `promises/must-fail/one_row` |
 | `TreePromises` | `tree-rows` | | `promises/must-fail/no_row` |
 | `TreePromises` | `tree-sound` | | `lattice/must-fail/one_less` |
-| `AllPromises` | `sheets` | | `sheet_promises/must-fail/no_sheet` |
+| `SheetPromises` | `sheets` | | `sheet_promises/must-fail/no_sheet` |
 
 | Entry | Numbers |
 |---|---|
@@ -169,7 +167,7 @@ class Promises(unittest.TestCase):
                 (FIELDS.replace(sound, sound + sound.replace('sound', 'round')), ['TreePromises tree-round is no field of the statement']),
                 (FIELDS.replace('`lattice/must-fail/one_less`', ''), ['no wrong edit in the row of TreePromises tree-sound']),
                 (FIELDS.replace('promises/must-fail/no_row', 'promises/must-fail/one_row'), ['promises/must-fail/no_row tries no field']),
-                ('', ['no wrong edit of AllPromises sheets', 'no wrong edit of TreePromises tree-rows', 'no wrong edit of TreePromises tree-sound',
+                ('', ['no wrong edit of SheetPromises sheets', 'no wrong edit of TreePromises tree-rows', 'no wrong edit of TreePromises tree-sound',
                       'promises/must-fail/no_row tries no field', 'promises/must-fail/one_row tries no field', 'sheet_promises/must-fail/no_sheet tries no field'])):
             with self.subTest(faults=faults):
                 self.assertEqual(promises.faults_of_fields(text, self.root), [f'docs/PROMISES.md, fields and wrong edits: {each}' for each in faults])

@@ -1,12 +1,12 @@
 #!/usr/bin/env python3
-"""The jobs of this crate, those of job_figures, and what is written of each: a well-formed one as it is, of any other the number 1.
+"""The jobs of this crate, those of job_cases, and what is written of each: a well-formed one as it is, of any other the number 1.
 
     vectors.py    writes the files stdin and stdout beside itself
 """
 import importlib.util, os, struct
 
 here = os.path.dirname(os.path.abspath(__file__))
-spec = importlib.util.spec_from_file_location("vectors", os.path.join(here, "..", "job_figures", "vectors.py"))
+spec = importlib.util.spec_from_file_location("vectors", os.path.join(here, "..", "job_cases", "vectors.py"))
 readings = importlib.util.module_from_spec(spec)
 spec.loader.exec_module(readings)
 

@@ -4,7 +4,7 @@ use mathlib.Core.Path.{_≡_, refl, sym, _∙_, ap}
 use mathlib.Core.Bool.{Bool, true, false, _&&_, and-true, and-assoc}
 use mathlib.Core.List.{List}
 use mathlib.Core.Logic.{_⊎_, inl, inr, ⊎-elim}
-use Prim.Native.Nat.{ℕ, zero, suc, _+_, _-_, _≤_, _<_}
+use Prim.Native.Nat.{ℕ, zero, suc, _+_, _-_, _*_, _≤_, _<_}
 use native.Mathlib.Numerals.{add-one}
 use native.Mathlib.Nat.{not-suc-le-zero, le-of-suc-le-suc, eq-or-lt-of-le, lt-of-not-le, add-zero, add-suc}
 use native.Mathlib.Decide.{decLe}
@@ -42,8 +42,8 @@ pub filled-start : (l : List ℕ) (f : ℕ → ℕ) → Filled l l f 0
 filled-start l f = record { same = refl; done = λ j h. absurd (not-suc-le-zero h); rest = λ j h. refl }
 
 pub filled-next :
-    (l₀ l : List ℕ) (f : ℕ → ℕ) (i x : ℕ) → Filled l₀ l f i → i < length l → x ≡ f i → Filled l₀ (set l i x) f (i + 1)
-filled-next l₀ l f i x s h e =
+    {l₀ l : List ℕ} {f : ℕ → ℕ} {i x : ℕ} → Filled l₀ l f i → i < length l → x ≡ f i → Filled l₀ (set l i x) f (i + 1)
+filled-next {l} {f} {i} {x} s h e =
     record {
       same = length-set l i x ∙ s .same;
       done = λ j b. go j b (eq-or-lt-of-le (before j b));
@@ -77,6 +77,39 @@ lt-or-eq a j = first (decLe a j)
     first : Dec (a ≤ j) → (a ≡ j) ⊎ ((a < j) ⊎ (j < a))
     first (yes h) = second (eq-or-lt-of-le h)
     first (no n) = inr (inr (lt-of-not-le n))
+
+-- A row being filled from its middle place w outwards: the places nearer than d hold f.
+pub record Around (w : ℕ) (f : ℕ → ℕ) (l₀ l : List ℕ) (d : ℕ) : Type 0 where
+  pub same : length l ≡ length l₀
+  pub done : (k : ℕ) → w < k + d → k < w + d → values l k ≡ f k
+
+pub around-start : (w : ℕ) (f : ℕ → ℕ) (l : List ℕ) → Around w f l l 0
+around-start w f l = record { same = refl; done = λ k p q. omega arith }
+
+pub around-next :
+    {w : ℕ} {f : ℕ → ℕ} {l₀ l : List ℕ} {d x y : ℕ} → Around w f l₀ l d → d ≤ w → w + d < length l → (0 < d → x ≡ f (w - d)) → y ≡ f (w + d)
+    → Around w f l₀ (set (set l (w - d) x) (w + d) y) (d + 1)
+around-next {w} {f} {l} {d} {x} {y} s near room low high =
+    record {
+      same = length-set (set l (w - d) x) (w + d) y ∙ (length-set l (w - d) x ∙ s .same);
+      done = λ k p q. upper k p q (eq-or-lt-of-le (within k q));
+    }
+  where
+    within : (k : ℕ) → k < w + (d + 1) → k ≤ w + d
+    within k q = omega arith
+
+    lower : (k : ℕ) → w < k + (d + 1) → k < w + d → (w - d ≡ k) ⊎ ((w - d < k) ⊎ (k < w - d)) → values (set l (w - d) x) k ≡ f k
+    lower k p q (inl e) = rw (← e) (getD-set-same l (w - d) x 0 (omega arith) ∙ low (omega arith))
+    lower k p q (inr (inl m)) = getD-set-other l (w - d) k x 0 (λ n. omega arith) ∙ s .done k (omega arith) q
+    lower k p q (inr (inr m)) = omega arith
+
+    upper : (k : ℕ) → w < k + (d + 1) → k < w + (d + 1) → (k ≡ w + d) ⊎ (k < w + d) → values (set (set l (w - d) x) (w + d) y) k ≡ f k
+    upper k p q (inl e) = rw e (getD-set-same (set l (w - d) x) (w + d) y 0 (rw (length-set l (w - d) x) room) ∙ high)
+    upper k p q (inr m) = getD-set-other (set l (w - d) x) (w + d) k y 0 (λ n. omega arith) ∙ lower k p m (lt-or-eq (w - d) k)
+
+pub around-all :
+    {w : ℕ} {f : ℕ → ℕ} {l₀ l : List ℕ} {d : ℕ} → Around w f l₀ l d → w < d → length l₀ ≡ 2 * w + 1 → l ≡ row (length l₀) f
+around-all {f} {l₀} {l} s past long = row-of l (length l₀) f (s .same) (λ k h. s .done k (omega arith) (omega arith))
 
 -- adding an amount at one place
 pub set-only :

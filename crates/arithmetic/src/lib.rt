@@ -6,7 +6,7 @@ ghost use lib.ListN.{length};
 ghost use Rattle.arithmetic.specs.Sum.{greatest};
 ghost use Rattle.arithmetic.specs.Row.{values, greatestOf, each, between};
 ghost use Rattle.arithmetic.specs.Power.{powerOfTen};
-ghost use Rattle.arithmetic.specs.Frequency.{listed};
+ghost use Rattle.arithmetic.specs.Frequency.{isFrequency};
 ghost use Rattle.arithmetic.specs.Answers.{lowestCause};
 
 // One, in billionths.
@@ -61,8 +61,8 @@ pub fn power_of_ten(exponent: usize) -> u64
 }
 
 // Whether the steps a year are 1, 2, 4 or 12.
-pub fn is_listed(frequency: u64) -> bool
-    ensures { λ r. ⌜ r ≡ listed frequency ⌝ }
+pub fn is_frequency(frequency: u64) -> bool
+    ensures { λ r. ⌜ r ≡ isFrequency frequency ⌝ }
 {
     if frequency == 1 {
         return true;

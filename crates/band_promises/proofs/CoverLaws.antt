@@ -90,9 +90,7 @@ bandsIn t = bandsOf (t .firstRows) (t .lastRows) (t .lowestPrices) (t .highestPr
 
 module _ (t : Table) (row price : ℕ) where
   holds-contains : (k : ℕ) → Holds t row price k → contains (bandsIn t) row price k ≡ true
-  holds-contains k h =
-      inside (values (t .firstRows) k) (values (t .lastRows) k) (values (t .lowestPrices) k) (values (t .highestPrices) k) row price
-      (h .from-row) (h .to-row) (h .from-price) (h .to-price)
+  holds-contains k h = inside (h .from-row) (h .to-row) (h .from-price) (h .to-price)
 
   contains-holds : (k : ℕ) → k < size t → contains (bandsIn t) row price k ≡ true → Holds t row price k
   unfolding within
@@ -171,7 +169,7 @@ module _ (t : Table) (k : ℕ) where
       let lo = values (t .lowestPrices) k in
       let hi = values (t .highestPrices) k in
       let h = values (t .haircuts) k in
-      let s = sound-band f l lo hi h (not-false (sound f l lo hi h) e) in
+      let s = sound-band (not-false (sound f l lo hi h) e) in
       record {
         rows-in-order = s .rows-in-order;
         prices-in-order = s .prices-in-order;
@@ -187,7 +185,7 @@ module _ (t : Table) (k : ℕ) where
   pub good-sound : Good t k → unsound (bandsIn t) (values (t .haircuts)) k ≡ false
   good-sound g =
       ap not
-      (band-sound _ _ _ _ _
+      (band-sound
       (record {
         rows-in-order = g .rows-in-order;
         prices-in-order = g .prices-in-order;

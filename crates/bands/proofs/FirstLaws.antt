@@ -79,7 +79,7 @@ pub record Searched (test : ℕ → Bool) (start end i : ℕ) : Type 0 where
   pub most : i ≤ end
   pub before : (k : ℕ) → start ≤ k → k < i → test k ≡ false
 
-module _ (test : ℕ → Bool) (start end : ℕ) where
+module _ {test : ℕ → Bool} {start end : ℕ} where
   pub searched-start : start ≤ end → Searched test start end start
   searched-start h = record { least = le-refl start; most = h; before = λ k l m. absurd (none k l m) }
     where

@@ -11,7 +11,7 @@ use Rattle.bands.specs.Bands.{sound}
 use Rattle.bands.specs.SoundBand.{SoundBand}
 use Rattle.arithmetic.proofs.BetweenLaws.{and-left, and-right}
 
-module _ (f l lo hi h : ℕ) where
+module _ {f l lo hi h : ℕ} where
   pub sound-band : sound f l lo hi h ≡ true → SoundBand f l lo hi h
   unfolding sound
   sound-band s =

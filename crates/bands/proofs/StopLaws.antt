@@ -12,29 +12,28 @@ use Rattle.bands.specs.Bands.{Bands, within, contains, flag, covering}
 use Rattle.bands.specs.Stops.{Added}
 use Rattle.bands.specs.inside.Stops.{StopAt}
 
-module _ (f l lo hi row q : ℕ) where
-  pub row-before : row < f → within f l lo hi row q ≡ false
-  unfolding within
-  row-before h = simp (lt-leb f row h)
+pub row-before : {f : ℕ} (l lo hi : ℕ) {row : ℕ} (q : ℕ) → row < f → within f l lo hi row q ≡ false
+unfolding within
+row-before {f} l lo hi {row} q h = simp (lt-leb f row h)
 
-  pub row-after : l < row → within f l lo hi row q ≡ false
-  unfolding within
-  row-after h = simp (lt-leb row l h, and-false)
+pub row-after : (f : ℕ) {l : ℕ} (lo hi : ℕ) {row : ℕ} (q : ℕ) → l < row → within f l lo hi row q ≡ false
+unfolding within
+row-after f {l} lo hi {row} q h = simp (lt-leb row l h, and-false)
 
-  pub price-below : q < lo → within f l lo hi row q ≡ false
-  unfolding within
-  price-below h = simp (lt-leb lo q h, and-false)
+pub price-below : (f l : ℕ) {lo : ℕ} (hi row : ℕ) {q : ℕ} → q < lo → within f l lo hi row q ≡ false
+unfolding within
+price-below f l {lo} hi row {q} h = simp (lt-leb lo q h, and-false)
 
-  pub price-above : hi < q → within f l lo hi row q ≡ false
-  unfolding within
-  price-above h = simp (lt-leb q hi h, and-false)
+pub price-above : (f l lo : ℕ) {hi : ℕ} (row : ℕ) {q : ℕ} → hi < q → within f l lo hi row q ≡ false
+unfolding within
+price-above f l lo {hi} row {q} h = simp (lt-leb q hi h, and-false)
 
-  pub inside : f ≤ row → row ≤ l → lo ≤ q → q ≤ hi → within f l lo hi row q ≡ true
-  unfolding within
-  inside a b c d = simp (le-leb f row a, le-leb row l b, le-leb lo q c, le-leb q hi d)
+pub inside : {f l lo hi row q : ℕ} → f ≤ row → row ≤ l → lo ≤ q → q ≤ hi → within f l lo hi row q ≡ true
+unfolding within
+inside {f} {l} {lo} {hi} {row} {q} a b c d = simp (le-leb f row a, le-leb row l b, le-leb lo q c, le-leb q hi d)
 
 -- a band that covers none, or all, of the prices from `price` to before `end′`
-module _ (f l lo hi row price count end end′ : ℕ) (further : price < end′) (earlier : end′ ≤ end) where
+module _ {f l lo hi row price count end end′ : ℕ} (further : price < end′) (earlier : end′ ≤ end) where
   pub added-none : ((q : ℕ) → price ≤ q → q < end′ → within f l lo hi row q ≡ false) → Added f l lo hi row price count end count end′
   added-none none =
       let here : within f l lo hi row price ≡ false = none price (le-refl price) further in
@@ -70,11 +69,11 @@ module _ (b : Bands) (row price : ℕ) where
   stop-none end h m = record { counted = refl; further = h; most = m; same = λ q l k. refl }
 
   pub stop-more :
-      (n count end count′ end′ : ℕ) → StopAt b row price n count end →
+      {n count end count′ end′ : ℕ} → StopAt b row price n count end →
       Added (b .firstRow n) (b .lastRow n) (b .lowest n) (b .highest n) row price count end count′ end′ →
       StopAt b row price (n + 1) count′ end′
   unfolding covering
-  stop-more n count end count′ end′ s a =
+  stop-more {n} s a =
       rw (add-one n)
       (record {
         counted = a .counted ∙ ap (λ (x : ℕ). x + flag (contains b row price n)) (s .counted);

@@ -34,7 +34,7 @@ module _ (b : Bands) (row price : ℕ) where
   true-failing h = eqb-false (coverage b row price) 1 (not-true (eqb (coverage b row price) 1) h)
 
 -- a stop: it fails, or no price before the next stop does
-module _ (b : Bands) (row price count end : ℕ) (stop : StopAt b row price (b .count) count end) where
+module _ {b : Bands} {row price count end : ℕ} (stop : StopAt b row price (b .count) count end) where
   pub stop-fails : (count ≡ 1 → ⊥) → failing b row price ≡ true
   stop-fails h = failing-true b row price (λ e. h (stop .counted ∙ e))
 

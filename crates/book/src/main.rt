@@ -9,7 +9,12 @@ struct Step {
     more: bool,
 }
 
-fn next_field(book: Book, buffer: &mut [u8]) -> Step
+fn next_field(
+    book: Book,
+    buffer: &mut [u8],
+    discounts: &mut [u64; limits::MOST_DISCOUNTS],
+    state_prices: &mut [u64; limits::MOST_STATE_PRICES],
+) -> Step
     requires { ⌜ 65536 ≤ length (now buffer) ⌝ }
 {
     let mut head = [0u8; 3];
@@ -34,7 +39,7 @@ fn next_field(book: Book, buffer: &mut [u8]) -> Step
             more: false,
         };
     }
-    let next = book_fields::with_field(book, &buffer[..size]);
+    let next = book_fields::with_field_in(book, &buffer[..size], discounts, state_prices);
     Step {
         book: next,
         more: true,
@@ -45,10 +50,12 @@ fn next_field(book: Book, buffer: &mut [u8]) -> Step
 fn read_book(buffer: &mut [u8]) -> Book
     requires { ⌜ 65536 ≤ length (now buffer) ⌝ }
 {
+    let mut discounts = limits::discount_room();
+    let mut state_prices = limits::state_price_room();
     let mut book = book_fields::empty();
     let mut left = book_laws::MOST_FIELDS;
     while left > 0 {
-        let step = next_field(book, buffer);
+        let step = next_field(book, buffer, &mut discounts, &mut state_prices);
         let next = step.book;
         if !step.more {
             return next;

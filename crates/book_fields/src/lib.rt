@@ -3,7 +3,8 @@ mod books;
 mod jobs;
 
 ghost use mathlib.Core.Path.{_≡_};
-ghost use Rattle.book_laws.specs.Books.{emptyBook, withField, brokenBook, closedBook};
+ghost use Rattle.job_fit.specs.RecordFit.{jobDiscounts, jobStatePrices};
+ghost use Rattle.book_laws.specs.Books.{emptyBook, withField, fieldMemory, brokenBook, closedBook};
 use book_laws::Book;
 
 pub fn empty() -> Book
@@ -22,9 +23,17 @@ pub fn empty() -> Book
     }
 }
 
-// A book with one more field. One that ended, that has 500 fields or that no calls reach is given back as it is.
-pub fn with_field(book: Book, job: &[u8]) -> Book
-    ensures { λ r. ⌜ r ≡ withField book (now (job .entry)) ⌝ }
+// A book with one more field, whose job is fitted and priced in the lent memories, so that a whole file has one pair of them. A book that ended, that
+// has 500 fields or that no calls reach is given back as it is, and so are the memories.
+pub fn with_field_in(
+    book: Book,
+    job: &[u8],
+    discounts: &mut [u64; limits::MOST_DISCOUNTS],
+    state_prices: &mut [u64; limits::MOST_STATE_PRICES],
+) -> Book
+    ensures answer { λ r. ⌜ r ≡ withField book (now (job .entry)) ⌝ }
+    ensures discounted { λ _. ⌜ now (discounts .exit) ≡ fieldMemory book (now (job .entry)) jobDiscounts (now (discounts .entry)) ⌝ }
+    ensures priced { λ _. ⌜ now («state_prices» .exit) ≡ fieldMemory book (now (job .entry)) jobStatePrices (now («state_prices» .entry)) ⌝ }
 {
     if !books::is_open(book) {
         return book;
@@ -32,7 +41,16 @@ pub fn with_field(book: Book, job: &[u8]) -> Book
     if book_laws::MOST_FIELDS <= book.fields {
         return book;
     }
-    books::with_prices(book, jobs::prices_of(job))
+    books::with_prices(book, jobs::prices_of(job, discounts, state_prices))
+}
+
+// The same without lent memories.
+pub fn with_field(book: Book, job: &[u8]) -> Book
+    ensures { λ r. ⌜ r ≡ withField book (now (job .entry)) ⌝ }
+{
+    let mut discounts = limits::discount_room();
+    let mut state_prices = limits::state_price_room();
+    with_field_in(book, job, &mut discounts, &mut state_prices)
 }
 
 // A book that ends because its file is broken, with one more refusal under 1. One that ended or that no calls reach is given back as it is.

@@ -12,7 +12,7 @@ use borrow.Author.Tests.{eq-eqb, ne-eqb}
 use Rattle.arithmetic.proofs.CauseLaws.{first-most, first-none}
 use Rattle.arithmetic.specs.declared.Answer.{Answer}
 use Rattle.arithmetic.specs.Answers.{lowestCause, refused, answered, firstCause}
-use Rattle.arithmetic.specs.Frequency.{listed}
+use Rattle.arithmetic.specs.Frequency.{isFrequency}
 use Rattle.arithmetic.specs.Rounding.{one}
 use Rattle.arithmetic.specs.Row.{values, each, between}
 use Rattle.arithmetic.proofs.Numbers.{by-equal, by-test}
@@ -82,7 +82,7 @@ memory-most n b discounts prices =
 curve-most : (f n : ℕ) (rows kinds : List ℕ) (figures : List Float) (room : ℕ) → curveNumber f n rows kinds figures room ≤ mostNumber
 unfolding curveNumber
 curve-most f n rows kinds figures room =
-    chosen-most (not (listed f)) 2 _ mostNumber (omega arith)
+    chosen-most (not (isFrequency f)) 2 _ mostNumber (omega arith)
     (chosen-most (not (isSteps n)) 3 _ mostNumber (omega arith)
     (chosen-most (not (inPlace n rows kinds figures room)) 6 _ mostNumber (omega arith)
     (chosen-most (not (each n (convertsAt f kinds figures))) 7 0 mostNumber (omega arith) (omega arith))))
@@ -94,7 +94,7 @@ needed-most n b = number-most (eqb (shapeCause n b) 0) (answered (discountsNeede
 spacing-most : (v f s b : ℕ) → versionSpacingAnswer v f s b .number ≤ mostNumber
 unfolding versionSpacingAnswer
 spacing-most v f s b =
-    number-most (not (listed f)) (refused 2) _ mostNumber (omega arith)
+    number-most (not (isFrequency f)) (refused 2) _ mostNumber (omega arith)
     (number-most (ltb mostReversion b) (refused 4) _ mostNumber (omega arith)
     (number-most (ltb 50000 s) (refused 5) _ mostNumber (omega arith)
     (number-most (not (isVersion v)) (refused 7) (answered (versionSpacing v f s b)) mostNumber (omega arith) (omega arith))))
@@ -207,7 +207,7 @@ module _ (n b : ℕ) (discounts flows : List ℕ) where
       omega (arith, row-greatest (rateTree b) .at-most 0 (value 0) 0 h, row-in-peak (λ i. greatestValue (rateTree b) value i) last 0 (omega arith))
 
   rooted : Accepted n b discounts → 0 < rateTree b .nodes 0
-  rooted a = omega (arith, rate-tree-sound b (a .reversion-within-limit) .root)
+  rooted a = omega (arith, rate-tree-sound b (a .limits .reversion-within-limit) .root)
 
   module _ (z : bondPrice n b discounts flows .number ≡ 0) where
     pub bond-tree : Accepted n b discounts
@@ -224,7 +224,7 @@ module _ (n b : ℕ) (discounts flows : List ℕ) where
     bond-bound-most =
         rw (bond-given n b discounts flows z .bound)
         (error-bound-small (rateTree b) (stored b discounts) n (λ r k hr hk. discount-within n b r hr discounts bond-tree k hk)
-        (bond-tree .steps-within-limit) 0 (omega arith))
+        (bond-tree .limits .steps-within-limit) 0 (omega arith))
 
   -- an option's value, where its cause and its limit are none
   scheduled-value : (side : Side) (strike : ℕ) (rows : Schedule) (cause : ℕ) →

@@ -7,7 +7,9 @@ use lib.Dec.{eqb, ltb, leb}
 use lib.ListN.{set, replicate}
 use Rattle.arithmetic.specs.Row.{values, each, between}
 use Rattle.job_prices.specs.declared.JobPrices.{JobPrices}
-use Rattle.limits.specs.Limits.{valueLimit}
+use Rattle.job_prices.specs.JobPrices.{bytesMemory}
+use Rattle.job_record.specs.declared.Job.{Job}
+use Rattle.limits.specs.Limits.{valueLimit, mostDiscounts, mostStatePrices}
 use Rattle.book_laws.specs.Bounds.{jobPrices, mostNumber, mostErrorBound}
 use Rattle.book_laws.specs.declared.Book.{Book}
 
@@ -89,6 +91,11 @@ withPrices b p = cond (eqb (p .number) 0) (withPriced b p) (withRefused b (p .nu
 -- one more field, with its job; a book of 500 fields takes no other
 unfoldable pub withField : Book → List ℕ → Book
 withField b job = cond (isOpen b && ltb (b .fields) mostFields) (withPrices b (jobPrices job)) b
+
+-- a memory in which the job of a field is fitted and priced: as it was where the book takes no field
+unfoldable pub fieldMemory : Book → List ℕ → (Job → List ℕ) → List ℕ → List ℕ
+fieldMemory b job rows memory =
+    cond (isOpen b && ltb (b .fields) mostFields) (bytesMemory job mostDiscounts mostStatePrices rows memory) memory
 
 -- a book that ends broken: one more under 1
 unfoldable pub endedBook : Book → Book

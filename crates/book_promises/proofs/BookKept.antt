@@ -21,7 +21,7 @@ use Rattle.job_prices.specs.declared.JobPrices.{JobPrices}
 use Rattle.job_prices.specs.JobPrices.{recordNumber, bytesNumber, bytesPrices, jobBond}
 use Rattle.job_prices.proofs.Accepted.{AcceptedRecord, bytes-accepted}
 use Rattle.job_prices.proofs.PriceLaws.{prices-given, prices-number}
-use Rattle.promises.proofs.Kept.{promises-kept}
+use Rattle.promises.proofs.Kept.{on-tree-kept}
 use Rattle.text_laws.specs.Decimal.{decimal}
 use Rattle.text_laws.specs.Lines.{refusedWord}
 use Rattle.text_laws.specs.Put.{putBefore}
@@ -125,14 +125,14 @@ module _ (job : List ℕ) (z : numberOf job ≡ 0) where
   accepted = bytes-accepted job mostDiscounts mostStatePrices unrefused .1
 
   steps-few : stepsOf job ≤ mostSteps
-  steps-few = bond-tree _ _ _ _ (accepted .bond) .steps-within-limit
+  steps-few = bond-tree _ _ _ _ (accepted .bond) .limits .steps-within-limit
 
   -- DEMAND 3 OF ITS BOND
   pub bond-near : Within (boundOf job) (unit ^ stepsOf job) (bondOf job) (exactBondOf job)
   unfolding exactBondOf
   bond-near =
       subst (λ (p : Price). Within (p .bound) (unit ^ stepsOf job) (p .value) (exactOf (readingOf job .job))) (sym given)
-      (promises-kept .prices .on-tree _ _ _ _ .bond-accurate (accepted .bond))
+      (on-tree-kept _ _ _ _ .bond-accurate (accepted .bond))
 
 -- THE EXACT TOTAL: of any jobs, it differs from the sum of their bonds by at most the sum of their error bounds
 pub exact-total : (jobs : List (List ℕ)) → Within (sumOf boundOf jobs) (unit ^ mostSteps) (sumOf bondOf jobs) (exactTotal jobs)

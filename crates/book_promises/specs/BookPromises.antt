@@ -117,6 +117,7 @@ pub record Reported (file text : List ℕ) : Type 0 where
   pub taken : Taken file jobs left
   pub dearest-bond : FirstDearest jobs place
   pub printed : text ≡ reportText jobs left place
+  -- a total is no price with a bound of its own: it is within the sum of its bonds' bounds
   pub total-near : Within (sumOf boundOf jobs) (unit ^ 60) (sumOf bondOf jobs) (exactTotal jobs)
 
 pub record BookPromises : Type 0 where

@@ -54,10 +54,12 @@ fn field_end(file: &[u8], at: usize) -> usize
     at + 3 + head.size
 }
 
-// The book of a whole file in memory.
+// The book of a whole file in memory: one pair of memories for the trees of all its jobs.
 pub fn file_book(file: &[u8]) -> Book
     ensures { λ r. ⌜ r ≡ fileBook (now (file .entry)) ⌝ }
 {
+    let mut discounts = limits::discount_room();
+    let mut state_prices = limits::state_price_room();
     let mut book = book_fields::empty();
     let mut at = 0usize;
     let mut left = book_laws::MOST_FIELDS;
@@ -67,7 +69,8 @@ pub fn file_book(file: &[u8]) -> Book
             return book_fields::closed(book, file.len() - at);
         }
         let from = at + 3;
-        let next = book_fields::with_field(book, &file[from..end]);
+        let field = &file[from..end];
+        let next = book_fields::with_field_in(book, field, &mut discounts, &mut state_prices);
         book = next;
         at = end;
         left -= 1;

@@ -14,7 +14,7 @@ ghost use Rattle.curve.specs.Curve.{curveNumber, curveMemory};
 ghost use Rattle.step_rate.specs.StepRate.{rateAnswer};
 ghost use Rattle.continuous_rate.specs.ContinuousRate.{continuousRateAnswer};
 ghost use Rattle.reversion.specs.Reversion.{workingAnswer};
-ghost use Rattle.fitting.specs.Entry.{fitNumber, discountsAfter, pricesAfter, versionNumber, versionDiscountsAfter, versionPricesAfter};
+ghost use Rattle.fitting.specs.Entry.{fitNumber, discountsAfter, statePricesAfter, versionNumber, versionDiscountsAfter, versionStatePricesAfter};
 ghost use Rattle.row_view.specs.RowView.{rangeByNumber};
 ghost use Rattle.state_price_bound.specs.ErrorBound.{statePriceErrorBoundAnswer};
 ghost use Rattle.price_bound.specs.PriceBound.{priceErrorBoundAnswer, treeBoundsAnswer};
@@ -79,7 +79,7 @@ use step_rate::Rate;
 pub extern "C" fn mixegorta_version() -> u64
     ensures { λ r. ⌜ r ≡ version ⌝ }
 {
-    14_001
+    14_002
 }
 
 // ---- the shape of a tree
@@ -175,7 +175,7 @@ pub extern "C" fn mixegorta_fit(
         (length (now (discounts .entry))) (length (now («state_prices» .entry))) ⌝ }
     ensures discounted { λ _. ⌜ now (discounts .exit) ≡ discountsAfter frequency steps reversion volatility
         (now (rows .entry)) (now (kinds .entry)) (now (figures .entry)) (now (discounts .entry)) (now («state_prices» .entry)) ⌝ }
-    ensures priced { λ _. ⌜ now («state_prices» .exit) ≡ pricesAfter frequency steps reversion volatility
+    ensures priced { λ _. ⌜ now («state_prices» .exit) ≡ statePricesAfter frequency steps reversion volatility
         (now (rows .entry)) (now (kinds .entry)) (now (figures .entry)) (now (discounts .entry)) (now («state_prices» .entry)) ⌝ }
 {
     fitting::fit(
@@ -208,7 +208,7 @@ pub extern "C" fn mixegorta_fit_version(
         (now (rows .entry)) (now (kinds .entry)) (now (figures .entry)) (length (now (discounts .entry))) (length (now («state_prices» .entry))) ⌝ }
     ensures discounted { λ _. ⌜ now (discounts .exit) ≡ versionDiscountsAfter version frequency steps reversion volatility
         (now (rows .entry)) (now (kinds .entry)) (now (figures .entry)) (now (discounts .entry)) (now («state_prices» .entry)) ⌝ }
-    ensures priced { λ _. ⌜ now («state_prices» .exit) ≡ versionPricesAfter version frequency steps reversion volatility
+    ensures priced { λ _. ⌜ now («state_prices» .exit) ≡ versionStatePricesAfter version frequency steps reversion volatility
         (now (rows .entry)) (now (kinds .entry)) (now (figures .entry)) (now (discounts .entry)) (now («state_prices» .entry)) ⌝ }
 {
     fitting::fit_version(
@@ -234,9 +234,9 @@ pub extern "C" fn mixegorta_row_range(
     reversion: u64,
     row: usize,
 ) -> RowRange
-    ensures { λ r. ⌜ r ≡ rangeByNumber (now (discounts .entry)) (now («state_prices» .entry)) kind steps reversion row ⌝ }
+    ensures { λ r. ⌜ r ≡ rangeByNumber steps reversion row kind (now (discounts .entry)) (now («state_prices» .entry)) ⌝ }
 {
-    row_view::range_by_number(discounts, state_prices, kind, steps, reversion, row)
+    row_view::range_by_number(steps, reversion, row, kind, discounts, state_prices)
 }
 
 #[no_mangle]
@@ -511,7 +511,7 @@ pub extern "C" fn mixegorta_shelf_part(shelf: Shelf, name: usize) -> Part
 #[no_mangle]
 pub extern "C" fn mixegorta_shelf_ask(
     shelf: Shelf,
-    memory: &mut [u64; 3600],
+    memory: &mut [u64; shelf_laws::ROOM],
     name: usize,
     steps: usize,
     reversion: u64,
@@ -526,7 +526,7 @@ pub extern "C" fn mixegorta_shelf_ask(
 #[no_mangle]
 pub extern "C" fn mixegorta_shelf_commit(
     shelf: Shelf,
-    memory: &mut [u64; 3600],
+    memory: &mut [u64; shelf_laws::ROOM],
     name: usize,
     frequency: u64,
     volatility: u64,
@@ -556,7 +556,7 @@ pub extern "C" fn mixegorta_shelf_commit(
 #[no_mangle]
 pub extern "C" fn mixegorta_shelf_release(
     shelf: Shelf,
-    memory: &mut [u64; 3600],
+    memory: &mut [u64; shelf_laws::ROOM],
     name: usize,
 ) -> Shelved
     ensures number { λ r. ⌜ r .number ≡ nameCause (shelf .slots) name ⌝ }
@@ -569,7 +569,7 @@ pub extern "C" fn mixegorta_shelf_release(
 #[no_mangle]
 pub extern "C" fn mixegorta_shelf_bond_price(
     shelf: Shelf,
-    memory: &[u64; 3600],
+    memory: &[u64; shelf_laws::ROOM],
     name: usize,
     flows: &[u64],
 ) -> Price
@@ -581,7 +581,7 @@ pub extern "C" fn mixegorta_shelf_bond_price(
 #[no_mangle]
 pub extern "C" fn mixegorta_shelf_option_price(
     shelf: Shelf,
-    memory: &[u64; 3600],
+    memory: &[u64; shelf_laws::ROOM],
     name: usize,
     flows: &[u64],
     kind: u64,
@@ -596,7 +596,7 @@ pub extern "C" fn mixegorta_shelf_option_price(
 #[no_mangle]
 pub extern "C" fn mixegorta_shelf_bond_and_option(
     shelf: Shelf,
-    memory: &[u64; 3600],
+    memory: &[u64; shelf_laws::ROOM],
     name: usize,
     flows: &[u64],
     kind: u64,
@@ -611,7 +611,7 @@ pub extern "C" fn mixegorta_shelf_bond_and_option(
 #[no_mangle]
 pub extern "C" fn mixegorta_shelf_dated_option_price(
     shelf: Shelf,
-    memory: &[u64; 3600],
+    memory: &[u64; shelf_laws::ROOM],
     name: usize,
     flows: &[u64],
     side: u64,
@@ -626,7 +626,7 @@ pub extern "C" fn mixegorta_shelf_dated_option_price(
 #[no_mangle]
 pub extern "C" fn mixegorta_shelf_bond_and_dated_option(
     shelf: Shelf,
-    memory: &[u64; 3600],
+    memory: &[u64; shelf_laws::ROOM],
     name: usize,
     flows: &[u64],
     side: u64,
@@ -641,7 +641,7 @@ pub extern "C" fn mixegorta_shelf_bond_and_dated_option(
 #[no_mangle]
 pub extern "C" fn mixegorta_shelf_option_strip(
     shelf: Shelf,
-    memory: &[u64; 3600],
+    memory: &[u64; shelf_laws::ROOM],
     name: usize,
     flows: &[u64],
     side: u64,
@@ -656,7 +656,7 @@ pub extern "C" fn mixegorta_shelf_option_strip(
 #[no_mangle]
 pub extern "C" fn mixegorta_shelf_option_strip_of_kind(
     shelf: Shelf,
-    memory: &[u64; 3600],
+    memory: &[u64; shelf_laws::ROOM],
     name: usize,
     flows: &[u64],
     kind: u64,

@@ -3,4 +3,4 @@ pub mod Squares
 pub mod Sides
 pub mod Within
 pub mod Answers
-pub mod Figures
+pub mod Examples

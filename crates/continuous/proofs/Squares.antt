@@ -1,6 +1,6 @@
 -- Squaring twice: order, bounds, and the second square in two parts.
 -- Assumes nothing.
-use mathlib.Core.Path.{_≡_, sym, _∙_, ap}
+use mathlib.Core.Path.{_≡_, refl, sym, _∙_, ap}
 use Prim.Native.Nat.{ℕ, _+_, _*_, _/_, _%_, _≤_, _<_}
 use native.Mathlib.Nat.{mul-le-mul, le-dest}
 use native.Mathlib.Omega.{arith}
@@ -77,6 +77,14 @@ pub fourth-by-parts :
     ≡ fourthPower s
 unfolding fourthPower squareDown roundDown
 fourth-by-parts s = square-by-parts (s * s / one)
+
+-- the second square at once, where it fits
+pub fourth-at-once : (s : ℕ) → s * s / one * (s * s / one) / one ≡ fourthPower s
+unfolding fourthPower squareDown roundDown
+fourth-at-once s = refl
+
+pub half-word-fits : (a : ℕ) → a ≤ 4294967295 → a * a < 18446744073709551616
+half-word-fits a h = omega (arith, mul-le-mul h h)
 
 -- the parts fit
 pub record Parts (s : ℕ) : Type 0 where

@@ -5,12 +5,18 @@ ghost use Rattle.continuous.specs.Continuous.{fourthPower, quotientAnswe
 use arithmetic::Answer;
 use arithmetic::ONE;
 
-// Squared twice, each time divided by one, down. The second square can need 66 bits, so it is taken in two parts.
+// Squares of numbers up to this one have 64 bits.
+const HALF_WORD: u64 = 4_294_967_295;
+
+// Squared twice, each time divided by one, down. The second square can need 66 bits: then it is taken in two parts.
 fn fourth_power(series: u64) -> u64
     requires { ⌜ series ≤ 2720000000 ⌝ }
     ensures { λ r. ⌜ r ≡ fourthPower series ⌝ }
 {
     let square = series * series / ONE;
+    if square <= HALF_WORD {
+        return square * square / ONE;
+    }
     let whole = square / ONE;
     let part = square % ONE;
     whole * whole * ONE + 2 * whole * part + part * part / ONE

@@ -3,4 +3,4 @@ pub mod Near
 pub mod Window
 pub mod Candidates
 pub mod RateLaws
-pub mod Figures
+pub mod Examples

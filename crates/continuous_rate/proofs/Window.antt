@@ -160,7 +160,7 @@ module _ (v q : ℕ) (crossing : RisesPast v q) where
 
 -- ---- one more quotient of the scan
 
-module _ (v from k best least next : ℕ) (e : best ≡ from + firstLeast (windowMiss v from) k) (l : least ≡ sideMiss v false best)
+module _ (v from k : ℕ) {best least next : ℕ} (e : best ≡ from + firstLeast (windowMiss v from) k) (l : least ≡ sideMiss v false best)
     (n : next ≡ sideMiss v false (from + (k + 1))) where
   held : least ≡ windowMiss v from (firstLeast (windowMiss v from) k)
   held = l ∙ ap (sideMiss v false) e

@@ -13,7 +13,7 @@ use Rattle.arithmetic.proofs.CauseLaws.{unless-accepted, unless-refused}
 use Rattle.arithmetic.specs.declared.Answer.{Answer}
 use Rattle.arithmetic.specs.Row.{row, values, place, each}
 use Rattle.arithmetic.proofs.RowLaws.{length-row, each-holds}
-use Rattle.arithmetic.specs.Frequency.{listed}
+use Rattle.arithmetic.specs.Frequency.{isFrequency}
 use Rattle.quotes.proofs.QuoteLaws.{lone-told}
 use Rattle.limits.specs.Limits.{mostSteps, isSteps}
 use Rattle.limits.proofs.LimitLaws.{from-one}
@@ -36,7 +36,7 @@ five false b c d e h = absurd (true≢false (sym h))
 
 -- ---- the points' places, by their tests
 
-module _ (n : ℕ) (rows kinds : List ℕ) (figures : List Float) (room : ℕ) where
+module _ {n : ℕ} (rows kinds : List ℕ) (figures : List Float) (room : ℕ) where
   pub place-rows : (length rows ≡ n → ⊥) → inPlace n rows kinds figures room ≡ false
   unfolding inPlace
   place-rows h = rw (ne-eqb (length rows) n h)
@@ -97,8 +97,8 @@ number-none true true true false h = let none : ⊥ = omega arith in absurd none
 number-none true true true true h = (refl, refl, refl, refl)
 
 -- What an accepted curve is.
-pub record Accepted (f n : ℕ) (rows kinds : List ℕ) (figures : List Float) (room : ℕ) : Type 0 where
-  pub frequency : listed f ≡ true
+pub record AcceptedCurve (f n : ℕ) (rows kinds : List ℕ) (figures : List Float) (room : ℕ) : Type 0 where
+  pub frequency : isFrequency f ≡ true
   pub least : 1 ≤ n
   pub most : n ≤ mostSteps
   pub rows-long : length rows ≡ n
@@ -109,11 +109,11 @@ pub record Accepted (f n : ℕ) (rows kinds : List ℕ) (figures : List Float) (
   pub converted : (k : ℕ) → k < n → answerAt f kinds figures k .number ≡ 0
 
 module _ (f n : ℕ) (rows kinds : List ℕ) (figures : List Float) (room : ℕ) where
-  pub number-frequency : listed f ≡ false → curveNumber f n rows kinds figures room ≡ 2
+  pub number-frequency : isFrequency f ≡ false → curveNumber f n rows kinds figures room ≡ 2
   unfolding curveNumber
   number-frequency h = rw h
 
-  module _ (a : listed f ≡ true) where
+  module _ (a : isFrequency f ≡ true) where
     pub number-steps : isSteps n ≡ false → curveNumber f n rows kinds figures room ≡ 3
     unfolding curveNumber
     number-steps h = rw (a, h)
@@ -125,7 +125,7 @@ module _ (f n : ℕ) (rows kinds : List ℕ) (figures : List Float) (room : ℕ)
 
       module _ (p : inPlace n rows kinds figures room ≡ true) where
         all : each n (convertsAt f kinds figures) ≡ each (length kinds) (convertsAt f kinds figures)
-        all = ap (λ (m : ℕ). each m (convertsAt f kinds figures)) (sym (placed-kinds n rows kinds figures room p))
+        all = ap (λ (m : ℕ). each m (convertsAt f kinds figures)) (sym (placed-kinds rows kinds figures room p))
 
         pub number-quotes : each (length kinds) (convertsAt f kinds figures) ≡ false → curveNumber f n rows kinds figures room ≡ 7
         unfolding curveNumber
@@ -136,10 +136,10 @@ module _ (f n : ℕ) (rows kinds : List ℕ) (figures : List Float) (room : ℕ)
         number-accepted g = rw (a, h, p, all, g)
 
   -- number 0 says all of it
-  pub accepted : curveNumber f n rows kinds figures room ≡ 0 → Accepted f n rows kinds figures room
+  pub accepted : curveNumber f n rows kinds figures room ≡ 0 → AcceptedCurve f n rows kinds figures room
   unfolding curveNumber inPlace
   accepted h =
-      let parts = number-none (listed f) (isSteps n) (inPlace n rows kinds figures room) (each n (convertsAt f kinds figures)) h in
+      let parts = number-none (isFrequency f) (isSteps n) (inPlace n rows kinds figures room) (each n (convertsAt f kinds figures)) h in
       let steps = from-one mostSteps n (parts .1) in
       let places = five (eqb (length rows) n) (eqb (length kinds) n) (eqb (length figures) n) (leb n room) (each n (placeAt rows)) (parts .2) in
       record {

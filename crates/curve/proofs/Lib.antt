@@ -1,2 +1,2 @@
 pub mod CurveLaws
-pub mod Figures
+pub mod Examples

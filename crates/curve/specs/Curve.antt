@@ -9,7 +9,7 @@ use lib.Ieee.{Float, nan}
 use Rattle.arithmetic.specs.Answers.{unlessRefused}
 use Rattle.arithmetic.specs.declared.Answer.{Answer}
 use Rattle.arithmetic.specs.Row.{row, values, place, each}
-use Rattle.arithmetic.specs.Frequency.{listed}
+use Rattle.arithmetic.specs.Frequency.{isFrequency}
 use Rattle.limits.specs.Limits.{isSteps}
 use Rattle.quotes.specs.Quotes.{loneAnswer}
 
@@ -39,7 +39,7 @@ discountAt f kinds figures k = answerAt f kinds figures k .value
 unfoldable pub curveNumber : ℕ → ℕ → List ℕ → List ℕ → List Float → ℕ → ℕ
 unfolding inPlace answerAt each
 curveNumber f n rows kinds figures room =
-    cond (not (listed f)) 2
+    cond (not (isFrequency f)) 2
     (cond (not (isSteps n)) 3
     (cond (not (inPlace n rows kinds figures room)) 6
     (cond (not (each n (convertsAt f kinds figures))) 7 0)))

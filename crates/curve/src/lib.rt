@@ -79,7 +79,7 @@ fn cause(
 ) -> u64
     ensures { λ r. ⌜ r ≡ curveNumber frequency steps (now (rows .entry)) (now (kinds .entry)) (now (figures .entry)) room ⌝ }
 {
-    if !arithmetic::is_listed(frequency) {
+    if !arithmetic::is_frequency(frequency) {
         return 2;
     }
     if !limits::is_steps(steps) {

@@ -1,6 +1,13 @@
 -- The engine keeps what it promises.
 -- Assumes nothing.
-use Rattle.sheet_promises.proofs.SheetKept.{all-kept}
+use Rattle.promises.proofs.QuotesKept.{quotes-kept}
+use Rattle.promises.proofs.TreeKept.{tree-kept}
+use Rattle.promises.proofs.Kept.{prices-kept, strips-kept}
+use Rattle.promises.proofs.YieldsKept.{yields-kept}
+use Rattle.promises.proofs.VersionsKept.{versions-kept}
+use Rattle.promises.proofs.CausesKept.{causes-kept}
+use Rattle.sheet_promises.proofs.SheetKept.{jobs-kept, sheets-kept}
+use Rattle.sheet_promises.proofs.JobCausesKept.{job-causes-kept}
 use Rattle.shelf_promises.proofs.Kept.{shelf-kept}
 use Rattle.band_promises.proofs.BandKept as bands
 use Rattle.writer_promises.proofs.WriterKept as writer
@@ -13,7 +20,16 @@ use Rattle.engine.specs.Engine.{Engine}
 pub engine-kept : Engine
 engine-kept =
     record {
-      jobs = all-kept;
+      quotes = quotes-kept;
+      tree = tree-kept;
+      prices = prices-kept;
+      yields = yields-kept;
+      versions = versions-kept;
+      strips = strips-kept;
+      causes = causes-kept;
+      jobs = jobs-kept;
+      sheets = sheets-kept;
+      job-causes = job-causes-kept;
       shelf = shelf-kept;
       bands = bands.kept;
       writer = writer.kept;

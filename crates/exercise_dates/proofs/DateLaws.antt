@@ -23,7 +23,7 @@ use Rattle.pricing_laws.proofs.Schedules.{Alike}
 use Rattle.exercise.specs.declared.Terms.{Terms}
 use Rattle.exercise.specs.Terms.{side}
 use Rattle.exercise_dates.specs.declared.Dates.{Dates}
-use Rattle.exercise_dates.specs.Dates.{rowsOfATree, marksOf, datedTerms, held, datesOfKind}
+use Rattle.exercise_dates.specs.Dates.{rowsOfATree, marksOf, datedTerms, datesHeld, datesOfKind}
 use Rattle.exercise_dates.specs.inside.Dates.{datesTo}
 
 -- ---- a list is tested from its start: the first k rows rise
@@ -139,7 +139,7 @@ module _ (number : ℕ) (dates : List ℕ) (strike : ℕ) (terms : Terms) (e : t
 -- ---- the list of a kind
 
 -- what stands in the first places is the list
-held-front : (l : List ℕ) → length l ≤ rowsOfATree → take (length l) (held l .rows) ≡ l
+held-front : (l : List ℕ) → length l ≤ rowsOfATree → take (length l) (datesHeld l .rows) ≡ l
 held-front l few = padded-take rowsOfATree (length l) (values l) few ∙ sym (row-of l (length l) (values l) refl (λ k h. refl))
 
 kind-size : (kind expiry : ℕ) → expiry ≤ mostSteps → length (kindDates kind expiry) ≤ rowsOfATree
@@ -150,7 +150,7 @@ kind-size kind expiry few =
 
 -- the kind's list, as it is handed on
 module _ (kind expiry : ℕ) (few : expiry ≤ mostSteps) (dates : Dates) (e : dates ≡ datesOfKind kind expiry) where
-  list-is : dates ≡ held (kindDates kind expiry)
+  list-is : dates ≡ datesHeld (kindDates kind expiry)
   unfolding datesOfKind
   list-is = e ∙ rw (le-leb expiry mostSteps few)
 
@@ -162,10 +162,10 @@ pub list-room : (kind expiry : ℕ) (dates : Dates) → dates ≡ datesOfKind ki
 unfolding datesOfKind
 list-room kind expiry dates e =
     rw e
-    (by-test (leb expiry mostSteps) (λ (l : List ℕ). held l .count ≤ length (held l .rows)) (kindDates kind expiry) []
+    (by-test (leb expiry mostSteps) (λ (l : List ℕ). datesHeld l .count ≤ length (datesHeld l .rows)) (kindDates kind expiry) []
     (λ t. room (kindDates kind expiry) (kind-size kind expiry (leb-true expiry mostSteps t))) (λ t. room [] (omega arith)))
   where
-    room : (l : List ℕ) → length l ≤ rowsOfATree → held l .count ≤ length (held l .rows)
+    room : (l : List ℕ) → length l ≤ rowsOfATree → datesHeld l .count ≤ length (datesHeld l .rows)
     room l h = omega (arith, padded-length rowsOfATree (length l) (values l))
 
 -- what the code gives for it: no list, expiry alone, or every row
@@ -180,7 +180,7 @@ module _ (kind expiry : ℕ) where
     unfolding datesOfKind kindDates padded row overlay
     alone-list european = rw (le-leb expiry mostSteps few, lt-leb 3 kind european)
 
-    every-padded : datesTo expiry ≡ held (everyRow expiry) .rows
+    every-padded : datesTo expiry ≡ datesHeld (everyRow expiry) .rows
     unfolding datesTo
     every-padded =
         let size = length-row (suc expiry) (λ i. i) in

@@ -24,9 +24,9 @@ unfoldable pub datedTerms : ℕ → List ℕ → ℕ → Terms
 datedTerms side dates strike = record { call = eqb side 1; strike = strike; last = lastDate dates }
 
 -- a list in the first places of so many rows, zeros after it
-abbrev pub held : List ℕ → Dates
-held dates = record { count = length dates; rows = padded rowsOfATree (length dates) (values dates) }
+abbrev pub datesHeld : List ℕ → Dates
+datesHeld dates = record { count = length dates; rows = padded rowsOfATree (length dates) (values dates) }
 
 -- the list of a kind; none where no tree has the expiry
 unfoldable pub datesOfKind : ℕ → ℕ → Dates
-datesOfKind kind expiry = held (cond (leb expiry mostSteps) (kindDates kind expiry) [])
+datesOfKind kind expiry = datesHeld (cond (leb expiry mostSteps) (kindDates kind expiry) [])

@@ -106,7 +106,7 @@ fn exhibit_three() {
     let kinds: [u8; 3] = [9, 9, 9];
     let figures: [f64; 3] = [0.0382364894294364, 0.04511618369644845, 0.05086258738130052];
     let mut discounts = [0u64; 9];
-    let mut prices = [0u64; 14];
+    let mut state_prices = [0u64; 14];
     let fitted = fitting::fit(
         1,
         3,
@@ -116,17 +116,17 @@ fn exhibit_three() {
         &kinds,
         &figures,
         &mut discounts,
-        &mut prices,
+        &mut state_prices,
     );
     number(b"fit ", fitted);
-    price(prices[1], 1604);
-    price(prices[2], 6417);
-    price(prices[3], 1604);
-    price(prices[4], 189);
-    price(prices[5], 2032);
-    price(prices[6], 4737);
-    price(prices[7], 1997);
-    price(prices[8], 183);
+    price(state_prices[1], 1604);
+    price(state_prices[2], 6417);
+    price(state_prices[3], 1604);
+    price(state_prices[4], 189);
+    price(state_prices[5], 2032);
+    price(state_prices[6], 4737);
+    price(state_prices[7], 1997);
+    price(state_prices[8], 183);
     exhibit_three_rates(&discounts);
 }
 
@@ -135,7 +135,7 @@ fn lone() {
     let kinds: [u8; 1] = [5];
     let figures: [f64; 1] = [1.2];
     let mut discounts = [0u64; 1];
-    let mut prices = [0u64; 4];
+    let mut state_prices = [0u64; 4];
     let fitted = fitting::fit(
         1,
         1,
@@ -145,7 +145,7 @@ fn lone() {
         &kinds,
         &figures,
         &mut discounts,
-        &mut prices,
+        &mut state_prices,
     );
     number(b"lone ", fitted);
 }
@@ -170,7 +170,7 @@ fn wide(steps: usize) -> u64 {
         1.0,
     ];
     let mut discounts = [0u64; 169];
-    let mut prices = [0u64; 196];
+    let mut state_prices = [0u64; 196];
     if 13 < steps {
         return 0;
     }
@@ -183,7 +183,7 @@ fn wide(steps: usize) -> u64 {
         &kinds[..steps],
         &figures[..steps],
         &mut discounts,
-        &mut prices,
+        &mut state_prices,
     )
 }
 

@@ -12,7 +12,7 @@ use Rattle.arithmetic.proofs.SumLaws.{sum-le, sum-term}
 use Rattle.factor.specs.Series.{term, series, falling, exactTerm, scale}
 use Rattle.factor.proofs.SeriesLaws.{alternating-most, term-zero, term-falls, term-grows, series-within}
 use Rattle.factor.proofs.SeriesLaws.{exact-whole, exact-zero, exact-next, exact-falls}
-use Rattle.factor.proofs.Figures.{sum-at-one}
+use Rattle.factor.proofs.Examples.{sum-at-one}
 
 unfoldable factorial : ℕ → ℕ
 factorial zero = 1

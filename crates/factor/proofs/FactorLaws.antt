@@ -12,8 +12,9 @@ use Rattle.arithmetic.specs.Rounding.{one, roundDown}
 use Rattle.arithmetic.specs.Sum.{sum}
 use Rattle.arithmetic.specs.Answers.{refused, answered}
 use Rattle.arithmetic.specs.Within.{Within}
+use Rattle.arithmetic.proofs.Numbers.{by-order}
 use Rattle.factor.specs.Series.{term, even, odd, series, scale}
-use Rattle.factor.specs.Factor.{factor, exactFactor, nodeAnswer, sideFactor, sideAnswer}
+use Rattle.factor.specs.Factor.{factor, exactFactor, nodeAnswer, sideFactor, sideAnswer, sidesAnswer}
 use Rattle.factor.proofs.SeriesLaws.{series-within, sum-by-parts, odd-le-even, term-falls}
 use Rattle.factor.proofs.Bounds.{series-bounds}
 
@@ -74,6 +75,23 @@ module _ (d : ℕ) (below : Bool) (h : ℕ) where
   unfolding sideAnswer
   side-accepted l = rw (le-ltb one (d * h) l)
 
+-- both sides are answered alike: where one is refused the other is
+pub sides-refused : (d h : ℕ) → one < d * h → record { number = 8; below = 0; above = 0 } ≡ sidesAnswer d h
+unfolding sidesAnswer
+sides-refused d h l = rw (side-refused d true h l, side-refused d false h l)
+
+module _ (d h : ℕ) where
+  pub below-of-both : record { number = sidesAnswer d h .number; value = sidesAnswer d h .below } ≡ sideAnswer d true h
+  unfolding sidesAnswer
+  below-of-both = refl
+
+  pub above-of-both : record { number = sidesAnswer d h .number; value = sidesAnswer d h .above } ≡ sideAnswer d false h
+  unfolding sidesAnswer
+  above-of-both =
+      by-order (d * h) one
+      (λ l. rw (side-accepted d true h l, side-accepted d false h l))
+      (λ l. rw (side-refused d true h l, side-refused d false h l))
+
 -- the answers by the signed number
 pub node-side : (j : ℤ) (h : ℕ) → nodeAnswer j h ≡ sideAnswer (natAbs j) (ltZ j (pos 0)) h
 unfolding nodeAnswer sideAnswer factor sideFactor
@@ -83,7 +101,7 @@ pub node-refused : (j : ℤ) (h : ℕ) → one < natAbs j * h → nodeAnswer j h
 node-refused j h l = node-side j h ∙ side-refused (natAbs j) (ltZ j (pos 0)) h l
 
 -- Where y is |j| × h and at most one, the sums of the even and of the odd terms give the value answered.
-module _ (d h y e o : ℕ) (same : y ≡ d * h) (l : y ≤ one) (p : e ≡ sum 7 (even (term y))) (q : o ≡ sum 6 (odd (term y))) where
+module _ (d h : ℕ) {y e o : ℕ} (same : y ≡ d * h) (l : y ≤ one) (p : e ≡ sum 7 (even (term y))) (q : o ≡ sum 6 (odd (term y))) where
   side-found : (below : Bool) (x : ℕ) → x ≡ series below (term y) → answered x ≡ sideAnswer d below h
   unfolding sideFactor
   side-found below x found =
@@ -95,6 +113,10 @@ module _ (d h y e o : ℕ) (same : y ≡ d * h) (l : y ≤ one) (p : e ≡ sum 7
   pub sums-above : answered (e - o) ≡ sideAnswer d false h
   unfolding series
   sums-above = side-found false (e - o) (rw (p, q) refl)
+
+  pub sums-both : record { number = 0; below = e + o; above = e - o } ≡ sidesAnswer d h
+  unfolding sidesAnswer
+  sums-both = rw (← sums-below, ← sums-above)
 
   -- and neither the sum nor the difference leaves the type
   pub sums-fit : e + o ≤ 2720000000

@@ -1,5 +1,5 @@
 pub mod SeriesLaws
-pub mod Figures
+pub mod Examples
 pub mod Bounds
 pub mod SumsLaws
 pub mod FactorLaws

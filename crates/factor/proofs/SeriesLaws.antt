@@ -214,8 +214,8 @@ parts-of y hy =
 sum-within : (w e o e′ o′ : ℕ) → Parts w e o e′ o′ → Within 14 w (e + o) (e′ + o′)
 sum-within w e o e′ o′ p = record { above = omega arith; below = omega (arith, mul-le-mul-left w (p .total)) }
 
-difference-within : (w e o e′ o′ d d′ : ℕ) → Parts w e o e′ o′ → d + o ≡ e → d′ + o′ ≡ e′ → Within 14 w d d′
-difference-within w e o e′ o′ d d′ p r s =
+difference-within : (w : ℕ) {e o e′ o′ d d′ : ℕ} → Parts w e o e′ o′ → d + o ≡ e → d′ + o′ ≡ e′ → Within 14 w d d′
+difference-within w {e} {o} {d} p r s =
     let scaled : w * (d + o) ≡ w * e = ap (λ (x : ℕ). w * x) r in
     record { above = omega (arith, mul-le-mul-left w (p .total)); below = omega (arith, mul-le-mul-left w (p .total)) }
 
@@ -232,4 +232,4 @@ pub series-within : (y : ℕ) (below : Bool) → y ≤ one → Within 14 scale (
 series-within y true hy =
     rw (sum-by-parts (term y), sum-by-parts (exactTerm y)) (sum-within scale _ _ _ _ (parts-of y hy))
 series-within y false hy =
-    difference-within scale _ _ _ _ _ _ (parts-of y hy) (rounded-whole y hy) (exact-whole y hy)
+    difference-within scale (parts-of y hy) (rounded-whole y hy) (exact-whole y hy)

@@ -12,8 +12,8 @@ use Rattle.factor.proofs.SeriesLaws.{term-zero, term-next, term-most}
 
 -- a term divided by k + 1 times one gives the next one
 pub next-is :
-    (y k last next divisor : ℕ) → last ≡ term y k → divisor ≡ (k + 1) * one → next ≡ roundDown (last * y) divisor → next ≡ term y (k + 1)
-next-is y k last next divisor p e q = q ∙ rw (p, e, add-one k) (sym (term-next y k))
+    (y k : ℕ) {last next divisor : ℕ} → last ≡ term y k → divisor ≡ (k + 1) * one → next ≡ roundDown (last * y) divisor → next ≡ term y (k + 1)
+next-is y k p e q = q ∙ rw (p, e, add-one k) (sym (term-next y k))
 
 -- What the loop holds after some pairs of terms.
 pub record Summed (y last evens odds pairs : ℕ) : Type 0 where
@@ -26,10 +26,10 @@ unfolding sum
 summed-start y = record { latest = sym (term-zero y); even-sum = omega (arith, term-zero y); odd-sum = refl }
 
 pub summed-next :
-    (y last evens odds pairs next last′ : ℕ) → Summed y last evens odds pairs →
+    {y last evens odds pairs next last′ : ℕ} → Summed y last evens odds pairs →
     next ≡ term y (2 * pairs + 1) → last′ ≡ term y (2 * pairs + 1 + 1) →
     Summed y last′ (evens + last′) (odds + next) (pairs + 1)
-summed-next y last evens odds pairs next last′ s p q =
+summed-next {y} {pairs} {last′} s p q =
     let e : 2 * pairs + 1 + 1 ≡ 2 * (pairs + 1) = omega arith in
     let l : last′ ≡ term y (2 * (pairs + 1)) = q ∙ ap (term y) e in
     record {
@@ -39,7 +39,7 @@ summed-next y last evens odds pairs next last′ s p q =
     }
 
 -- the sums fit
-module _ (y last evens odds pairs : ℕ) (hy : y ≤ one) (s : Summed y last evens odds pairs) where
+module _ {y last evens odds pairs : ℕ} (hy : y ≤ one) (s : Summed y last evens odds pairs) where
   pub latest-most : last ≤ one
   latest-most = omega (arith, s .latest, term-most y (2 * pairs) hy)
 

@@ -4,7 +4,7 @@ ghost use Prim.Native.Nat.{_+_, _*_, _≤_, _<_, min};
 ghost use Rattle.arithmetic.specs.Rounding.{one, roundDown};
 ghost use Rattle.arithmetic.specs.Sum.{sum};
 ghost use Rattle.factor.specs.Series.{term, even, odd};
-ghost use Rattle.factor.specs.Factor.{sideAnswer, nodeAnswer};
+ghost use Rattle.factor.specs.Factor.{sideAnswer, sidesAnswer, nodeAnswer};
 use arithmetic::Answer;
 use arithmetic::ONE;
 
@@ -62,27 +62,47 @@ fn bounded_product(distance: u64, spacing: u64) -> u64
     product
 }
 
+// The factors of the two nodes at a distance from the middle one; a refusal's number with zeros.
+pub struct Sides {
+    pub number: u64,
+    pub below: u64,
+    pub above: u64,
+}
+
+// The factors at a distance, below the middle node and above it, from one series; refuses with 8.
+pub fn both_sides(distance: u64, spacing: u64) -> Sides
+    ensures { λ r. ⌜ r ≡ sidesAnswer distance spacing ⌝ }
+{
+    let y = bounded_product(distance, spacing);
+    if ONE < y {
+        return Sides {
+            number: 8,
+            below: 0,
+            above: 0,
+        };
+    }
+    let sums = series_sums(y);
+    Sides {
+        number: 0,
+        below: sums.even + sums.odd,
+        above: sums.even - sums.odd,
+    }
+}
+
 // The factor of the node at a distance from the middle one, below it or not; refuses with 8.
 pub fn factor(distance: u64, below: bool, spacing: u64) -> Answer
     ensures { λ r. ⌜ r ≡ sideAnswer distance below spacing ⌝ }
 {
-    let y = bounded_product(distance, spacing);
-    if ONE < y {
-        return Answer {
-            number: 8,
-            value: 0,
-        };
-    }
-    let sums = series_sums(y);
+    let sides = both_sides(distance, spacing);
     if below {
         return Answer {
-            number: 0,
-            value: sums.even + sums.odd,
+            number: sides.number,
+            value: sides.below,
         };
     }
     Answer {
-        number: 0,
-        value: sums.even - sums.odd,
+        number: sides.number,
+        value: sides.above,
     }
 }
 

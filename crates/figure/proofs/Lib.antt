@@ -1,4 +1,4 @@
 pub mod Scaling
 pub mod Patterns
 pub mod FigureLaws
-pub mod Figures
+pub mod Examples

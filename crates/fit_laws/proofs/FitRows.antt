@@ -5,24 +5,24 @@ use Prim.Native.Nat.{ℕ, suc, _+_, _*_, _/_}
 use Rattle.arithmetic.specs.Rounding.{one, roundUp}
 use Rattle.arithmetic.specs.Sum.{sum, greatest}
 use Rattle.tree.specs.Tree.{Tree, incoming}
-use Rattle.fit_laws.specs.Step.{normaliser, discount, carried, nextPrice}
-use Rattle.fit_laws.specs.StatePrices.{fittedPrice, fittedDiscount, statePrice, exactStatePrice, statePriceErrorBound}
+use Rattle.fit_laws.specs.Step.{normaliser, discount, carried, nextStatePrice}
+use Rattle.fit_laws.specs.StatePrices.{fittedStatePrice, fittedDiscount, statePrice, exactStatePrice, statePriceErrorBound}
 
 -- u: factors by row and node; p: quotes by row
 module _ (t : Tree) (u : ℕ → ℕ → ℕ) (p : ℕ → ℕ) where
-  pub fitted-first : (k : ℕ) → fittedPrice t u p 0 k ≡ one
-  unfolding fittedPrice
+  pub fitted-first : (k : ℕ) → fittedStatePrice t u p 0 k ≡ one
+  unfolding fittedStatePrice
   fitted-first k = refl
 
   pub fitted-discount : (i k : ℕ) →
-      fittedDiscount t u p i k ≡ p (suc i) * u i k / (sum (t .nodes i) (λ k. fittedPrice t u p i k * u i k) / one)
+      fittedDiscount t u p i k ≡ p (suc i) * u i k / (sum (t .nodes i) (λ k. fittedStatePrice t u p i k * u i k) / one)
   unfolding fittedDiscount discount normaliser
   fitted-discount i k = refl
 
   pub fitted-next : (i j : ℕ) →
-      fittedPrice t u p (suc i) j
-      ≡ incoming (t .step i) (t .nodes i) (λ k. fittedPrice t u p i k * fittedDiscount t u p i k / one) j / 600000000
-  unfolding fittedPrice fittedDiscount nextPrice carried
+      fittedStatePrice t u p (suc i) j
+      ≡ incoming (t .step i) (t .nodes i) (λ k. fittedStatePrice t u p i k * fittedDiscount t u p i k / one) j / 600000000
+  unfolding fittedStatePrice fittedDiscount nextStatePrice carried
   fitted-next i j = refl
 
 -- v: node discounts by row and node, whoever stored them
@@ -32,7 +32,7 @@ module _ (t : Tree) (v : ℕ → ℕ → ℕ) where
   state-first k = refl
 
   pub state-next : (i j : ℕ) → statePrice t v (suc i) j ≡ incoming (t .step i) (t .nodes i) (λ k. statePrice t v i k * v i k / one) j / 600000000
-  unfolding statePrice nextPrice carried
+  unfolding statePrice nextStatePrice carried
   state-next i j = refl
 
   pub exact-first : (k : ℕ) → exactStatePrice t v 0 k ≡ one

@@ -10,14 +10,14 @@ use Rattle.arithmetic.specs.Sum.{sum}
 use Rattle.arithmetic.specs.Rounding.{one}
 use Rattle.tree.specs.Tree.{Transition, Inside, Total}
 use Rattle.fit_laws.specs.inside.Bounds.{leastFactor, mostFactor, leastRowSum, mostRowSum}
-use Rattle.fit_laws.specs.Step.{normaliser, discount, carried, nextPrice}
+use Rattle.fit_laws.specs.Step.{normaliser, discount, carried, nextStatePrice}
 use Rattle.arithmetic.proofs.SumLaws.{sum-weigh-ge, sum-weigh-le, sum-grow}
 use Rattle.fit_laws.proofs.StepLaws.{carried-le, carried-ge, next-le, next-ge, discount-le, discount-ge, normaliser-le, normaliser-ge}
 
 -- the general law, for any quote and any factors
 pub short-by :
     (t : Transition) (n m p : ℕ) (q u : ℕ → ℕ) → Inside t n m → Total t n → zero < normaliser n q u →
-    one * p ≤ one * (sum m (nextPrice t n q (discount n q u p)) + n + m) + sum n q
+    one * p ≤ one * (sum m (nextStatePrice t n q (discount n q u p)) + n + m) + sum n q
 short-by t n m p q u inside total positive =
     let v : ℕ → ℕ = discount n q u p in
     let z : ℕ = normaliser n q u in
@@ -67,8 +67,8 @@ module _ (t : Transition) (n m p : ℕ) (q u : ℕ → ℕ) (f : Fittable t n m 
 
   -- the repriced quote: short by at most 242, over by at most 55
   pub repriced :
-      (p ≤ sum m (nextPrice t n q (discount n q u p)) + 242)
-      × (sum m (nextPrice t n q (discount n q u p)) ≤ p + 55)
+      (p ≤ sum m (nextStatePrice t n q (discount n q u p)) + 242)
+      × (sum m (nextStatePrice t n q (discount n q u p)) ≤ p + 55)
   repriced = (
     omega
         (arith, short-by t n m p q u (f .inside) (f .total) (omega (arith, normaliser-low)), f .nodes, f .next-nodes, f .sum-high),

@@ -11,15 +11,15 @@ use Rattle.arithmetic.proofs.RoundingLaws.{up-ge}
 use Rattle.arithmetic.proofs.SumLaws.{sum-le, sum-add, sum-scale, sum-sub, greatest-ge}
 use Rattle.tree.specs.Tree.{Transition, Tree, Sound, Inside, Total, incoming, probabilityTotal, unit}
 use Rattle.tree.proofs.StepLaws.{incoming-le, incoming-scale, incoming-total}
-use Rattle.fit_laws.specs.Step.{carried, nextPrice}
+use Rattle.fit_laws.specs.Step.{carried, nextStatePrice}
 use Rattle.fit_laws.specs.StatePrices.{statePrice, exactStatePrice, statePriceErrorBound}
 use Rattle.fit_laws.proofs.StepLaws.{carried-node, carried-ge, next-ge}
 
 -- one step down: the rounded step from below stays below
 step-below :
     (t : Transition) (n w : ℕ) (q x v : ℕ → ℕ) → ((k : ℕ) → k < n → w * q k ≤ x k) → (j : ℕ) →
-    unit * w * nextPrice t n q v j ≤ incoming t n (λ k. x k * v k) j
-unfolding nextPrice
+    unit * w * nextStatePrice t n q v j ≤ incoming t n (λ k. x k * v k) j
+unfolding nextStatePrice
 step-below t n w q x v h j =
     let scaled : incoming t n (λ k. (w * one) * carried q v k) j ≤ incoming t n (λ k. x k * v k) j
     = incoming-le t n _ _ (λ k l. carried-below k l) j in
@@ -64,7 +64,7 @@ step-short :
     (t : Transition) (n m w e g : ℕ) (q x v : ℕ → ℕ) → Inside t n m → Total t n →
     ((k : ℕ) → k < n → w * q k ≤ x k) → ((k : ℕ) → k < n → v k ≤ g) →
     sum n x ≤ w * (sum n q + e) →
-    sum m (incoming t n (λ k. x k * v k)) ≤ unit * w * (sum m (nextPrice t n q v) + (roundUp (g * e) one + n + m))
+    sum m (incoming t n (λ k. x k * v k)) ≤ unit * w * (sum m (nextStatePrice t n q v) + (roundUp (g * e) one + n + m))
 step-short t n m w e g q x v inside total hx hv h =
     omega (
       arith,

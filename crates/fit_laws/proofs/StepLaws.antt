@@ -7,7 +7,7 @@ use native.Mathlib.Omega.{arith}
 use Rattle.arithmetic.specs.Sum.{sum}
 use Rattle.arithmetic.specs.Rounding.{one}
 use Rattle.tree.specs.Tree.{Transition, incoming, probabilityTotal, Inside, Total}
-use Rattle.fit_laws.specs.Step.{normaliser, discount, carried, nextPrice}
+use Rattle.fit_laws.specs.Step.{normaliser, discount, carried, nextStatePrice}
 use Rattle.arithmetic.proofs.SumLaws.{sum-cong, sum-le, sum-add, sum-scale, sum-floor-le, sum-floor-ge}
 use Rattle.tree.proofs.StepLaws.{incoming-total, incoming-cong}
 
@@ -27,15 +27,15 @@ carried-ge n q v = sum-floor-ge n one (λ k. q k * v k) (omega arith)
 -- branching: the next row's sum is the carried sum, less at most one unit a node
 pub next-le :
     (t : Transition) (n m : ℕ) (q v : ℕ → ℕ) → Inside t n m → Total t n →
-    sum m (nextPrice t n q v) ≤ sum n (carried q v)
-unfolding nextPrice
+    sum m (nextStatePrice t n q v) ≤ sum n (carried q v)
+unfolding nextStatePrice
 next-le t n m q v h p =
     omega (arith, sum-floor-le m probabilityTotal (λ j. incoming t n (carried q v) j), incoming-total t n m (carried q v) h p)
 
 pub next-ge :
     (t : Transition) (n m : ℕ) (q v : ℕ → ℕ) → Inside t n m → Total t n →
-    sum n (carried q v) ≤ sum m (nextPrice t n q v) + m
-unfolding nextPrice
+    sum n (carried q v) ≤ sum m (nextStatePrice t n q v) + m
+unfolding nextStatePrice
 next-ge t n m q v h p =
     omega (arith, sum-floor-ge m probabilityTotal (λ j. incoming t n (carried q v) j) (omega arith), incoming-total t n m (carried q v) h p)
 
@@ -86,8 +86,8 @@ discount-cong n p q r u h k =
 
 pub next-cong :
     (t : Transition) (n : ℕ) (q r v w : ℕ → ℕ) → ((k : ℕ) → k < n → q k ≡ r k) → ((k : ℕ) → k < n → v k ≡ w k) → (j : ℕ) →
-    nextPrice t n q v j ≡ nextPrice t n r w j
-unfolding nextPrice carried
+    nextStatePrice t n q v j ≡ nextStatePrice t n r w j
+unfolding nextStatePrice carried
 next-cong t n q r v w hq hv j =
     ap (λ (a : ℕ). a / probabilityTotal)
     (incoming-cong t n _ _ (λ k l. ap (λ (x : ℕ). x * v k / one) (hq k l) ∙ ap (λ (x : ℕ). r k * x / one) (hv k l)) j)

@@ -8,18 +8,18 @@ use Rattle.arithmetic.specs.Sum.{greatest}
 use Rattle.arithmetic.specs.Row.{each}
 use Rattle.limits.specs.Limits.{isDiscount}
 use Rattle.tree.specs.Tree.{Tree, incoming}
-use Rattle.fit_laws.specs.Step.{discount, nextPrice}
+use Rattle.fit_laws.specs.Step.{discount, nextStatePrice}
 
 -- the state prices that the fit gives: row 0 has one
-unfoldable pub fittedPrice : Tree → (ℕ → ℕ → ℕ) → (ℕ → ℕ) → ℕ → ℕ → ℕ
-fittedPrice t u p zero = λ k. one
-fittedPrice t u p (suc i) =
-    nextPrice (t .step i) (t .nodes i) (fittedPrice t u p i)
-    (discount (t .nodes i) (fittedPrice t u p i) (u i) (p (suc i)))
+unfoldable pub fittedStatePrice : Tree → (ℕ → ℕ → ℕ) → (ℕ → ℕ) → ℕ → ℕ → ℕ
+fittedStatePrice t u p zero = λ k. one
+fittedStatePrice t u p (suc i) =
+    nextStatePrice (t .step i) (t .nodes i) (fittedStatePrice t u p i)
+    (discount (t .nodes i) (fittedStatePrice t u p i) (u i) (p (suc i)))
 
 -- the node discounts that the fit gives
 unfoldable pub fittedDiscount : Tree → (ℕ → ℕ → ℕ) → (ℕ → ℕ) → ℕ → ℕ → ℕ
-fittedDiscount t u p i = discount (t .nodes i) (fittedPrice t u p i) (u i) (p (suc i))
+fittedDiscount t u p i = discount (t .nodes i) (fittedStatePrice t u p i) (u i) (p (suc i))
 
 -- whether every node discount of row i is accepted
 unfoldable pub acceptedRow : Tree → (ℕ → ℕ → ℕ) → ℕ → Bool
@@ -28,7 +28,7 @@ acceptedRow t v i = each (t .nodes i) (λ k. isDiscount (v i k))
 -- the state prices that follow from node discounts, whoever stored them
 unfoldable pub statePrice : Tree → (ℕ → ℕ → ℕ) → ℕ → ℕ → ℕ
 statePrice t v zero = λ k. one
-statePrice t v (suc i) = nextPrice (t .step i) (t .nodes i) (statePrice t v i) (v i)
+statePrice t v (suc i) = nextStatePrice (t .step i) (t .nodes i) (statePrice t v i) (v i)
 
 -- the exact state prices of row i, times m^i
 unfoldable pub exactStatePrice : Tree → (ℕ → ℕ → ℕ) → ℕ → ℕ → ℕ

@@ -18,5 +18,5 @@ unfoldable pub carried : (ℕ → ℕ) → (ℕ → ℕ) → ℕ → ℕ
 carried q v k = q k * v k / one
 
 -- the next row's state price: the sum over incoming branches of probability × carried amount, divided once, down
-unfoldable pub nextPrice : Transition → ℕ → (ℕ → ℕ) → (ℕ → ℕ) → ℕ → ℕ
-nextPrice t n q v j = incoming t n (carried q v) j / probabilityTotal
+unfoldable pub nextStatePrice : Transition → ℕ → (ℕ → ℕ) → (ℕ → ℕ) → ℕ → ℕ
+nextStatePrice t n q v j = incoming t n (carried q v) j / probabilityTotal

@@ -5,7 +5,7 @@ use Prim.Native.Nat.{ℕ, suc, _-_, _*_, _≤_, _<_}
 use native.Mathlib.Nat.{mul-le-mul}
 use native.Mathlib.Omega.{arith}
 use borrow.Author.Tests.{eq-eqb, ne-eqb, lt-ltb, le-ltb}
-use Rattle.limits.specs.inside.WithinLimits.{WithinLimits}
+use Rattle.limits.specs.WithinLimits.{WithinLimits}
 use Rattle.arithmetic.specs.declared.Answer.{Answer}
 use Rattle.arithmetic.specs.Rounding.{one}
 use Rattle.arithmetic.proofs.Numbers.{by-order}
@@ -24,8 +24,8 @@ pub memory-none : (n b ds ps : ℕ) → memoryCause n b ds ps ≡ 0 → (discoun
 memory-none n b ds ps e =
     by-order (discountsNeededAnswer n b .value) ds
     (λ h. by-order (statePricesNeededAnswer n b .value) ps (λ g. (h, g))
-    (λ g. absurd (six (memory-lacks n b ds ps (discountsNeededAnswer n b) (statePricesNeededAnswer n b) refl refl h g ∙ e))))
-    (λ h. absurd (six (memory-short n b ds ps (discountsNeededAnswer n b) (statePricesNeededAnswer n b) refl refl h ∙ e)))
+    (λ g. absurd (six (memory-lacks n b ps {needed = discountsNeededAnswer n b} {all = statePricesNeededAnswer n b} refl refl h g ∙ e))))
+    (λ h. absurd (six (memory-short n b ps {needed = discountsNeededAnswer n b} {all = statePricesNeededAnswer n b} refl refl h ∙ e)))
   where
     six : _≡_ {A = ℕ} 6 0 → ⊥
     six z = omega arith
@@ -54,7 +54,7 @@ module _ (n w converted spaced ds ps : ℕ) (z : earlyCause converted n w spaced
         spacing-found = rights .0;
         limits = accepted;
         room-discounts = rw (tree-value n w (rowStart w n) (discountsNeededAnswer n w) refl accepted) at (room .0);
-        room-prices = rw (tree-value n w (rowStart w (suc n)) (statePricesNeededAnswer n w) refl accepted) at (room .1);
+        room-state-prices = rw (tree-value n w (rowStart w (suc n)) (statePricesNeededAnswer n w) refl accepted) at (room .1);
       }
 
 -- what code holds once causes 2 to 7 were tested: the lowest cause

@@ -23,7 +23,7 @@ use Rattle.lattice.specs.RateTree.{rateTree}
 use Rattle.lattice.specs.Entries.{discountsNeededAnswer, statePricesNeededAnswer, memoryCause}
 use Rattle.lattice.proofs.RateTreeLaws.{start-is}
 use Rattle.lattice.proofs.TreeEntries.{by-tree}
-use Rattle.arithmetic.specs.Frequency.{listed}
+use Rattle.arithmetic.specs.Frequency.{isFrequency}
 use Rattle.reversion.specs.Reversion.{isVersion, workingReversion}
 use Rattle.spacing.specs.Spacing.{spacing, spacingAnswer, versionSpacing, versionSpacingAnswer}
 use Rattle.spacing.proofs.SpacingLaws.{spacing-zero}
@@ -32,10 +32,10 @@ use Rattle.limits.specs.Limits.{mostSteps, mostReversion, isSteps, leastQuote, 
 use Rattle.curve.specs.Curve.{discountAt, convertsAt, inPlace, curveNumber, curveMemory}
 use Rattle.curve.proofs.CurveLaws.{curve-range, curve-stored}
 use Rattle.fitting.specs.declared.causes.Plan.{Plan}
-use Rattle.fitting.specs.Fit.{curveDiscount, curvePrice, curveAccepted}
+use Rattle.fitting.specs.Fit.{curveDiscount, curveStatePrice, curveAccepted}
 use Rattle.fitting.specs.inside.TableFit.{rowsOrZeros, TreeFitted}
 use Rattle.fitting.specs.inside.Preconditions.{QuotesReady}
-use Rattle.fitting.specs.Entry.{quotesOf, earlyCause, lateCause, fittedNumber, fitMemory, fitDiscounts, fitPrices}
+use Rattle.fitting.specs.Entry.{quotesOf, earlyCause, lateCause, fittedNumber, fitMemory, fitDiscounts, fitStatePrices}
 use Rattle.fitting.specs.inside.Plans.{SpacingKnown, Planned}
 use Rattle.fitting.proofs.CauseLaws.{numbers-of}
 
@@ -50,7 +50,7 @@ chain-small false false false false = omega arith
 curve-small : (f n : ℕ) (rows kinds : List ℕ) (figures : List Float) (room : ℕ) → curveNumber f n rows kinds figures room ≤ 7
 unfolding curveNumber
 curve-small f n rows kinds figures room =
-    chain-small (not (listed f)) (not (isSteps n)) (not (inPlace n rows kinds figures room)) (not (each n (convertsAt f kinds figures)))
+    chain-small (not (isFrequency f)) (not (isSteps n)) (not (inPlace n rows kinds figures room)) (not (each n (convertsAt f kinds figures)))
 
 tree-small : (n b : ℕ) → discountsNeededAnswer n b .number ≤ 7
 tree-small n b =
@@ -120,7 +120,7 @@ abbrev pub Answered : ℕ → ℕ → ℕ → ℕ → ℕ → List ℕ → List 
 Answered f n b spaced h rows kinds figures d p r d′ p′ =
     (r ≡ fittedNumber f n b spaced h rows kinds figures (length d) (length p))
     × ((d′ ≡ fitMemory (fittedNumber f n b spaced h rows kinds figures (length d) (length p)) (fitDiscounts f n b h kinds figures) d)
-    × (p′ ≡ fitMemory (fittedNumber f n b spaced h rows kinds figures (length d) (length p)) (fitPrices f n b h kinds figures) p))
+    × (p′ ≡ fitMemory (fittedNumber f n b spaced h rows kinds figures (length d) (length p)) (fitStatePrices f n b h kinds figures) p))
 
 -- what code holds once the quotes were converted and the plan was made: the plan, and the memory of the quotes
 pub record Prepared (f n b : ℕ) (spaced : Answer) (rows kinds : List ℕ) (figures : List Float) (d p : List ℕ) (plan : Plan) (after : List ℕ) : Type 0 where
@@ -174,7 +174,7 @@ module _ {f n b : ℕ} {spaced : Answer} {rows kinds : List ℕ} {figures : List
 
     pub fit-refused : Answered f n b (spaced .number) (spaced .value) rows kinds figures d p (plan .number) d p
     fit-refused =
-        (number-refused, (kept-as (fitDiscounts f n b (spaced .value) kinds figures) d, kept-as (fitPrices f n b (spaced .value) kinds figures) p))
+        (number-refused, (kept-as (fitDiscounts f n b (spaced .value) kinds figures) d, kept-as (fitStatePrices f n b (spaced .value) kinds figures) p))
 
   -- accepted so far
   module _ (z : plan .number ≡ 0) where
@@ -209,7 +209,7 @@ module _ {f n b : ℕ} {spaced : Answer} {rows kinds : List ℕ} {figures : List
           quotes-least = λ i h. in-range i (rw quotes-length at h) .0;
           quotes-most = λ i h. in-range i (rw quotes-length at h) .1;
           room-discounts = rw quotes-length (numbers .room-discounts);
-          room-prices = rw quotes-length (numbers .room-prices);
+          room-state-prices = rw quotes-length (numbers .room-state-prices);
         }
 
     none-early : early ≡ 0
@@ -230,7 +230,7 @@ module _ {f n b : ℕ} {spaced : Answer} {rows kinds : List ℕ} {figures : List
     module _ {r : ℕ} {d′ p′ : List ℕ}
         (er : r ≡ cond (curveAccepted b (plan .spacing) (take n after)) 0 9)
         (t : TreeFitted b (length (take n after)) (curveAccepted b (plan .spacing) (take n after))
-        (curveDiscount b (plan .spacing) (take n after)) (curvePrice b (plan .spacing) (take n after)) d p d′ p′) where
+        (curveDiscount b (plan .spacing) (take n after)) (curveStatePrice b (plan .spacing) (take n after)) d p d′ p′) where
       pub fit-made : Answered f n b (spaced .number) (spaced .value) rows kinds figures d p r d′ p′
       fit-made =
           let named = rw (quotes-length, k .planned .spacing-is z, quotes-are) at t in (
@@ -247,16 +247,16 @@ answer-small false false true v x = omega arith
 answer-small false false false true x = omega arith
 answer-small false false false false x = omega arith
 
-pub version-known : (v f s b : ℕ) (a : Answer) → a ≡ versionSpacingAnswer v f s b → SpacingKnown a
+pub version-known : (v f s b : ℕ) {a : Answer} → a ≡ versionSpacingAnswer v f s b → SpacingKnown a
 unfolding versionSpacingAnswer
-version-known v f s b a e =
+version-known v f s b e =
     rw e record {
-      cause-most = answer-small (not (listed f)) (ltb mostReversion b) (ltb 50000 s) (not (isVersion v)) (versionSpacing v f s b);
+      cause-most = answer-small (not (isFrequency f)) (ltb mostReversion b) (ltb 50000 s) (not (isVersion v)) (versionSpacing v f s b);
       within-limit = version-answer-most v f s b;
     }
 
 pub spacing-known : (f s : ℕ) (a : Answer) → a ≡ spacingAnswer f s → SpacingKnown a
-spacing-known f s a e = version-known 1 f s 0 a (e ∙ sym (answer-first f s))
+spacing-known f s a e = version-known 1 f s 0 (e ∙ sym (answer-first f s))
 
 -- the spacing counts only where it has no cause of its own
 module _ (f n b spaced : ℕ) (rows kinds : List ℕ) (figures : List Float) (some : spaced ≡ 0 → ⊥) (small : spaced ≤ 7) where
@@ -309,6 +309,6 @@ module _ (f n : ℕ) (rows kinds : List ℕ) (figures : List Float) (d p : List 
       Answered f n (workingReversion v b) (versionSpacingAnswer v f s b .number) (versionSpacing v f s b) rows kinds figures d p r d′ p′
   version-answered v b s w a ew e made =
       spacing-alike (workingReversion v b) (versionSpacingAnswer v f s b .number) (versionSpacingAnswer v f s b .value) (versionSpacing v f s b)
-      (version-known v f s b (versionSpacingAnswer v f s b) refl .cause-most) (λ z. version-zero v f s b z .value)
+      (version-known v f s b {a = versionSpacingAnswer v f s b} refl .cause-most) (λ z. version-zero v f s b z .value)
       (subst (λ (x : Answer). Answered f n (workingReversion v b) (x .number) (x .value) rows kinds figures d p r d′ p′) e
       (subst (λ (x : ℕ). Answered f n x (a .number) (a .value) rows kinds figures d p r d′ p′) ew made))

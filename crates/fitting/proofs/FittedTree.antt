@@ -18,7 +18,7 @@ use Rattle.lattice.proofs.LaidLaws.{length-laid, laid-value}
 use Rattle.lent_tree.specs.LentTree.{stored, discountsCause}
 use Rattle.lent_tree.proofs.LentLaws.{accepted-by-row, lent-accepted}
 use Rattle.fit_laws.specs.StatePrices.{acceptedRow}
-use Rattle.fitting.specs.Entry.{fittedNumber, fitMemory, fitDiscount, fitPrice, fitDiscounts, fitPrices}
+use Rattle.fitting.specs.Entry.{fittedNumber, fitMemory, fitDiscount, fitStatePrice, fitDiscounts, fitStatePrices}
 use Rattle.fitting.proofs.Promised.{fit-numbers, fit-accepted}
 
 -- a memory after a fit
@@ -31,9 +31,9 @@ module _ (f n b h : ℕ) (kinds : List ℕ) (figures : List Float) where
   unfolding discountsNeeded
   fit-discounts-length = length-laid b (fitDiscount f n b h kinds figures) n
 
-  pub fit-prices-length : length (fitPrices f n b h kinds figures) ≡ statePricesNeeded n b
+  pub fit-state-prices-length : length (fitStatePrices f n b h kinds figures) ≡ statePricesNeeded n b
   unfolding statePricesNeeded
-  fit-prices-length = length-laid b (fitPrice f n b h kinds figures) (suc n)
+  fit-state-prices-length = length-laid b (fitStatePrice f n b h kinds figures) (suc n)
 
   -- what the fit's own discounts hold at a node
   pub fit-discount-stored : (i k : ℕ) → i < n → k < nodeCount b i →

@@ -24,22 +24,22 @@ use Rattle.lattice.proofs.Sizes.{half-within, count-positive, row-ends}
 use Rattle.lattice.proofs.Sizes as sizes
 use Rattle.lattice.proofs.RateTreeLaws.{rate-tree-sound}
 use Rattle.limits.specs.Limits.{isDiscount}
-use Rattle.fit_laws.specs.Step.{discount, nextPrice}
-use Rattle.fit_laws.specs.StatePrices.{fittedPrice, fittedDiscount, acceptedRow}
+use Rattle.fit_laws.specs.Step.{discount, nextStatePrice}
+use Rattle.fit_laws.specs.StatePrices.{fittedStatePrice, fittedDiscount, acceptedRow}
 use Rattle.fit_laws.proofs.StepLaws.{discount-cong, next-cong}
 use Rattle.fit_laws.proofs.Repricing.{Fittable}
 use Rattle.fit_laws.proofs.WholeFit.{Curve, fittable}
 use Rattle.fit_laws.specs.inside.Bounds.{leastFactor, mostFactor}
-use Rattle.fitting.specs.inside.Rows.{RowFitted, rowPrices, rowDiscounts, tableFactor}
+use Rattle.fitting.specs.inside.Rows.{RowFitted, partValues, rowDiscounts, tableFactor}
 use Rattle.fitting.specs.inside.Preconditions.{TreeRowReady, RowsReady}
 use Rattle.fitting.specs.Fit.{quoted}
-use Rattle.fitting.specs.inside.TableFit.{tableDiscount, tablePrice, tableAccepted, TreeFitted, PastKept}
+use Rattle.fitting.specs.inside.TableFit.{tableDiscount, tableStatePrice, tableAccepted, TreeFitted, PastKept}
 use Rattle.lattice.proofs.ShapeLaws.{table-room}
 
 -- what holds after i rows
 pub record Progress (b : ℕ) (l u d₀ p₀ d p : List ℕ) (i : ℕ) : Type 0 where
   pub discounts : d ≡ laid (rateTree b) (tableDiscount b l u) i ++ drop (start (rateTree b) i) d₀
-  pub prices : p ≡ laid (rateTree b) (tablePrice b l u) (suc i) ++ drop (start (rateTree b) (suc i)) p₀
+  pub state-prices : p ≡ laid (rateTree b) (tableStatePrice b l u) (suc i) ++ drop (start (rateTree b) (suc i)) p₀
   pub accepted : each i (acceptedRow (rateTree b) (tableDiscount b l u)) ≡ true
 
 -- lists that agree past a place agree past every later one
@@ -99,7 +99,7 @@ module _ {b : ℕ} {l u downs d₀ p₀ a : List ℕ} (k : RowsReady b l u downs
 
   ready : (i : ℕ) → i < length l →
       Fittable (rateTree b .step i) (nodeCount b i) (nodeCount b (suc i)) (quoted l (suc i))
-      (tablePrice b l u i) (tableFactor b (length l) u i)
+      (tableStatePrice b l u i) (tableFactor b (length l) u i)
   unfolding rateTree
   ready i h = fittable (rateTree b) sound (length l) (tableFactor b (length l) u) (quoted l) curve i h
 
@@ -107,19 +107,19 @@ module _ {b : ℕ} {l u downs d₀ p₀ a : List ℕ} (k : RowsReady b l u downs
   root-nodes = sound .root
 
   -- the first row's state price
-  root-prices : 0 < length p₀ → set p₀ 0 one ≡ laid (rateTree b) (tablePrice b l u) 1 ++ drop (start (rateTree b) 1) (set p₀ 0 one)
-  unfolding laid fittedPrice
-  root-prices h =
+  root-state-prices : 0 < length p₀ → set p₀ 0 one ≡ laid (rateTree b) (tableStatePrice b l u) 1 ++ drop (start (rateTree b) 1) (set p₀ 0 one)
+  unfolding laid fittedStatePrice
+  root-state-prices h =
       let e : rateTree b .nodes 0 ≡ start (rateTree b) 1 = omega (arith, start-suc (rateTree b) 0, root-start b) in
       first-price (rateTree b .nodes 0) p₀ h root-nodes
       ∙ ap (λ (x : ℕ). row (rateTree b .nodes 0) (λ k. one) ++ drop x (set p₀ 0 one)) e
 
-  pub prices-some : 0 < length p₀
-  prices-some = omega (arith, start-positive b (length l), k .room-prices)
+  pub state-prices-some : 0 < length p₀
+  state-prices-some = omega (arith, start-positive b (length l), k .room-state-prices)
 
   pub begun : Progress b l u d₀ (set p₀ 0 one) d₀ (set p₀ 0 one) 0
   unfolding laid start sum
-  begun = record { discounts = refl; prices = root-prices prices-some; accepted = each-none _ }
+  begun = record { discounts = refl; state-prices = root-state-prices state-prices-some; accepted = each-none _ }
 
   -- storing the first state price leaves what the fit asks
   pub stored-ready : RowsReady b l u downs d₀ (set p₀ 0 one) a
@@ -129,7 +129,7 @@ module _ {b : ℕ} {l u downs d₀ p₀ a : List ℕ} (k : RowsReady b l u downs
         quotes-least = k .quotes-least;
         quotes-most = k .quotes-most;
         room-discounts = k .room-discounts;
-        room-prices = rw (length-set p₀ 0 one) (k .room-prices);
+        room-state-prices = rw (length-set p₀ 0 one) (k .room-state-prices);
         room-sums = k .room-sums;
       }
 
@@ -137,14 +137,14 @@ module _ {b : ℕ} {l u downs d₀ p₀ a : List ℕ} (k : RowsReady b l u downs
 module _ {b : ℕ} {l u downs d₀ p₀ a : List ℕ} (k : RowsReady b l u downs d₀ p₀ a) {d p : List ℕ} {i : ℕ}
     (g : Progress b l u d₀ p₀ d p i) (hi : i < length l) where
   -- the row's own part of the memory
-  part : take (nodeCount b i) (drop (rowStart b i) p) ≡ row (nodeCount b i) (tablePrice b l u i)
+  row-part : take (nodeCount b i) (drop (rowStart b i) p) ≡ row (nodeCount b i) (tableStatePrice b l u i)
   unfolding rateTree start rowStart
-  part = rw (g .prices) (laid-row (rateTree b) (tablePrice b l u) i (drop (start (rateTree b) (suc i)) p₀))
+  row-part = rw (g .state-prices) (laid-row (rateTree b) (tableStatePrice b l u) i (drop (start (rateTree b) (suc i)) p₀))
 
-  part-value : (j : ℕ) → j < nodeCount b i → rowPrices (rowStart b i) (nodeCount b i) p j ≡ tablePrice b l u i j
-  part-value j h = ap (λ (x : List ℕ). values x j) part ∙ values-row (nodeCount b i) j (tablePrice b l u i) h
+  part-value : (j : ℕ) → j < nodeCount b i → partValues (rowStart b i) (nodeCount b i) p j ≡ tableStatePrice b l u i j
+  part-value j h = ap (λ (x : List ℕ). values x j) row-part ∙ values-row (nodeCount b i) j (tableStatePrice b l u i) h
 
-  part-sum : sum (nodeCount b i) (rowPrices (rowStart b i) (nodeCount b i) p) ≡ sum (nodeCount b i) (tablePrice b l u i)
+  part-sum : sum (nodeCount b i) (partValues (rowStart b i) (nodeCount b i) p) ≡ sum (nodeCount b i) (tableStatePrice b l u i)
   part-sum = sum-cong (nodeCount b i) _ _ part-value
 
   discounts-length : length d ≡ length d₀
@@ -152,10 +152,10 @@ module _ {b : ℕ} {l u downs d₀ p₀ a : List ℕ} (k : RowsReady b l u downs
       laid-length (rateTree b) (tableDiscount b l u) i d d₀
       (omega (arith, start-grow (rateTree b) (length l) i (omega arith), start-is b (length l), k .room-discounts)) (g .discounts)
 
-  prices-length : length p ≡ length p₀
-  prices-length =
-      laid-length (rateTree b) (tablePrice b l u) (suc i) p p₀
-      (omega (arith, start-grow (rateTree b) (suc (length l)) (suc i) (omega arith), start-is b (suc (length l)), k .room-prices)) (g .prices)
+  state-prices-length : length p ≡ length p₀
+  state-prices-length =
+      laid-length (rateTree b) (tableStatePrice b l u) (suc i) p p₀
+      (omega (arith, start-grow (rateTree b) (suc (length l)) (suc i) (omega arith), start-is b (suc (length l)), k .room-state-prices)) (g .state-prices)
 
   pub row-asks : (a′ : List ℕ) → length a′ ≡ length a → TreeRowReady b (length l) i (values l i) u downs d p a′
   row-asks a′ same =
@@ -163,7 +163,7 @@ module _ {b : ℕ} {l u downs d₀ p₀ a : List ℕ} (k : RowsReady b l u downs
         tables = k .tables;
         in-tree = hi;
         room-discounts = rw discounts-length (k .room-discounts);
-        room-prices = rw prices-length (k .room-prices);
+        room-state-prices = rw state-prices-length (k .room-state-prices);
         room-sums = rw same (k .room-sums);
         row-sum-least = rw part-sum (ready k i hi .sum-low);
         row-sum-most = rw part-sum (ready k i hi .sum-high);
@@ -173,17 +173,17 @@ module _ {b : ℕ} {l u downs d₀ p₀ a : List ℕ} (k : RowsReady b l u downs
   -- the row's discounts and the next state prices, by the definitions
   discount-is : (j : ℕ) → rowDiscounts (rowStart b i) (nodeCount b i) (values l i) (tableFactor b (length l) u i) p j ≡ tableDiscount b l u i j
   unfolding quoted fittedDiscount rateTree
-  discount-is j = discount-cong (nodeCount b i) (values l i) _ (tablePrice b l u i) (tableFactor b (length l) u i) part-value j
+  discount-is j = discount-cong (nodeCount b i) (values l i) _ (tableStatePrice b l u i) (tableFactor b (length l) u i) part-value j
 
   price-is : (j : ℕ) →
-      nextPrice (rateTree b .step i) (nodeCount b i) (rowPrices (rowStart b i) (nodeCount b i) p)
+      nextStatePrice (rateTree b .step i) (nodeCount b i) (partValues (rowStart b i) (nodeCount b i) p)
       (rowDiscounts (rowStart b i) (nodeCount b i) (values l i) (tableFactor b (length l) u i) p) j
-      ≡ tablePrice b l u (suc i) j
-  unfolding fittedPrice quoted rateTree
+      ≡ tableStatePrice b l u (suc i) j
+  unfolding fittedStatePrice quoted rateTree
   price-is j =
-      next-cong (rateTree b .step i) (nodeCount b i) _ (tablePrice b l u i) _
-      (discount (nodeCount b i) (tablePrice b l u i) (tableFactor b (length l) u i) (values l i)) part-value
-      (λ c h. discount-cong (nodeCount b i) (values l i) _ (tablePrice b l u i) (tableFactor b (length l) u i) part-value c) j
+      next-cong (rateTree b .step i) (nodeCount b i) _ (tableStatePrice b l u i) _
+      (discount (nodeCount b i) (tableStatePrice b l u i) (tableFactor b (length l) u i) (values l i)) part-value
+      (λ c h. discount-cong (nodeCount b i) (values l i) _ (tableStatePrice b l u i) (tableFactor b (length l) u i) part-value c) j
 
   module _ {d′ p′ : List ℕ} {r : Bool} (f : RowFitted (rowStart b i) (nodeCount b i) (nodeCount b (suc i)) (values l i)
       (tableFactor b (length l) u i) (rateTree b .step i) d p d′ p′ r) where
@@ -198,15 +198,15 @@ module _ {b : ℕ} {l u downs d₀ p₀ a : List ℕ} (k : RowsReady b l u downs
         ∙ laid-next (rateTree b) (tableDiscount b l u) i d d₀ (g .discounts)
 
     -- the memory of state prices where the row was accepted, and where it was not
-    stepped-true : r ≡ true → p′ ≡ place p (rowStart b (suc i)) (row (nodeCount b (suc i)) (tablePrice b l u (suc i)))
+    stepped-true : r ≡ true → p′ ≡ place p (rowStart b (suc i)) (row (nodeCount b (suc i)) (tableStatePrice b l u (suc i)))
     stepped-true e =
         rw e at (f .stepped)
         ∙ ap (place p (rowStart b i + nodeCount b i)) (row-cong (nodeCount b (suc i)) _ _ (λ j _. price-is j))
-        ∙ ap (λ (x : ℕ). place p x (row (nodeCount b (suc i)) (tablePrice b l u (suc i)))) (sym (sizes.start-suc b i))
+        ∙ ap (λ (x : ℕ). place p x (row (nodeCount b (suc i)) (tableStatePrice b l u (suc i)))) (sym (sizes.start-suc b i))
 
-    row-stepped : r ≡ true → p′ ≡ laid (rateTree b) (tablePrice b l u) (suc (suc i)) ++ drop (start (rateTree b) (suc (suc i))) p₀
+    row-stepped : r ≡ true → p′ ≡ laid (rateTree b) (tableStatePrice b l u) (suc (suc i)) ++ drop (start (rateTree b) (suc (suc i))) p₀
     unfolding rateTree start rowStart
-    row-stepped e = stepped-true e ∙ laid-next (rateTree b) (tablePrice b l u) (suc i) p p₀ (g .prices)
+    row-stepped e = stepped-true e ∙ laid-next (rateTree b) (tableStatePrice b l u) (suc i) p p₀ (g .state-prices)
 
     row-kept : r ≡ false → p′ ≡ p
     row-kept e = rw e at (f .stepped)
@@ -217,7 +217,7 @@ module _ {b : ℕ} {l u downs d₀ p₀ a : List ℕ} (k : RowsReady b l u downs
         rw (add-one i)
         (record {
           discounts = row-filled e;
-          prices = row-stepped e;
+          state-prices = row-stepped e;
           accepted = rw (add-one i) at (each-more i (acceptedRow (rateTree b) (tableDiscount b l u)) (g .accepted) (sym row-tested ∙ e));
         })
 
@@ -233,7 +233,7 @@ module _ {b : ℕ} {l u downs d₀ p₀ a : List ℕ} (k : RowsReady b l u downs
           discounted =
               drop-later (rowStart b i + nodeCount b i) (rowStart b (length l)) d′ d (row-ends b i (length l) hi) (f .kept)
               ∙ laid-past (rateTree b) (tableDiscount b l u) i (length l) d d₀ (omega arith) (g .discounts);
-          priced = laid-past (rateTree b) (tablePrice b l u) (suc i) (suc (length l)) p′ p₀ (omega arith) (row-kept e ∙ g .prices);
+          priced = laid-past (rateTree b) (tableStatePrice b l u) (suc i) (suc (length l)) p′ p₀ (omega arith) (row-kept e ∙ g .state-prices);
         }
 
 -- what lies past the tree was not changed by the first state price either
@@ -246,15 +246,15 @@ module _ {b : ℕ} {l u d : List ℕ} (p : List ℕ) {d′ p′ : List ℕ} {i :
   past-first : drop (rowStart b (suc (length l))) (set p 0 one) ≡ drop (rowStart b (suc (length l))) p
   past-first = drop-set-lt (rowStart b (suc (length l))) p 0 one (start-positive b (length l))
 
-  pub complete : TreeFitted b (length l) true (tableDiscount b l u) (tablePrice b l u) d p d′ p′
+  pub complete : TreeFitted b (length l) true (tableDiscount b l u) (tableStatePrice b l u) d p d′ p′
   unfolding start rowStart rateTree
   complete =
       record {
         discounted = g .discounts ∙ ap (λ (n : ℕ). laid (rateTree b) (tableDiscount b l u) n ++ drop (start (rateTree b) n) d) e;
         priced =
-            g .prices
-            ∙ ap (λ (n : ℕ). laid (rateTree b) (tablePrice b l u) (suc n) ++ drop (start (rateTree b) (suc n)) (set p 0 one)) e
-            ∙ ap (λ (x : List ℕ). laid (rateTree b) (tablePrice b l u) (suc (length l)) ++ x) past-first;
+            g .state-prices
+            ∙ ap (λ (n : ℕ). laid (rateTree b) (tableStatePrice b l u) (suc n) ++ drop (start (rateTree b) (suc n)) (set p 0 one)) e
+            ∙ ap (λ (x : List ℕ). laid (rateTree b) (tableStatePrice b l u) (suc (length l)) ++ x) past-first;
       }
 
   pub complete-accepted : true ≡ tableAccepted b l u
@@ -266,5 +266,5 @@ module _ {b : ℕ} {l u d : List ℕ} (p : List ℕ) {d′ p′ : List ℕ} {i :
   complete-past =
       record {
         discounted = laid-past (rateTree b) (tableDiscount b l u) (length l) (length l) d′ d (le-refl _) (complete .discounted);
-        priced = laid-past (rateTree b) (tablePrice b l u) (suc (length l)) (suc (length l)) p′ p (le-refl _) (complete .priced);
+        priced = laid-past (rateTree b) (tableStatePrice b l u) (suc (length l)) (suc (length l)) p′ p (le-refl _) (complete .priced);
       }

@@ -30,7 +30,7 @@ use Rattle.fit_laws.proofs.Shortfall.{state-below, state-price-shortfall}
 use Rattle.fit_laws.proofs.WholeFit.{Curve, fitted-is-state, quotes-repriced}
 use Rattle.fit_laws.specs.inside.Bounds.{leastFactor, mostFactor}
 use Rattle.fitting.specs.Fit.{quoted, curveAccepted, nodeFactor}
-use Rattle.fitting.specs.Entry.{quotesOf, earlyCause, lateCause, fittedNumber, fitDiscount, fitPrice}
+use Rattle.fitting.specs.Entry.{quotesOf, earlyCause, lateCause, fittedNumber, fitDiscount, fitStatePrice}
 use Rattle.fitting.specs.inside.Plans.{Numbers}
 use Rattle.fitting.proofs.CauseLaws.{numbers-of}
 
@@ -119,22 +119,22 @@ module _ (f n b spaced h : ℕ) (rows kinds : List ℕ) (figures : List Float) (
 
   -- the quoted discount of row i + 1 and the sum of that row's state prices
   pub fit-repriced : (i : ℕ) → i < n →
-      (discountAt f kinds figures i ≤ sum (nodeCount b (suc i)) (fitPrice f n b h kinds figures (suc i)) + 300)
-      × (sum (nodeCount b (suc i)) (fitPrice f n b h kinds figures (suc i)) ≤ discountAt f kinds figures i + 300)
-      × (sum (nodeCount b (suc i)) (fitPrice f n b h kinds figures (suc i)) ≤ 2000000100)
+      (discountAt f kinds figures i ≤ sum (nodeCount b (suc i)) (fitStatePrice f n b h kinds figures (suc i)) + 300)
+      × (sum (nodeCount b (suc i)) (fitStatePrice f n b h kinds figures (suc i)) ≤ discountAt f kinds figures i + 300)
+      × (sum (nodeCount b (suc i)) (fitStatePrice f n b h kinds figures (suc i)) ≤ 2000000100)
   unfolding rateTree
   fit-repriced i l =
       rw (quote-is i l) at (quotes-repriced (rateTree b) fit-sound n (nodeFactor b h) (quoted (quotesOf f n kinds figures)) curve i l)
 
   -- fitted state prices against the exact ones of the same node discounts, row i held times m^i
   pub fit-below : (i k : ℕ) →
-      unit ^ i * fitPrice f n b h kinds figures i k ≤ exactStatePrice (rateTree b) (fitDiscount f n b h kinds figures) i k
+      unit ^ i * fitStatePrice f n b h kinds figures i k ≤ exactStatePrice (rateTree b) (fitDiscount f n b h kinds figures) i k
   fit-below i k =
       rw (fitted-is-state (rateTree b) (nodeFactor b h) (quoted (quotesOf f n kinds figures)) i)
       (state-below (rateTree b) (fitDiscount f n b h kinds figures) i k)
 
   pub fit-shortfall : (i : ℕ) →
-      sum (nodeCount b i) (λ k. exactStatePrice (rateTree b) (fitDiscount f n b h kinds figures) i k - unit ^ i * fitPrice f n b h kinds figures i k)
+      sum (nodeCount b i) (λ k. exactStatePrice (rateTree b) (fitDiscount f n b h kinds figures) i k - unit ^ i * fitStatePrice f n b h kinds figures i k)
       ≤ unit ^ i * statePriceErrorBound (rateTree b) (fitDiscount f n b h kinds figures) i
   unfolding rateTree
   fit-shortfall i =

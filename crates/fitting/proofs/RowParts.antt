@@ -14,8 +14,8 @@ use Rattle.arithmetic.proofs.RowLaws.{row-cong, values-row, length-row}
 use Rattle.tree.specs.Tree.{incoming, probabilityTotal}
 use Rattle.row_branches.specs.inside.Transitions.{rowTransition}
 use Rattle.limits.specs.Limits.{isDiscount}
-use Rattle.fit_laws.specs.Step.{carried, nextPrice}
-use Rattle.fitting.specs.inside.Rows.{RowStepped, RowFitted, rowPrices, rowDiscounts}
+use Rattle.fit_laws.specs.Step.{carried, nextStatePrice}
+use Rattle.fitting.specs.inside.Rows.{RowStepped, RowFitted, partValues, rowDiscounts}
 use Rattle.fitting.specs.inside.Preconditions.{StepReady, RowReady}
 use Rattle.fitting.proofs.StepRows.{never}
 
@@ -45,12 +45,13 @@ place-past m part a n e h =
     ∙ drop-at part (drop (a + length part) m) n e
     ∙ ap (λ (k : ℕ). drop (a + k) m) e
 
-module _ {at next quote : ℕ} {factors downs discounts prices sums : List ℕ} (ready : RowReady at next quote factors downs discounts prices sums) where
-  plain-length : length (take (length factors) (drop at prices)) ≡ length factors
-  plain-length = part-length prices at (length factors) (omega (arith, ready .room-prices))
+module _ {at next quote : ℕ} {factors downs discounts state-prices sums : List ℕ}
+    (ready : RowReady at next quote factors downs discounts state-prices sums) where
+  plain-length : length (take (length factors) (drop at state-prices)) ≡ length factors
+  plain-length = part-length state-prices at (length factors) (omega (arith, ready .room-state-prices))
 
-  lent-prices : length (lent at (length factors) prices) ≡ length factors
-  lent-prices = lent-part-length prices at (length factors) (omega (arith, ready .room-prices))
+  lent-state-prices : length (lent at (length factors) state-prices) ≡ length factors
+  lent-state-prices = lent-part-length state-prices at (length factors) (omega (arith, ready .room-state-prices))
 
   lent-discounts : length (lent at (length factors) discounts) ≡ length factors
   lent-discounts = lent-part-length discounts at (length factors) (ready .room-discounts)
@@ -58,7 +59,7 @@ module _ {at next quote : ℕ} {factors downs discounts prices sums : List ℕ} 
   pub front-length : length (take next sums) ≡ next
   front-length = length-take-le next sums (ready .room-sums)
 
-  asked : StepReady quote (take (length factors) (drop at prices)) factors downs (length factors) next
+  asked : StepReady quote (take (length factors) (drop at state-prices)) factors downs (length factors) next
   asked =
       record {
         factors-bounded = rw plain-length (ready .factors-bounded);
@@ -71,22 +72,22 @@ module _ {at next quote : ℕ} {factors downs discounts prices sums : List ℕ} 
         quote-within-limit = ready .quote-within-limit;
       }
 
-  pub row-asks : StepReady quote (lent at (length factors) prices) factors downs (length (lent at (length factors) discounts)) (length (take next sums))
-  row-asks = rw (part-is prices at (length factors), lent-discounts, front-length) asked
+  pub row-asks : StepReady quote (lent at (length factors) state-prices) factors downs (length (lent at (length factors) discounts)) (length (take next sums))
+  row-asks = rw (part-is state-prices at (length factors), lent-discounts, front-length) asked
 
   -- the row's own step, over the parts that were lent
   module _ {d′ s′ : List ℕ} {r : Bool}
-      (step : RowStepped quote (length (take next sums)) (lent at (length factors) prices) factors downs d′ s′ r)
+      (step : RowStepped quote (length (take next sums)) (lent at (length factors) state-prices) factors downs d′ s′ r)
       (long : length d′ ≡ length (lent at (length factors) discounts)) where
-    row-tested : r ≡ each (length factors) (λ k. isDiscount (rowDiscounts at (length factors) quote (values factors) prices k))
-    row-tested = step .tested ∙ rw (lent-prices, part-is prices at (length factors))
+    row-tested : r ≡ each (length factors) (λ k. isDiscount (rowDiscounts at (length factors) quote (values factors) state-prices k))
+    row-tested = step .tested ∙ rw (lent-state-prices, part-is state-prices at (length factors))
 
     placed : replaced at (at + length factors - at) discounts d′ ≡ place discounts at d′
     placed = replaced-place at (length factors) discounts d′ (long ∙ lent-discounts)
 
     row-filled : r ≡ true → replaced at (at + length factors - at) discounts d′
-        ≡ place discounts at (row (length factors) (rowDiscounts at (length factors) quote (values factors) prices))
-    row-filled t = placed ∙ ap (place discounts at) (step .filled t ∙ rw (lent-prices, part-is prices at (length factors)))
+        ≡ place discounts at (row (length factors) (rowDiscounts at (length factors) quote (values factors) state-prices))
+    row-filled t = placed ∙ ap (place discounts at) (step .filled t ∙ rw (lent-state-prices, part-is state-prices at (length factors)))
 
     row-kept : drop (at + length factors) (replaced at (at + length factors - at) discounts d′) ≡ drop (at + length factors) discounts
     row-kept =
@@ -95,14 +96,14 @@ module _ {at next quote : ℕ} {factors downs discounts prices sums : List ℕ} 
 
     -- a discount was not accepted
     pub row-refused : r ≡ false → RowFitted at (length factors) next quote (values factors) (rowTransition downs next)
-        discounts prices (replaced at (at + length factors - at) discounts d′) prices false
+        discounts state-prices (replaced at (at + length factors - at) discounts d′) state-prices false
     row-refused e = record { tested = sym e ∙ row-tested; filled = λ t. never t; kept = row-kept; stepped = refl }
 
     -- all were
     module _ (t : r ≡ true) where
       sums-known : s′ ≡ row next (incoming (rowTransition downs next) (length factors)
-          (carried (rowPrices at (length factors) prices) (rowDiscounts at (length factors) quote (values factors) prices)))
-      sums-known = step .spreads t ∙ rw (front-length, lent-prices, part-is prices at (length factors))
+          (carried (partValues at (length factors) state-prices) (rowDiscounts at (length factors) quote (values factors) state-prices)))
+      sums-known = step .spreads t ∙ rw (front-length, lent-state-prices, part-is state-prices at (length factors))
 
       sums-length : length s′ ≡ next
       sums-length = ap length sums-known ∙ length-row next _
@@ -113,31 +114,32 @@ module _ {at next quote : ℕ} {factors downs discounts prices sums : List ℕ} 
       pub front-again : length (take next (s′ ++ drop next sums)) ≡ next
       front-again = ap length front-is ∙ sums-length
 
-      next-length : length (lent (at + length factors) next prices) ≡ next
-      next-length = lent-part-length prices (at + length factors) next (ready .room-prices)
+      next-length : length (lent (at + length factors) next state-prices) ≡ next
+      next-length = lent-part-length state-prices (at + length factors) next (ready .room-state-prices)
 
-      pub divide-asks : length (take next (s′ ++ drop next sums)) ≡ length (lent (at + length factors) next prices)
+      pub divide-asks : length (take next (s′ ++ drop next sums)) ≡ length (lent (at + length factors) next state-prices)
       divide-asks = front-again ∙ sym next-length
 
       module _ {p′ : List ℕ}
-          (divided : p′ ≡ row (length (lent (at + length factors) next prices)) (λ j. values (take next (s′ ++ drop next sums)) j / probabilityTotal)) where
-        next-prices : p′ ≡ row next
-            (nextPrice (rowTransition downs next) (length factors) (rowPrices at (length factors) prices)
-            (rowDiscounts at (length factors) quote (values factors) prices))
-        unfolding nextPrice
-        next-prices =
+          (divided : p′ ≡ row (length (lent (at + length factors) next state-prices))
+          (λ j. values (take next (s′ ++ drop next sums)) j / probabilityTotal)) where
+        next-state-prices : p′ ≡ row next
+            (nextStatePrice (rowTransition downs next) (length factors) (partValues at (length factors) state-prices)
+            (rowDiscounts at (length factors) quote (values factors) state-prices))
+        unfolding nextStatePrice
+        next-state-prices =
             divided ∙ rw (next-length, front-is)
             (row-cong next _ _ (λ j h. ap (λ (x : ℕ). x / probabilityTotal) (ap (λ (l : List ℕ). values l j) sums-known ∙ values-row next j _ h)))
 
-        pub row-accepted : RowFitted at (length factors) next quote (values factors) (rowTransition downs next) discounts prices
+        pub row-accepted : RowFitted at (length factors) next quote (values factors) (rowTransition downs next) discounts state-prices
             (replaced at (at + length factors - at) discounts d′)
-            (replaced (at + length factors) (at + length factors + next - (at + length factors)) prices p′) true
+            (replaced (at + length factors) (at + length factors + next - (at + length factors)) state-prices p′) true
         row-accepted =
             record {
               tested = sym t ∙ row-tested;
               filled = λ _. row-filled t;
               kept = row-kept;
               stepped =
-                  replaced-place (at + length factors) next prices p′ (ap length divided ∙ length-row _ _ ∙ next-length)
-                  ∙ ap (place prices (at + length factors)) next-prices;
+                  replaced-place (at + length factors) next state-prices p′ (ap length divided ∙ length-row _ _ ∙ next-length)
+                  ∙ ap (place state-prices (at + length factors)) next-state-prices;
             }

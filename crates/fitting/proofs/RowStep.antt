@@ -24,36 +24,36 @@ normaliser-positive : (n : ℕ) (q u : ℕ → ℕ) → leastRowSum ≤ sum n q 
 normaliser-positive n q u low least = omega (arith, sum-weigh-ge n leastFactor q u least, normaliser-ge n q u)
 
 -- what the loop asks once Z is known and the sums were cleared
-module _ {quote discounts next : ℕ} {prices factors downs : List ℕ} (ready : StepReady quote prices factors downs discounts next) where
-  pub positive : (z : ℕ) → z ≡ normaliser (length prices) (values prices) (values factors) → 0 < z
+module _ {quote discounts next : ℕ} {state-prices factors downs : List ℕ} (ready : StepReady quote state-prices factors downs discounts next) where
+  pub positive : (z : ℕ) → z ≡ normaliser (length state-prices) (values state-prices) (values factors) → 0 < z
   positive z e =
-      rw e (normaliser-positive (length prices) (values prices) (values factors) (ready .row-sum-least) (ready .factors-bounded .at-least))
+      rw e (normaliser-positive (length state-prices) (values state-prices) (values factors) (ready .row-sum-least) (ready .factors-bounded .at-least))
 
   module _ {sums : List ℕ} (e : sums ≡ row next (λ j. 0)) where
     cleared-length : length sums ≡ next
     cleared-length = ap length e ∙ length-row next (λ j. 0)
 
-    pub cleared-ready : StepReady quote prices factors downs discounts (length sums)
+    pub cleared-ready : StepReady quote state-prices factors downs discounts (length sums)
     cleared-ready = rw cleared-length ready
 
     pub cleared-again : sums ≡ row (length sums) (λ j. 0)
     cleared-again = e ∙ ap (λ (m : ℕ). row m (λ j. 0)) (sym cleared-length)
 
 -- what the loop leaves, by the step's definitions; the sums before it were cleared
-module _ (quote z next : ℕ) (prices factors downs : List ℕ) (ez : z ≡ normaliser (length prices) (values prices) (values factors))
+module _ {quote z next : ℕ} {state-prices factors downs : List ℕ} (ez : z ≡ normaliser (length state-prices) (values state-prices) (values factors))
     (cleared discounts sums : List ℕ) (r : Bool) (ec : cleared ≡ row next (λ j. 0))
-    (er : r ≡ each (length prices) (λ k. isDiscount (quote * values factors k / z)))
-    (ed : r ≡ true → discounts ≡ row (length prices) (λ k. quote * values factors k / z))
-    (es : r ≡ true → sums ≡ row (length cleared) (incoming (rowTransition downs (length cleared)) (length prices)
-    (carried (values prices) (λ k. quote * values factors k / z)))) where
-  pub stepped : RowStepped quote next prices factors downs discounts sums r
+    (er : r ≡ each (length state-prices) (λ k. isDiscount (quote * values factors k / z)))
+    (ed : r ≡ true → discounts ≡ row (length state-prices) (λ k. quote * values factors k / z))
+    (es : r ≡ true → sums ≡ row (length cleared) (incoming (rowTransition downs (length cleared)) (length state-prices)
+    (carried (values state-prices) (λ k. quote * values factors k / z)))) where
+  pub stepped : RowStepped quote next state-prices factors downs discounts sums r
   unfolding discount
   stepped =
       record {
         tested = er ∙ rw ez;
         filled = λ t. ed t ∙ rw ez;
         spreads = λ t. es t
-            ∙ ap (λ (m : ℕ). row m (incoming (rowTransition downs m) (length prices) (carried (values prices) (λ k. quote * values factors k / z))))
+            ∙ ap (λ (m : ℕ). row m (incoming (rowTransition downs m) (length state-prices) (carried (values state-prices) (λ k. quote * values factors k / z))))
             (ap length ec ∙ length-row next (λ j. 0))
             ∙ rw ez;
       }

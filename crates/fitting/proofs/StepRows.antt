@@ -27,20 +27,20 @@ use Rattle.fit_laws.specs.inside.Bounds.{mostFactor, mostRowSum, mostCarried, m
 
 -- the sum of state price × factor over the first k nodes, and one node more
 abbrev pub weighed : List ℕ → List ℕ → ℕ → ℕ
-weighed prices factors k = sum k (λ i. values prices i * values factors i)
+weighed state-prices factors k = sum k (λ i. values state-prices i * values factors i)
 
-module _ (prices factors : List ℕ) (f : Factors factors (length prices)) (s : sum (length prices) (values prices) ≤ mostRowSum)
-    {k total : ℕ} (e : total ≡ weighed prices factors k) (h : k < length prices) where
-  pub weighed-next : total + values prices k * values factors k ≡ weighed prices factors (k + 1)
-  weighed-next = rw e (sym (sum-next k (λ i. values prices i * values factors i)))
+module _ (state-prices factors : List ℕ) (f : Factors factors (length state-prices)) (s : sum (length state-prices) (values state-prices) ≤ mostRowSum)
+    {k total : ℕ} (e : total ≡ weighed state-prices factors k) (h : k < length state-prices) where
+  pub weighed-next : total + values state-prices k * values factors k ≡ weighed state-prices factors (k + 1)
+  weighed-next = rw e (sym (sum-next k (λ i. values state-prices i * values factors i)))
 
-  pub weighed-small : total + values prices k * values factors k ≤ mostRowSum * mostFactor
+  pub weighed-small : total + values state-prices k * values factors k ≤ mostRowSum * mostFactor
   weighed-small =
       omega (
         arith,
         weighed-next,
-        sum-grow (length prices) (k + 1) (λ i. values prices i * values factors i) (omega arith),
-        sum-weigh-le (length prices) mostFactor (values prices) (values factors) (f .at-most),
+        sum-grow (length state-prices) (k + 1) (λ i. values state-prices i * values factors i) (omega arith),
+        sum-weigh-le (length state-prices) mostFactor (values state-prices) (values factors) (f .at-most),
       )
 
 pub quoted-small : (p x : ℕ) → p ≤ mostQuote → x ≤ mostFactor → p * x ≤ mostQuote * mostFactor

@@ -21,7 +21,8 @@ use Rattle.lattice.proofs.EntryLaws.{tree-found}
 use Rattle.lattice.proofs.Differences.{sub-is, sub-size}
 use Rattle.lattice.proofs.RateTreeLaws.{same-node}
 use Rattle.lattice.proofs.TableLaws.{table-fits}
-use Rattle.factor.specs.Factor.{factor, sideAnswer}
+use Rattle.factor.specs.declared.Sides.{Sides}
+use Rattle.factor.specs.Factor.{factor, sideAnswer, sidesAnswer}
 use Rattle.factor.proofs.FactorLaws.{index-below, index-above, side-accepted, nearer-within, factor-bounds}
 use Rattle.limits.specs.Limits.{mostSteps, isDiscount}
 use Rattle.fit_laws.specs.StatePrices.{acceptedRow}
@@ -29,8 +30,8 @@ use Rattle.fit_laws.proofs.WholeFit.{price-by, fitted-discount-by}
 use Rattle.fit_laws.specs.inside.Bounds.{leastFactor, mostFactor}
 use Rattle.fitting.specs.inside.Rows.{tableFactor}
 use Rattle.fitting.specs.inside.Preconditions.{Tables, QuotesReady}
-use Rattle.fitting.specs.Fit.{quoted, curveDiscount, curvePrice, curveAccepted, nodeFactor}
-use Rattle.fitting.specs.inside.TableFit.{tableDiscount, tablePrice, tableAccepted, TreeFitted, PastKept}
+use Rattle.fitting.specs.Fit.{quoted, curveDiscount, curveStatePrice, curveAccepted, nodeFactor}
+use Rattle.fitting.specs.inside.TableFit.{tableDiscount, tableStatePrice, tableAccepted, TreeFitted, PastKept}
 use Rattle.lattice.proofs.Sizes.{half-within}
 use Rattle.lattice.proofs.ShapeLaws.{table-room, offset-is}
 
@@ -38,19 +39,32 @@ use Rattle.lattice.proofs.ShapeLaws.{table-room, offset-is}
 abbrev pub factors-at : ℕ → ℕ → ℕ → ℕ
 factors-at w h k = factor (nodeOfIndex w k) h
 
--- the factor's entry on either side of the middle
-module _ (w k h : ℕ) {a : Answer} (within : w * h ≤ one) where
-  pub below-value : k < w → a ≡ sideAnswer (w - k) true h → a .value ≡ factor (nodeOfIndex w k) h
+-- the factors of both sides at a distance from the middle
+module _ (w k h : ℕ) (within : w * h ≤ one) where
+  below-value : k < w → sideAnswer (w - k) true h .value ≡ factors-at w h k
   unfolding nodeOfIndex
-  below-value l e =
-      ap (λ (x : Answer). x .value) (e ∙ side-accepted (w - k) true h (nearer-within (w - k) w h (omega arith) within))
+  below-value l =
+      ap (λ (x : Answer). x .value) (side-accepted (w - k) true h (nearer-within (w - k) w h (omega arith) within))
       ∙ sym (index-below w k h l) ∙ ap (λ (j : ℤ). factor j h) (sym (sub-is k w))
 
-  pub above-value : w ≤ k → k ≤ 2 * w → a ≡ sideAnswer (k - w) false h → a .value ≡ factor (nodeOfIndex w k) h
+  above-value : w ≤ k → k ≤ 2 * w → sideAnswer (k - w) false h .value ≡ factors-at w h k
   unfolding nodeOfIndex
-  above-value l m e =
-      ap (λ (x : Answer). x .value) (e ∙ side-accepted (k - w) false h (nearer-within (k - w) w h (omega arith) within))
+  above-value l m =
+      ap (λ (x : Answer). x .value) (side-accepted (k - w) false h (nearer-within (k - w) w h (omega arith) within))
       ∙ sym (index-above w k h l) ∙ ap (λ (j : ℤ). factor j h) (sym (sub-is k w))
+
+module _ (w d h : ℕ) {a : Sides} (within : w * h ≤ one) (near : d ≤ w) (e : a ≡ sidesAnswer d h) where
+  pub below-side : 0 < d → a .below ≡ factors-at w h (w - d)
+  unfolding sidesAnswer
+  below-side l =
+      let back : d ≡ w - (w - d) = omega arith in
+      ap (λ (x : Sides). x .below) e ∙ ap (λ (x : ℕ). sideAnswer x true h .value) back ∙ below-value w (w - d) h within (omega arith)
+
+  pub above-side : a .above ≡ factors-at w h (w + d)
+  unfolding sidesAnswer
+  above-side =
+      let back : d ≡ w + d - w = omega arith in
+      ap (λ (x : Sides). x .above) e ∙ ap (λ (x : ℕ). sideAnswer x false h .value) back ∙ above-value w (w + d) h within (omega arith) (omega arith)
 
 -- every node of a row has a factor within the bounds of the series
 table-bounds : (w k h : ℕ) → w * h ≤ one → k < 2 * w + 1 →
@@ -121,16 +135,16 @@ module _ {b h w : ℕ} {q : List ℕ} {ds ps : ℕ} (f : QuotesReady b h w q ds 
   discounts-same : laid (rateTree b) (tableDiscount b q factors) (length q) ≡ laid (rateTree b) (curveDiscount b h q) (length q)
   discounts-same = laid-cong (rateTree b) _ _ (length q) discount-same
 
-  prices-same : laid (rateTree b) (tablePrice b q factors) (suc (length q)) ≡ laid (rateTree b) (curvePrice b h q) (suc (length q))
-  prices-same =
+  state-prices-same : laid (rateTree b) (tableStatePrice b q factors) (suc (length q)) ≡ laid (rateTree b) (curveStatePrice b h q) (suc (length q))
+  state-prices-same =
       laid-cong (rateTree b) _ _ (suc (length q))
       (λ i k l m. price-by (rateTree b) _ (nodeFactor b h) (quoted q) (length q) same i (omega arith) k)
 
   -- the fit from the tables is that of the definitions
   pub fitted-same : {r : Bool} {d p d′ p′ : List ℕ} →
-      TreeFitted b (length q) r (tableDiscount b q factors) (tablePrice b q factors) d p d′ p′ →
-      TreeFitted b (length q) r (curveDiscount b h q) (curvePrice b h q) d p d′ p′
-  fitted-same t = record { discounted = rw discounts-same at (t .discounted); priced = rw prices-same at (t .priced) }
+      TreeFitted b (length q) r (tableDiscount b q factors) (tableStatePrice b q factors) d p d′ p′ →
+      TreeFitted b (length q) r (curveDiscount b h q) (curveStatePrice b h q) d p d′ p′
+  fitted-same t = record { discounted = rw discounts-same at (t .discounted); priced = rw state-prices-same at (t .priced) }
 
 -- what the lattice answers about the sizes of an accepted tree
 module _ {b n : ℕ} {factors downs : List ℕ} (t : Tables b n factors downs) where
@@ -141,9 +155,9 @@ module _ {b n : ℕ} {factors downs : List ℕ} (t : Tables b n factors downs) w
   unfolding discountsNeeded
   needed-discounts e = ap (λ (x : Answer). x .value) (e ∙ tree-found n b _ nonzero (t .limits .steps-within-limit) (t .limits .reversion-within-limit))
 
-  pub needed-prices : {a : Answer} → a ≡ statePricesNeededAnswer n b → a .value ≡ rowStart b (suc n)
+  pub needed-state-prices : {a : Answer} → a ≡ statePricesNeededAnswer n b → a .value ≡ rowStart b (suc n)
   unfolding statePricesNeeded
-  needed-prices e = ap (λ (x : Answer). x .value) (e ∙ tree-found n b _ nonzero (t .limits .steps-within-limit) (t .limits .reversion-within-limit))
+  needed-state-prices e = ap (λ (x : Answer). x .value) (e ∙ tree-found n b _ nonzero (t .limits .steps-within-limit) (t .limits .reversion-within-limit))
 
 -- memories whose fronts were cleared, x and y places long
 module _ {b n x y : ℕ} {discount price : ℕ → ℕ → ℕ} {d p d₁ p₁ d₂ p₂ : List ℕ} (kept : PastKept b n d p d₁ p₁)

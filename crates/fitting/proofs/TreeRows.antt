@@ -22,9 +22,9 @@ use Rattle.lattice.proofs.RateTreeLaws.{rate-tree-sound}
 use Rattle.row_branches.specs.inside.Transitions.{rowTransition}
 use Rattle.row_branches.proofs.TableParts.{table-part, part-within, table-part-length, table-part-value, part-low, part-down, part-middle, part-up}
 use Rattle.limits.specs.Limits.{mostSteps, mostReversion, mostNodes, isDiscount}
-use Rattle.fit_laws.specs.Step.{normaliser, discount, carried, nextPrice}
+use Rattle.fit_laws.specs.Step.{normaliser, discount, carried, nextStatePrice}
 use Rattle.lattice.specs.declared.RowShape.{RowShape}
-use Rattle.fitting.specs.inside.Rows.{RowFitted, rowPrices, tableFactor}
+use Rattle.fitting.specs.inside.Rows.{RowFitted, partValues, tableFactor}
 use Rattle.fitting.specs.inside.Preconditions.{RowReady, TreeRowReady}
 
 -- the shape that code holds of a row of the tree
@@ -46,8 +46,8 @@ discount-same n p q u w h k l =
 next-same : (n : ℕ) (t s : Transition) (q v w : ℕ → ℕ)
     → ((k : ℕ) → k < n → t .low k ≡ s .low k) → ((k : ℕ) → k < n → t .down k ≡ s .down k)
     → ((k : ℕ) → k < n → t .middle k ≡ s .middle k) → ((k : ℕ) → k < n → t .up k ≡ s .up k)
-    → ((k : ℕ) → k < n → v k ≡ w k) → (j : ℕ) → nextPrice t n q v j ≡ nextPrice s n q w j
-unfolding nextPrice incoming chance carried
+    → ((k : ℕ) → k < n → v k ≡ w k) → (j : ℕ) → nextStatePrice t n q v j ≡ nextStatePrice s n q w j
+unfolding nextStatePrice incoming chance carried
 next-same n t s q v w el ed em eu ev j =
     ap (λ (x : ℕ). x / probabilityTotal) (sum-cong n _ _ (λ k h. rw (el k h, ed k h, em k h, eu k h, ev k h)))
 
@@ -57,60 +57,60 @@ row-same : {start n m p : ℕ} {u w : ℕ → ℕ} {t s : Transition} {d q d′ 
     → ((k : ℕ) → k < n → t .middle k ≡ s .middle k) → ((k : ℕ) → k < n → t .up k ≡ s .up k)
     → RowFitted start n m p u t d q d′ q′ r → RowFitted start n m p w s d q d′ q′ r
 row-same {start} {n} {m} {p} {u} {w} {t} {s} {d} {q} {d′} {q′} {r} eu el ed em eh f =
-    let v = discount-same n p (rowPrices start n q) u w eu in
+    let v = discount-same n p (partValues start n q) u w eu in
     record {
       tested = f .tested ∙ each-cong n _ _ (λ k h. ap isDiscount (v k h));
       filled = λ e. f .filled e ∙ ap (place d start) (row-cong n _ _ v);
       kept = f .kept;
       stepped = f .stepped
-          ∙ ap (λ (l : List ℕ). cond r (place q (start + n) l) q) (row-cong m _ _ (λ j _. next-same n t s (rowPrices start n q) _ _ el ed em eh v j));
+          ∙ ap (λ (l : List ℕ). cond r (place q (start + n) l) q) (row-cong m _ _ (λ j _. next-same n t s (partValues start n q) _ _ el ed em eh v j));
     }
 
 -- a table's part for row i, as lending has it
-abbrev part : ℕ → ℕ → ℕ → List ℕ → List ℕ
-part b n i l = take (tableOffset b (n - 1) i + nodeCount b i - tableOffset b (n - 1) i) (drop (tableOffset b (n - 1) i) l)
+abbrev tablePart : ℕ → ℕ → ℕ → List ℕ → List ℕ
+tablePart b n i l = take (tableOffset b (n - 1) i + nodeCount b i - tableOffset b (n - 1) i) (drop (tableOffset b (n - 1) i) l)
 
 -- and by the shape that code holds
 abbrev pub shaped : RowShape → List ℕ → List ℕ
 shaped s l = take (s .offset + s .count - s .offset) (drop (s .offset) l)
 
-module _ {b n i quote : ℕ} {factors downs discounts prices sums : List ℕ} (r : TreeRowReady b n i quote factors downs discounts prices sums) where
+module _ {b n i quote : ℕ} {factors downs discounts state-prices sums : List ℕ} (r : TreeRowReady b n i quote factors downs discounts state-prices sums) where
   inside : i ≤ n - 1
   inside = omega (arith, r .in-tree)
 
-  lent : (l : List ℕ) → part b n i l ≡ table-part b (n - 1) i l
+  lent : (l : List ℕ) → tablePart b n i l ≡ table-part b (n - 1) i l
   lent l = part-is l (tableOffset b (n - 1) i) (nodeCount b i)
 
-  factors-length : length (part b n i factors) ≡ nodeCount b i
+  factors-length : length (tablePart b n i factors) ≡ nodeCount b i
   factors-length = ap length (lent factors) ∙ table-part-length b (n - 1) i inside factors (r .tables .factors-bounded .length-is)
 
-  downs-length : length (part b n i downs) ≡ nodeCount b i
+  downs-length : length (tablePart b n i downs) ≡ nodeCount b i
   downs-length = ap length (lent downs) ∙ table-part-length b (n - 1) i inside downs (r .tables .downs-length)
 
-  factor-value : (k : ℕ) → k < nodeCount b i → values (part b n i factors) k ≡ values factors (tableOffset b (n - 1) i + k)
+  factor-value : (k : ℕ) → k < nodeCount b i → values (tablePart b n i factors) k ≡ values factors (tableOffset b (n - 1) i + k)
   factor-value k h =
       ap (λ (l : List ℕ). values l k) (lent factors) ∙ table-part-value b (n - 1) i inside factors (r .tables .factors-bounded .length-is) k h
 
-  factor-is : (k : ℕ) → k < nodeCount b i → values (part b n i factors) k ≡ tableFactor b n factors i k
+  factor-is : (k : ℕ) → k < nodeCount b i → values (tablePart b n i factors) k ≡ tableFactor b n factors i k
   unfolding tableFactor
   factor-is k h = factor-value k h
 
-  lows : (k : ℕ) → k < nodeCount b i → rowTransition (part b n i downs) (nodeCount b (suc i)) .low k ≡ rateTree b .step i .low k
+  lows : (k : ℕ) → k < nodeCount b i → rowTransition (tablePart b n i downs) (nodeCount b (suc i)) .low k ≡ rateTree b .step i .low k
   lows k h =
       ap (λ (l : List ℕ). rowTransition l (nodeCount b (suc i)) .low k) (lent downs)
       ∙ part-low b (n - 1) i inside downs (r .tables .downs-length) (r .tables .downs-hold) (r .tables .limits .reversion-within-limit) k h
 
-  ups : (k : ℕ) → k < nodeCount b i → rowTransition (part b n i downs) (nodeCount b (suc i)) .up k ≡ rateTree b .step i .up k
+  ups : (k : ℕ) → k < nodeCount b i → rowTransition (tablePart b n i downs) (nodeCount b (suc i)) .up k ≡ rateTree b .step i .up k
   ups k h =
       ap (λ (l : List ℕ). rowTransition l (nodeCount b (suc i)) .up k) (lent downs)
       ∙ part-up b (n - 1) i inside downs (r .tables .downs-length) (r .tables .downs-hold) (r .tables .limits .reversion-within-limit) k h
 
-  middles : (k : ℕ) → k < nodeCount b i → rowTransition (part b n i downs) (nodeCount b (suc i)) .middle k ≡ rateTree b .step i .middle k
+  middles : (k : ℕ) → k < nodeCount b i → rowTransition (tablePart b n i downs) (nodeCount b (suc i)) .middle k ≡ rateTree b .step i .middle k
   middles k h =
       ap (λ (l : List ℕ). rowTransition l (nodeCount b (suc i)) .middle k) (lent downs)
       ∙ part-middle b (n - 1) i inside downs (r .tables .downs-length) (r .tables .downs-hold) (r .tables .limits .reversion-within-limit) k h
 
-  downs-are : (k : ℕ) → k < nodeCount b i → rowTransition (part b n i downs) (nodeCount b (suc i)) .down k ≡ rateTree b .step i .down k
+  downs-are : (k : ℕ) → k < nodeCount b i → rowTransition (tablePart b n i downs) (nodeCount b (suc i)) .down k ≡ rateTree b .step i .down k
   downs-are k h =
       ap (λ (l : List ℕ). rowTransition l (nodeCount b (suc i)) .down k) (lent downs)
       ∙ part-down b (n - 1) i inside downs (r .tables .downs-length) (r .tables .downs-hold) (r .tables .limits .reversion-within-limit) k h
@@ -123,7 +123,7 @@ module _ {b n i quote : ℕ} {factors downs discounts prices sums : List ℕ} (r
   unfolding rateTree
   tree-total k h = rate-tree-sound b (r .tables .limits .reversion-within-limit) .total i k h
 
-  row-ready : RowReady (rowStart b i) (nodeCount b (suc i)) quote (part b n i factors) (part b n i downs) discounts prices sums
+  row-ready : RowReady (rowStart b i) (nodeCount b (suc i)) quote (tablePart b n i factors) (tablePart b n i downs) discounts state-prices sums
   row-ready =
       record {
         factors-bounded = record {
@@ -137,7 +137,7 @@ module _ {b n i quote : ℕ} {factors downs discounts prices sums : List ℕ} (r
         branches-inside = λ k h. rw (lows k (rw factors-length at h)) (tree-inside k (rw factors-length at h));
         branches-total = λ k h. let l = rw factors-length at h in rw (downs-are k l, middles k l, ups k l) (tree-total k l);
         room-discounts = rw factors-length (omega (arith, row-ends b i n (r .in-tree), r .room-discounts));
-        room-prices = rw factors-length (omega (arith, start-suc b i, row-ends b (suc i) (suc n) (omega (arith, r .in-tree)), r .room-prices));
+        room-state-prices = rw factors-length (omega (arith, start-suc b i, row-ends b (suc i) (suc n) (omega (arith, r .in-tree)), r .room-state-prices));
         room-sums = omega (arith, count-within b (suc i) (omega (arith, r .in-tree, r .tables .limits .steps-within-limit)), r .room-sums);
         row-sum-least = rw factors-length (r .row-sum-least);
         row-sum-most = rw factors-length (r .row-sum-most);
@@ -146,20 +146,20 @@ module _ {b n i quote : ℕ} {factors downs discounts prices sums : List ℕ} (r
 
   -- what the row's step leaves, in the lattice's terms
   tree-fitted : {d′ p′ : List ℕ} {accepted : Bool} →
-      RowFitted (rowStart b i) (length (part b n i factors)) (nodeCount b (suc i)) quote (values (part b n i factors))
-      (rowTransition (part b n i downs) (nodeCount b (suc i))) discounts prices d′ p′ accepted →
+      RowFitted (rowStart b i) (length (tablePart b n i factors)) (nodeCount b (suc i)) quote (values (tablePart b n i factors))
+      (rowTransition (tablePart b n i downs) (nodeCount b (suc i))) discounts state-prices d′ p′ accepted →
       RowFitted (rowStart b i) (nodeCount b i) (nodeCount b (suc i)) quote (tableFactor b n factors i) (rateTree b .step i)
-      discounts prices d′ p′ accepted
+      discounts state-prices d′ p′ accepted
   tree-fitted f = row-same factor-is lows downs-are middles ups (rw factors-length at f)
 
   -- the same by the shape that code holds
   module _ {s : RowShape} (es : s ≡ shapeOf b (n - 1) i) where
-    pub shaped-ready : RowReady (s .start) (s .next) quote (shaped s factors) (shaped s downs) discounts prices sums
+    pub shaped-ready : RowReady (s .start) (s .next) quote (shaped s factors) (shaped s downs) discounts state-prices sums
     shaped-ready = rw es row-ready
 
     pub shaped-fitted : {d′ p′ : List ℕ} {accepted : Bool} →
         RowFitted (s .start) (length (shaped s factors)) (s .next) quote (values (shaped s factors))
-        (rowTransition (shaped s downs) (s .next)) discounts prices d′ p′ accepted →
+        (rowTransition (shaped s downs) (s .next)) discounts state-prices d′ p′ accepted →
         RowFitted (rowStart b i) (nodeCount b i) (nodeCount b (suc i)) quote (tableFactor b n factors i) (rateTree b .step i)
-        discounts prices d′ p′ accepted
+        discounts state-prices d′ p′ accepted
     shaped-fitted f = tree-fitted (rw es at f)

@@ -8,9 +8,9 @@ use native.Mathlib.Omega.{arith}
 use lib.Dec.{leb}
 use lib.Ieee.{Float}
 use borrow.Author.Tests.{le-ltb, eq-eqb, ne-eqb}
-use Rattle.limits.specs.inside.WithinLimits.{WithinLimits}
+use Rattle.limits.specs.WithinLimits.{WithinLimits}
 use Rattle.arithmetic.specs.Answers.{lowestCause}
-use Rattle.arithmetic.specs.Frequency.{listed}
+use Rattle.arithmetic.specs.Frequency.{isFrequency}
 use Rattle.arithmetic.specs.declared.Answer.{Answer}
 use Rattle.arithmetic.proofs.Numbers.{by-order, by-equal}
 use Rattle.arithmetic.proofs.CauseLaws.{lowest-second}
@@ -90,16 +90,16 @@ module _ (f n b s : ℕ) where
         keeps _ _ (l .0) (λ some. omega (arith, l .1, high x (memoryCause n b ds ps) hx m some))
         ∙ sym (keeps _ _ (l .0) (λ some. omega (arith, l .1, high y (memoryCause n b ds ps) hy m some)))
 
-    spacing-high : listed f ≡ true → (spacingAnswer f s .number ≡ 0 → ⊥) → 4 ≤ spacingAnswer f s .number
+    spacing-high : isFrequency f ≡ true → (spacingAnswer f s .number ≡ 0 → ⊥) → 4 ≤ spacingAnswer f s .number
     spacing-high u some =
         by-order s 50000
         (λ l. absurd (some (ap (λ (a : Answer). a .number) (spacing-accepted f s u l))))
         (λ l. omega (arith, ap (λ (a : Answer). a .number) (spacing-volatile f s u l)))
 
-    version-four : listed f ≡ true → versionSpacingAnswer 1 f s b .number ≡ 4
+    version-four : isFrequency f ≡ true → versionSpacingAnswer 1 f s b .number ≡ 4
     version-four u = ap (λ (a : Answer). a .number) (answer-reverting 1 f s b u h)
 
-    early-first : (c ds ps : ℕ) → (t : Bool) → listed f ≡ t →
+    early-first : (c ds ps : ℕ) → (t : Bool) → isFrequency f ≡ t →
         earlyCause c n b (versionSpacingAnswer 1 f s b .number) ds ps ≡ earlyCause c n b (spacingAnswer f s .number) ds ps
     early-first c ds ps false u =
         ap (λ (a : Answer). earlyCause c n b (a .number) ds ps) (answer-unlisted 1 f s b u ∙ sym (spacing-unlisted f s u))
@@ -109,7 +109,7 @@ module _ (f n b s : ℕ) where
   early-same c ds ps =
       by-order b mostReversion
       (λ h. ap (λ (a : Answer). earlyCause c n b (a .number) ds ps) (within h))
-      (λ h. early-first h c ds ps (listed f) refl)
+      (λ h. early-first h c ds ps (isFrequency f) refl)
 
   -- the number of version 1 is that of the fit
   pub first-number : (rows kinds : List ℕ) (figures : List Float) (ds ps : ℕ) →

@@ -20,7 +20,7 @@ use Rattle.lattice.specs.Entries.{discountsNeededAnswer, memoryCause}
 use Rattle.reversion.specs.Reversion.{workingReversion}
 use Rattle.spacing.specs.Spacing.{spacing, spacingAnswer, versionSpacing, versionSpacingAnswer}
 use Rattle.curve.specs.Curve.{discountAt, curveNumber}
-use Rattle.fitting.specs.Fit.{curveDiscount, curvePrice, curveAccepted}
+use Rattle.fitting.specs.Fit.{curveDiscount, curveStatePrice, curveAccepted}
 
 -- the quotes of rows 1 to n, converted to discounts
 abbrev pub quotesOf : ℕ → ℕ → List ℕ → List Float → List ℕ
@@ -32,13 +32,13 @@ quotesOf f n kinds figures = row n (discountAt f kinds figures)
 abbrev pub fitDiscount : ℕ → ℕ → ℕ → ℕ → List ℕ → List Float → ℕ → ℕ → ℕ
 fitDiscount f n w h kinds figures = curveDiscount w h (quotesOf f n kinds figures)
 
-abbrev pub fitPrice : ℕ → ℕ → ℕ → ℕ → List ℕ → List Float → ℕ → ℕ → ℕ
-fitPrice f n w h kinds figures = curvePrice w h (quotesOf f n kinds figures)
+abbrev pub fitStatePrice : ℕ → ℕ → ℕ → ℕ → List ℕ → List Float → ℕ → ℕ → ℕ
+fitStatePrice f n w h kinds figures = curveStatePrice w h (quotesOf f n kinds figures)
 
 -- causes 2 to 7: the quotes' number, 3 or 4 of the tree, the spacing's number, and the memories'; lowest first
 unfoldable pub earlyCause : ℕ → ℕ → ℕ → ℕ → ℕ → ℕ → ℕ
-earlyCause quoted n w spaced discounts prices =
-    lowestCause (lowestCause quoted (discountsNeededAnswer n w .number)) (lowestCause spaced (memoryCause n w discounts prices))
+earlyCause quoted n w spaced discounts state-prices =
+    lowestCause (lowestCause quoted (discountsNeededAnswer n w .number)) (lowestCause spaced (memoryCause n w discounts state-prices))
 
 -- 8: (half width of row n − 1) × h above one; then 9: a node discount 0 or above 1,100,000,000
 unfoldable pub lateCause : ℕ → ℕ → ℕ → List ℕ → ℕ
@@ -46,10 +46,10 @@ lateCause n w h quotes = cond (ltb one (halfWidth w (n - 1) * h)) 8 (cond (curve
 
 -- the number of the fit, given the number of the spacing
 unfoldable pub fittedNumber : ℕ → ℕ → ℕ → ℕ → ℕ → List ℕ → List ℕ → List Float → ℕ → ℕ → ℕ
-fittedNumber f n w spaced h rows kinds figures discounts prices =
-    cond (eqb (earlyCause (curveNumber f n rows kinds figures mostSteps) n w spaced discounts prices) 0)
+fittedNumber f n w spaced h rows kinds figures discounts state-prices =
+    cond (eqb (earlyCause (curveNumber f n rows kinds figures mostSteps) n w spaced discounts state-prices) 0)
     (lateCause n w h (quotesOf f n kinds figures))
-    (earlyCause (curveNumber f n rows kinds figures mostSteps) n w spaced discounts prices)
+    (earlyCause (curveNumber f n rows kinds figures mostSteps) n w spaced discounts state-prices)
 
 -- a memory afterwards: the rows at its start; zeros in their place on 9; as it was on any other refusal. Nothing past them changes.
 unfoldable pub fitMemory : ℕ → List ℕ → List ℕ → List ℕ
@@ -60,8 +60,8 @@ fitMemory number rows memory =
 abbrev pub fitDiscounts : ℕ → ℕ → ℕ → ℕ → List ℕ → List Float → List ℕ
 fitDiscounts f n w h kinds figures = laid (rateTree w) (fitDiscount f n w h kinds figures) n
 
-abbrev pub fitPrices : ℕ → ℕ → ℕ → ℕ → List ℕ → List Float → List ℕ
-fitPrices f n w h kinds figures = laid (rateTree w) (fitPrice f n w h kinds figures) (suc n)
+abbrev pub fitStatePrices : ℕ → ℕ → ℕ → ℕ → List ℕ → List Float → List ℕ
+fitStatePrices f n w h kinds figures = laid (rateTree w) (fitStatePrice f n w h kinds figures) (suc n)
 
 -- ---- the fit
 
@@ -70,12 +70,12 @@ fitNumber f n b s = fittedNumber f n b (spacingAnswer f s .number) (spacing f s)
 
 -- both memories after it
 abbrev pub discountsAfter : ℕ → ℕ → ℕ → ℕ → List ℕ → List ℕ → List Float → List ℕ → List ℕ → List ℕ
-discountsAfter f n b s rows kinds figures discounts prices =
-    fitMemory (fitNumber f n b s rows kinds figures (length discounts) (length prices)) (fitDiscounts f n b (spacing f s) kinds figures) discounts
+discountsAfter f n b s rows kinds figures discounts state-prices =
+    fitMemory (fitNumber f n b s rows kinds figures (length discounts) (length state-prices)) (fitDiscounts f n b (spacing f s) kinds figures) discounts
 
-abbrev pub pricesAfter : ℕ → ℕ → ℕ → ℕ → List ℕ → List ℕ → List Float → List ℕ → List ℕ → List ℕ
-pricesAfter f n b s rows kinds figures discounts prices =
-    fitMemory (fitNumber f n b s rows kinds figures (length discounts) (length prices)) (fitPrices f n b (spacing f s) kinds figures) prices
+abbrev pub statePricesAfter : ℕ → ℕ → ℕ → ℕ → List ℕ → List ℕ → List Float → List ℕ → List ℕ → List ℕ
+statePricesAfter f n b s rows kinds figures discounts state-prices =
+    fitMemory (fitNumber f n b s rows kinds figures (length discounts) (length state-prices)) (fitStatePrices f n b (spacing f s) kinds figures) state-prices
 
 -- ---- the fit by version v: 2, 4, 5 or 7 of its spacing; memories are judged by the working reversion, which is b where there is no such version
 
@@ -85,14 +85,14 @@ versionNumber v f n b s = fittedNumber f n (workingReversion v b) (versionSpacin
 abbrev pub versionDiscounts : ℕ → ℕ → ℕ → ℕ → ℕ → List ℕ → List Float → List ℕ
 versionDiscounts v f n b s = fitDiscounts f n (workingReversion v b) (versionSpacing v f s b)
 
-abbrev pub versionPrices : ℕ → ℕ → ℕ → ℕ → ℕ → List ℕ → List Float → List ℕ
-versionPrices v f n b s = fitPrices f n (workingReversion v b) (versionSpacing v f s b)
+abbrev pub versionStatePrices : ℕ → ℕ → ℕ → ℕ → ℕ → List ℕ → List Float → List ℕ
+versionStatePrices v f n b s = fitStatePrices f n (workingReversion v b) (versionSpacing v f s b)
 
 -- both memories after it
 abbrev pub versionDiscountsAfter : ℕ → ℕ → ℕ → ℕ → ℕ → List ℕ → List ℕ → List Float → List ℕ → List ℕ → List ℕ
-versionDiscountsAfter v f n b s rows kinds figures discounts prices =
-    fitMemory (versionNumber v f n b s rows kinds figures (length discounts) (length prices)) (versionDiscounts v f n b s kinds figures) discounts
+versionDiscountsAfter v f n b s rows kinds figures discounts state-prices =
+    fitMemory (versionNumber v f n b s rows kinds figures (length discounts) (length state-prices)) (versionDiscounts v f n b s kinds figures) discounts
 
-abbrev pub versionPricesAfter : ℕ → ℕ → ℕ → ℕ → ℕ → List ℕ → List ℕ → List Float → List ℕ → List ℕ → List ℕ
-versionPricesAfter v f n b s rows kinds figures discounts prices =
-    fitMemory (versionNumber v f n b s rows kinds figures (length discounts) (length prices)) (versionPrices v f n b s kinds figures) prices
+abbrev pub versionStatePricesAfter : ℕ → ℕ → ℕ → ℕ → ℕ → List ℕ → List ℕ → List Float → List ℕ → List ℕ → List ℕ
+versionStatePricesAfter v f n b s rows kinds figures discounts state-prices =
+    fitMemory (versionNumber v f n b s rows kinds figures (length discounts) (length state-prices)) (versionStatePrices v f n b s kinds figures) state-prices

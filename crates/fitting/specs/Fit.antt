@@ -7,7 +7,7 @@ use lib.ListN.{length}
 use Rattle.arithmetic.specs.Row.{values, each}
 use Rattle.lattice.specs.RateTree.{node, rateTree}
 use Rattle.factor.specs.Factor.{factor}
-use Rattle.fit_laws.specs.StatePrices.{fittedPrice, fittedDiscount, acceptedRow}
+use Rattle.fit_laws.specs.StatePrices.{fittedStatePrice, fittedDiscount, acceptedRow}
 
 -- the quotes of rows 1 to n by row; row 0 has none
 unfoldable pub quoted : List ℕ → ℕ → ℕ
@@ -21,8 +21,8 @@ nodeFactor b h i k = factor (node b i k) h
 abbrev pub curveDiscount : ℕ → ℕ → List ℕ → ℕ → ℕ → ℕ
 curveDiscount b h quotes = fittedDiscount (rateTree b) (nodeFactor b h) (quoted quotes)
 
-abbrev pub curvePrice : ℕ → ℕ → List ℕ → ℕ → ℕ → ℕ
-curvePrice b h quotes = fittedPrice (rateTree b) (nodeFactor b h) (quoted quotes)
+abbrev pub curveStatePrice : ℕ → ℕ → List ℕ → ℕ → ℕ → ℕ
+curveStatePrice b h quotes = fittedStatePrice (rateTree b) (nodeFactor b h) (quoted quotes)
 
 unfoldable pub curveAccepted : ℕ → ℕ → List ℕ → Bool
 curveAccepted b h quotes = each (length quotes) (acceptedRow (rateTree b) (curveDiscount b h quotes))

@@ -16,13 +16,13 @@ pub(crate) fn plan_of(
     spaced: Answer,
     converted: u64,
     discounts: usize,
-    prices: usize,
+    state_prices: usize,
 ) -> Plan
     requires { ⌜ SpacingKnown spaced ⌝ }
-    ensures { λ r. ⌜ Planned steps reversion converted (spaced .number) (spaced .value) discounts prices r ⌝ }
+    ensures { λ r. ⌜ Planned steps reversion converted (spaced .number) (spaced .value) discounts «state_prices» r ⌝ }
 {
     let tree = lattice::discounts_needed(steps, reversion);
-    let memory = lattice::memory_cause(steps, reversion, discounts, prices);
+    let memory = lattice::memory_cause(steps, reversion, discounts, state_prices);
     let early = arithmetic::lowest_cause(
         arithmetic::lowest_cause(converted, tree.number),
         arithmetic::lowest_cause(spaced.number, memory),

@@ -13,13 +13,13 @@ ghost use Rattle.fitting.specs.Entry.{
   fittedNumber,
   fitMemory,
   fitDiscounts,
-  fitPrices,
+  fitStatePrices,
   fitNumber,
   discountsAfter,
-  pricesAfter,
+  statePricesAfter,
   versionNumber,
   versionDiscountsAfter,
-  versionPricesAfter,
+  versionStatePricesAfter,
 };
 
 // Fits a tree of a working reversion and a spacing.
@@ -32,17 +32,17 @@ fn fit_tree(
     kinds: &[u8],
     figures: &[f64],
     discounts: &mut [u64],
-    prices: &mut [u64],
+    state_prices: &mut [u64],
 ) -> u64
     requires { ⌜ SpacingKnown spaced ⌝ }
     ensures number { λ r. ⌜ r ≡ fittedNumber frequency steps reversion (spaced .number) (spaced .value)
-        (now (rows .entry)) (now (kinds .entry)) (now (figures .entry)) (length (now (discounts .entry))) (length (now (prices .entry))) ⌝ }
+        (now (rows .entry)) (now (kinds .entry)) (now (figures .entry)) (length (now (discounts .entry))) (length (now («state_prices» .entry))) ⌝ }
     ensures discounted { λ _. ⌜ now (discounts .exit) ≡ fitMemory (fittedNumber frequency steps reversion (spaced .number) (spaced .value)
-        (now (rows .entry)) (now (kinds .entry)) (now (figures .entry)) (length (now (discounts .entry))) (length (now (prices .entry))))
+        (now (rows .entry)) (now (kinds .entry)) (now (figures .entry)) (length (now (discounts .entry))) (length (now («state_prices» .entry))))
         (fitDiscounts frequency steps reversion (spaced .value) (now (kinds .entry)) (now (figures .entry))) (now (discounts .entry)) ⌝ }
-    ensures priced { λ _. ⌜ now (prices .exit) ≡ fitMemory (fittedNumber frequency steps reversion (spaced .number) (spaced .value)
-        (now (rows .entry)) (now (kinds .entry)) (now (figures .entry)) (length (now (discounts .entry))) (length (now (prices .entry))))
-        (fitPrices frequency steps reversion (spaced .value) (now (kinds .entry)) (now (figures .entry))) (now (prices .entry)) ⌝ }
+    ensures priced { λ _. ⌜ now («state_prices» .exit) ≡ fitMemory (fittedNumber frequency steps reversion (spaced .number) (spaced .value)
+        (now (rows .entry)) (now (kinds .entry)) (now (figures .entry)) (length (now (discounts .entry))) (length (now («state_prices» .entry))))
+        (fitStatePrices frequency steps reversion (spaced .value) (now (kinds .entry)) (now (figures .entry))) (now («state_prices» .entry)) ⌝ }
 {
     let mut quotes = [0u64; limits::MOST_STEPS];
     let converted = curve::convert(frequency, steps, rows, kinds, figures, &mut quotes);
@@ -52,7 +52,7 @@ fn fit_tree(
         spaced,
         converted,
         discounts.len(),
-        prices.len(),
+        state_prices.len(),
     );
     if plan.number != 0 {
         return plan.number;
@@ -62,7 +62,7 @@ fn fit_tree(
         spacing: plan.spacing,
         widest: plan.widest,
     };
-    tables::fit_quotes(grid, &quotes[..steps], discounts, prices)
+    tables::fit_quotes(grid, &quotes[..steps], discounts, state_prices)
 }
 
 // Fits a tree: discounts of rows 0 to n - 1 and state prices of rows 0 to n at the start of the two memories, row after row.
@@ -77,14 +77,14 @@ pub fn fit(
     kinds: &[u8],
     figures: &[f64],
     discounts: &mut [u64],
-    prices: &mut [u64],
+    state_prices: &mut [u64],
 ) -> u64
     ensures number { λ r. ⌜ r ≡ fitNumber frequency steps reversion volatility (now (rows .entry)) (now (kinds .entry)) (now (figures .entry))
-        (length (now (discounts .entry))) (length (now (prices .entry))) ⌝ }
+        (length (now (discounts .entry))) (length (now («state_prices» .entry))) ⌝ }
     ensures discounted { λ _. ⌜ now (discounts .exit) ≡ discountsAfter frequency steps reversion volatility
-        (now (rows .entry)) (now (kinds .entry)) (now (figures .entry)) (now (discounts .entry)) (now (prices .entry)) ⌝ }
-    ensures priced { λ _. ⌜ now (prices .exit) ≡ pricesAfter frequency steps reversion volatility
-        (now (rows .entry)) (now (kinds .entry)) (now (figures .entry)) (now (discounts .entry)) (now (prices .entry)) ⌝ }
+        (now (rows .entry)) (now (kinds .entry)) (now (figures .entry)) (now (discounts .entry)) (now («state_prices» .entry)) ⌝ }
+    ensures priced { λ _. ⌜ now («state_prices» .exit) ≡ statePricesAfter frequency steps reversion volatility
+        (now (rows .entry)) (now (kinds .entry)) (now (figures .entry)) (now (discounts .entry)) (now («state_prices» .entry)) ⌝ }
 {
     let spaced = spacing::spacing(frequency, volatility);
     fit_tree(
@@ -96,7 +96,7 @@ pub fn fit(
         kinds,
         figures,
         discounts,
-        prices,
+        state_prices,
     )
 }
 
@@ -112,14 +112,14 @@ pub fn fit_version(
     kinds: &[u8],
     figures: &[f64],
     discounts: &mut [u64],
-    prices: &mut [u64],
+    state_prices: &mut [u64],
 ) -> u64
     ensures number { λ r. ⌜ r ≡ versionNumber version frequency steps reversion volatility
-        (now (rows .entry)) (now (kinds .entry)) (now (figures .entry)) (length (now (discounts .entry))) (length (now (prices .entry))) ⌝ }
+        (now (rows .entry)) (now (kinds .entry)) (now (figures .entry)) (length (now (discounts .entry))) (length (now («state_prices» .entry))) ⌝ }
     ensures discounted { λ _. ⌜ now (discounts .exit) ≡ versionDiscountsAfter version frequency steps reversion volatility
-        (now (rows .entry)) (now (kinds .entry)) (now (figures .entry)) (now (discounts .entry)) (now (prices .entry)) ⌝ }
-    ensures priced { λ _. ⌜ now (prices .exit) ≡ versionPricesAfter version frequency steps reversion volatility
-        (now (rows .entry)) (now (kinds .entry)) (now (figures .entry)) (now (discounts .entry)) (now (prices .entry)) ⌝ }
+        (now (rows .entry)) (now (kinds .entry)) (now (figures .entry)) (now (discounts .entry)) (now («state_prices» .entry)) ⌝ }
+    ensures priced { λ _. ⌜ now («state_prices» .exit) ≡ versionStatePricesAfter version frequency steps reversion volatility
+        (now (rows .entry)) (now (kinds .entry)) (now (figures .entry)) (now (discounts .entry)) (now («state_prices» .entry)) ⌝ }
 {
     let working = reversion::working_or_same(version, reversion);
     let spaced = spacing::version_spacing(version, frequency, volatility, reversion);
@@ -132,6 +132,6 @@ pub fn fit_version(
         kinds,
         figures,
         discounts,
-        prices,
+        state_prices,
     )
 }

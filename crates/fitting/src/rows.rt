@@ -10,7 +10,7 @@ ghost use Rattle.lattice.specs.Shape.{nodeCount, rowStart};
 ghost use Rattle.lattice.specs.RateTree.{rateTree};
 ghost use Rattle.fitting.specs.inside.Rows.{tableFactor, RowFitted};
 ghost use Rattle.fitting.specs.inside.Preconditions.{RowReady, TreeRowReady, RowsReady};
-ghost use Rattle.fitting.specs.inside.TableFit.{tableDiscount, tablePrice, tableAccepted, TreeFitted, PastKept};
+ghost use Rattle.fitting.specs.inside.TableFit.{tableDiscount, tableStatePrice, tableAccepted, TreeFitted, PastKept};
 
 // Where a row starts in both memories, the next row's node count, and the next row's quote.
 struct RowPlace {
@@ -33,20 +33,20 @@ fn fit_row(
     factors: &[u64],
     downs: &[u64],
     discounts: &mut [u64],
-    prices: &mut [u64],
+    state_prices: &mut [u64],
     sums: &mut [u64],
 ) -> bool
-    requires { ⌜ RowReady (at .start) (at .next) (at .quote) (now factors) (now downs) (now discounts) (now prices) (now sums) ⌝ }
+    requires { ⌜ RowReady (at .start) (at .next) (at .quote) (now factors) (now downs) (now discounts) (now «state_prices») (now sums) ⌝ }
     ensures { λ r. ⌜ RowFitted (at .start) (length (now (factors .entry))) (at .next) (at .quote)
         (values (now (factors .entry))) (rowTransition (now (downs .entry)) (at .next))
-        (now (discounts .entry)) (now (prices .entry)) (now (discounts .exit)) (now (prices .exit)) r ⌝ }
+        (now (discounts .entry)) (now («state_prices» .entry)) (now (discounts .exit)) (now («state_prices» .exit)) r ⌝ }
 {
     let start = at.start;
     let next = at.next;
     let end = start + factors.len();
     let last = end + next;
     if !step::step_row(
-        &prices[start..end],
+        &state_prices[start..end],
         factors,
         downs,
         at.quote,
@@ -55,7 +55,7 @@ fn fit_row(
     ) {
         return false;
     }
-    step::divide(&sums[..next], &mut prices[end..last]);
+    step::divide(&sums[..next], &mut state_prices[end..last]);
     true
 }
 
@@ -65,15 +65,15 @@ fn tree_row(
     factors: &[u64],
     downs: &[u64],
     discounts: &mut [u64],
-    prices: &mut [u64],
+    state_prices: &mut [u64],
     sums: &mut [u64],
 ) -> bool
     requires { ⌜ TreeRowReady (at .reversion) (at .steps) (at .row) (at .quote)
-        (now factors) (now downs) (now discounts) (now prices) (now sums) ⌝ }
+        (now factors) (now downs) (now discounts) (now «state_prices») (now sums) ⌝ }
     ensures { λ r. ⌜ RowFitted (rowStart (at .reversion) (at .row)) (nodeCount (at .reversion) (at .row))
         (nodeCount (at .reversion) (suc (at .row))) (at .quote)
         (tableFactor (at .reversion) (at .steps) (now (factors .entry)) (at .row)) (rateTree (at .reversion) .step (at .row))
-        (now (discounts .entry)) (now (prices .entry)) (now (discounts .exit)) (now (prices .exit)) r ⌝ }
+        (now (discounts .entry)) (now («state_prices» .entry)) (now (discounts .exit)) (now («state_prices» .exit)) r ⌝ }
 {
     let shape = lattice::row_shape(at.reversion, at.steps - 1, at.row);
     let offset = shape.offset;
@@ -87,7 +87,7 @@ fn tree_row(
         &factors[offset..end],
         &downs[offset..end],
         discounts,
-        prices,
+        state_prices,
         sums,
     )
 }
@@ -99,18 +99,18 @@ pub(crate) fn fit_rows(
     factors: &[u64],
     downs: &[u64],
     discounts: &mut [u64],
-    prices: &mut [u64],
+    state_prices: &mut [u64],
     sums: &mut [u64],
 ) -> bool
-    requires { ⌜ RowsReady reversion (now quotes) (now factors) (now downs) (now discounts) (now prices) (now sums) ⌝ }
+    requires { ⌜ RowsReady reversion (now quotes) (now factors) (now downs) (now discounts) (now «state_prices») (now sums) ⌝ }
     ensures tested { λ r. ⌜ r ≡ tableAccepted reversion (now (quotes .entry)) (now (factors .entry)) ⌝ }
     ensures fitted { λ r. ⌜ (r ≡ true → TreeFitted reversion (length (now (quotes .entry))) true
-        (tableDiscount reversion (now (quotes .entry)) (now (factors .entry))) (tablePrice reversion (now (quotes .entry)) (now (factors .entry)))
-        (now (discounts .entry)) (now (prices .entry)) (now (discounts .exit)) (now (prices .exit))) ⌝ }
+        (tableDiscount reversion (now (quotes .entry)) (now (factors .entry))) (tableStatePrice reversion (now (quotes .entry)) (now (factors .entry)))
+        (now (discounts .entry)) (now («state_prices» .entry)) (now (discounts .exit)) (now («state_prices» .exit))) ⌝ }
     ensures kept { λ _. ⌜ PastKept reversion (length (now (quotes .entry)))
-        (now (discounts .entry)) (now (prices .entry)) (now (discounts .exit)) (now (prices .exit)) ⌝ }
+        (now (discounts .entry)) (now («state_prices» .entry)) (now (discounts .exit)) (now («state_prices» .exit)) ⌝ }
 {
-    prices[0] = arithmetic::ONE;
+    state_prices[0] = arithmetic::ONE;
     let steps = quotes.len();
     let mut row: usize = 0;
     while row < steps {
@@ -120,7 +120,7 @@ pub(crate) fn fit_rows(
             row: row,
             quote: quotes[row],
         };
-        if !tree_row(at, factors, downs, discounts, prices, sums) {
+        if !tree_row(at, factors, downs, discounts, state_prices, sums) {
             return false;
         }
         row += 1;

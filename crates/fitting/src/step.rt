@@ -1,6 +1,7 @@
 // One step of the fit, over one row: the sums, divisions and branches of document 01.
 use arithmetic::ONE;
 use row_branches::RowBranch;
+use tree::PROBABILITY_TOTAL;
 ghost use mathlib.Core.Path.{_≡_};
 ghost use mathlib.Core.Bool.{true};
 ghost use Prim.Native.Nat.{_+_, _*_, _/_, _≤_, _<_};
@@ -17,14 +18,14 @@ ghost use Rattle.fitting.specs.inside.Rows.{RowStepped};
 ghost use Rattle.fitting.specs.inside.Preconditions.{Factors, StepReady, SpreadReady};
 
 // Z of a row.
-pub(crate) fn normaliser_of(prices: &[u64], factors: &[u64]) -> u64
-    requires { ⌜ Factors (now factors) (length (now prices)) × (sum (length (now prices)) (values (now prices)) ≤ mostRowSum) ⌝ }
-    ensures { λ r. ⌜ r ≡ normaliser (length (now (prices .entry))) (values (now (prices .entry))) (values (now (factors .entry))) ⌝ }
+pub(crate) fn normaliser_of(state_prices: &[u64], factors: &[u64]) -> u64
+    requires { ⌜ Factors (now factors) (length (now «state_prices»)) × (sum (length (now «state_prices»)) (values (now «state_prices»)) ≤ mostRowSum) ⌝ }
+    ensures { λ r. ⌜ r ≡ normaliser (length (now («state_prices» .entry))) (values (now («state_prices» .entry))) (values (now (factors .entry))) ⌝ }
 {
     let mut total: u64 = 0;
     let mut k: usize = 0;
-    while k < prices.len() {
-        total += prices[k] * factors[k];
+    while k < state_prices.len() {
+        total += state_prices[k] * factors[k];
         k += 1;
     }
     total / ONE
@@ -74,7 +75,7 @@ fn spread_node(downs: &[u64], index: usize, amount: u64, sums: &mut [u64])
 // Node by node: the discount, and what it carries to the sums of the next row, which are cleared. Stops where a discount is not
 // accepted. One loop, so that the divisions overlap the rest.
 fn fill_row(
-    prices: &[u64],
+    state_prices: &[u64],
     factors: &[u64],
     downs: &[u64],
     quote: u64,
@@ -82,22 +83,23 @@ fn fill_row(
     discounts: &mut [u64],
     sums: &mut [u64],
 ) -> bool
-    requires { ⌜ StepReady quote (now prices) (now factors) (now downs) (length (now discounts)) (length (now sums))
+    requires { ⌜ StepReady quote (now «state_prices») (now factors) (now downs) (length (now discounts)) (length (now sums))
         × (0 < z) × (now sums ≡ row (length (now sums)) (λ j. 0)) ⌝ }
-    ensures tested { λ r. ⌜ r ≡ each (length (now (prices .entry))) (λ k. isDiscount (quote * values (now (factors .entry)) k / z)) ⌝ }
-    ensures filled { λ r. ⌜ (r ≡ true → now (discounts .exit) ≡ row (length (now (prices .entry))) (λ k. quote * values (now (factors .entry)) k / z)) ⌝ }
+    ensures tested { λ r. ⌜ r ≡ each (length (now («state_prices» .entry))) (λ k. isDiscount (quote * values (now (factors .entry)) k / z)) ⌝ }
+    ensures filled { λ r. ⌜ (r ≡ true → now (discounts .exit) ≡ row (length (now («state_prices» .entry)))
+        (λ k. quote * values (now (factors .entry)) k / z)) ⌝ }
     ensures spreads { λ r. ⌜ (r ≡ true → now (sums .exit) ≡ row (length (now (sums .entry)))
-        (incoming (rowTransition (now (downs .entry)) (length (now (sums .entry)))) (length (now (prices .entry)))
-        (carried (values (now (prices .entry))) (λ k. quote * values (now (factors .entry)) k / z)))) ⌝ }
+        (incoming (rowTransition (now (downs .entry)) (length (now (sums .entry)))) (length (now («state_prices» .entry)))
+        (carried (values (now («state_prices» .entry))) (λ k. quote * values (now (factors .entry)) k / z)))) ⌝ }
 {
     let mut k: usize = 0;
-    while k < prices.len() {
+    while k < state_prices.len() {
         let discount = quote * factors[k] / z;
         if !limits::is_discount(discount) {
             return false;
         }
         discounts[k] = discount;
-        spread_node(downs, k, prices[k] * discount / ONE, sums);
+        spread_node(downs, k, state_prices[k] * discount / ONE, sums);
         k += 1;
     }
     true
@@ -110,25 +112,25 @@ pub(crate) fn divide(sums: &[u64], next: &mut [u64])
 {
     let mut k: usize = 0;
     while k < next.len() {
-        next[k] = sums[k] / 600_000_000;
+        next[k] = sums[k] / PROBABILITY_TOTAL;
         k += 1;
     }
 }
 
 // The discounts of a row from its state prices, and the sums over the branches into each node of the next row.
 pub(crate) fn step_row(
-    prices: &[u64],
+    state_prices: &[u64],
     factors: &[u64],
     downs: &[u64],
     quote: u64,
     discounts: &mut [u64],
     sums: &mut [u64],
 ) -> bool
-    requires { ⌜ StepReady quote (now prices) (now factors) (now downs) (length (now discounts)) (length (now sums)) ⌝ }
-    ensures { λ r. ⌜ RowStepped quote (length (now (sums .entry))) (now (prices .entry)) (now (factors .entry)) (now (downs .entry))
+    requires { ⌜ StepReady quote (now «state_prices») (now factors) (now downs) (length (now discounts)) (length (now sums)) ⌝ }
+    ensures { λ r. ⌜ RowStepped quote (length (now (sums .entry))) (now («state_prices» .entry)) (now (factors .entry)) (now (downs .entry))
         (now (discounts .exit)) (now (sums .exit)) r ⌝ }
 {
-    let z = normaliser_of(prices, factors);
+    let z = normaliser_of(state_prices, factors);
     clear(sums);
-    fill_row(prices, factors, downs, quote, z, discounts, sums)
+    fill_row(state_prices, factors, downs, quote, z, discounts, sums)
 }

@@ -12,8 +12,8 @@ ghost use Rattle.limits.specs.Limits.{mostSteps, mostNodes};
 ghost use Rattle.lattice.specs.RateTree.{nodeOfIndex};
 ghost use Rattle.factor.specs.Factor.{factor};
 ghost use Rattle.fitting.specs.inside.Preconditions.{RowsReady, QuotesReady};
-ghost use Rattle.fitting.specs.Fit.{curveAccepted, curveDiscount, curvePrice};
-ghost use Rattle.fitting.specs.inside.TableFit.{tableDiscount, tablePrice, tableAccepted, TreeFitted, FitTried};
+ghost use Rattle.fitting.specs.Fit.{curveAccepted, curveDiscount, curveStatePrice};
+ghost use Rattle.fitting.specs.inside.TableFit.{tableDiscount, tableStatePrice, tableAccepted, TreeFitted, FitTried};
 
 // A tree's reversion, the spacing of its nodes, and the half width of its widest row that has discounts.
 pub(crate) struct Grid {
@@ -22,27 +22,17 @@ pub(crate) struct Grid {
     pub(crate) widest: usize,
 }
 
-// The factor of the node at an index of a row of this half width.
-fn factor_at(widest: usize, spacing: u64, index: usize) -> u64
-    requires { ⌜ (widest ≤ mostSteps) × (widest * spacing ≤ one) × (index ≤ 2 * widest) ⌝ }
-    ensures { λ r. ⌜ r ≡ factor (nodeOfIndex widest index) spacing ⌝ }
-{
-    if index < widest {
-        let below = factor::factor((widest - index) as u64, true, spacing);
-        return below.value;
-    }
-    let above = factor::factor((index - widest) as u64, false, spacing);
-    above.value
-}
-
+// The factors of a row, from the middle node outwards: one series gives those of both sides.
 fn fill_factors(widest: usize, spacing: u64, factors: &mut [u64])
     requires { ⌜ (widest ≤ mostSteps) × (widest * spacing ≤ one) × (length (now factors) ≡ 2 * widest + 1) ⌝ }
     ensures { λ _. ⌜ now (factors .exit) ≡ row (length (now (factors .entry))) (λ k. factor (nodeOfIndex widest k) spacing) ⌝ }
 {
-    let mut k: usize = 0;
-    while k < factors.len() {
-        factors[k] = factor_at(widest, spacing, k);
-        k += 1;
+    let mut distance: usize = 0;
+    while distance <= widest {
+        let sides = factor::both_sides(distance as u64, spacing);
+        factors[widest - distance] = sides.below;
+        factors[widest + distance] = sides.above;
+        distance += 1;
     }
 }
 
@@ -60,22 +50,30 @@ fn fit_or_clear(
     factors: &[u64],
     downs: &[u64],
     discounts: &mut [u64],
-    prices: &mut [u64],
+    state_prices: &mut [u64],
     sums: &mut [u64],
 ) -> bool
-    requires { ⌜ RowsReady reversion (now quotes) (now factors) (now downs) (now discounts) (now prices) (now sums) ⌝ }
+    requires { ⌜ RowsReady reversion (now quotes) (now factors) (now downs) (now discounts) (now «state_prices») (now sums) ⌝ }
     ensures { λ r. ⌜ FitTried reversion (length (now (quotes .entry))) (tableAccepted reversion (now (quotes .entry)) (now (factors .entry)))
-        (tableDiscount reversion (now (quotes .entry)) (now (factors .entry))) (tablePrice reversion (now (quotes .entry)) (now (factors .entry)))
-        (now (discounts .entry)) (now (prices .entry)) (now (discounts .exit)) (now (prices .exit)) r ⌝ }
+        (tableDiscount reversion (now (quotes .entry)) (now (factors .entry))) (tableStatePrice reversion (now (quotes .entry)) (now (factors .entry)))
+        (now (discounts .entry)) (now («state_prices» .entry)) (now (discounts .exit)) (now («state_prices» .exit)) r ⌝ }
 {
     let steps = quotes.len();
     let needed = lattice::discounts_needed(steps, reversion);
     let all = lattice::state_prices_needed(steps, reversion);
-    if rows::fit_rows(reversion, quotes, factors, downs, discounts, prices, sums) {
+    if rows::fit_rows(
+        reversion,
+        quotes,
+        factors,
+        downs,
+        discounts,
+        state_prices,
+        sums,
+    ) {
         return true;
     }
     clear_front(discounts, needed.value as usize);
-    clear_front(prices, all.value as usize);
+    clear_front(state_prices, all.value as usize);
     false
 }
 
@@ -86,15 +84,15 @@ fn fit_tables(
     factors: &mut [u64],
     downs: &mut [u64],
     discounts: &mut [u64],
-    prices: &mut [u64],
+    state_prices: &mut [u64],
     sums: &mut [u64],
 ) -> bool
-    requires { ⌜ QuotesReady (grid .reversion) (grid .spacing) (grid .widest) (now quotes) (length (now discounts)) (length (now prices))
+    requires { ⌜ QuotesReady (grid .reversion) (grid .spacing) (grid .widest) (now quotes) (length (now discounts)) (length (now «state_prices»))
         × (length (now factors) ≡ 2 * grid .widest + 1) × (length (now downs) ≡ 2 * grid .widest + 1) × (mostNodes ≤ length (now sums)) ⌝ }
     ensures { λ r. ⌜ FitTried (grid .reversion) (length (now (quotes .entry)))
         (curveAccepted (grid .reversion) (grid .spacing) (now (quotes .entry)))
-        (curveDiscount (grid .reversion) (grid .spacing) (now (quotes .entry))) (curvePrice (grid .reversion) (grid .spacing) (now (quotes .entry)))
-        (now (discounts .entry)) (now (prices .entry)) (now (discounts .exit)) (now (prices .exit)) r ⌝ }
+        (curveDiscount (grid .reversion) (grid .spacing) (now (quotes .entry))) (curveStatePrice (grid .reversion) (grid .spacing) (now (quotes .entry)))
+        (now (discounts .entry)) (now («state_prices» .entry)) (now (discounts .exit)) (now («state_prices» .exit)) r ⌝ }
 {
     fill_factors(grid.widest, grid.spacing, factors);
     branches::down_probabilities(grid.reversion, grid.widest, downs);
@@ -104,7 +102,7 @@ fn fit_tables(
         factors,
         downs,
         discounts,
-        prices,
+        state_prices,
         sums,
     )
 }
@@ -114,14 +112,14 @@ pub(crate) fn fit_quotes(
     grid: Grid,
     quotes: &[u64],
     discounts: &mut [u64],
-    prices: &mut [u64],
+    state_prices: &mut [u64],
 ) -> u64
-    requires { ⌜ QuotesReady (grid .reversion) (grid .spacing) (grid .widest) (now quotes) (length (now discounts)) (length (now prices)) ⌝ }
+    requires { ⌜ QuotesReady (grid .reversion) (grid .spacing) (grid .widest) (now quotes) (length (now discounts)) (length (now «state_prices»)) ⌝ }
     ensures number { λ r. ⌜ r ≡ cond (curveAccepted (grid .reversion) (grid .spacing) (now (quotes .entry))) 0 9 ⌝ }
     ensures fitted { λ _. ⌜ TreeFitted (grid .reversion) (length (now (quotes .entry)))
         (curveAccepted (grid .reversion) (grid .spacing) (now (quotes .entry)))
-        (curveDiscount (grid .reversion) (grid .spacing) (now (quotes .entry))) (curvePrice (grid .reversion) (grid .spacing) (now (quotes .entry)))
-        (now (discounts .entry)) (now (prices .entry)) (now (discounts .exit)) (now (prices .exit)) ⌝ }
+        (curveDiscount (grid .reversion) (grid .spacing) (now (quotes .entry))) (curveStatePrice (grid .reversion) (grid .spacing) (now (quotes .entry)))
+        (now (discounts .entry)) (now («state_prices» .entry)) (now (discounts .exit)) (now («state_prices» .exit)) ⌝ }
 {
     let count = 2 * grid.widest + 1;
     let mut factors = [0u64; limits::MOST_NODES];
@@ -133,7 +131,7 @@ pub(crate) fn fit_quotes(
         &mut factors[..count],
         &mut downs[..count],
         discounts,
-        prices,
+        state_prices,
         &mut sums,
     ) {
         0

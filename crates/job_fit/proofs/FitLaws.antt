@@ -7,7 +7,8 @@ use native.Mathlib.Omega.{arith}
 use borrow.Author.Tests.{lt-ltb, le-ltb, eq-eqb, ne-eqb}
 use lib.Ieee.{Float}
 use lib.ListN.{length, take, length-take}
-use Rattle.limits.specs.inside.WithinLimits.{WithinLimits}
+use Rattle.job_record.specs.Form.{mostJobSteps}
+use Rattle.limits.specs.WithinLimits.{WithinLimits}
 use Rattle.arithmetic.proofs.CauseLaws.{unless-accepted, unless-refused}
 use Rattle.arithmetic.specs.Row.{place}
 use Rattle.arithmetic.proofs.Numbers.{by-order}
@@ -15,9 +16,9 @@ use Rattle.arithmetic.proofs.RowLaws.{length-row}
 use Rattle.lattice.specs.Shape.{discountsNeeded, statePricesNeeded}
 use Rattle.curve.specs.Curve.{discountAt, curveNumber, curveMemory}
 use Rattle.spacing.specs.Spacing.{versionSpacingAnswer}
-use Rattle.fitting.specs.Entry.{versionNumber, fitMemory, versionDiscounts, versionPrices}
+use Rattle.fitting.specs.Entry.{versionNumber, fitMemory, versionDiscounts, versionStatePrices}
 use Rattle.fitting.specs.inside.Plans.{Numbers}
-use Rattle.fitting.proofs.FittedTree.{fit-discounts-length, fit-prices-length}
+use Rattle.fitting.proofs.FittedTree.{fit-discounts-length, fit-state-prices-length}
 use Rattle.fitting.proofs.Promised.{fit-numbers}
 use Rattle.job_record.specs.declared.Job.{Job}
 use Rattle.job_fit.specs.RecordFit.{meantVersion, meantReversion, jobReversion, jobRows, jobKinds, jobFigures}
@@ -62,14 +63,14 @@ module _ (job : Job) where
       × ((after-d ≡ fitMemory (recordFit job (length d) (length p)) (jobDiscounts job) d)
       × (after-p ≡ fitMemory (recordFit job (length d) (length p)) (jobStatePrices job) p))
 
-  module _ (many : 255 < job .steps) where
+  module _ (many : mostJobSteps < job .steps) where
     quotes-many : (room : ℕ) → 1 ≡ recordQuotes job room
     unfolding recordQuotes
-    quotes-many room = rw (lt-ltb 255 (job .steps) many)
+    quotes-many room = rw (lt-ltb mostJobSteps (job .steps) many)
 
     fit-many : (ds ps : ℕ) → 1 ≡ recordFit job ds ps
     unfolding recordFit
-    fit-many ds ps = rw (lt-ltb 255 (job .steps) many)
+    fit-many ds ps = rw (lt-ltb mostJobSteps (job .steps) many)
 
     one-kept : (number : ℕ) (part memory : List ℕ) → 1 ≡ number → memory ≡ fitMemory number part memory
     unfolding fitMemory
@@ -88,7 +89,7 @@ module _ (job : Job) where
         let e = fit-many (length d) (length p) in
         (e, (one-kept _ (jobDiscounts job) d e, one-kept _ (jobStatePrices job) p e))
 
-  module _ (few : job .steps ≤ 255) (rows : List ℕ) (figures : List Float) (er : rows ≡ jobRows job) (ef : figures ≡ jobFigures job) where
+  module _ (few : job .steps ≤ mostJobSteps) (rows : List ℕ) (figures : List Float) (er : rows ≡ jobRows job) (ef : figures ≡ jobFigures job) where
     abbrev lentQuotes : ℕ → ℕ
     lentQuotes = curveNumber (job .frequency) (job .steps) rows (jobKinds job) figures
 
@@ -100,7 +101,7 @@ module _ (job : Job) where
     lentDiscounts v = versionDiscounts v (job .frequency) (job .steps) (job .reversion) (job .volatility) (jobKinds job) figures
 
     abbrev lentPrices : ℕ → List ℕ
-    lentPrices v = versionPrices v (job .frequency) (job .steps) (job .reversion) (job .volatility) (jobKinds job) figures
+    lentPrices v = versionStatePrices v (job .frequency) (job .steps) (job .reversion) (job .volatility) (jobKinds job) figures
 
     abbrev Made : ℕ → List ℕ → List ℕ → ℕ → List ℕ → List ℕ → Type 0
     Made v d p r after-d after-p =
@@ -110,12 +111,12 @@ module _ (job : Job) where
 
     quotes-number : (room : ℕ) → lentQuotes room ≡ recordQuotes job room
     unfolding recordQuotes
-    quotes-number room = rw (er, ef, le-ltb 255 (job .steps) few)
+    quotes-number room = rw (er, ef, le-ltb mostJobSteps (job .steps) few)
 
     quotes-memory : (memory : List ℕ) → curveMemory (job .frequency) (job .steps) rows (jobKinds job) figures memory
         ≡ memoryAfter (recordQuotes job (length memory)) (jobQuotes job) memory
     unfolding recordQuotes memoryAfter curveMemory jobQuotes
-    quotes-memory memory = rw (er, ef, le-ltb 255 (job .steps) few)
+    quotes-memory memory = rw (er, ef, le-ltb mostJobSteps (job .steps) few)
 
     pub quotes-made : (memory after : List ℕ) (r : ℕ) → r ≡ lentQuotes (length memory) →
         after ≡ curveMemory (job .frequency) (job .steps) rows (jobKinds job) figures memory → Quoted memory r after
@@ -126,7 +127,7 @@ module _ (job : Job) where
 
     fit-number : (ds ps : ℕ) → lentFit meant ds ps ≡ recordFit job ds ps
     unfolding recordFit
-    fit-number ds ps = rw (er, ef, le-ltb 255 (job .steps) few)
+    fit-number ds ps = rw (er, ef, le-ltb mostJobSteps (job .steps) few)
 
     discounts-are : lentDiscounts meant ≡ jobDiscounts job
     unfolding jobDiscounts meantReversion
@@ -163,11 +164,11 @@ module _ (job : Job) where
 
   pub prices-length : length (jobStatePrices job) ≡ statePricesNeeded (job .steps) (jobReversion job)
   unfolding jobStatePrices
-  prices-length = fit-prices-length _ _ _ _ (jobKinds job) (jobFigures job)
+  prices-length = fit-state-prices-length _ _ _ _ (jobKinds job) (jobFigures job)
 
   module _ (ds ps : ℕ) (z : recordFit job ds ps ≡ 0) where
-    pub steps-few : job .steps ≤ 255
-    steps-few = by-order (job .steps) 255 (λ h. h) (λ h. absurd (apart (fit-many job h ds ps ∙ z)))
+    pub steps-few : job .steps ≤ mostJobSteps
+    steps-few = by-order (job .steps) mostJobSteps (λ h. h) (λ h. absurd (apart (fit-many job h ds ps ∙ z)))
       where
         apart : _≡_ {A = ℕ} 1 0 → ⊥
         apart e = omega arith
@@ -175,7 +176,7 @@ module _ (job : Job) where
     pub fit-none : versionNumber (meantVersion (job .version)) (job .frequency) (job .steps) (job .reversion) (job .volatility)
         (jobRows job) (jobKinds job) (jobFigures job) ds ps ≡ 0
     unfolding recordFit
-    fit-none = rw (le-ltb 255 (job .steps) steps-few) at z
+    fit-none = rw (le-ltb mostJobSteps (job .steps) steps-few) at z
 
     pub numbers : Numbers (job .steps) (jobReversion job)
         (curveNumber (job .frequency) (job .steps) (jobRows job) (jobKinds job) (jobFigures job) 60)
@@ -188,4 +189,4 @@ module _ (job : Job) where
 
     pub quotes-none : recordQuotes job 60 ≡ 0
     unfolding recordQuotes
-    quotes-none = rw (le-ltb 255 (job .steps) steps-few) (numbers .quotes-converted)
+    quotes-none = rw (le-ltb mostJobSteps (job .steps) steps-few) (numbers .quotes-converted)

@@ -13,7 +13,7 @@ use Rattle.figure.specs.Figure.{patternFloat}
 use Rattle.curve.specs.Curve.{curveNumber}
 use Rattle.reversion.specs.Reversion.{workingReversion}
 use Rattle.spacing.specs.Spacing.{versionSpacing}
-use Rattle.fitting.specs.Entry.{versionNumber, fitDiscounts, fitPrices, quotesOf}
+use Rattle.fitting.specs.Entry.{versionNumber, fitDiscounts, fitStatePrices, quotesOf}
 use Rattle.job_record.specs.declared.Job.{Job}
 
 -- version 1 is meant where a record has 0 for none
@@ -53,7 +53,7 @@ module _ (job : Job) where
   jobDiscounts = fitDiscounts (job .frequency) (job .steps) jobReversion jobSpacing jobKinds jobFigures
 
   unfoldable pub jobStatePrices : List ℕ
-  jobStatePrices = fitPrices (job .frequency) (job .steps) jobReversion jobSpacing jobKinds jobFigures
+  jobStatePrices = fitStatePrices (job .frequency) (job .steps) jobReversion jobSpacing jobKinds jobFigures
 
   -- 1: no job's bytes give more than 255 steps; then the causes of the conversion into a memory of so many numbers
   unfoldable pub recordQuotes : ℕ → ℕ

@@ -20,7 +20,7 @@ use Rattle.job_record.specs.declared.Job.{Job}
 use Rattle.job_record.specs.declared.OptionRecord.{OptionRecord}
 use Rattle.job_record.specs.Reader.{readingOf}
 use Rattle.job_fit.specs.RecordFit.{jobReversion, jobFlows, jobDiscounts, recordFit}
-use Rattle.job_prices.specs.JobPrices.{hasOption, taggedOption, treeNumber, jobBond, recordNumber, bytesNumber}
+use Rattle.job_prices.specs.JobPrices.{hasOption, optionForm, taggedOption, treeNumber, jobBond, recordNumber, bytesNumber}
 
 priced-number : (number price bound : ℕ) → priced number price bound .number ≡ number
 unfolding priced
@@ -63,6 +63,10 @@ pub record AcceptedRecord (job : Job) (discounts prices : ℕ) : Type 0 where
   pub bond : jobBond job .number ≡ 0
   pub option-priced : hasOption (job .option) ≡ true →
       taggedOption (job .steps) (jobReversion job) (jobDiscounts job) (jobFlows job) (job .option) .number ≡ 0
+
+pub record-formed : (job : Job) (discounts prices : ℕ) → recordNumber job discounts prices ≡ 0 → optionForm (job .option .tag) (job .option .count) ≡ 0
+unfolding recordNumber
+record-formed job discounts prices z = first-none _ _ z .0
 
 pub record-accepted : (job : Job) (discounts prices : ℕ) → recordNumber job discounts prices ≡ 0 → AcceptedRecord job discounts prices
 unfolding recordNumber

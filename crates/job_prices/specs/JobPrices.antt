@@ -7,8 +7,9 @@ use mathlib.Core.List.{List}
 use lib.Dec.{eqb, leb}
 use lib.ListN.{take}
 use Rattle.lattice.specs.Entries.{memoryCause}
-use Rattle.arithmetic.specs.Answers.{lowestCause, firstCause}
+use Rattle.arithmetic.specs.Answers.{unlessRefused, lowestCause, firstCause}
 use Rattle.limits.specs.Limits.{mostDiscounts, mostStatePrices}
+use Rattle.fitting.specs.Entry.{fitMemory}
 use Rattle.price_laws.specs.declared.Price.{Price}
 use Rattle.price_laws.specs.Prices.{refusedPrice, bondPrice, optionPrice, datedPrice}
 use Rattle.job_record.specs.declared.OptionRecord.{OptionRecord}
@@ -72,6 +73,11 @@ module _ (job : Job) where
   unfoldable pub recordPrices : ℕ → ℕ → JobPrices
   recordPrices discounts prices = pricesOf (recordNumber discounts prices) jobBond (hasOption (job .option)) jobOption
 
+  -- a memory in which the record is fitted and priced: as it was where the option has no job's form, else as the fit leaves it, whatever the prices are
+  unfoldable pub fittedMemory : ℕ → ℕ → List ℕ → List ℕ → List ℕ
+  fittedMemory discounts prices rows memory =
+      unlessRefused (optionForm (job .option .tag) (job .option .count)) (fitMemory (recordFit job discounts prices) rows memory) memory
+
 -- of a job's bytes: 1 first
 unfoldable pub bytesNumber : List ℕ → ℕ → ℕ → ℕ
 bytesNumber bytes discounts prices = firstCause (readingOf bytes .number) (recordNumber (readingOf bytes .job) discounts prices)
@@ -79,3 +85,8 @@ bytesNumber bytes discounts prices = firstCause (readingOf bytes .number) (recor
 unfoldable pub bytesPrices : List ℕ → ℕ → ℕ → JobPrices
 bytesPrices bytes discounts prices =
     pricesOf (bytesNumber bytes discounts prices) (jobBond (readingOf bytes .job)) (hasOption (readingOf bytes .job .option)) (jobOption (readingOf bytes .job))
+
+-- a memory in which a job's bytes are fitted and priced: as it was where they are no job's
+unfoldable pub bytesMemory : List ℕ → ℕ → ℕ → (Job → List ℕ) → List ℕ → List ℕ
+bytesMemory bytes discounts prices rows memory =
+    unlessRefused (readingOf bytes .number) (fittedMemory (readingOf bytes .job) discounts prices (rows (readingOf bytes .job)) memory) memory

@@ -75,17 +75,18 @@ module _ (s : List ℕ) (from : ℕ) (tags : Tags) (width : ℕ) where
   fields-none = each-none (λ i. fieldAt s (afterFields from width i) tags width)
 
   -- place is the i-th field's, as the code has it
-  module _ (i place : ℕ) (here : place ≡ afterFields from width i) where
-    pub fields-more :
-        fieldsFrom s from tags width i ≡ true → fieldAt s place tags width ≡ true → fieldsFrom s from tags width (i + 1) ≡ true
-    unfolding fieldsFrom
-    fields-more before one = each-more i (λ j. fieldAt s (afterFields from width j) tags width) before (rw here at one)
+  pub fields-more :
+      (i : ℕ) {place : ℕ} → place ≡ afterFields from width i → fieldsFrom s from tags width i ≡ true → fieldAt s place tags width ≡ true →
+      fieldsFrom s from tags width (i + 1) ≡ true
+  unfolding fieldsFrom
+  fields-more i here before one = each-more i (λ j. fieldAt s (afterFields from width j) tags width) before (rw here at one)
 
-    pub fields-fails :
-        (count : ℕ) → i < count → fieldAt s place tags width ≡ false → fieldsFrom s from tags width count ≡ false
-    unfolding fieldsFrom
-    fields-fails count below none =
-        each-fails count i (λ j. fieldAt s (afterFields from width j) tags width) below (rw here at none)
+  pub fields-fails :
+      {i place : ℕ} → place ≡ afterFields from width i → (count : ℕ) → i < count → fieldAt s place tags width ≡ false →
+      fieldsFrom s from tags width count ≡ false
+  unfolding fieldsFrom
+  fields-fails {i} here count below none =
+      each-fails count i (λ j. fieldAt s (afterFields from width j) tags width) below (rw here at none)
 
   module _ (count : ℕ) where
     pub fields-each :

@@ -8,4 +8,4 @@ pub mod Written
 pub mod Places
 pub mod Reread
 pub mod ReadLaws
-pub mod Figures
+pub mod Examples

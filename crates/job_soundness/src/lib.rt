@@ -1,7 +1,7 @@
 // Whether a record is one that some bytes are read as: each number fits its field, the option's numbers belong to its tag, and zeros stand wherever
 // the form says nothing.
 ghost use mathlib.Core.Path.{_≡_};
-ghost use Prim.Native.Nat.{_≤_};
+ghost use Prim.Native.Nat.{_≤_, max};
 ghost use lib.ListN.{length};
 ghost use Rattle.job_record.specs.Form.{mostJobSteps};
 ghost use Rattle.writer_laws.specs.Sound.{mostIn, allAtMost, isColumn, areKinds, areColumns, headFits, optionFits, isAbsent, optionBelongs};
@@ -18,18 +18,23 @@ const MOST_IN_FOUR: u64 = 4_294_967_295;
 
 const MOST_IN_EIGHT: u64 = 18_446_744_073_709_551_615;
 
-// Whether each byte of a slice is 0.
+fn larger_byte(a: u8, b: u8) -> u8
+    ensures { λ r. ⌜ r ≡ max a b ⌝ }
+{
+    if a < b { b } else { a }
+}
+
+// Whether each byte of a slice is 0. There is no test on the way, so that many are looked at together.
 fn all_zero(bytes: &[u8]) -> bool
     ensures { λ r. ⌜ r ≡ allAtMost 0 (now (bytes .entry)) ⌝ }
 {
+    let mut top: u8 = 0;
     let mut k: usize = 0;
     while k < bytes.len() {
-        if 0 < bytes[k] {
-            return false;
-        }
+        top = larger_byte(top, bytes[k]);
         k += 1;
     }
-    true
+    top == 0
 }
 
 // Whether zeros stand after the first `count` bytes of a column.

@@ -15,14 +15,17 @@ use arithmetic::Answer;
 use job_record::Job;
 use job_record::OptionRecord;
 
-// Writes `width` bytes of a number at a place, high byte first.
+// Writes `width` bytes of a number at a place, high byte first: the last one comes first.
 fn put_number(out: &mut [u8], at: usize, width: usize, value: u64)
     requires { ⌜ (width ≤ mostWidth) × (at + width ≤ length (now out)) ⌝ }
     ensures { λ _. ⌜ now (out .exit) ≡ place (now (out .entry)) at (numberBytes width value) ⌝ }
 {
-    if 0 < width {
-        put_number(out, at, width - 1, value / 256);
-        out[at + width - 1] = (value % 256) as u8;
+    let mut rest = value;
+    let mut left = width;
+    while 0 < left {
+        left -= 1;
+        out[at + left] = (rest % 256) as u8;
+        rest = rest / 256;
     }
 }
 

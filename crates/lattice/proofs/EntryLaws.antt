@@ -99,12 +99,10 @@ tree-answer n b f y x ey ex = ap (aboutTree n b) (ex ∙ ap f ey) ∙ tree-clipp
 -- ---- sizes as code works them out
 
 module _ (b i : ℕ) (nz : b ≡ 0 → ⊥) where
-  pub half-before : i < 1840 / b + 1 → i ≡ halfWidth b i
-  unfolding highestNode
+  pub half-before : i < highestNode b → i ≡ halfWidth b i
   half-before h = omega (arith, half-capped b i nz)
 
-  pub half-from : 1840 / b + 1 ≤ i → 1840 / b + 1 ≡ halfWidth b i
-  unfolding highestNode
+  pub half-from : highestNode b ≤ i → highestNode b ≡ halfWidth b i
   half-from h = omega (arith, half-capped b i nz)
 
 start-growing : (i w : ℕ) → w ≡ i → w * w + (i - w) * (2 * w + 1) ≡ i * i

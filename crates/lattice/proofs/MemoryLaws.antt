@@ -6,7 +6,7 @@ use borrow.Author.Tests.{le-leb, lt-leb}
 use Rattle.arithmetic.specs.declared.Answer.{Answer}
 use Rattle.lattice.specs.Entries.{discountsNeededAnswer, statePricesNeededAnswer, memoryCause}
 
-module _ (n b ds ps : ℕ) (needed all : Answer) (en : needed ≡ discountsNeededAnswer n b) (ea : all ≡ statePricesNeededAnswer n b) where
+module _ (n b : ℕ) {ds : ℕ} (ps : ℕ) {needed all : Answer} (en : needed ≡ discountsNeededAnswer n b) (ea : all ≡ statePricesNeededAnswer n b) where
   pub memory-short : ds < needed .value → 6 ≡ memoryCause n b ds ps
   unfolding memoryCause
   memory-short h = rw (← en, lt-leb (needed .value) ds h)

@@ -37,11 +37,11 @@ module _ (b w i : ℕ) where
         shape-found h = rw (le-ltb mostReversion b hb, le-ltb mostSteps w hw, le-ltb w i hi, lt-leb mostSteps i h)
 
   pub shape-built :
-      (half next start widest : ℕ) → half ≡ halfWidth b i → next ≡ halfWidth b (i + 1) → start ≡ rowStart b i → widest ≡ halfWidth b w →
+      {half next start widest : ℕ} → half ≡ halfWidth b i → next ≡ halfWidth b (i + 1) → start ≡ rowStart b i → widest ≡ halfWidth b w →
       _≡_ {A = RowShape}
       (record { number = 0; start = start; count = 2 * half + 1; next = 2 * next + 1; offset = widest - half }) (shapeOf b w i)
   unfolding nodeCount
-  shape-built half next start widest eh en es ew = let z = add-one i in rw (eh, en, es, ew, z)
+  shape-built eh en es ew = let z = add-one i in rw (eh, en, es, ew, z)
 
   -- the row's part of a table of row w's nodes
   module _ (hi : i ≤ w) where

@@ -60,6 +60,13 @@ within-by-product b d h nz =
     absent : suc (highestNode b) * b ≤ d * b → 1840 < highestNode b * b → ⊥
     absent g a = omega (arith, suc-mul (highestNode b) b)
 
+-- J itself, without a division: the least distance whose z is above 1,840
+pub highest-is : (b j : ℕ) → (b ≡ 0 → ⊥) → 1840 < j * b → j * b ≤ 1840 + b → j ≡ highestNode b
+highest-is b j nz above within =
+    by-order (highestNode b) j
+    (λ l. omega (arith, within-by-product b j within nz))
+    (λ l. omega (arith, below-highest b j l))
+
 pub product-within : (b d : ℕ) → Within b d → d * b ≤ 1840 + b
 product-within b d w =
     by-equal b 0 (λ z. rw z (omega (arith, mul-zero d)))

@@ -3,7 +3,7 @@ use arithmetic::Answer;
 ghost use mathlib.Core.Path.{_≡_};
 ghost use Prim.Native.Nat.{_≤_, _<_, min};
 ghost use Rattle.limits.specs.Limits.{mostSteps};
-ghost use Rattle.lattice.specs.Shape.{halfWidth, rowStart};
+ghost use Rattle.lattice.specs.Shape.{highestNode, halfWidth, rowStart};
 ghost use Rattle.lattice.specs.Entries.{
   aboutRow,
   aboutTree,
@@ -35,13 +35,33 @@ pub struct RowShape {
     pub offset: usize,
 }
 
+// J. Where rows are narrow a division would cost more than their nodes do, so the least values are told by comparison.
+fn highest_node(reversion: u64) -> usize
+    requires { ⌜ 0 < reversion ⌝ }
+    ensures { λ r. ⌜ r ≡ highestNode reversion ⌝ }
+{
+    if 1840 < reversion {
+        return 1;
+    }
+    if 920 < reversion {
+        return 2;
+    }
+    if 613 < reversion {
+        return 3;
+    }
+    if 460 < reversion {
+        return 4;
+    }
+    (1840 / reversion + 1) as usize
+}
+
 fn half_width_of(reversion: u64, row: usize) -> usize
     ensures { λ r. ⌜ r ≡ halfWidth reversion row ⌝ }
 {
     if reversion == 0 {
         return row;
     }
-    let highest = (1840 / reversion + 1) as usize;
+    let highest = highest_node(reversion);
     if row < highest { row } else { highest }
 }
 

@@ -112,7 +112,7 @@ module _ (fs ls lows highs hs : List ℕ) (row price : ℕ) where
 
       pub haircut-fits : values hs k ≤ 10000
       haircut-fits =
-          sound-band (values fs k) (values ls k) (values lows k) (values highs k) (values hs k)
+          sound-band
           (not-false (sound (values fs k) (values ls k) (values lows k) (values highs k) (values hs k))
           (table-accepted .0 k (omega (arith, here))))
           .haircut-most

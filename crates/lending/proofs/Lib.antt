@@ -1,2 +1,2 @@
 pub mod LendingLaws
-pub mod Figures
+pub mod Examples

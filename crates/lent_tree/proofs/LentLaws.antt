@@ -97,8 +97,7 @@ module _ (n b : ℕ) (discounts : List ℕ) where
       let t = room-parts none in
       let s = shape-accepted n b (eqb-true (shapeCause n b) 0 (t .0)) in
       record {
-        steps-within-limit = s .1;
-        reversion-within-limit = s .2;
+        limits = record { steps-positive = s .0; steps-within-limit = s .1; reversion-within-limit = s .2 };
         room = leb-true (discountsNeeded n b) (length discounts) (t .1);
       }
 
@@ -147,9 +146,7 @@ module _ (n b : ℕ) (discounts : List ℕ) (none : discountsCause n b discounts
   accepted =
       let s = shape-accepted n b accepted-shape in
       record {
-        steps-positive = s .0;
-        steps-within-limit = s .1;
-        reversion-within-limit = s .2;
+        limits = record { steps-positive = s .0; steps-within-limit = s .1; reversion-within-limit = s .2 };
         room = accepted-room;
         positive = λ k h. between-least 1 mostDiscount (values discounts) k (each-holds (rowStart b n) k _ accepted-all h);
         discounted = λ k h. between-most 1 mostDiscount (values discounts) k (each-holds (rowStart b n) k _ accepted-all h);
@@ -170,5 +167,4 @@ unfolding discountsCause
 lent-accepted n b discounts shape room all = rw (shape, le-leb (discountsNeeded n b) (length discounts) room, all)
 
 pub accepted-lent : (n b : ℕ) (discounts : List ℕ) → Accepted n b discounts → Lent n b discounts
-accepted-lent n b discounts a =
-    record { steps-within-limit = a .steps-within-limit; reversion-within-limit = a .reversion-within-limit; room = a .room }
+accepted-lent n b discounts a = record { limits = a .limits; room = a .room }

@@ -25,7 +25,7 @@ use Rattle.lattice.proofs.Differences.{sub-is, sub-size}
 use Rattle.node_reader.specs.declared.Node.{Node}
 use Rattle.node_reader.specs.Reading.{nodeAt}
 use Rattle.text_laws.specs.declared.Placed.{Placed}
-use Rattle.text_laws.specs.Lines.{lineOfNode, nodeNumber}
+use Rattle.text_laws.specs.Lines.{lineOfNode, nodeNumber, longestLine}
 use Rattle.text_laws.specs.Put.{putBefore}
 use Rattle.text_laws.specs.inside.Put.{Put}
 use Rattle.text_laws.proofs.LineLaws.{node-line-room, node-stands}
@@ -42,18 +42,19 @@ unfolding lines
 lines-step line zero h = let none : ⊥ = omega arith in absurd none
 lines-step line (suc n) h = let e : suc n - 1 ≡ n = omega arith in rw e
 
-pub lines-room : (line : ℕ → List ℕ) (n : ℕ) → ((k : ℕ) → k < n → length (line k) ≤ 128) → length (lines line n) ≤ 128 * n
+pub lines-room : (line : ℕ → List ℕ) (n : ℕ) → ((k : ℕ) → k < n → length (line k) ≤ longestLine) → length (lines line n) ≤ longestLine * n
 unfolding lines
 lines-room line zero h = omega arith
 lines-room line (suc n) h = simp length-append (omega (arith, h n (omega arith), lines-room line n (λ k l. h k (omega arith))))
 
 -- the line of a node is no longer than 128 bytes
-pub line-room : (row w k discount : ℕ) → row < 2 ^ 64 → w < 2 ^ 62 → k < 2 ^ 62 → discount < 2 ^ 64 → length (lineOfNode row (nodeOfIndex w k) discount) ≤ 128
+pub line-room : (row w k discount : ℕ) → row < 2 ^ 64 → w < 2 ^ 62 → k < 2 ^ 62 → discount < 2 ^ 64 →
+    length (lineOfNode row (nodeOfIndex w k) discount) ≤ longestLine
 unfolding nodeOfIndex
 line-room row w k discount r v h d = node-line-room row discount _ r d (omega (arith, sub-size k w))
 
 pub text-room : (row : ℕ) (discounts : List ℕ) (k : ℕ) → row < 2 ^ 64 → k < length discounts → length discounts < 2 ^ 63 → getD discounts k 0 < 2 ^ 64
-    → length (nodeText row discounts k) ≤ 128
+    → length (nodeText row discounts k) ≤ longestLine
 unfolding nodeText nodeOfIndex
 text-room row discounts k r h l d = node-line-room row (getD discounts k 0) _ r d (omega (arith, sub-size k (length discounts / 2)))
 
@@ -85,7 +86,7 @@ row-discount discounts k e h =
 
 -- the line that the code puts is the node's
 pub line-put : (out after : List ℕ) (row end w k discount : ℕ) (node : ℤ) {answer : Placed} → node ≡ nodeOfIndex w k
-    → length (lineOfNode row (nodeOfIndex w k) discount) ≤ 128 → 128 ≤ end → end ≤ length out → 0 < discount → discount ≤ mostDiscount
+    → length (lineOfNode row (nodeOfIndex w k) discount) ≤ longestLine → longestLine ≤ end → end ≤ length out → 0 < discount → discount ≤ mostDiscount
     → Answered (nodeNumber (length out) end discount) out end (lineOfNode row node discount) answer after
     → Put out end (lineOfNode row (nodeOfIndex w k) discount) (answer .start) after
 line-put out after row end w k discount node {answer} e r h p l m a =
@@ -110,17 +111,17 @@ length-less line left h = ap length (lines-step line left h) ∙ simp length-app
 
 -- ---- room for the lines
 
-pub room-short : (n size end : ℕ) → end / 128 < n → hasRoomFor n size end ≡ false
+pub room-short : (n size end : ℕ) → end / longestLine < n → hasRoomFor n size end ≡ false
 unfolding hasRoomFor
-room-short n size end h = rw (lt-leb (128 * n) end (omega arith))
+room-short n size end h = rw (lt-leb (longestLine * n) end (omega arith))
 
-pub room-test : (n size end : ℕ) → n ≤ end / 128 → hasRoomFor n size end ≡ leb end size
+pub room-test : (n size end : ℕ) → n ≤ end / longestLine → hasRoomFor n size end ≡ leb end size
 unfolding hasRoomFor
-room-test n size end h = rw (le-leb (128 * n) end (omega arith))
+room-test n size end h = rw (le-leb (longestLine * n) end (omega arith))
 
-pub room-there : (n size end : ℕ) → 128 * n ≤ end → end ≤ size → hasRoomFor n size end ≡ true
+pub room-there : (n size end : ℕ) → longestLine * n ≤ end → end ≤ size → hasRoomFor n size end ≡ true
 unfolding hasRoomFor
-room-there n size end h p = rw (le-leb (128 * n) end h, le-leb end size p)
+room-there n size end h p = rw (le-leb (longestLine * n) end h, le-leb end size p)
 
 -- ---- the number of a row
 
@@ -166,11 +167,11 @@ module _ (size end row : ℕ) (discounts : List ℕ) where
     unfolding rowNumber
     parts = row-parts _ _ z
 
-    pub row-room : (128 * length discounts ≤ end) × (end ≤ size)
+    pub row-room : (longestLine * length discounts ≤ end) × (end ≤ size)
     unfolding hasRoomFor
     row-room =
-        let room = and-both (leb (128 * length discounts) end) (leb end size) (and-both (isRow row (length discounts)) _ (parts .0) .1) in
-        (leb-true (128 * length discounts) end (room .0), leb-true end size (room .1))
+        let room = and-both (leb (longestLine * length discounts) end) (leb end size) (and-both (isRow row (length discounts)) _ (parts .0) .1) in
+        (leb-true (longestLine * length discounts) end (room .0), leb-true end size (room .1))
 
     pub row-accepted : acceptedNodes discounts ≡ true
     row-accepted = parts .1
@@ -213,6 +214,6 @@ row-is b i h =
     let odd : (2 * w + 1) % 2 ≡ 1 = omega arith in
     rw (le-leb i 59 (omega arith), odd, le-leb (2 * w + 1) (2 * i + 1) (omega (arith, half-within b i)))
 
-pub row-number-none : (size end row : ℕ) (discounts : List ℕ) → isRow row (length discounts) ≡ true → 128 * length discounts ≤ end → end ≤ size →
+pub row-number-none : (size end row : ℕ) (discounts : List ℕ) → isRow row (length discounts) ≡ true → longestLine * length discounts ≤ end → end ≤ size →
     acceptedNodes discounts ≡ true → rowNumber size end row discounts ≡ 0
 row-number-none size end row discounts e h p a = sym (row-judged size end row discounts e (room-there (length discounts) size end h p) true a)

@@ -80,7 +80,7 @@ fn row_number(
 }
 
 // The line of the node at an index of its row.
-fn put_node(
+fn put_node_line(
     out: &mut [u8],
     end: usize,
     row: u64,
@@ -97,7 +97,7 @@ fn put_node(
 }
 
 // The last node's line comes first, so that the lines stand in order. The place of the next node goes down with each.
-fn put_nodes(
+fn put_row_nodes(
     out: &mut [u8],
     end: usize,
     row: u64,
@@ -117,7 +117,7 @@ fn put_nodes(
         left -= 1;
         place -= 1;
         let node = node_reader::node_at(discounts, place);
-        start = put_node(out, start, row, half_width, left, node.discount);
+        start = put_node_line(out, start, row, half_width, left, node.discount);
     }
     Drawn {
         number: 0,
@@ -149,5 +149,5 @@ pub fn node_lines(
             next: 0,
         };
     }
-    put_nodes(out, end, row, discounts, next, count)
+    put_row_nodes(out, end, row, discounts, next, count)
 }

@@ -69,7 +69,7 @@ fn is_discounted(
 {
     let rate = least_discount(steps, rate_reversion, row, rates);
     let spread = least_discount(steps, spread_reversion, row, spreads);
-    0 < rate * spread / 1_000_000_000
+    0 < rate * spread / arithmetic::ONE
 }
 
 // 9 where a pair of some row has discount 0; 0 where there is none.

@@ -124,11 +124,11 @@ products-fail n m f g hn hm hf hg h =
 
 -- what the code tests of a row is whether no discount of a pair is 0
 pub row-discounted :
-    (n b c i x y : ℕ) (rates spreads : List ℕ) → Accepted n b rates → Accepted n c spreads → i < n →
+    {n b c i x y : ℕ} {rates spreads : List ℕ} → Accepted n b rates → Accepted n c spreads → i < n →
     x ≡ least (nodeCount b i) (stored b rates i) → y ≡ least (nodeCount c i) (stored c spreads i) →
     ltb 0 (x * y / one) ≡ discounted b c rates spreads i
 unfolding discounted combined
-row-discounted n b c i x y rates spreads a a' hi ex ey =
+row-discounted {n} {b} {c} {i} {rates} {spreads} a a' hi ex ey =
     rw (ex, ey)
     (by-order p 0
     (λ h. le-ltb 0 p h
@@ -139,7 +139,7 @@ row-discounted n b c i x y rates spreads a a' hi ex ey =
     p : ℕ
     p = least (nodeCount b i) (stored b rates i) * least (nodeCount c i) (stored c spreads i) / one
 
-module _ (n b c : ℕ) (rates spreads : List ℕ) where
+module _ {n : ℕ} (b c : ℕ) (rates spreads : List ℕ) where
   pub combined-refused : (i : ℕ) → i < n → discounted b c rates spreads i ≡ false → 9 ≡ combinedCause n b c rates spreads
   unfolding combinedCause
   combined-refused i h e = sym (rw (each-fails n i (discounted b c rates spreads) h e))

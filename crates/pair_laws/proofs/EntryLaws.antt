@@ -104,10 +104,11 @@ passed-first : (cause later v e : ℕ) → cause ≡ 0 → priced later v e ≡ 
 unfolding firstCause
 passed-first cause later v e z = rw (eq-eqb cause 0 z)
 
-module _ (n b : ℕ) (rates : List ℕ) (m c : ℕ) (spreads flows : List ℕ) (cause : ℕ) (ec : cause ≡ pairCause n b rates m c spreads flows) where
-  pub entry-accepted : cause ≡ 0 → AcceptedPair n b c rates spreads flows
-  entry-accepted z = pair-accepted n b rates m c spreads flows (sym ec ∙ z)
+pub entry-accepted : {n b : ℕ} {rates : List ℕ} (m : ℕ) {c : ℕ} {spreads flows : List ℕ} {cause : ℕ} → cause ≡ pairCause n b rates m c spreads flows →
+    cause ≡ 0 → AcceptedPair n b c rates spreads flows
+entry-accepted {n} {b} {rates} m {c} {spreads} {flows} ec z = pair-accepted n b rates m c spreads flows (sym ec ∙ z)
 
+module _ (n b : ℕ) (rates : List ℕ) (m c : ℕ) (spreads flows : List ℕ) (cause : ℕ) (ec : cause ≡ pairCause n b rates m c spreads flows) where
   pub bond-refused : (p : Price) → p ≡ refusedPrice cause → (cause ≡ 0 → ⊥) → p ≡ pairBondPrice n b rates m c spreads flows
   unfolding pairBondPrice
   bond-refused p ep z = ep ∙ refused-first cause _ _ _ _ ec z
@@ -140,7 +141,7 @@ module _ (n b : ℕ) (rates : List ℕ) (m c : ℕ) (spreads flows : List ℕ) (
         few = dates-accepted n dates (causes .1) .before-end
 
         steps : n ≤ 60
-        steps = omega (arith, entry-accepted z .trees .few)
+        steps = omega (arith, entry-accepted m ec z .trees .few)
 
         pub exercisable : Exercisable terms n marks
         exercisable =

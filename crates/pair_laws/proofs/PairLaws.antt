@@ -172,7 +172,7 @@ module _ (rates spreads : Tree) (sound-rates : Sound rates) (sound-spreads : Sou
       (bond (pairEngine rates spreads rateDiscount spreadDiscount) flow n 0 (at 0 0))
       (bond (exactPair rates spreads rateDiscount spreadDiscount) flow n 0 (at 0 0))
   pair-bond-accurate flow =
-      bond-within n pairUnit rollLoss (Stands rates spreads) _ _ _ _ _
+      bond-within n pairUnit rollLoss (Stands rates spreads)
       (pair-close rollRounding 1 1 roll-rounds rates spreads sound-rates sound-spreads rateDiscount spreadDiscount n) pair-cost-covered
       pair-cost-covered flow (at 0 0) pair-root
 
@@ -182,7 +182,7 @@ module _ (rates spreads : Tree) (sound-rates : Sound rates) (sound-spreads : Sou
       (option (pairEngine rates spreads rateDiscount spreadDiscount) flow n side strike rows 0 (at 0 0))
       (option (exactPair rates spreads rateDiscount spreadDiscount) flow n side strike rows 0 (at 0 0))
   pair-option-accurate flow side strike rows h =
-      option-within n pairUnit rollLoss (Stands rates spreads) _ _ _ _ _
+      option-within n pairUnit rollLoss (Stands rates spreads)
       (pair-close rollRounding 1 1 roll-rounds rates spreads sound-rates sound-spreads rateDiscount spreadDiscount n) pair-cost-covered
       pair-cost-covered flow side strike rows h (at 0 0) pair-root
 

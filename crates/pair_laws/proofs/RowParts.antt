@@ -20,7 +20,9 @@ use Rattle.pair_laws.proofs.CauseLaws.{least-cong, least-most}
 
 module _ (n b i : ℕ) (discounts : List ℕ) (a : Accepted n b discounts) (hi : i < n) (s : RowShape) (es : s ≡ rowShapeAnswer b n i) where
   shape : s ≡ shapeOf b n i
-  shape = es ∙ sym (shape-found b n i (a .reversion-within-limit) (a .steps-within-limit) (omega arith) (omega (arith, a .steps-within-limit)))
+  shape =
+      let few = a .limits .steps-within-limit in
+      es ∙ sym (shape-found b n i (a .limits .reversion-within-limit) few (omega arith) (omega (arith, few)))
 
   count-is : s .count ≡ nodeCount b i
   count-is = ap (λ (x : RowShape). x .count) shape
@@ -43,6 +45,6 @@ module _ (n b i : ℕ) (discounts : List ℕ) (a : Accepted n b discounts) (hi :
       (λ k h. ap (λ (x : List ℕ). values x k) p ∙ part-value discounts (rowStart b i) (nodeCount b i) k h)
 
 -- the product of the least of two rows fits
-pub least-fits : (n m x y : ℕ) (f g : ℕ → ℕ) → x ≡ least n f → y ≡ least m g → x * y ≤ 1210000000000000000
-least-fits n m x y f g ex ey =
+pub least-fits : (n m : ℕ) {x y : ℕ} (f g : ℕ → ℕ) → x ≡ least n f → y ≡ least m g → x * y ≤ 1210000000000000000
+least-fits n m {x} {y} f g ex ey =
     mul-le-mul {n₁ = x} {m₁ = y} {n₂ = mostDiscount} {m₂ = mostDiscount} (omega (arith, ex, least-most n f)) (omega (arith, ey, least-most m g))

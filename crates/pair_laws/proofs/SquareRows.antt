@@ -50,7 +50,9 @@ row-fits b i h = omega (arith, half-within b i)
 
 module _ (n b i : ℕ) (discounts : List ℕ) (a : Accepted n b discounts) (hi : i < n) (s : RowShape) (es : s ≡ rowShapeAnswer b n i) where
   shape : s ≡ shapeOf b n i
-  shape = es ∙ sym (shapes.shape-found b n i (a .reversion-within-limit) (a .steps-within-limit) (omega arith) (omega (arith, a .steps-within-limit)))
+  shape =
+      let few = a .limits .steps-within-limit in
+      es ∙ sym (shapes.shape-found b n i (a .limits .reversion-within-limit) few (omega arith) (omega (arith, few)))
 
   count-is : s .count ≡ nodeCount b i
   count-is = ap (λ (x : RowShape). x .count) shape
@@ -110,7 +112,7 @@ module _ (n b i : ℕ) (discounts : List ℕ) (a : Accepted n b discounts) (hi :
     branch-at : (k : ℕ) → k < nodeCount b i → rowBranch table (s .next) k ≡ record { low = low b i k; probabilities = probabilities b (node b i k) }
     branch-at k h =
         rw (table-is, next-is)
-        (tables.part-branch b n i (omega arith) (downTable n b) table-size table-holds (a .reversion-within-limit) k h)
+        (tables.part-branch b n i (omega arith) (downTable n b) table-size table-holds (a .limits .reversion-within-limit) k h)
 
     pub part-branched : Branched table (s .next)
     part-branched k h =
@@ -118,7 +120,7 @@ module _ (n b i : ℕ) (discounts : List ℕ) (a : Accepted n b discounts) (hi :
         rw (branch-at k w)
         (record {
           inside = omega (arith, low-within b i k w, next-is);
-          total = omega (arith, index-laws b i k w (a .reversion-within-limit) .total);
+          total = omega (arith, index-laws b i k w (a .limits .reversion-within-limit) .total);
         })
 
     -- the average over a branch is the tree's

@@ -29,7 +29,7 @@ use Rattle.pair_laws.specs.inside.Square.{branchAverage, rateAverage, sp
 -- ---- one place
 
 -- values up to 8 × one: the sum fits 64 bits with the half that is added, and the average is no larger
-module _ (p q r x y z : ℕ) (h : p + q + r ≡ 600000000) (hx : x ≤ valueLimit) (hy : y ≤ valueLimit) (hz : z ≤ valueLimit) where
+module _ (p q r : ℕ) {x y z : ℕ} (h : p + q + r ≡ 600000000) (hx : x ≤ valueLimit) (hy : y ≤ valueLimit) (hz : z ≤ valueLimit) where
   pub sum-fits : p * x + q * y + r * z ≤ 4800000000000000000
   sum-fits = omega (arith, mul-le-mul-left p hx, mul-le-mul-left q hy, mul-le-mul-left r hz)
 
@@ -86,7 +86,7 @@ pub average-most :
     (b : RowBranch) (v : ℕ → ℕ) → branchTotal b ≡ probabilityTotal → ((k : ℕ) → k < b .low + 3 → v k ≤ valueLimit) → branchAverage b v ≤ valueLimit
 unfolding branchAverage
 average-most b v total h =
-    let a = average-is (branchUp b) (branchMiddle b) (branchDown b) (v (b .low + 2)) (v (b .low + 1)) (v (b .low)) total
+    let a = average-is (branchUp b) (branchMiddle b) (branchDown b) {x = v (b .low + 2)} {y = v (b .low + 1)} {z = v (b .low)} total
     (h (b .low + 2) (omega arith)) (h (b .low + 1) (omega arith)) (h (b .low) (omega arith)) in
     rw (sym (a .0)) (a .1)
 
@@ -121,8 +121,8 @@ line-more j f before after l v hl s e =
           (λ n. getD-set-other after (lineSize * j + l) (lineSize * j + t) v 0 (λ q. n (omega arith)) ∙ s .line t (omega (arith, n)));
     }
 
-pub line-done : (j : ℕ) (f : ℕ → ℕ) (before after : List ℕ) (l width : ℕ) → Line j f before after l → width ≤ l → Line j f before after width
-line-done j f before after l width s h = record { kept = s .kept; line = λ t ht. s .line t (omega arith) }
+pub line-done : {j : ℕ} {f : ℕ → ℕ} {before after : List ℕ} {l width : ℕ} → Line j f before after l → width ≤ l → Line j f before after width
+line-done s h = record { kept = s .kept; line = λ t ht. s .line t (omega arith) }
 
 -- a column that is written from its lowest place
 pub column-first : (l : ℕ) (f : ℕ → ℕ) (xs : List ℕ) → Column l f xs xs 0
@@ -147,8 +147,8 @@ column-more l f before after a v hl ha s e =
     }
 
 pub column-done :
-    (l : ℕ) (f : ℕ → ℕ) (before after : List ℕ) (a lines : ℕ) → Column l f before after a → lines ≤ a → Column l f before after lines
-column-done l f before after a lines s h = record { kept = s .kept; column = λ t ht. s .column t (omega arith) }
+    {l : ℕ} {f : ℕ → ℕ} {before after : List ℕ} {a lines : ℕ} → Column l f before after a → lines ≤ a → Column l f before after lines
+column-done s h = record { kept = s .kept; column = λ t ht. s .column t (omega arith) }
 
 -- line after line
 pub cells-none : (f : ℕ → ℕ → ℕ) (width : ℕ) (xs : List ℕ) → Cells f 0 width xs
@@ -166,9 +166,9 @@ cells-line f width before after j hw s line =
     }
 
 pub cells-done :
-    (f : ℕ → ℕ → ℕ) (lines width lines' width' : ℕ) (xs : List ℕ) → Cells f lines width xs → lines' ≤ lines → width' ≤ width →
+    {f : ℕ → ℕ → ℕ} {lines width lines' width' : ℕ} {xs : List ℕ} → Cells f lines width xs → lines' ≤ lines → width' ≤ width →
     Cells f lines' width' xs
-cells-done f lines width lines' width' xs s h g = record { same = λ a l ha hl. s .same a l (omega arith) (omega arith) }
+cells-done s h g = record { same = λ a l ha hl. s .same a l (omega arith) (omega arith) }
 
 -- column after column
 pub cells-empty : (f : ℕ → ℕ → ℕ) (lines : ℕ) (xs : List ℕ) → Cells f lines 0 xs

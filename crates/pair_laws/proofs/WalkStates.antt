@@ -73,8 +73,8 @@ module _ (n b c : ℕ) (rates spreads flows : List ℕ) (a : AcceptedPair n b c 
 
   keeps : Local on (rollOf b c rates spreads)
   keeps =
-      pair-local rollRounding 1 1 roll-rounds (rateTree b) (rateTree c) (rate-tree-sound b (a .trees .rate-tree .reversion-within-limit))
-      (rate-tree-sound c (a .trees .spread-tree .reversion-within-limit)) (stored b rates) (stored c spreads)
+      pair-local rollRounding 1 1 roll-rounds (rateTree b) (rateTree c) (rate-tree-sound b (a .trees .rate-tree .limits .reversion-within-limit))
+      (rate-tree-sound c (a .trees .spread-tree .limits .reversion-within-limit)) (stored b rates) (stored c spreads)
 
   -- row n
   pub bonds-first :
@@ -325,8 +325,8 @@ module _ (n b c : ℕ) (rates spreads : List ℕ) (t : AcceptedTrees n b c rates
       omega (
         arith,
         e,
-        pair-bound-small (rateTree b) (rateTree c) (rate-tree-sound b (t .rate-tree .reversion-within-limit))
-            (rate-tree-sound c (t .spread-tree .reversion-within-limit)) (stored b rates) (stored c spreads) n (lent-discounts n b rates (t .rate-tree))
+        pair-bound-small (rateTree b) (rateTree c) (rate-tree-sound b (t .rate-tree .limits .reversion-within-limit))
+            (rate-tree-sound c (t .spread-tree .limits .reversion-within-limit)) (stored b rates) (stored c spreads) n (lent-discounts n b rates (t .rate-tree))
             (lent-discounts n c spreads (t .spread-tree)) (t .few) i h,
       )
 

@@ -9,7 +9,7 @@ use price_laws::Price;
 ghost use mathlib.Core.Path.{_≡_};
 ghost use Prim.Native.Nat.{_≤_};
 ghost use lib.ListN.{length, take};
-ghost use Rattle.limits.specs.Limits.{mostSteps, mostReversion};
+ghost use Rattle.limits.specs.Limits.{mostSteps, mostReversion, mostNodes};
 ghost use Rattle.lattice.specs.Shape.{nodeCount};
 ghost use Rattle.exercise.specs.Terms.{side};
 ghost use Rattle.pricing_laws.specs.inside.Marks.{marked};
@@ -29,14 +29,14 @@ fn refused(number: u64) -> Price
     }
 }
 
-fn empty_table() -> [u64; 121]
-    ensures { λ r. ⌜ length r ≡ 121 ⌝ }
+fn empty_table() -> [u64; limits::MOST_NODES]
+    ensures { λ r. ⌜ length r ≡ mostNodes ⌝ }
 {
     [0; limits::MOST_NODES]
 }
 
 // The table of down-probabilities of a tree, worked out once for all rows.
-fn table_of(steps: usize, reversion: u64) -> [u64; 121]
+fn table_of(steps: usize, reversion: u64) -> [u64; limits::MOST_NODES]
     requires { ⌜ (steps ≤ mostSteps) × (reversion ≤ mostReversion) ⌝ }
     ensures { λ r. ⌜ take (nodeCount reversion steps) r ≡ downTable steps reversion ⌝ }
 {

@@ -1,8 +1,11 @@
 // Squares of values: a line of 41 places for each node of the rate side.
+use arithmetic::ONE;
 use row_branches::RowBranch;
+use tree::PROBABILITY_TOTAL;
 ghost use mathlib.Core.Path.{_≡_};
 ghost use Prim.Native.Nat.{_+_, _*_, _/_, _≤_, _<_};
 ghost use lib.ListN.{length, take, drop};
+ghost use Rattle.arithmetic.specs.Rounding.{one};
 ghost use Rattle.arithmetic.specs.Row.{values};
 ghost use Rattle.arithmetic.specs.Sum.{greatest};
 ghost use Rattle.tree.specs.Tree.{probabilityTotal};
@@ -33,10 +36,10 @@ ghost use Rattle.pair_laws.specs.inside.Square.{
 // The places of a line and of a square: 41 lines of 41 places.
 const LINE: usize = 41;
 
-const SQUARE: usize = 1681;
+pub(crate) const SQUARE: usize = 1681;
 
 // A square's memory.
-pub(crate) fn empty_square() -> [u64; 1681]
+pub(crate) fn empty_square() -> [u64; SQUARE]
     ensures { λ r. ⌜ length r ≡ squareSize ⌝ }
 {
     [0; SQUARE]
@@ -51,7 +54,7 @@ pub(crate) fn part(memory: &[u64], start: usize, count: usize) -> &[u64]
     &memory[start..end]
 }
 
-// Three places of a square, one stride apart, by the probabilities of a branch; divided by 600,000,000, nearest.
+// Three places of a square, one stride apart, by the probabilities of a branch; divided by their whole, nearest.
 fn average(branch: RowBranch, xs: &[u64], from: usize, stride: usize) -> u64
     requires { ⌜ (branchTotal branch ≡ probabilityTotal) × (from + 2 * stride < length (now xs)) × (values (now xs) from ≤ valueLimit)
         × (values (now xs) (from + stride) ≤ valueLimit) × (values (now xs) (from + 2 * stride) ≤ valueLimit) ⌝ }
@@ -63,15 +66,15 @@ fn average(branch: RowBranch, xs: &[u64], from: usize, stride: usize) -> u64
     let sum = probabilities[0] * xs[from + 2 * stride]
         + probabilities[1] * xs[from + stride]
         + probabilities[2] * xs[from];
-    (sum + 300_000_000) / 600_000_000
+    (sum + PROBABILITY_TOTAL / 2) / PROBABILITY_TOTAL
 }
 
 // A value times the product of two discounts over one, down; over one, nearest. It takes all 64 bits.
 fn discounted(value: u64, rate: u64, spread: u64) -> u64
     requires { ⌜ (value ≤ valueLimit) × (rate ≤ mostDiscount) × (spread ≤ mostDiscount) ⌝ }
-    ensures { λ r. ⌜ (r ≡ rollRounding (value * (rate * spread / 1000000000)) 1000000000) × (r ≤ 9680000000) ⌝ }
+    ensures { λ r. ⌜ (r ≡ rollRounding (value * (rate * spread / one)) one) × (r ≤ 9680000000) ⌝ }
 {
-    (value * (rate * spread / 1_000_000_000) + 500_000_000) / 1_000_000_000
+    (value * (rate * spread / ONE) + ONE / 2) / ONE
 }
 
 // Along the rate side at one node of the rates, over every column of the later square.

@@ -1,10 +1,12 @@
 // The way back through two trees, row by row.
 use crate::squares;
+use crate::squares::SQUARE;
+use arithmetic::ONE;
 use exercise::Terms;
 ghost use mathlib.Core.Path.{_≡_};
 ghost use Prim.Native.Nat.{_+_, _-_, _*_, _<_, _≤_};
 ghost use lib.ListN.{length};
-ghost use Rattle.arithmetic.specs.Rounding.{roundUp};
+ghost use Rattle.arithmetic.specs.Rounding.{one, roundUp};
 ghost use Rattle.limits.specs.Limits.{mostReversion};
 ghost use Rattle.lattice.specs.Shape.{nodeCount};
 ghost use Rattle.lattice.specs.RateTree.{rateTree};
@@ -50,8 +52,8 @@ fn roll_row(
     spread_downs: &[u64],
     rates: &[u64],
     spreads: &[u64],
-    memory: &mut [u64; 1681],
-    middle: &mut [u64; 1681],
+    memory: &mut [u64; SQUARE],
+    middle: &mut [u64; SQUARE],
 )
     requires { ⌜ AcceptedTrees (trees .steps) (trees .rate) (trees .spread) (now rates) (now spreads)
         × Tables (trees .steps) (trees .rate) (trees .spread) (now «rate_downs») (now «spread_downs») × (row < trees .steps) × (flow ≤ mostFlow)
@@ -83,7 +85,7 @@ fn lines_of(trees: Trees, row: usize) -> usize
 }
 
 // The greatest value of a row.
-fn greatest_of_row(trees: Trees, row: usize, memory: &[u64; 1681]) -> u64
+fn greatest_of_row(trees: Trees, row: usize, memory: &[u64; SQUARE]) -> u64
     requires { ⌜ (trees .rate ≤ mostReversion) × (trees .spread ≤ mostReversion) × (row ≤ mostPairSteps) ⌝ }
     ensures { λ r. ⌜ r ≡ greatestPair (trees .rate) (trees .spread) row (square (now (memory .entry))) ⌝ }
 {
@@ -101,8 +103,8 @@ fn bond_row(
     spread_downs: &[u64],
     rates: &[u64],
     spreads: &[u64],
-    bond: &mut [u64; 1681],
-    middle: &mut [u64; 1681],
+    bond: &mut [u64; SQUARE],
+    middle: &mut [u64; SQUARE],
 ) -> u64
     requires { ⌜ AcceptedTrees (trees .steps) (trees .rate) (trees .spread) (now rates) (now spreads)
         × Tables (trees .steps) (trees .rate) (trees .spread) (now «rate_downs») (now «spread_downs») × (row < trees .steps) × (flow ≤ mostFlow)
@@ -132,8 +134,8 @@ pub(crate) fn roll_bond(
     rates: &[u64],
     spreads: &[u64],
     flows: &[u64],
-    bond: &mut [u64; 1681],
-    middle: &mut [u64; 1681],
+    bond: &mut [u64; SQUARE],
+    middle: &mut [u64; SQUARE],
 ) -> u64
     requires { ⌜ AcceptedPair (trees .steps) (trees .rate) (trees .spread) (now rates) (now spreads) (now flows)
         × Tables (trees .steps) (trees .rate) (trees .spread) (now «rate_downs») (now «spread_downs») × (last ≤ trees .steps) ⌝ }
@@ -174,9 +176,9 @@ fn option_row(
     spread_downs: &[u64],
     rates: &[u64],
     spreads: &[u64],
-    bond: &[u64; 1681],
-    option: &mut [u64; 1681],
-    middle: &mut [u64; 1681],
+    bond: &[u64; SQUARE],
+    option: &mut [u64; SQUARE],
+    middle: &mut [u64; SQUARE],
 ) -> u64
     requires { ⌜ AcceptedTrees (trees .steps) (trees .rate) (trees .spread) (now rates) (now spreads)
         × Tables (trees .steps) (trees .rate) (trees .spread) (now «rate_downs») (now «spread_downs») × (row < trees .steps)
@@ -213,8 +215,8 @@ fn expiry_row(
     row: usize,
     terms: Terms,
     flow: u64,
-    bond: &[u64; 1681],
-    option: &mut [u64; 1681],
+    bond: &[u64; SQUARE],
+    option: &mut [u64; SQUARE],
 )
     requires { ⌜ (trees .rate ≤ mostReversion) × (row ≤ mostPairSteps) ⌝ }
     ensures { λ _. ⌜ ((k : Pair) → Stands (rateTree (trees .rate)) (rateTree (trees .spread)) row k → square (now (option .exit)) k
@@ -242,9 +244,9 @@ fn roll_both(
     rates: &[u64],
     spreads: &[u64],
     flows: &[u64],
-    bond: &mut [u64; 1681],
-    option: &mut [u64; 1681],
-    middle: &mut [u64; 1681],
+    bond: &mut [u64; SQUARE],
+    option: &mut [u64; SQUARE],
+    middle: &mut [u64; SQUARE],
 ) -> u64
     requires { ⌜ AcceptedPair (trees .steps) (trees .rate) (trees .spread) (now rates) (now spreads) (now flows)
         × Tables (trees .steps) (trees .rate) (trees .spread) (now «rate_downs») (now «spread_downs») × Exercisable terms (trees .steps) (now marks)
@@ -307,12 +309,12 @@ fn greatest_discount(steps: usize, reversion: u64, row: usize, discounts: &[u64]
 // The error bound of a row from the later one. The greatest discount of a pair is that of the greatest of both rows.
 fn bound_step(trees: Trees, row: usize, rates: &[u64], spreads: &[u64], later: u64) -> u64
     requires { ⌜ AcceptedTrees (trees .steps) (trees .rate) (trees .spread) (now rates) (now spreads) × (row < trees .steps) × (later ≤ 1000000) ⌝ }
-    ensures { λ r. ⌜ r ≡ roundUp (greatestOfRow (trees .rate) (trees .spread) (now (rates .entry)) (now (spreads .entry)) row * later) 1000000000
+    ensures { λ r. ⌜ r ≡ roundUp (greatestOfRow (trees .rate) (trees .spread) (now (rates .entry)) (now (spreads .entry)) row * later) one
         + rollLoss ⌝ }
 {
     let rate = greatest_discount(trees.steps, trees.rate, row, rates);
     let spread = greatest_discount(trees.steps, trees.spread, row, spreads);
-    (rate * spread / 1_000_000_000 * later + 999_999_999) / 1_000_000_000 + 2
+    (rate * spread / ONE * later + (ONE - 1)) / ONE + 2
 }
 
 // The error bound of row 0.
@@ -339,9 +341,9 @@ pub(crate) fn roll_option(
     rates: &[u64],
     spreads: &[u64],
     flows: &[u64],
-    bond: &mut [u64; 1681],
-    option: &mut [u64; 1681],
-    middle: &mut [u64; 1681],
+    bond: &mut [u64; SQUARE],
+    option: &mut [u64; SQUARE],
+    middle: &mut [u64; SQUARE],
 ) -> u64
     requires { ⌜ AcceptedPair (trees .steps) (trees .rate) (trees .spread) (now rates) (now spreads) (now flows)
         × Tables (trees .steps) (trees .rate) (trees .spread) (now «rate_downs») (now «spread_downs») × Exercisable terms (trees .steps) (now marks) ⌝ }

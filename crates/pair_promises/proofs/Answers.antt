@@ -75,7 +75,8 @@ module _ (n b : ℕ) (rates : List ℕ) (m c : ℕ) (spreads flows : List ℕ) w
         let r = a .trees .rate-tree in
         let s = a .trees .spread-tree in
         rw (bond-given .value, bond-given .bound)
-        (pair-bond-accurate (rateTree b) (rateTree c) (rate-tree-sound b (r .reversion-within-limit)) (rate-tree-sound c (s .reversion-within-limit))
+        (pair-bond-accurate (rateTree b) (rateTree c)
+        (rate-tree-sound b (r .limits .reversion-within-limit)) (rate-tree-sound c (s .limits .reversion-within-limit))
         (stored b rates) (stored c spreads) n (lent-discounts n b rates r) (lent-discounts n c spreads s) (flowAt flows))
 
   module _ (side : ℕ) (dates : List ℕ) (strike : ℕ) (h : pairDatedPrice n b rates m c spreads flows side dates strike .number ≡ 0) where
@@ -109,7 +110,8 @@ module _ (n b : ℕ) (rates : List ℕ) (m c : ℕ) (spreads flows : List ℕ) w
         let r = dated-accepted .trees .rate-tree in
         let s = dated-accepted .trees .spread-tree in
         rw (dated-given .value, dated-given .bound)
-        (pair-option-accurate (rateTree b) (rateTree c) (rate-tree-sound b (r .reversion-within-limit)) (rate-tree-sound c (s .reversion-within-limit))
+        (pair-option-accurate (rateTree b) (rateTree c)
+        (rate-tree-sound b (r .limits .reversion-within-limit)) (rate-tree-sound c (s .limits .reversion-within-limit))
         (stored b rates) (stored c spreads) n (lent-discounts n b rates r) (lent-discounts n c spreads s) (flowAt flows)
         (numberedSide side) strike (datedSchedule dates) ends)
 
@@ -123,8 +125,8 @@ module _ (n b : ℕ) (rates : List ℕ) (m c : ℕ) (spreads flows : List ℕ) w
       let a = dated-accepted side few strike zf in
       let r = a .trees .rate-tree in
       let s = a .trees .spread-tree in
-      let sr = rate-tree-sound b (r .reversion-within-limit) in
-      let ss = rate-tree-sound c (s .reversion-within-limit) in
+      let sr = rate-tree-sound b (r .limits .reversion-within-limit) in
+      let ss = rate-tree-sound c (s .limits .reversion-within-limit) in
       rw (dated-given side few strike zf .value, dated-given side many strike zm .value)
       (more-dates few many k (Stands (rateTree b) (rateTree c)) (pricerOf b c rates spreads)
       (pair-monotone rollRounding _ _ roll-rounds (rateTree b) (rateTree c) sr ss (stored b rates) (stored c spreads)) (flowAt flows) n

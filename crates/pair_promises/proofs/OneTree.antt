@@ -89,8 +89,8 @@ refused-any c v g nz = rw (ne-eqb c 0 nz)
 
 -- whole answers: the same causes, and the same price and bound where there is none
 answers-same :
-    (x y p q v w g h : ℕ) → x ≡ y → (y ≡ 0 → (p ≡ q) × (v ≡ w) × (g ≡ h)) → priced (firstCause x p) v g ≡ priced (firstCause y q) w h
-answers-same x y p q v w g h e same =
+    {x y p q v w g h : ℕ} → x ≡ y → (y ≡ 0 → (p ≡ q) × (v ≡ w) × (g ≡ h)) → priced (firstCause x p) v g ≡ priced (firstCause y q) w h
+answers-same {x} {y} {p} {q} {v} {w} {g} {h} e same =
     by-equal y 0
     (λ z.
     let s = same z in
@@ -151,7 +151,7 @@ module _ (n b : ℕ) (rates : List ℕ) (c : ℕ) (spreads flows : List ℕ) (fe
   unfolding discounted combined
   rates-combined z =
       let a = accepted n b rates z in
-      sym (combined-passed n b c rates spreads
+      sym (combined-passed b c rates spreads
       (λ i hi. each-all (nodeCount b i) _ (λ j hj. each-all (nodeCount c i) _
       (λ l hl. lt-ltb 0 (stored b rates i j * stored c spreads i l / one)
       (product-left (stored b rates i j) (stored c spreads i l) (at-least-one n b rates a i j hi hj) (one-at n c spreads o i l hi hl))))))
@@ -181,7 +181,7 @@ module _ (n b : ℕ) (rates : List ℕ) (c : ℕ) (spreads flows : List ℕ) (fe
       Follows n (Stands (rateTree b) (rateTree c)) (λ k. k .rate) (rollOf b c rates spreads) (roll (rateTree b) (stored b rates) rollRounding)
   unfolding rateTree
   rates-follow a =
-      follows-rates rollRounding 1 1 roll-rounds (rateTree b) (rateTree c) (rate-tree-sound b (a .reversion-within-limit))
+      follows-rates rollRounding 1 1 roll-rounds (rateTree b) (rateTree c) (rate-tree-sound b (a .limits .reversion-within-limit))
       (rate-tree-sound c (o .reversion)) (stored b rates) (stored c spreads) n (λ i k hi hk. one-at n c spreads o i k hi hk)
 
   rates-top : Top-follows (Stands (rateTree b) (rateTree c)) (λ k. k .rate) (greatestPair b c) (λ i v. greatest (nodeCount b i) v)
@@ -200,7 +200,7 @@ module _ (n b : ℕ) (rates : List ℕ) (c : ℕ) (spreads flows : List ℕ) (fe
   unfolding discounted combined
   spreads-combined z =
       let a = accepted n c spreads z in
-      sym (combined-passed n b c rates spreads
+      sym (combined-passed b c rates spreads
       (λ i hi. each-all (nodeCount b i) _ (λ j hj. each-all (nodeCount c i) _
       (λ l hl. lt-ltb 0 (stored b rates i j * stored c spreads i l / one)
       (product-right (stored b rates i j) (stored c spreads i l) (one-at n b rates o i j hi hj) (at-least-one n c spreads a i l hi hl))))))
@@ -231,7 +231,7 @@ module _ (n b : ℕ) (rates : List ℕ) (c : ℕ) (spreads flows : List ℕ) (fe
   unfolding rateTree
   spreads-follow a =
       follows-spreads rollRounding 1 1 roll-rounds (rateTree b) (rateTree c) (rate-tree-sound b (o .reversion))
-      (rate-tree-sound c (a .reversion-within-limit)) (stored b rates) (stored c spreads) n (λ i k hi hk. one-at n b rates o i k hi hk)
+      (rate-tree-sound c (a .limits .reversion-within-limit)) (stored b rates) (stored c spreads) n (λ i k hi hk. one-at n b rates o i k hi hk)
 
   spreads-top : Top-follows (Stands (rateTree b) (rateTree c)) (λ k. k .spread) (greatestPair b c) (λ i v. greatest (nodeCount c i) v)
   unfolding greatestPair rateTree
@@ -280,7 +280,7 @@ module _ (n b : ℕ) (rates : List ℕ) (c : ℕ) (spreads flows : List ℕ) (t 
   bond-alone : pairBondPrice n b rates n c spreads flows ≡ bondPrice n t us flows
   unfolding pairBondPrice bondPrice
   bond-alone =
-      answers-same _ _ _ _ _ _ _ _ causes
+      answers-same causes
       (λ z.
       let f = follows (tree-lent n t us flows z) in
       (ap limitCause (bond-tops n b c rates spreads flows t us to origin f tops), bond-value n b c rates spreads flows t us to origin f tops, bounds))
@@ -298,7 +298,7 @@ module _ (n b : ℕ) (rates : List ℕ) (c : ℕ) (spreads flows : List ℕ) (t 
         ← first-assoc (pairCause n b rates n c spreads flows) (datedCause n side dates strike),
         ← first-assoc (treeCause n t us flows) (datedCause n side dates strike),
       )
-      (answers-same _ _ _ _ _ _ _ _ (ap (λ (x : ℕ). firstCause x (datedCause n side dates strike)) causes)
+      (answers-same (ap (λ (x : ℕ). firstCause x (datedCause n side dates strike)) causes)
       (λ z.
       let y = first-none (treeCause n t us flows) (datedCause n side dates strike) z in
       let f = follows (tree-lent n t us flows (y .0)) in

@@ -79,7 +79,7 @@ module _ (rates spreads : Tree) (rateDiscount spreadDiscount : ℕ → ℕ → �
     pub unlisted-before : (i : ℕ) → i < rows .last → rows .listed i ≡ false → (k : Pair) →
         option exact flow n side strike rows i k ≡ exactlyBack i (option exact flow n side strike rows (suc i)) k
 
-  -- the price allowance, with G(i) the greatest combined discount of row i: 0 at row n, then G × later allowance / one, up, plus 2
+  -- the error bound, with G(i) the greatest combined discount of row i: 0 at row n, then G × later bound / one, up, plus 2
   pub record PairBoundRows (n : ℕ) : Type 0 where
     pub greatest-of-row : (i : ℕ) →
         greatestCombined rates spreads rateDiscount spreadDiscount i

@@ -19,7 +19,7 @@ use Rattle.arithmetic.proofs.RowLaws.{Filled, each-cong, each-fails}
 use Rattle.arithmetic.proofs.PaddedLaws.{filled-padded, padded-at}
 use Rattle.arithmetic.proofs.SumLaws.{greatest-none, greatest-next, greatest-le, greatest-cong}
 use Rattle.arithmetic.proofs.PartLaws.{part-is, part-value, part-length}
-use Rattle.limits.specs.Limits.{mostSteps, isDiscount}
+use Rattle.limits.specs.Limits.{mostSteps, mostDiscount, isDiscount}
 use Rattle.lattice.specs.Shape.{nodeCount, rowStart}
 use Rattle.lattice.specs.RateTree.{rateTree}
 use Rattle.lattice.specs.declared.RowShape.{RowShape}
@@ -38,7 +38,7 @@ use Rattle.price_bound.specs.inside.Rows.{rowAccepted, RowsBounded}
 use Rattle.price_bound.specs.PriceBound.{treeErrorBound, priceErrorBoundAnswer, greatestDiscounts, refusedBounds, treeBoundsAnswer}
 
 pub discount-within :
-    (n b i : ℕ) → i < n → (discounts : List ℕ) → Accepted n b discounts → (k : ℕ) → k < nodeCount b i → stored b discounts i k ≤ 1100000000
+    (n b i : ℕ) → i < n → (discounts : List ℕ) → Accepted n b discounts → (k : ℕ) → k < nodeCount b i → stored b discounts i k ≤ mostDiscount
 unfolding stored
 discount-within n b i hi discounts a k h = a .discounted (rowStart b i + k) (omega (arith, row-ends b i n hi))
 
@@ -53,14 +53,14 @@ module _ (n : ℕ) (rows : List ℕ) where
 
   pub bound-fits : RowsBounded n rows → (r bound : ℕ) → 0 < r → r ≤ n → bound ≡ bound-at r → values rows (r - 1) * bound ≤ 1100000000000000
   bound-fits k r bound some h e =
-      mul-le-mul {n₁ = values rows (r - 1)} {m₁ = bound} {n₂ = 1100000000} {m₂ = 1000000} (k .discounted (r - 1) (omega arith))
+      mul-le-mul {n₁ = values rows (r - 1)} {m₁ = bound} {n₂ = mostDiscount} {m₂ = 1000000} (k .discounted (r - 1) (omega arith))
       (omega (arith, k .bounds-small r h))
 
-  pub bound-next : (r bound : ℕ) → 0 < r → r ≤ n → bound ≡ bound-at r → (values rows (r - 1) * bound + 999999999) / 1000000000 + 2 ≡ bound-at (r - 1)
+  pub bound-next : (r bound : ℕ) → 0 < r → r ≤ n → bound ≡ bound-at r → (values rows (r - 1) * bound + (one - 1)) / one + 2 ≡ bound-at (r - 1)
   unfolding roundUp
   bound-next r bound some h e =
       let z : r ≡ suc (r - 1) = omega arith in
-      ap (λ (x : ℕ). (values rows (r - 1) * x + 999999999) / 1000000000 + 2) (e ∙ ap bound-at z)
+      ap (λ (x : ℕ). (values rows (r - 1) * x + (one - 1)) / one + 2) (e ∙ ap bound-at z)
       ∙ sym (error-bound-before rollLoss (values rows) n (r - 1) (omega arith))
 
 -- it depends on the rows of the tree alone
@@ -77,7 +77,7 @@ module _ (n b : ℕ) (discounts : List ℕ) (a : Accepted n b discounts) (rows :
 
   rows-are : (k : ℕ) → k < n → values rows k ≡ by-row k
   unfolding greatestDiscounts
-  rows-are k h = ap (λ (l : List ℕ). values l k) er ∙ padded-at mostSteps n by-row k (a .steps-within-limit) h
+  rows-are k h = ap (λ (l : List ℕ). values l k) er ∙ padded-at mostSteps n by-row k (a .limits .steps-within-limit) h
 
   same-bound : (i : ℕ) → i ≤ n → errorBound rollLoss (values rows) n i ≡ priceErrorBound (rateTree b) (stored b discounts) n i
   unfolding errorBound
@@ -87,14 +87,15 @@ module _ (n b : ℕ) (discounts : List ℕ) (a : Accepted n b discounts) (rows :
   unfolding rateTree greatestDiscount
   rows-bounded =
       record {
-        steps-within-limit = a .steps-within-limit;
+        steps-within-limit = a .limits .steps-within-limit;
         discounted = λ i h.
-            omega (arith, rows-are i h, greatest-le (nodeCount b i) (stored b discounts i) 1100000000 (discount-within n b i h discounts a));
+            omega (arith, rows-are i h, greatest-le (nodeCount b i) (stored b discounts i) mostDiscount (discount-within n b i h discounts a));
         bounds-small = λ i h.
             omega (
               arith,
               same-bound i h,
-              error-bound-small (rateTree b) (stored b discounts) n (λ r k hr hk. discount-within n b r hr discounts a k hk) (a .steps-within-limit) i h,
+              error-bound-small (rateTree b) (stored b discounts) n (λ r k hr hk. discount-within n b r hr discounts a k hk)
+                  (a .limits .steps-within-limit) i h,
             );
       }
 
@@ -109,7 +110,9 @@ module _ (n b i : ℕ) (discounts : List ℕ) (a : Lent n b discounts) (hi : i <
 
   module _ (s : RowShape) (es : s ≡ rowShapeAnswer b n i) where
     shape : s ≡ shapeOf b n i
-    shape = es ∙ sym (shape-found b n i (a .reversion-within-limit) (a .steps-within-limit) (omega arith) (omega (arith, a .steps-within-limit)))
+    shape =
+        let few = a .limits .steps-within-limit in
+        es ∙ sym (shape-found b n i (a .limits .reversion-within-limit) few (omega arith) (omega (arith, few)))
 
     count-is : s .count ≡ nodeCount b i
     count-is = ap (λ (x : RowShape). x .count) shape
@@ -180,10 +183,10 @@ ranged-next l top k top′ s h e =
       found = e ∙ ap (λ (x : ℕ). max x (values l k)) (s .found) ∙ sym (greatest-next k (values l));
     }
 
-pub ranged-done : (l : List ℕ) (top k : ℕ) → Ranged l top k → k ≡ length l → leb top 1100000000 ≡ each (length l) (λ j. isDiscount (values l j))
+pub ranged-done : (l : List ℕ) (top k : ℕ) → Ranged l top k → k ≡ length l → leb top mostDiscount ≡ each (length l) (λ j. isDiscount (values l j))
 ranged-done l top k s e =
-    ap (λ (x : ℕ). leb x 1100000000) (s .found)
-    ∙ sym (accepted-by-greatest k 1100000000 (values l) (s .positive))
+    ap (λ (x : ℕ). leb x mostDiscount) (s .found)
+    ∙ sym (accepted-by-greatest k mostDiscount (values l) (s .positive))
     ∙ ap (λ (m : ℕ). each m (λ j. isDiscount (values l j))) e
 
 pub ranged-greatest : (l : List ℕ) (top k : ℕ) → Ranged l top k → k ≡ length l → top ≡ greatest (length l) (values l)

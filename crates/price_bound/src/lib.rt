@@ -1,7 +1,9 @@
 // How far the prices on a tree may be from the exact ones, and the greatest discounts of its rows, from its lent discounts.
 use arithmetic::Answer;
+use arithmetic::ONE;
+use limits::MOST_STEPS;
 ghost use mathlib.Core.Path.{_≡_};
-ghost use mathlib.Core.Bool.{true};
+ghost use mathlib.Core.Bool.{true, false};
 ghost use Prim.Native.Nat.{_<_};
 ghost use lib.ListN.{length, replicate};
 ghost use Rattle.limits.specs.Limits.{mostSteps, isDiscount};
@@ -20,7 +22,7 @@ ghost use Rattle.price_bound.specs.inside.Rows.{rowAccepted, RowsBounded
 pub struct TreeErrorBounds {
     pub number: u64,
     pub bound: u64,
-    pub greatest: [u64; 60],
+    pub greatest: [u64; MOST_STEPS],
 }
 
 // The discounts of a row, or of all rows: whether they are accepted, and the greatest of each row.
@@ -31,7 +33,17 @@ struct RowRange {
 
 struct TreeRange {
     within: bool,
-    greatest: [u64; 60],
+    greatest: [u64; MOST_STEPS],
+}
+
+// A row with a discount that is not accepted.
+fn refused_row() -> RowRange
+    ensures { λ r. ⌜ r .within ≡ false ⌝ }
+{
+    RowRange {
+        within: false,
+        greatest: 0,
+    }
 }
 
 // One pass: the least discount and the greatest decide whether all are accepted.
@@ -44,10 +56,7 @@ fn range_of(discounts: &[u64]) -> RowRange
     while k < discounts.len() {
         let discount = discounts[k];
         if discount < 1 {
-            return RowRange {
-                within: false,
-                greatest: 0,
-            };
+            return refused_row();
         }
         top = arithmetic::larger(top, discount);
         k += 1;
@@ -70,10 +79,21 @@ fn row_range(steps: usize, reversion: u64, row: usize, discounts: &[u64]) -> Row
 }
 
 // Zeros, made apart so that no proof above sees them one by one.
-fn no_rows() -> [u64; 60]
+fn no_rows() -> [u64; MOST_STEPS]
     ensures { λ r. ⌜ r ≡ replicate mostSteps 0 ⌝ }
 {
-    [0u64; 60]
+    [0; MOST_STEPS]
+}
+
+// A tree with a row that is not accepted.
+fn refused_tree() -> TreeRange
+    ensures { λ r. ⌜ r .within ≡ false ⌝ }
+{
+    let none = no_rows();
+    TreeRange {
+        within: false,
+        greatest: none,
+    }
 }
 
 fn tree_range(steps: usize, reversion: u64, discounts: &[u64]) -> TreeRange
@@ -86,10 +106,7 @@ fn tree_range(steps: usize, reversion: u64, discounts: &[u64]) -> TreeRange
     while row < steps {
         let range = row_range(steps, reversion, row, discounts);
         if !range.within {
-            return TreeRange {
-                within: false,
-                greatest: rows,
-            };
+            return refused_tree();
         }
         rows[row] = range.greatest;
         row += 1;
@@ -101,7 +118,7 @@ fn tree_range(steps: usize, reversion: u64, discounts: &[u64]) -> TreeRange
 }
 
 // The error bound of row 0, from the greatest discounts of the rows.
-fn error_bound(steps: usize, rows: [u64; 60]) -> u64
+fn error_bound(steps: usize, rows: [u64; MOST_STEPS]) -> u64
     requires { ⌜ RowsBounded steps rows ⌝ }
     ensures { λ r. ⌜ r ≡ errorBound rollLoss (values rows) steps 0 ⌝ }
 {
@@ -109,7 +126,7 @@ fn error_bound(steps: usize, rows: [u64; 60]) -> u64
     let mut row = steps;
     while 0 < row {
         row -= 1;
-        bound = (rows[row] * bound + 999_999_999) / 1_000_000_000 + 2;
+        bound = (rows[row] * bound + (ONE - 1)) / ONE + 2;
     }
     bound
 }

@@ -84,7 +84,8 @@ module _ (n b : ℕ) (discounts flows : List ℕ) where
     unfolding bondValue treeErrorBound exactBond
     bond-within-bound =
         rw (bond-given .value, bond-given .bound)
-        (bond-accurate (rateTree b) (rate-tree-sound b (bond-tree .reversion-within-limit)) (stored b discounts) n (within-limit bond-tree) (flowAt flows))
+        (bond-accurate (rateTree b) (rate-tree-sound b (bond-tree .limits .reversion-within-limit)) (stored b discounts) n
+        (within-limit bond-tree) (flowAt flows))
 
     -- where no discount is above one, the bound is at most 2 a step
     pub bond-bound-a-step : ((k : ℕ) → k < discountsNeeded n b → values discounts k ≤ one) → bondPrice n b discounts flows .bound ≤ 2 * n
@@ -111,8 +112,8 @@ module _ (n b : ℕ) (discounts flows : List ℕ) where
     unfolding optionValue treeErrorBound
     scheduled-within =
         rw (scheduled-given .value, scheduled-given .bound)
-        (option-accurate (rateTree b) (rate-tree-sound b (option-tree .reversion-within-limit)) (stored b discounts) n (within-limit option-tree) (flowAt flows)
-        side strike rows (ends (first-none _ _ (causes .1) .0)))
+        (option-accurate (rateTree b) (rate-tree-sound b (option-tree .limits .reversion-within-limit)) (stored b discounts) n
+        (within-limit option-tree) (flowAt flows) side strike rows (ends (first-none _ _ (causes .1) .0)))
 
     scheduled-a-step :
         ((k : ℕ) → k < discountsNeeded n b → values discounts k ≤ one) → scheduledPrice n b discounts flows side strike rows cause .bound ≤ 2 * n

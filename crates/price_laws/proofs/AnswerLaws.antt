@@ -36,9 +36,9 @@ unfolding priced
 priced-given number cause v e v′ h z hv = rw (← h, z, hv)
 
 -- a cause that comes first is given; where there is none, the later one counts
-pub refused-first : (c cause later v e : ℕ) → c ≡ cause → (c ≡ 0 → ⊥) → refusedPrice c ≡ priced (firstCause cause later) v e
+pub refused-first : {c cause : ℕ} (later v e : ℕ) → c ≡ cause → (c ≡ 0 → ⊥) → refusedPrice c ≡ priced (firstCause cause later) v e
 unfolding firstCause priced
-refused-first c cause later v e h z = rw (← h, ne-eqb c 0 z, ne-eqb c 0 z)
+refused-first {c} later v e h z = rw (← h, ne-eqb c 0 z, ne-eqb c 0 z)
 
 pub passed-first : (cause later v e : ℕ) → cause ≡ 0 → priced later v e ≡ priced (firstCause cause later) v e
 unfolding firstCause
@@ -76,14 +76,14 @@ module _ (n b : ℕ) (discounts flows : List ℕ) where
     cause-alike : treeCause n b discounts flows ≡ 0 → (cause ≡ 0 → ⊥) →
         scheduledPrice n b discounts flows side strike rows cause ≡ scheduledPrice n b discounts flows side strike other cause
     cause-alike z nz =
-        sym (refused-first cause _ _ _ _ refl nz ∙ passed-first _ _ _ _ z) ∙ refused-first cause _ _ _ _ refl nz ∙ passed-first _ _ _ _ z
+        sym (refused-first _ _ _ refl nz ∙ passed-first _ _ _ _ z) ∙ refused-first _ _ _ refl nz ∙ passed-first _ _ _ _ z
 
     pub refused-alike : (treeCause n b discounts flows ≡ 0 → cause ≡ 0 → ⊥) →
         scheduledPrice n b discounts flows side strike rows cause ≡ scheduledPrice n b discounts flows side strike other cause
     refused-alike found =
         by-equal (treeCause n b discounts flows) 0
         (λ z. cause-alike z (found z))
-        (λ nz. sym (refused-first _ _ _ _ _ refl nz) ∙ refused-first _ _ _ _ _ refl nz)
+        (λ nz. sym (refused-first _ _ _ refl nz) ∙ refused-first _ _ _ refl nz)
 
 -- bond and option, each as it should be
 pub both-are : (r : BondAndOption) (bond option : Price) → r .bond ≡ bond → r .option ≡ option → r ≡ record { bond = bond; option = option }

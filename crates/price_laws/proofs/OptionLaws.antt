@@ -30,7 +30,7 @@ use Rattle.price_laws.proofs.AnswerLaws.{refused-alike, both-are}
 
 -- ---- a kind
 
-module _ (n kind expiry strike : ℕ) (cause : ℕ) (ec : cause ≡ optionCause n kind expiry strike) (terms : Terms) (et : terms ≡ termsOf kind expiry strike)
+module _ (n kind expiry strike : ℕ) {cause : ℕ} (ec : cause ≡ optionCause n kind expiry strike) (terms : Terms) (et : terms ≡ termsOf kind expiry strike)
     (dates : Dates) (ed : dates ≡ datesOfKind kind expiry) where
   abbrev handed : List ℕ
   handed = take (dates .count) (dates .rows)
@@ -38,7 +38,7 @@ module _ (n kind expiry strike : ℕ) (cause : ℕ) (ec : cause ≡ optionCause 
   -- an expiry that no tree has is a cause
   expiry-judged : (b : ℕ) (discounts flows : List ℕ) → mostSteps < expiry → treeCause n b discounts flows ≡ 0 → cause ≡ 0 → ⊥
   expiry-judged b discounts flows many z none =
-      omega (arith, tree-lent n b discounts flows z .steps-within-limit, option-accepted n kind expiry strike (sym ec ∙ none) .0)
+      omega (arith, tree-lent n b discounts flows z .limits .steps-within-limit, option-accepted n kind expiry strike (sym ec ∙ none) .0)
 
   same-rows : (b : ℕ) (discounts flows : List ℕ) →
       scheduledPrice n b discounts flows (sideOf kind) strike (datedSchedule handed) cause
@@ -62,10 +62,10 @@ module _ (n kind expiry strike : ℕ) (cause : ℕ) (ec : cause ≡ optionCause 
       ∙ ap (scheduledPrice n b discounts flows (sideOf kind) strike (scheduleOf kind expiry)) ec
 
   -- bond and option as the code has them, with an error bound e
-  pub kind-both : (b : ℕ) (discounts flows : List ℕ) (e : ℕ) (r : BondAndOption) → r .bond ≡ withBound (valueAlone (bondPrice n b discounts flows)) e →
+  pub kind-both : (b : ℕ) (discounts flows : List ℕ) (e : ℕ) {r : BondAndOption} → r .bond ≡ withBound (valueAlone (bondPrice n b discounts flows)) e →
       r .option ≡ withBound (valueAlone (scheduledPrice n b discounts flows (side (terms .call)) (terms .strike) (datedSchedule handed) cause)) e →
       r ≡ bothWith (bothValues (bondAndOption n b discounts flows kind expiry strike)) e
-  kind-both b discounts flows e r eb eo =
+  kind-both b discounts flows e {r} eb eo =
       both-are r _ _ eb (eo ∙ ap (λ (p : Price). withBound (valueAlone p) e) (kind-price b discounts flows))
 
 -- ---- an option on listed rows
@@ -76,7 +76,7 @@ dated-accepted n number dates strike z =
     let parts = lowest-none (termsCause number strike) (datesCause n dates) z in
     (dates-accepted n dates (parts .1) .before-end, parts .0)
 
-module _ (n number : ℕ) (dates : List ℕ) (strike : ℕ) (cause : ℕ) (ec : cause ≡ datedCause n number dates strike) (terms : Terms)
+module _ (n number : ℕ) (dates : List ℕ) (strike : ℕ) {cause : ℕ} (ec : cause ≡ datedCause n number dates strike) (terms : Terms)
     (et : terms ≡ datedTerms number dates strike) where
   pub dated-price : (b : ℕ) (discounts flows : List ℕ) →
       scheduledPrice n b discounts flows (side (terms .call)) (terms .strike) (datedSchedule dates) cause ≡ datedPrice n b discounts flows number dates strike
@@ -86,17 +86,17 @@ module _ (n number : ℕ) (dates : List ℕ) (strike : ℕ) (cause : ℕ) (ec : 
       (dated-side number dates strike terms et) (dated-strike number dates strike terms et)
       ∙ ap (scheduledPrice n b discounts flows (numberedSide number) strike (datedSchedule dates)) ec
 
-  pub dates-both : (b : ℕ) (discounts flows : List ℕ) (e : ℕ) (r : BondAndOption) → r .bond ≡ withBound (valueAlone (bondPrice n b discounts flows)) e →
+  pub dates-both : (b : ℕ) (discounts flows : List ℕ) (e : ℕ) {r : BondAndOption} → r .bond ≡ withBound (valueAlone (bondPrice n b discounts flows)) e →
       r .option ≡ withBound (valueAlone (scheduledPrice n b discounts flows (side (terms .call)) (terms .strike) (datedSchedule dates) cause)) e →
       r ≡ bothWith (bothValues (bondAndDatedOption n b discounts flows number dates strike)) e
-  dates-both b discounts flows e r eb eo =
+  dates-both b discounts flows e {r} eb eo =
       both-are r _ _ eb (eo ∙ ap (λ (p : Price). withBound (valueAlone p) e) (dated-price b discounts flows))
 
 -- the cause as the code works it out
-pub dated-cause-is : (n number : ℕ) (dates : List ℕ) (strike a l c : ℕ) → a ≡ termsCause number strike → l ≡ datesCause n dates → c ≡ lowestCause a l →
+pub dated-cause-is : (n number : ℕ) (dates : List ℕ) (strike : ℕ) {a l c : ℕ} → a ≡ termsCause number strike → l ≡ datesCause n dates → c ≡ lowestCause a l →
     c ≡ datedCause n number dates strike
 unfolding datedCause
-dated-cause-is n number dates strike a l c ea el ec = ec ∙ ap₂ lowestCause ea el
+dated-cause-is n number dates strike ea el ec = ec ∙ ap₂ lowestCause ea el
 
 -- ---- a kind and its list give one whole answer, wherever expiry is below n
 

@@ -34,7 +34,7 @@ module _ (n b : ℕ) (discounts flows : List ℕ) where
   unfolding optionValue
   dates-no-less side strike few many zf zm c =
       let causes = first-none _ _ (dated-given n b discounts flows side few strike zf .none) in
-      let sound = rate-tree-sound b (tree-lent n b discounts flows (causes .0) .reversion-within-limit) in
+      let sound = rate-tree-sound b (tree-lent n b discounts flows (causes .0) .limits .reversion-within-limit) in
       rw (dated-given n b discounts flows side few strike zf .value, dated-given n b discounts flows side many strike zm .value)
       (more-dates few many c (On (rateTree b)) (engine (rateTree b) (stored b discounts)) (engine-monotone (rateTree b) sound (stored b discounts))
       (flowAt flows) n (numberedSide side) strike (dates-passed side few strike zf) (dates-passed side many strike zm) 0 (omega (arith, sound .root)))

@@ -89,13 +89,13 @@ refused-is cause l e = rw e
 -- ---- the answer
 
 module _ (n b count : ℕ) (price : ℕ → Price) where
-  pub strip-refused : (cause : ℕ) → cause ≡ stripCause n b count → (cause ≡ 0 → ⊥) → refusedStrip cause ≡ stripAnswer n b count price
+  pub strip-refused : {cause : ℕ} → cause ≡ stripCause n b count → (cause ≡ 0 → ⊥) → refusedStrip cause ≡ stripAnswer n b count price
   unfolding stripAnswer
-  strip-refused cause e z = rw (← e, ne-eqb cause 0 z)
+  strip-refused {cause} e z = rw (← e, ne-eqb cause 0 z)
 
-  pub strip-given : (r : Strip) → stripCause n b count ≡ 0 → r ≡ stripOf count price → r ≡ stripAnswer n b count price
+  pub strip-given : {r : Strip} → stripCause n b count ≡ 0 → r ≡ stripOf count price → r ≡ stripAnswer n b count price
   unfolding stripAnswer
-  strip-given r z e = e ∙ rw (eq-eqb (stripCause n b count) 0 z)
+  strip-given z e = e ∙ rw (eq-eqb (stripCause n b count) 0 z)
 
   -- where the strip itself is refused the answers do not matter
   pub strip-any : (other : ℕ → Price) → (stripCause n b count ≡ 0 → ⊥) → stripAnswer n b count price ≡ stripAnswer n b count other
@@ -124,7 +124,7 @@ module _ (n b : ℕ) (discounts flows strikes : List ℕ) (e : ℕ) where
     -- with the tree's own bound each is the price
     pub strip-whole : (treeCause n b discounts flows ≡ 0 → e ≡ treeErrorBound n b discounts) →
         stripAnswer n b (length strikes) (eachWith e (strikePrice n b discounts flows side dates strikes)) ≡ optionStrip n b discounts flows side dates strikes
-    strip-whole he = strip-alike n b (length strikes) _ _ (λ k. dated-whole n b discounts flows e he side dates (values strikes k))
+    strip-whole he = strip-alike n b (length strikes) _ _ (λ k. dated-whole n b discounts flows he side dates (values strikes k))
 
   -- ---- of a kind
 
@@ -190,7 +190,7 @@ module _ (n b : ℕ) (discounts flows strikes : List ℕ) (e : ℕ) where
 
     pub kind-whole : (treeCause n b discounts flows ≡ 0 → e ≡ treeErrorBound n b discounts) →
         stripAnswer n b (length strikes) priced ≡ kindStrip n b discounts flows kind expiry strikes
-    kind-whole he = strip-alike n b (length strikes) _ _ (λ k. option-whole n b discounts flows e he kind expiry (values strikes k))
+    kind-whole he = strip-alike n b (length strikes) _ _ (λ k. option-whole n b discounts flows he kind expiry (values strikes k))
 
 -- ---- what is read off a strip
 
@@ -228,8 +228,8 @@ given-shown count price few =
 pub answer-shown : (n b count : ℕ) (price : ℕ → Price) → Shown (stripAnswer n b count price) count price
 answer-shown n b count price =
     by-equal (stripCause n b count) 0
-    (λ z. subst (λ (s : Strip). Shown s count price) (strip-given n b count price _ z refl) (given-shown count price (strip-few n b count z)))
-    (λ nz. subst (λ (s : Strip). Shown s count price) (strip-refused n b count price _ refl nz) (refused-shown _ count price nz))
+    (λ z. subst (λ (s : Strip). Shown s count price) (strip-given n b count price z refl) (given-shown count price (strip-few n b count z)))
+    (λ nz. subst (λ (s : Strip). Shown s count price) (strip-refused n b count price refl nz) (refused-shown _ count price nz))
 
 -- of listed rows, and of a kind
 pub listed-shown : (n b : ℕ) (discounts flows : List ℕ) (side : ℕ) (dates strikes : List ℕ) →

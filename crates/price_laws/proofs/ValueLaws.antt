@@ -51,7 +51,7 @@ priced-alike cause v e bound h =
 module _ (n b : ℕ) (discounts flows : List ℕ) (e : ℕ) where
   pub bond-refused : (c : ℕ) → c ≡ treeCause n b discounts flows → (c ≡ 0 → ⊥) → refusedPrice c ≡ withBound (valueAlone (bondPrice n b discounts flows)) e
   unfolding bondPrice
-  bond-refused c h z = refused-first c _ _ _ e h z ∙ sym (value-bounded _ _ _ e)
+  bond-refused c h z = refused-first _ _ e h z ∙ sym (value-bounded _ _ _ e)
 
   pub bond-passed : treeCause n b discounts flows ≡ 0 → (p : Price) → p ≡ acceptedBond n b discounts flows e →
       p ≡ withBound (valueAlone (bondPrice n b discounts flows)) e
@@ -61,11 +61,11 @@ module _ (n b : ℕ) (discounts flows : List ℕ) (e : ℕ) where
   module _ (side : Side) (strike : ℕ) (rows : Schedule) (cause : ℕ) where
     pub option-refused : (c : ℕ) → c ≡ treeCause n b discounts flows → (c ≡ 0 → ⊥) →
         refusedPrice c ≡ withBound (valueAlone (scheduledPrice n b discounts flows side strike rows cause)) e
-    option-refused c h z = refused-first c _ _ _ e h z ∙ sym (value-bounded _ _ _ e)
+    option-refused c h z = refused-first _ _ e h z ∙ sym (value-bounded _ _ _ e)
 
     module _ (z : treeCause n b discounts flows ≡ 0) where
       pub option-cause : (cause ≡ 0 → ⊥) → refusedPrice cause ≡ withBound (valueAlone (scheduledPrice n b discounts flows side strike rows cause)) e
-      option-cause nz = refused-first cause _ _ _ e refl nz ∙ passed-first _ _ _ e z ∙ sym (value-bounded _ _ _ e)
+      option-cause nz = refused-first _ _ e refl nz ∙ passed-first _ _ _ e z ∙ sym (value-bounded _ _ _ e)
 
       pub option-passed : cause ≡ 0 → (p : Price) → p ≡ acceptedOption n b discounts flows side strike rows e →
           p ≡ withBound (valueAlone (scheduledPrice n b discounts flows side strike rows cause)) e
@@ -102,7 +102,7 @@ module _ (n b : ℕ) (discounts flows : List ℕ) where
   dates-values-again side dates strike e = values-are _ _ _ (bond-value-again e) (dated-value-again side dates strike e)
 
   -- a bound that is the tree's where the tree has no cause
-  module _ (e : ℕ) (he : treeCause n b discounts flows ≡ 0 → e ≡ treeErrorBound n b discounts) where
+  module _ {e : ℕ} (he : treeCause n b discounts flows ≡ 0 → e ≡ treeErrorBound n b discounts) where
     whole : (later v : ℕ) →
         withBound (valueAlone (priced (firstCause (treeCause n b discounts flows) later) v (treeErrorBound n b discounts))) e
         ≡ priced (firstCause (treeCause n b discounts flows) later) v (treeErrorBound n b discounts)

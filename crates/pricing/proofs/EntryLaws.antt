@@ -11,7 +11,7 @@ use Rattle.arithmetic.specs.Row.{values}
 use Rattle.arithmetic.specs.Answers.{lowestCause}
 use Rattle.arithmetic.specs.declared.Answer.{Answer}
 use Rattle.arithmetic.proofs.CauseLaws.{lowest-none}
-use Rattle.limits.specs.Limits.{mostSteps, limitCause}
+use Rattle.limits.specs.Limits.{mostSteps, mostReversion, mostNodes, limitCause}
 use Rattle.limits.proofs.LimitLaws.{limit-kept, limit-accepted}
 use Rattle.lattice.specs.Shape.{halfWidth, nodeCount}
 use Rattle.lattice.specs.Entries.{aboutRow, tableOf}
@@ -42,17 +42,17 @@ use Rattle.pricing.specs.inside.Trees.{downTable, TreeBounded, Exercisab
 use Rattle.pricing.proofs.TreeRows.{table-size}
 
 -- what the lattice answers about row n
-module _ (n b : ℕ) (hn : n ≤ 60) (hb : b ≤ 6000) (a : Answer) where
+module _ (n b : ℕ) (hn : n ≤ mostSteps) (hb : b ≤ mostReversion) (a : Answer) where
   pub answer-value : (x : ℕ) → a ≡ aboutRow b n x → a .value ≡ x
   answer-value x e = ap (λ (y : Answer). y .value) (e ∙ row-found b n x hb hn)
 
-  pub widest-fits : a ≡ aboutRow b n (halfWidth b n) → 2 * a .value + 1 ≤ 121
+  pub widest-fits : a ≡ aboutRow b n (halfWidth b n) → 2 * a .value + 1 ≤ mostNodes
   unfolding nodeCount
   widest-fits e = omega (arith, answer-value (halfWidth b n) e, count-within b n hn)
 
   -- the table that the lattice fills at the start of a row is the table of row n
   pub table-filled :
-      (t after : List ℕ) → length t ≡ 121 → a ≡ aboutRow b n (halfWidth b n) → after ≡ tableOf b (a .value) (take (2 * a .value + 1) t) →
+      (t after : List ℕ) → length t ≡ mostNodes → a ≡ aboutRow b n (halfWidth b n) → after ≡ tableOf b (a .value) (take (2 * a .value + 1) t) →
       take (nodeCount b n) (after ++ drop (2 * a .value + 1) t) ≡ downTable n b
   unfolding nodeCount downTable
   table-filled t after room e et =
@@ -77,10 +77,10 @@ pub prefix-length : (k : ℕ) (t : List ℕ) → k ≤ length t → k ≡ length
 prefix-length k t h = sym (simp length-take (omega arith))
 
 -- the error bound of a tree, and the cause about it and its flows, as the code works them out
-pub tree-bounded : (n b : ℕ) (discounts flows : List ℕ) (a : Answer) (f c : ℕ) → a ≡ priceErrorBoundAnswer n b discounts → f ≡ flowsCause n flows →
+pub tree-bounded : {n b : ℕ} {discounts flows : List ℕ} {a : Answer} {f c : ℕ} → a ≡ priceErrorBoundAnswer n b discounts → f ≡ flowsCause n flows →
     c ≡ lowestCause (a .number) f → TreeBounded n b discounts flows (record { number = c; value = a .value })
 unfolding treeCause priceErrorBoundAnswer
-tree-bounded n b discounts flows a f c ea ef ec =
+tree-bounded {n} {b} {discounts} {flows} ea ef ec =
     record {
       cause-is = ec ∙ ap₂ lowestCause (ap (λ (x : Answer). x .number) ea ∙ bound-number n b discounts) ef;
       bound-is =
@@ -89,9 +89,9 @@ tree-bounded n b discounts flows a f c ea ef ec =
           ∙ rw (eq-eqb (discountsCause n b discounts) 0 (lowest-none (discountsCause n b discounts) (flowsCause n flows) z .0));
     }
 
-module _ (n b : ℕ) (discounts flows : List ℕ) where
+module _ {n b : ℕ} {discounts flows : List ℕ} where
   -- the bond of an accepted tree, with an error bound e
-  module _ (number e : ℕ) (l : List ℕ) (s : BondRolled n b discounts flows 0 number l) where
+  module _ {number : ℕ} (e : ℕ) {l : List ℕ} (s : BondRolled n b discounts flows 0 number l) where
     pub bond-refused : (number ≡ 0 → ⊥) → refusedPrice number ≡ acceptedBond n b discounts flows e
     unfolding bondPeak
     bond-refused z = priced-refused number _ _ _ (s .cause) z
@@ -101,8 +101,8 @@ module _ (n b : ℕ) (discounts flows : List ℕ) where
     bond-given z = priced-given number _ _ _ _ (s .cause) z (s .held z 0 (count-positive b 0))
 
   -- the option of an accepted tree, with an error bound e
-  module _ (side : Side) (strike : ℕ) (rows : Schedule) where
-    module _ (e : ℕ) (r : Rolled) (s : BothRolled n b discounts flows side strike rows r) where
+  module _ {side : Side} {strike : ℕ} {rows : Schedule} where
+    module _ (e : ℕ) {r : Rolled} (s : BothRolled n b discounts flows side strike rows r) where
       pub option-refused : (r .number ≡ 0 → ⊥) → refusedPrice (r .number) ≡ acceptedOption n b discounts flows side strike rows e
       option-refused z = priced-refused (r .number) _ _ _ (s .cause) z
 
@@ -119,7 +119,7 @@ module _ (n b : ℕ) (discounts flows : List ℕ) where
       beside-given z = priced-given 0 _ _ _ _ (bond-passed z) refl (s .bond-held z)
 
 -- an option by its kind, and one on listed rows, that the tree may have
-module _ (n kind expiry strike : ℕ) (cause : ℕ) (ec : cause ≡ optionCause n kind expiry strike) (terms : Terms) (et : terms ≡ termsOf kind expiry strike)
+module _ (n kind expiry strike : ℕ) {cause : ℕ} (ec : cause ≡ optionCause n kind expiry strike) (terms : Terms) (et : terms ≡ termsOf kind expiry strike)
     (dates : Dates) (ed : dates ≡ datesOfKind kind expiry) where
   abbrev handed : List ℕ
   handed = take (dates .count) (dates .rows)
@@ -135,7 +135,7 @@ module _ (n kind expiry strike : ℕ) (cause : ℕ) (ec : cause ≡ optionCause 
         strike-within = omega (arith, strike-found kind expiry strike terms et, judged .1);
       }
 
-module _ (n number : ℕ) (dates : List ℕ) (strike : ℕ) (cause : ℕ) (ec : cause ≡ datedCause n number dates strike) (terms : Terms)
+module _ {n : ℕ} (number : ℕ) {dates : List ℕ} (strike : ℕ) {cause : ℕ} (ec : cause ≡ datedCause n number dates strike) (terms : Terms)
     (et : terms ≡ datedTerms number dates strike) where
   pub dated-exercised : cause ≡ 0 → n ≤ mostSteps → ExercisedOn terms n dates
   dated-exercised z few =

@@ -41,7 +41,7 @@ module _ (downs discounts : List ℕ) (span : Span) (k : ℕ) (r : Rollable down
       ∙ branch-filled downs (span .next) k (r .total k within) .1
 
 -- what the roll of a node asks of its branch
-module _ (downs discounts later : List ℕ) (next k : ℕ) (r : Rollable downs discounts next) (l : Later later next) (hk : k < length discounts)
+module _ {downs discounts later : List ℕ} {next k : ℕ} (r : Rollable downs discounts next) (l : Later later next) (hk : k < length discounts)
     (b : RowBranch) (e : b ≡ rowBranch downs next k) where
   low-is : b .low ≡ rowBranch downs next k .low
   low-is = ap (λ (x : RowBranch). x .low) e
@@ -76,13 +76,13 @@ pub row-next :
     Row-state row₀ (set row k x) f top′ (k + 1)
 row-next row₀ row f top k x top′ s h e t =
     record {
-      filled = filled-next row₀ row f k x (s .filled) h e;
+      filled = filled-next (s .filled) h e;
       found = omega (arith, t, e, s .found, greatest-next k f);
     }
 
 pub row-done :
-    (row₀ row : List ℕ) (f : ℕ → ℕ) (top k n : ℕ) → Row-state row₀ row f top k → k ≡ n → FilledRow row n f top
-row-done row₀ row f top k n s e =
+    {row₀ row : List ℕ} {f : ℕ → ℕ} {top k n : ℕ} → Row-state row₀ row f top k → k ≡ n → FilledRow row n f top
+row-done {f} s e =
     record { held = λ j h. s .filled .done j (omega arith); found = s .found ∙ ap (λ (m : ℕ). greatest m f) e }
 
 -- The loop over both rows.
@@ -100,8 +100,8 @@ rows-none bond option f g =
     }
 
 -- behind nodes that are done
-pub rows-resume : (bond option : List ℕ) (f g : ℕ → ℕ) (top k : ℕ) → FilledRows bond option k f g top → Rows-state bond bond option option f g top k
-rows-resume bond option f g top k s =
+pub rows-resume : {bond option : List ℕ} {f g : ℕ → ℕ} {top k : ℕ} → FilledRows bond option k f g top → Rows-state bond bond option option f g top k
+rows-resume s =
     record {
       bond-filled = record { same = refl; done = s .bond-held; rest = λ j h. refl };
       option-filled = record { same = refl; done = s .option-held; rest = λ j h. refl };
@@ -114,16 +114,16 @@ pub rows-next :
     Rows-state bond₀ (set bond k x) option₀ (set option k y) f g top′ (k + 1)
 rows-next bond₀ bond option₀ option f g top k x y z top′ s hb ho ex ey ez t =
     record {
-      bond-filled = filled-next bond₀ bond f k x (s .bond-filled) hb ex;
-      option-filled = filled-next option₀ option g k y (s .option-filled) ho ey;
+      bond-filled = filled-next (s .bond-filled) hb ex;
+      option-filled = filled-next (s .option-filled) ho ey;
       found =
           t ∙ ap₂ max (s .found) (ez ∙ ap₂ max ex ey) ∙ sym (greatest-next k (λ j. max (f j) (g j)));
     }
 
 pub rows-done :
-    (bond₀ bond option₀ option : List ℕ) (f g : ℕ → ℕ) (top k n : ℕ) → Rows-state bond₀ bond option₀ option f g top k → k ≡ n →
+    {bond₀ bond option₀ option : List ℕ} {f g : ℕ → ℕ} {top k n : ℕ} → Rows-state bond₀ bond option₀ option f g top k → k ≡ n →
     FilledRows bond option n f g top
-rows-done bond₀ bond option₀ option f g top k n s e =
+rows-done {f} {g} s e =
     record {
       bond-held = λ j h. s .bond-filled .done j (omega arith);
       option-held = λ j h. s .option-filled .done j (omega arith);

@@ -42,21 +42,21 @@ module _ (n b : ℕ) (discounts flows : List ℕ) (number : ℕ) (dates : List �
     strike-price-is :
         (p : Price) → p ≡ acceptedOption n b discounts flows (side (terms .call)) (terms .strike) (marked (terms .last) marks) bound → p ≡ alone
     strike-price-is p ep =
-        let on = dated-exercised n number dates strike cause ec terms et z few in
+        let on = dated-exercised number strike ec terms et z few in
         option-passed n b discounts flows bound (side (terms .call)) (terms .strike) (datedSchedule dates) cause none z p
         (marked-price n b discounts flows (side (terms .call)) (terms .strike) (terms .last) marks dates bound p (omega (arith, on .before-end))
         (on .last-listed) em ep)
-        ∙ ap (λ (q : Price). withBound (valueAlone q) bound) (dated-price n number dates strike cause ec terms et b discounts flows)
+        ∙ ap (λ (q : Price). withBound (valueAlone q) bound) (dated-price n number dates strike ec terms et b discounts flows)
 
     -- the option may be exercised on the tree
     last-before : terms .last < n
     last-before =
-        let on = dated-exercised n number dates strike cause ec terms et z few in
+        let on = dated-exercised number strike ec terms et z few in
         omega (arith, on .last-listed, on .before-end)
 
     pub exercisable : Exercisable terms n marks × (terms .last < n)
     exercisable =
-        let on = dated-exercised n number dates strike cause ec terms et z few in (
+        let on = dated-exercised number strike ec terms et z few in (
           record {
             last-inside = omega (arith, last-before);
             marked-rows = omega (arith, on .last-listed, marks-room _ _ em (omega (arith, on .before-end)));
@@ -69,10 +69,10 @@ module _ (n b : ℕ) (discounts flows : List ℕ) (number : ℕ) (dates : List �
     module _ (r : Answer)
         (s : BothRolled n b discounts flows (side (terms .call)) (terms .strike) (marked (terms .last) marks) (besideBond n b discounts flows r)) where
       pub rolled-refuses : (r .number ≡ 0 → ⊥) → refusedPrice (r .number) ≡ alone
-      rolled-refuses nz = strike-price-is (refusedPrice (r .number)) (option-refused n b discounts flows _ _ _ bound _ s nz)
+      rolled-refuses nz = strike-price-is (refusedPrice (r .number)) (option-refused bound s nz)
 
       pub rolled-gives : r .number ≡ 0 → _≡_ {A = Price} (record { number = 0; value = r .value; bound = bound }) alone
-      rolled-gives e = strike-price-is (record { number = 0; value = r .value; bound = bound }) (option-given n b discounts flows _ _ _ bound _ s e)
+      rolled-gives e = strike-price-is (record { number = 0; value = r .value; bound = bound }) (option-given bound s e)
 
     -- a bond above the limit
     pub bond-refuses :

@@ -23,9 +23,9 @@ pub laying-start : (l : List ℕ) (start : ℕ) (f : ℕ → ℕ) → Laying l l
 laying-start l start f = record { same = refl; laid = record { done = λ k h. absurd (not-suc-le-zero h); rest = λ k h. refl } }
 
 pub laying-next :
-    (before l : List ℕ) (start : ℕ) (f : ℕ → ℕ) (k x : ℕ) → Laying before l start f k → start + k < length l → x ≡ f k →
+    {before l : List ℕ} {start : ℕ} {f : ℕ → ℕ} {k x : ℕ} → Laying before l start f k → start + k < length l → x ≡ f k →
     Laying before (set l (start + k) x) start f (k + 1)
-laying-next before l start f k x s h e =
+laying-next {l} {start} {k} {x} s h e =
     record {
       same = length-set l (start + k) x ∙ s .same;
       laid =

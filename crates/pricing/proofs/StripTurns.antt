@@ -10,7 +10,7 @@ use Rattle.arithmetic.specs.Answers.{refused, answered}
 use Rattle.arithmetic.specs.declared.Answer.{Answer}
 use Rattle.arithmetic.proofs.Numbers.{by-equal}
 use Rattle.arithmetic.proofs.PartLaws.{part-value, part-length}
-use Rattle.limits.specs.Limits.{mostDiscounts, valueLimit}
+use Rattle.limits.specs.Limits.{valueLimit, mostNodes, mostDiscounts}
 use Rattle.limits.proofs.LimitLaws.{limit-accepted}
 use Rattle.lattice.specs.declared.RowShape.{RowShape}
 use Rattle.lattice.specs.Shape.{nodeCount, rowStart}
@@ -32,7 +32,7 @@ use Rattle.pricing.proofs.WalkStates.{Bonds, Options}
 
 -- ---- the bond
 
-module _ (n b : ℕ) (downs discounts flows : List ℕ) (ready : Ready n b downs discounts flows) where
+module _ {n b : ℕ} {downs discounts flows : List ℕ} (ready : Ready n b downs discounts flows) where
   -- no row before row n is kept yet
   pub kept-none : (kept : List ℕ) → KeptFrom n b discounts flows n kept
   kept-none kept i k h l m = let none : ⊥ = omega arith in absurd none
@@ -40,19 +40,10 @@ module _ (n b : ℕ) (downs discounts flows : List ℕ) (ready : Ready n b downs
   -- one row more
   module _ (r : ℕ) (some : 0 < r) (before after bond : List ℕ) (rows : KeptFrom n b discounts flows r before)
       (s : Bonds n b discounts flows (r - 1) bond) (flow : ℕ) (ef : flow ≡ flowAt flows (r - 1))
-      (shape : RowShape) (es : shape ≡ rowShapeAnswer b n (r - 1)) (inside : r - 1 < n)
-      (laid : Laid before after (shape .start) (shape .count) (λ k. values bond k - flow)) where
-    start-is : shape .start ≡ rowStart b (r - 1)
-    start-is = parts.start-is n b (r - 1) discounts (ready .tree) inside shape es
-
-    count-is : shape .count ≡ nodeCount b (r - 1)
-    count-is = parts.count-is n b (r - 1) discounts (ready .tree) inside shape es
-
+      (laid : Laid before after (rowStart b (r - 1)) (nodeCount b (r - 1)) (λ k. values bond k - flow)) where
     row-here : (k : ℕ) → k < nodeCount b (r - 1) → values after (rowStart b (r - 1) + k) ≡ bareValue n b discounts flows (r - 1) k
     row-here k h =
-        ap (λ (x : ℕ). values after (x + k)) (sym start-is)
-        ∙ laid .done k (omega (arith, count-is))
-        ∙ ap₂ (λ (x y : ℕ). x - y) (walk.bonds-held n b discounts flows (ready .tree) (ready .paid) (r - 1) bond s k h) ef
+        laid .done k h ∙ ap₂ (λ (x y : ℕ). x - y) (walk.bonds-held n b discounts flows (ready .tree) (ready .paid) (r - 1) bond s k h) ef
 
     pub kept-next : KeptFrom n b discounts flows (r - 1) after
     kept-next i k h l m =
@@ -61,7 +52,7 @@ module _ (n b : ℕ) (downs discounts flows : List ℕ) (ready : Ready n b downs
         subst (λ (x : ℕ). k < nodeCount b x → values after (rowStart b x + k) ≡ bareValue n b discounts flows x k) (sym same) (row-here k) m)
         (λ other.
         let later : r ≤ i = omega arith in
-        laid .rest (rowStart b i + k) (omega (arith, start-is, count-is, row-ends b (r - 1) i (omega arith))) ∙ rows i k later l m)
+        laid .rest (rowStart b i + k) (omega (arith, row-ends b (r - 1) i (omega arith))) ∙ rows i k later l m)
 
   -- the answers
   pub kept-refused : (kept l : List ℕ) → BondRolled n b discounts flows 0 12 l → BondKept n b discounts flows 12 kept
@@ -81,9 +72,9 @@ module _ (n b : ℕ) (downs discounts flows : List ℕ) (ready : Ready n b downs
 
 -- a bond that was not refused
 pub kept-through :
-    (n b : ℕ) (discounts flows : List ℕ) (number : ℕ) (kept : List ℕ) → BondKept n b discounts flows number kept → number ≡ 0 →
+    {n b : ℕ} {discounts flows : List ℕ} {number : ℕ} {kept : List ℕ} → BondKept n b discounts flows number kept → number ≡ 0 →
     BondKept n b discounts flows 0 kept
-kept-through n b discounts flows number kept s z = subst (λ (x : ℕ). BondKept n b discounts flows x kept) z s
+kept-through {n} {b} {discounts} {flows} {kept} s z = subst (λ (x : ℕ). BondKept n b discounts flows x kept) z s
 
 -- ---- one option
 
@@ -92,7 +83,7 @@ pub record Alone (n b : ℕ) (discounts flows : List ℕ) (terms : Terms) (marks
   pub upto : r ≤ terms .last
   pub options : Options n b discounts flows (side (terms .call)) (terms .strike) (marked (terms .last) marks) r option
 
-module _ (n b : ℕ) (downs discounts flows : List ℕ) (ready : Ready n b downs discounts flows)
+module _ {n b : ℕ} {downs discounts flows : List ℕ} (ready : Ready n b downs discounts flows)
     (terms : Terms) (marks : List ℕ) (x : Exercisable terms n marks) (before-end : terms .last < n)
     (kept : List ℕ) (whole : BondKept n b discounts flows 0 kept) (long : mostDiscounts ≤ length kept) where
   within : bondPeak n b discounts flows ≤ valueLimit
@@ -110,7 +101,7 @@ module _ (n b : ℕ) (downs discounts flows : List ℕ) (ready : Ready n b downs
           ∙ part-length kept (shape .start) (shape .count) last-room
           ∙ parts.count-is n b (terms .last) discounts (ready .tree) before-end shape es
 
-      pub last-short : length bare ≤ 121
+      pub last-short : length bare ≤ mostNodes
       last-short =
           omega (
             arith,

@@ -58,12 +58,12 @@ module _ (n b i : ℕ) (hi : i < n) (discounts : List ℕ) (a : Accepted n b dis
   discount-part-at k h = part-value discounts (rowStart b i) (nodeCount b i) k h
 
   total-is : (k : ℕ) → k < nodeCount b i → upProbability b (node b i k) + middleProbability b (node b i k) + downProbability b (node b i k) ≡ probabilityTotal
-  total-is k h = index-laws b i k h (a .reversion-within-limit) .total
+  total-is k h = index-laws b i k h (a .limits .reversion-within-limit) .total
 
   branch-is : (k : ℕ) → k < nodeCount b i →
       rowBranch table-part (nodeCount b (suc i)) k
       ≡ record { low = low b i k; probabilities = probabilities b (node b i k) }
-  branch-is k h = tables.part-branch b n i (omega arith) (downTable n b) (table-size n b) (table-holds n b) (a .reversion-within-limit) k h
+  branch-is k h = tables.part-branch b n i (omega arith) (downTable n b) (table-size n b) (table-holds n b) (a .limits .reversion-within-limit) k h
 
   pub rollable : Rollable table-part discount-part (nodeCount b (suc i))
   rollable =

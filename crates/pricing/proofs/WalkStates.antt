@@ -11,7 +11,7 @@ use Rattle.arithmetic.specs.Sum.{greatest}
 use Rattle.arithmetic.proofs.Numbers.{by-order}
 use Rattle.arithmetic.proofs.SumLaws.{greatest-cong}
 use Rattle.arithmetic.specs.Answers.{refused, answered}
-use Rattle.limits.specs.Limits.{valueLimit, limitCause}
+use Rattle.limits.specs.Limits.{valueLimit, mostNodes, limitCause}
 use Rattle.limits.proofs.LimitLaws.{limit-above, limit-kept, limit-accepted}
 use Rattle.lattice.specs.Shape.{nodeCount}
 use Rattle.lattice.specs.RateTree.{rateTree}
@@ -30,6 +30,7 @@ use Rattle.pricing.specs.inside.Rows.{Limited, Holds, FilledRow, FilledR
 use Rattle.pricing.specs.inside.Trees.{rolledAt, bondStep, optionStep, BondRolled, BothRolled}
 use Rattle.pricing.specs.inside.Strips.{bareValue, KeptFrom, strikeStep, besideBond}
 use Rattle.lent_tree.specs.LentTree.{stored, Accepted}
+use Rattle.price_causes.specs.Causes.{mostStrike}
 use Rattle.price_causes.specs.inside.Flows.{AcceptedFlows}
 use Rattle.pricing.proofs.TreeRows.{flow-within}
 
@@ -55,9 +56,9 @@ pub Bonds : ℕ → ℕ → List ℕ → List ℕ → ℕ → List ℕ → Type 
 Bonds n b discounts flows i l =
     back.Bond-state n (On (rateTree b)) (top b) (roll (rateTree b) (stored b discounts) rollRounding) (flowAt flows) i (values l)
 
-pub bonds-inside : (n b : ℕ) (discounts flows : List ℕ) (i : ℕ) (l : List ℕ) → Bonds n b discounts flows i l → i ≤ n
+pub bonds-inside : {n : ℕ} (b : ℕ) (discounts flows : List ℕ) {i : ℕ} (l : List ℕ) → Bonds n b discounts flows i l → i ≤ n
 unfolding Bonds
-bonds-inside n b discounts flows i l s = s .in-tree
+bonds-inside b discounts flows l s = s .in-tree
 
 -- the option at row i stands in a list
 pub Options : ℕ → ℕ → List ℕ → List ℕ → Side → ℕ → Schedule → ℕ → List ℕ → Type 0
@@ -73,13 +74,13 @@ module _ (n b : ℕ) (discounts flows : List ℕ) (a : Accepted n b discounts) (
   great = row-greatest (rateTree b)
 
   local : back.Local (On (rateTree b)) the-roll
-  local = roll-local (rateTree b) (rate-tree-sound b (a .reversion-within-limit)) (stored b discounts) rollRounding
+  local = roll-local (rateTree b) (rate-tree-sound b (a .limits .reversion-within-limit)) (stored b discounts) rollRounding
 
-  narrow : (i k : ℕ) → i ≤ n → k < nodeCount b i → k < 121
-  narrow i k h l = omega (arith, count-within b i (omega (arith, a .steps-within-limit)))
+  narrow : (i k : ℕ) → i ≤ n → k < nodeCount b i → k < mostNodes
+  narrow i k h l = omega (arith, count-within b i (omega (arith, a .limits .steps-within-limit)))
 
   -- row n: its flow
-  pub bonds-first : (l : List ℕ) → Holds l 121 (λ k. flowAt flows n) → Bonds n b discounts flows n l
+  pub bonds-first : (l : List ℕ) → Holds l mostNodes (λ k. flowAt flows n) → Bonds n b discounts flows n l
   unfolding Bonds rateTree
   bonds-first l h =
       back.bond-first n (On (rateTree b)) (top b) great the-roll local (flowAt flows) (values l)
@@ -145,15 +146,15 @@ module _ (n b : ℕ) (discounts flows : List ℕ) (a : Accepted n b discounts) (
     Right = Options n b discounts flows side strike rows
 
     -- exercise values of a limited bond and strike are limited
-    exercise-limited : (s : Side) (k v : ℕ) → k ≤ 4000000000 → v ≤ valueLimit → exercise s k v ≤ valueLimit
+    exercise-limited : (s : Side) (k v : ℕ) → k ≤ mostStrike → v ≤ valueLimit → exercise s k v ≤ valueLimit
     unfolding exercise
     exercise-limited Side.call k v hk hv = omega arith
     exercise-limited Side.put k v hk hv = omega arith
 
     -- on the last row: the exercise values
     pub options-first :
-        (bonds l : List ℕ) → strike ≤ 4000000000 → Bonds n b discounts flows (rows .last) bonds →
-        Holds l 121 (λ k. exercise side strike (values bonds k - flowAt flows (rows .last))) → Right (rows .last) l
+        (bonds l : List ℕ) → strike ≤ mostStrike → Bonds n b discounts flows (rows .last) bonds →
+        Holds l (nodeCount b (rows .last)) (λ k. exercise side strike (values bonds k - flowAt flows (rows .last))) → Right (rows .last) l
     unfolding Bonds Options rateTree
     options-first bonds l hs s h =
         back.option-first n (On (rateTree b)) (top b) great the-roll local (flowAt flows) side strike rows (values bonds) (values l) s value-is
@@ -164,7 +165,7 @@ module _ (n b : ℕ) (discounts flows : List ℕ) (a : Accepted n b discounts) (
         less-flow x y h = omega arith
 
         value-is : (k : ℕ) → k < nodeCount b (rows .last) → values l k ≡ exercise side strike (values bonds k - flowAt flows (rows .last))
-        value-is k hk = h k (narrow (rows .last) k hl hk)
+        value-is k hk = h k hk
 
     pub options-limited : (i : ℕ) (later : List ℕ) → Right i later → Limited later (nodeCount b i)
     unfolding Options rateTree
@@ -308,7 +309,7 @@ module _ (n b : ℕ) (discounts flows : List ℕ) (a : Accepted n b discounts) (
 
       -- on the last row: the exercise values
       pub alone-first :
-          (bare l : List ℕ) → strike ≤ 4000000000 →
+          (bare l : List ℕ) → strike ≤ mostStrike →
           ((k : ℕ) → k < nodeCount b (rows .last) → values bare k ≡ bareValue n b discounts flows (rows .last) k) →
           Holds l (nodeCount b (rows .last)) (λ k. exercise side strike (values bare k)) → Right (rows .last) l
       unfolding Options rateTree
@@ -411,9 +412,9 @@ module _ (n b : ℕ) (discounts flows : List ℕ) (a : Accepted n b discounts) (
 
 -- a walk that was not refused
 pub rolled-through :
-    (n b : ℕ) (discounts flows : List ℕ) (i number : ℕ) (l : List ℕ) → number ≡ 0 → BondRolled n b discounts flows i number l →
+    {n b : ℕ} {discounts flows : List ℕ} {i number : ℕ} {l : List ℕ} → number ≡ 0 → BondRolled n b discounts flows i number l →
     BondRolled n b discounts flows i 0 l
-rolled-through n b discounts flows i number l z s = subst (λ (x : ℕ). BondRolled n b discounts flows i x l) z s
+rolled-through {n} {b} {discounts} {flows} {i} {l} z s = subst (λ (x : ℕ). BondRolled n b discounts flows i x l) z s
 
 -- what a walk came to, as the code answers it
 pub rolled-answer : {n b : ℕ} {discounts flows : List ℕ} {side : Side} {strike : ℕ} {rows : Schedule} {found : Rolled} (r : Rolled) → r ≡ found →

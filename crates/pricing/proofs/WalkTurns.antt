@@ -29,10 +29,10 @@ Both-filled right discounts bonds options bond option top =
     (bondStep (right .reversion) discounts (right .flow) (right .row) bonds)
     (optionStep (side (right .call)) (right .strike) (right .listed) (right .reversion) discounts (right .row) bonds options) top
 
-module _ (n b : ℕ) (downs discounts flows : List ℕ) (ready : Ready n b downs discounts flows)
+module _ {n b : ℕ} {downs discounts flows : List ℕ} (ready : Ready n b downs discounts flows)
     (r : ℕ) (row : List ℕ) (some : 0 < r) (s : Bonds n b discounts flows r row) (flow : ℕ) (ef : flow ≡ flowAt flows (r - 1)) where
   inside : r - 1 < n
-  inside = omega (arith, walk.bonds-inside n b discounts flows r row s)
+  inside = omega (arith, walk.bonds-inside b discounts flows row s)
 
   pub turn-steppable : Steppable n b (r - 1) flow downs discounts
   turn-steppable =
@@ -55,7 +55,7 @@ module _ (n b : ℕ) (downs discounts flows : List ℕ) (ready : Ready n b downs
 
     pub turn-over : (last : ℕ) (l : List ℕ) → last < r → valueLimit < top → BondRolled n b discounts flows last 12 l
     turn-over last l hl o =
-        walk.bond-refused n b discounts flows (ready .tree) (ready .paid) last r l hl (walk.bonds-inside n b discounts flows r row s)
+        walk.bond-refused n b discounts flows (ready .tree) (ready .paid) last r l hl (walk.bonds-inside b discounts flows row s)
         (walk.bonds-over n b discounts flows (ready .tree) (ready .paid) r row some s after (filled .held) top found o)
 
     pub turn-next : top ≤ valueLimit → Bonds n b discounts flows (r - 1) after
@@ -67,11 +67,11 @@ pub record Both (n b : ℕ) (discounts flows : List ℕ) (terms : Terms) (marks 
   pub bonds : Bonds n b discounts flows r bond
   pub options : Options n b discounts flows (side (terms .call)) (terms .strike) (marked (terms .last) marks) r option
 
-module _ (n b : ℕ) (downs discounts flows : List ℕ) (ready : Ready n b downs discounts flows)
+module _ {n b : ℕ} {downs discounts flows : List ℕ} (ready : Ready n b downs discounts flows)
     (terms : Terms) (marks : List ℕ) (x : Exercisable terms n marks) where
   -- on the last row: the exercise values
   pub both-first : (bond option : List ℕ) → BondRolled n b discounts flows (terms .last) 0 bond →
-      Holds option 121 (λ k. exercise (side (terms .call)) (terms .strike) (values bond k - flowAt flows (terms .last))) →
+      Holds option (nodeCount b (terms .last)) (λ k. exercise (side (terms .call)) (terms .strike) (values bond k - flowAt flows (terms .last))) →
       Both n b discounts flows terms marks (terms .last) bond option
   unfolding marked
   both-first bond option rolled h =
@@ -108,8 +108,8 @@ module _ (n b : ℕ) (downs discounts flows : List ℕ) (ready : Ready n b downs
         (λ (y : OptionStep). Steppable (y .steps) (y .reversion) (y .row) (y .flow) downs discounts
         × Limited bond (nodeCount (y .reversion) (y .row + 1)) × Limited option (nodeCount (y .reversion) (y .row + 1)))
         (sym ea) (
-          turn-steppable n b downs discounts flows ready r bond some (s .bonds) _ refl,
-          turn-limited n b downs discounts flows ready r bond some (s .bonds) _ refl,
+          turn-steppable ready r bond some (s .bonds) _ refl,
+          turn-limited ready r bond some (s .bonds) _ refl,
           rw e (walk.options-limited n b discounts flows (ready .tree) (ready .paid) (side (terms .call)) (terms .strike)
               (marked (terms .last) marks) (x .last-inside) r option (s .options)),
         )

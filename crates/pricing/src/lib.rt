@@ -5,7 +5,7 @@ mod strips;
 mod walk;
 
 use crate::strips::Shared;
-use crate::walk::Tree;
+use crate::walk::TreeShape;
 use arithmetic::Answer;
 use exercise::Terms;
 use price_laws::BondAndOption;
@@ -52,7 +52,7 @@ pub(crate) fn refused(number: u64) -> Price
 }
 
 // The table of down-probabilities, worked out once for all rows.
-fn table_of(steps: usize, reversion: u64) -> [u64; 121]
+fn table_of(steps: usize, reversion: u64) -> [u64; limits::MOST_NODES]
     requires { ⌜ (steps ≤ mostSteps) × (reversion ≤ mostReversion) ⌝ }
     ensures { λ r. ⌜ take (nodeCount reversion steps) r ≡ downTable steps reversion ⌝ }
 {
@@ -64,7 +64,7 @@ fn table_of(steps: usize, reversion: u64) -> [u64; 121]
 }
 
 // The bond of an accepted tree, with the error bound that is handed in.
-fn accepted_bond(tree: Tree, discounts: &[u64], flows: &[u64], bound: u64) -> Price
+fn accepted_bond(tree: TreeShape, discounts: &[u64], flows: &[u64], bound: u64) -> Price
     requires { ⌜ Accepted (tree .steps) (tree .reversion) (now discounts) × AcceptedFlows (tree .steps) (now flows) ⌝ }
     ensures { λ r. ⌜ r ≡ acceptedBond (tree .steps) (tree .reversion) (now (discounts .entry)) (now (flows .entry)) bound ⌝ }
 {
@@ -84,7 +84,7 @@ fn accepted_bond(tree: Tree, discounts: &[u64], flows: &[u64], bound: u64) -> Pr
 
 // Bond and option of an accepted tree, rolled together. Where a value of either is above the limit, the bond is priced alone.
 fn accepted_both(
-    tree: Tree,
+    tree: TreeShape,
     discounts: &[u64],
     flows: &[u64],
     terms: Terms,
@@ -144,7 +144,7 @@ fn tree_cause(steps: usize, reversion: u64, discounts: &[u64], flows: &[u64]) ->
 
 // ---- prices with an error bound that is handed in with the cause about the tree
 
-fn judged_bond(tree: Tree, discounts: &[u64], flows: &[u64], bound: Answer) -> Price
+fn judged_bond(tree: TreeShape, discounts: &[u64], flows: &[u64], bound: Answer) -> Price
     requires { ⌜ bound .number ≡ treeCause (tree .steps) (tree .reversion) (now discounts) (now flows) ⌝ }
     ensures { λ r. ⌜ r ≡ withBound (valueAlone (bondPrice (tree .steps) (tree .reversion) (now (discounts .entry)) (now (flows .entry)))) (bound .value) ⌝ }
 {
@@ -156,7 +156,7 @@ fn judged_bond(tree: Tree, discounts: &[u64], flows: &[u64], bound: Answer) -> P
 
 // Bond and option on these dates, where the option itself has a cause or none: a cause about the tree comes first.
 fn judged_both(
-    tree: Tree,
+    tree: TreeShape,
     discounts: &[u64],
     flows: &[u64],
     bound: Answer,
@@ -188,7 +188,7 @@ fn judged_both(
 }
 
 fn both_of_kind(
-    tree: Tree,
+    tree: TreeShape,
     discounts: &[u64],
     flows: &[u64],
     bound: Answer,
@@ -209,7 +209,7 @@ fn both_of_kind(
 }
 
 fn both_on_dates(
-    tree: Tree,
+    tree: TreeShape,
     discounts: &[u64],
     flows: &[u64],
     bound: Answer,
@@ -235,7 +235,7 @@ pub fn bond_price(steps: usize, reversion: u64, discounts: &[u64], flows: &[u64]
     ensures { λ r. ⌜ r ≡ bondPrice steps reversion (now (discounts .entry)) (now (flows .entry)) ⌝ }
 {
     let bound = tree_bound(steps, reversion, discounts, flows);
-    judged_bond(Tree { steps, reversion }, discounts, flows, bound)
+    judged_bond(TreeShape { steps, reversion }, discounts, flows, bound)
 }
 
 // The prices at row 0 of the bond and of an option on it, in one roll; each as the entry for it alone answers.
@@ -252,7 +252,7 @@ pub fn bond_and_option(
 {
     let bound = tree_bound(steps, reversion, discounts, flows);
     both_of_kind(
-        Tree { steps, reversion },
+        TreeShape { steps, reversion },
         discounts,
         flows,
         bound,
@@ -276,7 +276,7 @@ pub fn bond_and_dated_option(
 {
     let bound = tree_bound(steps, reversion, discounts, flows);
     both_on_dates(
-        Tree { steps, reversion },
+        TreeShape { steps, reversion },
         discounts,
         flows,
         bound,
@@ -343,7 +343,7 @@ pub fn bond_value(steps: usize, reversion: u64, discounts: &[u64], flows: &[u64]
     ensures { λ r. ⌜ r ≡ valueAlone (bondPrice steps reversion (now (discounts .entry)) (now (flows .entry))) ⌝ }
 {
     let cause = tree_cause(steps, reversion, discounts, flows);
-    value_of(judged_bond(Tree { steps, reversion }, discounts, flows, cause))
+    value_of(judged_bond(TreeShape { steps, reversion }, discounts, flows, cause))
 }
 
 // As `bond_and_option`.
@@ -360,7 +360,7 @@ pub fn bond_and_option_values(
 {
     let cause = tree_cause(steps, reversion, discounts, flows);
     values_of(both_of_kind(
-        Tree { steps, reversion },
+        TreeShape { steps, reversion },
         discounts,
         flows,
         cause,
@@ -384,7 +384,7 @@ pub fn bond_and_dated_option_values(
 {
     let cause = tree_cause(steps, reversion, discounts, flows);
     values_of(both_on_dates(
-        Tree { steps, reversion },
+        TreeShape { steps, reversion },
         discounts,
         flows,
         cause,
@@ -398,7 +398,7 @@ pub fn bond_and_dated_option_values(
 
 // The strip of an accepted tree, with the error bound that is handed in: the bond's rows are kept, then each strike is rolled beside them.
 fn accepted_strip(
-    tree: Tree,
+    tree: TreeShape,
     discounts: &[u64],
     flows: &[u64],
     side: u64,
@@ -412,7 +412,7 @@ fn accepted_strip(
 {
     let nodes = lattice::node_count(tree.reversion, tree.steps).value as usize;
     let table = table_of(tree.steps, tree.reversion);
-    let mut kept = strips::empty_rows();
+    let mut kept = limits::discount_room();
     let bond = walk::keep_bond(tree, &table[..nodes], discounts, flows, &mut kept);
     let marks = exercise_dates::marks_of(dates);
     let shared = Shared {
@@ -437,7 +437,7 @@ fn accepted_strip(
 
 // A strip on these dates, with an error bound that is handed in with the cause about the tree.
 fn judged_strip(
-    tree: Tree,
+    tree: TreeShape,
     discounts: &[u64],
     flows: &[u64],
     bound: Answer,
@@ -472,7 +472,7 @@ fn side_of_kind(kind: u64) -> u64
 }
 
 // A strip of a kind that is refused, or whose expiry is: so is every strike, but a cause about the tree comes first.
-fn refused_kind(tree: Tree, bound: Answer, cause: u64, count: usize) -> Strip
+fn refused_kind(tree: TreeShape, bound: Answer, cause: u64, count: usize) -> Strip
     ensures { λ r. ⌜ r ≡ stripAnswer (tree .steps) (tree .reversion) count (λ k. refusedPrice (firstCause (bound .number) cause)) ⌝ }
 {
     let own = strips::strip_cause(tree.steps, tree.reversion, count);
@@ -487,7 +487,7 @@ fn refused_kind(tree: Tree, bound: Answer, cause: u64, count: usize) -> Strip
 
 // A strip of a kind, by its list.
 fn strip_of_kind(
-    tree: Tree,
+    tree: TreeShape,
     discounts: &[u64],
     flows: &[u64],
     bound: Answer,
@@ -532,7 +532,7 @@ pub fn option_strip(
 {
     let bound = tree_bound(steps, reversion, discounts, flows);
     judged_strip(
-        Tree { steps, reversion },
+        TreeShape { steps, reversion },
         discounts,
         flows,
         bound,
@@ -556,7 +556,7 @@ pub fn option_strip_of_kind(
 {
     let bound = tree_bound(steps, reversion, discounts, flows);
     strip_of_kind(
-        Tree { steps, reversion },
+        TreeShape { steps, reversion },
         discounts,
         flows,
         bound,
@@ -594,7 +594,7 @@ pub fn bounded_strip(
 {
     let bound = known_bound(tree, discounts, flows);
     judged_strip(
-        Tree {
+        TreeShape {
             steps: tree.steps,
             reversion: tree.reversion,
         },
@@ -621,7 +621,7 @@ pub fn bounded_strip_of_kind(
 {
     let bound = known_bound(tree, discounts, flows);
     strip_of_kind(
-        Tree {
+        TreeShape {
             steps: tree.steps,
             reversion: tree.reversion,
         },

@@ -1,6 +1,9 @@
 // One row of the tree, rolled back from the row after it.
+use arithmetic::ONE;
 use exercise::Terms;
+use limits::MOST_NODES;
 use row_branches::RowBranch;
+use tree::PROBABILITY_TOTAL;
 ghost use mathlib.Core.Path.{_≡_};
 ghost use Prim.Native.Nat.{_+_, _-_, _*_, _<_, _≤_};
 ghost use lib.ListN.{length};
@@ -22,6 +25,7 @@ ghost use Rattle.pricing.specs.inside.Rows.{
   betweenEdges,
   Leads,
   branchRoll,
+  mostRoll,
   bondValues,
   optionValues,
   Rollable,
@@ -31,30 +35,27 @@ ghost use Rattle.pricing.specs.inside.Rows.{
   FilledRow,
   FilledRows,
 };
-ghost use Rattle.pricing.specs.inside.Strips.{Laid, strikeValues};
-
-// The nodes of the widest row.
-const MOST_NODES: usize = 121;
+ghost use Rattle.pricing.specs.inside.Strips.{Paid, Laid, strikeValues};
 
 // A row's memory.
-pub(crate) fn empty_row() -> [u64; 121]
-    ensures { λ r. ⌜ length r ≡ 121 ⌝ }
+pub(crate) fn empty_row() -> [u64; MOST_NODES]
+    ensures { λ r. ⌜ length r ≡ mostNodes ⌝ }
 {
     [0; MOST_NODES]
 }
 
-// The roll of a node along its branch: divided by 600,000,000, nearest; then discounted, nearest.
+// The roll of a node along its branch: divided by the whole of the probabilities, nearest; then discounted, nearest.
 fn roll_node(branch: RowBranch, later: &[u64], discount: u64) -> u64
     requires { ⌜ (branch .low + 2 < length (now later)) × (branchTotal branch ≡ probabilityTotal)
         × Limited (now later) (branch .low + 3) × (discount ≤ mostDiscount) ⌝ }
-    ensures { λ r. ⌜ (r ≡ branchRoll branch (values (now (later .entry))) discount) × (r ≤ 8800000000) ⌝ }
+    ensures { λ r. ⌜ (r ≡ branchRoll branch (values (now (later .entry))) discount) × (r ≤ mostRoll) ⌝ }
 {
     let low = branch.low;
     let probabilities = branch.probabilities;
     let sum = probabilities[0] * later[low + 2]
         + probabilities[1] * later[low + 1]
         + probabilities[2] * later[low];
-    ((sum + 300_000_000) / 600_000_000 * discount + 500_000_000) / 1_000_000_000
+    ((sum + PROBABILITY_TOTAL / 2) / PROBABILITY_TOTAL * discount + ONE / 2) / ONE
 }
 
 // Nodes of a row that all branch alike: from one on, before another, each leads to the node of the next row at its own index less a shift, and to the
@@ -123,7 +124,7 @@ fn span_branch(downs: &[u64], shift: usize, index: usize) -> RowBranch
     let up = downs[downs.len() - 1 - index];
     RowBranch {
         low: index - shift,
-        probabilities: [up, 600_000_000 - down - up, down],
+        probabilities: [up, PROBABILITY_TOTAL - down - up, down],
     }
 }
 
@@ -246,6 +247,63 @@ fn option_nodes(
     top
 }
 
+// Bond and option on a row whose edges branch inwards, its spans one after the other.
+fn capped_option_row(
+    right: RowRight,
+    downs: &[u64],
+    discounts: &[u64],
+    bonds: &[u64],
+    options: &[u64],
+    bond: &mut [u64],
+    option: &mut [u64],
+) -> u64
+    requires { ⌜ Rollable (now downs) (now discounts) (right .next) × Later (now bonds) (right .next) × Later (now options) (right .next)
+        × (length (now discounts) ≤ length (now bond)) × (length (now discounts) ≤ length (now option)) × (right .flow ≤ mostFlow)
+        × (right .next ≤ length (now discounts)) ⌝ }
+    ensures { λ r. ⌜ FilledRows (now (bond .exit)) (now (option .exit)) (length (now (discounts .entry)))
+        (bondValues (now (bonds .entry)) (now (downs .entry)) (now (discounts .entry)) (right .next) (right .flow))
+        (optionValues (side (right .call)) (right .strike) (right .listed)
+        (now (bonds .entry)) (now (options .entry)) (now (downs .entry)) (now (discounts .entry)) (right .next)) r ⌝ }
+{
+    let count = discounts.len();
+    let first = lowest(right.next);
+    let low = option_nodes(
+        right,
+        first,
+        downs,
+        discounts,
+        bonds,
+        options,
+        bond,
+        option,
+        0,
+    );
+    let second = inner(count, right.next);
+    let middle = option_nodes(
+        right,
+        second,
+        downs,
+        discounts,
+        bonds,
+        options,
+        bond,
+        option,
+        low,
+    );
+    let last = highest(count, right.next);
+    option_nodes(
+        right,
+        last,
+        downs,
+        discounts,
+        bonds,
+        options,
+        bond,
+        option,
+        middle,
+    )
+}
+
 // Rolls bond and option back by one row together. The option is exercised on the bond before the row's flow is added. Gives the greatest value of the
 // two rows.
 pub(crate) fn option_row(
@@ -266,24 +324,13 @@ pub(crate) fn option_row(
 {
     let count = discounts.len();
     let next = right.next;
-    if count < next {
-        let whole = growing(count, next);
-        return option_nodes(
-            right,
-            whole,
-            downs,
-            discounts,
-            bonds,
-            options,
-            bond,
-            option,
-            0,
-        );
+    if next <= count {
+        return capped_option_row(right, downs, discounts, bonds, options, bond, option);
     }
-    let first = lowest(next);
-    let low = option_nodes(
+    let whole = growing(count, next);
+    option_nodes(
         right,
-        first,
+        whole,
         downs,
         discounts,
         bonds,
@@ -291,43 +338,19 @@ pub(crate) fn option_row(
         bond,
         option,
         0,
-    );
-    let second = inner(count, next);
-    let middle = option_nodes(
-        right,
-        second,
-        downs,
-        discounts,
-        bonds,
-        options,
-        bond,
-        option,
-        low,
-    );
-    let last = highest(count, next);
-    option_nodes(
-        right,
-        last,
-        downs,
-        discounts,
-        bonds,
-        options,
-        bond,
-        option,
-        middle,
     )
 }
 
-// The exercise values of a row of the bond, which holds the row's flow.
-pub(crate) fn exercise_row(terms: Terms, flow: u64, bond: &[u64], option: &mut [u64])
-    requires { ⌜ length (now option) ≡ length (now bond) ⌝ }
-    ensures { λ _. ⌜ Holds (now (option .exit)) (length (now (option .entry)))
+// The exercise values of the first `count` nodes of a row of the bond, which holds the row's flow.
+pub(crate) fn exercise_row(terms: Terms, flow: u64, count: usize, bond: &[u64], option: &mut [u64])
+    requires { ⌜ (count ≤ length (now bond)) × (count ≤ length (now option)) ⌝ }
+    ensures { λ _. ⌜ Holds (now (option .exit)) count
         (λ k. exercise (side (terms .call)) (terms .strike) (values (now (bond .entry)) k - flow)) ⌝ }
 {
     let call = terms.call;
     let strike = terms.strike;
     let mut k: usize = 0;
-    while k < option.len() {
+    while k < count {
         option[k] = exercise::expiry_value(call, strike, bond[k], flow);
         k += 1;
     }
@@ -344,21 +367,20 @@ pub(crate) fn fill_row(value: u64, row: &mut [u64])
     }
 }
 
-// The bond without the row's flow.
-fn without(bond: u64, flow: u64) -> u64
-    ensures { λ r. ⌜ r ≡ bond - flow ⌝ }
-{
-    if flow < bond { bond - flow } else { 0 }
-}
-
-// Keeps the first `count` nodes of a row of the bond, without its flow, from a place of a memory on.
-pub(crate) fn keep_row(bond: &[u64; 121], flow: u64, kept: &mut [u64], start: usize, count: usize)
-    requires { ⌜ (count ≤ mostNodes) × (start + count ≤ length (now kept)) ⌝ }
+// Keeps the first `count` nodes of a row of the bond, each of which has the row's flow, without it, from a place of a memory on.
+pub(crate) fn keep_row(
+    bond: &[u64; MOST_NODES],
+    flow: u64,
+    kept: &mut [u64],
+    start: usize,
+    count: usize,
+)
+    requires { ⌜ (count ≤ mostNodes) × (start + count ≤ length (now kept)) × Paid (now bond) count flow ⌝ }
     ensures { λ _. ⌜ Laid (now (kept .entry)) (now (kept .exit)) start count (λ k. values (now (bond .entry)) k - flow) ⌝ }
 {
     let mut k: usize = 0;
     while k < count {
-        kept[start + k] = without(bond[k], flow);
+        kept[start + k] = bond[k] - flow;
         k += 1;
     }
 }

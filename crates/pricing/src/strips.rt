@@ -1,19 +1,15 @@
 // The strikes of a strip, one after the other, and what they share.
 use crate::walk;
-use crate::walk::Tree;
+use crate::walk::TreeShape;
 use price_laws::MOST_STRIKES;
 use price_laws::Price;
 use price_laws::Strip;
 ghost use mathlib.Core.Path.{_≡_};
 ghost use Prim.Native.Nat.{_≤_};
 ghost use lib.ListN.{length, replicate};
-ghost use Rattle.limits.specs.Limits.{mostDiscounts};
 ghost use Rattle.price_laws.specs.Prices.{refusedPrice, valueAlone, withBound, datedPrice};
 ghost use Rattle.price_laws.specs.Strips.{mostStrikes, stripCause, refusedStrip, stripOf, strikePrice, eachWith};
 ghost use Rattle.pricing.specs.inside.Strips.{Shareable};
-
-// Rows 0 to 59 of the widest tree: 1, 3, 5 and so on.
-const MOST_DISCOUNTS: usize = limits::MOST_STEPS * limits::MOST_STEPS;
 
 // What all strikes of a strip share: the tree, the option's side, an error bound, and the causes about the list and about the bond.
 pub(crate) struct Shared {
@@ -23,13 +19,6 @@ pub(crate) struct Shared {
     pub(crate) bound: u64,
     pub(crate) list: u64,
     pub(crate) bond: u64,
-}
-
-// A memory for each row of the widest tree.
-pub(crate) fn empty_rows() -> [u64; MOST_DISCOUNTS]
-    ensures { λ r. ⌜ length r ≡ mostDiscounts ⌝ }
-{
-    [0; MOST_DISCOUNTS]
 }
 
 fn no_answers() -> [u64; MOST_STRIKES]
@@ -111,7 +100,7 @@ fn strike_price(
         return crate::refused(shared.bond);
     }
     let terms = exercise_dates::terms_on(shared.side, dates, strike);
-    let tree = Tree {
+    let tree = TreeShape {
         steps: shared.steps,
         reversion: shared.reversion,
     };

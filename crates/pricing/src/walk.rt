@@ -3,16 +3,18 @@ use crate::rows;
 use crate::rows::RowRight;
 use arithmetic::Answer;
 use exercise::Terms;
+use limits::MOST_NODES;
 ghost use mathlib.Core.Path.{_≡_};
 ghost use Prim.Native.Nat.{_+_, _-_, _*_, _<_, _≤_};
 ghost use lib.ListN.{length, take, drop};
 ghost use Rattle.arithmetic.specs.Row.{values};
 ghost use Rattle.arithmetic.specs.Answers.{refused, answered};
-ghost use Rattle.lattice.specs.Shape.{nodeCount};
+ghost use Rattle.lattice.specs.Shape.{nodeCount, rowStart};
+ghost use Rattle.pricing_laws.specs.Pricer.{exercise};
 ghost use Rattle.pricing_laws.specs.inside.Marks.{marked};
 ghost use Rattle.exercise.specs.Terms.{side};
 ghost use Rattle.price_laws.specs.Prices.{flowAt};
-ghost use Rattle.pricing.specs.inside.Rows.{Limited, FilledRow, FilledRows};
+ghost use Rattle.pricing.specs.inside.Rows.{Limited, Holds, FilledRow, FilledRows};
 ghost use Rattle.pricing.specs.inside.Trees.{
   Ready,
   Exercisable,
@@ -23,11 +25,11 @@ ghost use Rattle.pricing.specs.inside.Trees.{
   BondRolled,
   BothRolled,
 };
-ghost use Rattle.limits.specs.Limits.{mostDiscounts};
-ghost use Rattle.pricing.specs.inside.Strips.{BondKept, strikeStep, besideBond};
+ghost use Rattle.limits.specs.Limits.{mostSteps, mostReversion, mostDiscounts};
+ghost use Rattle.pricing.specs.inside.Strips.{Laid, BondKept, strikeStep, besideBond};
 
 // A tree's number of steps and its reversion.
-pub(crate) struct Tree {
+pub(crate) struct TreeShape {
     pub(crate) steps: usize,
     pub(crate) reversion: u64,
 }
@@ -70,7 +72,13 @@ fn part(memory: &[u64], start: usize, count: usize) -> &[u64]
     &memory[start..end]
 }
 
-fn option_step_at(tree: Tree, flows: &[u64], terms: Terms, marks: &[u8], row: usize) -> OptionStep
+fn option_step_at(
+    tree: TreeShape,
+    flows: &[u64],
+    terms: Terms,
+    marks: &[u8],
+    row: usize,
+) -> OptionStep
     requires { ⌜ (row ≤ length (now flows)) × (row < length (now marks)) ⌝ }
     ensures { λ r. ⌜ r ≡ optionStepAt (tree .steps) (tree .reversion) (now (flows .entry)) terms (now (marks .entry)) row ⌝ }
 {
@@ -87,13 +95,13 @@ fn option_step_at(tree: Tree, flows: &[u64], terms: Terms, marks: &[u8], row: us
 
 // The bond one row back, with the row's flow. Gives the row's greatest value.
 fn bond_step(
-    tree: Tree,
+    tree: TreeShape,
     row: usize,
     flow: u64,
     downs: &[u64],
     discounts: &[u64],
-    later: &[u64; 121],
-    bond: &mut [u64; 121],
+    later: &[u64; MOST_NODES],
+    bond: &mut [u64; MOST_NODES],
 ) -> u64
     requires { ⌜ Steppable (tree .steps) (tree .reversion) row flow (now downs) (now discounts)
         × Limited (now later) (nodeCount (tree .reversion) (row + 1)) ⌝ }
@@ -116,10 +124,10 @@ fn option_step(
     right: OptionStep,
     downs: &[u64],
     discounts: &[u64],
-    bonds: &[u64; 121],
-    options: &[u64; 121],
-    bond: &mut [u64; 121],
-    option: &mut [u64; 121],
+    bonds: &[u64; MOST_NODES],
+    options: &[u64; MOST_NODES],
+    bond: &mut [u64; MOST_NODES],
+    option: &mut [u64; MOST_NODES],
 ) -> u64
     requires { ⌜ Steppable (right .steps) (right .reversion) (right .row) (right .flow) (now downs) (now discounts)
         × Limited (now bonds) (nodeCount (right .reversion) (right .row + 1))
@@ -150,12 +158,12 @@ fn option_step(
 
 // The bond from row n back to row `last`, two rows a turn, so that no row is copied on the way. 12 where a value is above 8 × one.
 pub(crate) fn roll_bond(
-    tree: Tree,
+    tree: TreeShape,
     last: usize,
     downs: &[u64],
     discounts: &[u64],
     flows: &[u64],
-    bond: &mut [u64; 121],
+    bond: &mut [u64; MOST_NODES],
 ) -> u64
     requires { ⌜ Ready (tree .steps) (tree .reversion) (now downs) (now discounts) (now flows) × (last ≤ tree .steps) ⌝ }
     ensures { λ r. ⌜ BondRolled (tree .steps) (tree .reversion) (now (discounts .entry)) (now (flows .entry)) last r (now (bond .exit)) ⌝ }
@@ -182,7 +190,7 @@ pub(crate) fn roll_bond(
     0
 }
 
-fn at_root(bond: &[u64; 121], option: &[u64; 121]) -> Rolled
+fn at_root(bond: &[u64; MOST_NODES], option: &[u64; MOST_NODES]) -> Rolled
     ensures { λ r. ⌜ r ≡ record { number = 0; bond = values (now (bond .entry)) 0; option = values (now (option .entry)) 0 } ⌝ }
 {
     Rolled {
@@ -202,15 +210,31 @@ fn over() -> Rolled
     }
 }
 
+// The option on its last row, beside the bond: the exercise values.
+fn exercise_step(
+    reversion: u64,
+    terms: Terms,
+    flows: &[u64],
+    bond: &[u64; MOST_NODES],
+    option: &mut [u64; MOST_NODES],
+)
+    requires { ⌜ (reversion ≤ mostReversion) × (terms .last ≤ mostSteps) × (terms .last ≤ length (now flows)) ⌝ }
+    ensures { λ _. ⌜ Holds (now (option .exit)) (nodeCount reversion (terms .last))
+        (λ k. exercise (side (terms .call)) (terms .strike) (values (now (bond .entry)) k - flowAt (now (flows .entry)) (terms .last))) ⌝ }
+{
+    let count = lattice::node_count(reversion, terms.last).value as usize;
+    rows::exercise_row(terms, flow_of(flows, terms.last), count, bond, option);
+}
+
 // The option from its last row back to row 0, and the bond with it, two rows a turn. 12 where a value on the way is above 8 × one.
 fn roll_option(
-    tree: Tree,
+    tree: TreeShape,
     terms: Terms,
     marks: &[u8],
     downs: &[u64],
     discounts: &[u64],
     flows: &[u64],
-    bond: &mut [u64; 121],
+    bond: &mut [u64; MOST_NODES],
 ) -> Rolled
     requires { ⌜ Ready (tree .steps) (tree .reversion) (now downs) (now discounts) (now flows) × Exercisable terms (tree .steps) (now marks)
         × BondRolled (tree .steps) (tree .reversion) (now discounts) (now flows) (terms .last) 0 (now bond) ⌝ }
@@ -218,7 +242,7 @@ fn roll_option(
         (marked (terms .last) (now (marks .entry))) r ⌝ }
 {
     let mut option = rows::empty_row();
-    rows::exercise_row(terms, flow_of(flows, terms.last), bond, &mut option);
+    exercise_step(tree.reversion, terms, flows, bond, &mut option);
     let mut bonds = rows::empty_row();
     let mut options = rows::empty_row();
     let mut row = terms.last;
@@ -260,7 +284,7 @@ fn roll_option(
 
 // The bond back to the option's last row, then both together: one pass over the tree.
 pub(crate) fn roll_both(
-    tree: Tree,
+    tree: TreeShape,
     terms: Terms,
     marks: &[u8],
     downs: &[u64],
@@ -278,9 +302,40 @@ pub(crate) fn roll_both(
     roll_option(tree, terms, marks, downs, discounts, flows, &mut bond)
 }
 
-// The bond from row n back to row 0, each row before n kept without its flow. 12 where a value is above 8 × one.
+// As `bond_step`, and keeps the row without its flow.
+fn keep_step(
+    tree: TreeShape,
+    row: usize,
+    flow: u64,
+    downs: &[u64],
+    discounts: &[u64],
+    later: &[u64; MOST_NODES],
+    bond: &mut [u64; MOST_NODES],
+    kept: &mut [u64],
+) -> u64
+    requires { ⌜ Steppable (tree .steps) (tree .reversion) row flow (now downs) (now discounts)
+        × Limited (now later) (nodeCount (tree .reversion) (row + 1)) × (mostDiscounts ≤ length (now kept)) ⌝ }
+    ensures rolled { λ r. ⌜ FilledRow (now (bond .exit)) (nodeCount (tree .reversion) row)
+        (bondStep (tree .reversion) (now (discounts .entry)) flow row (now (later .entry))) r ⌝ }
+    ensures laid { λ _. ⌜ Laid (now (kept .entry)) (now (kept .exit)) (rowStart (tree .reversion) row) (nodeCount (tree .reversion) row)
+        (λ k. values (now (bond .exit)) k - flow) ⌝ }
+{
+    let shape = lattice::row_shape(tree.reversion, tree.steps, row);
+    let greatest = rows::bond_row(
+        bond,
+        later,
+        part(downs, shape.offset, shape.count),
+        part(discounts, shape.start, shape.count),
+        shape.next,
+        flow,
+    );
+    rows::keep_row(bond, flow, kept, shape.start, shape.count);
+    greatest
+}
+
+// The bond from row n back to row 0, two rows a turn, each row before n kept without its flow. 12 where a value is above 8 × one.
 pub(crate) fn keep_bond(
-    tree: Tree,
+    tree: TreeShape,
     downs: &[u64],
     discounts: &[u64],
     flows: &[u64],
@@ -296,12 +351,19 @@ pub(crate) fn keep_bond(
     while 0 < row {
         row -= 1;
         let flow = flow_of(flows, row);
-        if limits::VALUE_LIMIT < bond_step(tree, row, flow, downs, discounts, &bond, &mut other) {
+        let first = keep_step(tree, row, flow, downs, discounts, &bond, &mut other, kept);
+        if limits::VALUE_LIMIT < first {
             return 12;
         }
-        let shape = lattice::row_shape(tree.reversion, tree.steps, row);
-        rows::keep_row(&other, flow, kept, shape.start, shape.count);
-        bond = other;
+        if row == 0 {
+            return 0;
+        }
+        row -= 1;
+        let before = flow_of(flows, row);
+        let second = keep_step(tree, row, before, downs, discounts, &other, &mut bond, kept);
+        if limits::VALUE_LIMIT < second {
+            return 12;
+        }
     }
     0
 }
@@ -312,8 +374,8 @@ fn strike_step(
     downs: &[u64],
     discounts: &[u64],
     kept: &[u64],
-    options: &[u64; 121],
-    option: &mut [u64; 121],
+    options: &[u64; MOST_NODES],
+    option: &mut [u64; MOST_NODES],
 ) -> u64
     requires { ⌜ Steppable (right .steps) (right .reversion) (right .row) (right .flow) (now downs) (now discounts)
         × Limited (now options) (nodeCount (right .reversion) (right .row + 1)) × (mostDiscounts ≤ length (now kept)) ⌝ }
@@ -348,7 +410,7 @@ fn past_limit() -> Answer
     }
 }
 
-fn first_value(option: &[u64; 121]) -> Answer
+fn first_value(option: &[u64; MOST_NODES]) -> Answer
     ensures { λ r. ⌜ r ≡ answered (values (now (option .entry)) 0) ⌝ }
 {
     Answer {
@@ -359,7 +421,7 @@ fn first_value(option: &[u64; 121]) -> Answer
 
 // One option from its last row back to row 0, beside the kept rows of the bond, two rows a turn. 12 where a value on the way is above 8 × one.
 pub(crate) fn roll_strike(
-    tree: Tree,
+    tree: TreeShape,
     terms: Terms,
     marks: &[u8],
     downs: &[u64],

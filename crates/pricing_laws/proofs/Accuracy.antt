@@ -45,7 +45,7 @@ module _ {Node : Type 0} (n unit : ℕ) (Stands : ℕ → Node → Type 0) (roll
         Near (l i) (u i) (unit ^ s) (bondFrom (rounded roll) flow s i k) (bondFrom (fractions unit exact) flow s i k)
     unfolding bondFrom bareBondFrom
     bond-near zero i e k hk = record { above = omega arith; below = omega arith }
-    bond-near (suc s) i e k hk = near-flow _ _ _ _ _ (flow i) (rolled-near s i e (bond-near s (suc i) (omega arith)) k hk)
+    bond-near (suc s) i e k hk = near-flow (flow i) (rolled-near s i e (bond-near s (suc i) (omega arith)) k hk)
 
     bare-near :
         (s i : ℕ) → i + s ≡ n → (k : Node) → Stands i k →
@@ -83,7 +83,7 @@ module _ {Node : Type 0} (n unit : ℕ) (Stands : ℕ → Node → Type 0) (roll
     unfolding optionFrom
     option-near listed zero i h k hk = exercise-near i (omega arith) k hk
     option-near listed (suc s) i h k hk =
-        near-held (listed i) _ _ _ _ _ _ _
+        near-held (listed i)
         (let e : n - i ≡ suc (n - suc i) = omega arith in
         rw (e, pow-suc)
         (close .roll-near i (omega arith) (optionFrom (rounded roll) flow n side strike listed s (suc i))
@@ -127,7 +127,7 @@ pub within : (a M e x : ℕ) → Near (2 * a) (2 * a) M e x → Within a M e x
 within a M e x n = record { above = omega (arith, n .above); below = omega (arith, n .below) }
 
 -- Both prices on row 0 stand within the error bound.
-module _ {Node : Type 0} (n unit loss : ℕ) (Stands : ℕ → Node → Type 0) (roll exact : ℕ → (Node → ℕ) → Node → ℕ) (greatest above below : ℕ → ℕ)
+module _ {Node : Type 0} (n unit loss : ℕ) (Stands : ℕ → Node → Type 0) {roll exact : ℕ → (Node → ℕ) → Node → ℕ} {greatest above below : ℕ → ℕ}
     (close : Close n unit Stands roll exact greatest above below)
     (cost-above : (i : ℕ) → i < n → above i ≤ one * (2 * loss)) (cost-below : (i : ℕ) → i < n → below i ≤ one * (2 * loss)) where
   pub bond-within :

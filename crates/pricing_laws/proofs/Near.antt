@@ -82,8 +82,8 @@ near-discount divide over under rounds l u l' u' M e x d g hd hl hu n =
     }
 
 -- a flow is added to both
-pub near-flow : (l u M e x f : ℕ) → Near l u M e x → Near l u M (e + f) (x + f * M)
-near-flow l u M e x f n = record { above = omega (arith, n .above); below = omega (arith, n .below) }
+pub near-flow : {l u M e x : ℕ} (f : ℕ) → Near l u M e x → Near l u M (e + f) (x + f * M)
+near-flow f n = record { above = omega (arith, n .above); below = omega (arith, n .below) }
 
 sub-mul : (a c M : ℕ) → (a - c) * M ≡ a * M - c * M
 sub-mul a c M = mul-comm (a - c) M ∙ simp (mul-sub, mul-comm M)
@@ -105,7 +105,7 @@ near-max l u M e x f y n m =
     (λ h. let g = mul-le-mul-right M (le-of-lt h) in
     rw (max-eq-left (le-of-lt h)) (record { above = omega (arith, g, n .above); below = omega (arith, g, n .below, m .below) }))
 
-pub near-held : (b : Bool) (l u M e x f y : ℕ) → Near l u M e x → Near l u M f y → Near l u M (heldOrExercised b e f) (heldOrExercised b x y)
+pub near-held : (b : Bool) {l u M e x f y : ℕ} → Near l u M e x → Near l u M f y → Near l u M (heldOrExercised b e f) (heldOrExercised b x y)
 unfolding heldOrExercised
-near-held true l u M e x f y n m = near-max l u M e x f y n m
-near-held false l u M e x f y n m = n
+near-held true {l} {u} {M} {e} {x} {f} {y} n m = near-max l u M e x f y n m
+near-held false n m = n

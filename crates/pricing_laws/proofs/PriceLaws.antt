@@ -95,7 +95,7 @@ module _ (t : Tree) (sound : Sound t) (discount : ℕ → ℕ → ℕ) (n : ℕ)
   pub bond-accurate :
       Within (priceErrorBound t discount n 0) (unit ^ n) (bond (engine t discount) flow n 0 0) (bond (exact t discount) flow n 0 0)
   bond-accurate =
-      bond-within n unit rollLoss (On t) _ _ _ _ _ (roll-close rollRounding 1 1 roll-rounds t sound discount n)
+      bond-within n unit rollLoss (On t) (roll-close rollRounding 1 1 roll-rounds t sound discount n)
       (cost-covered t discount n rollLoss 1 hd (omega arith)) (cost-covered t discount n rollLoss 1 hd (omega arith)) flow 0
       (omega (arith, sound .root))
 
@@ -105,7 +105,7 @@ module _ (t : Tree) (sound : Sound t) (discount : ℕ → ℕ → ℕ) (n : ℕ)
       Within (priceErrorBound t discount n 0) (unit ^ n)
       (option (engine t discount) flow n side strike rows 0 0) (option (exact t discount) flow n side strike rows 0 0)
   option-accurate side strike rows h =
-      option-within n unit rollLoss (On t) _ _ _ _ _ (roll-close rollRounding 1 1 roll-rounds t sound discount n)
+      option-within n unit rollLoss (On t) (roll-close rollRounding 1 1 roll-rounds t sound discount n)
       (cost-covered t discount n rollLoss 1 hd (omega arith)) (cost-covered t discount n rollLoss 1 hd (omega arith)) flow side strike rows h 0
       (omega (arith, sound .root))
 

@@ -31,7 +31,7 @@ use Rattle.factor.proofs.SideLaws.{next-term, below-sum, above-sum, below-one, 
 use Rattle.curve.specs.Curve.{discountAt}
 use Rattle.fit_laws.proofs.FitRows as fits
 use Rattle.fitting.specs.Fit.{nodeFactor, quoted}
-use Rattle.fitting.specs.Entry.{quotesOf, fittedNumber, fitDiscount, fitPrice, fitMemory, fitDiscounts, fitPrices}
+use Rattle.fitting.specs.Entry.{quotesOf, fittedNumber, fitDiscount, fitStatePrice, fitMemory, fitDiscounts, fitStatePrices}
 use Rattle.fitting.proofs.Promised.{fit-near, fit-numbers, fit-sound, fit-repriced, quote-is}
 use Rattle.fitting.proofs.FittedTree.{fit-placed}
 use Rattle.lent_tree.specs.LentTree.{stored}
@@ -70,7 +70,7 @@ node-is b i k = sub-is k (halfWidth b i)
 module _ (f n w spaced h : ℕ) (rows kinds : List ℕ) (figures : List Float) (ds ps : ℕ)
     (z : fittedNumber f n w spaced h rows kinds figures ds ps ≡ 0) where
   abbrev price : ℕ → ℕ → ℕ
-  price = fitPrice f n w h kinds figures
+  price = fitStatePrice f n w h kinds figures
 
   abbrev discount : ℕ → ℕ → ℕ
   discount = fitDiscount f n w h kinds figures
@@ -129,12 +129,12 @@ pub fit-laid : (f n w spaced h : ℕ) (rows kinds : List ℕ) (figures : List Fl
     fittedNumber f n w spaced h rows kinds figures (length d) (length q) ≡ 0 →
     LaidOut w n (fitDiscount f n w h kinds figures) d
     (fitMemory (fittedNumber f n w spaced h rows kinds figures (length d) (length q)) (fitDiscounts f n w h kinds figures) d)
-    × LaidOut w (suc n) (fitPrice f n w h kinds figures) q
-    (fitMemory (fittedNumber f n w spaced h rows kinds figures (length d) (length q)) (fitPrices f n w h kinds figures) q)
+    × LaidOut w (suc n) (fitStatePrice f n w h kinds figures) q
+    (fitMemory (fittedNumber f n w spaced h rows kinds figures (length d) (length q)) (fitStatePrices f n w h kinds figures) q)
 fit-laid f n w spaced h rows kinds figures d q z =
     let known = fit-numbers f n w spaced h rows kinds figures (length d) (length q) z in (
       laid-out w n (fitDiscount f n w h kinds figures) d (known .room-discounts) _ (fit-placed _ (fitDiscounts f n w h kinds figures) d z),
-      laid-out w (suc n) (fitPrice f n w h kinds figures) q (known .room-prices) _ (fit-placed _ (fitPrices f n w h kinds figures) q z),
+      laid-out w (suc n) (fitStatePrice f n w h kinds figures) q (known .room-state-prices) _ (fit-placed _ (fitStatePrices f n w h kinds figures) q z),
     )
 
 -- ---- state prices of any lent discounts

@@ -10,13 +10,13 @@ use Rattle.arithmetic.specs.Row.{values, place}
 use Rattle.arithmetic.proofs.RowLaws.{values-row, length-row}
 use Rattle.lattice.specs.Shape.{nodeCount, rowStart, discountsNeeded}
 use Rattle.lattice.proofs.LaidLaws.{laid-part, laid-value}
-use Rattle.fitting.specs.Entry.{fitMemory, fitDiscount, fitPrice, fitDiscounts, fitPrices}
+use Rattle.fitting.specs.Entry.{fitMemory, fitDiscount, fitStatePrice, fitDiscounts, fitStatePrices}
 use Rattle.fitting.proofs.FittedTree.{fit-discounts-length}
 use Rattle.promises.specs.Promises.{Unaltered}
 
 pub fit-unaltered : (f n w g : ℕ) (kinds : List ℕ) (figures : List Float) (d q : List ℕ) (r : ℕ) → r ≤ n →
     Unaltered f n w g kinds figures (fitMemory 0 (fitDiscounts f n w g kinds figures) d) r
-    (take (nodeCount w r) (drop (rowStart w r) (fitMemory 0 (fitPrices f n w g kinds figures) q)))
+    (take (nodeCount w r) (drop (rowStart w r) (fitMemory 0 (fitStatePrices f n w g kinds figures) q)))
 unfolding fitMemory place discountsNeeded
 fit-unaltered f n w g kinds figures d q r h =
     record {
@@ -28,10 +28,10 @@ fit-unaltered f n w g kinds figures d q r h =
           );
       discounts-kept = λ i k hi hk. laid-value w (fitDiscount f n w g kinds figures) n i hi _ k hk;
       row-length =
-          ap length (laid-part w (fitPrice f n w g kinds figures) (suc n) r (omega arith) _)
-          ∙ length-row (nodeCount w r) (fitPrice f n w g kinds figures r);
+          ap length (laid-part w (fitStatePrice f n w g kinds figures) (suc n) r (omega arith) _)
+          ∙ length-row (nodeCount w r) (fitStatePrice f n w g kinds figures r);
       prices-kept =
           λ k hk.
-          ap (λ (l : List ℕ). values l k) (laid-part w (fitPrice f n w g kinds figures) (suc n) r (omega arith) _)
-          ∙ values-row (nodeCount w r) k (fitPrice f n w g kinds figures r) hk;
+          ap (λ (l : List ℕ). values l k) (laid-part w (fitStatePrice f n w g kinds figures) (suc n) r (omega arith) _)
+          ∙ values-row (nodeCount w r) k (fitStatePrice f n w g kinds figures r) hk;
     }

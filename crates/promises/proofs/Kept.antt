@@ -1,4 +1,4 @@
--- The promises are kept.
+-- The promises on prices and strips are kept.
 -- Assumes nothing.
 use Prim.Native.Nat.{ℕ}
 use mathlib.Core.List.{List}
@@ -6,16 +6,12 @@ use Rattle.price_laws.proofs.Accuracy.{bond-within-bound, bond-bound-a-step}
 use Rattle.price_laws.proofs.Accuracy.{option-within-bound, option-bound-a-step, dated-within-bound, dated-bound-a-step}
 use Rattle.price_laws.proofs.OptionLaws.{kind-is-list}
 use Rattle.price_laws.proofs.RightsLaws.{dates-no-less, american-no-less, kind-no-more, kind-no-less}
-use Rattle.promises.specs.Promises.{Promises, PricePromises, TreePricePromises}
-use Rattle.promises.proofs.TreeKept.{tree-kept}
+use Rattle.promises.specs.Promises.{PricePromises, TreePricePromises}
+use Rattle.promises.specs.Strips.{StripPromises}
 use Rattle.promises.proofs.RowsKept.{engine-kept, exact-kept, bound-kept, bounds-kept, priced-kept}
 use Rattle.promises.proofs.KindsKept.{flows-kept, exercise-kept, listed-kept, kinds-kept}
 use Rattle.promises.proofs.PayoffsKept.{weighed-kept, payoffs-kept}
 use Rattle.promises.proofs.FitStored.{fit-unaltered}
-use Rattle.promises.proofs.YieldsKept.{yields-kept}
-use Rattle.promises.proofs.QuotesKept.{quotes-kept}
-use Rattle.promises.proofs.CausesKept.{causes-kept}
-use Rattle.promises.proofs.VersionsKept.{versions-kept}
 use Rattle.price_laws.proofs.StripLaws.{listed-shown, kind-shown}
 
 pub on-tree-kept : (n b : ℕ) (discounts flows : List ℕ) → TreePricePromises n b discounts flows
@@ -52,14 +48,5 @@ prices-kept =
       fit-stored = fit-unaltered;
     }
 
-pub promises-kept : Promises
-promises-kept =
-    record {
-      quotes = quotes-kept;
-      tree = tree-kept;
-      prices = prices-kept;
-      yields = yields-kept;
-      versions = versions-kept;
-      strips = record { listed-strips = listed-shown; kind-strips = kind-shown };
-      causes = causes-kept;
-    }
+pub strips-kept : StripPromises
+strips-kept = record { listed-strips = listed-shown; kind-strips = kind-shown }

@@ -112,7 +112,7 @@ module _ (f n b spaced g : ℕ) (rows kinds : List ℕ) (figures : List Float) (
   unfolding discountsNeeded stored
   bound-accepted zv =
       let q = payoffs-known prices payoffs zv in
-      entry.bound-given n b discounts r payoffs
+      entry.bound-given b discounts payoffs
       (fit-lent f n b g kinds figures spaced rows ds ps z discounts (kept .discounts-long) (λ i k hi hk. kept .discounts-kept i k hi hk)) h
       (sym (q .0) ∙ kept .row-length) (ltb-false valueLimit (greatestOf payoffs) (q .1))
 

@@ -12,7 +12,7 @@ use lib.ListN.{length}
 use Rattle.arithmetic.specs.Answers.{refused, answered, lowestCause, firstCause}
 use Rattle.arithmetic.specs.Rounding.{one}
 use Rattle.arithmetic.specs.Row.{each}
-use Rattle.arithmetic.specs.Frequency.{listed}
+use Rattle.arithmetic.specs.Frequency.{isFrequency}
 use Rattle.arithmetic.proofs.Numbers.{by-order}
 use Rattle.arithmetic.proofs.BetweenLaws.{and-right}
 use Rattle.arithmetic.proofs.RowLaws.{length-row}
@@ -53,10 +53,10 @@ figured x discount = by-tests (beyond x) (quoteInRange (discount (billionthsOf x
 
 pub lone-causes : (f kind : ℕ) (p : Point) →
     loneAnswer f kind p .number
-    ≡ firstOf (cause 2 (not (listed f)) ∷ cause 6 (not (isSteps (p .row))) ∷ cause 7 (not (isKind kind)) ∷ cause 7 (beyond (p .figure))
+    ≡ firstOf (cause 2 (not (isFrequency f)) ∷ cause 6 (not (isSteps (p .row))) ∷ cause 7 (not (isKind kind)) ∷ cause 7 (beyond (p .figure))
     ∷ cause 7 (not (quoteInRange (kindDiscount f kind (p .row) (billionthsOf (p .figure))))) ∷ [])
 unfolding loneAnswer rowKnown kindAnswer quoteAnswer firstOf
-lone-causes f kind p = by-tests (not (listed f)) (not (isSteps (p .row))) (eqb kind 5) (eqb kind 6) (eqb kind 9)
+lone-causes f kind p = by-tests (not (isFrequency f)) (not (isSteps (p .row))) (eqb kind 5) (eqb kind 6) (eqb kind 9)
   where
     x : Float
     x = p .figure
@@ -101,7 +101,7 @@ placed-alike n rows kinds figures room =
 
 pub curve-causes : (f n : ℕ) (rows kinds : List ℕ) (figures : List Float) (room : ℕ) →
     curveNumber f n rows kinds figures room
-    ≡ firstOf (cause 2 (not (listed f)) ∷ cause 3 (not (isSteps n)) ∷ cause 6 (not (quotesPlaced n rows kinds figures && leb n room))
+    ≡ firstOf (cause 2 (not (isFrequency f)) ∷ cause 3 (not (isSteps n)) ∷ cause 6 (not (quotesPlaced n rows kinds figures && leb n room))
     ∷ cause 7 (not (quotesConverted f n kinds figures)) ∷ [])
 unfolding curveNumber firstOf
 curve-causes f n rows kinds figures room = rw (placed-alike n rows kinds figures room) refl
@@ -117,9 +117,9 @@ shape-first n b = by-tests (isSteps n) (isReversion b)
     by-tests true false = refl
     by-tests true true = refl
 
-pub spacing-causes : (f s : ℕ) → spacingAnswer f s .number ≡ firstOf (cause 2 (not (listed f)) ∷ cause 5 (ltb 50000 s) ∷ [])
+pub spacing-causes : (f s : ℕ) → spacingAnswer f s .number ≡ firstOf (cause 2 (not (isFrequency f)) ∷ cause 5 (ltb 50000 s) ∷ [])
 unfolding spacingAnswer firstOf
-spacing-causes f s = by-tests (not (listed f)) (ltb 50000 s)
+spacing-causes f s = by-tests (not (isFrequency f)) (ltb 50000 s)
   where
     by-tests : (t u : Bool) → cond t (refused 2) (cond u (refused 5) (answered (spacing f s))) .number ≡ cond t 2 (cond u 5 0)
     by-tests true u = refl
@@ -128,10 +128,10 @@ spacing-causes f s = by-tests (not (listed f)) (ltb 50000 s)
 
 pub version-spacing-causes : (v f s b : ℕ) →
     versionSpacingAnswer v f s b .number
-    ≡ firstOf (cause 2 (not (listed f)) ∷ cause 4 (not (isReversion b)) ∷ cause 5 (ltb 50000 s) ∷ cause 7 (not (isVersion v)) ∷ [])
+    ≡ firstOf (cause 2 (not (isFrequency f)) ∷ cause 4 (not (isReversion b)) ∷ cause 5 (ltb 50000 s) ∷ cause 7 (not (isVersion v)) ∷ [])
 unfolding versionSpacingAnswer firstOf
 version-spacing-causes v f s b =
-    rw (not-leb b mostReversion) (by-tests (not (listed f)) (ltb mostReversion b) (ltb 50000 s) (not (isVersion v)))
+    rw (not-leb b mostReversion) (by-tests (not (isFrequency f)) (ltb mostReversion b) (ltb 50000 s) (not (isVersion v)))
   where
     by-tests : (t r u k : Bool) →
         cond t (refused 2) (cond r (refused 4) (cond u (refused 5) (cond k (refused 7) (answered (versionSpacing v f s b))))) .number
@@ -191,7 +191,7 @@ module _ (v f n b s : ℕ) (rows kinds : List ℕ) (figures : List Float) (disco
 
   early-combined :
       early
-      ≡ combined (isVersion v) (listed f) (isSteps n) (isReversion b) (ltb 50000 s) (inPlace n rows kinds figures mostSteps) sized
+      ≡ combined (isVersion v) (isFrequency f) (isSteps n) (isReversion b) (ltb 50000 s) (inPlace n rows kinds figures mostSteps) sized
       (quotesConverted f n kinds figures)
   unfolding earlyCause curveNumber memoryCause combined aboutTree shapeCause sized firstOf
   early-combined = rw (number-of (shapeCause n w) (discountsNeeded n w), version-spacing-causes v f s b, reversion-alike v b) refl
@@ -227,16 +227,16 @@ module _ (v f n b s : ℕ) (rows kinds : List ℕ) (figures : List Float) (disco
   -- the causes of a tree of working reversion x and spacing h
   abbrev early-causes : ℕ → List Cause
   early-causes x =
-      cause 2 (not (listed f)) ∷ cause 3 (not (isSteps n)) ∷ cause 4 (not (isReversion b)) ∷ cause 5 (ltb 50000 s)
+      cause 2 (not (isFrequency f)) ∷ cause 3 (not (isSteps n)) ∷ cause 4 (not (isReversion b)) ∷ cause 5 (ltb 50000 s)
       ∷ cause 6 (not (quotesPlaced n rows kinds figures && leb (rowStart x n) discounts && leb (rowStart x (suc n)) prices))
       ∷ cause 7 (not (isVersion v)) ∷ cause 7 (not (quotesConverted f n kinds figures)) ∷ []
 
   early-first : early ≡ firstOf (early-causes w)
   unfolding firstOf tabled
   early-first =
-      early-combined ∙ early-alike (isVersion v) (listed f) (isSteps n) (isReversion b) (ltb 50000 s) (inPlace n rows kinds figures mostSteps) sized
+      early-combined ∙ early-alike (isVersion v) (isFrequency f) (isSteps n) (isReversion b) (ltb 50000 s) (inPlace n rows kinds figures mostSteps) sized
       (quotesConverted f n kinds figures)
-      ∙ lengths-tried (listed f) (isSteps n) (isReversion b) (ltb 50000 s) _ _ (isVersion v) (quotesConverted f n kinds figures) lengths-alike
+      ∙ lengths-tried (isFrequency f) (isSteps n) (isReversion b) (ltb 50000 s) _ _ (isVersion v) (quotesConverted f n kinds figures) lengths-alike
 
   abbrev late-causes : ℕ → ℕ → List Cause
   late-causes x h =
@@ -263,7 +263,7 @@ module _ (v f n b s : ℕ) (rows kinds : List ℕ) (figures : List Float) (disco
 -- version 1's are the fit's
 pub fit-causes : (f n b s : ℕ) (rows kinds : List ℕ) (figures : List Float) (discounts prices : ℕ) →
     fitNumber f n b s rows kinds figures discounts prices
-    ≡ firstOf (cause 2 (not (listed f)) ∷ treeCauses n b (cause 5 (ltb 50000 s)
+    ≡ firstOf (cause 2 (not (isFrequency f)) ∷ treeCauses n b (cause 5 (ltb 50000 s)
     ∷ cause 6 (not (quotesPlaced n rows kinds figures && leb (rowStart b n) discounts && leb (rowStart b (suc n)) prices))
     ∷ cause 7 (not (quotesConverted f n kinds figures)) ∷ late-causes 1 f n b s rows kinds figures discounts prices b (spacing f s)))
 unfolding firstOf isVersion

@@ -12,7 +12,7 @@ use lib.IntN.{ℤ, pos, negsuc, negℤ, natAbs, _+ℤ_, _*ℤ_}
 use lib.Pow.{pow-pos}
 use Rattle.arithmetic.specs.Answers.{refused, answered}
 use Rattle.arithmetic.specs.declared.Answer.{Answer}
-use Rattle.arithmetic.specs.Frequency.{listed}
+use Rattle.arithmetic.specs.Frequency.{isFrequency}
 use Rattle.arithmetic.specs.Rounding.{one, nearest, roundDown}
 use Rattle.arithmetic.proofs.Numbers.{by-test}
 use Rattle.arithmetic.proofs.RoundingLaws.{nearest-le-half, nearest-gt-half}
@@ -90,7 +90,7 @@ figured x discount = by-tests (beyond x) (inRange p) refl
 by-lone : (P : Answer → Type 0) (f kind : ℕ) (p : Point) → ((k : ℕ) → P (refused (suc k))) → P (kindAnswer f kind p) → P (loneAnswer f kind p)
 unfolding loneAnswer
 by-lone P f kind p of-refused of-kind =
-    by-test (not (listed f)) P (refused 2) _ (λ h. of-refused 1)
+    by-test (not (isFrequency f)) P (refused 2) _ (λ h. of-refused 1)
     (λ h. by-test (not (rowKnown (p .row))) P (refused 6) (kindAnswer f kind p) (λ g. of-refused 5) (λ g. of-kind))
 
 module _ (f : ℕ) (p : Point) where
@@ -132,7 +132,7 @@ module _ (f : ℕ) (p : Point) where
   -- the figure is not beyond ±10
   figure-passes : (kind : ℕ) → loneAnswer f kind p .number ≡ 0 → beyond (p .figure) ≡ false
   figure-passes kind h =
-      let rows = none-first 2 (not (listed f)) _ (omega arith) (sym (lone-causes f kind p) ∙ h) .1 in
+      let rows = none-first 2 (not (isFrequency f)) _ (omega arith) (sym (lone-causes f kind p) ∙ h) .1 in
       let kinds = none-first 6 (not (isSteps (p .row))) _ (omega arith) rows .1 in
       let figures = none-first 7 (not (isKind kind)) _ (omega arith) kinds .1 in
       none-first 7 (beyond (p .figure)) _ (omega arith) figures .0

@@ -63,7 +63,7 @@ pub bounds-kept : (n b : ℕ) (discounts : List ℕ) → treeBoundsAnswer n b di
 unfolding treeErrorBound greatestDiscounts
 bounds-kept n b discounts z =
     let none : discountsCause n b discounts ≡ 0 = sym (bounds-number n b discounts) ∙ z in
-    let few = accepted n b discounts none .steps-within-limit in
+    let few = accepted n b discounts none .limits .steps-within-limit in
     let g = greatestDiscount (rateTree b) (stored b discounts) in
     let by-row = bounds-greatest n b discounts none in
     record {

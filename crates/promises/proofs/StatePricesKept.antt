@@ -15,7 +15,7 @@ use Rattle.fit_laws.specs.StatePrices.{statePrice, exactStatePrice}
 use Rattle.fit_laws.proofs.StepLaws.{next-cong}
 use Rattle.fit_laws.proofs.WholeFit.{fitted-is-state}
 use Rattle.fitting.specs.Fit.{nodeFactor, quoted}
-use Rattle.fitting.specs.Entry.{quotesOf, fittedNumber, fitDiscount, fitPrice, fitDiscounts}
+use Rattle.fitting.specs.Entry.{quotesOf, fittedNumber, fitDiscount, fitStatePrice, fitDiscounts}
 use Rattle.fitting.proofs.FittedTree.{fit-discount-stored, fit-discounts-lent}
 use Rattle.state_price_bound.specs.ErrorBound.{boundCause, statePriceErrorBoundAnswer}
 use Rattle.state_price_bound.proofs.Meaning.{answer-number, bound-covers}
@@ -34,7 +34,7 @@ state-by t v w n same (suc i) h k =
 pub fitted-prices :
     (f n b g : ℕ) (kinds : List ℕ) (figures : List Float) (v : ℕ → ℕ → ℕ) →
     ((i k : ℕ) → i < n → k < nodeCount b i → v i k ≡ fitDiscount f n b g kinds figures i k) → (r : ℕ) → r ≤ n → (k : ℕ) →
-    fitPrice f n b g kinds figures r k ≡ statePrice (rateTree b) v r k
+    fitStatePrice f n b g kinds figures r k ≡ statePrice (rateTree b) v r k
 unfolding rateTree
 fitted-prices f n b g kinds figures v same r h k =
     ap (λ (q : ℕ → ℕ). q k) (fitted-is-state (rateTree b) (nodeFactor b g) (quoted (quotesOf f n kinds figures)) r)
@@ -45,7 +45,7 @@ module _ (f n b spaced g : ℕ) (rows kinds : List ℕ) (figures : List Float) (
   abbrev held : List ℕ
   held = fitDiscounts f n b g kinds figures
 
-  price-is : (k : ℕ) → fitPrice f n b g kinds figures i k ≡ statePrice (rateTree b) (stored b held) i k
+  price-is : (k : ℕ) → fitStatePrice f n b g kinds figures i k ≡ statePrice (rateTree b) (stored b held) i k
   price-is = fitted-prices f n b g kinds figures (stored b held) (fit-discount-stored f n b g kinds figures) i h
 
   given : statePriceErrorBoundAnswer n b held i .number ≡ 0
@@ -54,7 +54,7 @@ module _ (f n b spaced g : ℕ) (rows kinds : List ℕ) (figures : List Float) (
 
   pub state-prices-kept :
       (statePriceErrorBoundAnswer n b held i .number ≡ 0)
-      × StatePriced b i (fitPrice f n b g kinds figures i) (exactStatePrice (rateTree b) (stored b held) i) (statePriceErrorBoundAnswer n b held i .value)
+      × StatePriced b i (fitStatePrice f n b g kinds figures i) (exactStatePrice (rateTree b) (stored b held) i) (statePriceErrorBoundAnswer n b held i .value)
   state-prices-kept =
       let c = bound-covers n b held i given in (
         given,
@@ -64,7 +64,7 @@ module _ (f n b spaced g : ℕ) (rows kinds : List ℕ) (figures : List Float) (
               omega (
                 arith,
                 sum-cong (nodeCount b i)
-                    (λ k. exactStatePrice (rateTree b) (stored b held) i k - unit ^ i * fitPrice f n b g kinds figures i k)
+                    (λ k. exactStatePrice (rateTree b) (stored b held) i k - unit ^ i * fitStatePrice f n b g kinds figures i k)
                     (λ k. exactStatePrice (rateTree b) (stored b held) i k - unit ^ i * statePrice (rateTree b) (stored b held) i k)
                     (λ k l. ap (λ (x : ℕ). exactStatePrice (rateTree b) (stored b held) i k - unit ^ i * x) (price-is k)),
                 c .short,

@@ -11,7 +11,7 @@ use lib.Signed.{ltZ}
 use borrow.Author.Tests.{ltb-false, leb-true}
 use Rattle.arithmetic.specs.Rounding.{one}
 use Rattle.arithmetic.specs.Within.{Within}
-use Rattle.arithmetic.specs.Frequency.{listed}
+use Rattle.arithmetic.specs.Frequency.{isFrequency}
 use Rattle.arithmetic.specs.Answers.{refused, answered}
 use Rattle.arithmetic.proofs.FrequencyLaws.{listed-small}
 use Rattle.arithmetic.proofs.Numbers.{by-order, by-equal}
@@ -70,9 +70,9 @@ branched b i j hb h =
 -- the spacing and the factor, where they are answered
 spaced : (f s : ℕ) → spacingAnswer f s .number ≡ 0 → Spaced f s (spacingAnswer f s .value)
 unfolding spacingAnswer spacing
-spaced f s z = go (listed f) (ltb 50000 s) refl z
+spaced f s z = go (isFrequency f) (ltb 50000 s) refl z
   where
-    go : (t u : Bool) → listed f ≡ t → cond (not t) (refused 2) (cond u (refused 5) (answered (spacing f s))) .number ≡ 0 →
+    go : (t u : Bool) → isFrequency f ≡ t → cond (not t) (refused 2) (cond u (refused 5) (answered (spacing f s))) .number ≡ 0 →
         Spaced f s (cond (not t) (refused 2) (cond u (refused 5) (answered (spacing f s))) .value)
     go true true e k = absurd (omega arith)
     go false u e k = absurd (omega arith)

@@ -20,8 +20,8 @@ use Rattle.reversion.proofs.ReversionLaws.{working-first, working-second, worki
 use Rattle.reversion.proofs.EntryLaws.{working-found, answer-beyond}
 use Rattle.spacing.specs.Spacing.{versionVariance, versionSpacing, versionSpacingAnswer}
 use Rattle.spacing.proofs.VersionLaws.{variance-same, version-first, version-none, version-zero, version-passes, version-greatest}
-use Rattle.fitting.specs.Entry.{fitMemory, fitDiscounts, fitPrices, fitNumber}
-use Rattle.fitting.specs.Entry.{versionDiscounts, versionPrices}
+use Rattle.fitting.specs.Entry.{fitMemory, fitDiscounts, fitStatePrices, fitNumber}
+use Rattle.fitting.specs.Entry.{versionDiscounts, versionStatePrices}
 use Rattle.fitting.proofs.VersionLaws.{first-number}
 use Rattle.promises.specs.Versions.{Working, Ratio, VersionSpaced, FittedBy, FirstIsFit, VersionPromises}
 
@@ -109,8 +109,8 @@ module _ (f n b s : ℕ) (rows kinds : List ℕ) (figures : List Float) (d q : L
             ∙ ap₂ (λ (w h : ℕ). fitMemory (fitNumber f n b s rows kinds figures (length d) (length q)) (fitDiscounts f n w h kinds figures) d)
             (working-first b) (version-first f s b);
         prices =
-            ap (λ (c : ℕ). fitMemory c (versionPrices 1 f n b s kinds figures) q) e
-            ∙ ap₂ (λ (w h : ℕ). fitMemory (fitNumber f n b s rows kinds figures (length d) (length q)) (fitPrices f n w h kinds figures) q)
+            ap (λ (c : ℕ). fitMemory c (versionStatePrices 1 f n b s kinds figures) q) e
+            ∙ ap₂ (λ (w h : ℕ). fitMemory (fitNumber f n b s rows kinds figures (length d) (length q)) (fitStatePrices f n w h kinds figures) q)
             (working-first b) (version-first f s b);
       }
 

@@ -6,7 +6,7 @@ use Prim.Native.Nat.{ℕ, suc}
 use native.Mathlib.Omega.{arith}
 use Rattle.arithmetic.specs.declared.Answer.{Answer}
 use Rattle.arithmetic.specs.Answers.{refused}
-use Rattle.arithmetic.specs.Frequency.{listed}
+use Rattle.arithmetic.specs.Frequency.{isFrequency}
 use Rattle.arithmetic.specs.Within.{Within}
 use Rattle.arithmetic.proofs.Numbers.{by-test}
 use Rattle.continuous.specs.Continuous.{powerScale, exactPower}
@@ -32,7 +32,7 @@ module _ (f : ℕ) (p : Point) where
   yields-near : promised (loneAnswer f 9 p)
   unfolding loneAnswer
   yields-near =
-      by-test (not (listed f)) promised (refused 2) _ (λ h. of-refused 1)
+      by-test (not (isFrequency f)) promised (refused 2) _ (λ h. of-refused 1)
       (λ h. by-test (not (rowKnown (p .row))) promised (refused 6) (kindAnswer f 9 p) (λ g. of-refused 5) (λ g. of-kind))
 
 pub yields-kept : YieldPromises

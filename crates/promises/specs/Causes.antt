@@ -12,7 +12,7 @@ use lib.ListN.{length}
 use Rattle.arithmetic.specs.Rounding.{one}
 use Rattle.arithmetic.specs.Row.{values, each, sumOf}
 use Rattle.arithmetic.specs.Sum.{sum}
-use Rattle.arithmetic.specs.Frequency.{listed}
+use Rattle.arithmetic.specs.Frequency.{isFrequency}
 use Rattle.limits.specs.Limits.{isSteps, isReversion, isDiscount}
 use Rattle.lattice.specs.Shape.{halfWidth, nodeCount, rowStart}
 use Rattle.lattice.specs.Entries.{halfWidthAnswer, nodeCountAnswer, rowStartAnswer, discountsNeededAnswer, statePricesNeededAnswer, branchAnswer}
@@ -137,22 +137,22 @@ pub record CausePromises : Type 0 where
   pub figure : (x : Float) → figureOf x .number ≡ firstOf (cause 7 (beyond x) ∷ [])
   pub lone-quote : (f kind : ℕ) (p : Point) →
       loneAnswer f kind p .number
-      ≡ firstOf (cause 2 (not (listed f)) ∷ cause 6 (not (isSteps (p .row))) ∷ cause 7 (not (isKind kind)) ∷ cause 7 (beyond (p .figure))
+      ≡ firstOf (cause 2 (not (isFrequency f)) ∷ cause 6 (not (isSteps (p .row))) ∷ cause 7 (not (isKind kind)) ∷ cause 7 (beyond (p .figure))
       ∷ cause 7 (not (quoteInRange (kindDiscount f kind (p .row) (billionthsOf (p .figure))))) ∷ [])
   pub curve : (f n : ℕ) (rows kinds : List ℕ) (figures : List Float) (room : ℕ) →
       curveNumber f n rows kinds figures room
-      ≡ firstOf (cause 2 (not (listed f)) ∷ cause 3 (not (isSteps n)) ∷ cause 6 (not (quotesPlaced n rows kinds figures && leb n room))
+      ≡ firstOf (cause 2 (not (isFrequency f)) ∷ cause 3 (not (isSteps n)) ∷ cause 6 (not (quotesPlaced n rows kinds figures && leb n room))
       ∷ cause 7 (not (quotesConverted f n kinds figures)) ∷ [])
   -- rates of a discount, the discount of an amount
   pub step-rate : (v : ℕ) → rateAnswer v .number ≡ firstOf (cause 9 (not (isDiscount v)) ∷ [])
   pub continuous-rate : (v : ℕ) → continuousRateAnswer v .number ≡ firstOf (cause 9 (not (isDiscount v)) ∷ [])
   pub continuous-discount : (y : ℤ) → continuousAnswer y .number ≡ firstOf (cause 7 (ltb 4000000000 (natAbs y)) ∷ [])
   -- spacing, factor and fit, into memories of so many numbers
-  pub node-spacing : (f s : ℕ) → spacingAnswer f s .number ≡ firstOf (cause 2 (not (listed f)) ∷ cause 5 (ltb 50000 s) ∷ [])
+  pub node-spacing : (f s : ℕ) → spacingAnswer f s .number ≡ firstOf (cause 2 (not (isFrequency f)) ∷ cause 5 (ltb 50000 s) ∷ [])
   pub node-factor : (j : ℤ) (h : ℕ) → nodeAnswer j h .number ≡ firstOf (cause 8 (ltb one (natAbs j * h)) ∷ [])
   pub fit : (f n b s : ℕ) (rows kinds : List ℕ) (figures : List Float) (discounts prices : ℕ) →
       fitNumber f n b s rows kinds figures discounts prices
-      ≡ firstOf (cause 2 (not (listed f)) ∷ treeCauses n b (cause 5 (ltb 50000 s)
+      ≡ firstOf (cause 2 (not (isFrequency f)) ∷ treeCauses n b (cause 5 (ltb 50000 s)
       ∷ cause 6 (not (quotesPlaced n rows kinds figures && leb (rowStart b n) discounts && leb (rowStart b (suc n)) prices))
       ∷ cause 7 (not (quotesConverted f n kinds figures)) ∷ cause 8 (ltb one (halfWidth b (n - 1) * spacing f s))
       ∷ cause 9 (not (everyNode b n (λ i k. isDiscount (fitDiscount f n b (spacing f s) kinds figures i k)))) ∷ []))
@@ -161,10 +161,10 @@ pub record CausePromises : Type 0 where
   pub variance-ratio : (v b : ℕ) → ratioAnswer v b .number ≡ firstOf (cause 4 (not (isReversion b)) ∷ cause 7 (not (isVersion v)) ∷ [])
   pub version-spacing : (v f s b : ℕ) →
       versionSpacingAnswer v f s b .number
-      ≡ firstOf (cause 2 (not (listed f)) ∷ cause 4 (not (isReversion b)) ∷ cause 5 (ltb 50000 s) ∷ cause 7 (not (isVersion v)) ∷ [])
+      ≡ firstOf (cause 2 (not (isFrequency f)) ∷ cause 4 (not (isReversion b)) ∷ cause 5 (ltb 50000 s) ∷ cause 7 (not (isVersion v)) ∷ [])
   pub version-fit : (v f n b s : ℕ) (rows kinds : List ℕ) (figures : List Float) (discounts prices : ℕ) →
       versionNumber v f n b s rows kinds figures discounts prices
-      ≡ firstOf (cause 2 (not (listed f)) ∷ treeCauses n b (cause 5 (ltb 50000 s)
+      ≡ firstOf (cause 2 (not (isFrequency f)) ∷ treeCauses n b (cause 5 (ltb 50000 s)
       ∷ cause 6 (not (quotesPlaced n rows kinds figures && leb (rowStart (workingReversion v b) n) discounts
       && leb (rowStart (workingReversion v b) (suc n)) prices))
       ∷ cause 7 (not (isVersion v)) ∷ cause 7 (not (quotesConverted f n kinds figures))

@@ -33,7 +33,7 @@ use Rattle.figure.specs.Figure.{billionthsOf}
 use Rattle.quotes.specs.declared.Point.{Point}
 use Rattle.quotes.specs.Quotes.{yieldAmount, loneAnswer}
 use Rattle.curve.specs.Curve.{discountAt}
-use Rattle.fitting.specs.Entry.{fittedNumber, fitDiscount, fitPrice, fitMemory, fitDiscounts, fitPrices}
+use Rattle.fitting.specs.Entry.{fittedNumber, fitDiscount, fitStatePrice, fitMemory, fitDiscounts, fitStatePrices}
 use Rattle.fit_laws.specs.StatePrices.{statePrice, exactStatePrice, statePriceErrorBound}
 use Rattle.state_price_bound.specs.ErrorBound.{statePriceErrorBoundAnswer}
 use Rattle.pricing_laws.specs.Pricer.{Side, call, put, Schedule, bond, bareBond, exercise, option, payoffValue}
@@ -44,10 +44,6 @@ use Rattle.price_bound.specs.PriceBound.{treeBoundsAnswer}
 use Rattle.price_laws.specs.Prices.{flowAt, bondPrice, optionPrice, datedPrice}
 use Rattle.price_laws.specs.Exact.{exactBond, exactOption, exactDated, exactPayoff, Accurate}
 use Rattle.valuation.specs.Entries.{valueByStatePricesAnswer, valuationErrorBoundAnswer}
-use Rattle.promises.specs.Quoted.{QuotePromises}
-use Rattle.promises.specs.Versions.{VersionPromises}
-use Rattle.promises.specs.Strips.{StripPromises}
-use Rattle.promises.specs.Causes.{CausePromises}
 
 -- ---- branching, spacing, factors, rates and fit
 
@@ -141,7 +137,7 @@ pub record StatePriced (b i : ℕ) (fitted exact : ℕ → ℕ) (bound : ℕ) : 
   pub short : sum (nodeCount b i) (λ k. exact k - unit ^ i * fitted k) ≤ unit ^ i * bound
 
 -- The state prices that follow from node discounts, whoever stored them, rounded as the fit rounds and exact, the latter held times m^i; and the
--- state-price allowance, with the greatest discount of the row before: times the former / one, up, plus both rows' node counts.
+-- error bound (document 01: state-price allowance), with the greatest discount of the row before: times the former / one, up, plus both rows' node counts.
 pub record StatePriceRows (t : Tree) (discount : ℕ → ℕ → ℕ) : Type 0 where
   pub first : (k : ℕ) → statePrice t discount 0 k ≡ one
   pub next : (i j : ℕ) →
@@ -180,20 +176,20 @@ pub record TreePromises : Type 0 where
   -- an accepted fit is these rows, and leaves them in its two memories: discounts of rows 0 to n − 1, state prices of rows 0 to n
   pub fit-rows : (f n w spaced h : ℕ) (rows kinds : List ℕ) (figures : List Float) (room-discounts room-prices : ℕ) →
       fittedNumber f n w spaced h rows kinds figures room-discounts room-prices ≡ 0 →
-      FitRows w n h (discountAt f kinds figures) (fitDiscount f n w h kinds figures) (fitPrice f n w h kinds figures)
+      FitRows w n h (discountAt f kinds figures) (fitDiscount f n w h kinds figures) (fitStatePrice f n w h kinds figures)
   pub fit-laid : (f n w spaced h : ℕ) (rows kinds : List ℕ) (figures : List Float) (d q : List ℕ) →
       fittedNumber f n w spaced h rows kinds figures (length d) (length q) ≡ 0 →
       LaidOut w n (fitDiscount f n w h kinds figures) d
       (fitMemory (fittedNumber f n w spaced h rows kinds figures (length d) (length q)) (fitDiscounts f n w h kinds figures) d)
-      × LaidOut w (suc n) (fitPrice f n w h kinds figures) q
-      (fitMemory (fittedNumber f n w spaced h rows kinds figures (length d) (length q)) (fitPrices f n w h kinds figures) q)
+      × LaidOut w (suc n) (fitStatePrice f n w h kinds figures) q
+      (fitMemory (fittedNumber f n w spaced h rows kinds figures (length d) (length q)) (fitStatePrices f n w h kinds figures) q)
   pub quotes-repriced : (f n w spaced h : ℕ) (rows kinds : List ℕ) (figures : List Float) (room-discounts room-prices : ℕ) →
       fittedNumber f n w spaced h rows kinds figures room-discounts room-prices ≡ 0 → (i : ℕ) → i < n →
-      Repriced (discountAt f kinds figures i) (sum (nodeCount w (suc i)) (fitPrice f n w h kinds figures (suc i)))
+      Repriced (discountAt f kinds figures i) (sum (nodeCount w (suc i)) (fitStatePrice f n w h kinds figures (suc i)))
   -- no row's state prices sum above what weighing takes
   pub sums-weighable : (f n w spaced h : ℕ) (rows kinds : List ℕ) (figures : List Float) (room-discounts room-prices : ℕ) →
       fittedNumber f n w spaced h rows kinds figures room-discounts room-prices ≡ 0 → (i : ℕ) → i ≤ n →
-      sum (nodeCount w i) (fitPrice f n w h kinds figures i) ≤ 2000000100
+      sum (nodeCount w i) (fitStatePrice f n w h kinds figures i) ≤ 2000000100
   -- state prices, exact and rounded, and their error bound row by row, on any tree; the entry's answer is this bound
   pub state-price-rows : (t : Tree) (discount : ℕ → ℕ → ℕ) → StatePriceRows t discount
   pub state-price-bound-is : (n b : ℕ) (discounts : List ℕ) (i : ℕ) → statePriceErrorBoundAnswer n b discounts i .number ≡ 0 →
@@ -206,7 +202,7 @@ pub record TreePromises : Type 0 where
   pub state-prices-near : (f n w spaced h : ℕ) (rows kinds : List ℕ) (figures : List Float) (room-discounts room-prices : ℕ) →
       fittedNumber f n w spaced h rows kinds figures room-discounts room-prices ≡ 0 → (i : ℕ) → i ≤ n →
       (statePriceErrorBoundAnswer n w (fitDiscounts f n w h kinds figures) i .number ≡ 0)
-      × StatePriced w i (fitPrice f n w h kinds figures i) (exactStatePrice (rateTree w) (stored w (fitDiscounts f n w h kinds figures)) i)
+      × StatePriced w i (fitStatePrice f n w h kinds figures i) (exactStatePrice (rateTree w) (stored w (fitDiscounts f n w h kinds figures)) i)
       (statePriceErrorBoundAnswer n w (fitDiscounts f n w h kinds figures) i .value)
 
 -- ---- prices
@@ -225,7 +221,7 @@ pub record Unaltered (f n w h : ℕ) (kinds : List ℕ) (figures : List Float) (
   pub discounts-long : rowStart w n ≤ length discounts
   pub discounts-kept : (i k : ℕ) → i < n → k < nodeCount w i → values discounts (rowStart w i + k) ≡ fitDiscount f n w h kinds figures i k
   pub row-length : length prices ≡ nodeCount w r
-  pub prices-kept : (k : ℕ) → k < nodeCount w r → values prices k ≡ fitPrice f n w h kinds figures r k
+  pub prices-kept : (k : ℕ) → k < nodeCount w r → values prices k ≡ fitStatePrice f n w h kinds figures r k
 
 -- flows stand for rows 1 to n: none on row 0, flow t on row t
 pub record FlowRows (flows : List ℕ) : Type 0 where
@@ -327,14 +323,14 @@ pub record ExactRows (t : Tree) (discount : ℕ → ℕ → ℕ) (flow : ℕ →
   pub payoff-before : (payoff : ℕ → ℕ) (s i k : ℕ) →
       payoffValue (exact t discount) payoff (suc s) i k ≡ discount i k * outgoing (t .step i) (payoffValue (exact t discount) payoff s (suc i)) k
 
--- The price allowance, with G(i) the greatest discount of row i: 0 at row n, then G × later allowance / one, up, plus 2.
+-- The error bound (document 01: price allowance), with G(i) the greatest discount of row i: 0 at row n, then G × later bound / one, up, plus 2.
 pub record BoundRows (t : Tree) (discount : ℕ → ℕ → ℕ) (n : ℕ) : Type 0 where
   pub greatest-of-row : (i : ℕ) → greatestDiscount t discount i ≡ greatest (t .nodes i) (discount i)
   pub last : priceErrorBound t discount n n ≡ 0
   pub before : (i : ℕ) → i < n →
       priceErrorBound t discount n i ≡ roundUp (greatestDiscount t discount i * priceErrorBound t discount n (suc i)) one + 2
 
--- what is known of a tree of lent discounts (document 02, request (viii)): its price allowance, and the greatest discount of each row, in 60 places, 0 for rows
+-- what is known of a tree of lent discounts (document 02, request (viii)): its error bound, and the greatest discount of each row, in 60 places, 0 for rows
 -- that the tree has not
 pub record BoundsKnown (n b : ℕ) (discounts : List ℕ) (a : TreeErrorBounds) : Type 0 where
   pub bound-is : a .bound ≡ priceErrorBound (rateTree b) (stored b discounts) n 0
@@ -368,7 +364,7 @@ pub record PricedByRows (n b : ℕ) (discounts flows : List ℕ) : Type 0 where
   pub exact-payoff-is : (r : ℕ) (payoffs : List ℕ) →
       exactPayoff b discounts r payoffs ≡ payoffValue (exact (rateTree b) (stored b discounts)) (values payoffs) r 0 0
 
--- Weighing: the sum of state price × payoff, divided by one, down; its allowance: the greatest payoff × the state-price allowance / one, up, plus 1.
+-- Weighing: the sum of state price × payoff, divided by one, down; its error bound: the greatest payoff × that of the state prices / one, up, plus 1.
 pub record Weighed (prices payoffs : List ℕ) (n b : ℕ) (discounts : List ℕ) (r : ℕ) : Type 0 where
   pub value-is : valueByStatePricesAnswer prices payoffs .number ≡ 0 →
       valueByStatePricesAnswer prices payoffs .value ≡ sum (length prices) (λ k. values prices k * values payoffs k) / one
@@ -442,7 +438,7 @@ pub record PricePromises : Type 0 where
   -- and those are what an accepted fit leaves in the two memories, d and q before it
   pub fit-stored : (f n w h : ℕ) (kinds : List ℕ) (figures : List Float) (d q : List ℕ) (r : ℕ) → r ≤ n →
       Unaltered f n w h kinds figures (fitMemory 0 (fitDiscounts f n w h kinds figures) d) r
-      (take (nodeCount w r) (drop (rowStart w r) (fitMemory 0 (fitPrices f n w h kinds figures) q)))
+      (take (nodeCount w r) (drop (rowStart w r) (fitMemory 0 (fitStatePrices f n w h kinds figures) q)))
 
 -- ---- yields by continuous compounding (document 02, request (i))
 
@@ -456,13 +452,3 @@ pub record YieldPromises : Type 0 where
   -- wherever it is not zero, its sign is the step rate's
   pub rates-signed : (v : ℕ) → continuousRateAnswer v .number ≡ 0 → continuousRateAnswer v .value ≢ pos 0 →
       SameSign (continuousRateAnswer v .value) (rateAnswer v .value)
-
--- All together, undivided: with what a quote gives, and which entry gives which number.
-pub record Promises : Type 0 where
-  pub quotes : QuotePromises
-  pub tree : TreePromises
-  pub prices : PricePromises
-  pub yields : YieldPromises
-  pub versions : VersionPromises
-  pub strips : StripPromises
-  pub causes : CausePromises

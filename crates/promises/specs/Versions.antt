@@ -11,8 +11,8 @@ use Rattle.arithmetic.specs.Rounding.{one, nearest}
 use Rattle.continuous.specs.Continuous.{continuousAnswer}
 use Rattle.reversion.specs.Reversion.{workingReversion, workingAnswer}
 use Rattle.spacing.specs.Spacing.{spacing, versionSpacing, versionSpacingAnswer}
-use Rattle.fitting.specs.Entry.{fittedNumber, fitMemory, fitDiscounts, fitPrices, fitNumber, discountsAfter, pricesAfter}
-use Rattle.fitting.specs.Entry.{versionNumber, versionDiscountsAfter, versionPricesAfter}
+use Rattle.fitting.specs.Entry.{fittedNumber, fitMemory, fitDiscounts, fitStatePrices, fitNumber, discountsAfter, statePricesAfter}
+use Rattle.fitting.specs.Entry.{versionNumber, versionDiscountsAfter, versionStatePricesAfter}
 
 -- the working pull w: b itself in version 1; 10,000 × (one − F(B)) / one, nearest, in version 2. At most b, so that all that is said of the lattice holds of
 -- it, and 0 only for 0.
@@ -44,15 +44,15 @@ pub record FittedBy (v f n b s : ℕ) (rows kinds : List ℕ) (figures : List Fl
   pub discounts : versionDiscountsAfter v f n b s rows kinds figures d q
       ≡ fitMemory (versionNumber v f n b s rows kinds figures (length d) (length q))
       (fitDiscounts f n (workingReversion v b) (versionSpacing v f s b) kinds figures) d
-  pub prices : versionPricesAfter v f n b s rows kinds figures d q
+  pub prices : versionStatePricesAfter v f n b s rows kinds figures d q
       ≡ fitMemory (versionNumber v f n b s rows kinds figures (length d) (length q))
-      (fitPrices f n (workingReversion v b) (versionSpacing v f s b) kinds figures) q
+      (fitStatePrices f n (workingReversion v b) (versionSpacing v f s b) kinds figures) q
 
 -- version 1 is the fit: its number and what it leaves
 pub record FirstIsFit (f n b s : ℕ) (rows kinds : List ℕ) (figures : List Float) (d q : List ℕ) : Type 0 where
   pub number : versionNumber 1 f n b s rows kinds figures (length d) (length q) ≡ fitNumber f n b s rows kinds figures (length d) (length q)
   pub discounts : versionDiscountsAfter 1 f n b s rows kinds figures d q ≡ discountsAfter f n b s rows kinds figures d q
-  pub prices : versionPricesAfter 1 f n b s rows kinds figures d q ≡ pricesAfter f n b s rows kinds figures d q
+  pub prices : versionStatePricesAfter 1 f n b s rows kinds figures d q ≡ statePricesAfter f n b s rows kinds figures d q
 
 pub record VersionPromises : Type 0 where
   pub working : (v b : ℕ) → workingAnswer v b .number ≡ 0 → Working v b (workingAnswer v b .value)

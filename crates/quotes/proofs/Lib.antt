@@ -1,4 +1,4 @@
 pub mod Divisor
 pub mod QuoteLaws
 pub mod YieldLaws
-pub mod Figures
+pub mod Examples

@@ -19,7 +19,7 @@ use Rattle.figure.proofs.FigureLaws.{number-accepted, number-refused, value-acc
 use Rattle.quotes.specs.declared.Point.{Point}
 use Rattle.quotes.specs.declared.Quote.{Quote}
 use Rattle.quotes.specs.declared.Quote.the-variants.{DiscountFactor, YearlyRate, YearlyYield}
-use Rattle.arithmetic.specs.Frequency.{listed}
+use Rattle.arithmetic.specs.Frequency.{isFrequency}
 use Rattle.quotes.specs.Quotes.{rowKnown, inRange, factorDiscount, rateDiscount, yieldDiscount}
 use Rattle.quotes.specs.Quotes.{rangedAnswer, figureAnswer, quoteAnswer, kindAnswer, loneAnswer}
 
@@ -105,11 +105,11 @@ factor-whole (negsuc r) h = absurd (true≢false h)
 -- ---- the answer to a lone point, by its causes
 
 module _ (f kind : ℕ) (p : Point) where
-  pub lone-frequency : listed f ≡ false → loneAnswer f kind p ≡ refused 2
+  pub lone-frequency : isFrequency f ≡ false → loneAnswer f kind p ≡ refused 2
   unfolding loneAnswer
   lone-frequency h = rw h
 
-  module _ (h : listed f ≡ true) where
+  module _ (h : isFrequency f ≡ true) where
     pub lone-row : rowKnown (p .row) ≡ false → loneAnswer f kind p ≡ refused 6
     unfolding loneAnswer
     lone-row r = rw (h, r)
@@ -162,7 +162,7 @@ module _ (P : Answer → Type 0) (of-ranged : (p : ℕ) → P (rangedAnswer p)) 
 pub lone-told : (f kind : ℕ) (p : Point) → Told (loneAnswer f kind p)
 unfolding loneAnswer
 lone-told f kind p =
-    by-test (not (listed f)) Told _ _ (λ h. told-refused 1)
+    by-test (not (isFrequency f)) Told _ _ (λ h. told-refused 1)
     (λ h. by-test (not (rowKnown (p .row))) Told _ _ (λ h. told-refused 5) (λ h. by-kind Told told-ranged (told-refused 6) f kind p))
 
 ranged-seventh : (p : ℕ) → Seventh (rangedAnswer p)

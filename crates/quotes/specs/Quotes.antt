@@ -7,7 +7,7 @@ use lib.IntN.{ℤ, pos, negsuc, _+ℤ_, _*ℤ_}
 use lib.Ieee.{Float}
 use Rattle.arithmetic.specs.declared.Answer.{Answer}
 use Rattle.arithmetic.specs.Answers.{refused, answered}
-use Rattle.arithmetic.specs.Frequency.{listed}
+use Rattle.arithmetic.specs.Frequency.{isFrequency}
 use Rattle.arithmetic.specs.Rounding.{one, roundDown, roundDownSigned}
 use Rattle.limits.specs.Limits.{leastQuote, mostQuote, isSteps}
 use Rattle.continuous.specs.Continuous.{continuousAnswer}
@@ -79,8 +79,8 @@ kindAnswer f kind p =
 
 -- a lone point, the lowest refusal first
 unfoldable pub loneAnswer : ℕ → ℕ → Point → Answer
-unfolding listed rowKnown kindAnswer
+unfolding isFrequency rowKnown kindAnswer
 loneAnswer f kind p =
-    cond (not (listed f)) (refused 2)
+    cond (not (isFrequency f)) (refused 2)
     (cond (not (rowKnown (p .row))) (refused 6)
     (kindAnswer f kind p))

@@ -157,7 +157,7 @@ fn of_point(frequency: u64, kind: u8, point: Point) -> Answer
 pub fn lone_point(frequency: u64, kind: u8, point: Point) -> Answer
     ensures { λ r. ⌜ r ≡ loneAnswer frequency kind point ⌝ }
 {
-    if !arithmetic::is_listed(frequency) {
+    if !arithmetic::is_frequency(frequency) {
         return refusal(2);
     }
     let row = point.row;

@@ -7,7 +7,9 @@ ghost use Rattle.text_laws.specs.Lines.{longestLine};
 ghost use Rattle.arithmetic.specs.Row.{sumOf};
 ghost use Rattle.limits.specs.Limits.{sumLimit};
 ghost use Rattle.text_laws.specs.inside.Put.{Put};
-ghost use Rattle.sheet_laws.specs.TreeSheet.{rowPart, nodeLines, lineOfRow, rowLines, optionLines, priceLines, treeSheet};
+ghost use Rattle.state_price_bound.specs.ErrorBound.{statePriceErrorBoundAnswer, statePriceErrorBoundsAnswer};
+ghost use Rattle.lent_tree.specs.LentTree.{storedRow};
+ghost use Rattle.sheet_laws.specs.TreeSheet.{nodeLines, lineOfRow, rowLines, optionLines, priceLines, treeSheet};
 ghost use Rattle.sheet_laws.specs.inside.Stored.{Drawing, Stored, Summed};
 use job_prices::JobPrices;
 use node_reader::NodeReader;
@@ -15,9 +17,15 @@ use price_laws::Price;
 use row_view::RowKind;
 
 // A tree's number of steps and its reversion.
-struct Tree {
+struct TreeShape {
     steps: usize,
     reversion: u64,
+}
+
+// A row of it: the row before, which stands for it among the quotes, and its state-price error bound.
+struct Row {
+    before: usize,
+    bound: u64,
 }
 
 fn row_total(row: &[u64]) -> u64
@@ -35,7 +43,7 @@ fn row_total(row: &[u64]) -> u64
 
 // The node lines of all rows, whose nodes stand before `next`. The last row's come first, so that the lines stand in order; the place goes down
 // with each node and is handed on from row to row.
-fn put_nodes(
+fn put_node_rows(
     out: &mut [u8],
     end: usize,
     steps: usize,
@@ -77,7 +85,7 @@ fn draw_nodes<'a>(
     requires { ⌜ Drawing steps reversion (now (reader .discounts)) (reader .next) end (length (now out)) ⌝ }
     ensures { λ r. ⌜ Put (now (out .entry)) end (nodeLines steps reversion (now (reader .entry .discounts))) r (now (out .exit)) ⌝ }
 {
-    put_nodes(out, end, steps, reversion, reader.discounts, reader.next)
+    put_node_rows(out, end, steps, reversion, reader.discounts, reader.next)
 }
 
 // One reader a sheet: it keeps the lent discounts and stands behind the last of them.
@@ -105,34 +113,31 @@ fn put_all_nodes(
 fn put_row<'a>(
     out: &mut [u8],
     end: usize,
-    tree: Tree,
+    tree: TreeShape,
+    row: Row,
     quotes: &[u64],
     discounts: &'a [u64],
     state_prices: &'a [u64],
-    before: usize,
 ) -> usize
-    requires { ⌜ (before < tree .steps) × Stored (tree .steps) (tree .reversion) (now discounts) (now «state_prices») × (length (now quotes) ≡ tree .steps) ×
-        (sumOf (rowPart (tree .reversion) (now «state_prices») (suc before)) ≤ sumLimit) × (longestLine ≤ end) × (end ≤ length (now out)) ⌝ }
+    requires { ⌜ (row .before < tree .steps) × Stored (tree .steps) (tree .reversion) (now discounts) (now «state_prices»)
+        × (length (now quotes) ≡ tree .steps) × (sumOf (storedRow (tree .reversion) (now «state_prices») (suc (row .before))) ≤ sumLimit)
+        × (longestLine ≤ end) × (end ≤ length (now out)) ⌝ }
+    requires { ⌜ row .bound ≡ statePriceErrorBoundAnswer (tree .steps) (tree .reversion) (now discounts) (suc (row .before)) .value ⌝ }
     ensures { λ r. ⌜ Put (now (out .entry)) end (lineOfRow (tree .steps) (tree .reversion) (now (quotes .entry)) (now (discounts .entry))
-        (now («state_prices» .entry)) before) r (now (out .exit)) ⌝ }
+        (now («state_prices» .entry)) (row .before)) r (now (out .exit)) ⌝ }
 {
-    let row = before + 1;
+    let before = row.before;
+    let number = before + 1;
     let part = row_view::row_view(
+        tree.steps,
+        tree.reversion,
+        number,
+        RowKind::StatePrices,
         discounts,
         state_prices,
-        RowKind::StatePrices,
-        tree.steps,
-        tree.reversion,
-        row,
     );
     let sum = row_total(part);
-    let bound = state_price_bound::state_price_error_bound(
-        tree.steps,
-        tree.reversion,
-        discounts,
-        row,
-    );
-    let line = text::row_line(out, end, row as u64, quotes[before], sum, bound.value);
+    let line = text::row_line(out, end, number as u64, quotes[before], sum, row.bound);
     line.start
 }
 
@@ -140,30 +145,36 @@ fn put_row<'a>(
 fn put_rows<'a>(
     out: &mut [u8],
     end: usize,
-    steps: usize,
-    reversion: u64,
+    tree: TreeShape,
     quotes: &[u64],
     discounts: &'a [u64],
     state_prices: &'a [u64],
+    bounds: &[u64],
 ) -> usize
-    requires { ⌜ Stored steps reversion (now discounts) (now «state_prices») × (length (now quotes) ≡ steps)
-        × (longestLine * steps ≤ end) × (end ≤ length (now out)) ⌝ }
-    requires { ⌜ Summed steps reversion (now «state_prices») ⌝ }
-    ensures { λ r. ⌜ Put (now (out .entry)) end (rowLines steps reversion (now (quotes .entry)) (now (discounts .entry)) (now («state_prices» .entry))) r
-        (now (out .exit)) ⌝ }
+    requires { ⌜ Stored (tree .steps) (tree .reversion) (now discounts) (now «state_prices») × (length (now quotes) ≡ tree .steps)
+        × (longestLine * tree .steps ≤ end) × (end ≤ length (now out)) ⌝ }
+    requires { ⌜ Summed (tree .steps) (tree .reversion) (now «state_prices») ⌝ }
+    requires { ⌜ (now bounds ≡ statePriceErrorBoundsAnswer (tree .steps) (tree .reversion) (now discounts) .bounds)
+        × (tree .steps < length (now bounds)) ⌝ }
+    ensures { λ r. ⌜ Put (now (out .entry)) end (rowLines (tree .steps) (tree .reversion) (now (quotes .entry)) (now (discounts .entry))
+        (now («state_prices» .entry))) r (now (out .exit)) ⌝ }
 {
     let mut start = end;
-    let mut left = steps;
+    let mut left = tree.steps;
     while left > 0 {
+        let bound = bounds[left];
         left -= 1;
         start = put_row(
             out,
             start,
-            Tree { steps, reversion },
+            tree,
+            Row {
+                before: left,
+                bound,
+            },
             quotes,
             discounts,
             state_prices,
-            left,
         );
     }
     start
@@ -210,14 +221,16 @@ pub(crate) fn put_sheet<'a>(
     let bond = prices.bond;
     let option = prices.option;
     let prices_start = put_prices(out, end, bond, prices.has_option, option);
+    let known = state_price_bound::state_price_error_bounds(steps, reversion, discounts);
+    let bounds = known.bounds;
     let rows_start = put_rows(
         out,
         prices_start,
-        steps,
-        reversion,
+        TreeShape { steps, reversion },
         quotes,
         discounts,
         state_prices,
+        &bounds,
     );
     put_all_nodes(
         out,

@@ -31,6 +31,7 @@ Refused j number = j ≡ record { number = number; report = emptyReport }
 -- what a report says of files
 pub record Reported (files : List (List ℕ)) (r : Report) : Type 0 where
   pub totals : FilesTally files r
+  -- within the sum of the bonds' bounds, as the total of a book
   pub total-near : Within (r .«error_bounds») (unit ^ 60) (r .bonds) (exactTotal (allJobs files))
 
 -- the figures of a report, none of which passes 64 bits

@@ -1,3 +1,3 @@
 pub mod ReversionLaws
 pub mod EntryLaws
-pub mod Figures
+pub mod Examples

@@ -1,4 +1,5 @@
 // The branches of a row's nodes, from the row's part of the table of down-probabilities.
+use tree::PROBABILITY_TOTAL;
 ghost use mathlib.Core.Path.{_≡_};
 ghost use Prim.Native.Nat.{_+_, _<_};
 ghost use Rattle.row_branches.specs.RowBranches.{lowest, noBranch, rowBranch};
@@ -45,14 +46,14 @@ pub fn row_branch(downs: &[u64], next: usize, index: usize) -> RowBranch
     }
     let down = downs[index];
     let up = downs[count - 1 - index];
-    if 600_000_000 < down {
+    if PROBABILITY_TOTAL < down {
         return no_branch();
     }
-    if 600_000_000 - down < up {
+    if PROBABILITY_TOTAL - down < up {
         return no_branch();
     }
     RowBranch {
         low: lowest_target(count, next, index),
-        probabilities: [up, 600_000_000 - down - up, down],
+        probabilities: [up, PROBABILITY_TOTAL - down - up, down],
     }
 }

@@ -18,8 +18,8 @@ unfoldable pub isTree : ℕ → ℕ → Bool
 isTree n b = isSteps n && isReversion b
 
 -- both memories are long enough for the tree, whichever is shown
-unfoldable pub holdsTree : List ℕ → List ℕ → ℕ → ℕ → Bool
-holdsTree discounts prices n b =
+unfoldable pub holdsTree : ℕ → ℕ → List ℕ → List ℕ → Bool
+holdsTree n b discounts prices =
     isTree n b && leb (discountsNeeded n b) (length discounts) && leb (statePricesNeeded n b) (length prices)
 
 -- discounts exist for rows 0 to n − 1, state prices for rows 0 to n
@@ -33,29 +33,29 @@ memoryOf discounts prices Discounts = discounts
 memoryOf discounts prices StatePrices = prices
 
 -- the row is shown, and not refused
-unfoldable pub isShown : List ℕ → List ℕ → RowKind → ℕ → ℕ → ℕ → Bool
-isShown discounts prices kind n b i = holdsTree discounts prices n b && storesRow kind n i
+unfoldable pub isShown : ℕ → ℕ → ℕ → RowKind → List ℕ → List ℕ → Bool
+isShown n b i kind discounts prices = holdsTree n b discounts prices && storesRow kind n i
 
 -- where the shown part starts, and how many nodes it has: those of the row; a refusal is the empty part at the start
-unfoldable pub viewStart : List ℕ → List ℕ → RowKind → ℕ → ℕ → ℕ → ℕ
-viewStart discounts prices kind n b i = cond (isShown discounts prices kind n b i) (rowStart b i) 0
+unfoldable pub viewStart : ℕ → ℕ → ℕ → RowKind → List ℕ → List ℕ → ℕ
+viewStart n b i kind discounts prices = cond (isShown n b i kind discounts prices) (rowStart b i) 0
 
-unfoldable pub viewCount : List ℕ → List ℕ → RowKind → ℕ → ℕ → ℕ → ℕ
-viewCount discounts prices kind n b i = cond (isShown discounts prices kind n b i) (nodeCount b i) 0
+unfoldable pub viewCount : ℕ → ℕ → ℕ → RowKind → List ℕ → List ℕ → ℕ
+viewCount n b i kind discounts prices = cond (isShown n b i kind discounts prices) (nodeCount b i) 0
 
 -- both as one answer
-abbrev pub rangeOfRow : List ℕ → List ℕ → RowKind → ℕ → ℕ → ℕ → RowRange
-rangeOfRow discounts prices kind n b i =
-    record { start = viewStart discounts prices kind n b i; count = viewCount discounts prices kind n b i }
+abbrev pub rangeOfRow : ℕ → ℕ → ℕ → RowKind → List ℕ → List ℕ → RowRange
+rangeOfRow n b i kind discounts prices =
+    record { start = viewStart n b i kind discounts prices; count = viewCount n b i kind discounts prices }
 
 abbrev pub noRange : RowRange
 noRange = record { start = 0; count = 0 }
 
 -- the same, the kind told by its number: 1 discounts, 2 state prices; any other is refused
-unfoldable pub rangeByNumber : List ℕ → List ℕ → ℕ → ℕ → ℕ → ℕ → RowRange
-rangeByNumber discounts prices kind n b i =
-    cond (eqb kind 1) (rangeOfRow discounts prices Discounts n b i)
-    (cond (eqb kind 2) (rangeOfRow discounts prices StatePrices n b i)
+unfoldable pub rangeByNumber : ℕ → ℕ → ℕ → ℕ → List ℕ → List ℕ → RowRange
+rangeByNumber n b i kind discounts prices =
+    cond (eqb kind 1) (rangeOfRow n b i Discounts discounts prices)
+    (cond (eqb kind 2) (rangeOfRow n b i StatePrices discounts prices)
     noRange)
 
 -- the caller's own part: a reference into the same block, at element start, with count elements; an element takes 8 bytes

@@ -25,8 +25,8 @@ pub struct RowRange {
 }
 
 // Whether the steps and the reversion are within their limits and both memories are long enough for the tree.
-fn holds_tree(discounts: &[u64], state_prices: &[u64], steps: usize, reversion: u64) -> bool
-    ensures { λ r. ⌜ r ≡ holdsTree (now (discounts .entry)) (now («state_prices» .entry)) steps reversion ⌝ }
+fn holds_tree(steps: usize, reversion: u64, discounts: &[u64], state_prices: &[u64]) -> bool
+    ensures { λ r. ⌜ r ≡ holdsTree steps reversion (now (discounts .entry)) (now («state_prices» .entry)) ⌝ }
 {
     let discounts_needed = lattice::discounts_needed(steps, reversion);
     if discounts_needed.number != 0 {
@@ -61,16 +61,16 @@ fn memory_of<'a>(discounts: &'a [u64], state_prices: &'a [u64], kind: RowKind) -
 
 // Where a row stands in the memory of its kind, and how many nodes it has. A refusal is 0 and 0.
 pub fn row_range(
-    discounts: &[u64],
-    state_prices: &[u64],
-    kind: RowKind,
     steps: usize,
     reversion: u64,
     row: usize,
+    kind: RowKind,
+    discounts: &[u64],
+    state_prices: &[u64],
 ) -> RowRange
-    ensures { λ r. ⌜ r ≡ rangeOfRow (now (discounts .entry)) (now («state_prices» .entry)) kind steps reversion row ⌝ }
+    ensures { λ r. ⌜ r ≡ rangeOfRow steps reversion row kind (now (discounts .entry)) (now («state_prices» .entry)) ⌝ }
 {
-    if !holds_tree(discounts, state_prices, steps, reversion) {
+    if !holds_tree(steps, reversion, discounts, state_prices) {
         return RowRange { start: 0, count: 0 };
     }
     if !stores_row(kind, steps, row) {
@@ -86,33 +86,33 @@ pub fn row_range(
 
 // The same, the kind told by its number: 1 discounts, 2 state prices. Any other number is a refusal.
 pub fn range_by_number(
-    discounts: &[u64],
-    state_prices: &[u64],
-    kind: u64,
     steps: usize,
     reversion: u64,
     row: usize,
+    kind: u64,
+    discounts: &[u64],
+    state_prices: &[u64],
 ) -> RowRange
-    ensures { λ r. ⌜ r ≡ rangeByNumber (now (discounts .entry)) (now («state_prices» .entry)) kind steps reversion row ⌝ }
+    ensures { λ r. ⌜ r ≡ rangeByNumber steps reversion row kind (now (discounts .entry)) (now («state_prices» .entry)) ⌝ }
 {
     if kind == 1 {
         return row_range(
-            discounts,
-            state_prices,
-            RowKind::Discounts,
             steps,
             reversion,
             row,
+            RowKind::Discounts,
+            discounts,
+            state_prices,
         );
     }
     if kind == 2 {
         return row_range(
-            discounts,
-            state_prices,
-            RowKind::StatePrices,
             steps,
             reversion,
             row,
+            RowKind::StatePrices,
+            discounts,
+            state_prices,
         );
     }
     RowRange { start: 0, count: 0 }
@@ -120,19 +120,19 @@ pub fn range_by_number(
 
 // The wanted row of the discounts or of the state prices. A refusal is the empty part at the start of the wanted memory.
 pub fn row_view<'a>(
-    discounts: &'a [u64],
-    state_prices: &'a [u64],
-    kind: RowKind,
     steps: usize,
     reversion: u64,
     row: usize,
+    kind: RowKind,
+    discounts: &'a [u64],
+    state_prices: &'a [u64],
 ) -> &'a [u64]
     ensures { λ r. ⌜ PartOf (memoryOf (discounts .entry) («state_prices» .entry) kind)
-        (viewStart (now (discounts .entry)) (now («state_prices» .entry)) kind steps reversion row)
-        (viewCount (now (discounts .entry)) (now («state_prices» .entry)) kind steps reversion row) r ⌝ }
+        (viewStart steps reversion row kind (now (discounts .entry)) (now («state_prices» .entry)))
+        (viewCount steps reversion row kind (now (discounts .entry)) (now («state_prices» .entry))) r ⌝ }
 {
     let memory = memory_of(discounts, state_prices, kind);
-    let range = row_range(discounts, state_prices, kind, steps, reversion, row);
+    let range = row_range(steps, reversion, row, kind, discounts, state_prices);
     let start = range.start;
     let end = start + range.count;
     &memory[start..end]

@@ -6,7 +6,7 @@ use mathlib.Core.List.{List, [], append-nil}
 use Prim.Native.Nat.{ℕ, suc, _≤_, _<_}
 use native.Mathlib.Omega.{arith}
 use lib.ListN.{length, take, length-take}
-use Rattle.limits.specs.inside.WithinLimits.{WithinLimits}
+use Rattle.limits.specs.WithinLimits.{WithinLimits}
 use Rattle.arithmetic.specs.Row.{sumOf}
 use Rattle.arithmetic.specs.Sum.{sum}
 use Rattle.arithmetic.specs.declared.Answer.{Answer}
@@ -19,24 +19,24 @@ use Rattle.lattice.specs.RateTree.{rateTree}
 use Rattle.lattice.specs.Entries.{discountsNeededAnswer, statePricesNeededAnswer}
 use Rattle.lattice.proofs.LaidLaws.{laid-part}
 use Rattle.lattice.proofs.TreeEntries.{tree-value}
-use Rattle.lent_tree.specs.LentTree.{acceptedDiscounts}
+use Rattle.lent_tree.specs.LentTree.{storedRow, acceptedDiscounts}
 use Rattle.lent_tree.proofs.LentLaws.{accepted-all}
-use Rattle.fitting.specs.Entry.{fitPrice}
+use Rattle.fitting.specs.Entry.{fitStatePrice}
 use Rattle.fitting.proofs.Promised.{fit-repriced}
 use Rattle.fitting.proofs.FittedTree.{fit-discounts-lent}
 use Rattle.job_record.specs.declared.Job.{Job}
 use Rattle.job_fit.specs.RecordFit.{meantReversion, jobReversion, jobSpacing, jobKinds, jobFigures}
-use Rattle.job_fit.specs.RecordFit.{jobQuotes, jobDiscounts, jobStatePrices, recordQuotes, memoryAfter}
+use Rattle.job_fit.specs.RecordFit.{jobQuotes, jobDiscounts, jobStatePrices, recordQuotes, recordFit, memoryAfter}
 use Rattle.job_fit.proofs.FitLaws as fits
 use Rattle.job_prices.specs.declared.JobPrices.{JobPrices}
-use Rattle.job_prices.specs.JobPrices.{recordNumber, recordPrices}
-use Rattle.job_prices.proofs.Accepted.{record-accepted}
+use Rattle.job_prices.specs.JobPrices.{recordNumber, recordPrices, fittedMemory}
+use Rattle.job_prices.proofs.Accepted.{record-accepted, record-formed}
+use Rattle.job_prices.proofs.PriceLaws.{fitted-placed}
 use Rattle.node_lines.specs.Rows.{acceptedNodes}
-use Rattle.sheet_laws.specs.TreeSheet.{rowPart}
 use Rattle.sheet_laws.specs.inside.Stored.{Stored, Summed, Fitted}
 
-pub total-row : (b : ℕ) (f : ℕ → ℕ → ℕ) (n i : ℕ) → i < n → sumOf (rowPart b (laid (rateTree b) f n) i) ≡ sum (nodeCount b i) (f i)
-unfolding sumOf rowPart
+pub total-row : (b : ℕ) (f : ℕ → ℕ → ℕ) (n i : ℕ) → i < n → sumOf (storedRow b (laid (rateTree b) f n) i) ≡ sum (nodeCount b i) (f i)
+unfolding sumOf storedRow
 total-row b f n i h =
     let part = rw (append-nil (laid (rateTree b) f n)) at (laid-part b f n i h []) in
     rw part (sum-row (nodeCount b i) (f i))
@@ -44,30 +44,28 @@ total-row b f n i h =
 -- ---- the fit in memories of the largest tree
 
 module _ (job : Job) (d₀ p₀ : List ℕ) (ld : length d₀ ≡ mostDiscounts) (lp : length p₀ ≡ mostStatePrices) where
-  abbrev lentNumber : ℕ
-  lentNumber = recordNumber job (length d₀) (length p₀)
-
-  number-is : lentNumber ≡ recordNumber job mostDiscounts mostStatePrices
-  number-is = rw (ld, lp)
+  fit-is : recordFit job (length d₀) (length p₀) ≡ recordFit job mostDiscounts mostStatePrices
+  fit-is = rw (ld, lp)
 
   pub prices-largest : (prices : JobPrices) → prices ≡ recordPrices job (length d₀) (length p₀) → prices ≡ recordPrices job mostDiscounts mostStatePrices
   prices-largest prices e = e ∙ rw (ld, lp)
 
   pub fitted : (d p : List ℕ) → recordNumber job mostDiscounts mostStatePrices ≡ 0 →
-      d ≡ memoryAfter lentNumber (jobDiscounts job) d₀ → p ≡ memoryAfter lentNumber (jobStatePrices job) p₀ → Fitted job d p
+      d ≡ fittedMemory job (length d₀) (length p₀) (jobDiscounts job) d₀ → p ≡ fittedMemory job (length d₀) (length p₀) (jobStatePrices job) p₀ →
+      Fitted job d p
   unfolding discountsNeeded statePricesNeeded
   fitted d p none ed ep =
       let fit = record-accepted job _ _ none .fit in
-      let z = number-is ∙ none in
+      let placed = fitted-placed job (length d₀) (length p₀) (record-formed job _ _ none) (fit-is ∙ fit) in
       let known = fits.numbers job _ _ fit in
-      let dp = ed ∙ fits.memory-placed _ (jobDiscounts job) d₀ z in
-      let pp = ep ∙ fits.memory-placed _ (jobStatePrices job) p₀ z in
+      let dp = ed ∙ placed (jobDiscounts job) d₀ in
+      let pp = ep ∙ placed (jobStatePrices job) p₀ in
       let dl = fits.discounts-length job in
       let pl = fits.prices-length job in
       record {
         accepted = fit;
         discounts-room = ap length dp ∙ length-place d₀ 0 (jobDiscounts job) (omega (arith, dl, known .room-discounts, ld)) ∙ ld;
-        prices-room = ap length pp ∙ length-place p₀ 0 (jobStatePrices job) (omega (arith, pl, known .room-prices, lp)) ∙ lp;
+        prices-room = ap length pp ∙ length-place p₀ 0 (jobStatePrices job) (omega (arith, pl, known .room-state-prices, lp)) ∙ lp;
         discounts-front = ap (take (discountsNeeded (job .steps) (jobReversion job))) dp ∙ place-front d₀ (jobDiscounts job) _ dl;
         prices-front = ap (take (statePricesNeeded (job .steps) (jobReversion job))) pp ∙ place-front p₀ (jobStatePrices job) _ pl;
       }
@@ -140,7 +138,7 @@ module _ (job : Job) (d p : List ℕ) (h : Fitted job d p) where
     summed-by : Summed (job .steps) (jobReversion job) (take (all .value) p)
     unfolding jobStatePrices meantReversion
     summed-by i l =
-        let price = fitPrice (job .frequency) (job .steps) (jobReversion job) (jobSpacing job) (jobKinds job) (jobFigures job) in
+        let price = fitStatePrice (job .frequency) (job .steps) (jobReversion job) (jobSpacing job) (jobKinds job) (jobFigures job) in
         rw (prices-are, total-row (jobReversion job) price (suc (job .steps)) (suc i) (omega arith))
         (fit-repriced _ _ _ _ _ _ _ _ mostDiscounts mostStatePrices (fits.fit-none job _ _ (h .accepted)) i l .2)
 

@@ -4,21 +4,16 @@
 use Prim.Native.Nat.{ℕ, suc}
 use mathlib.Core.Bool.{Bool, cond}
 use mathlib.Core.List.{List, [], _++_}
-use lib.ListN.{take, drop}
 use Rattle.arithmetic.specs.Row.{values, sumOf}
-use Rattle.lattice.specs.Shape.{nodeCount, rowStart}
+use Rattle.lent_tree.specs.LentTree.{storedRow}
 use Rattle.state_price_bound.specs.ErrorBound.{statePriceErrorBoundAnswer}
 use Rattle.price_laws.specs.declared.Price.{Price}
 use Rattle.text_laws.specs.Lines.{rowLine, bondLine, optionLine}
 use Rattle.node_lines.specs.Rows.{lines, rowText}
 
--- the part of a memory that contains row i
-unfoldable pub rowPart : ℕ → List ℕ → ℕ → List ℕ
-rowPart b memory i = take (nodeCount b i) (drop (rowStart b i) memory)
-
 -- node lines: rows 0 to n − 1, lowest node first
 abbrev pub nodesOfRow : ℕ → List ℕ → ℕ → List ℕ
-nodesOfRow b discounts i = rowText i (rowPart b discounts i)
+nodesOfRow b discounts i = rowText i (storedRow b discounts i)
 
 abbrev pub nodeLines : ℕ → ℕ → List ℕ → List ℕ
 nodeLines n b discounts = lines (nodesOfRow b discounts) n
@@ -26,7 +21,7 @@ nodeLines n b discounts = lines (nodesOfRow b discounts) n
 -- row lines: rows 1 to n; row, quote, sum of state prices, state-price allowance
 unfoldable pub lineOfRow : ℕ → ℕ → List ℕ → List ℕ → List ℕ → ℕ → List ℕ
 lineOfRow n b quotes discounts prices i =
-    rowLine (suc i) (values quotes i) (sumOf (rowPart b prices (suc i))) (statePriceErrorBoundAnswer n b discounts (suc i) .value)
+    rowLine (suc i) (values quotes i) (sumOf (storedRow b prices (suc i))) (statePriceErrorBoundAnswer n b discounts (suc i) .value)
 
 abbrev pub rowLines : ℕ → ℕ → List ℕ → List ℕ → List ℕ → List ℕ
 rowLines n b quotes discounts prices = lines (lineOfRow n b quotes discounts prices) n

@@ -9,10 +9,10 @@ use native.Mathlib.Omega.{arith}
 use borrow.Author.Tests.{leb-true, le-leb}
 use lib.Dec.{leb, ltb}
 use lib.Ieee.{Float}
-use Rattle.limits.specs.inside.WithinLimits.{WithinLimits}
+use Rattle.limits.specs.WithinLimits.{WithinLimits}
 use Rattle.arithmetic.specs.Answers.{lowestCause, firstCause}
 use Rattle.arithmetic.specs.Rounding.{one}
-use Rattle.arithmetic.specs.Frequency.{listed}
+use Rattle.arithmetic.specs.Frequency.{isFrequency}
 use Rattle.arithmetic.proofs.Numbers.{by-test}
 use Rattle.arithmetic.proofs.BetweenLaws.{and-left, and-right}
 use Rattle.limits.specs.Limits.{mostDiscounts, mostStatePrices, isSteps, isReversion, isDiscount}
@@ -34,7 +34,7 @@ use Rattle.job_prices.proofs.PriceLaws.{prices-number}
 use Rattle.sheet_room.specs.Room.{sheetRoom}
 use Rattle.sheet_laws.specs.WholeJob.{roomCause, jobNumber, sheetNumber}
 use Rattle.promises.specs.Causes.{cause, firstOf, quotesPlaced, quotesConverted, everyNode}
-use Rattle.promises.proofs.Kept.{promises-kept}
+use Rattle.promises.proofs.CausesKept.{causes-kept}
 use Rattle.sheet_promises.specs.JobCauses.{optionFormed, JobCauses}
 
 -- ---- a fit in memories of its own, and the lent ones beside it
@@ -119,10 +119,10 @@ module _ (v f n b s : ℕ) (rows kinds : List ℕ) (figures : List Float) (disco
   unfolding memoryCause firstOf tail held
   fit-lent =
       rw (
-        promises-kept .causes .version-fit v f n b s rows kinds figures mostDiscounts mostStatePrices,
-        promises-kept .causes .version-fit v f n b s rows kinds figures discounts prices,
+        causes-kept .version-fit v f n b s rows kinds figures mostDiscounts mostStatePrices,
+        causes-kept .version-fit v f n b s rows kinds figures discounts prices,
       )
-      (merged (listed f) (isSteps n) (isReversion b) (ltb 50000 s)
+      (merged (isFrequency f) (isSteps n) (isReversion b) (ltb 50000 s)
       (quotesPlaced n rows kinds figures && leb (rowStart w n) 3600 && leb (rowStart w (suc n)) 3721) (isVersion v) (quotesConverted f n kinds figures)
       (ltb one (halfWidth w (n - 1) * h)) (not (everyNode w n (λ i k. isDiscount (fitDiscount f n w h kinds figures i k)))) held _ lengths)
 

@@ -21,13 +21,13 @@ use Rattle.limits.specs.Limits.{mostDiscounts, mostStatePrices}
 use Rattle.lattice.specs.Shape.{halfWidth, nodeCount, rowStart}
 use Rattle.lattice.specs.RateTree.{nodeOfIndex, node}
 use Rattle.lattice.proofs.Sizes.{row-ends}
-use Rattle.lent_tree.specs.LentTree.{Accepted, stored}
+use Rattle.lent_tree.specs.LentTree.{Accepted, stored, storedRow}
 use Rattle.lent_tree.proofs.LentLaws.{accepted}
 use Rattle.curve.specs.Curve.{discountAt}
 use Rattle.step_rate.specs.StepRate.{rateAnswer}
 use Rattle.step_rate.specs.declared.Rate.{Rate}
 use Rattle.step_rate.proofs.RateLaws.{answer-known}
-use Rattle.fitting.specs.Entry.{fitPrice}
+use Rattle.fitting.specs.Entry.{fitStatePrice}
 use Rattle.fitting.proofs.FittedTree.{fit-discounts-lent}
 use Rattle.price_laws.specs.Exact.{Accurate}
 use Rattle.price_laws.specs.declared.Price.{Price}
@@ -42,23 +42,23 @@ use Rattle.text_laws.specs.Decimal.{signOf}
 use Rattle.text_laws.specs.Lines.{nodeLine, lineOfNode}
 use Rattle.text_laws.proofs.Signs.{sign-negative, sign-none}
 use Rattle.node_lines.specs.Rows.{nodeText}
-use Rattle.sheet_laws.specs.TreeSheet.{rowPart, treeSheet}
+use Rattle.sheet_laws.specs.TreeSheet.{treeSheet}
 use Rattle.sheet_laws.specs.WholeJob.{jobText, sheetNumber, sheetText, printedText}
 use Rattle.sheet_laws.proofs.PartLaws.{part-size}
 use Rattle.sheet_laws.proofs.FittedLaws.{total-row}
 use Rattle.sheet_laws.proofs.Accepted.{AcceptedJob, sheet-accepted, job-accepted}
 use Rattle.promises.specs.Promises.{NoneAboveOne}
-use Rattle.promises.proofs.Kept.{promises-kept}
+use Rattle.promises.proofs.TreeKept.{tree-kept}
+use Rattle.promises.proofs.Kept.{on-tree-kept}
 use Rattle.sheet_promises.proofs.JobMeantKept.{job-meant}
-use Rattle.sheet_promises.proofs.JobCausesKept.{job-causes-kept}
-use Rattle.sheet_promises.specs.SheetPromises.{NodeShown, RowShown, exactTagged, SheetShown, SheetPromises, PricesPromised, AllPromises}
+use Rattle.sheet_promises.specs.SheetPromises.{NodeShown, RowShown, exactTagged, SheetShown, PricesPromised, JobPromises, SheetPromises}
 
 -- the sign of a printed rate
 sign-shown : (v : ℕ) → rateAnswer v .number ≡ 0 → signOf (rateAnswer v .value) ≡ cond (ltb one v) (45 ∷ []) []
 sign-shown v z = go (ltb one v) refl
   where
     told : ltZ (rateAnswer v .value) (pos 0) ≡ ltb one v
-    told = promises-kept .tree .sign-of-rates v z .0
+    told = tree-kept .sign-of-rates v z .0
 
     go : (t : Bool) → ltb one v ≡ t → signOf (rateAnswer v .value) ≡ cond t (45 ∷ []) []
     go true e = sign-negative (rateAnswer v .value) (told ∙ e)
@@ -69,8 +69,8 @@ tagged-near : (n b : ℕ) (discounts flows : List ℕ) (option : OptionRecord) �
     Accurate (unit ^ n) (taggedOption n b discounts flows option) (exactTagged n b discounts flows option)
 unfolding taggedOption exactTagged
 tagged-near n b discounts flows option =
-    go (eqb (option .tag) 8) _ _ _ _ (promises-kept .prices .on-tree n b discounts flows .option-accurate _ _ _)
-    (promises-kept .prices .on-tree n b discounts flows .dated-accurate _ _ _)
+    go (eqb (option .tag) 8) _ _ _ _ (on-tree-kept n b discounts flows .option-accurate _ _ _)
+    (on-tree-kept n b discounts flows .dated-accurate _ _ _)
   where
     go : (t : Bool) (p q : Price) (x y : ℕ) → (p .number ≡ 0 → Accurate (unit ^ n) p x) → (q .number ≡ 0 → Accurate (unit ^ n) q y) →
         cond t p q .number ≡ 0 → Accurate (unit ^ n) (cond t p q) (cond t x y)
@@ -83,7 +83,7 @@ tagged-a-step : (n b : ℕ) (discounts flows : List ℕ) (option : OptionRecord)
 unfolding taggedOption
 tagged-a-step n b discounts flows option =
     by-test (eqb (option .tag) 8) (λ (p : Price). p .number ≡ 0 → NoneAboveOne n b discounts → p .bound ≤ 2 * n) _ _
-    (λ t. promises-kept .prices .on-tree n b discounts flows .option-a-step _ _ _) (λ t. promises-kept .prices .on-tree n b discounts flows .dated-a-step _ _ _)
+    (λ t. on-tree-kept n b discounts flows .option-a-step _ _ _) (λ t. on-tree-kept n b discounts flows .dated-a-step _ _ _)
 
 -- half of a row's node count is its half width
 half-of : (w : ℕ) → (2 * w + 1) / 2 ≡ w
@@ -93,12 +93,12 @@ module _ (n b : ℕ) (discounts : List ℕ) (a : Accepted n b discounts) (i k : 
   row-room : rowStart b i + nodeCount b i ≤ length discounts
   row-room = omega (arith, row-ends b i n hi, a .room)
 
-  place-shown : nodeOfIndex (length (rowPart b discounts i) / 2) k ≡ node b i k
+  place-shown : nodeOfIndex (length (storedRow b discounts i) / 2) k ≡ node b i k
   unfolding nodeCount
   place-shown = ap (λ (x : ℕ). nodeOfIndex (x / 2) k) (part-size b i discounts row-room) ∙ ap (λ (w : ℕ). nodeOfIndex w k) (half-of (halfWidth b i))
 
-  discount-shown : values (rowPart b discounts i) k ≡ stored b discounts i k
-  unfolding rowPart stored
+  discount-shown : values (storedRow b discounts i) k ≡ stored b discounts i k
+  unfolding storedRow stored
   discount-shown = part-value discounts (rowStart b i) (nodeCount b i) k hk
 
   node-shown : rateAnswer (stored b discounts i k) .number ≡ 0 → NodeShown b discounts i k
@@ -138,13 +138,13 @@ module _ (job : Job) (room : ℕ) (known : AcceptedJob job room) where
   unfolding jobQuotes jobDiscounts jobStatePrices meantReversion
   row-shown i hi =
       let f = job .frequency in
-      let price = fitPrice f n b h (jobKinds job) (jobFigures job) in
+      let price = fitStatePrice f n b h (jobKinds job) (jobFigures job) in
       let near
-      = promises-kept .tree .quotes-repriced f n b _ h (jobRows job) (jobKinds job) (jobFigures job) mostDiscounts mostStatePrices (known .fit) i hi in
+      = tree-kept .quotes-repriced f n b _ h (jobRows job) (jobKinds job) (jobFigures job) mostDiscounts mostStatePrices (known .fit) i hi in
       let quote = values-row n i (discountAt f (jobKinds job) (jobFigures job)) hi in
       record {
         bounded =
-            promises-kept .tree .state-prices-near f n b _ h (jobRows job) (jobKinds job) (jobFigures job) mostDiscounts mostStatePrices (known .fit)
+            tree-kept .state-prices-near f n b _ h (jobRows job) (jobKinds job) (jobFigures job) mostDiscounts mostStatePrices (known .fit)
             (suc i) hi .0;
         repriced = rw (total-row b price (suc n) (suc i) (omega arith), quote) near;
       }
@@ -160,13 +160,13 @@ module _ (job : Job) (room : ℕ) (known : AcceptedJob job room) where
         nodes = λ i k hi hk. node-shown n b (jobDiscounts job) tree i k hi hk (rated i k hi hk);
         rows = row-shown;
         bond-given = known .bond;
-        bond-near = promises-kept .prices .on-tree n b (jobDiscounts job) _ .bond-accurate (known .bond);
+        bond-near = on-tree-kept n b (jobDiscounts job) _ .bond-accurate (known .bond);
         option-given = option-number;
         option-near = λ e. rw e (tagged-near n b (jobDiscounts job) (jobFlows job) (job .option) (known .option-priced e));
       }
 
 -- every job whose sheet is not refused
-pub sheet-kept : (bytes : List ℕ) (room : ℕ) → sheetNumber bytes room ≡ 0 → SheetPromises bytes
+pub sheet-kept : (bytes : List ℕ) (room : ℕ) → sheetNumber bytes room ≡ 0 → SheetShown (readingOf bytes .job) (sheetText bytes)
 sheet-kept bytes room z =
     job-shown (readingOf bytes .job) room (job-accepted (readingOf bytes .job) room (sheet-accepted bytes room z .1))
 
@@ -182,8 +182,8 @@ module _ (job : Job) (ds ps : ℕ) (known : AcceptedRecord job ds ps) where
         bond-is = refl;
         option-is = refl;
         bond-given = known .bond;
-        bond-near = promises-kept .prices .on-tree (job .steps) (jobReversion job) (jobDiscounts job) (jobFlows job) .bond-accurate (known .bond);
-        bond-a-step = promises-kept .prices .on-tree (job .steps) (jobReversion job) (jobDiscounts job) (jobFlows job) .bond-a-step (known .bond);
+        bond-near = on-tree-kept (job .steps) (jobReversion job) (jobDiscounts job) (jobFlows job) .bond-accurate (known .bond);
+        bond-a-step = on-tree-kept (job .steps) (jobReversion job) (jobDiscounts job) (jobFlows job) .bond-a-step (known .bond);
         option-told = refl;
         option-given = λ e. rw e (known .option-priced e);
         option-near = λ e. rw e (tagged-near (job .steps) (jobReversion job) (jobDiscounts job) (jobFlows job) (job .option) (known .option-priced e));
@@ -210,13 +210,8 @@ printed-whole : (bytes : List ℕ) (room : ℕ) → sheetNumber bytes room ≡ 0
 unfolding printedText
 printed-whole bytes room z = rw (eq-eqb (sheetNumber bytes room) 0 z)
 
-pub all-kept : AllPromises
-all-kept =
-    record {
-      engine = promises-kept;
-      meant = job-meant;
-      records = record-kept;
-      jobs = job-kept;
-      sheets = λ bytes room z. (printed-whole bytes room z, sheet-kept bytes room z);
-      numbers = job-causes-kept;
-    }
+pub jobs-kept : JobPromises
+jobs-kept = record { meant = job-meant; records = record-kept; jobs = job-kept }
+
+pub sheets-kept : SheetPromises
+sheets-kept = record { sheets = λ bytes room z. (printed-whole bytes room z, sheet-kept bytes room z) }

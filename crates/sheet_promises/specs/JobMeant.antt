@@ -10,7 +10,7 @@ use Rattle.figure.specs.Figure.{patternFloat}
 use Rattle.curve.specs.Curve.{discountAt}
 use Rattle.reversion.specs.Reversion.{workingReversion}
 use Rattle.spacing.specs.Spacing.{versionSpacing}
-use Rattle.fitting.specs.Entry.{fitDiscounts, fitPrices}
+use Rattle.fitting.specs.Entry.{fitDiscounts, fitStatePrices}
 use Rattle.price_laws.specs.Prices.{bondPrice, optionPrice, datedPrice}
 use Rattle.job_record.specs.declared.Job.{Job}
 use Rattle.job_fit.specs.RecordFit.{meantVersion, jobReversion, jobRows, jobKinds, jobFigures, jobFlows, jobQuotes, jobDiscounts, jobStatePrices}
@@ -35,7 +35,7 @@ pub record JobMeant (job : Job) : Type 0 where
       ≡ fitDiscounts (job .frequency) (job .steps) (workingReversion version (job .reversion))
       (versionSpacing version (job .frequency) (job .volatility) (job .reversion)) (jobKinds job) (jobFigures job)
   pub state-prices : jobStatePrices job
-      ≡ fitPrices (job .frequency) (job .steps) (workingReversion version (job .reversion))
+      ≡ fitStatePrices (job .frequency) (job .steps) (workingReversion version (job .reversion))
       (versionSpacing version (job .frequency) (job .volatility) (job .reversion)) (jobKinds job) (jobFigures job)
   -- bond and option are the entries' answers on it: by tag 8 of a kind and an expiry, by tag 10 on listed rows
   pub bond : jobBond job ≡ bondPrice (job .steps) (jobReversion job) (jobDiscounts job) (jobFlows job)

@@ -11,7 +11,7 @@ use Rattle.arithmetic.specs.Row.{values, sumOf}
 use Rattle.tree.specs.Tree.{unit}
 use Rattle.lattice.specs.Shape.{nodeCount}
 use Rattle.lattice.specs.RateTree.{node}
-use Rattle.lent_tree.specs.LentTree.{stored}
+use Rattle.lent_tree.specs.LentTree.{stored, storedRow}
 use Rattle.step_rate.specs.StepRate.{rateAnswer}
 use Rattle.state_price_bound.specs.ErrorBound.{statePriceErrorBoundAnswer}
 use Rattle.price_laws.specs.Exact.{exactBond, exactOption, exactDated, Accurate}
@@ -24,25 +24,24 @@ use Rattle.job_prices.specs.declared.JobPrices.{JobPrices}
 use Rattle.text_laws.specs.Decimal.{signOf}
 use Rattle.text_laws.specs.Lines.{nodeLine}
 use Rattle.node_lines.specs.Rows.{nodeText}
-use Rattle.sheet_laws.specs.TreeSheet.{rowPart, nodeLines, rowLines, priceLines}
+use Rattle.sheet_laws.specs.TreeSheet.{nodeLines, rowLines, priceLines}
 use Rattle.sheet_laws.specs.WholeJob.{sheetNumber, sheetText, printedText}
-use Rattle.promises.specs.Promises.{Promises, Repriced, NoneAboveOne}
+use Rattle.promises.specs.Promises.{Repriced, NoneAboveOne}
 use Rattle.sheet_promises.specs.JobMeant.{JobMeant}
-use Rattle.sheet_promises.specs.JobCauses.{JobCauses}
 
 -- the line of node k of row i: its discount and the step rate of that discount, whose sign in the bytes is a minus exactly where the discount
 -- is above one
 pub record NodeShown (b : ℕ) (discounts : List ℕ) (i k : ℕ) : Type 0 where
   pub line :
-      nodeText i (rowPart b discounts i) k
+      nodeText i (storedRow b discounts i) k
       ≡ nodeLine i (node b i k) (stored b discounts i k) (rateAnswer (stored b discounts i k) .value)
   pub rated : rateAnswer (stored b discounts i k) .number ≡ 0
   pub sign : signOf (rateAnswer (stored b discounts i k) .value) ≡ cond (ltb one (stored b discounts i k)) (45 ∷ []) []
 
--- the line of row i + 1: an allowance that the entry gives, and a quote within 300 of the sum of the row's state prices
+-- the line of row i + 1: an error bound that the entry gives, and a quote within 300 of the sum of the row's state prices
 pub record RowShown (n b : ℕ) (quotes discounts prices : List ℕ) (i : ℕ) : Type 0 where
   pub bounded : statePriceErrorBoundAnswer n b discounts (suc i) .number ≡ 0
-  pub repriced : Repriced (values quotes i) (sumOf (rowPart b prices (suc i)))
+  pub repriced : Repriced (values quotes i) (sumOf (storedRow b prices (suc i)))
 
 -- the exact price of a job's option: of a kind and an expiry by tag 8, of a side and listed rows by tag 10
 unfoldable pub exactTagged : ℕ → ℕ → List ℕ → List ℕ → OptionRecord → ℕ
@@ -68,10 +67,6 @@ pub record SheetShown (job : Job) (text : List ℕ) : Type 0 where
       Accurate (unit ^ job .steps) (jobOption job)
       (exactTagged (job .steps) (jobReversion job) (jobDiscounts job) (jobFlows job) (job .option))
 
--- of a job's bytes
-abbrev pub SheetPromises : List ℕ → Type 0
-SheetPromises bytes = SheetShown (readingOf bytes .job) (sheetText bytes)
-
 -- demand 3 of a job's prices, from its record or its bytes: each within its bound of the exact price on the tree fitted to the job's quotes, which is
 -- what the call leaves in the lent memories, and at most 2 a step where no discount of that tree is above one
 pub record PricesPromised (job : Job) (prices : JobPrices) : Type 0 where
@@ -90,14 +85,15 @@ pub record PricesPromised (job : Job) (prices : JobPrices) : Type 0 where
   pub option-a-step :
       prices .«has_option» ≡ true → NoneAboveOne (job .steps) (jobReversion job) (jobDiscounts job) → prices .option .bound ≤ 2 * job .steps
 
--- All together, undivided: quotes, tree, prices, yields, versions, strips and causes; what a record means; the prices of a record and of a job's bytes,
--- in lent memories of so many numbers; the printed bytes of the sheet, in a lent room of so many bytes; and the number that each of these has.
-pub record AllPromises : Type 0 where
-  pub engine : Promises
+-- A job: what its record means; and its prices, from the record and from the bytes, in lent memories of so many numbers.
+pub record JobPromises : Type 0 where
   pub meant : (job : Job) → JobMeant job
   pub records : (job : Job) (discounts prices : ℕ) → recordPrices job discounts prices .number ≡ 0 →
       PricesPromised job (recordPrices job discounts prices)
   pub jobs : (bytes : List ℕ) (discounts prices : ℕ) → bytesPrices bytes discounts prices .number ≡ 0 →
       (readingOf bytes .number ≡ 0) × PricesPromised (readingOf bytes .job) (bytesPrices bytes discounts prices)
-  pub sheets : (bytes : List ℕ) (room : ℕ) → sheetNumber bytes room ≡ 0 → (printedText bytes room ≡ sheetText bytes) × SheetPromises bytes
-  pub numbers : JobCauses
+
+-- The printed bytes of a job's sheet, in a lent room of so many bytes.
+pub record SheetPromises : Type 0 where
+  pub sheets : (bytes : List ℕ) (room : ℕ) → sheetNumber bytes room ≡ 0 →
+      (printedText bytes room ≡ sheetText bytes) × SheetShown (readingOf bytes .job) (sheetText bytes)

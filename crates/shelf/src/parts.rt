@@ -87,7 +87,7 @@ pub(crate) fn fit_part(
         (fitMemory r (fitDiscounts frequency (tree .steps) (tree .reversion) (spacing frequency volatility) (now (kinds .entry)) (now (figures .entry)))
         (part (now (memory .entry)) (tree .start) (tree .count))) ⌝ }
 {
-    let mut prices = limits::state_price_room();
+    let mut state_prices = limits::state_price_room();
     let start = tree.start;
     let end = start + tree.count;
     fitting::fit(
@@ -99,7 +99,7 @@ pub(crate) fn fit_part(
         kinds,
         figures,
         &mut memory[start..end],
-        &mut prices,
+        &mut state_prices,
     )
 }
 

@@ -17,13 +17,13 @@ ghost use Rattle.shelf_laws.specs.Shelf.{
 };
 
 // More nodes than the memory has.
-const TOO_MANY: usize = 3_601;
+const TOO_MANY: usize = shelf_laws::ROOM + 1;
 
 // Zeros, made apart so that no proof above sees them one by one.
-fn no_rows() -> [u64; 60]
+fn no_rows() -> [u64; limits::MOST_STEPS]
     ensures { λ r. ⌜ r ≡ replicate mostSteps 0 ⌝ }
 {
-    [0u64; 60]
+    [0u64; limits::MOST_STEPS]
 }
 
 pub(crate) fn empty_slot() -> Slot

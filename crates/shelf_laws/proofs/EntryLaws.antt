@@ -49,7 +49,7 @@ module _ (f n b s : ℕ) (rows kinds : List ℕ) (figures : List Float) (m price
       (ap length (sym is) ∙ same ∙ lent-count m at count fits ∙ omega arith)
 
 -- ---- asking
-module _ (slots : List Slot) (name n b r : ℕ) (er : r ≡ askNumber slots name n b) where
+module _ (slots : List Slot) (name n b : ℕ) {r : ℕ} (er : r ≡ askNumber slots name n b) where
   pub ask-slots-left : (r ≡ 0 → ⊥) → slots ≡ askSlots slots name n b
   unfolding askSlots
   ask-slots-left h = rw (← er, ne-eqb r 0 h)

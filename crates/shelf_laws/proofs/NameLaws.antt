@@ -12,7 +12,7 @@ use Rattle.lattice.specs.Shape.{discountsNeeded}
 use Rattle.lattice.specs.Entries.{aboutTree}
 use Rattle.shelf_laws.specs.declared.Slot.{Slot}
 use Rattle.shelf_laws.specs.declared.Located.{Located}
-use Rattle.shelf_laws.specs.Shelf.{room, slotAt, nodesOf, held, statusOf, slotOf, startOf, nameCause, locatedTree, askNumber}
+use Rattle.shelf_laws.specs.Shelf.{room, slotAt, nodesOf, nodesHeld, statusOf, slotOf, startOf, nameCause, locatedTree, askNumber}
 use Rattle.shelf_laws.proofs.SlotLaws.{answer-cause, answer-shape, answer-value, needed-most, Sane, sane, before-most, ends-before}
 
 module _ (slots : List Slot) (name : ℕ) where
@@ -25,19 +25,19 @@ module _ (slots : List Slot) (name : ℕ) where
   status-high h = rw (ne-eqb name 0 (λ e. omega arith), lt-ltb 8 name h)
 
   module _ (some : name ≡ 0 → ⊥) (few : name ≤ 8) where
-    pub status-broken : room < held slots → statusOf slots name ≡ 3
+    pub status-broken : room < nodesHeld slots → statusOf slots name ≡ 3
     unfolding statusOf
-    status-broken b = rw (ne-eqb name 0 some, le-ltb 8 name few, lt-ltb room (held slots) b)
+    status-broken b = rw (ne-eqb name 0 some, le-ltb 8 name few, lt-ltb room (nodesHeld slots) b)
 
-    pub status-good : held slots ≤ room → statusOf slots name ≡ slotOf slots name .status
+    pub status-good : nodesHeld slots ≤ room → statusOf slots name ≡ slotOf slots name .status
     unfolding statusOf
-    status-good b = rw (ne-eqb name 0 some, le-ltb 8 name few, le-ltb room (held slots) b)
+    status-good b = rw (ne-eqb name 0 some, le-ltb 8 name few, le-ltb room (nodesHeld slots) b)
 
   -- what a status below 3 tells
   pub record Known : Type 0 where
     pub low : 0 < name
     pub high : name ≤ 8
-    pub fits : held slots ≤ room
+    pub fits : nodesHeld slots ≤ room
     pub status : statusOf slots name ≡ slotOf slots name .status
 
   pub known : statusOf slots name < 3 → Known
@@ -45,9 +45,9 @@ module _ (slots : List Slot) (name : ℕ) where
       by-equal name 0
       (λ (z : name ≡ 0). let none : ⊥ = omega (arith, status-zero z) in absurd none)
       (λ (z : name ≡ 0 → ⊥). by-order name 8
-      (λ (s : name ≤ 8). by-order (held slots) room
-      (λ (f : held slots ≤ room). let low : 0 < name = omega arith in record { low = low; high = s; fits = f; status = status-good z s f })
-      (λ (f : room < held slots). let none : ⊥ = omega (arith, status-broken z s f) in absurd none))
+      (λ (s : name ≤ 8). by-order (nodesHeld slots) room
+      (λ (f : nodesHeld slots ≤ room). let low : 0 < name = omega arith in record { low = low; high = s; fits = f; status = status-good z s f })
+      (λ (f : room < nodesHeld slots). let none : ⊥ = omega (arith, status-broken z s f) in absurd none))
       (λ (s : 8 < name). let none : ⊥ = omega (arith, status-high s) in absurd none))
 
   pub cause-none : (statusOf slots name ≡ 1 → ⊥) → (statusOf slots name ≡ 2 → ⊥) → nameCause slots name ≡ 15
@@ -170,20 +170,20 @@ module _ (slots : List Slot) (name : ℕ) where
       ask-shape h = rw (eq-eqb (statusOf slots name) 0 free, ne-eqb (shapeCause n b) 0 h)
 
       module _ (shape : shapeCause n b ≡ 0) where
-        pub ask-full : room < discountsNeeded n b + held slots → askNumber slots name n b ≡ 14
+        pub ask-full : room < discountsNeeded n b + nodesHeld slots → askNumber slots name n b ≡ 14
         unfolding askNumber
-        ask-full h = rw (eq-eqb (statusOf slots name) 0 free, eq-eqb (shapeCause n b) 0 shape, lt-ltb room (discountsNeeded n b + held slots) h)
+        ask-full h = rw (eq-eqb (statusOf slots name) 0 free, eq-eqb (shapeCause n b) 0 shape, lt-ltb room (discountsNeeded n b + nodesHeld slots) h)
 
-        pub ask-taken : discountsNeeded n b + held slots ≤ room → askNumber slots name n b ≡ 0
+        pub ask-taken : discountsNeeded n b + nodesHeld slots ≤ room → askNumber slots name n b ≡ 0
         unfolding askNumber
-        ask-taken h = rw (eq-eqb (statusOf slots name) 0 free, eq-eqb (shapeCause n b) 0 shape, le-ltb room (discountsNeeded n b + held slots) h)
+        ask-taken h = rw (eq-eqb (statusOf slots name) 0 free, eq-eqb (shapeCause n b) 0 shape, le-ltb room (discountsNeeded n b + nodesHeld slots) h)
 
     -- by the lattice's answer
     module _ (free : statusOf slots name ≡ 0) (a : Answer) (e : a ≡ aboutTree n b (discountsNeeded n b)) where
       pub ask-refused : (a .number ≡ 0 → ⊥) → a .number ≡ askNumber slots name n b
       ask-refused h = answer-cause n b a e ∙ sym (ask-shape free (λ z. h (answer-cause n b a e ∙ z)))
 
-      module _ (z : a .number ≡ 0) (all : ℕ) (eh : all ≡ held slots) where
+      module _ (z : a .number ≡ 0) (all : ℕ) (eh : all ≡ nodesHeld slots) where
         pub ask-14 : room < a .value + all → 14 ≡ askNumber slots name n b
         ask-14 h = sym (ask-full free (answer-shape n b a e z) (omega (arith, answer-value n b a e z)))
 
@@ -198,17 +198,17 @@ module _ (slots : List Slot) (name : ℕ) where
       pub name-known : Known
       pub absent : slotOf slots name .status ≡ 0
       pub shape : shapeCause n b ≡ 0
-      pub space : discountsNeeded n b + held slots ≤ room
+      pub space : discountsNeeded n b + nodesHeld slots ≤ room
 
     pub asked : askNumber slots name n b ≡ 0 → Asked
     asked e =
         by-equal (statusOf slots name) 0
         (λ (h : statusOf slots name ≡ 0). by-equal (shapeCause n b) 0
-        (λ (z : shapeCause n b ≡ 0). by-order (discountsNeeded n b + held slots) room
-        (λ (f : discountsNeeded n b + held slots ≤ room).
+        (λ (z : shapeCause n b ≡ 0). by-order (discountsNeeded n b + nodesHeld slots) room
+        (λ (f : discountsNeeded n b + nodesHeld slots ≤ room).
         let k = known (omega arith) in
         let gone : slotOf slots name .status ≡ 0 = omega (arith, k .status) in
         record { name-known = k; absent = gone; shape = z; space = f })
-        (λ (f : room < discountsNeeded n b + held slots). let none : ⊥ = omega (arith, ask-full h z f) in absurd none))
+        (λ (f : room < discountsNeeded n b + nodesHeld slots). let none : ⊥ = omega (arith, ask-full h z f) in absurd none))
         (λ (z : shapeCause n b ≡ 0 → ⊥). absurd (z (sym (ask-shape h z) ∙ e))))
         (λ (h : statusOf slots name ≡ 0 → ⊥). let none : ⊥ = omega (arith, ask-name h) in absurd none)

@@ -21,7 +21,7 @@ use Rattle.lattice.proofs.EntryLaws.{tree-number, tree-result}
 use Rattle.price_bound.specs.declared.TreeErrorBounds.{TreeErrorBounds}
 use Rattle.price_bound.specs.PriceBound.{treeBoundsAnswer}
 use Rattle.shelf_laws.specs.declared.Slot.{Slot}
-use Rattle.shelf_laws.specs.Shelf.{room, emptySlots, held, emptySlot, awaitingSlot, fittedSlot, slotAt, nodesOf, nodesBefore}
+use Rattle.shelf_laws.specs.Shelf.{room, emptySlots, nodesHeld, emptySlot, awaitingSlot, fittedSlot, slotAt, nodesOf, nodesBefore}
 
 -- the nodes of a tree
 pub needed-most : (n b : ℕ) → shapeCause n b ≡ 0 → discountsNeeded n b ≤ 3721
@@ -148,6 +148,6 @@ pub empty-names : length emptySlots ≡ 8
 unfolding emptySlots
 empty-names = refl
 
-pub empty-held : held emptySlots ≡ 0
+pub empty-held : nodesHeld emptySlots ≡ 0
 unfolding emptySlots nodesBefore nodesOf slotAt
 empty-held = refl

@@ -64,8 +64,8 @@ nodesBefore slots zero = 0
 nodesBefore slots (suc i) = nodesBefore slots i + nodesOf (slotAt slots i)
 
 -- the nodes held
-abbrev pub held : List Slot → ℕ
-held slots = nodesBefore slots 8
+abbrev pub nodesHeld : List Slot → ℕ
+nodesHeld slots = nodesBefore slots 8
 
 -- the discounts of the tree at an index
 abbrev pub discountsAt : List Slot → List ℕ → ℕ → List ℕ
@@ -76,7 +76,7 @@ unfoldable pub statusOf : List Slot → ℕ → ℕ
 statusOf slots name =
     cond (eqb name 0) 3
     (cond (ltb 8 name) 3
-    (cond (ltb room (held slots)) 3
+    (cond (ltb room (nodesHeld slots)) 3
     (slotAt slots (name - 1) .status)))
 
 -- a name's slot, where its discounts start, and the discounts
@@ -116,7 +116,7 @@ module _ (slots : List Slot) where
   unfoldable pub askNumber : ℕ → ℕ → ℕ → ℕ
   askNumber name n b =
       cond (eqb (statusOf slots name) 0)
-      (cond (eqb (shapeCause n b) 0) (cond (ltb room (discountsNeeded n b + held slots)) 14 0) (shapeCause n b))
+      (cond (eqb (shapeCause n b) 0) (cond (ltb room (discountsNeeded n b + nodesHeld slots)) 14 0) (shapeCause n b))
       15
 
   unfoldable pub askSlots : ℕ → ℕ → ℕ → List Slot

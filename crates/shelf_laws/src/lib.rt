@@ -11,7 +11,7 @@ pub struct Slot {
     pub steps: usize,
     pub reversion: u64,
     pub bound: u64,
-    pub greatest: [u64; 60],
+    pub greatest: [u64; limits::MOST_STEPS],
 }
 
 // The slot of name k has index k - 1.

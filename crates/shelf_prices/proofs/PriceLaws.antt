@@ -32,7 +32,7 @@ unfolding priced
 carried-given value bound z = rw (eq-eqb (value .number) 0 z)
 
 -- one price
-module _ (price : ℕ → ℕ → List ℕ → Price) (slots : List Slot) (m : List ℕ) (name : ℕ) (l : Located) (e : l ≡ locatedTree slots name) where
+module _ (price : ℕ → ℕ → List ℕ → Price) (slots : List Slot) (m : List ℕ) (name : ℕ) {l : Located} (e : l ≡ locatedTree slots name) where
   pub price-none : l .status ≡ 0 → refusedPrice 15 ≡ shelfPrice price slots m name
   unfolding shelfPrice
   price-none h = rw (none-found slots name l e h)
@@ -58,7 +58,7 @@ module _ (bond option : ℕ → ℕ → List ℕ → Price) (slots : List Slot) 
   paired eb eo = ap₂ (λ (x y : Price). record { bond = x; option = y }) eb eo
 
   pub both-none : l .status ≡ 0 → record { bond = refusedPrice 15; option = refusedPrice 15 } ≡ both
-  both-none h = paired (price-none bond slots m name l e h) (price-none option slots m name l e h)
+  both-none h = paired (price-none bond slots m name e h) (price-none option slots m name e h)
 
   pub both-there : (l .status ≡ 0 → ⊥) → (values : BondAndOptionValues) →
       values
@@ -69,8 +69,8 @@ module _ (bond option : ℕ → ℕ → List ℕ → Price) (slots : List Slot) 
       (b o : Price) → b ≡ withBound (values .bond) (l .bound) → o ≡ withBound (values .option) (l .bound) → record { bond = b; option = o } ≡ both
   both-there h values ev b o eb eo =
       paired
-      (price-there bond slots m name l e h (values .bond) (ap (λ (v : BondAndOptionValues). v .bond) ev) b eb)
-      (price-there option slots m name l e h (values .option) (ap (λ (v : BondAndOptionValues). v .option) ev) o eo)
+      (price-there bond slots m name e h (values .bond) (ap (λ (v : BondAndOptionValues). v .bond) ev) b eb)
+      (price-there option slots m name e h (values .option) (ap (λ (v : BondAndOptionValues). v .option) ev) o eo)
 
 -- a strip: the price of place k of a tree
 module _ (price : ℕ → ℕ → List ℕ → ℕ → Price) (slots : List Slot) (m : List ℕ) (name count : ℕ) (l : Located) (e : l ≡ locatedTree slots name) where
@@ -90,6 +90,6 @@ module _ (price : ℕ → ℕ → List ℕ → ℕ → Price) (slots : List Slot
       let t = tree-found slots name l e h in
       ex
       ∙ strip-alike (l .steps) (l .reversion) count _ on-shelf
-      (λ k. price-there (λ (n b : ℕ) (d : List ℕ). price n b d k) slots m name l e h _ refl _ refl)
+      (λ k. price-there (λ (n b : ℕ) (d : List ℕ). price n b d k) slots m name e h _ refl _ refl)
       ∙ ap₂ (λ (n b : ℕ). stripAnswer n b count on-shelf) (t .steps-is) (t .reversion-is)
       ∙ rw (eq-eqb (nameCause slots name) 0 (t .cause))

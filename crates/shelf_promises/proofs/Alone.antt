@@ -8,7 +8,7 @@ use Rattle.arithmetic.proofs.Numbers.{by-order, by-equal}
 use Rattle.limits.specs.Limits.{shapeCause}
 use Rattle.lattice.specs.Shape.{discountsNeeded}
 use Rattle.price_laws.specs.declared.Price.{Price}
-use Rattle.shelf_laws.specs.Shelf.{room, held, statusOf, nameCause, locatedTree}
+use Rattle.shelf_laws.specs.Shelf.{room, nodesHeld, statusOf, nameCause, locatedTree}
 use Rattle.shelf_prices.specs.ShelfPrices.{shelfPrice}
 use Rattle.shelf_laws.specs.Shelf.{askSlots, askMemory, commitNumber, commitSlots, commitMemory, releaseSlots, releaseMemory}
 use Rattle.shelf_laws.proofs.NameLaws.{status-zero, status-high, status-broken, cause-none, ask-name, ask-full, ask-taken}
@@ -80,7 +80,7 @@ module _ (k j : Kept) (v : Valid k) (w : Valid j) where
   prices-stay name p same =
       price-is k (v .sound) name p ∙ price-alone (seen k) (seen j) name same p ∙ sym (price-is j (w .sound) name p)
 
-  pub askings-stay : (name n b : ℕ) → seen k (name - 1) ≡ seen j (name - 1) → held (k .slots) ≡ held (j .slots) →
+  pub askings-stay : (name n b : ℕ) → seen k (name - 1) ≡ seen j (name - 1) → nodesHeld (k .slots) ≡ nodesHeld (j .slots) →
       numberOf k (asking name n b) ≡ numberOf j (asking name n b)
   askings-stay name n b same h =
       follows k v (asking name n b) .number
@@ -102,7 +102,7 @@ module _ (k : Kept) (v : Valid k) (name n b : ℕ) (low : 1 ≤ name) (high : na
       record { taken = λ h. ask-taken (k .slots) name n b free shape h; full = λ h. ask-full (k .slots) name n b free shape h }
 
 -- ---- a shelf that no calls reach
-module _ (k : Kept) (broken : room < held (k .slots)) where
+module _ (k : Kept) (broken : room < nodesHeld (k .slots)) where
   status-3 : (name : ℕ) → statusOf (k .slots) name ≡ 3
   status-3 name =
       by-equal name 0

@@ -8,7 +8,7 @@ use borrow.Author.Tests.{lt-ltb, le-ltb, eq-eqb, ne-eqb}
 use lib.ListN.{length, set, length-set, List·getD-eq-default}
 use Rattle.arithmetic.proofs.Numbers.{by-order, by-equal}
 use Rattle.shelf_laws.specs.declared.Slot.{Slot}
-use Rattle.shelf_laws.specs.Shelf.{room, slotAt, nodesOf, nodesBefore, held, statusOf, slotOf, discountsAt, discountsOf, nameCause, askNumber}
+use Rattle.shelf_laws.specs.Shelf.{room, slotAt, nodesOf, nodesBefore, nodesHeld, statusOf, slotOf, discountsAt, discountsOf, nameCause, askNumber}
 use Rattle.shelf_prices.specs.ShelfPrices.{shelfPrice}
 use Rattle.shelf_laws.proofs.PartLaws.{part-length}
 use Rattle.shelf_laws.proofs.SlotLaws.{nodes-none, by-slot, Sane, ends-before}
@@ -72,7 +72,7 @@ module _ (k : Kept) (s : Sound (k .slots) (k .memory)) where
       ap (λ (x : ℕ). x + nodesOf (slotAt (k .slots) i)) (before-seen i (omega arith))
       ∙ ap (λ (x : ℕ). heldBy (seen k) i + x) (sym (size-seen (slotAt (k .slots) i) (discountsAt (k .slots) (k .memory) i) (part-whole i (omega arith))))
 
-  pub held-seen : held (k .slots) ≡ heldBy (seen k) 8
+  pub held-seen : nodesHeld (k .slots) ≡ heldBy (seen k) 8
   held-seen = before-seen 8 (omega arith)
 
   pub status-small : (i : ℕ) → i < 8 → slotAt (k .slots) i .status ≤ 2

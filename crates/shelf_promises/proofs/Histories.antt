@@ -9,7 +9,7 @@ use native.Mathlib.Omega.{arith}
 use lib.ListN.{length, replicate, getD-replicate}
 use Rattle.arithmetic.proofs.Numbers.{by-order, by-equal}
 use Rattle.shelf_laws.specs.declared.Slot.{Slot}
-use Rattle.shelf_laws.specs.Shelf.{room, emptySlot, emptySlots, slotAt, nodesOf, nodesBefore, held, discountsAt}
+use Rattle.shelf_laws.specs.Shelf.{room, emptySlot, emptySlots, slotAt, nodesOf, nodesBefore, nodesHeld, discountsAt}
 use Rattle.shelf_laws.proofs.SlotLaws.{nodes-none}
 use Rattle.shelf_promises.specs.Model.{ShelvedTree, Seen, absent, present, Quoted, unfittedTree, fittedTree, stepsSeen, reversionSeen}
 use Rattle.shelf_promises.specs.Model.{Call, asking, committing, releasing, pricing, locating, deskNumber, put, deskTaken, deskAfter, deskRun}
@@ -54,7 +54,7 @@ desk-run k v [] = refl
 desk-run k v (call ∷ calls) =
     desk-run (after k call) (valid-after k v call) calls ∙ ap (λ (d : ℕ → Seen). deskRun d calls) (desk-after k v call)
 
-held-run : (k : Kept) → Valid k → (calls : List Call) → held (run k calls .slots) + releasedIn k calls ≡ held (k .slots) + askedIn k calls
+held-run : (k : Kept) → Valid k → (calls : List Call) → nodesHeld (run k calls .slots) + releasedIn k calls ≡ nodesHeld (k .slots) + askedIn k calls
 unfolding run releasedIn askedIn
 held-run k v [] = omega arith
 held-run k v (call ∷ calls) = omega (arith, follows k v call .nodes, held-run (after k call) (valid-after k v call) calls)
@@ -69,7 +69,7 @@ empty-at : (i : ℕ) → i < 8 → slotAt emptySlots i ≡ emptySlot
 unfolding slotAt emptySlots
 empty-at i h = getD-replicate 8 i emptySlot _ h
 
-empty-held : held emptySlots ≡ 0
+empty-held : nodesHeld emptySlots ≡ 0
 empty-held = none-before emptySlots 8 (λ i h. ap nodesOf (empty-at i h) ∙ nodes-none emptySlot refl)
 
 empty-size : length emptySlots ≡ 8
@@ -100,7 +100,7 @@ history-is m h calls i =
     (desk-run (emptyShelf m) (empty-valid m h) calls ∙ ap (λ (d : ℕ → Seen). deskRun d calls) (fun-ext (empty-seen m)))
 
 pub held-is : (m : List ℕ) → length m ≡ room → (calls : List Call) →
-    held (run (emptyShelf m) calls .slots) + releasedIn (emptyShelf m) calls ≡ askedIn (emptyShelf m) calls
+    nodesHeld (run (emptyShelf m) calls .slots) + releasedIn (emptyShelf m) calls ≡ askedIn (emptyShelf m) calls
 held-is m h calls = omega (arith, empty-held, held-run (emptyShelf m) (empty-valid m h) calls)
 
 -- ---- a fitted tree comes from a commit of its name

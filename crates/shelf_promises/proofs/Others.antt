@@ -10,7 +10,7 @@ use Rattle.arithmetic.specs.Row.{place}
 use Rattle.arithmetic.proofs.Numbers.{by-order, by-equal}
 use Rattle.shelf_laws.specs.Parts.{zeros, part, opened, closed}
 use Rattle.shelf_laws.specs.declared.Slot.{Slot}
-use Rattle.shelf_laws.specs.Shelf.{room, slotAt, nodesOf, nodesBefore, held, discountsAt}
+use Rattle.shelf_laws.specs.Shelf.{room, slotAt, nodesOf, nodesBefore, nodesHeld, discountsAt}
 use Rattle.shelf_laws.proofs.PartLaws.{part-opened-before, part-opened-new, part-opened-after, part-closed-before, part-closed-after}
 use Rattle.shelf_laws.proofs.PartLaws.{part-written, part-written-before, part-written-after}
 use Rattle.shelf_laws.proofs.SlotLaws.{ends-before}
@@ -19,7 +19,7 @@ use Rattle.shelf_laws.proofs.SlotLaws.{ends-before}
 pub record Sound (slots : List Slot) (m : List ℕ) : Type 0 where
   pub size : length slots ≡ 8
   pub long : length m ≡ room
-  pub fits : held slots ≤ room
+  pub fits : nodesHeld slots ≤ room
 
 module _ (slots : List Slot) (i : ℕ) (t : Slot) where
   pub slot-other : (j : ℕ) → (j ≡ i → ⊥) → slotAt (set slots i t) j ≡ slotAt slots j
@@ -52,7 +52,7 @@ module _ (slots : List Slot) (m : List ℕ) (s : Sound slots m) (i : ℕ) (low :
   inside : i < length slots
   inside = omega (arith, s .size)
 
-  ends : (j : ℕ) → j < 8 → nodesBefore slots j + nodesOf (slotAt slots j) ≤ held slots
+  ends : (j : ℕ) → j < 8 → nodesBefore slots j + nodesOf (slotAt slots j) ≤ nodesHeld slots
   ends j h = ends-before slots j 8 h
 
   later : (j : ℕ) → i < j → nodesBefore slots i + nodesOf (slotAt slots i) ≤ nodesBefore slots j
@@ -62,11 +62,11 @@ module _ (slots : List Slot) (m : List ℕ) (s : Sound slots m) (i : ℕ) (low :
   earlier j h = ends-before slots j i h
 
   -- the nodes held change by the slot's change
-  pub held-changed : held (set slots i t) + nodesOf (slotAt slots i) ≡ held slots + nodesOf t
+  pub held-changed : nodesHeld (set slots i t) + nodesOf (slotAt slots i) ≡ nodesHeld slots + nodesOf t
   held-changed = before-high slots i t inside 8 low
 
   -- ---- a tree is set aside in a slot that had none
-  module _ (empty : nodesOf (slotAt slots i) ≡ 0) (space : nodesOf t + held slots ≤ room) where
+  module _ (empty : nodesOf (slotAt slots i) ≡ 0) (space : nodesOf t + nodesHeld slots ≤ room) where
     first : nodesBefore slots i + nodesOf t ≤ length m
     first = omega (arith, s .long, ends i low)
 

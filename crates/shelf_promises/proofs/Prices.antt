@@ -8,7 +8,6 @@ use native.Mathlib.Omega.{arith}
 use borrow.Author.Tests.{eq-eqb, ne-eqb, le-ltb}
 use lib.Dec.{eqb, ltb}
 use lib.ListN.{length}
-use Rattle.arithmetic.specs.Within.{Within}
 use Rattle.arithmetic.proofs.Numbers.{by-equal}
 use Rattle.tree.specs.Tree.{unit}
 use Rattle.lattice.specs.Shape.{discountsNeeded, statePricesNeeded}
@@ -16,6 +15,7 @@ use Rattle.lent_tree.specs.LentTree.{discountsCause}
 use Rattle.fitting.specs.Entry.{fitNumber}
 use Rattle.price_bound.specs.PriceBound.{treeErrorBound}
 use Rattle.price_laws.specs.declared.Price.{Price}
+use Rattle.price_laws.specs.Exact.{Accurate}
 use Rattle.price_laws.specs.Prices.{refusedPrice, treeCause, priced, valueAlone, withBound}
 use Rattle.promises.proofs.CauseTables.{number-priced}
 use Rattle.price_laws.proofs.Accuracy.{bond-given, option-given, dated-given, bond-within-bound, option-within-bound, dated-within-bound}
@@ -97,9 +97,9 @@ module _ (desk : ℕ → Seen) (name : ℕ) where
 -- ---- the plain prices
 plain-priced : (p : Pricing) (n b : ℕ) (d : List ℕ) →
     priced (plainPrice p n b d .number) (plainPrice p n b d .value) (treeErrorBound n b d) ≡ plainPrice p n b d
-plain-priced (bond flows) n b d = bond-whole n b d flows (treeErrorBound n b d) (λ z. refl)
-plain-priced (option flows kind expiry strike) n b d = option-whole n b d flows (treeErrorBound n b d) (λ z. refl) kind expiry strike
-plain-priced (dated flows side dates strike) n b d = dated-whole n b d flows (treeErrorBound n b d) (λ z. refl) side dates strike
+plain-priced (bond flows) n b d = bond-whole n b d flows {e = treeErrorBound n b d} (λ z. refl)
+plain-priced (option flows kind expiry strike) n b d = option-whole n b d flows {e = treeErrorBound n b d} (λ z. refl) kind expiry strike
+plain-priced (dated flows side dates strike) n b d = dated-whole n b d flows {e = treeErrorBound n b d} (λ z. refl) side dates strike
 
 plain-bound : (p : Pricing) (n b : ℕ) (d : List ℕ) → plainPrice p n b d .number ≡ 0 → plainPrice p n b d .bound ≡ treeErrorBound n b d
 plain-bound (bond flows) n b d h = bond-given n b d flows h .bound
@@ -107,7 +107,7 @@ plain-bound (option flows kind expiry strike) n b d h = option-given n b d flows
 plain-bound (dated flows side dates strike) n b d h = dated-given n b d flows side dates strike h .bound
 
 plain-within : (p : Pricing) (n b : ℕ) (d : List ℕ) → plainPrice p n b d .number ≡ 0 →
-    Within (plainPrice p n b d .bound) (unit ^ n) (plainPrice p n b d .value) (exactOf p n b d)
+    Accurate (unit ^ n) (plainPrice p n b d) (exactOf p n b d)
 plain-within (bond flows) n b d h = bond-within-bound n b d flows h
 plain-within (option flows kind expiry strike) n b d h = option-within-bound n b d flows kind expiry strike h
 plain-within (dated flows side dates strike) n b d h = dated-within-bound n b d flows side dates strike h
@@ -175,9 +175,8 @@ module _ (k : Kept) (v : Valid k) (name : ℕ) where
           carried = ap (λ (x : Price). x .bound) same ∙ sym bound;
           answered = same;
           accurate =
-              subst (λ (e : ℕ). Within e (unit ^ t .steps) (priceOf k name p .value) (exactOf p (t .steps) (t .reversion) (t .discounts))) (sym bound)
-              (subst (λ (x : Price). Within (plainPrice p (t .steps) (t .reversion) (t .discounts) .bound) (unit ^ t .steps) (x .value)
-              (exactOf p (t .steps) (t .reversion) (t .discounts))) (sym same) (plain-within p (t .steps) (t .reversion) (t .discounts) zero));
+              subst (λ (x : Price). Accurate (unit ^ t .steps) x (exactOf p (t .steps) (t .reversion) (t .discounts))) (sym same)
+              (plain-within p (t .steps) (t .reversion) (t .discounts) zero);
           a-step = λ l. rw bound (plain-a-step p (t .steps) (t .reversion) (t .discounts) zero l);
         }
 

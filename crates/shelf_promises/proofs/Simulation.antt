@@ -17,7 +17,8 @@ use Rattle.fitting.proofs.FittedTree.{fit-discounts-length}
 use Rattle.price_bound.proofs.BoundLaws.{bounds-bound, bounds-greatest}
 use Rattle.shelf_laws.specs.Parts.{zeros, opened, closed}
 use Rattle.shelf_laws.specs.declared.Slot.{Slot}
-use Rattle.shelf_laws.specs.Shelf.{room, emptySlot, awaitingSlot, fittedSlot, slotAt, nodesOf, nodesBefore, held, statusOf, slotOf, discountsAt, discountsOf}
+use Rattle.shelf_laws.specs.Shelf.{room, emptySlot, awaitingSlot, fittedSlot, slotAt, nodesOf, nodesBefore, nodesHeld}
+use Rattle.shelf_laws.specs.Shelf.{statusOf, slotOf, discountsAt, discountsOf}
 use Rattle.shelf_laws.specs.Shelf.{nameCause, askNumber, askSlots, askMemory, commitNumber, commitSlots, commitPart, commitMemory, releaseSlots, releaseMemory}
 use Rattle.shelf_laws.proofs.PartLaws.{part-length, length-opened, length-closed, length-written, place-self}
 use Rattle.shelf_laws.proofs.FitParts.{part-fitted, part-zeroed, part-left, part-size}
@@ -41,7 +42,7 @@ pub record Follows (k : Kept) (call : Call) : Type 0 where
   pub number : numberOf k call ≡ deskNumber (seen k) call
   pub desk : (i : ℕ) → seen (after k call) i ≡ deskAfter (seen k) call i
   pub sound : Sound (after k call .slots) (after k call .memory)
-  pub nodes : held (after k call .slots) + history.released k call ≡ held (k .slots) + history.asked k call
+  pub nodes : nodesHeld (after k call .slots) + history.released k call ≡ nodesHeld (k .slots) + history.asked k call
   pub kept : (numberOf k call ≡ 0 → ⊥) → after k call ≡ k
 
 -- a call that leaves all as it was, and is refused
@@ -52,7 +53,7 @@ unchanged k call s n z e l g =
       number = n;
       desk = λ i. ap (λ (x : Kept). seen x i) e ∙ ap (λ (f : ℕ → Seen). f i) (refused (seen k) call z);
       sound = subst (λ (x : Kept). Sound (x .slots) (x .memory)) (sym e) s;
-      nodes = omega (arith, ap (λ (x : Kept). held (x .slots)) e);
+      nodes = omega (arith, ap (λ (x : Kept). nodesHeld (x .slots)) e);
       kept = λ r. e;
     }
 
@@ -61,8 +62,8 @@ set-slot : (k : Kept) (call : Call) (i : ℕ) (t : Slot) (m : List ℕ) (x : See
     numberOf k call ≡ deskNumber (seen k) call → deskNumber (seen k) call ≡ 0 →
     after k call ≡ record { slots = set (k .slots) i t; memory = m } →
     deskTaken (seen k) call ≡ put (seen k) i x →
-    length m ≡ room → held (set (k .slots) i t) ≤ room →
-    held (set (k .slots) i t) + history.released k call ≡ held (k .slots) + history.asked k call →
+    length m ≡ room → nodesHeld (set (k .slots) i t) ≤ room →
+    nodesHeld (set (k .slots) i t) + history.released k call ≡ nodesHeld (k .slots) + history.asked k call →
     seen (record { slots = set (k .slots) i t; memory = m }) i ≡ x →
     ((j : ℕ) → j < 8 → (j ≡ i → ⊥) → discountsAt (set (k .slots) i t) m j ≡ discountsAt (k .slots) (k .memory) j) →
     Follows k call
@@ -76,7 +77,7 @@ set-slot k call i t m x s low n z e d long fits count own others =
           ∙ ap (λ (f : ℕ → Seen). f j) (sym d ∙ taken (seen k) call z);
       sound =
           subst (λ (y : Kept). Sound (y .slots) (y .memory)) (sym e) (record { size = length-set (k .slots) i t ∙ s .size; long = long; fits = fits });
-      nodes = omega (arith, ap (λ (y : Kept). held (y .slots)) e);
+      nodes = omega (arith, ap (λ (y : Kept). nodesHeld (y .slots)) e);
       kept = λ r. absurd (r (n ∙ z));
     }
 
@@ -93,7 +94,7 @@ nothing-set k call s n e d l g =
           (λ (z : deskNumber (seen k) call ≡ 0). ap (λ (f : ℕ → Seen). f i) (sym d ∙ taken (seen k) call z))
           (λ (z : deskNumber (seen k) call ≡ 0 → ⊥). ap (λ (f : ℕ → Seen). f i) (refused (seen k) call z));
       sound = subst (λ (x : Kept). Sound (x .slots) (x .memory)) (sym e) s;
-      nodes = omega (arith, ap (λ (x : Kept). held (x .slots)) e);
+      nodes = omega (arith, ap (λ (x : Kept). nodesHeld (x .slots)) e);
       kept = λ r. e;
     }
 
@@ -133,7 +134,7 @@ module _ (k : Kept) (s : Sound (k .slots) (k .memory)) (name n b : ℕ) where
         let t = awaitingSlot n b in
         let nt : nodesOf t ≡ discountsNeeded n b = nodes-tree (awaitingSlot n b) (λ z. omega arith) (omega arith) (a .shape) in
         let empty : nodesOf (slotAt (k .slots) i) ≡ 0 = nodes-none (slotAt (k .slots) i) (a .absent) in
-        let space : nodesOf t + held (k .slots) ≤ room = omega (arith, a .space) in
+        let space : nodesOf t + nodesHeld (k .slots) ≤ room = omega (arith, a .space) in
         let m = k .memory in
         let m′ = opened m (nodesBefore (k .slots) i) (nodesOf t) in
         let em : opened m (nodesBefore (k .slots) i) (discountsNeeded n b) ≡ m′ = ap (opened m (nodesBefore (k .slots) i)) (sym nt) in

@@ -8,7 +8,6 @@ use Prim.Native.Nat.{ℕ, suc, _+_, _-_, _*_, _^_, _≤_, _<_}
 use lib.Dec.{eqb}
 use lib.ListN.{length, replicate}
 use Rattle.arithmetic.specs.Row.{values}
-use Rattle.arithmetic.specs.Within.{Within}
 use Rattle.tree.specs.Tree.{unit}
 use Rattle.limits.specs.Limits.{mostSteps, shapeCause}
 use Rattle.lattice.specs.Shape.{discountsNeeded, statePricesNeeded}
@@ -17,10 +16,11 @@ use Rattle.fitting.specs.Entry.{fitNumber}
 use Rattle.price_bound.specs.PriceBound.{treeErrorBound, greatestDiscounts}
 use Rattle.price_laws.specs.declared.Price.{Price}
 use Rattle.price_laws.specs.Prices.{refusedPrice}
+use Rattle.price_laws.specs.Exact.{Accurate}
 use Rattle.price_laws.specs.Strips.{stripCause, Shown}
 use Rattle.promises.specs.Promises.{NoneAboveOne}
 use Rattle.shelf_laws.specs.Parts.{zeros, part}
-use Rattle.shelf_laws.specs.Shelf.{room, held, partOf, slotOf, nameCause}
+use Rattle.shelf_laws.specs.Shelf.{room, nodesHeld, partOf, slotOf, nameCause}
 use Rattle.shelf_prices.specs.ShelfPrices.{shelfBondAndOption, shelfBondAndDated, shelfStrip, shelfDatedStrip, shelfKindStrip}
 use Rattle.shelf_promises.specs.Model.{ShelvedTree, absent, present, Quoted, fitNumberOf, fitDiscountsOf, fittedTree}
 use Rattle.shelf_promises.specs.Model.{Pricing, bond, option, dated, flowsOf, plainPrice, exactOf}
@@ -69,15 +69,15 @@ pub record PricedTree (k : Kept) (name : ℕ) (p : Pricing) : Type 0 where
   pub carried : priceOf k name p .bound ≡ tree .bound
   pub answered : priceOf k name p ≡ plainPrice p (tree .steps) (tree .reversion) (tree .discounts)
   pub accurate :
-      Within (tree .bound) (unit ^ tree .steps) (priceOf k name p .value) (exactOf p (tree .steps) (tree .reversion) (tree .discounts))
+      Accurate (unit ^ tree .steps) (priceOf k name p) (exactOf p (tree .steps) (tree .reversion) (tree .discounts))
   pub a-step : NoneAboveOne (tree .steps) (tree .reversion) (tree .discounts) → tree .bound ≤ 2 * tree .steps
 
 -- ---- calls
 
 -- an asking for a free name within the limits: accepted exactly where the asked nodes and those held fit
 pub record AskedExactly (k : Kept) (name n b : ℕ) : Type 0 where
-  pub taken : discountsNeeded n b + held (k .slots) ≤ room → numberOf k (asking name n b) ≡ 0
-  pub full : room < discountsNeeded n b + held (k .slots) → numberOf k (asking name n b) ≡ 14
+  pub taken : discountsNeeded n b + nodesHeld (k .slots) ≤ room → numberOf k (asking name n b) ≡ 0
+  pub full : room < discountsNeeded n b + nodesHeld (k .slots) → numberOf k (asking name n b) ≡ 14
 
 -- everything but an asking
 pub data Alone : Call → Type 0 where
@@ -103,9 +103,9 @@ pub record ShelfPromises : Type 0 where
       seen (run (emptyShelf m) calls) i ≡ deskRun (λ j. absent) calls i
   -- nodes held are those of successful askings less releases, and those of the trees that are seen; they never pass 3,600
   pub nodes-held : (m : List ℕ) → length m ≡ room → (calls : List Call) →
-      held (run (emptyShelf m) calls .slots) + releasedIn (emptyShelf m) calls ≡ askedIn (emptyShelf m) calls
-  pub nodes-seen : (k : Kept) → Reached k → held (k .slots) ≡ heldBy (seen k) 8
-  pub nodes-fit : (k : Kept) → Reached k → held (k .slots) ≤ room
+      nodesHeld (run (emptyShelf m) calls .slots) + releasedIn (emptyShelf m) calls ≡ askedIn (emptyShelf m) calls
+  pub nodes-seen : (k : Kept) → Reached k → nodesHeld (k .slots) ≡ heldBy (seen k) 8
+  pub nodes-fit : (k : Kept) → Reached k → nodesHeld (k .slots) ≤ room
   pub asked-exactly : (k : Kept) → Reached k → (name n b : ℕ) → 1 ≤ name → name ≤ 8 → seen k (name - 1) ≡ absent → shapeCause n b ≡ 0 →
       AskedExactly k name n b
   -- an unfitted tree's discounts are all 0; a fitted one's are those of a commit of its own name, all accepted
@@ -124,7 +124,8 @@ pub record ShelfPromises : Type 0 where
       numberOf k call ≡ numberOf j call
   pub prices-alone : (k j : Kept) → Reached k → Reached j → (name : ℕ) (p : Pricing) → seen k (name - 1) ≡ seen j (name - 1) →
       priceOf k name p ≡ priceOf j name p
-  pub askings-alone : (k j : Kept) → Reached k → Reached j → (name n b : ℕ) → seen k (name - 1) ≡ seen j (name - 1) → held (k .slots) ≡ held (j .slots) →
+  pub askings-alone : (k j : Kept) → Reached k → Reached j → (name n b : ℕ) →
+      seen k (name - 1) ≡ seen j (name - 1) → nodesHeld (k .slots) ≡ nodesHeld (j .slots) →
       numberOf k (asking name n b) ≡ numberOf j (asking name n b)
   -- pricing, and every refused call, leaves slots and memory as they were
   pub pricing-kept : (k : Kept) (name : ℕ) (p : Pricing) → after k (pricing name p) ≡ k
@@ -162,5 +163,5 @@ pub record ShelfPromises : Type 0 where
   pub parts-shown : (k : Kept) → Reached k → (name : ℕ) (t : ShelvedTree) → 1 ≤ name → name ≤ 8 → seen k (name - 1) ≡ present t →
       part (k .memory) (partOf (k .slots) name .start) (partOf (k .slots) name .count) ≡ t .discounts
   -- a shelf that holds more nodes than the memory has is reached by no calls: it is refused with 15 and left as it was
-  pub unreached-refused : (k : Kept) → room < held (k .slots) → (name : ℕ) → Refused k name
-  pub unreached-kept : (k : Kept) → room < held (k .slots) → (call : Call) → after k call ≡ k
+  pub unreached-refused : (k : Kept) → room < nodesHeld (k .slots) → (name : ℕ) → Refused k name
+  pub unreached-kept : (k : Kept) → room < nodesHeld (k .slots) → (call : Call) → after k call ≡ k

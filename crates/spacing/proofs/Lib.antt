@@ -1,3 +1,3 @@
 pub mod SpacingLaws
 pub mod VersionLaws
-pub mod Figures
+pub mod Examples

@@ -13,7 +13,7 @@ use Rattle.arithmetic.specs.Answers.{refused, answered}
 use Rattle.arithmetic.specs.declared.Answer.{Answer}
 use Rattle.arithmetic.proofs.Numbers.{by-order}
 use Rattle.spacing.specs.Spacing.{greatestPassing, greatestRoot, spacing, spacingAnswer}
-use Rattle.arithmetic.specs.Frequency.{listed}
+use Rattle.arithmetic.specs.Frequency.{isFrequency}
 
 -- what passes among 0 to n is at most the greatest that passes, which passes if 0 does
 passing-most : (test : ℕ → Bool) (n k : ℕ) → k ≤ n → T (test k) → k ≤ greatestPassing test n
@@ -107,31 +107,31 @@ module _ (f s : ℕ) where
             let square : 86602541 * 86602541 ≤ h * h = mul-le-mul l l in
             omega (arith, mul-le-mul-left (h * h) cube, mul-le-mul small small)
 
-pub spacing-unlisted : (f s : ℕ) → listed f ≡ false → spacingAnswer f s ≡ refused 2
+pub spacing-unlisted : (f s : ℕ) → isFrequency f ≡ false → spacingAnswer f s ≡ refused 2
 unfolding spacingAnswer
 spacing-unlisted f s u = rw u
 
-pub spacing-volatile : (f s : ℕ) → listed f ≡ true → 50000 < s → spacingAnswer f s ≡ refused 5
+pub spacing-volatile : (f s : ℕ) → isFrequency f ≡ true → 50000 < s → spacingAnswer f s ≡ refused 5
 unfolding spacingAnswer
 spacing-volatile f s u h = rw (u, lt-ltb 50000 s h)
 
-pub spacing-accepted : (f s : ℕ) → listed f ≡ true → s ≤ 50000 → spacingAnswer f s ≡ answered (spacing f s)
+pub spacing-accepted : (f s : ℕ) → isFrequency f ≡ true → s ≤ 50000 → spacingAnswer f s ≡ answered (spacing f s)
 unfolding spacingAnswer
 spacing-accepted f s u h = rw (u, le-ltb 50000 s h)
 
 -- number 0 means accepted, and the value is h
-pub record Accepted (f s : ℕ) (answer : Answer) : Type 0 where
-  pub frequency : listed f ≡ true
+pub record AcceptedSpacing (f s : ℕ) (answer : Answer) : Type 0 where
+  pub frequency : isFrequency f ≡ true
   pub volatility : s ≤ 50000
   pub value : answer .value ≡ spacing f s
 
-pub spacing-zero : (f s : ℕ) → spacingAnswer f s .number ≡ 0 → Accepted f s (spacingAnswer f s)
-spacing-zero f s e = by-listed (listed f) refl
+pub spacing-zero : (f s : ℕ) → spacingAnswer f s .number ≡ 0 → AcceptedSpacing f s (spacingAnswer f s)
+spacing-zero f s e = by-listed (isFrequency f) refl
   where
     impossible : (cause : ℕ) → 0 < cause → spacingAnswer f s ≡ refused cause → ⊥
     impossible cause p r = omega (arith, ap (λ (a : Answer). a .number) r)
 
-    by-listed : (t : Bool) → listed f ≡ t → Accepted f s (spacingAnswer f s)
+    by-listed : (t : Bool) → isFrequency f ≡ t → AcceptedSpacing f s (spacingAnswer f s)
     by-listed false u = absurd (impossible 2 (omega arith) (spacing-unlisted f s u))
     by-listed true u =
         by-order s 50000

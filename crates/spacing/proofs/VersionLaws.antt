@@ -11,7 +11,7 @@ use lib.Dec.{ltb}
 use Rattle.arithmetic.specs.Rounding.{one, roundDown}
 use Rattle.arithmetic.specs.Answers.{refused, answered}
 use Rattle.arithmetic.specs.declared.Answer.{Answer}
-use Rattle.arithmetic.specs.Frequency.{listed}
+use Rattle.arithmetic.specs.Frequency.{isFrequency}
 use Rattle.arithmetic.proofs.Numbers.{by-order, by-test}
 use Rattle.arithmetic.proofs.FrequencyLaws.{listed-small}
 use Rattle.limits.specs.Limits.{mostReversion}
@@ -103,11 +103,11 @@ module _ (version f s b : ℕ) where
 -- ---- the answers
 
 module _ (version f s b : ℕ) where
-  pub answer-unlisted : listed f ≡ false → versionSpacingAnswer version f s b ≡ refused 2
+  pub answer-unlisted : isFrequency f ≡ false → versionSpacingAnswer version f s b ≡ refused 2
   unfolding versionSpacingAnswer
   answer-unlisted u = rw u
 
-  module _ (u : listed f ≡ true) where
+  module _ (u : isFrequency f ≡ true) where
     pub answer-reverting : mostReversion < b → versionSpacingAnswer version f s b ≡ refused 4
     unfolding versionSpacingAnswer
     answer-reverting h = rw (u, lt-ltb mostReversion b h)
@@ -136,21 +136,21 @@ module _ (version f s b : ℕ) where
             ∙ ap answered (sym (root-of-quotient (f * f * f) (versionVariance version s b) (cube-positive (listed-small f u .0)) h low high))
 
 -- number 0 means accepted, and the value is h
-pub record Accepted (version f s b : ℕ) (answer : Answer) : Type 0 where
+pub record AcceptedVersion (version f s b : ℕ) (answer : Answer) : Type 0 where
   pub known : isVersion version ≡ true
-  pub frequency : listed f ≡ true
+  pub frequency : isFrequency f ≡ true
   pub volatility : s ≤ 50000
   pub reversion : b ≤ mostReversion
   pub value : answer .value ≡ versionSpacing version f s b
 
-pub version-zero : (version f s b : ℕ) → versionSpacingAnswer version f s b .number ≡ 0 → Accepted version f s b (versionSpacingAnswer version f s b)
-version-zero version f s b e = by-listed (listed f) refl
+pub version-zero : (version f s b : ℕ) → versionSpacingAnswer version f s b .number ≡ 0 → AcceptedVersion version f s b (versionSpacingAnswer version f s b)
+version-zero version f s b e = by-listed (isFrequency f) refl
   where
     impossible : {X : Type 0} (cause : ℕ) → 0 < cause → versionSpacingAnswer version f s b ≡ refused cause → X
     impossible cause p r = absurd (let none : ⊥ = omega (arith, ap (λ (a : Answer). a .number) r) in none)
 
-    by-known : listed f ≡ true → b ≤ mostReversion → s ≤ 50000 → (t : Bool) → isVersion version ≡ t →
-        Accepted version f s b (versionSpacingAnswer version f s b)
+    by-known : isFrequency f ≡ true → b ≤ mostReversion → s ≤ 50000 → (t : Bool) → isVersion version ≡ t →
+        AcceptedVersion version f s b (versionSpacingAnswer version f s b)
     by-known u hb hs true v =
         record {
           known = v;
@@ -161,7 +161,7 @@ version-zero version f s b e = by-listed (listed f) refl
         }
     by-known u hb hs false v = impossible 7 (omega arith) (answer-unknown version f s b u hb hs v)
 
-    by-listed : (t : Bool) → listed f ≡ t → Accepted version f s b (versionSpacingAnswer version f s b)
+    by-listed : (t : Bool) → isFrequency f ≡ t → AcceptedVersion version f s b (versionSpacingAnswer version f s b)
     by-listed false u = impossible 2 (omega arith) (answer-unlisted version f s b u)
     by-listed true u =
         by-order b mostReversion
@@ -174,7 +174,7 @@ version-zero version f s b e = by-listed (listed f) refl
 pub version-answer-most : (version f s b : ℕ) → versionSpacingAnswer version f s b .value ≤ 86602540
 unfolding versionSpacingAnswer
 version-answer-most version f s b =
-    by-test (not (listed f)) Small (refused 2) _ (λ u. omega arith)
+    by-test (not (isFrequency f)) Small (refused 2) _ (λ u. omega arith)
     (λ u. by-test (ltb mostReversion b) Small (refused 4) _ (λ hb. omega arith)
     (λ hb. by-test (ltb 50000 s) Small (refused 5) _ (λ hs. omega arith)
     (λ hs. by-test (not (isVersion version)) Small (refused 7) _ (λ v. omega arith)
@@ -187,11 +187,11 @@ version-answer-most version f s b =
 pub answer-first : (f s : ℕ) → versionSpacingAnswer 1 f s 0 ≡ spacingAnswer f s
 unfolding versionSpacingAnswer spacingAnswer isVersion
 answer-first f s =
-    ap (λ (h : ℕ). cond (not (listed f)) (refused 2) (cond (ltb 50000 s) (refused 5) (answered h))) (version-first f s 0)
+    ap (λ (h : ℕ). cond (not (isFrequency f)) (refused 2) (cond (ltb 50000 s) (refused 5) (answered h))) (version-first f s 0)
 
 -- the same from the ratio that the entry of crate reversion answers
 module _
-    (version f s b : ℕ) (ratio : Answer) (u : listed f ≡ true) (hb : b ≤ mostReversion) (hs : s ≤ 50000) (e : ratio ≡ ratioAnswer version b) where
+    (version f s b : ℕ) (ratio : Answer) (u : isFrequency f ≡ true) (hb : b ≤ mostReversion) (hs : s ≤ 50000) (e : ratio ≡ ratioAnswer version b) where
   pub ratio-refused : (ratio .number ≡ 0 → ⊥) → versionSpacingAnswer version f s b ≡ refused 7
   ratio-refused nz = answer-unknown version f s b u hb hs (number-above version b _ ratio e hb nz)
 

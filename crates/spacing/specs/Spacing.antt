@@ -4,7 +4,7 @@ use Prim.Native.Nat.{ℕ, zero, suc, _*_}
 use mathlib.Core.Bool.{Bool, cond, not}
 use lib.Dec.{leb, ltb}
 use Rattle.arithmetic.specs.Rounding.{one, roundDown}
-use Rattle.arithmetic.specs.Frequency.{listed}
+use Rattle.arithmetic.specs.Frequency.{isFrequency}
 use Rattle.arithmetic.specs.Answers.{refused, answered}
 use Rattle.arithmetic.specs.declared.Answer.{Answer}
 use Rattle.limits.specs.Limits.{mostReversion}
@@ -25,7 +25,7 @@ spacing f s = greatestRoot (f * f * f) (3 * (1000 * s * (1000 * s)))
 
 -- what the entry answers: cause 2, cause 5, or h
 unfoldable pub spacingAnswer : ℕ → ℕ → Answer
-spacingAnswer f s = cond (not (listed f)) (refused 2) (cond (ltb 50000 s) (refused 5) (answered (spacing f s)))
+spacingAnswer f s = cond (not (isFrequency f)) (refused 2) (cond (ltb 50000 s) (refused 5) (answered (spacing f s)))
 
 -- what h² × f³ may come to: 3 × (1,000 s)², in version 2 and for b above 0 times c / one, down
 unfoldable pub versionVariance : ℕ → ℕ → ℕ → ℕ
@@ -39,7 +39,7 @@ versionSpacing version f s b = greatestRoot (f * f * f) (versionVariance version
 -- what the entry by version answers: cause 2, cause 4, cause 5, cause 7, or h
 unfoldable pub versionSpacingAnswer : ℕ → ℕ → ℕ → ℕ → Answer
 versionSpacingAnswer version f s b =
-    cond (not (listed f)) (refused 2)
+    cond (not (isFrequency f)) (refused 2)
     (cond (ltb mostReversion b) (refused 4)
     (cond (ltb 50000 s) (refused 5)
     (cond (not (isVersion version)) (refused 7) (answered (versionSpacing version f s b)))))

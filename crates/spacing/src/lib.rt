@@ -27,7 +27,7 @@ fn square_root(square: u64) -> u64
 pub fn version_spacing(version: u64, frequency: u64, volatility: u64, reversion: u64) -> Answer
     ensures { λ r. ⌜ r ≡ versionSpacingAnswer version frequency volatility reversion ⌝ }
 {
-    if !arithmetic::is_listed(frequency) {
+    if !arithmetic::is_frequency(frequency) {
         return Answer {
             number: 2,
             value: 0,

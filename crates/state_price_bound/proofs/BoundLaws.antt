@@ -7,25 +7,30 @@ use native.Mathlib.Nat.{mul-le-mul, le-refl, zero-add, suc-add}
 use native.Mathlib.Numerals.{add-one}
 use native.Mathlib.Omega.{arith}
 use lib.Dec.{lit≤}
-use lib.ListN.{length, take, drop, length-drop}
+use lib.ListN.{length, take, drop, replicate, length-drop}
 use lib.Seq.{length-take-le, getD-take, getD-drop}
-use borrow.Author.Tests.{ne-eqb, lt-ltb, le-ltb}
+use borrow.Author.Tests.{eq-eqb, ne-eqb, lt-ltb, le-ltb}
 use Rattle.arithmetic.specs.Rounding.{one, roundUp}
 use Rattle.arithmetic.specs.Sum.{greatest}
 use Rattle.arithmetic.specs.Row.{values, greatestOf}
 use Rattle.arithmetic.specs.Answers.{refused, answered, lowestCause}
 use Rattle.arithmetic.proofs.Numbers.{by-order, by-equal}
 use Rattle.arithmetic.proofs.CauseLaws.{lowest-none}
+use Rattle.arithmetic.proofs.PaddedLaws.{filled-padded}
 use Rattle.arithmetic.proofs.RoundingLaws.{up-monotone}
+use Rattle.arithmetic.proofs.RowLaws.{Filled, zeros}
 use Rattle.arithmetic.proofs.SumLaws.{greatest-le, greatest-cong}
+use Rattle.limits.specs.Limits.{mostSteps}
 use Rattle.tree.specs.Tree.{Tree}
 use Rattle.lattice.specs.Shape.{nodeCount, rowStart}
 use Rattle.lattice.specs.RateTree.{rateTree}
-use Rattle.lattice.proofs.Sizes.{start-first, start-next, start-grow, row-ends, half-root, count-within}
+use Rattle.lattice.proofs.Sizes.{start-first, start-next, start-grow, start-within, row-ends, half-root, count-within}
 use Rattle.lent_tree.specs.LentTree.{stored, discountsCause, Accepted}
 use Rattle.lent_tree.proofs.LentLaws.{accepted}
 use Rattle.fit_laws.specs.StatePrices.{statePriceErrorBound}
-use Rattle.state_price_bound.specs.ErrorBound.{rowCause, boundCause, statePriceErrorBoundAnswer}
+use Rattle.state_price_bound.specs.declared.RowBounds.{RowBounds}
+use Rattle.state_price_bound.specs.ErrorBound.{rowCause, boundCause, statePriceErrorBoundAnswer, statePriceErrorBounds, statePriceErrorBoundsAnswer}
+use Rattle.state_price_bound.specs.inside.Reached.{Bounded, Reached}
 
 -- ---- refusals
 
@@ -48,10 +53,20 @@ pub record Lent (n b : ℕ) (discounts : List ℕ) (i : ℕ) : Type 0 where
   pub tree : Accepted n b discounts
   pub present : i ≤ n
 
+pub before-row : (n b : ℕ) (discounts : List ℕ) → Accepted n b discounts → (i : ℕ) → i ≤ n → Bounded b discounts i
+before-row n b discounts a i h =
+    let s = start-grow b i n h in
+    record {
+      reversion-within-limit = a .limits .reversion-within-limit;
+      row-within-limit = omega (arith, a .limits .steps-within-limit);
+      room = omega (arith, a .room);
+      discounted = λ k l. a .discounted k (omega arith);
+    }
+
 module _ (n b : ℕ) (discounts : List ℕ) (i : ℕ) where
-  pub refusal-is : (x d r : ℕ) → d ≡ discountsCause n b discounts → r ≡ rowCause n i → x ≡ lowestCause d r → x ≡ boundCause n b discounts i
+  pub refusal-is : {x d r : ℕ} → d ≡ discountsCause n b discounts → r ≡ rowCause n i → x ≡ lowestCause d r → x ≡ boundCause n b discounts i
   unfolding boundCause
-  refusal-is x d r ed er e = e ∙ rw (ed, er)
+  refusal-is ed er e = e ∙ rw (ed, er)
 
   pub not-refused : boundCause n b discounts i ≡ 0 → Lent n b discounts i
   unfolding boundCause
@@ -59,7 +74,7 @@ module _ (n b : ℕ) (discounts : List ℕ) (i : ℕ) where
       let z = lowest-none (discountsCause n b discounts) (rowCause n i) e in
       record { tree = accepted n b discounts (z .0); present = row-present n i (z .1) }
 
-  module _ (x : ℕ) (ex : x ≡ boundCause n b discounts i) where
+  module _ {x : ℕ} (ex : x ≡ boundCause n b discounts i) where
     pub bound-refused : (x ≡ 0 → ⊥) → refused x ≡ statePriceErrorBoundAnswer n b discounts i
     unfolding statePriceErrorBoundAnswer
     bound-refused nz = rw (← ex, ne-eqb x 0 nz)
@@ -70,14 +85,8 @@ module _ (n b : ℕ) (discounts : List ℕ) (i : ℕ) where
       bound-answered y f = let none = sym ex ∙ z in rw (none, f)
 
       -- what the loop over rows asks of an accepted tree
-      pub row-needs : ((b ≤ 6000) × (i ≤ 60) × (rowStart b i ≤ length discounts))
-          × ((k : ℕ) → k < rowStart b i → values discounts k ≤ 1100000000)
-      row-needs =
-          let l = not-refused (sym ex ∙ z) in
-          let s = start-grow b i n (l .present) in (
-            (l .tree .reversion-within-limit, omega (arith, l .tree .steps-within-limit, l .present), omega (arith, l .tree .room)),
-            λ k h. l .tree .discounted k (omega arith),
-          )
+      pub row-needs : Bounded b discounts i
+      row-needs = let l = not-refused (sym ex ∙ z) in before-row n b discounts (l .tree) i (l .present)
 
 -- ---- the greatest value
 
@@ -130,72 +139,113 @@ bound-below t v (suc i) wide high =
       wide (suc i) (omega arith),
     )
 
--- ---- the loop over rows
+-- ---- the loops over rows
 
--- what the loop has reached: row i, where it starts, its node count and its bound
-pub record Reached (b : ℕ) (discounts : List ℕ) (i bound start nodes : ℕ) : Type 0 where
-  pub starts : start ≡ rowStart b i
-  pub counts : nodes ≡ nodeCount b i
-  pub bounds : bound ≡ statePriceErrorBound (rateTree b) (stored b discounts) i
-
-pub reached-start : (b : ℕ) (discounts : List ℕ) → Reached b discounts 0 0 0 1
+pub reached-start : {b : ℕ} {discounts : List ℕ} {start nodes bound : ℕ} → (start ≡ 0) × (nodes ≡ 1) × (bound ≡ 0) → Reached b discounts 0 start nodes bound
 unfolding statePriceErrorBound nodeCount
-reached-start b discounts =
-    record { starts = sym (start-first b); counts = omega (arith, half-root b); bounds = refl }
+reached-start {b} e =
+    record { starts = e .0 ∙ sym (start-first b); counts = omega (arith, e .1, half-root b); bounds = e .2 }
 
--- sizes that the loop meets, for discounts of at most 1,100,000,000 before a row
-module _ (b : ℕ) (discounts : List ℕ) (row : ℕ) (few : row ≤ 60)
-    (high : (k : ℕ) → k < rowStart b row → values discounts k ≤ 1100000000) where
-  pub greatest-within : (i : ℕ) → i < row → greatest (nodeCount b i) (stored b discounts i) ≤ 1100000000
+-- the row after a row that is before a last one
+pub before-last : (b : ℕ) (discounts : List ℕ) (row i : ℕ) → Bounded b discounts row → i < row → Bounded b discounts (i + 1)
+before-last b discounts row i h l =
+    let s = start-grow b (i + 1) row (omega arith) in
+    record {
+      reversion-within-limit = h .reversion-within-limit;
+      row-within-limit = omega (arith, h .row-within-limit);
+      room = omega (arith, h .room);
+      discounted = λ k below. h .discounted k (omega arith);
+    }
+
+-- sizes that the loops meet
+module _ (b : ℕ) (discounts : List ℕ) (row : ℕ) (h : Bounded b discounts row) where
+  greatest-within : (i : ℕ) → i < row → greatest (nodeCount b i) (stored b discounts i) ≤ 1100000000
   unfolding stored
   greatest-within i l =
       greatest-le (nodeCount b i) (λ k. values discounts (rowStart b i + k)) 1100000000
-      (λ k h. high (rowStart b i + k) (omega (arith, row-ends b i row l)))
+      (λ k below. h .discounted (rowStart b i + k) (omega (arith, row-ends b i row l)))
 
-  pub bound-within : (i : ℕ) → i ≤ row → statePriceErrorBound (rateTree b) (stored b discounts) i ≤ 1000000
+  bound-within : (i : ℕ) → i ≤ row → statePriceErrorBound (rateTree b) (stored b discounts) i ≤ 1000000
   unfolding rateTree
   bound-within i l =
       omega (
         arith,
-        bound-below (rateTree b) (stored b discounts) i (λ j h. count-within b j (omega arith)) (λ j h. greatest-within j (omega arith)),
-        ceiling-most i (omega arith),
+        bound-below (rateTree b) (stored b discounts) i (λ j m. count-within b j (omega (arith, h .row-within-limit)))
+            (λ j m. greatest-within j (omega arith)),
+        ceiling-most i (omega (arith, h .row-within-limit)),
       )
 
-module _ (b : ℕ) (discounts : List ℕ) (i bound start nodes : ℕ) (r : Reached b discounts i bound start nodes) where
-  -- the row lies within the discounts of the rows before a later row
-  pub reached-room : (row : ℕ) → i < row → rowStart b row ≤ length discounts → start + nodes ≤ length discounts
-  reached-room row l h = omega (arith, r .starts, r .counts, row-ends b i row l)
-
+module _ {b : ℕ} {discounts : List ℕ} {i start nodes bound : ℕ} (r : Reached b discounts i start nodes bound) where
   pub reached-last : (row : ℕ) → i ≡ row → bound ≡ statePriceErrorBound (rateTree b) (stored b discounts) row
   reached-last row e = r .bounds ∙ ap (statePriceErrorBound (rateTree b) (stored b discounts)) e
 
-  module _ (g : ℕ) (room : start + nodes ≤ length discounts) (eg : g ≡ greatestOf (take (start + nodes - start) (drop start discounts)))
-      (next : ℕ) (en : next ≡ nodeCount b (i + 1)) where
-    reached-greatest : g ≡ greatest (nodeCount b i) (stored b discounts i)
-    unfolding stored
-    reached-greatest =
-        eg ∙ greatest-part discounts start nodes room
-        ∙ ap (λ (s : ℕ). greatest nodes (λ k. values discounts (s + k))) (r .starts)
-        ∙ ap (λ (n : ℕ). greatest n (λ k. values discounts (rowStart b i + k))) (r .counts)
+  module _ (h : Bounded b discounts (i + 1)) where
+    -- the row lies within the discounts, which are at most as many as the widest tree has
+    pub reached-room : (start + nodes ≤ length discounts) × (start + nodes ≤ 3721)
+    reached-room =
+        let ends = row-ends b i (i + 1) (omega arith) in (
+          omega (arith, r .starts, r .counts, h .room),
+          omega (arith, r .starts, r .counts, start-within b (i + 1) (omega (arith, h .row-within-limit))),
+        )
 
-    -- nothing wraps on the way to the next row
-    pub reached-sizes : (row : ℕ) → row ≤ 60 → ((k : ℕ) → k < rowStart b row → values discounts k ≤ 1100000000) → i < row →
-        (g ≤ 1100000000) × (bound ≤ 1000000) × (nodes ≤ 121) × (next ≤ 121)
-    reached-sizes row few high l = (
-      omega (arith, reached-greatest, greatest-within b discounts row few high i l),
-      omega (arith, r .bounds, bound-within b discounts row few high i (omega arith)),
-      omega (arith, r .counts, count-within b i (omega arith)),
-      omega (arith, en, count-within b (i + 1) (omega arith)),
-    )
+    module _ (g : ℕ) (eg : g ≡ greatestOf (take (start + nodes - start) (drop start discounts))) (next : ℕ) (en : next ≡ nodeCount b (i + 1)) where
+      reached-greatest : g ≡ greatest (nodeCount b i) (stored b discounts i)
+      unfolding stored
+      reached-greatest =
+          eg ∙ greatest-part discounts start nodes (reached-room .0)
+          ∙ ap (λ (s : ℕ). greatest nodes (λ k. values discounts (s + k))) (r .starts)
+          ∙ ap (λ (n : ℕ). greatest n (λ k. values discounts (rowStart b i + k))) (r .counts)
 
-    pub reached-next : (y : ℕ) → y ≡ roundUp (g * bound) one + nodes + next → Reached b discounts (i + 1) y (start + nodes) next
-    unfolding statePriceErrorBound rateTree
-    reached-next y ey =
-        record {
-          starts = omega (arith, r .starts, r .counts, start-next b i);
-          counts = en;
-          bounds = rw (add-one i) (ey ∙ rw (reached-greatest, r .bounds, r .counts, en, add-one i));
-        }
+      -- nothing wraps on the way to the next row
+      pub reached-sizes : (g ≤ 1100000000) × (bound ≤ 1000000) × (nodes ≤ 121) × (next ≤ 121)
+      reached-sizes = (
+        omega (arith, reached-greatest, greatest-within b discounts (i + 1) h i (omega arith)),
+        omega (arith, r .bounds, bound-within b discounts (i + 1) h i (omega arith)),
+        omega (arith, r .counts, count-within b i (omega (arith, h .row-within-limit))),
+        omega (arith, en, count-within b (i + 1) (omega (arith, h .row-within-limit))),
+      )
+
+      pub reached-next : (y : ℕ) → y ≡ roundUp (g * bound) one + nodes + next → Reached b discounts (i + 1) (start + nodes) next y
+      unfolding statePriceErrorBound rateTree
+      reached-next y ey =
+          record {
+            starts = omega (arith, r .starts, r .counts, start-next b i);
+            counts = en;
+            bounds = rw (add-one i) (ey ∙ rw (reached-greatest, r .bounds, r .counts, en, add-one i));
+          }
+
+-- ---- all rows
+
+module _ (b : ℕ) (discounts : List ℕ) where
+  abbrev by-row : ℕ → ℕ
+  by-row = statePriceErrorBound (rateTree b) (stored b discounts)
+
+  first-none : (i : ℕ) → i ≡ 0 → by-row i ≡ 0
+  unfolding statePriceErrorBound
+  first-none i z = rw z
+
+  -- row 0 is filled with zeros
+  pub bounds-start : Filled (replicate (mostSteps + 1) 0) (replicate (mostSteps + 1) 0) by-row 1
+  bounds-start = record { same = refl; done = λ j h. zeros (mostSteps + 1) j ∙ sym (first-none j (omega arith)); rest = λ j h. refl }
+
+  pub bounds-filled : (n : ℕ) (l : List ℕ) → Filled (replicate (mostSteps + 1) 0) l by-row (n + 1) → l ≡ statePriceErrorBounds n b discounts
+  unfolding statePriceErrorBounds
+  bounds-filled n l h = filled-padded (mostSteps + 1) l (n + 1) by-row h
+
+module _ (n b : ℕ) (discounts : List ℕ) (c : ℕ) (e : c ≡ discountsCause n b discounts) where
+  pub bounds-refused : (c ≡ 0 → ⊥) → (rows : List ℕ) → rows ≡ replicate (mostSteps + 1) 0 →
+      _≡_ {A = RowBounds} (record { number = c; bounds = rows }) (statePriceErrorBoundsAnswer n b discounts)
+  unfolding statePriceErrorBoundsAnswer
+  bounds-refused nz rows er = rw (er, ← e, ne-eqb c 0 nz)
+
+  module _ (z : c ≡ 0) where
+    pub all-rows : Bounded b discounts n
+    all-rows = before-row n b discounts (accepted n b discounts (sym e ∙ z)) n (le-refl n)
+
+    pub bounds-given : (rows : List ℕ) → rows ≡ statePriceErrorBounds n b discounts →
+        _≡_ {A = RowBounds} (record { number = 0; bounds = rows }) (statePriceErrorBoundsAnswer n b discounts)
+    unfolding statePriceErrorBoundsAnswer
+    bounds-given rows er = rw (er, eq-eqb (discountsCause n b discounts) 0 (sym e ∙ z))
 
 -- so the bound that is answered is at most a million
 pub bound-most : (n b : ℕ) (discounts : List ℕ) (i : ℕ) → statePriceErrorBoundAnswer n b discounts i .value ≤ 1000000
@@ -203,4 +253,4 @@ unfolding statePriceErrorBoundAnswer
 bound-most n b discounts i = by-equal (boundCause n b discounts i) 0 (λ z. rw z (within z)) (λ nz. rw (ne-eqb (boundCause n b discounts i) 0 nz) (omega arith))
   where
     within : boundCause n b discounts i ≡ 0 → statePriceErrorBound (rateTree b) (stored b discounts) i ≤ 1000000
-    within z = let needs = row-needs n b discounts i (boundCause n b discounts i) refl z in bound-within b discounts i (needs .0 .1) (needs .1) i (le-refl i)
+    within z = bound-within b discounts i (row-needs n b discounts i {x = boundCause n b discounts i} refl z) i (le-refl i)

@@ -1,3 +1,3 @@
 pub mod BoundLaws
 pub mod Meaning
-pub mod Figures
+pub mod Examples

@@ -1,1 +1,2 @@
 pub mod ErrorBound
+pub mod inside

@@ -1,2 +1,2 @@
 pub mod RateLaws
-pub mod Figures
+pub mod Examples

@@ -2,5 +2,5 @@ pub mod PutLaws
 pub mod DecimalLaws
 pub mod Signs
 pub mod LineLaws
-pub mod Figures
+pub mod Examples
 pub mod WordLineLaws

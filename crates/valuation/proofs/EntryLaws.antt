@@ -156,10 +156,10 @@ module _ (prices payoffs : List ℕ) where
 
 -- ---- the error bound
 
-pub payoffs-few : (count nodes greatest high x : ℕ) → high ≡ limitCause greatest → (count ≡ nodes → ⊥) → x ≡ lowestCause 6 high →
+pub payoffs-few : {count nodes : ℕ} (greatest : ℕ) {high x : ℕ} → high ≡ limitCause greatest → (count ≡ nodes → ⊥) → x ≡ lowestCause 6 high →
     x ≡ payoffsCause count nodes greatest
 unfolding payoffsCause
-payoffs-few count nodes greatest high x eh h e = e ∙ rw (ne-eqb count nodes h, eh)
+payoffs-few {count} {nodes} greatest eh h e = e ∙ rw (ne-eqb count nodes h, eh)
 
 pub payoffs-counted : (count nodes greatest high : ℕ) → high ≡ limitCause greatest → count ≡ nodes → high ≡ payoffsCause count nodes greatest
 unfolding payoffsCause
@@ -184,8 +184,8 @@ pub record Found (n b : ℕ) (discounts : List ℕ) (i : ℕ) (payoffs : List �
   pub of-payoffs : p ≡ payoffsCause (length payoffs) (nodes .value) g
   pub lowest : x ≡ lowestCause (bound .number) p
 
-module _ (n b : ℕ) (discounts : List ℕ) (i : ℕ) (payoffs : List ℕ) where
-  module _ (bound nodes : Answer) (g p x : ℕ) (f : Found n b discounts i payoffs bound nodes g p x) where
+module _ {n : ℕ} (b : ℕ) (discounts : List ℕ) {i : ℕ} (payoffs : List ℕ) where
+  module _ {bound nodes : Answer} {g p x : ℕ} (f : Found n b discounts i payoffs bound nodes g p x) where
     row-number : bound .number ≡ boundCause n b discounts i
     row-number = ap (λ (a : Answer). a .number) (f .row-bound) ∙ answer-number n b discounts i
 
@@ -214,8 +214,8 @@ module _ (n b : ℕ) (discounts : List ℕ) (i : ℕ) (payoffs : List ℕ) where
       counted : length payoffs ≡ nodeCount b i
       counted =
           known .0
-          ∙ row-value b i (nodeCount b i) nodes (f .row-nodes) (lent .tree .reversion-within-limit)
-          (omega (arith, lent .present, lent .tree .steps-within-limit))
+          ∙ row-value b i (nodeCount b i) nodes (f .row-nodes) (lent .tree .limits .reversion-within-limit)
+          (omega (arith, lent .present, lent .tree .limits .steps-within-limit))
 
       pub none-sizes : (g ≤ valueLimit) × (bound .value ≤ 1000000)
       none-sizes = (known .1, omega (arith, ap (λ (a : Answer). a .value) (f .row-bound), bound-most n b discounts i))
@@ -233,7 +233,7 @@ module _ (n b : ℕ) (discounts : List ℕ) (i : ℕ) (payoffs : List ℕ) where
       valuationErrorBoundAnswer n b discounts i payoffs .number ≡ 0
   unfolding valuationErrorBoundAnswer valuationCause boundCause lowestCause
   bound-given d h e g =
-      let l = accepted n b discounts d in
+      let l = accepted n b discounts d .limits in
       let count = e ∙ sym (row-value b i (nodeCount b i) (nodeCountAnswer b i) refl (l .reversion-within-limit) (omega (arith, l .steps-within-limit))) in
       rw (
         d,

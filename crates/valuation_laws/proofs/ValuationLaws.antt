@@ -10,7 +10,7 @@ use Rattle.arithmetic.proofs.RoundingLaws.{up-ge}
 use Rattle.arithmetic.proofs.SumLaws.{sum-cong, sum-le, sum-scale, sum-single, greatest-ge}
 use Rattle.tree.specs.Tree.{Tree, Sound, unit}
 use Rattle.tree.proofs.StepLaws.{duality}
-use Rattle.fit_laws.specs.StatePrices.{statePrice, exactStatePrice, statePriceErrorBound, fittedPrice, fittedDiscount}
+use Rattle.fit_laws.specs.StatePrices.{statePrice, exactStatePrice, statePriceErrorBound, fittedStatePrice, fittedDiscount}
 use Rattle.fit_laws.proofs.Shortfall.{stretch, state-below, state-short}
 use Rattle.fit_laws.proofs.WholeFit.{fitted-is-state}
 use Rattle.pricing_laws.specs.Pricer.{payoffValue}
@@ -93,10 +93,10 @@ value-short t s v r payoff =
 -- u: factors by row and node; p: quotes by row.
 pub fitted-value :
     (t : Tree) (s : Sound t) (u : ℕ → ℕ → ℕ) (p : ℕ → ℕ) (r : ℕ) (payoff : ℕ → ℕ) →
-    (unit ^ r * valueByStatePrices (t .nodes r) (fittedPrice t u p r) payoff ≤ exactPrice t (fittedDiscount t u p) r payoff)
+    (unit ^ r * valueByStatePrices (t .nodes r) (fittedStatePrice t u p r) payoff ≤ exactPrice t (fittedDiscount t u p) r payoff)
     × (exactPrice t (fittedDiscount t u p) r payoff
     ≤ unit ^ r
-    * (valueByStatePrices (t .nodes r) (fittedPrice t u p r) payoff + valuationErrorBound t (fittedDiscount t u p) r payoff))
+    * (valueByStatePrices (t .nodes r) (fittedStatePrice t u p r) payoff + valuationErrorBound t (fittedDiscount t u p) r payoff))
 fitted-value t s u p r payoff =
     rw (fitted-is-state t u p r)
     (value-below t s (fittedDiscount t u p) r payoff, value-short t s (fittedDiscount t u p) r payoff)

@@ -7,7 +7,7 @@ use native.Mathlib.Omega.{arith}
 use mathlib.Core.List.{List, [], _∷_, _++_, append-assoc}
 use mathlib.Core.Path.{_≡_, refl, sym, ap, _∙_}
 use lib.ListN.{length, getD, take, drop, set, length-append, take-append-drop}
-use lib.Seq.{length-take-le, take-at, take-suc, drop-append-add, drop-drop, set-split}
+use lib.Seq.{length-take-le, take-at, drop-at, take-suc, take-set-le, drop-append-add, drop-drop, set-split}
 use Rattle.arithmetic.specs.Row.{place}
 use Rattle.arithmetic.proofs.PlaceLaws.{length-place}
 use Rattle.job_record.specs.Bytes.{numberBytes}
@@ -50,28 +50,33 @@ pub set-place : (out : List ℕ) (i x : ℕ) → i < length out → set out i x 
 unfolding place
 set-place out i x h = rw add-one (set-split out i x h)
 
--- no byte of a number, and its last one
+-- no byte of a number; and its last byte, with the others placed before it
 pub number-none : (out : List ℕ) (at width value : ℕ) → width ≤ 0 → out ≡ place out at (numberBytes width value)
 unfolding numberBytes
 number-none out at width value h =
     let none : width ≡ 0 = omega arith in
     rw none (sym (place-none out at))
 
+number-before :
+    (out : List ℕ) (at k value : ℕ) → at + suc k ≤ length out
+    → place (set out (at + k) (value % 256)) at (numberBytes k (value / 256)) ≡ place out at (numberBytes (suc k) value)
+unfolding place numberBytes
+number-before out at k value h =
+    let a = numberBytes k (value / 256) in
+    let x = value % 256 in
+    let size : length a ≡ k = digits-length k (value / 256) in
+    let longer : at + length (a ++ (x ∷ [])) ≡ suc (at + k) = simp length-append (omega (arith, size)) in
+    let front : take at (set out (at + k) x) ≡ take at out = take-set-le at out (at + k) x (omega arith) in
+    let back : drop (at + k) (set out (at + k) x) ≡ x ∷ drop (suc (at + k)) out =
+    ap (drop (at + k)) (set-split out (at + k) x (omega arith))
+    ∙ drop-at (take (at + k) out) (x ∷ drop (suc (at + k)) out) (at + k) (length-take-le (at + k) out (omega arith)) in
+    rw (front, size, back, longer, append-assoc)
+
 pub number-last :
-    (out l : List ℕ) (at width value : ℕ) → 0 < width → at + width ≤ length out → l ≡ place out at (numberBytes (width - 1) (value / 256))
-    → set l (at + width - 1) (value % 256) ≡ place out at (numberBytes width value)
-unfolding numberBytes
-number-last out l at zero value pos h e = absurd (not-suc-le-zero pos)
-number-last out l at (suc k) value pos h e =
-    let less : suc k - 1 ≡ k = omega arith in
-    let size : length (numberBytes k (value / 256)) ≡ k = digits-length k (value / 256) in
-    let end : at + suc k - 1 ≡ at + length (numberBytes k (value / 256)) = omega arith in
-    let before : l ≡ place out at (numberBytes k (value / 256)) = rw less at e in
-    let inside : at + length (numberBytes k (value / 256)) < length l =
-    rw before (rw (length-place out at (numberBytes k (value / 256)) (omega arith)) (omega arith)) in
-    rw end
-    (set-place l (at + length (numberBytes k (value / 256))) (value % 256) inside
-    ∙ place-then out l at (at + length (numberBytes k (value / 256))) (numberBytes k (value / 256)) (value % 256 ∷ []) before refl (omega arith))
+    (out : List ℕ) (at width value : ℕ) → 0 < width → at + width ≤ length out
+    → place (set out (at + (width - 1)) (value % 256)) at (numberBytes (width - 1) (value / 256)) ≡ place out at (numberBytes width value)
+number-last out at zero value some h = absurd (not-suc-le-zero some)
+number-last out at (suc k) value some h = let less : suc k - 1 ≡ k = omega arith in rw less (number-before out at k value h)
 
 -- two, three and four lists, each placed where the one before it ends
 module _ (out l₁ l₂ : List ℕ) (at p : ℕ) (a b : List ℕ) (e₁ : l₁ ≡ place out at a) (first : p ≡ at + length a) (e₂ : l₂ ≡ place l₁ p b) where
@@ -100,9 +105,9 @@ module _ (out l₁ l₂ : List ℕ) (at p : ℕ) (a b : List ℕ) (e₁ : l₁ �
 
 -- bytes, one after the other
 pub bytes-more :
-    (out l dates : List ℕ) (at i : ℕ) → l ≡ place out at (take i dates) → i < length dates → at + length dates ≤ length out
+    (out : List ℕ) {l : List ℕ} (dates : List ℕ) (at : ℕ) {i : ℕ} → l ≡ place out at (take i dates) → i < length dates → at + length dates ≤ length out
     → set l (at + i) (getD dates i 0) ≡ place out at (take (i + 1) dates)
-bytes-more out l dates at i e below room =
+bytes-more out {l} dates at {i} e below room =
     let long : length (take i dates) ≡ i = length-take-le i dates (omega arith) in
     let same : length l ≡ length out = ap length e ∙ length-place out at (take i dates) (omega arith) in
     set-place l (at + i) (getD dates i 0) (omega arith)
@@ -125,31 +130,31 @@ fields-more out l₁ l₂ from size i p f same here room e₁ e₂ =
 -- a field: tag and length, then its data
 module _ (out : List ℕ) (at tag : ℕ) where
   pub tag-placed :
-      (l : List ℕ) (size : ℕ) → at + 3 ≤ length out → l ≡ place (set out at tag) (at + 1) (numberBytes 2 size)
+      {l : List ℕ} (size : ℕ) → at + 3 ≤ length out → l ≡ place (set out at tag) (at + 1) (numberBytes 2 size)
       → l ≡ place out at (tag ∷ numberBytes 2 size)
-  tag-placed l size room e =
+  tag-placed {l} size room e =
       place-two out (set out at tag) l at (at + 1) (tag ∷ []) (numberBytes 2 size) (set-place out at tag (omega arith)) refl e (omega arith)
 
   pub field-placed :
-      (l₁ l₂ : List ℕ) (size : ℕ) (content : List ℕ) → l₁ ≡ place out at (tag ∷ numberBytes 2 size) → length content ≡ size
+      {l₁ l₂ : List ℕ} {size : ℕ} (content : List ℕ) → l₁ ≡ place out at (tag ∷ numberBytes 2 size) → length content ≡ size
       → l₂ ≡ place l₁ (at + 3) content → at + 3 ≤ length out → l₂ ≡ place out at (field tag content)
   unfolding field
-  field-placed l₁ l₂ size content e₁ long e₂ room =
+  field-placed {l₁} {l₂} {size} content e₁ long e₂ room =
       let two : length (numberBytes 2 size) ≡ 2 = digits-length 2 size in
       rw long (place-two out l₁ l₂ at (at + 3) (tag ∷ numberBytes 2 size) content e₁ (omega arith) e₂ room)
 
 -- the fields of the head
 pub head-placed :
-    (out l₁ l₂ l₃ l₄ : List ℕ) (f n b s : ℕ) → versionAt ≤ length out → l₁ ≡ place out 0 (field 1 (numberBytes 1 f))
+    (out : List ℕ) {l₁ l₂ l₃ l₄ : List ℕ} (f n b s : ℕ) → versionAt ≤ length out → l₁ ≡ place out 0 (field 1 (numberBytes 1 f))
     → l₂ ≡ place l₁ stepsAt (field 2 (numberBytes 1 n)) → l₃ ≡ place l₂ reversionAt (field 3 (numberBytes 2 b))
     → l₄ ≡ place l₃ volatilityAt (field 4 (numberBytes 4 s)) → l₄ ≡ place out 0 (headFields f n b s)
-head-placed out l₁ l₂ l₃ l₄ f n b s room e₁ e₂ e₃ e₄ =
+head-placed out {l₁} {l₂} {l₃} {l₄} f n b s room e₁ e₂ e₃ e₄ =
     place-four out l₁ l₂ 0 stepsAt (field 1 (numberBytes 1 f)) (field 2 (numberBytes 1 n)) e₁ (omega (arith, number-size 1 1 f)) e₂ l₃ reversionAt
     (field 3 (numberBytes 2 b)) (omega (arith, number-size 2 1 n)) e₃ l₄ volatilityAt (field 4 (numberBytes 4 s))
     (omega (arith, number-size 3 2 b)) e₄ (omega arith)
 
 -- the data of an option of a kind, and of one with a list of dates
-module _ (out l₁ l₂ l₃ l₄ : List ℕ) (at : ℕ) where
+module _ (out : List ℕ) {l₁ l₂ l₃ l₄ : List ℕ} (at : ℕ) where
   pub kind-placed :
       (kind expiry strike : ℕ) → afterField at optionWidth ≤ length out → length l₁ ≡ length out
       → l₁ ≡ place out at (8 ∷ numberBytes 2 optionWidth) → l₂ ≡ place l₁ (at + 3) (numberBytes 1 kind)
@@ -157,7 +162,7 @@ module _ (out l₁ l₂ l₃ l₄ : List ℕ) (at : ℕ) where
       → l₄ ≡ place out at (field 8 (kindBytes kind expiry strike))
   kind-placed kind expiry strike room same e₁ e₂ e₃ e₄ =
       let long : length (kindBytes kind expiry strike) ≡ optionWidth = simp (length-append, digits-length) in
-      field-placed out at 8 l₁ l₄ optionWidth (kindBytes kind expiry strike) e₁ long
+      field-placed out at 8 (kindBytes kind expiry strike) e₁ long
       (place-three l₁ l₂ l₃ (at + 3) (at + 3 + 1) (numberBytes 1 kind) (numberBytes 1 expiry) e₂ (omega (arith, digits-length 1 kind)) e₃ l₄ (at + 3 + 2)
       (numberBytes 4 strike) (omega (arith, digits-length 1 expiry)) e₄ (omega arith))
       (omega arith)
@@ -169,7 +174,7 @@ module _ (out l₁ l₂ l₃ l₄ : List ℕ) (at : ℕ) where
       → l₄ ≡ place out at (field 10 (listBytes side strike dates))
   list-placed side strike dates room same e₁ e₂ e₃ e₄ =
       let long : length (listBytes side strike dates) ≡ listHead + length dates = simp (length-append, digits-length) (omega arith) in
-      field-placed out at 10 l₁ l₄ (listHead + length dates) (listBytes side strike dates) e₁ long
+      field-placed out at 10 (listBytes side strike dates) e₁ long
       (place-three l₁ l₂ l₃ (at + 3) (at + 3 + 1) (numberBytes 1 side) (numberBytes 4 strike) e₂ (omega (arith, digits-length 1 side)) e₃ l₄
       (at + 3 + listHead) dates (omega (arith, digits-length 4 strike)) e₄ (omega arith))
       (omega arith)

@@ -132,14 +132,14 @@ module _ (job : Job) where
 
   -- each part placed where the one before it ends
   pub job-placed :
-      (at : ℕ) → at ≡ quotesFrom (job .version) → (out l₀ l₁ l₂ l₃ l₄ : List ℕ) → restAt at (job .steps) ≤ length out
+      (at : ℕ) → at ≡ quotesFrom (job .version) → (out : List ℕ) {l₀ l₁ l₂ l₃ l₄ : List ℕ} → restAt at (job .steps) ≤ length out
       → l₀ ≡ place out 0 (headFields (job .frequency) (job .steps) (job .reversion) (job .volatility))
       → l₁ ≡ place l₀ versionAt (versionField (job .version))
       → l₂ ≡ place l₁ at (joined (job .steps) (quoteOf (job .kinds) (job .figures)))
       → l₃ ≡ place l₂ (flowsAt at (job .steps)) (joined (job .steps) (flowOf (job .flows)))
       → l₄ ≡ place l₃ (restAt at (job .steps)) (optionField (job .option)) → l₄ ≡ place out 0 (encode job)
   unfolding head front quotes flows
-  job-placed at from out l₀ l₁ l₂ l₃ l₄ room e₀ e₁ e₂ e₃ e₄ =
+  job-placed at from out {l₀} {l₁} {l₂} {l₃} {l₄} room e₀ e₁ e₂ e₃ e₄ =
       let placed : l₁ ≡ place out 0 front =
       place-two out l₀ l₁ 0 versionAt head (versionField (job .version)) e₀ (omega (arith, head-size)) e₁ (omega (arith, head-within)) in
       rw encode-parts

@@ -57,8 +57,8 @@ module _ (f n b s v : ℕ) (h : headFits f n b s v ≡ true) where
   unfolding headFits
   version-holds = second (four f n b s (mostIn 1) (mostIn 1) (mostIn 2) (mostIn 4)) h
 
-  pub steps-few : n ≤ mostJobSteps
-  steps-few = head-holds .1
+pub steps-few : (f : ℕ) {n : ℕ} (b s v : ℕ) → headFits f n b s v ≡ true → n ≤ mostJobSteps
+steps-few f {n} b s v h = head-holds f n b s v h .1
 
 -- kinds: none, one more, one that is none, and all of them
 module _ (kinds : List ℕ) where
@@ -107,7 +107,7 @@ unfolding isAbsent
 absent-test t k e s c p q r u v = rw (p, q, r, u, v)
 
 -- by the tag
-module _ (t k e s c : ℕ) where
+module _ {t : ℕ} (k e s c : ℕ) where
   pub belongs-kind : t ≡ 8 → optionBelongs t k e s c ≡ eqb c 0
   unfolding optionBelongs
   belongs-kind tag = rw (eq-eqb t 8 tag)
@@ -146,7 +146,7 @@ module _ (option : OptionRecord) where
 
     option-absent : (option .tag ≡ 8 → ⊥) → (option .tag ≡ 10 → ⊥) → option ≡ noOption
     option-absent unlike neither =
-        let none = belongs-none (option .tag) (option .kind) (option .expiry) (option .strike) (option .count) unlike neither in
+        let none = belongs-none (option .kind) (option .expiry) (option .strike) (option .count) unlike neither in
         let parts = absent-parts (option .tag) (option .kind) (option .expiry) (option .strike) (option .count) (sym none ∙ option-own) in
         let unlisted : Column mostDates (option .dates) 0 256 = rw (parts .4) at option-dates in
         no-option-is (option .tag) (option .kind) (option .expiry) (option .strike) (option .count) (option .dates) (parts .0) (parts .1) (parts .2)
@@ -161,10 +161,10 @@ module _ (option : OptionRecord) where
           strike = omega arith;
           few = numbers .3;
           dates = option-dates;
-          no-list = λ tag. eqb-true _ _ (sym (belongs-kind (option .tag) _ _ _ (option .count) tag) ∙ option-own);
+          no-list = λ tag. eqb-true _ _ (sym (belongs-kind _ _ _ (option .count) tag) ∙ option-own);
           no-expiry = λ tag.
               eqb-true _ _
-              (sym (belongs-list (option .tag) _ (option .expiry) _ _ (λ eight. omega arith) tag) ∙ option-own);
+              (sym (belongs-list _ (option .expiry) _ _ (λ eight. omega arith) tag) ∙ option-own);
           absent = option-absent;
         }
 
@@ -172,13 +172,13 @@ module _ (option : OptionRecord) where
     own-test : belonging ≡ true
     own-test =
         by-equal (option .tag) 8
-        (λ tag. belongs-kind (option .tag) _ _ _ (option .count) tag ∙ eq-eqb (option .count) 0 (sound .no-list tag))
+        (λ tag. belongs-kind _ _ _ (option .count) tag ∙ eq-eqb (option .count) 0 (sound .no-list tag))
         (λ unlike.
         by-equal (option .tag) 10
-        (λ tag. belongs-list (option .tag) _ (option .expiry) _ _ unlike tag ∙ eq-eqb (option .expiry) 0 (sound .no-expiry tag))
+        (λ tag. belongs-list _ (option .expiry) _ _ unlike tag ∙ eq-eqb (option .expiry) 0 (sound .no-expiry tag))
         (λ neither.
         let none : option ≡ noOption = sound .absent unlike neither in
-        belongs-none (option .tag) (option .kind) (option .expiry) (option .strike) (option .count) unlike neither
+        belongs-none (option .kind) (option .expiry) (option .strike) (option .count) unlike neither
         ∙ absent-test (option .tag) (option .kind) (option .expiry) (option .strike) (option .count) (rw none) (rw none) (rw none) (rw none) (rw none)))
 
     pub option-test : isSoundOption option ≡ true

@@ -17,13 +17,13 @@ abbrev μ-loop : tie.MeasureT-loop
 μ-loop firsts lasts lowests highests row price₀ price = 8000000001 - price
 
 loop-holds : tie.Need-loop-holds Inv-loop μ-loop
-loop-holds c = searched-start _ _ _ (omega arith)
+loop-holds c = searched-start (omega arith)
 
 returns : tie.Need-returns Inv-loop μ-loop
 unfolding failingPrice
 returns c =
-    searched-found _ _ _ (c .before .before .before .loop .price) (c .before .before .before .loop .inv) (omega arith)
-    (stop-fails _ _ _ _ _ (c .before .stop-at .ensures) (c .if1 .taken))
+    searched-found (c .before .before .before .loop .price) (c .before .before .before .loop .inv) (omega arith)
+    (stop-fails (c .before .stop-at .ensures) (c .if1 .taken))
 
 loop-less : tie.Need-loop-less Inv-loop μ-loop
 loop-less c = omega (arith, c .before .stop-at .ensures .further)
@@ -31,15 +31,15 @@ loop-less c = omega (arith, c .before .stop-at .ensures .further)
 loop-again : tie.Need-loop-again Inv-loop μ-loop
 loop-again c =
     let stop = c .before .stop-at .ensures in
-    searched-jump _ _ _ _ _ (c .before .before .before .loop .inv) (omega (arith, stop .further)) (stop .most)
-    (stop-passes _ _ _ _ _ stop (c .if1 .left))
+    searched-jump _ _ (c .before .before .before .loop .inv) (omega (arith, stop .further)) (stop .most)
+    (stop-passes stop (c .if1 .left))
 
 returns-2 : tie.Need-returns-2 Inv-loop μ-loop
 unfolding failingPrice
 returns-2 c =
     let a = c .before .before .before .before .before .before .args in
     let end : c .before .loop .price ≡ 8000000001 = omega (arith, c .before .loop .inv .most) in
-    searched-none _ _ _ (rw end at (c .before .loop .inv))
+    searched-none (rw end at (c .before .loop .inv))
 
 pub failing-price-spec : {M : Type 1} → statement M
 failing-price-spec =

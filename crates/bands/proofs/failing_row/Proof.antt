@@ -17,24 +17,24 @@ abbrev μ-loop : tie.MeasureT-loop
 μ-loop firsts lasts lowests highests row₀ row = 61 - row
 
 loop-holds : tie.Need-loop-holds Inv-loop μ-loop
-loop-holds c = searched-start _ _ _ (omega arith)
+loop-holds c = searched-start (omega arith)
 
 returns : tie.Need-returns Inv-loop μ-loop
 unfolding failingRow
 returns c =
-    searched-found _ _ _ (c .before .before .before .loop .row) (c .before .before .before .loop .inv) (omega arith)
+    searched-found (c .before .before .before .loop .row) (c .before .before .before .loop .inv) (omega arith)
     (fails-true _ _ (c .before .failing-price .result) (c .before .failing-price .ensures) (omega arith))
 
 loop-again : tie.Need-loop-again Inv-loop μ-loop
 loop-again c =
-    searched-more _ _ _ (c .before .before .before .loop .row) (c .before .before .before .loop .inv) (omega arith)
+    searched-more (c .before .before .before .loop .row) (c .before .before .before .loop .inv) (omega arith)
     (fails-false _ _ (c .before .failing-price .result) (c .before .failing-price .ensures) (omega arith))
 
 returns-2 : tie.Need-returns-2 Inv-loop μ-loop
 unfolding failingRow
 returns-2 c =
     let end : c .before .loop .row ≡ 61 = omega (arith, c .before .loop .inv .most) in
-    end ∙ searched-none _ _ _ (rw end at (c .before .loop .inv))
+    end ∙ searched-none (rw end at (c .before .loop .inv))
 
 pub failing-row-spec : {M : Type 1} → statement M
 failing-row-spec =

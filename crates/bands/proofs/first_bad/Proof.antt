@@ -20,19 +20,19 @@ abbrev μ-loop : tie.MeasureT-loop
 μ-loop firsts lasts lowests highests haircuts k₀ k = length firsts - k
 
 loop-holds : tie.Need-loop-holds Inv-loop μ-loop
-loop-holds c = searched-start _ _ _ (omega arith)
+loop-holds c = searched-start (omega arith)
 
 returns : tie.Need-returns Inv-loop μ-loop
 unfolding badIndex
 returns c =
     let loop = c .before .before .before .before .before .before .before .before .loop in
-    searched-found _ _ _ (loop .k) (loop .inv) (omega arith)
+    searched-found (loop .k) (loop .inv) (omega arith)
     (ap not (sym (c .before .is-sound .ensures)) ∙ c .if1 .taken)
 
 loop-again : tie.Need-loop-again Inv-loop μ-loop
 loop-again c =
     let loop = c .before .before .before .before .before .before .before .before .loop in
-    searched-more _ _ _ (loop .k) (loop .inv) (omega arith)
+    searched-more (loop .k) (loop .inv) (omega arith)
     (ap not (sym (c .before .is-sound .ensures)) ∙ c .if1 .left)
 
 returns-2 : tie.Need-returns-2 Inv-loop μ-loop
@@ -40,7 +40,7 @@ unfolding badIndex
 returns-2 c =
     let s = c .before .before .before .before .before .before .before in
     let end : c .before .loop .k ≡ length (s .args .firsts .now) = omega (arith, c .before .loop .inv .most) in
-    end ∙ searched-none _ _ _ (rw end at (c .before .loop .inv))
+    end ∙ searched-none (rw end at (c .before .loop .inv))
 
 pub first-bad-spec : {M : Type 1} → statement M
 first-bad-spec =

@@ -30,7 +30,7 @@ add-band-requires c κs =
     (omega (arith, few, stop .counted), stop .further, stop .most)
 
 loop-again : tie.Need-loop-again Inv-loop μ-loop
-loop-again c = (search needs, stop-more _ _ _ _ _ _ _ _ (c .before .before .before .before .before .before .loop .inv .1) (c .add-band .ensures))
+loop-again c = (search needs, stop-more _ _ _ (c .before .before .before .before .before .before .loop .inv .1) (c .add-band .ensures))
 
 returns : tie.Need-returns Inv-loop μ-loop
 returns c =

@@ -11,8 +11,8 @@ use Rattle.book.proofs.next_field.Tie as tie
 slice-aggregate-read-full-2 : tie.Need-slice-aggregate-read-full-2
 slice-aggregate-read-full-2 c = sym (length-take-le _ _ (omega arith))
 
-slice-aggregate-with-field : tie.Need-slice-aggregate-with-field
-slice-aggregate-with-field c = simp (length-take, length-append, length-drop) (omega arith)
+slice-aggregate-with-field-in : tie.Need-slice-aggregate-with-field-in
+slice-aggregate-with-field-in c = simp (length-take, length-append, length-drop) (omega arith)
 
 pub next-field-spec : {M : Type 1} → statement M
 next-field-spec =
@@ -33,7 +33,7 @@ next-field-spec =
     (λ c. search needs)
     (λ c. search needs)
     (λ c. search needs)
-    slice-aggregate-with-field
+    slice-aggregate-with-field-in
     (λ c κs. search needs)
     (λ c. search needs)
     (λ c. search needs))

@@ -7,10 +7,10 @@ use Rattle.book.proofs.read_book.Statement.{statement}
 use Rattle.book.proofs.read_book.Tie as tie
 
 abbrev Inv-loop : tie.InvT-loop
-Inv-loop buffer₀ book₀ left₀ buffer book left = length buffer ≡ length buffer₀
+Inv-loop buffer₀ discounts₀ prices₀ book₀ left₀ buffer discounts prices book left = length buffer ≡ length buffer₀
 
 abbrev μ-loop : tie.MeasureT-loop
-μ-loop buffer₀ book₀ left₀ buffer book left = left
+μ-loop buffer₀ discounts₀ prices₀ book₀ left₀ buffer discounts prices book left = left
 
 pub read-book-spec : {M : Type 1} → statement M
 read-book-spec =
@@ -18,6 +18,8 @@ read-book-spec =
     (tie.spec
     Inv-loop
     μ-loop
+    (λ c κs. search needs)
+    (λ c κs. search needs)
     (λ c κs. search needs)
     (λ c. search needs)
     (λ c κs. search needs)

@@ -12,20 +12,8 @@ use Rattle.report_laws.proofs.JoinLaws.{first-refused, second-refused, too-many
 use Rattle.book_reports.proofs.joined.Statement.{statement}
 use Rattle.book_reports.proofs.joined.Tie as tie
 
-is-report-requires : tie.Need-is-report-requires
-is-report-requires c κs = search needs
-
-refused-requires : tie.Need-refused-requires
-refused-requires c κs = search needs
-
 returns : tie.Need-returns
 returns c = c .refused .ensures ∙ first-refused _ _ (sym (c .before .before .is-report .ensures) ∙ not-true _ (c .before .if1 .taken))
-
-is-report-requires-2 : tie.Need-is-report-requires-2
-is-report-requires-2 c κs = search needs
-
-refused-requires-2 : tie.Need-refused-requires-2
-refused-requires-2 c κs = search needs
 
 -- the first report is one
 first : (c : tie.Else1) → isReport (c .before .before .args .first) ≡ true
@@ -61,9 +49,6 @@ add-size-2 c = omega (arith, sizes c .1)
 add-size-3 : tie.Need-add-size-3
 add-size-3 c = omega (arith, sizes c .0, sizes c .1)
 
-refused-requires-3 : tie.Need-refused-requires-3
-refused-requires-3 c κs = search needs
-
 returns-3 : tie.Need-returns-3
 returns-3 c =
     let at-if3 = c .before in
@@ -85,16 +70,16 @@ pub joined-spec : {M : Type 1} → statement M
 joined-spec =
     tie.close
     (tie.spec
-    is-report-requires
-    refused-requires
+    (λ c κs. search needs)
+    (λ c κs. search needs)
     returns
-    is-report-requires-2
-    refused-requires-2
+    (λ c κs. search needs)
+    (λ c κs. search needs)
     returns-2
     add-size
     add-size-2
     add-size-3
-    refused-requires-3
+    (λ c κs. search needs)
     returns-3
     sum-of-requires
     returns-4)

@@ -5,12 +5,9 @@ use Rattle.report_laws.specs.Reports.{bookReport}
 use Rattle.book_reports.proofs.of_book.Statement.{statement}
 use Rattle.book_reports.proofs.of_book.Tie as tie
 
-chosen-requires : tie.Need-chosen-requires
-chosen-requires c κs = search needs
-
 returns : tie.Need-returns
 unfolding bookReport
 returns c = rw (c .chosen .ensures)
 
 pub of-book-spec : {M : Type 1} → statement M
-of-book-spec = tie.close (tie.spec chosen-requires returns)
+of-book-spec = tie.close (tie.spec (λ c κs. search needs) returns)

@@ -20,40 +20,22 @@ start c = c .before .before .before
 size : (c : tie.After-magnitude) → c .magnitude .result ≡ natAbs (start c .args .node)
 size c = rw (toZ-ofZ (start c .fits .node)) at (c .magnitude .ensures)
 
-refused-branch-requires : tie.Need-refused-branch-requires
-refused-branch-requires c κs = search needs
-
 returns : tie.Need-returns
 returns c = c .refused-branch .ensures ∙ sym (laws.answer-steep _ _ _ (c .before .if1 .taken))
 
-refused-branch-requires-2 : tie.Need-refused-branch-requires-2
-refused-branch-requires-2 c κs = search needs
-
 returns-2 : tie.Need-returns-2
 returns-2 c = c .refused-branch2 .ensures ∙ sym (laws.answer-past _ _ _ (c .before .before .if1 .left) (c .before .if2 .taken))
-
-magnitude-requires : tie.Need-magnitude-requires
-magnitude-requires c κs = search needs
-
-refused-branch-requires-3 : tie.Need-refused-branch-requires-3
-refused-branch-requires-3 c κs = search needs
 
 returns-3 : tie.Need-returns-3
 returns-3 c =
     let m = c .before .before in
     c .refused-branch3 .ensures ∙ sym (laws.answer-wide _ _ _ (m .before .before .if1 .left) (m .before .if2 .left) _ (size m) (c .before .if3 .taken))
 
-add-if4 : tie.Need-add-if4
-add-if4 c = search needs
-
 mul-if4 : tie.Need-mul-if4
 mul-if4 c =
     let m = c .before in
     let s : m .magnitude .result ≤ 59 = omega arith in
     omega (arith, mul-le-mul s (m .before .before .if1 .left))
-
-refused-branch-requires-4 : tie.Need-refused-branch-requires-4
-refused-branch-requires-4 c κs = search needs
 
 returns-4 : tie.Need-returns-4
 returns-4 c =
@@ -89,16 +71,16 @@ pub branch-spec : {M : Type 1} → statement M
 branch-spec =
     tie.close
     (tie.spec
-    refused-branch-requires
+    (λ c κs. search needs)
     returns
-    refused-branch-requires-2
+    (λ c κs. search needs)
     returns-2
-    magnitude-requires
-    refused-branch-requires-3
+    (λ c κs. search needs)
+    (λ c κs. search needs)
     returns-3
-    add-if4
+    (λ c. search needs)
     mul-if4
-    refused-branch-requires-4
+    (λ c κs. search needs)
     returns-4
     lower-branch-requires
     returns-5

@@ -13,29 +13,14 @@ returns c = laws.table-steep _ _ _ (c .if1 .taken)
 returns-2 : tie.Need-returns-2
 returns-2 c = laws.table-wide _ _ _ (c .before .if1 .left) (c .if2 .taken)
 
-add-if3 : tie.Need-add-if3
-add-if3 c = search needs
-
 mul-if3 : tie.Need-mul-if3
 mul-if3 c = omega (arith, mul-le-mul (c .if2 .left) (c .before .if1 .left))
 
 returns-3 : tie.Need-returns-3
 returns-3 c = laws.table-beyond _ _ _ (c .before .before .if1 .left) (c .before .if2 .left) (c .if3 .taken)
 
-mul-if4 : tie.Need-mul-if4
-mul-if4 c = search needs
-
-add-if4 : tie.Need-add-if4
-add-if4 c = search needs
-
 returns-4 : tie.Need-returns-4
 returns-4 c = laws.table-length _ _ _ (c .before .before .before .if1 .left) (c .before .before .if2 .left) (c .before .if3 .left) (c .if4 .taken)
-
-fill-table-requires : tie.Need-fill-table-requires
-fill-table-requires c κs = search needs
-
-same-length : tie.Need-same-length
-same-length c = search needs
 
 returns-5 : tie.Need-returns-5
 returns-5 c =
@@ -49,12 +34,12 @@ down-probabilities-spec =
     (tie.spec
     returns
     returns-2
-    add-if3
+    (λ c. search needs)
     mul-if3
     returns-3
-    mul-if4
-    add-if4
+    (λ c. search needs)
+    (λ c. search needs)
     returns-4
-    fill-table-requires
-    same-length
+    (λ c κs. search needs)
+    (λ c. search needs)
     returns-5)

@@ -28,22 +28,13 @@ down-of-requires c κs =
     let s = c .before .before .before in
     (s .pre .0, s .pre .1, s .pre .2, omega (arith, s .pre .3, c .before .loop .inv .1 .same))
 
-mul-table : tie.Need-mul-table Inv-loop μ-loop
-mul-table c = search needs
-
-slice-write-table : tie.Need-slice-write-table Inv-loop μ-loop
-slice-write-table c = search needs
-
-add-index : tie.Need-add-index Inv-loop μ-loop
-add-index c = search needs
-
 loop-less : tie.Need-loop-less Inv-loop μ-loop
 loop-less c = omega (arith, c .before .before .loop .inv .1 .same)
 
 loop-again : tie.Need-loop-again Inv-loop μ-loop
 loop-again c =
     let filled = c .before .before .loop .inv .1 in
-    (omega (arith, filled .same), filled-next _ _ (downs (c .before .before .before .before)) _ _ filled (search needs) (c .down-of .ensures))
+    (omega (arith, filled .same), filled-next {f = downs (c .before .before .before .before)} filled (search needs) (c .down-of .ensures))
 
 same-length : tie.Need-same-length Inv-loop μ-loop
 same-length c = c .before .loop .inv .1 .same
@@ -61,9 +52,9 @@ fill-table-spec =
     μ-loop
     loop-holds
     down-of-requires
-    mul-table
-    slice-write-table
-    add-index
+    (λ c. search needs)
+    (λ c. search needs)
+    (λ c. search needs)
     loop-less
     loop-again
     same-length

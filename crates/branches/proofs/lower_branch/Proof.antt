@@ -18,18 +18,6 @@ held s = toZ-ofZ (s .fits .node)
 ordinary-fits : (s : tie.Start) → SFits w64 (s .args .node -ℤ pos 1)
 ordinary-fits s = laws.less-fits (s .args .node) 1 (omega (arith, s .pre .1 .0)) (omega arith)
 
-upper-requires : tie.Need-upper-requires
-upper-requires c κs = search needs
-
-array-read-if1 : tie.Need-array-read-if1
-array-read-if1 c = search needs
-
-array-read-t13 : tie.Need-array-read-t13
-array-read-t13 c = search needs
-
-array-read-t16 : tie.Need-array-read-t16
-array-read-t16 c = search needs
-
 mul-if1 : tie.Need-mul-if1
 mul-if1 c = omega (arith, c .before .pre .0 .2)
 
@@ -51,10 +39,10 @@ pub lower-branch-spec : {M : Type 1} → statement M
 lower-branch-spec =
     tie.close
     (tie.spec
-    upper-requires
-    array-read-if1
-    array-read-t13
-    array-read-t16
+    (λ c κs. search needs)
+    (λ c. search needs)
+    (λ c. search needs)
+    (λ c. search needs)
     mul-if1
     sub-lowest
     returns

@@ -31,15 +31,6 @@ returns c =
     rw (c .before .before .edge-up .ensures, c .before .edge-middle .ensures, c .ordinary-up .ensures)
     (sym (entry.three-top _ _ (c .before .before .before .before .pre .2) (c .before .before .before .if1 .taken)))
 
-ordinary-up-requires-2 : tie.Need-ordinary-up-requires-2
-ordinary-up-requires-2 c κs = search needs
-
-ordinary-middle-requires : tie.Need-ordinary-middle-requires
-ordinary-middle-requires c κs = search needs
-
-ordinary-down-requires : tie.Need-ordinary-down-requires
-ordinary-down-requires c κs = search needs
-
 returns-2 : tie.Need-returns-2
 returns-2 c =
     rw (c .before .before .ordinary-up2 .ensures, c .before .ordinary-middle .ensures, c .ordinary-down .ensures)
@@ -54,7 +45,7 @@ upper-spec =
     edge-middle-requires
     ordinary-up-requires
     returns
-    ordinary-up-requires-2
-    ordinary-middle-requires
-    ordinary-down-requires
+    (λ c κs. search needs)
+    (λ c κs. search needs)
+    (λ c κs. search needs)
     returns-2)

@@ -25,9 +25,6 @@ edge-fits s = laws.less-fits (s .args .node) 2 (size s) (omega arith)
 ordinary-fits : (s : tie.Start) → SFits w64 (s .args .node -ℤ pos 1)
 ordinary-fits s = laws.less-fits (s .args .node) 1 (size s) (omega arith)
 
-upper-requires : tie.Need-upper-requires
-upper-requires c κs = search needs
-
 mul-if1 : tie.Need-mul-if1
 mul-if1 c = omega (arith, c .before .pre .0 .2)
 
@@ -49,4 +46,4 @@ returns-2 c =
 
 pub upper-branch-spec : {M : Type 1} → statement M
 upper-branch-spec =
-    tie.close (tie.spec upper-requires mul-if1 sub-lowest sub-lowest-2 returns returns-2)
+    tie.close (tie.spec (λ c κs. search needs) mul-if1 sub-lowest sub-lowest-2 returns returns-2)

@@ -4,11 +4,8 @@ use borrow.Author.Needs.{needs}
 use Rattle.capi.proofs.mixegorta_continuous_rate.Statement.{statement}
 use Rattle.capi.proofs.mixegorta_continuous_rate.Tie as tie
 
-of-discount-requires : tie.Need-of-discount-requires
-of-discount-requires c κs = search needs
-
 returns : tie.Need-returns
 returns c = c .of-discount .ensures
 
 pub mixegorta-continuous-rate-spec : {M : Type 1} → statement M
-mixegorta-continuous-rate-spec = tie.close (tie.spec of-discount-requires returns)
+mixegorta-continuous-rate-spec = tie.close (tie.spec (λ c κs. search needs) returns)

@@ -4,11 +4,8 @@ use borrow.Author.Needs.{needs}
 use Rattle.capi.proofs.mixegorta_dated_option_price.Statement.{statement}
 use Rattle.capi.proofs.mixegorta_dated_option_price.Tie as tie
 
-dated-option-price-requires : tie.Need-dated-option-price-requires
-dated-option-price-requires c κs = search needs
-
 returns : tie.Need-returns
 returns c = c .dated-option-price .ensures
 
 pub mixegorta-dated-option-price-spec : {M : Type 1} → statement M
-mixegorta-dated-option-price-spec = tie.close (tie.spec dated-option-price-requires returns)
+mixegorta-dated-option-price-spec = tie.close (tie.spec (λ c κs. search needs) returns)

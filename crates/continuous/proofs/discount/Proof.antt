@@ -12,14 +12,8 @@ use Rattle.continuous.proofs.discount.Tie as tie
 size : (c : tie.After-magnitude) → c .magnitude .result ≡ natAbs (c .before .args .amount)
 size c = rw (toZ-ofZ (c .before .fits .amount)) at (c .magnitude .ensures)
 
-magnitude-requires : tie.Need-magnitude-requires
-magnitude-requires c κs = search needs
-
 returns : tie.Need-returns
 returns c = sym (amount-refused (c .before .before .args .amount) (omega (arith, size (c .before))))
-
-discount-of-quotient-requires : tie.Need-discount-of-quotient-requires
-discount-of-quotient-requires c κs = search needs
 
 returns-2 : tie.Need-returns-2
 returns-2 c =
@@ -28,4 +22,4 @@ returns-2 c =
 
 pub discount-spec : {M : Type 1} → statement M
 discount-spec =
-    tie.close (tie.spec magnitude-requires returns discount-of-quotient-requires returns-2)
+    tie.close (tie.spec (λ c κs. search needs) returns (λ c κs. search needs) returns-2)

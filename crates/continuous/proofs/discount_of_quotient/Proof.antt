@@ -16,9 +16,6 @@ found c = series-of-node _ _ _ (c .factor .ensures) (omega arith)
 returns : tie.Need-returns
 returns c = sym (quotient-refused _ _ (omega arith))
 
-factor-requires : tie.Need-factor-requires
-factor-requires c κs = search needs
-
 fourth-power-requires : tie.Need-fourth-power-requires
 fourth-power-requires c κs = let s = c .before .before .args in omega (arith, found c, series-bounds (s .quotient) (s .below) (c .before .if1 .left) .1)
 
@@ -27,4 +24,4 @@ returns-2 c = quotient-found _ _ _ _ (found (c .before)) (c .fourth-power .ensur
 
 pub discount-of-quotient-spec : {M : Type 1} → statement M
 discount-of-quotient-spec =
-    tie.close (tie.spec returns factor-requires fourth-power-requires returns-2)
+    tie.close (tie.spec returns (λ c κs. search needs) fourth-power-requires returns-2)

@@ -12,20 +12,8 @@ use Rattle.continuous_rate.proofs.nearest_above.Tie as tie
 passing-requires : tie.Need-passing-requires
 passing-requires c κs = starts-above (c .args .discount) (c .pre)
 
-reach-requires : tie.Need-reach-requires
-reach-requires c κs = search needs
-
-window-start-requires : tie.Need-window-start-requires
-window-start-requires c κs = search needs
-
 window-end-requires : tie.Need-window-end-requires
 window-end-requires c κs = (c .before .before .passing .ensures .top, reach-most _ _ (c .before .reach .ensures))
-
-sub-nearest-between : tie.Need-sub-nearest-between
-sub-nearest-between c = search needs
-
-nearest-between-requires : tie.Need-nearest-between-requires
-nearest-between-requires c κs = search needs
 
 returns : tie.Need-returns
 returns c =
@@ -45,9 +33,9 @@ nearest-above-spec =
     tie.close
     (tie.spec
     passing-requires
-    reach-requires
-    window-start-requires
+    (λ c κs. search needs)
+    (λ c κs. search needs)
     window-end-requires
-    sub-nearest-between
-    nearest-between-requires
+    (λ c. search needs)
+    (λ c κs. search needs)
     returns)

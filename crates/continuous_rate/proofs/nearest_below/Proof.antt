@@ -13,17 +13,11 @@ passing-requires c κs = starts-below (c .args .discount) (c .pre .0)
 crossing : (c : tie.After-passing) → RisesPast (c .before .args .discount) (c .passing .result)
 crossing c = rises-past _ _ (c .before .pre .1) (c .passing .ensures)
 
-add-side-miss : tie.Need-add-side-miss
-add-side-miss c = search needs
-
 side-miss-requires : tie.Need-side-miss-requires
 side-miss-requires c κs = omega (arith, crossing c .inside)
 
 side-miss-requires-2 : tie.Need-side-miss-requires-2
 side-miss-requires-2 c κs = omega (arith, crossing (c .before) .inside)
-
-add-result : tie.Need-add-result
-add-result c = search needs
 
 returns : tie.Need-returns
 returns c =
@@ -40,9 +34,9 @@ nearest-below-spec =
     tie.close
     (tie.spec
     passing-requires
-    add-side-miss
+    (λ c. search needs)
     side-miss-requires
     side-miss-requires-2
-    add-result
+    (λ c. search needs)
     returns
     returns-2)

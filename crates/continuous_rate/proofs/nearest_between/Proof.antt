@@ -19,41 +19,20 @@ Inv-loop discount from count best₀ least₀ k₀ best least k =
 abbrev μ-loop : tie.MeasureT-loop
 μ-loop discount from count best₀ least₀ k₀ best least k = count - k
 
-side-miss-requires : tie.Need-side-miss-requires Inv-loop μ-loop
-side-miss-requires c κs = search needs
-
 loop-holds : tie.Need-loop-holds Inv-loop μ-loop
 loop-holds c =
     let a = c .before .args in
     (omega arith, omega (arith, least-none (windowMiss (a .discount) (a .from))), c .side-miss .ensures)
 
-add-k : tie.Need-add-k Inv-loop μ-loop
-add-k c = search needs
-
-add-side-miss : tie.Need-add-side-miss Inv-loop μ-loop
-add-side-miss c = search needs
-
-side-miss-requires-2 : tie.Need-side-miss-requires-2 Inv-loop μ-loop
-side-miss-requires-2 c κs = search needs
-
-add-best : tie.Need-add-best Inv-loop μ-loop
-add-best c = search needs
-
-loop-less : tie.Need-loop-less Inv-loop μ-loop
-loop-less c = search needs
-
 loop-again : tie.Need-loop-again Inv-loop μ-loop
 loop-again c =
     let i = c .before .before .before .loop .inv in
-    (omega arith, scan-moves _ _ _ _ _ _ (i .1) (i .2) (c .before .side-miss2 .ensures) (c .if1 .taken), c .before .side-miss2 .ensures)
-
-loop-less-2 : tie.Need-loop-less-2 Inv-loop μ-loop
-loop-less-2 c = search needs
+    (omega arith, scan-moves _ _ _ (i .1) (i .2) (c .before .side-miss2 .ensures) (c .if1 .taken), c .before .side-miss2 .ensures)
 
 loop-again-2 : tie.Need-loop-again-2 Inv-loop μ-loop
 loop-again-2 c =
     let i = c .before .before .before .loop .inv in
-    (omega arith, scan-stays _ _ _ _ _ _ (i .1) (i .2) (c .before .side-miss2 .ensures) (c .if1 .left), i .2)
+    (omega arith, scan-stays _ _ _ (i .1) (i .2) (c .before .side-miss2 .ensures) (c .if1 .left), i .2)
 
 returns : tie.Need-returns Inv-loop μ-loop
 returns c =
@@ -66,14 +45,14 @@ nearest-between-spec =
     (tie.spec
     Inv-loop
     μ-loop
-    side-miss-requires
+    (λ c κs. search needs)
     loop-holds
-    add-k
-    add-side-miss
-    side-miss-requires-2
-    add-best
-    loop-less
+    (λ c. search needs)
+    (λ c. search needs)
+    (λ c κs. search needs)
+    (λ c. search needs)
+    (λ c. search needs)
     loop-again
-    loop-less-2
+    (λ c. search needs)
     loop-again-2
     returns)

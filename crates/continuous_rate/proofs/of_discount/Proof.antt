@@ -17,9 +17,6 @@ use Rattle.continuous_rate.proofs.RateLaws.{answer-refused, answer-know
 use Rattle.continuous_rate.proofs.of_discount.Statement.{statement}
 use Rattle.continuous_rate.proofs.of_discount.Tie as tie
 
-is-discount-requires : tie.Need-is-discount-requires
-is-discount-requires c κs = search needs
-
 returns : tie.Need-returns
 returns c = sym (answer-refused (c .before .before .args .discount) (sym (c .before .is-discount .ensures) ∙ not-true _ (c .if1 .taken)))
 
@@ -52,9 +49,6 @@ returns-2 c =
     ap answeredRate (minus-back (4 * q) (omega (arith, below-fits c)) ∙ sym (rate-below v q (omega arith) (c .nearest-below .ensures)))
     ∙ sym (answer-known v (known (c .before .before)))
 
-nearest-above-requires : tie.Need-nearest-above-requires
-nearest-above-requires c κs = search needs
-
 mul-t9 : tie.Need-mul-t9
 mul-t9 c = omega (arith, above-fits c)
 
@@ -72,14 +66,14 @@ pub of-discount-spec : {M : Type 1} → statement M
 of-discount-spec =
     tie.close
     (tie.spec
-    is-discount-requires
+    (λ c κs. search needs)
     returns
     nearest-below-requires
     mul-t5
     cast-t6
     sub-t7
     returns-2
-    nearest-above-requires
+    (λ c κs. search needs)
     mul-t9
     cast-t10
     returns-3)

@@ -17,34 +17,16 @@ Inv-loop discount below low₀ high₀ low high =
 abbrev μ-loop : tie.MeasureT-loop
 μ-loop discount below low₀ high₀ low high = high - low
 
-add-high : tie.Need-add-high Inv-loop μ-loop
-add-high c = search needs
-
 loop-holds : tie.Need-loop-holds Inv-loop μ-loop
 loop-holds c = (omega arith, omega arith, c .pre, λ h. let none : ⊥ = omega arith in absurd none)
 
-sub-loop : tie.Need-sub-loop Inv-loop μ-loop
-sub-loop c = search needs
-
-sub-middle : tie.Need-sub-middle Inv-loop μ-loop
-sub-middle c = search needs
-
-add-middle : tie.Need-add-middle Inv-loop μ-loop
-add-middle c = search needs
-
 is-before-requires : tie.Need-is-before-requires Inv-loop μ-loop
 is-before-requires c κs = omega (arith, c .before .loop .inv)
-
-loop-less : tie.Need-loop-less Inv-loop μ-loop
-loop-less c = search needs
 
 loop-again : tie.Need-loop-again Inv-loop μ-loop
 loop-again c =
     let i = c .before .before .before .loop .inv in
     (omega arith, omega arith, sym (c .before .is-before .ensures) ∙ c .if1 .taken, i .3)
-
-loop-less-2 : tie.Need-loop-less-2 Inv-loop μ-loop
-loop-less-2 c = search needs
 
 loop-again-2 : tie.Need-loop-again-2 Inv-loop μ-loop
 loop-again-2 c =
@@ -63,14 +45,14 @@ passing-spec =
     (tie.spec
     Inv-loop
     μ-loop
-    add-high
+    (λ c. search needs)
     loop-holds
-    sub-loop
-    sub-middle
-    add-middle
+    (λ c. search needs)
+    (λ c. search needs)
+    (λ c. search needs)
     is-before-requires
-    loop-less
+    (λ c. search needs)
     loop-again
-    loop-less-2
+    (λ c. search needs)
     loop-again-2
     returns)

@@ -6,12 +6,6 @@ use Rattle.continuous_rate.specs.ContinuousRate.{distance}
 use Rattle.continuous_rate.proofs.side_miss.Statement.{statement}
 use Rattle.continuous_rate.proofs.side_miss.Tie as tie
 
-side-discount-requires : tie.Need-side-discount-requires
-side-discount-requires c κs = search needs
-
-sub-result : tie.Need-sub-result
-sub-result c = search needs
-
 returns : tie.Need-returns
 unfolding distance
 returns c = omega arith
@@ -21,4 +15,4 @@ unfolding distance
 returns-2 c = omega arith
 
 pub side-miss-spec : {M : Type 1} → statement M
-side-miss-spec = tie.close (tie.spec side-discount-requires sub-result returns returns-2)
+side-miss-spec = tie.close (tie.spec (λ c κs. search needs) (λ c. search needs) returns returns-2)

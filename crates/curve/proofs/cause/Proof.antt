@@ -3,7 +3,7 @@
 use mathlib.Core.Path.{_≡_, sym, _∙_}
 use mathlib.Core.Bool.{Bool, true, false}
 use borrow.Author.Tests.{not-true, not-false}
-use Rattle.arithmetic.specs.Frequency.{listed}
+use Rattle.arithmetic.specs.Frequency.{isFrequency}
 use Rattle.limits.specs.Limits.{isSteps}
 use Rattle.curve.specs.Curve.{inPlace}
 use Rattle.curve.proofs.CurveLaws.{placed-kinds, placed-figures, number-frequency, number-steps, number-place, number-quotes, number-accepted}
@@ -13,14 +13,14 @@ use Rattle.curve.proofs.cause.Tie as tie
 
 returns : tie.Need-returns
 returns c =
-    sym (number-frequency _ _ _ _ _ _ (sym (c .before .is-listed .ensures) ∙ not-true (c .before .is-listed .result) (c .if1 .taken)))
+    sym (number-frequency _ _ _ _ _ _ (sym (c .before .is-frequency .ensures) ∙ not-true (c .before .is-frequency .result) (c .if1 .taken)))
 
 -- what a test that has passed says, by the place behind it
 abbrev start : tie.Else1 → tie.Start
 start c = c .before .before .before .before .before
 
-known : (c : tie.Else1) → listed (start c .args .frequency) ≡ true
-known c = sym (c .before .is-listed .ensures) ∙ not-false (c .before .is-listed .result) (c .if1 .left)
+known : (c : tie.Else1) → isFrequency (start c .args .frequency) ≡ true
+known c = sym (c .before .is-frequency .ensures) ∙ not-false (c .before .is-frequency .result) (c .if1 .left)
 
 returns-2 : tie.Need-returns-2
 returns-2 c = sym (number-steps _ _ _ _ _ _ (known (c .before .before)) (sym (c .before .is-steps .ensures) ∙ not-true _ (c .if2 .taken)))
@@ -51,8 +51,8 @@ counted c = c .before .before
 all-convert-requires : tie.Need-all-convert-requires
 all-convert-requires c κs =
     let a = start (listed-at (counted c)) .args in
-    placed-figures (a .steps) (a .rows .now) (a .kinds .now) (a .figures .now) (a .room) (placed c)
-    ∙ sym (placed-kinds (a .steps) (a .rows .now) (a .kinds .now) (a .figures .now) (a .room) (placed c))
+    placed-figures (a .rows .now) (a .kinds .now) (a .figures .now) (a .room) (placed c)
+    ∙ sym (placed-kinds (a .rows .now) (a .kinds .now) (a .figures .now) (a .room) (placed c))
 
 returns-4 : tie.Need-returns-4
 returns-4 c =

@@ -28,8 +28,8 @@ loop-again c =
     let l = c .before .before .loop in
     let value = ap (λ (r : Answer). r .value) (c .answer-at .ensures) in
     let next =
-    filled-next (a .discounts .now) (l .discounts) (discountAt (a .frequency) (a .kinds .now) (a .figures .now)) (l .i)
-    (c .answer-at .result .value) (l .inv .2) (omega arith) value in
+    filled-next {f = discountAt (a .frequency) (a .kinds .now) (a .figures .now)}
+    (l .inv .2) (omega arith) value in
     (omega arith, simp length-set (l .inv .1), next)
 
 same-length : tie.Need-same-length Inv-loop μ-loop

@@ -28,7 +28,7 @@ array-write-rows c = omega (arith, c .before .before .loop .inv .1 .same)
 loop-again : tie.Need-loop-again Inv-loop μ-loop
 loop-again c =
     let filled = c .before .before .loop .inv .1 in
-    (omega arith, filled-next _ _ _ _ _ filled (omega (arith, filled .same)) (c .row-to .ensures))
+    (omega arith, filled-next filled (omega (arith, filled .same)) (c .row-to .ensures))
 
 returns : tie.Need-returns Inv-loop μ-loop
 unfolding datesTo

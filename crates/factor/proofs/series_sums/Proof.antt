@@ -23,7 +23,7 @@ start c = c .before .before .before
 
 -- the two terms of a turn, each at most one
 first-is : (c : tie.After-next-term Inv-loop μ-loop) → c .next-term .result ≡ term (start c .args .y) (2 * c .before .before .loop .pair + 1)
-first-is c = next-is _ _ _ _ _ (c .before .before .loop .inv .1 .latest) refl (c .next-term .ensures)
+first-is c = next-is _ _ (c .before .before .loop .inv .1 .latest) refl (c .next-term .ensures)
 
 first-most : (c : tie.After-next-term Inv-loop μ-loop) → c .next-term .result ≤ one
 first-most c = omega (arith, first-is c, term-most _ (2 * c .before .before .loop .pair + 1) (start c .pre))
@@ -31,7 +31,7 @@ first-most c = omega (arith, first-is c, term-most _ (2 * c .before .before .loo
 second-is :
     (c : tie.After-next-term2 Inv-loop μ-loop) →
     c .next-term2 .result ≡ term (start (c .before) .args .y) (2 * c .before .before .before .loop .pair + 1 + 1)
-second-is c = next-is _ _ _ _ _ (first-is (c .before)) (omega arith) (c .next-term2 .ensures)
+second-is c = next-is _ _ (first-is (c .before)) (omega arith) (c .next-term2 .ensures)
 
 second-most : (c : tie.After-next-term2 Inv-loop μ-loop) → c .next-term2 .result ≤ one
 second-most c = omega (arith, second-is c, term-most _ (2 * c .before .before .before .loop .pair + 1 + 1) (start (c .before) .pre))
@@ -41,7 +41,7 @@ loop-holds c = (omega arith, summed-start _)
 
 next-term-requires : tie.Need-next-term-requires Inv-loop μ-loop
 next-term-requires c κs =
-    let s = c .before .before in (latest-most _ _ _ _ _ (s .pre) (c .before .loop .inv .1), s .pre, omega arith)
+    let s = c .before .before in (latest-most (s .pre) (c .before .loop .inv .1), s .pre, omega arith)
 
 next-term-requires-2 : tie.Need-next-term-requires-2 Inv-loop μ-loop
 next-term-requires-2 c κs = (first-most c, start c .pre, omega arith)
@@ -49,15 +49,15 @@ next-term-requires-2 c κs = (first-most c, start c .pre, omega arith)
 add-odd : tie.Need-add-odd Inv-loop μ-loop
 add-odd c =
     let first = c .before in
-    omega (arith, first-most first, odd-most _ _ _ _ _ (start first .pre) (first .before .before .loop .inv .1))
+    omega (arith, first-most first, odd-most (start first .pre) (first .before .before .loop .inv .1))
 
 add-even : tie.Need-add-even Inv-loop μ-loop
 add-even c =
     let first = c .before in
-    omega (arith, second-most c, even-most _ _ _ _ _ (start first .pre) (first .before .before .loop .inv .1))
+    omega (arith, second-most c, even-most (start first .pre) (first .before .before .loop .inv .1))
 
 loop-again : tie.Need-loop-again Inv-loop μ-loop
-loop-again c = (omega arith, summed-next _ _ _ _ _ _ _ (c .before .before .before .loop .inv .1) (first-is (c .before)) (second-is c))
+loop-again c = (omega arith, summed-next (c .before .before .before .loop .inv .1) (first-is (c .before)) (second-is c))
 
 returns : tie.Need-returns Inv-loop μ-loop
 returns c =

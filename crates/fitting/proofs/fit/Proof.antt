@@ -13,7 +13,7 @@ returns c =
     let fitted = c .before .before .before .before in
     let spaced = fitted .before .before .before in
     let a = spaced .before .before .before .before .before .before .args in
-    laws.fit-answered (a .frequency) (a .steps) (a .rows .now) (a .kinds .now) (a .figures .now) (a .discounts .now) (a .prices .now)
+    laws.fit-answered (a .frequency) (a .steps) (a .rows .now) (a .kinds .now) (a .figures .now) (a .discounts .now) (a .state-prices .now)
     (a .reversion) (a .volatility) (spaced .spacing .result) (spaced .spacing .ensures) (fitted .fit-tree .ensures)
 
 pub fit-spec : {M : Type 1} → statement M

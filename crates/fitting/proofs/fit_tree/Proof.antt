@@ -11,7 +11,7 @@ use Rattle.fitting.proofs.fit_tree.Tie as tie
 prepared : (c : tie.After-plan-of) →
     let s = c .before .before .before .before .before .before .before .before .before in
     laws.Prepared (s .args .frequency) (s .args .steps) (s .args .reversion) (s .args .spaced)
-    (s .args .rows .now) (s .args .kinds .now) (s .args .figures .now) (s .args .discounts .now) (s .args .prices .now)
+    (s .args .rows .now) (s .args .kinds .now) (s .args .figures .now) (s .args .discounts .now) (s .args .state-prices .now)
     (c .plan-of .result) (c .before .before .convert .last .1 .1 .1 .1 .1 .0)
 prepared c =
     let converted = c .before .before .convert in

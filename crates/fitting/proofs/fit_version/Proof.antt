@@ -6,7 +6,7 @@ use Rattle.fitting.proofs.fit_version.Statement.{statement}
 use Rattle.fitting.proofs.fit_version.Tie as tie
 
 fit-tree-requires : tie.Need-fit-tree-requires
-fit-tree-requires c κs = laws.version-known _ _ _ _ _ (c .before .before .version-spacing .ensures)
+fit-tree-requires c κs = laws.version-known _ _ _ _ (c .before .before .version-spacing .ensures)
 
 returns : tie.Need-returns
 returns c =
@@ -14,7 +14,7 @@ returns c =
     let spaced = fitted .before .before .before in
     let working = spaced .before in
     let a = working .before .before .before .before .before .before .args in
-    laws.version-answered (a .frequency) (a .steps) (a .rows .now) (a .kinds .now) (a .figures .now) (a .discounts .now) (a .prices .now)
+    laws.version-answered (a .frequency) (a .steps) (a .rows .now) (a .kinds .now) (a .figures .now) (a .discounts .now) (a .state-prices .now)
     (a .version) (a .reversion) (a .volatility) (working .working-or-same .result) (spaced .version-spacing .result)
     (working .working-or-same .ensures) (spaced .version-spacing .ensures) (fitted .fit-tree .ensures)
 

@@ -4,7 +4,7 @@ use mathlib.Core.Path.{_≡_}
 use mathlib.Core.Bool.{cond}
 use Prim.Native.Nat.{ℕ, suc, _-_, _*_, _≤_}
 use lib.Dec.{eqb, ltb}
-use Rattle.limits.specs.inside.WithinLimits.{WithinLimits}
+use Rattle.limits.specs.WithinLimits.{WithinLimits}
 use Rattle.arithmetic.specs.Rounding.{one}
 use Rattle.arithmetic.specs.declared.Answer.{Answer}
 use Rattle.lattice.specs.Shape.{halfWidth, rowStart}
@@ -21,18 +21,18 @@ pub record SpacingKnown (spaced : Answer) : Type 0 where
   pub within-limit : spaced .value ≤ mostSpacing
 
 -- the numbers of an accepted tree of n steps and working reversion w, the numbers of its quotes' conversion and of its spacing, and of its memories
-pub record Numbers (n w converted spaced discounts prices : ℕ) : Type 0 where
+pub record Numbers (n w converted spaced discounts state-prices : ℕ) : Type 0 where
   pub quotes-converted : converted ≡ 0
   pub spacing-found : spaced ≡ 0
   pub limits : WithinLimits n w
   pub room-discounts : rowStart w n ≤ discounts
-  pub room-prices : rowStart w (suc n) ≤ prices
+  pub room-state-prices : rowStart w (suc n) ≤ state-prices
 
 -- the plan's number is that of the lowest cause, 8 after the others; without one, it holds h and the half width of row n − 1
-pub record Planned (n w converted spaced h discounts prices : ℕ) (p : Plan) : Type 0 where
-  pub number : p .number ≡ cond (eqb (earlyCause converted n w spaced discounts prices) 0)
-      (cond (ltb one (halfWidth w (n - 1) * h)) 8 0) (earlyCause converted n w spaced discounts prices)
-  pub numbers : p .number ≡ 0 → Numbers n w converted spaced discounts prices
+pub record Planned (n w converted spaced h discounts state-prices : ℕ) (p : Plan) : Type 0 where
+  pub number : p .number ≡ cond (eqb (earlyCause converted n w spaced discounts state-prices) 0)
+      (cond (ltb one (halfWidth w (n - 1) * h)) 8 0) (earlyCause converted n w spaced discounts state-prices)
+  pub numbers : p .number ≡ 0 → Numbers n w converted spaced discounts state-prices
   pub spacing-is : p .number ≡ 0 → p .spacing ≡ h
   pub widest-is : p .number ≡ 0 → p .widest ≡ halfWidth w (n - 1)
   pub spacing-within-one : p .number ≡ 0 → p .widest * p .spacing ≤ one

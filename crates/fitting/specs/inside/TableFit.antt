@@ -9,7 +9,7 @@ use Rattle.arithmetic.specs.Row.{row, each}
 use Rattle.tree.specs.Layout.{laid}
 use Rattle.lattice.specs.Shape.{rowStart}
 use Rattle.lattice.specs.RateTree.{rateTree}
-use Rattle.fit_laws.specs.StatePrices.{fittedPrice, fittedDiscount, acceptedRow}
+use Rattle.fit_laws.specs.StatePrices.{fittedStatePrice, fittedDiscount, acceptedRow}
 use Rattle.fitting.specs.inside.Rows.{tableFactor}
 use Rattle.fitting.specs.Fit.{quoted}
 
@@ -17,8 +17,8 @@ use Rattle.fitting.specs.Fit.{quoted}
 abbrev pub tableDiscount : ℕ → List ℕ → List ℕ → ℕ → ℕ → ℕ
 tableDiscount b quotes factors = fittedDiscount (rateTree b) (tableFactor b (length quotes) factors) (quoted quotes)
 
-abbrev pub tablePrice : ℕ → List ℕ → List ℕ → ℕ → ℕ → ℕ
-tablePrice b quotes factors = fittedPrice (rateTree b) (tableFactor b (length quotes) factors) (quoted quotes)
+abbrev pub tableStatePrice : ℕ → List ℕ → List ℕ → ℕ → ℕ → ℕ
+tableStatePrice b quotes factors = fittedStatePrice (rateTree b) (tableFactor b (length quotes) factors) (quoted quotes)
 
 -- whether every discount of every row is accepted
 unfoldable pub tableAccepted : ℕ → List ℕ → List ℕ → Bool
@@ -30,17 +30,17 @@ rowsOrZeros b n accepted value memory =
     cond accepted (laid (rateTree b) value n) (row (rowStart b n) (λ j. 0)) ++ drop (rowStart b n) memory
 
 -- both memories once a fit was tried
-pub record TreeFitted (b n : ℕ) (accepted : Bool) (discount price : ℕ → ℕ → ℕ) (discounts prices discounts′ prices′ : List ℕ) : Type 0 where
+pub record TreeFitted (b n : ℕ) (accepted : Bool) (discount price : ℕ → ℕ → ℕ) (discounts state-prices discounts′ state-prices′ : List ℕ) : Type 0 where
   pub discounted : discounts′ ≡ rowsOrZeros b n accepted discount discounts
-  pub priced : prices′ ≡ rowsOrZeros b (suc n) accepted price prices
+  pub priced : state-prices′ ≡ rowsOrZeros b (suc n) accepted price state-prices
 
 -- the same, with the answer: whether every discount is accepted
 pub record FitTried (b n : ℕ) (accepted : Bool) (discount price : ℕ → ℕ → ℕ)
-    (discounts prices discounts′ prices′ : List ℕ) (answer : Bool) : Type 0 where
+    (discounts state-prices discounts′ state-prices′ : List ℕ) (answer : Bool) : Type 0 where
   pub tested : answer ≡ accepted
-  pub memories : TreeFitted b n answer discount price discounts prices discounts′ prices′
+  pub memories : TreeFitted b n answer discount price discounts state-prices discounts′ state-prices′
 
 -- nothing changed past the tree in either memory
-pub record PastKept (b n : ℕ) (discounts prices discounts′ prices′ : List ℕ) : Type 0 where
+pub record PastKept (b n : ℕ) (discounts state-prices discounts′ state-prices′ : List ℕ) : Type 0 where
   pub discounted : drop (rowStart b n) discounts′ ≡ drop (rowStart b n) discounts
-  pub priced : drop (rowStart b (suc n)) prices′ ≡ drop (rowStart b (suc n)) prices
+  pub priced : drop (rowStart b (suc n)) state-prices′ ≡ drop (rowStart b (suc n)) state-prices

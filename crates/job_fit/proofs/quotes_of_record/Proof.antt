@@ -4,11 +4,12 @@ use mathlib.Core.Path.{_≡_}
 use native.Mathlib.Omega.{arith}
 use lib.ListN.{length}
 use borrow.Author.Needs.{needs}
+use Rattle.job_record.specs.Form.{mostJobSteps}
 use Rattle.job_fit.proofs.FitLaws as laws
 use Rattle.job_fit.proofs.quotes_of_record.Statement.{statement}
 use Rattle.job_fit.proofs.quotes_of_record.Tie as tie
 
-kinds-size : (s : tie.Start) → length (s .args .job .kinds) ≡ 255
+kinds-size : (s : tie.Start) → length (s .args .job .kinds) ≡ mostJobSteps
 kinds-size s = search needs
 
 returns : tie.Need-returns

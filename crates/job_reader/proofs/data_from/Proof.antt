@@ -33,7 +33,7 @@ loop-again : tie.Need-loop-again Inv-loop μ-loop
 loop-again c =
     let start = c .before .before .before .before .before .args in
     let read = ap (λ (place : ℕ). numberAt (now (start .bytes)) (dataAt place) (start .width)) (c .before .after-fields .ensures .0) in
-    (omega arith, filled-next _ _ _ _ _ (c .before .before .before .loop .inv .1) (search needs) (c .number .ensures .0 ∙ read))
+    (omega arith, filled-next (c .before .before .before .loop .inv .1) (search needs) (c .number .ensures .0 ∙ read))
 
 returns : tie.Need-returns Inv-loop μ-loop
 returns c =

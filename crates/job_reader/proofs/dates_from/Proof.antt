@@ -22,7 +22,7 @@ loop-holds : tie.Need-loop-holds Inv-loop μ-loop
 loop-holds c = (omega arith, rw (c .no-dates .ensures) (filled-start _ _))
 
 loop-again : tie.Need-loop-again Inv-loop μ-loop
-loop-again c = (omega arith, filled-next _ _ _ _ _ (c .before .before .loop .inv .1) (search needs) refl)
+loop-again c = (omega arith, filled-next (c .before .before .loop .inv .1) (search needs) refl)
 
 returns : tie.Need-returns Inv-loop μ-loop
 returns c =

@@ -23,14 +23,14 @@ loop-holds c = (omega arith, fields-none _ _ _ _)
 returns : tie.Need-returns Inv-loop μ-loop
 returns c =
     sym
-    (fields-fails _ _ _ _ _ _ (c .before .before .after-fields .ensures .0) _ (omega arith)
+    (fields-fails _ _ _ _ (c .before .before .after-fields .ensures .0) _ (omega arith)
     (failed (c .before .field-at .ensures) (c .if1 .taken)))
 
 loop-again : tie.Need-loop-again Inv-loop μ-loop
 loop-again c =
-    let known = c .before .before .before .before .loop .inv in
+    let l = c .before .before .before .before .loop in
     let one = passed (c .before .field-at .ensures) (c .if1 .left) in
-    (omega arith, fields-more _ _ _ _ _ _ (c .before .before .after-fields .ensures .0) (known .1) one)
+    (omega arith, fields-more _ _ _ _ (l .i) (c .before .before .after-fields .ensures .0) (l .inv .1) one)
 
 returns-2 : tie.Need-returns-2 Inv-loop μ-loop
 returns-2 c =

@@ -32,7 +32,7 @@ shared-slice-read-tags c =
 loop-again : tie.Need-loop-again Inv-loop μ-loop
 loop-again c =
     let read = ap (λ (place : ℕ). getD (now (c .before .before .before .before .before .args .bytes)) place 0) (c .before .after-fields .ensures .0) in
-    (omega arith, filled-next _ _ _ _ _ (c .before .before .before .loop .inv .1) (search needs) read)
+    (omega arith, filled-next (c .before .before .before .loop .inv .1) (search needs) read)
 
 returns : tie.Need-returns Inv-loop μ-loop
 returns c =

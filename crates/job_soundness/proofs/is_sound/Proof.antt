@@ -30,7 +30,7 @@ are-columns-requires : tie.Need-are-columns-requires
 are-columns-requires c κs =
     let fits = c .before .before .before .before .before .before in
     let s = fits .before .before in
-    (steps-few _ _ _ _ _ (fitting fits), kinds-long s, figures-long s, flows-long s)
+    (steps-few _ _ _ _ (fitting fits), kinds-long s, figures-long s, flows-long s)
 
 returns-2 : tie.Need-returns-2
 returns-2 c =

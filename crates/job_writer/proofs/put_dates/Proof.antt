@@ -24,7 +24,7 @@ loop-again : tie.Need-loop-again Inv-loop μ-loop
 loop-again c =
     let c₁ = c .before .before in
     let c₂ = c₁ .before in
-    (omega arith, simp length-set (c₁ .loop .inv .1), bytes-more _ _ _ _ _ (c₁ .loop .inv .2) (omega arith) (c₂ .pre))
+    (omega arith, simp length-set (c₁ .loop .inv .1), bytes-more _ _ _ (c₁ .loop .inv .2) (omega arith) (c₂ .pre))
 
 same-length : tie.Need-same-length Inv-loop μ-loop
 same-length c = c .before .loop .inv .1

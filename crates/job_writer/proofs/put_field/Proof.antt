@@ -13,7 +13,7 @@ returns c =
     let c₂ = c₁ .before .before .before .before in
     let c₃ = c₂ .before .before .before in
     let a = c₃ .args in
-    field-placed _ _ _ _ _ _ _ (c₂ .put-tag .ensures) (digits-length (a .width) (a .value)) (c₁ .put-number .ensures) (omega arith)
+    field-placed _ _ _ _ (c₂ .put-tag .ensures) (digits-length (a .width) (a .value)) (c₁ .put-number .ensures) (omega arith)
 
 pub put-field-spec : {M : Type 1} → statement M
 put-field-spec =

@@ -12,7 +12,7 @@ returns c =
     let c₃ = c₂ .before .before .before .before in
     let c₄ = c₃ .before .before .before .before in
     let c₅ = c₄ .before .before .before in
-    head-placed _ _ _ _ _ _ _ _ _ (c₅ .pre) (c₄ .put-field .ensures) (c₃ .put-field2 .ensures) (c₂ .put-field3 .ensures)
+    head-placed (c₅ .args .out .now) _ _ _ _ (c₅ .pre) (c₄ .put-field .ensures) (c₃ .put-field2 .ensures) (c₂ .put-field3 .ensures)
     (c₁ .put-field4 .ensures)
 
 pub put-head-spec : {M : Type 1} → statement M

@@ -52,7 +52,7 @@ returns c =
     let c₆ = c₅ .before .before in
     let c₇ = c₆ .before .before .before .before .before .before in
     let from = c₆ .quotes-from .ensures .0 in
-    job-placed (c₇ .args .job) _ from _ _ _ _ _ _ (omega (arith, from, encode-size (c₇ .args .job), c₇ .pre .1)) (c₅ .put-head .ensures)
+    job-placed (c₇ .args .job) _ from _ (omega (arith, from, encode-size (c₇ .args .job), c₇ .pre .1)) (c₅ .put-head .ensures)
     (c₄ .put-version .ensures) (c₃ .put-quotes .ensures) (c₂ .put-flows .ensures) (c₁ .put-option .ensures)
 
 pub put-job-spec : {M : Type 1} → statement M

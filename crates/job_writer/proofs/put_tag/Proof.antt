@@ -15,7 +15,7 @@ same-length : tie.Need-same-length
 same-length c = c .before .before .put-number .kept .0 ∙ simp length-set
 
 returns : tie.Need-returns
-returns c = tag-placed _ _ _ _ _ (c .before .before .before .before .before .pre) (c .before .before .put-number .ensures)
+returns c = tag-placed _ _ _ _ (c .before .before .before .before .before .pre) (c .before .before .put-number .ensures)
 
 pub put-tag-spec : {M : Type 1} → statement M
 put-tag-spec =

@@ -33,7 +33,7 @@ sub-t12 c =
 
 returns : tie.Need-returns
 returns c =
-    shape-built _ _ _ _ _ _ _ (c .before .before .before .half-width-of .ensures) (c .before .before .half-width-of2 .ensures)
+    shape-built _ _ _ (c .before .before .before .half-width-of .ensures) (c .before .before .half-width-of2 .ensures)
     (c .before .row-start-of .ensures) (c .half-width-of3 .ensures)
 
 pub shape-of-spec : {M : Type 1} → statement M

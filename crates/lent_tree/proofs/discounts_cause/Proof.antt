@@ -8,9 +8,6 @@ use Rattle.lent_tree.proofs.LentLaws.{numbers-refused, room-refused, di
 use Rattle.lent_tree.proofs.discounts_cause.Statement.{statement}
 use Rattle.lent_tree.proofs.discounts_cause.Tie as tie
 
-discounts-needed-requires : tie.Need-discounts-needed-requires
-discounts-needed-requires c κs = search needs
-
 returns : tie.Need-returns
 returns c = numbers-refused _ _ _ _ (c .before .before .discounts-needed .ensures) (c .if1 .taken)
 
@@ -23,9 +20,6 @@ returns-2 c = room-refused _ _ _ _ (needed (c .before) .discounts-needed .ensure
 
 slice-aggregate-all-between : tie.Need-slice-aggregate-all-between
 slice-aggregate-all-between c = simp length-take (omega arith)
-
-all-between-requires : tie.Need-all-between-requires
-all-between-requires c κs = search needs
 
 -- where the discounts have been tested
 abbrev lent : tie.After-all-between → tie.Else2
@@ -49,10 +43,10 @@ pub discounts-cause-spec : {M : Type 1} → statement M
 discounts-cause-spec =
     tie.close
     (tie.spec
-    discounts-needed-requires
+    (λ c κs. search needs)
     returns
     returns-2
     slice-aggregate-all-between
-    all-between-requires
+    (λ c κs. search needs)
     returns-3
     returns-4)

@@ -5,9 +5,6 @@ use Rattle.lent_tree.proofs.LentLaws.{room-number, room-short, room-eno
 use Rattle.lent_tree.proofs.room_cause.Statement.{statement}
 use Rattle.lent_tree.proofs.room_cause.Tie as tie
 
-discounts-needed-requires : tie.Need-discounts-needed-requires
-discounts-needed-requires c κs = search needs
-
 returns : tie.Need-returns
 returns c = room-number _ _ _ _ (c .before .before .discounts-needed .ensures) (c .if1 .taken)
 
@@ -18,4 +15,4 @@ returns-3 : tie.Need-returns-3
 returns-3 c = room-enough _ _ _ _ (c .before .before .before .discounts-needed .ensures) (c .before .if1 .left) (c .if2 .left)
 
 pub room-cause-spec : {M : Type 1} → statement M
-room-cause-spec = tie.close (tie.spec discounts-needed-requires returns returns-2 returns-3)
+room-cause-spec = tie.close (tie.spec (λ c κs. search needs) returns returns-2 returns-3)

@@ -20,8 +20,8 @@ accepted : (c : tie.Else1) → let a = c .before .before .before .before .args i
     readNumber (length (a .out .now)) (a .end) (a .row) (a .discounts .now) (a .next) (a .count) ≡ 0
 accepted c = sym (c .before .row-number .ensures) ∙ c .if1 .left
 
-put-nodes-requires : tie.Need-put-nodes-requires
-put-nodes-requires c κs =
+put-row-nodes-requires : tie.Need-put-row-nodes-requires
+put-row-nodes-requires c κs =
     let e = c .before in
     let a = e .before .before .before .before .args in
     read-known (length (a .out .now)) (a .end) (a .row) (a .discounts .now) (a .next) (a .count) (accepted e)
@@ -30,8 +30,8 @@ returns-2 : tie.Need-returns-2
 returns-2 c =
     let e = c .before .before .before .before in
     let a = e .before .before .before .before .args in
-    let drawn = c .before .before .put-nodes .ensures in
+    let drawn = c .before .before .put-row-nodes .ensures in
     drawn-answered _ (a .out .now) (a .end) _ (a .next - a .count) (accepted e) (drawn .0) (drawn .1)
 
 pub node-lines-spec : {M : Type 1} → statement M
-node-lines-spec = tie.close (tie.spec (λ c κs. search needs) returns put-nodes-requires (λ c. search needs) returns-2)
+node-lines-spec = tie.close (tie.spec (λ c κs. search needs) returns put-row-nodes-requires (λ c. search needs) returns-2)

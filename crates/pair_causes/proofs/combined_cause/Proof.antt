@@ -26,14 +26,8 @@ is-discounted-requires c κs = (c .before .before .before .before .pre, c .loop-
 
 returns : tie.Need-returns Inv-loop μ-loop
 returns c =
-    combined-refused _ _ _ _ _ (c .before .before .before .loop .row) (c .before .before .loop-test .taken)
+    combined-refused _ _ _ _ (c .before .before .before .loop .row) (c .before .before .loop-test .taken)
     (sym (c .before .is-discounted .ensures) ∙ not-true _ (c .if1 .taken))
-
-add-row : tie.Need-add-row Inv-loop μ-loop
-add-row c = omega arith
-
-loop-less : tie.Need-loop-less Inv-loop μ-loop
-loop-less c = omega arith
 
 loop-again : tie.Need-loop-again Inv-loop μ-loop
 loop-again c =
@@ -41,7 +35,7 @@ loop-again c =
     (omega arith, passed-more _ (l .row) _ (l .inv .1) (c .before .is-discounted .ensures) (not-false _ (c .if1 .left)))
 
 returns-2 : tie.Need-returns-2 Inv-loop μ-loop
-returns-2 c = combined-passed _ _ _ _ _ (λ i h. c .before .loop .inv .1 i (omega (arith, c .loop-test .left)))
+returns-2 c = combined-passed _ _ _ _ (λ i h. c .before .loop .inv .1 i (omega (arith, c .loop-test .left)))
 
 pub combined-cause-spec : {M : Type 1} → statement M
 combined-cause-spec =
@@ -52,7 +46,7 @@ combined-cause-spec =
     loop-holds
     is-discounted-requires
     returns
-    add-row
-    loop-less
+    (λ c. omega arith)
+    (λ c. omega arith)
     loop-again
     returns-2)

@@ -7,21 +7,15 @@ use Rattle.pair_laws.proofs.RowParts.{least-fits}
 use Rattle.pair_causes.proofs.is_discounted.Statement.{statement}
 use Rattle.pair_causes.proofs.is_discounted.Tie as tie
 
-least-discount-requires : tie.Need-least-discount-requires
-least-discount-requires c κs = search needs
-
-least-discount-requires-2 : tie.Need-least-discount-requires-2
-least-discount-requires-2 c κs = search needs
-
 mul-result : tie.Need-mul-result
-mul-result c = omega (arith, least-fits _ _ _ _ _ _ (c .before .least-discount .ensures) (c .least-discount2 .ensures))
+mul-result c = omega (arith, least-fits _ _ _ _ (c .before .least-discount .ensures) (c .least-discount2 .ensures))
 
 returns : tie.Need-returns
 returns c =
     let s = c .before .before .before .before in
-    row-discounted _ _ _ _ _ _ _ _ (s .pre .0 .rate-tree) (s .pre .0 .spread-tree) (s .pre .1) (c .before .least-discount .ensures)
+    row-discounted (s .pre .0 .rate-tree) (s .pre .0 .spread-tree) (s .pre .1) (c .before .least-discount .ensures)
     (c .least-discount2 .ensures)
 
 pub is-discounted-spec : {M : Type 1} → statement M
 is-discounted-spec =
-    tie.close (tie.spec least-discount-requires least-discount-requires-2 mul-result returns)
+    tie.close (tie.spec (λ c κs. search needs) (λ c κs. search needs) mul-result returns)

@@ -19,26 +19,14 @@ room c =
     let s = c .before .before .before in
     part-room _ _ _ _ (accepted-lent _ _ _ (s .pre .0)) (s .pre .1) _ (c .before .row-shape .ensures)
 
-row-shape-requires : tie.Need-row-shape-requires
-row-shape-requires c κs = search needs
-
 add-end : tie.Need-add-end
 add-end c = omega (arith, room c)
 
 mul-least-of : tie.Need-mul-least-of
 mul-least-of c = omega (arith, room c)
 
-sub-least-of : tie.Need-sub-least-of
-sub-least-of c = search needs
-
-part-least-of-start : tie.Need-part-least-of-start
-part-least-of-start c = search needs
-
 part-least-of-end : tie.Need-part-least-of-end
 part-least-of-end c = room c
-
-least-of-requires : tie.Need-least-of-requires
-least-of-requires c κs = search needs
 
 returns : tie.Need-returns
 returns c =
@@ -49,11 +37,11 @@ pub least-discount-spec : {M : Type 1} → statement M
 least-discount-spec =
     tie.close
     (tie.spec
-    row-shape-requires
+    (λ c κs. search needs)
     add-end
     mul-least-of
-    sub-least-of
-    part-least-of-start
+    (λ c. search needs)
+    (λ c. search needs)
     part-least-of-end
-    least-of-requires
+    (λ c κs. search needs)
     returns)

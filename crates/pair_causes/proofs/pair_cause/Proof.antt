@@ -5,26 +5,8 @@ use Rattle.pair_laws.proofs.CauseLaws.{pair-steps-refused, pair-trees-refused, 
 use Rattle.pair_causes.proofs.pair_cause.Statement.{statement}
 use Rattle.pair_causes.proofs.pair_cause.Tie as tie
 
-pair-steps-cause-requires : tie.Need-pair-steps-cause-requires
-pair-steps-cause-requires c κs = search needs
-
 returns : tie.Need-returns
 returns c = pair-steps-refused _ _ _ _ _ _ _ _ (c .before .pair-steps-cause .ensures) (c .if1 .taken)
-
-discounts-cause-requires : tie.Need-discounts-cause-requires
-discounts-cause-requires c κs = search needs
-
-discounts-cause-requires-2 : tie.Need-discounts-cause-requires-2
-discounts-cause-requires-2 c κs = search needs
-
-lowest-cause-requires : tie.Need-lowest-cause-requires
-lowest-cause-requires c κs = search needs
-
-flows-cause-requires : tie.Need-flows-cause-requires
-flows-cause-requires c κs = search needs
-
-lowest-cause-requires-2 : tie.Need-lowest-cause-requires-2
-lowest-cause-requires-2 c κs = search needs
 
 returns-2 : tie.Need-returns-2
 returns-2 c =
@@ -47,9 +29,6 @@ combined-cause-requires c κs =
     trees-accepted _ _ _ _ _ _ _ _ (pair-steps-cause .ensures) (if1 .left) _ _ _ _ (discounts-cause .ensures) (discounts-cause2 .ensures)
     (lowest-cause .ensures) (c .before .flows-cause .ensures) (c .if2 .left)
 
-lowest-cause-requires-3 : tie.Need-lowest-cause-requires-3
-lowest-cause-requires-3 c κs = search needs
-
 returns-3 : tie.Need-returns-3
 returns-3 c =
     let if2 = c .before .before .if2 in
@@ -66,14 +45,14 @@ pub pair-cause-spec : {M : Type 1} → statement M
 pair-cause-spec =
     tie.close
     (tie.spec
-    pair-steps-cause-requires
+    (λ c κs. search needs)
     returns
-    discounts-cause-requires
-    discounts-cause-requires-2
-    lowest-cause-requires
-    flows-cause-requires
-    lowest-cause-requires-2
+    (λ c κs. search needs)
+    (λ c κs. search needs)
+    (λ c κs. search needs)
+    (λ c κs. search needs)
+    (λ c κs. search needs)
     returns-2
     combined-cause-requires
-    lowest-cause-requires-3
+    (λ c κs. search needs)
     returns-3)

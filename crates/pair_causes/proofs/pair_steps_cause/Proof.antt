@@ -8,14 +8,8 @@ use Rattle.pair_laws.proofs.CauseLaws.{rate-steps-refused, spread-steps-refused
 use Rattle.pair_causes.proofs.pair_steps_cause.Statement.{statement}
 use Rattle.pair_causes.proofs.pair_steps_cause.Tie as tie
 
-is-steps-requires : tie.Need-is-steps-requires
-is-steps-requires c κs = search needs
-
 returns : tie.Need-returns
 returns c = rate-steps-refused _ _ (sym (c .before .is-steps .ensures) ∙ not-true _ (c .if1 .taken))
-
-is-steps-requires-2 : tie.Need-is-steps-requires-2
-is-steps-requires-2 c κs = search needs
 
 returns-2 : tie.Need-returns-2
 returns-2 c =
@@ -44,9 +38,9 @@ pub pair-steps-cause-spec : {M : Type 1} → statement M
 pair-steps-cause-spec =
     tie.close
     (tie.spec
-    is-steps-requires
+    (λ c κs. search needs)
     returns
-    is-steps-requires-2
+    (λ c κs. search needs)
     returns-2
     returns-3
     returns-4

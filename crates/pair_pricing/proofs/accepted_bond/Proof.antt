@@ -9,31 +9,13 @@ use Rattle.pair_laws.proofs.EntryLaws.{bond-above, bond-given}
 use Rattle.pair_pricing.proofs.accepted_bond.Statement.{statement}
 use Rattle.pair_pricing.proofs.accepted_bond.Tie as tie
 
-node-count-requires : tie.Need-node-count-requires
-node-count-requires c κs = search needs
-
-table-of-requires : tie.Need-table-of-requires
-table-of-requires c κs = search needs
-
-node-count-requires-2 : tie.Need-node-count-requires-2
-node-count-requires-2 c κs = search needs
-
-table-of-requires-2 : tie.Need-table-of-requires-2
-table-of-requires-2 c κs = search needs
-
-empty-square-requires : tie.Need-empty-square-requires
-empty-square-requires c κs = search needs
-
-empty-square-requires-2 : tie.Need-empty-square-requires-2
-empty-square-requires-2 c κs = search needs
-
 array-share-prefix-rate-table : tie.Need-array-share-prefix-rate-table
 array-share-prefix-rate-table c =
     let table-of = c .before .before .before .before .table-of in
     let node-count = c .before .before .before .before .before .node-count in
     let s = c .before .before .before .before .before .before .before .before .before in
     let a = c .before .before .before .before .before .before .before .before .before .pre .trees .rate-tree in
-    prefix-room _ _ (a .steps-within-limit) (a .reversion-within-limit) _ _ (node-count .ensures) (table-of .ensures)
+    prefix-room _ _ (a .limits .steps-within-limit) (a .limits .reversion-within-limit) _ _ (node-count .ensures) (table-of .ensures)
 
 slice-aggregate-roll-bond : tie.Need-slice-aggregate-roll-bond
 slice-aggregate-roll-bond c =
@@ -41,7 +23,7 @@ slice-aggregate-roll-bond c =
     let node-count = c .before .before .before .before .before .before .node-count in
     let s = c .before .before .before .before .before .before .before .before .before .before in
     let a = c .before .before .before .before .before .before .before .before .before .before .pre .trees .rate-tree in
-    prefix-length _ _ (prefix-room _ _ (a .steps-within-limit) (a .reversion-within-limit) _ _ (node-count .ensures) (table-of .ensures))
+    prefix-length _ _ (prefix-room _ _ (a .limits .steps-within-limit) (a .limits .reversion-within-limit) _ _ (node-count .ensures) (table-of .ensures))
 
 array-share-prefix-spread-table : tie.Need-array-share-prefix-spread-table
 array-share-prefix-spread-table c =
@@ -49,7 +31,7 @@ array-share-prefix-spread-table c =
     let node-count2 = c .before .before .before .before .node-count2 in
     let s = c .before .before .before .before .before .before .before .before .before .before in
     let a = c .before .before .before .before .before .before .before .before .before .before .pre .trees .spread-tree in
-    prefix-room _ _ (a .steps-within-limit) (a .reversion-within-limit) _ _ (node-count2 .ensures) (table-of2 .ensures)
+    prefix-room _ _ (a .limits .steps-within-limit) (a .limits .reversion-within-limit) _ _ (node-count2 .ensures) (table-of2 .ensures)
 
 slice-aggregate-roll-bond-2 : tie.Need-slice-aggregate-roll-bond-2
 slice-aggregate-roll-bond-2 c =
@@ -57,7 +39,7 @@ slice-aggregate-roll-bond-2 c =
     let node-count2 = c .before .before .before .before .before .node-count2 in
     let s = c .before .before .before .before .before .before .before .before .before .before .before in
     let a = c .before .before .before .before .before .before .before .before .before .before .before .pre .trees .spread-tree in
-    prefix-length _ _ (prefix-room _ _ (a .steps-within-limit) (a .reversion-within-limit) _ _ (node-count2 .ensures) (table-of2 .ensures))
+    prefix-length _ _ (prefix-room _ _ (a .limits .steps-within-limit) (a .limits .reversion-within-limit) _ _ (node-count2 .ensures) (table-of2 .ensures))
 
 roll-bond-requires : tie.Need-roll-bond-requires
 roll-bond-requires c κs =
@@ -70,14 +52,11 @@ roll-bond-requires c κs =
     let q = s .pre .trees .spread-tree in (
       s .pre,
       record {
-        rate-table = prefix-is _ _ (r .steps-within-limit) (r .reversion-within-limit) _ _ (node-count .ensures) (table-of .ensures);
-        spread-table = prefix-is _ _ (q .steps-within-limit) (q .reversion-within-limit) _ _ (node-count2 .ensures) (table-of2 .ensures);
+        rate-table = prefix-is _ _ (r .limits .steps-within-limit) (r .limits .reversion-within-limit) _ _ (node-count .ensures) (table-of .ensures);
+        spread-table = prefix-is _ _ (q .limits .steps-within-limit) (q .limits .reversion-within-limit) _ _ (node-count2 .ensures) (table-of2 .ensures);
       },
       omega arith,
     )
-
-refused-requires : tie.Need-refused-requires
-refused-requires c κs = search needs
 
 returns : tie.Need-returns
 returns c =
@@ -86,12 +65,6 @@ returns c =
     c .refused .ensures
     ∙ bond-above (t .steps) (t .rate) (t .spread) (now (s .args .rates)) (now (s .args .spreads)) (now (s .args .flows)) (s .pre) _ _
     (c .before .before .roll-bond .ensures) (c .before .if1 .taken)
-
-array-read-t24 : tie.Need-array-read-t24
-array-read-t24 c = search needs
-
-error-bound-requires : tie.Need-error-bound-requires
-error-bound-requires c κs = search needs
 
 returns-2 : tie.Need-returns-2
 returns-2 c =
@@ -104,19 +77,19 @@ pub accepted-bond-spec : {M : Type 1} → statement M
 accepted-bond-spec =
     tie.close
     (tie.spec
-    node-count-requires
-    table-of-requires
-    node-count-requires-2
-    table-of-requires-2
-    empty-square-requires
-    empty-square-requires-2
+    (λ c κs. search needs)
+    (λ c κs. search needs)
+    (λ c κs. search needs)
+    (λ c κs. search needs)
+    (λ c κs. search needs)
+    (λ c κs. search needs)
     array-share-prefix-rate-table
     slice-aggregate-roll-bond
     array-share-prefix-spread-table
     slice-aggregate-roll-bond-2
     roll-bond-requires
-    refused-requires
+    (λ c κs. search needs)
     returns
-    array-read-t24
-    error-bound-requires
+    (λ c. search needs)
+    (λ c κs. search needs)
     returns-2)

@@ -10,34 +10,13 @@ use Rattle.pair_laws.proofs.EntryLaws.{option-above, option-given}
 use Rattle.pair_pricing.proofs.accepted_option.Statement.{statement}
 use Rattle.pair_pricing.proofs.accepted_option.Tie as tie
 
-node-count-requires : tie.Need-node-count-requires
-node-count-requires c κs = search needs
-
-table-of-requires : tie.Need-table-of-requires
-table-of-requires c κs = search needs
-
-node-count-requires-2 : tie.Need-node-count-requires-2
-node-count-requires-2 c κs = search needs
-
-table-of-requires-2 : tie.Need-table-of-requires-2
-table-of-requires-2 c κs = search needs
-
-empty-square-requires : tie.Need-empty-square-requires
-empty-square-requires c κs = search needs
-
-empty-square-requires-2 : tie.Need-empty-square-requires-2
-empty-square-requires-2 c κs = search needs
-
-empty-square-requires-3 : tie.Need-empty-square-requires-3
-empty-square-requires-3 c κs = search needs
-
 array-share-prefix-rate-table : tie.Need-array-share-prefix-rate-table
 array-share-prefix-rate-table c =
     let table-of = c .before .before .before .before .before .table-of in
     let node-count = c .before .before .before .before .before .before .node-count in
     let s = c .before .before .before .before .before .before .before .before .before .before .before in
     let a = c .before .before .before .before .before .before .before .before .before .before .before .pre .0 .trees .rate-tree in
-    prefix-room _ _ (a .steps-within-limit) (a .reversion-within-limit) _ _ (node-count .ensures) (table-of .ensures)
+    prefix-room _ _ (a .limits .steps-within-limit) (a .limits .reversion-within-limit) _ _ (node-count .ensures) (table-of .ensures)
 
 slice-aggregate-roll-option : tie.Need-slice-aggregate-roll-option
 slice-aggregate-roll-option c =
@@ -45,7 +24,7 @@ slice-aggregate-roll-option c =
     let node-count = c .before .before .before .before .before .before .before .node-count in
     let s = c .before .before .before .before .before .before .before .before .before .before .before .before in
     let a = c .before .before .before .before .before .before .before .before .before .before .before .before .pre .0 .trees .rate-tree in
-    prefix-length _ _ (prefix-room _ _ (a .steps-within-limit) (a .reversion-within-limit) _ _ (node-count .ensures) (table-of .ensures))
+    prefix-length _ _ (prefix-room _ _ (a .limits .steps-within-limit) (a .limits .reversion-within-limit) _ _ (node-count .ensures) (table-of .ensures))
 
 array-share-prefix-spread-table : tie.Need-array-share-prefix-spread-table
 array-share-prefix-spread-table c =
@@ -53,7 +32,7 @@ array-share-prefix-spread-table c =
     let node-count2 = c .before .before .before .before .before .node-count2 in
     let s = c .before .before .before .before .before .before .before .before .before .before .before .before in
     let a = c .before .before .before .before .before .before .before .before .before .before .before .before .pre .0 .trees .spread-tree in
-    prefix-room _ _ (a .steps-within-limit) (a .reversion-within-limit) _ _ (node-count2 .ensures) (table-of2 .ensures)
+    prefix-room _ _ (a .limits .steps-within-limit) (a .limits .reversion-within-limit) _ _ (node-count2 .ensures) (table-of2 .ensures)
 
 slice-aggregate-roll-option-2 : tie.Need-slice-aggregate-roll-option-2
 slice-aggregate-roll-option-2 c =
@@ -61,7 +40,7 @@ slice-aggregate-roll-option-2 c =
     let node-count2 = c .before .before .before .before .before .before .node-count2 in
     let s = c .before .before .before .before .before .before .before .before .before .before .before .before .before in
     let a = c .before .before .before .before .before .before .before .before .before .before .before .before .before .pre .0 .trees .spread-tree in
-    prefix-length _ _ (prefix-room _ _ (a .steps-within-limit) (a .reversion-within-limit) _ _ (node-count2 .ensures) (table-of2 .ensures))
+    prefix-length _ _ (prefix-room _ _ (a .limits .steps-within-limit) (a .limits .reversion-within-limit) _ _ (node-count2 .ensures) (table-of2 .ensures))
 
 roll-option-requires : tie.Need-roll-option-requires
 roll-option-requires c κs =
@@ -74,14 +53,11 @@ roll-option-requires c κs =
     let q = s .pre .0 .trees .spread-tree in (
       s .pre .0,
       record {
-        rate-table = prefix-is _ _ (r .steps-within-limit) (r .reversion-within-limit) _ _ (node-count .ensures) (table-of .ensures);
-        spread-table = prefix-is _ _ (q .steps-within-limit) (q .reversion-within-limit) _ _ (node-count2 .ensures) (table-of2 .ensures);
+        rate-table = prefix-is _ _ (r .limits .steps-within-limit) (r .limits .reversion-within-limit) _ _ (node-count .ensures) (table-of .ensures);
+        spread-table = prefix-is _ _ (q .limits .steps-within-limit) (q .limits .reversion-within-limit) _ _ (node-count2 .ensures) (table-of2 .ensures);
       },
       s .pre .1,
     )
-
-refused-requires : tie.Need-refused-requires
-refused-requires c κs = search needs
 
 returns : tie.Need-returns
 returns c =
@@ -93,9 +69,6 @@ returns c =
     c .refused .ensures
     ∙ option-above (t .steps) (t .rate) (t .spread) (now (s .args .rates)) (now (s .args .spreads)) (now (s .args .flows)) (s .pre .0)
     (side (m .call)) (m .strike) (marked (m .last) (now (s .args .marks))) _ _ _ (roll-option .ensures) (c .before .if1 .taken)
-
-array-read-t28 : tie.Need-array-read-t28
-array-read-t28 c = search needs
 
 error-bound-requires : tie.Need-error-bound-requires
 error-bound-requires c κs =
@@ -117,20 +90,20 @@ pub accepted-option-spec : {M : Type 1} → statement M
 accepted-option-spec =
     tie.close
     (tie.spec
-    node-count-requires
-    table-of-requires
-    node-count-requires-2
-    table-of-requires-2
-    empty-square-requires
-    empty-square-requires-2
-    empty-square-requires-3
+    (λ c κs. search needs)
+    (λ c κs. search needs)
+    (λ c κs. search needs)
+    (λ c κs. search needs)
+    (λ c κs. search needs)
+    (λ c κs. search needs)
+    (λ c κs. search needs)
     array-share-prefix-rate-table
     slice-aggregate-roll-option
     array-share-prefix-spread-table
     slice-aggregate-roll-option-2
     roll-option-requires
-    refused-requires
+    (λ c κs. search needs)
     returns
-    array-read-t28
+    (λ c. search needs)
     error-bound-requires
     returns-2)

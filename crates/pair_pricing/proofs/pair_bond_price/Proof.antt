@@ -5,17 +5,11 @@ use Rattle.pair_laws.proofs.EntryLaws.{entry-accepted, bond-refused, bond-found
 use Rattle.pair_pricing.proofs.pair_bond_price.Statement.{statement}
 use Rattle.pair_pricing.proofs.pair_bond_price.Tie as tie
 
-pair-cause-requires : tie.Need-pair-cause-requires
-pair-cause-requires c κs = search needs
-
-refused-requires : tie.Need-refused-requires
-refused-requires c κs = search needs
-
 returns : tie.Need-returns
 returns c = bond-refused _ _ _ _ _ _ _ _ (c .before .before .pair-cause .ensures) _ (c .refused .ensures) (c .before .if1 .taken)
 
 accepted-bond-requires : tie.Need-accepted-bond-requires
-accepted-bond-requires c κs = entry-accepted _ _ _ _ _ _ _ _ (c .before .pair-cause .ensures) (c .if1 .left)
+accepted-bond-requires c κs = entry-accepted _ (c .before .pair-cause .ensures) (c .if1 .left)
 
 returns-2 : tie.Need-returns-2
 returns-2 c = bond-found _ _ _ _ _ _ _ _ (c .before .before .pair-cause .ensures) _ (c .before .if1 .left) (c .accepted-bond .ensures)
@@ -23,4 +17,4 @@ returns-2 c = bond-found _ _ _ _ _ _ _ _ (c .before .before .pair-cause .ensures
 pub pair-bond-price-spec : {M : Type 1} → statement M
 pair-bond-price-spec =
     tie.close
-    (tie.spec pair-cause-requires refused-requires returns accepted-bond-requires returns-2)
+    (tie.spec (λ c κs. search needs) (λ c κs. search needs) returns accepted-bond-requires returns-2)

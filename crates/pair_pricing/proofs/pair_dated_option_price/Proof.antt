@@ -5,26 +5,8 @@ use Rattle.pair_laws.proofs.EntryLaws.{entry-accepted, dated-refused, terms-ref
 use Rattle.pair_pricing.proofs.pair_dated_option_price.Statement.{statement}
 use Rattle.pair_pricing.proofs.pair_dated_option_price.Tie as tie
 
-pair-cause-requires : tie.Need-pair-cause-requires
-pair-cause-requires c κs = search needs
-
-refused-requires : tie.Need-refused-requires
-refused-requires c κs = search needs
-
 returns : tie.Need-returns
 returns c = dated-refused _ _ _ _ _ _ _ _ (c .before .before .pair-cause .ensures) _ _ _ _ (c .refused .ensures) (c .before .if1 .taken)
-
-terms-cause-requires : tie.Need-terms-cause-requires
-terms-cause-requires c κs = search needs
-
-dates-cause-requires : tie.Need-dates-cause-requires
-dates-cause-requires c κs = search needs
-
-lowest-cause-requires : tie.Need-lowest-cause-requires
-lowest-cause-requires c κs = search needs
-
-refused-requires-2 : tie.Need-refused-requires-2
-refused-requires-2 c κs = search needs
 
 returns-2 : tie.Need-returns-2
 returns-2 c =
@@ -36,15 +18,6 @@ returns-2 c =
     terms-refused _ _ _ _ _ _ _ _ (pair-cause .ensures) _ _ _ (if1 .left) _ _ _ (terms-cause .ensures) (dates-cause .ensures)
     (lowest-cause .ensures) _ (c .refused2 .ensures) (c .before .if2 .taken)
 
-terms-on-requires : tie.Need-terms-on-requires
-terms-on-requires c κs = search needs
-
-marks-of-requires : tie.Need-marks-of-requires
-marks-of-requires c κs = search needs
-
-slice-aggregate-accepted-option : tie.Need-slice-aggregate-accepted-option
-slice-aggregate-accepted-option c = search needs
-
 accepted-option-requires : tie.Need-accepted-option-requires
 accepted-option-requires c κs =
     let terms-on = c .before .before .terms-on in
@@ -54,7 +27,7 @@ accepted-option-requires c κs =
     let if1 = c .before .before .before .before .before .before .before .if1 in
     let terms-cause = c .before .before .before .before .before .before .terms-cause in
     let pair-cause = c .before .before .before .before .before .before .before .before .pair-cause in (
-      entry-accepted _ _ _ _ _ _ _ _ (pair-cause .ensures) (if1 .left),
+      entry-accepted _ (pair-cause .ensures) (if1 .left),
       exercisable _ _ _ _ _ _ _ _ (pair-cause .ensures) _ _ _ (if1 .left) _ _ _ (terms-cause .ensures) (dates-cause .ensures)
           (lowest-cause .ensures) (if2 .left) _ _ (terms-on .ensures) (c .before .marks-of .ensures),
     )
@@ -76,16 +49,16 @@ pub pair-dated-option-price-spec : {M : Type 1} → statement M
 pair-dated-option-price-spec =
     tie.close
     (tie.spec
-    pair-cause-requires
-    refused-requires
+    (λ c κs. search needs)
+    (λ c κs. search needs)
     returns
-    terms-cause-requires
-    dates-cause-requires
-    lowest-cause-requires
-    refused-requires-2
+    (λ c κs. search needs)
+    (λ c κs. search needs)
+    (λ c κs. search needs)
+    (λ c κs. search needs)
     returns-2
-    terms-on-requires
-    marks-of-requires
-    slice-aggregate-accepted-option
+    (λ c κs. search needs)
+    (λ c κs. search needs)
+    (λ c. search needs)
     accepted-option-requires
     returns-3)

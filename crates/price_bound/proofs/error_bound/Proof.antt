@@ -5,6 +5,7 @@ use Prim.Native.Nat.{_-_, _*_, _≤_}
 use native.Mathlib.Omega.{arith}
 use Rattle.arithmetic.specs.Row.{values}
 use Rattle.price_bound.proofs.BoundLaws.{bound-at, bound-first, bound-fits, bound-next}
+use borrow.Author.Needs.{needs}
 use Rattle.price_bound.proofs.error_bound.Statement.{statement}
 use Rattle.price_bound.proofs.error_bound.Tie as tie
 
@@ -25,9 +26,6 @@ fits c =
     let l = c .before .loop in
     bound-fits (s .args .steps) (s .args .t2) (s .pre) (l .row) (l .bound) (omega arith) (l .inv .0) (l .inv .1)
 
-sub-row : tie.Need-sub-row Inv-loop μ-loop
-sub-row c = omega arith
-
 mul-bound : tie.Need-mul-bound Inv-loop μ-loop
 mul-bound c = omega (arith, c .before .before .pre .steps-within-limit)
 
@@ -42,9 +40,6 @@ add-bound c = omega (arith, fits c)
 
 add-bound-2 : tie.Need-add-bound-2 Inv-loop μ-loop
 add-bound-2 c = omega (arith, fits c)
-
-loop-less : tie.Need-loop-less Inv-loop μ-loop
-loop-less c = omega arith
 
 loop-again : tie.Need-loop-again Inv-loop μ-loop
 loop-again c =
@@ -66,12 +61,13 @@ error-bound-spec =
     Inv-loop
     μ-loop
     loop-holds
-    sub-row
+    (λ c. omega arith)
     mul-bound
     array-read-bound
     mul-bound-2
+    (λ c. search needs)
     add-bound
     add-bound-2
-    loop-less
+    (λ c. omega arith)
     loop-again
     returns)

@@ -5,11 +5,8 @@ use borrow.Author.Needs.{needs}
 use Rattle.price_bound.proofs.price_error_bound.Statement.{statement}
 use Rattle.price_bound.proofs.price_error_bound.Tie as tie
 
-tree-bounds-requires : tie.Need-tree-bounds-requires
-tree-bounds-requires c κs = search needs
-
 returns : tie.Need-returns
 returns c = alone _ _ _ _ (c .tree-bounds .ensures)
 
 pub price-error-bound-spec : {M : Type 1} → statement M
-price-error-bound-spec = tie.close (tie.spec tree-bounds-requires returns)
+price-error-bound-spec = tie.close (tie.spec (λ c κs. search needs) returns)

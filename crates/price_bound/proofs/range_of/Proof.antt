@@ -1,6 +1,6 @@
 -- `price_bound::range_of` meets its contract.
 -- Assumes nothing.
-use mathlib.Core.Path.{_≡_}
+use mathlib.Core.Path.{_≡_, _∙_}
 use Prim.Native.Nat.{ℕ, _-_, _≤_}
 use native.Mathlib.Omega.{arith}
 use lib.ListN.{length}
@@ -19,27 +19,14 @@ abbrev μ-loop : tie.MeasureT-loop
 loop-holds : tie.Need-loop-holds Inv-loop μ-loop
 loop-holds c = (omega arith, ranged-start _)
 
-mul-discount : tie.Need-mul-discount Inv-loop μ-loop
-mul-discount c = omega arith
-
-shared-slice-read-discount : tie.Need-shared-slice-read-discount Inv-loop μ-loop
-shared-slice-read-discount c = omega arith
-
 returns : tie.Need-returns Inv-loop μ-loop
-returns c = (
-  zero-refused (now (c .before .before .before .before .before .args .discounts)) (c .before .before .before .loop .k)
-      (c .before .before .loop-test .taken) (c .if1 .taken),
-  λ e. let none : _≡_ {A = ℕ} 0 1 = cc in absurd (omega arith),
-)
-
-larger-requires : tie.Need-larger-requires Inv-loop μ-loop
-larger-requires c κs = search needs
-
-add-k : tie.Need-add-k Inv-loop μ-loop
-add-k c = omega arith
-
-loop-less : tie.Need-loop-less Inv-loop μ-loop
-loop-less c = omega arith
+returns c =
+    let c₁ = c .before .before .before in
+    let c₂ = c₁ .before in
+    let c₃ = c₂ .before .before in (
+      c .refused-row .ensures ∙ zero-refused (now (c₃ .args .discounts)) (c₂ .loop .k) (c₁ .loop-test .taken) (c .before .if1 .taken),
+      λ e. let refused = c .refused-row .ensures in let none : _≡_ {A = ℕ} 0 1 = cc in absurd (omega arith),
+    )
 
 loop-again : tie.Need-loop-again Inv-loop μ-loop
 loop-again c = (
@@ -61,11 +48,12 @@ range-of-spec =
     Inv-loop
     μ-loop
     loop-holds
-    mul-discount
-    shared-slice-read-discount
+    (λ c. omega arith)
+    (λ c. omega arith)
+    (λ c κs. search needs)
     returns
-    larger-requires
-    add-k
-    loop-less
+    (λ c κs. search needs)
+    (λ c. omega arith)
+    (λ c. omega arith)
     loop-again
     returns-2)

@@ -10,9 +10,6 @@ use borrow.Author.Needs.{needs}
 use Rattle.price_bound.proofs.row_range.Statement.{statement}
 use Rattle.price_bound.proofs.row_range.Tie as tie
 
-row-shape-requires : tie.Need-row-shape-requires
-row-shape-requires c κs = search needs
-
 -- the row's part is within the discounts
 room : (c : tie.After-struct-known) → c .before .row-shape .result .start + c .before .row-shape .result .count ≤ length
     (now (c .before .before .before .args .discounts))
@@ -24,17 +21,8 @@ add-end c = omega (arith, room c)
 mul-range-of : tie.Need-mul-range-of
 mul-range-of c = omega (arith, room c)
 
-sub-range-of : tie.Need-sub-range-of
-sub-range-of c = search needs
-
-part-range-of-start : tie.Need-part-range-of-start
-part-range-of-start c = search needs
-
 part-range-of-end : tie.Need-part-range-of-end
 part-range-of-end c = room c
-
-range-of-requires : tie.Need-range-of-requires
-range-of-requires c κs = search needs
 
 returns : tie.Need-returns
 returns c =
@@ -48,11 +36,11 @@ pub row-range-spec : {M : Type 1} → statement M
 row-range-spec =
     tie.close
     (tie.spec
-    row-shape-requires
+    (λ c κs. search needs)
     add-end
     mul-range-of
-    sub-range-of
-    part-range-of-start
+    (λ c. search needs)
+    (λ c. search needs)
     part-range-of-end
-    range-of-requires
+    (λ c κs. search needs)
     returns)

@@ -11,20 +11,11 @@ use borrow.Author.Tests.{not-true, not-false}
 use Rattle.price_bound.proofs.tree_bounds.Statement.{statement}
 use Rattle.price_bound.proofs.tree_bounds.Tie as tie
 
-room-cause-requires : tie.Need-room-cause-requires
-room-cause-requires c κs = search needs
-
-refused-bounds-requires : tie.Need-refused-bounds-requires
-refused-bounds-requires c κs = search needs
-
 returns : tie.Need-returns
 returns c = room-refused _ _ _ _ (c .before .before .room-cause .ensures) _ (c .before .if1 .taken) (c .refused-bounds .ensures)
 
 tree-range-requires : tie.Need-tree-range-requires
 tree-range-requires c κs = lent _ _ _ (sym (c .before .room-cause .ensures) ∙ c .if1 .left)
-
-refused-bounds-requires-2 : tie.Need-refused-bounds-requires-2
-refused-bounds-requires-2 c κs = search needs
 
 returns-2 : tie.Need-returns-2
 returns-2 c =
@@ -41,7 +32,9 @@ tree : (c : tie.Else2) → let a = c .before .before .before .before .before .be
 tree c = accepted _ _ _ (sym (none c))
 
 error-bound-requires : tie.Need-error-bound-requires
-error-bound-requires c κs = rows-bounded _ _ _ (tree (c .before)) _ (c .before .before .before .tree-range .ensures .1 (not-false _ (c .before .if2 .left)))
+error-bound-requires c κs =
+    let c₁ = c .before .before .before in
+    rows-bounded _ _ _ (tree (c .before)) _ (c₁ .tree-range .ensures .1 (not-false _ (c .before .if2 .left)))
 
 returns-3 : tie.Need-returns-3
 returns-3 c =
@@ -53,11 +46,11 @@ pub tree-bounds-spec : {M : Type 1} → statement M
 tree-bounds-spec =
     tie.close
     (tie.spec
-    room-cause-requires
-    refused-bounds-requires
+    (λ c κs. search needs)
+    (λ c κs. search needs)
     returns
     tree-range-requires
-    refused-bounds-requires-2
+    (λ c κs. search needs)
     returns-2
     error-bound-requires
     returns-3)

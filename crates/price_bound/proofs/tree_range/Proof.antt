@@ -26,9 +26,6 @@ Inv-loop steps reversion discounts rows₀ row₀ rows row =
 abbrev μ-loop : tie.MeasureT-loop
 μ-loop steps reversion discounts rows₀ row₀ rows row = steps - row
 
-no-rows-requires : tie.Need-no-rows-requires Inv-loop μ-loop
-no-rows-requires c κs = search needs
-
 loop-holds : tie.Need-loop-holds Inv-loop μ-loop
 loop-holds c = (omega arith, each-none _, rw (c .no-rows .ensures) (filled-start _ _))
 
@@ -36,23 +33,22 @@ row-range-requires : tie.Need-row-range-requires Inv-loop μ-loop
 row-range-requires c κs = (c .before .before .before .before .pre, omega arith)
 
 returns : tie.Need-returns Inv-loop μ-loop
-returns c = (
-  rows-refused _ _ _ (c .before .before .before .before .loop .row) _ (c .before .before .before .loop-test .taken)
-      (c .before .before .row-range .ensures .0) (not-true _ (c .if1 .taken)),
-  λ e. let none : _≡_ {A = ℕ} 0 1 = cc in absurd (omega arith),
-)
+returns c =
+    let c₁ = c .before .before .before in
+    let c₂ = c₁ .before in
+    let c₃ = c₂ .before in (
+      c .refused-tree .ensures ∙ rows-refused _ _ _ (c₃ .loop .row) _ (c₂ .loop-test .taken) (c₁ .row-range .ensures .0) (not-true _ (c .before .if1 .taken)),
+      λ e. let refused = c .refused-tree .ensures in let none : _≡_ {A = ℕ} 0 1 = cc in absurd (omega arith),
+    )
 
 mul-rows : tie.Need-mul-rows Inv-loop μ-loop
-mul-rows c = omega (arith, c .before .before .before .before .before .before .before .pre .steps-within-limit)
+mul-rows c = omega (arith, c .before .before .before .before .before .before .before .pre .limits .steps-within-limit)
 
 array-write-rows : tie.Need-array-write-rows Inv-loop μ-loop
-array-write-rows c = omega (arith, c .before .before .before .before .before .before .before .pre .steps-within-limit)
+array-write-rows c = omega (arith, c .before .before .before .before .before .before .before .pre .limits .steps-within-limit)
 
 add-row : tie.Need-add-row Inv-loop μ-loop
-add-row c = omega (arith, c .before .before .before .before .before .before .before .pre .steps-within-limit)
-
-loop-less : tie.Need-loop-less Inv-loop μ-loop
-loop-less c = omega arith
+add-row c = omega (arith, c .before .before .before .before .before .before .before .pre .limits .steps-within-limit)
 
 loop-again : tie.Need-loop-again Inv-loop μ-loop
 loop-again c =
@@ -61,7 +57,7 @@ loop-again c =
     let within = not-false _ (c .if1 .left) in (
       omega (arith, c .before .before .before .loop-test .taken),
       each-more _ _ (l .inv .1) (sym (ranged .ensures .0) ∙ within),
-      filled-next _ _ _ _ _ (l .inv .2) (omega (arith, c .before .before .before .before .before .before .before .pre .steps-within-limit))
+      filled-next (l .inv .2) (omega (arith, c .before .before .before .before .before .before .before .pre .limits .steps-within-limit))
           (ranged .ensures .1 within),
     )
 
@@ -77,13 +73,14 @@ tree-range-spec =
     (tie.spec
     Inv-loop
     μ-loop
-    no-rows-requires
+    (λ c κs. search needs)
     loop-holds
     row-range-requires
+    (λ c κs. search needs)
     returns
     mul-rows
     array-write-rows
     add-row
-    loop-less
+    (λ c. omega arith)
     loop-again
     returns-2)

@@ -7,25 +7,16 @@ use borrow.Author.Needs.{needs}
 use Rattle.pricing.proofs.accepted_bond.Statement.{statement}
 use Rattle.pricing.proofs.accepted_bond.Tie as tie
 
-node-count-requires : tie.Need-node-count-requires
-node-count-requires c κs = search needs
-
-table-of-requires : tie.Need-table-of-requires
-table-of-requires c κs = search needs
-
-empty-row-requires : tie.Need-empty-row-requires
-empty-row-requires c κs = search needs
-
 array-share-prefix-table : tie.Need-array-share-prefix-table
 array-share-prefix-table c =
-    let tree = c .before .before .before .before .before .pre .0 in
-    prefix-room _ _ (tree .steps-within-limit) (tree .reversion-within-limit) _ _ (c .before .before .node-count .ensures) (c .before .table-of .ensures)
+    let within = c .before .before .before .before .before .pre .0 .limits in
+    prefix-room _ _ (within .steps-within-limit) (within .reversion-within-limit) _ _ (c .before .before .node-count .ensures) (c .before .table-of .ensures)
 
 slice-aggregate-roll-bond : tie.Need-slice-aggregate-roll-bond
 slice-aggregate-roll-bond c =
     let s = c .before .before .before .before .before .before in
-    let few = s .pre .0 .steps-within-limit in
-    let low = s .pre .0 .reversion-within-limit in
+    let few = s .pre .0 .limits .steps-within-limit in
+    let low = s .pre .0 .limits .reversion-within-limit in
     prefix-length _ _ (prefix-room _ _ few low _ _ (c .before .before .before .node-count .ensures) (c .before .before .table-of .ensures))
 
 roll-bond-requires : tie.Need-roll-bond-requires
@@ -37,34 +28,28 @@ roll-bond-requires c κs =
       record {
         tree = s .pre .0;
         paid = s .pre .1;
-        table = prefix-is _ _ (s .pre .0 .steps-within-limit) (s .pre .0 .reversion-within-limit) _ _ (node-count .ensures) (table-of .ensures);
+        table = prefix-is _ _ (s .pre .0 .limits .steps-within-limit) (s .pre .0 .limits .reversion-within-limit) _ _ (node-count .ensures) (table-of .ensures);
       },
       omega arith,
     )
 
-refused-requires : tie.Need-refused-requires
-refused-requires c κs = search needs
-
 returns : tie.Need-returns
-returns c = c .refused .ensures ∙ bond-refused _ _ _ _ _ _ _ (c .before .before .roll-bond .ensures) (c .before .if1 .taken)
-
-array-read-t17 : tie.Need-array-read-t17
-array-read-t17 c = search needs
+returns c = c .refused .ensures ∙ bond-refused _ (c .before .before .roll-bond .ensures) (c .before .if1 .taken)
 
 returns-2 : tie.Need-returns-2
-returns-2 c = bond-given _ _ _ _ _ _ _ (c .before .roll-bond .ensures) (c .if1 .left)
+returns-2 c = bond-given _ (c .before .roll-bond .ensures) (c .if1 .left)
 
 pub accepted-bond-spec : {M : Type 1} → statement M
 accepted-bond-spec =
     tie.close
     (tie.spec
-    node-count-requires
-    table-of-requires
-    empty-row-requires
+    (λ c κs. search needs)
+    (λ c κs. search needs)
+    (λ c κs. search needs)
     array-share-prefix-table
     slice-aggregate-roll-bond
     roll-bond-requires
-    refused-requires
+    (λ c κs. search needs)
     returns
-    array-read-t17
+    (λ c. search needs)
     returns-2)

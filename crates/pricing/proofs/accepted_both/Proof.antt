@@ -6,12 +6,6 @@ use borrow.Author.Needs.{needs}
 use Rattle.pricing.proofs.accepted_both.Statement.{statement}
 use Rattle.pricing.proofs.accepted_both.Tie as tie
 
-node-count-requires : tie.Need-node-count-requires
-node-count-requires c κs = search needs
-
-table-of-requires : tie.Need-table-of-requires
-table-of-requires c κs = search needs
-
 -- where the table is worked out
 abbrev start : tie.After-table-of → tie.Start
 start c = c .before .before .before .before .before
@@ -19,13 +13,14 @@ start c = c .before .before .before .before .before
 array-share-prefix-table : tie.Need-array-share-prefix-table
 array-share-prefix-table c =
     let tree = start c .pre .0 in
-    prefix-room _ _ (tree .steps-within-limit) (tree .reversion-within-limit) _ _ (c .before .node-count .ensures) (c .table-of .ensures)
+    prefix-room _ _ (tree .limits .steps-within-limit) (tree .limits .reversion-within-limit) _ _ (c .before .node-count .ensures) (c .table-of .ensures)
 
 slice-aggregate-roll-both : tie.Need-slice-aggregate-roll-both
 slice-aggregate-roll-both c =
     let made = c .before in
-    let tree = start made .pre .0 in
-    let room = prefix-room _ _ (tree .steps-within-limit) (tree .reversion-within-limit) _ _ (made .before .node-count .ensures) (made .table-of .ensures) in
+    let within = start made .pre .0 .limits in
+    let room =
+    prefix-room _ _ (within .steps-within-limit) (within .reversion-within-limit) _ _ (made .before .node-count .ensures) (made .table-of .ensures) in
     prefix-length _ _ room
 
 roll-both-requires : tie.Need-roll-both-requires
@@ -36,39 +31,35 @@ roll-both-requires c κs =
       record {
         tree = tree;
         paid = s .pre .1;
-        table = prefix-is _ _ (tree .steps-within-limit) (tree .reversion-within-limit) _ _ (made .before .node-count .ensures) (made .table-of .ensures);
+        table =
+            prefix-is _ _ (tree .limits .steps-within-limit) (tree .limits .reversion-within-limit) _ _ (made .before .node-count .ensures)
+            (made .table-of .ensures);
       },
       s .pre .2,
     )
-
-accepted-bond-requires : tie.Need-accepted-bond-requires
-accepted-bond-requires c κs = search needs
-
-refused-requires : tie.Need-refused-requires
-refused-requires c κs = search needs
 
 returns : tie.Need-returns
 returns c =
     let over = c .before .before in (
       c .before .accepted-bond .ensures,
-      c .refused .ensures ∙ option-refused _ _ _ _ _ _ _ _ _ (over .before .before .roll-both .ensures) (over .if1 .taken),
+      c .refused .ensures ∙ option-refused _ (over .before .before .roll-both .ensures) (over .if1 .taken),
     )
 
 returns-2 : tie.Need-returns-2
 returns-2 c =
     let rolled = c .before .before .roll-both .ensures in
-    (beside-given _ _ _ _ _ _ _ _ _ rolled (c .if1 .left), option-given _ _ _ _ _ _ _ _ _ rolled (c .if1 .left))
+    (beside-given _ rolled (c .if1 .left), option-given _ rolled (c .if1 .left))
 
 pub accepted-both-spec : {M : Type 1} → statement M
 accepted-both-spec =
     tie.close
     (tie.spec
-    node-count-requires
-    table-of-requires
+    (λ c κs. search needs)
+    (λ c κs. search needs)
     array-share-prefix-table
     slice-aggregate-roll-both
     roll-both-requires
-    accepted-bond-requires
-    refused-requires
+    (λ c κs. search needs)
+    (λ c κs. search needs)
     returns
     returns-2)

@@ -16,19 +16,16 @@ use Rattle.pricing.proofs.accepted_strip.Tie as tie
 tree : (s : tie.Start) → Accepted (s .args .tree .steps) (s .args .tree .reversion) (now (s .args .discounts))
 tree s = tree-lent _ _ _ _ (s .pre .0)
 
-node-count-requires : tie.Need-node-count-requires
-node-count-requires c κs = search needs
-
 table-of-requires : tie.Need-table-of-requires
 table-of-requires c κs =
     let t = tree (c .before .before .before .before .before) in
-    (t .steps-within-limit, t .reversion-within-limit)
+    (t .limits .steps-within-limit, t .limits .reversion-within-limit)
 
 -- the table that is lent on
 room : (c : tie.After-table-of) → c .before .node-count .result .value ≤ length (c .table-of .result)
 room c =
     let t = tree (c .before .before .before .before .before .before) in
-    prefix-room _ _ (t .steps-within-limit) (t .reversion-within-limit) _ _ (c .before .node-count .ensures) (c .table-of .ensures)
+    prefix-room _ _ (t .limits .steps-within-limit) (t .limits .reversion-within-limit) _ _ (c .before .node-count .ensures) (c .table-of .ensures)
 
 ready : (c : tie.After-table-of) → let a = c .before .before .before .before .before .before .args in
     Ready (a .tree .steps) (a .tree .reversion) (take (c .before .node-count .result .value) (c .table-of .result)) (now (a .discounts)) (now (a .flows))
@@ -37,11 +34,8 @@ ready c =
     record {
       tree = t;
       paid = tree-paid _ _ _ _ (c .before .before .before .before .before .before .pre .0);
-      table = prefix-is _ _ (t .steps-within-limit) (t .reversion-within-limit) _ _ (c .before .node-count .ensures) (c .table-of .ensures);
+      table = prefix-is _ _ (t .limits .steps-within-limit) (t .limits .reversion-within-limit) _ _ (c .before .node-count .ensures) (c .table-of .ensures);
     }
-
-empty-rows-requires : tie.Need-empty-rows-requires
-empty-rows-requires c κs = search needs
 
 array-share-prefix-table : tie.Need-array-share-prefix-table
 array-share-prefix-table c = room (c .before)
@@ -49,29 +43,14 @@ array-share-prefix-table c = room (c .before)
 slice-aggregate-keep-bond : tie.Need-slice-aggregate-keep-bond
 slice-aggregate-keep-bond c = prefix-length _ _ (room (c .before .before))
 
-slice-aggregate-keep-bond-2 : tie.Need-slice-aggregate-keep-bond-2
-slice-aggregate-keep-bond-2 c = search needs
-
 keep-bond-requires : tie.Need-keep-bond-requires
-keep-bond-requires c κs = (ready (c .before .before .before), omega (arith, c .before .before .empty-rows .ensures))
-
-marks-of-requires : tie.Need-marks-of-requires
-marks-of-requires c κs = search needs
-
-dates-cause-requires : tie.Need-dates-cause-requires
-dates-cause-requires c κs = search needs
-
-slice-aggregate-strike-prices : tie.Need-slice-aggregate-strike-prices
-slice-aggregate-strike-prices c = search needs
+keep-bond-requires c κs = (ready (c .before .before .before), omega (arith, c .before .before .discount-room .ensures))
 
 array-share-prefix-table-2 : tie.Need-array-share-prefix-table-2
 array-share-prefix-table-2 c = room (c .before .before .before .before .before .before .before .before)
 
 slice-aggregate-strike-prices-2 : tie.Need-slice-aggregate-strike-prices-2
 slice-aggregate-strike-prices-2 c = prefix-length _ _ (room (c .before .before .before .before .before .before .before .before .before))
-
-slice-aggregate-strike-prices-3 : tie.Need-slice-aggregate-strike-prices-3
-slice-aggregate-strike-prices-3 c = search needs
 
 strike-prices-requires : tie.Need-strike-prices-requires
 strike-prices-requires c κs =
@@ -82,30 +61,27 @@ strike-prices-requires c κs =
         list-is = c .before .before .before .dates-cause .ensures;
         marks-are = c .before .before .before .before .marks-of .ensures;
         bond-is = c .before .before .before .before .before .before .keep-bond .ensures;
-        room = omega (arith, kept .keep-bond .kept .1 .1 .1 .1 .0, kept .before .before .before .empty-rows .ensures);
+        room = omega (arith, kept .keep-bond .kept .1 .1 .1 .1 .0, kept .before .before .before .discount-room .ensures);
       },
       c .before .before .before .before .before .before .before .before .before .before .before .before .before .before .before .before .pre .1,
     )
-
-returns : tie.Need-returns
-returns c = search needs
 
 pub accepted-strip-spec : {M : Type 1} → statement M
 accepted-strip-spec =
     tie.close
     (tie.spec
-    node-count-requires
+    (λ c κs. search needs)
     table-of-requires
-    empty-rows-requires
+    (λ c κs. search needs)
     array-share-prefix-table
     slice-aggregate-keep-bond
-    slice-aggregate-keep-bond-2
+    (λ c. search needs)
     keep-bond-requires
-    marks-of-requires
-    dates-cause-requires
-    slice-aggregate-strike-prices
+    (λ c κs. search needs)
+    (λ c κs. search needs)
+    (λ c. search needs)
     array-share-prefix-table-2
     slice-aggregate-strike-prices-2
-    slice-aggregate-strike-prices-3
+    (λ c. search needs)
     strike-prices-requires
-    returns)
+    (λ c. search needs))

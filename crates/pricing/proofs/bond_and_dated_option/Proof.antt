@@ -6,14 +6,11 @@ use borrow.Author.Needs.{needs}
 use Rattle.pricing.proofs.bond_and_dated_option.Statement.{statement}
 use Rattle.pricing.proofs.bond_and_dated_option.Tie as tie
 
-tree-bound-requires : tie.Need-tree-bound-requires
-tree-bound-requires c κs = search needs
-
 both-on-dates-requires : tie.Need-both-on-dates-requires
 both-on-dates-requires c κs = c .tree-bound .ensures .cause-is
 
 returns : tie.Need-returns
-returns c = c .both-on-dates .ensures ∙ dates-whole _ _ _ _ _ (c .before .tree-bound .ensures .bound-is) _ _ _
+returns c = c .both-on-dates .ensures ∙ dates-whole _ _ _ _ (c .before .tree-bound .ensures .bound-is) _ _ _
 
 pub bond-and-dated-option-spec : {M : Type 1} → statement M
-bond-and-dated-option-spec = tie.close (tie.spec tree-bound-requires both-on-dates-requires returns)
+bond-and-dated-option-spec = tie.close (tie.spec (λ c κs. search needs) both-on-dates-requires returns)

@@ -7,17 +7,11 @@ use borrow.Author.Needs.{needs}
 use Rattle.pricing.proofs.bond_and_dated_option_values.Statement.{statement}
 use Rattle.pricing.proofs.bond_and_dated_option_values.Tie as tie
 
-tree-cause-requires : tie.Need-tree-cause-requires
-tree-cause-requires c κs = search needs
-
 both-on-dates-requires : tie.Need-both-on-dates-requires
 both-on-dates-requires c κs = c .tree-cause .ensures
-
-values-of-requires : tie.Need-values-of-requires
-values-of-requires c κs = search needs
 
 returns : tie.Need-returns
 returns c = c .values-of .ensures ∙ ap bothValues (c .before .both-on-dates .ensures) ∙ dates-values-again _ _ _ _ _ _ _ _
 
 pub bond-and-dated-option-values-spec : {M : Type 1} → statement M
-bond-and-dated-option-values-spec = tie.close (tie.spec tree-cause-requires both-on-dates-requires values-of-requires returns)
+bond-and-dated-option-values-spec = tie.close (tie.spec (λ c κs. search needs) both-on-dates-requires (λ c κs. search needs) returns)

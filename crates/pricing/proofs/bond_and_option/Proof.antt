@@ -6,14 +6,11 @@ use borrow.Author.Needs.{needs}
 use Rattle.pricing.proofs.bond_and_option.Statement.{statement}
 use Rattle.pricing.proofs.bond_and_option.Tie as tie
 
-tree-bound-requires : tie.Need-tree-bound-requires
-tree-bound-requires c κs = search needs
-
 both-of-kind-requires : tie.Need-both-of-kind-requires
 both-of-kind-requires c κs = c .tree-bound .ensures .cause-is
 
 returns : tie.Need-returns
-returns c = c .both-of-kind .ensures ∙ kind-whole _ _ _ _ _ (c .before .tree-bound .ensures .bound-is) _ _ _
+returns c = c .both-of-kind .ensures ∙ kind-whole _ _ _ _ (c .before .tree-bound .ensures .bound-is) _ _ _
 
 pub bond-and-option-spec : {M : Type 1} → statement M
-bond-and-option-spec = tie.close (tie.spec tree-bound-requires both-of-kind-requires returns)
+bond-and-option-spec = tie.close (tie.spec (λ c κs. search needs) both-of-kind-requires returns)

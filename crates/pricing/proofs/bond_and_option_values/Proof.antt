@@ -7,17 +7,11 @@ use borrow.Author.Needs.{needs}
 use Rattle.pricing.proofs.bond_and_option_values.Statement.{statement}
 use Rattle.pricing.proofs.bond_and_option_values.Tie as tie
 
-tree-cause-requires : tie.Need-tree-cause-requires
-tree-cause-requires c κs = search needs
-
 both-of-kind-requires : tie.Need-both-of-kind-requires
 both-of-kind-requires c κs = c .tree-cause .ensures
-
-values-of-requires : tie.Need-values-of-requires
-values-of-requires c κs = search needs
 
 returns : tie.Need-returns
 returns c = c .values-of .ensures ∙ ap bothValues (c .before .both-of-kind .ensures) ∙ kind-values-again _ _ _ _ _ _ _ _
 
 pub bond-and-option-values-spec : {M : Type 1} → statement M
-bond-and-option-values-spec = tie.close (tie.spec tree-cause-requires both-of-kind-requires values-of-requires returns)
+bond-and-option-values-spec = tie.close (tie.spec (λ c κs. search needs) both-of-kind-requires (λ c κs. search needs) returns)

@@ -6,14 +6,11 @@ use borrow.Author.Needs.{needs}
 use Rattle.pricing.proofs.bond_price.Statement.{statement}
 use Rattle.pricing.proofs.bond_price.Tie as tie
 
-tree-bound-requires : tie.Need-tree-bound-requires
-tree-bound-requires c κs = search needs
-
 judged-bond-requires : tie.Need-judged-bond-requires
 judged-bond-requires c κs = c .tree-bound .ensures .cause-is
 
 returns : tie.Need-returns
-returns c = c .judged-bond .ensures ∙ bond-whole _ _ _ _ _ (c .before .tree-bound .ensures .bound-is)
+returns c = c .judged-bond .ensures ∙ bond-whole _ _ _ _ (c .before .tree-bound .ensures .bound-is)
 
 pub bond-price-spec : {M : Type 1} → statement M
-bond-price-spec = tie.close (tie.spec tree-bound-requires judged-bond-requires returns)
+bond-price-spec = tie.close (tie.spec (λ c κs. search needs) judged-bond-requires returns)

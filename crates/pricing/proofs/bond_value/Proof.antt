@@ -7,17 +7,11 @@ use borrow.Author.Needs.{needs}
 use Rattle.pricing.proofs.bond_value.Statement.{statement}
 use Rattle.pricing.proofs.bond_value.Tie as tie
 
-tree-cause-requires : tie.Need-tree-cause-requires
-tree-cause-requires c κs = search needs
-
 judged-bond-requires : tie.Need-judged-bond-requires
 judged-bond-requires c κs = c .tree-cause .ensures
-
-value-of-requires : tie.Need-value-of-requires
-value-of-requires c κs = search needs
 
 returns : tie.Need-returns
 returns c = c .value-of .ensures ∙ ap valueAlone (c .before .judged-bond .ensures) ∙ bond-value-again _ _ _ _ _
 
 pub bond-value-spec : {M : Type 1} → statement M
-bond-value-spec = tie.close (tie.spec tree-cause-requires judged-bond-requires value-of-requires returns)
+bond-value-spec = tie.close (tie.spec (λ c κs. search needs) judged-bond-requires (λ c κs. search needs) returns)

@@ -7,15 +7,6 @@ use borrow.Author.Needs.{needs}
 use Rattle.pricing.proofs.both_of_kind.Statement.{statement}
 use Rattle.pricing.proofs.both_of_kind.Tie as tie
 
-option-cause-requires : tie.Need-option-cause-requires
-option-cause-requires c κs = search needs
-
-terms-of-requires : tie.Need-terms-of-requires
-terms-of-requires c κs = search needs
-
-dates-of-kind-requires : tie.Need-dates-of-kind-requires
-dates-of-kind-requires c κs = search needs
-
 array-share-prefix-rows : tie.Need-array-share-prefix-rows
 array-share-prefix-rows c = list-room _ _ _ (c .before .dates-of-kind .ensures)
 
@@ -27,7 +18,7 @@ judged-both-requires c κs =
     let listed = c .before .before in
     let termed = listed .before in (
       termed .before .before .before .before .pre,
-      kind-exercised _ _ _ _ _ (termed .before .option-cause .ensures) _ (termed .terms-of .ensures) _ (listed .dates-of-kind .ensures),
+      kind-exercised _ _ _ _ (termed .before .option-cause .ensures) _ (termed .terms-of .ensures) _ (listed .dates-of-kind .ensures),
     )
 
 returns : tie.Need-returns
@@ -35,15 +26,15 @@ returns c =
     let listed = c .before .before .before in
     let termed = listed .before in
     let both = c .judged-both .ensures in
-    kind-both _ _ _ _ _ (termed .before .option-cause .ensures) _ (termed .terms-of .ensures) _ (listed .dates-of-kind .ensures) _ _ _ _ _ (both .0) (both .1)
+    kind-both _ _ _ _ (termed .before .option-cause .ensures) _ (termed .terms-of .ensures) _ (listed .dates-of-kind .ensures) _ _ _ _ (both .0) (both .1)
 
 pub both-of-kind-spec : {M : Type 1} → statement M
 both-of-kind-spec =
     tie.close
     (tie.spec
-    option-cause-requires
-    terms-of-requires
-    dates-of-kind-requires
+    (λ c κs. search needs)
+    (λ c κs. search needs)
+    (λ c κs. search needs)
     array-share-prefix-rows
     slice-aggregate-judged-both
     judged-both-requires

@@ -9,41 +9,29 @@ use borrow.Author.Needs.{needs}
 use Rattle.pricing.proofs.both_on_dates.Statement.{statement}
 use Rattle.pricing.proofs.both_on_dates.Tie as tie
 
-terms-cause-requires : tie.Need-terms-cause-requires
-terms-cause-requires c κs = search needs
-
-dates-cause-requires : tie.Need-dates-cause-requires
-dates-cause-requires c κs = search needs
-
-lowest-cause-requires : tie.Need-lowest-cause-requires
-lowest-cause-requires c κs = search needs
-
-terms-on-requires : tie.Need-terms-on-requires
-terms-on-requires c κs = search needs
-
 -- where the option's cause is known
 abbrev start : tie.After-lowest-cause → tie.Start
 start c = c .before .before .before .before .before .before
 
 cause : (c : tie.After-lowest-cause) → let a = start c .args in c .lowest-cause .result ≡ datedCause (a .tree .steps) (a .side) (now (a .dates)) (a .strike)
-cause c = dated-cause-is _ _ _ _ _ _ _ (c .before .before .terms-cause .ensures) (c .before .dates-cause .ensures) (c .lowest-cause .ensures)
+cause c = dated-cause-is _ _ _ _ (c .before .before .terms-cause .ensures) (c .before .dates-cause .ensures) (c .lowest-cause .ensures)
 
 judged-both-requires : tie.Need-judged-both-requires
-judged-both-requires c κs = (start (c .before) .pre, dated-exercised _ _ _ _ _ (cause (c .before)) _ (c .terms-on .ensures))
+judged-both-requires c κs = (start (c .before) .pre, dated-exercised _ _ (cause (c .before)) _ (c .terms-on .ensures))
 
 returns : tie.Need-returns
 returns c =
     let termed = c .before in
     let both = c .judged-both .ensures in
-    dates-both _ _ _ _ _ (cause (termed .before)) _ (termed .terms-on .ensures) _ _ _ _ _ (both .0) (both .1)
+    dates-both _ _ _ _ (cause (termed .before)) _ (termed .terms-on .ensures) _ _ _ _ (both .0) (both .1)
 
 pub both-on-dates-spec : {M : Type 1} → statement M
 both-on-dates-spec =
     tie.close
     (tie.spec
-    terms-cause-requires
-    dates-cause-requires
-    lowest-cause-requires
-    terms-on-requires
+    (λ c κs. search needs)
+    (λ c κs. search needs)
+    (λ c κs. search needs)
+    (λ c κs. search needs)
     judged-both-requires
     returns)

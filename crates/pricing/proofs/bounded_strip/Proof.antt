@@ -9,12 +9,6 @@ use borrow.Author.Needs.{needs}
 use Rattle.pricing.proofs.bounded_strip.Statement.{statement}
 use Rattle.pricing.proofs.bounded_strip.Tie as tie
 
-known-bound-requires : tie.Need-known-bound-requires
-known-bound-requires c κs = search needs
-
-judged-strip-requires : tie.Need-judged-strip-requires
-judged-strip-requires c κs = search needs
-
 returns : tie.Need-returns
 returns c =
     let a = c .before .before .before .before .before .before .args in
@@ -24,4 +18,4 @@ returns c =
     (c .before .known-bound .ensures .1)
 
 pub bounded-strip-spec : {M : Type 1} → statement M
-bounded-strip-spec = tie.close (tie.spec known-bound-requires judged-strip-requires returns)
+bounded-strip-spec = tie.close (tie.spec (λ c κs. search needs) (λ c κs. search needs) returns)

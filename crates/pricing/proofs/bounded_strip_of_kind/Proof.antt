@@ -9,12 +9,6 @@ use borrow.Author.Needs.{needs}
 use Rattle.pricing.proofs.bounded_strip_of_kind.Statement.{statement}
 use Rattle.pricing.proofs.bounded_strip_of_kind.Tie as tie
 
-known-bound-requires : tie.Need-known-bound-requires
-known-bound-requires c κs = search needs
-
-strip-of-kind-requires : tie.Need-strip-of-kind-requires
-strip-of-kind-requires c κs = search needs
-
 returns : tie.Need-returns
 returns c =
     let a = c .before .before .before .before .before .args in
@@ -24,4 +18,4 @@ returns c =
     (c .before .known-bound .ensures .1)
 
 pub bounded-strip-of-kind-spec : {M : Type 1} → statement M
-bounded-strip-of-kind-spec = tie.close (tie.spec known-bound-requires strip-of-kind-requires returns)
+bounded-strip-of-kind-spec = tie.close (tie.spec (λ c κs. search needs) (λ c κs. search needs) returns)

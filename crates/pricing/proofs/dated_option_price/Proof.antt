@@ -6,11 +6,8 @@ use borrow.Author.Needs.{needs}
 use Rattle.pricing.proofs.dated_option_price.Statement.{statement}
 use Rattle.pricing.proofs.dated_option_price.Tie as tie
 
-bond-and-dated-option-requires : tie.Need-bond-and-dated-option-requires
-bond-and-dated-option-requires c κs = search needs
-
 returns : tie.Need-returns
 returns c = ap (λ (r : BondAndOption). r .option) (c .before .bond-and-dated-option .ensures)
 
 pub dated-option-price-spec : {M : Type 1} → statement M
-dated-option-price-spec = tie.close (tie.spec bond-and-dated-option-requires returns)
+dated-option-price-spec = tie.close (tie.spec (λ c κs. search needs) returns)

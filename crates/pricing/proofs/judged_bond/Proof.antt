@@ -7,9 +7,6 @@ use borrow.Author.Needs.{needs}
 use Rattle.pricing.proofs.judged_bond.Statement.{statement}
 use Rattle.pricing.proofs.judged_bond.Tie as tie
 
-refused-requires : tie.Need-refused-requires
-refused-requires c κs = search needs
-
 returns : tie.Need-returns
 returns c = c .refused .ensures ∙ bond-refused _ _ _ _ _ _ (c .before .before .before .before .before .pre) (c .before .if1 .taken)
 
@@ -22,4 +19,4 @@ returns-2 : tie.Need-returns-2
 returns-2 c = bond-passed _ _ _ _ _ (sym (c .before .before .before .before .before .pre) ∙ c .before .if1 .left) _ (c .accepted-bond .ensures)
 
 pub judged-bond-spec : {M : Type 1} → statement M
-judged-bond-spec = tie.close (tie.spec refused-requires returns accepted-bond-requires returns-2)
+judged-bond-spec = tie.close (tie.spec (λ c κs. search needs) returns accepted-bond-requires returns-2)

@@ -14,12 +14,6 @@ use borrow.Author.Needs.{needs}
 use Rattle.pricing.proofs.judged_both.Statement.{statement}
 use Rattle.pricing.proofs.judged_both.Tie as tie
 
-refused-requires : tie.Need-refused-requires
-refused-requires c κs = search needs
-
-refused-requires-2 : tie.Need-refused-requires-2
-refused-requires-2 c κs = search needs
-
 returns : tie.Need-returns
 returns c =
     let refusing = c .before .before in
@@ -41,9 +35,6 @@ tree c = tree-lent _ _ _ _ (none c)
 accepted-bond-requires : tie.Need-accepted-bond-requires
 accepted-bond-requires c κs = (tree (c .before), tree-paid _ _ _ _ (none (c .before)))
 
-refused-requires-3 : tie.Need-refused-requires-3
-refused-requires-3 c κs = search needs
-
 returns-2 : tie.Need-returns-2
 returns-2 c =
     let refusing = c .before .before in (
@@ -53,20 +44,14 @@ returns-2 c =
 
 -- where there is no cause about the option either
 exercised : (c : tie.Else2) → let a = start (c .before) .args in ExercisedOn (a .terms) (a .tree .steps) (now (a .dates))
-exercised c = start (c .before) .pre .1 (c .if2 .left) (tree (c .before) .steps-within-limit)
-
-marks-of-requires : tie.Need-marks-of-requires
-marks-of-requires c κs = search needs
-
-slice-aggregate-accepted-both : tie.Need-slice-aggregate-accepted-both
-slice-aggregate-accepted-both c = search needs
+exercised c = start (c .before) .pre .1 (c .if2 .left) (tree (c .before) .limits .steps-within-limit)
 
 accepted-both-requires : tie.Need-accepted-both-requires
 accepted-both-requires c κs =
     let marked = c .before in
     let on = exercised (marked .before) in
     let on-tree = tree (marked .before .before) in
-    let few = on-tree .steps-within-limit in
+    let few = on-tree .limits .steps-within-limit in
     (on-tree, tree-paid _ _ _ _ (none (marked .before .before)), marks-exercisable _ _ _ _ on few (marked .marks-of .ensures))
 
 returns-3 : tie.Need-returns-3
@@ -74,7 +59,7 @@ returns-3 c =
     let marked = c .before .before in
     let on = exercised (marked .before) in
     let on-tree = marked .before .before in
-    let few = tree on-tree .steps-within-limit in (
+    let few = tree on-tree .limits .steps-within-limit in (
       answers.bond-passed _ _ _ _ _ (none on-tree) _ (c .accepted-both .ensures .0),
       answers.option-passed _ _ _ _ _ _ _ _ _ (none on-tree) (marked .before .if2 .left) _
           (marked-price _ _ _ _ _ _ _ _ _ _ _ (omega (arith, on .before-end)) (on .last-listed) (marked .marks-of .ensures)
@@ -85,13 +70,13 @@ pub judged-both-spec : {M : Type 1} → statement M
 judged-both-spec =
     tie.close
     (tie.spec
-    refused-requires
-    refused-requires-2
+    (λ c κs. search needs)
+    (λ c κs. search needs)
     returns
     accepted-bond-requires
-    refused-requires-3
+    (λ c κs. search needs)
     returns-2
-    marks-of-requires
-    slice-aggregate-accepted-both
+    (λ c κs. search needs)
+    (λ c. search needs)
     accepted-both-requires
     returns-3)

@@ -7,14 +7,8 @@ use borrow.Author.Needs.{needs}
 use Rattle.pricing.proofs.judged_strip.Statement.{statement}
 use Rattle.pricing.proofs.judged_strip.Tie as tie
 
-strip-cause-requires : tie.Need-strip-cause-requires
-strip-cause-requires c κs = search needs
-
-refused-strip-requires : tie.Need-refused-strip-requires
-refused-strip-requires c κs = search needs
-
 returns : tie.Need-returns
-returns c = c .refused-strip .ensures ∙ strip-refused _ _ _ _ _ (c .before .before .strip-cause .ensures) (c .before .if1 .taken)
+returns c = c .refused-strip .ensures ∙ strip-refused _ _ _ _ (c .before .before .strip-cause .ensures) (c .before .if1 .taken)
 
 refused-prices-requires : tie.Need-refused-prices-requires
 refused-prices-requires c κs = strip-few _ _ _ (sym (c .before .before .before .strip-cause .ensures) ∙ c .before .before .if1 .left)
@@ -23,7 +17,7 @@ returns-2 : tie.Need-returns-2
 returns-2 c =
     let s = c .before .before .before .before .before .before .before .before .before in
     let a = s .args in
-    strip-given _ _ _ _ _ (sym (c .before .before .before .before .strip-cause .ensures) ∙ c .before .before .before .if1 .left)
+    strip-given _ _ _ _ (sym (c .before .before .before .before .strip-cause .ensures) ∙ c .before .before .before .if1 .left)
     (c .refused-prices .ensures
     ∙ tree-refuses _ _ _ _ (now (a .strikes)) (a .bound .value) (a .side) (now (a .dates)) _ (s .pre) (c .before .if2 .taken))
 
@@ -35,14 +29,14 @@ accepted-strip-requires c κs = (
 
 returns-3 : tie.Need-returns-3
 returns-3 c =
-    strip-given _ _ _ _ _ (sym (c .before .before .before .before .strip-cause .ensures) ∙ c .before .before .before .if1 .left) (c .accepted-strip .ensures)
+    strip-given _ _ _ _ (sym (c .before .before .before .before .strip-cause .ensures) ∙ c .before .before .before .if1 .left) (c .accepted-strip .ensures)
 
 pub judged-strip-spec : {M : Type 1} → statement M
 judged-strip-spec =
     tie.close
     (tie.spec
-    strip-cause-requires
-    refused-strip-requires
+    (λ c κs. search needs)
+    (λ c κs. search needs)
     returns
     refused-prices-requires
     returns-2

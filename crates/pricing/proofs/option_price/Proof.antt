@@ -6,11 +6,8 @@ use borrow.Author.Needs.{needs}
 use Rattle.pricing.proofs.option_price.Statement.{statement}
 use Rattle.pricing.proofs.option_price.Tie as tie
 
-bond-and-option-requires : tie.Need-bond-and-option-requires
-bond-and-option-requires c κs = search needs
-
 returns : tie.Need-returns
 returns c = ap (λ (r : BondAndOption). r .option) (c .before .bond-and-option .ensures)
 
 pub option-price-spec : {M : Type 1} → statement M
-option-price-spec = tie.close (tie.spec bond-and-option-requires returns)
+option-price-spec = tie.close (tie.spec (λ c κs. search needs) returns)

@@ -7,16 +7,10 @@ use borrow.Author.Needs.{needs}
 use Rattle.pricing.proofs.option_strip.Statement.{statement}
 use Rattle.pricing.proofs.option_strip.Tie as tie
 
-tree-bound-requires : tie.Need-tree-bound-requires
-tree-bound-requires c κs = search needs
-
-judged-strip-requires : tie.Need-judged-strip-requires
-judged-strip-requires c κs = search needs
-
 returns : tie.Need-returns
 returns c =
     let a = c .before .before .before .before .before .before .args in
     c .judged-strip .ensures ∙ strip-whole _ _ _ _ (now (a .strikes)) _ (a .side) (now (a .dates)) (c .before .tree-bound .ensures .bound-is)
 
 pub option-strip-spec : {M : Type 1} → statement M
-option-strip-spec = tie.close (tie.spec tree-bound-requires judged-strip-requires returns)
+option-strip-spec = tie.close (tie.spec (λ c κs. search needs) (λ c κs. search needs) returns)

@@ -7,16 +7,10 @@ use borrow.Author.Needs.{needs}
 use Rattle.pricing.proofs.option_strip_of_kind.Statement.{statement}
 use Rattle.pricing.proofs.option_strip_of_kind.Tie as tie
 
-tree-bound-requires : tie.Need-tree-bound-requires
-tree-bound-requires c κs = search needs
-
-strip-of-kind-requires : tie.Need-strip-of-kind-requires
-strip-of-kind-requires c κs = search needs
-
 returns : tie.Need-returns
 returns c =
     let a = c .before .before .before .before .before .args in
     c .strip-of-kind .ensures ∙ kind-whole _ _ _ _ (now (a .strikes)) _ (a .kind) (a .expiry) (c .before .tree-bound .ensures .bound-is)
 
 pub option-strip-of-kind-spec : {M : Type 1} → statement M
-option-strip-of-kind-spec = tie.close (tie.spec tree-bound-requires strip-of-kind-requires returns)
+option-strip-of-kind-spec = tie.close (tie.spec (λ c κs. search needs) (λ c κs. search needs) returns)

@@ -20,21 +20,15 @@ by-later : (count found cause : ℕ) → found ≡ 0 → stripOf count (λ k. re
 unfolding firstCause
 by-later count found cause z = rw (eq-eqb found 0 z)
 
-strip-cause-requires : tie.Need-strip-cause-requires
-strip-cause-requires c κs = search needs
-
-refused-strip-requires : tie.Need-refused-strip-requires
-refused-strip-requires c κs = search needs
-
 returns : tie.Need-returns
-returns c = c .refused-strip .ensures ∙ strip-refused _ _ _ _ _ (c .before .before .strip-cause .ensures) (c .before .if1 .taken)
+returns c = c .refused-strip .ensures ∙ strip-refused _ _ _ _ (c .before .before .strip-cause .ensures) (c .before .if1 .taken)
 
 refused-prices-requires : tie.Need-refused-prices-requires
 refused-prices-requires c κs = strip-few _ _ _ (sym (c .before .before .before .strip-cause .ensures) ∙ c .before .before .if1 .left)
 
 returns-2 : tie.Need-returns-2
 returns-2 c =
-    strip-given _ _ _ _ _ (sym (c .before .before .before .before .strip-cause .ensures) ∙ c .before .before .before .if1 .left)
+    strip-given _ _ _ _ (sym (c .before .before .before .before .strip-cause .ensures) ∙ c .before .before .before .if1 .left)
     (c .refused-prices .ensures ∙ by-first _ _ (c .before .before .before .before .before .args .cause) (c .before .if2 .taken))
 
 refused-prices-requires-2 : tie.Need-refused-prices-requires-2
@@ -42,15 +36,15 @@ refused-prices-requires-2 c κs = strip-few _ _ _ (sym (c .before .before .befor
 
 returns-3 : tie.Need-returns-3
 returns-3 c =
-    strip-given _ _ _ _ _ (sym (c .before .before .before .before .strip-cause .ensures) ∙ c .before .before .before .if1 .left)
+    strip-given _ _ _ _ (sym (c .before .before .before .before .strip-cause .ensures) ∙ c .before .before .before .if1 .left)
     (c .refused-prices2 .ensures ∙ by-later _ _ _ (c .before .if2 .left))
 
 pub refused-kind-spec : {M : Type 1} → statement M
 refused-kind-spec =
     tie.close
     (tie.spec
-    strip-cause-requires
-    refused-strip-requires
+    (λ c κs. search needs)
+    (λ c κs. search needs)
     returns
     refused-prices-requires
     returns-2

@@ -9,12 +9,6 @@ use borrow.Author.Needs.{needs}
 use Rattle.pricing.proofs.strip_of_kind.Statement.{statement}
 use Rattle.pricing.proofs.strip_of_kind.Tie as tie
 
-option-cause-requires : tie.Need-option-cause-requires
-option-cause-requires c κs = search needs
-
-refused-kind-requires : tie.Need-refused-kind-requires
-refused-kind-requires c κs = search needs
-
 returns : tie.Need-returns
 returns c =
     let a = c .before .before .before .before .before .before .args in
@@ -22,20 +16,11 @@ returns c =
     ∙ kind-refuses _ _ _ _ (now (a .strikes)) (a .bound .value) (a .kind) (a .expiry) _ _ (c .before .before .before .before .before .before .pre)
     (c .before .before .option-cause .ensures) (c .before .if1 .taken)
 
-dates-of-kind-requires : tie.Need-dates-of-kind-requires
-dates-of-kind-requires c κs = search needs
-
-side-of-kind-requires : tie.Need-side-of-kind-requires
-side-of-kind-requires c κs = search needs
-
 array-share-prefix-rows : tie.Need-array-share-prefix-rows
 array-share-prefix-rows c = list-room _ _ _ (c .before .before .dates-of-kind .ensures)
 
 slice-aggregate-judged-strip : tie.Need-slice-aggregate-judged-strip
 slice-aggregate-judged-strip c = prefix-length _ _ (list-room _ _ _ (c .before .before .before .dates-of-kind .ensures))
-
-judged-strip-requires : tie.Need-judged-strip-requires
-judged-strip-requires c κs = search needs
 
 returns-2 : tie.Need-returns-2
 returns-2 c =
@@ -49,12 +34,12 @@ pub strip-of-kind-spec : {M : Type 1} → statement M
 strip-of-kind-spec =
     tie.close
     (tie.spec
-    option-cause-requires
-    refused-kind-requires
+    (λ c κs. search needs)
+    (λ c κs. search needs)
     returns
-    dates-of-kind-requires
-    side-of-kind-requires
+    (λ c κs. search needs)
+    (λ c κs. search needs)
     array-share-prefix-rows
     slice-aggregate-judged-strip
-    judged-strip-requires
+    (λ c κs. search needs)
     returns-2)

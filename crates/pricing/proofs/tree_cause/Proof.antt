@@ -7,18 +7,9 @@ use borrow.Author.Needs.{needs}
 use Rattle.pricing.proofs.tree_cause.Statement.{statement}
 use Rattle.pricing.proofs.tree_cause.Tie as tie
 
-discounts-cause-requires : tie.Need-discounts-cause-requires
-discounts-cause-requires c κs = search needs
-
-flows-cause-requires : tie.Need-flows-cause-requires
-flows-cause-requires c κs = search needs
-
-lowest-cause-requires : tie.Need-lowest-cause-requires
-lowest-cause-requires c κs = search needs
-
 returns : tie.Need-returns
 unfolding treeCause
 returns c = c .lowest-cause .ensures ∙ ap₂ lowestCause (c .before .before .discounts-cause .ensures) (c .before .flows-cause .ensures)
 
 pub tree-cause-spec : {M : Type 1} → statement M
-tree-cause-spec = tie.close (tie.spec discounts-cause-requires flows-cause-requires lowest-cause-requires returns)
+tree-cause-spec = tie.close (tie.spec (λ c κs. search needs) (λ c κs. search needs) (λ c κs. search needs) returns)

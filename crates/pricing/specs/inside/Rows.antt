@@ -26,6 +26,10 @@ branchSum b later = branchUp b * later (b .low + 2) + branchMiddle b * later (b 
 unfoldable pub branchRoll : RowBranch → (ℕ → ℕ) → ℕ → ℕ
 branchRoll b later discount = rollRounding (rollRounding (branchSum b later) probabilityTotal * discount) one
 
+-- the most that it comes to: a value at the limit, by the greatest discount
+abbrev pub mostRoll : ℕ
+mostRoll = 8800000000
+
 -- the later row rolled back
 unfoldable pub rolledRow : List ℕ → List ℕ → List ℕ → ℕ → ℕ → ℕ
 rolledRow later downs discounts next k = branchRoll (rowBranch downs next k) (values later) (values discounts k)

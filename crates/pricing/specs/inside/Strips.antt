@@ -27,6 +27,10 @@ abbrev pub KeptFrom : ℕ → ℕ → List ℕ → List ℕ → ℕ → List ℕ
 KeptFrom n b discounts flows from kept =
     (i k : ℕ) → from ≤ i → i < n → k < nodeCount b i → values kept (rowStart b i + k) ≡ bareValue n b discounts flows i k
 
+-- a row of the bond that has its flow
+abbrev pub Paid : List ℕ → ℕ → ℕ → Type 0
+Paid bond count flow = (k : ℕ) → k < count → flow ≤ values bond k
+
 -- a row laid from a place on: its values stand there, and what is behind it is as it was
 pub record Laid (before after : List ℕ) (start count : ℕ) (f : ℕ → ℕ) : Type 0 where
   pub done : (k : ℕ) → k < count → values after (start + k) ≡ f k

@@ -3,7 +3,7 @@
 use mathlib.Core.Path.{_≡_, sym, _∙_}
 use mathlib.Core.Bool.{true}
 use borrow.Author.Tests.{not-true, not-false}
-use Rattle.arithmetic.specs.Frequency.{listed}
+use Rattle.arithmetic.specs.Frequency.{isFrequency}
 use Rattle.arithmetic.proofs.FrequencyLaws.{listed-small}
 use Rattle.quotes.proofs.QuoteLaws.{row-low, row-high, row-known, lone-frequency, lone-row, lone-kind}
 use borrow.Author.Needs.{needs}
@@ -15,10 +15,10 @@ returns c =
     let l = c .before .before in
     let a = l .before .args in
     c .refusal .ensures
-    ∙ sym (lone-frequency (a .frequency) (a .kind) (a .point) (sym (l .is-listed .ensures) ∙ not-true (l .is-listed .result) (c .before .if1 .taken)))
+    ∙ sym (lone-frequency (a .frequency) (a .kind) (a .point) (sym (l .is-frequency .ensures) ∙ not-true (l .is-frequency .result) (c .before .if1 .taken)))
 
-known : (c : tie.Else1) → listed (c .before .before .args .frequency) ≡ true
-known c = sym (c .before .is-listed .ensures) ∙ not-false (c .before .is-listed .result) (c .if1 .left)
+known : (c : tie.Else1) → isFrequency (c .before .before .args .frequency) ≡ true
+known c = sym (c .before .is-frequency .ensures) ∙ not-false (c .before .is-frequency .result) (c .if1 .left)
 
 returns-2 : tie.Need-returns-2
 returns-2 c =

@@ -22,9 +22,6 @@ mul-divisor-2 c = product-fits (c .args .frequency) (c .args .row) (c .args .rat
 add-divisor : tie.Need-add-divisor
 add-divisor c = divisor-fits (c .args .frequency) (c .args .row) (c .args .rate) (c .pre .0) (c .pre .1) (c .pre .2) (c .fits .rate)
 
-refusal-requires : tie.Need-refusal-requires
-refusal-requires c κs = search needs
-
 abbrev divisor : tie.Start → ℤ
 divisor c = pos (c .args .frequency * one) +ℤ pos (c .args .row) *ℤ c .args .rate
 
@@ -70,7 +67,7 @@ of-billionths-spec =
     (λ c. search needs)
     mul-divisor-2
     add-divisor
-    refusal-requires
+    (λ c κs. search needs)
     returns
     (λ c. search needs)
     (λ c. search needs)

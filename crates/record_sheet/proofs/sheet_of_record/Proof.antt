@@ -17,20 +17,20 @@ use Rattle.record_sheet.proofs.sheet_of_record.Statement.{statement}
 use Rattle.record_sheet.proofs.sheet_of_record.Tie as tie
 
 -- where the record is priced, in memories of the largest tree
-abbrev memories : tie.After-prices-of-record → tie.After-state-price-room
+abbrev memories : tie.After-prices-in-place → tie.After-state-price-room
 memories c = c .before .before .before
 
-abbrev start : tie.After-prices-of-record → tie.Start
+abbrev start : tie.After-prices-in-place → tie.Start
 start c = memories c .before .before .before
 
-largest : (c : tie.After-prices-of-record) → c .prices-of-record .result ≡ recordPrices (start c .args .job) mostDiscounts mostStatePrices
+largest : (c : tie.After-prices-in-place) → c .prices-in-place .result ≡ recordPrices (start c .args .job) mostDiscounts mostStatePrices
 largest c =
     let own-d = memories c .before .discount-room in
     let own-p = memories c .state-price-room in
-    fits.prices-largest (start c .args .job) (own-d .result) (own-p .result) (own-d .ensures) (own-p .ensures) _ (c .prices-of-record .ensures .0)
+    fits.prices-largest (start c .args .job) (own-d .result) (own-p .result) (own-d .ensures) (own-p .ensures) _ (c .prices-in-place .ensures .0)
 
 -- where the lowest cause is known
-abbrev priced : tie.After-lowest-cause → tie.After-prices-of-record
+abbrev priced : tie.After-lowest-cause → tie.After-prices-in-place
 priced c = c .before .before .before .before
 
 number-is : (c : tie.After-lowest-cause) →
@@ -47,7 +47,7 @@ returns c =
     answers.refused-by _ _ _ (a .out .now) _ (c .refused .ensures) (number-is (refusing .before)) (refusing .if1 .taken)
 
 -- where no cause refuses the job
-no-cause : (c : tie.Else1) → priced (c .before) .prices-of-record .result .number ≡ 0
+no-cause : (c : tie.Else1) → priced (c .before) .prices-in-place .result .number ≡ 0
 no-cause c =
     let found = c .before in
     let a = start (priced found) .args in
@@ -61,13 +61,13 @@ room c =
 
 fitted : (c : tie.Else1) →
     let p = priced (c .before) in
-    Fitted (start p .args .job) (p .prices-of-record .last .1 .0) (p .prices-of-record .last .1 .1 .0)
+    Fitted (start p .args .job) (p .prices-in-place .last .1 .0) (p .prices-in-place .last .1 .1 .0)
 fitted c =
     let p = priced (c .before) in
     let job = start p .args .job in
     let own-d = memories p .before .discount-room in
     let own-p = memories p .state-price-room in
-    let left = p .prices-of-record .ensures .1 in
+    let left = p .prices-in-place .ensures .1 in
     fits.fitted job (own-d .result) (own-p .result) (own-d .ensures) (own-p .ensures) _ _ (sym (laws.prices-number-is job _ (largest p)) ∙ no-cause c)
     (left .0) (left .1)
 

@@ -1,6 +1,6 @@
 -- `row_view::holds_tree` meets its contract.
 -- Assumes nothing.
-use Rattle.limits.specs.inside.WithinLimits.{WithinLimits}
+use Rattle.limits.specs.WithinLimits.{WithinLimits}
 use Rattle.lattice.proofs.TreeEntries.{tree-accepted, tree-value}
 use Rattle.row_view.proofs.ViewLaws as laws
 use borrow.Author.Needs.{needs}

@@ -24,7 +24,7 @@ returns-2 c =
 held :
     (c : tie.Else1) →
     let a = c .before .before .before .before .args in
-    holdsTree (now (a .discounts)) (now (a .state-prices)) (a .steps) (a .reversion) ≡ true
+    holdsTree (a .steps) (a .reversion) (now (a .discounts)) (now (a .state-prices)) ≡ true
 held c = sym (c .before .holds-tree .ensures) ∙ not-false _ (c .if1 .left)
 
 stored :

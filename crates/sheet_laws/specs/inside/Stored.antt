@@ -5,7 +5,8 @@ use mathlib.Core.Bool.{true}
 use mathlib.Core.List.{List}
 use mathlib.Core.Path.{_≡_}
 use lib.ListN.{length, take}
-use Rattle.limits.specs.inside.WithinLimits.{WithinLimits}
+use Rattle.lent_tree.specs.LentTree.{storedRow}
+use Rattle.limits.specs.WithinLimits.{WithinLimits}
 use Rattle.text_laws.specs.Lines.{longestLine}
 use Rattle.arithmetic.specs.Row.{sumOf}
 use Rattle.limits.specs.Limits.{mostDiscounts, mostStatePrices, sumLimit}
@@ -13,7 +14,6 @@ use Rattle.lattice.specs.Shape.{discountsNeeded, statePricesNeeded}
 use Rattle.job_record.specs.declared.Job.{Job}
 use Rattle.job_fit.specs.RecordFit.{jobReversion, jobDiscounts, jobStatePrices, recordFit}
 use Rattle.node_lines.specs.Rows.{acceptedNodes}
-use Rattle.sheet_laws.specs.TreeSheet.{rowPart}
 
 -- a tree within its limits, and a memory of just its node discounts, each accepted
 pub record Lent (n b : ℕ) (discounts : List ℕ) : Type 0 where
@@ -35,7 +35,7 @@ pub record Stored (n b : ℕ) (discounts prices : List ℕ) : Type 0 where
 
 -- each row's state prices have a sum that a fit gives
 abbrev pub Summed : ℕ → ℕ → List ℕ → Type 0
-Summed n b prices = (i : ℕ) → i < n → sumOf (rowPart b prices (suc i)) ≤ sumLimit
+Summed n b prices = (i : ℕ) → i < n → sumOf (storedRow b prices (suc i)) ≤ sumLimit
 
 -- a record whose fit is accepted, and memories of the largest tree with the fit at their start
 pub record Fitted (job : Job) (discounts prices : List ℕ) : Type 0 where

@@ -24,7 +24,7 @@ returns c =
     let number = c .before .before .ask-number .ensures in
     let after = c .refused .ensures in
     let cause = c .before .if1 .taken in
-    (after .0 ∙ number, (after .1 ∙ ask-slots-left _ _ _ _ _ number cause, ask-memory-left _ _ _ _ _ number _ cause))
+    (after .0 ∙ number, (after .1 ∙ ask-slots-left _ _ _ _ number cause, ask-memory-left _ _ _ _ number _ cause))
 
 sub-nodes-before : tie.Need-sub-nodes-before
 sub-nodes-before c = omega (arith, told c .name-known .low)
@@ -67,8 +67,8 @@ returns-2 c =
     let after = c .replaced .ensures in (
       after .0 ∙ sym none,
       (
-        ask-slots _ _ _ _ _ number (number ∙ none) _ _ (c .before .awaiting-slot .ensures) (after .1),
-        ask-memory _ _ _ _ _ number (number ∙ none) _ _ _ _ (c .before .before .before .before .before .nodes-before .ensures)
+        ask-slots _ _ _ _ number (number ∙ none) _ _ (c .before .awaiting-slot .ensures) (after .1),
+        ask-memory _ _ _ _ number (number ∙ none) _ _ _ _ (c .before .before .before .before .before .nodes-before .ensures)
             (counted (c .before .before .before .before)) (c .before .before .open-part .ensures),
       ),
     )

@@ -22,7 +22,7 @@ returns : tie.Need-returns
 returns c =
     let tree = c .before .before .before .tree-of in
     c .no-price .ensures
-    ∙ price-none _ _ _ _ _ (tree .ensures) (search needs)
+    ∙ price-none _ _ _ _ (tree .ensures) (search needs)
 
 add-end : tie.Need-add-end
 add-end c = omega (arith, told (c .before .before) .fits)
@@ -38,7 +38,7 @@ returns-2 c =
     let a = c .before .before .before .before .before .before .before .before .before .args in
     let valued = c .before in
     let tree = valued .before .before .before .before .before .before .tree-of in
-    price-there (λ (n b : ℕ) (d : List ℕ). bondPrice n b d (a .flows .now)) _ _ _ _ (tree .ensures) (search needs)
+    price-there (λ (n b : ℕ) (d : List ℕ). bondPrice n b d (a .flows .now)) _ _ _ (tree .ensures) (search needs)
     _ (valued .bond-value .ensures) _ (c .carried .ensures)
 
 pub bond-price-spec : {M : Type 1} → statement M

@@ -7,7 +7,7 @@ use native.Mathlib.Nat.{mul-le-mul, div-le-self, lt-of-le-of-lt}
 use native.Mathlib.Omega.{arith}
 use borrow.Author.Needs.{needs}
 use borrow.Author.Tests.{not-true, not-false}
-use Rattle.arithmetic.specs.Frequency.{listed}
+use Rattle.arithmetic.specs.Frequency.{isFrequency}
 use Rattle.arithmetic.proofs.FrequencyLaws.{listed-small}
 use Rattle.spacing.proofs.SpacingLaws.{cube-positive}
 use Rattle.spacing.proofs.VersionLaws.{answer-unlisted, answer-reverting, answer-volatile, ratio-refused, ratio-fits, ratio-found}
@@ -15,8 +15,8 @@ use Rattle.spacing.proofs.version_spacing.Statement.{statement}
 use Rattle.spacing.proofs.version_spacing.Tie as tie
 
 -- past the first test the number of steps a year is listed
-accepted : (c : tie.Else1) → listed (c .before .before .args .frequency) ≡ true
-accepted c = sym (c .before .is-listed .ensures) ∙ not-false _ (c .if1 .left)
+accepted : (c : tie.Else1) → isFrequency (c .before .before .args .frequency) ≡ true
+accepted c = sym (c .before .is-frequency .ensures) ∙ not-false _ (c .if1 .left)
 
 -- where the function starts, from where the ratio is known
 abbrev start : tie.After-struct-known2 → tie.Start
@@ -35,7 +35,7 @@ fits c =
     ratio-fits _ _ _ _ _ (accepted (tested .before .before .before)) (omega arith) (omega arith) (tested .variance-ratio .ensures) (c .before .if4 .left)
 
 returns : tie.Need-returns
-returns c = sym (answer-unlisted _ _ _ _ (sym (c .before .is-listed .ensures) ∙ not-true _ (c .if1 .taken)))
+returns c = sym (answer-unlisted _ _ _ _ (sym (c .before .is-frequency .ensures) ∙ not-true _ (c .if1 .taken)))
 
 returns-2 : tie.Need-returns-2
 returns-2 c = sym (answer-reverting _ _ _ _ (accepted (c .before)) (c .if2 .taken))

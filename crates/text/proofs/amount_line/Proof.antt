@@ -4,6 +4,7 @@ use Prim.Native.Nat.{_≤_}
 use native.Mathlib.Omega.{arith}
 use lib.ListN.{length}
 use borrow.Author.Needs.{needs}
+use Rattle.text_laws.specs.Lines.{longestLine}
 use Rattle.text_laws.specs.WordLines.{amountLine, longestWord}
 use Rattle.text_laws.proofs.DecimalLaws.{field-room}
 use Rattle.text_laws.proofs.LineLaws.{room-left}
@@ -18,7 +19,7 @@ returns c =
     word-refused (a .word .now) (a .out .now) (a .end) _ (c .before .word-number .result) (c .before .word-number .ensures) (c .if1 .taken)
 
 room : (c : tie.Else1) →
-    (length (c .before .before .before .before .args .word .now) ≤ longestWord) × (128 ≤ c .before .before .before .before .args .end)
+    (length (c .before .before .before .before .args .word .now) ≤ longestWord) × (longestLine ≤ c .before .before .before .before .args .end)
     × (c .before .before .before .before .args .end ≤ length (c .before .before .before .before .args .out .now))
 room c =
     let at-word-number = c .before in

@@ -5,7 +5,7 @@ use Prim.Native.Nat.{_≤_}
 use native.Mathlib.Omega.{arith}
 use lib.ListN.{length}
 use borrow.Author.Needs.{needs}
-use Rattle.text_laws.specs.Lines.{priceLine}
+use Rattle.text_laws.specs.Lines.{priceLine, longestLine}
 use Rattle.text_laws.proofs.LineLaws.{room-known, line-refused, line-put, room-left, bounded-room}
 use Rattle.text_laws.proofs.PutLaws.{put-before}
 use Rattle.text.proofs.price_line.Statement.{statement}
@@ -20,7 +20,7 @@ returns c =
 abbrev start : tie.Else1 → tie.Start
 start c = c .before .before .before .before
 
-room : (c : tie.Else1) → (128 ≤ start c .args .end) × (start c .args .end ≤ length (start c .args .out .now))
+room : (c : tie.Else1) → (longestLine ≤ start c .args .end) × (start c .args .end ≤ length (start c .args .out .now))
 room c =
     let a = start c .args in
     room-known (length (a .out .now)) (a .end) (sym (c .before .line-number .ensures) ∙ c .if1 .left)

@@ -5,7 +5,7 @@ use Prim.Native.Nat.{_≤_}
 use native.Mathlib.Omega.{arith}
 use lib.ListN.{length}
 use borrow.Author.Needs.{needs}
-use Rattle.text_laws.specs.Lines.{rowWord, rowLine}
+use Rattle.text_laws.specs.Lines.{rowWord, rowLine, longestLine}
 use Rattle.text_laws.proofs.DecimalLaws.{field-room}
 use Rattle.text_laws.proofs.LineLaws as laws
 use Rattle.text_laws.proofs.LineLaws.{room-known, line-refused, line-put, room-left, bounded-room}
@@ -22,7 +22,7 @@ returns c =
 abbrev start : tie.Else1 → tie.Start
 start c = c .before .before .before
 
-room : (c : tie.Else1) → (128 ≤ start c .args .end) × (start c .args .end ≤ length (start c .args .out .now))
+room : (c : tie.Else1) → (longestLine ≤ start c .args .end) × (start c .args .end ≤ length (start c .args .out .now))
 room c =
     let a = start c .args in
     room-known (length (a .out .now)) (a .end) (sym (c .before .line-number .ensures) ∙ c .if1 .left)

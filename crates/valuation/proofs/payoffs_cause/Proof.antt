@@ -6,7 +6,7 @@ use Rattle.valuation.proofs.payoffs_cause.Statement.{statement}
 use Rattle.valuation.proofs.payoffs_cause.Tie as tie
 
 returns : tie.Need-returns
-returns c = payoffs-few _ _ _ _ _ (c .before .before .limit-cause .ensures) (c .before .if1 .taken) (c .lowest-cause .ensures)
+returns c = payoffs-few _ (c .before .before .limit-cause .ensures) (c .before .if1 .taken) (c .lowest-cause .ensures)
 
 returns-2 : tie.Need-returns-2
 returns-2 c = payoffs-counted _ _ _ _ (c .before .limit-cause .ensures) (c .if1 .left)

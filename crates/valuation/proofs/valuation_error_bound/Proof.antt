@@ -28,13 +28,13 @@ found c =
     }
 
 returns : tie.Need-returns
-returns c = laws.refused-number _ _ _ _ _ _ _ _ _ _ (found (c .before .before)) (c .before .if1 .taken) _ (c .refused .ensures)
+returns c = laws.refused-number _ _ _ (found (c .before .before)) (c .before .if1 .taken) _ (c .refused .ensures)
 
 bound-of-value-requires : tie.Need-bound-of-value-requires
-bound-of-value-requires c κs = laws.none-sizes _ _ _ _ _ _ _ _ _ _ (found (c .before)) (c .if1 .left)
+bound-of-value-requires c κs = laws.none-sizes _ _ _ (found (c .before)) (c .if1 .left)
 
 returns-2 : tie.Need-returns-2
-returns-2 c = laws.bound-found _ _ _ _ _ _ _ _ _ _ (found (c .before .before)) (c .before .if1 .left) _ (c .bound-of-value .ensures)
+returns-2 c = laws.bound-found _ _ _ (found (c .before .before)) (c .before .if1 .left) _ (c .bound-of-value .ensures)
 
 pub valuation-error-bound-spec : {M : Type 1} → statement M
 valuation-error-bound-spec =

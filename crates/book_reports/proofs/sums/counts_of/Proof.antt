@@ -23,18 +23,6 @@ abbrev μ-loop : tie.MeasureT-loop
 loop-holds : tie.Need-loop-holds Inv-loop μ-loop
 loop-holds c = (refl, omega arith, filled-start _ _)
 
-mul-sums : tie.Need-mul-sums Inv-loop μ-loop
-mul-sums c = search needs
-
-array-read-sums : tie.Need-array-read-sums Inv-loop μ-loop
-array-read-sums c = search needs
-
-mul-sums-2 : tie.Need-mul-sums-2 Inv-loop μ-loop
-mul-sums-2 c = search needs
-
-array-read-sums-2 : tie.Need-array-read-sums-2 Inv-loop μ-loop
-array-read-sums-2 c = search needs
-
 add-sums : tie.Need-add-sums Inv-loop μ-loop
 add-sums c =
     let s = c .before .before in
@@ -45,22 +33,10 @@ add-sums c =
       counts-within (s .args .t2) mostSize k (s .pre .1) (omega arith),
     )
 
-mul-sums-3 : tie.Need-mul-sums-3 Inv-loop μ-loop
-mul-sums-3 c = search needs
-
-array-write-sums : tie.Need-array-write-sums Inv-loop μ-loop
-array-write-sums c = search needs
-
-add-k : tie.Need-add-k Inv-loop μ-loop
-add-k c = search needs
-
-loop-less : tie.Need-loop-less Inv-loop μ-loop
-loop-less c = omega arith
-
 loop-again : tie.Need-loop-again Inv-loop μ-loop
 loop-again c =
     let l = c .before .loop in
-    (l .inv .0, omega arith, filled-next _ _ _ (l .k) _ (l .inv .2) (omega (arith, l .inv .2 .same)) refl)
+    (l .inv .0, omega arith, filled-next (l .inv .2) (omega (arith, l .inv .2 .same)) refl)
 
 returns : tie.Need-returns Inv-loop μ-loop
 returns c =
@@ -76,14 +52,14 @@ counts-of-spec =
     Inv-loop
     μ-loop
     loop-holds
-    mul-sums
-    array-read-sums
-    mul-sums-2
-    array-read-sums-2
+    (λ c. search needs)
+    (λ c. search needs)
+    (λ c. search needs)
+    (λ c. search needs)
     add-sums
-    mul-sums-3
-    array-write-sums
-    add-k
-    loop-less
+    (λ c. search needs)
+    (λ c. search needs)
+    (λ c. search needs)
+    (λ c. omega arith)
     loop-again
     returns)

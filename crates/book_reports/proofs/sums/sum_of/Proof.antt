@@ -19,12 +19,6 @@ counts-of-requires c κs =
     let s = c .before .before in
     (counts-small (s .args .first) (first s), counts-small (s .args .second) (second s))
 
-is-later-requires : tie.Need-is-later-requires
-is-later-requires c κs = search needs
-
-add-t7 : tie.Need-add-t7
-add-t7 c = search needs
-
 add-t8 : tie.Need-add-t8
 add-t8 c =
     let s = c .before .before .before .before .before .before .before .before in
@@ -60,20 +54,11 @@ add-t12 c =
     let b = second s in
     omega (arith, a .priced, b .priced, a .error-bounds, b .error-bounds, s .pre .2)
 
-chosen-requires : tie.Need-chosen-requires
-chosen-requires c κs = search needs
-
 add-chosen : tie.Need-add-chosen
 add-chosen c =
     let far = c .before .before .before .before .before .before .before .before .before .before .before .before .before .before .before in
     let s = far .before .before .before .before in
     omega (arith, book-most (s .args .second) (second s), s .pre .2)
-
-chosen-requires-2 : tie.Need-chosen-requires-2
-chosen-requires-2 c κs = search needs
-
-chosen-requires-3 : tie.Need-chosen-requires-3
-chosen-requires-3 c κs = search needs
 
 returns : tie.Need-returns
 unfolding sumReport
@@ -89,15 +74,15 @@ sum-of-spec =
     tie.close
     (tie.spec
     counts-of-requires
-    is-later-requires
-    add-t7
+    (λ c κs. search needs)
+    (λ c. search needs)
     add-t8
     add-t9
     add-t10
     add-t11
     add-t12
-    chosen-requires
+    (λ c κs. search needs)
     add-chosen
-    chosen-requires-2
-    chosen-requires-3
+    (λ c κs. search needs)
+    (λ c κs. search needs)
     returns)

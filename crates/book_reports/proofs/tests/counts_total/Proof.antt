@@ -23,22 +23,10 @@ loop-holds : tie.Need-loop-holds Inv-loop μ-loop
 unfolding sum
 loop-holds c = (omega arith, refl, omega arith)
 
-mul-total : tie.Need-mul-total Inv-loop μ-loop
-mul-total c = search needs
-
-array-read-total : tie.Need-array-read-total Inv-loop μ-loop
-array-read-total c = search needs
-
 add-total : tie.Need-add-total Inv-loop μ-loop
 add-total c =
     let s = c .before .before in
     omega (arith, counts-within (s .args .t1) mostSize (c .before .loop .k) (s .pre) (omega arith))
-
-add-k : tie.Need-add-k Inv-loop μ-loop
-add-k c = search needs
-
-loop-less : tie.Need-loop-less Inv-loop μ-loop
-loop-less c = omega arith
 
 loop-again : tie.Need-loop-again Inv-loop μ-loop
 loop-again c =
@@ -58,4 +46,4 @@ returns c =
 pub counts-total-spec : {M : Type 1} → statement M
 counts-total-spec =
     tie.close
-    (tie.spec Inv-loop μ-loop loop-holds mul-total array-read-total add-total add-k loop-less loop-again returns)
+    (tie.spec Inv-loop μ-loop loop-holds (λ c. search needs) (λ c. search needs) add-total (λ c. search needs) (λ c. omega arith) loop-again returns)

@@ -19,14 +19,8 @@ use Rattle.book_reports.proofs.tests.is_counted.Tie as tie
 sized : (s : tie.Start) → length (s .args .report .refused) ≡ mostNumber
 sized s = search needs
 
-add-most : tie.Need-add-most
-add-most c = search needs
-
 slice-aggregate-all-between : tie.Need-slice-aggregate-all-between
 slice-aggregate-all-between c = sym (sized (c .before .before .before))
-
-all-between-requires : tie.Need-all-between-requires
-all-between-requires c κs = search needs
 
 returns : tie.Need-returns
 returns c =
@@ -75,9 +69,9 @@ pub is-counted-spec : {M : Type 1} → statement M
 is-counted-spec =
     tie.close
     (tie.spec
-    add-most
+    (λ c. search needs)
     slice-aggregate-all-between
-    all-between-requires
+    (λ c κs. search needs)
     returns
     counts-total-requires
     add-total

@@ -11,14 +11,8 @@ use Rattle.book_reports.proofs.tests.is_report.Tie as tie
 returns : tie.Need-returns
 returns c = unsound _ (λ s. omega (arith, s .size, c .if1 .taken))
 
-mul-if2 : tie.Need-mul-if2
-mul-if2 c = search needs
-
 returns-2 : tie.Need-returns-2
 returns-2 c = unsound _ (λ s. omega (arith, s .fields, c .if2 .taken))
-
-add-if3 : tie.Need-add-if3
-add-if3 c = search needs
 
 returns-3 : tie.Need-returns-3
 returns-3 c = unsound _ (λ s. omega (arith, s .size, c .if3 .taken))
@@ -26,29 +20,17 @@ returns-3 c = unsound _ (λ s. omega (arith, s .size, c .if3 .taken))
 returns-4 : tie.Need-returns-4
 returns-4 c = unsound _ (λ s. omega (arith, s .priced, c .if4 .taken))
 
-mul-if5 : tie.Need-mul-if5
-mul-if5 c = search needs
-
 returns-5 : tie.Need-returns-5
 returns-5 c = unsound _ (λ s. omega (arith, s .bonds, c .if5 .taken))
 
-mul-if6 : tie.Need-mul-if6
-mul-if6 c = search needs
-
 returns-6 : tie.Need-returns-6
 returns-6 c = unsound _ (λ s. omega (arith, s .options, c .if6 .taken))
-
-mul-if7 : tie.Need-mul-if7
-mul-if7 c = search needs
 
 returns-7 : tie.Need-returns-7
 returns-7 c = unsound _ (λ s. omega (arith, s .error-bounds, c .if7 .taken))
 
 returns-8 : tie.Need-returns-8
 returns-8 c = unsound _ (λ s. omega (arith, s .dearest, c .if8 .taken))
-
-is-named-requires : tie.Need-is-named-requires
-is-named-requires c κs = search needs
 
 returns-9 : tie.Need-returns-9
 returns-9 c = unnamed-report _ (sym (c .before .is-named .ensures) ∙ not-true _ (c .if9 .taken))
@@ -79,19 +61,19 @@ is-report-spec =
     tie.close
     (tie.spec
     returns
-    mul-if2
+    (λ c. search needs)
     returns-2
-    add-if3
+    (λ c. search needs)
     returns-3
     returns-4
-    mul-if5
+    (λ c. search needs)
     returns-5
-    mul-if6
+    (λ c. search needs)
     returns-6
-    mul-if7
+    (λ c. search needs)
     returns-7
     returns-8
-    is-named-requires
+    (λ c κs. search needs)
     returns-9
     is-counted-requires
     returns-10)

@@ -10,7 +10,7 @@ use Rattle.fitting.proofs.causes.plan_of.Tie as tie
 tested : (c : tie.After-lowest-cause3) →
     let s = c .before .before .before .before .before in
     laws.Tested (s .args .steps) (s .args .reversion) (s .args .converted) (s .args .spaced .number) (s .args .spaced .value)
-    (s .args .discounts) (s .args .prices) (c .lowest-cause3 .result)
+    (s .args .discounts) (s .args .state-prices) (c .lowest-cause3 .result)
 tested c =
     let joined = c .before .before in
     let remembered = joined .before in

@@ -12,15 +12,15 @@ use Rattle.fitting.proofs.rows.fit_rows.Statement.{statement}
 use Rattle.fitting.proofs.rows.fit_rows.Tie as tie
 
 abbrev Inv-loop : tie.InvT-loop
-Inv-loop reversion quotes factors downs discounts₀ prices₀ sums₀ steps row₀ discounts prices sums row =
+Inv-loop reversion quotes factors downs discounts₀ state-prices₀ sums₀ steps row₀ discounts state-prices sums row =
     (row ≤ length quotes)
-    × laws.Progress reversion quotes factors discounts₀ prices₀ discounts prices row
+    × laws.Progress reversion quotes factors discounts₀ state-prices₀ discounts state-prices row
     × (length sums ≡ length sums₀)
     × (length discounts ≡ length discounts₀)
-    × (length prices ≡ length prices₀)
+    × (length state-prices ≡ length state-prices₀)
 
 abbrev μ-loop : tie.MeasureT-loop
-μ-loop reversion quotes factors downs discounts₀ prices₀ sums₀ steps row₀ discounts prices sums row = length quotes - row
+μ-loop reversion quotes factors downs discounts₀ state-prices₀ sums₀ steps row₀ discounts state-prices sums row = length quotes - row
 
 abbrev start : tie.In-loop Inv-loop μ-loop → tie.Start Inv-loop μ-loop
 start c = c .before .before .before .before .before .before .before .before
@@ -31,8 +31,8 @@ looped c = c .before .before .before .before .before
 inside : (c : tie.In-loop Inv-loop μ-loop) → c .before .loop .row < length (start c .args .quotes .now)
 inside c = omega arith
 
-slice-write-prices : tie.Need-slice-write-prices Inv-loop μ-loop
-slice-write-prices c = laws.prices-some (c .before .before .before .before .before .before .pre)
+slice-write-state-prices : tie.Need-slice-write-state-prices Inv-loop μ-loop
+slice-write-state-prices c = laws.state-prices-some (c .before .before .before .before .before .before .pre)
 
 loop-holds : tie.Need-loop-holds Inv-loop μ-loop
 loop-holds c = (search needs, laws.begun (c .before .before .before .before .before .before .pre), refl, refl, refl)
@@ -77,8 +77,8 @@ returns-2 c =
     let s = c .before .before .before .before .before .before .before .before in
     let e : c .before .loop .row ≡ length (s .args .quotes .now) = omega arith in
     let done = c .before .loop .inv .1 in (
-      laws.complete-accepted (s .args .prices .now) e done,
-      (λ _. laws.complete (s .args .prices .now) e done, laws.complete-past (s .args .prices .now) e done),
+      laws.complete-accepted (s .args .state-prices .now) e done,
+      (λ _. laws.complete (s .args .state-prices .now) e done, laws.complete-past (s .args .state-prices .now) e done),
     )
 
 pub fit-rows-spec : {M : Type 1} → statement M
@@ -87,7 +87,7 @@ fit-rows-spec =
     (tie.spec
     Inv-loop
     μ-loop
-    slice-write-prices
+    slice-write-state-prices
     loop-holds
     (λ c. search needs)
     (λ c. omega arith)

@@ -22,7 +22,7 @@ loop-less : tie.Need-loop-less Inv-loop μ-loop
 loop-less c = omega (arith, c .before .loop .inv .1 .same)
 
 loop-again : tie.Need-loop-again Inv-loop μ-loop
-loop-again c = (omega (arith, c .before .loop .inv .1 .same), filled-next _ _ (λ j. 0) _ 0 (c .before .loop .inv .1) (search needs) refl)
+loop-again c = (omega (arith, c .before .loop .inv .1 .same), filled-next {f = λ j. 0} (c .before .loop .inv .1) (search needs) refl)
 
 same-length : tie.Need-same-length Inv-loop μ-loop
 same-length c = c .before .loop .inv .1 .same

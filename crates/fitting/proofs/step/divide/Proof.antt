@@ -30,7 +30,7 @@ loop-again : tie.Need-loop-again Inv-loop μ-loop
 loop-again c =
     let s = c .before .before .before in
     let l = c .before .before .loop in
-    (omega (arith, l .inv .1 .same), filled-next _ _ (λ j. values (s .args .sums .now) j / probabilityTotal) _ _ (l .inv .1) (search needs) refl)
+    (omega (arith, l .inv .1 .same), filled-next {f = λ j. values (s .args .sums .now) j / probabilityTotal} (l .inv .1) (search needs) refl)
 
 same-length : tie.Need-same-length Inv-loop μ-loop
 same-length c = c .before .loop .inv .1 .same

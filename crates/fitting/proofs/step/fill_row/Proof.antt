@@ -14,11 +14,11 @@ use Rattle.fitting.proofs.step.fill_row.Statement.{statement}
 use Rattle.fitting.proofs.step.fill_row.Tie as tie
 
 abbrev Inv-loop : tie.InvT-loop
-Inv-loop prices factors downs quote z discounts₀ sums₀ k₀ discounts sums k =
-    laws.Stepping quote z prices factors downs discounts₀ sums₀ discounts sums k
+Inv-loop state-prices factors downs quote z discounts₀ sums₀ k₀ discounts sums k =
+    laws.Stepping quote z state-prices factors downs discounts₀ sums₀ discounts sums k
 
 abbrev μ-loop : tie.MeasureT-loop
-μ-loop prices factors downs quote z discounts₀ sums₀ k₀ discounts sums k = length prices - k
+μ-loop state-prices factors downs quote z discounts₀ sums₀ k₀ discounts sums k = length state-prices - k
 
 abbrev start : tie.In-loop Inv-loop μ-loop → tie.Start Inv-loop μ-loop
 start c = c .before .before .before .before .before .before .before
@@ -39,11 +39,11 @@ accepted : (c : tie.Else1 Inv-loop μ-loop) → isDiscount (quotient c) ≡ true
 accepted c = sym (c .before .is-discount .ensures) ∙ not-false _ (c .if1 .left)
 
 -- the node is one of the row
-inside : (c : tie.In-loop Inv-loop μ-loop) → c .before .loop .k < length (start c .args .prices .now)
+inside : (c : tie.In-loop Inv-loop μ-loop) → c .before .loop .k < length (start c .args .state-prices .now)
 inside c = omega arith
 
 loop-holds : tie.Need-loop-holds Inv-loop μ-loop
-loop-holds c = let s = c .before .before .before .before .before in laws.stepping-start _ _ _ _ _ _ _ (s .pre .2)
+loop-holds c = let s = c .before .before .before .before .before in laws.stepping-start (s .pre .2)
 
 shared-slice-read-discount : tie.Need-shared-slice-read-discount Inv-loop μ-loop
 shared-slice-read-discount c =
@@ -106,7 +106,7 @@ returns-2 : tie.Need-returns-2 Inv-loop μ-loop
 returns-2 c =
     let s = ended c in
     let g = c .before .loop .inv in
-    let e : c .before .loop .k ≡ length (s .args .prices .now) = omega (arith, g .within) in (
+    let e : c .before .loop .k ≡ length (s .args .state-prices .now) = omega (arith, g .within) in (
       laws.stepping-good (s .pre .0) g e,
       (λ _. laws.stepping-filled (s .pre .0) g e, λ _. laws.stepping-spread (s .pre .0) g e),
     )

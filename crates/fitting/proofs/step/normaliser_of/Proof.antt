@@ -13,12 +13,12 @@ use Rattle.fitting.proofs.step.normaliser_of.Statement.{statement}
 use Rattle.fitting.proofs.step.normaliser_of.Tie as tie
 
 abbrev Inv-loop : tie.InvT-loop
-Inv-loop prices factors total₀ k₀ total k = (k ≤ length prices) × (total ≡ laws.weighed prices factors k)
+Inv-loop state-prices factors total₀ k₀ total k = (k ≤ length state-prices) × (total ≡ laws.weighed state-prices factors k)
 
 abbrev μ-loop : tie.MeasureT-loop
-μ-loop prices factors total₀ k₀ total k = length prices - k
+μ-loop state-prices factors total₀ k₀ total k = length state-prices - k
 
-inside : (c : tie.In-loop Inv-loop μ-loop) → c .before .loop .k < length (c .before .before .args .prices .now)
+inside : (c : tie.In-loop Inv-loop μ-loop) → c .before .loop .k < length (c .before .before .args .state-prices .now)
 inside c = search needs
 
 loop-holds : tie.Need-loop-holds Inv-loop μ-loop
@@ -32,26 +32,26 @@ mul-total-3 : tie.Need-mul-total-3 Inv-loop μ-loop
 mul-total-3 c =
     let l = c .before .before in
     let s = l .before .before in
-    omega (arith, laws.weighed-small (s .args .prices .now) (s .args .factors .now) (s .pre .0) (s .pre .1) (l .before .loop .inv .1) (inside l))
+    omega (arith, laws.weighed-small (s .args .state-prices .now) (s .args .factors .now) (s .pre .0) (s .pre .1) (l .before .loop .inv .1) (inside l))
 
 add-total : tie.Need-add-total Inv-loop μ-loop
 add-total c =
     let l = c .before .before in
     let s = l .before .before in
-    omega (arith, laws.weighed-small (s .args .prices .now) (s .args .factors .now) (s .pre .0) (s .pre .1) (l .before .loop .inv .1) (inside l))
+    omega (arith, laws.weighed-small (s .args .state-prices .now) (s .args .factors .now) (s .pre .0) (s .pre .1) (l .before .loop .inv .1) (inside l))
 
 loop-again : tie.Need-loop-again Inv-loop μ-loop
 loop-again c =
     let l = c .before .before in
     let s = l .before .before in
-    (omega arith, laws.weighed-next (s .args .prices .now) (s .args .factors .now) (s .pre .0) (s .pre .1) (l .before .loop .inv .1) (inside l))
+    (omega arith, laws.weighed-next (s .args .state-prices .now) (s .args .factors .now) (s .pre .0) (s .pre .1) (l .before .loop .inv .1) (inside l))
 
 returns : tie.Need-returns Inv-loop μ-loop
 unfolding normaliser
 returns c =
     let s = c .before .before in
-    let e : c .before .loop .k ≡ length (s .args .prices .now) = omega arith in
-    ap (λ (x : ℕ). x / one) (c .before .loop .inv .1 ∙ ap (laws.weighed (s .args .prices .now) (s .args .factors .now)) e)
+    let e : c .before .loop .k ≡ length (s .args .state-prices .now) = omega arith in
+    ap (λ (x : ℕ). x / one) (c .before .loop .inv .1 ∙ ap (laws.weighed (s .args .state-prices .now) (s .args .factors .now)) e)
 
 pub normaliser-of-spec : {M : Type 1} → statement M
 normaliser-of-spec =

@@ -23,7 +23,7 @@ returns c =
     let filled = c .before .before .before .before in
     let cleared = filled .before .before .before .before .before in
     let loop = filled .fill-row .ensures in
-    laws.stepped _ _ _ _ _ _ (cleared .before .before .normaliser-of .ensures) _ _ _ _ (cleared .clear .ensures) (loop .0) (loop .1 .0) (loop .1 .1)
+    laws.stepped (cleared .before .before .normaliser-of .ensures) _ _ _ _ (cleared .clear .ensures) (loop .0) (loop .1 .0) (loop .1 .1)
 
 pub step-row-spec : {M : Type 1} → statement M
 step-row-spec =

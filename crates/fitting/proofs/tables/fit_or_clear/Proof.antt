@@ -21,9 +21,9 @@ discounts-size : (c : tie.After-state-prices-needed) →
     c .before .discounts-needed .result .value ≡ rowStart (start c .args .reversion) (length (start c .args .quotes .now))
 discounts-size c = laws.needed-discounts (start c .pre .tables) (c .before .discounts-needed .ensures)
 
-prices-size : (c : tie.After-state-prices-needed) →
+state-prices-size : (c : tie.After-state-prices-needed) →
     c .state-prices-needed .result .value ≡ rowStart (start c .args .reversion) (suc (length (start c .args .quotes .now)))
-prices-size c = laws.needed-prices (start c .pre .tables) (c .state-prices-needed .ensures)
+state-prices-size c = laws.needed-state-prices (start c .pre .tables) (c .state-prices-needed .ensures)
 
 fit-rows-requires : tie.Need-fit-rows-requires
 fit-rows-requires c κs = start (c .before .before .before) .pre
@@ -41,7 +41,7 @@ clear-front-requires c κs =
 clear-front-requires-2 : tie.Need-clear-front-requires-2
 clear-front-requires-2 c κs =
     let fitted = c .before .before .before .before .before .before .before .before .before .before .before .before in
-    omega (arith, prices-size (sized fitted), start (sized fitted) .pre .room-prices, fitted .fit-rows .kept .1 .1 .1 .1 .1 .0)
+    omega (arith, state-prices-size (sized fitted), start (sized fitted) .pre .room-state-prices, fitted .fit-rows .kept .1 .1 .1 .1 .1 .0)
 
 returns-2 : tie.Need-returns-2
 returns-2 c =
@@ -51,7 +51,7 @@ returns-2 c =
     record {
       tested = sym (rejected .if1 .left) ∙ fitted .fit-rows .ensures .0;
       memories =
-          laws.cleared (fitted .fit-rows .ensures .1 .1) (discounts-size (sized fitted)) (prices-size (sized fitted))
+          laws.cleared (fitted .fit-rows .ensures .1 .1) (discounts-size (sized fitted)) (state-prices-size (sized fitted))
           (cleared .clear-front .ensures) (c .before .before .clear-front2 .ensures);
     }
 

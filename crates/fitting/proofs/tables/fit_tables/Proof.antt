@@ -27,7 +27,7 @@ fit-or-clear-requires c κs =
       quotes-least = ready .quotes-least;
       quotes-most = ready .quotes-most;
       room-discounts = ready .room-discounts;
-      room-prices = ready .room-prices;
+      room-state-prices = ready .room-state-prices;
       room-sums = s .pre .3;
     }
 

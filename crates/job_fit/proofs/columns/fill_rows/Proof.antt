@@ -23,7 +23,7 @@ loop-holds c = (search needs, refl, filled-start _ _)
 loop-again : tie.Need-loop-again Inv-loop μ-loop
 loop-again c =
     let l = c .before .loop in
-    let next = filled-next (c .before .before .args .rows .now) (l .rows) (λ (k : ℕ). k + 1) (l .index) (l .index + 1) (l .inv .2) (omega arith) refl in
+    let next = filled-next {f = λ (k : ℕ). k + 1} {x = l .index + 1} (l .inv .2) (omega arith) refl in
     (omega arith, simp length-set (l .inv .1), next)
 
 same-length : tie.Need-same-length Inv-loop μ-loop

@@ -28,7 +28,7 @@ slice-write-memory c = omega (arith, c .before .before .loop .inv .1 .same, c .b
 loop-again : tie.Need-loop-again Inv-loop μ-loop
 loop-again c =
     let so-far = c .before .before .loop .inv .1 in
-    (omega arith, filled-next _ _ _ _ _ so-far (omega (arith, so-far .same, c .before .before .before .pre)) refl)
+    (omega arith, filled-next so-far (omega (arith, so-far .same, c .before .before .before .pre)) refl)
 
 same-length : tie.Need-same-length Inv-loop μ-loop
 same-length c = c .before .loop .inv .1 .same

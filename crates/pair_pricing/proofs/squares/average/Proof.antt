@@ -14,52 +14,16 @@ sum : (s : tie.Start) →
     branchUp (s .args .branch) * values (now (s .args .xs)) (s .args .from + 2 * s .args .stride)
     + branchMiddle (s .args .branch) * values (now (s .args .xs)) (s .args .from + s .args .stride)
     + branchDown (s .args .branch) * values (now (s .args .xs)) (s .args .from) ≤ 4800000000000000000
-sum s = sum-fits _ _ _ _ _ _ (s .pre .0) (s .pre .4) (s .pre .3) (s .pre .2)
-
-array-read-sum : tie.Need-array-read-sum
-array-read-sum c = search needs
-
-mul-sum : tie.Need-mul-sum
-mul-sum c = search needs
-
-add-sum : tie.Need-add-sum
-add-sum c = search needs
-
-mul-sum-2 : tie.Need-mul-sum-2
-mul-sum-2 c = search needs
-
-shared-slice-read-sum : tie.Need-shared-slice-read-sum
-shared-slice-read-sum c = search needs
+sum s = sum-fits _ _ _ (s .pre .0) (s .pre .4) (s .pre .3) (s .pre .2)
 
 mul-sum-3 : tie.Need-mul-sum-3
 mul-sum-3 c = omega (arith, sum (c .before .before))
-
-array-read-sum-2 : tie.Need-array-read-sum-2
-array-read-sum-2 c = search needs
-
-add-sum-2 : tie.Need-add-sum-2
-add-sum-2 c = search needs
-
-mul-sum-4 : tie.Need-mul-sum-4
-mul-sum-4 c = search needs
-
-shared-slice-read-sum-2 : tie.Need-shared-slice-read-sum-2
-shared-slice-read-sum-2 c = search needs
 
 mul-sum-5 : tie.Need-mul-sum-5
 mul-sum-5 c = omega (arith, sum (c .before .before .before))
 
 add-sum-3 : tie.Need-add-sum-3
 add-sum-3 c = omega (arith, sum (c .before .before .before))
-
-array-read-sum-3 : tie.Need-array-read-sum-3
-array-read-sum-3 c = search needs
-
-mul-sum-6 : tie.Need-mul-sum-6
-mul-sum-6 c = search needs
-
-shared-slice-read-sum-3 : tie.Need-shared-slice-read-sum-3
-shared-slice-read-sum-3 c = search needs
 
 mul-sum-7 : tie.Need-mul-sum-7
 mul-sum-7 c = omega (arith, sum (c .before .before .before .before))
@@ -71,27 +35,27 @@ add-result : tie.Need-add-result
 add-result c = omega (arith, sum (c .before .before .before .before))
 
 returns : tie.Need-returns
-returns c = let s = c .before .before .before .before in average-is _ _ _ _ _ _ (s .pre .0) (s .pre .4) (s .pre .3) (s .pre .2)
+returns c = let s = c .before .before .before .before in average-is _ _ _ (s .pre .0) (s .pre .4) (s .pre .3) (s .pre .2)
 
 pub average-spec : {M : Type 1} → statement M
 average-spec =
     tie.close
     (tie.spec
-    array-read-sum
-    mul-sum
-    add-sum
-    mul-sum-2
-    shared-slice-read-sum
+    (λ c. search needs)
+    (λ c. search needs)
+    (λ c. search needs)
+    (λ c. search needs)
+    (λ c. search needs)
     mul-sum-3
-    array-read-sum-2
-    add-sum-2
-    mul-sum-4
-    shared-slice-read-sum-2
+    (λ c. search needs)
+    (λ c. search needs)
+    (λ c. search needs)
+    (λ c. search needs)
     mul-sum-5
     add-sum-3
-    array-read-sum-3
-    mul-sum-6
-    shared-slice-read-sum-3
+    (λ c. search needs)
+    (λ c. search needs)
+    (λ c. search needs)
     mul-sum-7
     add-sum-4
     add-result

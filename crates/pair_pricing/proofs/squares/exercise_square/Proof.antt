@@ -23,41 +23,8 @@ abbrev μ-loop : tie.MeasureT-loop
 returns : tie.Need-returns Inv-loop μ-loop
 returns c = let s = c .before .before .before .args in λ t h. exercised-not (s .listed) (s .call) (s .strike) (s .flow) _ _ (not-true _ (c .if1 .taken))
 
-mul-count : tie.Need-mul-count Inv-loop μ-loop
-mul-count c = search needs
-
 loop-holds : tie.Need-loop-holds Inv-loop μ-loop
 loop-holds c = (omega arith, omega arith, omega arith, changed-first _ _)
-
-mul-expiry-value : tie.Need-mul-expiry-value Inv-loop μ-loop
-mul-expiry-value c = search needs
-
-shared-slice-read-expiry-value : tie.Need-shared-slice-read-expiry-value Inv-loop μ-loop
-shared-slice-read-expiry-value c = search needs
-
-expiry-value-requires : tie.Need-expiry-value-requires Inv-loop μ-loop
-expiry-value-requires c κs = search needs
-
-mul-larger : tie.Need-mul-larger Inv-loop μ-loop
-mul-larger c = search needs
-
-slice-read-larger : tie.Need-slice-read-larger Inv-loop μ-loop
-slice-read-larger c = search needs
-
-larger-requires : tie.Need-larger-requires Inv-loop μ-loop
-larger-requires c κs = search needs
-
-mul-square : tie.Need-mul-square Inv-loop μ-loop
-mul-square c = search needs
-
-slice-write-square : tie.Need-slice-write-square Inv-loop μ-loop
-slice-write-square c = search needs
-
-add-k : tie.Need-add-k Inv-loop μ-loop
-add-k c = search needs
-
-loop-less : tie.Need-loop-less Inv-loop μ-loop
-loop-less c = search needs
 
 loop-again : tie.Need-loop-again Inv-loop μ-loop
 loop-again c =
@@ -74,9 +41,6 @@ loop-again c =
           (exercised-on (s .listed) (s .call) (s .strike) (s .flow) _ _ _ _ (not-false _ (if1 .left)) (expiry-value .ensures) (c .larger .ensures)),
     )
 
-same-length : tie.Need-same-length Inv-loop μ-loop
-same-length c = search needs
-
 returns-2 : tie.Need-returns-2 Inv-loop μ-loop
 returns-2 c = λ t h. c .before .loop .inv .3 .done t (omega (arith, c .loop-test .left))
 
@@ -87,18 +51,18 @@ exercise-square-spec =
     Inv-loop
     μ-loop
     returns
-    mul-count
+    (λ c. search needs)
     loop-holds
-    mul-expiry-value
-    shared-slice-read-expiry-value
-    expiry-value-requires
-    mul-larger
-    slice-read-larger
-    larger-requires
-    mul-square
-    slice-write-square
-    add-k
-    loop-less
+    (λ c. search needs)
+    (λ c. search needs)
+    (λ c κs. search needs)
+    (λ c. search needs)
+    (λ c. search needs)
+    (λ c κs. search needs)
+    (λ c. search needs)
+    (λ c. search needs)
+    (λ c. search needs)
+    (λ c. search needs)
     loop-again
-    same-length
+    (λ c. search needs)
     returns-2)

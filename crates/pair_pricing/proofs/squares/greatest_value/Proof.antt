@@ -29,12 +29,6 @@ part-requires c κs =
     let s = c .before .before .before in
     omega (arith, s .pre .0, s .pre .1, s .pre .2, c .loop-test .taken)
 
-greatest-of-requires : tie.Need-greatest-of-requires Inv-loop μ-loop
-greatest-of-requires c κs = search needs
-
-larger-requires : tie.Need-larger-requires Inv-loop μ-loop
-larger-requires c κs = search needs
-
 add-a : tie.Need-add-a Inv-loop μ-loop
 add-a c = omega (arith, c .before .before .before .before .before .before .pre .0, c .before .before .before .loop-test .taken)
 
@@ -71,8 +65,8 @@ greatest-value-spec =
     loop-holds
     mul-part
     part-requires
-    greatest-of-requires
-    larger-requires
+    (λ c κs. search needs)
+    (λ c κs. search needs)
     add-a
     loop-less
     loop-again

@@ -21,9 +21,6 @@ abbrev μ-loop : tie.MeasureT-loop
 loop-holds : tie.Need-loop-holds Inv-loop μ-loop
 loop-holds c = (omega arith, omega (arith, c .before .before .before .pre .6), omega arith, cells-none _ _ _)
 
-row-branch-requires : tie.Need-row-branch-requires Inv-loop μ-loop
-row-branch-requires c κs = search needs
-
 rate-line-requires : tie.Need-rate-line-requires Inv-loop μ-loop
 rate-line-requires c κs =
     let s = c .before .before .before .before .before .before .before in
@@ -68,7 +65,7 @@ same-length : tie.Need-same-length Inv-loop μ-loop
 same-length c = c .before .loop .inv .2
 
 returns : tie.Need-returns Inv-loop μ-loop
-returns c = (c .before .loop .inv .1, cells-done _ _ _ _ _ _ (c .before .loop .inv .3) (omega (arith, c .loop-test .left)) (omega arith))
+returns c = (c .before .loop .inv .1, cells-done (c .before .loop .inv .3) (omega (arith, c .loop-test .left)) (omega arith))
 
 pub rate-side-spec : {M : Type 1} → statement M
 rate-side-spec =
@@ -77,7 +74,7 @@ rate-side-spec =
     Inv-loop
     μ-loop
     loop-holds
-    row-branch-requires
+    (λ c κs. search needs)
     rate-line-requires
     add-j
     loop-less

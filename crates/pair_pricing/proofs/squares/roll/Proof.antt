@@ -7,9 +7,6 @@ use Rattle.pair_laws.proofs.Squares.{middle-most, rolled-square}
 use Rattle.pair_pricing.proofs.squares.roll.Statement.{statement}
 use Rattle.pair_pricing.proofs.squares.roll.Tie as tie
 
-rate-side-requires : tie.Need-rate-side-requires
-rate-side-requires c κs = search needs
-
 spread-side-requires : tie.Need-spread-side-requires
 spread-side-requires c κs =
     let s = c .before .before .before .before .before .before .before .before .before .before .before .before .before in
@@ -29,12 +26,6 @@ spread-side-requires c κs =
       s .pre .2,
     )
 
-same-length : tie.Need-same-length
-same-length c = search needs
-
-same-length-2 : tie.Need-same-length-2
-same-length-2 c = search needs
-
 returns : tie.Need-returns
 returns c =
     let spread-side = c .before .before .spread-side in
@@ -45,4 +36,4 @@ returns c =
 
 pub roll-spec : {M : Type 1} → statement M
 roll-spec =
-    tie.close (tie.spec rate-side-requires spread-side-requires same-length same-length-2 returns)
+    tie.close (tie.spec (λ c κs. search needs) spread-side-requires (λ c. search needs) (λ c. search needs) returns)

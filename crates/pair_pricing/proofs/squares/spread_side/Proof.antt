@@ -24,12 +24,6 @@ abbrev μ-loop : tie.MeasureT-loop
 loop-holds : tie.Need-loop-holds Inv-loop μ-loop
 loop-holds c = (omega arith, omega (arith, c .before .before .before .before .before .pre .10), omega arith, cells-empty _ _ _)
 
-row-branch-requires : tie.Need-row-branch-requires Inv-loop μ-loop
-row-branch-requires c κs = search needs
-
-mul-spread-column : tie.Need-mul-spread-column Inv-loop μ-loop
-mul-spread-column c = search needs
-
 shared-slice-read-spread-column : tie.Need-shared-slice-read-spread-column Inv-loop μ-loop
 shared-slice-read-spread-column c = omega (arith, c .before .before .loop-test .taken)
 
@@ -82,7 +76,7 @@ same-length : tie.Need-same-length Inv-loop μ-loop
 same-length c = c .before .loop .inv .2
 
 returns : tie.Need-returns Inv-loop μ-loop
-returns c = (c .before .loop .inv .1, cells-done _ _ _ _ _ _ (c .before .loop .inv .3) (omega arith) (omega (arith, c .loop-test .left)))
+returns c = (c .before .loop .inv .1, cells-done (c .before .loop .inv .3) (omega arith) (omega (arith, c .loop-test .left)))
 
 pub spread-side-spec : {M : Type 1} → statement M
 spread-side-spec =
@@ -91,8 +85,8 @@ spread-side-spec =
     Inv-loop
     μ-loop
     loop-holds
-    row-branch-requires
-    mul-spread-column
+    (λ c κs. search needs)
+    (λ c. search needs)
     shared-slice-read-spread-column
     spread-column-requires
     add-l

@@ -7,12 +7,6 @@ use Rattle.pair_laws.proofs.WalkStates.{bound-product, bound-fits, bound-from}
 use Rattle.pair_pricing.proofs.walk.bound_step.Statement.{statement}
 use Rattle.pair_pricing.proofs.walk.bound_step.Tie as tie
 
-greatest-discount-requires : tie.Need-greatest-discount-requires
-greatest-discount-requires c κs = search needs
-
-greatest-discount-requires-2 : tie.Need-greatest-discount-requires-2
-greatest-discount-requires-2 c κs = search needs
-
 mul-result : tie.Need-mul-result
 mul-result c =
     let s = c .before .before .before .before in
@@ -64,10 +58,11 @@ pub bound-step-spec : {M : Type 1} → statement M
 bound-step-spec =
     tie.close
     (tie.spec
-    greatest-discount-requires
-    greatest-discount-requires-2
+    (λ c κs. search needs)
+    (λ c κs. search needs)
     mul-result
     mul-result-2
+    (λ c. search needs)
     add-result
     add-result-2
     returns)

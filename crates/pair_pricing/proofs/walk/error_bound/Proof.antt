@@ -27,9 +27,6 @@ loop-holds c =
     let t = s .args .trees in
     (omega arith, bound-first (t .steps) (t .rate) (t .spread) (now (s .args .rates)) (now (s .args .spreads)) (s .pre))
 
-sub-row : tie.Need-sub-row Inv-loop μ-loop
-sub-row c = search needs
-
 bound-step-requires : tie.Need-bound-step-requires Inv-loop μ-loop
 bound-step-requires c κs =
     let s = c .before .before .before .before in
@@ -39,9 +36,6 @@ bound-step-requires c κs =
       omega (arith, l .inv .0, c .loop-test .taken),
       bound-small (t .steps) (t .rate) (t .spread) (now (s .args .rates)) (now (s .args .spreads)) (s .pre) (l .row) (l .bound) (l .inv .0) (l .inv .1),
     )
-
-loop-less : tie.Need-loop-less Inv-loop μ-loop
-loop-less c = search needs
 
 loop-again : tie.Need-loop-again Inv-loop μ-loop
 loop-again c =
@@ -64,4 +58,4 @@ returns c =
 pub error-bound-spec : {M : Type 1} → statement M
 error-bound-spec =
     tie.close
-    (tie.spec Inv-loop μ-loop loop-holds sub-row bound-step-requires loop-less loop-again returns)
+    (tie.spec Inv-loop μ-loop loop-holds (λ c. search needs) bound-step-requires (λ c. search needs) loop-again returns)

@@ -4,20 +4,15 @@ use mathlib.Core.Path.{_≡_}
 use native.Mathlib.Omega.{arith}
 use lib.ListN.{length}
 use denote.Ref.{now}
+use Rattle.pair_laws.specs.inside.Square.{squareSize}
 use borrow.Author.Needs.{needs}
 use Rattle.pair_laws.proofs.SquareRows.{row-fits, expiry-from}
 use Rattle.pair_pricing.proofs.walk.expiry_row.Statement.{statement}
 use Rattle.pair_pricing.proofs.walk.expiry_row.Tie as tie
 
 -- the option's square is whole
-long : (c : tie.After-fill-arg) → length (now (c .before .args .option)) ≡ 1681
+long : (c : tie.After-fill-arg) → length (now (c .before .args .option)) ≡ squareSize
 long c = search needs
-
-fill-requires : tie.Need-fill-requires
-fill-requires c κs = search needs
-
-lines-of-requires : tie.Need-lines-of-requires
-lines-of-requires c κs = search needs
 
 exercise-square-requires : tie.Need-exercise-square-requires
 exercise-square-requires c κs =
@@ -34,4 +29,4 @@ returns c =
     (λ k h. fill .ensures k (omega (arith, long (c .before .before .before .before .before)))) (c .exercise-square .ensures)
 
 pub expiry-row-spec : {M : Type 1} → statement M
-expiry-row-spec = tie.close (tie.spec fill-requires lines-of-requires exercise-square-requires returns)
+expiry-row-spec = tie.close (tie.spec (λ c κs. search needs) (λ c κs. search needs) exercise-square-requires returns)

@@ -18,26 +18,14 @@ room c =
     let s = c .before .before .before in
     part-room _ _ _ _ (accepted-lent _ _ _ (s .pre .0)) (s .pre .1) _ (c .before .row-shape .ensures)
 
-row-shape-requires : tie.Need-row-shape-requires
-row-shape-requires c κs = search needs
-
 add-end : tie.Need-add-end
 add-end c = omega (arith, room c)
 
 mul-greatest-of : tie.Need-mul-greatest-of
 mul-greatest-of c = omega (arith, room c)
 
-sub-greatest-of : tie.Need-sub-greatest-of
-sub-greatest-of c = search needs
-
-part-greatest-of-start : tie.Need-part-greatest-of-start
-part-greatest-of-start c = search needs
-
 part-greatest-of-end : tie.Need-part-greatest-of-end
 part-greatest-of-end c = room c
-
-greatest-of-requires : tie.Need-greatest-of-requires
-greatest-of-requires c κs = search needs
 
 returns : tie.Need-returns
 returns c =
@@ -48,11 +36,11 @@ pub greatest-discount-spec : {M : Type 1} → statement M
 greatest-discount-spec =
     tie.close
     (tie.spec
-    row-shape-requires
+    (λ c κs. search needs)
     add-end
     mul-greatest-of
-    sub-greatest-of
-    part-greatest-of-start
+    (λ c. search needs)
+    (λ c. search needs)
     part-greatest-of-end
-    greatest-of-requires
+    (λ c κs. search needs)
     returns)

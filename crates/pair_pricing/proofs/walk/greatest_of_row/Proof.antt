@@ -21,12 +21,6 @@ width c =
     let s = c .before .before in
     answer-value (s .args .row) (s .args .trees .spread) (omega (arith, s .pre .2)) (s .pre .1) _ _ (c .node-count2 .ensures)
 
-node-count-requires : tie.Need-node-count-requires
-node-count-requires c κs = search needs
-
-node-count-requires-2 : tie.Need-node-count-requires-2
-node-count-requires-2 c κs = search needs
-
 greatest-value-requires : tie.Need-greatest-value-requires
 greatest-value-requires c κs =
     let s = c .before .before .before in (
@@ -43,4 +37,4 @@ returns c =
 
 pub greatest-of-row-spec : {M : Type 1} → statement M
 greatest-of-row-spec =
-    tie.close (tie.spec node-count-requires node-count-requires-2 greatest-value-requires returns)
+    tie.close (tie.spec (λ c κs. search needs) (λ c κs. search needs) greatest-value-requires returns)

@@ -9,12 +9,6 @@ use Rattle.pair_laws.proofs.SquareRows.{row-fits, option-from}
 use Rattle.pair_pricing.proofs.walk.option_row.Statement.{statement}
 use Rattle.pair_pricing.proofs.walk.option_row.Tie as tie
 
-roll-row-requires : tie.Need-roll-row-requires
-roll-row-requires c κs = search needs
-
-lines-of-requires : tie.Need-lines-of-requires
-lines-of-requires c κs = search needs
-
 exercise-square-requires : tie.Need-exercise-square-requires
 exercise-square-requires c κs =
     let s = c .before .before .before .before .before .before .before .before .before .before in (
@@ -26,9 +20,6 @@ exercise-square-requires c κs =
       search needs,
       search needs,
     )
-
-greatest-of-row-requires : tie.Need-greatest-of-row-requires
-greatest-of-row-requires c κs = search needs
 
 returns : tie.Need-returns
 returns c =
@@ -50,4 +41,4 @@ returns c =
 pub option-row-spec : {M : Type 1} → statement M
 option-row-spec =
     tie.close
-    (tie.spec roll-row-requires lines-of-requires exercise-square-requires greatest-of-row-requires returns)
+    (tie.spec (λ c κs. search needs) (λ c κs. search needs) exercise-square-requires (λ c κs. search needs) returns)

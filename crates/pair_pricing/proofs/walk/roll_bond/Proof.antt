@@ -5,6 +5,7 @@ use Prim.Native.Nat.{_-_, _≤_}
 use native.Mathlib.Omega.{arith}
 use lib.ListN.{length}
 use denote.Ref.{now}
+use Rattle.pair_laws.specs.inside.Square.{squareSize}
 use borrow.Author.Needs.{needs}
 use Rattle.pricing.proofs.TreeRows.{flow-within}
 use Rattle.pair_laws.specs.inside.States.{Bonds}
@@ -21,14 +22,11 @@ abbrev μ-loop : tie.MeasureT-loop
 μ-loop trees last rate-downs spread-downs rates spreads flows bond₀ middle₀ row₀ bond middle row = row
 
 -- the bond's square is whole
-long : (c : tie.After-fill-arg Inv-loop μ-loop) → length (now (c .before .before .before .before .before .before .before .args .bond)) ≡ 1681
+long : (c : tie.After-fill-arg Inv-loop μ-loop) → length (now (c .before .before .before .before .before .before .before .args .bond)) ≡ squareSize
 long c = search needs
 
 flow-of-requires : tie.Need-flow-of-requires Inv-loop μ-loop
 flow-of-requires c κs = omega (arith, c .before .before .before .before .before .pre .0 .paid .count)
-
-fill-requires : tie.Need-fill-requires Inv-loop μ-loop
-fill-requires c κs = search needs
 
 loop-holds : tie.Need-loop-holds Inv-loop μ-loop
 loop-holds c =
@@ -102,7 +100,7 @@ roll-bond-spec =
     Inv-loop
     μ-loop
     flow-of-requires
-    fill-requires
+    (λ c κs. search needs)
     loop-holds
     sub-row
     flow-of-requires-2

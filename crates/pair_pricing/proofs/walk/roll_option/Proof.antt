@@ -8,9 +8,6 @@ use Rattle.pair_laws.proofs.WalkStates.{options-marked, both-over}
 use Rattle.pair_pricing.proofs.walk.roll_option.Statement.{statement}
 use Rattle.pair_pricing.proofs.walk.roll_option.Tie as tie
 
-roll-bond-requires : tie.Need-roll-bond-requires
-roll-bond-requires c κs = search needs
-
 returns : tie.Need-returns
 returns c =
     let s = c .before .before .before .before .before .before .before .before .before .before in
@@ -18,12 +15,6 @@ returns c =
     let m = s .args .terms in
     both-over (t .steps) (t .rate) (t .spread) (now (s .args .rates)) (now (s .args .spreads)) (now (s .args .flows)) (side (m .call)) (m .strike)
     (marked (m .last) (now (s .args .marks))) _ _ _ _ (c .before .roll-bond .ensures) (c .if1 .taken)
-
-flow-of-requires : tie.Need-flow-of-requires
-flow-of-requires c κs = search needs
-
-expiry-row-requires : tie.Need-expiry-row-requires
-expiry-row-requires c κs = search needs
 
 roll-both-requires : tie.Need-roll-both-requires
 roll-both-requires c κs =
@@ -43,16 +34,13 @@ roll-both-requires c κs =
           (side (m .call)) (m .strike) (m .last) (now (s .args .marks)) _ _ _ (s .pre .2 .strike-most) (flow-of .ensures) held (expiry-row .ensures),
     )
 
-returns-2 : tie.Need-returns-2
-returns-2 c = search needs
-
 pub roll-option-spec : {M : Type 1} → statement M
 roll-option-spec =
     tie.close
     (tie.spec
-    roll-bond-requires
+    (λ c κs. search needs)
     returns
-    flow-of-requires
-    expiry-row-requires
+    (λ c κs. search needs)
+    (λ c κs. search needs)
     roll-both-requires
-    returns-2)
+    (λ c. search needs))

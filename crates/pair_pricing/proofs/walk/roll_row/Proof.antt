@@ -3,16 +3,11 @@
 use mathlib.Core.Path.{_≡_, refl}
 use lib.ListN.{length}
 use denote.Ref.{now}
+use Rattle.pair_laws.specs.inside.Square.{squareSize}
 use borrow.Author.Needs.{needs}
 use Rattle.pair_laws.proofs.SquareRows.{table-room, discount-room, pair-rollable, limited-cells, pairs-rolled}
 use Rattle.pair_pricing.proofs.walk.roll_row.Statement.{statement}
 use Rattle.pair_pricing.proofs.walk.roll_row.Tie as tie
-
-row-shape-requires : tie.Need-row-shape-requires
-row-shape-requires c κs = search needs
-
-row-shape-requires-2 : tie.Need-row-shape-requires-2
-row-shape-requires-2 c κs = search needs
 
 part-requires : tie.Need-part-requires
 part-requires c κs =
@@ -37,8 +32,8 @@ part-requires-4 c κs =
 -- both squares are whole
 long :
     (c : tie.After-roll-arg2) →
-    (length (now (c .before .before .before .before .before .before .before .before .before .before .before .before .args .memory)) ≡ 1681)
-    × (length (now (c .before .before .before .before .before .before .before .before .before .before .before .before .args .middle)) ≡ 1681)
+    (length (now (c .before .before .before .before .before .before .before .before .before .before .before .before .args .memory)) ≡ squareSize)
+    × (length (now (c .before .before .before .before .before .before .before .before .before .before .before .before .args .middle)) ≡ squareSize)
 long c = (search needs, search needs)
 
 roll-requires : tie.Need-roll-requires
@@ -77,8 +72,8 @@ pub roll-row-spec : {M : Type 1} → statement M
 roll-row-spec =
     tie.close
     (tie.spec
-    row-shape-requires
-    row-shape-requires-2
+    (λ c κs. search needs)
+    (λ c κs. search needs)
     part-requires
     part-requires-2
     part-requires-3

@@ -50,9 +50,9 @@ roll-node-requires c κs =
     let l = c .before .before .before .loop in
     let h : l .k < length (now (s .args .discounts)) = omega (arith, s .pre .4 .ends) in
     let e = span-is _ _ _ _ (s .pre .0) (s .pre .4) (l .inv .0) (c .before .before .loop-test .taken) _ (c .before .span-branch .ensures) in (
-      branch-inside _ _ (now (s .args .later)) _ _ (s .pre .0) (s .pre .1) h _ e,
-      branch-whole _ _ (now (s .args .later)) _ _ (s .pre .0) (s .pre .1) h _ e,
-      branch-limited _ _ (now (s .args .later)) _ _ (s .pre .0) (s .pre .1) h _ e,
+      branch-inside {later = now (s .args .later)} (s .pre .0) (s .pre .1) h _ e,
+      branch-whole {later = now (s .args .later)} (s .pre .0) (s .pre .1) h _ e,
+      branch-limited {later = now (s .args .later)} (s .pre .0) (s .pre .1) h _ e,
       s .pre .0 .discounted (l .k) h,
     )
 
@@ -75,15 +75,6 @@ slice-write-row c = omega (
   c .before .before .before .before .before .before .before .before .before .pre .4 .ends,
 )
 
-larger-requires : tie.Need-larger-requires Inv-loop μ-loop
-larger-requires c κs = search needs
-
-add-k : tie.Need-add-k Inv-loop μ-loop
-add-k c = omega arith
-
-loop-less : tie.Need-loop-less Inv-loop μ-loop
-loop-less c = omega arith
-
 loop-again : tie.Need-loop-again Inv-loop μ-loop
 loop-again c =
     let s = c .before .before .before .before .before .before .before .before .before .before in
@@ -91,7 +82,7 @@ loop-again c =
     let h : l .k < length (now (s .args .discounts)) = omega (arith, s .pre .4 .ends) in
     let e = span-is _ _ _ _ (s .pre .0) (s .pre .4) (l .inv .0) (c .before .before .before .before .loop-test .taken) _
     (c .before .before .before .span-branch .ensures) in
-    let b = branch-rolled _ _ _ _ _ (s .pre .0) (s .pre .1) h _ e _ (c .before .roll-node .ensures .0) in (
+    let b = branch-rolled (s .pre .0) (s .pre .1) h _ e _ (c .before .roll-node .ensures .0) in (
       omega arith,
       omega arith,
       row-next _ (l .row) _ (l .top) (l .k) _ _ (l .inv .2) (omega (arith, l .inv .2 .filled .same, s .pre .2))
@@ -102,7 +93,7 @@ same-length : tie.Need-same-length Inv-loop μ-loop
 same-length c = c .before .loop .inv .2 .filled .same
 
 returns : tie.Need-returns Inv-loop μ-loop
-returns c = row-done _ _ _ _ _ _ (c .before .loop .inv .2) (omega (arith, c .before .loop .inv .1, c .loop-test .left))
+returns c = row-done (c .before .loop .inv .2) (omega (arith, c .before .loop .inv .1, c .loop-test .left))
 
 pub bond-nodes-spec : {M : Type 1} → statement M
 bond-nodes-spec =
@@ -118,9 +109,9 @@ bond-nodes-spec =
     add-value
     mul-row
     slice-write-row
-    larger-requires
-    add-k
-    loop-less
+    (λ c κs. search needs)
+    (λ c. omega arith)
+    (λ c. omega arith)
     loop-again
     same-length
     returns)

@@ -7,30 +7,18 @@ use borrow.Author.Needs.{needs}
 use Rattle.pricing.proofs.rows.bond_row.Statement.{statement}
 use Rattle.pricing.proofs.rows.bond_row.Tie as tie
 
-growing-requires : tie.Need-growing-requires
-growing-requires c κs = search needs
-
 bond-nodes-requires : tie.Need-bond-nodes-requires
 bond-nodes-requires c κs =
     let s = c .before .before .before .before .before .before .before in
     rw (c .growing .ensures) (s .pre .0, s .pre .1, s .pre .2, s .pre .3, leads-growing _ _ _ (s .pre .0) (c .before .before .if1 .taken), row-none _ _)
 
-same-length : tie.Need-same-length
-same-length c = search needs
-
 returns : tie.Need-returns
 returns c = rw (c .before .before .before .growing .ensures) at (c .before .before .bond-nodes .ensures)
-
-lowest-requires : tie.Need-lowest-requires
-lowest-requires c κs = search needs
 
 bond-nodes-requires-2 : tie.Need-bond-nodes-requires-2
 bond-nodes-requires-2 c κs =
     let s = c .before .before .before .before .before .before .before in
     rw (c .lowest .ensures) (s .pre .0, s .pre .1, s .pre .2, s .pre .3, leads-lowest _ _ _ (s .pre .0) (c .before .before .if1 .left), row-none _ _)
-
-inner-requires : tie.Need-inner-requires
-inner-requires c κs = search needs
 
 bond-nodes-requires-3 : tie.Need-bond-nodes-requires-3
 bond-nodes-requires-3 c κs =
@@ -46,9 +34,6 @@ bond-nodes-requires-3 c κs =
       done,
     )
 
-highest-requires : tie.Need-highest-requires
-highest-requires c κs = search needs
-
 bond-nodes-requires-4 : tie.Need-bond-nodes-requires-4
 bond-nodes-requires-4 c κs =
     let s = c .before .before .before .before .before .before .before .before .before .before .before .before .before .before .before .before .before in
@@ -63,9 +48,6 @@ bond-nodes-requires-4 c κs =
       done,
     )
 
-same-length-2 : tie.Need-same-length-2
-same-length-2 c = search needs
-
 returns-2 : tie.Need-returns-2
 returns-2 c = rw (c .before .before .before .highest .ensures) at (c .before .before .bond-nodes4 .ensures)
 
@@ -73,15 +55,15 @@ pub bond-row-spec : {M : Type 1} → statement M
 bond-row-spec =
     tie.close
     (tie.spec
-    growing-requires
+    (λ c κs. search needs)
     bond-nodes-requires
-    same-length
+    (λ c. search needs)
     returns
-    lowest-requires
+    (λ c κs. search needs)
     bond-nodes-requires-2
-    inner-requires
+    (λ c κs. search needs)
     bond-nodes-requires-3
-    highest-requires
+    (λ c κs. search needs)
     bond-nodes-requires-4
-    same-length-2
+    (λ c. search needs)
     returns-2)

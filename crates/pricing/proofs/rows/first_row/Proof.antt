@@ -21,32 +21,17 @@ abbrev μ-loop : tie.MeasureT-loop
 loop-holds : tie.Need-loop-holds Inv-loop μ-loop
 loop-holds c = (omega arith, filled-start _ _)
 
-mul-exercise-value : tie.Need-mul-exercise-value Inv-loop μ-loop
-mul-exercise-value c = search needs
-
-shared-slice-read-exercise-value : tie.Need-shared-slice-read-exercise-value Inv-loop μ-loop
-shared-slice-read-exercise-value c = search needs
-
-exercise-value-requires : tie.Need-exercise-value-requires Inv-loop μ-loop
-exercise-value-requires c κs = search needs
-
 mul-option : tie.Need-mul-option Inv-loop μ-loop
 mul-option c = omega (arith, c .before .before .before .loop .inv .1 .same, c .before .before .before .before .before .before .pre)
 
 slice-write-option : tie.Need-slice-write-option Inv-loop μ-loop
 slice-write-option c = omega (arith, c .before .before .before .loop .inv .1 .same, c .before .before .before .before .before .before .pre)
 
-add-k : tie.Need-add-k Inv-loop μ-loop
-add-k c = search needs
-
-loop-less : tie.Need-loop-less Inv-loop μ-loop
-loop-less c = search needs
-
 loop-again : tie.Need-loop-again Inv-loop μ-loop
 loop-again c =
     let c₁ = c .before .before .before in
     let c₂ = c₁ .before .before .before in
-    (omega arith, filled-next _ _ _ _ _ (c₁ .loop .inv .1) (omega (arith, c₁ .loop .inv .1 .same, c₂ .pre)) (c .exercise-value .ensures))
+    (omega arith, filled-next (c₁ .loop .inv .1) (omega (arith, c₁ .loop .inv .1 .same, c₂ .pre)) (c .exercise-value .ensures))
 
 same-length : tie.Need-same-length Inv-loop μ-loop
 same-length c = c .before .loop .inv .1 .same
@@ -61,13 +46,13 @@ first-row-spec =
     Inv-loop
     μ-loop
     loop-holds
-    mul-exercise-value
-    shared-slice-read-exercise-value
-    exercise-value-requires
+    (λ c. search needs)
+    (λ c. search needs)
+    (λ c κs. search needs)
     mul-option
     slice-write-option
-    add-k
-    loop-less
+    (λ c. search needs)
+    (λ c. search needs)
     loop-again
     same-length
     returns)

@@ -1,6 +1,6 @@
 -- `pricing::rows::keep_row` meets its contract.
 -- Assumes nothing.
-use mathlib.Core.Path.{_≡_}
+use mathlib.Core.Path.{_≡_, refl}
 use Prim.Native.Nat.{ℕ, _-_, _≤_}
 use native.Mathlib.Omega.{arith}
 use Rattle.arithmetic.specs.Row.{values}
@@ -18,42 +18,32 @@ abbrev μ-loop : tie.MeasureT-loop
 loop-holds : tie.Need-loop-holds Inv-loop μ-loop
 loop-holds c = (omega arith, laying-start _ _ _)
 
-mul-without : tie.Need-mul-without Inv-loop μ-loop
-mul-without c = omega (arith, c .before .before .before .pre .0)
+mul-kept : tie.Need-mul-kept Inv-loop μ-loop
+mul-kept c = omega (arith, c .before .before .pre .0)
 
-element-copy-out-without : tie.Need-element-copy-out-without Inv-loop μ-loop
-element-copy-out-without c = search needs
-
-without-requires : tie.Need-without-requires Inv-loop μ-loop
-without-requires c κs = search needs
+sub-kept : tie.Need-sub-kept Inv-loop μ-loop
+sub-kept c = omega (arith, c .before .before .before .pre .2 (c .before .before .loop .k) (omega arith))
 
 add-kept : tie.Need-add-kept Inv-loop μ-loop
-add-kept c = omega (arith, c .before .before .before .before .before .pre .1)
+add-kept c = omega (arith, c .before .before .before .pre .1)
 
-mul-kept : tie.Need-mul-kept Inv-loop μ-loop
-mul-kept c = omega (arith, c .before .before .before .loop .inv .1 .same, c .before .before .before .before .before .pre .1)
+mul-kept-2 : tie.Need-mul-kept-2 Inv-loop μ-loop
+mul-kept-2 c = omega (arith, c .before .before .loop .inv .1 .same, c .before .before .before .pre .1)
 
 slice-write-kept : tie.Need-slice-write-kept Inv-loop μ-loop
-slice-write-kept c = omega (arith, c .before .before .before .loop .inv .1 .same, c .before .before .before .before .before .pre .1)
-
-add-k : tie.Need-add-k Inv-loop μ-loop
-add-k c = search needs
-
-loop-less : tie.Need-loop-less Inv-loop μ-loop
-loop-less c = search needs
+slice-write-kept c = omega (arith, c .before .before .loop .inv .1 .same, c .before .before .before .pre .1)
 
 loop-again : tie.Need-loop-again Inv-loop μ-loop
 loop-again c =
-    let c₁ = c .before .before .before in
-    let c₂ = c₁ .before .before in
-    (omega arith, laying-next _ _ _ _ _ _ (c₁ .loop .inv .1) (omega (arith, c₁ .loop .inv .1 .same, c₂ .pre .1)) (c .without .ensures))
+    let l = c .before .before .loop in
+    (omega arith, laying-next (l .inv .1) (omega (arith, l .inv .1 .same, c .before .before .before .pre .1)) refl)
 
 same-length : tie.Need-same-length Inv-loop μ-loop
 same-length c = c .before .loop .inv .1 .same
 
 returns : tie.Need-returns Inv-loop μ-loop
 returns c =
-    let end : c .before .loop .k ≡ c .before .before .before .args .count = omega arith in
+    let end : c .before .loop .k ≡ c .before .before .args .count = omega arith in
     rw end at (c .before .loop .inv .1 .laid)
 
 pub keep-row-spec : {M : Type 1} → statement M
@@ -63,14 +53,14 @@ keep-row-spec =
     Inv-loop
     μ-loop
     loop-holds
-    mul-without
-    element-copy-out-without
-    without-requires
-    add-kept
     mul-kept
+    (λ c. search needs)
+    sub-kept
+    add-kept
+    mul-kept-2
     slice-write-kept
-    add-k
-    loop-less
+    (λ c. search needs)
+    (λ c. search needs)
     loop-again
     same-length
     returns)

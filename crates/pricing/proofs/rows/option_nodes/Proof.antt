@@ -7,6 +7,8 @@ use native.Mathlib.Omega.{arith}
 use lib.ListN.{length}
 use denote.Ref.{now}
 use Rattle.arithmetic.specs.Row.{values}
+use Rattle.tree.specs.Tree.{probabilityTotal}
+use Rattle.limits.specs.Limits.{mostDiscount}
 use Rattle.exercise.specs.Terms.{side}
 use Rattle.row_branches.specs.RowBranches.{rowBranch}
 use Rattle.row_branches.specs.inside.Transitions.{branchTotal}
@@ -31,7 +33,7 @@ loop-holds : tie.Need-loop-holds Inv-loop μ-loop
 loop-holds c = (
   omega arith,
   omega (arith, c .before .before .before .before .before .before .pre .6 .ordered),
-  rows-resume _ _ _ _ _ _
+  rows-resume
       (c .before .before .before .before .before .before .pre .7),
 )
 
@@ -74,18 +76,18 @@ branch c = span-is _ (now (c .before .before .before .before .before .before .be
 rolls : (c : tie.After-shared-slice-known5 Inv-loop μ-loop) (later : List ℕ) → Later later
     (c .before .before .before .before .before .before .before .before .before .before .args .span .next) →
     let branch = c .before .span-branch .result in
-    (branch .low + 2 < length later) × (branchTotal branch ≡ 600000000) × Limited later (branch .low + 3)
+    (branch .low + 2 < length later) × (branchTotal branch ≡ probabilityTotal) × Limited later (branch .low + 3)
 rolls c later l =
     let ready = c .before .before .before .before .before .before .before .before .before .before .pre .0 in
     let e = branch c in (
-      branch-inside _ _ later _ _ ready l (inside c) _ e,
-      branch-whole _ _ later _ _ ready l (inside c) _ e,
-      branch-limited _ _ later _ _ ready l (inside c) _ e,
+      branch-inside ready l (inside c) _ e,
+      branch-whole ready l (inside c) _ e,
+      branch-limited ready l (inside c) _ e,
     )
 
 discounted : (c : tie.After-shared-slice-known5 Inv-loop μ-loop) → values
     (now (c .before .before .before .before .before .before .before .before .before .before .args .discounts)) (c .before .before .before .loop .k)
-    ≤ 1100000000
+    ≤ mostDiscount
 discounted c = c .before .before .before .before .before .before .before .before .before .before .pre .0 .discounted
     (c .before .before .before .loop .k) (inside c)
 
@@ -99,9 +101,6 @@ roll-node-requires-2 c κs =
     let node = c .before in
     let asks = rolls node _ (c .before .before .before .before .before .before .before .before .before .before .before .pre .2) in
     (asks .0, asks .1, asks .2, discounted node)
-
-held-value-requires : tie.Need-held-value-requires Inv-loop μ-loop
-held-value-requires c κs = search needs
 
 add-value : tie.Need-add-value Inv-loop μ-loop
 add-value c =
@@ -141,12 +140,6 @@ mul-option c = let at = room c .1 in omega arith
 slice-write-option : tie.Need-slice-write-option Inv-loop μ-loop
 slice-write-option c = room c .1
 
-larger-requires : tie.Need-larger-requires Inv-loop μ-loop
-larger-requires c κs = search needs
-
-larger-requires-2 : tie.Need-larger-requires-2 Inv-loop μ-loop
-larger-requires-2 c κs = search needs
-
 add-k : tie.Need-add-k Inv-loop μ-loop
 add-k c = omega (arith, c .before .before .before .before .before .before .before .loop-test .taken)
 
@@ -161,8 +154,8 @@ loop-again c =
     let right = s .args .right in
     let l = c .before .before .before .before .before .before .before .before .loop in
     let e = branch node in
-    let bare = branch-rolled _ _ _ _ _ (s .pre .0) (s .pre .1) (inside node) _ e _ (c .before .before .before .before .roll-node .ensures .0) in
-    let o = branch-rolled _ _ _ _ _ (s .pre .0) (s .pre .2) (inside node) _ e _ (c .before .before .before .roll-node2 .ensures .0) in (
+    let bare = branch-rolled (s .pre .0) (s .pre .1) (inside node) _ e _ (c .before .before .before .before .roll-node .ensures .0) in
+    let o = branch-rolled (s .pre .0) (s .pre .2) (inside node) _ e _ (c .before .before .before .roll-node2 .ensures .0) in (
       omega (arith, l .inv .0),
       omega (arith, c .before .before .before .before .before .before .before .loop-test .taken),
       rows-next _ (l .bond) _ (l .option) _ _ (l .top) (l .k) _ _ _ _ (l .inv .2) (room rolled .0) (room rolled .1) (ap (λ (x : ℕ). x + right .flow) bare)
@@ -177,7 +170,7 @@ same-length-2 : tie.Need-same-length-2 Inv-loop μ-loop
 same-length-2 c = c .before .loop .inv .2 .option-filled .same
 
 returns : tie.Need-returns Inv-loop μ-loop
-returns c = rows-done _ _ _ _ _ _ _ _ _ (c .before .loop .inv .2) (omega (arith, c .before .loop .inv .1, c .loop-test .left))
+returns c = rows-done (c .before .loop .inv .2) (omega (arith, c .before .loop .inv .1, c .loop-test .left))
 
 pub option-nodes-spec : {M : Type 1} → statement M
 option-nodes-spec =
@@ -191,14 +184,14 @@ option-nodes-spec =
     shared-slice-read-discount
     roll-node-requires
     roll-node-requires-2
-    held-value-requires
+    (λ c κs. search needs)
     add-value
     mul-bond
     slice-write-bond
     mul-option
     slice-write-option
-    larger-requires
-    larger-requires-2
+    (λ c κs. search needs)
+    (λ c κs. search needs)
     add-k
     loop-less
     loop-again

@@ -13,17 +13,8 @@ use Rattle.pricing.proofs.rows.strike_edge.Statement.{statement}
 use Rattle.pricing.proofs.rows.strike_edge.Tie as tie
 
 returns : tie.Need-returns
-returns c = row-done _ _ _ _ (c .before .before .before .before .before .before .args .index) _
+returns c = row-done
     (row-resume _ _ _ _ (c .before .before .before .before .before .before .pre .6)) (omega (arith, c .if1 .taken))
-
-row-branch-requires : tie.Need-row-branch-requires
-row-branch-requires c κs = search needs
-
-mul-roll-node : tie.Need-mul-roll-node
-mul-roll-node c = search needs
-
-shared-slice-read-roll-node : tie.Need-shared-slice-read-roll-node
-shared-slice-read-roll-node c = search needs
 
 -- the node stands in the row
 inside : (c : tie.Else1) → c .before .before .before .before .before .before .args .index < length
@@ -35,41 +26,20 @@ roll-node-requires c κs =
     let s = c .before .before .before .before .before .before .before .before in
     let h = inside (c .before .before) in
     let e = c .before .row-branch .ensures in (
-      branch-inside _ _ (now (s .args .options)) _ _ (s .pre .0) (s .pre .1) h _ e,
-      branch-whole _ _ (now (s .args .options)) _ _ (s .pre .0) (s .pre .1) h _ e,
-      branch-limited _ _ (now (s .args .options)) _ _ (s .pre .0) (s .pre .1) h _ e,
+      branch-inside {later = now (s .args .options)} (s .pre .0) (s .pre .1) h _ e,
+      branch-whole {later = now (s .args .options)} (s .pre .0) (s .pre .1) h _ e,
+      branch-limited {later = now (s .args .options)} (s .pre .0) (s .pre .1) h _ e,
       s .pre .0 .discounted (s .args .index) h,
     )
-
-mul-held-value : tie.Need-mul-held-value
-mul-held-value c = search needs
-
-shared-slice-read-held-value : tie.Need-shared-slice-read-held-value
-shared-slice-read-held-value c = search needs
-
-held-value-requires : tie.Need-held-value-requires
-held-value-requires c κs = search needs
-
-mul-option : tie.Need-mul-option
-mul-option c = search needs
-
-slice-write-option : tie.Need-slice-write-option
-slice-write-option c = search needs
-
-larger-requires : tie.Need-larger-requires
-larger-requires c κs = search needs
-
-same-length : tie.Need-same-length
-same-length c = search needs
 
 returns-2 : tie.Need-returns-2
 returns-2 c =
     let s = c .before .before .before .before .before .before .before .before .before .before .before .before in
     let right = s .args .right in
     let h = inside (c .before .before .before .before .before .before) in
-    let roll = branch-rolled _ _ _ _ _ (s .pre .0) (s .pre .1) h _ (c .before .before .before .before .before .row-branch .ensures) _
+    let roll = branch-rolled (s .pre .0) (s .pre .1) h _ (c .before .before .before .before .before .row-branch .ensures) _
     (c .before .before .before .roll-node .ensures .0) in
-    row-done _ _ _ _ (s .args .index + 1) _
+    row-done {k = s .args .index + 1}
     (row-next _ (now (s .args .option)) _ (s .args .greatest) (s .args .index) _ _ (row-resume _ _ _ _ (s .pre .6)) (omega (arith, s .pre .3))
     (strike-from-roll (side (right .call)) (right .strike) (right .listed) (now (s .args .bare)) _ _ _ _ _ _ _ roll (c .before .held-value .ensures))
     (c .larger .ensures))
@@ -80,15 +50,15 @@ strike-edge-spec =
     tie.close
     (tie.spec
     returns
-    row-branch-requires
-    mul-roll-node
-    shared-slice-read-roll-node
+    (λ c κs. search needs)
+    (λ c. search needs)
+    (λ c. search needs)
     roll-node-requires
-    mul-held-value
-    shared-slice-read-held-value
-    held-value-requires
-    mul-option
-    slice-write-option
-    larger-requires
-    same-length
+    (λ c. search needs)
+    (λ c. search needs)
+    (λ c κs. search needs)
+    (λ c. search needs)
+    (λ c. search needs)
+    (λ c κs. search needs)
+    (λ c. search needs)
     returns-2)

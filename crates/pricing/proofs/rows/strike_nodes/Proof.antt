@@ -51,9 +51,9 @@ roll-node-requires c κs =
     let l = c .before .before .before .loop in
     let h : l .k < length (now (s .args .discounts)) = omega (arith, s .pre .4 .ends) in
     let e = span-is _ _ _ _ (s .pre .0) (s .pre .4) (l .inv .0) (c .before .before .loop-test .taken) _ (c .before .span-branch .ensures) in (
-      branch-inside _ _ (now (s .args .options)) _ _ (s .pre .0) (s .pre .1) h _ e,
-      branch-whole _ _ (now (s .args .options)) _ _ (s .pre .0) (s .pre .1) h _ e,
-      branch-limited _ _ (now (s .args .options)) _ _ (s .pre .0) (s .pre .1) h _ e,
+      branch-inside {later = now (s .args .options)} (s .pre .0) (s .pre .1) h _ e,
+      branch-whole {later = now (s .args .options)} (s .pre .0) (s .pre .1) h _ e,
+      branch-limited {later = now (s .args .options)} (s .pre .0) (s .pre .1) h _ e,
       s .pre .0 .discounted (l .k) h,
     )
 
@@ -71,9 +71,6 @@ shared-slice-read-held-value c = omega (
   c .before .before .before .before .before .before .before .before .before .before .before .pre .4 .ends,
 )
 
-held-value-requires : tie.Need-held-value-requires Inv-loop μ-loop
-held-value-requires c κs = search needs
-
 mul-option : tie.Need-mul-option Inv-loop μ-loop
 mul-option c = omega (
   arith,
@@ -90,15 +87,6 @@ slice-write-option c = omega (
   c .before .before .before .before .before .before .before .before .before .before .before .before .pre .4 .ends,
 )
 
-larger-requires : tie.Need-larger-requires Inv-loop μ-loop
-larger-requires c κs = search needs
-
-add-k : tie.Need-add-k Inv-loop μ-loop
-add-k c = omega arith
-
-loop-less : tie.Need-loop-less Inv-loop μ-loop
-loop-less c = omega arith
-
 loop-again : tie.Need-loop-again Inv-loop μ-loop
 loop-again c =
     let s = c .before .before .before .before .before .before .before .before .before .before .before .before .before in
@@ -107,7 +95,7 @@ loop-again c =
     let h : l .k < length (now (s .args .discounts)) = omega (arith, s .pre .4 .ends) in
     let e = span-is _ _ _ _ (s .pre .0) (s .pre .4) (l .inv .0) (c .before .before .before .before .before .before .loop-test .taken) _
     (c .before .before .before .before .before .span-branch .ensures) in
-    let roll = branch-rolled _ _ _ _ _ (s .pre .0) (s .pre .1) h _ e _ (c .before .before .before .roll-node .ensures .0) in (
+    let roll = branch-rolled (s .pre .0) (s .pre .1) h _ e _ (c .before .before .before .roll-node .ensures .0) in (
       omega arith,
       omega arith,
       row-next _ (l .option) _ (l .top) (l .k) _ _ (l .inv .2) (omega (arith, l .inv .2 .filled .same, s .pre .3))
@@ -120,7 +108,7 @@ same-length : tie.Need-same-length Inv-loop μ-loop
 same-length c = c .before .loop .inv .2 .filled .same
 
 returns : tie.Need-returns Inv-loop μ-loop
-returns c = row-done _ _ _ _ _ _ (c .before .loop .inv .2) (omega (arith, c .before .loop .inv .1, c .loop-test .left))
+returns c = row-done (c .before .loop .inv .2) (omega (arith, c .before .loop .inv .1, c .loop-test .left))
 
 pub strike-nodes-spec : {M : Type 1} → statement M
 strike-nodes-spec =
@@ -135,12 +123,12 @@ strike-nodes-spec =
     roll-node-requires
     mul-held-value
     shared-slice-read-held-value
-    held-value-requires
+    (λ c κs. search needs)
     mul-option
     slice-write-option
-    larger-requires
-    add-k
-    loop-less
+    (λ c κs. search needs)
+    (λ c. omega arith)
+    (λ c. omega arith)
     loop-again
     same-length
     returns)

@@ -11,9 +11,6 @@ use borrow.Author.Needs.{needs}
 use Rattle.pricing.proofs.rows.strike_row.Statement.{statement}
 use Rattle.pricing.proofs.rows.strike_row.Tie as tie
 
-edge-nodes-requires : tie.Need-edge-nodes-requires
-edge-nodes-requires c κs = search needs
-
 -- the edges fit
 fits : (c : tie.After-edge-nodes) →
     let edge = c .edge-nodes .result in (edge ≤ 1) × (edge + edge ≤ length (now (c .before .before .before .before .before .before .args .discounts)))
@@ -65,9 +62,6 @@ strike-edge-requires-2 c κs =
       done,
     )
 
-same-length : tie.Need-same-length
-same-length c = search needs
-
 returns : tie.Need-returns
 returns c =
     let f = fits (c .before .before .before .before .before .before .before .before .before .before .before .before .before) in
@@ -81,11 +75,11 @@ pub strike-row-spec : {M : Type 1} → statement M
 strike-row-spec =
     tie.close
     (tie.spec
-    edge-nodes-requires
+    (λ c κs. search needs)
     between-edges-requires
     strike-edge-requires
     strike-nodes-requires
     sub-strike-edge
     strike-edge-requires-2
-    same-length
+    (λ c. search needs)
     returns)

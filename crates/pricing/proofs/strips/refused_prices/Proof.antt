@@ -19,29 +19,11 @@ Inv-loop number count zeros numbers₀ k₀ numbers k = (k ≤ count) × Filled 
 abbrev μ-loop : tie.MeasureT-loop
 μ-loop number count zeros numbers₀ k₀ numbers k = count - k
 
-no-answers-requires : tie.Need-no-answers-requires Inv-loop μ-loop
-no-answers-requires c κs = search needs
-
-no-answers-requires-2 : tie.Need-no-answers-requires-2 Inv-loop μ-loop
-no-answers-requires-2 c κs = search needs
-
 loop-holds : tie.Need-loop-holds Inv-loop μ-loop
 loop-holds c = (omega arith, rw (c .no-answers2 .ensures) (filled-start _ _))
 
-mul-numbers : tie.Need-mul-numbers Inv-loop μ-loop
-mul-numbers c = search needs
-
-array-write-numbers : tie.Need-array-write-numbers Inv-loop μ-loop
-array-write-numbers c = search needs
-
-add-k : tie.Need-add-k Inv-loop μ-loop
-add-k c = search needs
-
-loop-less : tie.Need-loop-less Inv-loop μ-loop
-loop-less c = search needs
-
 loop-again : tie.Need-loop-again Inv-loop μ-loop
-loop-again c = (omega arith, filled-next _ _ _ _ _ (c .before .loop .inv .1) (search needs) refl)
+loop-again c = (omega arith, filled-next (c .before .loop .inv .1) (search needs) refl)
 
 returns : tie.Need-returns Inv-loop μ-loop
 returns c =
@@ -56,12 +38,12 @@ refused-prices-spec =
     (tie.spec
     Inv-loop
     μ-loop
-    no-answers-requires
-    no-answers-requires-2
+    (λ c κs. search needs)
+    (λ c κs. search needs)
     loop-holds
-    mul-numbers
-    array-write-numbers
-    add-k
-    loop-less
+    (λ c. search needs)
+    (λ c. search needs)
+    (λ c. search needs)
+    (λ c. search needs)
     loop-again
     returns)

@@ -5,11 +5,8 @@ use borrow.Author.Needs.{needs}
 use Rattle.pricing.proofs.strips.refused_strip.Statement.{statement}
 use Rattle.pricing.proofs.strips.refused_strip.Tie as tie
 
-no-answers-requires : tie.Need-no-answers-requires
-no-answers-requires c κs = search needs
-
 returns : tie.Need-returns
 returns c = refused-is _ _ (c .no-answers .ensures)
 
 pub refused-strip-spec : {M : Type 1} → statement M
-refused-strip-spec = tie.close (tie.spec no-answers-requires returns)
+refused-strip-spec = tie.close (tie.spec (λ c κs. search needs) returns)

@@ -11,21 +11,12 @@ use borrow.Author.Needs.{needs}
 use Rattle.pricing.proofs.strips.strike_price.Statement.{statement}
 use Rattle.pricing.proofs.strips.strike_price.Tie as tie
 
-terms-cause-requires : tie.Need-terms-cause-requires
-terms-cause-requires c κs = search needs
-
-lowest-cause-requires : tie.Need-lowest-cause-requires
-lowest-cause-requires c κs = search needs
-
 -- the cause about the strike and the list
 cause : (c : tie.After-lowest-cause) → let a = c .before .before .before .before .before .before .before .before .args in
     c .lowest-cause .result ≡ datedCause (a .shared .steps) (a .shared .side) (now (a .dates)) (a .strike)
 cause c =
     let c₁ = c .before .before .before .before .before .before .before .before in
-    dated-cause-is _ _ _ _ _ _ _ (c .before .terms-cause .ensures) (c₁ .pre .list-is) (c .lowest-cause .ensures)
-
-refused-requires : tie.Need-refused-requires
-refused-requires c κs = search needs
+    dated-cause-is _ _ _ _ (c .before .terms-cause .ensures) (c₁ .pre .list-is) (c .lowest-cause .ensures)
 
 returns : tie.Need-returns
 returns c =
@@ -33,9 +24,6 @@ returns c =
     let c₂ = c₁ .before .before .before .before .before .before .before .before in
     c .refused .ensures
     ∙ strike-refused _ _ _ _ _ _ _ _ (c₂ .pre .none) (cause c₁) _ (c .before .if1 .taken)
-
-refused-requires-2 : tie.Need-refused-requires-2
-refused-requires-2 c κs = search needs
 
 returns-2 : tie.Need-returns-2
 returns-2 c =
@@ -45,12 +33,9 @@ returns-2 c =
     let s = c₃ in
     let ready = s .pre .ready in
     c .refused2 .ensures
-    ∙ bond-refuses _ _ _ _ _ _ _ _ (s .pre .none) (cause c₂) _ (c₁ .if1 .left) (ready .tree .steps-within-limit)
+    ∙ bond-refuses _ _ _ _ _ _ _ _ (s .pre .none) (cause c₂) _ (c₁ .if1 .left) (ready .tree .limits .steps-within-limit)
     (datedTerms (s .args .shared .side) (now (s .args .dates)) (s .args .strike)) refl _ (s .pre .marks-are) (ready .tree) (ready .paid) _
     (s .pre .bond-is .cause) (c .before .if2 .taken)
-
-terms-on-requires : tie.Need-terms-on-requires
-terms-on-requires c κs = search needs
 
 roll-strike-requires : tie.Need-roll-strike-requires
 roll-strike-requires c κs =
@@ -60,12 +45,9 @@ roll-strike-requires c κs =
     let s = c₃ in
     let ready = s .pre .ready in
     let on =
-    exercisable _ _ _ _ _ _ _ _ (s .pre .none) (cause c₂) (s .args .shared .bound) (c₁ .if1 .left) (ready .tree .steps-within-limit) _ (c .terms-on .ensures) _
-    (s .pre .marks-are) in
-    (ready, on .0, on .1, kept-through _ _ _ _ _ _ (s .pre .bond-is) (c .before .if2 .left), s .pre .room)
-
-refused-requires-3 : tie.Need-refused-requires-3
-refused-requires-3 c κs = search needs
+    exercisable _ _ _ _ _ _ _ _ (s .pre .none) (cause c₂) (s .args .shared .bound) (c₁ .if1 .left) (ready .tree .limits .steps-within-limit)
+    _ (c .terms-on .ensures) _ (s .pre .marks-are) in
+    (ready, on .0, on .1, kept-through (s .pre .bond-is) (c .before .if2 .left), s .pre .room)
 
 returns-3 : tie.Need-returns-3
 returns-3 c =
@@ -78,7 +60,7 @@ returns-3 c =
     let ready = s .pre .ready in
     c .refused3 .ensures
     ∙ rolled-refuses _ _ _ _ _ _ _ _ (s .pre .none) (cause c₄) _ (c₃ .if1 .left)
-    (ready .tree .steps-within-limit) _ (c₂ .terms-on .ensures) _ (s .pre .marks-are) _ (c₁ .roll-strike .ensures) (c .before .if3 .taken)
+    (ready .tree .limits .steps-within-limit) _ (c₂ .terms-on .ensures) _ (s .pre .marks-are) _ (c₁ .roll-strike .ensures) (c .before .if3 .taken)
 
 returns-4 : tie.Need-returns-4
 returns-4 c =
@@ -90,20 +72,20 @@ returns-4 c =
     let s = c₅ in
     let ready = s .pre .ready in
     rolled-gives _ _ _ _ _ _ _ _ (s .pre .none) (cause c₄) _ (c₃ .if1 .left)
-    (ready .tree .steps-within-limit) _ (c₂ .terms-on .ensures) _ (s .pre .marks-are) _ (c₁ .roll-strike .ensures) (c .if3 .left)
+    (ready .tree .limits .steps-within-limit) _ (c₂ .terms-on .ensures) _ (s .pre .marks-are) _ (c₁ .roll-strike .ensures) (c .if3 .left)
 
 pub strike-price-spec : {M : Type 1} → statement M
 strike-price-spec =
     tie.close
     (tie.spec
-    terms-cause-requires
-    lowest-cause-requires
-    refused-requires
+    (λ c κs. search needs)
+    (λ c κs. search needs)
+    (λ c κs. search needs)
     returns
-    refused-requires-2
+    (λ c κs. search needs)
     returns-2
-    terms-on-requires
+    (λ c κs. search needs)
     roll-strike-requires
-    refused-requires-3
+    (λ c κs. search needs)
     returns-3
     returns-4)

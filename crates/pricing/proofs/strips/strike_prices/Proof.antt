@@ -32,15 +32,6 @@ abbrev μ-loop : tie.MeasureT-loop
 μ-loop shared dates marks downs discounts flows kept strikes numbers₀ values₀ bounds₀ k₀ numbers values bounds k =
     length strikes - k
 
-no-answers-requires : tie.Need-no-answers-requires Inv-loop μ-loop
-no-answers-requires c κs = search needs
-
-no-answers-requires-2 : tie.Need-no-answers-requires-2 Inv-loop μ-loop
-no-answers-requires-2 c κs = search needs
-
-no-answers-requires-3 : tie.Need-no-answers-requires-3 Inv-loop μ-loop
-no-answers-requires-3 c κs = search needs
-
 loop-holds : tie.Need-loop-holds Inv-loop μ-loop
 loop-holds c = (
   omega arith,
@@ -48,12 +39,6 @@ loop-holds c = (
   rw (c .before .no-answers2 .ensures) (filled-start _ _),
   rw (c .no-answers3 .ensures) (filled-start _ _),
 )
-
-mul-strike-price : tie.Need-mul-strike-price Inv-loop μ-loop
-mul-strike-price c = search needs
-
-shared-slice-read-strike-price : tie.Need-shared-slice-read-strike-price Inv-loop μ-loop
-shared-slice-read-strike-price c = search needs
 
 strike-price-requires : tie.Need-strike-price-requires Inv-loop μ-loop
 strike-price-requires c κs = c .before .before .before .before .before .before .before .before .before .before .before .before .before .pre .0
@@ -86,12 +71,6 @@ mul-bounds c = omega (arith, c .before .before .before .before .before .before .
 array-write-bounds : tie.Need-array-write-bounds Inv-loop μ-loop
 array-write-bounds c = omega (arith, c .before .before .before .before .before .before .before .before .before .before .before .before .before .before .pre .1)
 
-add-k : tie.Need-add-k Inv-loop μ-loop
-add-k c = search needs
-
-loop-less : tie.Need-loop-less Inv-loop μ-loop
-loop-less c = search needs
-
 loop-again : tie.Need-loop-again Inv-loop μ-loop
 loop-again c =
     let c₁ = c .before .before .before in
@@ -99,9 +78,9 @@ loop-again c =
     let l = c₁ .loop in
     let e = c .strike-price .ensures in (
       omega arith,
-      filled-next _ _ _ _ _ (l .inv .1) (omega (arith, c₂ .pre .1, numbers-long c)) (ap (λ (x : Price). x .number) e),
-      filled-next _ _ _ _ _ (l .inv .2) (omega (arith, c₂ .pre .1, values-long c)) (ap (λ (x : Price). x .value) e),
-      filled-next _ _ _ _ _ (l .inv .3) (omega (arith, c₂ .pre .1, bounds-long c)) (ap (λ (x : Price). x .bound) e),
+      filled-next (l .inv .1) (omega (arith, c₂ .pre .1, numbers-long c)) (ap (λ (x : Price). x .number) e),
+      filled-next (l .inv .2) (omega (arith, c₂ .pre .1, values-long c)) (ap (λ (x : Price). x .value) e),
+      filled-next (l .inv .3) (omega (arith, c₂ .pre .1, bounds-long c)) (ap (λ (x : Price). x .bound) e),
     )
 
 returns : tie.Need-returns Inv-loop μ-loop
@@ -119,12 +98,12 @@ strike-prices-spec =
     (tie.spec
     Inv-loop
     μ-loop
-    no-answers-requires
-    no-answers-requires-2
-    no-answers-requires-3
+    (λ c κs. search needs)
+    (λ c κs. search needs)
+    (λ c κs. search needs)
     loop-holds
-    mul-strike-price
-    shared-slice-read-strike-price
+    (λ c. search needs)
+    (λ c. search needs)
     strike-price-requires
     mul-numbers
     array-write-numbers
@@ -132,7 +111,7 @@ strike-prices-spec =
     array-write-values
     mul-bounds
     array-write-bounds
-    add-k
-    loop-less
+    (λ c. search needs)
+    (λ c. search needs)
     loop-again
     returns)

@@ -6,9 +6,6 @@ use borrow.Author.Needs.{needs}
 use Rattle.pricing.proofs.strips.strip_cause.Statement.{statement}
 use Rattle.pricing.proofs.strips.strip_cause.Tie as tie
 
-shape-cause-requires : tie.Need-shape-cause-requires
-shape-cause-requires c κs = search needs
-
 returns : tie.Need-returns
 returns c = strip-shape _ _ _ _ (c .before .shape-cause .ensures) (c .if1 .taken)
 
@@ -22,4 +19,4 @@ returns-4 : tie.Need-returns-4
 returns-4 c = strip-taken _ _ _ (sym (c .before .before .before .shape-cause .ensures) ∙ c .before .before .if1 .left) (c .before .if2 .left) (c .if3 .left)
 
 pub strip-cause-spec : {M : Type 1} → statement M
-strip-cause-spec = tie.close (tie.spec shape-cause-requires returns returns-2 returns-3 returns-4)
+strip-cause-spec = tie.close (tie.spec (λ c κs. search needs) returns returns-2 returns-3 returns-4)

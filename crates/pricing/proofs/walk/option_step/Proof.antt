@@ -4,13 +4,11 @@ use mathlib.Core.Path.{_≡_}
 use native.Mathlib.Omega.{arith}
 use lib.ListN.{length}
 use denote.Ref.{now}
+use Rattle.limits.specs.Limits.{mostNodes}
 use Rattle.pricing.proofs.StepParts.{table-room, discount-room, later-next, part-within, part-rollable, part-option}
 use borrow.Author.Needs.{needs}
 use Rattle.pricing.proofs.walk.option_step.Statement.{statement}
 use Rattle.pricing.proofs.walk.option_step.Tie as tie
-
-row-shape-requires : tie.Need-row-shape-requires
-row-shape-requires c κs = search needs
 
 -- where the row's shape is known
 abbrev start : tie.After-row-shape → tie.Start
@@ -27,16 +25,16 @@ part-requires-2 c κs =
     discount-room _ _ _ _ (ready .tree) (ready .inside) _ (c .before .row-shape .ensures)
 
 -- all four rows are whole
-bonds-long : (c : tie.After-option-row-arg) → length (now (start (c .before .before .before) .args .bonds)) ≡ 121
+bonds-long : (c : tie.After-option-row-arg) → length (now (start (c .before .before .before) .args .bonds)) ≡ mostNodes
 bonds-long c = search needs
 
-options-long : (c : tie.After-option-row-arg2) → length (now (start (c .before .before .before .before) .args .options)) ≡ 121
+options-long : (c : tie.After-option-row-arg2) → length (now (start (c .before .before .before .before) .args .options)) ≡ mostNodes
 options-long c = search needs
 
-bond-long : (c : tie.After-option-row-arg3) → length (now (start (c .before .before .before .before .before) .args .bond)) ≡ 121
+bond-long : (c : tie.After-option-row-arg3) → length (now (start (c .before .before .before .before .before) .args .bond)) ≡ mostNodes
 bond-long c = search needs
 
-option-long : (c : tie.After-option-row-arg4) → length (now (start (c .before .before .before .before .before .before) .args .option)) ≡ 121
+option-long : (c : tie.After-option-row-arg4) → length (now (start (c .before .before .before .before .before .before) .args .option)) ≡ mostNodes
 option-long c = search needs
 
 option-row-requires : tie.Need-option-row-requires
@@ -64,7 +62,7 @@ returns c =
     let s = start shaped in
     let ready = s .pre .0 in
     part-option _ _ _ _ (ready .tree) (ready .inside) _ (shaped .row-shape .ensures) _ (parted .part2 .ensures) _ (ready .table) _
-    (parted .before .part .ensures) _ _ _ (s .args .right .listed) _ _ _ _ _ (c .option-row .ensures)
+    (parted .before .part .ensures) _ _ _ (s .args .right .listed) _ _ (c .option-row .ensures)
 
 pub option-step-spec : {M : Type 1} → statement M
-option-step-spec = tie.close (tie.spec row-shape-requires part-requires part-requires-2 option-row-requires returns)
+option-step-spec = tie.close (tie.spec (λ c κs. search needs) part-requires part-requires-2 option-row-requires returns)

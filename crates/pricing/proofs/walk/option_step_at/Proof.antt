@@ -9,12 +9,6 @@ use Rattle.pricing.specs.declared.walk.OptionStep.{OptionStep}
 use Rattle.pricing.proofs.walk.option_step_at.Statement.{statement}
 use Rattle.pricing.proofs.walk.option_step_at.Tie as tie
 
-flow-of-requires : tie.Need-flow-of-requires
-flow-of-requires c κs = search needs
-
-shared-slice-read-t8 : tie.Need-shared-slice-read-t8
-shared-slice-read-t8 c = search needs
-
 returns : tie.Need-returns
 returns c =
     let a = c .before .before .before .before .args in
@@ -31,4 +25,4 @@ returns c =
     (c .before .flow-of .ensures)
 
 pub option-step-at-spec : {M : Type 1} → statement M
-option-step-at-spec = tie.close (tie.spec flow-of-requires shared-slice-read-t8 returns)
+option-step-at-spec = tie.close (tie.spec (λ c κs. search needs) (λ c. search needs) returns)

@@ -20,12 +20,6 @@ abbrev μ-loop : tie.MeasureT-loop
 flow-of-requires : tie.Need-flow-of-requires Inv-loop μ-loop
 flow-of-requires c κs = omega (arith, c .before .before .before .pre .0 .paid .count)
 
-fill-row-requires : tie.Need-fill-row-requires Inv-loop μ-loop
-fill-row-requires c κs = search needs
-
-empty-row-requires : tie.Need-empty-row-requires Inv-loop μ-loop
-empty-row-requires c κs = search needs
-
 loop-holds : tie.Need-loop-holds Inv-loop μ-loop
 loop-holds c =
     let filled = c .before in
@@ -37,16 +31,13 @@ loop-holds c =
 abbrev start : tie.In-loop Inv-loop μ-loop → tie.Start Inv-loop μ-loop
 start c = c .before .before .before .before .before .before .before .before .before
 
-sub-row : tie.Need-sub-row Inv-loop μ-loop
-sub-row c = omega arith
-
 some : (c : tie.In-loop Inv-loop μ-loop) → 0 < c .before .loop .row
 some c = omega (arith, c .loop-test .taken)
 
 flow-of-requires-2 : tie.Need-flow-of-requires-2 Inv-loop μ-loop
 flow-of-requires-2 c κs =
     let s = start c in
-    omega (arith, s .pre .0 .paid .count, bonds-inside _ _ _ _ (c .before .loop .row) _ (c .before .loop .inv .1))
+    omega (arith, s .pre .0 .paid .count, bonds-inside _ _ _ _ (c .before .loop .inv .1))
 
 bond-step-requires : tie.Need-bond-step-requires Inv-loop μ-loop
 bond-step-requires c κs =
@@ -55,8 +46,8 @@ bond-step-requires c κs =
     let l = in-loop .before .loop in
     let ready = start in-loop .pre .0 in
     let e = stepped .flow-of2 .ensures in (
-      turn-steppable _ _ _ _ _ ready (l .row) (l .bond) (some in-loop) (l .inv .1) _ e,
-      turn-limited _ _ _ _ _ ready (l .row) (l .bond) (some in-loop) (l .inv .1) _ e,
+      turn-steppable ready (l .row) (l .bond) (some in-loop) (l .inv .1) _ e,
+      turn-limited ready (l .row) (l .bond) (some in-loop) (l .inv .1) _ e,
     )
 
 returns : tie.Need-returns Inv-loop μ-loop
@@ -64,7 +55,7 @@ returns c =
     let stepped = c .before .before .before .before in
     let in-loop = stepped .before in
     let l = in-loop .before .loop in
-    turn-over _ _ _ _ _ (start in-loop .pre .0) (l .row) (l .bond) (some in-loop) (l .inv .1) _ (stepped .flow-of2 .ensures) _ _
+    turn-over (start in-loop .pre .0) (l .row) (l .bond) (some in-loop) (l .inv .1) _ (stepped .flow-of2 .ensures) _ _
     (c .before .bond-step .ensures) (start in-loop .args .last) _ (in-loop .loop-test .taken) (c .if1 .taken)
 
 -- where the first row of the turn has passed: it stands in the other row
@@ -77,7 +68,7 @@ first : (c : tie.Else1 Inv-loop μ-loop) →
     (c .before .bond-step .last .1 .1 .1 .1 .1 .1 .0)
 first c =
     let l = in-turn c .before .loop in
-    turn-next _ _ _ _ _ (start (in-turn c) .pre .0) (l .row) (l .bond) (some (in-turn c)) (l .inv .1) _
+    turn-next (start (in-turn c) .pre .0) (l .row) (l .bond) (some (in-turn c)) (l .inv .1) _
     (c .before .before .before .before .flow-of2 .ensures) _ _ (c .before .bond-step .ensures) (c .if1 .left)
 
 returns-2 : tie.Need-returns-2 Inv-loop μ-loop
@@ -94,7 +85,7 @@ sub-row-2 c = omega (arith, again c)
 
 flow-of-requires-3 : tie.Need-flow-of-requires-3 Inv-loop μ-loop
 flow-of-requires-3 c κs =
-    omega (arith, start (in-turn (c .before)) .pre .0 .paid .count, bonds-inside _ _ _ _ _ _ (first (c .before)))
+    omega (arith, start (in-turn (c .before)) .pre .0 .paid .count, bonds-inside _ _ _ _ (first (c .before)))
 
 bond-step-requires-2 : tie.Need-bond-step-requires-2 Inv-loop μ-loop
 bond-step-requires-2 c κs =
@@ -102,8 +93,8 @@ bond-step-requires-2 c κs =
     let second = stepped .before in
     let ready = start (in-turn (second .before)) .pre .0 in
     let e = stepped .flow-of3 .ensures in (
-      turn-steppable _ _ _ _ _ ready _ _ (omega (arith, again second)) (first (second .before)) _ e,
-      turn-limited _ _ _ _ _ ready _ _ (omega (arith, again second)) (first (second .before)) _ e,
+      turn-steppable ready _ _ (omega (arith, again second)) (first (second .before)) _ e,
+      turn-limited ready _ _ (omega (arith, again second)) (first (second .before)) _ e,
     )
 
 returns-3 : tie.Need-returns-3 Inv-loop μ-loop
@@ -111,7 +102,7 @@ returns-3 c =
     let stepped = c .before .before .before .before in
     let second = stepped .before in
     let s = start (in-turn (second .before)) in
-    turn-over _ _ _ _ _ (s .pre .0) _ _ (omega (arith, again second)) (first (second .before)) _ (stepped .flow-of3 .ensures) _ _
+    turn-over (s .pre .0) _ _ (omega (arith, again second)) (first (second .before)) _ (stepped .flow-of3 .ensures) _ _
     (c .before .bond-step2 .ensures) (s .args .last) _ (again second) (c .if3 .taken)
 
 loop-less : tie.Need-loop-less Inv-loop μ-loop
@@ -122,7 +113,7 @@ loop-again c =
     let stepped = c .before .before .before .before in
     let second = stepped .before in (
       omega (arith, again second),
-      turn-next _ _ _ _ _ (start (in-turn (second .before)) .pre .0) _ _ (omega (arith, again second)) (first (second .before)) _
+      turn-next (start (in-turn (second .before)) .pre .0) _ _ (omega (arith, again second)) (first (second .before)) _
           (stepped .flow-of3 .ensures) _ _ (c .before .bond-step2 .ensures) (c .if3 .left),
     )
 
@@ -139,10 +130,10 @@ roll-bond-spec =
     Inv-loop
     μ-loop
     flow-of-requires
-    fill-row-requires
-    empty-row-requires
+    (λ c κs. search needs)
+    (λ c κs. search needs)
     loop-holds
-    sub-row
+    (λ c. omega arith)
     flow-of-requires-2
     bond-step-requires
     returns

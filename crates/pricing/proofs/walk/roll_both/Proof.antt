@@ -6,9 +6,6 @@ use borrow.Author.Needs.{needs}
 use Rattle.pricing.proofs.walk.roll_both.Statement.{statement}
 use Rattle.pricing.proofs.walk.roll_both.Tie as tie
 
-empty-row-requires : tie.Need-empty-row-requires
-empty-row-requires c κs = search needs
-
 -- where the bond was rolled back to the option's last row
 abbrev start : tie.After-roll-bond → tie.Start
 start c = c .before .before .before .before .before .before .before
@@ -17,9 +14,6 @@ roll-bond-requires : tie.Need-roll-bond-requires
 roll-bond-requires c κs =
     let s = c .before .before .before .before .before .before in
     (s .pre .0, s .pre .1 .last-inside)
-
-over-requires : tie.Need-over-requires
-over-requires c κs = search needs
 
 returns : tie.Need-returns
 unfolding marked
@@ -33,12 +27,9 @@ roll-option-requires : tie.Need-roll-option-requires
 roll-option-requires c κs =
     let rolled = c .before .before in
     let s = start rolled in
-    (s .pre .0, s .pre .1, rolled-through _ _ _ _ _ _ _ (c .before .if1 .left) (rolled .roll-bond .ensures))
-
-returns-2 : tie.Need-returns-2
-returns-2 c = search needs
+    (s .pre .0, s .pre .1, rolled-through (c .before .if1 .left) (rolled .roll-bond .ensures))
 
 pub roll-both-spec : {M : Type 1} → statement M
 roll-both-spec =
     tie.close
-    (tie.spec empty-row-requires roll-bond-requires over-requires returns roll-option-requires returns-2)
+    (tie.spec (λ c κs. search needs) roll-bond-requires (λ c κs. search needs) returns roll-option-requires (λ c. search needs))

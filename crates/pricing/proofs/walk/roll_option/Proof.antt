@@ -1,12 +1,8 @@
 -- `pricing::walk::roll_option` meets its contract: bond and option stand at the row that the loop has reached, two rows a turn.
 -- Assumes nothing.
-use mathlib.Core.Path.{ap, _∙_}
-use Prim.Native.Nat.{ℕ, _-_, _<_}
+use Prim.Native.Nat.{_-_, _<_}
 use native.Mathlib.Omega.{arith}
 use denote.Ref.{now}
-use Rattle.arithmetic.specs.Row.{values}
-use Rattle.pricing_laws.specs.Pricer.{exercise}
-use Rattle.exercise.specs.Terms.{side}
 use Rattle.pricing.proofs.WalkStates.{rolled-answer}
 use Rattle.pricing.proofs.WalkTurns.{Both, both-first, both-done, both-before, turn-both-ready, turn-both-over, turn-both-next}
 use borrow.Author.Needs.{needs}
@@ -20,57 +16,35 @@ Inv-loop tree terms marks downs discounts flows bond₀ option₀ bonds₀ optio
 abbrev μ-loop : tie.MeasureT-loop
 μ-loop tree terms marks downs discounts flows bond₀ option₀ bonds₀ options₀ row₀ bond option bonds options row = row
 
-empty-row-requires : tie.Need-empty-row-requires Inv-loop μ-loop
-empty-row-requires c κs = search needs
-
-flow-of-requires : tie.Need-flow-of-requires Inv-loop μ-loop
-flow-of-requires c κs =
-    let s = c .before .before .before .before .before in
-    omega (arith, s .pre .0 .paid .count, s .pre .1 .last-inside)
-
-slice-aggregate-exercise-row : tie.Need-slice-aggregate-exercise-row Inv-loop μ-loop
-slice-aggregate-exercise-row c = search needs
-
-exercise-row-requires : tie.Need-exercise-row-requires Inv-loop μ-loop
-exercise-row-requires c κs = search needs
-
-empty-row-requires-2 : tie.Need-empty-row-requires-2 Inv-loop μ-loop
-empty-row-requires-2 c κs = search needs
-
-empty-row-requires-3 : tie.Need-empty-row-requires-3 Inv-loop μ-loop
-empty-row-requires-3 c κs = search needs
+exercise-step-requires : tie.Need-exercise-step-requires Inv-loop μ-loop
+exercise-step-requires c κs =
+    let s = c .before .before .before .before .before .before .before in
+    let ready = s .pre .0 in
+    let inside = s .pre .1 .last-inside in
+    (ready .tree .limits .reversion-within-limit, omega (arith, ready .tree .limits .steps-within-limit), omega (arith, ready .paid .count))
 
 loop-holds : tie.Need-loop-holds Inv-loop μ-loop
 loop-holds c =
-    let exercised = c .before .before .before in
-    let flow = exercised .before .before .before .before in
-    let s = flow .before .before .before .before .before .before in
-    let value = exercise (side (s .args .terms .call)) (s .args .terms .strike) in
-    both-first _ _ _ _ _ (s .pre .0) (s .args .terms) _ (s .pre .1) _ _ (s .pre .2)
-    (λ k h. exercised .exercise-row .ensures k (search needs) ∙ ap (λ (x : ℕ). value (values (now (s .args .bond)) k - x)) (flow .flow-of .ensures))
+    let s = c .before .before .before .before .before .before .before .before .before .before in
+    both-first (s .pre .0) (s .args .terms) _ (s .pre .1) _ _ (s .pre .2) (c .before .before .exercise-step .ensures)
 
 -- where the loop goes on
-abbrev start : tie.In-loop Inv-loop μ-loop → tie.Start Inv-loop μ-loop
-start c = c .before .before .before .before .before .before .before .before .before .before .before .before .before .before .before
-
-sub-row : tie.Need-sub-row Inv-loop μ-loop
-sub-row c = omega arith
+abbrev start : (c : tie.In-loop Inv-loop μ-loop) → tie.Start Inv-loop μ-loop
+start c = c .before .before .before .before .before .before .before .before .before .before .before .before
 
 option-step-at-requires : tie.Need-option-step-at-requires Inv-loop μ-loop
 option-step-at-requires c κs =
     let l = c .before .loop in
-    both-before _ _ _ _ _ (start c .pre .0) _ _ (start c .pre .1) (l .row) (l .bond) (l .option) (c .loop-test .taken) (l .inv)
+    both-before (start c .pre .0) _ _ (start c .pre .1) (l .row) (l .bond) (l .option) (c .loop-test .taken) (l .inv)
 
 option-step-requires : tie.Need-option-step-requires Inv-loop μ-loop
 option-step-requires c κs =
-    let stepped = c .before .before .before .before in
+    let c₁ = c .before .before .before .before in
+    let stepped = c₁ in
     let in-loop = stepped .before in
     let l = in-loop .before .loop in
-    turn-both-ready _ _ _ _ _ (start in-loop .pre .0) _ _ (start in-loop .pre .1) (l .row) (l .bond) (l .option) (in-loop .loop-test .taken) (l .inv) _
+    turn-both-ready (start in-loop .pre .0) _ _ (start in-loop .pre .1) (l .row) (l .bond) (l .option) (in-loop .loop-test .taken) (l .inv) _
     (stepped .option-step-at .ensures)
-
-over-requires : tie.Need-over-requires Inv-loop μ-loop
-over-requires c κs = search needs
 
 -- where the first row of the turn was rolled
 abbrev in-turn : tie.After-option-step Inv-loop μ-loop → tie.In-loop Inv-loop μ-loop
@@ -82,7 +56,7 @@ returns c =
     let in-loop = in-turn rolled in
     let l = in-loop .before .loop in
     rolled-answer (c .over .result) (c .over .ensures)
-    (turn-both-over _ _ _ _ _ (start in-loop .pre .0) _ _ (start in-loop .pre .1) (l .row) (l .bond) (l .option) (in-loop .loop-test .taken) (l .inv) _
+    (turn-both-over (start in-loop .pre .0) _ _ (start in-loop .pre .1) (l .row) (l .bond) (l .option) (in-loop .loop-test .taken) (l .inv) _
     (rolled .before .before .before .before .before .option-step-at .ensures) _ _ _ (rolled .option-step .ensures) (c .before .if1 .taken))
 
 -- where it has passed: it stands in the other two rows
@@ -95,18 +69,15 @@ first c =
     let rolled = c .before in
     let in-loop = in-turn rolled in
     let l = in-loop .before .loop in
-    turn-both-next _ _ _ _ _ (start in-loop .pre .0) _ _ (start in-loop .pre .1) (l .row) (l .bond) (l .option) (in-loop .loop-test .taken) (l .inv) _
+    turn-both-next (start in-loop .pre .0) _ _ (start in-loop .pre .1) (l .row) (l .bond) (l .option) (in-loop .loop-test .taken) (l .inv) _
     (rolled .before .before .before .before .before .option-step-at .ensures) _ _ _ (rolled .option-step .ensures) (c .if1 .left)
-
-at-root-requires : tie.Need-at-root-requires Inv-loop μ-loop
-at-root-requires c κs = search needs
 
 returns-2 : tie.Need-returns-2 Inv-loop μ-loop
 returns-2 c =
     let last = c .before .before .before in
     let s = start (in-turn (last .before .before)) in
     rolled-answer (c .at-root .result) (c .at-root .ensures)
-    (both-done _ _ _ _ _ (s .pre .0) _ _ (s .pre .1) _ _ _ (last .if2 .taken) (first (last .before)))
+    (both-done (s .pre .0) _ _ (s .pre .1) _ _ _ (last .if2 .taken) (first (last .before)))
 
 -- where the turn goes on to its second row
 again : (c : tie.Else2 Inv-loop μ-loop) → 0 < in-turn (c .before .before) .before .loop .row - 1
@@ -118,17 +89,15 @@ sub-row-2 c = again c
 option-step-at-requires-2 : tie.Need-option-step-at-requires-2 Inv-loop μ-loop
 option-step-at-requires-2 c κs =
     let s = start (in-turn (c .before .before)) in
-    both-before _ _ _ _ _ (s .pre .0) _ _ (s .pre .1) _ _ _ (again c) (first (c .before))
+    both-before (s .pre .0) _ _ (s .pre .1) _ _ _ (again c) (first (c .before))
 
 option-step-requires-2 : tie.Need-option-step-requires-2 Inv-loop μ-loop
 option-step-requires-2 c κs =
-    let stepped = c .before .before .before .before in
+    let c₁ = c .before .before .before .before in
+    let stepped = c₁ in
     let second = stepped .before in
     let s = start (in-turn (second .before .before)) in
-    turn-both-ready _ _ _ _ _ (s .pre .0) _ _ (s .pre .1) _ _ _ (again second) (first (second .before)) _ (stepped .option-step-at2 .ensures)
-
-over-requires-2 : tie.Need-over-requires-2 Inv-loop μ-loop
-over-requires-2 c κs = search needs
+    turn-both-ready (s .pre .0) _ _ (s .pre .1) _ _ _ (again second) (first (second .before)) _ (stepped .option-step-at2 .ensures)
 
 returns-3 : tie.Need-returns-3 Inv-loop μ-loop
 returns-3 c =
@@ -137,7 +106,7 @@ returns-3 c =
     let second = stepped .before in
     let s = start (in-turn (second .before .before)) in
     rolled-answer (c .over2 .result) (c .over2 .ensures)
-    (turn-both-over _ _ _ _ _ (s .pre .0) _ _ (s .pre .1) _ _ _ (again second) (first (second .before)) _ (stepped .option-step-at2 .ensures) _ _ _
+    (turn-both-over (s .pre .0) _ _ (s .pre .1) _ _ _ (again second) (first (second .before)) _ (stepped .option-step-at2 .ensures) _ _ _
     (rolled .option-step2 .ensures) (c .before .if3 .taken))
 
 loop-less : tie.Need-loop-less Inv-loop μ-loop
@@ -149,19 +118,16 @@ loop-again c =
     let stepped = rolled .before .before .before .before .before in
     let second = stepped .before in
     let s = start (in-turn (second .before .before)) in
-    turn-both-next _ _ _ _ _ (s .pre .0) _ _ (s .pre .1) _ _ _ (again second) (first (second .before)) _ (stepped .option-step-at2 .ensures) _ _ _
+    turn-both-next (s .pre .0) _ _ (s .pre .1) _ _ _ (again second) (first (second .before)) _ (stepped .option-step-at2 .ensures) _ _ _
     (rolled .option-step2 .ensures) (c .if3 .left)
-
-at-root-requires-2 : tie.Need-at-root-requires-2 Inv-loop μ-loop
-at-root-requires-2 c κs = search needs
 
 returns-4 : tie.Need-returns-4 Inv-loop μ-loop
 returns-4 c =
     let ended = c .before .before .before in
     let l = ended .before .loop in
-    let s = ended .before .before .before .before .before .before .before .before .before .before .before .before .before .before .before in
+    let s = c .before .before .before .before .before .before .before .before .before .before .before .before .before .before .before in
     rolled-answer (c .at-root2 .result) (c .at-root2 .ensures)
-    (both-done _ _ _ _ _ (s .pre .0) _ _ (s .pre .1) (l .row) (l .bond) (l .option) (omega (arith, ended .loop-test .left)) (l .inv))
+    (both-done (s .pre .0) _ _ (s .pre .1) (l .row) (l .bond) (l .option) (omega (arith, ended .loop-test .left)) (l .inv))
 
 pub roll-option-spec : {M : Type 1} → statement M
 roll-option-spec =
@@ -169,26 +135,24 @@ roll-option-spec =
     (tie.spec
     Inv-loop
     μ-loop
-    empty-row-requires
-    flow-of-requires
-    slice-aggregate-exercise-row
-    exercise-row-requires
-    empty-row-requires-2
-    empty-row-requires-3
+    (λ c κs. search needs)
+    exercise-step-requires
+    (λ c κs. search needs)
+    (λ c κs. search needs)
     loop-holds
-    sub-row
+    (λ c. omega arith)
     option-step-at-requires
     option-step-requires
-    over-requires
+    (λ c κs. search needs)
     returns
-    at-root-requires
+    (λ c κs. search needs)
     returns-2
     sub-row-2
     option-step-at-requires-2
     option-step-requires-2
-    over-requires-2
+    (λ c κs. search needs)
     returns-3
     loop-less
     loop-again
-    at-root-requires-2
+    (λ c κs. search needs)
     returns-4)

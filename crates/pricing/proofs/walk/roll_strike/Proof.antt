@@ -5,6 +5,7 @@ use Prim.Native.Nat.{_-_, _<_}
 use native.Mathlib.Omega.{arith}
 use lib.ListN.{length}
 use denote.Ref.{now}
+use Rattle.limits.specs.Limits.{mostNodes}
 use Rattle.pricing.proofs.StripTurns.{Alone, last-room, last-short, alone-start, alone-before, alone-ready, turn-alone-over, turn-alone-next}
 use Rattle.pricing.proofs.StripTurns.{alone-done, beside-answer}
 use borrow.Author.Needs.{needs}
@@ -18,21 +19,12 @@ Inv-loop tree terms marks downs discounts flows kept option₀ other₀ row₀ o
 abbrev μ-loop : tie.MeasureT-loop
 μ-loop tree terms marks downs discounts flows kept option₀ other₀ row₀ option other row = row
 
-row-shape-requires : tie.Need-row-shape-requires Inv-loop μ-loop
-row-shape-requires c κs = search needs
-
-empty-row-requires : tie.Need-empty-row-requires Inv-loop μ-loop
-empty-row-requires c κs = search needs
-
 part-requires : tie.Need-part-requires Inv-loop μ-loop
 part-requires c κs =
     let s = c .before .before .before .before .before .before .before in
-    last-room _ _ _ _ _ (s .pre .0) _ _ (s .pre .1) (s .pre .2) _ (s .pre .3) (s .pre .4) _ (c .before .row-shape .ensures)
+    last-room (s .pre .0) _ _ (s .pre .1) (s .pre .2) _ (s .pre .3) (s .pre .4) _ (c .before .row-shape .ensures)
 
-slice-aggregate-first-row : tie.Need-slice-aggregate-first-row Inv-loop μ-loop
-slice-aggregate-first-row c = search needs
-
-option-long : (c : tie.After-part Inv-loop μ-loop) → length (c .before .empty-row .result) ≡ 121
+option-long : (c : tie.After-part Inv-loop μ-loop) → length (c .before .empty-row .result) ≡ mostNodes
 option-long c = search needs
 
 first-row-requires : tie.Need-first-row-requires Inv-loop μ-loop
@@ -40,11 +32,8 @@ first-row-requires c κs =
     let shaped = c .before .before .before in
     let s = shaped .before .before .before .before .before .before in
     let short =
-    last-short _ _ _ _ _ (s .pre .0) _ _ (s .pre .1) (s .pre .2) _ (s .pre .3) (s .pre .4) _ (shaped .row-shape .ensures) _ (c .before .part .ensures) in
+    last-short (s .pre .0) _ _ (s .pre .1) (s .pre .2) _ (s .pre .3) (s .pre .4) _ (shaped .row-shape .ensures) _ (c .before .part .ensures) in
     omega (arith, short, option-long (c .before))
-
-empty-row-requires-2 : tie.Need-empty-row-requires-2 Inv-loop μ-loop
-empty-row-requires-2 c κs = search needs
 
 loop-holds : tie.Need-loop-holds Inv-loop μ-loop
 loop-holds c =
@@ -53,21 +42,18 @@ loop-holds c =
     let c₃ = c₂ .before .before in
     let c₄ = c₃ .before .before .before .before .before .before in
     let s = c₄ in
-    alone-start _ _ _ _ _ (s .pre .0) _ _ (s .pre .1) (s .pre .2) _ (s .pre .3) (s .pre .4) _ (c₃ .row-shape .ensures) _ (c₂ .part .ensures) _
+    alone-start (s .pre .0) _ _ (s .pre .1) (s .pre .2) _ (s .pre .3) (s .pre .4) _ (c₃ .row-shape .ensures) _ (c₂ .part .ensures) _
     (c₁ .first-row .ensures)
 
 -- where the loop goes on
 abbrev start : tie.In-loop Inv-loop μ-loop → tie.Start Inv-loop μ-loop
 start c = c .before .before .before .before .before .before .before .before .before .before .before .before .before .before
 
-sub-row : tie.Need-sub-row Inv-loop μ-loop
-sub-row c = omega arith
-
 option-step-at-requires : tie.Need-option-step-at-requires Inv-loop μ-loop
 option-step-at-requires c κs =
     let s = start c in
     let l = c .before .loop in
-    alone-before _ _ _ _ _ (s .pre .0) _ _ (s .pre .1) (s .pre .2) _ (s .pre .3) (s .pre .4) (l .row) (l .option) (c .loop-test .taken) (l .inv)
+    alone-before (s .pre .0) _ _ (s .pre .1) (s .pre .2) _ (s .pre .3) (s .pre .4) (l .row) (l .option) (c .loop-test .taken) (l .inv)
 
 strike-step-requires : tie.Need-strike-step-requires Inv-loop μ-loop
 strike-step-requires c κs =
@@ -76,12 +62,9 @@ strike-step-requires c κs =
     let s = start in-loop in
     let l = in-loop .before .loop in
     let asks =
-    alone-ready _ _ _ _ _ (s .pre .0) _ _ (s .pre .1) (s .pre .2) _ (s .pre .3) (s .pre .4) (l .row) (l .option) (in-loop .loop-test .taken) (l .inv) _
+    alone-ready (s .pre .0) _ _ (s .pre .1) (s .pre .2) _ (s .pre .3) (s .pre .4) (l .row) (l .option) (in-loop .loop-test .taken) (l .inv) _
     (stepped .option-step-at .ensures) in
     (asks .0, asks .1, s .pre .4)
-
-past-limit-requires : tie.Need-past-limit-requires Inv-loop μ-loop
-past-limit-requires c κs = search needs
 
 returns : tie.Need-returns Inv-loop μ-loop
 returns c =
@@ -91,7 +74,7 @@ returns c =
     let s = start in-loop in
     let l = in-loop .before .loop in
     beside-answer (c .past-limit .result) (c .past-limit .ensures)
-    (turn-alone-over _ _ _ _ _ (s .pre .0) _ _ (s .pre .1) (s .pre .2) _ (s .pre .3) (s .pre .4) (l .row) (l .option) (in-loop .loop-test .taken) (l .inv) _
+    (turn-alone-over (s .pre .0) _ _ (s .pre .1) (s .pre .2) _ (s .pre .3) (s .pre .4) (l .row) (l .option) (in-loop .loop-test .taken) (l .inv) _
     (stepped .option-step-at .ensures) _ _ (rolled .strike-step .ensures) (c .before .if1 .taken))
 
 -- where the first row of the turn has passed: it stands in the other one
@@ -105,18 +88,15 @@ first : (c : tie.Else1 Inv-loop μ-loop) →
 first c =
     let s = start (in-turn c) in
     let l = in-turn c .before .loop in
-    turn-alone-next _ _ _ _ _ (s .pre .0) _ _ (s .pre .1) (s .pre .2) _ (s .pre .3) (s .pre .4) (l .row) (l .option) (in-turn c .loop-test .taken) (l .inv) _
+    turn-alone-next (s .pre .0) _ _ (s .pre .1) (s .pre .2) _ (s .pre .3) (s .pre .4) (l .row) (l .option) (in-turn c .loop-test .taken) (l .inv) _
     (c .before .before .before .before .option-step-at .ensures) _ _ (c .before .strike-step .ensures) (c .if1 .left)
-
-first-value-requires : tie.Need-first-value-requires Inv-loop μ-loop
-first-value-requires c κs = search needs
 
 returns-2 : tie.Need-returns-2 Inv-loop μ-loop
 returns-2 c =
     let last = c .before .before in
     let s = start (in-turn (last .before)) in
     beside-answer (c .first-value .result) (c .first-value .ensures)
-    (alone-done _ _ _ _ _ (s .pre .0) _ _ (s .pre .1) (s .pre .2) _ (s .pre .3) (s .pre .4) _ _ (last .if2 .taken) (first (last .before)))
+    (alone-done (s .pre .0) _ _ (s .pre .1) (s .pre .2) _ (s .pre .3) (s .pre .4) _ _ (last .if2 .taken) (first (last .before)))
 
 -- where the turn goes on to its second row
 again : (c : tie.Else2 Inv-loop μ-loop) → 0 < in-turn (c .before) .before .loop .row - 1
@@ -128,7 +108,7 @@ sub-row-2 c = again c
 option-step-at-requires-2 : tie.Need-option-step-at-requires-2 Inv-loop μ-loop
 option-step-at-requires-2 c κs =
     let s = start (in-turn (c .before)) in
-    alone-before _ _ _ _ _ (s .pre .0) _ _ (s .pre .1) (s .pre .2) _ (s .pre .3) (s .pre .4) _ _ (again c) (first (c .before))
+    alone-before (s .pre .0) _ _ (s .pre .1) (s .pre .2) _ (s .pre .3) (s .pre .4) _ _ (again c) (first (c .before))
 
 strike-step-requires-2 : tie.Need-strike-step-requires-2 Inv-loop μ-loop
 strike-step-requires-2 c κs =
@@ -136,12 +116,9 @@ strike-step-requires-2 c κs =
     let second = stepped .before in
     let s = start (in-turn (second .before)) in
     let asks =
-    alone-ready _ _ _ _ _ (s .pre .0) _ _ (s .pre .1) (s .pre .2) _ (s .pre .3) (s .pre .4) _ _ (again second) (first (second .before)) _
+    alone-ready (s .pre .0) _ _ (s .pre .1) (s .pre .2) _ (s .pre .3) (s .pre .4) _ _ (again second) (first (second .before)) _
     (stepped .option-step-at2 .ensures) in
     (asks .0, asks .1, s .pre .4)
-
-past-limit-requires-2 : tie.Need-past-limit-requires-2 Inv-loop μ-loop
-past-limit-requires-2 c κs = search needs
 
 returns-3 : tie.Need-returns-3 Inv-loop μ-loop
 returns-3 c =
@@ -150,7 +127,7 @@ returns-3 c =
     let second = stepped .before in
     let s = start (in-turn (second .before)) in
     beside-answer (c .past-limit2 .result) (c .past-limit2 .ensures)
-    (turn-alone-over _ _ _ _ _ (s .pre .0) _ _ (s .pre .1) (s .pre .2) _ (s .pre .3) (s .pre .4) _ _ (again second) (first (second .before)) _
+    (turn-alone-over (s .pre .0) _ _ (s .pre .1) (s .pre .2) _ (s .pre .3) (s .pre .4) _ _ (again second) (first (second .before)) _
     (stepped .option-step-at2 .ensures) _ _ (rolled .strike-step2 .ensures) (c .before .if3 .taken))
 
 loop-less : tie.Need-loop-less Inv-loop μ-loop
@@ -162,11 +139,8 @@ loop-again c =
     let stepped = rolled .before .before .before in
     let second = stepped .before in
     let s = start (in-turn (second .before)) in
-    turn-alone-next _ _ _ _ _ (s .pre .0) _ _ (s .pre .1) (s .pre .2) _ (s .pre .3) (s .pre .4) _ _ (again second) (first (second .before)) _
+    turn-alone-next (s .pre .0) _ _ (s .pre .1) (s .pre .2) _ (s .pre .3) (s .pre .4) _ _ (again second) (first (second .before)) _
     (stepped .option-step-at2 .ensures) _ _ (rolled .strike-step2 .ensures) (c .if3 .left)
-
-first-value-requires-2 : tie.Need-first-value-requires-2 Inv-loop μ-loop
-first-value-requires-2 c κs = search needs
 
 returns-4 : tie.Need-returns-4 Inv-loop μ-loop
 returns-4 c =
@@ -174,7 +148,7 @@ returns-4 c =
     let s = after .before .before .before .before .before .before .before .before .before .before .before .before .before .before in
     let l = after .before .loop in
     beside-answer (c .first-value2 .result) (c .first-value2 .ensures)
-    (alone-done _ _ _ _ _ (s .pre .0) _ _ (s .pre .1) (s .pre .2) _ (s .pre .3) (s .pre .4) (l .row) (l .option) (omega (arith, after .loop-test .left))
+    (alone-done (s .pre .0) _ _ (s .pre .1) (s .pre .2) _ (s .pre .3) (s .pre .4) (l .row) (l .option) (omega (arith, after .loop-test .left))
     (l .inv))
 
 pub roll-strike-spec : {M : Type 1} → statement M
@@ -183,26 +157,26 @@ roll-strike-spec =
     (tie.spec
     Inv-loop
     μ-loop
-    row-shape-requires
-    empty-row-requires
+    (λ c κs. search needs)
+    (λ c κs. search needs)
     part-requires
-    slice-aggregate-first-row
+    (λ c. search needs)
     first-row-requires
-    empty-row-requires-2
+    (λ c κs. search needs)
     loop-holds
-    sub-row
+    (λ c. omega arith)
     option-step-at-requires
     strike-step-requires
-    past-limit-requires
+    (λ c κs. search needs)
     returns
-    first-value-requires
+    (λ c κs. search needs)
     returns-2
     sub-row-2
     option-step-at-requires-2
     strike-step-requires-2
-    past-limit-requires-2
+    (λ c κs. search needs)
     returns-3
     loop-less
     loop-again
-    first-value-requires-2
+    (λ c κs. search needs)
     returns-4)

@@ -4,13 +4,11 @@ use mathlib.Core.Path.{_≡_}
 use native.Mathlib.Omega.{arith}
 use lib.ListN.{length}
 use denote.Ref.{now}
+use Rattle.limits.specs.Limits.{mostNodes}
 use Rattle.pricing.proofs.StepParts.{table-room, discount-room, kept-room, later-next, part-within, part-beside, part-rollable, part-strike}
 use borrow.Author.Needs.{needs}
 use Rattle.pricing.proofs.walk.strike_step.Statement.{statement}
 use Rattle.pricing.proofs.walk.strike_step.Tie as tie
-
-row-shape-requires : tie.Need-row-shape-requires
-row-shape-requires c κs = search needs
 
 part-requires : tie.Need-part-requires
 part-requires c κs =
@@ -30,10 +28,11 @@ part-requires-3 c κs =
     kept-room _ _ _ _ (ready .tree) (ready .inside) _ (c₁ .row-shape .ensures) (now (c₂ .args .kept)) (c₂ .pre .2)
 
 -- both rows are whole
-options-long : (c : tie.After-strike-row-arg) → length (now (c .before .before .before .before .before .before .before .before .args .options)) ≡ 121
+options-long : (c : tie.After-strike-row-arg) → length (now (c .before .before .before .before .before .before .before .before .args .options)) ≡ mostNodes
 options-long c = search needs
 
-option-long : (c : tie.After-strike-row-arg2) → length (now (c .before .before .before .before .before .before .before .before .before .args .option)) ≡ 121
+option-long : (c : tie.After-strike-row-arg2) →
+    length (now (c .before .before .before .before .before .before .before .before .before .args .option)) ≡ mostNodes
 option-long c = search needs
 
 strike-row-requires : tie.Need-strike-row-requires
@@ -58,13 +57,13 @@ returns c =
     let s = c₅ in
     let ready = s .pre .0 in
     part-strike _ _ _ _ (ready .tree) (ready .inside) _ (c₄ .row-shape .ensures) _ (c₂ .part2 .ensures) _ (ready .table) _
-    (c₃ .part .ensures) 0 _ _ (s .args .right .listed) _ _ _ _ _ (c₁ .part3 .ensures) (c .strike-row .ensures)
+    (c₃ .part .ensures) 0 _ _ (s .args .right .listed) _ _ (c₁ .part3 .ensures) (c .strike-row .ensures)
 
 pub strike-step-spec : {M : Type 1} → statement M
 strike-step-spec =
     tie.close
     (tie.spec
-    row-shape-requires
+    (λ c κs. search needs)
     part-requires
     part-requires-2
     part-requires-3

@@ -1,5 +1,5 @@
--- `record_sheet::lines::draw_nodes` meets its contract: a walk of its MIR, by hand. The reader is taken apart, and its slice and its place go to `put_nodes`
--- with the buffer.
+-- `record_sheet::lines::draw_nodes` meets its contract: a walk of its MIR, by hand. The reader is taken apart, and its slice and its place go to
+-- `put_node_rows` with the buffer.
 -- The reader is Copy: what it owns is had twice, and one copy is kept for the exit. The buffer's borrow is given up for good, at its own lifetime, share and
 -- ghost name.
 -- Assumes nothing.
@@ -52,10 +52,10 @@ use Rattle.sheet_laws.specs.inside.Stored.{Drawing}
 use Rattle.node_reader.specs.declared.NodeReader.{NodeReader}
 use Rattle.node_reader.proofs.NodeReader as T
 use Rattle.node_reader.proofs.NodeReader.Laws as T′
-use Rattle.record_sheet.proofs.lines.put_nodes as callee
-use Rattle.record_sheet.proofs.lines.put_nodes.Symbol as callee-def
-use Rattle.record_sheet.proofs.lines.put_nodes.Symbol.{name as #put-nodes}
-use Rattle.record_sheet.proofs.lines.put_nodes.Met as callee-thm
+use Rattle.record_sheet.proofs.lines.put_node_rows as callee
+use Rattle.record_sheet.proofs.lines.put_node_rows.Symbol as callee-def
+use Rattle.record_sheet.proofs.lines.put_node_rows.Symbol.{name as #put-node-rows}
+use Rattle.record_sheet.proofs.lines.put_node_rows.Met as callee-thm
 use Rattle.record_sheet.proofs.lines.draw_nodes.Key.{name as #draw-nodes}
 use Rattle.record_sheet.proofs.lines.draw_nodes as this
 use Rattle.record_sheet.proofs.lines.draw_nodes.Statement as stated
@@ -170,7 +170,7 @@ module _ {M : Type 1} (𝓤 : URA M) (H : Heap 𝓤) (A : Atoms 𝓤) (W : Given
       owned ! usize (Is usize) (uint-makes 𝓤 H A W w64) steps _ (refl, steps-fits) $ fjoin ! $
       owned ! usize (Is usize) (uint-makes 𝓤 H A W w64) end _ (refl, end-fits) $ fjoin ! $ move ! (1 ∷ 0 ∷ []) $ fjoin ! $ done !
 
-  module _ (C : Calls 𝓤 H) (Λ : Loops 𝓤 H) (fm : FmC 𝓤 H (W .laws) C) (known : Triple 𝓤 (C #put-nodes) (Callee 𝓤 H A mem run)) where
+  module _ (C : Calls 𝓤 H) (Λ : Loops 𝓤 H) (fm : FmC 𝓤 H (W .laws) C) (known : Triple 𝓤 (C #put-node-rows) (Callee 𝓤 H A mem run)) where
     walk : Holds (hasTy (T′.mir (named 1)) mach) × WT mach → Room u8 (length ys)
         → ent 𝓤 (onEntry 𝓤 H A this.signature κs (q, (q′, tt)) a vals)
         (WpFn 𝓤 H C Λ code.function (s ∷ vint w64 end ∷ vint w64 steps ∷ vint w64 reversion ∷ mach ∷ []) Post)
@@ -197,7 +197,7 @@ module _ {M : Type 1} (𝓤 : URA M) (H : Heap 𝓤) (A : Atoms 𝓤) (W : Given
         (and-then ! (load ! (from ! (stop !)) (look ! 4 refl)) (and-then ! (load ! (from ! (stop !)) (look ! 2 refl)) (no-more !))))))) (λ u.
         use1 W (later (some (λ (r : ℕ). ((‵ (flft κ q) ⊛ ‵ (flft κ′ q′) ⊛ ‵ ftrue) ⊛ ‵ (usize .own r (u ∷ []))) ⊛ raw
         (ensured 𝓤 H A callee.ended (callee.clauses 𝓤 H A mem run) κs handed tt r)))) (id⊢ 𝓤 _) $ await ! tt $ pick ! (λ r.
-        -- what `put_nodes` ensures, at some last list
+        -- what `put_node_rows` ensures, at some last list
         split ! $ move ! (1 ∷ []) $ use1 W (some (λ (zs : List ℕ × (Unit {0} × (Unit {0} × (Unit {0} × (Unit {0} × (Unit {0} × Unit {0})))))). ‵
         (lasts callee.ended κs handed zs) ⊛ raw (fact 𝓤 (Said r (zs .0))))) (id⊢ 𝓤 _) $ pick ! (λ zs.
         split ! $ move ! (1 ∷ []) $ heard ! (Said r (zs .0)) (λ e. fsplit ! $ fsplit ! $ move ! (1 ∷ []) $ feqL ! (λ l.
@@ -213,7 +213,7 @@ module _ {M : Type 1} (𝓤 : URA M) (H : Heap 𝓤) (A : Atoms 𝓤) (W : Given
         keep ! (1 ∷ 2 ∷ 0 ∷ 4 ∷ []) $ by ! (exits r u (zs .0) e l)))))))))))))))))
 
 module _ {M : Type 1} (𝓤 : URA M) (H : Heap 𝓤) (A : Atoms 𝓤) (W : Given 𝓤 H A) (mem : Memory → SProp 𝓤) (run : Routine → Fun 𝓤) where
-  draw-nodes-walks : (C : Calls 𝓤 H) (Λ : Loops 𝓤 H) → FmC 𝓤 H (W .laws) C → Triple 𝓤 (C #put-nodes) (Callee 𝓤 H A mem run)
+  draw-nodes-walks : (C : Calls 𝓤 H) (Λ : Loops 𝓤 H) → FmC 𝓤 H (W .laws) C → Triple 𝓤 (C #put-node-rows) (Callee 𝓤 H A mem run)
       → Walks 𝓤 H A this.ended stayed (WpFn 𝓤 H C Λ code.function) (this.clauses 𝓤 H A mem run)
   draw-nodes-walks C Λ fm known = walked 𝓤 H A this.ended stayed (this.clauses 𝓤 H A mem run) (WpFn 𝓤 H C Λ code.function)
       (λ κs. (slice-vals, (uint-vals w64, (uint-vals w64, (uint-vals w64, (LL.vals (D κs) (L κs), tt))))))
@@ -226,7 +226,7 @@ module _ {M : Type 1} (𝓤 : URA M) (H : Heap 𝓤) (A : Atoms 𝓤) (W : Given
       (LL.lawful (D κs) (L κs) 𝓤 H A W .typed (a .1 .1 .1 .1 .0) _ (are .1 .1 .1 .1 .0) .0) (are .0 .0 .1)))
 
 draw-nodes-meets : {M : Type 1} (𝓤 : URA M) (H : Heap 𝓤) (A : Atoms 𝓤) (W : Given 𝓤 H A) (mem : Memory → SProp 𝓤) (run : Routine → Fun 𝓤) (𝓣 : Tables 𝓤 H)
-    → Triple 𝓤 (𝓣 .C #put-nodes) (Callee 𝓤 H A mem run)
+    → Triple 𝓤 (𝓣 .C #put-node-rows) (Callee 𝓤 H A mem run)
     → Meets 𝓤 H A this.signature (WpFn 𝓤 H (𝓣 .C) (𝓣 .Λ) code.function) (this.spec 𝓤 H A mem run)
 draw-nodes-meets 𝓤 H A W mem run 𝓣 known =
     walk-meets 𝓤 H A this.ended stayed W (
@@ -248,5 +248,5 @@ draw-nodes-spec 𝓤 H 𝓜 𝓖 𝓡 =
     entered 𝓤 H (tripleOf 𝓤 H (𝓖 .A) this.signature (this.spec 𝓤 H (𝓖 .A) (𝓜 .mem) (𝓡 .run)))
     (tables 𝓤 H 𝓜 𝓡 code.env .C) (tables 𝓤 H 𝓜 𝓡 code.env .Λ) #draw-nodes code.function (code.unfolded 𝓤 H 𝓜 𝓡)
     (draw-nodes-meets 𝓤 H (𝓖 .A) (givenOf 𝓤 H 𝓜 𝓖) (𝓜 .mem) (𝓡 .run) (tablesOf 𝓤 H 𝓜 (tables 𝓤 H 𝓜 𝓡 code.env))
-    (cited 𝓤 H (Callee 𝓤 H (𝓖 .A) (𝓜 .mem) (𝓡 .run)) 𝓜 𝓡 code.env #put-nodes callee-def.routine code.calls-record-sheet·lines·put-nodes
+    (cited 𝓤 H (Callee 𝓤 H (𝓖 .A) (𝓜 .mem) (𝓡 .run)) 𝓜 𝓡 code.env #put-node-rows callee-def.routine code.calls-record-sheet·lines·put-node-rows
     (callee-thm.met 𝓤 H 𝓜 𝓖 𝓡)))

@@ -1,6 +1,10 @@
 -- `record_sheet::lines::put_sheet` meets its contract.
 -- Assumes nothing.
-use Prim.Native.Nat.{_-_}
+use mathlib.Core.List.{List}
+use mathlib.Core.Path.{_≡_, ap}
+use Prim.Native.Nat.{ℕ, _-_, _≤_, _<_}
+use lib.ListN.{length}
+use Rattle.state_price_bound.specs.declared.RowBounds.{RowBounds}
 use Rattle.sheet_laws.proofs.PartLaws as laws
 use borrow.Author.Needs.{needs}
 use native.Mathlib.Omega.{arith}
@@ -18,20 +22,36 @@ put-prices-requires c κs = (omega (arith, c .before .before .before .before .be
 abbrev start : tie.After-put-prices → tie.Start
 start c = c .before .before .before .before .before .before .before .before
 
+-- a place for each row
+size : (c : tie.After-state-price-error-bounds) → length (c .state-price-error-bounds .result .bounds) ≡ 61
+size c = search needs
+
+all-rows : (n : ℕ) (bounds : List ℕ) → n ≤ 60 → length bounds ≡ 61 → n < length bounds
+all-rows n bounds few e = omega arith
+
 put-rows-requires : tie.Need-put-rows-requires
 put-rows-requires c κs =
-    let priced = c .before .before .before in
+    let bounded = c .before .before .before in
+    let priced = bounded .before .before .before in
     let s = start priced in
     let a = s .args in
     let room = laws.rows-room (a .steps) (a .reversion) (a .quotes .now) (a .discounts .now) (a .state-prices .now)
     (a .prices .bond) (a .prices .«has_option») (a .prices .option)
-    (s .pre .0 .0) (fitting s .0) (fitting s .1) (s .pre .0 .2) (priced .put-prices .ensures) in
-    ((s .pre .0 .0, s .pre .0 .1, room .0, room .1), s .pre .1)
+    (s .pre .0 .0) (fitting s .0) (fitting s .1) (s .pre .0 .2) (priced .put-prices .ensures) in (
+      (s .pre .0 .0, s .pre .0 .1, room .0, room .1),
+      (
+        s .pre .1,
+        (
+          ap (λ (r : RowBounds). r .bounds) (bounded .state-price-error-bounds .ensures),
+          all-rows (a .steps) (bounded .state-price-error-bounds .result .bounds) (s .pre .0 .0 .lent .limits .steps-within-limit) (size bounded),
+        ),
+      ),
+    )
 
 put-all-nodes-requires : tie.Need-put-all-nodes-requires
 put-all-nodes-requires c κs =
     let rowed = c .before .before .before in
-    let priced = rowed .before .before .before .before in
+    let priced = rowed .before .before .before .before .before .before .before in
     let known = priced .before .before .before .before .before .before in
     let s = start priced in
     let a = s .args in
@@ -45,7 +65,7 @@ returns : tie.Need-returns
 returns c =
     let noded = c .before .before in
     let rowed = noded .before .before .before .before in
-    let priced = rowed .before .before .before .before in
+    let priced = rowed .before .before .before .before .before .before .before in
     let a = start priced .args in
     laws.sheet-stands (a .steps) (a .reversion) (a .quotes .now) (a .discounts .now) (a .state-prices .now)
     (a .prices .bond) (a .prices .«has_option») (a .prices .option)
@@ -54,4 +74,11 @@ returns c =
 pub put-sheet-spec : {M : Type 1} → statement M
 put-sheet-spec =
     tie.close
-    (tie.spec put-prices-requires put-rows-requires put-all-nodes-requires (λ c. search needs) returns)
+    (tie.spec
+    put-prices-requires
+    (λ c κs. search needs)
+    (λ c. search needs)
+    put-rows-requires
+    put-all-nodes-requires
+    (λ c. search needs)
+    returns)

@@ -10,9 +10,9 @@ returns c =
     let s = c .before .before .before .before .before .before .before .before .before .before .before .before in
     let m = s .args .memory .now in
     let fit = c .before .before .before .fit in
-    let prices = c .before .before .before .before .before .before .before .state-price-room in (
-      lent-number _ _ _ _ _ _ _ m (prices .result) _ _ _ (s .pre) (prices .ensures) (fit .ensures .0),
-      lent-fitted _ _ _ _ _ _ _ m (prices .result) _ _ _ (s .pre) (prices .ensures) (fit .ensures .0) _ (fit .ensures .1 .0) (search needs),
+    let state-prices = c .before .before .before .before .before .before .before .state-price-room in (
+      lent-number _ _ _ _ _ _ _ m (state-prices .result) _ _ _ (s .pre) (state-prices .ensures) (fit .ensures .0),
+      lent-fitted _ _ _ _ _ _ _ m (state-prices .result) _ _ _ (s .pre) (state-prices .ensures) (fit .ensures .0) _ (fit .ensures .1 .0) (search needs),
     )
 
 pub fit-part-spec : {M : Type 1} → statement M

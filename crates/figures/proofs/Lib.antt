@@ -1,4 +1,0 @@
-pub mod Starred
-pub mod YieldFigures
-pub mod SheetFigures
-pub mod VersionFigures

@@ -1,4 +1,0 @@
-pub mod Figures
-pub mod Yields
-pub mod Sheets
-pub mod Versions

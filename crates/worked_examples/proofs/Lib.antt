@@ -1,0 +1,4 @@
+pub mod Starred
+pub mod YieldExamples
+pub mod SheetExamples
+pub mod VersionExamples

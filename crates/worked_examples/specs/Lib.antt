@@ -1,0 +1,4 @@
+pub mod Examples
+pub mod Yields
+pub mod Sheets
+pub mod Versions
