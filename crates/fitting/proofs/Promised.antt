@@ -16,6 +16,7 @@ use Rattle.arithmetic.specs.Sum.{sum}
 use Rattle.arithmetic.specs.Row.{each}
 use Rattle.arithmetic.proofs.Numbers.{by-equal}
 use Rattle.arithmetic.proofs.RowLaws.{values-row, length-row}
+use Rattle.arithmetic.proofs.Implied.{Implied, lastly, _▸_}
 use Rattle.tree.specs.Tree.{Sound, unit}
 use Rattle.limits.specs.Limits.{mostSteps, leastQuote, mostQuote}
 use Rattle.lattice.specs.Shape.{halfWidth, nodeCount}
@@ -45,7 +46,8 @@ late-parts false false e = absurd (none e)
     none : _≡_ {A = ℕ} 9 0 → ⊥
     none z = omega arith
 
-module _ (f n b spaced h : ℕ) (rows kinds : List ℕ) (figures : List Float) (ds ps : ℕ)
+module _ {f n b spaced h : ℕ} {rows kinds : List ℕ} {figures : List Float} {ds ps : ℕ}
+    (_ : Implied (f ▸ n ▸ b ▸ spaced ▸ h ▸ rows ▸ kinds ▸ figures ▸ ds ▸ lastly ps))
     (z : fittedNumber f n b spaced h rows kinds figures ds ps ≡ 0) where
   abbrev early : ℕ
   early = earlyCause (curveNumber f n rows kinds figures mostSteps) n b spaced ds ps

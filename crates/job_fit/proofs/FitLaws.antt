@@ -13,6 +13,7 @@ use Rattle.arithmetic.proofs.CauseLaws.{unless-accepted, unless-refused}
 use Rattle.arithmetic.specs.Row.{place}
 use Rattle.arithmetic.proofs.Numbers.{by-order}
 use Rattle.arithmetic.proofs.RowLaws.{length-row}
+use Rattle.arithmetic.proofs.Implied.{implied}
 use Rattle.lattice.specs.Shape.{discountsNeeded, statePricesNeeded}
 use Rattle.curve.specs.Curve.{discountAt, curveNumber, curveMemory}
 use Rattle.spacing.specs.Spacing.{versionSpacingAnswer}
@@ -182,7 +183,7 @@ module _ (job : Job) where
         (curveNumber (job .frequency) (job .steps) (jobRows job) (jobKinds job) (jobFigures job) 60)
         (versionSpacingAnswer (meantVersion (job .version)) (job .frequency) (job .volatility) (job .reversion) .number) ds ps
     unfolding meantReversion
-    numbers = fit-numbers _ _ _ _ _ _ _ _ ds ps fit-none
+    numbers = fit-numbers implied fit-none
 
     pub accepted : WithinLimits (job .steps) (jobReversion job)
     accepted = numbers .limits

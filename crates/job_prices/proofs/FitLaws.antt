@@ -13,6 +13,7 @@ use Rattle.arithmetic.specs.Answers.{lowestCause}
 use Rattle.arithmetic.specs.Rounding.{one}
 use Rattle.arithmetic.proofs.CauseLaws.{lowest-first, lowest-second, lowest-more, lowest-less, lowest-alone, lowest-none}
 use Rattle.arithmetic.proofs.Numbers.{by-equal, by-order}
+use Rattle.arithmetic.proofs.Implied.{Implied, implied, lastly, _▸_}
 use Rattle.limits.specs.Limits.{mostSteps, mostDiscounts, mostStatePrices, shapeCause}
 use Rattle.limits.proofs.LimitLaws.{shape-accepted}
 use Rattle.lattice.specs.Shape.{halfWidth, discountsNeeded, statePricesNeeded}
@@ -115,11 +116,12 @@ by-memory n w ds ps P none six = go (leb (discountsNeededAnswer n w .value) ds &
 
 -- ---- the fit
 
-fitted-in : (f n w spaced h : ℕ) (rows kinds : List ℕ) (figures : List Float) (ds ps : ℕ) →
+fitted-in : {f n w spaced h : ℕ} {rows kinds : List ℕ} {figures : List Float} {ds ps : ℕ} →
+    Implied (f ▸ n ▸ w ▸ spaced ▸ h ▸ rows ▸ kinds ▸ figures ▸ ds ▸ lastly ps) →
     fittedNumber f n w spaced h rows kinds figures ds ps
     ≡ lowestCause (fittedNumber f n w spaced h rows kinds figures mostDiscounts mostStatePrices) (memoryCause n w ds ps)
 unfolding fittedNumber earlyCause
-fitted-in f n w spaced h rows kinds figures ds ps =
+fitted-in {f} {n} {w} {spaced} {h} {rows} {kinds} {figures} {ds} {ps} _ =
     let high = late-high n w h (quotesOf f n kinds figures) in
     let x = lowestCause (curveNumber f n rows kinds figures mostSteps) (discountsNeededAnswer n w .number) in
     let late = lateCause n w h (quotesOf f n kinds figures) in
@@ -139,7 +141,7 @@ pub fit-in : (job : Job) (ds ps : ℕ) →
     recordFit job ds ps ≡ lowestCause (recordFit job mostDiscounts mostStatePrices) (memoryCause (job .steps) (jobReversion job) ds ps)
 unfolding recordFit meantReversion
 fit-in job ds ps =
-    one-first (ltb mostJobSteps (job .steps)) _ _ _ (one-lowest (job .steps) _ ds ps) (fitted-in (job .frequency) (job .steps) _ _ _ _ _ _ ds ps)
+    one-first (ltb mostJobSteps (job .steps)) _ _ _ (one-lowest (job .steps) _ ds ps) (fitted-in implied)
 
 -- memories that are too short: the fit refuses with no more than 6, and so before it writes
 pub short-refused : (job : Job) (ds ps : ℕ) → (memoryCause (job .steps) (jobReversion job) ds ps ≡ 0 → ⊥) →

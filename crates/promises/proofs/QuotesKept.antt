@@ -16,6 +16,7 @@ use Rattle.arithmetic.specs.Frequency.{isFrequency}
 use Rattle.arithmetic.specs.Rounding.{one, nearest, roundDown}
 use Rattle.arithmetic.proofs.Numbers.{by-test}
 use Rattle.arithmetic.proofs.RoundingLaws.{nearest-le-half, nearest-gt-half}
+use Rattle.arithmetic.proofs.Implied.{implied}
 use Rattle.limits.specs.Limits.{mostSteps, isSteps}
 use Rattle.figure.specs.Figure.{beyond, signed, negative, magnitudeOf, billionthsOf, figureOf}
 use Rattle.figure.proofs.FigureLaws.{number-accepted, value-accepted}
@@ -157,5 +158,5 @@ quotes-kept =
       yearly-rates = yearly-rates;
       curves-quoted = curve-quoted;
       fits-quoted = λ f n w spaced h rows kinds figures ds ps z.
-          curve-quoted f n rows kinds figures mostSteps (fit-numbers f n w spaced h rows kinds figures ds ps z .quotes-converted);
+          curve-quoted f n rows kinds figures mostSteps (fit-numbers implied z .quotes-converted);
     }

@@ -15,6 +15,7 @@ use Rattle.arithmetic.specs.Frequency.{isFrequency}
 use Rattle.arithmetic.specs.Answers.{refused, answered}
 use Rattle.arithmetic.proofs.FrequencyLaws.{listed-small}
 use Rattle.arithmetic.proofs.Numbers.{by-order, by-equal}
+use Rattle.arithmetic.proofs.Implied.{implied}
 use Rattle.lattice.specs.Shape.{halfWidth}
 use Rattle.lattice.specs.Entries.{branchAnswer, branchOf, refusedBranch}
 use Rattle.lattice.specs.Branching.{change, square, squared}
@@ -121,12 +122,12 @@ tree-kept =
       factors-near = factor-near;
       factors-by-sign = factors-kept;
       sign-of-rates = sign;
-      fit-spaced = λ f n w spaced h rows kinds figures ds ps z. fit-numbers f n w spaced h rows kinds figures ds ps z .spacing-found;
+      fit-spaced = λ f n w spaced h rows kinds figures ds ps z. fit-numbers implied z .spacing-found;
       fit-rows = fit-rows;
       fit-laid = fit-laid;
       quotes-repriced =
           λ f n w spaced h rows kinds figures ds ps z i l.
-          let r = fit-repriced f n w spaced h rows kinds figures ds ps z i l in record { below = r .0; above = r .1 };
+          let r = fit-repriced implied z i l in record { below = r .0; above = r .1 };
       sums-weighable = sums-weighable;
       state-price-rows = state-price-rows;
       state-price-bound-is = bound-is;

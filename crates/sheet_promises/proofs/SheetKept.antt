@@ -16,6 +16,7 @@ use Rattle.arithmetic.specs.Row.{values}
 use Rattle.arithmetic.proofs.RowLaws.{values-row}
 use Rattle.arithmetic.proofs.PartLaws.{part-value}
 use Rattle.arithmetic.specs.Within.{Within}
+use Rattle.arithmetic.proofs.Implied.{implied}
 use Rattle.tree.specs.Tree.{unit}
 use Rattle.limits.specs.Limits.{mostDiscounts, mostStatePrices}
 use Rattle.lattice.specs.Shape.{halfWidth, nodeCount, rowStart}
@@ -125,7 +126,7 @@ module _ (job : Job) (room : ℕ) (known : AcceptedJob job room) where
   unfolding jobDiscounts meantReversion
   tree =
       accepted n b _
-      (fit-discounts-lent (job .frequency) n b h (jobKinds job) (jobFigures job) _ (jobRows job) mostDiscounts mostStatePrices (known .fit))
+      (fit-discounts-lent implied (known .fit))
 
   rated : (i k : ℕ) → i < n → k < nodeCount b i → rateAnswer (stored b (jobDiscounts job) i k) .number ≡ 0
   unfolding stored
