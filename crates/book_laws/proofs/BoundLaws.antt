@@ -46,9 +46,9 @@ use Rattle.job_record.specs.declared.OptionRecord.{OptionRecord}
 use Rattle.job_record.specs.declared.Reading.{Reading}
 use Rattle.job_record.specs.Reader.{readingOf}
 use Rattle.job_record.specs.Form.{mostDates, wellFormed}
-use Rattle.job_fit.specs.RecordFit.{jobReversion, jobFlows, jobDiscounts, recordFit}
-use Rattle.job_prices.specs.JobPrices.{hasOption, optionForm, taggedOption, treeNumber, recordNumber, bytesNumber, bytesPrices, pricesOf, jobOption}
-use Rattle.job_prices.proofs.Accepted.{AcceptedRecord, bytes-accepted}
+use Rattle.job_laws.specs.RecordFit.{jobReversion, jobFlows, jobDiscounts, recordFit}
+use Rattle.job_laws.specs.JobPrices.{hasOption, optionForm, taggedOption, treeNumber, recordNumber, bytesNumber, bytesPrices, pricesOf, jobOption}
+use Rattle.job_laws.proofs.Accepted.{AcceptedRecord, bytes-accepted}
 use Rattle.book_laws.specs.Bounds.{jobPrices, mostNumber, mostErrorBound, Bounded}
 
 -- ---- no cause is above 13

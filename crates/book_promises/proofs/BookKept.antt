@@ -17,10 +17,10 @@ use Rattle.limits.specs.Limits.{mostSteps, mostDiscounts, mostStatePrices}
 use Rattle.tree.specs.Tree.{unit}
 use Rattle.price_laws.specs.declared.Price.{Price}
 use Rattle.job_record.specs.Reader.{readingOf}
-use Rattle.job_prices.specs.declared.JobPrices.{JobPrices}
-use Rattle.job_prices.specs.JobPrices.{recordNumber, bytesNumber, bytesPrices, jobBond}
-use Rattle.job_prices.proofs.Accepted.{AcceptedRecord, bytes-accepted}
-use Rattle.job_prices.proofs.PriceLaws.{prices-given, prices-number}
+use Rattle.job_laws.specs.declared.JobPrices.{JobPrices}
+use Rattle.job_laws.specs.JobPrices.{recordNumber, bytesNumber, bytesPrices, jobBond}
+use Rattle.job_laws.proofs.Accepted.{AcceptedRecord, bytes-accepted}
+use Rattle.job_laws.proofs.PriceLaws.{prices-given, prices-number}
 use Rattle.promises.proofs.Kept.{on-tree-kept}
 use Rattle.text_laws.specs.Decimal.{decimal}
 use Rattle.text_laws.specs.Lines.{refusedWord}

@@ -11,7 +11,7 @@ ghost use Rattle.state_price_bound.specs.ErrorBound.{statePriceErrorBoundAnswer
 ghost use Rattle.lent_tree.specs.LentTree.{storedRow};
 ghost use Rattle.sheet_laws.specs.TreeSheet.{nodeLines, lineOfRow, rowLines, optionLines, priceLines, treeSheet};
 ghost use Rattle.sheet_laws.specs.inside.Stored.{Drawing, Stored, Summed};
-use job_prices::JobPrices;
+use job_laws::JobPrices;
 use node_reader::NodeReader;
 use price_laws::Price;
 use row_view::RowKind;

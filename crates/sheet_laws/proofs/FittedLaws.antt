@@ -26,13 +26,13 @@ use Rattle.fitting.specs.Entry.{fitStatePrice}
 use Rattle.fitting.proofs.Promised.{fit-repriced}
 use Rattle.fitting.proofs.FittedTree.{fit-discounts-lent}
 use Rattle.job_record.specs.declared.Job.{Job}
-use Rattle.job_fit.specs.RecordFit.{meantReversion, jobReversion, jobSpacing, jobKinds, jobFigures}
-use Rattle.job_fit.specs.RecordFit.{jobQuotes, jobDiscounts, jobStatePrices, recordQuotes, recordFit, memoryAfter}
-use Rattle.job_fit.proofs.FitLaws as fits
-use Rattle.job_prices.specs.declared.JobPrices.{JobPrices}
-use Rattle.job_prices.specs.JobPrices.{recordNumber, recordPrices, fittedMemory}
-use Rattle.job_prices.proofs.Accepted.{record-accepted, record-formed}
-use Rattle.job_prices.proofs.PriceLaws.{fitted-placed}
+use Rattle.job_laws.specs.RecordFit.{meantReversion, jobReversion, jobSpacing, jobKinds, jobFigures}
+use Rattle.job_laws.specs.RecordFit.{jobQuotes, jobDiscounts, jobStatePrices, recordQuotes, recordFit, memoryAfter}
+use Rattle.job_laws.proofs.FitLaws as fits
+use Rattle.job_laws.specs.declared.JobPrices.{JobPrices}
+use Rattle.job_laws.specs.JobPrices.{recordNumber, recordPrices, fittedMemory}
+use Rattle.job_laws.proofs.Accepted.{record-accepted, record-formed}
+use Rattle.job_laws.proofs.PriceLaws.{fitted-placed}
 use Rattle.node_lines.specs.Rows.{acceptedNodes}
 use Rattle.sheet_laws.specs.inside.Stored.{Stored, Summed, Fitted}
 

@@ -35,10 +35,10 @@ use Rattle.price_laws.specs.declared.Price.{Price}
 use Rattle.job_record.specs.declared.OptionRecord.{OptionRecord}
 use Rattle.job_record.specs.declared.Job.{Job}
 use Rattle.job_record.specs.Reader.{readingOf}
-use Rattle.job_fit.specs.RecordFit.{meantReversion, jobReversion, jobSpacing, jobRows, jobKinds, jobFigures, jobQuotes, jobDiscounts, jobStatePrices, jobFlows}
-use Rattle.job_prices.specs.JobPrices.{hasOption, taggedOption, jobBond, jobOption, pricesOf, recordNumber, recordPrices, bytesNumber, bytesPrices}
-use Rattle.job_prices.proofs.PriceLaws.{prices-number}
-use Rattle.job_prices.proofs.Accepted.{AcceptedRecord, record-accepted, bytes-accepted}
+use Rattle.job_laws.specs.RecordFit.{meantReversion, jobReversion, jobSpacing, jobRows, jobKinds, jobFigures, jobQuotes, jobDiscounts, jobStatePrices, jobFlows}
+use Rattle.job_laws.specs.JobPrices.{hasOption, taggedOption, jobBond, jobOption, pricesOf, recordNumber, recordPrices, bytesNumber, bytesPrices}
+use Rattle.job_laws.proofs.PriceLaws.{prices-number}
+use Rattle.job_laws.proofs.Accepted.{AcceptedRecord, record-accepted, bytes-accepted}
 use Rattle.text_laws.specs.Decimal.{signOf}
 use Rattle.text_laws.specs.Lines.{nodeLine, lineOfNode}
 use Rattle.text_laws.proofs.Signs.{sign-negative, sign-none}

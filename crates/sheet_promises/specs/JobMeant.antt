@@ -13,8 +13,8 @@ use Rattle.spacing.specs.Spacing.{versionSpacing}
 use Rattle.fitting.specs.Entry.{fitDiscounts, fitStatePrices}
 use Rattle.price_laws.specs.Prices.{bondPrice, optionPrice, datedPrice}
 use Rattle.job_record.specs.declared.Job.{Job}
-use Rattle.job_fit.specs.RecordFit.{meantVersion, jobReversion, jobRows, jobKinds, jobFigures, jobFlows, jobQuotes, jobDiscounts, jobStatePrices}
-use Rattle.job_prices.specs.JobPrices.{jobBond, jobOption}
+use Rattle.job_laws.specs.RecordFit.{meantVersion, jobReversion, jobRows, jobKinds, jobFigures, jobFlows, jobQuotes, jobDiscounts, jobStatePrices}
+use Rattle.job_laws.specs.JobPrices.{jobBond, jobOption}
 
 pub record JobMeant (job : Job) : Type 0 where
   -- version 1 where there is no tag

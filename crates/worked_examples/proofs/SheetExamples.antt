@@ -47,8 +47,8 @@ use Rattle.job_record.specs.Form.{isKind, fieldAt, fieldsFrom, headFormed, hasV
 use Rattle.job_record.specs.Reader.{noOption, optionAt, versionOf, jobOf, acceptedReading, readingOf}
 use Rattle.job_record.specs.Example.{exampleQuote, jobWith, example, examplePut, exampleJob, recordWith}
 use Rattle.job_record.proofs.Examples.{example-read}
-use Rattle.job_fit.specs.RecordFit.{meantVersion, meantReversion, jobFlows, jobQuotes, jobDiscounts, jobStatePrices, recordFit}
-use Rattle.job_prices.specs.JobPrices.{optionForm, taggedOption, treeNumber, jobBond, recordNumber}
+use Rattle.job_laws.specs.RecordFit.{meantVersion, meantReversion, jobFlows, jobQuotes, jobDiscounts, jobStatePrices, recordFit}
+use Rattle.job_laws.specs.JobPrices.{optionForm, taggedOption, treeNumber, jobBond, recordNumber}
 use Rattle.text_laws.specs.Decimal.{natural, naturalWithin, lastDigits, decimal, signedDecimal}
 use Rattle.text_laws.specs.Lines.{lineOfNode, nodeLine, rowLine, priceLine, refusedLine}
 use Rattle.node_lines.specs.Rows.{nodeText, lines}

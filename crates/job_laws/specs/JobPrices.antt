@@ -16,8 +16,8 @@ use Rattle.job_record.specs.declared.OptionRecord.{OptionRecord}
 use Rattle.job_record.specs.declared.Job.{Job}
 use Rattle.job_record.specs.Form.{mostDates}
 use Rattle.job_record.specs.Reader.{readingOf}
-use Rattle.job_fit.specs.RecordFit.{jobReversion, jobFlows, jobDiscounts, recordFit}
-use Rattle.job_prices.specs.declared.JobPrices.{JobPrices}
+use Rattle.job_laws.specs.RecordFit.{jobReversion, jobFlows, jobDiscounts, recordFit}
+use Rattle.job_laws.specs.declared.JobPrices.{JobPrices}
 
 -- tag 0 stands for no option
 abbrev pub hasOption : OptionRecord → Bool

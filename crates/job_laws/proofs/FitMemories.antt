@@ -26,7 +26,7 @@ use Rattle.fitting.specs.Entry.{quotesOf, earlyCause, lateCause, fittedNumber}
 use Rattle.curve.specs.Curve.{curveNumber}
 use Rattle.job_record.specs.Form.{mostJobSteps}
 use Rattle.job_record.specs.declared.Job.{Job}
-use Rattle.job_fit.specs.RecordFit.{meantReversion, jobReversion, recordFit}
+use Rattle.job_laws.specs.RecordFit.{meantReversion, jobReversion, recordFit}
 
 -- ---- the widest tree's memories hold every tree
 

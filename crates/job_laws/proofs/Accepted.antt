@@ -19,8 +19,8 @@ use Rattle.price_laws.specs.Prices.{bondPeak, optionLimit, priced, scheduledPri
 use Rattle.job_record.specs.declared.Job.{Job}
 use Rattle.job_record.specs.declared.OptionRecord.{OptionRecord}
 use Rattle.job_record.specs.Reader.{readingOf}
-use Rattle.job_fit.specs.RecordFit.{jobReversion, jobFlows, jobDiscounts, recordFit}
-use Rattle.job_prices.specs.JobPrices.{hasOption, optionForm, taggedOption, treeNumber, jobBond, recordNumber, bytesNumber}
+use Rattle.job_laws.specs.RecordFit.{jobReversion, jobFlows, jobDiscounts, recordFit}
+use Rattle.job_laws.specs.JobPrices.{hasOption, optionForm, taggedOption, treeNumber, jobBond, recordNumber, bytesNumber}
 
 priced-number : (number price bound : ℕ) → priced number price bound .number ≡ number
 unfolding priced

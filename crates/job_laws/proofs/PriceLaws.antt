@@ -32,14 +32,14 @@ use Rattle.job_record.specs.declared.Job.{Job}
 use Rattle.job_record.specs.declared.Reading.{Reading}
 use Rattle.job_record.specs.Form.{mostJobSteps, mostDates}
 use Rattle.job_record.specs.Reader.{readingOf}
-use Rattle.job_fit.specs.RecordFit.{jobReversion, jobFlows, jobDiscounts, jobStatePrices, recordFit, memoryAfter}
-use Rattle.job_fit.proofs.FitLaws as fits
-use Rattle.job_prices.specs.declared.JobPrices.{JobPrices}
-use Rattle.job_prices.specs.JobPrices.{optionForm, optionDates, taggedOption, treeNumber, refusedPrices, fittedMemory}
-use Rattle.job_prices.specs.JobPrices.{pricesOf, recordNumber, recordPrices, bytesNumber, bytesPrices, bytesMemory}
-use Rattle.job_prices.specs.inside.TreePrices.{treePrices}
-use Rattle.job_prices.proofs.Accepted.{record-accepted, record-formed}
-use Rattle.job_prices.proofs.FitLaws.{memory-widest, fit-in, short-refused}
+use Rattle.job_laws.specs.RecordFit.{jobReversion, jobFlows, jobDiscounts, jobStatePrices, recordFit, memoryAfter}
+use Rattle.job_laws.proofs.FitLaws as fits
+use Rattle.job_laws.specs.declared.JobPrices.{JobPrices}
+use Rattle.job_laws.specs.JobPrices.{optionForm, optionDates, taggedOption, treeNumber, refusedPrices, fittedMemory}
+use Rattle.job_laws.specs.JobPrices.{pricesOf, recordNumber, recordPrices, bytesNumber, bytesPrices, bytesMemory}
+use Rattle.job_laws.specs.inside.TreePrices.{treePrices}
+use Rattle.job_laws.proofs.Accepted.{record-accepted, record-formed}
+use Rattle.job_laws.proofs.FitMemories.{memory-widest, fit-in, short-refused}
 
 pub all-placed : (l₀ l part : List ℕ) (i : ℕ) → Filled l₀ l (values part) i → i ≡ length part → length part ≤ length l₀ → l ≡ place l₀ 0 part
 all-placed l₀ l part i filled e fits =
