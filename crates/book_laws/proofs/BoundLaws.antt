@@ -27,8 +27,8 @@ use Rattle.lent_tree.specs.LentTree.{stored, acceptedDiscounts, discountsCause,
 use Rattle.reversion.specs.Reversion.{isVersion}
 use Rattle.spacing.specs.Spacing.{versionSpacing, versionSpacingAnswer}
 use Rattle.curve.specs.Curve.{inPlace, convertsAt, curveNumber}
-use Rattle.fitting.specs.Fit.{curveAccepted}
-use Rattle.fitting.specs.Entry.{earlyCause, lateCause, fittedNumber, versionNumber}
+use Rattle.fitted_laws.specs.Fit.{curveAccepted}
+use Rattle.fitted_laws.specs.Entry.{earlyCause, lateCause, fittedNumber, versionNumber}
 use Rattle.pricing_laws.specs.Pricer.{Side, Schedule}
 use Rattle.pricing_laws.specs.Schedule.{lastDate, rising, datesCause}
 use Rattle.pricing_laws.specs.Peak.{peak, greatestValue}

@@ -14,7 +14,7 @@ ghost use Rattle.curve.specs.Curve.{curveNumber, curveMemory};
 ghost use Rattle.step_rate.specs.StepRate.{rateAnswer};
 ghost use Rattle.continuous_rate.specs.ContinuousRate.{continuousRateAnswer};
 ghost use Rattle.reversion.specs.Reversion.{workingAnswer};
-ghost use Rattle.fitting.specs.Entry.{fitNumber, discountsAfter, statePricesAfter, versionNumber, versionDiscountsAfter, versionStatePricesAfter};
+ghost use Rattle.fitted_laws.specs.Entry.{fitNumber, discountsAfter, statePricesAfter, versionNumber, versionDiscountsAfter, versionStatePricesAfter};
 ghost use Rattle.row_view.specs.RowView.{rangeByNumber};
 ghost use Rattle.state_price_bound.specs.ErrorBound.{statePriceErrorBoundAnswer};
 ghost use Rattle.price_bound.specs.PriceBound.{priceErrorBoundAnswer, treeBoundsAnswer};

@@ -17,10 +17,10 @@ use Rattle.arithmetic.proofs.Implied.{implied}
 use Rattle.lattice.specs.Shape.{discountsNeeded, statePricesNeeded}
 use Rattle.curve.specs.Curve.{discountAt, curveNumber, curveMemory}
 use Rattle.spacing.specs.Spacing.{versionSpacingAnswer}
-use Rattle.fitting.specs.Entry.{versionNumber, fitMemory, versionDiscounts, versionStatePrices}
-use Rattle.fitting.specs.inside.Plans.{Numbers}
-use Rattle.fitting.proofs.FittedTree.{fit-discounts-length, fit-state-prices-length}
-use Rattle.fitting.proofs.Promised.{fit-numbers}
+use Rattle.fitted_laws.specs.Entry.{versionNumber, fitMemory, versionDiscounts, versionStatePrices}
+use Rattle.fitted_laws.specs.inside.Numbers.{Numbers}
+use Rattle.fitted_laws.proofs.FittedTree.{fit-discounts-length, fit-state-prices-length}
+use Rattle.fitted_laws.proofs.Promised.{fit-numbers}
 use Rattle.job_record.specs.declared.Job.{Job}
 use Rattle.job_laws.specs.RecordFit.{meantVersion, meantReversion, jobReversion, jobRows, jobKinds, jobFigures}
 use Rattle.job_laws.specs.RecordFit.{jobQuotes, jobDiscounts, jobStatePrices, recordQuotes, recordFit, memoryAfter}

@@ -21,8 +21,8 @@ use Rattle.lattice.specs.Entries.{aboutTree, discountsNeededAnswer, statePrices
 use Rattle.lattice.proofs.EntryLaws.{tree-refused, tree-answered}
 use Rattle.lattice.proofs.MemoryLaws.{memory-enough}
 use Rattle.lattice.proofs.Sizes.{start-most}
-use Rattle.fitting.specs.Fit.{curveAccepted}
-use Rattle.fitting.specs.Entry.{quotesOf, earlyCause, lateCause, fittedNumber}
+use Rattle.fitted_laws.specs.Fit.{curveAccepted}
+use Rattle.fitted_laws.specs.Entry.{quotesOf, earlyCause, lateCause, fittedNumber}
 use Rattle.curve.specs.Curve.{curveNumber}
 use Rattle.job_record.specs.Form.{mostJobSteps}
 use Rattle.job_record.specs.declared.Job.{Job}

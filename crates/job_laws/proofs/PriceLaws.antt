@@ -21,9 +21,9 @@ use Rattle.limits.specs.WithinLimits.{WithinLimits}
 use Rattle.lattice.specs.Shape.{discountsNeeded}
 use Rattle.lattice.specs.Entries.{discountsNeededAnswer, statePricesNeededAnswer, memoryCause}
 use Rattle.lattice.proofs.TreeEntries.{tree-value}
-use Rattle.fitting.specs.Entry.{fitMemory}
-use Rattle.fitting.proofs.CauseLaws.{memory-none}
-use Rattle.fitting.proofs.FittedTree.{fit-placed}
+use Rattle.fitted_laws.specs.Entry.{fitMemory}
+use Rattle.fitted_laws.proofs.CauseLaws.{memory-none}
+use Rattle.fitted_laws.proofs.FittedTree.{fit-placed}
 use Rattle.price_laws.specs.declared.Price.{Price}
 use Rattle.price_laws.specs.declared.BondAndOption.{BondAndOption}
 use Rattle.price_laws.specs.Prices.{refusedPrice, bondPrice, optionPrice, datedPrice}

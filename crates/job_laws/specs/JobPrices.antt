@@ -9,7 +9,7 @@ use lib.ListN.{take}
 use Rattle.lattice.specs.Entries.{memoryCause}
 use Rattle.arithmetic.specs.Answers.{unlessRefused, lowestCause, firstCause}
 use Rattle.limits.specs.Limits.{mostDiscounts, mostStatePrices}
-use Rattle.fitting.specs.Entry.{fitMemory}
+use Rattle.fitted_laws.specs.Entry.{fitMemory}
 use Rattle.price_laws.specs.declared.Price.{Price}
 use Rattle.price_laws.specs.Prices.{refusedPrice, bondPrice, optionPrice, datedPrice}
 use Rattle.job_record.specs.declared.OptionRecord.{OptionRecord}

@@ -31,10 +31,10 @@ use Rattle.factor.proofs.SeriesLaws.{term-zero}
 use Rattle.factor.proofs.SideLaws.{next-term, below-sum, above-sum, below-one, above-one}
 use Rattle.curve.specs.Curve.{discountAt}
 use Rattle.fit_laws.proofs.FitRows as fits
-use Rattle.fitting.specs.Fit.{nodeFactor, quoted}
-use Rattle.fitting.specs.Entry.{quotesOf, fittedNumber, fitDiscount, fitStatePrice, fitMemory, fitDiscounts, fitStatePrices}
-use Rattle.fitting.proofs.Promised.{fit-near, fit-numbers, fit-sound, fit-repriced, quote-is}
-use Rattle.fitting.proofs.FittedTree.{fit-placed}
+use Rattle.fitted_laws.specs.Fit.{nodeFactor, quoted}
+use Rattle.fitted_laws.specs.Entry.{quotesOf, fittedNumber, fitDiscount, fitStatePrice, fitMemory, fitDiscounts, fitStatePrices}
+use Rattle.fitted_laws.proofs.Promised.{fit-near, fit-numbers, fit-sound, fit-repriced, quote-is}
+use Rattle.fitted_laws.proofs.FittedTree.{fit-placed}
 use Rattle.lent_tree.specs.LentTree.{stored}
 use Rattle.state_price_bound.specs.ErrorBound.{statePriceErrorBoundAnswer}
 use Rattle.state_price_bound.proofs.Meaning.{answer-number, answer-value, bound-covers}

@@ -18,9 +18,9 @@ use Rattle.tree.specs.Tree.{unit}
 use Rattle.lattice.specs.Shape.{nodeCount, discountsNeeded}
 use Rattle.lattice.specs.RateTree.{rateTree}
 use Rattle.fit_laws.specs.StatePrices.{statePrice}
-use Rattle.fitting.specs.Entry.{fittedNumber}
-use Rattle.fitting.proofs.Promised.{fit-sound}
-use Rattle.fitting.proofs.FittedTree.{fit-lent}
+use Rattle.fitted_laws.specs.Entry.{fittedNumber}
+use Rattle.fitted_laws.proofs.Promised.{fit-sound}
+use Rattle.fitted_laws.proofs.FittedTree.{fit-lent}
 use Rattle.price_laws.specs.Exact.{exactPayoff}
 use Rattle.arithmetic.specs.Row.{greatestOf}
 use Rattle.arithmetic.proofs.Implied.{implied}

@@ -25,7 +25,7 @@ use Rattle.quotes.specs.Quotes.{rowKnown, inRange, factorDiscount, quotient, ra
 use Rattle.quotes.proofs.QuoteLaws.{lone-told, range-bounds}
 use Rattle.curve.specs.Curve.{answerAt, curveNumber}
 use Rattle.curve.proofs.CurveLaws.{accepted}
-use Rattle.fitting.proofs.Promised.{fit-numbers}
+use Rattle.fitted_laws.proofs.Promised.{fit-numbers}
 use Rattle.promises.specs.Causes.{isKind}
 use Rattle.promises.proofs.CauseTables.{none-first}
 use Rattle.promises.proofs.QuoteCauses.{lone-causes}

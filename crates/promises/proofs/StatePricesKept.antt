@@ -15,9 +15,9 @@ use Rattle.lent_tree.specs.LentTree.{stored}
 use Rattle.fit_laws.specs.StatePrices.{statePrice, exactStatePrice}
 use Rattle.fit_laws.proofs.StepLaws.{next-cong}
 use Rattle.fit_laws.proofs.WholeFit.{fitted-is-state}
-use Rattle.fitting.specs.Fit.{nodeFactor, quoted}
-use Rattle.fitting.specs.Entry.{quotesOf, fittedNumber, fitDiscount, fitStatePrice, fitDiscounts}
-use Rattle.fitting.proofs.FittedTree.{fit-discount-stored, fit-discounts-lent}
+use Rattle.fitted_laws.specs.Fit.{nodeFactor, quoted}
+use Rattle.fitted_laws.specs.Entry.{quotesOf, fittedNumber, fitDiscount, fitStatePrice, fitDiscounts}
+use Rattle.fitted_laws.proofs.FittedTree.{fit-discount-stored, fit-discounts-lent}
 use Rattle.state_price_bound.specs.ErrorBound.{boundCause, statePriceErrorBoundAnswer}
 use Rattle.state_price_bound.proofs.Meaning.{answer-number, bound-covers}
 use Rattle.state_price_bound.proofs.BoundLaws.{row-there}

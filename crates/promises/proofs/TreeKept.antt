@@ -32,7 +32,7 @@ use Rattle.factor.proofs.FactorLaws.{factor-within}
 use Rattle.step_rate.specs.StepRate.{rateAnswer}
 use Rattle.step_rate.specs.declared.Rate.{Rate}
 use Rattle.step_rate.proofs.RateLaws.{answer-zero, answer-high, answer-sign}
-use Rattle.fitting.proofs.Promised.{fit-numbers, fit-repriced}
+use Rattle.fitted_laws.proofs.Promised.{fit-numbers, fit-repriced}
 use Rattle.promises.specs.Promises.{Branched, Spaced, TreePromises}
 use Rattle.promises.proofs.BranchesKept.{widths, tiled, led-as, branch-sums}
 use Rattle.promises.proofs.FitRowsKept.{factors-kept, fit-rows, fit-laid, sums-weighable, state-price-rows, bound-is, lent-near}

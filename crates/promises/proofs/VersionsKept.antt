@@ -20,9 +20,9 @@ use Rattle.reversion.proofs.ReversionLaws.{working-first, working-second, worki
 use Rattle.reversion.proofs.EntryLaws.{working-found, answer-beyond}
 use Rattle.spacing.specs.Spacing.{versionVariance, versionSpacing, versionSpacingAnswer}
 use Rattle.spacing.proofs.VersionLaws.{variance-same, version-first, version-none, version-zero, version-passes, version-greatest}
-use Rattle.fitting.specs.Entry.{fitMemory, fitDiscounts, fitStatePrices, fitNumber}
-use Rattle.fitting.specs.Entry.{versionDiscounts, versionStatePrices}
-use Rattle.fitting.proofs.VersionLaws.{first-number}
+use Rattle.fitted_laws.specs.Entry.{fitMemory, fitDiscounts, fitStatePrices, fitNumber}
+use Rattle.fitted_laws.specs.Entry.{versionDiscounts, versionStatePrices}
+use Rattle.fitted_laws.proofs.VersionLaws.{first-number}
 use Rattle.promises.specs.Versions.{Working, Ratio, VersionSpaced, FittedBy, FirstIsFit, VersionPromises}
 
 -- ---- F of an amount within its limit

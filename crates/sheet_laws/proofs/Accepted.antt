@@ -7,7 +7,7 @@ use mathlib.Core.List.{List}
 use Prim.Native.Nat.{ℕ, _≤_}
 use Rattle.arithmetic.proofs.CauseLaws.{lowest-none, first-none}
 use Rattle.limits.specs.Limits.{mostDiscounts, mostStatePrices}
-use Rattle.fitting.specs.Entry.{versionNumber}
+use Rattle.fitted_laws.specs.Entry.{versionNumber}
 use Rattle.job_record.specs.declared.Job.{Job}
 use Rattle.job_record.specs.Reader.{readingOf}
 use Rattle.job_laws.specs.RecordFit.{meantVersion, jobReversion, jobRows, jobKinds, jobFigures, jobFlows, jobDiscounts}

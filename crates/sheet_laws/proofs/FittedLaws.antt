@@ -22,9 +22,9 @@ use Rattle.lattice.proofs.LaidLaws.{laid-part}
 use Rattle.lattice.proofs.TreeEntries.{tree-value}
 use Rattle.lent_tree.specs.LentTree.{storedRow, acceptedDiscounts}
 use Rattle.lent_tree.proofs.LentLaws.{accepted-all}
-use Rattle.fitting.specs.Entry.{fitStatePrice}
-use Rattle.fitting.proofs.Promised.{fit-repriced}
-use Rattle.fitting.proofs.FittedTree.{fit-discounts-lent}
+use Rattle.fitted_laws.specs.Entry.{fitStatePrice}
+use Rattle.fitted_laws.proofs.Promised.{fit-repriced}
+use Rattle.fitted_laws.proofs.FittedTree.{fit-discounts-lent}
 use Rattle.job_record.specs.declared.Job.{Job}
 use Rattle.job_laws.specs.RecordFit.{meantReversion, jobReversion, jobSpacing, jobKinds, jobFigures}
 use Rattle.job_laws.specs.RecordFit.{jobQuotes, jobDiscounts, jobStatePrices, recordQuotes, recordFit, memoryAfter}

@@ -23,7 +23,7 @@ use Rattle.lattice.proofs.TreeEntries.{tree-value}
 use Rattle.reversion.specs.Reversion.{isVersion, workingReversion}
 use Rattle.reversion.proofs.ReversionLaws.{working-limit}
 use Rattle.spacing.specs.Spacing.{versionSpacing}
-use Rattle.fitting.specs.Entry.{versionNumber, fitDiscount}
+use Rattle.fitted_laws.specs.Entry.{versionNumber, fitDiscount}
 use Rattle.job_record.specs.declared.Job.{Job}
 use Rattle.job_record.specs.Form.{wellFormed}
 use Rattle.job_record.specs.Reader.{readingOf, jobOf, acceptedReading, malformed}

@@ -28,8 +28,8 @@ use Rattle.curve.specs.Curve.{discountAt}
 use Rattle.step_rate.specs.StepRate.{rateAnswer}
 use Rattle.step_rate.specs.declared.Rate.{Rate}
 use Rattle.step_rate.proofs.RateLaws.{answer-known}
-use Rattle.fitting.specs.Entry.{fitStatePrice}
-use Rattle.fitting.proofs.FittedTree.{fit-discounts-lent}
+use Rattle.fitted_laws.specs.Entry.{fitStatePrice}
+use Rattle.fitted_laws.proofs.FittedTree.{fit-discounts-lent}
 use Rattle.price_laws.specs.Exact.{Accurate}
 use Rattle.price_laws.specs.declared.Price.{Price}
 use Rattle.job_record.specs.declared.OptionRecord.{OptionRecord}

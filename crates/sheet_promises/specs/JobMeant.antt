@@ -10,7 +10,7 @@ use Rattle.figure.specs.Figure.{patternFloat}
 use Rattle.curve.specs.Curve.{discountAt}
 use Rattle.reversion.specs.Reversion.{workingReversion}
 use Rattle.spacing.specs.Spacing.{versionSpacing}
-use Rattle.fitting.specs.Entry.{fitDiscounts, fitStatePrices}
+use Rattle.fitted_laws.specs.Entry.{fitDiscounts, fitStatePrices}
 use Rattle.price_laws.specs.Prices.{bondPrice, optionPrice, datedPrice}
 use Rattle.job_record.specs.declared.Job.{Job}
 use Rattle.job_laws.specs.RecordFit.{meantVersion, jobReversion, jobRows, jobKinds, jobFigures, jobFlows, jobQuotes, jobDiscounts, jobStatePrices}

@@ -14,8 +14,8 @@ use Rattle.arithmetic.proofs.Implied.{Implied, lastly, _▸_}
 use Rattle.limits.specs.Limits.{mostStatePrices}
 use Rattle.lattice.specs.Shape.{discountsNeeded}
 use Rattle.spacing.specs.Spacing.{spacing}
-use Rattle.fitting.specs.Entry.{fitNumber, fitMemory, fitDiscounts, discountsAfter}
-use Rattle.fitting.proofs.FittedTree.{fit-discounts-length}
+use Rattle.fitted_laws.specs.Entry.{fitNumber, fitMemory, fitDiscounts, discountsAfter}
+use Rattle.fitted_laws.proofs.FittedTree.{fit-discounts-length}
 use Rattle.shelf_laws.specs.declared.Slot.{Slot}
 use Rattle.shelf_laws.specs.declared.Part.{Part}
 use Rattle.shelf_laws.specs.declared.Located.{Located}

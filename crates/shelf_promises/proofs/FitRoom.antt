@@ -15,8 +15,8 @@ use Rattle.lattice.proofs.EntryLaws.{tree-answered}
 use Rattle.lattice.proofs.Sizes.{start-within}
 use Rattle.lent_tree.specs.LentTree.{discountsCause}
 use Rattle.spacing.specs.Spacing.{spacing, spacingAnswer}
-use Rattle.fitting.specs.Entry.{earlyCause, fittedNumber, fitNumber}
-use Rattle.fitting.proofs.FittedTree.{fit-discounts-lent}
+use Rattle.fitted_laws.specs.Entry.{earlyCause, fittedNumber, fitNumber}
+use Rattle.fitted_laws.proofs.FittedTree.{fit-discounts-lent}
 use Rattle.shelf_promises.specs.Model.{Quoted, fitNumberOf, fitDiscountsOf}
 
 module _ (n b : ℕ) (shape : shapeCause n b ≡ 0) where

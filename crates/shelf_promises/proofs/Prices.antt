@@ -13,7 +13,7 @@ use Rattle.arithmetic.proofs.Implied.{implied}
 use Rattle.tree.specs.Tree.{unit}
 use Rattle.lattice.specs.Shape.{discountsNeeded, statePricesNeeded}
 use Rattle.lent_tree.specs.LentTree.{discountsCause}
-use Rattle.fitting.specs.Entry.{fitNumber}
+use Rattle.fitted_laws.specs.Entry.{fitNumber}
 use Rattle.price_bound.specs.PriceBound.{treeErrorBound}
 use Rattle.price_laws.specs.declared.Price.{Price}
 use Rattle.price_laws.specs.Exact.{Accurate}

@@ -13,7 +13,7 @@ use Rattle.arithmetic.proofs.Numbers.{by-equal}
 use Rattle.limits.specs.Limits.{shapeCause}
 use Rattle.lattice.specs.Shape.{discountsNeeded}
 use Rattle.spacing.specs.Spacing.{spacing}
-use Rattle.fitting.proofs.FittedTree.{fit-discounts-length}
+use Rattle.fitted_laws.proofs.FittedTree.{fit-discounts-length}
 use Rattle.price_bound.proofs.BoundLaws.{bounds-bound, bounds-greatest}
 use Rattle.shelf_laws.specs.Parts.{zeros, opened, closed}
 use Rattle.shelf_laws.specs.declared.Slot.{Slot}

@@ -13,7 +13,7 @@ use Rattle.limits.specs.Limits.{shapeCause}
 use Rattle.lattice.specs.Shape.{discountsNeeded}
 use Rattle.lent_tree.proofs.LentLaws.{accepted-shape}
 use Rattle.spacing.specs.Spacing.{spacing}
-use Rattle.fitting.proofs.FittedTree.{fit-discounts-length}
+use Rattle.fitted_laws.proofs.FittedTree.{fit-discounts-length}
 use Rattle.shelf_laws.specs.Parts.{zeros}
 use Rattle.shelf_laws.specs.Shelf.{room}
 use Rattle.shelf_promises.specs.Model.{ShelvedTree, Seen, absent, present, Quoted, fitNumberOf, fitDiscountsOf, unfittedTree, fittedTree}

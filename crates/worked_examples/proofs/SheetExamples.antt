@@ -29,8 +29,8 @@ use Rattle.factor.specs.Factor.{factor}
 use Rattle.step_rate.specs.StepRate.{rateAnswer}
 use Rattle.fit_laws.specs.Step.{normaliser, discount, carried, nextStatePrice}
 use Rattle.fit_laws.specs.StatePrices.{fittedStatePrice, fittedDiscount, acceptedRow, statePriceErrorBound}
-use Rattle.fitting.specs.Fit.{quoted, curveAccepted}
-use Rattle.fitting.specs.Entry.{earlyCause, lateCause, fittedNumber}
+use Rattle.fitted_laws.specs.Fit.{quoted, curveAccepted}
+use Rattle.fitted_laws.specs.Entry.{earlyCause, lateCause, fittedNumber}
 use Rattle.state_price_bound.specs.ErrorBound.{rowCause, boundCause, statePriceErrorBoundAnswer}
 use Rattle.pricing_laws.specs.Pricer.{bondFrom, bond, errorBoundFrom, errorBound}
 use Rattle.pricing_laws.specs.TreePricer.{nodeRoll, roll, greatestDiscount}

@@ -24,7 +24,7 @@ use Rattle.spacing.specs.Spacing.{spacing, spacingAnswer, versionSpacingAnswer}
 use Rattle.spacing.proofs.SpacingLaws.{spacing-unlisted, spacing-volatile, spacing-accepted}
 use Rattle.spacing.proofs.VersionLaws.{version-first, answer-unlisted, answer-reverting}
 use Rattle.curve.specs.Curve.{curveNumber}
-use Rattle.fitting.specs.Entry.{earlyCause, fittedNumber, fitNumber, versionNumber}
+use Rattle.fitted_laws.specs.Entry.{earlyCause, fittedNumber, fitNumber, versionNumber}
 
 -- ---- the number: a reversion beyond its limit is a cause of the tree and of the spacing by version
 

@@ -30,10 +30,10 @@ use Rattle.fit_laws.specs.StatePrices.{acceptedRow, exactStatePrice, statePrice
 use Rattle.fit_laws.proofs.Shortfall.{state-below, state-price-shortfall}
 use Rattle.fit_laws.proofs.WholeFit.{Curve, fitted-is-state, quotes-repriced}
 use Rattle.fit_laws.specs.inside.Bounds.{leastFactor, mostFactor}
-use Rattle.fitting.specs.Fit.{quoted, curveAccepted, nodeFactor}
-use Rattle.fitting.specs.Entry.{quotesOf, earlyCause, lateCause, fittedNumber, fitDiscount, fitStatePrice}
-use Rattle.fitting.specs.inside.Plans.{Numbers}
-use Rattle.fitting.proofs.CauseLaws.{numbers-of}
+use Rattle.fitted_laws.specs.Fit.{quoted, curveAccepted, nodeFactor}
+use Rattle.fitted_laws.specs.Entry.{quotesOf, earlyCause, lateCause, fittedNumber, fitDiscount, fitStatePrice}
+use Rattle.fitted_laws.specs.inside.Numbers.{Numbers}
+use Rattle.fitted_laws.proofs.CauseLaws.{numbers-of}
 
 late-parts : (w a : Bool) → _≡_ {A = ℕ} (cond w 8 (cond a 0 9)) 0 → (w ≡ false) × (a ≡ true)
 late-parts true a e = absurd (none e)

@@ -19,8 +19,8 @@ use Rattle.lattice.proofs.LaidLaws.{length-laid, laid-value}
 use Rattle.lent_tree.specs.LentTree.{stored, discountsCause}
 use Rattle.lent_tree.proofs.LentLaws.{accepted-by-row, lent-accepted}
 use Rattle.fit_laws.specs.StatePrices.{acceptedRow}
-use Rattle.fitting.specs.Entry.{fittedNumber, fitMemory, fitDiscount, fitStatePrice, fitDiscounts, fitStatePrices}
-use Rattle.fitting.proofs.Promised.{fit-numbers, fit-accepted}
+use Rattle.fitted_laws.specs.Entry.{fittedNumber, fitMemory, fitDiscount, fitStatePrice, fitDiscounts, fitStatePrices}
+use Rattle.fitted_laws.proofs.Promised.{fit-numbers, fit-accepted}
 
 -- a memory after a fit
 pub fit-placed : (number : ℕ) (part memory : List ℕ) → number ≡ 0 → fitMemory number part memory ≡ place memory 0 part
