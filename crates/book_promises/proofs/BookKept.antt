@@ -7,7 +7,7 @@ use Prim.Native.Nat.{ℕ, zero, suc, _+_, _-_, _^_, _≤_, _<_}
 use native.Mathlib.Omega.{arith}
 use borrow.Author.Tests.{eq-eqb, ne-eqb, lt-ltb, le-ltb}
 use lib.Dec.{eqb}
-use lib.ListN.{length, getD, take, drop}
+use lib.ListN.{length, getD, take}
 use lib.Seq.{drop-length}
 use Rattle.arithmetic.specs.Answers.{lowestCause}
 use Rattle.arithmetic.specs.Row.{values}
@@ -29,7 +29,7 @@ use Rattle.text_laws.specs.WordLines.{wholeLine, pairLine, amountLine}
 use Rattle.sheet_room.specs.Room.{sheetRoom}
 use Rattle.sheet_laws.specs.WholeJob.{roomCause, jobNumber, sheetNumber}
 use Rattle.book_laws.specs.declared.Book.{Book}
-use Rattle.book_laws.specs.Bounds.{jobPrices, mostNumber}
+use Rattle.book_laws.specs.Bounds.{jobPrices}
 use Rattle.book_laws.specs.Books.{mostFields, isOpen, withField, brokenBook}
 use Rattle.book_laws.specs.Files.{startsWhole, jobsOf, restOf, fileBook, fieldOf, fileOf}
 use Rattle.book_laws.specs.Report.{linesFrom, refusalsLine, sumLines, bookLines, bookRoom, linesAnswer, linesMemory}

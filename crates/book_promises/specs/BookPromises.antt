@@ -17,7 +17,6 @@ use Rattle.job_laws.specs.JobPrices.{bytesPrices}
 use Rattle.text_laws.specs.Decimal.{decimal}
 use Rattle.sheet_laws.specs.WholeJob.{sheetNumber}
 use Rattle.book_laws.specs.declared.Book.{Book}
-use Rattle.book_laws.specs.declared.BookText.{BookText}
 use Rattle.book_laws.specs.Books.{emptyBook, withField, brokenBook}
 use Rattle.book_laws.specs.Files.{fileBook, streamed}
 use Rattle.book_laws.specs.Report.{bookLines, linesAnswer, linesMemory}

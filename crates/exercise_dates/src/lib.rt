@@ -5,7 +5,7 @@ ghost use mathlib.Core.Bool.{cond};
 ghost use lib.Dec.{leb};
 ghost use Rattle.arithmetic.specs.Row.{row};
 ghost use Rattle.pricing_laws.specs.Schedule.{lastDate, rising, datesCause};
-ghost use Rattle.exercise_dates.specs.Dates.{rowsOfATree, marksOf, datedTerms, datesOfKind};
+ghost use Rattle.exercise_dates.specs.Dates.{marksOf, datedTerms, datesOfKind};
 ghost use Rattle.exercise_dates.specs.inside.Dates.{datesTo};
 use exercise::Terms;
 use limits::MOST_ROWS;

@@ -6,7 +6,6 @@ use Prim.Native.Nat.{ℕ, suc, _+_, _≤_, _<_}
 use native.Mathlib.Omega.{arith}
 use lib.Ieee.{Float}
 use lib.ListN.{length}
-use borrow.Author.Tests.{eq-eqb}
 use Rattle.arithmetic.proofs.CauseLaws.{unless-accepted}
 use Rattle.arithmetic.specs.Row.{values, place}
 use Rattle.arithmetic.proofs.RowLaws.{each-cong}

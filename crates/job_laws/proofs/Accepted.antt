@@ -14,7 +14,6 @@ use Rattle.limits.specs.Limits.{mostDiscounts, mostStatePrices}
 use Rattle.limits.proofs.LimitLaws.{limit-kept, limit-accepted}
 use Rattle.pricing_laws.specs.Pricer.{Side, Schedule}
 use Rattle.price_laws.specs.declared.Price.{Price}
-use Rattle.arithmetic.specs.Answers.{firstCause}
 use Rattle.price_laws.specs.Prices.{bondPeak, optionLimit, priced, scheduledPrice, bondPrice, optionPrice, datedPrice}
 use Rattle.job_record.specs.declared.Job.{Job}
 use Rattle.job_record.specs.declared.OptionRecord.{OptionRecord}

@@ -11,7 +11,7 @@ use lib.Ieee.{Float}
 use borrow.Author.Tests.{eq-eqb, ne-eqb}
 use Rattle.arithmetic.specs.Answers.{lowestCause}
 use Rattle.arithmetic.specs.Rounding.{one}
-use Rattle.arithmetic.proofs.CauseLaws.{lowest-first, lowest-second, lowest-more, lowest-less, lowest-alone, lowest-none}
+use Rattle.arithmetic.proofs.CauseLaws.{lowest-first, lowest-more, lowest-less, lowest-alone, lowest-none}
 use Rattle.arithmetic.proofs.Numbers.{by-equal, by-order}
 use Rattle.arithmetic.proofs.Implied.{Implied, implied, lastly, _▸_}
 use Rattle.limits.specs.Limits.{mostSteps, mostDiscounts, mostStatePrices, shapeCause}

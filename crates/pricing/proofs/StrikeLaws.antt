@@ -5,10 +5,8 @@ use mathlib.Core.List.{List}
 use Prim.Native.Nat.{ℕ, _≤_, _<_}
 use native.Mathlib.Omega.{arith}
 use Rattle.arithmetic.specs.declared.Answer.{Answer}
-use Rattle.arithmetic.specs.Answers.{refused}
 use Rattle.arithmetic.proofs.Implied.{Implied, implied, lastly, _▸_}
 use Rattle.limits.specs.Limits.{mostSteps, limitCause}
-use Rattle.pricing_laws.specs.Schedule.{datedSchedule}
 use Rattle.pricing_laws.specs.inside.Marks.{marked}
 use Rattle.exercise.specs.declared.Terms.{Terms}
 use Rattle.exercise.specs.Terms.{side}

@@ -15,7 +15,6 @@ use Rattle.arithmetic.specs.Rounding.{one}
 use Rattle.arithmetic.specs.Row.{values}
 use Rattle.arithmetic.proofs.RowLaws.{values-row}
 use Rattle.arithmetic.proofs.PartLaws.{part-value}
-use Rattle.arithmetic.specs.Within.{Within}
 use Rattle.arithmetic.proofs.Implied.{implied}
 use Rattle.tree.specs.Tree.{unit}
 use Rattle.limits.specs.Limits.{mostDiscounts, mostStatePrices}

@@ -9,12 +9,11 @@ use lib.Ieee.{Float}
 use Rattle.arithmetic.proofs.Implied.{implied}
 use Rattle.limits.specs.Limits.{mostStatePrices, shapeCause}
 use Rattle.limits.proofs.LimitLaws.{shape-accepted}
-use Rattle.lattice.specs.Shape.{rowStart, discountsNeeded, statePricesNeeded}
+use Rattle.lattice.specs.Shape.{discountsNeeded, statePricesNeeded}
 use Rattle.lattice.specs.Entries.{memoryCause}
 use Rattle.lattice.proofs.EntryLaws.{tree-answered}
 use Rattle.lattice.proofs.Sizes.{start-within}
 use Rattle.lent_tree.specs.LentTree.{discountsCause}
-use Rattle.spacing.specs.Spacing.{spacing, spacingAnswer}
 use Rattle.fitted_laws.specs.Entry.{earlyCause, fittedNumber, fitNumber}
 use Rattle.fitted_laws.proofs.FittedTree.{fit-discounts-lent}
 use Rattle.shelf_promises.specs.Model.{Quoted, fitNumberOf, fitDiscountsOf}

@@ -3,7 +3,6 @@
 use mathlib.Core.Path.{_≡_, refl, _∙_}
 use denote.Ref.{now}
 use Rattle.arithmetic.proofs.Implied.{implied}
-use Rattle.exercise_dates.specs.Dates.{datedTerms}
 use Rattle.price_laws.specs.Prices.{datedCause}
 use Rattle.price_laws.proofs.OptionLaws.{dated-cause-is}
 use Rattle.pricing.proofs.StripTurns.{kept-through}
