@@ -203,8 +203,9 @@ class Trials(unittest.TestCase):
         place = 'crates/promises/proofs/Kept.antt tree-kept'
         for patch, told, fault in (
                 (TRIAL.replace('Refused', 'refused'), TOLD, 'the patch names no place: Refused: FILE PROOF'),
-                (TRIAL, TOLD.replace('rt: lattice proved', 'rt: lattice NOT PROVED'), 'not proved below promises: lattice'),
-                (TRIAL, TOLD.replace('rt: fitting proved', 'rt: fit proved'), 'not proved below promises: fitting'),
+                (TRIAL, TOLD.replace('rt: lattice proved', 'rt: lattice NOT PROVED'), 'not proved below or beside promises: lattice'),
+                (TRIAL, TOLD.replace('rt: fitting proved', 'rt: fit proved'), 'not proved below or beside promises: fitting'),
+                (f'{TRIAL}+++ b/crates/pricing/src/walk.rt\n', TOLD, 'not proved below or beside promises: pricing'),
                 (TRIAL, TOLD.replace('rt: promises NOT PROVED', 'rt: promises proved'), 'promises is not refused'),
                 (TRIAL.replace('tree-kept', 'led-as'), TOLD, f'refused at {place}, not at crates/promises/proofs/Kept.antt led-as alone'),
                 (TRIAL, TOLD.replace('was not admitted', 'differs'), f'refused at crates/promises/proofs/All.antt all-kept, {place}, not at {place} alone'),
@@ -418,6 +419,23 @@ half-width-spec = tie.close (tie.spec Inv-loop loop-holds add-i expect-requires 
         self.assertIn('(tie.spec Inv-loop loop-holds (λ c. search needs) (λ c κs. tt) shared returns)', short)
         self.assertEqual([name for name in ('loop-holds :', 'add-i', 'expect-requires', 'shared :', 'returns :') if name in short], ['loop-holds :', 'shared :', 'returns :'])
         self.assertEqual(shorten.shortened(short), short)
+
+    BRINGS = """-- of a fit, and `unused`
+use mathlib.Core.Path.{_≡_, refl, sym}
+use Rattle.fit.specs.Fit.{unused}
+use Rattle.fit.specs.Other.{wide as wider, fit-most}
+ghost use Prim.Native.Nat.{_+_, _-_};
+
+law : (n : ℕ) → _≡_ {A = ℕ} (n + 0) (wider n)
+law n = refl
+"""
+
+    def test_names_that_nothing_names(self):
+        needed = shorten.needed(self.BRINGS)
+        self.assertEqual([line for line in needed.splitlines() if 'use ' in line],
+                         ['use mathlib.Core.Path.{_≡_, refl}', 'use Rattle.fit.specs.Other.{wide as wider}', 'ghost use Prim.Native.Nat.{_+_};'])
+        self.assertEqual(needed.partition('law')[1:], self.BRINGS.partition('law')[1:])
+        self.assertEqual(shorten.needed(needed), needed)
 
     def test_without_a_last_answer(self):
         self.assertEqual(shorten.shortened(self.LONG.partition('pub half')[0]), self.LONG.partition('pub half')[0])

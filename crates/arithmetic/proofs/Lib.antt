@@ -6,6 +6,7 @@ pub mod RoundingLaws
 pub mod PowerLaws
 pub mod Signed
 pub mod FrequencyLaws
+pub mod Implied
 pub mod PlaceLaws
 pub mod CauseLaws
 pub mod BetweenLaws

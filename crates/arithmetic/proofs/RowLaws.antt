@@ -14,6 +14,7 @@ use lib.Seq.{ext-getD, getD-set-same, getD-set-other}
 use Rattle.arithmetic.specs.Sum.{sum, only}
 use Rattle.arithmetic.specs.Row.{row, values, each}
 use Rattle.arithmetic.proofs.SumLaws.{sum-cong, only-same, only-other}
+use Rattle.arithmetic.proofs.Implied.{Implied, lastly, _▸_}
 
 pub length-row : (n : ℕ) (f : ℕ → ℕ) → length (row n f) ≡ n
 unfolding row
@@ -148,12 +149,12 @@ added-value l l′ a x e j h = ap (λ (m : List ℕ). values m j) e ∙ values-r
 
 -- three additions in a row
 pub added-thrice :
-    (l l₁ l₂ l₃ : List ℕ) (a b c x y z : ℕ) →
+    (l : List ℕ) {l₁ l₂ l₃ : List ℕ} {a b c x y z : ℕ} → Implied (a ▸ b ▸ c ▸ x ▸ y ▸ lastly z) →
     l₁ ≡ row (length l) (λ j. values l j + only a j x) →
     l₂ ≡ row (length l₁) (λ j. values l₁ j + only b j y) →
     l₃ ≡ row (length l₂) (λ j. values l₂ j + only c j z) →
     l₃ ≡ row (length l) (λ j. values l j + (only a j x + only b j y + only c j z))
-added-thrice l l₁ l₂ l₃ a b c x y z e₁ e₂ e₃ =
+added-thrice l {l₁} {l₂} {l₃} {a} {b} {c} {x} {y} {z} _ e₁ e₂ e₃ =
     let n₁ = added-length l l₁ a x e₁ in
     let n₂ = added-length l₁ l₂ b y e₂ in
     let n₃ = added-length l₂ l₃ c z e₃ in

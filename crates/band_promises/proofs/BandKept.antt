@@ -2,10 +2,11 @@
 -- Assumes nothing.
 use mathlib.Core.Path.{_≡_, refl, sym, _∙_, ap, subst}
 use mathlib.Core.Bool.{false}
-use mathlib.Core.Logic.{_⊎_, inl, inr, ⊎-elim}
+use mathlib.Core.Logic.{inl, inr, ⊎-elim}
 use Prim.Native.Nat.{ℕ, _+_, _≤_, _<_}
 use native.Mathlib.Omega.{arith}
 use Rattle.arithmetic.specs.Row.{values}
+use Rattle.arithmetic.proofs.Implied.{implied}
 use Rattle.bands.specs.Bands.{coverage, tableVerdict}
 use Rattle.bands.specs.Judged.{FirstFailing, AllSound, Judged, bad-band, too-many, uncovered, overlapping, accepted}
 use Rattle.bands.specs.declared.Verdict.{Verdict}
@@ -64,10 +65,10 @@ module _ (t : Table) where
       is-accepted (all-good one all m) (λ row price q. once-is t row price (p row price (q .0) (q .1) (q .2))) e
 
   on-table : OneLength t → tableVerdict (bandsIn t) (values (t .haircuts)) ≡ verdictOn t
-  on-table one = verdict-table (t .firstRows) (t .lastRows) (t .lowestPrices) (t .highestPrices) (t .haircuts) (length-same t one)
+  on-table one = verdict-table implied (length-same t one)
 
   no-lengths : (OneLength t → ⊥) → shown 6 0 0 0 ≡ verdictOn t
-  no-lengths h = verdict-lengths (t .firstRows) (t .lastRows) (t .lowestPrices) (t .highestPrices) (t .haircuts) (length-other t h)
+  no-lengths h = verdict-lengths implied (length-other t h)
 
   says : Says t (verdictOn t)
   says =
@@ -124,8 +125,7 @@ module _ (t : Table) where
         let s = zero-says (verdictOn t) z says in
         let one = s .1 row price q in
         let answer : record { worth = afterHaircut price (values (t .haircuts) (one .band)); verdict = verdictOn t } ≡ worthBy t row price =
-        lending-accepted (t .firstRows) (t .lastRows) (t .lowestPrices) (t .highestPrices) (t .haircuts) row price (length-same t (has-lengths z))
-        (verdictOn t) refl z (q .0) (q .1) (q .2) (one .band) (once-band t row price one) in
+        lending-accepted implied (length-same t (has-lengths z)) refl z (q .0) (q .1) (q .2) (once-band t row price one) in
         record {
           found = one;
           is = sym (ap (λ (w : Worth). w .worth) answer);
@@ -136,23 +136,22 @@ module _ (t : Table) where
 
     refused-by : OneLength t → (verdictOn t .number ≡ 0 → ⊥) → worthBy t row price ≡ without (verdictOn t)
     refused-by one z =
-        sym (lending-refused (t .firstRows) (t .lastRows) (t .lowestPrices) (t .highestPrices) (t .haircuts) row price (q .0) (q .1) (length-same t one)
-        (verdictOn t) refl (q .2) z)
+        sym (lending-refused implied (q .0) (q .1) (length-same t one) refl (q .2) z)
 
   module _ (row price : ℕ) where
     past-row : 60 < row → worthBy t row price ≡ without (shown 6 0 0 0)
-    past-row h = sym (lending-row-high (t .firstRows) (t .lastRows) (t .lowestPrices) (t .highestPrices) (t .haircuts) row price h)
+    past-row h = sym (lending-row-high implied h)
 
     before-row : row < 1 → worthBy t row price ≡ without (shown 6 0 0 0)
-    before-row h = sym (lending-row-low (t .firstRows) (t .lastRows) (t .lowestPrices) (t .highestPrices) (t .haircuts) row price h)
+    before-row h = sym (lending-row-low implied h)
 
     other-lengths : (OneLength t → ⊥) → worthBy t row price ≡ without (shown 6 0 0 0)
     other-lengths h =
-        sym (lending-lengths (t .firstRows) (t .lastRows) (t .lowestPrices) (t .highestPrices) (t .haircuts) row price (length-other t h))
+        sym (lending-lengths implied (length-other t h))
 
     past-price : 1 ≤ row → row ≤ 60 → OneLength t → 8000000000 < price → worthBy t row price ≡ without (shown 12 0 0 0)
     past-price l m one h =
-        sym (lending-price (t .firstRows) (t .lastRows) (t .lowestPrices) (t .highestPrices) (t .haircuts) row price l m (length-same t one) h)
+        sym (lending-price implied l m (length-same t one) h)
 
 pub kept : BandPromises
 kept =

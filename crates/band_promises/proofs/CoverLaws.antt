@@ -10,6 +10,7 @@ use borrow.Author.Tests.{leb-true, not-false}
 use lib.Dec.{leb}
 use Rattle.arithmetic.specs.Row.{values}
 use Rattle.arithmetic.proofs.BetweenLaws.{and-left, and-right}
+use Rattle.arithmetic.proofs.Implied.{implied}
 use Rattle.bands.specs.Bands.{Bands, bandsOf, within, contains, flag, covering, coverage, sound, unsound, sameLengths}
 use Rattle.bands.proofs.StopLaws.{inside}
 use Rattle.bands.proofs.SoundLaws.{sound-band, band-sound}
@@ -212,12 +213,12 @@ module _ (t : Table) where
 
   pub same-length : same ≡ true → OneLength t
   same-length e =
-      let all = lengths-agree (t .firstRows) (t .lastRows) (t .lowestPrices) (t .highestPrices) (t .haircuts) e in
+      let all = lengths-agree implied e in
       record { last-rows = all .0 .0; lowest-prices = all .0 .1; highest-prices = all .0 .2; haircuts-too = all .1 }
 
   pub length-same : OneLength t → same ≡ true
   length-same h =
-      sym (one-length (t .firstRows) (t .lastRows) (t .lowestPrices) (t .highestPrices) (t .haircuts) (h .last-rows) (h .lowest-prices)
+      sym (one-length implied (h .last-rows) (h .lowest-prices)
       (h .highest-prices) (h .haircuts-too))
 
   pub length-other : (OneLength t → ⊥) → same ≡ false

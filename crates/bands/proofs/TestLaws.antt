@@ -8,6 +8,7 @@ use native.Mathlib.Omega.{arith}
 use borrow.Author.Tests.{le-leb, lt-leb, leb-true, leb-false, eq-eqb, ne-eqb, eqb-true, eqb-false, not-true, not-false}
 use lib.Dec.{eqb}
 use Rattle.arithmetic.proofs.BetweenLaws.{and-left, and-right}
+use Rattle.arithmetic.proofs.Implied.{Implied, lastly, _▸_}
 use lib.ListN.{length}
 use Rattle.bands.specs.inside.Search.{First}
 use Rattle.limits.specs.Limits.{valueLimit}
@@ -84,7 +85,7 @@ module _ (b : Bands) (row : ℕ) where
       none m = omega arith
 
 -- one length, or another of some list
-module _ (fs ls lows highs hs : List ℕ) where
+module _ {fs ls lows highs hs : List ℕ} (_ : Implied (fs ▸ ls ▸ lows ▸ highs ▸ lastly hs)) where
   pub other-lasts : (length ls ≡ length fs → ⊥) → false ≡ sameLengths fs ls lows highs hs
   unfolding sameLengths
   other-lasts h = simp (ne-eqb (length ls) (length fs) h)
@@ -115,10 +116,10 @@ module _ (fs ls lows highs hs : List ℕ) where
 
 -- the lengths are one
 pub lengths-agree :
-    (fs ls lows highs hs : List ℕ) → sameLengths fs ls lows highs hs ≡ true →
+    {fs ls lows highs hs : List ℕ} → Implied (fs ▸ ls ▸ lows ▸ highs ▸ lastly hs) → sameLengths fs ls lows highs hs ≡ true →
     Parallel fs ls lows highs × (length hs ≡ length fs)
 unfolding sameLengths
-lengths-agree fs ls lows highs hs same =
+lengths-agree {fs} {ls} {lows} {highs} {hs} _ same =
     let a = eqb (length ls) (length fs) in
     let c = eqb (length lows) (length fs) in
     let d = eqb (length highs) (length fs) in

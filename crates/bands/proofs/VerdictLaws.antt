@@ -9,6 +9,7 @@ use borrow.Author.Tests.{le-leb, lt-leb, lt-ltb, le-ltb, eq-eqb, ne-eqb}
 use Rattle.bands.specs.inside.Search.{First}
 use Rattle.limits.specs.Limits.{valueLimit}
 use Rattle.arithmetic.specs.Row.{values}
+use Rattle.arithmetic.proofs.Implied.{Implied, lastly, _▸_}
 use Rattle.bands.specs.Bands.{Bands, bandsOf, coverage, fails, failingPrice, failingRow, badIndex}
 use Rattle.bands.specs.Bands.{verdictOf, pairVerdict, pairsVerdict, tableVerdict, sameLengths, verdict, unsound}
 use Rattle.bands.proofs.FirstLaws.{first-is, first-found}
@@ -65,7 +66,7 @@ module _ (b : Bands) (haircut : ℕ → ℕ) where
     unfolding tableVerdict
     table-pairs h m = rw (le-ltb (badIndex b haircut) (b .count) (omega arith), le-leb (b .count) 40 m)
 
-module _ (fs ls lows highs hs : List ℕ) where
+module _ {fs ls lows highs hs : List ℕ} (_ : Implied (fs ▸ ls ▸ lows ▸ highs ▸ lastly hs)) where
   pub verdict-lengths : sameLengths fs ls lows highs hs ≡ false → verdictOf 6 0 0 0 ≡ verdict fs ls lows highs hs
   unfolding verdict
   verdict-lengths h = rw h

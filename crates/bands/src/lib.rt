@@ -1,9 +1,10 @@
 // Haircut bands: whether a table of bands covers each row and price precisely once.
 // A table is five slices of one length: first rows, last rows, lowest prices, highest prices, haircuts.
 ghost use mathlib.Core.Path.{_≡_};
-ghost use Prim.Native.Nat.{_<_, _≤_};
+ghost use Prim.Native.Nat.{_+_, _<_, _≤_};
 ghost use lib.ListN.{length};
 ghost use Rattle.arithmetic.specs.Row.{values};
+ghost use Rattle.limits.specs.Limits.{valueLimit};
 ghost use Rattle.bands.specs.Bands.{sound, bandsOf, badIndex, failingPrice, failingRow, pairsVerdict, sameLengths, verdict};
 ghost use Rattle.bands.specs.inside.Lists.{Parallel};
 ghost use Rattle.bands.specs.Stops.{Added};
@@ -41,7 +42,7 @@ struct Stop {
 
 // A stop with one band more.
 fn add_band(stop: Stop, first: u64, last: u64, low: u64, high: u64, row: u64, price: u64) -> Stop
-    requires { ⌜ (stop .covering < 18446744073709551615) × (price < stop .next) × (stop .next ≤ 8000000001) ⌝ }
+    requires { ⌜ (stop .covering < 18446744073709551615) × (price < stop .next) × (stop .next ≤ valueLimit + 1) ⌝ }
     ensures { λ r. ⌜ Added first last low high row price (stop .covering) (stop .next) (r .covering) (r .next) ⌝ }
 {
     if row < first {
@@ -83,7 +84,7 @@ fn stop_at(
     row: u64,
     price: u64,
 ) -> Stop
-    requires { ⌜ Parallel (now firsts) (now lasts) (now lowests) (now highests) × (price < 8000000001) ⌝ }
+    requires { ⌜ Parallel (now firsts) (now lasts) (now lowests) (now highests) × (price < valueLimit + 1) ⌝ }
     ensures { λ r. ⌜ StopAt (bandsOf (now (firsts .entry)) (now (lasts .entry)) (now (lowests .entry)) (now (highests .entry))) row price
         (length (now (firsts .entry))) (r .covering) (r .next) ⌝ }
 {

@@ -16,7 +16,7 @@ ghost use Rattle.book_laws.specs.Books.{
   endedBook,
 };
 use book_laws::Book;
-use job_prices::JobPrices;
+use job_laws::JobPrices;
 
 pub(crate) fn is_open(book: Book) -> bool
     ensures { λ r. ⌜ r ≡ isOpen book ⌝ }

@@ -1,10 +1,10 @@
 // The prices of a job in a field, its tree left in the lent memories, which hold every tree.
 ghost use mathlib.Core.Path.{_≡_};
 ghost use Rattle.limits.specs.Limits.{mostDiscounts, mostStatePrices};
-ghost use Rattle.job_fit.specs.RecordFit.{jobDiscounts, jobStatePrices};
-ghost use Rattle.job_prices.specs.JobPrices.{bytesMemory};
+ghost use Rattle.job_laws.specs.RecordFit.{jobDiscounts, jobStatePrices};
+ghost use Rattle.job_laws.specs.JobPrices.{bytesMemory};
 ghost use Rattle.book_laws.specs.Bounds.{jobPrices};
-use job_prices::JobPrices;
+use job_laws::JobPrices;
 
 pub(crate) fn prices_of(
     job: &[u8],

@@ -3,7 +3,7 @@ mod books;
 mod jobs;
 
 ghost use mathlib.Core.Path.{_≡_};
-ghost use Rattle.job_fit.specs.RecordFit.{jobDiscounts, jobStatePrices};
+ghost use Rattle.job_laws.specs.RecordFit.{jobDiscounts, jobStatePrices};
 ghost use Rattle.book_laws.specs.Books.{emptyBook, withField, fieldMemory, brokenBook, closedBook};
 use book_laws::Book;
 

@@ -16,6 +16,7 @@ use Rattle.arithmetic.specs.Frequency.{isFrequency}
 use Rattle.arithmetic.specs.Rounding.{one}
 use Rattle.arithmetic.specs.Row.{values, each, between}
 use Rattle.arithmetic.proofs.Numbers.{by-equal, by-test}
+use Rattle.arithmetic.proofs.Implied.{Implied, implied, lastly, _▸_}
 use Rattle.limits.specs.Limits.{valueLimit, mostSteps, mostReversion, mostDiscounts, mostStatePrices, isSteps, isReversion, shapeCause, limitCause}
 use Rattle.limits.proofs.LimitLaws.{limit-accepted}
 use Rattle.lattice.specs.RateTree.{rateTree}
@@ -26,8 +27,8 @@ use Rattle.lent_tree.specs.LentTree.{stored, acceptedDiscounts, discountsCause,
 use Rattle.reversion.specs.Reversion.{isVersion}
 use Rattle.spacing.specs.Spacing.{versionSpacing, versionSpacingAnswer}
 use Rattle.curve.specs.Curve.{inPlace, convertsAt, curveNumber}
-use Rattle.fitting.specs.Fit.{curveAccepted}
-use Rattle.fitting.specs.Entry.{earlyCause, lateCause, fittedNumber, versionNumber}
+use Rattle.fitted_laws.specs.Fit.{curveAccepted}
+use Rattle.fitted_laws.specs.Entry.{earlyCause, lateCause, fittedNumber, versionNumber}
 use Rattle.pricing_laws.specs.Pricer.{Side, Schedule}
 use Rattle.pricing_laws.specs.Schedule.{lastDate, rising, datesCause}
 use Rattle.pricing_laws.specs.Peak.{peak, greatestValue}
@@ -45,9 +46,9 @@ use Rattle.job_record.specs.declared.OptionRecord.{OptionRecord}
 use Rattle.job_record.specs.declared.Reading.{Reading}
 use Rattle.job_record.specs.Reader.{readingOf}
 use Rattle.job_record.specs.Form.{mostDates, wellFormed}
-use Rattle.job_fit.specs.RecordFit.{jobReversion, jobFlows, jobDiscounts, recordFit}
-use Rattle.job_prices.specs.JobPrices.{hasOption, optionForm, taggedOption, treeNumber, recordNumber, bytesNumber, bytesPrices, pricesOf, jobOption}
-use Rattle.job_prices.proofs.Accepted.{AcceptedRecord, bytes-accepted}
+use Rattle.job_laws.specs.RecordFit.{jobReversion, jobFlows, jobDiscounts, recordFit}
+use Rattle.job_laws.specs.JobPrices.{hasOption, optionForm, taggedOption, treeNumber, recordNumber, bytesNumber, bytesPrices, pricesOf, jobOption}
+use Rattle.job_laws.proofs.Accepted.{AcceptedRecord, bytes-accepted}
 use Rattle.book_laws.specs.Bounds.{jobPrices, mostNumber, mostErrorBound, Bounded}
 
 -- ---- no cause is above 13
@@ -118,9 +119,10 @@ fitted-most f n w spaced h rows kinds figures discounts prices l =
     chosen-most (eqb (earlyCause (curveNumber f n rows kinds figures mostSteps) n w spaced discounts prices) 0) _ _ mostNumber (late-most n w h _)
     (early-most n w spaced _ discounts prices (curve-most f n rows kinds figures mostSteps) l)
 
-fit-most : (v f n b s : ℕ) (rows kinds : List ℕ) (figures : List Float) (discounts prices : ℕ) →
+fit-most : {v f n b s : ℕ} {rows kinds : List ℕ} {figures : List Float} {discounts prices : ℕ} →
+    Implied (v ▸ f ▸ n ▸ b ▸ s ▸ rows ▸ kinds ▸ figures ▸ discounts ▸ lastly prices) →
     versionNumber v f n b s rows kinds figures discounts prices ≤ mostNumber
-fit-most v f n b s rows kinds figures discounts prices =
+fit-most {v} {f} {n} {b} {s} {rows} {kinds} {figures} {discounts} {prices} _ =
     fitted-most f n _ _ _ rows kinds figures discounts prices (spacing-most v f s b)
 
 tree-most : (n b : ℕ) (discounts flows : List ℕ) → treeCause n b discounts flows ≤ mostNumber
@@ -169,9 +171,10 @@ tagged-most n b discounts flows option =
     by-test (eqb (option .tag) 8) (λ (p : Price). p .number ≤ mostNumber) _ _
     (λ t. scheduled-most n b discounts flows _ _ _ _ (kind-most n _ _ _)) (λ t. scheduled-most n b discounts flows _ _ _ _ (dated-most n _ _ _))
 
-tree-number-most : (n b : ℕ) (discounts flows : List ℕ) (option : OptionRecord) → treeNumber n b discounts flows option ≤ mostNumber
+tree-number-most : {n b : ℕ} {discounts flows : List ℕ} {option : OptionRecord} → Implied (n ▸ b ▸ discounts ▸ flows ▸ lastly option) →
+    treeNumber n b discounts flows option ≤ mostNumber
 unfolding treeNumber
-tree-number-most n b discounts flows option = go (hasOption option)
+tree-number-most {n} {b} {discounts} {flows} {option} _ = go (hasOption option)
   where
     go : (t : Bool) → cond t (cond {A = Price} t (taggedOption n b discounts flows option) (record { number = 0; value = 0; bound = 0 }) .number)
         (bondPrice n b discounts flows .number) ≤ mostNumber
@@ -185,8 +188,8 @@ record-most job discounts prices =
     (chosen-most (leb (job .option .count) mostDates && (eqb (job .option .tag) 0 || (eqb (job .option .tag) 8 || eqb (job .option .tag) 10))) 0 1 mostNumber
     (omega arith) (omega arith))
     (first-most _ _ mostNumber
-    (lowest-most _ _ mostNumber (chosen-most (ltb 255 (job .steps)) 1 _ mostNumber (omega arith) (fit-most _ _ _ _ _ _ _ _ _ _)) (memory-most _ _ _ _))
-    (tree-number-most _ _ _ _ _))
+    (lowest-most _ _ mostNumber (chosen-most (ltb 255 (job .steps)) 1 _ mostNumber (omega arith) (fit-most implied)) (memory-most _ _ _ _))
+    (tree-number-most implied))
 
 reading-most : (bytes : List ℕ) → readingOf bytes .number ≤ mostNumber
 unfolding readingOf

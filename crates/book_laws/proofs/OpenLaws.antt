@@ -11,8 +11,8 @@ use lib.ListN.{length}
 use Rattle.arithmetic.specs.Row.{values, each, between}
 use Rattle.arithmetic.proofs.RowLaws.{each-holds, each-all}
 use Rattle.arithmetic.proofs.BetweenLaws.{between-holds, between-most}
-use Rattle.job_prices.specs.declared.JobPrices.{JobPrices}
-use Rattle.job_prices.specs.JobPrices.{bytesMemory}
+use Rattle.job_laws.specs.declared.JobPrices.{JobPrices}
+use Rattle.job_laws.specs.JobPrices.{bytesMemory}
 use Rattle.job_record.specs.declared.Job.{Job}
 use Rattle.limits.specs.Limits.{valueLimit, mostDiscounts, mostStatePrices}
 use Rattle.book_laws.specs.Bounds.{jobPrices, Bounded, mostNumber, mostErrorBound}

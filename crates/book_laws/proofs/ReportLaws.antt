@@ -9,7 +9,7 @@ use lib.ListN.{length, length-append}
 use Rattle.arithmetic.specs.Row.{values}
 use Rattle.text_laws.specs.declared.Placed.{Placed}
 use Rattle.text_laws.specs.inside.Put.{Put}
-use Rattle.text_laws.specs.Lines.{refusedWord}
+use Rattle.text_laws.specs.Lines.{refusedWord, longestLine}
 use Rattle.text_laws.specs.WordLines.{wholeLine, pairLine, amountLine, wordNumber}
 use Rattle.text_laws.proofs.PutLaws.{put-none, put-before, Answered}
 use Rattle.text_laws.proofs.WordLineLaws.{whole-room, pair-room, amount-room, word-stands, word-before}
@@ -69,7 +69,7 @@ is-line counts k number count en ec = rw (en, ec)
 -- the lines from number `left` + 1 on stand
 pub record Standing (counts out₀ : List ℕ) (end : ℕ) (out : List ℕ) (start left : ℕ) : Type 0 where
   pub upto : left ≤ mostNumber
-  pub near : end ≤ start + 128 * (mostNumber - left)
+  pub near : end ≤ start + longestLine * (mostNumber - left)
   pub put : Put out₀ end (linesFrom (refusalsLine counts) left (mostNumber - left)) start out
 
 module _ (counts out₀ : List ℕ) (end : ℕ) where
@@ -86,7 +86,7 @@ module _ (counts out₀ : List ℕ) (end : ℕ) where
   unfolding linesFrom
   standing-first h = record { upto = omega arith; near = omega arith; put = put-none out₀ end h }
 
-  pub standing-next : {out : List ℕ} {start left : ℕ} → Standing counts out₀ end out start left → 1664 ≤ end → 0 < left →
+  pub standing-next : {out : List ℕ} {start left : ℕ} → Standing counts out₀ end out start left → longestLine * mostNumber ≤ end → 0 < left →
       (number count : ℕ) → number ≡ left → count ≡ values counts (left - 1) → count < 2 ^ 64 → {answer : Placed} {after : List ℕ} →
       Lined refusedWord out start (pairLine refusedWord number count) answer after → Standing counts out₀ end after (answer .start) (left - 1)
   standing-next {out} {start} {left} s h l number count en ec fits {answer} {after} e =
@@ -111,13 +111,15 @@ module _ (counts out₀ : List ℕ) (end : ℕ) where
 
 module _ (b : Book) where
   pub refusals-room-left : {out₀ out₁ : List ℕ} {end s₁ : ℕ} → Put out₀ end (sumLines (b .bonds) (b .options) (b .«error_bounds») (b .place)) s₁ out₁
-      → bookRoom ≤ end → b .bonds < 2 ^ 64 → b .options < 2 ^ 64 → b .«error_bounds» < 2 ^ 64 → b .place < 2 ^ 64 → (1664 + 128 ≤ s₁) × (s₁ ≤ length out₁)
+      → bookRoom ≤ end → b .bonds < 2 ^ 64 → b .options < 2 ^ 64 → b .«error_bounds» < 2 ^ 64 → b .place < 2 ^ 64
+      → (longestLine * mostNumber + longestLine ≤ s₁) × (s₁ ≤ length out₁)
   refusals-room-left p h f g k l =
       let n = sums-length (b .bonds) (b .options) (b .«error_bounds») (b .place) f g k l in
       (omega (arith, p .place), omega (arith, p .place, p .within, p .same))
 
   pub book-stands : {out₀ out₁ out₂ : List ℕ} {end s₁ s₂ : ℕ} → Put out₀ end (sumLines (b .bonds) (b .options) (b .«error_bounds») (b .place)) s₁ out₁
-      → Put out₁ s₁ (refusalLines (b .refused)) s₂ out₂ → s₁ ≤ s₂ + 1664 → 1664 + 128 ≤ s₁ → b .priced < 2 ^ 64 → {answer : Placed} {after : List ℕ}
+      → Put out₁ s₁ (refusalLines (b .refused)) s₂ out₂ → s₁ ≤ s₂ + longestLine * mostNumber → longestLine * mostNumber + longestLine ≤ s₁ → b .priced < 2 ^ 64
+      → {answer : Placed} {after : List ℕ}
       → Lined pricedWord out₂ s₂ (wholeLine pricedWord (b .priced)) answer after → Put out₀ end (bookLines b) (answer .start) after
   unfolding bookLines
   book-stands p q n h f e =

@@ -6,8 +6,8 @@ use mathlib.Core.List.{List, [], _∷_}
 use lib.Dec.{eqb, ltb, leb}
 use lib.ListN.{set, replicate}
 use Rattle.arithmetic.specs.Row.{values, each, between}
-use Rattle.job_prices.specs.declared.JobPrices.{JobPrices}
-use Rattle.job_prices.specs.JobPrices.{bytesMemory}
+use Rattle.job_laws.specs.declared.JobPrices.{JobPrices}
+use Rattle.job_laws.specs.JobPrices.{bytesMemory}
 use Rattle.job_record.specs.declared.Job.{Job}
 use Rattle.limits.specs.Limits.{valueLimit, mostDiscounts, mostStatePrices}
 use Rattle.book_laws.specs.Bounds.{jobPrices, mostNumber, mostErrorBound}

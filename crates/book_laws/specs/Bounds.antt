@@ -3,8 +3,8 @@
 use Prim.Native.Nat.{ℕ, _≤_}
 use mathlib.Core.List.{List}
 use Rattle.limits.specs.Limits.{valueLimit, mostDiscounts, mostStatePrices}
-use Rattle.job_prices.specs.declared.JobPrices.{JobPrices}
-use Rattle.job_prices.specs.JobPrices.{bytesPrices}
+use Rattle.job_laws.specs.declared.JobPrices.{JobPrices}
+use Rattle.job_laws.specs.JobPrices.{bytesPrices}
 
 -- the prices of a job's bytes, in memories that hold every tree
 unfoldable pub jobPrices : List ℕ → JobPrices

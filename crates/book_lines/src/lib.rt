@@ -1,7 +1,8 @@
 // The lines of a book, put into a lent buffer from its end.
 ghost use mathlib.Core.Path.{_≡_};
-ghost use Prim.Native.Nat.{_+_, _≤_};
+ghost use Prim.Native.Nat.{_+_, _*_, _≤_};
 ghost use lib.ListN.{length};
+ghost use Rattle.text_laws.specs.Lines.{longestLine};
 ghost use Rattle.text_laws.specs.inside.Put.{Put};
 ghost use Rattle.book_laws.specs.Bounds.{mostNumber};
 ghost use Rattle.book_laws.specs.Report.{refusalLines, sumLines, bookLines, bookRoom, linesAnswer, linesMemory};
@@ -31,9 +32,9 @@ fn put_sums(
 
 // The last number's line comes first, so that the lines stand in order.
 fn put_refusals(out: &mut [u8], end: usize, counts: &[u64]) -> usize
-    requires { ⌜ (length (now counts) ≡ mostNumber) × (1664 ≤ end) × (end ≤ length (now out)) ⌝ }
+    requires { ⌜ (length (now counts) ≡ mostNumber) × (longestLine * mostNumber ≤ end) × (end ≤ length (now out)) ⌝ }
     ensures { λ r. ⌜ Put (now (out .entry)) end (refusalLines (now (counts .entry))) r (now (out .exit)) ⌝ }
-    ensures { λ r. ⌜ end ≤ r + 1664 ⌝ }
+    ensures { λ r. ⌜ end ≤ r + longestLine * mostNumber ⌝ }
 {
     let mut start = end;
     let mut left = 13usize;

@@ -7,7 +7,7 @@ use Prim.Native.Nat.{ℕ, zero, suc, _+_, _-_, _^_, _≤_, _<_}
 use native.Mathlib.Omega.{arith}
 use borrow.Author.Tests.{eq-eqb, ne-eqb, lt-ltb, le-ltb}
 use lib.Dec.{eqb}
-use lib.ListN.{length, getD, take, drop}
+use lib.ListN.{length, getD, take}
 use lib.Seq.{drop-length}
 use Rattle.arithmetic.specs.Answers.{lowestCause}
 use Rattle.arithmetic.specs.Row.{values}
@@ -17,10 +17,10 @@ use Rattle.limits.specs.Limits.{mostSteps, mostDiscounts, mostStatePrices}
 use Rattle.tree.specs.Tree.{unit}
 use Rattle.price_laws.specs.declared.Price.{Price}
 use Rattle.job_record.specs.Reader.{readingOf}
-use Rattle.job_prices.specs.declared.JobPrices.{JobPrices}
-use Rattle.job_prices.specs.JobPrices.{recordNumber, bytesNumber, bytesPrices, jobBond}
-use Rattle.job_prices.proofs.Accepted.{AcceptedRecord, bytes-accepted}
-use Rattle.job_prices.proofs.PriceLaws.{prices-given, prices-number}
+use Rattle.job_laws.specs.declared.JobPrices.{JobPrices}
+use Rattle.job_laws.specs.JobPrices.{recordNumber, bytesNumber, bytesPrices, jobBond}
+use Rattle.job_laws.proofs.Accepted.{AcceptedRecord, bytes-accepted}
+use Rattle.job_laws.proofs.PriceLaws.{prices-given, prices-number}
 use Rattle.promises.proofs.Kept.{on-tree-kept}
 use Rattle.text_laws.specs.Decimal.{decimal}
 use Rattle.text_laws.specs.Lines.{refusedWord}
@@ -29,7 +29,7 @@ use Rattle.text_laws.specs.WordLines.{wholeLine, pairLine, amountLine}
 use Rattle.sheet_room.specs.Room.{sheetRoom}
 use Rattle.sheet_laws.specs.WholeJob.{roomCause, jobNumber, sheetNumber}
 use Rattle.book_laws.specs.declared.Book.{Book}
-use Rattle.book_laws.specs.Bounds.{jobPrices, mostNumber}
+use Rattle.book_laws.specs.Bounds.{jobPrices}
 use Rattle.book_laws.specs.Books.{mostFields, isOpen, withField, brokenBook}
 use Rattle.book_laws.specs.Files.{startsWhole, jobsOf, restOf, fileBook, fieldOf, fileOf}
 use Rattle.book_laws.specs.Report.{linesFrom, refusalsLine, sumLines, bookLines, bookRoom, linesAnswer, linesMemory}

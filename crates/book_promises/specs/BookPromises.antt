@@ -12,12 +12,11 @@ use Rattle.tree.specs.Tree.{unit}
 use Rattle.price_laws.specs.Exact.{exactBond}
 use Rattle.job_record.specs.declared.Job.{Job}
 use Rattle.job_record.specs.Reader.{readingOf}
-use Rattle.job_fit.specs.RecordFit.{jobReversion, jobDiscounts, jobFlows}
-use Rattle.job_prices.specs.JobPrices.{bytesPrices}
+use Rattle.job_laws.specs.RecordFit.{jobReversion, jobDiscounts, jobFlows}
+use Rattle.job_laws.specs.JobPrices.{bytesPrices}
 use Rattle.text_laws.specs.Decimal.{decimal}
 use Rattle.sheet_laws.specs.WholeJob.{sheetNumber}
 use Rattle.book_laws.specs.declared.Book.{Book}
-use Rattle.book_laws.specs.declared.BookText.{BookText}
 use Rattle.book_laws.specs.Books.{emptyBook, withField, brokenBook}
 use Rattle.book_laws.specs.Files.{fileBook, streamed}
 use Rattle.book_laws.specs.Report.{bookLines, linesAnswer, linesMemory}

@@ -10,6 +10,7 @@ use Rattle.arithmetic.specs.Within.{Within}
 use Rattle.arithmetic.specs.Rounding.{one}
 use Rattle.arithmetic.specs.Sum.{sum}
 use Rattle.arithmetic.proofs.Numbers.{cross}
+use Rattle.arithmetic.proofs.Implied.{Implied, implied, lastly, _▸_}
 use Rattle.factor.specs.Series.{term, even, odd, series, falling, exactTerm, scale}
 use Rattle.factor.proofs.SeriesLaws.{exact-next, exact-zero, exact-whole, series-within}
 
@@ -42,13 +43,13 @@ four-below o p q h g = let (b, e) = le-dest h in let (a, f) = le-dest g in by-pa
 
 -- the same inequality of the terms, times 8 c
 weighed :
-    (c w p q p2 p3 p4 q2 q3 q4 e1 e2 e3 e4 f1 f2 f3 f4 : ℕ) →
+    (c w p q : ℕ) {p2 p3 p4 q2 q3 q4 : ℕ} → Implied (p2 ▸ p3 ▸ p4 ▸ q2 ▸ q3 ▸ lastly q4) → (e1 e2 e3 e4 f1 f2 f3 f4 : ℕ) →
     24 * c * e2 ≡ 12 * (w * p2) → 24 * c * e3 ≡ 4 * (w * p3) → 24 * c * e4 ≡ w * p4 →
     24 * c * f2 ≡ 12 * (w * q2) → 24 * c * f3 ≡ 4 * (w * q3) → 24 * c * f4 ≡ w * q4 →
     e1 ≡ w * p → f1 ≡ w * q →
     12 * q2 + 4 * p3 + q4 + 16 * (p * c) ≤ 12 * p2 + 4 * q3 + p4 + 16 * (q * c) →
     8 * c * (3 * (e1 + f2 + e3 + f4) + w * q) ≤ 8 * c * (3 * (f1 + e2 + f3 + e4) + w * p)
-weighed c w p q p2 p3 p4 q2 q3 q4 e1 e2 e3 e4 f1 f2 f3 f4 h2 h3 h4 g2 g3 g4 h1 g1 poly =
+weighed c w p q _ e1 e2 e3 e4 f1 f2 f3 f4 h2 h3 h4 g2 g3 g4 h1 g1 poly =
     omega (arith, ap (λ (x : ℕ). c * x) h1, ap (λ (x : ℕ). c * x) g1, mul-le-mul-left w poly)
 
 -- The exact terms at one argument p, over any unit o, times w: their rule and what follows from it.
@@ -116,7 +117,7 @@ module _ (o w p q : ℕ) (e f : ℕ → ℕ) (positive : 0 < o) (low : p ≤ q) 
   first-four : 3 * (e 1 + f 2 + e 3 + f 4) + w * q ≤ 3 * (f 1 + e 2 + f 3 + e 4) + w * p
   first-four =
       le-of-mul-le-mul-left {m = 3 * (e 1 + f 2 + e 3 + f 4) + w * q} {n = 3 * (f 1 + e 2 + f 3 + e 4) + w * p} {k = 8 * (o * o * o)}
-      (weighed (o * o * o) w p q _ _ _ _ _ _ (e 1) (e 2) (e 3) (e 4) (f 1) (f 2) (f 3) (f 4)
+      (weighed (o * o * o) w p q implied (e 1) (e 2) (e 3) (e 4) (f 1) (f 2) (f 3) (f 4)
       (two o w p e positive e1 er) (three o w p e positive e1 er) (four o w p e positive e1 er)
       (two o w q f positive f1 fr) (three o w q f positive f1 fr) (four o w q f positive f1 fr)
       e1 f1 (four-below o p q low high))

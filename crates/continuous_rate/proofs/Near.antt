@@ -4,13 +4,13 @@
 use mathlib.Core.Path.{_≡_, ap, _∙_}
 use mathlib.Core.Bool.{false}
 use Prim.Native.Nat.{ℕ, suc, _+_, _*_, _/_, _≤_, _<_}
-use native.Mathlib.Nat.{mul-le-mul, mul-le-mul-left, mul-le-mul-right, div-lt-iff-lt-mul, lt-div-mul-add, le-trans, le-dest, div-le-of-le-mul}
+use native.Mathlib.Nat.{mul-le-mul, mul-le-mul-left, mul-le-mul-right, div-lt-iff-lt-mul, lt-div-mul-add, le-dest, div-le-of-le-mul}
 use native.Mathlib.Omega.{arith}
 use lib.Dec.{lit≤}
 use Rattle.arithmetic.specs.Rounding.{one, roundDown}
 use Rattle.arithmetic.specs.Sum.{sum}
 use Rattle.arithmetic.proofs.Numbers.{by-order}
-use Rattle.factor.specs.Series.{term, even, odd, series}
+use Rattle.factor.specs.Series.{term, series}
 use Rattle.factor.proofs.SeriesLaws.{term-zero, term-falls, term-grows, rounded-whole}
 use Rattle.continuous.specs.Continuous.{squareDown, fourthPower, sideDiscount}
 use Rattle.continuous.proofs.Squares.{square-grows}

@@ -14,6 +14,7 @@ use Rattle.arithmetic.specs.declared.Answer.{Answer}
 use Rattle.arithmetic.specs.Row.{row, values, place, each}
 use Rattle.arithmetic.proofs.RowLaws.{length-row, each-holds}
 use Rattle.arithmetic.specs.Frequency.{isFrequency}
+use Rattle.arithmetic.proofs.Implied.{Implied, lastly, _▸_}
 use Rattle.quotes.proofs.QuoteLaws.{lone-told}
 use Rattle.limits.specs.Limits.{mostSteps, isSteps}
 use Rattle.limits.proofs.LimitLaws.{from-one}
@@ -108,7 +109,8 @@ pub record AcceptedCurve (f n : ℕ) (rows kinds : List ℕ) (figures : List Flo
   pub placed : (k : ℕ) → k < n → values rows k ≡ k + 1
   pub converted : (k : ℕ) → k < n → answerAt f kinds figures k .number ≡ 0
 
-module _ (f n : ℕ) (rows kinds : List ℕ) (figures : List Float) (room : ℕ) where
+module _ {f n : ℕ} {rows kinds : List ℕ} {figures : List Float} {room : ℕ}
+    (_ : Implied (f ▸ n ▸ rows ▸ kinds ▸ figures ▸ lastly room)) where
   pub number-frequency : isFrequency f ≡ false → curveNumber f n rows kinds figures room ≡ 2
   unfolding curveNumber
   number-frequency h = rw h
@@ -135,7 +137,8 @@ module _ (f n : ℕ) (rows kinds : List ℕ) (figures : List Float) (room : ℕ)
         unfolding curveNumber
         number-accepted g = rw (a, h, p, all, g)
 
-  -- number 0 says all of it
+-- number 0 says all of it
+module _ (f n : ℕ) (rows kinds : List ℕ) (figures : List Float) (room : ℕ) where
   pub accepted : curveNumber f n rows kinds figures room ≡ 0 → AcceptedCurve f n rows kinds figures room
   unfolding curveNumber inPlace
   accepted h =
@@ -180,7 +183,8 @@ module _ (f n : ℕ) (rows kinds : List ℕ) (figures : List Float) (memory : Li
 
 -- ---- what the entry needs, from the number that it worked out
 
-module _ (f n : ℕ) (rows kinds : List ℕ) (figures : List Float) (memory : List ℕ) (r : ℕ) (e : r ≡ curveNumber f n rows kinds figures (length memory)) where
+module _ {f n : ℕ} {rows kinds : List ℕ} {figures : List Float} {memory : List ℕ} {r : ℕ}
+    (_ : Implied (f ▸ n ▸ rows ▸ kinds ▸ figures ▸ lastly memory)) (e : r ≡ curveNumber f n rows kinds figures (length memory)) where
   pub entry-refused : (r ≡ 0 → ⊥) → (r ≡ curveNumber f n rows kinds figures (length memory)) × (memory ≡ curveMemory f n rows kinds figures memory)
   entry-refused h = (e, sym (curve-kept f n rows kinds figures memory (λ z. h (e ∙ z))))
 
@@ -194,9 +198,9 @@ module _ (f n : ℕ) (rows kinds : List ℕ) (figures : List Float) (memory : Li
         (omega arith, omega arith)
 
     pub entry-stored :
-        (after : List ℕ) → after ≡ place memory 0 (row (length kinds) (discountAt f kinds figures)) →
+        {after : List ℕ} → after ≡ place memory 0 (row (length kinds) (discountAt f kinds figures)) →
         (0 ≡ curveNumber f n rows kinds figures (length memory)) × (after ≡ curveMemory f n rows kinds figures memory)
-    entry-stored after s =
+    entry-stored s =
         let same = accepted f n rows kinds figures (length memory) none .kinds-long in (
           sym none,
           s

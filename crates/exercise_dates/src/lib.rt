@@ -5,12 +5,10 @@ ghost use mathlib.Core.Bool.{cond};
 ghost use lib.Dec.{leb};
 ghost use Rattle.arithmetic.specs.Row.{row};
 ghost use Rattle.pricing_laws.specs.Schedule.{lastDate, rising, datesCause};
-ghost use Rattle.exercise_dates.specs.Dates.{rowsOfATree, marksOf, datedTerms, datesOfKind};
+ghost use Rattle.exercise_dates.specs.Dates.{marksOf, datedTerms, datesOfKind};
 ghost use Rattle.exercise_dates.specs.inside.Dates.{datesTo};
 use exercise::Terms;
-
-// The rows of the longest tree.
-pub const MOST_ROWS: usize = limits::MOST_STEPS + 1;
+use limits::MOST_ROWS;
 
 // A list of rows: its rows stand in the first `count` places, zeros after them.
 pub struct Dates {

@@ -9,6 +9,7 @@ use lib.Dec.{lit≤}
 use Rattle.arithmetic.specs.Rounding.{one}
 use Rattle.arithmetic.specs.Sum.{sum}
 use Rattle.arithmetic.proofs.SumLaws.{sum-le, sum-term}
+use Rattle.arithmetic.proofs.Implied.{Implied, implied, lastly, _▸_}
 use Rattle.factor.specs.Series.{term, series, falling, exactTerm, scale}
 use Rattle.factor.proofs.SeriesLaws.{alternating-most, term-zero, term-falls, term-grows, series-within}
 use Rattle.factor.proofs.SeriesLaws.{exact-whole, exact-zero, exact-next, exact-falls}
@@ -32,10 +33,11 @@ six-products y d = omega arith
 
 -- the six terms from their products, multiplied out by m
 six-scaled :
-    (m e₀ e₁ e₂ e₃ e₄ e₅ p₁ p₂ p₃ p₄ p₅ : ℕ) → 1 * (m * e₁) ≡ e₀ * p₁ → 2 * (m * e₂) ≡ e₀ * p₂ → 6 * (m * e₃) ≡ e₀ * p₃ →
+    (m e₀ e₁ e₂ e₃ e₄ e₅ : ℕ) {p₁ p₂ p₃ p₄ p₅ : ℕ} → Implied (p₁ ▸ p₂ ▸ p₃ ▸ p₄ ▸ lastly p₅) →
+    1 * (m * e₁) ≡ e₀ * p₁ → 2 * (m * e₂) ≡ e₀ * p₂ → 6 * (m * e₃) ≡ e₀ * p₃ →
     24 * (m * e₄) ≡ e₀ * p₄ → 120 * (m * e₅) ≡ e₀ * p₅ → 120 * p₁ + 20 * p₃ + p₅ + 44 * m ≤ 120 * m + 60 * p₂ + 5 * p₄ →
     m * (120 * (e₁ + e₃ + e₅) + 44 * e₀) ≤ m * (120 * (e₀ + e₂ + e₄))
-six-scaled m e₀ e₁ e₂ e₃ e₄ e₅ p₁ p₂ p₃ p₄ p₅ h₁ h₂ h₃ h₄ h₅ h = omega (arith, mul-le-mul-left e₀ h)
+six-scaled m e₀ e₁ e₂ e₃ e₄ e₅ _ h₁ h₂ h₃ h₄ h₅ h = omega (arith, mul-le-mul-left e₀ h)
 
 -- Any unit o, and any exact terms that follow the series' rule.
 module _ (o y : ℕ) (e : ℕ → ℕ) (positive : 0 < o) (hy : y ≤ o) (next : (k : ℕ) → k < 12 → e (suc k) * (suc k * o) ≡ e k * y) where
@@ -56,7 +58,7 @@ module _ (o y : ℕ) (e : ℕ → ℕ) (positive : 0 < o) (hy : y ≤ o) (next :
   unfolding factorial power
   six-terms =
       le-of-mul-le-mul-left {m = 120 * (e 1 + e 3 + e 5) + 44 * e 0} {n = 120 * (e 0 + e 2 + e 4)} {k = power o 5}
-      (six-scaled (power o 5) (e 0) (e 1) (e 2) (e 3) (e 4) (e 5) _ _ _ _ _
+      (six-scaled (power o 5) (e 0) (e 1) (e 2) (e 3) (e 4) (e 5) implied
       (term-form 1 4 (lit≤ tt))
       (term-form 2 3 (lit≤ tt))
       (term-form 3 2 (lit≤ tt))

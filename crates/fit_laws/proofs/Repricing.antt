@@ -5,7 +5,7 @@
 use Prim.Native.Nat.{ℕ, zero, _+_, _*_, _≤_, _<_}
 use native.Mathlib.Nat.{mul-le-mul, mul-le-mul-left, le-of-mul-le-mul-left, lt-of-mul-lt-mul-left}
 use native.Mathlib.Omega.{arith}
-use Rattle.limits.specs.Limits.{mostQuote}
+use Rattle.limits.specs.Limits.{mostQuote, mostNodes}
 use Rattle.arithmetic.specs.Sum.{sum}
 use Rattle.arithmetic.specs.Rounding.{one}
 use Rattle.tree.specs.Tree.{Transition, Inside, Total}
@@ -46,7 +46,7 @@ pub record Fittable (t : Transition) (n m p : ℕ) (q u : ℕ → ℕ) : Type 0 
   pub inside : Inside t n m
   pub total : Total t n
   pub nodes : n ≤ 119
-  pub next-nodes : m ≤ 121
+  pub next-nodes : m ≤ mostNodes
   pub sum-low : leastRowSum ≤ sum n q
   pub sum-high : sum n q ≤ mostRowSum
   pub factor-low : (k : ℕ) → k < n → leastFactor ≤ u k

@@ -32,12 +32,12 @@ use Rattle.limits.specs.Limits.{mostSteps, mostReversion, isSteps, leastQuote, 
 use Rattle.curve.specs.Curve.{discountAt, convertsAt, inPlace, curveNumber, curveMemory}
 use Rattle.curve.proofs.CurveLaws.{curve-range, curve-stored}
 use Rattle.fitting.specs.declared.causes.Plan.{Plan}
-use Rattle.fitting.specs.Fit.{curveDiscount, curveStatePrice, curveAccepted}
+use Rattle.fitted_laws.specs.Fit.{curveDiscount, curveStatePrice, curveAccepted}
 use Rattle.fitting.specs.inside.TableFit.{rowsOrZeros, TreeFitted}
 use Rattle.fitting.specs.inside.Preconditions.{QuotesReady}
-use Rattle.fitting.specs.Entry.{quotesOf, earlyCause, lateCause, fittedNumber, fitMemory, fitDiscounts, fitStatePrices}
+use Rattle.fitted_laws.specs.Entry.{quotesOf, earlyCause, lateCause, fittedNumber, fitMemory, fitDiscounts, fitStatePrices}
 use Rattle.fitting.specs.inside.Plans.{SpacingKnown, Planned}
-use Rattle.fitting.proofs.CauseLaws.{numbers-of}
+use Rattle.fitted_laws.proofs.CauseLaws.{numbers-of}
 
 -- causes 2 to 7 are at most 7
 chain-small : (a b c d : Bool) → cond a 2 (cond b 3 (cond c 6 (cond d 7 0))) ≤ 7

@@ -5,8 +5,5 @@ pub mod RowParts
 pub mod TreeRows
 pub mod Progress
 pub mod TableFit
-pub mod CauseLaws
+pub mod PlanLaws
 pub mod FitEntry
-pub mod Promised
-pub mod FittedTree
-pub mod VersionLaws

@@ -32,7 +32,7 @@ use Rattle.fit_laws.proofs.WholeFit.{Curve, fittable}
 use Rattle.fit_laws.specs.inside.Bounds.{leastFactor, mostFactor}
 use Rattle.fitting.specs.inside.Rows.{RowFitted, partValues, rowDiscounts, tableFactor}
 use Rattle.fitting.specs.inside.Preconditions.{TreeRowReady, RowsReady}
-use Rattle.fitting.specs.Fit.{quoted}
+use Rattle.fitted_laws.specs.Fit.{quoted}
 use Rattle.fitting.specs.inside.TableFit.{tableDiscount, tableStatePrice, tableAccepted, TreeFitted, PastKept}
 use Rattle.lattice.proofs.ShapeLaws.{table-room}
 

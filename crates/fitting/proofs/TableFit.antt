@@ -30,7 +30,7 @@ use Rattle.fit_laws.proofs.WholeFit.{price-by, fitted-discount-by}
 use Rattle.fit_laws.specs.inside.Bounds.{leastFactor, mostFactor}
 use Rattle.fitting.specs.inside.Rows.{tableFactor}
 use Rattle.fitting.specs.inside.Preconditions.{Tables, QuotesReady}
-use Rattle.fitting.specs.Fit.{quoted, curveDiscount, curveStatePrice, curveAccepted, nodeFactor}
+use Rattle.fitted_laws.specs.Fit.{quoted, curveDiscount, curveStatePrice, curveAccepted, nodeFactor}
 use Rattle.fitting.specs.inside.TableFit.{tableDiscount, tableStatePrice, tableAccepted, TreeFitted, PastKept}
 use Rattle.lattice.proofs.Sizes.{half-within}
 use Rattle.lattice.proofs.ShapeLaws.{table-room, offset-is}

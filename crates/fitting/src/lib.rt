@@ -9,7 +9,7 @@ use tables::Grid;
 ghost use mathlib.Core.Path.{_≡_};
 ghost use lib.ListN.{length};
 ghost use Rattle.fitting.specs.inside.Plans.{SpacingKnown};
-ghost use Rattle.fitting.specs.Entry.{
+ghost use Rattle.fitted_laws.specs.Entry.{
   fittedNumber,
   fitMemory,
   fitDiscounts,

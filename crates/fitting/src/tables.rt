@@ -12,7 +12,7 @@ ghost use Rattle.limits.specs.Limits.{mostSteps, mostNodes};
 ghost use Rattle.lattice.specs.RateTree.{nodeOfIndex};
 ghost use Rattle.factor.specs.Factor.{factor};
 ghost use Rattle.fitting.specs.inside.Preconditions.{RowsReady, QuotesReady};
-ghost use Rattle.fitting.specs.Fit.{curveAccepted, curveDiscount, curveStatePrice};
+ghost use Rattle.fitted_laws.specs.Fit.{curveAccepted, curveDiscount, curveStatePrice};
 ghost use Rattle.fitting.specs.inside.TableFit.{tableDiscount, tableStatePrice, tableAccepted, TreeFitted, FitTried};
 
 // A tree's reversion, the spacing of its nodes, and the half width of its widest row that has discounts.

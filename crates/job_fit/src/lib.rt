@@ -3,8 +3,8 @@ mod columns;
 
 ghost use mathlib.Core.Path.{_≡_};
 ghost use lib.ListN.{length};
-ghost use Rattle.fitting.specs.Entry.{fitMemory};
-ghost use Rattle.job_fit.specs.RecordFit.{
+ghost use Rattle.fitted_laws.specs.Entry.{fitMemory};
+ghost use Rattle.job_laws.specs.RecordFit.{
   meantVersion,
   meantReversion,
   recordQuotes,

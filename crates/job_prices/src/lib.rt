@@ -4,20 +4,11 @@ mod priced;
 
 ghost use mathlib.Core.Path.{_≡_};
 ghost use lib.ListN.{length};
-ghost use Rattle.job_fit.specs.RecordFit.{jobDiscounts, jobStatePrices, memoryAfter};
+ghost use Rattle.job_laws.specs.RecordFit.{jobDiscounts, jobStatePrices, memoryAfter};
 ghost use Rattle.job_record.specs.Reader.{readingOf};
-ghost use Rattle.job_prices.specs.JobPrices.{recordNumber, recordPrices, fittedMemory, bytesNumber, bytesPrices, bytesMemory};
+ghost use Rattle.job_laws.specs.JobPrices.{recordNumber, recordPrices, fittedMemory, bytesNumber, bytesPrices, bytesMemory};
+use job_laws::JobPrices;
 use job_record::Job;
-use price_laws::Price;
-
-// The prices of a job: number 0 with the bond and, where the job has one, the option; a refusal's number with zeros.
-#[repr(C)]
-pub struct JobPrices {
-    pub number: u64,
-    pub bond: Price,
-    pub has_option: bool,
-    pub option: Price,
-}
 
 // The prices of a record whose tree is fitted and priced in the lent memories themselves. 1 a record that no job's bytes give, by its steps or its
 // option's form; then the lowest of the causes of its fit and of 6 for a memory that is too short; then the option's number where there is an option,

@@ -8,7 +8,6 @@ use mathlib.Core.Path.{_≡_, refl}
 use borrow.Author.Tests.{leb-true, eqb-true, ne-eqb, lt-leb, le-leb}
 use lib.ListN.{length, getD}
 use lib.Dec.{leb}
-use Rattle.arithmetic.specs.Row.{each}
 use Rattle.arithmetic.proofs.Numbers.{by-equal}
 use Rattle.arithmetic.proofs.RowLaws.{each-none, each-more, each-all, each-fails, each-holds}
 use Rattle.reversion.specs.Reversion.{isVersion}

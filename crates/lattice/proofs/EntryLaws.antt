@@ -12,7 +12,7 @@ use lib.IntN.{pos, natAbs}
 use Rattle.arithmetic.specs.Answers.{refused, answered}
 use Rattle.arithmetic.specs.declared.Answer.{Answer}
 use Rattle.arithmetic.proofs.Numbers.{by-order, by-equal}
-use Rattle.limits.specs.Limits.{shapeCause}
+use Rattle.limits.specs.Limits.{shapeCause, mostSteps, mostStatePrices}
 use Rattle.limits.proofs.LimitLaws.{shape-empty, shape-long, shape-steep, shape-found}
 use Rattle.lattice.specs.Shape.{highestNode, halfWidth, rowStart}
 use Rattle.lattice.specs.Branching.{ordinary, top, zOf, upFormula, middleFormula, downFormula}
@@ -122,7 +122,7 @@ start-form b i =
     start-past (highestNode b) (i - highestNode b) i (halfWidth b i) (omega (arith, half-capped b i nz)) (sym d)
     ∙ sym (start-capped b (i - highestNode b) nz) ∙ ap (rowStart b) d))
 
-pub start-fits : (b i w : ℕ) → w ≡ halfWidth b i → i ≤ 61 → (w ≤ i) × (w * w ≤ 3721) × ((i - w) * (2 * w + 1) ≤ 7503)
+pub start-fits : (b i w : ℕ) → w ≡ halfWidth b i → i ≤ mostSteps + 1 → (w ≤ i) × (w * w ≤ mostStatePrices) × ((i - w) * (2 * w + 1) ≤ 7503)
 start-fits b i w e h =
     let l : w ≤ i = omega (arith, half-within b i) in
     let s : w ≤ 61 = omega arith in

@@ -5,7 +5,7 @@ use Prim.Native.Nat.{ℕ, _+_, _-_, _*_, _≤_, _<_}
 use native.Mathlib.Omega.{arith}
 use native.Mathlib.Numerals.{add-one}
 use borrow.Author.Tests.{lt-ltb, le-ltb, le-leb, lt-leb}
-use Rattle.limits.specs.Limits.{mostSteps, mostReversion}
+use Rattle.limits.specs.Limits.{mostSteps, mostReversion, mostNodes}
 use Rattle.lattice.specs.declared.RowShape.{RowShape}
 use Rattle.lattice.specs.Shape.{halfWidth, nodeCount, rowStart}
 use Rattle.lattice.specs.Entries.{tableOffset, refusedShape, shapeOf, rowShapeAnswer}
@@ -52,5 +52,5 @@ module _ (b w i : ℕ) where
     unfolding nodeCount
     table-room = omega (arith, offset-is)
 
-    pub shape-fits : w ≤ mostSteps → (s : RowShape) → s ≡ shapeOf b w i → (s .offset + s .count ≤ nodeCount b w) × (nodeCount b w ≤ 121)
+    pub shape-fits : w ≤ mostSteps → (s : RowShape) → s ≡ shapeOf b w i → (s .offset + s .count ≤ nodeCount b w) × (nodeCount b w ≤ mostNodes)
     shape-fits few s e = rw e (table-room, count-within b w few)

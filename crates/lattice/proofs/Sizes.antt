@@ -1,10 +1,11 @@
 -- Laws of rows for every reversion: J is the first node whose z is above 1,840; rows tile the memory with no gap and no overlap.
 -- Assumes nothing.
 use mathlib.Core.Path.{_≡_, refl}
-use Prim.Native.Nat.{ℕ, zero, suc, _+_, _-_, _*_, _/_, _≤_, _<_, min}
+use Prim.Native.Nat.{ℕ, zero, suc, _+_, _*_, _/_, _≤_, _<_, min}
 use native.Mathlib.Nat.{mul-suc, suc-mul, mul-le-mul, mul-le-mul-right, add-mul, one-mul, div-add-mod', mod-lt, pos-of-ne-zero, mul-zero, le-refl}
 use native.Mathlib.Omega.{arith}
 use borrow.Author.Tests.{eq-eqb, ne-eqb}
+use Rattle.limits.specs.Limits.{mostSteps, mostNodes, mostStatePrices}
 use Rattle.arithmetic.specs.Sum.{sum}
 use Rattle.arithmetic.proofs.SumLaws.{sum-suc, sum-next, sum-grow}
 use Rattle.arithmetic.proofs.Numbers.{by-equal, by-order}
@@ -93,7 +94,7 @@ half-full b i e = (not-flat, omega (arith, half-capped b i not-flat, half-capped
 pub half-root : (b : ℕ) → halfWidth b 0 ≡ 0
 half-root b = omega (arith, half-within b 0)
 
-pub count-within : (b i : ℕ) → i ≤ 60 → nodeCount b i ≤ 121
+pub count-within : (b i : ℕ) → i ≤ mostSteps → nodeCount b i ≤ mostNodes
 unfolding nodeCount
 count-within b i h = omega (arith, half-within b i)
 
@@ -153,5 +154,5 @@ unfolding rowStart sum nodeCount
 start-most b zero = omega arith
 start-most b (suc i) = simp (mul-suc, suc-mul) (omega (arith, start-most b i, half-within b i))
 
-pub start-within : (b i : ℕ) → i ≤ 61 → rowStart b i ≤ 3721
+pub start-within : (b i : ℕ) → i ≤ mostSteps + 1 → rowStart b i ≤ mostStatePrices
 start-within b i h = omega (arith, start-most b i, mul-le-mul h h)

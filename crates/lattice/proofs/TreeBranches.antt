@@ -3,7 +3,7 @@
 use mathlib.Core.Path.{_≡_, refl, sym, ap, _∙_}
 use mathlib.Core.List.{[], _∷_}
 use Prim.Native.Nat.{ℕ, suc, _≤_, _<_}
-use lib.IntN.{ℤ, pos, _-ℤ_}
+use lib.IntN.{pos, _-ℤ_}
 use borrow.Author.Tests.{le-ltb, le-leb, lt-leb}
 use Rattle.lattice.specs.Shape.{halfWidth, nodeCount}
 use Rattle.lattice.specs.RateTree.{nodeOfIndex, node, low, rateTree}

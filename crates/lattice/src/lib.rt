@@ -1,7 +1,7 @@
 // The shape of the rate tree: widths of rows and where rows start.
 use arithmetic::Answer;
 ghost use mathlib.Core.Path.{_≡_};
-ghost use Prim.Native.Nat.{_≤_, _<_, min};
+ghost use Prim.Native.Nat.{_+_, _≤_, _<_, min};
 ghost use Rattle.limits.specs.Limits.{mostSteps};
 ghost use Rattle.lattice.specs.Shape.{highestNode, halfWidth, rowStart};
 ghost use Rattle.lattice.specs.Entries.{
@@ -67,7 +67,7 @@ fn half_width_of(reversion: u64, row: usize) -> usize
 
 // Rows that still grow have the odd numbers of nodes, so that they start at squares; later rows are equally wide.
 fn row_start_of(reversion: u64, row: usize) -> usize
-    requires { ⌜ row ≤ 61 ⌝ }
+    requires { ⌜ row ≤ mostSteps + 1 ⌝ }
     ensures { λ r. ⌜ r ≡ rowStart reversion row ⌝ }
 {
     let widest = half_width_of(reversion, row);

@@ -8,6 +8,7 @@ use borrow.Author.Tests.{le-leb}
 use Rattle.bands.specs.declared.Verdict.{Verdict}
 use Rattle.limits.specs.Limits.{valueLimit}
 use Rattle.arithmetic.specs.Row.{values}
+use Rattle.arithmetic.proofs.Implied.{implied}
 use Rattle.bands.specs.Bands.{Bands, bandsOf, covering, coverage, within, sound, verdict, verdictOf, sameLengths}
 use Rattle.bands.specs.Judged.{AllSound, uncovered, accepted}
 use Rattle.lending.specs.Lending.{lendingWorth}
@@ -32,7 +33,7 @@ no-bands =
       prices-before = λ p m. absurd (below-zero p m);
     })
     refl refl)
-    ∙ verdict-table [] [] [] [] [] refl)
+    ∙ verdict-table implied refl)
   where
     below-zero : (k : ℕ) → k < 0 → ⊥
     below-zero k m = omega arith
@@ -66,7 +67,7 @@ one-band haircut h =
     sym
     (judged-verdict whole (values (haircut ∷ [])) (verdictOf 0 0 0 0)
     (accepted (whole-sound haircut h) (omega arith) whole-covers refl)
-    ∙ verdict-table (1 ∷ []) (60 ∷ []) (0 ∷ []) (8000000000 ∷ []) (haircut ∷ []) refl)
+    ∙ verdict-table implied refl)
 
 -- and takes 2.5 percent from 1.000000001: 0.975000000975, down
 pub one-band-worth : lendingWorth (1 ∷ []) (60 ∷ []) (0 ∷ []) (8000000000 ∷ []) (250 ∷ []) 60 1000000001 .worth ≡ 975000000

@@ -3,7 +3,7 @@
 use mathlib.Core.Path.{_≡_, refl, sym, _∙_, ap}
 use mathlib.Core.Bool.{true, false, and-false}
 use mathlib.Core.List.{List}
-use mathlib.Core.Logic.{_⊎_, ⊎-elim}
+use mathlib.Core.Logic.{⊎-elim}
 use Prim.Native.Nat.{ℕ, zero, suc, _+_, _-_, _*_, _≤_, _<_}
 use native.Mathlib.Nat.{le-of-suc-le-suc, eq-or-lt-of-le, not-suc-le-zero, mul-le-mul-left, mul-le-mul}
 use native.Mathlib.Omega.{arith}
@@ -15,6 +15,7 @@ use Rattle.bands.specs.declared.Verdict.{Verdict}
 use Rattle.lending.specs.declared.Worth.{Worth}
 use Rattle.limits.specs.Limits.{valueLimit}
 use Rattle.arithmetic.specs.Row.{values}
+use Rattle.arithmetic.proofs.Implied.{Implied, implied, lastly, _▸_}
 use Rattle.bands.specs.Bands.{Bands, bandsOf, contains, covering, coverage, sound, Partition, sameLengths, tableVerdict, verdict, verdictOf}
 use Rattle.bands.specs.Judged.{AllSound, Judged, bad-band, too-many, uncovered, overlapping, accepted}
 use Rattle.lending.specs.Lending.{bandIndex, afterHaircut, refusedWorth, lendingWorth}
@@ -91,24 +92,24 @@ judged-accepted b haircut v (uncovered row price all m f c e) z = absurd (refuse
 judged-accepted b haircut v (overlapping row price all m f c e) z = absurd (refused-number v 17 row price 0 e z)
 judged-accepted b haircut v (accepted all m p e) z = (all, p)
 
-module _ (fs ls lows highs hs : List ℕ) (row price : ℕ) where
+module _ {fs ls lows highs hs : List ℕ} {row price : ℕ} (_ : Implied (fs ▸ ls ▸ lows ▸ highs ▸ hs ▸ row ▸ lastly price)) where
   -- a table that was accepted, and a pair in range
   module _
-      (same : sameLengths fs ls lows highs hs ≡ true) (v : Verdict) (e : v ≡ verdict fs ls lows highs hs) (z : v .number ≡ 0)
+      (same : sameLengths fs ls lows highs hs ≡ true) {v : Verdict} (e : v ≡ verdict fs ls lows highs hs) (z : v .number ≡ 0)
       (l : 1 ≤ row) (m : row ≤ 60) (p : price ≤ valueLimit) where
     table-accepted : AllSound (bandsOf fs ls lows highs) (values hs) × Partition (bandsOf fs ls lows highs)
     table-accepted =
         let b = bandsOf fs ls lows highs in
         judged-accepted b (values hs) (tableVerdict b (values hs)) (verdict-judged b (values hs))
-        (ap (λ (w : Verdict). w .number) (verdict-table fs ls lows highs hs same ∙ sym e) ∙ z)
+        (ap (λ (w : Verdict). w .number) (verdict-table implied same ∙ sym e) ∙ z)
 
     here : bandIndex (bandsOf fs ls lows highs) row price < length fs
     here = band-found (bandsOf fs ls lows highs) row price (table-accepted .1 row price l m p)
 
     -- k is the band that the search found
-    module _ (k : ℕ) (found : k ≡ bandIndex (bandsOf fs ls lows highs) row price) where
+    module _ {k : ℕ} (found : k ≡ bandIndex (bandsOf fs ls lows highs) row price) where
       pub in-table : k < length hs
-      in-table = omega (arith, here, lengths-agree fs ls lows highs hs same .1)
+      in-table = omega (arith, here, lengths-agree implied same .1)
 
       pub haircut-fits : values hs k ≤ 10000
       haircut-fits =
@@ -140,10 +141,10 @@ module _ (fs ls lows highs hs : List ℕ) (row price : ℕ) where
     lending-price h = rw (le-leb 1 row l, le-leb row 60 m, same, lt-leb price valueLimit h)
 
     pub lending-refused :
-        (v : Verdict) → v ≡ verdict fs ls lows highs hs → price ≤ valueLimit → (v .number ≡ 0 → ⊥) →
+        {v : Verdict} → v ≡ verdict fs ls lows highs hs → price ≤ valueLimit → (v .number ≡ 0 → ⊥) →
         record { worth = 0; verdict = v } ≡ lendingWorth fs ls lows highs hs row price
     unfolding lendingWorth
-    lending-refused v e p z = rw (← e, le-leb 1 row l, le-leb row 60 m, same, le-leb price valueLimit p, ne-eqb (v .number) 0 z)
+    lending-refused {v} e p z = rw (← e, le-leb 1 row l, le-leb row 60 m, same, le-leb price valueLimit p, ne-eqb (v .number) 0 z)
 
 -- the worth fits, and is at most the price
 pub product-fits : (price haircut : ℕ) → price ≤ valueLimit → price * (10000 - haircut) ≤ 80000000000000
@@ -163,7 +164,6 @@ pub lending-meaning :
     lendingWorth fs ls lows highs hs row price .worth ≡ afterHaircut price (values hs k)
 lending-meaning fs ls lows highs hs row price k same z l m p fits inside =
     let b = bandsOf fs ls lows highs in
-    let v = verdict fs ls lows highs hs in
-    let once : coverage b row price ≡ 1 = table-accepted fs ls lows highs hs row price same v refl z l m p .1 row price l m p in
+    let once : coverage b row price ≡ 1 = table-accepted implied same refl z l m p .1 row price l m p in
     sym (ap (λ (w : Worth). w .worth)
-    (lending-accepted fs ls lows highs hs row price same v refl z l m p k (band-only b row price once k fits inside)))
+    (lending-accepted implied same refl z l m p (band-only b row price once k fits inside)))

@@ -5,6 +5,9 @@ ghost use Rattle.limits.specs.Limits.{mostDiscounts, mostStatePrices, is
 
 pub const MOST_STEPS: usize = 60;
 
+// Row 0 and a row after each step.
+pub const MOST_ROWS: usize = MOST_STEPS + 1;
+
 pub const MOST_REVERSION: u64 = 6_000;
 
 pub const MOST_DISCOUNT: u64 = 1_100_000_000;

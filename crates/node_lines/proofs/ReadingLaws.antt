@@ -37,7 +37,7 @@ stand-known count next size e =
     let both = and-both (leb count next) (leb next size) e in
     (leb-true count next (both .0), leb-true next size (both .1))
 
-module _ (discounts : List ℕ) (next count : ℕ) (standing : count ≤ next) (held : next ≤ length discounts) where
+module _ (discounts : List ℕ) (next count : ℕ) (standing : count ≤ next) (within : next ≤ length discounts) where
   pub before-length : length (nodesBefore discounts next count) ≡ count
   unfolding nodesBefore
   before-length = part-length discounts (next - count) count (omega arith)
@@ -108,7 +108,7 @@ read-known size end row discounts next count z =
     let counted = before-length discounts next count (stands .0) (stands .1) in
     let room = row-room size end row (nodesBefore discounts next count) (parts .1) in record {
       standing = stands .0;
-      held = stands .1;
+      next-within = stands .1;
       within-row = omega (arith, counted, row-within size end row (nodesBefore discounts next count) (parts .1));
       accepted = row-accepted size end row (nodesBefore discounts next count) (parts .1);
       room = omega (arith, counted, room .0);

@@ -3,7 +3,7 @@
 use mathlib.Core.Path.{_≡_, refl, sym, ap, ap₂, _∙_, subst}
 use mathlib.Core.Bool.{Bool, true, false, cond, _&&_}
 use mathlib.Core.List.{List}
-use Prim.Native.Nat.{ℕ, zero, suc, _+_, _-_, _*_, _/_, _≤_, _<_, min}
+use Prim.Native.Nat.{ℕ, zero, suc, _+_, _*_, _/_, _≤_, _<_, min}
 use native.Mathlib.Nat.{mul-le-mul}
 use native.Mathlib.Numerals.{add-one}
 use native.Mathlib.Omega.{arith}
@@ -12,10 +12,11 @@ use borrow.Author.Tests.{lt-leb, le-leb, eq-eqb, ne-eqb, lt-ltb, le-ltb, leb-tru
 use Rattle.arithmetic.proofs.CauseLaws.{first-some, first-later, lowest-none, first-none}
 use Rattle.arithmetic.specs.Rounding.{one}
 use Rattle.arithmetic.specs.Row.{each}
-use Rattle.arithmetic.specs.Answers.{lowestCause, firstCause}
+use Rattle.arithmetic.specs.Answers.{lowestCause}
 use Rattle.arithmetic.proofs.Numbers.{by-equal, by-order}
 use Rattle.arithmetic.proofs.BetweenLaws.{and-left, and-right}
 use Rattle.arithmetic.proofs.RowLaws.{each-all, each-fails}
+use Rattle.arithmetic.proofs.Implied.{Implied, lastly, _▸_}
 use Rattle.limits.specs.Limits.{mostDiscount, isSteps}
 use Rattle.lattice.specs.Shape.{nodeCount}
 use Rattle.lattice.proofs.Sizes.{count-positive}
@@ -155,13 +156,13 @@ passed-more test row t h e k i l = by-equal i row (λ q. ap test q ∙ sym e ∙
 
 -- ---- all causes
 
-module _ (n b : ℕ) (rates : List ℕ) (m c : ℕ) (spreads flows : List ℕ) where
+module _ {n b : ℕ} {rates : List ℕ} {m c : ℕ} {spreads flows : List ℕ} (_ : Implied (n ▸ b ▸ rates ▸ m ▸ c ▸ spreads ▸ lastly flows)) where
   -- from those that the code finds
-  pub pair-steps-refused : (s : ℕ) → s ≡ pairStepsCause n m → (s ≡ 0 → ⊥) → s ≡ pairCause n b rates m c spreads flows
+  pub pair-steps-refused : {s : ℕ} → s ≡ pairStepsCause n m → (s ≡ 0 → ⊥) → s ≡ pairCause n b rates m c spreads flows
   unfolding pairCause
-  pair-steps-refused s e z = e ∙ sym (first-some _ _ (λ k. z (e ∙ k)))
+  pair-steps-refused e z = e ∙ sym (first-some _ _ (λ k. z (e ∙ k)))
 
-  module _ (s : ℕ) (es : s ≡ pairStepsCause n m) (zs : s ≡ 0) (d e t f : ℕ) (ed : d ≡ discountsCause n b rates) (ee : e ≡ discountsCause m c spreads)
+  module _ {s : ℕ} (es : s ≡ pairStepsCause n m) (zs : s ≡ 0) {d e t f : ℕ} (ed : d ≡ discountsCause n b rates) (ee : e ≡ discountsCause m c spreads)
       (et : t ≡ lowestCause d e) (ef : f ≡ flowsCause n flows) where
     trees-are : t ≡ lowestCause (discountsCause n b rates) (discountsCause m c spreads)
     trees-are = et ∙ ap₂ lowestCause ed ee
@@ -169,9 +170,9 @@ module _ (n b : ℕ) (rates : List ℕ) (m c : ℕ) (spreads flows : List ℕ) w
     steps-none : pairStepsCause n m ≡ 0
     steps-none = sym es ∙ zs
 
-    pub pair-trees-refused : (r : ℕ) → r ≡ lowestCause t f → (t ≡ 0 → ⊥) → r ≡ pairCause n b rates m c spreads flows
+    pub pair-trees-refused : {r : ℕ} → r ≡ lowestCause t f → (t ≡ 0 → ⊥) → r ≡ pairCause n b rates m c spreads flows
     unfolding pairCause pairDiscountsCause
-    pair-trees-refused r er nz =
+    pair-trees-refused er nz =
         er ∙ ap₂ lowestCause (trees-are ∙ sym (first-some _ _ (λ k. nz (trees-are ∙ k)))) ef ∙ sym (first-later _ _ steps-none)
 
     pub trees-accepted : t ≡ 0 → AcceptedTrees n b c rates spreads
@@ -185,9 +186,9 @@ module _ (n b : ℕ) (rates : List ℕ) (m c : ℕ) (spreads flows : List ℕ) w
         }
 
     pub pair-rest :
-        (r p : ℕ) → p ≡ combinedCause n b c rates spreads → r ≡ lowestCause p f → t ≡ 0 → r ≡ pairCause n b rates m c spreads flows
+        {r p : ℕ} → p ≡ combinedCause n b c rates spreads → r ≡ lowestCause p f → t ≡ 0 → r ≡ pairCause n b rates m c spreads flows
     unfolding pairCause pairDiscountsCause
-    pair-rest r p ep er z =
+    pair-rest ep er z =
         er ∙ ap₂ lowestCause (ep ∙ sym (first-later _ _ (sym trees-are ∙ z))) ef ∙ sym (first-later _ _ steps-none)
 
   -- where there is none
@@ -198,6 +199,6 @@ module _ (n b : ℕ) (rates : List ℕ) (m c : ℕ) (spreads flows : List ℕ) w
       let t = lowest-none (pairDiscountsCause n b rates m c spreads) (flowsCause n flows) (s .1) in
       let u = first-none (lowestCause (discountsCause n b rates) (discountsCause m c spreads)) _ (t .0) in
       record {
-        trees = trees-accepted 0 (sym (s .0)) refl _ _ 0 (flowsCause n flows) refl refl (sym (u .0)) refl refl;
+        trees = trees-accepted (sym (s .0)) refl refl refl (sym (u .0)) refl refl;
         paid = flows-accepted n flows (t .1);
       }

@@ -8,6 +8,7 @@ use borrow.Author.Tests.{eq-eqb, ne-eqb}
 use Rattle.arithmetic.specs.Row.{values}
 use Rattle.arithmetic.specs.Answers.{lowestCause, firstCause}
 use Rattle.arithmetic.proofs.CauseLaws.{lowest-none}
+use Rattle.arithmetic.proofs.Implied.{Implied, implied, lastly, _▸_}
 use Rattle.limits.specs.Limits.{valueLimit, limitCause}
 use Rattle.limits.proofs.LimitLaws.{limit-above, limit-kept}
 use Rattle.pricing_laws.specs.Pricer.{Side, Schedule}
@@ -106,33 +107,34 @@ passed-first cause later v e z = rw (eq-eqb cause 0 z)
 
 pub entry-accepted : {n b : ℕ} {rates : List ℕ} (m : ℕ) {c : ℕ} {spreads flows : List ℕ} {cause : ℕ} → cause ≡ pairCause n b rates m c spreads flows →
     cause ≡ 0 → AcceptedPair n b c rates spreads flows
-entry-accepted {n} {b} {rates} m {c} {spreads} {flows} ec z = pair-accepted n b rates m c spreads flows (sym ec ∙ z)
+entry-accepted {n} {b} {rates} m {c} {spreads} {flows} ec z = pair-accepted implied (sym ec ∙ z)
 
-module _ (n b : ℕ) (rates : List ℕ) (m c : ℕ) (spreads flows : List ℕ) (cause : ℕ) (ec : cause ≡ pairCause n b rates m c spreads flows) where
-  pub bond-refused : (p : Price) → p ≡ refusedPrice cause → (cause ≡ 0 → ⊥) → p ≡ pairBondPrice n b rates m c spreads flows
+module _ {n b : ℕ} {rates : List ℕ} {m c : ℕ} {spreads flows : List ℕ} {cause : ℕ} (_ : Implied (n ▸ b ▸ rates ▸ m ▸ c ▸ spreads ▸ lastly flows))
+    (ec : cause ≡ pairCause n b rates m c spreads flows) where
+  pub bond-refused : {p : Price} → p ≡ refusedPrice cause → (cause ≡ 0 → ⊥) → p ≡ pairBondPrice n b rates m c spreads flows
   unfolding pairBondPrice
-  bond-refused p ep z = ep ∙ refused-first cause _ _ _ _ ec z
+  bond-refused ep z = ep ∙ refused-first cause _ _ _ _ ec z
 
-  pub bond-found : (p : Price) → cause ≡ 0 → p ≡ acceptedPairBond n b c rates spreads flows → p ≡ pairBondPrice n b rates m c spreads flows
+  pub bond-found : {p : Price} → cause ≡ 0 → p ≡ acceptedPairBond n b c rates spreads flows → p ≡ pairBondPrice n b rates m c spreads flows
   unfolding pairBondPrice
-  bond-found p z ep = ep ∙ passed-first _ _ _ _ (sym ec ∙ z)
+  bond-found z ep = ep ∙ passed-first _ _ _ _ (sym ec ∙ z)
 
   module _ (number : ℕ) (dates : List ℕ) (strike : ℕ) where
-    pub dated-refused : (p : Price) → p ≡ refusedPrice cause → (cause ≡ 0 → ⊥) → p ≡ pairDatedPrice n b rates m c spreads flows number dates strike
+    pub dated-refused : {p : Price} → p ≡ refusedPrice cause → (cause ≡ 0 → ⊥) → p ≡ pairDatedPrice n b rates m c spreads flows number dates strike
     unfolding pairDatedPrice
-    dated-refused p ep z = ep ∙ refused-first cause _ _ _ _ ec z
+    dated-refused ep z = ep ∙ refused-first cause _ _ _ _ ec z
 
-    module _ (z : cause ≡ 0) (terms-number dates-number other : ℕ) (et : terms-number ≡ termsCause number strike)
+    module _ (z : cause ≡ 0) {terms-number dates-number other : ℕ} (et : terms-number ≡ termsCause number strike)
         (ed : dates-number ≡ datesCause n dates) (eo : other ≡ lowestCause terms-number dates-number) where
       other-is : other ≡ datedCause n number dates strike
       unfolding datedCause
       other-is = eo ∙ ap₂ lowestCause et ed
 
-      pub terms-refused : (p : Price) → p ≡ refusedPrice other → (other ≡ 0 → ⊥) → p ≡ pairDatedPrice n b rates m c spreads flows number dates strike
+      pub terms-refused : {p : Price} → p ≡ refusedPrice other → (other ≡ 0 → ⊥) → p ≡ pairDatedPrice n b rates m c spreads flows number dates strike
       unfolding pairDatedPrice
-      terms-refused p ep nz = ep ∙ refused-first other _ _ _ _ other-is nz ∙ passed-first _ _ _ _ (sym ec ∙ z)
+      terms-refused ep nz = ep ∙ refused-first other _ _ _ _ other-is nz ∙ passed-first _ _ _ _ (sym ec ∙ z)
 
-      module _ (none : other ≡ 0) (terms : Terms) (marks : List ℕ) (em : terms ≡ datedTerms number dates strike) (ek : marks ≡ marksOf dates) where
+      module _ (none : other ≡ 0) {terms : Terms} {marks : List ℕ} (em : terms ≡ datedTerms number dates strike) (ek : marks ≡ marksOf dates) where
         causes : (termsCause number strike ≡ 0) × (datesCause n dates ≡ 0)
         unfolding datedCause
         causes = lowest-none (termsCause number strike) (datesCause n dates) (sym other-is ∙ none)
@@ -152,10 +154,10 @@ module _ (n b : ℕ) (rates : List ℕ) (m c : ℕ) (spreads flows : List ℕ) (
             }
 
         pub dated-found :
-            (p : Price) → p ≡ acceptedPairOption n b c rates spreads flows (side (terms .call)) (terms .strike) (marked (terms .last) marks) →
+            {p : Price} → p ≡ acceptedPairOption n b c rates spreads flows (side (terms .call)) (terms .strike) (marked (terms .last) marks) →
             p ≡ pairDatedPrice n b rates m c spreads flows number dates strike
         unfolding pairDatedPrice
-        dated-found p ep =
+        dated-found ep =
             ep
             ∙ ap₂ (λ (x : Side) (y : ℕ). acceptedPairOption n b c rates spreads flows x y (marked (terms .last) marks))
             (dated-side number dates strike terms em) (dated-strike number dates strike terms em)

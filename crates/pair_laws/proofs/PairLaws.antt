@@ -6,6 +6,7 @@ use Prim.Native.Nat.{ℕ, suc, _+_, _*_, _/_, _^_, _≤_, _<_}
 use native.Mathlib.Nat.{mul-assoc, mul-le-mul, mul-le-mul-right, le-trans, le-refl, le-antisymm}
 use native.Mathlib.Omega.{arith}
 use lib.Dec.{lit≤}
+use Rattle.limits.specs.Limits.{mostNodes}
 use Rattle.arithmetic.specs.Rounding.{one, Rounds}
 use Rattle.arithmetic.specs.Sum.{greatest}
 use Rattle.arithmetic.specs.Within.{Within}
@@ -187,14 +188,14 @@ module _ (rates spreads : Tree) (sound-rates : Sound rates) (sound-spreads : Sou
       pair-cost-covered flow side strike rows h (at 0 0) pair-root
 
   -- the error bound of every row of at most 20 steps is small
-  ceiling-20 : ceiling 121 20 ≤ 1000000
+  ceiling-20 : ceiling mostNodes 20 ≤ 1000000
   unfolding ceiling
   ceiling-20 = lit≤ tt
 
   pub pair-bound-small : n ≤ 20 → (i : ℕ) → i ≤ n → pairErrorBound rates spreads rateDiscount spreadDiscount n i ≤ 1000000
   pair-bound-small few i h =
       le-trans
-      (error-bound-ceiling 121 (greatest-at rates spreads rateDiscount spreadDiscount) n
+      (error-bound-ceiling mostNodes (greatest-at rates spreads rateDiscount spreadDiscount) n
       (combined-most rates spreads rateDiscount spreadDiscount n hr hs) (omega arith) 20 few i h)
       ceiling-20
 

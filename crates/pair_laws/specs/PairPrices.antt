@@ -10,12 +10,11 @@ use Rattle.lattice.specs.RateTree.{rateTree}
 use Rattle.lent_tree.specs.LentTree.{stored}
 use Rattle.pricing_laws.specs.Pricer.{Pricer, Side, Schedule, bond, option}
 use Rattle.pricing_laws.specs.Schedule.{numberedSide, datedSchedule}
-use Rattle.pricing_laws.specs.TreePricer.{rollRounding}
 use Rattle.pricing_laws.specs.Peak.{peak}
 use Rattle.price_laws.specs.declared.Price.{Price}
 use Rattle.arithmetic.specs.Answers.{firstCause}
 use Rattle.price_laws.specs.Prices.{flowAt, priced, datedCause}
-use Rattle.pair_laws.specs.Pair.{Pair, at, pairRoll, pairEngine, exactPair, greatestCombined, pairErrorBound}
+use Rattle.pair_laws.specs.Pair.{Pair, at, pairEngine, exactPair, greatestCombined, pairErrorBound}
 use Rattle.pair_laws.specs.PairCauses.{pairCause}
 
 -- the greatest value of a pair of row i

@@ -22,6 +22,7 @@ use Rattle.price_bound.proofs.BoundLaws.{discount-within}
 use Rattle.price_causes.specs.Causes.{termsCause}
 use Rattle.price_laws.specs.declared.Price.{Price}
 use Rattle.arithmetic.specs.Answers.{firstCause}
+use Rattle.arithmetic.proofs.Implied.{implied}
 use Rattle.price_laws.specs.Prices.{flowAt, priced, datedCause}
 use Rattle.price_laws.proofs.Accuracy.{Given}
 use Rattle.pair_laws.specs.Pair.{at, Stands, pairUnit, combined}
@@ -71,7 +72,7 @@ module _ (n b : ℕ) (rates : List ℕ) (m c : ℕ) (spreads flows : List ℕ) w
         (exactPairBond n b c rates spreads flows)
     unfolding pairBondValue pairBound exactPairBond
     bond-within-bound =
-        let a = pair-accepted n b rates m c spreads flows (first-none _ _ (bond-given .none) .0) in
+        let a = pair-accepted implied (first-none _ _ (bond-given .none) .0) in
         let r = a .trees .rate-tree in
         let s = a .trees .spread-tree in
         rw (bond-given .value, bond-given .bound)
@@ -91,7 +92,7 @@ module _ (n b : ℕ) (rates : List ℕ) (m c : ℕ) (spreads flows : List ℕ) w
     dated-given = given _ _ _ h
 
     dated-accepted : AcceptedPair n b c rates spreads flows
-    dated-accepted = pair-accepted n b rates m c spreads flows (first-none _ _ (dated-given .none) .0)
+    dated-accepted = pair-accepted implied (first-none _ _ (dated-given .none) .0)
 
     dates-passed : datesCause n dates ≡ 0
     unfolding datedCause

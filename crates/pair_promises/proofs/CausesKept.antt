@@ -3,22 +3,20 @@
 use mathlib.Core.Path.{_≡_, refl, sym, ap, ap₂, _∙_}
 use mathlib.Core.Bool.{Bool, true, false, not, cond, _&&_}
 use mathlib.Core.List.{List, [], _∷_, _++_}
-use Prim.Native.Nat.{ℕ, suc, _*_, _/_}
+use Prim.Native.Nat.{ℕ, suc}
 use lib.Dec.{eqb, leb, ltb}
 use lib.ListN.{length}
-use Rattle.arithmetic.specs.Rounding.{one}
-use Rattle.arithmetic.specs.Row.{values, each}
+use Rattle.arithmetic.specs.Row.{each}
 use Rattle.arithmetic.specs.Sum.{greatest}
 use Rattle.arithmetic.specs.Answers.{lowestCause, firstCause}
 use Rattle.arithmetic.proofs.RowLaws.{each-cong}
 use Rattle.limits.specs.Limits.{isSteps, isReversion, shapeCause, limitCause}
 use Rattle.lattice.specs.Shape.{nodeCount, rowStart, discountsNeeded}
-use Rattle.lent_tree.specs.LentTree.{stored, acceptedDiscounts, discountsCause}
+use Rattle.lent_tree.specs.LentTree.{acceptedDiscounts, discountsCause}
 use Rattle.pricing_laws.specs.Peak.{peak}
 use Rattle.pricing_laws.specs.Pricer.{Side, Schedule}
 use Rattle.pricing_laws.specs.Schedule.{numberedSide, datedSchedule}
 use Rattle.price_causes.specs.Causes.{flowsCause}
-use Rattle.price_laws.specs.Prices.{datedCause}
 use Rattle.promises.specs.Causes.{Cause, cause, firstOf, discountsAccepted, flowsAccepted, termsAccepted, datesAccepted}
 use Rattle.promises.proofs.CauseTables.{not-leb, seven, first-append, number-priced, larger-above, greatest-above, peak-above}
 use Rattle.promises.proofs.PriceCauses.{list-cause, flows-alike}

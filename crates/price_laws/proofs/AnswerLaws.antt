@@ -21,6 +21,7 @@ use Rattle.price_laws.specs.declared.Price.{Price}
 use Rattle.price_laws.specs.declared.BondAndOption.{BondAndOption}
 use Rattle.price_laws.specs.declared.BondAndOptionValues.{BondAndOptionValues}
 use Rattle.arithmetic.specs.Answers.{firstCause}
+use Rattle.arithmetic.proofs.Implied.{Implied, lastly, _▸_}
 use Rattle.price_laws.specs.Prices.{flowAt, treeCause, refusedPrice, priced, bondPeak, optionValue, optionPeak, optionLimit, scheduledPrice}
 use Rattle.price_laws.specs.inside.Accepted.{acceptedOption}
 
@@ -63,10 +64,11 @@ module _ (n b : ℕ) (discounts flows : List ℕ) where
 
   -- from the marks that the code works with
   pub marked-price :
-      (side : Side) (strike last : ℕ) (marks dates : List ℕ) (e : ℕ) (p : Price) → lastDate dates ≤ mostSteps → last ≡ lastDate dates →
+      {side : Side} {strike last : ℕ} {marks dates : List ℕ} {e : ℕ} {p : Price} → Implied (side ▸ strike ▸ dates ▸ lastly e) →
+      lastDate dates ≤ mostSteps → last ≡ lastDate dates →
       marks ≡ marksOf dates → p ≡ acceptedOption n b discounts flows side strike (marked last marks) e →
       p ≡ acceptedOption n b discounts flows side strike (datedSchedule dates) e
-  marked-price side strike last marks dates e p few el em ep =
+  marked-price {side} {strike} {last} {marks} {dates} {e} _ few el em ep =
       ep
       ∙ ap₂ (λ (l : ℕ) (m : List ℕ). acceptedOption n b discounts flows side strike (marked l m) e) el em
       ∙ option-alike-price side strike (marked (lastDate dates) (marksOf dates)) (datedSchedule dates) (dates-alike dates few) e

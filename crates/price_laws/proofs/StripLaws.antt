@@ -24,6 +24,7 @@ use Rattle.price_causes.proofs.CheckLaws.{option-accepted, kind-known}
 use Rattle.price_laws.specs.declared.Price.{Price}
 use Rattle.price_laws.specs.declared.Strip.{Strip}
 use Rattle.arithmetic.specs.Answers.{firstCause}
+use Rattle.arithmetic.proofs.Implied.{implied}
 use Rattle.price_laws.specs.Prices.{treeCause, refusedPrice, valueAlone, withBound, optionPrice, datedPrice}
 use Rattle.price_laws.specs.Strips.{mostStrikes, stripCause, refusedStrip, stripOf, stripAnswer, strikePrice}
 use Rattle.price_laws.specs.Strips.{kindPrice, optionStrip, kindStrip, eachWith, Placed, Shown}
@@ -119,12 +120,12 @@ module _ (n b : ℕ) (discounts flows strikes : List ℕ) (e : ℕ) where
     pub tree-refuses : (c : ℕ) → c ≡ treeCause n b discounts flows → (c ≡ 0 → ⊥) →
         stripOf (length strikes) (λ k. refusedPrice c) ≡ stripOf (length strikes) (eachWith e (strikePrice n b discounts flows side dates strikes))
     unfolding datedPrice
-    tree-refuses c h z = refused-alike (length strikes) c _ (λ k. option-refused n b discounts flows e _ _ _ _ c h z)
+    tree-refuses c h z = refused-alike (length strikes) c _ (λ k. option-refused implied h z)
 
     -- with the tree's own bound each is the price
     pub strip-whole : (treeCause n b discounts flows ≡ 0 → e ≡ treeErrorBound n b discounts) →
         stripAnswer n b (length strikes) (eachWith e (strikePrice n b discounts flows side dates strikes)) ≡ optionStrip n b discounts flows side dates strikes
-    strip-whole he = strip-alike n b (length strikes) _ _ (λ k. dated-whole n b discounts flows he side dates (values strikes k))
+    strip-whole he = strip-alike n b (length strikes) _ _ (λ k. dated-whole implied he side dates (values strikes k))
 
   -- ---- of a kind
 
@@ -153,11 +154,11 @@ module _ (n b : ℕ) (discounts flows strikes : List ℕ) (e : ℕ) where
         (λ z.
         let same = any-strike (values strikes k) (λ none. nz (ec ∙ none)) in
         rw (eq-eqb found 0 z)
-        (ap refusedPrice (ec ∙ sym same) ∙ option-cause n b discounts flows e _ _ _ _ (sym ef ∙ z) (λ none. nz (ec ∙ sym same ∙ none))))
+        (ap refusedPrice (ec ∙ sym same) ∙ option-cause implied (sym ef ∙ z) (λ none. nz (ec ∙ sym same ∙ none))))
         (λ z.
         rw (ne-eqb found 0 z)
-        (option-refused n b discounts flows e (sideOf kind) (values strikes k) (scheduleOf kind expiry)
-        (optionCause n kind expiry (values strikes k)) found ef z))
+        (option-refused {e = e} {side = sideOf kind} {strike = values strikes k} {rows = scheduleOf kind expiry}
+        {cause = optionCause n kind expiry (values strikes k)} implied ef z))
 
     pub kind-refuses : (found c : ℕ) → found ≡ treeCause n b discounts flows → c ≡ judged → (c ≡ 0 → ⊥) →
         stripAnswer n b (length strikes) (λ k. refusedPrice (firstCause found c)) ≡ stripAnswer n b (length strikes) priced
@@ -190,7 +191,7 @@ module _ (n b : ℕ) (discounts flows strikes : List ℕ) (e : ℕ) where
 
     pub kind-whole : (treeCause n b discounts flows ≡ 0 → e ≡ treeErrorBound n b discounts) →
         stripAnswer n b (length strikes) priced ≡ kindStrip n b discounts flows kind expiry strikes
-    kind-whole he = strip-alike n b (length strikes) _ _ (λ k. option-whole n b discounts flows he kind expiry (values strikes k))
+    kind-whole he = strip-alike n b (length strikes) _ _ (λ k. option-whole implied he kind expiry (values strikes k))
 
 -- ---- what is read off a strip
 

@@ -14,6 +14,7 @@ use Rattle.price_laws.specs.Prices.{bondPrice, scheduledPrice, optionPri
 use Rattle.price_laws.specs.inside.Accepted.{bothWith, acceptedBond, acceptedOption}
 use Rattle.price_laws.proofs.AnswerLaws.{priced-refused, refused-first, passed-first, both-are, values-are}
 use Rattle.arithmetic.proofs.CauseLaws.{first-none}
+use Rattle.arithmetic.proofs.Implied.{Implied, lastly, _▸_}
 
 -- ---- a price by its number
 
@@ -48,32 +49,33 @@ priced-alike cause v e bound h =
 
 -- ---- by what was found: prices with an error bound e
 
-module _ (n b : ℕ) (discounts flows : List ℕ) (e : ℕ) where
-  pub bond-refused : (c : ℕ) → c ≡ treeCause n b discounts flows → (c ≡ 0 → ⊥) → refusedPrice c ≡ withBound (valueAlone (bondPrice n b discounts flows)) e
+module _ {n b : ℕ} {discounts flows : List ℕ} {e : ℕ} (_ : Implied (n ▸ b ▸ discounts ▸ flows ▸ lastly e)) where
+  pub bond-refused : {c : ℕ} → c ≡ treeCause n b discounts flows → (c ≡ 0 → ⊥) → refusedPrice c ≡ withBound (valueAlone (bondPrice n b discounts flows)) e
   unfolding bondPrice
-  bond-refused c h z = refused-first _ _ e h z ∙ sym (value-bounded _ _ _ e)
+  bond-refused h z = refused-first _ _ e h z ∙ sym (value-bounded _ _ _ e)
 
-  pub bond-passed : treeCause n b discounts flows ≡ 0 → (p : Price) → p ≡ acceptedBond n b discounts flows e →
+  pub bond-passed : treeCause n b discounts flows ≡ 0 → {p : Price} → p ≡ acceptedBond n b discounts flows e →
       p ≡ withBound (valueAlone (bondPrice n b discounts flows)) e
   unfolding bondPrice
-  bond-passed z p ep = ep ∙ passed-first _ _ _ e z ∙ sym (value-bounded _ _ _ e)
+  bond-passed z ep = ep ∙ passed-first _ _ _ e z ∙ sym (value-bounded _ _ _ e)
 
-  module _ (side : Side) (strike : ℕ) (rows : Schedule) (cause : ℕ) where
-    pub option-refused : (c : ℕ) → c ≡ treeCause n b discounts flows → (c ≡ 0 → ⊥) →
-        refusedPrice c ≡ withBound (valueAlone (scheduledPrice n b discounts flows side strike rows cause)) e
-    option-refused c h z = refused-first _ _ e h z ∙ sym (value-bounded _ _ _ e)
+module _ {n b : ℕ} {discounts flows : List ℕ} {e : ℕ} {side : Side} {strike : ℕ} {rows : Schedule} {cause : ℕ}
+    (_ : Implied (n ▸ b ▸ discounts ▸ flows ▸ e ▸ side ▸ strike ▸ rows ▸ lastly cause)) where
+  pub option-refused : {c : ℕ} → c ≡ treeCause n b discounts flows → (c ≡ 0 → ⊥) →
+      refusedPrice c ≡ withBound (valueAlone (scheduledPrice n b discounts flows side strike rows cause)) e
+  option-refused h z = refused-first _ _ e h z ∙ sym (value-bounded _ _ _ e)
 
-    module _ (z : treeCause n b discounts flows ≡ 0) where
-      pub option-cause : (cause ≡ 0 → ⊥) → refusedPrice cause ≡ withBound (valueAlone (scheduledPrice n b discounts flows side strike rows cause)) e
-      option-cause nz = refused-first _ _ e refl nz ∙ passed-first _ _ _ e z ∙ sym (value-bounded _ _ _ e)
+  module _ (z : treeCause n b discounts flows ≡ 0) where
+    pub option-cause : (cause ≡ 0 → ⊥) → refusedPrice cause ≡ withBound (valueAlone (scheduledPrice n b discounts flows side strike rows cause)) e
+    option-cause nz = refused-first _ _ e refl nz ∙ passed-first _ _ _ e z ∙ sym (value-bounded _ _ _ e)
 
-      pub option-passed : cause ≡ 0 → (p : Price) → p ≡ acceptedOption n b discounts flows side strike rows e →
-          p ≡ withBound (valueAlone (scheduledPrice n b discounts flows side strike rows cause)) e
-      option-passed none p ep = ep ∙ passed-first _ _ _ e none ∙ passed-first _ _ _ e z ∙ sym (value-bounded _ _ _ e)
+    pub option-passed : cause ≡ 0 → {p : Price} → p ≡ acceptedOption n b discounts flows side strike rows e →
+        p ≡ withBound (valueAlone (scheduledPrice n b discounts flows side strike rows cause)) e
+    option-passed none ep = ep ∙ passed-first _ _ _ e none ∙ passed-first _ _ _ e z ∙ sym (value-bounded _ _ _ e)
 
 -- ---- the value with the tree's error bound is the price; with any bound it is the value again
 
-module _ (n b : ℕ) (discounts flows : List ℕ) where
+module _ {n b : ℕ} {discounts flows : List ℕ} (_ : Implied (n ▸ b ▸ discounts ▸ lastly flows)) where
   pub bond-value-again : (e : ℕ) → valueAlone (withBound (valueAlone (bondPrice n b discounts flows)) e) ≡ valueAlone (bondPrice n b discounts flows)
   unfolding bondPrice
   bond-value-again e = ap valueAlone (value-bounded _ _ _ e) ∙ value-priced _ _ _ _

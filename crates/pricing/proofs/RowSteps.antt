@@ -3,7 +3,7 @@
 use mathlib.Core.Path.{_≡_, refl, sym, ap, ap₂, _∙_}
 use mathlib.Core.Bool.{Bool}
 use mathlib.Core.List.{List}
-use Prim.Native.Nat.{ℕ, _+_, _-_, _≤_, _<_, max}
+use Prim.Native.Nat.{ℕ, _+_, _≤_, _<_, max}
 use native.Mathlib.Nat.{not-suc-le-zero}
 use native.Mathlib.Omega.{arith}
 use lib.ListN.{length, set}
@@ -11,6 +11,7 @@ use Rattle.arithmetic.specs.Row.{values}
 use Rattle.arithmetic.specs.Sum.{greatest}
 use Rattle.arithmetic.proofs.SumLaws.{greatest-none, greatest-next}
 use Rattle.arithmetic.proofs.RowLaws.{Filled, filled-next}
+use Rattle.arithmetic.proofs.Implied.{Implied, lastly, _▸_}
 use Rattle.tree.specs.Tree.{probabilityTotal}
 use Rattle.pricing_laws.specs.Pricer.{Side, exercise, heldOrExercised}
 use Rattle.row_branches.specs.declared.RowBranch.{RowBranch}
@@ -132,9 +133,10 @@ rows-done {f} {g} s e =
 
 -- the option's value from the two rolls, as the code has them
 pub option-from-roll :
-    (side : Side) (strike : ℕ) (listed : Bool) (bonds options downs discounts : List ℕ) (next k bond roll r : ℕ) →
+    (side : Side) (strike : ℕ) (listed : Bool) {bonds options downs discounts : List ℕ} {next k bond roll r : ℕ} →
+    Implied (bonds ▸ options ▸ downs ▸ discounts ▸ next ▸ lastly k) →
     bond ≡ rolledRow bonds downs discounts next k → roll ≡ rolledRow options downs discounts next k →
     r ≡ heldOrExercised listed roll (exercise side strike bond) →
     r ≡ optionValues side strike listed bonds options downs discounts next k
-option-from-roll side strike listed bonds options downs discounts next k bond roll r eb eo er =
+option-from-roll side strike listed _ eb eo er =
     er ∙ ap₂ (λ (x y : ℕ). heldOrExercised listed x (exercise side strike y)) eo eb

@@ -5,9 +5,8 @@ use mathlib.Core.List.{List}
 use Prim.Native.Nat.{ℕ, _≤_, _<_}
 use native.Mathlib.Omega.{arith}
 use Rattle.arithmetic.specs.declared.Answer.{Answer}
-use Rattle.arithmetic.specs.Answers.{refused}
+use Rattle.arithmetic.proofs.Implied.{Implied, implied, lastly, _▸_}
 use Rattle.limits.specs.Limits.{mostSteps, limitCause}
-use Rattle.pricing_laws.specs.Schedule.{datedSchedule}
 use Rattle.pricing_laws.specs.inside.Marks.{marked}
 use Rattle.exercise.specs.declared.Terms.{Terms}
 use Rattle.exercise.specs.Terms.{side}
@@ -26,8 +25,9 @@ use Rattle.pricing.specs.inside.Strips.{besideBond}
 use Rattle.pricing.proofs.EntryLaws.{dated-exercised, option-refused, option-given}
 use Rattle.pricing.proofs.WalkStates.{bond-over}
 
-module _ (n b : ℕ) (discounts flows : List ℕ) (number : ℕ) (dates : List ℕ) (strike cause : ℕ) (none : treeCause n b discounts flows ≡ 0)
-    (ec : cause ≡ datedCause n number dates strike) (bound : ℕ) where
+module _ {n b : ℕ} {discounts flows : List ℕ} {number : ℕ} {dates : List ℕ} {strike cause bound : ℕ}
+    (_ : Implied (n ▸ b ▸ discounts ▸ flows ▸ number ▸ dates ▸ strike ▸ lastly bound)) (none : treeCause n b discounts flows ≡ 0)
+    (ec : cause ≡ datedCause n number dates strike) where
   -- the answer of a call for this strike alone
   abbrev alone : Price
   alone = withBound (valueAlone (datedPrice n b discounts flows number dates strike)) bound
@@ -35,16 +35,16 @@ module _ (n b : ℕ) (discounts flows : List ℕ) (number : ℕ) (dates : List �
   pub strike-refused : (cause ≡ 0 → ⊥) → refusedPrice cause ≡ alone
   unfolding datedPrice
   strike-refused nz =
-      ap refusedPrice ec ∙ option-cause n b discounts flows bound _ strike _ (datedCause n number dates strike) none (λ e. nz (ec ∙ e))
+      ap refusedPrice ec ∙ option-cause implied none (λ e. nz (ec ∙ e))
 
-  module _ (z : cause ≡ 0) (few : n ≤ mostSteps) (terms : Terms) (et : terms ≡ datedTerms number dates strike) (marks : List ℕ)
+  module _ (z : cause ≡ 0) (few : n ≤ mostSteps) {terms : Terms} (et : terms ≡ datedTerms number dates strike) {marks : List ℕ}
       (em : marks ≡ marksOf dates) where
     strike-price-is :
         (p : Price) → p ≡ acceptedOption n b discounts flows (side (terms .call)) (terms .strike) (marked (terms .last) marks) bound → p ≡ alone
     strike-price-is p ep =
         let on = dated-exercised number strike ec terms et z few in
-        option-passed n b discounts flows bound (side (terms .call)) (terms .strike) (datedSchedule dates) cause none z p
-        (marked-price n b discounts flows (side (terms .call)) (terms .strike) (terms .last) marks dates bound p (omega (arith, on .before-end))
+        option-passed implied none z
+        (marked-price n b discounts flows implied (omega (arith, on .before-end))
         (on .last-listed) em ep)
         ∙ ap (λ (q : Price). withBound (valueAlone q) bound) (dated-price n number dates strike ec terms et b discounts flows)
 
@@ -66,7 +66,7 @@ module _ (n b : ℕ) (discounts flows : List ℕ) (number : ℕ) (dates : List �
         )
 
     -- what the roll answers
-    module _ (r : Answer)
+    module _ {r : Answer}
         (s : BothRolled n b discounts flows (side (terms .call)) (terms .strike) (marked (terms .last) marks) (besideBond n b discounts flows r)) where
       pub rolled-refuses : (r .number ≡ 0 → ⊥) → refusedPrice (r .number) ≡ alone
       rolled-refuses nz = strike-price-is (refusedPrice (r .number)) (option-refused bound s nz)
@@ -76,10 +76,10 @@ module _ (n b : ℕ) (discounts flows : List ℕ) (number : ℕ) (dates : List �
 
     -- a bond above the limit
     pub bond-refuses :
-        Accepted n b discounts → AcceptedFlows n flows → (over : ℕ) → over ≡ limitCause (bondPeak n b discounts flows) → (over ≡ 0 → ⊥) →
+        Accepted n b discounts → AcceptedFlows n flows → {over : ℕ} → over ≡ limitCause (bondPeak n b discounts flows) → (over ≡ 0 → ⊥) →
         refusedPrice over ≡ alone
     unfolding marked
-    bond-refuses a f over e nz =
-        rolled-refuses (refused over)
+    bond-refuses a f {over} e nz =
+        rolled-refuses
         (bond-over n b discounts flows a f (side (terms .call)) (terms .strike) (marked (terms .last) marks) (omega (arith, last-before)) over e nz)
         nz

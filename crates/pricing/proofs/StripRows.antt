@@ -10,6 +10,7 @@ use lib.ListN.{length, set, length-set}
 use lib.Seq.{getD-set-same, getD-set-other}
 use Rattle.arithmetic.specs.Row.{values}
 use Rattle.arithmetic.proofs.Numbers.{by-equal}
+use Rattle.arithmetic.proofs.Implied.{Implied, lastly, _▸_}
 use Rattle.pricing_laws.specs.Pricer.{Side, exercise, heldOrExercised}
 use Rattle.pricing.specs.inside.Rows.{rolledRow}
 use Rattle.pricing.specs.inside.Strips.{Laid, strikeValues}
@@ -43,8 +44,9 @@ laying-next {l} {start} {k} {x} s h e =
 
 -- the option's value from its roll and the kept row
 pub strike-from-roll :
-    (side : Side) (strike : ℕ) (listed : Bool) (bare options downs discounts : List ℕ) (next k roll r : ℕ) →
+    (side : Side) (strike : ℕ) (listed : Bool) (bare : List ℕ) {options downs discounts : List ℕ} {next k roll r : ℕ} →
+    Implied (options ▸ downs ▸ discounts ▸ next ▸ lastly k) →
     roll ≡ rolledRow options downs discounts next k → r ≡ heldOrExercised listed roll (exercise side strike (values bare k)) →
     r ≡ strikeValues side strike listed bare options downs discounts next k
-strike-from-roll side strike listed bare options downs discounts next k roll r eo er =
+strike-from-roll side strike listed bare {k = k} _ eo er =
     er ∙ ap (λ (x : ℕ). heldOrExercised listed x (exercise side strike (values bare k))) eo

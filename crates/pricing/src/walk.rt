@@ -5,7 +5,7 @@ use arithmetic::Answer;
 use exercise::Terms;
 use limits::MOST_NODES;
 ghost use mathlib.Core.Path.{_≡_};
-ghost use Prim.Native.Nat.{_+_, _-_, _*_, _<_, _≤_};
+ghost use Prim.Native.Nat.{_+_, _-_, _<_, _≤_};
 ghost use lib.ListN.{length, take, drop};
 ghost use Rattle.arithmetic.specs.Row.{values};
 ghost use Rattle.arithmetic.specs.Answers.{refused, answered};

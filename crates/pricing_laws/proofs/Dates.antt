@@ -11,10 +11,10 @@ use native.Mathlib.Omega.{arith}
 use lib.Dec.{eqb, leb, ltb}
 use lib.ListN.{length}
 use borrow.Author.Tests.{eq-eqb, ne-eqb, lt-ltb, le-ltb, ltb-true}
-use Rattle.arithmetic.specs.Row.{row, values}
+use Rattle.arithmetic.specs.Row.{values}
 use Rattle.arithmetic.proofs.Numbers.{by-equal, by-test}
 use Rattle.arithmetic.proofs.RowLaws.{length-row, values-row, each-none, each-all, each-holds}
-use Rattle.pricing_laws.specs.Pricer.{Schedule, call, put}
+use Rattle.pricing_laws.specs.Pricer.{call, put}
 use Rattle.pricing_laws.specs.Schedule.{among, inDates, lastDate, datedSchedule, rising, datesCause, numberedSide}
 use Rattle.pricing_laws.specs.Schedule.{everyRow, european, american, sideOf, kindDates, kindSide, scheduleOf}
 

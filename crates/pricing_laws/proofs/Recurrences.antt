@@ -3,7 +3,7 @@
 use mathlib.Core.Path.{_≡_, refl, _∙_}
 use mathlib.Core.Bool.{true, false}
 use mathlib.Core.List.{[], _∷_}
-use Prim.Native.Nat.{ℕ, zero, suc, _+_, _-_, _*_, _/_, _^_, _≤_, _<_, max}
+use Prim.Native.Nat.{ℕ, zero, suc, _+_, _-_, _*_, _^_, _≤_, _<_, max}
 use native.Mathlib.Nat.{sub-self}
 use native.Mathlib.Omega.{arith}
 use lib.ListN.{length}
@@ -20,12 +20,12 @@ use Rattle.pricing_laws.proofs.Dates.{european-last, european-listed, a
 
 module _ {Node : Type 0} (p : Pricer Node) (flow : ℕ → ℕ) (n : ℕ) where
   -- row n is its flow
-  pub bond-last : (k : Node) → bond p flow n n k ≡ p .held 0 (flow n)
+  pub bond-last : (k : Node) → bond p flow n n k ≡ p .scaled 0 (flow n)
   unfolding bond bondFrom
   bond-last k = rw sub-self
 
   -- an earlier row is the rolled value plus its flow
-  pub bond-before : (i : ℕ) → i < n → (k : Node) → bond p flow n i k ≡ p .roll i (bond p flow n (suc i)) k + p .held (n - i) (flow i)
+  pub bond-before : (i : ℕ) → i < n → (k : Node) → bond p flow n i k ≡ p .roll i (bond p flow n (suc i)) k + p .scaled (n - i) (flow i)
   unfolding bond bondFrom
   bond-before i h k = let e : n - i ≡ suc (n - suc i) = omega arith in rw e
 
@@ -35,12 +35,12 @@ module _ {Node : Type 0} (p : Pricer Node) (flow : ℕ → ℕ) (n : ℕ) where
   bare-bond-before i h k = let e : n - i ≡ suc (n - suc i) = omega arith in rw e
 
   -- with its flow it is the bond, at row n too, where nothing is left without it
-  bare-bond-at : (s i : ℕ) (k : Node) → n - i ≡ s → bond p flow n i k ≡ bareBond p flow n i k + p .held (n - i) (flow i)
+  bare-bond-at : (s i : ℕ) (k : Node) → n - i ≡ s → bond p flow n i k ≡ bareBond p flow n i k + p .scaled (n - i) (flow i)
   unfolding bareBond bareBondFrom bond bondFrom
   bare-bond-at zero i k e = rw e (omega arith)
   bare-bond-at (suc s) i k e = rw e
 
-  pub bond-of-bare : (i : ℕ) (k : Node) → bond p flow n i k ≡ bareBond p flow n i k + p .held (n - i) (flow i)
+  pub bond-of-bare : (i : ℕ) (k : Node) → bond p flow n i k ≡ bareBond p flow n i k + p .scaled (n - i) (flow i)
   bond-of-bare i k = bare-bond-at (n - i) i k refl
 
   module _ (side : Side) (strike : ℕ) (rows : Schedule) where

@@ -6,25 +6,25 @@ use mathlib.Core.Bool.{Bool, true, false}
 use Rattle.arithmetic.specs.Rounding.{one, roundUp}
 
 -- roll i v k: the value at node k of row i of values v on the next row.
--- held s x: the amount x on a row from which s rows are left to the last one.
+-- scaled s x: the amount x on a row from which s rows are left to the last one.
 pub record Pricer (Node : Type 0) : Type 0 where
   pub roll : ℕ → (Node → ℕ) → Node → ℕ
-  pub held : ℕ → ℕ → ℕ
+  pub scaled : ℕ → ℕ → ℕ
 
 -- whole billionths
 abbrev pub rounded : {Node : Type 0} → (ℕ → (Node → ℕ) → Node → ℕ) → Pricer Node
-rounded roll = record { roll = roll; held = λ s x. x }
+rounded roll = record { roll = roll; scaled = λ s x. x }
 
 -- exact fractions: each roll multiplies the denominator by unit
 abbrev pub fractions : {Node : Type 0} → ℕ → (ℕ → (Node → ℕ) → Node → ℕ) → Pricer Node
-fractions unit roll = record { roll = roll; held = λ s x. x * unit ^ s }
+fractions unit roll = record { roll = roll; scaled = λ s x. x * unit ^ s }
 
 -- Bond: the flow at row n; before, the roll plus the row's flow. Row 0 has none: flow 0 is 0.
 module _ {Node : Type 0} (p : Pricer Node) (flow : ℕ → ℕ) where
   -- with the flow of its row, at row i with s rows left
   unfoldable pub bondFrom : ℕ → ℕ → Node → ℕ
-  bondFrom zero i = λ k. p .held 0 (flow i)
-  bondFrom (suc s) i = λ k. p .roll i (bondFrom s (suc i)) k + p .held (suc s) (flow i)
+  bondFrom zero i = λ k. p .scaled 0 (flow i)
+  bondFrom (suc s) i = λ k. p .roll i (bondFrom s (suc i)) k + p .scaled (suc s) (flow i)
 
   -- without the flow of its row; at row n the bond is then repaid
   unfoldable pub bareBondFrom : ℕ → ℕ → Node → ℕ
@@ -41,7 +41,7 @@ module _ {Node : Type 0} (p : Pricer Node) (flow : ℕ → ℕ) where
 -- Payoffs on a row, rolled back without flows: the value at row i of payoffs on row i + s.
 module _ {Node : Type 0} (p : Pricer Node) (payoff : Node → ℕ) where
   unfoldable pub payoffValue : ℕ → ℕ → Node → ℕ
-  payoffValue zero i = λ k. p .held 0 (payoff k)
+  payoffValue zero i = λ k. p .scaled 0 (payoff k)
   payoffValue (suc s) i = p .roll i (payoffValue s (suc i))
 
 pub data Side : Type 0 where
@@ -66,7 +66,7 @@ heldOrExercised false roll now = roll
 module _ {Node : Type 0} (p : Pricer Node) (flow : ℕ → ℕ) (n : ℕ) (side : Side) (strike : ℕ) where
   -- the exercise value at row i: on the bond without the flow of its row, which stays with the seller (document 02, request (ii))
   unfoldable pub exerciseRow : ℕ → Node → ℕ
-  exerciseRow i = λ k. exercise side (p .held (n - i) strike) (bareBond p flow n i k)
+  exerciseRow i = λ k. exercise side (p .scaled (n - i) strike) (bareBond p flow n i k)
 
   -- at row i, with s rows left to expiry
   unfoldable pub optionFrom : (ℕ → Bool) → ℕ → ℕ → Node → ℕ

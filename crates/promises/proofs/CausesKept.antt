@@ -13,7 +13,6 @@ use Rattle.limits.specs.Limits.{isSteps, isReversion, isDiscount, shapeCause}
 use Rattle.lattice.specs.Shape.{halfWidth, nodeCount, rowStart, discountsNeeded, statePricesNeeded}
 use Rattle.lattice.specs.Entries.{aboutRow, aboutTree, branchAnswer, branchOf, refusedBranch}
 use Rattle.figure.specs.Figure.{beyond, billionthsOf, figureOf, refusedFigure, acceptedFigure}
-use Rattle.spacing.specs.Spacing.{spacing}
 use Rattle.factor.specs.Factor.{nodeAnswer, factor}
 use Rattle.step_rate.specs.StepRate.{rateAnswer, stepRate, refusedRate, answeredRate}
 use Rattle.continuous.specs.Continuous.{continuousAnswer, continuousDiscount}

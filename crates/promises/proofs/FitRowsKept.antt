@@ -16,6 +16,7 @@ use Rattle.arithmetic.specs.Rounding.{one}
 use Rattle.arithmetic.specs.Row.{values, place}
 use Rattle.arithmetic.specs.Sum.{sum}
 use Rattle.arithmetic.proofs.SumLaws.{sum-single}
+use Rattle.arithmetic.proofs.Implied.{implied}
 use Rattle.tree.specs.Tree.{Tree}
 use Rattle.tree.specs.Layout.{laid}
 use Rattle.tree.specs.inside.Layout.{start}
@@ -30,10 +31,10 @@ use Rattle.factor.proofs.SeriesLaws.{term-zero}
 use Rattle.factor.proofs.SideLaws.{next-term, below-sum, above-sum, below-one, above-one}
 use Rattle.curve.specs.Curve.{discountAt}
 use Rattle.fit_laws.proofs.FitRows as fits
-use Rattle.fitting.specs.Fit.{nodeFactor, quoted}
-use Rattle.fitting.specs.Entry.{quotesOf, fittedNumber, fitDiscount, fitStatePrice, fitMemory, fitDiscounts, fitStatePrices}
-use Rattle.fitting.proofs.Promised.{fit-near, fit-numbers, fit-sound, fit-repriced, quote-is}
-use Rattle.fitting.proofs.FittedTree.{fit-placed}
+use Rattle.fitted_laws.specs.Fit.{nodeFactor, quoted}
+use Rattle.fitted_laws.specs.Entry.{quotesOf, fittedNumber, fitDiscount, fitStatePrice, fitMemory, fitDiscounts, fitStatePrices}
+use Rattle.fitted_laws.proofs.Promised.{fit-near, fit-numbers, fit-sound, fit-repriced, quote-is}
+use Rattle.fitted_laws.proofs.FittedTree.{fit-placed}
 use Rattle.lent_tree.specs.LentTree.{stored}
 use Rattle.state_price_bound.specs.ErrorBound.{statePriceErrorBoundAnswer}
 use Rattle.state_price_bound.proofs.Meaning.{answer-number, answer-value, bound-covers}
@@ -78,7 +79,7 @@ module _ (f n w spaced h : ℕ) (rows kinds : List ℕ) (figures : List Float) (
   node-factored : (i k : ℕ) → i < n → k < nodeCount w i → Factored (pos k -ℤ pos (halfWidth w i)) h (nodeFactor w h i k)
   node-factored i k hi hk =
       subst (λ (j : ℤ). Factored j h (nodeFactor w h i k)) (node-is w i k)
-      (factored (node w i k) h (fit-near f n w spaced h rows kinds figures ds ps z i k hi hk))
+      (factored (node w i k) h (fit-near implied z i k hi hk))
 
   pub fit-rows : FitRows w n h (discountAt f kinds figures) discount price
   unfolding rateTree
@@ -94,7 +95,7 @@ module _ (f n w spaced h : ℕ) (rows kinds : List ℕ) (figures : List Float) (
             λ i k hi hk.
             fits.fitted-discount (rateTree w) (nodeFactor w h) (quoted (quotesOf f n kinds figures)) i k
             ∙ ap (λ (p : ℕ). p * nodeFactor w h i k / (sum (nodeCount w i) (λ k. price i k * nodeFactor w h i k) / one))
-            (quote-is f n w spaced h rows kinds figures ds ps z i hi);
+            (quote-is implied z i hi);
         carrying = λ i k hi hk. refl;
         next-price = λ i j hi hj. fits.fitted-next (rateTree w) (nodeFactor w h) (quoted (quotesOf f n kinds figures)) i j;
       }
@@ -102,9 +103,9 @@ module _ (f n w spaced h : ℕ) (rows kinds : List ℕ) (figures : List Float) (
   pub sums-weighable : (i : ℕ) → i ≤ n → sum (nodeCount w i) (price i) ≤ 2000000100
   unfolding rateTree
   sums-weighable zero l =
-      rw (fit-sound f n w spaced h rows kinds figures ds ps z .root)
+      rw (fit-sound implied z .root)
       (omega (arith, sum-single (price 0), fits.fitted-first (rateTree w) (nodeFactor w h) (quoted (quotesOf f n kinds figures)) 0))
-  sums-weighable (suc i) l = fit-repriced f n w spaced h rows kinds figures ds ps z i l .2
+  sums-weighable (suc i) l = fit-repriced implied z i l .2
 
 -- ---- its memories
 
@@ -132,7 +133,7 @@ pub fit-laid : (f n w spaced h : ℕ) (rows kinds : List ℕ) (figures : List Fl
     × LaidOut w (suc n) (fitStatePrice f n w h kinds figures) q
     (fitMemory (fittedNumber f n w spaced h rows kinds figures (length d) (length q)) (fitStatePrices f n w h kinds figures) q)
 fit-laid f n w spaced h rows kinds figures d q z =
-    let known = fit-numbers f n w spaced h rows kinds figures (length d) (length q) z in (
+    let known = fit-numbers implied z in (
       laid-out w n (fitDiscount f n w h kinds figures) d (known .room-discounts) _ (fit-placed _ (fitDiscounts f n w h kinds figures) d z),
       laid-out w (suc n) (fitStatePrice f n w h kinds figures) q (known .room-state-prices) _ (fit-placed _ (fitStatePrices f n w h kinds figures) q z),
     )

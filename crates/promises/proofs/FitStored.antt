@@ -10,8 +10,8 @@ use Rattle.arithmetic.specs.Row.{values, place}
 use Rattle.arithmetic.proofs.RowLaws.{values-row, length-row}
 use Rattle.lattice.specs.Shape.{nodeCount, rowStart, discountsNeeded}
 use Rattle.lattice.proofs.LaidLaws.{laid-part, laid-value}
-use Rattle.fitting.specs.Entry.{fitMemory, fitDiscount, fitStatePrice, fitDiscounts, fitStatePrices}
-use Rattle.fitting.proofs.FittedTree.{fit-discounts-length}
+use Rattle.fitted_laws.specs.Entry.{fitMemory, fitDiscount, fitStatePrice, fitDiscounts, fitStatePrices}
+use Rattle.fitted_laws.proofs.FittedTree.{fit-discounts-length}
 use Rattle.promises.specs.Promises.{Unaltered}
 
 pub fit-unaltered : (f n w g : ℕ) (kinds : List ℕ) (figures : List Float) (d q : List ℕ) (r : ℕ) → r ≤ n →

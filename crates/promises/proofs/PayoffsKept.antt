@@ -18,11 +18,12 @@ use Rattle.tree.specs.Tree.{unit}
 use Rattle.lattice.specs.Shape.{nodeCount, discountsNeeded}
 use Rattle.lattice.specs.RateTree.{rateTree}
 use Rattle.fit_laws.specs.StatePrices.{statePrice}
-use Rattle.fitting.specs.Entry.{fittedNumber}
-use Rattle.fitting.proofs.Promised.{fit-sound}
-use Rattle.fitting.proofs.FittedTree.{fit-lent}
+use Rattle.fitted_laws.specs.Entry.{fittedNumber}
+use Rattle.fitted_laws.proofs.Promised.{fit-sound}
+use Rattle.fitted_laws.proofs.FittedTree.{fit-lent}
 use Rattle.price_laws.specs.Exact.{exactPayoff}
 use Rattle.arithmetic.specs.Row.{greatestOf}
+use Rattle.arithmetic.proofs.Implied.{implied}
 use Rattle.lent_tree.specs.LentTree.{stored}
 use Rattle.valuation_laws.specs.Valuation.{valueByStatePrices, valuationBound, valuationErrorBound, exactPrice}
 use Rattle.valuation_laws.proofs.ValuationLaws.{value-below, value-short}
@@ -113,7 +114,7 @@ module _ (f n b spaced g : ℕ) (rows kinds : List ℕ) (figures : List Float) (
   bound-accepted zv =
       let q = payoffs-known prices payoffs zv in
       entry.bound-given b discounts payoffs
-      (fit-lent f n b g kinds figures spaced rows ds ps z discounts (kept .discounts-long) (λ i k hi hk. kept .discounts-kept i k hi hk)) h
+      (fit-lent implied z discounts (kept .discounts-long) (λ i k hi hk. kept .discounts-kept i k hi hk)) h
       (sym (q .0) ∙ kept .row-length) (ltb-false valueLimit (greatestOf payoffs) (q .1))
 
 payoffs-within : (f n b spaced g : ℕ) (rows kinds : List ℕ) (figures : List Float) (ds ps : ℕ) →
@@ -124,7 +125,7 @@ payoffs-within : (f n b spaced g : ℕ) (rows kinds : List ℕ) (figures : List 
     (exactPayoff b discounts r payoffs)
 unfolding valueOf rateTree stored
 payoffs-within f n b spaced g rows kinds figures ds ps z discounts r prices payoffs h kept zv zb =
-    let sound = fit-sound f n b spaced g rows kinds figures ds ps z in
+    let sound = fit-sound implied z in
     let v : ℕ → ℕ → ℕ = stored b discounts in
     let price-is : (k : ℕ) → k < nodeCount b r → values prices k ≡ statePrice (rateTree b) v r k =
     λ k l. kept .prices-kept k l ∙ fitted-prices f n b g kinds figures v (λ i c hi hc. kept .discounts-kept i c hi hc) r h k in

@@ -29,9 +29,9 @@ use Rattle.reversion.proofs.ReversionLaws.{working-first, working-limit, workin
 use Rattle.spacing.specs.Spacing.{spacing, spacingAnswer, versionSpacing, versionSpacingAnswer}
 use Rattle.spacing.proofs.VersionLaws.{version-first}
 use Rattle.fit_laws.specs.StatePrices.{acceptedRow}
-use Rattle.fitting.specs.Fit.{curveAccepted}
-use Rattle.fitting.specs.Entry.{quotesOf, earlyCause, lateCause, fittedNumber, fitNumber, fitDiscount, versionNumber}
-use Rattle.fitting.proofs.VersionLaws.{first-number}
+use Rattle.fitted_laws.specs.Fit.{curveAccepted}
+use Rattle.fitted_laws.specs.Entry.{quotesOf, earlyCause, lateCause, fittedNumber, fitNumber, fitDiscount, versionNumber}
+use Rattle.fitted_laws.proofs.VersionLaws.{first-number}
 use Rattle.promises.specs.Causes.{Cause, cause, firstOf, treeCauses, isKind, kindDiscount, quoteInRange, quotesPlaced, quotesConverted, everyNode}
 use Rattle.promises.proofs.CauseTables.{not-leb, seven, first-append, number-of}
 

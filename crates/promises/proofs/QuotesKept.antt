@@ -16,6 +16,7 @@ use Rattle.arithmetic.specs.Frequency.{isFrequency}
 use Rattle.arithmetic.specs.Rounding.{one, nearest, roundDown}
 use Rattle.arithmetic.proofs.Numbers.{by-test}
 use Rattle.arithmetic.proofs.RoundingLaws.{nearest-le-half, nearest-gt-half}
+use Rattle.arithmetic.proofs.Implied.{implied}
 use Rattle.limits.specs.Limits.{mostSteps, isSteps}
 use Rattle.figure.specs.Figure.{beyond, signed, negative, magnitudeOf, billionthsOf, figureOf}
 use Rattle.figure.proofs.FigureLaws.{number-accepted, value-accepted}
@@ -24,7 +25,7 @@ use Rattle.quotes.specs.Quotes.{rowKnown, inRange, factorDiscount, quotient, ra
 use Rattle.quotes.proofs.QuoteLaws.{lone-told, range-bounds}
 use Rattle.curve.specs.Curve.{answerAt, curveNumber}
 use Rattle.curve.proofs.CurveLaws.{accepted}
-use Rattle.fitting.proofs.Promised.{fit-numbers}
+use Rattle.fitted_laws.proofs.Promised.{fit-numbers}
 use Rattle.promises.specs.Causes.{isKind}
 use Rattle.promises.proofs.CauseTables.{none-first}
 use Rattle.promises.proofs.QuoteCauses.{lone-causes}
@@ -157,5 +158,5 @@ quotes-kept =
       yearly-rates = yearly-rates;
       curves-quoted = curve-quoted;
       fits-quoted = λ f n w spaced h rows kinds figures ds ps z.
-          curve-quoted f n rows kinds figures mostSteps (fit-numbers f n w spaced h rows kinds figures ds ps z .quotes-converted);
+          curve-quoted f n rows kinds figures mostSteps (fit-numbers implied z .quotes-converted);
     }

@@ -7,6 +7,7 @@ use native.Mathlib.Omega.{arith}
 use lib.Ieee.{Float}
 use Rattle.arithmetic.specs.Answers.{lowestCause}
 use Rattle.arithmetic.proofs.SumLaws.{sum-cong}
+use Rattle.arithmetic.proofs.Implied.{implied}
 use Rattle.tree.specs.Tree.{Tree, unit}
 use Rattle.lattice.specs.Shape.{nodeCount}
 use Rattle.lattice.specs.RateTree.{rateTree}
@@ -14,9 +15,9 @@ use Rattle.lent_tree.specs.LentTree.{stored}
 use Rattle.fit_laws.specs.StatePrices.{statePrice, exactStatePrice}
 use Rattle.fit_laws.proofs.StepLaws.{next-cong}
 use Rattle.fit_laws.proofs.WholeFit.{fitted-is-state}
-use Rattle.fitting.specs.Fit.{nodeFactor, quoted}
-use Rattle.fitting.specs.Entry.{quotesOf, fittedNumber, fitDiscount, fitStatePrice, fitDiscounts}
-use Rattle.fitting.proofs.FittedTree.{fit-discount-stored, fit-discounts-lent}
+use Rattle.fitted_laws.specs.Fit.{nodeFactor, quoted}
+use Rattle.fitted_laws.specs.Entry.{quotesOf, fittedNumber, fitDiscount, fitStatePrice, fitDiscounts}
+use Rattle.fitted_laws.proofs.FittedTree.{fit-discount-stored, fit-discounts-lent}
 use Rattle.state_price_bound.specs.ErrorBound.{boundCause, statePriceErrorBoundAnswer}
 use Rattle.state_price_bound.proofs.Meaning.{answer-number, bound-covers}
 use Rattle.state_price_bound.proofs.BoundLaws.{row-there}
@@ -50,7 +51,7 @@ module _ (f n b spaced g : ℕ) (rows kinds : List ℕ) (figures : List Float) (
 
   given : statePriceErrorBoundAnswer n b held i .number ≡ 0
   unfolding boundCause lowestCause
-  given = answer-number n b held i ∙ rw (fit-discounts-lent f n b g kinds figures spaced rows ds ps z, ← row-there n i h)
+  given = answer-number n b held i ∙ rw (fit-discounts-lent implied z, ← row-there n i h)
 
   pub state-prices-kept :
       (statePriceErrorBoundAnswer n b held i .number ≡ 0)

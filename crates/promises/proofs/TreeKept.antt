@@ -15,6 +15,7 @@ use Rattle.arithmetic.specs.Frequency.{isFrequency}
 use Rattle.arithmetic.specs.Answers.{refused, answered}
 use Rattle.arithmetic.proofs.FrequencyLaws.{listed-small}
 use Rattle.arithmetic.proofs.Numbers.{by-order, by-equal}
+use Rattle.arithmetic.proofs.Implied.{implied}
 use Rattle.lattice.specs.Shape.{halfWidth}
 use Rattle.lattice.specs.Entries.{branchAnswer, branchOf, refusedBranch}
 use Rattle.lattice.specs.Branching.{change, square, squared}
@@ -31,7 +32,7 @@ use Rattle.factor.proofs.FactorLaws.{factor-within}
 use Rattle.step_rate.specs.StepRate.{rateAnswer}
 use Rattle.step_rate.specs.declared.Rate.{Rate}
 use Rattle.step_rate.proofs.RateLaws.{answer-zero, answer-high, answer-sign}
-use Rattle.fitting.proofs.Promised.{fit-numbers, fit-repriced}
+use Rattle.fitted_laws.proofs.Promised.{fit-numbers, fit-repriced}
 use Rattle.promises.specs.Promises.{Branched, Spaced, TreePromises}
 use Rattle.promises.proofs.BranchesKept.{widths, tiled, led-as, branch-sums}
 use Rattle.promises.proofs.FitRowsKept.{factors-kept, fit-rows, fit-laid, sums-weighable, state-price-rows, bound-is, lent-near}
@@ -121,12 +122,12 @@ tree-kept =
       factors-near = factor-near;
       factors-by-sign = factors-kept;
       sign-of-rates = sign;
-      fit-spaced = λ f n w spaced h rows kinds figures ds ps z. fit-numbers f n w spaced h rows kinds figures ds ps z .spacing-found;
+      fit-spaced = λ f n w spaced h rows kinds figures ds ps z. fit-numbers implied z .spacing-found;
       fit-rows = fit-rows;
       fit-laid = fit-laid;
       quotes-repriced =
           λ f n w spaced h rows kinds figures ds ps z i l.
-          let r = fit-repriced f n w spaced h rows kinds figures ds ps z i l in record { below = r .0; above = r .1 };
+          let r = fit-repriced implied z i l in record { below = r .0; above = r .1 };
       sums-weighable = sums-weighable;
       state-price-rows = state-price-rows;
       state-price-bound-is = bound-is;

@@ -18,12 +18,12 @@ use Rattle.continuous.specs.Continuous.{continuousDiscount, continuousAnswer, a
 use Rattle.reversion.specs.Reversion.{isExact, exactReversion, workingReversion, varianceRatio, workingAnswer}
 use Rattle.reversion.proofs.ReversionLaws.{working-first, working-second, working-most, working-none, working-least, first-same, none-same}
 use Rattle.reversion.proofs.EntryLaws.{working-found, answer-beyond}
-use Rattle.spacing.specs.Spacing.{versionVariance, versionSpacing, versionSpacingAnswer}
+use Rattle.spacing.specs.Spacing.{versionVariance, versionSpacingAnswer}
 use Rattle.spacing.proofs.VersionLaws.{variance-same, version-first, version-none, version-zero, version-passes, version-greatest}
-use Rattle.fitting.specs.Entry.{fitMemory, fitDiscounts, fitStatePrices, fitNumber}
-use Rattle.fitting.specs.Entry.{versionDiscounts, versionStatePrices}
-use Rattle.fitting.proofs.VersionLaws.{first-number}
-use Rattle.promises.specs.Versions.{Working, Ratio, VersionSpaced, FittedBy, FirstIsFit, VersionPromises}
+use Rattle.fitted_laws.specs.Entry.{fitMemory, fitDiscounts, fitStatePrices, fitNumber}
+use Rattle.fitted_laws.specs.Entry.{versionDiscounts, versionStatePrices}
+use Rattle.fitted_laws.proofs.VersionLaws.{first-number}
+use Rattle.promises.specs.Versions.{Working, Ratio, VersionSpaced, FirstIsFit, VersionPromises}
 
 -- ---- F of an amount within its limit
 

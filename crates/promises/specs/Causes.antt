@@ -26,7 +26,7 @@ use Rattle.factor.specs.Factor.{nodeAnswer}
 use Rattle.step_rate.specs.StepRate.{rateAnswer}
 use Rattle.continuous.specs.Continuous.{continuousAnswer}
 use Rattle.continuous_rate.specs.ContinuousRate.{continuousRateAnswer}
-use Rattle.fitting.specs.Entry.{fitNumber, fitDiscount, versionNumber}
+use Rattle.fitted_laws.specs.Entry.{fitNumber, fitDiscount, versionNumber}
 use Rattle.state_price_bound.specs.ErrorBound.{statePriceErrorBoundAnswer}
 use Rattle.price_bound.specs.PriceBound.{priceErrorBoundAnswer, treeBoundsAnswer}
 use Rattle.pricing_laws.specs.Schedule.{sideOf, scheduleOf, numberedSide, datedSchedule}

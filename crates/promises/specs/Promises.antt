@@ -33,7 +33,7 @@ use Rattle.figure.specs.Figure.{billionthsOf}
 use Rattle.quotes.specs.declared.Point.{Point}
 use Rattle.quotes.specs.Quotes.{yieldAmount, loneAnswer}
 use Rattle.curve.specs.Curve.{discountAt}
-use Rattle.fitting.specs.Entry.{fittedNumber, fitDiscount, fitStatePrice, fitMemory, fitDiscounts, fitStatePrices}
+use Rattle.fitted_laws.specs.Entry.{fittedNumber, fitDiscount, fitStatePrice, fitMemory, fitDiscounts, fitStatePrices}
 use Rattle.fit_laws.specs.StatePrices.{statePrice, exactStatePrice, statePriceErrorBound}
 use Rattle.state_price_bound.specs.ErrorBound.{statePriceErrorBoundAnswer}
 use Rattle.pricing_laws.specs.Pricer.{Side, call, put, Schedule, bond, bareBond, exercise, option, payoffValue}

@@ -14,7 +14,7 @@ use Rattle.figure.specs.Figure.{billionthsOf, figureOf}
 use Rattle.quotes.specs.declared.Point.{Point}
 use Rattle.quotes.specs.Quotes.{loneAnswer}
 use Rattle.curve.specs.Curve.{discountAt, curveNumber}
-use Rattle.fitting.specs.Entry.{fittedNumber}
+use Rattle.fitted_laws.specs.Entry.{fittedNumber}
 
 -- a figure's exact binary value, at most 10 either way before rounding, times one, to the nearest whole number, halves away from zero, sign kept
 pub record Taken (x : Float) (z : ℤ) : Type 0 where

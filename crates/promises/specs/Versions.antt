@@ -11,8 +11,8 @@ use Rattle.arithmetic.specs.Rounding.{one, nearest}
 use Rattle.continuous.specs.Continuous.{continuousAnswer}
 use Rattle.reversion.specs.Reversion.{workingReversion, workingAnswer}
 use Rattle.spacing.specs.Spacing.{spacing, versionSpacing, versionSpacingAnswer}
-use Rattle.fitting.specs.Entry.{fittedNumber, fitMemory, fitDiscounts, fitStatePrices, fitNumber, discountsAfter, statePricesAfter}
-use Rattle.fitting.specs.Entry.{versionNumber, versionDiscountsAfter, versionStatePricesAfter}
+use Rattle.fitted_laws.specs.Entry.{fittedNumber, fitMemory, fitDiscounts, fitStatePrices, fitNumber, discountsAfter, statePricesAfter}
+use Rattle.fitted_laws.specs.Entry.{versionNumber, versionDiscountsAfter, versionStatePricesAfter}
 
 -- the working pull w: b itself in version 1; 10,000 × (one − F(B)) / one, nearest, in version 2. At most b, so that all that is said of the lattice holds of
 -- it, and 0 only for 0.

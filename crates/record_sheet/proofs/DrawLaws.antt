@@ -8,7 +8,7 @@ use lib.ListN.{length, take}
 use Rattle.arithmetic.specs.declared.Answer.{Answer}
 use Rattle.lattice.specs.Entries.{discountsNeededAnswer, statePricesNeededAnswer}
 use Rattle.job_record.specs.declared.Job.{Job}
-use Rattle.job_fit.specs.RecordFit.{jobReversion, jobQuotes, jobDiscounts, jobStatePrices, recordQuotes, memoryAfter}
+use Rattle.job_laws.specs.RecordFit.{jobReversion, jobQuotes, jobDiscounts, jobStatePrices, recordQuotes, memoryAfter}
 use Rattle.sheet_laws.specs.inside.Stored.{Stored, Summed, Fitted}
 use Rattle.sheet_laws.proofs.FittedLaws as fits
 

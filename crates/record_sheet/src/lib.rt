@@ -5,14 +5,14 @@ ghost use mathlib.Core.Path.{_≡_};
 ghost use Prim.Native.Nat.{_≤_};
 ghost use lib.ListN.{length};
 ghost use Rattle.limits.specs.Limits.{mostSteps};
-ghost use Rattle.job_prices.specs.JobPrices.{hasOption, jobBond, jobOption};
+ghost use Rattle.job_laws.specs.JobPrices.{hasOption, jobBond, jobOption};
 ghost use Rattle.sheet_room.specs.Room.{sheetRoom};
 ghost use Rattle.text_laws.specs.Put.{withText};
 ghost use Rattle.text_laws.specs.inside.Put.{Put};
 ghost use Rattle.sheet_laws.specs.inside.Stored.{Fitted};
 ghost use Rattle.sheet_laws.specs.WholeJob.{roomCause, jobNumber, jobText};
 ghost use Rattle.record_sheet.specs.Answers.{refusedSheet, answerOf};
-use job_prices::JobPrices;
+use job_laws::JobPrices;
 use job_record::Job;
 use sheet_room::SHEET_ROOM;
 

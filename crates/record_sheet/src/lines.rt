@@ -11,7 +11,7 @@ ghost use Rattle.state_price_bound.specs.ErrorBound.{statePriceErrorBoundAnswer
 ghost use Rattle.lent_tree.specs.LentTree.{storedRow};
 ghost use Rattle.sheet_laws.specs.TreeSheet.{nodeLines, lineOfRow, rowLines, optionLines, priceLines, treeSheet};
 ghost use Rattle.sheet_laws.specs.inside.Stored.{Drawing, Stored, Summed};
-use job_prices::JobPrices;
+use job_laws::JobPrices;
 use node_reader::NodeReader;
 use price_laws::Price;
 use row_view::RowKind;
@@ -164,25 +164,18 @@ fn put_rows<'a>(
     while left > 0 {
         let bound = bounds[left];
         left -= 1;
-        start = put_row(
-            out,
-            start,
-            tree,
-            Row {
-                before: left,
-                bound,
-            },
-            quotes,
-            discounts,
-            state_prices,
-        );
+        let row = Row {
+            before: left,
+            bound,
+        };
+        start = put_row(out, start, tree, row, quotes, discounts, state_prices);
     }
     start
 }
 
 // The price lines; no option, no line.
 fn put_prices(out: &mut [u8], end: usize, bond: Price, present: bool, option: Price) -> usize
-    requires { ⌜ (256 ≤ end) × (end ≤ length (now out)) ⌝ }
+    requires { ⌜ (2 * longestLine ≤ end) × (end ≤ length (now out)) ⌝ }
     ensures { λ r. ⌜ Put (now (out .entry)) end (priceLines bond present option) r (now (out .exit)) ⌝ }
 {
     let below = put_option(out, end, present, option);

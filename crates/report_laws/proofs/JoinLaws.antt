@@ -1,11 +1,10 @@
 -- Joining reports is associative, refusals too, and has the empty report as unit.
 -- Assumes nothing.
 use mathlib.Core.Path.{_≡_, refl, sym, ap, _∙_}
-use mathlib.Core.Bool.{true, false, cond}
+use mathlib.Core.Bool.{true, false}
 use Prim.Native.Nat.{_+_, _≤_, _<_}
 use native.Mathlib.Omega.{arith}
 use borrow.Author.Tests.{le-leb, lt-leb}
-use lib.Dec.{leb}
 use lib.ListN.{length}
 use Rattle.arithmetic.proofs.Numbers.{by-order}
 use Rattle.book_laws.specs.Bounds.{mostNumber}

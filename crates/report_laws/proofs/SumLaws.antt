@@ -8,7 +8,7 @@ use native.Mathlib.Omega.{arith}
 use borrow.Author.Tests.{eqb-true, lt-ltb, le-ltb, ltb-true, ltb-false}
 use lib.Dec.{eqb, ltb}
 use lib.ListN.{length}
-use Rattle.arithmetic.specs.Row.{row, values}
+use Rattle.arithmetic.specs.Row.{values}
 use Rattle.arithmetic.proofs.RowLaws.{row-cong, values-row, row-of, zeros}
 use Rattle.book_laws.specs.Bounds.{mostNumber}
 use Rattle.report_laws.specs.declared.Report.{Report}

@@ -14,6 +14,7 @@ use Rattle.limits.specs.WithinLimits.{WithinLimits}
 use Rattle.arithmetic.specs.Row.{values}
 use Rattle.arithmetic.specs.declared.Answer.{Answer}
 use Rattle.arithmetic.proofs.BetweenLaws.{and-left, and-right}
+use Rattle.arithmetic.proofs.Implied.{Implied, lastly, _▸_}
 use Rattle.lattice.specs.Shape.{nodeCount, rowStart, discountsNeeded, statePricesNeeded}
 use Rattle.lattice.specs.Entries.{aboutTree}
 use Rattle.lattice.proofs.Sizes.{row-ends}
@@ -25,7 +26,7 @@ use Rattle.lattice.proofs.TreeEntries.{by-tree}
 
 -- ---- whether both memories hold the tree, by the tests that code makes
 
-module _ (discounts prices : List ℕ) (n b : ℕ) where
+module _ {discounts prices : List ℕ} {n b : ℕ} (_ : Implied (discounts ▸ prices ▸ n ▸ lastly b)) where
   no-tree : isTree n b ≡ false → false ≡ holdsTree n b discounts prices
   unfolding holdsTree
   no-tree h = rw h
@@ -98,7 +99,7 @@ module _ (discounts prices : RefT (List ℕ)) (kind : RowKind) (n b i : ℕ) whe
           let l : i ≤ n = leb-true i n s in
           omega (arith, h, row-ends b i (suc n) (omega arith))
 
-module _ (discounts prices : List ℕ) (kind : RowKind) (n b i : ℕ) where
+module _ {discounts prices : List ℕ} {kind : RowKind} {n b i : ℕ} (_ : Implied (discounts ▸ prices ▸ kind ▸ n ▸ b ▸ lastly i)) where
   pub not-held : holdsTree n b discounts prices ≡ false → isShown n b i kind discounts prices ≡ false
   unfolding isShown
   not-held h = rw h
@@ -122,7 +123,7 @@ module _ (discounts prices : List ℕ) (kind : RowKind) (n b i : ℕ) where
   shown-range start count h p q = rw (h, p, q)
 
 -- the range by the kind's number
-module _ (discounts prices : List ℕ) (kind n b i : ℕ) where
+module _ {discounts prices : List ℕ} {kind n b i : ℕ} (_ : Implied (discounts ▸ prices ▸ kind ▸ n ▸ b ▸ lastly i)) where
   pub numbered-discounts : kind ≡ 1 → rangeOfRow n b i Discounts discounts prices ≡ rangeByNumber n b i kind discounts prices
   unfolding rangeByNumber
   numbered-discounts h = simp (eq-eqb kind 1 h)
@@ -151,7 +152,7 @@ module _ (whole : RefT (List ℕ)) (start count : ℕ) (part : RefT (List ℕ)) 
   pub part-value : (k : ℕ) → k < count → values (part .now) k ≡ values (whole .now) (start + k)
   part-value k h = rw (p .contents, getD-take, getD-drop)
 
-module _ (discounts prices : RefT (List ℕ)) (kind : RowKind) (n b i : ℕ) where
+module _ {discounts prices : RefT (List ℕ)} {kind : RowKind} {n b i : ℕ} (_ : Implied (discounts ▸ prices ▸ kind ▸ n ▸ b ▸ lastly i)) where
   pub view-within :
       viewStart n b i kind (discounts .now) (prices .now) + viewCount n b i kind (discounts .now) (prices .now)
       ≤ length (memoryOf discounts prices kind .now)
@@ -164,8 +165,8 @@ module _ (discounts prices : RefT (List ℕ)) (kind : RowKind) (n b i : ℕ) whe
       go true false h s = omega arith
       go false u h s = omega arith
 
-  module _ (memory : RefT (List ℕ)) (e : memory ≡ memoryOf discounts prices kind)
-      (r : RowRange) (q : r ≡ rangeOfRow n b i kind (discounts .now) (prices .now)) where
+  module _ {memory : RefT (List ℕ)} (e : memory ≡ memoryOf discounts prices kind)
+      {r : RowRange} (q : r ≡ rangeOfRow n b i kind (discounts .now) (prices .now)) where
     starts : r .start ≡ viewStart n b i kind (discounts .now) (prices .now)
     starts = ap (λ (x : RowRange). x .start) q
 
@@ -175,7 +176,7 @@ module _ (discounts prices : RefT (List ℕ)) (kind : RowKind) (n b i : ℕ) whe
     pub range-within : r .start + r .count ≤ length (memory .now)
     range-within = rw (starts, counts, e) view-within
 
-    pub range-part : (part : RefT (List ℕ)) → PartOf memory (r .start) (r .count) part →
+    pub range-part : {part : RefT (List ℕ)} → PartOf memory (r .start) (r .count) part →
         PartOf (memoryOf discounts prices kind) (viewStart n b i kind (discounts .now) (prices .now))
         (viewCount n b i kind (discounts .now) (prices .now)) part
-    range-part part p = rw (← starts, ← counts, ← e) p
+    range-part p = rw (← starts, ← counts, ← e) p

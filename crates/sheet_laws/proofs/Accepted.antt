@@ -7,13 +7,13 @@ use mathlib.Core.List.{List}
 use Prim.Native.Nat.{ℕ, _≤_}
 use Rattle.arithmetic.proofs.CauseLaws.{lowest-none, first-none}
 use Rattle.limits.specs.Limits.{mostDiscounts, mostStatePrices}
-use Rattle.fitting.specs.Entry.{versionNumber}
+use Rattle.fitted_laws.specs.Entry.{versionNumber}
 use Rattle.job_record.specs.declared.Job.{Job}
 use Rattle.job_record.specs.Reader.{readingOf}
-use Rattle.job_fit.specs.RecordFit.{meantVersion, jobReversion, jobRows, jobKinds, jobFigures, jobFlows, jobDiscounts}
-use Rattle.job_fit.proofs.FitLaws.{fit-none}
-use Rattle.job_prices.specs.JobPrices.{hasOption, taggedOption, jobBond}
-use Rattle.job_prices.proofs.Accepted.{record-accepted}
+use Rattle.job_laws.specs.RecordFit.{meantVersion, jobReversion, jobRows, jobKinds, jobFigures, jobFlows, jobDiscounts}
+use Rattle.job_laws.proofs.FitLaws.{fit-none}
+use Rattle.job_laws.specs.JobPrices.{hasOption, taggedOption, jobBond}
+use Rattle.job_laws.proofs.Accepted.{record-accepted}
 use Rattle.sheet_room.specs.Room.{sheetRoom}
 use Rattle.sheet_laws.specs.WholeJob.{jobNumber, sheetNumber}
 use Rattle.sheet_laws.proofs.SheetLaws.{room-known}

@@ -12,6 +12,7 @@ use Rattle.arithmetic.specs.Sum.{sum}
 use Rattle.arithmetic.specs.declared.Answer.{Answer}
 use Rattle.arithmetic.proofs.PlaceLaws.{length-place, place-front}
 use Rattle.arithmetic.proofs.RowLaws.{sum-row}
+use Rattle.arithmetic.proofs.Implied.{implied}
 use Rattle.limits.specs.Limits.{mostDiscounts, mostStatePrices}
 use Rattle.tree.specs.Layout.{laid}
 use Rattle.lattice.specs.Shape.{nodeCount, discountsNeeded, statePricesNeeded}
@@ -21,17 +22,17 @@ use Rattle.lattice.proofs.LaidLaws.{laid-part}
 use Rattle.lattice.proofs.TreeEntries.{tree-value}
 use Rattle.lent_tree.specs.LentTree.{storedRow, acceptedDiscounts}
 use Rattle.lent_tree.proofs.LentLaws.{accepted-all}
-use Rattle.fitting.specs.Entry.{fitStatePrice}
-use Rattle.fitting.proofs.Promised.{fit-repriced}
-use Rattle.fitting.proofs.FittedTree.{fit-discounts-lent}
+use Rattle.fitted_laws.specs.Entry.{fitStatePrice}
+use Rattle.fitted_laws.proofs.Promised.{fit-repriced}
+use Rattle.fitted_laws.proofs.FittedTree.{fit-discounts-lent}
 use Rattle.job_record.specs.declared.Job.{Job}
-use Rattle.job_fit.specs.RecordFit.{meantReversion, jobReversion, jobSpacing, jobKinds, jobFigures}
-use Rattle.job_fit.specs.RecordFit.{jobQuotes, jobDiscounts, jobStatePrices, recordQuotes, recordFit, memoryAfter}
-use Rattle.job_fit.proofs.FitLaws as fits
-use Rattle.job_prices.specs.declared.JobPrices.{JobPrices}
-use Rattle.job_prices.specs.JobPrices.{recordNumber, recordPrices, fittedMemory}
-use Rattle.job_prices.proofs.Accepted.{record-accepted, record-formed}
-use Rattle.job_prices.proofs.PriceLaws.{fitted-placed}
+use Rattle.job_laws.specs.RecordFit.{meantReversion, jobReversion, jobSpacing, jobKinds, jobFigures}
+use Rattle.job_laws.specs.RecordFit.{jobQuotes, jobDiscounts, jobStatePrices, recordQuotes, recordFit, memoryAfter}
+use Rattle.job_laws.proofs.FitLaws as fits
+use Rattle.job_laws.specs.declared.JobPrices.{JobPrices}
+use Rattle.job_laws.specs.JobPrices.{recordNumber, recordPrices, fittedMemory}
+use Rattle.job_laws.proofs.Accepted.{record-accepted, record-formed}
+use Rattle.job_laws.proofs.PriceLaws.{fitted-placed}
 use Rattle.node_lines.specs.Rows.{acceptedNodes}
 use Rattle.sheet_laws.specs.inside.Stored.{Stored, Summed, Fitted}
 
@@ -121,7 +122,7 @@ module _ (job : Job) (d p : List ℕ) (h : Fitted job d p) where
     discounted : acceptedNodes (take (needed .value) d) ≡ true
     unfolding acceptedNodes acceptedDiscounts jobDiscounts meantReversion
     discounted =
-        let lent = accepted-all _ _ _ (fit-discounts-lent _ _ _ _ _ _ _ _ mostDiscounts mostStatePrices (fits.fit-none job _ _ (h .accepted))) in
+        let lent = accepted-all _ _ _ (fit-discounts-lent implied (fits.fit-none job _ _ (h .accepted))) in
         rw (discounts-size, discounts-are) lent
 
     stored-by : Stored (job .steps) (jobReversion job) (take (needed .value) d) (take (all .value) p)
@@ -140,7 +141,7 @@ module _ (job : Job) (d p : List ℕ) (h : Fitted job d p) where
     summed-by i l =
         let price = fitStatePrice (job .frequency) (job .steps) (jobReversion job) (jobSpacing job) (jobKinds job) (jobFigures job) in
         rw (prices-are, total-row (jobReversion job) price (suc (job .steps)) (suc i) (omega arith))
-        (fit-repriced _ _ _ _ _ _ _ _ mostDiscounts mostStatePrices (fits.fit-none job _ _ (h .accepted)) i l .2)
+        (fit-repriced implied (fits.fit-none job _ _ (h .accepted)) i l .2)
 
     pub stored : Stored (job .steps) b (take (needed .value) d) (take (all .value) p)
     stored = subst (λ (x : ℕ). Stored (job .steps) x (take (needed .value) d) (take (all .value) p)) (sym eb) stored-by

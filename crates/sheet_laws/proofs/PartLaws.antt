@@ -9,6 +9,7 @@ use native.Mathlib.Omega.{arith}
 use native.Mathlib.Numerals.{add-one}
 use borrow.Author.Tests.{le-leb}
 use lib.ListN.{length, getD, take, drop, length-append}
+use Rattle.limits.specs.Limits.{mostDiscounts}
 use Rattle.arithmetic.specs.Sum.{sum}
 use Rattle.arithmetic.specs.Row.{values, sumOf}
 use Rattle.arithmetic.proofs.PartLaws.{part-length, part-value}
@@ -20,6 +21,7 @@ use Rattle.lattice.proofs.TreeEntries.{row-value}
 use Rattle.lattice.proofs.Sizes.{row-ends, start-most, start-suc, count-within}
 use Rattle.row_view.specs.declared.RowKind.{RowKind}
 use Rattle.row_view.specs.RowView.{isTree, holdsTree, storesRow, memoryOf, isShown, viewStart, viewCount, PartOf}
+use Rattle.arithmetic.proofs.Implied.{implied}
 use Rattle.row_view.proofs.ViewLaws.{is-stored}
 use Rattle.text_laws.specs.declared.Placed.{Placed}
 use Rattle.text_laws.specs.inside.Put.{Put}
@@ -47,14 +49,14 @@ module _ (n b : ℕ) (discounts : List ℕ) (h : Lent n b discounts) where
   unfolding discountsNeeded
   discounts-end i l = omega (arith, row-ends b i n l, h .size)
 
-  pub lines-few : discountsNeeded n b ≤ 3600
+  pub lines-few : discountsNeeded n b ≤ mostDiscounts
   unfolding discountsNeeded
   lines-few = omega (arith, start-most b n, mul-le-mul (h .limits .steps-within-limit) (h .limits .steps-within-limit))
 
 module _ (n b : ℕ) (discounts prices : List ℕ) (h : Stored n b discounts prices) where
-  pub held : holdsTree n b discounts prices ≡ true
+  pub tree-held : holdsTree n b discounts prices ≡ true
   unfolding holdsTree isTree
-  held =
+  tree-held =
       rw (
         le-leb 1 n (h .lent .limits .steps-positive),
         le-leb n 60 (h .lent .limits .steps-within-limit),
@@ -92,7 +94,7 @@ module _ (discounts prices : RefT (List ℕ)) (kind : RowKind) (n b i : ℕ) (pa
   -- the row that the view shows is the part of its memory
   pub shown : Stored n b (discounts .now) (prices .now) → storesRow kind n i ≡ true → Shown →
       part .now ≡ storedRow b (memoryOf discounts prices kind .now) i
-  shown h s p = shown-by (is-stored (discounts .now) (prices .now) kind n b i (held n b _ _ h) s) p
+  shown h s p = shown-by (is-stored implied (tree-held n b _ _ h) s) p
 
 -- ---- the lines of a row, put by a call
 
@@ -226,19 +228,19 @@ pub option-none : (out : List ℕ) (end : ℕ) (present : Bool) (option : Price)
     Put out end (optionLines present option) end out
 option-none out end present option e p = subst (λ (t : Bool). Put out end (optionLines t option) end out) (sym e) (put-none out end p)
 
-pub option-room : {out after : List ℕ} {end mid : ℕ} (present : Bool) (option : Price) → Fits option → 256 ≤ end →
+pub option-room : {out after : List ℕ} {end mid : ℕ} (present : Bool) (option : Price) → Fits option → 2 * longestLine ≤ end →
     Put out end (optionLines present option) mid after → (longestLine ≤ mid) × (mid ≤ length after)
 option-room present option f h p = (omega (arith, option-length present option f, p .place), omega (arith, p .place, p .within, p .same))
 
 pub prices-stand : {out₀ out : List ℕ} {end mid : ℕ} (after : List ℕ) (bond : Price) (present : Bool) (option : Price) {answer : Placed} →
-    Fits bond → Fits option → 256 ≤ end → Put out₀ end (optionLines present option) mid out →
+    Fits bond → Fits option → 2 * longestLine ≤ end → Put out₀ end (optionLines present option) mid out →
     Answered (lineNumber (length out) mid) out mid (priceLine bondWord (bond .value) (bond .bound)) answer after →
     Put out₀ end (priceLines bond present option) (answer .start) after
 unfolding priceLines
 prices-stand after bond present option fb fo h p a =
     line-before _ p (option-room present option fo h p .0) (price-room bondWord (bond .value) (bond .bound) (omega arith) (fb .0) (fb .1)) a
 
-pub prices-length : (bond : Price) (present : Bool) (option : Price) → Fits bond → Fits option → length (priceLines bond present option) ≤ 256
+pub prices-length : (bond : Price) (present : Bool) (option : Price) → Fits bond → Fits option → length (priceLines bond present option) ≤ 2 * longestLine
 unfolding priceLines
 prices-length bond present option fb fo =
     simp length-append (omega (arith, option-length present option fo, price-room bondWord (bond .value) (bond .bound) (omega arith) (fb .0) (fb .1)))

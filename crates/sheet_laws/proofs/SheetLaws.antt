@@ -13,10 +13,10 @@ use Rattle.limits.specs.Limits.{mostDiscounts, mostStatePrices}
 use Rattle.job_record.specs.declared.Job.{Job}
 use Rattle.job_record.specs.declared.Reading.{Reading}
 use Rattle.job_record.specs.Reader.{readingOf}
-use Rattle.job_fit.specs.RecordFit.{jobReversion, jobQuotes, jobDiscounts, jobStatePrices}
-use Rattle.job_prices.specs.declared.JobPrices.{JobPrices}
-use Rattle.job_prices.specs.JobPrices.{hasOption, jobBond, jobOption, recordNumber, recordPrices}
-use Rattle.job_prices.proofs.PriceLaws.{prices-given, prices-number}
+use Rattle.job_laws.specs.RecordFit.{jobReversion, jobQuotes, jobDiscounts, jobStatePrices}
+use Rattle.job_laws.specs.declared.JobPrices.{JobPrices}
+use Rattle.job_laws.specs.JobPrices.{hasOption, jobBond, jobOption, recordNumber, recordPrices}
+use Rattle.job_laws.proofs.PriceLaws.{prices-given, prices-number}
 use Rattle.text_laws.specs.declared.Placed.{Placed}
 use Rattle.text_laws.specs.Put.{putBefore, placeOf, withText}
 use Rattle.text_laws.specs.inside.Put.{Put}

@@ -9,8 +9,8 @@ use Rattle.arithmetic.specs.Answers.{lowestCause, firstCause}
 use Rattle.limits.specs.Limits.{mostDiscounts, mostStatePrices}
 use Rattle.job_record.specs.declared.Job.{Job}
 use Rattle.job_record.specs.Reader.{readingOf}
-use Rattle.job_fit.specs.RecordFit.{jobReversion, jobQuotes, jobDiscounts, jobStatePrices}
-use Rattle.job_prices.specs.JobPrices.{hasOption, jobBond, jobOption, recordNumber}
+use Rattle.job_laws.specs.RecordFit.{jobReversion, jobQuotes, jobDiscounts, jobStatePrices}
+use Rattle.job_laws.specs.JobPrices.{hasOption, jobBond, jobOption, recordNumber}
 use Rattle.text_laws.specs.Lines.{refusedLine, lineNumber}
 use Rattle.text_laws.specs.declared.Placed.{Placed}
 use Rattle.text_laws.specs.Put.{placeOf, withText}

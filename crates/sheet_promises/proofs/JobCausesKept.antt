@@ -23,14 +23,14 @@ use Rattle.lattice.proofs.TreeEntries.{tree-value}
 use Rattle.reversion.specs.Reversion.{isVersion, workingReversion}
 use Rattle.reversion.proofs.ReversionLaws.{working-limit}
 use Rattle.spacing.specs.Spacing.{versionSpacing}
-use Rattle.fitting.specs.Entry.{versionNumber, fitDiscount}
+use Rattle.fitted_laws.specs.Entry.{versionNumber, fitDiscount}
 use Rattle.job_record.specs.declared.Job.{Job}
 use Rattle.job_record.specs.Form.{wellFormed}
 use Rattle.job_record.specs.Reader.{readingOf, jobOf, acceptedReading, malformed}
 use Rattle.job_record.specs.declared.Reading.{Reading}
-use Rattle.job_fit.specs.RecordFit.{meantVersion, meantReversion, jobRows, jobKinds, jobFigures, recordFit}
-use Rattle.job_prices.specs.JobPrices.{hasOption, optionForm, treeNumber, jobBond, jobOption, recordNumber, recordPrices, bytesNumber, bytesPrices}
-use Rattle.job_prices.proofs.PriceLaws.{prices-number}
+use Rattle.job_laws.specs.RecordFit.{meantVersion, meantReversion, jobRows, jobKinds, jobFigures, recordFit}
+use Rattle.job_laws.specs.JobPrices.{hasOption, optionForm, treeNumber, jobBond, jobOption, recordNumber, recordPrices, bytesNumber, bytesPrices}
+use Rattle.job_laws.proofs.PriceLaws.{prices-number}
 use Rattle.sheet_room.specs.Room.{sheetRoom}
 use Rattle.sheet_laws.specs.WholeJob.{roomCause, jobNumber, sheetNumber}
 use Rattle.promises.specs.Causes.{cause, firstOf, quotesPlaced, quotesConverted, everyNode}

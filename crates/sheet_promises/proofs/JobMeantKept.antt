@@ -9,9 +9,9 @@ use Rattle.arithmetic.proofs.RowLaws.{values-row}
 use Rattle.curve.specs.Curve.{discountAt}
 use Rattle.price_laws.specs.Prices.{optionPrice, datedPrice}
 use Rattle.job_record.specs.declared.Job.{Job}
-use Rattle.job_fit.specs.RecordFit.{meantVersion, meantReversion, jobReversion, jobKinds, jobFigures, jobFlows}
-use Rattle.job_fit.specs.RecordFit.{jobQuotes, jobDiscounts, jobStatePrices}
-use Rattle.job_prices.specs.JobPrices.{taggedOption, jobOption}
+use Rattle.job_laws.specs.RecordFit.{meantVersion, meantReversion, jobReversion, jobKinds, jobFigures, jobFlows}
+use Rattle.job_laws.specs.RecordFit.{jobQuotes, jobDiscounts, jobStatePrices}
+use Rattle.job_laws.specs.JobPrices.{taggedOption, jobOption}
 use Rattle.sheet_promises.specs.JobMeant.{JobMeant}
 
 absent-first : (version : ℕ) → version ≡ 0 → meantVersion version ≡ 1

@@ -15,7 +15,7 @@ use Rattle.arithmetic.specs.Rounding.{one}
 use Rattle.arithmetic.specs.Row.{values}
 use Rattle.arithmetic.proofs.RowLaws.{values-row}
 use Rattle.arithmetic.proofs.PartLaws.{part-value}
-use Rattle.arithmetic.specs.Within.{Within}
+use Rattle.arithmetic.proofs.Implied.{implied}
 use Rattle.tree.specs.Tree.{unit}
 use Rattle.limits.specs.Limits.{mostDiscounts, mostStatePrices}
 use Rattle.lattice.specs.Shape.{halfWidth, nodeCount, rowStart}
@@ -27,17 +27,17 @@ use Rattle.curve.specs.Curve.{discountAt}
 use Rattle.step_rate.specs.StepRate.{rateAnswer}
 use Rattle.step_rate.specs.declared.Rate.{Rate}
 use Rattle.step_rate.proofs.RateLaws.{answer-known}
-use Rattle.fitting.specs.Entry.{fitStatePrice}
-use Rattle.fitting.proofs.FittedTree.{fit-discounts-lent}
+use Rattle.fitted_laws.specs.Entry.{fitStatePrice}
+use Rattle.fitted_laws.proofs.FittedTree.{fit-discounts-lent}
 use Rattle.price_laws.specs.Exact.{Accurate}
 use Rattle.price_laws.specs.declared.Price.{Price}
 use Rattle.job_record.specs.declared.OptionRecord.{OptionRecord}
 use Rattle.job_record.specs.declared.Job.{Job}
 use Rattle.job_record.specs.Reader.{readingOf}
-use Rattle.job_fit.specs.RecordFit.{meantReversion, jobReversion, jobSpacing, jobRows, jobKinds, jobFigures, jobQuotes, jobDiscounts, jobStatePrices, jobFlows}
-use Rattle.job_prices.specs.JobPrices.{hasOption, taggedOption, jobBond, jobOption, pricesOf, recordNumber, recordPrices, bytesNumber, bytesPrices}
-use Rattle.job_prices.proofs.PriceLaws.{prices-number}
-use Rattle.job_prices.proofs.Accepted.{AcceptedRecord, record-accepted, bytes-accepted}
+use Rattle.job_laws.specs.RecordFit.{meantReversion, jobReversion, jobSpacing, jobRows, jobKinds, jobFigures, jobQuotes, jobDiscounts, jobStatePrices, jobFlows}
+use Rattle.job_laws.specs.JobPrices.{hasOption, taggedOption, jobBond, jobOption, pricesOf, recordNumber, recordPrices, bytesNumber, bytesPrices}
+use Rattle.job_laws.proofs.PriceLaws.{prices-number}
+use Rattle.job_laws.proofs.Accepted.{AcceptedRecord, record-accepted, bytes-accepted}
 use Rattle.text_laws.specs.Decimal.{signOf}
 use Rattle.text_laws.specs.Lines.{nodeLine, lineOfNode}
 use Rattle.text_laws.proofs.Signs.{sign-negative, sign-none}
@@ -125,7 +125,7 @@ module _ (job : Job) (room : ℕ) (known : AcceptedJob job room) where
   unfolding jobDiscounts meantReversion
   tree =
       accepted n b _
-      (fit-discounts-lent (job .frequency) n b h (jobKinds job) (jobFigures job) _ (jobRows job) mostDiscounts mostStatePrices (known .fit))
+      (fit-discounts-lent implied (known .fit))
 
   rated : (i k : ℕ) → i < n → k < nodeCount b i → rateAnswer (stored b (jobDiscounts job) i k) .number ≡ 0
   unfolding stored

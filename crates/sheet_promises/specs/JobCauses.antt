@@ -8,13 +8,13 @@ use Prim.Native.Nat.{ℕ}
 use lib.Dec.{eqb, leb, ltb}
 use Rattle.arithmetic.specs.Answers.{lowestCause, firstCause}
 use Rattle.limits.specs.Limits.{mostDiscounts, mostStatePrices}
-use Rattle.fitting.specs.Entry.{versionNumber}
+use Rattle.fitted_laws.specs.Entry.{versionNumber}
 use Rattle.job_record.specs.declared.OptionRecord.{OptionRecord}
 use Rattle.job_record.specs.declared.Job.{Job}
 use Rattle.job_record.specs.Form.{wellFormed}
 use Rattle.job_record.specs.Reader.{jobOf}
-use Rattle.job_fit.specs.RecordFit.{meantVersion, jobRows, jobKinds, jobFigures}
-use Rattle.job_prices.specs.JobPrices.{hasOption, jobBond, jobOption, recordPrices, bytesPrices}
+use Rattle.job_laws.specs.RecordFit.{meantVersion, jobRows, jobKinds, jobFigures}
+use Rattle.job_laws.specs.JobPrices.{hasOption, jobBond, jobOption, recordPrices, bytesPrices}
 use Rattle.sheet_room.specs.Room.{sheetRoom}
 use Rattle.sheet_laws.specs.WholeJob.{sheetNumber}
 use Rattle.promises.specs.Causes.{cause, firstOf}

@@ -10,11 +10,11 @@ use Rattle.figure.specs.Figure.{patternFloat}
 use Rattle.curve.specs.Curve.{discountAt}
 use Rattle.reversion.specs.Reversion.{workingReversion}
 use Rattle.spacing.specs.Spacing.{versionSpacing}
-use Rattle.fitting.specs.Entry.{fitDiscounts, fitStatePrices}
+use Rattle.fitted_laws.specs.Entry.{fitDiscounts, fitStatePrices}
 use Rattle.price_laws.specs.Prices.{bondPrice, optionPrice, datedPrice}
 use Rattle.job_record.specs.declared.Job.{Job}
-use Rattle.job_fit.specs.RecordFit.{meantVersion, jobReversion, jobRows, jobKinds, jobFigures, jobFlows, jobQuotes, jobDiscounts, jobStatePrices}
-use Rattle.job_prices.specs.JobPrices.{jobBond, jobOption}
+use Rattle.job_laws.specs.RecordFit.{meantVersion, jobReversion, jobRows, jobKinds, jobFigures, jobFlows, jobQuotes, jobDiscounts, jobStatePrices}
+use Rattle.job_laws.specs.JobPrices.{jobBond, jobOption}
 
 pub record JobMeant (job : Job) : Type 0 where
   -- version 1 where there is no tag

@@ -18,9 +18,9 @@ use Rattle.price_laws.specs.Exact.{exactBond, exactOption, exactDated, Accurate
 use Rattle.job_record.specs.declared.OptionRecord.{OptionRecord}
 use Rattle.job_record.specs.declared.Job.{Job}
 use Rattle.job_record.specs.Reader.{readingOf}
-use Rattle.job_fit.specs.RecordFit.{jobReversion, jobQuotes, jobDiscounts, jobStatePrices, jobFlows}
-use Rattle.job_prices.specs.JobPrices.{hasOption, optionDates, jobBond, jobOption, recordPrices, bytesPrices}
-use Rattle.job_prices.specs.declared.JobPrices.{JobPrices}
+use Rattle.job_laws.specs.RecordFit.{jobReversion, jobQuotes, jobDiscounts, jobStatePrices, jobFlows}
+use Rattle.job_laws.specs.JobPrices.{hasOption, optionDates, jobBond, jobOption, recordPrices, bytesPrices}
+use Rattle.job_laws.specs.declared.JobPrices.{JobPrices}
 use Rattle.text_laws.specs.Decimal.{signOf}
 use Rattle.text_laws.specs.Lines.{nodeLine}
 use Rattle.node_lines.specs.Rows.{nodeText}

@@ -8,7 +8,7 @@ ghost use lib.ListN.{length, take, drop};
 ghost use Rattle.arithmetic.specs.Row.{place};
 ghost use Rattle.limits.specs.Limits.{mostStatePrices};
 ghost use Rattle.spacing.specs.Spacing.{spacing};
-ghost use Rattle.fitting.specs.Entry.{fitNumber, fitMemory, fitDiscounts};
+ghost use Rattle.fitted_laws.specs.Entry.{fitNumber, fitMemory, fitDiscounts};
 ghost use Rattle.shelf_laws.specs.Parts.{part, zeros, opened, closed};
 ghost use Rattle.shelf_laws.specs.Shelf.{fittedSlot};
 

@@ -10,11 +10,12 @@ use lib.Ieee.{Float}
 use lib.ListN.{length, set}
 use Rattle.arithmetic.specs.Row.{place}
 use Rattle.arithmetic.proofs.Numbers.{by-equal}
+use Rattle.arithmetic.proofs.Implied.{Implied, lastly, _▸_}
 use Rattle.limits.specs.Limits.{mostStatePrices}
 use Rattle.lattice.specs.Shape.{discountsNeeded}
 use Rattle.spacing.specs.Spacing.{spacing}
-use Rattle.fitting.specs.Entry.{fitNumber, fitMemory, fitDiscounts, discountsAfter}
-use Rattle.fitting.proofs.FittedTree.{fit-discounts-length}
+use Rattle.fitted_laws.specs.Entry.{fitNumber, fitMemory, fitDiscounts, discountsAfter}
+use Rattle.fitted_laws.proofs.FittedTree.{fit-discounts-length}
 use Rattle.shelf_laws.specs.declared.Slot.{Slot}
 use Rattle.shelf_laws.specs.declared.Part.{Part}
 use Rattle.shelf_laws.specs.declared.Located.{Located}
@@ -28,7 +29,8 @@ use Rattle.shelf_laws.proofs.FitParts.{part-size}
 use Rattle.shelf_laws.proofs.NameLaws.{cause-awaiting, located-is, none-found, There, tree-found}
 
 -- ---- a fit on a part that was lent and has come back
-module _ (f n b s : ℕ) (rows kinds : List ℕ) (figures : List Float) (m prices : List ℕ) (at count r : ℕ)
+module _ {f n b s : ℕ} {rows kinds : List ℕ} {figures : List Float} {m prices : List ℕ} {at count r : ℕ}
+    (_ : Implied (f ▸ n ▸ b ▸ s ▸ rows ▸ kinds ▸ figures ▸ m ▸ prices ▸ at ▸ lastly count))
     (fits : at + count ≤ length m) (long : length prices ≡ mostStatePrices)
     (number : r ≡ fitNumber f n b s rows kinds figures (length (midOf at (at + count - at) m)) (length prices)) where
   pub lent-number : r ≡ fitNumber f n b s rows kinds figures count mostStatePrices
@@ -37,10 +39,10 @@ module _ (f n b s : ℕ) (rows kinds : List ℕ) (figures : List Float) (m price
       ∙ ap (λ (d : ℕ). fitNumber f n b s rows kinds figures d (length prices)) (lent-count m at count fits)
       ∙ ap (λ (p : ℕ). fitNumber f n b s rows kinds figures count p) long
 
-  pub lent-fitted : (last : List ℕ) → last ≡ discountsAfter f n b s rows kinds figures (midOf at (at + count - at) m) prices →
+  pub lent-fitted : {last : List ℕ} → last ≡ discountsAfter f n b s rows kinds figures (midOf at (at + count - at) m) prices →
       length last ≡ length (midOf at (at + count - at) m) →
       putMid at (at + count - at) m last ≡ place m at (fitMemory r (fitDiscounts f n b (spacing f s) kinds figures) (part m at count))
-  lent-fitted last e same =
+  lent-fitted {last} e same =
       let is : last ≡ fitMemory r (fitDiscounts f n b (spacing f s) kinds figures) (part m at count) =
       e
       ∙ ap (λ (x : ℕ). fitMemory x (fitDiscounts f n b (spacing f s) kinds figures) (midOf at (at + count - at) m)) (sym number)
@@ -107,35 +109,36 @@ module _ (slots : List Slot) (name : ℕ) (l : Located) (e : l ≡ locatedTree s
   pub awaiting : l .status ≡ 1 → There slots name l e × (statusOf slots name ≡ 1)
   awaiting h = let t = tree-found slots name l e (λ z. omega arith) in (t, t .name-known .status ∙ sym (t .status-is) ∙ h)
 
-module _ (slots : List Slot) (name f s : ℕ) (rows kinds : List ℕ) (figures : List Float) where
+module _ {slots : List Slot} {name f s : ℕ} {rows kinds : List ℕ} {figures : List Float}
+    (_ : Implied (slots ▸ name ▸ f ▸ s ▸ rows ▸ kinds ▸ lastly figures)) where
   pub commit-15 : (statusOf slots name ≡ 1 → ⊥) → 15 ≡ commitNumber slots name f s rows kinds figures
   unfolding commitNumber
   commit-15 h = rw (ne-eqb (statusOf slots name) 1 h)
 
-  pub memory-15 : (m : List ℕ) → (statusOf slots name ≡ 1 → ⊥) → m ≡ commitMemory slots m name f s rows kinds figures
+  pub memory-15 : {m : List ℕ} → (statusOf slots name ≡ 1 → ⊥) → m ≡ commitMemory slots m name f s rows kinds figures
   unfolding commitMemory
-  memory-15 m h = rw (ne-eqb (statusOf slots name) 1 h)
+  memory-15 h = rw (ne-eqb (statusOf slots name) 1 h)
 
-  pub slots-left : (m : List ℕ) (r : ℕ) → r ≡ commitNumber slots name f s rows kinds figures → (r ≡ 0 → ⊥) →
+  pub slots-left : (m : List ℕ) {r : ℕ} → r ≡ commitNumber slots name f s rows kinds figures → (r ≡ 0 → ⊥) →
       slots ≡ commitSlots slots m name f s rows kinds figures
   unfolding commitSlots
-  slots-left m r er h = rw (← er, ne-eqb r 0 h)
+  slots-left m {r} er h = rw (← er, ne-eqb r 0 h)
 
-  module _ (l : Located) (e : l ≡ locatedTree slots name) (h : l .status ≡ 1) where
-    pub commit-number : (r : ℕ) → r ≡ fitNumber f (l .steps) (l .reversion) s rows kinds figures (l .count) mostStatePrices →
+  module _ {l : Located} (e : l ≡ locatedTree slots name) (h : l .status ≡ 1) where
+    pub commit-number : {r : ℕ} → r ≡ fitNumber f (l .steps) (l .reversion) s rows kinds figures (l .count) mostStatePrices →
         r ≡ commitNumber slots name f s rows kinds figures
     unfolding commitNumber
-    commit-number r p =
+    commit-number p =
         let a = awaiting slots name l e h in
         let t = a .0 in
         p ∙ rw (t .steps-is, t .reversion-is, t .count-is, eq-eqb (statusOf slots name) 1 (a .1))
 
-    module _ (r : ℕ) (er : r ≡ commitNumber slots name f s rows kinds figures) where
-      pub commit-memory : (m last : List ℕ) →
+    module _ {r : ℕ} (er : r ≡ commitNumber slots name f s rows kinds figures) where
+      pub commit-memory : (m : List ℕ) {last : List ℕ} →
           last ≡ place m (l .start) (fitMemory r (fitDiscounts f (l .steps) (l .reversion) (spacing f s) kinds figures) (part m (l .start) (l .count))) →
           last ≡ commitMemory slots m name f s rows kinds figures
       unfolding commitMemory commitPart
-      commit-memory m last p =
+      commit-memory m p =
           let a = awaiting slots name l e h in
           let t = a .0 in
           p ∙ rw (er, t .start-is, t .steps-is, t .reversion-is, t .count-is, eq-eqb (statusOf slots name) 1 (a .1))
@@ -161,12 +164,12 @@ module _ (slots : List Slot) (name f s : ℕ) (rows kinds : List ℕ) (figures :
           ∙ part-written m (l .start) (fitMemory r fitted before) (omega (arith, t .fits))
           ∙ rw (er, t .start-is, t .steps-is, t .reversion-is, t .count-is)
 
-      pub commit-slots : r ≡ 0 → (m last : List ℕ) (next : Slot) (after : List Slot) → length m ≡ room →
+      pub commit-slots : r ≡ 0 → (m : List ℕ) {last : List ℕ} {next : Slot} {after : List Slot} → length m ≡ room →
           last ≡ place m (l .start) (fitMemory r (fitDiscounts f (l .steps) (l .reversion) (spacing f s) kinds figures) (part m (l .start) (l .count))) →
           next ≡ fittedSlot (l .steps) (l .reversion) (part last (l .start) (l .count)) → after ≡ set slots (name - 1) next →
           after ≡ commitSlots slots m name f s rows kinds figures
       unfolding commitSlots
-      commit-slots z m last next after long el en ea =
+      commit-slots z m long el en ea =
           let t = awaiting slots name l e h .0 in
           let d = ap (λ (x : List ℕ). part x (l .start) (l .count)) el ∙ fitted-part m long in
           ea

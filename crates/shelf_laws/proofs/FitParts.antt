@@ -9,7 +9,7 @@ use lib.ListN.{length, drop-of-length-le}
 use Rattle.arithmetic.specs.Row.{place}
 use Rattle.arithmetic.proofs.Numbers.{by-equal}
 use Rattle.arithmetic.proofs.RowLaws.{length-row}
-use Rattle.fitting.specs.Entry.{fitMemory}
+use Rattle.fitted_laws.specs.Entry.{fitMemory}
 use Rattle.shelf_laws.specs.Parts.{zeros}
 
 place-whole : (memory row : List ℕ) → length row ≡ length memory → place memory 0 row ≡ row

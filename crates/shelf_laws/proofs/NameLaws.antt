@@ -12,7 +12,7 @@ use Rattle.lattice.specs.Shape.{discountsNeeded}
 use Rattle.lattice.specs.Entries.{aboutTree}
 use Rattle.shelf_laws.specs.declared.Slot.{Slot}
 use Rattle.shelf_laws.specs.declared.Located.{Located}
-use Rattle.shelf_laws.specs.Shelf.{room, slotAt, nodesOf, nodesHeld, statusOf, slotOf, startOf, nameCause, locatedTree, askNumber}
+use Rattle.shelf_laws.specs.Shelf.{room, nodesOf, nodesHeld, statusOf, slotOf, startOf, nameCause, locatedTree, askNumber}
 use Rattle.shelf_laws.proofs.SlotLaws.{answer-cause, answer-shape, answer-value, needed-most, Sane, sane, before-most, ends-before}
 
 module _ (slots : List Slot) (name : ℕ) where

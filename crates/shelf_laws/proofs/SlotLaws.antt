@@ -12,7 +12,7 @@ use lib.Dec.{eqb}
 use lib.ListN.{length, replicate}
 use Rattle.arithmetic.specs.declared.Answer.{Answer}
 use Rattle.arithmetic.proofs.Numbers.{by-order, by-equal}
-use Rattle.limits.specs.Limits.{mostSteps, shapeCause}
+use Rattle.limits.specs.Limits.{mostSteps, shapeCause, mostStatePrices}
 use Rattle.limits.proofs.LimitLaws.{shape-accepted}
 use Rattle.lattice.specs.Shape.{discountsNeeded}
 use Rattle.lattice.specs.Entries.{aboutTree}
@@ -24,7 +24,7 @@ use Rattle.shelf_laws.specs.declared.Slot.{Slot}
 use Rattle.shelf_laws.specs.Shelf.{room, emptySlots, nodesHeld, emptySlot, awaitingSlot, fittedSlot, slotAt, nodesOf, nodesBefore}
 
 -- the nodes of a tree
-pub needed-most : (n b : ℕ) → shapeCause n b ≡ 0 → discountsNeeded n b ≤ 3721
+pub needed-most : (n b : ℕ) → shapeCause n b ≡ 0 → discountsNeeded n b ≤ mostStatePrices
 unfolding discountsNeeded
 needed-most n b e = start-within b n (omega (arith, shape-accepted n b e .1))
 
@@ -106,7 +106,7 @@ module _ (t : Slot) where
       (λ (s : Sane). s)
 
   -- whatever the slot holds
-  pub nodes-most : nodesOf t ≤ 3721
+  pub nodes-most : nodesOf t ≤ mostStatePrices
   nodes-most =
       by-slot
       (λ (e : t .status ≡ 0). omega (arith, nodes-none e))
@@ -118,7 +118,7 @@ pub before-more : (slots : List Slot) (i n c : ℕ) (t : Slot) → n ≡ nodesBe
 unfolding nodesBefore
 before-more slots i n c t e f g = rw (add-one, e, g, f)
 
-pub before-most : (slots : List Slot) (i : ℕ) → nodesBefore slots i ≤ 3721 * i
+pub before-most : (slots : List Slot) (i : ℕ) → nodesBefore slots i ≤ mostStatePrices * i
 unfolding nodesBefore
 before-most slots zero = omega arith
 before-most slots (suc i) = omega (arith, before-most slots i, nodes-most (slotAt slots i))

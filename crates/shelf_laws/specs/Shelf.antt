@@ -13,7 +13,7 @@ use Rattle.arithmetic.specs.Row.{place}
 use Rattle.limits.specs.Limits.{mostSteps, mostStatePrices, shapeCause}
 use Rattle.lattice.specs.Shape.{discountsNeeded}
 use Rattle.spacing.specs.Spacing.{spacing}
-use Rattle.fitting.specs.Entry.{fitNumber, fitMemory, fitDiscounts}
+use Rattle.fitted_laws.specs.Entry.{fitNumber, fitMemory, fitDiscounts}
 use Rattle.price_bound.specs.PriceBound.{treeBoundsAnswer}
 use Rattle.shelf_laws.specs.declared.Slot.{Slot}
 use Rattle.shelf_laws.specs.declared.Part.{Part}

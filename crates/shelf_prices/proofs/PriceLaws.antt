@@ -13,6 +13,7 @@ use Rattle.price_laws.specs.Prices.{refusedPrice, priced, valueAlone, withBound
 use Rattle.price_laws.specs.Strips.{refusedStrip, stripAnswer, eachWith}
 use Rattle.price_laws.proofs.StripLaws.{strip-alike}
 use Rattle.arithmetic.specs.declared.Answer.{Answer}
+use Rattle.arithmetic.proofs.Implied.{Implied, lastly, _▸_}
 use Rattle.shelf_laws.specs.declared.Slot.{Slot}
 use Rattle.shelf_laws.specs.declared.Located.{Located}
 use Rattle.shelf_laws.specs.Shelf.{nameCause, locatedTree}
@@ -50,7 +51,8 @@ module _ (price : ℕ → ℕ → List ℕ → Price) (slots : List Slot) (m : L
       ∙ rw (t .steps-is, t .reversion-is, t .start-is, t .count-is, t .bound-is, eq-eqb (nameCause slots name) 0 (t .cause))
 
 -- two prices at once
-module _ (bond option : ℕ → ℕ → List ℕ → Price) (slots : List Slot) (m : List ℕ) (name : ℕ) (l : Located) (e : l ≡ locatedTree slots name) where
+module _ {bond option : ℕ → ℕ → List ℕ → Price} {slots : List Slot} {m : List ℕ} {name : ℕ} {l : Located}
+    (_ : Implied (bond ▸ option ▸ slots ▸ m ▸ lastly name)) (e : l ≡ locatedTree slots name) where
   abbrev both : BondAndOption
   both = record { bond = shelfPrice bond slots m name; option = shelfPrice option slots m name }
 

@@ -1,20 +1,19 @@
 -- Work on one name changes nothing under another, and only an asking's answer depends on other names.
 -- Assumes nothing.
 use mathlib.Core.Path.{_≡_, refl, sym, ap, _∙_}
-use Prim.Native.Nat.{ℕ, suc, _+_, _-_, _≤_, _<_}
+use Prim.Native.Nat.{ℕ, suc, _-_, _≤_, _<_}
 use native.Mathlib.Omega.{arith}
-use borrow.Author.Tests.{eq-eqb, ne-eqb, lt-ltb, le-ltb}
+use borrow.Author.Tests.{ne-eqb, le-ltb}
 use Rattle.arithmetic.proofs.Numbers.{by-order, by-equal}
 use Rattle.limits.specs.Limits.{shapeCause}
-use Rattle.lattice.specs.Shape.{discountsNeeded}
 use Rattle.price_laws.specs.declared.Price.{Price}
 use Rattle.shelf_laws.specs.Shelf.{room, nodesHeld, statusOf, nameCause, locatedTree}
 use Rattle.shelf_prices.specs.ShelfPrices.{shelfPrice}
 use Rattle.shelf_laws.specs.Shelf.{askSlots, askMemory, commitNumber, commitSlots, commitMemory, releaseSlots, releaseMemory}
 use Rattle.shelf_laws.proofs.NameLaws.{status-zero, status-high, status-broken, cause-none, ask-name, ask-full, ask-taken}
-use Rattle.shelf_promises.specs.Model.{Seen, absent, Quoted, Pricing, statusSeen, heldBy}
+use Rattle.shelf_promises.specs.Model.{Seen, absent, Quoted, Pricing, heldBy}
 use Rattle.shelf_promises.specs.Model.{Call, asking, committing, releasing, pricing, locating, nameOf}
-use Rattle.shelf_promises.specs.Model.{deskStatus, deskCause, deskPrice, deskNumber, put, deskTaken}
+use Rattle.shelf_promises.specs.Model.{deskStatus, deskCause, deskPrice, deskNumber, deskTaken}
 use Rattle.shelf_promises.specs.History.{Kept, seen, priceOf, numberOf, after}
 use Rattle.shelf_promises.specs.ShelfPromises.{AskedExactly, Alone, commits, releases, prices, locates, Refused}
 use Rattle.shelf_promises.proofs.DeskLaws.{status-is, held-seen, price-is, put-other, taken, refused}

@@ -12,9 +12,9 @@ use Rattle.shelf_laws.specs.Shelf.{room, slotAt, nodesOf, nodesBefore, nodesHel
 use Rattle.shelf_prices.specs.ShelfPrices.{shelfPrice}
 use Rattle.shelf_laws.proofs.PartLaws.{part-length}
 use Rattle.shelf_laws.proofs.SlotLaws.{nodes-none, by-slot, Sane, ends-before}
-use Rattle.shelf_laws.proofs.NameLaws.{Known, known, status-zero, status-high, status-good, there, tree-sane}
+use Rattle.shelf_laws.proofs.NameLaws.{status-zero, status-high, status-good, there}
 use Rattle.price_laws.specs.declared.Price.{Price}
-use Rattle.shelf_promises.specs.Model.{Seen, absent, Quoted, Pricing, Call, asking, committing, releasing, pricing}
+use Rattle.shelf_promises.specs.Model.{Seen, absent, Pricing, Call, asking, releasing, pricing}
 use Rattle.shelf_promises.specs.Model.{nodesSeen, statusSeen, stepsSeen, reversionSeen, discountsSeen, boundSeen, heldBy}
 use Rattle.shelf_promises.specs.Model.{deskStatus, deskCause, deskPrice, deskNumber, put, deskTaken, deskAfter}
 use Rattle.shelf_promises.specs.History.{Kept, seenSlot, seen, priceOf, numberOf}

@@ -6,16 +6,16 @@ use mathlib.Core.List.{List}
 use native.Mathlib.Omega.{arith}
 use borrow.Author.Tests.{le-leb}
 use lib.Ieee.{Float}
+use Rattle.arithmetic.proofs.Implied.{implied}
 use Rattle.limits.specs.Limits.{mostStatePrices, shapeCause}
 use Rattle.limits.proofs.LimitLaws.{shape-accepted}
-use Rattle.lattice.specs.Shape.{rowStart, discountsNeeded, statePricesNeeded}
+use Rattle.lattice.specs.Shape.{discountsNeeded, statePricesNeeded}
 use Rattle.lattice.specs.Entries.{memoryCause}
 use Rattle.lattice.proofs.EntryLaws.{tree-answered}
 use Rattle.lattice.proofs.Sizes.{start-within}
 use Rattle.lent_tree.specs.LentTree.{discountsCause}
-use Rattle.spacing.specs.Spacing.{spacing, spacingAnswer}
-use Rattle.fitting.specs.Entry.{earlyCause, fittedNumber, fitNumber}
-use Rattle.fitting.proofs.FittedTree.{fit-discounts-lent}
+use Rattle.fitted_laws.specs.Entry.{earlyCause, fittedNumber, fitNumber}
+use Rattle.fitted_laws.proofs.FittedTree.{fit-discounts-lent}
 use Rattle.shelf_promises.specs.Model.{Quoted, fitNumberOf, fitDiscountsOf}
 
 module _ (n b : ℕ) (shape : shapeCause n b ≡ 0) where
@@ -42,5 +42,4 @@ module _ (n b : ℕ) (shape : shapeCause n b ≡ 0) where
 
 pub fit-lent : (q : Quoted) (n b : ℕ) → fitNumberOf q n b ≡ 0 → discountsCause n b (fitDiscountsOf q n b) ≡ 0
 fit-lent q n b e =
-    fit-discounts-lent (q .frequency) n b (spacing (q .frequency) (q .volatility)) (q .kinds) (q .figures)
-    (spacingAnswer (q .frequency) (q .volatility) .number) (q .rows) (discountsNeeded n b) mostStatePrices e
+    fit-discounts-lent implied e

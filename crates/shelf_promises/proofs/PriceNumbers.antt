@@ -5,7 +5,7 @@ use Prim.Native.Nat.{ℕ, _≤_, _<_}
 use mathlib.Core.Bool.{Bool, true, false, cond, _&&_}
 use mathlib.Core.List.{List}
 use native.Mathlib.Omega.{arith}
-use borrow.Author.Tests.{le-leb, eq-eqb, ne-eqb, eqb-true, eqb-false}
+use borrow.Author.Tests.{le-leb, eq-eqb, ne-eqb, eqb-true}
 use lib.Dec.{eqb, leb, ltb}
 use lib.ListN.{length}
 use Rattle.arithmetic.specs.Row.{values, each, between}
@@ -15,7 +15,7 @@ use Rattle.arithmetic.proofs.RowLaws.{length-row, values-row, each-fails}
 use Rattle.arithmetic.proofs.CauseLaws.{lowest-first, lowest-second, lowest-less, lowest-more}
 use Rattle.limits.specs.Limits.{isDiscount, valueLimit, shapeCause, limitCause}
 use Rattle.limits.proofs.LimitLaws.{shape-accepted}
-use Rattle.lattice.specs.Shape.{rowStart, discountsNeeded}
+use Rattle.lattice.specs.Shape.{discountsNeeded}
 use Rattle.lattice.proofs.Sizes.{count-positive, row-ends}
 use Rattle.lent_tree.specs.LentTree.{acceptedDiscounts, discountsCause}
 use Rattle.pricing_laws.specs.Schedule.{rising, lastDate, datesCause}

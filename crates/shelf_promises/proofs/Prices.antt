@@ -9,10 +9,11 @@ use borrow.Author.Tests.{eq-eqb, ne-eqb, le-ltb}
 use lib.Dec.{eqb, ltb}
 use lib.ListN.{length}
 use Rattle.arithmetic.proofs.Numbers.{by-equal}
+use Rattle.arithmetic.proofs.Implied.{implied}
 use Rattle.tree.specs.Tree.{unit}
 use Rattle.lattice.specs.Shape.{discountsNeeded, statePricesNeeded}
 use Rattle.lent_tree.specs.LentTree.{discountsCause}
-use Rattle.fitting.specs.Entry.{fitNumber}
+use Rattle.fitted_laws.specs.Entry.{fitNumber}
 use Rattle.price_bound.specs.PriceBound.{treeErrorBound}
 use Rattle.price_laws.specs.declared.Price.{Price}
 use Rattle.price_laws.specs.Exact.{Accurate}
@@ -97,9 +98,9 @@ module _ (desk : ℕ → Seen) (name : ℕ) where
 -- ---- the plain prices
 plain-priced : (p : Pricing) (n b : ℕ) (d : List ℕ) →
     priced (plainPrice p n b d .number) (plainPrice p n b d .value) (treeErrorBound n b d) ≡ plainPrice p n b d
-plain-priced (bond flows) n b d = bond-whole n b d flows {e = treeErrorBound n b d} (λ z. refl)
-plain-priced (option flows kind expiry strike) n b d = option-whole n b d flows {e = treeErrorBound n b d} (λ z. refl) kind expiry strike
-plain-priced (dated flows side dates strike) n b d = dated-whole n b d flows {e = treeErrorBound n b d} (λ z. refl) side dates strike
+plain-priced (bond flows) n b d = bond-whole implied {e = treeErrorBound n b d} (λ z. refl)
+plain-priced (option flows kind expiry strike) n b d = option-whole implied {e = treeErrorBound n b d} (λ z. refl) kind expiry strike
+plain-priced (dated flows side dates strike) n b d = dated-whole implied {e = treeErrorBound n b d} (λ z. refl) side dates strike
 
 plain-bound : (p : Pricing) (n b : ℕ) (d : List ℕ) → plainPrice p n b d .number ≡ 0 → plainPrice p n b d .bound ≡ treeErrorBound n b d
 plain-bound (bond flows) n b d h = bond-given n b d flows h .bound

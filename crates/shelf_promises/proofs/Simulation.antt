@@ -3,17 +3,16 @@
 -- Assumes nothing.
 use mathlib.Core.Path.{_≡_, refl, sym, ap, _∙_, subst}
 use Prim.Native.Nat.{ℕ, _+_, _-_, _≤_, _<_}
-use mathlib.Core.Bool.{true, false}
+use mathlib.Core.Bool.{false}
 use mathlib.Core.List.{List}
 use native.Mathlib.Omega.{arith}
 use borrow.Author.Tests.{eq-eqb, ne-eqb}
 use lib.ListN.{length, set, length-set}
 use Rattle.arithmetic.specs.Row.{place}
 use Rattle.arithmetic.proofs.Numbers.{by-equal}
-use Rattle.limits.specs.Limits.{shapeCause}
 use Rattle.lattice.specs.Shape.{discountsNeeded}
 use Rattle.spacing.specs.Spacing.{spacing}
-use Rattle.fitting.proofs.FittedTree.{fit-discounts-length}
+use Rattle.fitted_laws.proofs.FittedTree.{fit-discounts-length}
 use Rattle.price_bound.proofs.BoundLaws.{bounds-bound, bounds-greatest}
 use Rattle.shelf_laws.specs.Parts.{zeros, opened, closed}
 use Rattle.shelf_laws.specs.declared.Slot.{Slot}
@@ -23,7 +22,7 @@ use Rattle.shelf_laws.specs.Shelf.{nameCause, askNumber, askSlots, askMemory, c
 use Rattle.shelf_laws.proofs.PartLaws.{part-length, length-opened, length-closed, length-written, place-self}
 use Rattle.shelf_laws.proofs.FitParts.{part-fitted, part-zeroed, part-left, part-size}
 use Rattle.shelf_laws.proofs.SlotLaws.{nodes-none, nodes-tree, Sane, ends-before}
-use Rattle.shelf_laws.proofs.NameLaws.{Known, known, cause-awaiting, there, place-fits, tree-sane, Asked, asked}
+use Rattle.shelf_laws.proofs.NameLaws.{Known, known, cause-awaiting, there, place-fits, tree-sane, asked}
 use Rattle.shelf_promises.specs.Model.{ShelvedTree, Seen, absent, present, Quoted, Pricing, unfittedTree, fittedTree, stepsSeen, reversionSeen}
 use Rattle.shelf_promises.specs.Model.{fitNumberOf, fitDiscountsOf, Call, asking, committing, releasing, pricing, locating}
 use Rattle.shelf_promises.specs.Model.{deskStatus, deskNumber, put, deskTaken, deskAfter}

@@ -1,25 +1,23 @@
 -- The trees of the model: every call leaves good ones.
 -- Assumes nothing.
-use mathlib.Core.Path.{_≡_, refl, sym, ap, _∙_, subst}
-use Prim.Native.Nat.{ℕ, suc, _+_, _-_, _≤_, _<_}
+use mathlib.Core.Path.{_≡_, refl, sym, _∙_, subst}
+use Prim.Native.Nat.{ℕ, _+_, _-_, _<_}
 use mathlib.Core.Bool.{Bool, true, false, cond}
 use native.Mathlib.Omega.{arith}
-use borrow.Author.Tests.{eq-eqb, ne-eqb, lt-ltb, eqb-true, eqb-false}
+use borrow.Author.Tests.{eq-eqb, ne-eqb, eqb-true, eqb-false}
 use lib.Dec.{eqb, ltb}
-use lib.ListN.{length}
-use Rattle.arithmetic.proofs.Numbers.{by-order, by-equal}
+use Rattle.arithmetic.proofs.Numbers.{by-equal}
 use Rattle.arithmetic.proofs.RowLaws.{length-row}
 use Rattle.limits.specs.Limits.{shapeCause}
 use Rattle.lattice.specs.Shape.{discountsNeeded}
 use Rattle.lent_tree.proofs.LentLaws.{accepted-shape}
 use Rattle.spacing.specs.Spacing.{spacing}
-use Rattle.fitting.proofs.FittedTree.{fit-discounts-length}
-use Rattle.shelf_laws.specs.Parts.{zeros}
+use Rattle.fitted_laws.proofs.FittedTree.{fit-discounts-length}
 use Rattle.shelf_laws.specs.Shelf.{room}
 use Rattle.shelf_promises.specs.Model.{ShelvedTree, Seen, absent, present, Quoted, fitNumberOf, fitDiscountsOf, unfittedTree, fittedTree}
-use Rattle.shelf_promises.specs.Model.{statusSeen, stepsSeen, reversionSeen, heldBy, Call, asking, committing, releasing, pricing, locating}
+use Rattle.shelf_promises.specs.Model.{stepsSeen, reversionSeen, heldBy, Call, asking, committing, releasing, pricing, locating}
 use Rattle.shelf_promises.specs.Model.{deskStatus, deskCause, deskNumber, put, deskTaken, deskAfter}
-use Rattle.shelf_promises.specs.ShelfPromises.{Committed, GoodTree}
+use Rattle.shelf_promises.specs.ShelfPromises.{GoodTree}
 use Rattle.shelf_promises.proofs.DeskLaws.{put-same, put-other, taken, refused}
 use Rattle.shelf_promises.proofs.FitRoom.{fit-lent}
 use Rattle.shelf_promises.proofs.Simulation.{GoodDesk}

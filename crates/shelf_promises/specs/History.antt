@@ -12,7 +12,7 @@ use Rattle.shelf_laws.specs.declared.Slot.{Slot}
 use Rattle.shelf_laws.specs.Shelf.{room, emptySlots, slotAt, nodesOf, discountsAt, slotOf, nameCause}
 use Rattle.shelf_prices.specs.ShelfPrices.{shelfPrice}
 use Rattle.shelf_laws.specs.Shelf.{askNumber, askSlots, askMemory, commitNumber, commitSlots, commitMemory, releaseSlots, releaseMemory}
-use Rattle.shelf_promises.specs.Model.{ShelvedTree, Seen, absent, present, Pricing, plainPrice}
+use Rattle.shelf_promises.specs.Model.{Seen, absent, present, Pricing, plainPrice}
 use Rattle.shelf_promises.specs.Model.{Call, asking, committing, releasing, pricing, locating}
 
 -- a shelf's slots beside its memory

@@ -10,7 +10,7 @@ use lib.ListN.{length, replicate}
 use Rattle.limits.specs.Limits.{mostSteps, mostStatePrices, shapeCause}
 use Rattle.lattice.specs.Shape.{discountsNeeded}
 use Rattle.spacing.specs.Spacing.{spacing}
-use Rattle.fitting.specs.Entry.{fitNumber, fitDiscounts}
+use Rattle.fitted_laws.specs.Entry.{fitNumber, fitDiscounts}
 use Rattle.price_bound.specs.PriceBound.{treeErrorBound, greatestDiscounts}
 use Rattle.price_laws.specs.declared.Price.{Price}
 use Rattle.price_laws.specs.Prices.{refusedPrice, valueAlone, withBound, bondPrice, optionPrice, datedPrice}

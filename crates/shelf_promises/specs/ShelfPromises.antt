@@ -12,7 +12,7 @@ use Rattle.tree.specs.Tree.{unit}
 use Rattle.limits.specs.Limits.{mostSteps, shapeCause}
 use Rattle.lattice.specs.Shape.{discountsNeeded, statePricesNeeded}
 use Rattle.lent_tree.specs.LentTree.{discountsCause}
-use Rattle.fitting.specs.Entry.{fitNumber}
+use Rattle.fitted_laws.specs.Entry.{fitNumber}
 use Rattle.price_bound.specs.PriceBound.{treeErrorBound, greatestDiscounts}
 use Rattle.price_laws.specs.declared.Price.{Price}
 use Rattle.price_laws.specs.Prices.{refusedPrice}

@@ -14,6 +14,7 @@ use Rattle.arithmetic.specs.declared.Answer.{Answer}
 use Rattle.arithmetic.specs.Frequency.{isFrequency}
 use Rattle.arithmetic.proofs.Numbers.{by-order, by-test}
 use Rattle.arithmetic.proofs.FrequencyLaws.{listed-small}
+use Rattle.arithmetic.proofs.Implied.{Implied, lastly, _▸_}
 use Rattle.limits.specs.Limits.{mostReversion}
 use Rattle.reversion.specs.Reversion.{isVersion, isExact, varianceRatio, versionRatio, ratioAnswer}
 use Rattle.reversion.proofs.ReversionLaws.{ratio-most, first-same, none-same}
@@ -190,8 +191,8 @@ answer-first f s =
     ap (λ (h : ℕ). cond (not (isFrequency f)) (refused 2) (cond (ltb 50000 s) (refused 5) (answered h))) (version-first f s 0)
 
 -- the same from the ratio that the entry of crate reversion answers
-module _
-    (version f s b : ℕ) (ratio : Answer) (u : isFrequency f ≡ true) (hb : b ≤ mostReversion) (hs : s ≤ 50000) (e : ratio ≡ ratioAnswer version b) where
+module _ {version f s b : ℕ} {ratio : Answer} (_ : Implied (version ▸ f ▸ s ▸ lastly b))
+    (u : isFrequency f ≡ true) (hb : b ≤ mostReversion) (hs : s ≤ 50000) (e : ratio ≡ ratioAnswer version b) where
   pub ratio-refused : (ratio .number ≡ 0 → ⊥) → versionSpacingAnswer version f s b ≡ refused 7
   ratio-refused nz = answer-unknown version f s b u hb hs (number-above version b _ ratio e hb nz)
 

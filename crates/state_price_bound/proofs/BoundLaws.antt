@@ -20,7 +20,7 @@ use Rattle.arithmetic.proofs.PaddedLaws.{filled-padded}
 use Rattle.arithmetic.proofs.RoundingLaws.{up-monotone}
 use Rattle.arithmetic.proofs.RowLaws.{Filled, zeros}
 use Rattle.arithmetic.proofs.SumLaws.{greatest-le, greatest-cong}
-use Rattle.limits.specs.Limits.{mostSteps}
+use Rattle.limits.specs.Limits.{mostSteps, mostNodes, mostStatePrices, mostDiscount}
 use Rattle.tree.specs.Tree.{Tree}
 use Rattle.lattice.specs.Shape.{nodeCount, rowStart}
 use Rattle.lattice.specs.RateTree.{rateTree}
@@ -108,7 +108,7 @@ greatest-part memory start count h =
 -- the bound of a tree of at most 121 nodes a row and discounts of at most 1,100,000,000
 unfoldable pub ceiling : ℕ → ℕ
 ceiling zero = 0
-ceiling (suc i) = roundUp (1100000000 * ceiling i) one + 121 + 121
+ceiling (suc i) = roundUp (mostDiscount * ceiling i) one + mostNodes + mostNodes
 
 ceiling-step : (i : ℕ) → ceiling i ≤ ceiling (suc i)
 unfolding ceiling roundUp
@@ -126,8 +126,8 @@ ceiling-most i h =
     let most : ceiling i ≤ ceiling 60 = rw e at (ceiling-more i (60 - i)) in
     omega arith
 
-pub bound-below : (t : Tree) (v : ℕ → ℕ → ℕ) (i : ℕ) → ((j : ℕ) → j ≤ i → t .nodes j ≤ 121) →
-    ((j : ℕ) → j < i → greatest (t .nodes j) (v j) ≤ 1100000000) → statePriceErrorBound t v i ≤ ceiling i
+pub bound-below : (t : Tree) (v : ℕ → ℕ → ℕ) (i : ℕ) → ((j : ℕ) → j ≤ i → t .nodes j ≤ mostNodes) →
+    ((j : ℕ) → j < i → greatest (t .nodes j) (v j) ≤ mostDiscount) → statePriceErrorBound t v i ≤ ceiling i
 unfolding statePriceErrorBound ceiling
 bound-below t v zero wide high = omega arith
 bound-below t v (suc i) wide high =
@@ -159,10 +159,10 @@ before-last b discounts row i h l =
 
 -- sizes that the loops meet
 module _ (b : ℕ) (discounts : List ℕ) (row : ℕ) (h : Bounded b discounts row) where
-  greatest-within : (i : ℕ) → i < row → greatest (nodeCount b i) (stored b discounts i) ≤ 1100000000
+  greatest-within : (i : ℕ) → i < row → greatest (nodeCount b i) (stored b discounts i) ≤ mostDiscount
   unfolding stored
   greatest-within i l =
-      greatest-le (nodeCount b i) (λ k. values discounts (rowStart b i + k)) 1100000000
+      greatest-le (nodeCount b i) (λ k. values discounts (rowStart b i + k)) mostDiscount
       (λ k below. h .discounted (rowStart b i + k) (omega (arith, row-ends b i row l)))
 
   bound-within : (i : ℕ) → i ≤ row → statePriceErrorBound (rateTree b) (stored b discounts) i ≤ 1000000
@@ -181,7 +181,7 @@ module _ {b : ℕ} {discounts : List ℕ} {i start nodes bound : ℕ} (r : Reach
 
   module _ (h : Bounded b discounts (i + 1)) where
     -- the row lies within the discounts, which are at most as many as the widest tree has
-    pub reached-room : (start + nodes ≤ length discounts) × (start + nodes ≤ 3721)
+    pub reached-room : (start + nodes ≤ length discounts) × (start + nodes ≤ mostStatePrices)
     reached-room =
         let ends = row-ends b i (i + 1) (omega arith) in (
           omega (arith, r .starts, r .counts, h .room),
@@ -197,7 +197,7 @@ module _ {b : ℕ} {discounts : List ℕ} {i start nodes bound : ℕ} (r : Reach
           ∙ ap (λ (n : ℕ). greatest n (λ k. values discounts (rowStart b i + k))) (r .counts)
 
       -- nothing wraps on the way to the next row
-      pub reached-sizes : (g ≤ 1100000000) × (bound ≤ 1000000) × (nodes ≤ 121) × (next ≤ 121)
+      pub reached-sizes : (g ≤ mostDiscount) × (bound ≤ 1000000) × (nodes ≤ mostNodes) × (next ≤ mostNodes)
       reached-sizes = (
         omega (arith, reached-greatest, greatest-within b discounts (i + 1) h i (omega arith)),
         omega (arith, r .bounds, bound-within b discounts (i + 1) h i (omega arith)),

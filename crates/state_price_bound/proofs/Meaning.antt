@@ -1,7 +1,7 @@
 -- What an answer of the state-price error bound tells: the tree is accepted, and the rounded state prices of the row are at most the exact ones
 -- node by node and fall short of them, in sum, by at most the bound.
 -- Assumes nothing.
-use mathlib.Core.Path.{_≡_, refl, sym, ap, _∙_}
+use mathlib.Core.Path.{_≡_, refl, sym, _∙_}
 use mathlib.Core.Bool.{Bool, true, false, cond}
 use mathlib.Core.List.{List}
 use Prim.Native.Nat.{ℕ, _+_, _-_, _*_, _^_, _≤_, _<_}

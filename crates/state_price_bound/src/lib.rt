@@ -1,6 +1,7 @@
 // How far, in sum, the rounded state prices of a row may fall short of the exact ones, from the tree's discounts.
 use arithmetic::Answer;
 use arithmetic::ONE;
+use limits::MOST_ROWS;
 ghost use mathlib.Core.Path.{_≡_};
 ghost use Prim.Native.Nat.{_+_, _*_, _≤_};
 ghost use lib.ListN.{replicate};
@@ -20,7 +21,7 @@ ghost use Rattle.state_price_bound.specs.inside.Reached.{Bounded, Reache
 // The bounds of rows 0 to n, 0 for rows that the tree has not; a refusal's number with zeros.
 pub struct RowBounds {
     pub number: u64,
-    pub bounds: [u64; 61],
+    pub bounds: [u64; MOST_ROWS],
 }
 
 // Where a row starts in the discounts, how many nodes it has, and its bound.
@@ -82,13 +83,13 @@ fn bound_of_row(reversion: u64, discounts: &[u64], row: usize) -> u64
 }
 
 // Zeros, made apart so that no proof above sees them one by one.
-fn no_bounds() -> [u64; 61]
+fn no_bounds() -> [u64; MOST_ROWS]
     ensures { λ r. ⌜ r ≡ replicate (mostSteps + 1) 0 ⌝ }
 {
-    [0u64; 61]
+    [0u64; MOST_ROWS]
 }
 
-fn bounds_of_rows(steps: usize, reversion: u64, discounts: &[u64]) -> [u64; 61]
+fn bounds_of_rows(steps: usize, reversion: u64, discounts: &[u64]) -> [u64; MOST_ROWS]
     requires { ⌜ Bounded reversion (now discounts) steps ⌝ }
     ensures { λ r. ⌜ r ≡ statePriceErrorBounds steps reversion (now (discounts .entry)) ⌝ }
 {

@@ -16,14 +16,14 @@ use Rattle.step_rate.specs.StepRate.{rateAnswer}
 use Rattle.step_rate.proofs.RateLaws.{answer-known, value-bound}
 use Rattle.text_laws.specs.declared.Placed.{Placed}
 use Rattle.text_laws.specs.inside.Put.{Put}
-use Rattle.text_laws.specs.Lines.{space, newline, wholeNumber, amount, nodeLine, rowLine, priceLine, lineNumber, nodeNumber, lineOfNode}
+use Rattle.text_laws.specs.Lines.{space, newline, wholeNumber, amount, nodeLine, rowLine, priceLine, lineNumber, nodeNumber, lineOfNode, longestLine}
 use Rattle.text_laws.proofs.DecimalLaws.{decimal-room, field-room, signed-room}
 use Rattle.text_laws.proofs.PutLaws.{put-before, Answered, put-refused, put-answered, answered-put}
 
 -- ---- no line is longer than 128 bytes
 
 pub node-room : (row discount : ℕ) (node rate : ℤ) → row < 2 ^ 64 → discount < 2 ^ 64 → natAbs node < 2 ^ 64 → natAbs rate < 2 ^ 64
-    → length (nodeLine row node discount rate) ≤ 128
+    → length (nodeLine row node discount rate) ≤ longestLine
 unfolding nodeLine
 node-room row discount node rate a b c d =
     let w = field-room 0 row 32 a in
@@ -32,32 +32,33 @@ node-room row discount node rate a b c d =
     let z = signed-room 7 10 rate d in
     simp length-append (omega (arith, simp length-append at w, simp length-append at x, simp length-append at y, simp length-append at z))
 
-pub row-room : (row quote total bound : ℕ) → row < 2 ^ 64 → quote < 2 ^ 64 → total < 2 ^ 64 → bound < 2 ^ 64 → length (rowLine row quote total bound) ≤ 128
+pub row-room : (row quote total bound : ℕ) → row < 2 ^ 64 → quote < 2 ^ 64 → total < 2 ^ 64 → bound < 2 ^ 64
+    → length (rowLine row quote total bound) ≤ longestLine
 unfolding rowLine
 row-room row quote total bound a b c d =
     simp length-append (omega (arith, decimal-room 0 row a, decimal-room 9 quote b, decimal-room 9 total c, decimal-room 0 bound d))
 
-pub price-room : (word : List ℕ) (price bound : ℕ) → length word ≤ 8 → price < 2 ^ 64 → bound < 2 ^ 64 → length (priceLine word price bound) ≤ 128
+pub price-room : (word : List ℕ) (price bound : ℕ) → length word ≤ 8 → price < 2 ^ 64 → bound < 2 ^ 64 → length (priceLine word price bound) ≤ longestLine
 unfolding priceLine
 price-room word price bound w a b = simp length-append (omega (arith, decimal-room 9 price a, decimal-room 0 bound b))
 
 -- ---- room for a line
 
-pub number-near : (size end : ℕ) → end < 128 → 6 ≡ lineNumber size end
+pub number-near : (size end : ℕ) → end < longestLine → 6 ≡ lineNumber size end
 unfolding lineNumber
-number-near size end h = rw (lt-leb 128 end h)
+number-near size end h = rw (lt-leb longestLine end h)
 
-pub number-outside : (size end : ℕ) → 128 ≤ end → size < end → 6 ≡ lineNumber size end
+pub number-outside : (size end : ℕ) → longestLine ≤ end → size < end → 6 ≡ lineNumber size end
 unfolding lineNumber
-number-outside size end h l = rw (le-leb 128 end h, lt-leb end size l)
+number-outside size end h l = rw (le-leb longestLine end h, lt-leb end size l)
 
-pub number-none : (size end : ℕ) → 128 ≤ end → end ≤ size → 0 ≡ lineNumber size end
+pub number-none : (size end : ℕ) → longestLine ≤ end → end ≤ size → 0 ≡ lineNumber size end
 unfolding lineNumber
-number-none size end h l = rw (le-leb 128 end h, le-leb end size l)
+number-none size end h l = rw (le-leb longestLine end h, le-leb end size l)
 
-pub room-known : (size end : ℕ) → lineNumber size end ≡ 0 → (128 ≤ end) × (end ≤ size)
+pub room-known : (size end : ℕ) → lineNumber size end ≡ 0 → (longestLine ≤ end) × (end ≤ size)
 room-known size end z =
-    by-order 128 end
+    by-order longestLine end
     (λ h. by-order end size (λ l. (h, l)) (λ l. absurd (none (number-outside size end h l ∙ z))))
     (λ h. absurd (none (number-near size end h ∙ z)))
   where
@@ -70,12 +71,12 @@ module _ (out : List ℕ) (end : ℕ) (line : List ℕ) where
       (record { number = found; start = 0 }) out
   line-refused found e nz = put-refused _ out end line found e nz
 
-  pub line-put : {start : ℕ} {after : List ℕ} → 128 ≤ end → Put out end line start after → Answered (lineNumber (length out) end) out end line
+  pub line-put : {start : ℕ} {after : List ℕ} → longestLine ≤ end → Put out end line start after → Answered (lineNumber (length out) end) out end line
       (record { number = 0; start = start }) after
   line-put h p = put-answered _ out end line (sym (number-none (length out) end h (p .within))) p
 
   -- the same for a caller: the line was put where it had room
-  pub line-stands : {answer : Placed} {after : List ℕ} → 128 ≤ end → end ≤ length out → length line ≤ 128
+  pub line-stands : {answer : Placed} {after : List ℕ} → longestLine ≤ end → end ≤ length out → length line ≤ longestLine
       → Answered (lineNumber (length out) end) out end line answer after → Put out end line (answer .start) after
   line-stands h p l a = answered-put _ out end line a (sym (number-none (length out) end h p)) (omega arith) p
 
@@ -98,8 +99,8 @@ pub room-left : {out text after : List ℕ} {end mid : ℕ} (most left : ℕ) �
 room-left most left p h l = (omega (arith, p .place), omega (arith, p .place, p .within, p .same))
 
 -- LINES ONE AFTER THE OTHER: after a line that has room, the buffer holds the line and the text that was put before, as put at once
-pub line-before : {out₀ out text after : List ℕ} {end mid : ℕ} {answer : Placed} (line : List ℕ) → Put out₀ end text mid out → 128 ≤ mid → length line ≤ 128
-    → Answered (lineNumber (length out) mid) out mid line answer after → Put out₀ end (line ++ text) (answer .start) after
+pub line-before : {out₀ out text after : List ℕ} {end mid : ℕ} {answer : Placed} (line : List ℕ) → Put out₀ end text mid out → longestLine ≤ mid
+    → length line ≤ longestLine → Answered (lineNumber (length out) mid) out mid line answer after → Put out₀ end (line ++ text) (answer .start) after
 line-before {out₀} {out} {text} {after} {end} {mid} line p h l a =
     put-before p (line-stands out mid line h (omega (arith, p .place, p .within, p .same)) l a)
 
@@ -112,7 +113,7 @@ module _ (size end discount : ℕ) where
   unfolding nodeNumber
   node-cause rate room found er em ef = ef ∙ rw (er, em)
 
-  pub node-room-known : (found : ℕ) → found ≡ nodeNumber size end discount → found ≡ 0 → (128 ≤ end) × (end ≤ size)
+  pub node-room-known : (found : ℕ) → found ≡ nodeNumber size end discount → found ≡ 0 → (longestLine ≤ end) × (end ≤ size)
   unfolding nodeNumber
   node-room-known found e z = room-known size end (lowest-none (lineNumber size end) (rateAnswer discount .number) (sym e ∙ z) .0)
 
@@ -128,19 +129,20 @@ module _ (out : List ℕ) (end row discount : ℕ) (node : ℤ) (found : ℕ) (e
   node-put {start} {after} z rate r p =
       put-answered _ out end _ (sym e ∙ z) (subst (λ (v : ℤ). Put out end (nodeLine row node discount v) start after) r p)
 
-pub node-number-none : (size end discount : ℕ) → 128 ≤ end → end ≤ size → 0 < discount → discount ≤ mostDiscount → nodeNumber size end discount ≡ 0
+pub node-number-none : (size end discount : ℕ) → longestLine ≤ end → end ≤ size → 0 < discount → discount ≤ mostDiscount → nodeNumber size end discount ≡ 0
 unfolding nodeNumber
 node-number-none size end discount h p l m =
     let r : 0 ≡ rateAnswer discount .number = rw (answer-known discount l m) in
     sym (r ∙ lowest-first (lineNumber size end) (rateAnswer discount .number) (sym (number-none size end h p)))
 
-pub node-line-room : (row discount : ℕ) (node : ℤ) → row < 2 ^ 64 → discount < 2 ^ 64 → natAbs node < 2 ^ 64 → length (lineOfNode row node discount) ≤ 128
+pub node-line-room : (row discount : ℕ) (node : ℤ) → row < 2 ^ 64 → discount < 2 ^ 64 → natAbs node < 2 ^ 64
+    → length (lineOfNode row node discount) ≤ longestLine
 unfolding lineOfNode
 node-line-room row discount node a b c = node-room row discount node _ a b c (omega (arith, value-bound discount (rateAnswer discount) refl))
 
 -- the line was put where it had room and its discount a step rate
-pub node-stands : (out : List ℕ) (end row discount : ℕ) (node : ℤ) {answer : Placed} {after : List ℕ} → 128 ≤ end → end ≤ length out → 0 < discount
-    → discount ≤ mostDiscount → length (lineOfNode row node discount) ≤ 128
+pub node-stands : (out : List ℕ) (end row discount : ℕ) (node : ℤ) {answer : Placed} {after : List ℕ} → longestLine ≤ end → end ≤ length out → 0 < discount
+    → discount ≤ mostDiscount → length (lineOfNode row node discount) ≤ longestLine
     → Answered (nodeNumber (length out) end discount) out end (lineOfNode row node discount) answer after
     → Put out end (lineOfNode row node discount) (answer .start) after
 node-stands out end row discount node h p l m r a = answered-put _ out end _ a (node-number-none (length out) end discount h p l m) (omega arith) p

@@ -10,7 +10,7 @@ use Rattle.arithmetic.proofs.Numbers.{by-order}
 use Rattle.text_laws.specs.declared.Placed.{Placed}
 use Rattle.text_laws.specs.inside.Put.{Put}
 use Rattle.text_laws.specs.Decimal.{natural, naturalWithin, lastDigits, decimal}
-use Rattle.text_laws.specs.Lines.{lineNumber}
+use Rattle.text_laws.specs.Lines.{lineNumber, longestLine}
 use Rattle.text_laws.specs.WordLines.{wholeLine, pairLine, amountLine, longestWord, wordNumber}
 use Rattle.text_laws.proofs.DecimalLaws.{decimal-room}
 use Rattle.text_laws.proofs.LineLaws.{number-none, room-known}
@@ -19,15 +19,15 @@ use Rattle.text_laws.proofs.PutLaws.{put-before, Answered, put-refused,
 -- ---- no line is longer than 128 bytes
 
 module _ (word : List ℕ) (short : length word ≤ longestWord) where
-  pub whole-room : (number : ℕ) → number < 2 ^ 64 → length (wholeLine word number) ≤ 128
+  pub whole-room : (number : ℕ) → number < 2 ^ 64 → length (wholeLine word number) ≤ longestLine
   unfolding wholeLine
   whole-room number h = simp length-append (omega (arith, decimal-room 0 number h))
 
-  pub pair-room : (first second : ℕ) → first < 2 ^ 64 → second < 2 ^ 64 → length (pairLine word first second) ≤ 128
+  pub pair-room : (first second : ℕ) → first < 2 ^ 64 → second < 2 ^ 64 → length (pairLine word first second) ≤ longestLine
   unfolding pairLine
   pair-room first second h l = simp length-append (omega (arith, decimal-room 0 first h, decimal-room 0 second l))
 
-  pub amount-room : (value : ℕ) → value < 2 ^ 64 → length (amountLine word value) ≤ 128
+  pub amount-room : (value : ℕ) → value < 2 ^ 64 → length (amountLine word value) ≤ longestLine
   unfolding amountLine
   amount-room value h = simp length-append (omega (arith, decimal-room 9 value h))
 
@@ -42,7 +42,7 @@ module _ (word size end : ℕ) where
   unfolding wordNumber
   word-short h = rw (le-leb word longestWord h)
 
-  pub word-known : (found : ℕ) → found ≡ wordNumber word size end → found ≡ 0 → (word ≤ longestWord) × (128 ≤ end) × (end ≤ size)
+  pub word-known : (found : ℕ) → found ≡ wordNumber word size end → found ≡ 0 → (word ≤ longestWord) × (longestLine ≤ end) × (end ≤ size)
   word-known found e z =
       by-order word longestWord
       (λ h. let r = room-known size end (word-short h ∙ sym e ∙ z) in (h, r .0, r .1))
@@ -64,14 +64,14 @@ module _ (word out : List ℕ) (end : ℕ) (line : List ℕ) where
   word-put found e z p = put-answered number out end line (sym e ∙ z) p
 
   -- the same for a caller: the line was put where it had room
-  pub word-stands : {answer : Placed} {after : List ℕ} → length word ≤ longestWord → 128 ≤ end → end ≤ length out → length line ≤ 128 →
+  pub word-stands : {answer : Placed} {after : List ℕ} → length word ≤ longestWord → longestLine ≤ end → end ≤ length out → length line ≤ longestLine →
       Answered number out end line answer after → Put out end line (answer .start) after
   word-stands w h p l a =
       answered-put number out end line a (sym (word-short _ _ _ w) ∙ sym (number-none (length out) end h p)) (omega arith) p
 
 -- LINES ONE AFTER THE OTHER: after a line that has room, the buffer holds the line and the text that was put before, as put at once
 pub word-before : {out₀ out text after : List ℕ} {end mid : ℕ} {answer : Placed} (word line : List ℕ) → Put out₀ end text mid out →
-    length word ≤ longestWord → 128 ≤ mid → length line ≤ 128 →
+    length word ≤ longestWord → longestLine ≤ mid → length line ≤ longestLine →
     Answered (wordNumber (length word) (length out) mid) out mid line answer after → Put out₀ end (line ++ text) (answer .start) after
 word-before {out₀} {out} {text} {after} {end} {mid} word line p w h l a =
     put-before p (word-stands word out mid line w h (omega (arith, p .place, p .within, p .same)) l a)

@@ -1,6 +1,6 @@
 -- The figures that document 02 prints hold: each part of document 01's job is worked out once.
 -- Assumes nothing.
-use mathlib.Core.Path.{_≡_, refl, ap, _∙_}
+use mathlib.Core.Path.{_≡_, refl, ap}
 use mathlib.Core.Bool.{false}
 use mathlib.Core.List.{List, [], _∷_, _++_}
 use Prim.Native.Nat.{ℕ, _≤_}
@@ -14,7 +14,7 @@ use Rattle.arithmetic.specs.Sum.{sum, only, greatest}
 use Rattle.limits.specs.Limits.{shapeCause, limitCause}
 use Rattle.tree.specs.Tree.{chance, incoming, outgoing}
 use Rattle.tree.specs.Layout.{laid}
-use Rattle.lattice.specs.Shape.{highestNode, halfWidth, nodeCount, rowStart, discountsNeeded, statePricesNeeded}
+use Rattle.lattice.specs.Shape.{halfWidth, nodeCount, rowStart, discountsNeeded, statePricesNeeded}
 use Rattle.lattice.specs.Branching.{branching, lowestOf, zOf, upFormula, middleFormula, downFormula, upProbability, middleProbability, downProbability}
 use Rattle.lattice.specs.RateTree.{nodeOfIndex, low, rateTree}
 use Rattle.lattice.specs.Entries.{aboutTree, memoryCause}
@@ -29,8 +29,8 @@ use Rattle.factor.specs.Factor.{factor}
 use Rattle.step_rate.specs.StepRate.{rateAnswer}
 use Rattle.fit_laws.specs.Step.{normaliser, discount, carried, nextStatePrice}
 use Rattle.fit_laws.specs.StatePrices.{fittedStatePrice, fittedDiscount, acceptedRow, statePriceErrorBound}
-use Rattle.fitting.specs.Fit.{quoted, curveAccepted}
-use Rattle.fitting.specs.Entry.{earlyCause, lateCause, fittedNumber}
+use Rattle.fitted_laws.specs.Fit.{quoted, curveAccepted}
+use Rattle.fitted_laws.specs.Entry.{earlyCause, lateCause, fittedNumber}
 use Rattle.state_price_bound.specs.ErrorBound.{rowCause, boundCause, statePriceErrorBoundAnswer}
 use Rattle.pricing_laws.specs.Pricer.{bondFrom, bond, errorBoundFrom, errorBound}
 use Rattle.pricing_laws.specs.TreePricer.{nodeRoll, roll, greatestDiscount}
@@ -40,21 +40,19 @@ use Rattle.price_causes.specs.Causes.{flowsCause, optionCause}
 use Rattle.price_laws.specs.declared.Price.{Price}
 use Rattle.price_laws.specs.Prices.{flowAt, treeCause, priced, bondValue, bondPeak, bondPrice, optionPrice}
 use Rattle.job_record.specs.declared.OptionRecord.{OptionRecord}
-use Rattle.job_record.specs.declared.Job.{Job}
-use Rattle.job_record.specs.declared.Reading.{Reading}
 use Rattle.job_record.specs.Bytes.{numberAt}
 use Rattle.job_record.specs.Form.{isKind, fieldAt, fieldsFrom, headFormed, hasVersion, quotesAt, kindFormed, listFormed, restFormed, bodyFormed, wellFormed}
 use Rattle.job_record.specs.Reader.{noOption, optionAt, versionOf, jobOf, acceptedReading, readingOf}
-use Rattle.job_record.specs.Example.{exampleQuote, jobWith, example, examplePut, exampleJob, recordWith}
+use Rattle.job_record.specs.Example.{exampleQuote, jobWith, example, examplePut, recordWith}
 use Rattle.job_record.proofs.Examples.{example-read}
-use Rattle.job_fit.specs.RecordFit.{meantVersion, meantReversion, jobFlows, jobQuotes, jobDiscounts, jobStatePrices, recordFit}
-use Rattle.job_prices.specs.JobPrices.{optionForm, taggedOption, treeNumber, jobBond, recordNumber}
+use Rattle.job_laws.specs.RecordFit.{meantVersion, meantReversion, jobQuotes, jobDiscounts, jobStatePrices, recordFit}
+use Rattle.job_laws.specs.JobPrices.{optionForm, taggedOption, treeNumber, recordNumber}
 use Rattle.text_laws.specs.Decimal.{natural, naturalWithin, lastDigits, decimal, signedDecimal}
 use Rattle.text_laws.specs.Lines.{lineOfNode, nodeLine, rowLine, priceLine, refusedLine}
 use Rattle.node_lines.specs.Rows.{nodeText, lines}
 use Rattle.sheet_room.specs.Room.{sheetRoom}
 use Rattle.sheet_laws.specs.TreeSheet.{lineOfRow, priceLines, treeSheet}
-use Rattle.sheet_laws.specs.WholeJob.{roomCause, jobNumber, jobText, sheetNumber, sheetText, printedText}
+use Rattle.sheet_laws.specs.WholeJob.{roomCause, jobNumber, jobText, sheetNumber, printedText}
 use Rattle.worked_examples.specs.Sheets.{Sheets}
 
 -- ---- the tree of the job, whatever its option

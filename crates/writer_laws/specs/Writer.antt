@@ -4,7 +4,7 @@ use Prim.Native.Nat.{ℕ}
 use mathlib.Core.List.{List}
 use mathlib.Core.Bool.{Bool, cond, _&&_}
 use lib.ListN.{length}
-use lib.Dec.{leb, eqb}
+use lib.Dec.{leb}
 use Rattle.arithmetic.specs.Answers.{unlessRefused, refused, answered}
 use Rattle.arithmetic.specs.Row.{place}
 use Rattle.arithmetic.specs.declared.Answer.{Answer}

@@ -3,15 +3,13 @@
 use Prim.Native.Nat.{ℕ, zero, suc, _+_, _≤_, _<_}
 use native.Mathlib.Omega.{arith}
 use mathlib.Core.Logic.{_⊎_, inl, inr}
-use mathlib.Core.List.{List, [], _∷_, _++_}
-use mathlib.Core.Path.{_≡_, refl, sym, ap, subst, _∙_}
+use mathlib.Core.List.{List, _∷_, _++_}
+use mathlib.Core.Path.{_≡_, refl, sym, ap, _∙_}
 use lib.ListN.{length, take, drop}
 use Rattle.arithmetic.specs.Row.{values, place}
-use Rattle.arithmetic.specs.Answers.{refused, answered}
+use Rattle.arithmetic.specs.Answers.{refused}
 use Rattle.arithmetic.specs.declared.Answer.{Answer}
-use Rattle.arithmetic.proofs.Numbers.{by-equal, by-order}
 use Rattle.job_record.specs.Bytes.{Bytes, numberBytes}
-use Rattle.job_record.specs.Form.{mostBytes}
 use Rattle.job_record.specs.Reader.{readingOf, acceptedReading}
 use Rattle.job_record.specs.Grammar.{field, joined, quoteField, flowField, optionField, versionField, kindData, listData, encode, Encodes}
 use Rattle.job_record.specs.declared.OptionRecord.{OptionRecord}

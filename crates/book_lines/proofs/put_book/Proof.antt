@@ -1,15 +1,17 @@
 -- `book_lines::put_book` meets its contract.
 -- Assumes nothing.
 use lib.ListN.{length}
-use Prim.Native.Nat.{_+_, _^_, _≤_, _<_}
+use Prim.Native.Nat.{_+_, _*_, _^_, _≤_, _<_}
 use native.Mathlib.Omega.{arith}
 use borrow.Author.Needs.{needs}
+use Rattle.text_laws.specs.Lines.{longestLine}
+use Rattle.book_laws.specs.Bounds.{mostNumber}
 use Rattle.book_laws.proofs.ReportLaws.{refusals-room-left, book-stands}
 use Rattle.book_lines.proofs.put_book.Statement.{statement}
 use Rattle.book_lines.proofs.put_book.Tie as tie
 
 -- the room that the sums leave
-after-sums : (c : tie.After-put-sums) → (1664 + 128 ≤ c .put-sums .result) × (c .put-sums .result ≤ length (c .put-sums .last .0))
+after-sums : (c : tie.After-put-sums) → (longestLine * mostNumber + longestLine ≤ c .put-sums .result) × (c .put-sums .result ≤ length (c .put-sums .last .0))
 after-sums c =
     let s = c .before .before .before in
     refusals-room-left (s .args .book) (c .put-sums .ensures) (s .pre .0) (search needs) (search needs) (search needs) (search needs)

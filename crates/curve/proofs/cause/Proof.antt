@@ -4,6 +4,7 @@ use mathlib.Core.Path.{_≡_, sym, _∙_}
 use mathlib.Core.Bool.{Bool, true, false}
 use borrow.Author.Tests.{not-true, not-false}
 use Rattle.arithmetic.specs.Frequency.{isFrequency}
+use Rattle.arithmetic.proofs.Implied.{implied}
 use Rattle.limits.specs.Limits.{isSteps}
 use Rattle.curve.specs.Curve.{inPlace}
 use Rattle.curve.proofs.CurveLaws.{placed-kinds, placed-figures, number-frequency, number-steps, number-place, number-quotes, number-accepted}
@@ -13,7 +14,7 @@ use Rattle.curve.proofs.cause.Tie as tie
 
 returns : tie.Need-returns
 returns c =
-    sym (number-frequency _ _ _ _ _ _ (sym (c .before .is-frequency .ensures) ∙ not-true (c .before .is-frequency .result) (c .if1 .taken)))
+    sym (number-frequency implied (sym (c .before .is-frequency .ensures) ∙ not-true (c .before .is-frequency .result) (c .if1 .taken)))
 
 -- what a test that has passed says, by the place behind it
 abbrev start : tie.Else1 → tie.Start
@@ -23,7 +24,7 @@ known : (c : tie.Else1) → isFrequency (start c .args .frequency) ≡ true
 known c = sym (c .before .is-frequency .ensures) ∙ not-false (c .before .is-frequency .result) (c .if1 .left)
 
 returns-2 : tie.Need-returns-2
-returns-2 c = sym (number-steps _ _ _ _ _ _ (known (c .before .before)) (sym (c .before .is-steps .ensures) ∙ not-true _ (c .if2 .taken)))
+returns-2 c = sym (number-steps implied (known (c .before .before)) (sym (c .before .is-steps .ensures) ∙ not-true _ (c .if2 .taken)))
 
 abbrev listed-at : tie.Else2 → tie.Else1
 listed-at c = c .before .before
@@ -40,7 +41,7 @@ misplaced c = sym (c .before .is-in-place .ensures) ∙ not-true (c .before .is-
 returns-3 : tie.Need-returns-3
 returns-3 c =
     let e = c .before .before in
-    sym (number-place _ _ _ _ _ _ (known (listed-at e)) (few e) (misplaced c))
+    sym (number-place implied (known (listed-at e)) (few e) (misplaced c))
 
 placed : (c : tie.Else3) → test (c .before) ≡ true
 placed c = sym (c .before .is-in-place .ensures) ∙ not-false (c .before .is-in-place .result) (c .if3 .left)
@@ -58,14 +59,14 @@ returns-4 : tie.Need-returns-4
 returns-4 c =
     let q = c .before in
     let e = counted (q .before) in
-    sym (number-quotes _ _ _ _ _ _ (known (listed-at e)) (few e) (placed (q .before))
+    sym (number-quotes implied (known (listed-at e)) (few e) (placed (q .before))
     (sym (q .all-convert .ensures) ∙ not-true (q .all-convert .result) (c .if4 .taken)))
 
 returns-5 : tie.Need-returns-5
 returns-5 c =
     let q = c .before in
     let e = counted (q .before) in
-    sym (number-accepted _ _ _ _ _ _ (known (listed-at e)) (few e) (placed (q .before))
+    sym (number-accepted implied (known (listed-at e)) (few e) (placed (q .before))
     (sym (q .all-convert .ensures) ∙ not-false (q .all-convert .result) (c .if4 .left)))
 
 pub cause-spec : {M : Type 1} → statement M

@@ -1,6 +1,6 @@
 -- `exercise_dates::dates_cause` meets its contract.
 -- Assumes nothing.
-use mathlib.Core.Path.{_≡_, sym, _∙_}
+use mathlib.Core.Path.{sym, _∙_}
 use native.Mathlib.Omega.{arith}
 use borrow.Author.Tests.{not-true, not-false}
 use Rattle.pricing_laws.proofs.Dates.{cause-empty, cause-order, cause-end, cause-none}

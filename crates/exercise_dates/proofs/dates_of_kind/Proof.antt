@@ -1,6 +1,5 @@
 -- `exercise_dates::dates_of_kind` meets its contract.
 -- Assumes nothing.
-use native.Mathlib.Omega.{arith}
 use Rattle.exercise_dates.proofs.DateLaws.{no-list, alone-list, every-list}
 use borrow.Author.Needs.{needs}
 use Rattle.exercise_dates.proofs.dates_of_kind.Statement.{statement}

@@ -2,14 +2,14 @@
 -- Assumes nothing.
 use mathlib.Core.Path.{_≡_}
 use mathlib.Core.Bool.{cond}
-use Prim.Native.Nat.{ℕ, suc, _-_, _*_, _≤_}
+use Prim.Native.Nat.{ℕ, _-_, _*_, _≤_}
 use lib.Dec.{eqb, ltb}
-use Rattle.limits.specs.WithinLimits.{WithinLimits}
 use Rattle.arithmetic.specs.Rounding.{one}
 use Rattle.arithmetic.specs.declared.Answer.{Answer}
-use Rattle.lattice.specs.Shape.{halfWidth, rowStart}
+use Rattle.lattice.specs.Shape.{halfWidth}
+use Rattle.fitted_laws.specs.inside.Numbers.{Numbers}
 use Rattle.fitting.specs.declared.causes.Plan.{Plan}
-use Rattle.fitting.specs.Entry.{earlyCause}
+use Rattle.fitted_laws.specs.Entry.{earlyCause}
 
 -- the greatest spacing, that of one step a year and the greatest volatility
 abbrev pub mostSpacing : ℕ
@@ -19,14 +19,6 @@ mostSpacing = 86602540
 pub record SpacingKnown (spaced : Answer) : Type 0 where
   pub cause-most : spaced .number ≤ 7
   pub within-limit : spaced .value ≤ mostSpacing
-
--- the numbers of an accepted tree of n steps and working reversion w, the numbers of its quotes' conversion and of its spacing, and of its memories
-pub record Numbers (n w converted spaced discounts state-prices : ℕ) : Type 0 where
-  pub quotes-converted : converted ≡ 0
-  pub spacing-found : spaced ≡ 0
-  pub limits : WithinLimits n w
-  pub room-discounts : rowStart w n ≤ discounts
-  pub room-state-prices : rowStart w (suc n) ≤ state-prices
 
 -- the plan's number is that of the lowest cause, 8 after the others; without one, it holds h and the half width of row n − 1
 pub record Planned (n w converted spaced h discounts state-prices : ℕ) (p : Plan) : Type 0 where

@@ -11,7 +11,7 @@ use Rattle.lattice.specs.Shape.{rowStart}
 use Rattle.lattice.specs.RateTree.{rateTree}
 use Rattle.fit_laws.specs.StatePrices.{fittedStatePrice, fittedDiscount, acceptedRow}
 use Rattle.fitting.specs.inside.Rows.{tableFactor}
-use Rattle.fitting.specs.Fit.{quoted}
+use Rattle.fitted_laws.specs.Fit.{quoted}
 
 -- discounts and state prices by row and node
 abbrev pub tableDiscount : ℕ → List ℕ → List ℕ → ℕ → ℕ → ℕ

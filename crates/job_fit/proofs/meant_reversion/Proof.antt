@@ -4,7 +4,7 @@ use mathlib.Core.Path.{ap, _∙_}
 use Prim.Native.Nat.{ℕ}
 use borrow.Author.Needs.{needs}
 use Rattle.reversion.specs.Reversion.{workingReversion}
-use Rattle.job_fit.specs.RecordFit.{meantReversion}
+use Rattle.job_laws.specs.RecordFit.{meantReversion}
 use Rattle.job_fit.proofs.meant_reversion.Statement.{statement}
 use Rattle.job_fit.proofs.meant_reversion.Tie as tie
 

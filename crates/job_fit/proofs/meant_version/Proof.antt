@@ -1,6 +1,6 @@
 -- `job_fit::meant_version` meets its contract.
 -- Assumes nothing.
-use Rattle.job_fit.proofs.FitLaws.{meant-none, meant-some}
+use Rattle.job_laws.proofs.FitLaws.{meant-none, meant-some}
 use Rattle.job_fit.proofs.meant_version.Statement.{statement}
 use Rattle.job_fit.proofs.meant_version.Tie as tie
 

@@ -5,7 +5,7 @@ use native.Mathlib.Omega.{arith}
 use lib.ListN.{length}
 use borrow.Author.Needs.{needs}
 use Rattle.job_record.specs.Form.{mostJobSteps}
-use Rattle.job_fit.proofs.FitLaws as laws
+use Rattle.job_laws.proofs.FitLaws as laws
 use Rattle.job_fit.proofs.quotes_of_record.Statement.{statement}
 use Rattle.job_fit.proofs.quotes_of_record.Tie as tie
 

@@ -1,7 +1,7 @@
 -- `job_prices::job_in_place` meets its contract.
 -- Assumes nothing.
 use borrow.Author.Needs.{needs}
-use Rattle.job_prices.proofs.PriceLaws as laws
+use Rattle.job_laws.proofs.PriceLaws as laws
 use Rattle.job_prices.proofs.job_in_place.Statement.{statement}
 use Rattle.job_prices.proofs.job_in_place.Tie as tie
 

@@ -6,9 +6,9 @@ use native.Mathlib.Omega.{arith}
 use lib.ListN.{length}
 use borrow.Author.Needs.{needs}
 use Rattle.job_record.specs.Form.{mostJobSteps}
-use Rattle.job_fit.proofs.FitLaws.{lent-column}
-use Rattle.job_prices.specs.JobPrices.{optionForm}
-use Rattle.job_prices.proofs.PriceLaws as laws
+use Rattle.job_laws.proofs.FitLaws.{lent-column}
+use Rattle.job_laws.specs.JobPrices.{optionForm}
+use Rattle.job_laws.proofs.PriceLaws as laws
 use Rattle.job_prices.proofs.prices_in_place.Statement.{statement}
 use Rattle.job_prices.proofs.prices_in_place.Tie as tie
 

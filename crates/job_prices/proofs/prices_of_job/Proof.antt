@@ -1,7 +1,7 @@
 -- `job_prices::prices_of_job` meets its contract.
 -- Assumes nothing.
 use borrow.Author.Needs.{needs}
-use Rattle.job_prices.proofs.PriceLaws as laws
+use Rattle.job_laws.proofs.PriceLaws as laws
 use Rattle.job_prices.proofs.prices_of_job.Statement.{statement}
 use Rattle.job_prices.proofs.prices_of_job.Tie as tie
 

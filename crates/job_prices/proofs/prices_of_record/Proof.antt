@@ -5,8 +5,8 @@ use Prim.Native.Nat.{ℕ}
 use lib.ListN.{length}
 use borrow.Author.Needs.{needs}
 use Rattle.lattice.specs.Entries.{memoryCause}
-use Rattle.job_fit.specs.RecordFit.{jobReversion}
-use Rattle.job_prices.proofs.PriceLaws as laws
+use Rattle.job_laws.specs.RecordFit.{jobReversion}
+use Rattle.job_laws.proofs.PriceLaws as laws
 use Rattle.job_prices.proofs.prices_of_record.Statement.{statement}
 use Rattle.job_prices.proofs.prices_of_record.Tie as tie
 

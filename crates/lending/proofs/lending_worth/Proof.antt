@@ -6,6 +6,7 @@ use Prim.Native.Nat.{_≤_, _<_}
 use native.Mathlib.Omega.{arith}
 use borrow.Author.Tests.{not-true, not-false}
 use lib.ListN.{length, getD}
+use Rattle.arithmetic.proofs.Implied.{implied}
 use Rattle.bands.specs.Bands.{sameLengths}
 use Rattle.bands.proofs.TestLaws.{lengths-agree}
 use Rattle.lending.proofs.LendingLaws.{in-table, haircut-fits, lending-accepted, lending-row-low}
@@ -15,16 +16,16 @@ use Rattle.lending.proofs.lending_worth.Statement.{statement}
 use Rattle.lending.proofs.lending_worth.Tie as tie
 
 returns : tie.Need-returns
-returns c = c .refused .ensures ∙ lending-row-low _ _ _ _ _ _ _ (c .before .if1 .taken)
+returns c = c .refused .ensures ∙ lending-row-low implied (c .before .if1 .taken)
 
 returns-2 : tie.Need-returns-2
-returns-2 c = c .refused2 .ensures ∙ lending-row-high _ _ _ _ _ _ _ (c .before .if2 .taken)
+returns-2 c = c .refused2 .ensures ∙ lending-row-high implied (c .before .if2 .taken)
 
 returns-3 : tie.Need-returns-3
 returns-3 c =
     let have-one-length = c .before .before .have-one-length in
     c .refused3 .ensures
-    ∙ lending-lengths _ _ _ _ _ _ _ (sym (have-one-length .ensures) ∙ not-true (have-one-length .result) (c .before .if3 .taken))
+    ∙ lending-lengths implied (sym (have-one-length .ensures) ∙ not-true (have-one-length .result) (c .before .if3 .taken))
 
 -- the lengths agree past the third test
 agree :
@@ -40,20 +41,20 @@ returns-4 : tie.Need-returns-4
 returns-4 c =
     let if2 = c .before .before .before .before .if2 in
     let if1 = c .before .before .before .before .before .if1 in
-    c .refused4 .ensures ∙ lending-price _ _ _ _ _ _ _ (if1 .left) (if2 .left) (agree (c .before .before)) (c .before .if4 .taken)
+    c .refused4 .ensures ∙ lending-price implied (if1 .left) (if2 .left) (agree (c .before .before)) (c .before .if4 .taken)
 
 returns-5 : tie.Need-returns-5
 returns-5 c =
     let if4 = c .before .before .if4 in
     let if2 = c .before .before .before .before .before .if2 in
     let if1 = c .before .before .before .before .before .before .if1 in
-    lending-refused _ _ _ _ _ _ _ (if1 .left) (if2 .left) (agree (c .before .before .before)) (c .before .check-bands .result)
+    lending-refused implied (if1 .left) (if2 .left) (agree (c .before .before .before))
     (c .before .check-bands .ensures)
     (if4 .left) (c .if5 .taken)
 
 find-band-requires : tie.Need-find-band-requires
 find-band-requires c κs =
-    lengths-agree _ _ _ _ _ (agree (c .before .before .before)) .0
+    lengths-agree implied (agree (c .before .before .before)) .0
 
 -- the band that was found is in the table, and its haircut is in range
 index-fits : (c : tie.After-find-band) → c .find-band .result < length
@@ -63,8 +64,8 @@ index-fits c =
     let if4 = c .before .before .before .if4 in
     let if2 = c .before .before .before .before .before .before .if2 in
     let if1 = c .before .before .before .before .before .before .before .if1 in
-    in-table _ _ _ _ _ _ _ (agree (c .before .before .before .before)) (check-bands .result) (check-bands .ensures) (c .before .if5 .left)
-    (if1 .left) (if2 .left) (if4 .left) (c .find-band .result) (c .find-band .ensures)
+    in-table implied (agree (c .before .before .before .before)) (check-bands .ensures) (c .before .if5 .left)
+    (if1 .left) (if2 .left) (if4 .left) (c .find-band .ensures)
 
 fits : (c : tie.After-find-band) → getD (c .before .before .before .before .before .before .before .before .before .before .before .before .before .args
     .haircuts .now) (c .find-band .result) 0 ≤ 10000
@@ -73,8 +74,8 @@ fits c =
     let if4 = c .before .before .before .if4 in
     let if2 = c .before .before .before .before .before .before .if2 in
     let if1 = c .before .before .before .before .before .before .before .if1 in
-    haircut-fits _ _ _ _ _ _ _ (agree (c .before .before .before .before)) (check-bands .result) (check-bands .ensures) (c .before .if5 .left)
-    (if1 .left) (if2 .left) (if4 .left) (c .find-band .result) (c .find-band .ensures)
+    haircut-fits implied (agree (c .before .before .before .before)) (check-bands .ensures) (c .before .if5 .left)
+    (if1 .left) (if2 .left) (if4 .left) (c .find-band .ensures)
 
 mul-haircut : tie.Need-mul-haircut
 mul-haircut c = let h = index-fits c in search needs
@@ -98,8 +99,8 @@ returns-6 c =
     let if4 = c .before .before .before .before .if4 in
     let if2 = c .before .before .before .before .before .before .before .if2 in
     let if1 = c .before .before .before .before .before .before .before .before .if1 in
-    lending-accepted _ _ _ _ _ _ _ (agree (c .before .before .before .before .before)) (check-bands .result) (check-bands .ensures) (if5 .left)
-    (if1 .left) (if2 .left) (if4 .left) (c .before .find-band .result) (c .before .find-band .ensures)
+    lending-accepted implied (agree (c .before .before .before .before .before)) (check-bands .ensures) (if5 .left)
+    (if1 .left) (if2 .left) (if4 .left) (c .before .find-band .ensures)
 
 pub lending-worth-spec : {M : Type 1} → statement M
 lending-worth-spec =

@@ -31,7 +31,7 @@ fits : (c : tie.After-shared-slice-known Inv-loop μ-loop) (i : ℕ) → i < c .
 fits c i h =
     let s = c .before .before in
     let a = s .args in
-    let text = before-text (a .discounts .now) (a .next) (a .count) (s .pre .standing) (s .pre .held) (a .row) i h in
+    let text = before-text (a .discounts .now) (a .next) (a .count) (s .pre .standing) (s .pre .next-within) (a .row) i h in
     let few = s .pre .within-row in
     let room = line-room (a .row) (a .count / 2) i (getD (a .discounts .now) (a .next - a .count + i) 0) (s .fits .row .fits) (omega arith) (omega arith)
     (c .shared-slice-known .given (a .next - a .count + i) .fits) in
@@ -57,7 +57,7 @@ read c =
     let s = c .before .before .before .before .before in
     let a = s .args in
     let l = c .before .before .loop in
-    let within : l .place - 1 < length (a .discounts .now) = omega (arith, place-is (c .before), l .inv .0 .upto, s .pre .standing, s .pre .held) in
+    let within : l .place - 1 < length (a .discounts .now) = omega (arith, place-is (c .before), l .inv .0 .upto, s .pre .standing, s .pre .next-within) in
     discount-read (a .discounts .now) (l .place - 1) (c .node-at .result) (c .node-at .ensures) within
     ∙ ap (λ (k : ℕ). getD (a .discounts .now) k 0) (place-is (c .before))
 
@@ -68,7 +68,7 @@ put-node-line-requires c κs =
     let a = s .args in
     let l = at-node .before .before .loop in
     let p = l .inv .0 in
-    let discount = before-discount (a .discounts .now) (a .next) (a .count) (s .pre .standing) (s .pre .held) (s .pre .accepted) (l .left - 1)
+    let discount = before-discount (a .discounts .now) (a .next) (a .count) (s .pre .standing) (s .pre .next-within) (s .pre .accepted) (l .left - 1)
     (omega (arith, p .upto)) in (
       omega (arith, s .pre .within-row),
       omega (arith, s .pre .within-row, p .upto),
@@ -88,7 +88,7 @@ loop-again c =
     let p = l .inv .0 in
     let some : 0 < l .left = omega arith in
     let text = ap (λ (d : ℕ). lineOfNode (a .row) (nodeOfIndex (a .count / 2) (l .left - 1)) d) (read at-node)
-    ∙ before-text (a .discounts .now) (a .next) (a .count) (s .pre .standing) (s .pre .held) (a .row) (l .left - 1) (omega (arith, p .upto)) in
+    ∙ before-text (a .discounts .now) (a .next) (a .count) (s .pre .standing) (s .pre .next-within) (a .row) (l .left - 1) (omega (arith, p .upto)) in
     let put = subst (λ (t : List ℕ). Put (l .out) (l .start) t (c .before .before .put-node-line .result) (c .before .before .put-node-line .last .0)) text
     (c .before .before .put-node-line .ensures) in
     (gone _ (λ (i : ℕ). longestLine * i) (a .count) (fits (in-loop .before .before)) (a .out .now) (a .end) p some put, place-is in-loop)
@@ -103,7 +103,7 @@ returns c =
     let l = c .before .loop in
     let none : l .left ≡ 0 = omega arith in
     let put = ended _ (λ (i : ℕ). longestLine * i) (a .count) (fits (c .before .before)) (a .out .now) (a .end) (l .inv .0) none (s .pre .inside) in
-    let counted = before-length (a .discounts .now) (a .next) (a .count) (s .pre .standing) (s .pre .held) in
+    let counted = before-length (a .discounts .now) (a .next) (a .count) (s .pre .standing) (s .pre .next-within) in
     let line = nodeText (a .row) (nodesBefore (a .discounts .now) (a .next) (a .count)) in
     drawn-whole 0 (a .out .now) (a .end) _ (a .next - a .count)
     (subst (λ (n : ℕ). Put (a .out .now) (a .end) (lines line n) (l .start) (l .out)) (sym counted) put) (omega (arith, l .inv .1))

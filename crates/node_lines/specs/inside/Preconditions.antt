@@ -12,7 +12,7 @@ use Rattle.node_lines.specs.Reading.{nodesBefore}
 -- the nodes of a row stand before a place, and their lines have room before the end
 pub record Readable (discounts : List ℕ) (next count end size : ℕ) : Type 0 where
   pub standing : count ≤ next
-  pub held : next ≤ length discounts
+  pub next-within : next ≤ length discounts
   -- row 59, the last that has discounts, has at most 119 nodes
   pub within-row : count ≤ 119
   pub accepted : acceptedNodes (nodesBefore discounts next count) ≡ true

@@ -1,12 +1,13 @@
 -- `pair_causes::pair_cause` meets its contract.
 -- Assumes nothing.
 use borrow.Author.Needs.{needs}
+use Rattle.arithmetic.proofs.Implied.{implied}
 use Rattle.pair_laws.proofs.CauseLaws.{pair-steps-refused, pair-trees-refused, trees-accepted, pair-rest}
 use Rattle.pair_causes.proofs.pair_cause.Statement.{statement}
 use Rattle.pair_causes.proofs.pair_cause.Tie as tie
 
 returns : tie.Need-returns
-returns c = pair-steps-refused _ _ _ _ _ _ _ _ (c .before .pair-steps-cause .ensures) (c .if1 .taken)
+returns c = pair-steps-refused implied (c .before .pair-steps-cause .ensures) (c .if1 .taken)
 
 returns-2 : tie.Need-returns-2
 returns-2 c =
@@ -16,8 +17,8 @@ returns-2 c =
     let if1 = c .before .before .before .before .before .before .if1 in
     let discounts-cause = c .before .before .before .before .before .discounts-cause in
     let pair-steps-cause = c .before .before .before .before .before .before .before .pair-steps-cause in
-    pair-trees-refused _ _ _ _ _ _ _ _ (pair-steps-cause .ensures) (if1 .left) _ _ _ _ (discounts-cause .ensures) (discounts-cause2 .ensures)
-    (lowest-cause .ensures) (flows-cause .ensures) _ (c .lowest-cause2 .ensures) (c .before .if2 .taken)
+    pair-trees-refused implied (pair-steps-cause .ensures) (if1 .left) (discounts-cause .ensures) (discounts-cause2 .ensures)
+    (lowest-cause .ensures) (flows-cause .ensures) (c .lowest-cause2 .ensures) (c .before .if2 .taken)
 
 combined-cause-requires : tie.Need-combined-cause-requires
 combined-cause-requires c κs =
@@ -26,7 +27,7 @@ combined-cause-requires c κs =
     let if1 = c .before .before .before .before .before .if1 in
     let discounts-cause = c .before .before .before .before .discounts-cause in
     let pair-steps-cause = c .before .before .before .before .before .before .pair-steps-cause in
-    trees-accepted _ _ _ _ _ _ _ _ (pair-steps-cause .ensures) (if1 .left) _ _ _ _ (discounts-cause .ensures) (discounts-cause2 .ensures)
+    trees-accepted implied (pair-steps-cause .ensures) (if1 .left) (discounts-cause .ensures) (discounts-cause2 .ensures)
     (lowest-cause .ensures) (c .before .flows-cause .ensures) (c .if2 .left)
 
 returns-3 : tie.Need-returns-3
@@ -38,8 +39,8 @@ returns-3 c =
     let if1 = c .before .before .before .before .before .before .before .if1 in
     let discounts-cause = c .before .before .before .before .before .before .discounts-cause in
     let pair-steps-cause = c .before .before .before .before .before .before .before .before .pair-steps-cause in
-    pair-rest _ _ _ _ _ _ _ _ (pair-steps-cause .ensures) (if1 .left) _ _ _ _ (discounts-cause .ensures) (discounts-cause2 .ensures)
-    (lowest-cause .ensures) (flows-cause .ensures) _ _ (c .before .combined-cause .ensures) (c .lowest-cause3 .ensures) (if2 .left)
+    pair-rest implied (pair-steps-cause .ensures) (if1 .left) (discounts-cause .ensures) (discounts-cause2 .ensures)
+    (lowest-cause .ensures) (flows-cause .ensures) (c .before .combined-cause .ensures) (c .lowest-cause3 .ensures) (if2 .left)
 
 pub pair-cause-spec : {M : Type 1} → statement M
 pair-cause-spec =

@@ -1,12 +1,13 @@
 -- `pair_pricing::pair_dated_option_price` meets its contract.
 -- Assumes nothing.
 use borrow.Author.Needs.{needs}
+use Rattle.arithmetic.proofs.Implied.{implied}
 use Rattle.pair_laws.proofs.EntryLaws.{entry-accepted, dated-refused, terms-refused, exercisable, dated-found}
 use Rattle.pair_pricing.proofs.pair_dated_option_price.Statement.{statement}
 use Rattle.pair_pricing.proofs.pair_dated_option_price.Tie as tie
 
 returns : tie.Need-returns
-returns c = dated-refused _ _ _ _ _ _ _ _ (c .before .before .pair-cause .ensures) _ _ _ _ (c .refused .ensures) (c .before .if1 .taken)
+returns c = dated-refused implied (c .before .before .pair-cause .ensures) _ _ _ (c .refused .ensures) (c .before .if1 .taken)
 
 returns-2 : tie.Need-returns-2
 returns-2 c =
@@ -15,8 +16,8 @@ returns-2 c =
     let if1 = c .before .before .before .before .before .if1 in
     let terms-cause = c .before .before .before .before .terms-cause in
     let pair-cause = c .before .before .before .before .before .before .pair-cause in
-    terms-refused _ _ _ _ _ _ _ _ (pair-cause .ensures) _ _ _ (if1 .left) _ _ _ (terms-cause .ensures) (dates-cause .ensures)
-    (lowest-cause .ensures) _ (c .refused2 .ensures) (c .before .if2 .taken)
+    terms-refused implied (pair-cause .ensures) _ _ _ (if1 .left) (terms-cause .ensures) (dates-cause .ensures)
+    (lowest-cause .ensures) (c .refused2 .ensures) (c .before .if2 .taken)
 
 accepted-option-requires : tie.Need-accepted-option-requires
 accepted-option-requires c κs =
@@ -28,8 +29,8 @@ accepted-option-requires c κs =
     let terms-cause = c .before .before .before .before .before .before .terms-cause in
     let pair-cause = c .before .before .before .before .before .before .before .before .pair-cause in (
       entry-accepted _ (pair-cause .ensures) (if1 .left),
-      exercisable _ _ _ _ _ _ _ _ (pair-cause .ensures) _ _ _ (if1 .left) _ _ _ (terms-cause .ensures) (dates-cause .ensures)
-          (lowest-cause .ensures) (if2 .left) _ _ (terms-on .ensures) (c .before .marks-of .ensures),
+      exercisable implied (pair-cause .ensures) _ _ _ (if1 .left) (terms-cause .ensures) (dates-cause .ensures)
+          (lowest-cause .ensures) (if2 .left) (terms-on .ensures) (c .before .marks-of .ensures),
     )
 
 returns-3 : tie.Need-returns-3
@@ -42,8 +43,8 @@ returns-3 c =
     let if1 = c .before .before .before .before .before .before .before .before .if1 in
     let terms-cause = c .before .before .before .before .before .before .before .terms-cause in
     let pair-cause = c .before .before .before .before .before .before .before .before .before .pair-cause in
-    dated-found _ _ _ _ _ _ _ _ (pair-cause .ensures) _ _ _ (if1 .left) _ _ _ (terms-cause .ensures) (dates-cause .ensures)
-    (lowest-cause .ensures) (if2 .left) _ _ (terms-on .ensures) (marks-of .ensures) _ (c .accepted-option .ensures)
+    dated-found implied (pair-cause .ensures) _ _ _ (if1 .left) (terms-cause .ensures) (dates-cause .ensures)
+    (lowest-cause .ensures) (if2 .left) (terms-on .ensures) (marks-of .ensures) (c .accepted-option .ensures)
 
 pub pair-dated-option-price-spec : {M : Type 1} → statement M
 pair-dated-option-price-spec =

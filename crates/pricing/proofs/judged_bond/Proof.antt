@@ -1,6 +1,7 @@
 -- `pricing::judged_bond` meets its contract.
 -- Assumes nothing.
 use mathlib.Core.Path.{sym, _∙_}
+use Rattle.arithmetic.proofs.Implied.{implied}
 use Rattle.price_laws.proofs.Accuracy.{tree-lent, tree-paid}
 use Rattle.price_laws.proofs.ValueLaws.{bond-refused, bond-passed}
 use borrow.Author.Needs.{needs}
@@ -8,7 +9,7 @@ use Rattle.pricing.proofs.judged_bond.Statement.{statement}
 use Rattle.pricing.proofs.judged_bond.Tie as tie
 
 returns : tie.Need-returns
-returns c = c .refused .ensures ∙ bond-refused _ _ _ _ _ _ (c .before .before .before .before .before .pre) (c .before .if1 .taken)
+returns c = c .refused .ensures ∙ bond-refused implied (c .before .before .before .before .before .pre) (c .before .if1 .taken)
 
 accepted-bond-requires : tie.Need-accepted-bond-requires
 accepted-bond-requires c κs =
@@ -16,7 +17,7 @@ accepted-bond-requires c κs =
     (tree-lent _ _ _ _ none, tree-paid _ _ _ _ none)
 
 returns-2 : tie.Need-returns-2
-returns-2 c = bond-passed _ _ _ _ _ (sym (c .before .before .before .before .before .pre) ∙ c .before .if1 .left) _ (c .accepted-bond .ensures)
+returns-2 c = bond-passed implied (sym (c .before .before .before .before .before .pre) ∙ c .before .if1 .left) (c .accepted-bond .ensures)
 
 pub judged-bond-spec : {M : Type 1} → statement M
 judged-bond-spec = tie.close (tie.spec (λ c κs. search needs) returns accepted-bond-requires returns-2)

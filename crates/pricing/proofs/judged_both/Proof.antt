@@ -3,6 +3,7 @@
 use mathlib.Core.Path.{_≡_, sym, _∙_}
 use native.Mathlib.Omega.{arith}
 use denote.Ref.{now}
+use Rattle.arithmetic.proofs.Implied.{implied}
 use Rattle.lent_tree.specs.LentTree.{Accepted}
 use Rattle.price_laws.specs.Prices.{treeCause}
 use Rattle.price_laws.proofs.Accuracy.{tree-lent, tree-paid}
@@ -18,8 +19,8 @@ returns : tie.Need-returns
 returns c =
     let refusing = c .before .before in
     let cause = refusing .before .before .before .before .before .pre .0 in (
-      c .before .refused .ensures ∙ answers.bond-refused _ _ _ _ _ _ cause (refusing .if1 .taken),
-      c .refused2 .ensures ∙ answers.option-refused _ _ _ _ _ _ _ _ _ _ cause (refusing .if1 .taken),
+      c .before .refused .ensures ∙ answers.bond-refused implied cause (refusing .if1 .taken),
+      c .refused2 .ensures ∙ answers.option-refused implied cause (refusing .if1 .taken),
     )
 
 -- where there is no cause about the tree
@@ -38,8 +39,8 @@ accepted-bond-requires c κs = (tree (c .before), tree-paid _ _ _ _ (none (c .be
 returns-2 : tie.Need-returns-2
 returns-2 c =
     let refusing = c .before .before in (
-      answers.bond-passed _ _ _ _ _ (none (refusing .before)) _ (c .before .accepted-bond .ensures),
-      c .refused3 .ensures ∙ answers.option-cause _ _ _ _ _ _ _ _ _ (none (refusing .before)) (refusing .if2 .taken),
+      answers.bond-passed implied (none (refusing .before)) (c .before .accepted-bond .ensures),
+      c .refused3 .ensures ∙ answers.option-cause implied (none (refusing .before)) (refusing .if2 .taken),
     )
 
 -- where there is no cause about the option either
@@ -60,9 +61,9 @@ returns-3 c =
     let on = exercised (marked .before) in
     let on-tree = marked .before .before in
     let few = tree on-tree .limits .steps-within-limit in (
-      answers.bond-passed _ _ _ _ _ (none on-tree) _ (c .accepted-both .ensures .0),
-      answers.option-passed _ _ _ _ _ _ _ _ _ (none on-tree) (marked .before .if2 .left) _
-          (marked-price _ _ _ _ _ _ _ _ _ _ _ (omega (arith, on .before-end)) (on .last-listed) (marked .marks-of .ensures)
+      answers.bond-passed implied (none on-tree) (c .accepted-both .ensures .0),
+      answers.option-passed implied (none on-tree) (marked .before .if2 .left)
+          (marked-price _ _ _ _ implied (omega (arith, on .before-end)) (on .last-listed) (marked .marks-of .ensures)
           (c .accepted-both .ensures .1)),
     )
 

@@ -1,6 +1,6 @@
 -- `pricing::side_of_kind` meets its contract.
 -- Assumes nothing.
-use mathlib.Core.Path.{_≡_, refl}
+use mathlib.Core.Path.{_≡_}
 use Prim.Native.Nat.{ℕ}
 use borrow.Author.Tests.{eq-eqb, ne-eqb}
 use Rattle.pricing_laws.specs.Schedule.{kindSide}

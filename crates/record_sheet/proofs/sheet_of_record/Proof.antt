@@ -6,7 +6,7 @@ use native.Mathlib.Omega.{arith}
 use lib.ListN.{length}
 use borrow.Author.Needs.{needs}
 use Rattle.limits.specs.Limits.{mostDiscounts, mostStatePrices}
-use Rattle.job_prices.specs.JobPrices.{recordPrices}
+use Rattle.job_laws.specs.JobPrices.{recordPrices}
 use Rattle.sheet_room.specs.Room.{sheetRoom}
 use Rattle.sheet_laws.specs.inside.Stored.{Fitted}
 use Rattle.sheet_laws.specs.WholeJob.{jobNumber}

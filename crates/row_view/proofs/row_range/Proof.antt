@@ -4,6 +4,7 @@ use mathlib.Core.Path.{_≡_, sym, _∙_}
 use mathlib.Core.Bool.{true}
 use denote.Ref.{now}
 use borrow.Author.Tests.{not-true, not-false}
+use Rattle.arithmetic.proofs.Implied.{implied}
 use Rattle.lattice.proofs.TreeEntries.{row-value}
 use Rattle.row_view.specs.RowView.{holdsTree, storesRow}
 use Rattle.row_view.proofs.ViewLaws as laws
@@ -13,13 +14,13 @@ use Rattle.row_view.proofs.row_range.Tie as tie
 
 returns : tie.Need-returns
 returns c =
-    laws.hidden-range _ _ _ _ _ _
-    (laws.not-held _ _ _ _ _ _ (sym (c .before .holds-tree .ensures) ∙ not-true _ (c .if1 .taken)))
+    laws.hidden-range implied
+    (laws.not-held implied (sym (c .before .holds-tree .ensures) ∙ not-true _ (c .if1 .taken)))
 
 returns-2 : tie.Need-returns-2
 returns-2 c =
-    laws.hidden-range _ _ _ _ _ _
-    (laws.not-stored _ _ _ _ _ _ (sym (c .before .stores-row .ensures) ∙ not-true _ (c .if2 .taken)))
+    laws.hidden-range implied
+    (laws.not-stored implied (sym (c .before .stores-row .ensures) ∙ not-true _ (c .if2 .taken)))
 
 held :
     (c : tie.Else1) →
@@ -39,7 +40,7 @@ returns-3 c =
     let h = held (c .before .before .before .before) in
     let s = stored (c .before .before) in
     let room = laws.row-room (a .discounts) (a .state-prices) (a .kind) (a .steps) (a .reversion) (a .row) (laws.holding _ _ _ _ h) s in
-    laws.shown-range _ _ _ _ _ _ _ _ (laws.is-stored _ _ _ _ _ _ h s)
+    laws.shown-range implied _ _ (laws.is-stored implied h s)
     (row-value _ _ _ _ (c .before .row-start .ensures) (room .0) (room .1))
     (row-value _ _ _ _ (c .node-count .ensures) (room .0) (room .1))
 

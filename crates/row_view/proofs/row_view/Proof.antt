@@ -5,6 +5,7 @@ use Prim.Native.Nat.{_+_, _≤_}
 use native.Mathlib.Omega.{arith}
 use denote.Ref.{now}
 use lib.ListN.{length}
+use Rattle.arithmetic.proofs.Implied.{implied}
 use Rattle.row_view.proofs.ViewLaws as laws
 use borrow.Author.Needs.{needs}
 use Rattle.row_view.proofs.row_view.Statement.{statement}
@@ -15,9 +16,7 @@ within :
     let r = c .before .row-range .result in
     r .start + r .count ≤ length (now (c .before .before .memory-of .result))
 within c =
-    let a = c .before .before .before .before .before .args in
-    laws.range-within (a .discounts) (a .state-prices) (a .kind) (a .steps) (a .reversion) (a .row)
-    _ (c .before .before .memory-of .ensures) _ (c .before .row-range .ensures)
+    laws.range-within implied (c .before .before .memory-of .ensures) (c .before .row-range .ensures)
 
 add-end : tie.Need-add-end
 add-end c = omega (arith, within c)
@@ -31,7 +30,7 @@ part-result-end c = within c
 returns : tie.Need-returns
 returns c =
     let r = c .before .before .row-range .result in
-    laws.range-part _ _ _ _ _ _ _ (c .before .before .before .memory-of .ensures) _ (c .before .before .row-range .ensures) _
+    laws.range-part implied (c .before .before .before .memory-of .ensures) (c .before .before .row-range .ensures)
     (record { block = refl; offset = refl; contents = laws.part-between _ (r .start) (r .count) })
 
 pub row-view-spec : {M : Type 1} → statement M

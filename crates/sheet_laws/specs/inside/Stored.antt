@@ -12,7 +12,7 @@ use Rattle.arithmetic.specs.Row.{sumOf}
 use Rattle.limits.specs.Limits.{mostDiscounts, mostStatePrices, sumLimit}
 use Rattle.lattice.specs.Shape.{discountsNeeded, statePricesNeeded}
 use Rattle.job_record.specs.declared.Job.{Job}
-use Rattle.job_fit.specs.RecordFit.{jobReversion, jobDiscounts, jobStatePrices, recordFit}
+use Rattle.job_laws.specs.RecordFit.{jobReversion, jobDiscounts, jobStatePrices, recordFit}
 use Rattle.node_lines.specs.Rows.{acceptedNodes}
 
 -- a tree within its limits, and a memory of just its node discounts, each accepted

@@ -2,6 +2,7 @@
 -- Assumes nothing.
 use mathlib.Core.Path.{_≡_, sym, _∙_}
 use native.Mathlib.Omega.{arith}
+use Rattle.arithmetic.proofs.Implied.{implied}
 use Rattle.shelf_laws.proofs.NameLaws.{There}
 use Rattle.shelf_laws.proofs.EntryLaws.{not-awaiting, awaiting, commit-15, memory-15, slots-left, commit-number, commit-memory, commit-slots}
 use borrow.Author.Needs.{needs}
@@ -18,9 +19,9 @@ told c = awaiting _ _ _ (c .before .before .tree-of .ensures) (omega arith) .0
 returns : tie.Need-returns
 returns c =
     let none = not-awaiting _ _ _ (c .before .before .before .tree-of .ensures) (c .before .if1 .taken) in
-    let number = commit-15 _ _ _ _ _ _ _ none in
+    let number = commit-15 implied none in
     let after = c .refused .ensures in
-    (after .0 ∙ number, (after .1 ∙ slots-left _ _ _ _ _ _ _ _ 15 number (λ z. omega arith), memory-15 _ _ _ _ _ _ _ _ none))
+    (after .0 ∙ number, (after .1 ∙ slots-left implied _ number (λ z. omega arith), memory-15 implied none))
 
 fit-part-requires : tie.Need-fit-part-requires
 fit-part-requires c κs = omega (arith, told (c .before) .fits)
@@ -30,11 +31,11 @@ returns-2 c =
     let tree = c .before .before .before .before .before .before .tree-of .ensures in
     let fit = c .before .before .fit-part .ensures in
     let after = c .refused2 .ensures in
-    let number = commit-number _ _ _ _ _ _ _ _ tree (search needs) _ (fit .0) in (
+    let number = commit-number implied tree (search needs) (fit .0) in (
       after .0 ∙ number,
       (
-        after .1 ∙ slots-left _ _ _ _ _ _ _ _ _ number (c .before .if2 .taken),
-        commit-memory _ _ _ _ _ _ _ _ tree (search needs) _ number _ _ (fit .1),
+        after .1 ∙ slots-left implied _ number (c .before .if2 .taken),
+        commit-memory implied tree (search needs) number _ (fit .1),
       ),
     )
 
@@ -57,11 +58,11 @@ returns-3 c =
     let slot = c .before .fitted-slot .ensures in
     let after = c .replaced .ensures in
     let none : c .before .before .before .before .before .fit-part .result ≡ 0 = search needs in
-    let number = commit-number _ _ _ _ _ _ _ _ tree (search needs) _ (fit .0) in (
+    let number = commit-number implied tree (search needs) (fit .0) in (
       after .0 ∙ sym none ∙ number,
       (
-        commit-slots _ _ _ _ _ _ _ _ tree (search needs) _ number none m _ _ _ (search needs) (fit .1) slot (after .1),
-        commit-memory _ _ _ _ _ _ _ _ tree (search needs) _ number m _ (fit .1),
+        commit-slots implied tree (search needs) number none m (search needs) (fit .1) slot (after .1),
+        commit-memory implied tree (search needs) number m (fit .1),
       ),
     )
 

@@ -1,10 +1,8 @@
 -- `shelf_prices::bond_and_dated_option` meets its contract.
 -- Assumes nothing.
-use Prim.Native.Nat.{ℕ}
 use mathlib.Core.Path.{_∙_}
-use mathlib.Core.List.{List}
 use native.Mathlib.Omega.{arith}
-use Rattle.price_laws.specs.Prices.{bondPrice, datedPrice}
+use Rattle.arithmetic.proofs.Implied.{implied}
 use Rattle.shelf_laws.proofs.NameLaws.{There, tree-found}
 use Rattle.shelf_prices.proofs.PriceLaws.{both-none, both-there}
 use borrow.Author.Needs.{needs}
@@ -22,7 +20,7 @@ returns : tie.Need-returns
 returns c =
     let tree = c .before .before .before .tree-of in
     c .no-prices .ensures
-    ∙ both-none _ _ _ _ _ _ (tree .ensures) (search needs)
+    ∙ both-none implied (tree .ensures) (search needs)
 
 add-end : tie.Need-add-end
 add-end c = omega (arith, told (c .before .before) .fits)
@@ -38,9 +36,7 @@ returns-2 c =
     let a = c .before .before .before .before .before .before .before .before .before .before .before .args in
     let valued = c .before .before in
     let tree = valued .before .before .before .before .before .before .tree-of in
-    both-there (λ (n b : ℕ) (d : List ℕ). bondPrice n b d (a .flows .now))
-    (λ (n b : ℕ) (d : List ℕ). datedPrice n b d (a .flows .now) (a .side) (a .dates .now) (a .strike))
-    _ _ _ _ (tree .ensures) (search needs) _ (valued .bond-and-dated-option-values .ensures) _ _ (c .before .carried .ensures) (c .carried2 .ensures)
+    both-there implied (tree .ensures) (search needs) _ (valued .bond-and-dated-option-values .ensures) _ _ (c .before .carried .ensures) (c .carried2 .ensures)
 
 pub bond-and-dated-option-spec : {M : Type 1} → statement M
 bond-and-dated-option-spec =

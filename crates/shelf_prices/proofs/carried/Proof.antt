@@ -1,7 +1,6 @@
 -- `shelf_prices::carried` meets its contract.
 -- Assumes nothing.
 use Rattle.shelf_prices.proofs.PriceLaws.{carried-refused, carried-given}
-use borrow.Author.Needs.{needs}
 use Rattle.shelf_prices.proofs.carried.Statement.{statement}
 use Rattle.shelf_prices.proofs.carried.Tie as tie
 

@@ -9,6 +9,7 @@ use borrow.Author.Needs.{needs}
 use borrow.Author.Tests.{not-true, not-false}
 use Rattle.arithmetic.specs.Frequency.{isFrequency}
 use Rattle.arithmetic.proofs.FrequencyLaws.{listed-small}
+use Rattle.arithmetic.proofs.Implied.{implied}
 use Rattle.spacing.proofs.SpacingLaws.{cube-positive}
 use Rattle.spacing.proofs.VersionLaws.{answer-unlisted, answer-reverting, answer-volatile, ratio-refused, ratio-fits, ratio-found}
 use Rattle.spacing.proofs.version_spacing.Statement.{statement}
@@ -32,7 +33,7 @@ fits : (c : tie.After-struct-known2) →
     3 * (start c .args .volatility * start c .args .volatility) * c .before .before .before .variance-ratio .result .value ≤ 7500000000000000000
 fits c =
     let tested = c .before .before .before in
-    ratio-fits _ _ _ _ _ (accepted (tested .before .before .before)) (omega arith) (omega arith) (tested .variance-ratio .ensures) (c .before .if4 .left)
+    ratio-fits implied (accepted (tested .before .before .before)) (omega arith) (omega arith) (tested .variance-ratio .ensures) (c .before .if4 .left)
 
 returns : tie.Need-returns
 returns c = sym (answer-unlisted _ _ _ _ (sym (c .before .is-frequency .ensures) ∙ not-true _ (c .if1 .taken)))
@@ -46,7 +47,7 @@ returns-3 c = sym (answer-volatile _ _ _ _ (accepted (c .before .before)) (omega
 returns-4 : tie.Need-returns-4
 returns-4 c =
     let tested = c .before .before in
-    sym (ratio-refused _ _ _ _ _ (accepted (tested .before .before .before)) (omega arith) (omega arith) (tested .variance-ratio .ensures) (c .if4 .taken))
+    sym (ratio-refused implied (accepted (tested .before .before .before)) (omega arith) (omega arith) (tested .variance-ratio .ensures) (c .if4 .taken))
 
 mul-variance : tie.Need-mul-variance
 mul-variance c = omega (arith, square-fits (c .before .before .before .if3 .left))
@@ -72,7 +73,7 @@ square-root-requires c κs = lt-of-le-of-lt (div-le-self _ _) (omega (arith, fit
 returns-5 : tie.Need-returns-5
 returns-5 c =
     let tested = c .before .before .before .before in
-    sym (ratio-found _ _ _ _ _ (accepted (tested .before .before .before)) (omega arith) (omega arith) (tested .variance-ratio .ensures)
+    sym (ratio-found implied (accepted (tested .before .before .before)) (omega arith) (omega arith) (tested .variance-ratio .ensures)
     (c .before .before .if4 .left) _ (c .square-root .ensures .0) (c .square-root .ensures .1))
 
 pub version-spacing-spec : {M : Type 1} → statement M

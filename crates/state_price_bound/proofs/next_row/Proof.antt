@@ -5,6 +5,7 @@ use Prim.Native.Nat.{_+_, _≤_}
 use lib.ListN.{length}
 use native.Mathlib.Omega.{arith}
 use borrow.Author.Needs.{needs}
+use Rattle.limits.specs.Limits.{mostStatePrices}
 use Rattle.lattice.specs.Shape.{nodeCount}
 use Rattle.lattice.proofs.TreeEntries.{row-value}
 use Rattle.state_price_bound.proofs.BoundLaws as laws
@@ -12,7 +13,7 @@ use Rattle.state_price_bound.proofs.next_row.Statement.{statement}
 use Rattle.state_price_bound.proofs.next_row.Tie as tie
 
 -- the row lies within the discounts
-room : (s : tie.Start) → let a = s .args in (a .row .start + a .row .nodes ≤ length (a .discounts .now)) × (a .row .start + a .row .nodes ≤ 3721)
+room : (s : tie.Start) → let a = s .args in (a .row .start + a .row .nodes ≤ length (a .discounts .now)) × (a .row .start + a .row .nodes ≤ mostStatePrices)
 room s = laws.reached-room (s .pre .1) (s .pre .0)
 
 add-end : tie.Need-add-end

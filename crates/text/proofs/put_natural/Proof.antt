@@ -1,7 +1,7 @@
 -- `text::put_natural` meets its contract. The invariant: the digits that are left, put before the place, give the whole.
 -- Assumes nothing.
 use mathlib.Core.Path.{_≡_}
-use Prim.Native.Nat.{_≤_, _+_, _-_, _/_, _%_}
+use Prim.Native.Nat.{_≤_, _+_, _/_, _%_}
 use native.Mathlib.Omega.{arith}
 use lib.ListN.{length, length-set}
 use borrow.Author.Needs.{needs}

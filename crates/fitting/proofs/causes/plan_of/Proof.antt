@@ -1,7 +1,7 @@
 -- `fitting::causes/plan_of` meets its contract.
 -- Assumes nothing.
 use native.Mathlib.Omega.{arith}
-use Rattle.fitting.proofs.CauseLaws as laws
+use Rattle.fitting.proofs.PlanLaws as laws
 use borrow.Author.Needs.{needs}
 use Rattle.fitting.proofs.causes.plan_of.Statement.{statement}
 use Rattle.fitting.proofs.causes.plan_of.Tie as tie

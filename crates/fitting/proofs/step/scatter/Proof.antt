@@ -2,6 +2,7 @@
 -- Assumes nothing.
 use native.Mathlib.Omega.{arith}
 use Rattle.arithmetic.proofs.RowLaws.{added-thrice}
+use Rattle.arithmetic.proofs.Implied.{implied}
 use Rattle.fitting.proofs.StepRows as laws
 use borrow.Author.Needs.{needs}
 use Rattle.fitting.proofs.step.scatter.Statement.{statement}
@@ -42,7 +43,7 @@ returns c =
     let down = c .before .before in
     let middle = down .before .before .before .before in
     let up = second middle in
-    added-thrice (first up .args .next .now) _ _ _ _ _ _ _ _ _ (up .add-at .ensures) (middle .add-at2 .ensures) (down .add-at3 .ensures)
+    added-thrice (first up .args .next .now) implied (up .add-at .ensures) (middle .add-at2 .ensures) (down .add-at3 .ensures)
 
 pub scatter-spec : {M : Type 1} → statement M
 scatter-spec =

@@ -6,7 +6,7 @@ use native.Mathlib.Omega.{arith}
 use lib.ListN.{length}
 use Rattle.arithmetic.specs.Row.{values}
 use Rattle.arithmetic.proofs.RowLaws.{Filled, filled-start, filled-next}
-use Rattle.job_prices.proofs.PriceLaws as laws
+use Rattle.job_laws.proofs.PriceLaws as laws
 use Rattle.job_prices.proofs.memories.place.Statement.{statement}
 use Rattle.job_prices.proofs.memories.place.Tie as tie
 

@@ -4,11 +4,11 @@ use mathlib.Core.Path.{_≡_, ap, _∙_}
 use native.Mathlib.Omega.{arith}
 use Prim.Native.Nat.{_≤_}
 use lib.ListN.{length}
-use Rattle.job_fit.proofs.FitLaws.{lent-column}
+use Rattle.job_laws.proofs.FitLaws.{lent-column}
 use Rattle.job_record.specs.Form.{mostDates}
 use Rattle.price_laws.specs.declared.BondAndOption.{BondAndOption}
 use borrow.Author.Needs.{needs}
-use Rattle.job_prices.proofs.PriceLaws as laws
+use Rattle.job_laws.proofs.PriceLaws as laws
 use Rattle.job_prices.proofs.priced.both_of.Statement.{statement}
 use Rattle.job_prices.proofs.priced.both_of.Tie as tie
 

@@ -1,6 +1,6 @@
 -- `job_prices::priced::option_form` meets its contract.
 -- Assumes nothing.
-use Rattle.job_prices.proofs.PriceLaws.{form-long, form-none, form-kind, form-list, form-other}
+use Rattle.job_laws.proofs.PriceLaws.{form-long, form-none, form-kind, form-list, form-other}
 use Rattle.job_prices.proofs.priced.option_form.Statement.{statement}
 use Rattle.job_prices.proofs.priced.option_form.Tie as tie
 

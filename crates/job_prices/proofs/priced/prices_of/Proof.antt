@@ -2,7 +2,7 @@
 -- Assumes nothing.
 use mathlib.Core.Path.{_∙_}
 use borrow.Author.Needs.{needs}
-use Rattle.job_prices.proofs.PriceLaws as laws
+use Rattle.job_laws.proofs.PriceLaws as laws
 use Rattle.job_prices.proofs.priced.prices_of.Statement.{statement}
 use Rattle.job_prices.proofs.priced.prices_of.Tie as tie
 

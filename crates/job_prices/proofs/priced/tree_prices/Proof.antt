@@ -3,9 +3,9 @@
 use mathlib.Core.Path.{_∙_, ap}
 use mathlib.Core.Bool.{false}
 use Rattle.price_laws.specs.declared.Price.{Price}
-use Rattle.job_prices.specs.JobPrices.{pricesOf}
+use Rattle.job_laws.specs.JobPrices.{pricesOf}
 use borrow.Author.Needs.{needs}
-use Rattle.job_prices.proofs.PriceLaws as laws
+use Rattle.job_laws.proofs.PriceLaws as laws
 use Rattle.job_prices.proofs.priced.tree_prices.Statement.{statement}
 use Rattle.job_prices.proofs.priced.tree_prices.Tie as tie
 

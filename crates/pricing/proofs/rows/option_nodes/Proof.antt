@@ -2,11 +2,12 @@
 -- Assumes nothing.
 use mathlib.Core.Path.{_≡_, ap}
 use mathlib.Core.List.{List}
-use Prim.Native.Nat.{ℕ, _+_, _-_, _≤_, _<_, _^_}
+use Prim.Native.Nat.{ℕ, _+_, _-_, _≤_, _<_}
 use native.Mathlib.Omega.{arith}
 use lib.ListN.{length}
 use denote.Ref.{now}
 use Rattle.arithmetic.specs.Row.{values}
+use Rattle.arithmetic.proofs.Implied.{implied}
 use Rattle.tree.specs.Tree.{probabilityTotal}
 use Rattle.limits.specs.Limits.{mostDiscount}
 use Rattle.exercise.specs.Terms.{side}
@@ -159,7 +160,7 @@ loop-again c =
       omega (arith, l .inv .0),
       omega (arith, c .before .before .before .before .before .before .before .loop-test .taken),
       rows-next _ (l .bond) _ (l .option) _ _ (l .top) (l .k) _ _ _ _ (l .inv .2) (room rolled .0) (room rolled .1) (ap (λ (x : ℕ). x + right .flow) bare)
-          (option-from-roll (side (right .call)) (right .strike) (right .listed) _ _ _ _ _ _ _ _ _ bare o (c .before .before .held-value .ensures))
+          (option-from-roll (side (right .call)) (right .strike) (right .listed) implied bare o (c .before .before .held-value .ensures))
           (c .before .larger .ensures) (c .larger2 .ensures),
     )
 

@@ -1,6 +1,5 @@
 -- `pricing::rows::option_row` meets its contract: where the next row is wider all nodes branch alike.
 -- Assumes nothing.
-use native.Mathlib.Omega.{arith}
 use Rattle.pricing.proofs.RowSteps.{rows-none}
 use Rattle.pricing.proofs.Spans.{leads-growing}
 use borrow.Author.Needs.{needs}

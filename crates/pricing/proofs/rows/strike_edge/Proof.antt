@@ -1,10 +1,10 @@
 -- `pricing::rows::strike_edge` meets its contract.
 -- Assumes nothing.
-use mathlib.Core.Path.{_≡_}
-use Prim.Native.Nat.{ℕ, _+_, _<_}
+use Prim.Native.Nat.{_+_, _<_}
 use native.Mathlib.Omega.{arith}
 use lib.ListN.{length}
 use denote.Ref.{now}
+use Rattle.arithmetic.proofs.Implied.{implied}
 use Rattle.exercise.specs.Terms.{side}
 use Rattle.pricing.proofs.RowSteps.{branch-inside, branch-whole, branch-limited, branch-rolled, row-resume, row-next, row-done}
 use Rattle.pricing.proofs.StripRows.{strike-from-roll}
@@ -41,7 +41,7 @@ returns-2 c =
     (c .before .before .before .roll-node .ensures .0) in
     row-done {k = s .args .index + 1}
     (row-next _ (now (s .args .option)) _ (s .args .greatest) (s .args .index) _ _ (row-resume _ _ _ _ (s .pre .6)) (omega (arith, s .pre .3))
-    (strike-from-roll (side (right .call)) (right .strike) (right .listed) (now (s .args .bare)) _ _ _ _ _ _ _ roll (c .before .held-value .ensures))
+    (strike-from-roll (side (right .call)) (right .strike) (right .listed) (now (s .args .bare)) implied roll (c .before .held-value .ensures))
     (c .larger .ensures))
     (omega (arith, s .pre .4, c .before .before .before .before .before .before .if1 .left))
 

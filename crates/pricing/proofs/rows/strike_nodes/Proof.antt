@@ -4,6 +4,7 @@ use Prim.Native.Nat.{_-_, _≤_, _<_}
 use native.Mathlib.Omega.{arith}
 use lib.ListN.{length}
 use denote.Ref.{now}
+use Rattle.arithmetic.proofs.Implied.{implied}
 use Rattle.exercise.specs.Terms.{side}
 use Rattle.pricing.specs.inside.Strips.{strikeValues}
 use Rattle.pricing.proofs.RowSteps.{span-inside, span-shifted, span-whole, span-is}
@@ -99,7 +100,7 @@ loop-again c =
       omega arith,
       omega arith,
       row-next _ (l .option) _ (l .top) (l .k) _ _ (l .inv .2) (omega (arith, l .inv .2 .filled .same, s .pre .3))
-          (strike-from-roll (side (right .call)) (right .strike) (right .listed) (now (s .args .bare)) _ _ _ _ _ _ _ roll
+          (strike-from-roll (side (right .call)) (right .strike) (right .listed) (now (s .args .bare)) implied roll
           (c .before .held-value .ensures))
           (c .larger .ensures),
     )

@@ -2,7 +2,7 @@
 -- Assumes nothing.
 use mathlib.Core.Path.{_≡_, refl, _∙_}
 use denote.Ref.{now}
-use Rattle.exercise_dates.specs.Dates.{datedTerms}
+use Rattle.arithmetic.proofs.Implied.{implied}
 use Rattle.price_laws.specs.Prices.{datedCause}
 use Rattle.price_laws.proofs.OptionLaws.{dated-cause-is}
 use Rattle.pricing.proofs.StripTurns.{kept-through}
@@ -23,7 +23,7 @@ returns c =
     let c₁ = c .before .before in
     let c₂ = c₁ .before .before .before .before .before .before .before .before in
     c .refused .ensures
-    ∙ strike-refused _ _ _ _ _ _ _ _ (c₂ .pre .none) (cause c₁) _ (c .before .if1 .taken)
+    ∙ strike-refused implied (c₂ .pre .none) (cause c₁) (c .before .if1 .taken)
 
 returns-2 : tie.Need-returns-2
 returns-2 c =
@@ -33,9 +33,8 @@ returns-2 c =
     let s = c₃ in
     let ready = s .pre .ready in
     c .refused2 .ensures
-    ∙ bond-refuses _ _ _ _ _ _ _ _ (s .pre .none) (cause c₂) _ (c₁ .if1 .left) (ready .tree .limits .steps-within-limit)
-    (datedTerms (s .args .shared .side) (now (s .args .dates)) (s .args .strike)) refl _ (s .pre .marks-are) (ready .tree) (ready .paid) _
-    (s .pre .bond-is .cause) (c .before .if2 .taken)
+    ∙ bond-refuses implied (s .pre .none) (cause c₂) (c₁ .if1 .left) (ready .tree .limits .steps-within-limit) refl
+    (s .pre .marks-are) (ready .tree) (ready .paid) (s .pre .bond-is .cause) (c .before .if2 .taken)
 
 roll-strike-requires : tie.Need-roll-strike-requires
 roll-strike-requires c κs =
@@ -45,8 +44,8 @@ roll-strike-requires c κs =
     let s = c₃ in
     let ready = s .pre .ready in
     let on =
-    exercisable _ _ _ _ _ _ _ _ (s .pre .none) (cause c₂) (s .args .shared .bound) (c₁ .if1 .left) (ready .tree .limits .steps-within-limit)
-    _ (c .terms-on .ensures) _ (s .pre .marks-are) in
+    exercisable {bound = s .args .shared .bound} implied (s .pre .none) (cause c₂) (c₁ .if1 .left) (ready .tree .limits .steps-within-limit)
+    (c .terms-on .ensures) (s .pre .marks-are) in
     (ready, on .0, on .1, kept-through (s .pre .bond-is) (c .before .if2 .left), s .pre .room)
 
 returns-3 : tie.Need-returns-3
@@ -59,8 +58,8 @@ returns-3 c =
     let s = c₅ in
     let ready = s .pre .ready in
     c .refused3 .ensures
-    ∙ rolled-refuses _ _ _ _ _ _ _ _ (s .pre .none) (cause c₄) _ (c₃ .if1 .left)
-    (ready .tree .limits .steps-within-limit) _ (c₂ .terms-on .ensures) _ (s .pre .marks-are) _ (c₁ .roll-strike .ensures) (c .before .if3 .taken)
+    ∙ rolled-refuses implied (s .pre .none) (cause c₄) (c₃ .if1 .left)
+    (ready .tree .limits .steps-within-limit) (c₂ .terms-on .ensures) (s .pre .marks-are) (c₁ .roll-strike .ensures) (c .before .if3 .taken)
 
 returns-4 : tie.Need-returns-4
 returns-4 c =
@@ -71,8 +70,8 @@ returns-4 c =
     let c₅ = c₄ .before .before .before .before .before .before .before .before in
     let s = c₅ in
     let ready = s .pre .ready in
-    rolled-gives _ _ _ _ _ _ _ _ (s .pre .none) (cause c₄) _ (c₃ .if1 .left)
-    (ready .tree .limits .steps-within-limit) _ (c₂ .terms-on .ensures) _ (s .pre .marks-are) _ (c₁ .roll-strike .ensures) (c .if3 .left)
+    rolled-gives implied (s .pre .none) (cause c₄) (c₃ .if1 .left)
+    (ready .tree .limits .steps-within-limit) (c₂ .terms-on .ensures) (s .pre .marks-are) (c₁ .roll-strike .ensures) (c .if3 .left)
 
 pub strike-price-spec : {M : Type 1} → statement M
 strike-price-spec =

@@ -1,6 +1,5 @@
 -- `record_sheet::lines::put_option` meets its contract.
 -- Assumes nothing.
-use Prim.Native.Nat.{_-_}
 use Rattle.sheet_laws.proofs.PartLaws as laws
 use borrow.Author.Needs.{needs}
 use Rattle.record_sheet.proofs.lines.put_option.Statement.{statement}

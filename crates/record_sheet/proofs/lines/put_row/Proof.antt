@@ -1,7 +1,7 @@
 -- `record_sheet::lines::put_row` meets its contract.
 -- Assumes nothing.
 use mathlib.Core.Path.{_≡_, ap, _∙_}
-use Prim.Native.Nat.{suc, _+_, _-_}
+use Prim.Native.Nat.{suc, _+_}
 use borrow.Author.Tests.{le-leb}
 use Rattle.lent_tree.specs.LentTree.{storedRow}
 use Rattle.arithmetic.specs.Row.{sumOf}

@@ -1,5 +1,6 @@
 -- `shelf::parts/fit_part` meets its contract.
 -- Assumes nothing.
+use Rattle.arithmetic.proofs.Implied.{implied}
 use Rattle.shelf_laws.proofs.EntryLaws.{lent-number, lent-fitted}
 use borrow.Author.Needs.{needs}
 use Rattle.shelf.proofs.parts.fit_part.Statement.{statement}
@@ -8,11 +9,10 @@ use Rattle.shelf.proofs.parts.fit_part.Tie as tie
 returns : tie.Need-returns
 returns c =
     let s = c .before .before .before .before .before .before .before .before .before .before .before .before in
-    let m = s .args .memory .now in
     let fit = c .before .before .before .fit in
     let state-prices = c .before .before .before .before .before .before .before .state-price-room in (
-      lent-number _ _ _ _ _ _ _ m (state-prices .result) _ _ _ (s .pre) (state-prices .ensures) (fit .ensures .0),
-      lent-fitted _ _ _ _ _ _ _ m (state-prices .result) _ _ _ (s .pre) (state-prices .ensures) (fit .ensures .0) _ (fit .ensures .1 .0) (search needs),
+      lent-number {prices = state-prices .result} implied (s .pre) (state-prices .ensures) (fit .ensures .0),
+      lent-fitted {prices = state-prices .result} implied (s .pre) (state-prices .ensures) (fit .ensures .0) (fit .ensures .1 .0) (search needs),
     )
 
 pub fit-part-spec : {M : Type 1} → statement M

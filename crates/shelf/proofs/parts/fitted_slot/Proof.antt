@@ -1,8 +1,6 @@
 -- `shelf::parts/fitted_slot` meets its contract.
 -- Assumes nothing.
 use mathlib.Core.Path.{ap, _∙_}
-use mathlib.Core.List.{List}
-use Prim.Native.Nat.{ℕ}
 use Rattle.price_bound.specs.PriceBound.{treeBoundsAnswer}
 use Rattle.shelf_laws.proofs.PartLaws.{lent-part}
 use Rattle.shelf_laws.proofs.SlotLaws.{fitted-is}

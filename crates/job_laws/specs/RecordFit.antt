@@ -13,7 +13,7 @@ use Rattle.figure.specs.Figure.{patternFloat}
 use Rattle.curve.specs.Curve.{curveNumber}
 use Rattle.reversion.specs.Reversion.{workingReversion}
 use Rattle.spacing.specs.Spacing.{versionSpacing}
-use Rattle.fitting.specs.Entry.{versionNumber, fitDiscounts, fitStatePrices, quotesOf}
+use Rattle.fitted_laws.specs.Entry.{versionNumber, fitDiscounts, fitStatePrices, quotesOf}
 use Rattle.job_record.specs.declared.Job.{Job}
 
 -- version 1 is meant where a record has 0 for none

@@ -20,7 +20,7 @@ use Rattle.lattice.specs.Entries.{discountsNeededAnswer, memoryCause}
 use Rattle.reversion.specs.Reversion.{workingReversion}
 use Rattle.spacing.specs.Spacing.{spacing, spacingAnswer, versionSpacing, versionSpacingAnswer}
 use Rattle.curve.specs.Curve.{discountAt, curveNumber}
-use Rattle.fitting.specs.Fit.{curveDiscount, curveStatePrice, curveAccepted}
+use Rattle.fitted_laws.specs.Fit.{curveDiscount, curveStatePrice, curveAccepted}
 
 -- the quotes of rows 1 to n, converted to discounts
 abbrev pub quotesOf : ℕ → ℕ → List ℕ → List Float → List ℕ

@@ -20,11 +20,11 @@ use Rattle.lattice.specs.Entries.{discountsNeededAnswer, statePricesNeededAnswe
 use Rattle.lattice.proofs.TreeEntries.{by-tree}
 use Rattle.reversion.specs.Reversion.{isVersion}
 use Rattle.reversion.proofs.ReversionLaws.{working-first}
-use Rattle.spacing.specs.Spacing.{spacing, spacingAnswer, versionSpacingAnswer}
+use Rattle.spacing.specs.Spacing.{spacingAnswer, versionSpacingAnswer}
 use Rattle.spacing.proofs.SpacingLaws.{spacing-unlisted, spacing-volatile, spacing-accepted}
 use Rattle.spacing.proofs.VersionLaws.{version-first, answer-unlisted, answer-reverting}
 use Rattle.curve.specs.Curve.{curveNumber}
-use Rattle.fitting.specs.Entry.{earlyCause, fittedNumber, fitNumber, versionNumber}
+use Rattle.fitted_laws.specs.Entry.{earlyCause, fittedNumber, fitNumber, versionNumber}
 
 -- ---- the number: a reversion beyond its limit is a cause of the tree and of the spacing by version
 

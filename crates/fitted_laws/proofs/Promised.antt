@@ -16,6 +16,7 @@ use Rattle.arithmetic.specs.Sum.{sum}
 use Rattle.arithmetic.specs.Row.{each}
 use Rattle.arithmetic.proofs.Numbers.{by-equal}
 use Rattle.arithmetic.proofs.RowLaws.{values-row, length-row}
+use Rattle.arithmetic.proofs.Implied.{Implied, lastly, _▸_}
 use Rattle.tree.specs.Tree.{Sound, unit}
 use Rattle.limits.specs.Limits.{mostSteps, leastQuote, mostQuote}
 use Rattle.lattice.specs.Shape.{halfWidth, nodeCount}
@@ -29,10 +30,10 @@ use Rattle.fit_laws.specs.StatePrices.{acceptedRow, exactStatePrice, statePrice
 use Rattle.fit_laws.proofs.Shortfall.{state-below, state-price-shortfall}
 use Rattle.fit_laws.proofs.WholeFit.{Curve, fitted-is-state, quotes-repriced}
 use Rattle.fit_laws.specs.inside.Bounds.{leastFactor, mostFactor}
-use Rattle.fitting.specs.Fit.{quoted, curveAccepted, nodeFactor}
-use Rattle.fitting.specs.Entry.{quotesOf, earlyCause, lateCause, fittedNumber, fitDiscount, fitStatePrice}
-use Rattle.fitting.specs.inside.Plans.{Numbers}
-use Rattle.fitting.proofs.CauseLaws.{numbers-of}
+use Rattle.fitted_laws.specs.Fit.{quoted, curveAccepted, nodeFactor}
+use Rattle.fitted_laws.specs.Entry.{quotesOf, earlyCause, lateCause, fittedNumber, fitDiscount, fitStatePrice}
+use Rattle.fitted_laws.specs.inside.Numbers.{Numbers}
+use Rattle.fitted_laws.proofs.CauseLaws.{numbers-of}
 
 late-parts : (w a : Bool) → _≡_ {A = ℕ} (cond w 8 (cond a 0 9)) 0 → (w ≡ false) × (a ≡ true)
 late-parts true a e = absurd (none e)
@@ -45,7 +46,8 @@ late-parts false false e = absurd (none e)
     none : _≡_ {A = ℕ} 9 0 → ⊥
     none z = omega arith
 
-module _ (f n b spaced h : ℕ) (rows kinds : List ℕ) (figures : List Float) (ds ps : ℕ)
+module _ {f n b spaced h : ℕ} {rows kinds : List ℕ} {figures : List Float} {ds ps : ℕ}
+    (_ : Implied (f ▸ n ▸ b ▸ spaced ▸ h ▸ rows ▸ kinds ▸ figures ▸ ds ▸ lastly ps))
     (z : fittedNumber f n b spaced h rows kinds figures ds ps ≡ 0) where
   abbrev early : ℕ
   early = earlyCause (curveNumber f n rows kinds figures mostSteps) n b spaced ds ps

@@ -11,8 +11,9 @@ use lib.Ieee.{Float}
 use borrow.Author.Tests.{eq-eqb, ne-eqb}
 use Rattle.arithmetic.specs.Answers.{lowestCause}
 use Rattle.arithmetic.specs.Rounding.{one}
-use Rattle.arithmetic.proofs.CauseLaws.{lowest-first, lowest-second, lowest-more, lowest-less, lowest-alone, lowest-none}
+use Rattle.arithmetic.proofs.CauseLaws.{lowest-first, lowest-more, lowest-less, lowest-alone, lowest-none}
 use Rattle.arithmetic.proofs.Numbers.{by-equal, by-order}
+use Rattle.arithmetic.proofs.Implied.{Implied, implied, lastly, _▸_}
 use Rattle.limits.specs.Limits.{mostSteps, mostDiscounts, mostStatePrices, shapeCause}
 use Rattle.limits.proofs.LimitLaws.{shape-accepted}
 use Rattle.lattice.specs.Shape.{halfWidth, discountsNeeded, statePricesNeeded}
@@ -20,12 +21,12 @@ use Rattle.lattice.specs.Entries.{aboutTree, discountsNeededAnswer, statePrices
 use Rattle.lattice.proofs.EntryLaws.{tree-refused, tree-answered}
 use Rattle.lattice.proofs.MemoryLaws.{memory-enough}
 use Rattle.lattice.proofs.Sizes.{start-most}
-use Rattle.fitting.specs.Fit.{curveAccepted}
-use Rattle.fitting.specs.Entry.{quotesOf, earlyCause, lateCause, fittedNumber}
+use Rattle.fitted_laws.specs.Fit.{curveAccepted}
+use Rattle.fitted_laws.specs.Entry.{quotesOf, earlyCause, lateCause, fittedNumber}
 use Rattle.curve.specs.Curve.{curveNumber}
 use Rattle.job_record.specs.Form.{mostJobSteps}
 use Rattle.job_record.specs.declared.Job.{Job}
-use Rattle.job_fit.specs.RecordFit.{meantReversion, jobReversion, recordFit}
+use Rattle.job_laws.specs.RecordFit.{meantReversion, jobReversion, recordFit}
 
 -- ---- the widest tree's memories hold every tree
 
@@ -115,11 +116,12 @@ by-memory n w ds ps P none six = go (leb (discountsNeededAnswer n w .value) ds &
 
 -- ---- the fit
 
-fitted-in : (f n w spaced h : ℕ) (rows kinds : List ℕ) (figures : List Float) (ds ps : ℕ) →
+fitted-in : {f n w spaced h : ℕ} {rows kinds : List ℕ} {figures : List Float} {ds ps : ℕ} →
+    Implied (f ▸ n ▸ w ▸ spaced ▸ h ▸ rows ▸ kinds ▸ figures ▸ ds ▸ lastly ps) →
     fittedNumber f n w spaced h rows kinds figures ds ps
     ≡ lowestCause (fittedNumber f n w spaced h rows kinds figures mostDiscounts mostStatePrices) (memoryCause n w ds ps)
 unfolding fittedNumber earlyCause
-fitted-in f n w spaced h rows kinds figures ds ps =
+fitted-in {f} {n} {w} {spaced} {h} {rows} {kinds} {figures} {ds} {ps} _ =
     let high = late-high n w h (quotesOf f n kinds figures) in
     let x = lowestCause (curveNumber f n rows kinds figures mostSteps) (discountsNeededAnswer n w .number) in
     let late = lateCause n w h (quotesOf f n kinds figures) in
@@ -139,7 +141,7 @@ pub fit-in : (job : Job) (ds ps : ℕ) →
     recordFit job ds ps ≡ lowestCause (recordFit job mostDiscounts mostStatePrices) (memoryCause (job .steps) (jobReversion job) ds ps)
 unfolding recordFit meantReversion
 fit-in job ds ps =
-    one-first (ltb mostJobSteps (job .steps)) _ _ _ (one-lowest (job .steps) _ ds ps) (fitted-in (job .frequency) (job .steps) _ _ _ _ _ _ ds ps)
+    one-first (ltb mostJobSteps (job .steps)) _ _ _ (one-lowest (job .steps) _ ds ps) (fitted-in implied)
 
 -- memories that are too short: the fit refuses with no more than 6, and so before it writes
 pub short-refused : (job : Job) (ds ps : ℕ) → (memoryCause (job .steps) (jobReversion job) ds ps ≡ 0 → ⊥) →

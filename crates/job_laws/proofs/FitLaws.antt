@@ -13,16 +13,17 @@ use Rattle.arithmetic.proofs.CauseLaws.{unless-accepted, unless-refused}
 use Rattle.arithmetic.specs.Row.{place}
 use Rattle.arithmetic.proofs.Numbers.{by-order}
 use Rattle.arithmetic.proofs.RowLaws.{length-row}
+use Rattle.arithmetic.proofs.Implied.{implied}
 use Rattle.lattice.specs.Shape.{discountsNeeded, statePricesNeeded}
 use Rattle.curve.specs.Curve.{discountAt, curveNumber, curveMemory}
 use Rattle.spacing.specs.Spacing.{versionSpacingAnswer}
-use Rattle.fitting.specs.Entry.{versionNumber, fitMemory, versionDiscounts, versionStatePrices}
-use Rattle.fitting.specs.inside.Plans.{Numbers}
-use Rattle.fitting.proofs.FittedTree.{fit-discounts-length, fit-state-prices-length}
-use Rattle.fitting.proofs.Promised.{fit-numbers}
+use Rattle.fitted_laws.specs.Entry.{versionNumber, fitMemory, versionDiscounts, versionStatePrices}
+use Rattle.fitted_laws.specs.inside.Numbers.{Numbers}
+use Rattle.fitted_laws.proofs.FittedTree.{fit-discounts-length, fit-state-prices-length}
+use Rattle.fitted_laws.proofs.Promised.{fit-numbers}
 use Rattle.job_record.specs.declared.Job.{Job}
-use Rattle.job_fit.specs.RecordFit.{meantVersion, meantReversion, jobReversion, jobRows, jobKinds, jobFigures}
-use Rattle.job_fit.specs.RecordFit.{jobQuotes, jobDiscounts, jobStatePrices, recordQuotes, recordFit, memoryAfter}
+use Rattle.job_laws.specs.RecordFit.{meantVersion, meantReversion, jobReversion, jobRows, jobKinds, jobFigures}
+use Rattle.job_laws.specs.RecordFit.{jobQuotes, jobDiscounts, jobStatePrices, recordQuotes, recordFit, memoryAfter}
 
 -- ---- the version that a record means
 
@@ -182,7 +183,7 @@ module _ (job : Job) where
         (curveNumber (job .frequency) (job .steps) (jobRows job) (jobKinds job) (jobFigures job) 60)
         (versionSpacingAnswer (meantVersion (job .version)) (job .frequency) (job .volatility) (job .reversion) .number) ds ps
     unfolding meantReversion
-    numbers = fit-numbers _ _ _ _ _ _ _ _ ds ps fit-none
+    numbers = fit-numbers implied fit-none
 
     pub accepted : WithinLimits (job .steps) (jobReversion job)
     accepted = numbers .limits

@@ -1,2 +1,3 @@
+pub mod RecordFit
 pub mod JobPrices
 pub mod inside

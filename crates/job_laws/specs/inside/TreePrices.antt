@@ -4,8 +4,8 @@ use Prim.Native.Nat.{ℕ}
 use mathlib.Core.List.{List}
 use Rattle.price_laws.specs.Prices.{bondPrice}
 use Rattle.job_record.specs.declared.OptionRecord.{OptionRecord}
-use Rattle.job_prices.specs.declared.JobPrices.{JobPrices}
-use Rattle.job_prices.specs.JobPrices.{hasOption, treeOption, treeNumber, pricesOf}
+use Rattle.job_laws.specs.declared.JobPrices.{JobPrices}
+use Rattle.job_laws.specs.JobPrices.{hasOption, treeOption, treeNumber, pricesOf}
 
 unfoldable pub treePrices : ℕ → ℕ → List ℕ → List ℕ → OptionRecord → JobPrices
 treePrices n b discounts flows option =

@@ -9,15 +9,15 @@ use lib.ListN.{take}
 use Rattle.lattice.specs.Entries.{memoryCause}
 use Rattle.arithmetic.specs.Answers.{unlessRefused, lowestCause, firstCause}
 use Rattle.limits.specs.Limits.{mostDiscounts, mostStatePrices}
-use Rattle.fitting.specs.Entry.{fitMemory}
+use Rattle.fitted_laws.specs.Entry.{fitMemory}
 use Rattle.price_laws.specs.declared.Price.{Price}
 use Rattle.price_laws.specs.Prices.{refusedPrice, bondPrice, optionPrice, datedPrice}
 use Rattle.job_record.specs.declared.OptionRecord.{OptionRecord}
 use Rattle.job_record.specs.declared.Job.{Job}
 use Rattle.job_record.specs.Form.{mostDates}
 use Rattle.job_record.specs.Reader.{readingOf}
-use Rattle.job_fit.specs.RecordFit.{jobReversion, jobFlows, jobDiscounts, recordFit}
-use Rattle.job_prices.specs.declared.JobPrices.{JobPrices}
+use Rattle.job_laws.specs.RecordFit.{jobReversion, jobFlows, jobDiscounts, recordFit}
+use Rattle.job_laws.specs.declared.JobPrices.{JobPrices}
 
 -- tag 0 stands for no option
 abbrev pub hasOption : OptionRecord → Bool

@@ -15,14 +15,15 @@ use Rattle.arithmetic.proofs.CauseLaws.{unless-accepted, unless-refused}
 use Rattle.arithmetic.proofs.Numbers.{by-equal, by-order}
 use Rattle.arithmetic.proofs.PlaceLaws.{filled-place, length-place, place-front}
 use Rattle.arithmetic.proofs.RowLaws.{Filled, row-of}
+use Rattle.arithmetic.proofs.Implied.{Implied, implied, lastly, _▸_}
 use Rattle.limits.specs.Limits.{mostDiscounts, mostStatePrices}
 use Rattle.limits.specs.WithinLimits.{WithinLimits}
 use Rattle.lattice.specs.Shape.{discountsNeeded}
 use Rattle.lattice.specs.Entries.{discountsNeededAnswer, statePricesNeededAnswer, memoryCause}
 use Rattle.lattice.proofs.TreeEntries.{tree-value}
-use Rattle.fitting.specs.Entry.{fitMemory}
-use Rattle.fitting.proofs.CauseLaws.{memory-none}
-use Rattle.fitting.proofs.FittedTree.{fit-placed}
+use Rattle.fitted_laws.specs.Entry.{fitMemory}
+use Rattle.fitted_laws.proofs.CauseLaws.{memory-none}
+use Rattle.fitted_laws.proofs.FittedTree.{fit-placed}
 use Rattle.price_laws.specs.declared.Price.{Price}
 use Rattle.price_laws.specs.declared.BondAndOption.{BondAndOption}
 use Rattle.price_laws.specs.Prices.{refusedPrice, bondPrice, optionPrice, datedPrice}
@@ -31,14 +32,14 @@ use Rattle.job_record.specs.declared.Job.{Job}
 use Rattle.job_record.specs.declared.Reading.{Reading}
 use Rattle.job_record.specs.Form.{mostJobSteps, mostDates}
 use Rattle.job_record.specs.Reader.{readingOf}
-use Rattle.job_fit.specs.RecordFit.{jobReversion, jobFlows, jobDiscounts, jobStatePrices, recordFit, memoryAfter}
-use Rattle.job_fit.proofs.FitLaws as fits
-use Rattle.job_prices.specs.declared.JobPrices.{JobPrices}
-use Rattle.job_prices.specs.JobPrices.{optionForm, optionDates, taggedOption, treeNumber, refusedPrices, fittedMemory}
-use Rattle.job_prices.specs.JobPrices.{pricesOf, recordNumber, recordPrices, bytesNumber, bytesPrices, bytesMemory}
-use Rattle.job_prices.specs.inside.TreePrices.{treePrices}
-use Rattle.job_prices.proofs.Accepted.{record-accepted, record-formed}
-use Rattle.job_prices.proofs.FitLaws.{memory-widest, fit-in, short-refused}
+use Rattle.job_laws.specs.RecordFit.{jobReversion, jobFlows, jobDiscounts, jobStatePrices, recordFit, memoryAfter}
+use Rattle.job_laws.proofs.FitLaws as fits
+use Rattle.job_laws.specs.declared.JobPrices.{JobPrices}
+use Rattle.job_laws.specs.JobPrices.{optionForm, optionDates, taggedOption, treeNumber, refusedPrices, fittedMemory}
+use Rattle.job_laws.specs.JobPrices.{pricesOf, recordNumber, recordPrices, bytesNumber, bytesPrices, bytesMemory}
+use Rattle.job_laws.specs.inside.TreePrices.{treePrices}
+use Rattle.job_laws.proofs.Accepted.{record-accepted, record-formed}
+use Rattle.job_laws.proofs.FitMemories.{memory-widest, fit-in, short-refused}
 
 pub all-placed : (l₀ l part : List ℕ) (i : ℕ) → Filled l₀ l (values part) i → i ≡ length part → length part ≤ length l₀ → l ≡ place l₀ 0 part
 all-placed l₀ l part i filled e fits =
@@ -135,9 +136,10 @@ module _ (number : ℕ) (prices : JobPrices) (part₁ part₂ d p : List ℕ) (r
       (e, (ed ∙ sym (fits.memory-placed number part₁ d z), ep ∙ sym (fits.memory-placed number part₂ p z)))
 
 -- a cause that was found is the number: it is given, and both memories are as they were
-pub found-left : (cause number : ℕ) (bond : Price) (present : Bool) (option : Price) (part₁ part₂ d p : List ℕ) → cause ≡ number → (cause ≡ 0 → ⊥) →
+pub found-left : {cause number : ℕ} {bond : Price} {present : Bool} {option : Price} {part₁ part₂ d p : List ℕ} →
+    Implied (bond ▸ present ▸ option ▸ part₁ ▸ part₂ ▸ d ▸ lastly p) → cause ≡ number → (cause ≡ 0 → ⊥) →
     (r : JobPrices) → r ≡ refusedPrices cause → Left number (pricesOf number bond present option) part₁ part₂ d p r d p
-found-left cause number bond present option part₁ part₂ d p found nz r e =
+found-left {number = number} {bond} {present} {option} {part₁} {part₂} {d} {p} _ found nz r e =
     left-refused number _ part₁ part₂ d p r
     (e ∙ ap refusedPrices found ∙ prices-refused number bond present option (λ z. nz (found ∙ z))) (λ z. nz (found ∙ z))
 
@@ -385,7 +387,7 @@ module _ (bytes d p : List ℕ) (q : Reading) (e : q ≡ readingOf bytes) where
 
     pub bytes-refused : (r : JobPrices) → r ≡ refusedPrices (q .number) → Bytes bytes d p r d p
     unfolding bytesPrices
-    bytes-refused = found-left (q .number) _ _ _ _ _ _ d p read-found nz
+    bytes-refused = found-left implied read-found nz
 
     bytes-kept : (rows : Job → List ℕ) (memory : List ℕ) → memory ≡ bytesMemory bytes (length d) (length p) rows memory
     unfolding bytesMemory

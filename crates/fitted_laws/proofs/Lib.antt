@@ -1,0 +1,4 @@
+pub mod CauseLaws
+pub mod Promised
+pub mod FittedTree
+pub mod VersionLaws

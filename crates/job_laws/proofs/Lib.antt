@@ -1,0 +1,4 @@
+pub mod FitLaws
+pub mod Accepted
+pub mod FitMemories
+pub mod PriceLaws

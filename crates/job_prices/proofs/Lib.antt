@@ -1,3 +1,0 @@
-pub mod PriceLaws
-pub mod Accepted
-mod FitLaws
