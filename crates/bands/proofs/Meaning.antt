@@ -1,9 +1,10 @@
 -- The verdict is the one that the quantifiers describe, and no other is.
 -- Assumes nothing.
 use mathlib.Core.Path.{_≡_, refl, sym, _∙_, ap}
-use Prim.Native.Nat.{ℕ, _≤_, _<_}
+use Prim.Native.Nat.{ℕ, _+_, _≤_, _<_}
 use native.Mathlib.Omega.{arith}
 use native.Mathlib.Decide.{decLe, ℕ-discrete}
+use Rattle.limits.specs.Limits.{mostSteps}
 use Rattle.bands.specs.declared.Verdict.{Verdict}
 use Rattle.bands.specs.Bands.{Bands, coverage, failingPrice, failingRow, badIndex, tableVerdict, Partition}
 use Rattle.bands.specs.Judged.{FirstFailing, AllSound, Judged, bad-band, too-many, uncovered, overlapping, accepted}
@@ -60,9 +61,9 @@ module _ (b : Bands) where
   pub partition : 60 < failingRow b → Partition b
   partition h row price l m p = row-covered b row (failing-row-is b .before row l (omega arith)) price p
 
-  pub partition-row : Partition b → 61 ≡ failingRow b
+  pub partition-row : Partition b → mostSteps + 1 ≡ failingRow b
   partition-row all =
-      failing-row-found b 61
+      failing-row-found b (mostSteps + 1)
       (record {
         least = omega arith;
         most = omega arith;
@@ -70,7 +71,7 @@ module _ (b : Bands) where
         passes = λ m. absurd (none m);
       })
     where
-      none : 61 < 61 → ⊥
+      none : mostSteps + 1 < mostSteps + 1 → ⊥
       none m = omega arith
 
 module _ (b : Bands) (haircut : ℕ → ℕ) where
@@ -124,4 +125,4 @@ module _ (b : Bands) (haircut : ℕ → ℕ) where
       (coverage b row price) refl (λ q. omega arith)
       ∙ table-pairs b haircut (b .count) (sound-index all) (omega arith) m)
   judged-verdict v (accepted all m p e) =
-      e ∙ (pairs-accepted b 61 (partition-row b p) (omega arith) ∙ table-pairs b haircut (b .count) (sound-index all) (omega arith) m)
+      e ∙ (pairs-accepted b (mostSteps + 1) (partition-row b p) (omega arith) ∙ table-pairs b haircut (b .count) (sound-index all) (omega arith) m)

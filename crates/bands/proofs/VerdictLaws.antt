@@ -7,7 +7,7 @@ use Prim.Native.Nat.{ℕ, _+_, _≤_, _<_}
 use native.Mathlib.Omega.{arith}
 use borrow.Author.Tests.{le-leb, lt-leb, lt-ltb, le-ltb, eq-eqb, ne-eqb}
 use Rattle.bands.specs.inside.Search.{First}
-use Rattle.limits.specs.Limits.{valueLimit}
+use Rattle.limits.specs.Limits.{mostSteps, valueLimit}
 use Rattle.arithmetic.specs.Row.{values}
 use Rattle.arithmetic.proofs.Implied.{Implied, lastly, _▸_}
 use Rattle.bands.specs.Bands.{Bands, bandsOf, coverage, fails, failingPrice, failingRow, badIndex}
@@ -16,13 +16,13 @@ use Rattle.bands.proofs.FirstLaws.{first-is, first-found}
 use Rattle.bands.proofs.TestLaws.{true-fails}
 
 module _ (b : Bands) where
-  pub failing-row-is : First (fails b) 1 61 (failingRow b)
+  pub failing-row-is : First (fails b) 1 (mostSteps + 1) (failingRow b)
   unfolding failingRow
-  failing-row-is = first-is (fails b) 1 61 (omega arith)
+  failing-row-is = first-is (fails b) 1 (mostSteps + 1) (omega arith)
 
-  pub failing-row-found : (row : ℕ) → First (fails b) 1 61 row → row ≡ failingRow b
+  pub failing-row-found : (row : ℕ) → First (fails b) 1 (mostSteps + 1) row → row ≡ failingRow b
   unfolding failingRow
-  failing-row-found row f = first-found (fails b) 1 61 row (omega arith) f
+  failing-row-found row f = first-found (fails b) 1 (mostSteps + 1) row (omega arith) f
 
   pub pairs-accepted : (row : ℕ) → row ≡ failingRow b → 60 < row → verdictOf 0 0 0 0 ≡ pairsVerdict b
   unfolding pairsVerdict

@@ -45,7 +45,7 @@ use Rattle.job_record.specs.declared.Job.{Job}
 use Rattle.job_record.specs.declared.OptionRecord.{OptionRecord}
 use Rattle.job_record.specs.declared.Reading.{Reading}
 use Rattle.job_record.specs.Reader.{readingOf}
-use Rattle.job_record.specs.Form.{mostDates, wellFormed}
+use Rattle.job_record.specs.Form.{mostJobSteps, mostDates, wellFormed}
 use Rattle.job_laws.specs.RecordFit.{jobReversion, jobFlows, jobDiscounts, recordFit}
 use Rattle.job_laws.specs.JobPrices.{hasOption, optionForm, taggedOption, treeNumber, recordNumber, bytesNumber, bytesPrices, pricesOf, jobOption}
 use Rattle.job_laws.proofs.Accepted.{AcceptedRecord, bytes-accepted}
@@ -188,7 +188,7 @@ record-most job discounts prices =
     (chosen-most (leb (job .option .count) mostDates && (eqb (job .option .tag) 0 || (eqb (job .option .tag) 8 || eqb (job .option .tag) 10))) 0 1 mostNumber
     (omega arith) (omega arith))
     (first-most _ _ mostNumber
-    (lowest-most _ _ mostNumber (chosen-most (ltb 255 (job .steps)) 1 _ mostNumber (omega arith) (fit-most implied)) (memory-most _ _ _ _))
+    (lowest-most _ _ mostNumber (chosen-most (ltb mostJobSteps (job .steps)) 1 _ mostNumber (omega arith) (fit-most implied)) (memory-most _ _ _ _))
     (tree-number-most implied))
 
 reading-most : (bytes : List ℕ) → readingOf bytes .number ≤ mostNumber

@@ -1,9 +1,10 @@
 -- `bands::failing_price` meets its contract: the walk from stop to stop leaves out no failing price.
 -- Assumes nothing.
 use mathlib.Core.Path.{_≡_}
-use Prim.Native.Nat.{_-_}
+use Prim.Native.Nat.{_+_, _-_}
 use borrow.Author.Needs.{needs}
 use native.Mathlib.Omega.{arith}
+use Rattle.limits.specs.Limits.{valueLimit}
 use Rattle.bands.specs.Bands.{bandsOf, failing, failingPrice}
 use Rattle.bands.proofs.FirstLaws.{Searched, searched-start, searched-jump, searched-found, searched-none}
 use Rattle.bands.proofs.TestLaws.{stop-fails, stop-passes}
@@ -11,10 +12,10 @@ use Rattle.bands.proofs.failing_price.Statement.{statement}
 use Rattle.bands.proofs.failing_price.Tie as tie
 
 abbrev Inv-loop : tie.InvT-loop
-Inv-loop firsts lasts lowests highests row price₀ price = Searched (failing (bandsOf firsts lasts lowests highests) row) 0 8000000001 price
+Inv-loop firsts lasts lowests highests row price₀ price = Searched (failing (bandsOf firsts lasts lowests highests) row) 0 (valueLimit + 1) price
 
 abbrev μ-loop : tie.MeasureT-loop
-μ-loop firsts lasts lowests highests row price₀ price = 8000000001 - price
+μ-loop firsts lasts lowests highests row price₀ price = valueLimit + 1 - price
 
 loop-holds : tie.Need-loop-holds Inv-loop μ-loop
 loop-holds c = searched-start (omega arith)
@@ -38,7 +39,7 @@ returns-2 : tie.Need-returns-2 Inv-loop μ-loop
 unfolding failingPrice
 returns-2 c =
     let a = c .before .before .before .before .before .before .args in
-    let end : c .before .loop .price ≡ 8000000001 = omega (arith, c .before .loop .inv .most) in
+    let end : c .before .loop .price ≡ valueLimit + 1 = omega (arith, c .before .loop .inv .most) in
     searched-none (rw end at (c .before .loop .inv))
 
 pub failing-price-spec : {M : Type 1} → statement M

@@ -2,8 +2,9 @@
 -- Assumes nothing.
 use mathlib.Core.List.{List}
 use mathlib.Core.Path.{_≡_, ap}
-use Prim.Native.Nat.{ℕ, _≤_, _<_}
+use Prim.Native.Nat.{ℕ, _+_, _≤_, _<_}
 use lib.ListN.{length}
+use Rattle.limits.specs.Limits.{mostSteps}
 use Rattle.state_price_bound.specs.declared.RowBounds.{RowBounds}
 use Rattle.sheet_laws.proofs.PartLaws as laws
 use borrow.Author.Needs.{needs}
@@ -23,10 +24,10 @@ abbrev start : tie.After-put-prices → tie.Start
 start c = c .before .before .before .before .before .before .before .before
 
 -- a place for each row
-size : (c : tie.After-state-price-error-bounds) → length (c .state-price-error-bounds .result .bounds) ≡ 61
+size : (c : tie.After-state-price-error-bounds) → length (c .state-price-error-bounds .result .bounds) ≡ mostSteps + 1
 size c = search needs
 
-all-rows : (n : ℕ) (bounds : List ℕ) → n ≤ 60 → length bounds ≡ 61 → n < length bounds
+all-rows : (n : ℕ) (bounds : List ℕ) → n ≤ mostSteps → length bounds ≡ mostSteps + 1 → n < length bounds
 all-rows n bounds few e = omega arith
 
 put-rows-requires : tie.Need-put-rows-requires
