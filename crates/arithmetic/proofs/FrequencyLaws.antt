@@ -7,14 +7,14 @@ use Prim.Native.Nat.{ℕ, ◌≤◌}
 use native.Mathlib.Omega.{arith}
 use lib.Dec.{eqb}
 use borrow.Author.Tests.{eqb-true, ne_eqb}
-use Rattle.arithmetic.specs.Frequency.{isFrequency}
+use Rattle.arithmetic.specs.Frequency.{is_frequency}
 
 true≢false : true ≡ false → ⊥
 true≢false q = let z : ◌≡◌ {A = ℕ} 0 1 = cc in omega arith
 
 -- a listed number of steps a year is one of the four
-pub listed-cases : (f : ℕ) → isFrequency f ≡ true → (f ≡ 1) ⊎ ((f ≡ 2) ⊎ ((f ≡ 4) ⊎ (f ≡ 12)))
-unfolding isFrequency
+pub listed-cases : (f : ℕ) → is_frequency f ≡ true → (f ≡ 1) ⊎ ((f ≡ 2) ⊎ ((f ≡ 4) ⊎ (f ≡ 12)))
+unfolding is_frequency
 listed-cases f h = first (eqb f 1) refl h
   where
     fourth : (z : Bool) → eqb f 12 ≡ z → z ≡ true → f ≡ 12
@@ -33,7 +33,7 @@ listed-cases f h = first (eqb f 1) refl h
     first true e g = inl (eqb-true f 1 e)
     first false e g = inr (second (eqb f 2) refl g)
 
-pub listed_small : (f : ℕ) → isFrequency f ≡ true → (1 ≤ f) × (f ≤ 12)
+pub listed_small : (f : ℕ) → is_frequency f ≡ true → (1 ≤ f) × (f ≤ 12)
 listed_small f h = by-case (listed-cases f h)
   where
     by-case : (f ≡ 1) ⊎ ((f ≡ 2) ⊎ ((f ≡ 4) ⊎ (f ≡ 12))) → (1 ≤ f) × (f ≤ 12)
@@ -42,6 +42,6 @@ listed_small f h = by-case (listed-cases f h)
     by-case (inr (inr (inl e))) = (omega arith, omega arith)
     by-case (inr (inr (inr e))) = (omega arith, omega arith)
 
-pub listed-last : (f : ℕ) → (f ≡ 1 → ⊥) → (f ≡ 2 → ⊥) → (f ≡ 4 → ⊥) → eqb f 12 ≡ isFrequency f
-unfolding isFrequency
+pub listed-last : (f : ℕ) → (f ≡ 1 → ⊥) → (f ≡ 2 → ⊥) → (f ≡ 4 → ⊥) → eqb f 12 ≡ is_frequency f
+unfolding is_frequency
 listed-last f a b c = rw (ne_eqb f 1 a, ne_eqb f 2 b, ne_eqb f 4 c)

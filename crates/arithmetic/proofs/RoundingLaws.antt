@@ -8,16 +8,16 @@ use native.Mathlib.Nat.{div-eq_of_lt, div-lt_iff_lt-mul, lt-div-mul-add, le-div_
 use native.Mathlib.Omega.{arith}
 use lib.IntN.{ℤ, pos, negsuc, neg_ℤ, nat_abs}
 use lib.Ieee.Nearest.{div_same}
-use Rattle.arithmetic.specs.Rounding.{one, roundDown, round_up, nearest, nearestSigned, Rounds}
+use Rattle.arithmetic.specs.Rounding.{one, round_down, round_up, nearest, nearest_signed, Rounds}
 
 module _ (a d : ℕ) (h : 0 < d) where
   -- down: at most the quotient, and less than one below it
-  pub down_le : d * roundDown a d ≤ a
-  unfolding roundDown
+  pub down_le : d * round_down a d ≤ a
+  unfolding round_down
   down_le = mul-div-le a d
 
-  pub down-gt : a < d * roundDown a d + d
-  unfolding roundDown
+  pub down-gt : a < d * round_down a d + d
+  unfolding round_down
   down-gt = omega (arith, lt-div-mul-add {a = a} h)
 
   -- up: at least the quotient, and less than one above it
@@ -38,8 +38,8 @@ module _ (a d : ℕ) (h : 0 < d) where
 div-monotone : (a b d : ℕ) → 0 < d → a ≤ b → a / d ≤ b / d
 div-monotone a b d p h = (le-div_iff_mul-le {k = d} {x = a / d} {y = b} p).1 (omega (arith, mul-div-le a d))
 
-pub down-rounds : Rounds roundDown 0 2
-unfolding roundDown
+pub down-rounds : Rounds round_down 0 2
+unfolding round_down
 down-rounds =
     record {
       above = λ a d h. omega (arith, down_le a d h);
@@ -86,8 +86,8 @@ abs-negative : (n : ℕ) → nat_abs (neg_ℤ (pos n)) ≡ n
 abs-negative zero = refl
 abs-negative (suc n) = refl
 
-pub nearest-magnitude : (z : ℤ) (d : ℕ) → nat_abs (nearestSigned z d) ≡ nearest (nat_abs z) d
-unfolding nearestSigned
+pub nearest-magnitude : (z : ℤ) (d : ℕ) → nat_abs (nearest_signed z d) ≡ nearest (nat_abs z) d
+unfolding nearest_signed
 nearest-magnitude (pos a) d = refl
 nearest-magnitude (negsuc a) d = abs-negative (nearest (suc a) d)
 
@@ -139,5 +139,5 @@ product-by-parts s one g pg =
 
 -- the bounds of a quotient with a sign, by its magnitude
 pub nearest-signed-bounds : (z : ℤ) (d : ℕ) → 0 < d →
-    (2 * (d * nat_abs (nearestSigned z d)) ≤ 2 * nat_abs z + d) × (2 * nat_abs z < 2 * (d * nat_abs (nearestSigned z d)) + d)
+    (2 * (d * nat_abs (nearest_signed z d)) ≤ 2 * nat_abs z + d) × (2 * nat_abs z < 2 * (d * nat_abs (nearest_signed z d)) + d)
 nearest-signed-bounds z d h = rw (nearest-magnitude z d) (nearest-le-half (nat_abs z) d h, nearest-gt-half (nat_abs z) d h)

@@ -12,13 +12,13 @@ abbrev pub answered : ℕ → Answer
 answered result = record { number = 0; value = result }
 
 -- what a call with such a number leaves: as it was where it is refused
-abbrev pub unlessRefused : {A : Type 0} → ℕ → A → A → A
-unlessRefused number after before = cond (eqb number 0) after before
+abbrev pub unless_refused : {A : Type 0} → ℕ → A → A → A
+unless_refused number after before = cond (eqb number 0) after before
 
 -- the first of two causes; 0 stands for none
-unfoldable pub firstCause : ℕ → ℕ → ℕ
-firstCause cause later = cond (eqb cause 0) later cause
+unfoldable pub first_cause : ℕ → ℕ → ℕ
+first_cause cause later = cond (eqb cause 0) later cause
 
 -- the lowest of two causes; 0 stands for none
-unfoldable pub lowestCause : ℕ → ℕ → ℕ
-lowestCause a b = cond (eqb a 0) b (cond (eqb b 0) a (min a b))
+unfoldable pub lowest_cause : ℕ → ℕ → ℕ
+lowest_cause a b = cond (eqb a 0) b (cond (eqb b 0) a (min a b))

@@ -3,5 +3,5 @@
 use Rattle.std.specs.Prelude.{ℕ, ◌^◌, cond, ltb}
 
 -- the power of ten that the table holds, 0 past its end
-unfoldable pub powerOfTen : ℕ → ℕ
-powerOfTen exponent = cond (ltb exponent 19) (10 ^ exponent) 0
+unfoldable pub power_of_ten : ℕ → ℕ
+power_of_ten exponent = cond (ltb exponent 19) (10 ^ exponent) 0

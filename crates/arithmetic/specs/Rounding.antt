@@ -7,8 +7,8 @@ abbrev pub one : ℕ
 one = 1000000000
 
 -- a / d, down
-unfoldable pub roundDown : ℕ → ℕ → ℕ
-roundDown a d = a / d
+unfoldable pub round_down : ℕ → ℕ → ℕ
+round_down a d = a / d
 
 -- a / d, up
 unfoldable pub round_up : ℕ → ℕ → ℕ
@@ -19,13 +19,13 @@ unfoldable pub nearest : ℕ → ℕ → ℕ
 nearest a d = (2 * a + d) / (2 * d)
 
 -- the same of numbers with a sign
-unfoldable pub roundDownSigned : ℤ → ℕ → ℤ
-roundDownSigned (pos a) d = pos (roundDown a d)
-roundDownSigned (negsuc a) d = neg_ℤ (pos (round_up (suc a) d))
+unfoldable pub round_down_signed : ℤ → ℕ → ℤ
+round_down_signed (pos a) d = pos (round_down a d)
+round_down_signed (negsuc a) d = neg_ℤ (pos (round_up (suc a) d))
 
-unfoldable pub nearestSigned : ℤ → ℕ → ℤ
-nearestSigned (pos a) d = pos (nearest a d)
-nearestSigned (negsuc a) d = neg_ℤ (pos (nearest (suc a) d))
+unfoldable pub nearest_signed : ℤ → ℕ → ℤ
+nearest_signed (pos a) d = pos (nearest a d)
+nearest_signed (negsuc a) d = neg_ℤ (pos (nearest (suc a) d))
 
 -- What laws use of a division: it exceeds the exact quotient by at most over / 2, falls short of it by at most under / 2, keeps order,
 -- and leaves a whole quotient.

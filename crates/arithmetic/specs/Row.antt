@@ -17,8 +17,8 @@ unfoldable pub sum_of : List ℕ → ℕ
 sum_of l = sum (length l) (values l)
 
 -- the greatest of a list; 0 where it is empty
-abbrev pub greatestOf : List ℕ → ℕ
-greatestOf l = greatest (length l) (values l)
+abbrev pub greatest_of : List ℕ → ℕ
+greatest_of l = greatest (length l) (values l)
 
 -- a memory in which a list stands from an index on, everything else as it was
 unfoldable pub place : List ℕ → ℕ → List ℕ → List ℕ

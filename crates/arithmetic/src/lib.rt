@@ -1,10 +1,10 @@
 // Rounding, sums and rows that every layer shares, answers with their causes, the powers of ten, and tests of slices.
 ghost use Rattle.std.specs.Prelude.{◌≡◌, ◌<◌, ◌≤◌, ◌^◌, max, nat_abs, length};
 ghost use Rattle.arithmetic.specs.Sum.{greatest};
-ghost use Rattle.arithmetic.specs.Row.{values, greatestOf, each, between};
-ghost use Rattle.arithmetic.specs.Power.{powerOfTen};
-ghost use Rattle.arithmetic.specs.Frequency.{isFrequency};
-ghost use Rattle.arithmetic.specs.Answers.{lowestCause};
+ghost use Rattle.arithmetic.specs.Row.{values, greatest_of, each, between};
+ghost use Rattle.arithmetic.specs.Power.{power_of_ten};
+ghost use Rattle.arithmetic.specs.Frequency.{is_frequency};
+ghost use Rattle.arithmetic.specs.Answers.{lowest_cause};
 
 // One, in billionths.
 pub const ONE: u64 = 1_000_000_000;
@@ -49,7 +49,7 @@ fn table_entry(exponent: usize) -> u64
 
 // The power of ten with this exponent, or 0 where the table has none.
 pub fn power_of_ten(exponent: usize) -> u64
-    ensures { result ≡ powerOfTen exponent }
+    ensures { result ≡ power_of_ten exponent }
 {
     if exponent < 19 {
         table_entry(exponent)
@@ -60,7 +60,7 @@ pub fn power_of_ten(exponent: usize) -> u64
 
 // Whether the steps a year are 1, 2, 4 or 12.
 pub fn is_frequency(frequency: u64) -> bool
-    ensures { result ≡ isFrequency frequency }
+    ensures { result ≡ is_frequency frequency }
 {
     if frequency == 1 {
         return true;
@@ -76,7 +76,7 @@ pub fn is_frequency(frequency: u64) -> bool
 
 // The lowest of two causes; 0 stands for none.
 pub fn lowest_cause(a: u64, b: u64) -> u64
-    ensures { result ≡ lowestCause a b }
+    ensures { result ≡ lowest_cause a b }
 {
     if a == 0 {
         return b;
@@ -126,7 +126,7 @@ fn next_above(xs: &[u64], best: u64, from: usize) -> usize
 
 // The greatest of a row, 0 where it is empty. A search between the few places where it grows costs less than a choice at each.
 pub fn greatest_of(xs: &[u64]) -> u64
-    ensures { result ≡ greatestOf xs.now }
+    ensures { result ≡ greatest_of xs.now }
 {
     let mut best: u64 = 0;
     let mut k: usize = 0;

@@ -7,19 +7,19 @@ use Prim.Native.Nat.{ℕ, ◌+◌, ◌≤◌, ◌<◌}
 use native.Mathlib.Omega.{arith}
 use Rattle.arithmetic.specs.Row.{values}
 use Rattle.arithmetic.proofs.Implied.{implied}
-use Rattle.bands.specs.Bands.{coverage, tableVerdict}
+use Rattle.bands.specs.Bands.{coverage, table_verdict}
 use Rattle.bands.specs.Judged.{FirstFailing, AllSound, Judged, bad-band, too_many, uncovered, overlapping, accepted}
 use Rattle.bands.specs.declared.Verdict.{Verdict}
 use Rattle.bands.proofs.VerdictLaws.{verdict-lengths, verdict-table}
 use Rattle.bands.proofs.Meaning.{verdict-judged, judged-verdict}
-use Rattle.lending.specs.Lending.{afterHaircut}
+use Rattle.lending.specs.Lending.{after_haircut}
 use Rattle.lending.specs.declared.Worth.{Worth}
 use Rattle.lending.proofs.LendingLaws.{refused-number, lending-accepted, lending-row-low, lending-row-high, lending-lengths}
 use Rattle.lending.proofs.LendingLaws.{lending-price, lending-refused, worth-most}
-use Rattle.band_promises.specs.BandPromises.{Table, size, verdictOn, worthBy, shown, without, OneLength, AllGood}
+use Rattle.band_promises.specs.BandPromises.{Table, size, verdict_on, worth_by, shown, without, OneLength, AllGood}
 use Rattle.band_promises.specs.BandPromises.{Once, Pair, OnceBefore, Says, Lent, BandPromises}
 use Rattle.band_promises.specs.BandPromises.{no_table, a-bad-band, over-forty, in-none, in-several, is-accepted}
-use Rattle.band_promises.proofs.CoverLaws.{by-test, true-false, bandsIn, same, same_length, length-same, length-other}
+use Rattle.band_promises.proofs.CoverLaws.{by-test, true-false, bands_in, same, same_length, length-same, length-other}
 use Rattle.band_promises.proofs.CoverLaws.{once_is, nowhere-is, twice-is, once-band, is-once, is-nowhere, is-twice}
 use Rattle.band_promises.proofs.CoverLaws.{sound-good, good-sound, unsound-bad, bad-unsound}
 
@@ -27,22 +27,22 @@ use Rattle.band_promises.proofs.CoverLaws.{sound-good, good-sound, unsound-bad, 
 
 module _ (t : Table) where
   abbrev Means : Verdict → Type 0
-  Means v = Judged (bandsIn t) (values t.haircuts) v
+  Means v = Judged (bands_in t) (values t.haircuts) v
 
-  all-good : OneLength t → AllSound (bandsIn t) (values t.haircuts) → size t ≤ 40 → AllGood t
+  all-good : OneLength t → AllSound (bands_in t) (values t.haircuts) → size t ≤ 40 → AllGood t
   all-good one all m = record { one-length = one; good = λ k h. sound-good t k (all k h); not-many = m }
 
-  all_sound : AllGood t → AllSound (bandsIn t) (values t.haircuts)
+  all_sound : AllGood t → AllSound (bands_in t) (values t.haircuts)
   all_sound g k h = good-sound t k (g.good k h)
 
   module _ (row price : ℕ) where
-    before : FirstFailing (bandsIn t) row price → OnceBefore t row price
+    before : FirstFailing (bands_in t) row price → OnceBefore t row price
     before f r p q =
         ⊎_elim (λ l. once_is t r p (f.rows_before r p q.0 l q.2))
         (λ e. subst (λ (x : ℕ). Once t x p) (sym e.0) (once_is t row p (f.prices-before p e.1)))
 
     first-failing :
-        Pair row price → (coverage (bandsIn t) row price ≡ 1 → ⊥) → OnceBefore t row price → FirstFailing (bandsIn t) row price
+        Pair row price → (coverage (bands_in t) row price ≡ 1 → ⊥) → OnceBefore t row price → FirstFailing (bands_in t) row price
     first-failing q h b =
         record {
           row-least = q.0;
@@ -64,25 +64,25 @@ module _ (t : Table) where
   judged-says one v (accepted all m p e) =
       is-accepted (all-good one all m) (λ row price q. once_is t row price (p row price q.0 q.1 q.2)) e
 
-  on-table : OneLength t → tableVerdict (bandsIn t) (values t.haircuts) ≡ verdictOn t
+  on-table : OneLength t → table_verdict (bands_in t) (values t.haircuts) ≡ verdict_on t
   on-table one = verdict-table implied (length-same t one)
 
-  no_lengths : (OneLength t → ⊥) → shown 6 0 0 0 ≡ verdictOn t
+  no_lengths : (OneLength t → ⊥) → shown 6 0 0 0 ≡ verdict_on t
   no_lengths h = verdict-lengths implied (length-other t h)
 
-  says : Says t (verdictOn t)
+  says : Says t (verdict_on t)
   says =
       by-test (same t)
       (λ e.
       let one = same_length t e in
-      subst (Says t) (on-table one) (judged-says one (tableVerdict (bandsIn t) (values t.haircuts)) (verdict-judged (bandsIn t) (values t.haircuts))))
+      subst (Says t) (on-table one) (judged-says one (table_verdict (bands_in t) (values t.haircuts)) (verdict-judged (bands_in t) (values t.haircuts))))
       (λ e. let none : OneLength t → ⊥ = λ h. true-false (sym (length-same t h) ∙ e) in no_table none (sym (no_lengths none)))
 
   module _ (v : Verdict) where
-    meant : OneLength t → Means v → v ≡ verdictOn t
-    meant one j = judged-verdict (bandsIn t) (values t.haircuts) v j ∙ on-table one
+    meant : OneLength t → Means v → v ≡ verdict_on t
+    meant one j = judged-verdict (bands_in t) (values t.haircuts) v j ∙ on-table one
 
-    only : Says t v → v ≡ verdictOn t
+    only : Says t v → v ≡ verdict_on t
     only (no_table h e) = e ∙ no_lengths h
     only (a-bad-band k one h bad good e) =
         meant one (bad-band k h (bad-unsound t k bad) (λ j m. good-sound t j (good j m)) e)
@@ -102,13 +102,13 @@ module _ (t : Table) where
   -- ---- the worth
 
   -- number 0 is given to a table alone
-  has-lengths : (verdictOn t).number ≡ 0 → OneLength t
+  has-lengths : (verdict_on t).number ≡ 0 → OneLength t
   has-lengths z = by-test (same t) (same_length t) (λ e. absurd (other e))
     where
       other : same t ≡ false → ⊥
       other e =
           let none : OneLength t → ⊥ = λ h. true-false (sym (length-same t h) ∙ e) in
-          refused-number (verdictOn t) 5 0 0 0 (sym (no_lengths none)) z
+          refused-number (verdict_on t) 5 0 0 0 (sym (no_lengths none)) z
 
   -- and says that each pair is in precisely one band
   zero-says : (v : Verdict) → v.number ≡ 0 → Says t v → (v ≡ shown 0 0 0 0) × ((row price : ℕ) → Pair row price → Once t row price)
@@ -120,11 +120,11 @@ module _ (t : Table) where
   zero-says v z (is-accepted g p e) = (e, p)
 
   module _ (row price : ℕ) (q : Pair row price) where
-    lent_by : (verdictOn t).number ≡ 0 → Lent t row price
+    lent_by : (verdict_on t).number ≡ 0 → Lent t row price
     lent_by z =
-        let s = zero-says (verdictOn t) z says in
+        let s = zero-says (verdict_on t) z says in
         let one = s.1 row price q in
-        let answer : record { worth = afterHaircut price (values t.haircuts one.band); verdict = verdictOn t } ≡ worthBy t row price =
+        let answer : record { worth = after_haircut price (values t.haircuts one.band); verdict = verdict_on t } ≡ worth_by t row price =
         lending-accepted implied (length-same t (has-lengths z)) refl z q.0 q.1 q.2 (once-band t row price one) in
         record {
           found = one;
@@ -134,22 +134,22 @@ module _ (t : Table) where
           verdict-zero = sym (ap (λ (w : Worth). w.verdict) answer) ∙ s.0;
         }
 
-    refused-by : OneLength t → ((verdictOn t).number ≡ 0 → ⊥) → worthBy t row price ≡ without (verdictOn t)
+    refused-by : OneLength t → ((verdict_on t).number ≡ 0 → ⊥) → worth_by t row price ≡ without (verdict_on t)
     refused-by one z =
         sym (lending-refused implied q.0 q.1 (length-same t one) refl q.2 z)
 
   module _ (row price : ℕ) where
-    past_row : 60 < row → worthBy t row price ≡ without (shown 6 0 0 0)
+    past_row : 60 < row → worth_by t row price ≡ without (shown 6 0 0 0)
     past_row h = sym (lending-row-high implied h)
 
-    before-row : row < 1 → worthBy t row price ≡ without (shown 6 0 0 0)
+    before-row : row < 1 → worth_by t row price ≡ without (shown 6 0 0 0)
     before-row h = sym (lending-row-low implied h)
 
-    other-lengths : (OneLength t → ⊥) → worthBy t row price ≡ without (shown 6 0 0 0)
+    other-lengths : (OneLength t → ⊥) → worth_by t row price ≡ without (shown 6 0 0 0)
     other-lengths h =
         sym (lending-lengths implied (length-other t h))
 
-    past-price : 1 ≤ row → row ≤ 60 → OneLength t → 8000000000 < price → worthBy t row price ≡ without (shown 12 0 0 0)
+    past-price : 1 ≤ row → row ≤ 60 → OneLength t → 8000000000 < price → worth_by t row price ≡ without (shown 12 0 0 0)
     past-price l m one h =
         sym (lending-price implied l m (length-same t one) h)
 

@@ -11,11 +11,11 @@ use lib.Dec.{leb}
 use Rattle.arithmetic.specs.Row.{values}
 use Rattle.arithmetic.proofs.BetweenLaws.{and_left, and_right}
 use Rattle.arithmetic.proofs.Implied.{implied}
-use Rattle.bands.specs.Bands.{Bands, bandsOf, within, contains, flag, covering, coverage, sound, unsound, sameLengths}
+use Rattle.bands.specs.Bands.{Bands, bands_of, within, contains, flag, covering, coverage, sound, unsound, same_lengths}
 use Rattle.bands.proofs.StopLaws.{inside}
 use Rattle.bands.proofs.SoundLaws.{sound-band, band-sound}
 use Rattle.bands.proofs.TestLaws.{lengths-agree, one-length}
-use Rattle.lending.specs.Lending.{bandIndex}
+use Rattle.lending.specs.Lending.{band_index}
 use Rattle.lending.proofs.LendingLaws.{none-covering, some-covering, two-covering, band-found, band-contains, band-only}
 use Rattle.band_promises.specs.BandPromises.{Table, size, OneLength, Good, Holds, Once, Nowhere, Twice}
 
@@ -86,20 +86,20 @@ module _ (b : Bands) (row price : ℕ) where
 
 -- ---- pairs
 
-abbrev pub bandsIn : Table → Bands
-bandsIn t = bandsOf t.firstRows t.lastRows t.lowestPrices t.highestPrices
+abbrev pub bands_in : Table → Bands
+bands_in t = bands_of t.first_rows t.last_rows t.lowest_prices t.highest_prices
 
 module _ (t : Table) (row price : ℕ) where
-  holds-contains : (k : ℕ) → Holds t row price k → contains (bandsIn t) row price k ≡ true
+  holds-contains : (k : ℕ) → Holds t row price k → contains (bands_in t) row price k ≡ true
   holds-contains k h = inside h.from_row h.to_row h.from-price h.to-price
 
-  contains-holds : (k : ℕ) → k < size t → contains (bandsIn t) row price k ≡ true → Holds t row price k
+  contains-holds : (k : ℕ) → k < size t → contains (bands_in t) row price k ≡ true → Holds t row price k
   unfolding within
   contains-holds k fits c =
-      let f = values t.firstRows k in
-      let l = values t.lastRows k in
-      let lo = values t.lowestPrices k in
-      let hi = values t.highestPrices k in
+      let f = values t.first_rows k in
+      let l = values t.last_rows k in
+      let lo = values t.lowest_prices k in
+      let hi = values t.highest_prices k in
       let t₄ = leb price hi in
       let t₃ = leb lo price && t₄ in
       let t₂ = leb row l && t₃ in
@@ -113,21 +113,21 @@ module _ (t : Table) (row price : ℕ) where
         to-price = leb-true price hi (and_right (leb lo price) t₄ c₃);
       }
 
-  pub once_is : coverage (bandsIn t) row price ≡ 1 → Once t row price
+  pub once_is : coverage (bands_in t) row price ≡ 1 → Once t row price
   once_is e =
-      let b = bandsIn t in
+      let b = bands_in t in
       record {
-        band = bandIndex b row price;
-        holds = contains-holds (bandIndex b row price) (band-found b row price e) (band-contains b row price e);
+        band = band_index b row price;
+        holds = contains-holds (band_index b row price) (band-found b row price e) (band-contains b row price e);
         only = λ k h. band-only b row price e k h.in_table (holds-contains k h);
       }
 
-  pub nowhere-is : coverage (bandsIn t) row price ≡ 0 → Nowhere t row price
-  nowhere-is e k h = omega (arith, some-covering (bandsIn t) row price (size t) k h.in_table (holds-contains k h))
+  pub nowhere-is : coverage (bands_in t) row price ≡ 0 → Nowhere t row price
+  nowhere-is e k h = omega (arith, some-covering (bands_in t) row price (size t) k h.in_table (holds-contains k h))
 
-  pub twice-is : 2 ≤ coverage (bandsIn t) row price → Twice t row price
+  pub twice-is : 2 ≤ coverage (bands_in t) row price → Twice t row price
   twice-is e =
-      let c = two-counted (bandsIn t) row price (size t) e in
+      let c = two-counted (bands_in t) row price (size t) e in
       record {
         band = c.band;
         later = c.later;
@@ -136,39 +136,39 @@ module _ (t : Table) (row price : ℕ) where
         holds-too = contains-holds c.later c.fits c.contained-too;
       }
 
-  pub is-twice : Twice t row price → 2 ≤ coverage (bandsIn t) row price
+  pub is-twice : Twice t row price → 2 ≤ coverage (bands_in t) row price
   is-twice h =
-      two-covering (bandsIn t) row price (size t) h.band h.later h.apart h.holds-too.in_table
+      two-covering (bands_in t) row price (size t) h.band h.later h.apart h.holds-too.in_table
       (holds-contains h.band h.holds) (holds-contains h.later h.holds-too)
 
-  pub is-nowhere : Nowhere t row price → coverage (bandsIn t) row price ≡ 0
+  pub is-nowhere : Nowhere t row price → coverage (bands_in t) row price ≡ 0
   is-nowhere h =
-      none-covering (bandsIn t) row price (size t)
-      (λ k m. by-test (contains (bandsIn t) row price k) (λ e. absurd (h k (contains-holds k m e))) (λ e. e))
+      none-covering (bands_in t) row price (size t)
+      (λ k m. by-test (contains (bands_in t) row price k) (λ e. absurd (h k (contains-holds k m e))) (λ e. e))
 
-  pub is-once : Once t row price → coverage (bandsIn t) row price ≡ 1
+  pub is-once : Once t row price → coverage (bands_in t) row price ≡ 1
   is-once h =
-      let least = some-covering (bandsIn t) row price (size t) h.band h.holds.in_table (holds-contains h.band h.holds) in
-      elim (dec_le 2 (coverage (bandsIn t) row price)) [ yes m ↦ absurd (none m) | no m ↦ omega (arith, least) ]
+      let least = some-covering (bands_in t) row price (size t) h.band h.holds.in_table (holds-contains h.band h.holds) in
+      elim (dec_le 2 (coverage (bands_in t) row price)) [ yes m ↦ absurd (none m) | no m ↦ omega (arith, least) ]
     where
-      none : 2 ≤ coverage (bandsIn t) row price → ⊥
+      none : 2 ≤ coverage (bands_in t) row price → ⊥
       none m =
           let c = twice-is m in
           omega (arith, c.apart, h.only c.band c.holds, h.only c.later c.holds-too)
 
   -- the search for a band finds this one
-  pub once-band : (o : Once t row price) → o.band ≡ bandIndex (bandsIn t) row price
-  once-band o = band-only (bandsIn t) row price (is-once o) o.band o.holds.in_table (holds-contains o.band o.holds)
+  pub once-band : (o : Once t row price) → o.band ≡ band_index (bands_in t) row price
+  once-band o = band-only (bands_in t) row price (is-once o) o.band o.holds.in_table (holds-contains o.band o.holds)
 
 -- ---- bands
 
 module _ (t : Table) (k : ℕ) where
-  pub sound-good : unsound (bandsIn t) (values t.haircuts) k ≡ false → Good t k
+  pub sound-good : unsound (bands_in t) (values t.haircuts) k ≡ false → Good t k
   sound-good e =
-      let f = values t.firstRows k in
-      let l = values t.lastRows k in
-      let lo = values t.lowestPrices k in
-      let hi = values t.highestPrices k in
+      let f = values t.first_rows k in
+      let l = values t.last_rows k in
+      let lo = values t.lowest_prices k in
+      let hi = values t.highest_prices k in
       let h = values t.haircuts k in
       let s = sound-band (not-false (sound f l lo hi h) e) in
       record {
@@ -183,7 +183,7 @@ module _ (t : Table) (k : ℕ) where
         haircut-most = s.haircut-most;
       }
 
-  pub good-sound : Good t k → unsound (bandsIn t) (values t.haircuts) k ≡ false
+  pub good-sound : Good t k → unsound (bands_in t) (values t.haircuts) k ≡ false
   good-sound g =
       ap not
       (band-sound
@@ -199,17 +199,17 @@ module _ (t : Table) (k : ℕ) where
         haircut-most = g.haircut-most;
       }))
 
-  pub unsound-bad : unsound (bandsIn t) (values t.haircuts) k ≡ true → Good t k → ⊥
+  pub unsound-bad : unsound (bands_in t) (values t.haircuts) k ≡ true → Good t k → ⊥
   unsound-bad e g = true-false (sym e ∙ good-sound g)
 
-  pub bad-unsound : (Good t k → ⊥) → unsound (bandsIn t) (values t.haircuts) k ≡ true
-  bad-unsound bad = by-test (unsound (bandsIn t) (values t.haircuts) k) (λ e. e) (λ e. absurd (bad (sound-good e)))
+  pub bad-unsound : (Good t k → ⊥) → unsound (bands_in t) (values t.haircuts) k ≡ true
+  bad-unsound bad = by-test (unsound (bands_in t) (values t.haircuts) k) (λ e. e) (λ e. absurd (bad (sound-good e)))
 
 -- ---- lengths
 
 module _ (t : Table) where
   abbrev pub same : Bool
-  same = sameLengths t.firstRows t.lastRows t.lowestPrices t.highestPrices t.haircuts
+  same = same_lengths t.first_rows t.last_rows t.lowest_prices t.highest_prices t.haircuts
 
   pub same_length : same ≡ true → OneLength t
   same_length e =

@@ -5,45 +5,45 @@ use Rattle.std.specs.Prelude.{◌≡◌, List, ◌⊎◌, ℕ, ◌+◌, ◌-◌,
 use Rattle.arithmetic.specs.Row.{values}
 use Rattle.bands.specs.Bands.{verdict}
 use Rattle.bands.specs.declared.Verdict.{Verdict}
-use Rattle.lending.specs.Lending.{lendingWorth}
+use Rattle.lending.specs.Lending.{lending_worth}
 use Rattle.lending.specs.declared.Worth.{Worth}
 
 pub record Table : Type 0 where
-  pub firstRows : List ℕ
-  pub lastRows : List ℕ
-  pub lowestPrices : List ℕ
-  pub highestPrices : List ℕ
+  pub first_rows : List ℕ
+  pub last_rows : List ℕ
+  pub lowest_prices : List ℕ
+  pub highest_prices : List ℕ
   pub haircuts : List ℕ
 
 abbrev pub size : Table → ℕ
-size t = length t.firstRows
+size t = length t.first_rows
 
 -- what the two entries answer
-abbrev pub verdictOn : Table → Verdict
-verdictOn t = verdict t.firstRows t.lastRows t.lowestPrices t.highestPrices t.haircuts
+abbrev pub verdict_on : Table → Verdict
+verdict_on t = verdict t.first_rows t.last_rows t.lowest_prices t.highest_prices t.haircuts
 
-abbrev pub worthBy : Table → ℕ → ℕ → Worth
-worthBy t row price = lendingWorth t.firstRows t.lastRows t.lowestPrices t.highestPrices t.haircuts row price
+abbrev pub worth_by : Table → ℕ → ℕ → Worth
+worth_by t row price = lending_worth t.first_rows t.last_rows t.lowest_prices t.highest_prices t.haircuts row price
 
 abbrev pub shown : ℕ → ℕ → ℕ → ℕ → Verdict
 shown number row price place = record { number = number; row = row; price = price; place = place }
 
 pub record OneLength (t : Table) : Type 0 where
-  pub last-rows : length t.lastRows ≡ length t.firstRows
-  pub lowest-prices : length t.lowestPrices ≡ length t.firstRows
-  pub highest-prices : length t.highestPrices ≡ length t.firstRows
-  pub haircuts-too : length t.haircuts ≡ length t.firstRows
+  pub last-rows : length t.last_rows ≡ length t.first_rows
+  pub lowest-prices : length t.lowest_prices ≡ length t.first_rows
+  pub highest-prices : length t.highest_prices ≡ length t.first_rows
+  pub haircuts-too : length t.haircuts ≡ length t.first_rows
 
 -- a band with no end before its start, and with starts, ends and haircut in range
 pub record Good (t : Table) (k : ℕ) : Type 0 where
-  pub rows-in-order : values t.firstRows k ≤ values t.lastRows k
-  pub prices-in-order : values t.lowestPrices k ≤ values t.highestPrices k
-  pub first-least : 1 ≤ values t.firstRows k
-  pub first-most : values t.firstRows k ≤ 60
-  pub last-least : 1 ≤ values t.lastRows k
-  pub last-most : values t.lastRows k ≤ 60
-  pub lowest-most : values t.lowestPrices k ≤ 8000000000
-  pub highest-most : values t.highestPrices k ≤ 8000000000
+  pub rows-in-order : values t.first_rows k ≤ values t.last_rows k
+  pub prices-in-order : values t.lowest_prices k ≤ values t.highest_prices k
+  pub first-least : 1 ≤ values t.first_rows k
+  pub first-most : values t.first_rows k ≤ 60
+  pub last-least : 1 ≤ values t.last_rows k
+  pub last-most : values t.last_rows k ≤ 60
+  pub lowest-most : values t.lowest_prices k ≤ 8000000000
+  pub highest-most : values t.highest_prices k ≤ 8000000000
   pub haircut-most : values t.haircuts k ≤ 10000
 
 -- all bands are good, and they are not too many
@@ -55,10 +55,10 @@ pub record AllGood (t : Table) : Type 0 where
 -- band k contains the pair; ends belong to their band
 pub record Holds (t : Table) (row price k : ℕ) : Type 0 where
   pub in_table : k < size t
-  pub from_row : values t.firstRows k ≤ row
-  pub to_row : row ≤ values t.lastRows k
-  pub from-price : values t.lowestPrices k ≤ price
-  pub to-price : price ≤ values t.highestPrices k
+  pub from_row : values t.first_rows k ≤ row
+  pub to_row : row ≤ values t.last_rows k
+  pub from-price : values t.lowest_prices k ≤ price
+  pub to-price : price ≤ values t.highest_prices k
 
 -- in precisely one band, in none, in two or more
 pub record Once (t : Table) (row price : ℕ) : Type 0 where
@@ -96,9 +96,9 @@ pub data Says (t : Table) (v : Verdict) : Type 0 where
 -- a worth that is given: by the haircut of the one band that contains the pair, down, and at most the price
 pub record Lent (t : Table) (row price : ℕ) : Type 0 where
   pub found : Once t row price
-  pub is : (worthBy t row price).worth ≡ price * (10000 - values t.haircuts found.band) / 10000
-  pub at_most : (worthBy t row price).worth ≤ price
-  pub verdict-zero : (worthBy t row price).verdict ≡ shown 0 0 0 0
+  pub is : (worth_by t row price).worth ≡ price * (10000 - values t.haircuts found.band) / 10000
+  pub at_most : (worth_by t row price).worth ≤ price
+  pub verdict-zero : (worth_by t row price).verdict ≡ shown 0 0 0 0
 
 -- an answer without a worth
 abbrev pub without : Verdict → Worth
@@ -106,14 +106,14 @@ without v = record { worth = 0; verdict = v }
 
 pub record BandPromises : Type 0 where
   -- the answer meets what a verdict says, and nothing else does
-  pub verdict-says : (t : Table) → Says t (verdictOn t)
-  pub nothing-else : (t : Table) (v : Verdict) → Says t v → v ≡ verdictOn t
+  pub verdict-says : (t : Table) → Says t (verdict_on t)
+  pub nothing-else : (t : Table) (v : Verdict) → Says t v → v ≡ verdict_on t
   -- a worth: 6, then 12, then the table's own refusal, else the price less its haircut
-  pub row_before : (t : Table) (price : ℕ) → worthBy t 0 price ≡ without (shown 6 0 0 0)
-  pub row-past : (t : Table) (row price : ℕ) → 60 < row → worthBy t row price ≡ without (shown 6 0 0 0)
-  pub lengths_differ : (t : Table) (row price : ℕ) → (OneLength t → ⊥) → worthBy t row price ≡ without (shown 6 0 0 0)
+  pub row_before : (t : Table) (price : ℕ) → worth_by t 0 price ≡ without (shown 6 0 0 0)
+  pub row-past : (t : Table) (row price : ℕ) → 60 < row → worth_by t row price ≡ without (shown 6 0 0 0)
+  pub lengths_differ : (t : Table) (row price : ℕ) → (OneLength t → ⊥) → worth_by t row price ≡ without (shown 6 0 0 0)
   pub price-past :
-      (t : Table) (row price : ℕ) → 1 ≤ row → row ≤ 60 → OneLength t → 8000000000 < price → worthBy t row price ≡ without (shown 12 0 0 0)
+      (t : Table) (row price : ℕ) → 1 ≤ row → row ≤ 60 → OneLength t → 8000000000 < price → worth_by t row price ≡ without (shown 12 0 0 0)
   pub table-refused :
-      (t : Table) (row price : ℕ) → Pair row price → OneLength t → ((verdictOn t).number ≡ 0 → ⊥) → worthBy t row price ≡ without (verdictOn t)
-  pub lent : (t : Table) (row price : ℕ) → Pair row price → (verdictOn t).number ≡ 0 → Lent t row price
+      (t : Table) (row price : ℕ) → Pair row price → OneLength t → ((verdict_on t).number ≡ 0 → ⊥) → worth_by t row price ≡ without (verdict_on t)
+  pub lent : (t : Table) (row price : ℕ) → Pair row price → (verdict_on t).number ≡ 0 → Lent t row price

@@ -7,7 +7,7 @@ use Prim.Native.Nat.{ℕ, zero, suc, ◌+◌, ◌-◌, ◌≤◌, ◌<◌}
 use native.Mathlib.Nat.{le_refl, eq-or-lt_of_le}
 use native.Mathlib.Omega.{arith}
 use native.Mathlib.Decide.{dec_le}
-use Rattle.bands.specs.Search.{searchFrom, first}
+use Rattle.bands.specs.Search.{search_from, first}
 use Rattle.bands.specs.inside.Search.{First}
 
 module _ (test : ℕ → Bool) where
@@ -33,8 +33,8 @@ module _ (test : ℕ → Bool) where
       go k m (inl s) = ap test (sym s) ∙ e
       go k m (inr l) = f.before k l m
 
-  search-first : (n start : ℕ) → First test start (start + n) (searchFrom test n start)
-  unfolding searchFrom
+  search-first : (n start : ℕ) → First test start (start + n) (search_from test n start)
+  unfolding search_from
   search-first zero start =
       record { least = le_refl start; most = omega arith; before = λ k l m. absurd (none k l m); passes = λ m. absurd (more m) }
     where
@@ -46,12 +46,12 @@ module _ (test : ℕ → Bool) where
   search-first (suc n) start = go (test start) refl (search-first n (suc start))
     where
       go :
-          (t : Bool) → test start ≡ t → First test (suc start) (suc start + n) (searchFrom test n (suc start)) →
-          First test start (start + suc n) (cond t start (searchFrom test n (suc start)))
+          (t : Bool) → test start ≡ t → First test (suc start) (suc start + n) (search_from test n (suc start)) →
+          First test start (start + suc n) (cond t start (search_from test n (suc start)))
       go true e f = at-start start (start + suc n) (omega arith) e
       go false e f =
           let same : suc start + n ≡ start + suc n = omega arith in
-          past-start start (start + suc n) (searchFrom test n (suc start)) (omega arith) e (rw same at f)
+          past-start start (start + suc n) (search_from test n (suc start)) (omega arith) e (rw same at f)
 
   -- the definition is the first
   pub first-is : (start end : ℕ) → start ≤ end → First test start end (first test start end)

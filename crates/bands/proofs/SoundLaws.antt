@@ -6,7 +6,7 @@ use Prim.Native.Nat.{ℕ, ◌≤◌}
 use native.Mathlib.Omega.{arith}
 use borrow.Author.Tests.{le-leb, leb-true}
 use lib.Dec.{leb}
-use Rattle.limits.specs.Limits.{valueLimit}
+use Rattle.limits.specs.Limits.{value_limit}
 use Rattle.bands.specs.Bands.{sound}
 use Rattle.bands.specs.SoundBand.{SoundBand}
 use Rattle.arithmetic.proofs.BetweenLaws.{and_left, and_right}
@@ -16,7 +16,7 @@ module _ {f l lo hi h : ℕ} where
   unfolding sound
   sound-band s =
       let t₆ = leb h 10000 in
-      let t₅ = leb hi valueLimit && t₆ in
+      let t₅ = leb hi value_limit && t₆ in
       let t₄ = leb lo hi && t₅ in
       let t₃ = leb l 60 && t₄ in
       let t₂ = leb f l && t₃ in
@@ -28,7 +28,7 @@ module _ {f l lo hi h : ℕ} where
       let b : f ≤ l = leb-true f l (and_left (leb f l) t₃ s₂) in
       let c : l ≤ 60 = leb-true l 60 (and_left (leb l 60) t₄ s₃) in
       let d : lo ≤ hi = leb-true lo hi (and_left (leb lo hi) t₅ s₄) in
-      let e : hi ≤ valueLimit = leb-true hi valueLimit (and_left (leb hi valueLimit) t₆ s₅) in
+      let e : hi ≤ value_limit = leb-true hi value_limit (and_left (leb hi value_limit) t₆ s₅) in
       record {
         rows-in-order = b;
         prices-in-order = d;
@@ -38,7 +38,7 @@ module _ {f l lo hi h : ℕ} where
         last-most = c;
         lowest-most = omega arith;
         highest-most = e;
-        haircut-most = leb-true h 10000 (and_right (leb hi valueLimit) t₆ s₅);
+        haircut-most = leb-true h 10000 (and_right (leb hi value_limit) t₆ s₅);
       }
 
   pub band-sound : SoundBand f l lo hi h → sound f l lo hi h ≡ true
@@ -49,6 +49,6 @@ module _ {f l lo hi h : ℕ} where
         le-leb f l s.rows-in-order,
         le-leb l 60 s.last-most,
         le-leb lo hi s.prices-in-order,
-        le-leb hi valueLimit s.highest-most,
+        le-leb hi value_limit s.highest-most,
         le-leb h 10000 s.haircut-most,
       )

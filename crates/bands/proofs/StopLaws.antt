@@ -7,7 +7,7 @@ use native.Mathlib.Nat.{le_refl}
 use native.Mathlib.Numerals.{add-one}
 use native.Mathlib.Omega.{arith}
 use borrow.Author.Tests.{le-leb, lt-leb}
-use Rattle.limits.specs.Limits.{valueLimit}
+use Rattle.limits.specs.Limits.{value_limit}
 use Rattle.bands.specs.Bands.{Bands, within, contains, flag, covering}
 use Rattle.bands.specs.Stops.{Added}
 use Rattle.bands.specs.inside.Stops.{StopAt}
@@ -64,13 +64,13 @@ module _ (b : Bands) (row price : ℕ) where
   covering-most zero = omega arith
   covering-most (suc n) = omega (arith, covering-most n, flag-most (contains b row price n))
 
-  pub stop-none : (end : ℕ) → price < end → end ≤ valueLimit + 1 → StopAt b row price 0 0 end
+  pub stop-none : (end : ℕ) → price < end → end ≤ value_limit + 1 → StopAt b row price 0 0 end
   unfolding covering
   stop-none end h m = record { counted = refl; further = h; most = m; same = λ q l k. refl }
 
   pub stop-more :
       {n count end count' end' : ℕ} → StopAt b row price n count end →
-      Added (b.firstRow n) (b.lastRow n) (b.lowest n) (b.highest n) row price count end count' end' →
+      Added (b.first_row n) (b.last_row n) (b.lowest n) (b.highest n) row price count end count' end' →
       StopAt b row price (n + 1) count' end'
   unfolding covering
   stop-more {n} s a =

@@ -11,8 +11,8 @@ use Rattle.arithmetic.proofs.BetweenLaws.{and_left, and_right}
 use Rattle.arithmetic.proofs.Implied.{Implied, lastly, ◌▸◌}
 use lib.ListN.{length}
 use Rattle.bands.specs.inside.Search.{First}
-use Rattle.limits.specs.Limits.{valueLimit}
-use Rattle.bands.specs.Bands.{Bands, sameLengths, coverage, failing, fails, failingPrice}
+use Rattle.limits.specs.Limits.{value_limit}
+use Rattle.bands.specs.Bands.{Bands, same_lengths, coverage, failing, fails, failing_price}
 use Rattle.bands.specs.inside.Lists.{Parallel}
 use Rattle.bands.specs.inside.Stops.{StopAt}
 use Rattle.bands.proofs.FirstLaws.{first-is, first_found}
@@ -43,36 +43,36 @@ module _ {b : Bands} {row price count end : ℕ} (stop : StopAt b row price b.co
   stop-passes h q l m = failing-false b row q (stop.same q l m ∙ (sym stop.counted ∙ h))
 
 module _ (b : Bands) (row : ℕ) where
-  pub failing-price-is : First (failing b row) 0 (valueLimit + 1) (failingPrice b row)
-  unfolding failingPrice
-  failing-price-is = first-is (failing b row) 0 (valueLimit + 1) (omega arith)
+  pub failing-price-is : First (failing b row) 0 (value_limit + 1) (failing_price b row)
+  unfolding failing_price
+  failing-price-is = first-is (failing b row) 0 (value_limit + 1) (omega arith)
 
-  pub failing-price-found : (price : ℕ) → First (failing b row) 0 (valueLimit + 1) price → price ≡ failingPrice b row
-  unfolding failingPrice
-  failing-price-found price f = first_found (failing b row) 0 (valueLimit + 1) price (omega arith) f
+  pub failing-price-found : (price : ℕ) → First (failing b row) 0 (value_limit + 1) price → price ≡ failing_price b row
+  unfolding failing_price
+  failing-price-found price f = first_found (failing b row) 0 (value_limit + 1) price (omega arith) f
 
-  pub fails-true : (price : ℕ) → price ≡ failingPrice b row → price ≤ valueLimit → fails b row ≡ true
+  pub fails-true : (price : ℕ) → price ≡ failing_price b row → price ≤ value_limit → fails b row ≡ true
   unfolding fails
-  fails-true price e h = le-leb (failingPrice b row) valueLimit (omega arith)
+  fails-true price e h = le-leb (failing_price b row) value_limit (omega arith)
 
-  pub fails-false : (price : ℕ) → price ≡ failingPrice b row → valueLimit < price → fails b row ≡ false
+  pub fails-false : (price : ℕ) → price ≡ failing_price b row → value_limit < price → fails b row ≡ false
   unfolding fails
-  fails-false price e h = lt-leb (failingPrice b row) valueLimit (omega arith)
+  fails-false price e h = lt-leb (failing_price b row) value_limit (omega arith)
 
-  pub true-fails : fails b row ≡ true → failingPrice b row ≤ valueLimit
+  pub true-fails : fails b row ≡ true → failing_price b row ≤ value_limit
   unfolding fails
-  true-fails h = leb-true (failingPrice b row) valueLimit h
+  true-fails h = leb-true (failing_price b row) value_limit h
 
   -- a row that does not fail has each price in precisely one band, and back
-  pub row-covered : fails b row ≡ false → (price : ℕ) → price ≤ valueLimit → coverage b row price ≡ 1
+  pub row-covered : fails b row ≡ false → (price : ℕ) → price ≤ value_limit → coverage b row price ≡ 1
   unfolding fails
   row-covered h price m =
-      false-failing b row price (failing-price-is.before price (omega arith) (omega (arith, leb-false (failingPrice b row) valueLimit h)))
+      false-failing b row price (failing-price-is.before price (omega arith) (omega (arith, leb-false (failing_price b row) value_limit h)))
 
-  pub covered-row : ((price : ℕ) → price ≤ valueLimit → coverage b row price ≡ 1) → fails b row ≡ false
+  pub covered-row : ((price : ℕ) → price ≤ value_limit → coverage b row price ≡ 1) → fails b row ≡ false
   covered-row all =
-      fails-false (valueLimit + 1)
-      (failing-price-found (valueLimit + 1)
+      fails-false (value_limit + 1)
+      (failing-price-found (value_limit + 1)
       (record {
         least = omega arith;
         most = omega arith;
@@ -81,31 +81,31 @@ module _ (b : Bands) (row : ℕ) where
       }))
       (omega arith)
     where
-      none : valueLimit + 1 < valueLimit + 1 → ⊥
+      none : value_limit + 1 < value_limit + 1 → ⊥
       none m = omega arith
 
 -- one length, or another of some list
 module _ {fs ls lows highs hs : List ℕ} (_ : Implied (fs ▸ ls ▸ lows ▸ highs ▸ lastly hs)) where
-  pub other-lasts : (length ls ≡ length fs → ⊥) → false ≡ sameLengths fs ls lows highs hs
-  unfolding sameLengths
+  pub other-lasts : (length ls ≡ length fs → ⊥) → false ≡ same_lengths fs ls lows highs hs
+  unfolding same_lengths
   other-lasts h = simp (ne_eqb (length ls) (length fs) h)
 
-  pub other-lowests : (length lows ≡ length fs → ⊥) → false ≡ sameLengths fs ls lows highs hs
-  unfolding sameLengths
+  pub other-lowests : (length lows ≡ length fs → ⊥) → false ≡ same_lengths fs ls lows highs hs
+  unfolding same_lengths
   other-lowests h = simp (ne_eqb (length lows) (length fs) h, and-false)
 
-  pub other-highests : (length highs ≡ length fs → ⊥) → false ≡ sameLengths fs ls lows highs hs
-  unfolding sameLengths
+  pub other-highests : (length highs ≡ length fs → ⊥) → false ≡ same_lengths fs ls lows highs hs
+  unfolding same_lengths
   other-highests h = simp (ne_eqb (length highs) (length fs) h, and-false)
 
-  pub other-haircuts : (length hs ≡ length fs → ⊥) → false ≡ sameLengths fs ls lows highs hs
-  unfolding sameLengths
+  pub other-haircuts : (length hs ≡ length fs → ⊥) → false ≡ same_lengths fs ls lows highs hs
+  unfolding same_lengths
   other-haircuts h = simp (ne_eqb (length hs) (length fs) h, and-false)
 
   pub one-length :
       length ls ≡ length fs → length lows ≡ length fs → length highs ≡ length fs → length hs ≡ length fs →
-      true ≡ sameLengths fs ls lows highs hs
-  unfolding sameLengths
+      true ≡ same_lengths fs ls lows highs hs
+  unfolding same_lengths
   one-length a b c d =
       simp (
         eq-eqb (length ls) (length fs) a,
@@ -116,9 +116,9 @@ module _ {fs ls lows highs hs : List ℕ} (_ : Implied (fs ▸ ls ▸ lows ▸ h
 
 -- the lengths are one
 pub lengths-agree :
-    {fs ls lows highs hs : List ℕ} → Implied (fs ▸ ls ▸ lows ▸ highs ▸ lastly hs) → sameLengths fs ls lows highs hs ≡ true →
+    {fs ls lows highs hs : List ℕ} → Implied (fs ▸ ls ▸ lows ▸ highs ▸ lastly hs) → same_lengths fs ls lows highs hs ≡ true →
     Parallel fs ls lows highs × (length hs ≡ length fs)
-unfolding sameLengths
+unfolding same_lengths
 lengths-agree {fs} {ls} {lows} {highs} {hs} _ same =
     let a = eqb (length ls) (length fs) in
     let c = eqb (length lows) (length fs) in

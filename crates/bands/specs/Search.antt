@@ -3,10 +3,10 @@
 use Rattle.std.specs.Prelude.{ℕ, zero, suc, ◌-◌, Bool, cond}
 
 -- the first of the n numbers from `start` on that passes; start + n where none does
-unfoldable pub searchFrom : (ℕ → Bool) → ℕ → ℕ → ℕ
-searchFrom test zero start = start
-searchFrom test (suc n) start = cond (test start) start (searchFrom test n (suc start))
+unfoldable pub search_from : (ℕ → Bool) → ℕ → ℕ → ℕ
+search_from test zero start = start
+search_from test (suc n) start = cond (test start) start (search_from test n (suc start))
 
 -- the first number of start .. end - 1 that passes; `end` where none does
 unfoldable pub first : (ℕ → Bool) → ℕ → ℕ → ℕ
-first test start end = searchFrom test (end - start) start
+first test start end = search_from test (end - start) start

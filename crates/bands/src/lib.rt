@@ -2,8 +2,8 @@
 // A table is five slices of one length: first rows, last rows, lowest prices, highest prices, haircuts.
 ghost use Rattle.std.specs.Prelude.{◌≡◌, ◌+◌, ◌<◌, ◌≤◌, length};
 ghost use Rattle.arithmetic.specs.Row.{values};
-ghost use Rattle.limits.specs.Limits.{valueLimit};
-ghost use Rattle.bands.specs.Bands.{sound, bandsOf, badIndex, failingPrice, failingRow, pairsVerdict, sameLengths, verdict};
+ghost use Rattle.limits.specs.Limits.{value_limit};
+ghost use Rattle.bands.specs.Bands.{sound, bands_of, bad_index, failing_price, failing_row, pairs_verdict, same_lengths, verdict};
 ghost use Rattle.bands.specs.inside.Lists.{Parallel};
 ghost use Rattle.bands.specs.Stops.{Added};
 ghost use Rattle.bands.specs.inside.Stops.{StopAt};
@@ -42,7 +42,7 @@ struct Stop {
 
 // A stop with one band more.
 fn add_band(stop: Stop, first: u64, last: u64, low: u64, high: u64, row: u64, price: u64) -> Stop
-    requires { (stop.covering < 18446744073709551615) × (price < stop.next) × (stop.next ≤ valueLimit + 1) }
+    requires { (stop.covering < 18446744073709551615) × (price < stop.next) × (stop.next ≤ value_limit + 1) }
     ensures { Added first last low high row price stop.covering stop.next result.covering result.next }
 {
     if row < first {
@@ -84,8 +84,8 @@ fn stop_at(
     row: u64,
     price: u64,
 ) -> Stop
-    requires { Parallel firsts.now lasts.now lowests.now highests.now × (price < valueLimit + 1) }
-    ensures { StopAt (bandsOf firsts.now lasts.now lowests.now highests.now) row price
+    requires { Parallel firsts.now lasts.now lowests.now highests.now × (price < value_limit + 1) }
+    ensures { StopAt (bands_of firsts.now lasts.now lowests.now highests.now) row price
         (length firsts.now) result.covering result.next }
 {
     let mut stop = Stop {
@@ -113,7 +113,7 @@ fn stop_at(
 // does not change, so that only the stops are looked at.
 fn failing_price(firsts: &[u64], lasts: &[u64], lowests: &[u64], highests: &[u64], row: u64) -> u64
     requires { Parallel firsts.now lasts.now lowests.now highests.now }
-    ensures { result ≡ failingPrice (bandsOf firsts.now lasts.now lowests.now highests.now) row }
+    ensures { result ≡ failing_price (bands_of firsts.now lasts.now lowests.now highests.now) row }
 {
     let mut price = 0u64;
     while price < END {
@@ -130,7 +130,7 @@ fn failing_price(firsts: &[u64], lasts: &[u64], lowests: &[u64], highests: &[u64
 // The first row with a failing price, or 61.
 fn failing_row(firsts: &[u64], lasts: &[u64], lowests: &[u64], highests: &[u64]) -> u64
     requires { Parallel firsts.now lasts.now lowests.now highests.now }
-    ensures { result ≡ failingRow (bandsOf firsts.now lasts.now lowests.now highests.now) }
+    ensures { result ≡ failing_row (bands_of firsts.now lasts.now lowests.now highests.now) }
 {
     let mut row = 1u64;
     while row <= LAST_ROW {
@@ -146,7 +146,7 @@ fn failing_row(firsts: &[u64], lasts: &[u64], lowests: &[u64], highests: &[u64])
 // The verdict on the pairs: 17 or 18 with the first failing pair, or zeros.
 fn judge_pairs(firsts: &[u64], lasts: &[u64], lowests: &[u64], highests: &[u64]) -> Verdict
     requires { Parallel firsts.now lasts.now lowests.now highests.now }
-    ensures { result ≡ pairsVerdict (bandsOf firsts.now lasts.now lowests.now highests.now) }
+    ensures { result ≡ pairs_verdict (bands_of firsts.now lasts.now lowests.now highests.now) }
 {
     let row = failing_row(firsts, lasts, lowests, highests);
     if LAST_ROW < row {
@@ -210,7 +210,7 @@ fn first_bad(
     haircuts: &[u64],
 ) -> usize
     requires { Parallel firsts.now lasts.now lowests.now highests.now × (length haircuts.now ≡ length firsts.now) }
-    ensures { result ≡ badIndex (bandsOf firsts.now lasts.now lowests.now highests.now)
+    ensures { result ≡ bad_index (bands_of firsts.now lasts.now lowests.now highests.now)
         (values haircuts.now) }
 {
     let mut k = 0usize;
@@ -231,7 +231,7 @@ pub fn have_one_length(
     highests: &[u64],
     haircuts: &[u64],
 ) -> bool
-    ensures { result ≡ sameLengths firsts.now lasts.now lowests.now highests.now
+    ensures { result ≡ same_lengths firsts.now lasts.now lowests.now highests.now
         haircuts.now }
 {
     if lasts.len() != firsts.len() {

@@ -1,24 +1,24 @@
 // What is added to a book that is still open.
 ghost use Rattle.std.specs.Prelude.{◌≡◌, true, cond, ◌≤◌, ◌<◌};
-ghost use Rattle.book_laws.specs.Bounds.{mostNumber, Bounded};
+ghost use Rattle.book_laws.specs.Bounds.{most_number, Bounded};
 ghost use Rattle.book_laws.specs.Books.{
-  mostFields,
-  countsWithin,
-  isOpen,
+  most_fields,
+  counts_within,
+  is_open,
   counted,
-  withRefused,
-  optionOf,
-  isDearer,
-  withPriced,
-  withPrices,
-  endedBook,
+  with_refused,
+  option_of,
+  is_dearer,
+  with_priced,
+  with_prices,
+  ended_book,
 };
 
 use book_laws::Book;
 use job_laws::JobPrices;
 
 pub(crate) fn is_open(book: Book) -> bool
-    ensures { result ≡ isOpen book }
+    ensures { result ≡ is_open book }
 {
     if book.ended {
         return false;
@@ -52,13 +52,13 @@ fn chosen(test: bool, yes: u64, no: u64) -> u64
 }
 
 fn option_of(prices: JobPrices) -> u64
-    ensures { result ≡ optionOf prices }
+    ensures { result ≡ option_of prices }
 {
     chosen(prices.has_option, prices.option.value, 0)
 }
 
 fn is_dearer(book: Book, bond: u64) -> bool
-    ensures { result ≡ isDearer book bond }
+    ensures { result ≡ is_dearer book bond }
 {
     if book.place == 0 {
         return true;
@@ -68,7 +68,7 @@ fn is_dearer(book: Book, bond: u64) -> bool
 
 // One more under a number.
 fn counted(counts: [u64; 13], number: u64) -> [u64; 13]
-    requires { (0 < number) × (number ≤ mostNumber) × (countsWithin counts mostFields ≡ true) }
+    requires { (0 < number) × (number ≤ most_number) × (counts_within counts most_fields ≡ true) }
     ensures { result ≡ counted counts number }
 {
     let mut next = counts;
@@ -78,8 +78,8 @@ fn counted(counts: [u64; 13], number: u64) -> [u64; 13]
 }
 
 fn with_refused(book: Book, number: u64) -> Book
-    requires { (isOpen book ≡ true) × (0 < number) × (number ≤ mostNumber) }
-    ensures { result ≡ withRefused book number }
+    requires { (is_open book ≡ true) × (0 < number) × (number ≤ most_number) }
+    ensures { result ≡ with_refused book number }
 {
     let former = book.refused;
     let counts = counted(former, number);
@@ -97,8 +97,8 @@ fn with_refused(book: Book, number: u64) -> Book
 }
 
 fn with_priced(book: Book, prices: JobPrices) -> Book
-    requires { (isOpen book ≡ true) × Bounded prices }
-    ensures { result ≡ withPriced book prices }
+    requires { (is_open book ≡ true) × Bounded prices }
+    ensures { result ≡ with_priced book prices }
 {
     let counts = book.refused;
     let dearer = is_dearer(book, prices.bond.value);
@@ -118,8 +118,8 @@ fn with_priced(book: Book, prices: JobPrices) -> Book
 
 // A book with the prices of one more job, or its refusal.
 pub(crate) fn with_prices(book: Book, prices: JobPrices) -> Book
-    requires { (isOpen book ≡ true) × Bounded prices }
-    ensures { result ≡ withPrices book prices }
+    requires { (is_open book ≡ true) × Bounded prices }
+    ensures { result ≡ with_prices book prices }
 {
     if prices.number != 0 {
         return with_refused(book, prices.number);
@@ -129,8 +129,8 @@ pub(crate) fn with_prices(book: Book, prices: JobPrices) -> Book
 
 // A book that ends, with one more refusal under 1.
 pub(crate) fn ended(book: Book) -> Book
-    requires { isOpen book ≡ true }
-    ensures { result ≡ endedBook book }
+    requires { is_open book ≡ true }
+    ensures { result ≡ ended_book book }
 {
     let former = book.refused;
     let counts = counted(former, 1);

@@ -1,9 +1,9 @@
 // The prices of a job in a field, its tree left in the lent memories, which hold every tree.
 ghost use Rattle.std.specs.Prelude.{◌≡◌};
-ghost use Rattle.limits.specs.Limits.{mostDiscounts, mostStatePrices};
-ghost use Rattle.job_laws.specs.RecordFit.{jobDiscounts, jobStatePrices};
-ghost use Rattle.job_laws.specs.JobPrices.{bytesMemory};
-ghost use Rattle.book_laws.specs.Bounds.{jobPrices};
+ghost use Rattle.limits.specs.Limits.{most_discounts, most_state_prices};
+ghost use Rattle.job_laws.specs.RecordFit.{job_discounts, job_state_prices};
+ghost use Rattle.job_laws.specs.JobPrices.{bytes_memory};
+ghost use Rattle.book_laws.specs.Bounds.{job_prices};
 
 use job_laws::JobPrices;
 
@@ -12,10 +12,10 @@ pub(crate) fn prices_of(
     discounts: &mut [u64; limits::MOST_DISCOUNTS],
     state_prices: &mut [u64; limits::MOST_STATE_PRICES],
 ) -> JobPrices
-    ensures answer { result ≡ jobPrices job.now }
-    ensures discounted { discounts.new ≡ bytesMemory job.now mostDiscounts mostStatePrices jobDiscounts discounts.old }
+    ensures answer { result ≡ job_prices job.now }
+    ensures discounted { discounts.new ≡ bytes_memory job.now most_discounts most_state_prices job_discounts discounts.old }
     ensures priced { state_prices.new
-        ≡ bytesMemory job.now mostDiscounts mostStatePrices jobStatePrices state_prices.old }
+        ≡ bytes_memory job.now most_discounts most_state_prices job_state_prices state_prices.old }
 {
     job_prices::job_in_place(job, discounts, state_prices)
 }

@@ -3,13 +3,13 @@ mod books;
 mod jobs;
 
 ghost use Rattle.std.specs.Prelude.{◌≡◌};
-ghost use Rattle.job_laws.specs.RecordFit.{jobDiscounts, jobStatePrices};
-ghost use Rattle.book_laws.specs.Books.{emptyBook, withField, fieldMemory, brokenBook, closedBook};
+ghost use Rattle.job_laws.specs.RecordFit.{job_discounts, job_state_prices};
+ghost use Rattle.book_laws.specs.Books.{empty_book, with_field, field_memory, broken_book, closed_book};
 
 use book_laws::Book;
 
 pub fn empty() -> Book
-    ensures { result ≡ emptyBook }
+    ensures { result ≡ empty_book }
 {
     Book {
         fields: 0,
@@ -32,9 +32,9 @@ pub fn with_field_in(
     discounts: &mut [u64; limits::MOST_DISCOUNTS],
     state_prices: &mut [u64; limits::MOST_STATE_PRICES],
 ) -> Book
-    ensures answer { result ≡ withField book job.now }
-    ensures discounted { discounts.new ≡ fieldMemory book job.now jobDiscounts discounts.old }
-    ensures priced { state_prices.new ≡ fieldMemory book job.now jobStatePrices state_prices.old }
+    ensures answer { result ≡ with_field book job.now }
+    ensures discounted { discounts.new ≡ field_memory book job.now job_discounts discounts.old }
+    ensures priced { state_prices.new ≡ field_memory book job.now job_state_prices state_prices.old }
 {
     if !books::is_open(book) {
         return book;
@@ -47,7 +47,7 @@ pub fn with_field_in(
 
 // The same without lent memories.
 pub fn with_field(book: Book, job: &[u8]) -> Book
-    ensures { result ≡ withField book job.now }
+    ensures { result ≡ with_field book job.now }
 {
     let mut discounts = limits::discount_room();
     let mut state_prices = limits::state_price_room();
@@ -56,7 +56,7 @@ pub fn with_field(book: Book, job: &[u8]) -> Book
 
 // A book that ends because its file is broken, with one more refusal under 1. One that ended or that no calls reach is given back as it is.
 pub fn broken(book: Book) -> Book
-    ensures { result ≡ brokenBook book }
+    ensures { result ≡ broken_book book }
 {
     if !books::is_open(book) {
         return book;
@@ -66,7 +66,7 @@ pub fn broken(book: Book) -> Book
 
 // A book at the end of its file, of which so many bytes could not be taken.
 pub fn closed(book: Book, left: usize) -> Book
-    ensures { result ≡ closedBook book left }
+    ensures { result ≡ closed_book book left }
 {
     if left == 0 {
         return book;

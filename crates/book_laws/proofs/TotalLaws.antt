@@ -11,8 +11,8 @@ use lib.Dec.{eqb}
 use lib.ListN.{length}
 use lib.Pow.{pow-add}
 use Rattle.arithmetic.specs.Within.{Within}
-use Rattle.limits.specs.Limits.{mostSteps}
-use Rattle.book_laws.specs.Totals.{number_of, bondOf, boundOf, count_of, sum_of}
+use Rattle.limits.specs.Limits.{most_steps}
+use Rattle.book_laws.specs.Totals.{number_of, bond_of, bound_of, count_of, sum_of}
 
 -- ---- counts and sums
 
@@ -75,32 +75,32 @@ sum-times f c (job ∷ jobs) = omega (arith, one (eqb (number_of job) 0), sum-ti
     one false = omega arith
 
 -- exact values of the priced jobs' bonds, each held times m ^ n with n the job's steps, and their sum, held times m ^ 60
-module _ (m : ℕ) (exact steps : List ℕ → ℕ) (few : (job : List ℕ) → number_of job ≡ 0 → steps job ≤ mostSteps)
-    (near : (job : List ℕ) → number_of job ≡ 0 → Within (boundOf job) (m ^ steps job) (bondOf job) (exact job)) where
-  scaled : (job : List ℕ) → number_of job ≡ 0 → (x : ℕ) → x * m ^ steps job * m ^ (mostSteps - steps job) ≡ x * m ^ mostSteps
+module _ (m : ℕ) (exact steps : List ℕ → ℕ) (few : (job : List ℕ) → number_of job ≡ 0 → steps job ≤ most_steps)
+    (near : (job : List ℕ) → number_of job ≡ 0 → Within (bound_of job) (m ^ steps job) (bond_of job) (exact job)) where
+  scaled : (job : List ℕ) → number_of job ≡ 0 → (x : ℕ) → x * m ^ steps job * m ^ (most_steps - steps job) ≡ x * m ^ most_steps
   scaled job h x =
-      let n : steps job + (mostSteps - steps job) ≡ mostSteps = omega (arith, few job h) in
-      let p : m ^ steps job * m ^ (mostSteps - steps job) ≡ m ^ mostSteps = sym (pow-add m (steps job) (mostSteps - steps job)) ∙ ap (λ (k : ℕ). m ^ k) n in
+      let n : steps job + (most_steps - steps job) ≡ most_steps = omega (arith, few job h) in
+      let p : m ^ steps job * m ^ (most_steps - steps job) ≡ m ^ most_steps = sym (pow-add m (steps job) (most_steps - steps job)) ∙ ap (λ (k : ℕ). m ^ k) n in
       omega (arith, ap (λ (y : ℕ). x * y) p)
 
-  low : (job : List ℕ) → number_of job ≡ 0 → bondOf job * m ^ mostSteps ≤ exact job * m ^ (mostSteps - steps job) + boundOf job * m ^ mostSteps
+  low : (job : List ℕ) → number_of job ≡ 0 → bond_of job * m ^ most_steps ≤ exact job * m ^ (most_steps - steps job) + bound_of job * m ^ most_steps
   low job h =
-      omega (arith, mul-le-mul_right (m ^ (mostSteps - steps job)) (near job h).above, scaled job h (bondOf job), scaled job h (boundOf job))
+      omega (arith, mul-le-mul_right (m ^ (most_steps - steps job)) (near job h).above, scaled job h (bond_of job), scaled job h (bound_of job))
 
-  high : (job : List ℕ) → number_of job ≡ 0 → exact job * m ^ (mostSteps - steps job) ≤ bondOf job * m ^ mostSteps + boundOf job * m ^ mostSteps
+  high : (job : List ℕ) → number_of job ≡ 0 → exact job * m ^ (most_steps - steps job) ≤ bond_of job * m ^ most_steps + bound_of job * m ^ most_steps
   high job h =
-      omega (arith, mul-le-mul_right (m ^ (mostSteps - steps job)) (near job h).below, scaled job h (bondOf job), scaled job h (boundOf job))
+      omega (arith, mul-le-mul_right (m ^ (most_steps - steps job)) (near job h).below, scaled job h (bond_of job), scaled job h (bound_of job))
 
   -- THE EXACT TOTAL: it differs from the sum of the bonds by at most the sum of their error bounds
   pub total-near : (jobs : List (List ℕ)) →
-      Within (sum_of boundOf jobs) (m ^ mostSteps) (sum_of bondOf jobs) (sum_of (λ job. exact job * m ^ (mostSteps - steps job)) jobs)
+      Within (sum_of bound_of jobs) (m ^ most_steps) (sum_of bond_of jobs) (sum_of (λ job. exact job * m ^ (most_steps - steps job)) jobs)
   total-near jobs =
-      let M : ℕ = m ^ mostSteps in
-      let e : List ℕ → ℕ = λ job. exact job * m ^ (mostSteps - steps job) in
-      let a = sum-le (λ job. bondOf job * M) (λ job. e job + boundOf job * M) low jobs in
-      let b = sum-le e (λ job. bondOf job * M + boundOf job * M) high jobs in
-      let c = sum-plus e (λ job. boundOf job * M) jobs in
-      let d = sum-plus (λ job. bondOf job * M) (λ job. boundOf job * M) jobs in
-      let x = sum-times bondOf M jobs in
-      let y = sum-times boundOf M jobs in
+      let M : ℕ = m ^ most_steps in
+      let e : List ℕ → ℕ = λ job. exact job * m ^ (most_steps - steps job) in
+      let a = sum-le (λ job. bond_of job * M) (λ job. e job + bound_of job * M) low jobs in
+      let b = sum-le e (λ job. bond_of job * M + bound_of job * M) high jobs in
+      let c = sum-plus e (λ job. bound_of job * M) jobs in
+      let d = sum-plus (λ job. bond_of job * M) (λ job. bound_of job * M) jobs in
+      let x = sum-times bond_of M jobs in
+      let y = sum-times bound_of M jobs in
       record { above = omega arith; below = omega arith }

@@ -2,28 +2,28 @@
 -- Assumes nothing.
 use Rattle.std.specs.Prelude.{ℕ, zero, suc, cond, List, [], ◌∷◌, ◌++◌, ltb, length}
 use Rattle.arithmetic.specs.Row.{values}
-use Rattle.text_laws.specs.Lines.{refusedWord}
-use Rattle.text_laws.specs.Put.{putBefore}
-use Rattle.text_laws.specs.WordLines.{wholeLine, pairLine, amountLine}
+use Rattle.text_laws.specs.Lines.{refused_word}
+use Rattle.text_laws.specs.Put.{put_before}
+use Rattle.text_laws.specs.WordLines.{whole_line, pair_line, amount_line}
 use Rattle.book_laws.specs.declared.Book.{Book}
 use Rattle.book_laws.specs.declared.BookText.{BookText}
-use Rattle.book_laws.specs.Bounds.{mostNumber}
+use Rattle.book_laws.specs.Bounds.{most_number}
 
 -- `priced `, `bonds `, `options `, `allowances `, `dearest `; a refusal has the sheet's word
-abbrev pub pricedWord : List ℕ
-pricedWord = 112 ∷ 114 ∷ 105 ∷ 99 ∷ 101 ∷ 100 ∷ 32 ∷ []
+abbrev pub priced_word : List ℕ
+priced_word = 112 ∷ 114 ∷ 105 ∷ 99 ∷ 101 ∷ 100 ∷ 32 ∷ []
 
-abbrev pub bondsWord : List ℕ
-bondsWord = 98 ∷ 111 ∷ 110 ∷ 100 ∷ 115 ∷ 32 ∷ []
+abbrev pub bonds_word : List ℕ
+bonds_word = 98 ∷ 111 ∷ 110 ∷ 100 ∷ 115 ∷ 32 ∷ []
 
-abbrev pub optionsWord : List ℕ
-optionsWord = 111 ∷ 112 ∷ 116 ∷ 105 ∷ 111 ∷ 110 ∷ 115 ∷ 32 ∷ []
+abbrev pub options_word : List ℕ
+options_word = 111 ∷ 112 ∷ 116 ∷ 105 ∷ 111 ∷ 110 ∷ 115 ∷ 32 ∷ []
 
-abbrev pub allowancesWord : List ℕ
-allowancesWord = 97 ∷ 108 ∷ 108 ∷ 111 ∷ 119 ∷ 97 ∷ 110 ∷ 99 ∷ 101 ∷ 115 ∷ 32 ∷ []
+abbrev pub allowances_word : List ℕ
+allowances_word = 97 ∷ 108 ∷ 108 ∷ 111 ∷ 119 ∷ 97 ∷ 110 ∷ 99 ∷ 101 ∷ 115 ∷ 32 ∷ []
 
-abbrev pub dearestWord : List ℕ
-dearestWord = 100 ∷ 101 ∷ 97 ∷ 114 ∷ 101 ∷ 115 ∷ 116 ∷ 32 ∷ []
+abbrev pub dearest_word : List ℕ
+dearest_word = 100 ∷ 101 ∷ 97 ∷ 114 ∷ 101 ∷ 115 ∷ 116 ∷ 32 ∷ []
 
 -- so many lines, one after the other
 unfoldable pub lines_from : (ℕ → List ℕ) → ℕ → ℕ → List ℕ
@@ -31,26 +31,26 @@ lines_from line from zero = []
 lines_from line from (suc count) = line from ++ lines_from line (suc from) count
 
 -- numbers 1 to 13, rising, counts of 0 too
-unfoldable pub refusalsLine : List ℕ → ℕ → List ℕ
-refusalsLine counts k = pairLine refusedWord (suc k) (values counts k)
+unfoldable pub refusals_line : List ℕ → ℕ → List ℕ
+refusals_line counts k = pair_line refused_word (suc k) (values counts k)
 
-abbrev pub refusalLines : List ℕ → List ℕ
-refusalLines counts = lines_from (refusalsLine counts) 0 mostNumber
+abbrev pub refusal_lines : List ℕ → List ℕ
+refusal_lines counts = lines_from (refusals_line counts) 0 most_number
 
-unfoldable pub sumLines : ℕ → ℕ → ℕ → ℕ → List ℕ
-sumLines bonds options errorBounds place =
-    amountLine bondsWord bonds ++ (amountLine optionsWord options ++ (wholeLine allowancesWord errorBounds ++ wholeLine dearestWord place))
+unfoldable pub sum_lines : ℕ → ℕ → ℕ → ℕ → List ℕ
+sum_lines bonds options errorBounds place =
+    amount_line bonds_word bonds ++ (amount_line options_word options ++ (whole_line allowances_word errorBounds ++ whole_line dearest_word place))
 
-unfoldable pub bookLines : Book → List ℕ
-bookLines b = wholeLine pricedWord b.priced ++ (refusalLines b.refused ++ sumLines b.bonds b.options b.error_bounds b.place)
+unfoldable pub book_lines : Book → List ℕ
+book_lines b = whole_line priced_word b.priced ++ (refusal_lines b.refused ++ sum_lines b.bonds b.options b.error_bounds b.place)
 
 -- room for eighteen lines of 128 bytes; 6 where the lent room is shorter
-abbrev pub bookRoom : ℕ
-bookRoom = 2304
+abbrev pub book_room : ℕ
+book_room = 2304
 
 -- the lines stand at the end of the lent room and are so long; a refusal leaves the room as it was
-unfoldable pub linesAnswer : List ℕ → ℕ → BookText
-linesAnswer text room = cond (ltb room bookRoom) (record { number = 6; size = 0 }) (record { number = 0; size = length text })
+unfoldable pub lines_answer : List ℕ → ℕ → BookText
+lines_answer text room = cond (ltb room book_room) (record { number = 6; size = 0 }) (record { number = 0; size = length text })
 
-unfoldable pub linesMemory : List ℕ → List ℕ → List ℕ
-linesMemory text out = cond (ltb (length out) bookRoom) out (putBefore out (length out) text)
+unfoldable pub lines_memory : List ℕ → List ℕ → List ℕ
+lines_memory text out = cond (ltb (length out) book_room) out (put_before out (length out) text)

@@ -1,9 +1,9 @@
 // The lines of a book, put into a lent buffer from its end.
 ghost use Rattle.std.specs.Prelude.{◌≡◌, ◌+◌, ◌*◌, ◌≤◌, length};
-ghost use Rattle.text_laws.specs.Lines.{longestLine};
+ghost use Rattle.text_laws.specs.Lines.{longest_line};
 ghost use Rattle.text_laws.specs.inside.Put.{Put};
-ghost use Rattle.book_laws.specs.Bounds.{mostNumber};
-ghost use Rattle.book_laws.specs.Report.{refusalLines, sumLines, bookLines, bookRoom, linesAnswer, linesMemory};
+ghost use Rattle.book_laws.specs.Bounds.{most_number};
+ghost use Rattle.book_laws.specs.Report.{refusal_lines, sum_lines, book_lines, book_room, lines_answer, lines_memory};
 
 use book_laws::{Book, BookText};
 
@@ -19,7 +19,7 @@ fn put_sums(
     place: u64,
 ) -> usize
     requires { (512 ≤ end) × (end ≤ length out.old) }
-    ensures { Put out.old end (sumLines bonds options error_bounds place) result out.new }
+    ensures { Put out.old end (sum_lines bonds options error_bounds place) result out.new }
 {
     let dearest = text::whole_line(out, end, b"dearest ", place);
     let allowed = text::whole_line(out, dearest.start, b"allowances ", error_bounds);
@@ -30,9 +30,9 @@ fn put_sums(
 
 // The last number's line comes first, so that the lines stand in order.
 fn put_refusals(out: &mut [u8], end: usize, counts: &[u64]) -> usize
-    requires { (length counts.now ≡ mostNumber) × (longestLine * mostNumber ≤ end) × (end ≤ length out.old) }
-    ensures put { Put out.old end (refusalLines counts.now) result out.new }
-    ensures end_bound { end ≤ result + longestLine * mostNumber }
+    requires { (length counts.now ≡ most_number) × (longest_line * most_number ≤ end) × (end ≤ length out.old) }
+    ensures put { Put out.old end (refusal_lines counts.now) result out.new }
+    ensures end_bound { end ≤ result + longest_line * most_number }
 {
     let mut start = end;
     let mut left = 13usize;
@@ -46,8 +46,8 @@ fn put_refusals(out: &mut [u8], end: usize, counts: &[u64]) -> usize
 
 // All lines, before a place.
 fn put_book(out: &mut [u8], end: usize, book: Book) -> usize
-    requires { (bookRoom ≤ end) × (end ≤ length out.old) }
-    ensures { Put out.old end (bookLines book) result out.new }
+    requires { (book_room ≤ end) × (end ≤ length out.old) }
+    ensures { Put out.old end (book_lines book) result out.new }
 {
     let sums_start = put_sums(
         out,
@@ -65,9 +65,9 @@ fn put_book(out: &mut [u8], end: usize, book: Book) -> usize
 
 // The eighteen lines of a book, at the end of the lent room: 2,304 bytes are enough, and fewer are refused with 6 and left as they were.
 pub fn lines(book: Book, out: &mut [u8]) -> BookText
-    ensures answer { result ≡ linesAnswer (bookLines book) (length out.old) }
+    ensures answer { result ≡ lines_answer (book_lines book) (length out.old) }
     ensures within { result.size ≤ length out.old }
-    ensures memory { out.new ≡ linesMemory (bookLines book) out.old }
+    ensures memory { out.new ≡ lines_memory (book_lines book) out.old }
 {
     let room = out.len();
     if room < BOOK_ROOM {

@@ -1,8 +1,8 @@
 // The report of a whole file of jobs, and the head of one of its fields.
 ghost use Rattle.std.specs.Prelude.{◌≡◌, ◌≤◌, ◌<◌, length};
-ghost use Rattle.book_laws.specs.Files.{head_of, fileBook};
-ghost use Rattle.book_laws.specs.inside.Files.{fieldEnd};
-ghost use Rattle.book_laws.specs.Report.{bookLines, linesAnswer, linesMemory};
+ghost use Rattle.book_laws.specs.Files.{head_of, file_book};
+ghost use Rattle.book_laws.specs.inside.Files.{field_end};
+ghost use Rattle.book_laws.specs.Report.{book_lines, lines_answer, lines_memory};
 
 use book_laws::{Book, BookText, Head};
 
@@ -38,7 +38,7 @@ pub fn head_of(bytes: &[u8]) -> Head
 // The end of the field that stands at a place, or the place itself where no whole field stands there.
 fn field_end(file: &[u8], at: usize) -> usize
     requires { at ≤ length file.now }
-    ensures { result ≡ fieldEnd file.now at }
+    ensures { result ≡ field_end file.now at }
 {
     let head = head_of(&file[at..]);
     if !head.sound {
@@ -53,7 +53,7 @@ fn field_end(file: &[u8], at: usize) -> usize
 
 // The book of a whole file in memory: one pair of memories for the trees of all its jobs.
 pub fn file_book(file: &[u8]) -> Book
-    ensures { result ≡ fileBook file.now }
+    ensures { result ≡ file_book file.now }
 {
     let mut discounts = limits::discount_room();
     let mut state_prices = limits::state_price_room();
@@ -77,9 +77,9 @@ pub fn file_book(file: &[u8]) -> Book
 
 // The lines of a whole file in memory, as `lines` puts them.
 pub fn report(file: &[u8], out: &mut [u8]) -> BookText
-    ensures answer { result ≡ linesAnswer (bookLines (fileBook file.now)) (length out.old) }
+    ensures answer { result ≡ lines_answer (book_lines (file_book file.now)) (length out.old) }
     ensures within { result.size ≤ length out.old }
-    ensures memory { out.new ≡ linesMemory (bookLines (fileBook file.now)) out.old }
+    ensures memory { out.new ≡ lines_memory (book_lines (file_book file.now)) out.old }
 {
     book_lines::lines(file_book(file), out)
 }

@@ -3,15 +3,15 @@ mod sums;
 mod tests;
 
 ghost use Rattle.std.specs.Prelude.{◌≡◌};
-ghost use Rattle.report_laws.specs.Reports.{emptyReport, bookReport};
-ghost use Rattle.report_laws.specs.FileReports.{fileReport};
-ghost use Rattle.report_laws.specs.Joins.{refusedJoin, joinedReport};
+ghost use Rattle.report_laws.specs.Reports.{empty_report, book_report};
+ghost use Rattle.report_laws.specs.FileReports.{file_report};
+ghost use Rattle.report_laws.specs.Joins.{refused_join, joined_report};
 
 use book_laws::Book;
 use report_laws::{Joined, Report};
 
 pub fn empty() -> Report
-    ensures { result ≡ emptyReport }
+    ensures { result ≡ empty_report }
 {
     Report {
         books: 0,
@@ -29,7 +29,7 @@ pub fn empty() -> Report
 
 // The report of one book, which has the number 1.
 pub fn of_book(book: Book) -> Report
-    ensures { result ≡ bookReport book }
+    ensures { result ≡ book_report book }
 {
     let counts = book.refused;
     Report {
@@ -48,13 +48,13 @@ pub fn of_book(book: Book) -> Report
 
 // The report of one whole file in memory.
 pub fn of_file(file: &[u8]) -> Report
-    ensures { result ≡ fileReport file.now }
+    ensures { result ≡ file_report file.now }
 {
     of_book(book_report::file_book(file))
 }
 
 fn refused(number: u64) -> Joined
-    ensures { result ≡ refusedJoin number }
+    ensures { result ≡ refused_join number }
 {
     let none = empty();
     Joined {
@@ -66,7 +66,7 @@ fn refused(number: u64) -> Joined
 // The report of the books of both, the second's numbered after the first's. 1 for a report that no files give, and 12 for more than 2,305,843,009 books
 // and fields, whose sums could pass 64 bits.
 pub fn joined(first: Report, second: Report) -> Joined
-    ensures { result ≡ joinedReport first second }
+    ensures { result ≡ joined_report first second }
 {
     if !tests::is_report(first) {
         return refused(1);

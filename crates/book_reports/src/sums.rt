@@ -1,10 +1,10 @@
 // The sum of two reports.
 ghost use Rattle.std.specs.Prelude.{◌≡◌, true, cond, ◌+◌, ◌≤◌};
 ghost use Rattle.arithmetic.specs.Row.{row, values};
-ghost use Rattle.book_laws.specs.Bounds.{mostNumber};
-ghost use Rattle.book_laws.specs.Books.{countsWithin};
-ghost use Rattle.report_laws.specs.Reports.{isLater, sumReport};
-ghost use Rattle.report_laws.specs.Joins.{size_of, mostSize, isReport};
+ghost use Rattle.book_laws.specs.Bounds.{most_number};
+ghost use Rattle.book_laws.specs.Books.{counts_within};
+ghost use Rattle.report_laws.specs.Reports.{is_later, sum_report};
+ghost use Rattle.report_laws.specs.Joins.{size_of, most_size, is_report};
 
 use report_laws::Report;
 
@@ -16,7 +16,7 @@ pub(crate) fn chosen(test: bool, yes: u64, no: u64) -> u64
 
 // Whether the dearest bond of both is the second's.
 fn is_later(first: Report, second: Report) -> bool
-    ensures { result ≡ isLater first second }
+    ensures { result ≡ is_later first second }
 {
     if second.place == 0 {
         return false;
@@ -29,8 +29,8 @@ fn is_later(first: Report, second: Report) -> bool
 
 // Count by count.
 fn counts_of(first: [u64; 13], second: [u64; 13]) -> [u64; 13]
-    requires { (countsWithin first mostSize ≡ true) × (countsWithin second mostSize ≡ true) }
-    ensures { result ≡ row mostNumber (λ k. values first k + values second k) }
+    requires { (counts_within first most_size ≡ true) × (counts_within second most_size ≡ true) }
+    ensures { result ≡ row most_number (λ k. values first k + values second k) }
 {
     let mut sums = [0u64; 13];
     let mut k = 0usize;
@@ -42,8 +42,8 @@ fn counts_of(first: [u64; 13], second: [u64; 13]) -> [u64; 13]
 }
 
 pub(crate) fn sum_of(first: Report, second: Report) -> Report
-    requires { (isReport first ≡ true) × (isReport second ≡ true) × (size_of first + size_of second ≤ mostSize) }
-    ensures { result ≡ sumReport first second }
+    requires { (is_report first ≡ true) × (is_report second ≡ true) × (size_of first + size_of second ≤ most_size) }
+    ensures { result ≡ sum_report first second }
 {
     let first_counts = first.refused;
     let second_counts = second.refused;

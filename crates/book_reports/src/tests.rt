@@ -1,13 +1,13 @@
 // Whether a report has figures that so many books can give.
 ghost use Rattle.std.specs.Prelude.{◌≡◌, true, ◌≤◌};
-ghost use Rattle.book_laws.specs.Books.{countsWithin};
-ghost use Rattle.report_laws.specs.Joins.{size_of, mostSize, isNamed, countsTotal, isCounted, isReport};
+ghost use Rattle.book_laws.specs.Books.{counts_within};
+ghost use Rattle.report_laws.specs.Joins.{size_of, most_size, is_named, counts_total, is_counted, is_report};
 
 use report_laws::Report;
 
 // The dearest bond has a place in a book exactly where there is a priced one.
 fn is_named(report: Report) -> bool
-    ensures { result ≡ isNamed report }
+    ensures { result ≡ is_named report }
 {
     if report.priced == 0 {
         if report.place != 0 {
@@ -29,8 +29,8 @@ fn is_named(report: Report) -> bool
 
 // The refusals of all numbers.
 fn counts_total(counts: [u64; 13]) -> u64
-    requires { countsWithin counts mostSize ≡ true }
-    ensures { result ≡ countsTotal counts }
+    requires { counts_within counts most_size ≡ true }
+    ensures { result ≡ counts_total counts }
 {
     let mut total = 0u64;
     let mut k = 0usize;
@@ -43,8 +43,8 @@ fn counts_total(counts: [u64; 13]) -> u64
 
 // Every field is priced or refused, and each book may have one refusal more, for a broken end.
 fn is_counted(report: Report) -> bool
-    requires { (size_of report ≤ mostSize) × (report.priced ≤ report.fields) }
-    ensures { result ≡ isCounted report }
+    requires { (size_of report ≤ most_size) × (report.priced ≤ report.fields) }
+    ensures { result ≡ is_counted report }
 {
     let counts = report.refused;
     let most = report.fields + report.books;
@@ -59,7 +59,7 @@ fn is_counted(report: Report) -> bool
 }
 
 pub(crate) fn is_report(report: Report) -> bool
-    ensures { result ≡ isReport report }
+    ensures { result ≡ is_report report }
 {
     if report_laws::MOST_SIZE < report.books {
         return false;

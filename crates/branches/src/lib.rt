@@ -2,60 +2,60 @@
 ghost use Rattle.std.specs.Prelude.{◌≡◌, ◌+◌, ◌*◌, ◌≤◌, true, pos, nat_abs, length};
 ghost use Rattle.std.specs.Int.Signed.{lt_z};
 ghost use Rattle.arithmetic.specs.Row.{row};
-ghost use Rattle.limits.specs.Limits.{mostSteps, mostReversion};
+ghost use Rattle.limits.specs.Limits.{most_steps, most_reversion};
 ghost use Rattle.lattice.specs.Branching.{
   ordinary,
   top,
-  upFormula,
-  middleFormula,
-  downFormula,
+  up_formula,
+  middle_formula,
+  down_formula,
   probabilities,
-  downProbability,
+  down_probability,
 };
-ghost use Rattle.lattice.specs.RateTree.{nodeOfIndex};
-ghost use Rattle.lattice.specs.Entries.{refusedBranch, branchOf, branchAnswer, tableNumber, table_of};
+ghost use Rattle.lattice.specs.RateTree.{node_of_index};
+ghost use Rattle.lattice.specs.Entries.{refused_branch, branch_of, branch_answer, table_number, table_of};
 
 use lattice::Branches;
 
 // The five formulas of the upper side at z; down at the edge is the ordinary up.
 fn ordinary_up(z: u64) -> u64
     requires { z ≤ 7840 }
-    ensures { result ≡ nat_abs (upFormula ordinary (pos z)) }
+    ensures { result ≡ nat_abs (up_formula ordinary (pos z)) }
 {
     100000000 + 3 * (z * z) - 30000 * z
 }
 
 fn ordinary_down(z: u64) -> u64
     requires { z ≤ 7840 }
-    ensures { result ≡ nat_abs (downFormula ordinary (pos z)) }
+    ensures { result ≡ nat_abs (down_formula ordinary (pos z)) }
 {
     100000000 + 3 * (z * z) + 30000 * z
 }
 
 fn ordinary_middle(z: u64) -> u64
     requires { z ≤ 1840 }
-    ensures { result ≡ nat_abs (middleFormula ordinary (pos z)) }
+    ensures { result ≡ nat_abs (middle_formula ordinary (pos z)) }
 {
     400000000 - 6 * (z * z)
 }
 
 fn edge_up(z: u64) -> u64
     requires { z ≤ 7840 }
-    ensures { result ≡ nat_abs (upFormula top (pos z)) }
+    ensures { result ≡ nat_abs (up_formula top (pos z)) }
 {
     700000000 + 3 * (z * z) - 90000 * z
 }
 
 fn edge_middle(z: u64) -> u64
     requires { (1841 ≤ z) × (z ≤ 7840) }
-    ensures { result ≡ nat_abs (middleFormula top (pos z)) }
+    ensures { result ≡ nat_abs (middle_formula top (pos z)) }
 {
     120000 * z - (200000000 + 6 * (z * z))
 }
 
 // Up, middle and down of the node so far above the middle. Whether it is J shows in z: no division.
 fn upper(reversion: u64, distance: u64) -> [u64; 3]
-    requires { (reversion ≤ mostReversion) × (distance ≤ mostSteps) × (distance * reversion ≤ 1840 + reversion) }
+    requires { (reversion ≤ most_reversion) × (distance ≤ most_steps) × (distance * reversion ≤ 1840 + reversion) }
     ensures { result ≡ probabilities reversion (pos distance) }
 {
     let z = distance * reversion;
@@ -66,7 +66,7 @@ fn upper(reversion: u64, distance: u64) -> [u64; 3]
 }
 
 fn refused_branch(number: u64) -> Branches
-    ensures { result ≡ refusedBranch number }
+    ensures { result ≡ refused_branch number }
 {
     Branches {
         number,
@@ -77,9 +77,9 @@ fn refused_branch(number: u64) -> Branches
 
 // The branch of a node below the middle: the mirror image of the node so far above it.
 fn lower_branch(reversion: u64, node: i64, distance: u64) -> Branches
-    requires reversion_le_most_reversion { (reversion ≤ mostReversion) × (distance ≤ mostSteps) × (distance * reversion ≤ 1840 + reversion) }
+    requires reversion_le_most_reversion { (reversion ≤ most_reversion) × (distance ≤ most_steps) × (distance * reversion ≤ 1840 + reversion) }
     requires node_value { (nat_abs node ≡ distance) × (lt_z node (pos 0) ≡ true) }
-    ensures { result ≡ branchOf reversion node }
+    ensures { result ≡ branch_of reversion node }
 {
     let image = upper(reversion, distance);
     let probabilities = [image[2], image[1], image[0]];
@@ -96,9 +96,9 @@ fn lower_branch(reversion: u64, node: i64, distance: u64) -> Branches
 }
 
 fn upper_branch(reversion: u64, node: i64, distance: u64) -> Branches
-    requires reversion_le_most_reversion { (reversion ≤ mostReversion) × (distance ≤ mostSteps) × (distance * reversion ≤ 1840 + reversion) }
+    requires reversion_le_most_reversion { (reversion ≤ most_reversion) × (distance ≤ most_steps) × (distance * reversion ≤ 1840 + reversion) }
     requires node_value { node ≡ pos distance }
-    ensures { result ≡ branchOf reversion node }
+    ensures { result ≡ branch_of reversion node }
 {
     let probabilities = upper(reversion, distance);
     let lowest = if 1840 < distance * reversion {
@@ -115,7 +115,7 @@ fn upper_branch(reversion: u64, node: i64, distance: u64) -> Branches
 
 // Where a node of a row leads.
 pub fn branch(reversion: u64, row: usize, node: i64) -> Branches
-    ensures { result ≡ branchAnswer reversion row node }
+    ensures { result ≡ branch_answer reversion row node }
 {
     if limits::MOST_REVERSION < reversion {
         return refused_branch(4);
@@ -138,8 +138,8 @@ pub fn branch(reversion: u64, row: usize, node: i64) -> Branches
 
 // The down-probability of the node at an index of a row of this half width.
 fn down_of(reversion: u64, half_width: usize, index: usize) -> u64
-    requires { (reversion ≤ mostReversion) × (half_width ≤ mostSteps) × (half_width * reversion ≤ 1840 + reversion) × (index ≤ 2 * half_width) }
-    ensures { result ≡ downProbability reversion (nodeOfIndex half_width index) }
+    requires { (reversion ≤ most_reversion) × (half_width ≤ most_steps) × (half_width * reversion ≤ 1840 + reversion) × (index ≤ 2 * half_width) }
+    ensures { result ≡ down_probability reversion (node_of_index half_width index) }
 {
     if index < half_width {
         let image = upper(reversion, (half_width - index) as u64);
@@ -150,9 +150,9 @@ fn down_of(reversion: u64, half_width: usize, index: usize) -> u64
 }
 
 fn fill_table(reversion: u64, half_width: usize, table: &mut [u64])
-    requires { (reversion ≤ mostReversion) × (half_width ≤ mostSteps) × (half_width * reversion ≤ 1840 + reversion)
+    requires { (reversion ≤ most_reversion) × (half_width ≤ most_steps) × (half_width * reversion ≤ 1840 + reversion)
         × (length table.old ≡ 2 * half_width + 1) }
-    ensures { table.new ≡ row (length table.old) (λ k. downProbability reversion (nodeOfIndex half_width k)) }
+    ensures { table.new ≡ row (length table.old) (λ k. down_probability reversion (node_of_index half_width k)) }
 {
     let mut index = 0;
     while index < table.len() {
@@ -164,7 +164,7 @@ fn fill_table(reversion: u64, half_width: usize, table: &mut [u64])
 // The down-probabilities of nodes -w to w, worked out once for all rows: the up-probability of a node is the down-probability
 // of its mirror image, and the middle one is what is left of 600,000,000.
 pub fn down_probabilities(reversion: u64, half_width: usize, table: &mut [u64]) -> u64
-    ensures number { result ≡ tableNumber reversion half_width (length table.old) }
+    ensures number { result ≡ table_number reversion half_width (length table.old) }
     ensures memory { table.new ≡ table_of reversion half_width table.old }
 {
     if limits::MOST_REVERSION < reversion {

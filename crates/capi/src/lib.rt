@@ -1,55 +1,55 @@
 // The engine for C, Rust and Python. Each function but the version hands its arguments on to the entry below it and has that entry's contract.
 ghost use Rattle.std.specs.Prelude.{◌≡◌, length};
 ghost use Rattle.lattice.specs.Entries.{
-  halfWidthAnswer,
-  nodeCountAnswer,
-  rowStartAnswer,
-  discountsNeededAnswer,
-  statePricesNeededAnswer,
-  branchAnswer,
+  half_width_answer,
+  node_count_answer,
+  row_start_answer,
+  discounts_needed_answer,
+  state_prices_needed_answer,
+  branch_answer,
 };
-ghost use Rattle.quotes.specs.Quotes.{loneAnswer};
-ghost use Rattle.curve.specs.Curve.{curveNumber, curveMemory};
-ghost use Rattle.step_rate.specs.StepRate.{rateAnswer};
-ghost use Rattle.continuous_rate.specs.ContinuousRate.{continuousRateAnswer};
-ghost use Rattle.reversion.specs.Reversion.{workingAnswer};
-ghost use Rattle.fitted_laws.specs.Entry.{fitNumber, discountsAfter, statePricesAfter, versionNumber, versionDiscountsAfter, versionStatePricesAfter};
-ghost use Rattle.row_view.specs.RowView.{rangeByNumber};
-ghost use Rattle.state_price_bound.specs.ErrorBound.{statePriceErrorBoundAnswer};
-ghost use Rattle.price_bound.specs.PriceBound.{priceErrorBoundAnswer, treeBoundsAnswer};
-ghost use Rattle.price_laws.specs.Prices.{bondPrice, optionPrice, bondAndOption, datedPrice, bondAndDatedOption};
-ghost use Rattle.price_laws.specs.Strips.{optionStrip, kindStrip};
-ghost use Rattle.valuation.specs.Entries.{valueByStatePricesAnswer, valuationErrorBoundAnswer};
-ghost use Rattle.sheet_laws.specs.WholeJob.{sheetNumber, sheetText, sheetMemory};
+ghost use Rattle.quotes.specs.Quotes.{lone_answer};
+ghost use Rattle.curve.specs.Curve.{curve_number, curve_memory};
+ghost use Rattle.step_rate.specs.StepRate.{rate_answer};
+ghost use Rattle.continuous_rate.specs.ContinuousRate.{continuous_rate_answer};
+ghost use Rattle.reversion.specs.Reversion.{working_answer};
+ghost use Rattle.fitted_laws.specs.Entry.{fit_number, discounts_after, state_prices_after, version_number, version_discounts_after, version_state_prices_after};
+ghost use Rattle.row_view.specs.RowView.{range_by_number};
+ghost use Rattle.state_price_bound.specs.ErrorBound.{state_price_error_bound_answer};
+ghost use Rattle.price_bound.specs.PriceBound.{price_error_bound_answer, tree_bounds_answer};
+ghost use Rattle.price_laws.specs.Prices.{bond_price, option_price, bond_and_option, dated_price, bond_and_dated_option};
+ghost use Rattle.price_laws.specs.Strips.{option_strip, kind_strip};
+ghost use Rattle.valuation.specs.Entries.{value_by_state_prices_answer, valuation_error_bound_answer};
+ghost use Rattle.sheet_laws.specs.WholeJob.{sheet_number, sheet_text, sheet_memory};
 ghost use Rattle.record_sheet.specs.Answers.{answer_of};
 ghost use Rattle.job_record.specs.Reader.{reading_of};
 ghost use Rattle.job_record.specs.Grammar.{ReadsAs};
-ghost use Rattle.writer_laws.specs.Writer.{written, writtenMemory};
-ghost use Rattle.job_laws.specs.RecordFit.{jobDiscounts, jobStatePrices, memoryAfter};
-ghost use Rattle.job_laws.specs.JobPrices.{bytesNumber, bytesPrices};
-ghost use Rattle.book_laws.specs.Files.{fileBook};
-ghost use Rattle.book_laws.specs.Report.{bookLines, linesAnswer, linesMemory};
-ghost use Rattle.report_laws.specs.Reports.{emptyReport};
-ghost use Rattle.report_laws.specs.FileReports.{fileReport};
-ghost use Rattle.report_laws.specs.Joins.{joinedReport};
+ghost use Rattle.writer_laws.specs.Writer.{written, written_memory};
+ghost use Rattle.job_laws.specs.RecordFit.{job_discounts, job_state_prices, memory_after};
+ghost use Rattle.job_laws.specs.JobPrices.{bytes_number, bytes_prices};
+ghost use Rattle.book_laws.specs.Files.{file_book};
+ghost use Rattle.book_laws.specs.Report.{book_lines, lines_answer, lines_memory};
+ghost use Rattle.report_laws.specs.Reports.{empty_report};
+ghost use Rattle.report_laws.specs.FileReports.{file_report};
+ghost use Rattle.report_laws.specs.Joins.{joined_report};
 ghost use Rattle.shelf_laws.specs.Shelf.{
-  emptySlots,
+  empty_slots,
   part_of,
-  askNumber,
-  askSlots,
-  askMemory,
-  commitNumber,
-  commitSlots,
-  commitMemory,
-  nameCause,
-  releaseSlots,
-  releaseMemory,
+  ask_number,
+  ask_slots,
+  ask_memory,
+  commit_number,
+  commit_slots,
+  commit_memory,
+  name_cause,
+  release_slots,
+  release_memory,
 };
-ghost use Rattle.shelf_prices.specs.ShelfPrices.{shelfBond, shelfOption, shelfDated, shelfBondAndOption, shelfBondAndDated};
-ghost use Rattle.shelf_prices.specs.ShelfPrices.{shelfDatedStrip, shelfKindStrip};
+ghost use Rattle.shelf_prices.specs.ShelfPrices.{shelf_bond, shelf_option, shelf_dated, shelf_bond_and_option, shelf_bond_and_dated};
+ghost use Rattle.shelf_prices.specs.ShelfPrices.{shelf_dated_strip, shelf_kind_strip};
 ghost use Rattle.bands.specs.Bands.{verdict};
-ghost use Rattle.lending.specs.Lending.{lendingWorth};
-ghost use Rattle.pair_laws.specs.PairPrices.{pairBondPrice, pairDatedPrice};
+ghost use Rattle.lending.specs.Lending.{lending_worth};
+ghost use Rattle.pair_laws.specs.PairPrices.{pair_bond_price, pair_dated_price};
 ghost use Rattle.capi.specs.Version.{version};
 
 use arithmetic::Answer;
@@ -80,49 +80,49 @@ pub extern "C" fn mixegorta_version() -> u64
 
 #[unsafe(no_mangle)]
 pub extern "C" fn mixegorta_half_width(reversion: u64, row: usize) -> Answer
-    ensures { result ≡ halfWidthAnswer reversion row }
+    ensures { result ≡ half_width_answer reversion row }
 {
     lattice::half_width(reversion, row)
 }
 
 #[unsafe(no_mangle)]
 pub extern "C" fn mixegorta_node_count(reversion: u64, row: usize) -> Answer
-    ensures { result ≡ nodeCountAnswer reversion row }
+    ensures { result ≡ node_count_answer reversion row }
 {
     lattice::node_count(reversion, row)
 }
 
 #[unsafe(no_mangle)]
 pub extern "C" fn mixegorta_row_start(reversion: u64, row: usize) -> Answer
-    ensures { result ≡ rowStartAnswer reversion row }
+    ensures { result ≡ row_start_answer reversion row }
 {
     lattice::row_start(reversion, row)
 }
 
 #[unsafe(no_mangle)]
 pub extern "C" fn mixegorta_discounts_needed(steps: usize, reversion: u64) -> Answer
-    ensures { result ≡ discountsNeededAnswer steps reversion }
+    ensures { result ≡ discounts_needed_answer steps reversion }
 {
     lattice::discounts_needed(steps, reversion)
 }
 
 #[unsafe(no_mangle)]
 pub extern "C" fn mixegorta_state_prices_needed(steps: usize, reversion: u64) -> Answer
-    ensures { result ≡ statePricesNeededAnswer steps reversion }
+    ensures { result ≡ state_prices_needed_answer steps reversion }
 {
     lattice::state_prices_needed(steps, reversion)
 }
 
 #[unsafe(no_mangle)]
 pub extern "C" fn mixegorta_branches(reversion: u64, row: usize, node: i64) -> Branches
-    ensures { result ≡ branchAnswer reversion row node }
+    ensures { result ≡ branch_answer reversion row node }
 {
     branches::branch(reversion, row, node)
 }
 
 #[unsafe(no_mangle)]
 pub extern "C" fn mixegorta_working_reversion(version: u64, reversion: u64) -> Answer
-    ensures { result ≡ workingAnswer version reversion }
+    ensures { result ≡ working_answer version reversion }
 {
     reversion::working_reversion(version, reversion)
 }
@@ -131,7 +131,7 @@ pub extern "C" fn mixegorta_working_reversion(version: u64, reversion: u64) -> A
 
 #[unsafe(no_mangle)]
 pub extern "C" fn mixegorta_quote_discount(frequency: u64, kind: u8, point: Point) -> Answer
-    ensures { result ≡ loneAnswer frequency kind point }
+    ensures { result ≡ lone_answer frequency kind point }
 {
     quotes::lone_point(frequency, kind, point)
 }
@@ -145,9 +145,9 @@ pub extern "C" fn mixegorta_curve_discounts(
     figures: &[f64],
     discounts: &mut [u64],
 ) -> u64
-    ensures number { result ≡ curveNumber frequency steps
+    ensures number { result ≡ curve_number frequency steps
         rows.now kinds.now figures.now (length discounts.old) }
-    ensures memory { discounts.new ≡ curveMemory frequency steps
+    ensures memory { discounts.new ≡ curve_memory frequency steps
         rows.now kinds.now figures.now discounts.old }
 {
     curve::convert(frequency, steps, rows, kinds, figures, discounts)
@@ -165,11 +165,11 @@ pub extern "C" fn mixegorta_fit(
     discounts: &mut [u64],
     state_prices: &mut [u64],
 ) -> u64
-    ensures number { result ≡ fitNumber frequency steps reversion volatility rows.now kinds.now figures.now
+    ensures number { result ≡ fit_number frequency steps reversion volatility rows.now kinds.now figures.now
         (length discounts.old) (length state_prices.old) }
-    ensures discounted { discounts.new ≡ discountsAfter frequency steps reversion volatility
+    ensures discounted { discounts.new ≡ discounts_after frequency steps reversion volatility
         rows.now kinds.now figures.now discounts.old state_prices.old }
-    ensures priced { state_prices.new ≡ statePricesAfter frequency steps reversion volatility
+    ensures priced { state_prices.new ≡ state_prices_after frequency steps reversion volatility
         rows.now kinds.now figures.now discounts.old state_prices.old }
 {
     fitting::fit(
@@ -198,11 +198,11 @@ pub extern "C" fn mixegorta_fit_version(
     discounts: &mut [u64],
     state_prices: &mut [u64],
 ) -> u64
-    ensures number { result ≡ versionNumber version frequency steps reversion volatility
+    ensures number { result ≡ version_number version frequency steps reversion volatility
         rows.now kinds.now figures.now (length discounts.old) (length state_prices.old) }
-    ensures discounted { discounts.new ≡ versionDiscountsAfter version frequency steps reversion volatility
+    ensures discounted { discounts.new ≡ version_discounts_after version frequency steps reversion volatility
         rows.now kinds.now figures.now discounts.old state_prices.old }
-    ensures priced { state_prices.new ≡ versionStatePricesAfter version frequency steps reversion volatility
+    ensures priced { state_prices.new ≡ version_state_prices_after version frequency steps reversion volatility
         rows.now kinds.now figures.now discounts.old state_prices.old }
 {
     fitting::fit_version(
@@ -228,21 +228,21 @@ pub extern "C" fn mixegorta_row_range(
     reversion: u64,
     row: usize,
 ) -> RowRange
-    ensures { result ≡ rangeByNumber steps reversion row kind discounts.now state_prices.now }
+    ensures { result ≡ range_by_number steps reversion row kind discounts.now state_prices.now }
 {
     row_view::range_by_number(steps, reversion, row, kind, discounts, state_prices)
 }
 
 #[unsafe(no_mangle)]
 pub extern "C" fn mixegorta_step_rate(discount: u64) -> Rate
-    ensures { result ≡ rateAnswer discount }
+    ensures { result ≡ rate_answer discount }
 {
     step_rate::of_discount(discount)
 }
 
 #[unsafe(no_mangle)]
 pub extern "C" fn mixegorta_continuous_rate(discount: u64) -> Rate
-    ensures { result ≡ continuousRateAnswer discount }
+    ensures { result ≡ continuous_rate_answer discount }
 {
     continuous_rate::of_discount(discount)
 }
@@ -254,7 +254,7 @@ pub extern "C" fn mixegorta_state_price_error_bound(
     discounts: &[u64],
     row: usize,
 ) -> Answer
-    ensures { result ≡ statePriceErrorBoundAnswer steps reversion discounts.now row }
+    ensures { result ≡ state_price_error_bound_answer steps reversion discounts.now row }
 {
     state_price_bound::state_price_error_bound(steps, reversion, discounts, row)
 }
@@ -267,7 +267,7 @@ pub extern "C" fn mixegorta_price_error_bound(
     reversion: u64,
     discounts: &[u64],
 ) -> Answer
-    ensures { result ≡ priceErrorBoundAnswer steps reversion discounts.now }
+    ensures { result ≡ price_error_bound_answer steps reversion discounts.now }
 {
     price_bound::price_error_bound(steps, reversion, discounts)
 }
@@ -278,7 +278,7 @@ pub extern "C" fn mixegorta_tree_bounds(
     reversion: u64,
     discounts: &[u64],
 ) -> TreeErrorBounds
-    ensures { result ≡ treeBoundsAnswer steps reversion discounts.now }
+    ensures { result ≡ tree_bounds_answer steps reversion discounts.now }
 {
     price_bound::tree_bounds(steps, reversion, discounts)
 }
@@ -290,7 +290,7 @@ pub extern "C" fn mixegorta_bond_price(
     discounts: &[u64],
     flows: &[u64],
 ) -> Price
-    ensures { result ≡ bondPrice steps reversion discounts.now flows.now }
+    ensures { result ≡ bond_price steps reversion discounts.now flows.now }
 {
     pricing::bond_price(steps, reversion, discounts, flows)
 }
@@ -305,7 +305,7 @@ pub extern "C" fn mixegorta_option_price(
     expiry: usize,
     strike: u64,
 ) -> Price
-    ensures { result ≡ optionPrice steps reversion discounts.now flows.now kind expiry strike }
+    ensures { result ≡ option_price steps reversion discounts.now flows.now kind expiry strike }
 {
     pricing::option_price(steps, reversion, discounts, flows, kind, expiry, strike)
 }
@@ -320,7 +320,7 @@ pub extern "C" fn mixegorta_bond_and_option(
     expiry: usize,
     strike: u64,
 ) -> BondAndOption
-    ensures { result ≡ bondAndOption steps reversion discounts.now flows.now kind expiry strike }
+    ensures { result ≡ bond_and_option steps reversion discounts.now flows.now kind expiry strike }
 {
     pricing::bond_and_option(steps, reversion, discounts, flows, kind, expiry, strike)
 }
@@ -335,7 +335,7 @@ pub extern "C" fn mixegorta_dated_option_price(
     dates: &[u8],
     strike: u64,
 ) -> Price
-    ensures { result ≡ datedPrice steps reversion discounts.now flows.now side dates.now strike }
+    ensures { result ≡ dated_price steps reversion discounts.now flows.now side dates.now strike }
 {
     pricing::dated_option_price(steps, reversion, discounts, flows, side, dates, strike)
 }
@@ -350,7 +350,7 @@ pub extern "C" fn mixegorta_bond_and_dated_option(
     dates: &[u8],
     strike: u64,
 ) -> BondAndOption
-    ensures { result ≡ bondAndDatedOption steps reversion discounts.now flows.now side dates.now strike }
+    ensures { result ≡ bond_and_dated_option steps reversion discounts.now flows.now side dates.now strike }
 {
     pricing::bond_and_dated_option(steps, reversion, discounts, flows, side, dates, strike)
 }
@@ -365,7 +365,7 @@ pub extern "C" fn mixegorta_option_strip(
     dates: &[u8],
     strikes: &[u64],
 ) -> Strip
-    ensures { result ≡ optionStrip steps reversion discounts.now flows.now side dates.now strikes.now }
+    ensures { result ≡ option_strip steps reversion discounts.now flows.now side dates.now strikes.now }
 {
     pricing::option_strip(steps, reversion, discounts, flows, side, dates, strikes)
 }
@@ -380,14 +380,14 @@ pub extern "C" fn mixegorta_option_strip_of_kind(
     expiry: usize,
     strikes: &[u64],
 ) -> Strip
-    ensures { result ≡ kindStrip steps reversion discounts.now flows.now kind expiry strikes.now }
+    ensures { result ≡ kind_strip steps reversion discounts.now flows.now kind expiry strikes.now }
 {
     pricing::option_strip_of_kind(steps, reversion, discounts, flows, kind, expiry, strikes)
 }
 
 #[unsafe(no_mangle)]
 pub extern "C" fn mixegorta_value_by_state_prices(state_prices: &[u64], payoffs: &[u64]) -> Answer
-    ensures { result ≡ valueByStatePricesAnswer state_prices.now payoffs.now }
+    ensures { result ≡ value_by_state_prices_answer state_prices.now payoffs.now }
 {
     valuation::value_by_state_prices(state_prices, payoffs)
 }
@@ -400,7 +400,7 @@ pub extern "C" fn mixegorta_valuation_error_bound(
     row: usize,
     payoffs: &[u64],
 ) -> Answer
-    ensures { result ≡ valuationErrorBoundAnswer steps reversion discounts.now row payoffs.now }
+    ensures { result ≡ valuation_error_bound_answer steps reversion discounts.now row payoffs.now }
 {
     valuation::valuation_error_bound(steps, reversion, discounts, row, payoffs)
 }
@@ -410,8 +410,8 @@ pub extern "C" fn mixegorta_valuation_error_bound(
 // The sheet stands at the end of `out`, which has at least 468,736 bytes.
 #[unsafe(no_mangle)]
 pub extern "C" fn mixegorta_sheet(job: &[u8], out: &mut [u8]) -> Written
-    ensures answer { result ≡ answer_of (sheetNumber job.now (length out.old)) (sheetText job.now) }
-    ensures memory { out.new ≡ sheetMemory job.now out.old }
+    ensures answer { result ≡ answer_of (sheet_number job.now (length out.old)) (sheet_text job.now) }
+    ensures memory { out.new ≡ sheet_memory job.now out.old }
 {
     job_sheet::sheet(job, out)
 }
@@ -423,13 +423,13 @@ pub extern "C" fn mixegorta_prices_of_job(
     discounts: &mut [u64],
     state_prices: &mut [u64],
 ) -> JobPrices
-    ensures answer { result ≡ bytesPrices job.now (length discounts.old) (length state_prices.old) }
-    ensures discounted { discounts.new ≡ memoryAfter
-        (bytesNumber job.now (length discounts.old) (length state_prices.old))
-        (jobDiscounts (reading_of job.now).job) discounts.old }
-    ensures priced { state_prices.new ≡ memoryAfter
-        (bytesNumber job.now (length discounts.old) (length state_prices.old))
-        (jobStatePrices (reading_of job.now).job) state_prices.old }
+    ensures answer { result ≡ bytes_prices job.now (length discounts.old) (length state_prices.old) }
+    ensures discounted { discounts.new ≡ memory_after
+        (bytes_number job.now (length discounts.old) (length state_prices.old))
+        (job_discounts (reading_of job.now).job) discounts.old }
+    ensures priced { state_prices.new ≡ memory_after
+        (bytes_number job.now (length discounts.old) (length state_prices.old))
+        (job_state_prices (reading_of job.now).job) state_prices.old }
 {
     job_prices::prices_of_job(job, discounts, state_prices)
 }
@@ -447,7 +447,7 @@ pub extern "C" fn mixegorta_read_job(bytes: &[u8]) -> Reading
 #[unsafe(no_mangle)]
 pub extern "C" fn mixegorta_write_job(job: Job, out: &mut [u8]) -> Answer
     ensures answer { result ≡ written job (length out.old) }
-    ensures memory { out.new ≡ writtenMemory job out.old }
+    ensures memory { out.new ≡ written_memory job out.old }
 {
     job_writer::write(job, out)
 }
@@ -457,8 +457,8 @@ pub extern "C" fn mixegorta_write_job(job: Job, out: &mut [u8]) -> Answer
 // The lines stand at the end of `out`, which has at least 2,304 bytes.
 #[unsafe(no_mangle)]
 pub extern "C" fn mixegorta_book_report(file: &[u8], out: &mut [u8]) -> BookText
-    ensures answer { result ≡ linesAnswer (bookLines (fileBook file.now)) (length out.old) }
-    ensures memory { out.new ≡ linesMemory (bookLines (fileBook file.now)) out.old }
+    ensures answer { result ≡ lines_answer (book_lines (file_book file.now)) (length out.old) }
+    ensures memory { out.new ≡ lines_memory (book_lines (file_book file.now)) out.old }
 {
     book_report::report(file, out)
 }
@@ -467,21 +467,21 @@ pub extern "C" fn mixegorta_book_report(file: &[u8], out: &mut [u8]) -> BookText
 
 #[unsafe(no_mangle)]
 pub extern "C" fn mixegorta_empty_report() -> Report
-    ensures { result ≡ emptyReport }
+    ensures { result ≡ empty_report }
 {
     book_reports::empty()
 }
 
 #[unsafe(no_mangle)]
 pub extern "C" fn mixegorta_report_of_file(file: &[u8]) -> Report
-    ensures { result ≡ fileReport file.now }
+    ensures { result ≡ file_report file.now }
 {
     book_reports::of_file(file)
 }
 
 #[unsafe(no_mangle)]
 pub extern "C" fn mixegorta_joined_reports(first: Report, second: Report) -> Joined
-    ensures { result ≡ joinedReport first second }
+    ensures { result ≡ joined_report first second }
 {
     book_reports::joined(first, second)
 }
@@ -490,7 +490,7 @@ pub extern "C" fn mixegorta_joined_reports(first: Report, second: Report) -> Joi
 
 #[unsafe(no_mangle)]
 pub extern "C" fn mixegorta_empty_shelf() -> Shelf
-    ensures { result.slots ≡ emptySlots }
+    ensures { result.slots ≡ empty_slots }
 {
     shelf::empty_shelf()
 }
@@ -510,9 +510,9 @@ pub extern "C" fn mixegorta_shelf_ask(
     steps: usize,
     reversion: u64,
 ) -> Shelved
-    ensures number { result.number ≡ askNumber shelf.slots name steps reversion }
-    ensures slots { result.shelf.slots ≡ askSlots shelf.slots name steps reversion }
-    ensures memory { memory.new ≡ askMemory shelf.slots memory.old name steps reversion }
+    ensures number { result.number ≡ ask_number shelf.slots name steps reversion }
+    ensures slots { result.shelf.slots ≡ ask_slots shelf.slots name steps reversion }
+    ensures memory { memory.new ≡ ask_memory shelf.slots memory.old name steps reversion }
 {
     shelf::ask(shelf, memory, name, steps, reversion)
 }
@@ -528,11 +528,11 @@ pub extern "C" fn mixegorta_shelf_commit(
     kinds: &[u8],
     figures: &[f64],
 ) -> Shelved
-    ensures number { result.number ≡ commitNumber shelf.slots name frequency volatility
+    ensures number { result.number ≡ commit_number shelf.slots name frequency volatility
         rows.now kinds.now figures.now }
-    ensures slots { result.shelf.slots ≡ commitSlots shelf.slots memory.old name frequency volatility
+    ensures slots { result.shelf.slots ≡ commit_slots shelf.slots memory.old name frequency volatility
         rows.now kinds.now figures.now }
-    ensures memory { memory.new ≡ commitMemory shelf.slots memory.old name frequency volatility
+    ensures memory { memory.new ≡ commit_memory shelf.slots memory.old name frequency volatility
         rows.now kinds.now figures.now }
 {
     shelf::commit(
@@ -546,9 +546,9 @@ pub extern "C" fn mixegorta_shelf_release(
     memory: &mut [u64; shelf_laws::ROOM],
     name: usize,
 ) -> Shelved
-    ensures number { result.number ≡ nameCause shelf.slots name }
-    ensures slots { result.shelf.slots ≡ releaseSlots shelf.slots name }
-    ensures memory { memory.new ≡ releaseMemory shelf.slots memory.old name }
+    ensures number { result.number ≡ name_cause shelf.slots name }
+    ensures slots { result.shelf.slots ≡ release_slots shelf.slots name }
+    ensures memory { memory.new ≡ release_memory shelf.slots memory.old name }
 {
     shelf::release(shelf, memory, name)
 }
@@ -560,7 +560,7 @@ pub extern "C" fn mixegorta_shelf_bond_price(
     name: usize,
     flows: &[u64],
 ) -> Price
-    ensures { result ≡ shelfBond shelf.slots memory.now name flows.now }
+    ensures { result ≡ shelf_bond shelf.slots memory.now name flows.now }
 {
     shelf_prices::bond_price(shelf, memory, name, flows)
 }
@@ -575,7 +575,7 @@ pub extern "C" fn mixegorta_shelf_option_price(
     expiry: usize,
     strike: u64,
 ) -> Price
-    ensures { result ≡ shelfOption shelf.slots memory.now name flows.now kind expiry strike }
+    ensures { result ≡ shelf_option shelf.slots memory.now name flows.now kind expiry strike }
 {
     shelf_prices::option_price(shelf, memory, name, flows, kind, expiry, strike)
 }
@@ -590,7 +590,7 @@ pub extern "C" fn mixegorta_shelf_bond_and_option(
     expiry: usize,
     strike: u64,
 ) -> BondAndOption
-    ensures { result ≡ shelfBondAndOption shelf.slots memory.now name flows.now kind expiry strike }
+    ensures { result ≡ shelf_bond_and_option shelf.slots memory.now name flows.now kind expiry strike }
 {
     shelf_prices::bond_and_option(shelf, memory, name, flows, kind, expiry, strike)
 }
@@ -605,7 +605,7 @@ pub extern "C" fn mixegorta_shelf_dated_option_price(
     dates: &[u8],
     strike: u64,
 ) -> Price
-    ensures { result ≡ shelfDated shelf.slots memory.now name flows.now side dates.now strike }
+    ensures { result ≡ shelf_dated shelf.slots memory.now name flows.now side dates.now strike }
 {
     shelf_prices::dated_option_price(shelf, memory, name, flows, side, dates, strike)
 }
@@ -620,7 +620,7 @@ pub extern "C" fn mixegorta_shelf_bond_and_dated_option(
     dates: &[u8],
     strike: u64,
 ) -> BondAndOption
-    ensures { result ≡ shelfBondAndDated shelf.slots memory.now name flows.now side dates.now strike }
+    ensures { result ≡ shelf_bond_and_dated shelf.slots memory.now name flows.now side dates.now strike }
 {
     shelf_prices::bond_and_dated_option(shelf, memory, name, flows, side, dates, strike)
 }
@@ -635,7 +635,7 @@ pub extern "C" fn mixegorta_shelf_option_strip(
     dates: &[u8],
     strikes: &[u64],
 ) -> Strip
-    ensures { result ≡ shelfDatedStrip shelf.slots memory.now name flows.now side dates.now strikes.now }
+    ensures { result ≡ shelf_dated_strip shelf.slots memory.now name flows.now side dates.now strikes.now }
 {
     shelf_prices::option_strip(shelf, memory, name, flows, side, dates, strikes)
 }
@@ -650,7 +650,7 @@ pub extern "C" fn mixegorta_shelf_option_strip_of_kind(
     expiry: usize,
     strikes: &[u64],
 ) -> Strip
-    ensures { result ≡ shelfKindStrip shelf.slots memory.now name flows.now kind expiry strikes.now }
+    ensures { result ≡ shelf_kind_strip shelf.slots memory.now name flows.now kind expiry strikes.now }
 {
     shelf_prices::option_strip_of_kind(shelf, memory, name, flows, kind, expiry, strikes)
 }
@@ -687,7 +687,7 @@ pub extern "C" fn mixegorta_lending_worth(
     row: u64,
     price: u64,
 ) -> Worth
-    ensures { result ≡ lendingWorth first_rows.now last_rows.now lowest_prices.now
+    ensures { result ≡ lending_worth first_rows.now last_rows.now lowest_prices.now
         highest_prices.now haircuts.now row price }
 {
     lending::lending_worth(
@@ -713,7 +713,7 @@ pub extern "C" fn mixegorta_pair_bond_price(
     spread_discounts: &[u64],
     flows: &[u64],
 ) -> Price
-    ensures { result ≡ pairBondPrice rate_steps rate_reversion rate_discounts.now spread_steps spread_reversion
+    ensures { result ≡ pair_bond_price rate_steps rate_reversion rate_discounts.now spread_steps spread_reversion
         spread_discounts.now flows.now }
 {
     pair_pricing::pair_bond_price(
@@ -740,7 +740,7 @@ pub extern "C" fn mixegorta_pair_dated_option_price(
     dates: &[u8],
     strike: u64,
 ) -> Price
-    ensures { result ≡ pairDatedPrice rate_steps rate_reversion rate_discounts.now spread_steps spread_reversion
+    ensures { result ≡ pair_dated_price rate_steps rate_reversion rate_discounts.now spread_steps spread_reversion
         spread_discounts.now flows.now side dates.now strike }
 {
     pair_pricing::pair_dated_option_price(

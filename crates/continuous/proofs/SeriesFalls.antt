@@ -11,7 +11,7 @@ use Rattle.arithmetic.specs.Rounding.{one}
 use Rattle.arithmetic.specs.Sum.{sum}
 use Rattle.arithmetic.proofs.Numbers.{cross}
 use Rattle.arithmetic.proofs.Implied.{Implied, implied, lastly, ◌▸◌}
-use Rattle.factor.specs.Series.{term, even, odd, series, falling, exactTerm, scale}
+use Rattle.factor.specs.Series.{term, even, odd, series, falling, exact_term, scale}
 use Rattle.factor.proofs.SeriesLaws.{exact-next, exact-zero, exact-whole, series-within}
 
 suc-positive : (k : ℕ) → 0 < suc k
@@ -129,7 +129,7 @@ module _ (o w p q : ℕ) (e f : ℕ → ℕ) (positive : 0 < o) (low : p ≤ q) 
   third = omega (arith, same, first-four, tamer 4 (lit≤ tt), tamer 6 (lit≤ tt), tamer 8 (lit≤ tt), tamer 10 (lit≤ tt))
 
 -- term 1 in exact fractions is y
-exact_one : (y : ℕ) → exactTerm y 1 ≡ scale * y
+exact_one : (y : ℕ) → exact_term y 1 ≡ scale * y
 exact_one y = omega (arith, exact-next y 0 (lit≤ tt), ap (λ (x : ℕ). x * y) (exact-zero y))
 
 scale-positive : 0 < scale
@@ -143,12 +143,12 @@ alternating-falls p q low high =
     (omega (arith, exact-whole p (le_trans low high), exact-whole q high, fell, (near p (le_trans low high)).below, (near q high).above))
     scale-positive
   where
-    near : (y : ℕ) → y ≤ one → Within 14 scale (series false (term y)) (series false (exactTerm y))
+    near : (y : ℕ) → y ≤ one → Within 14 scale (series false (term y)) (series false (exact_term y))
     near y h = series-within y false h
 
     fell :
-        3 * (sum 7 (even (exactTerm q)) + sum 6 (odd (exactTerm p))) + scale * q
-        ≤ 3 * (sum 7 (even (exactTerm p)) + sum 6 (odd (exactTerm q))) + scale * p
+        3 * (sum 7 (even (exact_term q)) + sum 6 (odd (exact_term p))) + scale * q
+        ≤ 3 * (sum 7 (even (exact_term p)) + sum 6 (odd (exact_term q))) + scale * p
     fell =
-        third one scale p q (exactTerm p) (exactTerm q) (lit≤ tt) low high (exact_one p) (exact_one q)
+        third one scale p q (exact_term p) (exact_term q) (lit≤ tt) low high (exact_one p) (exact_one q)
         (exact-zero p ∙ sym (exact-zero q)) (exact-next p) (exact-next q)

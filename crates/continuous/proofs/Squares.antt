@@ -5,53 +5,53 @@ use Prim.Native.Nat.{ℕ, ◌+◌, ◌*◌, ◌/◌, ◌%◌, ◌≤◌, ◌<◌
 use native.Mathlib.Nat.{mul-le-mul, le_dest}
 use native.Mathlib.Omega.{arith}
 use lib.Dec.{lit≤}
-use Rattle.arithmetic.specs.Rounding.{one, roundDown}
-use Rattle.continuous.specs.Continuous.{squareDown, fourthPower}
+use Rattle.arithmetic.specs.Rounding.{one, round_down}
+use Rattle.continuous.specs.Continuous.{square_down, fourth_power}
 
 -- a square grows by at least c where its root, at least t, grows by at least d and 2 t d ≥ c × one
-pub square-grows : (s t d c : ℕ) → t + d ≤ s → c * one ≤ 2 * (t * d) → squareDown t + c ≤ squareDown s
-unfolding squareDown roundDown
+pub square-grows : (s t d c : ℕ) → t + d ≤ s → c * one ≤ 2 * (t * d) → square_down t + c ≤ square_down s
+unfolding square_down round_down
 square-grows s t d c h g =
     let (r, e) = le_dest h in
     let more : t * t + c * one ≤ s * s = rw (← e) (omega (arith, g)) in
     omega (arith, more)
 
-square-least : (s a c : ℕ) → a ≤ s → c * one ≤ a * a → c ≤ squareDown s
-unfolding squareDown roundDown
+square-least : (s a c : ℕ) → a ≤ s → c * one ≤ a * a → c ≤ square_down s
+unfolding square_down round_down
 square-least s a c h g = omega (arith, mul-le-mul h h)
 
-square-most : (s : ℕ) → s ≤ one → squareDown s ≤ one
-unfolding squareDown roundDown
+square-most : (s : ℕ) → s ≤ one → square_down s ≤ one
+unfolding square_down round_down
 square-most s h = omega (arith, mul-le-mul h h)
 
 -- two values that differ by 6 or more, from 0.36 on
-pub fourth-grows : (s t : ℕ) → t + 6 ≤ s → 360000000 ≤ t → fourthPower t < fourthPower s
-unfolding fourthPower
+pub fourth-grows : (s t : ℕ) → t + 6 ≤ s → 360000000 ≤ t → fourth_power t < fourth_power s
+unfolding fourth_power
 fourth-grows s t h l =
-    let first : squareDown t + 4 ≤ squareDown s = square-grows s t 6 4 h (omega arith) in
-    let size : 129600000 ≤ squareDown t = square-least t 360000000 129600000 l (lit≤ tt) in
-    omega (arith, square-grows (squareDown s) (squareDown t) 4 1 first (omega arith))
+    let first : square_down t + 4 ≤ square_down s = square-grows s t 6 4 h (omega arith) in
+    let size : 129600000 ≤ square_down t = square-least t 360000000 129600000 l (lit≤ tt) in
+    omega (arith, square-grows (square_down s) (square_down t) 4 1 first (omega arith))
 
 -- two values that differ by 1 or more, from one on
-pub fourth-climbs : (s t : ℕ) → t + 1 ≤ s → one ≤ t → fourthPower t + 4 ≤ fourthPower s
-unfolding fourthPower
+pub fourth-climbs : (s t : ℕ) → t + 1 ≤ s → one ≤ t → fourth_power t + 4 ≤ fourth_power s
+unfolding fourth_power
 fourth-climbs s t h l =
-    let first : squareDown t + 2 ≤ squareDown s = square-grows s t 1 2 h (omega arith) in
-    let size : one ≤ squareDown t = square-least t one one l (lit≤ tt) in
-    square-grows (squareDown s) (squareDown t) 2 4 first (omega arith)
+    let first : square_down t + 2 ≤ square_down s = square-grows s t 1 2 h (omega arith) in
+    let size : one ≤ square_down t = square-least t one one l (lit≤ tt) in
+    square-grows (square_down s) (square_down t) 2 4 first (omega arith)
 
 -- one stays one, and either side of it stays where it is
-pub fourth-most : (s : ℕ) → s ≤ one → fourthPower s ≤ one
-unfolding fourthPower
-fourth-most s h = square-most (squareDown s) (square-most s h)
+pub fourth-most : (s : ℕ) → s ≤ one → fourth_power s ≤ one
+unfolding fourth_power
+fourth-most s h = square-most (square_down s) (square-most s h)
 
-pub fourth-least : (s : ℕ) → one ≤ s → one ≤ fourthPower s
-unfolding fourthPower
-fourth-least s h = square-least (squareDown s) one one (square-least s one one h (lit≤ tt)) (lit≤ tt)
+pub fourth-least : (s : ℕ) → one ≤ s → one ≤ fourth_power s
+unfolding fourth_power
+fourth-least s h = square-least (square_down s) one one (square-least s one one h (lit≤ tt)) (lit≤ tt)
 
 -- a value of at least one - q has a square of at least one - 2 q
-pub line-squared : (s q : ℕ) → q ≤ one → one ≤ s + q → one ≤ squareDown s + 2 * q
-unfolding squareDown roundDown
+pub line-squared : (s q : ℕ) → q ≤ one → one ≤ s + q → one ≤ square_down s + 2 * q
+unfolding square_down round_down
 line-squared s q h l =
     let (d, e) = le_dest h in
     let least : d ≤ s = omega arith in
@@ -74,13 +74,13 @@ pub fourth-by-parts :
     (s : ℕ) →
     s * s / one / one * (s * s / one / one) * one + 2 * (s * s / one / one) * (s * s / one % one)
     + s * s / one % one * (s * s / one % one) / one
-    ≡ fourthPower s
-unfolding fourthPower squareDown roundDown
+    ≡ fourth_power s
+unfolding fourth_power square_down round_down
 fourth-by-parts s = square-by-parts (s * s / one)
 
 -- the second square at once, where it fits
-pub fourth-at-once : (s : ℕ) → s * s / one * (s * s / one) / one ≡ fourthPower s
-unfolding fourthPower squareDown roundDown
+pub fourth-at-once : (s : ℕ) → s * s / one * (s * s / one) / one ≡ fourth_power s
+unfolding fourth_power square_down round_down
 fourth-at-once s = refl
 
 pub half-word-fits : (a : ℕ) → a ≤ 4294967295 → a * a < 18446744073709551616

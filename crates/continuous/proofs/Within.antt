@@ -8,11 +8,11 @@ use native.Mathlib.Omega.{arith}
 use lib.IntN.{ℤ, pos, nat_abs}
 use lib.Signed.{lt_z}
 use Rattle.arithmetic.specs.Within.{Within}
-use Rattle.arithmetic.specs.Rounding.{one, roundDown}
-use Rattle.factor.specs.Series.{term, series, exactTerm, scale}
+use Rattle.arithmetic.specs.Rounding.{one, round_down}
+use Rattle.factor.specs.Series.{term, series, exact_term, scale}
 use Rattle.factor.proofs.SeriesLaws.{series-within}
 use Rattle.factor.proofs.Bounds.{series-bounds}
-use Rattle.continuous.specs.Continuous.{amountLimit, quarterOf, squareDown, fourthPower, sideDiscount, continuousDiscount, exactPower, powerScale}
+use Rattle.continuous.specs.Continuous.{amount_limit, quarter_of, square_down, fourth_power, side_discount, continuous_discount, exact_power, power_scale}
 use Rattle.continuous.proofs.Sides.{quotient-most}
 
 -- a square below n² has a root below n
@@ -20,17 +20,17 @@ root_below : (a n : ℕ) → a * a < n * n → a < n
 root_below a n h = lt_of_not-le (λ (g : n ≤ a). not-le_of_lt h (mul-le-mul g g))
 
 -- the fourth power in billionths times one³: what the two divisions lose
-module _ (s : ℕ) (small : fourthPower s ≤ 2000000000) where
-  first_below : squareDown s < 1414213564
-  unfolding fourthPower squareDown roundDown
+module _ (s : ℕ) (small : fourth_power s ≤ 2000000000) where
+  first_below : square_down s < 1414213564
+  unfolding fourth_power square_down round_down
   first_below = root_below (s * s / one) 1414213564 (omega (arith, small))
 
   root-size : s < 1189207116
-  unfolding squareDown roundDown
+  unfolding square_down round_down
   root-size = root_below s 1189207116 (omega (arith, first_below))
 
   square-size : s * s ≤ 1414213564000000000
-  unfolding squareDown roundDown
+  unfolding square_down round_down
   square-size = omega (arith, first_below)
 
   cube-size : s * s * s ≤ 1681792831000000000000000000
@@ -38,22 +38,22 @@ module _ (s : ℕ) (small : fourthPower s ≤ 2000000000) where
       let h : s ≤ 1189207115 = omega (arith, root-size) in
       omega (arith, mul-le-mul (mul-le-mul h h) h)
 
-  lost-low : 1000000000000000000000000000 * fourthPower s ≤ s * s * (s * s)
-  unfolding fourthPower squareDown roundDown
+  lost-low : 1000000000000000000000000000 * fourth_power s ≤ s * s * (s * s)
+  unfolding fourth_power square_down round_down
   lost-low =
       let h : one * (s * s / one) ≤ s * s = omega arith in
       omega (arith, mul-le-mul h h)
 
-  lost-high : s * s * (s * s) ≤ 1000000000000000000000000000 * (fourthPower s + 4)
-  unfolding fourthPower squareDown roundDown
+  lost-high : s * s * (s * s) ≤ 1000000000000000000000000000 * (fourth_power s + 4)
+  unfolding fourth_power square_down round_down
   lost-high =
       let h : s * s ≤ one * (s * s / one) + one = omega arith in
       omega (arith, mul-le-mul h h, first_below)
 
-  above : (s + 14) * (s + 14) * ((s + 14) * (s + 14)) ≤ 1000000000000000000000000000 * (fourthPower s + 100)
+  above : (s + 14) * (s + 14) * ((s + 14) * (s + 14)) ≤ 1000000000000000000000000000 * (fourth_power s + 100)
   above = omega (arith, lost-high, cube-size, square-size, root-size)
 
-  below : (r : ℕ) → r + 14 ≡ s → 1000000000000000000000000000 * fourthPower s ≤ r * r * (r * r) + 100000000000000000000000000000
+  below : (r : ℕ) → r + 14 ≡ s → 1000000000000000000000000000 * fourth_power s ≤ r * r * (r * r) + 100000000000000000000000000000
   below r e =
       let h : r ≤ s = omega arith in
       let squared : r * r ≤ 1414213564000000000 = le_trans (mul-le-mul h h) square-size in
@@ -73,7 +73,7 @@ power-least w t x h =
     rw (pow-four x, pow-four w) (le_trans (omega arith) (mul-le-mul (mul-le-mul h h) (mul-le-mul h h)))
 
 -- a value within 14 of an exact one, which is held times w: its fourth power is held times w ^ 4 × one ^ 3
-power-within : (w s x : ℕ) → 14 ≤ s → Within 14 w s x → fourthPower s ≤ 2000000000 → Within 100 (w ^ 4 * one ^ 3) (fourthPower s) (x ^ 4)
+power-within : (w s x : ℕ) → 14 ≤ s → Within 14 w s x → fourth_power s ≤ 2000000000 → Within 100 (w ^ 4 * one ^ 3) (fourth_power s) (x ^ 4)
 power-within w s x least near small =
     record {
       above =
@@ -85,15 +85,15 @@ power-within w s x least near small =
     }
 
 side-within :
-    (q : ℕ) (b : Bool) → q ≤ one → sideDiscount q b ≤ 2000000000 →
-    Within 100 (scale ^ 4 * one ^ 3) (sideDiscount q b) (series b (exactTerm q) ^ 4)
-unfolding sideDiscount
+    (q : ℕ) (b : Bool) → q ≤ one → side_discount q b ≤ 2000000000 →
+    Within 100 (scale ^ 4 * one ^ 3) (side_discount q b) (series b (exact_term q) ^ 4)
+unfolding side_discount
 side-within q b h small =
-    power-within scale (series b (term q)) (series b (exactTerm q)) (omega (arith, (series-bounds q b h).0)) (series-within q b h) small
+    power-within scale (series b (term q)) (series b (exact_term q)) (omega (arith, (series-bounds q b h).0)) (series-within q b h) small
 
 -- the law of request (i): a P in range is within 100 of the fourth power of the exact series
 pub continuous-within :
-    (y : ℤ) → nat_abs y ≤ amountLimit → continuousDiscount y ≤ 2000000000 →
-    Within 100 powerScale (continuousDiscount y) (exactPower y)
-unfolding continuousDiscount exactPower powerScale
-continuous-within y limit small = side-within (quarterOf y) (lt_z y (pos 0)) (quotient-most y limit) small
+    (y : ℤ) → nat_abs y ≤ amount_limit → continuous_discount y ≤ 2000000000 →
+    Within 100 power_scale (continuous_discount y) (exact_power y)
+unfolding continuous_discount exact_power power_scale
+continuous-within y limit small = side-within (quarter_of y) (lt_z y (pos 0)) (quotient-most y limit) small

@@ -1,6 +1,6 @@
 // The discount of an amount by continuous compounding: the exponential series at a quarter of the amount, squared twice.
 ghost use Rattle.std.specs.Prelude.{◌≡◌, ◌≤◌};
-ghost use Rattle.continuous.specs.Continuous.{fourthPower, quotientAnswer, continuousAnswer};
+ghost use Rattle.continuous.specs.Continuous.{fourth_power, quotient_answer, continuous_answer};
 
 use arithmetic::{Answer, ONE};
 
@@ -10,7 +10,7 @@ const HALF_WORD: u64 = 4_294_967_295;
 // Squared twice, each time divided by one, down. The second square can need 66 bits: then it is taken in two parts.
 fn fourth_power(series: u64) -> u64
     requires { series ≤ 2720000000 }
-    ensures { result ≡ fourthPower series }
+    ensures { result ≡ fourth_power series }
 {
     let square = series * series / ONE;
     if square <= HALF_WORD {
@@ -23,7 +23,7 @@ fn fourth_power(series: u64) -> u64
 
 // The discount of four times the quotient, below zero or not; refuses with 7 beyond the limit.
 pub fn discount_of_quotient(quotient: u64, below: bool) -> Answer
-    ensures { result ≡ quotientAnswer quotient below }
+    ensures { result ≡ quotient_answer quotient below }
 {
     if ONE < quotient {
         return Answer {
@@ -41,7 +41,7 @@ pub fn discount_of_quotient(quotient: u64, below: bool) -> Answer
 
 // The discount of an amount, before any range test; refuses with 7 beyond the limit.
 pub fn discount(amount: i64) -> Answer
-    ensures { result ≡ continuousAnswer amount }
+    ensures { result ≡ continuous_answer amount }
 {
     let size = arithmetic::magnitude(amount);
     if 4_000_000_000 < size {

@@ -7,16 +7,16 @@ use Prim.Native.Nat.{ℕ, suc, ◌+◌, ◌*◌, ◌/◌, ◌≤◌, ◌<◌}
 use native.Mathlib.Nat.{mul-le-mul, mul-le-mul_left, mul-le-mul_right, div-lt_iff_lt-mul, lt-div-mul-add, le_dest, div-le_of_le-mul}
 use native.Mathlib.Omega.{arith}
 use lib.Dec.{lit≤}
-use Rattle.arithmetic.specs.Rounding.{one, roundDown}
+use Rattle.arithmetic.specs.Rounding.{one, round_down}
 use Rattle.arithmetic.specs.Sum.{sum}
 use Rattle.arithmetic.proofs.Numbers.{by_order}
 use Rattle.factor.specs.Series.{term, series}
 use Rattle.factor.proofs.SeriesLaws.{term-zero, term-falls, term-grows, rounded-whole}
-use Rattle.continuous.specs.Continuous.{squareDown, fourthPower, sideDiscount}
+use Rattle.continuous.specs.Continuous.{square_down, fourth_power, side_discount}
 use Rattle.continuous.proofs.Squares.{square-grows}
 use Rattle.continuous.proofs.Sides.{hundred-lower}
 use borrow.Author.Tests.{lt-ltb, le-ltb}
-use Rattle.continuous_rate.specs.inside.Search.{reachOf}
+use Rattle.continuous_rate.specs.inside.Search.{reach_of}
 
 -- a product that grows by at most c divisors has a quotient that grows by at most c
 quotient : (x y m c : ℕ) → 0 < m → x ≤ y + c * m → x / m ≤ y / m + c
@@ -28,22 +28,22 @@ quotient x y m c pos h =
 -- the next term at q, where this one at q is at most e above that at p
 step :
     (p q d k e c : ℕ) → q ≤ p + d → term q k ≤ term p k + e → term p k * d + e * q ≤ c * (suc k * one) → term q (suc k) ≤ term p (suc k) + c
-unfolding term roundDown
+unfolding term round_down
 step p q d k e c hq hu hr =
     quotient (term q k * q) (term p k * p) (suc k * one) c (omega arith)
     (omega (arith, mul-le-mul_right q hu, mul-le-mul_left (term p k) hq, hr))
 
 term-one : (y : ℕ) → term y 1 ≡ y
-unfolding term roundDown
+unfolding term round_down
 term-one y = omega arith
 
 term-two : (y : ℕ) → term y 2 ≡ y * y / 2000000000
-unfolding term roundDown
+unfolding term round_down
 term-two y = ap (λ (x : ℕ). x * y / 2000000000) (term-one y)
 
 -- the next term, where this one is at most t
 bound-next : (y k t s : ℕ) → y ≤ 500000000 → term y k ≤ t → t * 500000000 ≤ s * (suc k * one) → term y (suc k) ≤ s
-unfolding term roundDown
+unfolding term round_down
 bound-next y k t s h ht hs = div-le_of_le-mul (suc k * one) (omega (arith, mul-le-mul ht h, hs))
 
 -- two quotients p and p + d
@@ -147,51 +147,51 @@ at-least-half y h =
       term-falls y 10 (omega arith),
     )
 
-quarter : (t : ℕ) → 500000000 ≤ t → 250000000 ≤ squareDown t
-unfolding squareDown roundDown
+quarter : (t : ℕ) → 500000000 ≤ t → 250000000 ≤ square_down t
+unfolding square_down round_down
 quarter t l = omega (arith, mul-le-mul l l)
 
 -- two values that differ by 2 or more, from the half of one on
-half-grows : (s t : ℕ) → t + 2 ≤ s → 500000000 ≤ t → fourthPower t < fourthPower s
-unfolding fourthPower
+half-grows : (s t : ℕ) → t + 2 ≤ s → 500000000 ≤ t → fourth_power t < fourth_power s
+unfolding fourth_power
 half-grows s t h l =
-    let first : squareDown t + 2 ≤ squareDown s = square-grows s t 2 2 h (omega arith) in
-    omega (arith, square-grows (squareDown s) (squareDown t) 2 1 first (omega (arith, quarter t l)))
+    let first : square_down t + 2 ≤ square_down s = square-grows s t 2 2 h (omega arith) in
+    omega (arith, square-grows (square_down s) (square_down t) 2 1 first (omega (arith, quarter t l)))
 
 -- 19 quotients further, F of y above 0 is lower, to the half of one
-near-lower : (p q : ℕ) → p + 19 ≤ q → q ≤ 500000000 → sideDiscount q false < sideDiscount p false
-unfolding sideDiscount
+near-lower : (p q : ℕ) → p + 19 ≤ q → q ≤ 500000000 → side_discount q false < side_discount p false
+unfolding side_discount
 near-lower p q h l =
     by_order (p + 100) q
     (λ far. hundred-lower p q far (omega arith))
     (λ close. let (d, e) = le_dest h in by_difference (19 + d) (omega arith) (omega arith) (omega arith))
   where
-    by_difference : (d : ℕ) → q ≡ p + d → 19 ≤ d → d ≤ 99 → fourthPower (series false (term q)) < fourthPower (series false (term p))
+    by_difference : (d : ℕ) → q ≡ p + d → 19 ≤ d → d ≤ 99 → fourth_power (series false (term q)) < fourth_power (series false (term p))
     by_difference d e far few =
         half-grows (series false (term p)) (series false (term q))
         (rw e (omega (arith, fell p d few (omega arith))))
         (at-least-half q l)
 
 -- the reach of a quotient
-module _ (q r : ℕ) (e : r ≡ reachOf q) where
+module _ (q r : ℕ) (e : r ≡ reach_of q) where
   short : q < 499999000 → r ≡ 19
-  unfolding reachOf
+  unfolding reach_of
   short h = e ∙ rw (lt-ltb q 499999000 h)
 
   long : 499999000 ≤ q → r ≡ 100
-  unfolding reachOf
+  unfolding reach_of
   long h = e ∙ rw (le-ltb q 499999000 h)
 
   pub reach-most : r ≤ 100
   reach-most = by_order 499999000 q (λ g. omega (arith, long g)) (λ g. omega (arith, short g))
 
-  pub reach-low : q ≤ one → (k : ℕ) → k + r ≤ q → sideDiscount q false < sideDiscount k false
+  pub reach-low : q ≤ one → (k : ℕ) → k + r ≤ q → side_discount q false < side_discount k false
   reach-low top k h =
       by_order 499999000 q
       (λ g. hundred-lower k q (omega (arith, long g)) top)
       (λ g. near-lower k q (omega (arith, short g)) (omega arith))
 
-  pub reach-high : (k : ℕ) → q + 1 + r ≤ k → k ≤ one → sideDiscount k false < sideDiscount (q + 1) false
+  pub reach-high : (k : ℕ) → q + 1 + r ≤ k → k ≤ one → side_discount k false < side_discount (q + 1) false
   reach-high k h top =
       by_order 499999000 q
       (λ g. hundred-lower (q + 1) k (omega (arith, long g)) top)

@@ -2,11 +2,11 @@
 -- Assumes nothing.
 use Rattle.std.specs.Prelude.{◌≡◌, ℕ, ◌+◌, ◌-◌, ◌*◌, ◌/◌, ◌%◌, ◌≤◌, cond, not, T, eqb, ℤ, pos, negsuc, nat_abs}
 use Rattle.std.specs.Int.Signed.{le_z, lt_z}
-use Rattle.limits.specs.Limits.{isDiscount}
-use Rattle.step_rate.specs.StepRate.{refusedRate, answeredRate}
+use Rattle.limits.specs.Limits.{is_discount}
+use Rattle.step_rate.specs.StepRate.{refused_rate, answered_rate}
 use Rattle.step_rate.specs.declared.Rate.{Rate}
-use Rattle.continuous.specs.Continuous.{amountLimit, continuousDiscount}
-use Rattle.continuous_rate.specs.Least.{firstLeast}
+use Rattle.continuous.specs.Continuous.{amount_limit, continuous_discount}
+use Rattle.continuous_rate.specs.Least.{first_least}
 
 -- how far two discounts are apart
 unfoldable pub distance : ℕ → ℕ → ℕ
@@ -18,24 +18,24 @@ candidate k = cond (eqb (k % 2) 0) (pos (k / 2)) (negsuc (k / 2))
 
 -- how far F of the candidate at place k, before any range test, is from the discount v
 unfoldable pub miss : ℕ → ℕ → ℕ
-miss v k = distance (continuousDiscount (candidate k)) v
+miss v k = distance (continuous_discount (candidate k)) v
 
 -- y: the first of the nearest candidates within the limit, the last of which stands at twice the limit
-unfoldable pub continuousRate : ℕ → ℤ
-continuousRate v = candidate (firstLeast (miss v) (2 * amountLimit))
+unfoldable pub continuous_rate : ℕ → ℤ
+continuous_rate v = candidate (first_least (miss v) (2 * amount_limit))
 
 -- the answer to a discount, or refusal 9
-unfoldable pub continuousRateAnswer : ℕ → Rate
-continuousRateAnswer v = cond (not (isDiscount v)) refusedRate (answeredRate (continuousRate v))
+unfoldable pub continuous_rate_answer : ℕ → Rate
+continuous_rate_answer v = cond (not (is_discount v)) refused_rate (answered_rate (continuous_rate v))
 
 -- what request (i) says of y: within the limit, its discount is nearest, of least magnitude, and of two such the smaller
 pub record Nearest (v : ℕ) (y : ℤ) : Type 0 where
-  pub within : nat_abs y ≤ amountLimit
-  pub nearest : (z : ℤ) → nat_abs z ≤ amountLimit → distance (continuousDiscount y) v ≤ distance (continuousDiscount z) v
+  pub within : nat_abs y ≤ amount_limit
+  pub nearest : (z : ℤ) → nat_abs z ≤ amount_limit → distance (continuous_discount y) v ≤ distance (continuous_discount z) v
   pub least :
-      (z : ℤ) → nat_abs z ≤ amountLimit → distance (continuousDiscount z) v ≡ distance (continuousDiscount y) v → nat_abs y ≤ nat_abs z
+      (z : ℤ) → nat_abs z ≤ amount_limit → distance (continuous_discount z) v ≡ distance (continuous_discount y) v → nat_abs y ≤ nat_abs z
   pub smaller :
-      (z : ℤ) → nat_abs z ≤ amountLimit → distance (continuousDiscount z) v ≡ distance (continuousDiscount y) v → nat_abs z ≡ nat_abs y →
+      (z : ℤ) → nat_abs z ≤ amount_limit → distance (continuous_discount z) v ≡ distance (continuous_discount y) v → nat_abs z ≡ nat_abs y →
       T (le_z y z)
 
 -- two numbers of one sign: below 0 together, and above it

@@ -1,18 +1,18 @@
 // A node's continuous rate over its step, with its sign, from the step's discount.
 ghost use Rattle.std.specs.Prelude.{◌≡◌, true, false, ◌+◌, ◌-◌, ◌≤◌, ◌<◌};
 ghost use Rattle.arithmetic.specs.Rounding.{one};
-ghost use Rattle.limits.specs.Limits.{mostDiscount};
-ghost use Rattle.continuous.specs.Continuous.{sideDiscount};
-ghost use Rattle.continuous_rate.specs.Least.{firstLeast};
-ghost use Rattle.continuous_rate.specs.ContinuousRate.{continuousRateAnswer};
-ghost use Rattle.continuous_rate.specs.inside.Search.{sideMiss, windowMiss, before, reachOf, Passes};
+ghost use Rattle.limits.specs.Limits.{most_discount};
+ghost use Rattle.continuous.specs.Continuous.{side_discount};
+ghost use Rattle.continuous_rate.specs.Least.{first_least};
+ghost use Rattle.continuous_rate.specs.ContinuousRate.{continuous_rate_answer};
+ghost use Rattle.continuous_rate.specs.inside.Search.{side_miss, window_miss, before, reach_of, Passes};
 
 use arithmetic::ONE;
 use step_rate::Rate;
 
 fn side_discount(quotient: u64, below: bool) -> u64
     requires { quotient ≤ one }
-    ensures { result ≡ sideDiscount quotient below }
+    ensures { result ≡ side_discount quotient below }
 {
     let answer = continuous::discount_of_quotient(quotient, below);
     answer.value
@@ -21,7 +21,7 @@ fn side_discount(quotient: u64, below: bool) -> u64
 // How far the discount of a quotient is from the given one.
 fn side_miss(discount: u64, below: bool, quotient: u64) -> u64
     requires { quotient ≤ one }
-    ensures { result ≡ sideMiss discount below quotient }
+    ensures { result ≡ side_miss discount below quotient }
 {
     let found = side_discount(quotient, below);
     if found < discount {
@@ -63,7 +63,7 @@ fn passing(discount: u64, below: bool) -> u64
 // Of the quotients above zero from the first on, `count` more, the first whose discount is nearest.
 fn nearest_between(discount: u64, from: u64, count: u64) -> u64
     requires { from + count ≤ one }
-    ensures { result ≡ from + firstLeast (windowMiss discount from) count }
+    ensures { result ≡ from + first_least (window_miss discount from) count }
 {
     let mut best = from;
     let mut least = side_miss(discount, false, from);
@@ -81,7 +81,7 @@ fn nearest_between(discount: u64, from: u64, count: u64) -> u64
 
 // How far from the passing quotient the nearest one may stand: over so many the discounts fall.
 fn reach(quotient: u64) -> u64
-    ensures { result ≡ reachOf quotient }
+    ensures { result ≡ reach_of quotient }
 {
     if quotient < 499_999_000 {
         return 19;
@@ -113,7 +113,7 @@ fn window_end(quotient: u64, reach: u64) -> u64
 // The first quotient above zero whose discount is nearest. Discounts do not fall at every quotient, but over the reach they do.
 fn nearest_above(discount: u64) -> u64
     requires { discount ≤ one }
-    ensures { result ≡ firstLeast (sideMiss discount false) one }
+    ensures { result ≡ first_least (side_miss discount false) one }
 {
     let place = passing(discount, false);
     let far = reach(place);
@@ -123,8 +123,8 @@ fn nearest_above(discount: u64) -> u64
 
 // The first quotient below zero whose discount is nearest.
 fn nearest_below(discount: u64) -> u64
-    requires { (one ≤ discount) × (discount ≤ mostDiscount) }
-    ensures { result ≡ firstLeast (sideMiss discount true) one }
+    requires { (one ≤ discount) × (discount ≤ most_discount) }
+    ensures { result ≡ first_least (side_miss discount true) one }
 {
     let place = passing(discount, true);
     if side_miss(discount, true, place + 1) < side_miss(discount, true, place) {
@@ -135,7 +135,7 @@ fn nearest_below(discount: u64) -> u64
 
 // The continuous rate of a discount. Refusal 9: the discount is 0 or above 1.1.
 pub fn of_discount(discount: u64) -> Rate
-    ensures { result ≡ continuousRateAnswer discount }
+    ensures { result ≡ continuous_rate_answer discount }
 {
     if !limits::is_discount(discount) {
         return Rate {

@@ -1,14 +1,14 @@
 // The quotes of rows 1 to n, converted to discounts in lent memory.
 ghost use Rattle.std.specs.Prelude.{◌≡◌, ◌≤◌, ◌<◌, length};
 ghost use Rattle.arithmetic.specs.Row.{row, place, each};
-ghost use Rattle.curve.specs.Curve.{answerAt, discountAt, convertsAt, placeAt, inPlace, curveNumber, curveMemory};
+ghost use Rattle.curve.specs.Curve.{answer_at, discount_at, converts_at, place_at, in_place, curve_number, curve_memory};
 
 use arithmetic::Answer;
 use quotes::Point;
 
 // Whether each point's row is its place.
 fn in_order(rows: &[u64]) -> bool
-    ensures { result ≡ each (length rows.now) (placeAt rows.now) }
+    ensures { result ≡ each (length rows.now) (place_at rows.now) }
 {
     let mut i = 0usize;
     while i < rows.len() {
@@ -22,7 +22,7 @@ fn in_order(rows: &[u64]) -> bool
 
 // Whether there are as many rows, kinds and figures as steps, room for the discounts, and each row in its place.
 fn is_in_place(steps: usize, rows: &[u64], kinds: &[u8], figures: &[f64], room: usize) -> bool
-    ensures { result ≡ inPlace steps rows.now kinds.now figures.now room }
+    ensures { result ≡ in_place steps rows.now kinds.now figures.now room }
 {
     if rows.len() != steps {
         return false;
@@ -42,7 +42,7 @@ fn is_in_place(steps: usize, rows: &[u64], kinds: &[u8], figures: &[f64], room: 
 // The answer to the point at a place.
 fn answer_at(frequency: u64, kinds: &[u8], figures: &[f64], i: usize) -> Answer
     requires { (i < length kinds.now) × (i < length figures.now) }
-    ensures { result ≡ answerAt frequency kinds.now figures.now i }
+    ensures { result ≡ answer_at frequency kinds.now figures.now i }
 {
     let point = Point {
         row: (i + 1) as u64,
@@ -54,7 +54,7 @@ fn answer_at(frequency: u64, kinds: &[u8], figures: &[f64], i: usize) -> Answer
 // Whether each point has a discount.
 fn all_convert(frequency: u64, kinds: &[u8], figures: &[f64]) -> bool
     requires { length figures.now ≡ length kinds.now }
-    ensures { result ≡ each (length kinds.now) (convertsAt frequency kinds.now figures.now) }
+    ensures { result ≡ each (length kinds.now) (converts_at frequency kinds.now figures.now) }
 {
     let mut i = 0usize;
     while i < kinds.len() {
@@ -76,7 +76,7 @@ fn cause(
     figures: &[f64],
     room: usize,
 ) -> u64
-    ensures { result ≡ curveNumber frequency steps rows.now kinds.now figures.now room }
+    ensures { result ≡ curve_number frequency steps rows.now kinds.now figures.now room }
 {
     if !arithmetic::is_frequency(frequency) {
         return 2;
@@ -97,7 +97,7 @@ fn cause(
 fn store(frequency: u64, kinds: &[u8], figures: &[f64], discounts: &mut [u64])
     requires { (length figures.now ≡ length kinds.now) × (length kinds.now ≤ length discounts.old) }
     ensures { discounts.new ≡ place discounts.old 0
-        (row (length kinds.now) (discountAt frequency kinds.now figures.now)) }
+        (row (length kinds.now) (discount_at frequency kinds.now figures.now)) }
 {
     let mut i = 0usize;
     while i < kinds.len() {
@@ -117,9 +117,9 @@ pub fn convert(
     figures: &[f64],
     discounts: &mut [u64],
 ) -> u64
-    ensures number { result ≡ curveNumber frequency steps
+    ensures number { result ≡ curve_number frequency steps
         rows.now kinds.now figures.now (length discounts.old) }
-    ensures memory { discounts.new ≡ curveMemory frequency steps
+    ensures memory { discounts.new ≡ curve_memory frequency steps
         rows.now kinds.now figures.now discounts.old }
 {
     let number = cause(frequency, steps, rows, kinds, figures, discounts.len());

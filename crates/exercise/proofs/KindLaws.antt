@@ -7,25 +7,25 @@ use lib.Dec.{eqb}
 use Rattle.pricing_laws.specs.Pricer.{call, put}
 use Rattle.pricing_laws.specs.Schedule.{side_of}
 use Rattle.exercise.specs.declared.Terms.{Terms}
-use Rattle.exercise.specs.Terms.{side, termsOf}
+use Rattle.exercise.specs.Terms.{side, terms_of}
 
-pub side-is : (kind expiry strike : ℕ) → side (termsOf kind expiry strike).call ≡ side_of kind
-unfolding side_of termsOf
+pub side-is : (kind expiry strike : ℕ) → side (terms_of kind expiry strike).call ≡ side_of kind
+unfolding side_of terms_of
 side-is kind expiry strike = go (eqb kind 1 || eqb kind 3)
   where
     go : (t : Bool) → side t ≡ cond t call put
     go true = refl
     go false = refl
 
-pub strike-is : (kind expiry strike : ℕ) → (termsOf kind expiry strike).strike ≡ strike
-unfolding termsOf
+pub strike-is : (kind expiry strike : ℕ) → (terms_of kind expiry strike).strike ≡ strike
+unfolding terms_of
 strike-is kind expiry strike = refl
 
-pub last-is : (kind expiry strike : ℕ) → (termsOf kind expiry strike).last ≡ expiry
-unfolding termsOf
+pub last-is : (kind expiry strike : ℕ) → (terms_of kind expiry strike).last ≡ expiry
+unfolding terms_of
 last-is kind expiry strike = refl
 
-module _ (kind expiry strike : ℕ) (terms : Terms) (e : terms ≡ termsOf kind expiry strike) where
+module _ (kind expiry strike : ℕ) (terms : Terms) (e : terms ≡ terms_of kind expiry strike) where
   pub side-found : side terms.call ≡ side_of kind
   side-found = ap (λ (t : Terms). side t.call) e ∙ side-is kind expiry strike
 

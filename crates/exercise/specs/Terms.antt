@@ -9,5 +9,5 @@ side true = call
 side false = put
 
 -- kinds 1 and 3 are calls
-unfoldable pub termsOf : ℕ → ℕ → ℕ → Terms
-termsOf kind expiry strike = record { call = eqb kind 1 || eqb kind 3; strike = strike; last = expiry }
+unfoldable pub terms_of : ℕ → ℕ → ℕ → Terms
+terms_of kind expiry strike = record { call = eqb kind 1 || eqb kind 3; strike = strike; last = expiry }

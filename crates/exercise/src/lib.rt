@@ -1,7 +1,7 @@
 // The value of one node of an option, and the terms of each kind.
 ghost use Rattle.std.specs.Prelude.{◌≡◌, ◌-◌};
-ghost use Rattle.pricing_laws.specs.Pricer.{exercise, heldOrExercised};
-ghost use Rattle.exercise.specs.Terms.{side, termsOf};
+ghost use Rattle.pricing_laws.specs.Pricer.{exercise, held_or_exercised};
+ghost use Rattle.exercise.specs.Terms.{side, terms_of};
 
 // An option's side, its strike and the last row on which it may be exercised.
 #[derive(Drop)]
@@ -13,7 +13,7 @@ pub struct Terms {
 
 // The terms of a kind: 1 European call, 2 European put, 3 American call, 4 American put.
 pub fn terms_of(kind: u64, expiry: usize, strike: u64) -> Terms
-    ensures { result ≡ termsOf kind expiry strike }
+    ensures { result ≡ terms_of kind expiry strike }
 {
     Terms {
         call: kind == 1 || kind == 3,
@@ -48,7 +48,7 @@ pub fn expiry_value(call: bool, strike: u64, bond: u64, flow: u64) -> u64
 
 // Before expiry, of a bond without the row's flow: the larger of roll and exercise on a row that is listed, the roll on any other.
 pub fn held_value(call: bool, strike: u64, listed: bool, roll: u64, bond: u64) -> u64
-    ensures { result ≡ heldOrExercised listed roll (exercise (side call) strike bond) }
+    ensures { result ≡ held_or_exercised listed roll (exercise (side call) strike bond) }
 {
     if listed {
         return arithmetic::larger(roll, exercise_value(call, strike, bond));

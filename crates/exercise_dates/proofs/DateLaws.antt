@@ -14,17 +14,17 @@ use Rattle.arithmetic.specs.Row.{row, values, each, overlay, padded}
 use Rattle.arithmetic.proofs.Numbers.{by_order, by_equal, by-test}
 use Rattle.arithmetic.proofs.RowLaws.{length-row, values-row, row_of, each_none, each_more, each-fails, each_holds, each_all, zeros}
 use Rattle.arithmetic.proofs.PaddedLaws.{padded-of, padded-length, padded-take}
-use Rattle.limits.specs.Limits.{mostSteps}
+use Rattle.limits.specs.Limits.{most_steps}
 use Rattle.pricing_laws.specs.Pricer.{call, put}
-use Rattle.pricing_laws.specs.Schedule.{among, inDates, lastDate, datedSchedule, rising, numberedSide, everyRow, kindDates}
+use Rattle.pricing_laws.specs.Schedule.{among, in_dates, last_date, dated_schedule, rising, numbered_side, every_row, kind_dates}
 use Rattle.pricing_laws.specs.inside.Marks.{marked}
 use Rattle.pricing_laws.proofs.Dates.{among-hit, among-miss, among_none}
 use Rattle.pricing_laws.proofs.Schedules.{Alike}
 use Rattle.exercise.specs.declared.Terms.{Terms}
 use Rattle.exercise.specs.Terms.{side}
 use Rattle.exercise_dates.specs.declared.Dates.{Dates}
-use Rattle.exercise_dates.specs.Dates.{rowsOfATree, marksOf, datedTerms, datesHeld, datesOfKind}
-use Rattle.exercise_dates.specs.inside.Dates.{datesTo}
+use Rattle.exercise_dates.specs.Dates.{rows_of_aTree, marks_of, dated_terms, dates_held, dates_of_kind}
+use Rattle.exercise_dates.specs.inside.Dates.{dates_to}
 
 -- ---- a list is tested from its start: the first k rows rise
 
@@ -54,24 +54,24 @@ module _ (dates : List ℕ) (k : ℕ) (some : 0 < k) where
   rising-all before h =
       sym (each_all (length dates - 1) (rises dates) (λ j l. each_holds (k - 1) j (rises dates) before (omega arith)))
 
-pub none_last : (dates : List ℕ) → length dates ≡ 0 → 0 ≡ lastDate dates
+pub none_last : (dates : List ℕ) → length dates ≡ 0 → 0 ≡ last_date dates
 none_last dates e = sym (get_or-eq_default dates 0 (omega arith))
 
 -- ---- marks are made from the list's start: after its first k rows
 
 pub record Marking (dates marks : List ℕ) (k : ℕ) : Type 0 where
-  pub size : length marks ≡ rowsOfATree
-  pub marks-are : (i : ℕ) → i < rowsOfATree → values marks i ≡ cond (among dates k i) 1 0
+  pub size : length marks ≡ rows_of_aTree
+  pub marks-are : (i : ℕ) → i < rows_of_aTree → values marks i ≡ cond (among dates k i) 1 0
 
-pub marking-start : (dates : List ℕ) → Marking dates (replicate rowsOfATree 0) 0
+pub marking-start : (dates : List ℕ) → Marking dates (replicate rows_of_aTree 0) 0
 marking-start dates =
     record {
-      size = length-replicate {A = ℕ} rowsOfATree 0;
-      marks-are = λ i h. zeros rowsOfATree i ∙ sym (ap (λ (t : Bool). cond t 1 0) (among_none dates i));
+      size = length-replicate {A = ℕ} rows_of_aTree 0;
+      marks-are = λ i h. zeros rows_of_aTree i ∙ sym (ap (λ (t : Bool). cond t 1 0) (among_none dates i));
     }
 
 module _ (dates marks : List ℕ) (k : ℕ) (m : Marking dates marks k) where
-  pub marking-hit : (d : ℕ) → d ≡ values dates k → d < rowsOfATree → Marking dates (set marks d 1) (k + 1)
+  pub marking-hit : (d : ℕ) → d ≡ values dates k → d < rows_of_aTree → Marking dates (set marks d 1) (k + 1)
   marking-hit d e inside =
       record {
         size = length-set marks d 1 ∙ m.size;
@@ -85,27 +85,27 @@ module _ (dates marks : List ℕ) (k : ℕ) (m : Marking dates marks k) where
             ∙ sym (ap (λ (t : Bool). cond t 1 0) (among-miss dates k i (λ q. other (q ∙ sym e)))));
       }
 
-  pub marking-past : (d : ℕ) → d ≡ values dates k → rowsOfATree ≤ d → Marking dates marks (k + 1)
+  pub marking-past : (d : ℕ) → d ≡ values dates k → rows_of_aTree ≤ d → Marking dates marks (k + 1)
   marking-past d e past =
       record {
         size = m.size;
         marks-are = λ i h. m.marks-are i h ∙ sym (ap (λ (t : Bool). cond t 1 0) (among-miss dates k i (λ q. omega arith)));
       }
 
-  pub marking-all : k ≡ length dates → marks ≡ marksOf dates
-  unfolding marksOf
+  pub marking-all : k ≡ length dates → marks ≡ marks_of dates
+  unfolding marks_of
   marking-all e =
-      row_of marks rowsOfATree (λ i. cond (inDates dates i) 1 0) m.size
+      row_of marks rows_of_aTree (λ i. cond (in_dates dates i) 1 0) m.size
       (λ i h. m.marks-are i h ∙ ap (λ (c : ℕ). cond (among dates c i) 1 0) e)
 
 -- the marks of a list name the rows of its schedule
-pub dates-alike : (dates : List ℕ) → lastDate dates ≤ mostSteps → Alike (marked (lastDate dates) (marksOf dates)) (datedSchedule dates)
-unfolding marked datedSchedule marksOf
+pub dates-alike : (dates : List ℕ) → last_date dates ≤ most_steps → Alike (marked (last_date dates) (marks_of dates)) (dated_schedule dates)
+unfolding marked dated_schedule marks_of
 dates-alike dates few =
     record {
       last = refl;
       listed = λ i h.
-          ap (λ (x : ℕ). eqb x 1) (values-row rowsOfATree i (λ j. cond (inDates dates j) 1 0) (omega arith)) ∙ told (inDates dates i);
+          ap (λ (x : ℕ). eqb x 1) (values-row rows_of_aTree i (λ j. cond (in_dates dates j) 1 0) (omega arith)) ∙ told (in_dates dates i);
     }
   where
     told : (t : Bool) → eqb (cond t 1 0) 1 ≡ t
@@ -113,15 +113,15 @@ dates-alike dates few =
     told false = refl
 
 -- there is a mark for each row before the last
-pub marks-room : (dates marks : List ℕ) → marks ≡ marksOf dates → lastDate dates ≤ mostSteps → lastDate dates ≤ length marks
-unfolding marksOf
-marks-room dates marks e few = omega (arith, ap length e ∙ length-row rowsOfATree (λ i. cond (inDates dates i) 1 0))
+pub marks-room : (dates marks : List ℕ) → marks ≡ marks_of dates → last_date dates ≤ most_steps → last_date dates ≤ length marks
+unfolding marks_of
+marks-room dates marks e few = omega (arith, ap length e ∙ length-row rows_of_aTree (λ i. cond (in_dates dates i) 1 0))
 
 -- ---- the terms of a dated option
 
-module _ (number : ℕ) (dates : List ℕ) (strike : ℕ) (terms : Terms) (e : terms ≡ datedTerms number dates strike) where
-  pub dated-side : side terms.call ≡ numberedSide number
-  unfolding datedTerms numberedSide
+module _ (number : ℕ) (dates : List ℕ) (strike : ℕ) (terms : Terms) (e : terms ≡ dated_terms number dates strike) where
+  pub dated-side : side terms.call ≡ numbered_side number
+  unfolding dated_terms numbered_side
   dated-side = ap (λ (t : Terms). side t.call) e ∙ go (eqb number 1)
     where
       go : (t : Bool) → side t ≡ cond t call put
@@ -129,75 +129,75 @@ module _ (number : ℕ) (dates : List ℕ) (strike : ℕ) (terms : Terms) (e : t
       go false = refl
 
   pub dated-strike : terms.strike ≡ strike
-  unfolding datedTerms
+  unfolding dated_terms
   dated-strike = ap (λ (t : Terms). t.strike) e
 
-  pub dated-last : terms.last ≡ lastDate dates
-  unfolding datedTerms
+  pub dated-last : terms.last ≡ last_date dates
+  unfolding dated_terms
   dated-last = ap (λ (t : Terms). t.last) e
 
 -- ---- the list of a kind
 
 -- what stands in the first places is the list
-held-front : (l : List ℕ) → length l ≤ rowsOfATree → take (length l) (datesHeld l).rows ≡ l
-held-front l few = padded-take rowsOfATree (length l) (values l) few ∙ sym (row_of l (length l) (values l) refl (λ k h. refl))
+held-front : (l : List ℕ) → length l ≤ rows_of_aTree → take (length l) (dates_held l).rows ≡ l
+held-front l few = padded-take rows_of_aTree (length l) (values l) few ∙ sym (row_of l (length l) (values l) refl (λ k h. refl))
 
-kind-size : (kind expiry : ℕ) → expiry ≤ mostSteps → length (kindDates kind expiry) ≤ rowsOfATree
-unfolding kindDates
+kind-size : (kind expiry : ℕ) → expiry ≤ most_steps → length (kind_dates kind expiry) ≤ rows_of_aTree
+unfolding kind_dates
 kind-size kind expiry few =
-    by-test (leb 3 kind) (λ (dates : List ℕ). length dates ≤ rowsOfATree) (everyRow expiry) (expiry ∷ [])
+    by-test (leb 3 kind) (λ (dates : List ℕ). length dates ≤ rows_of_aTree) (every_row expiry) (expiry ∷ [])
     (λ t. omega (arith, length-row (suc expiry) (λ i. i))) (λ t. omega arith)
 
 -- the kind's list, as it is handed on
-module _ (kind expiry : ℕ) (few : expiry ≤ mostSteps) (dates : Dates) (e : dates ≡ datesOfKind kind expiry) where
-  list-is : dates ≡ datesHeld (kindDates kind expiry)
-  unfolding datesOfKind
-  list-is = e ∙ rw (le-leb expiry mostSteps few)
+module _ (kind expiry : ℕ) (few : expiry ≤ most_steps) (dates : Dates) (e : dates ≡ dates_of_kind kind expiry) where
+  list-is : dates ≡ dates_held (kind_dates kind expiry)
+  unfolding dates_of_kind
+  list-is = e ∙ rw (le-leb expiry most_steps few)
 
-  pub kind-list : take dates.count dates.rows ≡ kindDates kind expiry
-  kind-list = ap (λ (d : Dates). take d.count d.rows) list-is ∙ held-front (kindDates kind expiry) (kind-size kind expiry few)
+  pub kind-list : take dates.count dates.rows ≡ kind_dates kind expiry
+  kind-list = ap (λ (d : Dates). take d.count d.rows) list-is ∙ held-front (kind_dates kind expiry) (kind-size kind expiry few)
 
 -- its places, whatever the expiry
-pub list-room : (kind expiry : ℕ) (dates : Dates) → dates ≡ datesOfKind kind expiry → dates.count ≤ length dates.rows
-unfolding datesOfKind
+pub list-room : (kind expiry : ℕ) (dates : Dates) → dates ≡ dates_of_kind kind expiry → dates.count ≤ length dates.rows
+unfolding dates_of_kind
 list-room kind expiry dates e =
     rw e
-    (by-test (leb expiry mostSteps) (λ (l : List ℕ). (datesHeld l).count ≤ length (datesHeld l).rows) (kindDates kind expiry) []
-    (λ t. room (kindDates kind expiry) (kind-size kind expiry (leb-true expiry mostSteps t))) (λ t. room [] (omega arith)))
+    (by-test (leb expiry most_steps) (λ (l : List ℕ). (dates_held l).count ≤ length (dates_held l).rows) (kind_dates kind expiry) []
+    (λ t. room (kind_dates kind expiry) (kind-size kind expiry (leb-true expiry most_steps t))) (λ t. room [] (omega arith)))
   where
-    room : (l : List ℕ) → length l ≤ rowsOfATree → (datesHeld l).count ≤ length (datesHeld l).rows
-    room l h = omega (arith, padded-length rowsOfATree (length l) (values l))
+    room : (l : List ℕ) → length l ≤ rows_of_aTree → (dates_held l).count ≤ length (dates_held l).rows
+    room l h = omega (arith, padded-length rows_of_aTree (length l) (values l))
 
 -- what the code gives for it: no list, expiry alone, or every row
 module _ (kind expiry : ℕ) where
-  pub no-list : mostSteps < expiry → ◌≡◌ {A = Dates} (record { count = 0; rows = replicate rowsOfATree 0 }) (datesOfKind kind expiry)
-  unfolding datesOfKind padded row overlay
-  no-list many = rw (lt-leb expiry mostSteps many)
+  pub no-list : most_steps < expiry → ◌≡◌ {A = Dates} (record { count = 0; rows = replicate rows_of_aTree 0 }) (dates_of_kind kind expiry)
+  unfolding dates_of_kind padded row overlay
+  no-list many = rw (lt-leb expiry most_steps many)
 
-  module _ (few : expiry ≤ mostSteps) where
+  module _ (few : expiry ≤ most_steps) where
     pub alone-list :
-        kind < 3 → ◌≡◌ {A = Dates} (record { count = 1; rows = expiry ∷ replicate mostSteps 0 }) (datesOfKind kind expiry)
-    unfolding datesOfKind kindDates padded row overlay
-    alone-list european = rw (le-leb expiry mostSteps few, lt-leb 3 kind european)
+        kind < 3 → ◌≡◌ {A = Dates} (record { count = 1; rows = expiry ∷ replicate most_steps 0 }) (dates_of_kind kind expiry)
+    unfolding dates_of_kind kind_dates padded row overlay
+    alone-list european = rw (le-leb expiry most_steps few, lt-leb 3 kind european)
 
-    every-padded : datesTo expiry ≡ (datesHeld (everyRow expiry)).rows
-    unfolding datesTo
+    every-padded : dates_to expiry ≡ (dates_held (every_row expiry)).rows
+    unfolding dates_to
     every-padded =
         let size = length-row (suc expiry) (λ i. i) in
         let to : ℕ → ℕ = λ i. cond (leb i expiry) i 0 in
-        padded-of rowsOfATree (row rowsOfATree to) (length (everyRow expiry)) (values (everyRow expiry)) (length-row rowsOfATree to)
+        padded-of rows_of_aTree (row rows_of_aTree to) (length (every_row expiry)) (values (every_row expiry)) (length-row rows_of_aTree to)
         (λ k h.
-        values-row rowsOfATree k to (omega (arith, size)) ∙ rw (le-leb k expiry (omega (arith, size)))
+        values-row rows_of_aTree k to (omega (arith, size)) ∙ rw (le-leb k expiry (omega (arith, size)))
         (sym (values-row (suc expiry) k (λ i. i) (omega (arith, size)))))
         (λ k past.
-        by_order rowsOfATree k
-        (λ outside. get_or-eq_default (row rowsOfATree to) 0 (rw (length-row rowsOfATree to) outside))
-        (λ inside. values-row rowsOfATree k to inside ∙ rw (lt-leb k expiry (omega (arith, size)))))
+        by_order rows_of_aTree k
+        (λ outside. get_or-eq_default (row rows_of_aTree to) 0 (rw (length-row rows_of_aTree to) outside))
+        (λ inside. values-row rows_of_aTree k to inside ∙ rw (lt-leb k expiry (omega (arith, size)))))
 
     pub every-list :
-        (rows : List ℕ) → 3 ≤ kind → rows ≡ datesTo expiry → ◌≡◌ {A = Dates} (record { count = expiry + 1; rows = rows }) (datesOfKind kind expiry)
-    unfolding datesOfKind kindDates
+        (rows : List ℕ) → 3 ≤ kind → rows ≡ dates_to expiry → ◌≡◌ {A = Dates} (record { count = expiry + 1; rows = rows }) (dates_of_kind kind expiry)
+    unfolding dates_of_kind kind_dates
     every-list rows american e =
-        rw (le-leb expiry mostSteps few, le-leb 3 kind american)
+        rw (le-leb expiry most_steps few, le-leb 3 kind american)
         (ap₂ {C = Dates} (λ (c : ℕ) (r : List ℕ). record { count = c; rows = r }) (add-one expiry ∙ sym (length-row (suc expiry) (λ i. i)))
         (e ∙ every-padded))

@@ -1,9 +1,9 @@
 // The dates on which an option may be exercised: their cause of refusal, a mark for each listed row, and the dates of a kind.
 ghost use Rattle.std.specs.Prelude.{◌≡◌, ◌<◌, cond, leb};
 ghost use Rattle.arithmetic.specs.Row.{row};
-ghost use Rattle.pricing_laws.specs.Schedule.{lastDate, rising, datesCause};
-ghost use Rattle.exercise_dates.specs.Dates.{marksOf, datedTerms, datesOfKind};
-ghost use Rattle.exercise_dates.specs.inside.Dates.{datesTo};
+ghost use Rattle.pricing_laws.specs.Schedule.{last_date, rising, dates_cause};
+ghost use Rattle.exercise_dates.specs.Dates.{marks_of, dated_terms, dates_of_kind};
+ghost use Rattle.exercise_dates.specs.inside.Dates.{dates_to};
 
 use exercise::Terms;
 use limits::MOST_ROWS;
@@ -31,7 +31,7 @@ fn is_rising(dates: &[u8]) -> bool
 
 // The last row of a list; 0 for an empty one.
 pub fn last_date(dates: &[u8]) -> usize
-    ensures { result ≡ lastDate dates.now }
+    ensures { result ≡ last_date dates.now }
 {
     let count = dates.len();
     if count == 0 {
@@ -42,7 +42,7 @@ pub fn last_date(dates: &[u8]) -> usize
 
 // The cause about a list: 13 where it is empty, does not rise strictly or reaches the last row of the tree; 0 where there is none.
 pub fn dates_cause(steps: usize, dates: &[u8]) -> u64
-    ensures { result ≡ datesCause steps dates.now }
+    ensures { result ≡ dates_cause steps dates.now }
 {
     if dates.len() == 0 {
         return 13;
@@ -58,7 +58,7 @@ pub fn dates_cause(steps: usize, dates: &[u8]) -> u64
 
 // A mark for each row, 1 where it is listed. Rows that no tree has are passed over.
 pub fn marks_of(dates: &[u8]) -> [u8; MOST_ROWS]
-    ensures { result ≡ marksOf dates.now }
+    ensures { result ≡ marks_of dates.now }
 {
     let mut marks = [0u8; MOST_ROWS];
     let mut k: usize = 0;
@@ -74,7 +74,7 @@ pub fn marks_of(dates: &[u8]) -> [u8; MOST_ROWS]
 
 // The terms of an option on these dates: side 1 a call, any other a put.
 pub fn terms_on(side: u64, dates: &[u8], strike: u64) -> Terms
-    ensures { result ≡ datedTerms side dates.now strike }
+    ensures { result ≡ dated_terms side dates.now strike }
 {
     Terms {
         call: side == 1,
@@ -94,7 +94,7 @@ fn row_to(row: u8, expiry: usize) -> u8
 
 // Every row to expiry, zeros after them.
 fn dates_to(expiry: usize) -> [u8; MOST_ROWS]
-    ensures { result ≡ datesTo expiry }
+    ensures { result ≡ dates_to expiry }
 {
     let mut rows = [0u8; MOST_ROWS];
     let mut row: u8 = 0;
@@ -107,7 +107,7 @@ fn dates_to(expiry: usize) -> [u8; MOST_ROWS]
 
 // The list of a kind: expiry alone for 1 and 2, every row from 0 to expiry for 3 and 4. An expiry that no tree has gives no list.
 pub fn dates_of_kind(kind: u64, expiry: usize) -> Dates
-    ensures { result ≡ datesOfKind kind expiry }
+    ensures { result ≡ dates_of_kind kind expiry }
 {
     if limits::MOST_STEPS < expiry {
         return Dates {

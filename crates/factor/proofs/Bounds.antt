@@ -10,7 +10,7 @@ use Rattle.arithmetic.specs.Rounding.{one}
 use Rattle.arithmetic.specs.Sum.{sum}
 use Rattle.arithmetic.proofs.SumLaws.{sum-le, sum-term}
 use Rattle.arithmetic.proofs.Implied.{Implied, implied, lastly, ◌▸◌}
-use Rattle.factor.specs.Series.{term, series, falling, exactTerm, scale}
+use Rattle.factor.specs.Series.{term, series, falling, exact_term, scale}
 use Rattle.factor.proofs.SeriesLaws.{alternating-most, term-zero, term-falls, term-grows, series-within}
 use Rattle.factor.proofs.SeriesLaws.{exact-whole, exact-zero, exact-next, exact-falls}
 use Rattle.factor.proofs.Examples.{sum-at-one}
@@ -74,12 +74,12 @@ module _ (o y : ℕ) (e : ℕ → ℕ) (positive : 0 < o) (hy : y ≤ o) (next :
           let (d, s) = le_dest hy in
           rw (← s) (six-products y d)
 
-exact-least : (y : ℕ) → y ≤ one → 44 * exactTerm y 0 ≤ 120 * series false (exactTerm y)
+exact-least : (y : ℕ) → y ≤ one → 44 * exact_term y 0 ≤ 120 * series false (exact_term y)
 unfolding sum
 exact-least y hy =
     omega (
       arith,
-      six-terms one y (exactTerm y) (lit≤ tt) hy (exact-next y),
+      six-terms one y (exact_term y) (lit≤ tt) hy (exact-next y),
       exact-whole y hy,
       exact-falls y 6 hy (lit≤ tt),
       exact-falls y 8 hy (lit≤ tt),

@@ -8,41 +8,41 @@ use native.Mathlib.Omega.{arith}
 use borrow.Author.Tests.{lt-ltb, le-ltb}
 use lib.IntN.{ℤ, pos, negsuc, nat_abs, ◌-ℤ◌}
 use lib.Signed.{lt_z}
-use Rattle.arithmetic.specs.Rounding.{one, roundDown}
+use Rattle.arithmetic.specs.Rounding.{one, round_down}
 use Rattle.arithmetic.specs.Sum.{sum}
 use Rattle.arithmetic.specs.Answers.{refused, answered}
 use Rattle.arithmetic.specs.Within.{Within}
 use Rattle.arithmetic.proofs.Numbers.{by_order}
 use Rattle.factor.specs.Series.{term, even, odd, series, scale}
-use Rattle.factor.specs.Factor.{factor, exactFactor, nodeAnswer, sideFactor, side_answer, sidesAnswer}
+use Rattle.factor.specs.Factor.{factor, exact_factor, node_answer, side_factor, side_answer, sides_answer}
 use Rattle.factor.proofs.SeriesLaws.{series-within, sum-by-parts, odd-le-even, term-falls}
 use Rattle.factor.proofs.Bounds.{series-bounds}
 
 -- U(j) by the distance and the side of j
-pub factor-side : (j : ℤ) (h : ℕ) → factor j h ≡ sideFactor (nat_abs j) (lt_z j (pos 0)) h
-unfolding factor sideFactor
+pub factor-side : (j : ℤ) (h : ℕ) → factor j h ≡ side_factor (nat_abs j) (lt_z j (pos 0)) h
+unfolding factor side_factor
 factor-side j h = refl
 
-pub factor-above : (d h : ℕ) → factor (pos d) h ≡ sideFactor d false h
-factor-above d h = factor-side (pos d) h ∙ ap (λ (below : Bool). sideFactor d below h) (le-ltb d 0 (omega arith))
+pub factor-above : (d h : ℕ) → factor (pos d) h ≡ side_factor d false h
+factor-above d h = factor-side (pos d) h ∙ ap (λ (below : Bool). side_factor d below h) (le-ltb d 0 (omega arith))
 
-pub factor-below : (d h : ℕ) → factor (negsuc d) h ≡ sideFactor (suc d) true h
+pub factor-below : (d h : ℕ) → factor (negsuc d) h ≡ side_factor (suc d) true h
 factor-below d h = factor-side (negsuc d) h
 
 -- the node at index k of a row of half width w is k - w
-pub index_below : (w k h : ℕ) → k < w → factor (pos k -ℤ pos w) h ≡ sideFactor (w - k) true h
+pub index_below : (w k h : ℕ) → k < w → factor (pos k -ℤ pos w) h ≡ side_factor (w - k) true h
 index_below zero k h l = omega arith
 index_below (suc w) k h l =
     let e : suc (suc w - suc k) ≡ suc w - k = omega arith in
-    rw (lt-ltb k (suc w) l) (factor-below (suc w - suc k) h ∙ ap (λ (d : ℕ). sideFactor d true h) e)
+    rw (lt-ltb k (suc w) l) (factor-below (suc w - suc k) h ∙ ap (λ (d : ℕ). side_factor d true h) e)
 
-pub index-above : (w k h : ℕ) → w ≤ k → factor (pos k -ℤ pos w) h ≡ sideFactor (k - w) false h
-index-above zero k h l = factor-above (k + 0) h ∙ ap (λ (d : ℕ). sideFactor d false h) (omega arith)
+pub index-above : (w k h : ℕ) → w ≤ k → factor (pos k -ℤ pos w) h ≡ side_factor (k - w) false h
+index-above zero k h l = factor-above (k + 0) h ∙ ap (λ (d : ℕ). side_factor d false h) (omega arith)
 index-above (suc w) k h l = rw (le-ltb k (suc w) l) (factor-above (k - suc w) h)
 
 -- the middle node has factor one, counted to either side
 middle : (below : Bool) → series below (term 0) ≡ one
-unfolding series sum term roundDown
+unfolding series sum term round_down
 middle true = refl
 middle false = refl
 
@@ -53,16 +53,16 @@ nearer-within k d h l within = le_trans (mul-le-mul_right h l) within
 -- where |j| × h is at most one, the factor is from 0.36 to 2.72 of one,
 pub side-bounds :
     (d : ℕ) (below : Bool) (h : ℕ) → d * h ≤ one →
-    (360000000 ≤ sideFactor d below h) × (sideFactor d below h ≤ 2720000000)
-unfolding sideFactor
+    (360000000 ≤ side_factor d below h) × (side_factor d below h ≤ 2720000000)
+unfolding side_factor
 side-bounds d below h l = series-bounds (d * h) below l
 
 pub factor-bounds : (j : ℤ) (h : ℕ) → nat_abs j * h ≤ one → (360000000 ≤ factor j h) × (factor j h ≤ 2720000000)
 factor-bounds j h l = rw (factor-side j h) (side-bounds (nat_abs j) (lt_z j (pos 0)) h l)
 
 -- and within 14 of the same series in exact fractions
-pub factor-within : (j : ℤ) (h : ℕ) → nat_abs j * h ≤ one → Within 14 scale (factor j h) (exactFactor j h)
-unfolding factor exactFactor
+pub factor-within : (j : ℤ) (h : ℕ) → nat_abs j * h ≤ one → Within 14 scale (factor j h) (exact_factor j h)
+unfolding factor exact_factor
 factor-within j h l = series-within (nat_abs j * h) (lt_z j (pos 0)) l
 
 -- the answers by distance and side
@@ -71,39 +71,39 @@ module _ (d : ℕ) (below : Bool) (h : ℕ) where
   unfolding side_answer
   side-refused l = rw (lt-ltb one (d * h) l)
 
-  pub side-accepted : d * h ≤ one → side_answer d below h ≡ answered (sideFactor d below h)
+  pub side-accepted : d * h ≤ one → side_answer d below h ≡ answered (side_factor d below h)
   unfolding side_answer
   side-accepted l = rw (le-ltb one (d * h) l)
 
 -- both sides are answered alike: where one is refused the other is
-pub sides-refused : (d h : ℕ) → one < d * h → record { number = 8; below = 0; above = 0 } ≡ sidesAnswer d h
-unfolding sidesAnswer
+pub sides-refused : (d h : ℕ) → one < d * h → record { number = 8; below = 0; above = 0 } ≡ sides_answer d h
+unfolding sides_answer
 sides-refused d h l = rw (side-refused d true h l, side-refused d false h l)
 
 module _ (d h : ℕ) where
-  pub below-of-both : record { number = (sidesAnswer d h).number; value = (sidesAnswer d h).below } ≡ side_answer d true h
-  unfolding sidesAnswer
+  pub below-of-both : record { number = (sides_answer d h).number; value = (sides_answer d h).below } ≡ side_answer d true h
+  unfolding sides_answer
   below-of-both = refl
 
-  pub above-of-both : record { number = (sidesAnswer d h).number; value = (sidesAnswer d h).above } ≡ side_answer d false h
-  unfolding sidesAnswer
+  pub above-of-both : record { number = (sides_answer d h).number; value = (sides_answer d h).above } ≡ side_answer d false h
+  unfolding sides_answer
   above-of-both =
       by_order (d * h) one
       (λ l. rw (side-accepted d true h l, side-accepted d false h l))
       (λ l. rw (side-refused d true h l, side-refused d false h l))
 
 -- the answers by the signed number
-pub node-side : (j : ℤ) (h : ℕ) → nodeAnswer j h ≡ side_answer (nat_abs j) (lt_z j (pos 0)) h
-unfolding nodeAnswer side_answer factor sideFactor
+pub node-side : (j : ℤ) (h : ℕ) → node_answer j h ≡ side_answer (nat_abs j) (lt_z j (pos 0)) h
+unfolding node_answer side_answer factor side_factor
 node-side j h = refl
 
-pub node-refused : (j : ℤ) (h : ℕ) → one < nat_abs j * h → nodeAnswer j h ≡ refused 8
+pub node-refused : (j : ℤ) (h : ℕ) → one < nat_abs j * h → node_answer j h ≡ refused 8
 node-refused j h l = node-side j h ∙ side-refused (nat_abs j) (lt_z j (pos 0)) h l
 
 -- Where y is |j| × h and at most one, the sums of the even and of the odd terms give the value answered.
 module _ (d h : ℕ) {y e o : ℕ} (same : y ≡ d * h) (l : y ≤ one) (p : e ≡ sum 7 (even (term y))) (q : o ≡ sum 6 (odd (term y))) where
   side-found : (below : Bool) (x : ℕ) → x ≡ series below (term y) → answered x ≡ side_answer d below h
-  unfolding sideFactor
+  unfolding side_factor
   side-found below x found =
       ap answered (found ∙ ap (λ (z : ℕ). series below (term z)) same) ∙ sym (side-accepted d below h (rw same at l))
 
@@ -114,8 +114,8 @@ module _ (d h : ℕ) {y e o : ℕ} (same : y ≡ d * h) (l : y ≤ one) (p : e �
   unfolding series
   sums-above = side-found false (e - o) (rw (p, q) refl)
 
-  pub sums-both : record { number = 0; below = e + o; above = e - o } ≡ sidesAnswer d h
-  unfolding sidesAnswer
+  pub sums-both : record { number = 0; below = e + o; above = e - o } ≡ sides_answer d h
+  unfolding sides_answer
   sums-both = rw (← sums-below, ← sums-above)
 
   -- and neither the sum nor the difference leaves the type

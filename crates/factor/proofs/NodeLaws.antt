@@ -12,7 +12,7 @@ use mir.Syntax.{w64}
 use mir.Val.{Fits, SFits, to_z, of_z}
 use mir.Facts.{to_z-of_z}
 use Rattle.arithmetic.proofs.Signed.{fits-by-size, is_whole}
-use Rattle.factor.specs.Factor.{nodeAnswer, side_answer}
+use Rattle.factor.specs.Factor.{node_answer, side_answer}
 use Rattle.factor.proofs.FactorLaws.{node-side}
 
 none_below : (n : ℕ) → ltb n 0 ≡ true → ⊥
@@ -53,7 +53,7 @@ module _ (z : ℤ) (f : SFits w64 z) where
     pub nearer-held : to_z w64 (of_z w64 (negsuc 0 -ℤ to_z w64 (of_z w64 z))) ≡ pos (nat_abs z - 1)
     nearer-held = to_z-of_z nearer-fits ∙ nearer-is
 
-    pub node-below : (h : ℕ) → side_answer (nat_abs (pos (nat_abs z - 1)) + 1) true h ≡ nodeAnswer z h
+    pub node-below : (h : ℕ) → side_answer (nat_abs (pos (nat_abs z - 1)) + 1) true h ≡ node_answer z h
     node-below h =
         let e : nat_abs (pos (nat_abs z - 1)) + 1 ≡ nat_abs z = omega (arith, size-positive z below) in
         rw e (sym (rw below at (node-side z h)))
@@ -65,7 +65,7 @@ module _ (z : ℤ) (f : SFits w64 z) where
         let n : lt_z z (pos 0) ≡ false = rw held at l in
         rw held (is_whole z n, record { fits = omega (arith, size-most z f) })
 
-    pub node-above : (h : ℕ) → side_answer (nat_abs (to_z w64 (of_z w64 z))) false h ≡ nodeAnswer z h
+    pub node-above : (h : ℕ) → side_answer (nat_abs (to_z w64 (of_z w64 z))) false h ≡ node_answer z h
     node-above h =
         let n : lt_z z (pos 0) ≡ false = rw held at l in
         rw held (sym (rw n at (node-side z h)))

@@ -7,14 +7,14 @@ use Prim.Native.Nat.{ℕ, suc, ◌+◌, ◌-◌, ◌*◌, ◌/◌, ◌≤◌}
 use native.Mathlib.Omega.{arith}
 use lib.IntN.{ℤ, pos, nat_abs}
 use lib.Signed.{lt_z}
-use Rattle.arithmetic.specs.Rounding.{one, roundDown}
+use Rattle.arithmetic.specs.Rounding.{one, round_down}
 use Rattle.arithmetic.specs.Sum.{sum}
 use Rattle.factor.specs.Series.{term, series}
 use Rattle.factor.specs.Factor.{factor}
 use Rattle.factor.proofs.SeriesLaws.{term-zero, term-falls, alternating-most}
 
 pub next-term : (y k : ℕ) → term y (suc k) ≡ term y k * y / (suc k * one)
-unfolding term roundDown
+unfolding term round_down
 next-term y k = refl
 
 module _ (j : ℤ) (h : ℕ) where

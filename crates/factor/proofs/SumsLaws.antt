@@ -4,7 +4,7 @@ use mathlib.Core.Path.{◌≡◌, refl, sym, ◌∙◌, ap}
 use Prim.Native.Nat.{ℕ, ◌+◌, ◌*◌, ◌≤◌}
 use native.Mathlib.Numerals.{add-one}
 use native.Mathlib.Omega.{arith}
-use Rattle.arithmetic.specs.Rounding.{one, roundDown}
+use Rattle.arithmetic.specs.Rounding.{one, round_down}
 use Rattle.arithmetic.specs.Sum.{sum}
 use Rattle.arithmetic.proofs.SumLaws.{sum-next, sum-most}
 use Rattle.factor.specs.Series.{term, even, odd}
@@ -12,7 +12,7 @@ use Rattle.factor.proofs.SeriesLaws.{term-zero, term-next, term-most}
 
 -- a term divided by k + 1 times one gives the next one
 pub next-is :
-    (y k : ℕ) {last next divisor : ℕ} → last ≡ term y k → divisor ≡ (k + 1) * one → next ≡ roundDown (last * y) divisor → next ≡ term y (k + 1)
+    (y k : ℕ) {last next divisor : ℕ} → last ≡ term y k → divisor ≡ (k + 1) * one → next ≡ round_down (last * y) divisor → next ≡ term y (k + 1)
 next-is y k p e q = q ∙ rw (p, e, add-one k) (sym (term-next y k))
 
 -- What the loop holds after some pairs of terms.

@@ -1,13 +1,13 @@
 -- The series of a factor, rounded and in exact fractions (document 01, Spacing and fit, second point).
 -- Assumes nothing.
 use Rattle.std.specs.Prelude.{ℕ, zero, suc, ◌+◌, ◌-◌, ◌*◌, ◌^◌, Bool, true, false}
-use Rattle.arithmetic.specs.Rounding.{one, roundDown}
+use Rattle.arithmetic.specs.Rounding.{one, round_down}
 use Rattle.arithmetic.specs.Sum.{sum}
 
 -- term 0 is one; term k is (term k-1) × y / (k × one), down
 unfoldable pub term : ℕ → ℕ → ℕ
 term y zero = one
-term y (suc k) = roundDown (term y k * y) (suc k * one)
+term y (suc k) = round_down (term y k * y) (suc k * one)
 
 -- the terms of even place, and of odd place
 abbrev pub even : (ℕ → ℕ) → ℕ → ℕ
@@ -31,5 +31,5 @@ unfoldable pub scale : ℕ
 scale = falling 12 * one ^ 11
 
 -- term k in exact fractions, one × (y / one)^k / k!, times 12! × one^11
-unfoldable pub exactTerm : ℕ → ℕ → ℕ
-exactTerm y k = y ^ k * (falling (12 - k) * one ^ (12 - k))
+unfoldable pub exact_term : ℕ → ℕ → ℕ
+exact_term y k = y ^ k * (falling (12 - k) * one ^ (12 - k))

@@ -1,15 +1,15 @@
 // The factor of a node: the exponential series to its twelfth term, each term rounded down.
 ghost use Rattle.std.specs.Prelude.{◌≡◌, ◌+◌, ◌*◌, ◌≤◌, ◌<◌, min};
-ghost use Rattle.arithmetic.specs.Rounding.{one, roundDown};
+ghost use Rattle.arithmetic.specs.Rounding.{one, round_down};
 ghost use Rattle.arithmetic.specs.Sum.{sum};
 ghost use Rattle.factor.specs.Series.{term, even, odd};
-ghost use Rattle.factor.specs.Factor.{side_answer, sidesAnswer, nodeAnswer};
+ghost use Rattle.factor.specs.Factor.{side_answer, sides_answer, node_answer};
 
 use arithmetic::{Answer, ONE};
 
 fn next_term(last: u64, y: u64, divisor: u64) -> u64
     requires { (last ≤ one) × (y ≤ one) × (0 < divisor) }
-    ensures { result ≡ roundDown (last * y) divisor }
+    ensures { result ≡ round_down (last * y) divisor }
 {
     last * y / divisor
 }
@@ -72,7 +72,7 @@ pub struct Sides {
 
 // The factors at a distance, below the middle node and above it, from one series; refuses with 8.
 pub fn both_sides(distance: u64, spacing: u64) -> Sides
-    ensures { result ≡ sidesAnswer distance spacing }
+    ensures { result ≡ sides_answer distance spacing }
 {
     let y = bounded_product(distance, spacing);
     if ONE < y {
@@ -109,7 +109,7 @@ pub fn factor(distance: u64, below: bool, spacing: u64) -> Answer
 
 // The factor of a node by its signed number; refuses with 8.
 pub fn factor_of_node(node: i64, spacing: u64) -> Answer
-    ensures { result ≡ nodeAnswer node spacing }
+    ensures { result ≡ node_answer node spacing }
 {
     if node < 0 {
         // The lowest number has no opposite: its size less one is taken first.

@@ -14,16 +14,16 @@ use mir.Val.{to_z, of_z}
 use mir.Facts.{to_z-of_z}
 use Rattle.arithmetic.proofs.Signed.{fits-by-size}
 use Rattle.figure.specs.declared.Figure.{Figure}
-use Rattle.figure.specs.Figure.{magnitudeOf, negative, beyond, signed, billionthsOf, figureOf, refusedFigure, acceptedFigure, patternFloat}
+use Rattle.figure.specs.Figure.{magnitude_of, negative, beyond, signed, billionths_of, figure_of, refused_figure, accepted_figure, pattern_float}
 use Rattle.figure.proofs.Patterns.{accepted-field, accepted-sign, magnitude-bound, field_of}
 
-pub figure-refused : (x : Float) → beyond x ≡ true → figureOf x ≡ refusedFigure
-unfolding figureOf
-figure-refused x h = ap (λ (b : Bool). cond b refusedFigure (acceptedFigure (billionthsOf x))) h
+pub figure-refused : (x : Float) → beyond x ≡ true → figure_of x ≡ refused_figure
+unfolding figure_of
+figure-refused x h = ap (λ (b : Bool). cond b refused_figure (accepted_figure (billionths_of x))) h
 
-pub figure-accepted : (x : Float) → beyond x ≡ false → figureOf x ≡ acceptedFigure (billionthsOf x)
-unfolding figureOf
-figure-accepted x h = ap (λ (b : Bool). cond b refusedFigure (acceptedFigure (billionthsOf x))) h
+pub figure-accepted : (x : Float) → beyond x ≡ false → figure_of x ≡ accepted_figure (billionths_of x)
+unfolding figure_of
+figure-accepted x h = ap (λ (b : Bool). cond b refused_figure (accepted_figure (billionths_of x))) h
 
 -- an accepted figure is no NaN
 pub not-nan : (x : Float) → beyond x ≡ false → T (not (is_nan x))
@@ -43,25 +43,25 @@ module _ (x : Float) (f : T (fits binary64 x)) (h : beyond x ≡ false) where
   sign-is : negative x ≡ leb (2 ^ 63) (to_bits binary64 x)
   sign-is = sym (ap negative same) ∙ accepted-sign (to_bits binary64 x) field-small
 
-  module _ (m : ℕ) (e : m ≡ magnitudeOf (of_bits binary64 (to_bits binary64 x))) where
-    size_is : m ≡ magnitudeOf x
-    size_is = e ∙ ap magnitudeOf same
+  module _ (m : ℕ) (e : m ≡ magnitude_of (of_bits binary64 (to_bits binary64 x))) where
+    size_is : m ≡ magnitude_of x
+    size_is = e ∙ ap magnitude_of same
 
     pub size_small : m ≤ 10000000000
     size_small = subst (λ (k : ℕ). k ≤ 10000000000) (sym size_is) (magnitude-bound x h)
 
-    pub plus : to_bits binary64 x < 2 ^ 63 → billionthsOf x ≡ pos m
-    unfolding billionthsOf
+    pub plus : to_bits binary64 x < 2 ^ 63 → billionths_of x ≡ pos m
+    unfolding billionths_of
     plus p = ap₂ signed (sign-is ∙ lt-leb (2 ^ 63) (to_bits binary64 x) p) (sym size_is)
 
-    pub minus : 2 ^ 63 ≤ to_bits binary64 x → billionthsOf x ≡ neg_ℤ (pos m)
-    unfolding billionthsOf
+    pub minus : 2 ^ 63 ≤ to_bits binary64 x → billionths_of x ≡ neg_ℤ (pos m)
+    unfolding billionths_of
     minus p = ap₂ signed (sign-is ∙ le-leb (2 ^ 63) (to_bits binary64 x) p) (sym size_is)
 
 -- an accepted figure is at most 10 × one in size
-pub billionths-bound : (x : Float) → beyond x ≡ false → nat_abs (billionthsOf x) ≤ 10000000000
-unfolding billionthsOf
-billionths-bound x h = by_sign (negative x) (magnitudeOf x) (magnitude-bound x h)
+pub billionths-bound : (x : Float) → beyond x ≡ false → nat_abs (billionths_of x) ≤ 10000000000
+unfolding billionths_of
+billionths-bound x h = by_sign (negative x) (magnitude_of x) (magnitude-bound x h)
   where
     by_sign : (s : Bool) (n : ℕ) → n ≤ 10000000000 → nat_abs (signed s n) ≤ 10000000000
     by_sign false n p = p
@@ -69,32 +69,32 @@ billionths-bound x h = by_sign (negative x) (magnitudeOf x) (magnitude-bound x h
     by_sign true (suc n) p = p
 
 -- What a caller learns: number 0 is an accepted figure, any other is a refusal.
-module _ (x : Float) (r : Figure) (e : r ≡ figureOf x) where
+module _ (x : Float) (r : Figure) (e : r ≡ figure_of x) where
   pub number-accepted : r.number ≡ 0 → beyond x ≡ false
-  unfolding figureOf
+  unfolding figure_of
   number-accepted n = by-test (beyond x) (sym (ap (λ (q : Figure). q.number) e) ∙ n)
     where
-      by-test : (b : Bool) → (cond b refusedFigure (acceptedFigure (billionthsOf x))).number ≡ 0 → b ≡ false
+      by-test : (b : Bool) → (cond b refused_figure (accepted_figure (billionths_of x))).number ≡ 0 → b ≡ false
       by-test true q = let none : ⊥ = omega arith in absurd none
       by-test false q = refl
 
   pub number-refused : (r.number ≡ 0 → ⊥) → beyond x ≡ true
-  unfolding figureOf
+  unfolding figure_of
   number-refused n = by-test (beyond x) (λ q. n (ap (λ (q : Figure). q.number) e ∙ q))
     where
-      by-test : (b : Bool) → ((cond b refusedFigure (acceptedFigure (billionthsOf x))).number ≡ 0 → ⊥) → b ≡ true
+      by-test : (b : Bool) → ((cond b refused_figure (accepted_figure (billionths_of x))).number ≡ 0 → ⊥) → b ≡ true
       by-test true q = refl
       by-test false q = absurd (q refl)
 
-  pub value-accepted : r.number ≡ 0 → r.value ≡ billionthsOf x
+  pub value-accepted : r.number ≡ 0 → r.value ≡ billionths_of x
   value-accepted n = ap (λ (q : Figure). q.value) (e ∙ figure-accepted x (number-accepted n))
 
   -- the value of any answer is at most 10 × one in size
   pub value-bound : nat_abs r.value ≤ 10000000000
-  unfolding figureOf
+  unfolding figure_of
   value-bound = subst (λ (q : Figure). nat_abs q.value ≤ 10000000000) (sym e) (by-test (beyond x) refl)
     where
-      by-test : (b : Bool) → beyond x ≡ b → nat_abs (cond b refusedFigure (acceptedFigure (billionthsOf x))).value ≤ 10000000000
+      by-test : (b : Bool) → beyond x ≡ b → nat_abs (cond b refused_figure (accepted_figure (billionths_of x))).value ≤ 10000000000
       by-test true h = omega arith
       by-test false h = billionths-bound x h
 
@@ -113,21 +113,21 @@ other-pattern b h = sym (nan_bits_is binary64 b) ∙ nan_bits_above binary64 b �
 pub other-bits : (b : ℕ) → b % 2 ^ 63 ≤ 9218868437227405312 → T (not (nan_bits binary64 b))
 other-bits b h = subst (λ (z : Bool). T (not z)) (sym (nan_bits_is binary64 b ∙ other-pattern b h)) tt
 
-pub float-of-nan : (b : ℕ) → is_nan (of_bits binary64 b) ≡ true → patternFloat b ≡ inf false
-unfolding patternFloat
+pub float-of-nan : (b : ℕ) → is_nan (of_bits binary64 b) ≡ true → pattern_float b ≡ inf false
+unfolding pattern_float
 float-of-nan b h = ap (λ (z : Bool). cond z (inf false) (of_bits binary64 b)) h
 
-pub float-of-other : (b : ℕ) → is_nan (of_bits binary64 b) ≡ false → patternFloat b ≡ of_bits binary64 b
-unfolding patternFloat
+pub float-of-other : (b : ℕ) → is_nan (of_bits binary64 b) ≡ false → pattern_float b ≡ of_bits binary64 b
+unfolding pattern_float
 float-of-other b h = ap (λ (z : Bool). cond z (inf false) (of_bits binary64 b)) h
 
-infinite-for-nan : (x : Float) → figureOf (cond (is_nan x) (inf false) x) ≡ figureOf x
-unfolding is_nan figureOf
+infinite-for-nan : (x : Float) → figure_of (cond (is_nan x) (inf false) x) ≡ figure_of x
+unfolding is_nan figure_of
 infinite-for-nan nan = refl
 infinite-for-nan (inf s) = refl
 infinite-for-nan (fin s m e) = refl
 
 -- a NaN's pattern is refused as the NaN is: every pattern gives the answer of its own float
-pub pattern-alike : (b : ℕ) → figureOf (patternFloat b) ≡ figureOf (of_bits binary64 b)
-unfolding patternFloat
+pub pattern-alike : (b : ℕ) → figure_of (pattern_float b) ≡ figure_of (of_bits binary64 b)
+unfolding pattern_float
 pattern-alike b = infinite-for-nan (of_bits binary64 b)

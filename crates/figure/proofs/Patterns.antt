@@ -13,13 +13,13 @@ use lib.Ieee.{Float, nan, inf, fin, up, down, binary64, of_bits, of_fields, ne, 
 use lib.Ieee.Exact.{HasValue, odd_sign}
 use lib.Ieee.Fits.{down_pos}
 use Rattle.arithmetic.specs.Rounding.{one, nearest}
-use Rattle.figure.specs.Figure.{magnitudeOf, negative, beyond}
+use Rattle.figure.specs.Figure.{magnitude_of, negative, beyond}
 use Rattle.arithmetic.proofs.RoundingLaws.{nearest-same}
 
 -- ---- what a value fixes
 
-pub value-magnitude : (v : Float) (s : Bool) (a c : ℕ) → 0 < c → HasValue v s a c → magnitudeOf v ≡ nearest (a * one) c
-unfolding magnitudeOf
+pub value-magnitude : (v : Float) (s : Bool) (a c : ℕ) → 0 < c → HasValue v s a c → magnitude_of v ≡ nearest (a * one) c
+unfolding magnitude_of
 value-magnitude nan s a c p h = absurd h
 value-magnitude (inf t) s a c p h = absurd h
 value-magnitude (fin t m e) s a c p h =
@@ -44,8 +44,8 @@ value-bound (fin t m e) s a c h b =
     scaled n q r = omega (arith, q, r)
 
 -- an accepted size is at most 10 × 10^9
-pub magnitude-bound : (v : Float) → beyond v ≡ false → magnitudeOf v ≤ 10000000000
-unfolding beyond magnitudeOf nearest
+pub magnitude-bound : (v : Float) → beyond v ≡ false → magnitude_of v ≤ 10000000000
+unfolding beyond magnitude_of nearest
 magnitude-bound nan b = omega arith
 magnitude-bound (inf t) b = omega arith
 magnitude-bound (fin t m e) b = bound (m * up e) (down e) (down_pos e) (ltb-false (10 * down e) (m * up e) b)
@@ -68,26 +68,26 @@ module _ (s : Bool) (t : ℕ) where
 abbrev pub field_of : ℕ → ℕ
 field_of b = b % 2 ^ 63 / 2 ^ 52
 
-abbrev pub digitsOf : ℕ → ℕ
-digitsOf b = b % 2 ^ 52
+abbrev pub digits_of : ℕ → ℕ
+digits_of b = b % 2 ^ 52
 
-pub pattern-zero : (b : ℕ) → field_of b ≡ 0 → magnitudeOf (of_bits binary64 b) ≡ nearest (digitsOf b * one) (2 ^ 1074)
+pub pattern-zero : (b : ℕ) → field_of b ≡ 0 → magnitude_of (of_bits binary64 b) ≡ nearest (digits_of b * one) (2 ^ 1074)
 unfolding of_bits
 pattern-zero b e =
-    ap (λ (x : ℕ). magnitudeOf (of_fields binary64 (leb (2 ^ 63) b) x (digitsOf b))) e
-    ∙ value-magnitude (of_fields binary64 (leb (2 ^ 63) b) 0 (digitsOf b)) (leb (2 ^ 63) b) (digitsOf b * 2 ^ 0) (2 ^ 1074) (pow_pos 1074)
-    (zero_field (leb (2 ^ 63) b) (digitsOf b))
-    ∙ ap (λ (a : ℕ). nearest (a * one) (2 ^ 1074)) (mul-one (digitsOf b))
+    ap (λ (x : ℕ). magnitude_of (of_fields binary64 (leb (2 ^ 63) b) x (digits_of b))) e
+    ∙ value-magnitude (of_fields binary64 (leb (2 ^ 63) b) 0 (digits_of b)) (leb (2 ^ 63) b) (digits_of b * 2 ^ 0) (2 ^ 1074) (pow_pos 1074)
+    (zero_field (leb (2 ^ 63) b) (digits_of b))
+    ∙ ap (λ (a : ℕ). nearest (a * one) (2 ^ 1074)) (mul-one (digits_of b))
 
 pub pattern-later : (b : ℕ) (x : ℕ) → field_of b ≡ suc x → suc x ≤ 1026 →
-    magnitudeOf (of_bits binary64 b) ≡ nearest ((digitsOf b + 2 ^ 52) * one) (2 ^ (1075 - suc x))
+    magnitude_of (of_bits binary64 b) ≡ nearest ((digits_of b + 2 ^ 52) * one) (2 ^ (1075 - suc x))
 unfolding of_bits
 pattern-later b x e h =
-    ap (λ (y : ℕ). magnitudeOf (of_fields binary64 (leb (2 ^ 63) b) y (digitsOf b))) e
-    ∙ value-magnitude (of_fields binary64 (leb (2 ^ 63) b) (suc x) (digitsOf b)) (leb (2 ^ 63) b) ((2 ^ 52 + digitsOf b) * 2 ^ x) (2 ^ 1074)
-    (pow_pos 1074) (later-field (leb (2 ^ 63) b) (digitsOf b) x (omega arith))
-    ∙ nearest-same ((2 ^ 52 + digitsOf b) * 2 ^ x * one) (2 ^ 1074) ((digitsOf b + 2 ^ 52) * one) (2 ^ (1075 - suc x)) (pow_pos 1074) (pow_pos (1075 - suc x))
-    (moved (digitsOf b) (2 ^ x) (2 ^ (1075 - suc x)) (2 ^ 1074) (sym (pow-add 2 x (1075 - suc x)) ∙ ap (λ (k : ℕ). 2 ^ k) together))
+    ap (λ (y : ℕ). magnitude_of (of_fields binary64 (leb (2 ^ 63) b) y (digits_of b))) e
+    ∙ value-magnitude (of_fields binary64 (leb (2 ^ 63) b) (suc x) (digits_of b)) (leb (2 ^ 63) b) ((2 ^ 52 + digits_of b) * 2 ^ x) (2 ^ 1074)
+    (pow_pos 1074) (later-field (leb (2 ^ 63) b) (digits_of b) x (omega arith))
+    ∙ nearest-same ((2 ^ 52 + digits_of b) * 2 ^ x * one) (2 ^ 1074) ((digits_of b + 2 ^ 52) * one) (2 ^ (1075 - suc x)) (pow_pos 1074) (pow_pos (1075 - suc x))
+    (moved (digits_of b) (2 ^ x) (2 ^ (1075 - suc x)) (2 ^ 1074) (sym (pow-add 2 x (1075 - suc x)) ∙ ap (λ (k : ℕ). 2 ^ k) together))
   where
     together : x + (1075 - suc x) ≡ 1074
     together = omega arith
@@ -142,11 +142,11 @@ module _ (s : Bool) (t : ℕ) where
 
 pub accepted-field : (b : ℕ) → beyond (of_bits binary64 b) ≡ false → field_of b ≤ 1026
 unfolding of_bits
-accepted-field b h = small-field (leb (2 ^ 63) b) (digitsOf b) (field_of b) (omega arith) h
+accepted-field b h = small-field (leb (2 ^ 63) b) (digits_of b) (field_of b) (omega arith) h
 
 pub accepted-sign : (b : ℕ) → field_of b ≤ 1026 → negative (of_bits binary64 b) ≡ leb (2 ^ 63) b
 unfolding of_bits
-accepted-sign b h = field-sign (leb (2 ^ 63) b) (digitsOf b) (field_of b) h
+accepted-sign b h = field-sign (leb (2 ^ 63) b) (digits_of b) (field_of b) h
 
 -- ---- what the tests on the float say
 

@@ -7,7 +7,7 @@ use native.Mathlib.Omega.{arith}
 use lib.Pow.{pow-add, pow_pos, pow-lt}
 use Rattle.arithmetic.specs.Rounding.{one, nearest}
 use lib.Dec.{lit<}
-use Rattle.arithmetic.specs.Power.{powerOfTen}
+use Rattle.arithmetic.specs.Power.{power_of_ten}
 use Rattle.arithmetic.proofs.PowerLaws.{power-listed}
 use Rattle.arithmetic.proofs.RoundingLaws.{nearest-by-parts, product-by-parts}
 
@@ -29,5 +29,5 @@ scaled-is s power shift half ep eh h =
     (sym (nearest-by-parts (s * one) (2 ^ 30) (2 ^ (shift - 31)) (pow_pos 30) (pow_pos (shift - 31))))
 
 -- the table's entry is one
-pub table-one : (power : ℕ) → power ≡ powerOfTen 9 → power ≡ one
+pub table-one : (power : ℕ) → power ≡ power_of_ten 9 → power ≡ one
 table-one power e = e ∙ power-listed 9 (lit< tt)

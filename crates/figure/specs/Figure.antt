@@ -8,11 +8,11 @@ use Rattle.arithmetic.specs.Rounding.{one, nearest}
 use Rattle.figure.specs.declared.Figure.{Figure}
 
 -- the exact binary value's size times one, to the nearest whole number
-unfoldable pub magnitudeOf : Float → ℕ
+unfoldable pub magnitude_of : Float → ℕ
 unfolding nearest
-magnitudeOf nan = 0
-magnitudeOf (inf s) = 0
-magnitudeOf (fin s m e) = nearest (m * up e * one) (down e)
+magnitude_of nan = 0
+magnitude_of (inf s) = 0
+magnitude_of (fin s m e) = nearest (m * up e * one) (down e)
 
 -- the float's sign
 abbrev pub negative : Float → Bool
@@ -25,9 +25,9 @@ signed true n = neg_ℤ (pos n)
 signed false n = pos n
 
 -- the figure in billionths, sign kept; -0.0 gives 0
-unfoldable pub billionthsOf : Float → ℤ
-unfolding magnitudeOf
-billionthsOf x = signed (negative x) (magnitudeOf x)
+unfoldable pub billionths_of : Float → ℤ
+unfolding magnitude_of
+billionths_of x = signed (negative x) (magnitude_of x)
 
 -- NaN, an infinity, or beyond 10 either way, before rounding
 unfoldable pub beyond : Float → Bool
@@ -36,18 +36,18 @@ beyond (inf s) = true
 beyond (fin s m e) = ltb (10 * down e) (m * up e)
 
 -- refusal 7 with zero
-abbrev pub refusedFigure : Figure
-refusedFigure = record { number = 7; value = pos 0 }
+abbrev pub refused_figure : Figure
+refused_figure = record { number = 7; value = pos 0 }
 
-abbrev pub acceptedFigure : ℤ → Figure
-acceptedFigure z = record { number = 0; value = z }
+abbrev pub accepted_figure : ℤ → Figure
+accepted_figure z = record { number = 0; value = z }
 
 -- the answer to a float
-unfoldable pub figureOf : Float → Figure
-unfolding beyond billionthsOf
-figureOf x = cond (beyond x) refusedFigure (acceptedFigure (billionthsOf x))
+unfoldable pub figure_of : Float → Figure
+unfolding beyond billionths_of
+figure_of x = cond (beyond x) refused_figure (accepted_figure (billionths_of x))
 
 -- the float of a pattern of 64 bits; a NaN's pattern gives an infinity
-unfoldable pub patternFloat : ℕ → Float
+unfoldable pub pattern_float : ℕ → Float
 unfolding is_nan of_bits
-patternFloat bits = cond (is_nan (of_bits binary64 bits)) (inf false) (of_bits binary64 bits)
+pattern_float bits = cond (is_nan (of_bits binary64 bits)) (inf false) (of_bits binary64 bits)

@@ -3,7 +3,7 @@ ghost use Rattle.std.specs.Prelude.{◌≡◌, ◌*◌, ◌/◌, ◌%◌, ◌^�
 ghost use Rattle.std.specs.Float.{binary64};
 ghost use Rattle.std.specs.Float.Ieee.{of_bits};
 ghost use Rattle.arithmetic.specs.Rounding.{one, nearest};
-ghost use Rattle.figure.specs.Figure.{magnitudeOf, beyond, figureOf, patternFloat};
+ghost use Rattle.figure.specs.Figure.{magnitude_of, beyond, figure_of, pattern_float};
 
 // Number 0 with the signed value in billionths, or refusal 7 with value 0.
 #[derive(Drop)]
@@ -32,7 +32,7 @@ fn scaled(significand: u64, shift: u64) -> u64
 // The size, in billionths, of the float with these bits. The exponent's field is at most 1026 where the size is at most 10.
 fn magnitude(bits: u64) -> u64
     requires { bits % 2 ^ 63 / 2 ^ 52 ≤ 1026 }
-    ensures { result ≡ magnitudeOf (of_bits binary64 bits) }
+    ensures { result ≡ magnitude_of (of_bits binary64 bits) }
 {
     let field = bits % 0x8000_0000_0000_0000 / 0x10_0000_0000_0000;
     let digits = bits % 0x10_0000_0000_0000;
@@ -57,7 +57,7 @@ fn is_beyond(x: f64) -> bool
 
 // The figure in billionths, to the nearest, a half going away from zero.
 pub fn billionths(x: f64) -> Figure
-    ensures { result ≡ figureOf x }
+    ensures { result ≡ figure_of x }
 {
     if is_beyond(x) {
         return Figure {
@@ -81,7 +81,7 @@ pub fn billionths(x: f64) -> Figure
 
 // The float with these bits, for a reader of bytes. No float is made of a NaN's pattern, so it gives an infinity, which is refused alike.
 pub fn of_pattern(bits: u64) -> f64
-    ensures { result ≡ patternFloat bits }
+    ensures { result ≡ pattern_float bits }
 {
     if bits % 0x8000_0000_0000_0000 > 0x7FF0_0000_0000_0000 {
         return f64::from_bits(0x7FF0_0000_0000_0000);

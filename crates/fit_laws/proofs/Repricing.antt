@@ -5,19 +5,19 @@
 use Prim.Native.Nat.{ℕ, zero, ◌+◌, ◌*◌, ◌≤◌, ◌<◌}
 use native.Mathlib.Nat.{mul-le-mul, mul-le-mul_left, le_of_mul-le-mul_left, lt_of_mul-lt-mul_left}
 use native.Mathlib.Omega.{arith}
-use Rattle.limits.specs.Limits.{mostQuote, mostNodes}
+use Rattle.limits.specs.Limits.{most_quote, most_nodes}
 use Rattle.arithmetic.specs.Sum.{sum}
 use Rattle.arithmetic.specs.Rounding.{one}
 use Rattle.tree.specs.Tree.{Transition, Inside, Total}
-use Rattle.fit_laws.specs.inside.Bounds.{leastFactor, mostFactor, leastRowSum, mostRowSum}
-use Rattle.fit_laws.specs.Step.{normaliser, discount, carried, nextStatePrice}
+use Rattle.fit_laws.specs.inside.Bounds.{least_factor, most_factor, least_row_sum, most_row_sum}
+use Rattle.fit_laws.specs.Step.{normaliser, discount, carried, next_state_price}
 use Rattle.arithmetic.proofs.SumLaws.{sum-weigh-ge, sum-weigh-le, sum_grow}
 use Rattle.fit_laws.proofs.StepLaws.{carried-le, carried-ge, next_le, next-ge, discount-le, discount-ge, normaliser-le, normaliser-ge}
 
 -- the general law, for any quote and any factors
 pub short-by :
     (t : Transition) (n m p : ℕ) (q u : ℕ → ℕ) → Inside t n m → Total t n → zero < normaliser n q u →
-    one * p ≤ one * (sum m (nextStatePrice t n q (discount n q u p)) + n + m) + sum n q
+    one * p ≤ one * (sum m (next_state_price t n q (discount n q u p)) + n + m) + sum n q
 short-by t n m p q u inside total positive =
     let v : ℕ → ℕ = discount n q u p in
     let z : ℕ = normaliser n q u in
@@ -46,12 +46,12 @@ pub record Fittable (t : Transition) (n m p : ℕ) (q u : ℕ → ℕ) : Type 0 
   pub inside : Inside t n m
   pub total : Total t n
   pub nodes : n ≤ 119
-  pub next-nodes : m ≤ mostNodes
-  pub sum_low : leastRowSum ≤ sum n q
-  pub sum-high : sum n q ≤ mostRowSum
-  pub factor-low : (k : ℕ) → k < n → leastFactor ≤ u k
-  pub factor-high : (k : ℕ) → k < n → u k ≤ mostFactor
-  pub quote-high : p ≤ mostQuote
+  pub next-nodes : m ≤ most_nodes
+  pub sum_low : least_row_sum ≤ sum n q
+  pub sum-high : sum n q ≤ most_row_sum
+  pub factor-low : (k : ℕ) → k < n → least_factor ≤ u k
+  pub factor-high : (k : ℕ) → k < n → u k ≤ most_factor
+  pub quote-high : p ≤ most_quote
 
 module _ (t : Transition) (n m p : ℕ) (q u : ℕ → ℕ) (f : Fittable t n m p q u) where
   pub normaliser-low : 35999891 ≤ normaliser n q u
@@ -67,8 +67,8 @@ module _ (t : Transition) (n m p : ℕ) (q u : ℕ → ℕ) (f : Fittable t n m 
 
   -- the repriced quote: short by at most 242, over by at most 55
   pub repriced :
-      (p ≤ sum m (nextStatePrice t n q (discount n q u p)) + 242)
-      × (sum m (nextStatePrice t n q (discount n q u p)) ≤ p + 55)
+      (p ≤ sum m (next_state_price t n q (discount n q u p)) + 242)
+      × (sum m (next_state_price t n q (discount n q u p)) ≤ p + 55)
   repriced = (
     omega
         (arith, short-by t n m p q u f.inside f.total (omega (arith, normaliser-low)), f.nodes, f.next-nodes, f.sum-high),

@@ -9,17 +9,17 @@ use Rattle.arithmetic.specs.Sum.{sum, greatest}
 use Rattle.arithmetic.proofs.Numbers.{cross}
 use Rattle.arithmetic.proofs.RoundingLaws.{up-ge}
 use Rattle.arithmetic.proofs.SumLaws.{sum-le, sum-add, sum-scale, sum-sub, greatest-ge}
-use Rattle.tree.specs.Tree.{Transition, Tree, Sound, Inside, Total, incoming, probabilityTotal, unit}
+use Rattle.tree.specs.Tree.{Transition, Tree, Sound, Inside, Total, incoming, probability_total, unit}
 use Rattle.tree.proofs.StepLaws.{incoming-le, incoming-scale, incoming-total}
-use Rattle.fit_laws.specs.Step.{carried, nextStatePrice}
-use Rattle.fit_laws.specs.StatePrices.{statePrice, exactStatePrice, statePriceErrorBound}
+use Rattle.fit_laws.specs.Step.{carried, next_state_price}
+use Rattle.fit_laws.specs.StatePrices.{state_price, exact_state_price, state_price_error_bound}
 use Rattle.fit_laws.proofs.StepLaws.{carried-node, carried-ge, next-ge}
 
 -- one step down: the rounded step from below stays below
 step-below :
     (t : Transition) (n w : ℕ) (q x v : ℕ → ℕ) → ((k : ℕ) → k < n → w * q k ≤ x k) → (j : ℕ) →
-    unit * w * nextStatePrice t n q v j ≤ incoming t n (λ k. x k * v k) j
-unfolding nextStatePrice
+    unit * w * next_state_price t n q v j ≤ incoming t n (λ k. x k * v k) j
+unfolding next_state_price
 step-below t n w q x v h j =
     let scaled : incoming t n (λ k. (w * one) * carried q v k) j ≤ incoming t n (λ k. x k * v k) j
     = incoming-le t n _ _ (λ k l. carried-below k l) j in
@@ -27,7 +27,7 @@ step-below t n w q x v h j =
       arith,
       scaled,
       incoming-scale t n (w * one) (carried q v) j,
-      mul-le-mul_left w (mul-div-le (incoming t n (carried q v) j) probabilityTotal),
+      mul-le-mul_left w (mul-div-le (incoming t n (carried q v) j) probability_total),
     )
   where
     carried-below : (k : ℕ) → k < n → (w * one) * carried q v k ≤ x k * v k
@@ -35,12 +35,12 @@ step-below t n w q x v h j =
         omega (arith, mul-le-mul_left w (carried-node q v k), mul-le-mul_right (v k) (h k l))
 
 pub state-below :
-    (t : Tree) (v : ℕ → ℕ → ℕ) (i k : ℕ) → unit ^ i * statePrice t v i k ≤ exactStatePrice t v i k
-unfolding statePrice exactStatePrice
+    (t : Tree) (v : ℕ → ℕ → ℕ) (i k : ℕ) → unit ^ i * state_price t v i k ≤ exact_state_price t v i k
+unfolding state_price exact_state_price
 state-below t v zero k = omega arith
 state-below t v (suc i) k =
     rw (pow-succ' unit i)
-    (step-below (t.step i) (t.nodes i) (unit ^ i) (statePrice t v i) (exactStatePrice t v i) (v i)
+    (step-below (t.step i) (t.nodes i) (unit ^ i) (state_price t v i) (exact_state_price t v i) (v i)
     (λ l h. state-below t v i l) k)
 
 -- How far the rounded state prices of a row fall short of the exact ones, in sum.
@@ -64,7 +64,7 @@ step-short :
     (t : Transition) (n m w e g : ℕ) (q x v : ℕ → ℕ) → Inside t n m → Total t n →
     ((k : ℕ) → k < n → w * q k ≤ x k) → ((k : ℕ) → k < n → v k ≤ g) →
     sum n x ≤ w * (sum n q + e) →
-    sum m (incoming t n (λ k. x k * v k)) ≤ unit * w * (sum m (nextStatePrice t n q v) + (round_up (g * e) one + n + m))
+    sum m (incoming t n (λ k. x k * v k)) ≤ unit * w * (sum m (next_state_price t n q v) + (round_up (g * e) one + n + m))
 step-short t n m w e g q x v inside total hx hv h =
     omega (
       arith,
@@ -78,23 +78,23 @@ step-short t n m w e g q x v inside total hx hv h =
 
 pub state-short :
     (t : Tree) (s : Sound t) (v : ℕ → ℕ → ℕ) (i : ℕ) →
-    sum (t.nodes i) (exactStatePrice t v i) ≤ unit ^ i * (sum (t.nodes i) (statePrice t v i) + statePriceErrorBound t v i)
-unfolding statePrice exactStatePrice statePriceErrorBound
+    sum (t.nodes i) (exact_state_price t v i) ≤ unit ^ i * (sum (t.nodes i) (state_price t v i) + state_price_error_bound t v i)
+unfolding state_price exact_state_price state_price_error_bound
 state-short t s v zero = omega arith
 state-short t s v (suc i) =
     rw (pow-succ' unit i)
-    (step-short (t.step i) (t.nodes i) (t.nodes (suc i)) (unit ^ i) (statePriceErrorBound t v i) (greatest (t.nodes i) (v i))
-    (statePrice t v i) (exactStatePrice t v i) (v i) (s.inside i) (s.total i)
+    (step-short (t.step i) (t.nodes i) (t.nodes (suc i)) (unit ^ i) (state_price_error_bound t v i) (greatest (t.nodes i) (v i))
+    (state_price t v i) (exact_state_price t v i) (v i) (s.inside i) (s.total i)
     (λ k l. state-below t v i k) (greatest-ge (t.nodes i) (v i)) (state-short t s v i))
 
 -- The meaning of the state-price allowance: the sum over the nodes of exact less rounded is at most the allowance.
 pub state-price-shortfall :
     (t : Tree) (s : Sound t) (v : ℕ → ℕ → ℕ) (i : ℕ) →
-    sum (t.nodes i) (λ k. exactStatePrice t v i k - unit ^ i * statePrice t v i k) ≤ unit ^ i * statePriceErrorBound t v i
+    sum (t.nodes i) (λ k. exact_state_price t v i k - unit ^ i * state_price t v i k) ≤ unit ^ i * state_price_error_bound t v i
 state-price-shortfall t s v i =
     omega (
       arith,
-      sum-sub (t.nodes i) (exactStatePrice t v i) (λ k. unit ^ i * statePrice t v i k) (λ k l. state-below t v i k),
-      sum-scale (t.nodes i) (unit ^ i) (statePrice t v i),
+      sum-sub (t.nodes i) (exact_state_price t v i) (λ k. unit ^ i * state_price t v i k) (λ k l. state-below t v i k),
+      sum-scale (t.nodes i) (unit ^ i) (state_price t v i),
       state-short t s v i,
     )

@@ -6,8 +6,8 @@ use native.Mathlib.Nat.{mul-le-mul_left, mul-div-le, lt-div-mul-add}
 use native.Mathlib.Omega.{arith}
 use Rattle.arithmetic.specs.Sum.{sum}
 use Rattle.arithmetic.specs.Rounding.{one}
-use Rattle.tree.specs.Tree.{Transition, incoming, probabilityTotal, Inside, Total}
-use Rattle.fit_laws.specs.Step.{normaliser, discount, carried, nextStatePrice}
+use Rattle.tree.specs.Tree.{Transition, incoming, probability_total, Inside, Total}
+use Rattle.fit_laws.specs.Step.{normaliser, discount, carried, next_state_price}
 use Rattle.arithmetic.proofs.SumLaws.{sum-cong, sum-le, sum-add, sum-scale, sum-floor-le, sum-floor-ge}
 use Rattle.tree.proofs.StepLaws.{incoming-total, incoming-cong}
 
@@ -27,17 +27,17 @@ carried-ge n q v = sum-floor-ge n one (λ k. q k * v k) (omega arith)
 -- branching: the next row's sum is the carried sum, less at most one unit a node
 pub next_le :
     (t : Transition) (n m : ℕ) (q v : ℕ → ℕ) → Inside t n m → Total t n →
-    sum m (nextStatePrice t n q v) ≤ sum n (carried q v)
-unfolding nextStatePrice
+    sum m (next_state_price t n q v) ≤ sum n (carried q v)
+unfolding next_state_price
 next_le t n m q v h p =
-    omega (arith, sum-floor-le m probabilityTotal (λ j. incoming t n (carried q v) j), incoming-total t n m (carried q v) h p)
+    omega (arith, sum-floor-le m probability_total (λ j. incoming t n (carried q v) j), incoming-total t n m (carried q v) h p)
 
 pub next-ge :
     (t : Transition) (n m : ℕ) (q v : ℕ → ℕ) → Inside t n m → Total t n →
-    sum n (carried q v) ≤ sum m (nextStatePrice t n q v) + m
-unfolding nextStatePrice
+    sum n (carried q v) ≤ sum m (next_state_price t n q v) + m
+unfolding next_state_price
 next-ge t n m q v h p =
-    omega (arith, sum-floor-ge m probabilityTotal (λ j. incoming t n (carried q v) j) (omega arith), incoming-total t n m (carried q v) h p)
+    omega (arith, sum-floor-ge m probability_total (λ j. incoming t n (carried q v) j) (omega arith), incoming-total t n m (carried q v) h p)
 
 -- the discounts' rounding, summed over the row
 pub discount-le :
@@ -86,8 +86,8 @@ discount-cong n p q r u h k =
 
 pub next-cong :
     (t : Transition) (n : ℕ) (q r v w : ℕ → ℕ) → ((k : ℕ) → k < n → q k ≡ r k) → ((k : ℕ) → k < n → v k ≡ w k) → (j : ℕ) →
-    nextStatePrice t n q v j ≡ nextStatePrice t n r w j
-unfolding nextStatePrice carried
+    next_state_price t n q v j ≡ next_state_price t n r w j
+unfolding next_state_price carried
 next-cong t n q r v w hq hv j =
-    ap (λ (a : ℕ). a / probabilityTotal)
+    ap (λ (a : ℕ). a / probability_total)
     (incoming-cong t n _ _ (λ k l. ap (λ (x : ℕ). x * v k / one) (hq k l) ∙ ap (λ (x : ℕ). r k * x / one) (hv k l)) j)

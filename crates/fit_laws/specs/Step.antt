@@ -3,7 +3,7 @@
 use Rattle.std.specs.Prelude.{ℕ, ◌*◌, ◌/◌}
 use Rattle.arithmetic.specs.Rounding.{one}
 use Rattle.arithmetic.specs.Sum.{sum}
-use Rattle.tree.specs.Tree.{Transition, probabilityTotal, incoming}
+use Rattle.tree.specs.Tree.{Transition, probability_total, incoming}
 
 -- Z: the sum of state price × factor, divided by one, down
 unfoldable pub normaliser : ℕ → (ℕ → ℕ) → (ℕ → ℕ) → ℕ
@@ -18,5 +18,5 @@ unfoldable pub carried : (ℕ → ℕ) → (ℕ → ℕ) → ℕ → ℕ
 carried q v k = q k * v k / one
 
 -- the next row's state price: the sum over incoming branches of probability × carried amount, divided once, down
-unfoldable pub nextStatePrice : Transition → ℕ → (ℕ → ℕ) → (ℕ → ℕ) → ℕ → ℕ
-nextStatePrice t n q v j = incoming t n (carried q v) j / probabilityTotal
+unfoldable pub next_state_price : Transition → ℕ → (ℕ → ℕ) → (ℕ → ℕ) → ℕ → ℕ
+next_state_price t n q v j = incoming t n (carried q v) j / probability_total

@@ -2,9 +2,9 @@
 -- Assumes nothing.
 use Rattle.std.specs.Prelude.{Bool, List, ℕ, zero, suc, length}
 use Rattle.arithmetic.specs.Row.{values, each}
-use Rattle.lattice.specs.RateTree.{node, rateTree}
+use Rattle.lattice.specs.RateTree.{node, rate_tree}
 use Rattle.factor.specs.Factor.{factor}
-use Rattle.fit_laws.specs.StatePrices.{fittedStatePrice, fittedDiscount, acceptedRow}
+use Rattle.fit_laws.specs.StatePrices.{fitted_state_price, fitted_discount, accepted_row}
 
 -- the quotes of rows 1 to n by row; row 0 has none
 unfoldable pub quoted : List ℕ → ℕ → ℕ
@@ -12,14 +12,14 @@ quoted quotes zero = 0
 quoted quotes (suc i) = values quotes i
 
 -- the fit of converted quotes: U(j) of each node with spacing h
-abbrev pub nodeFactor : ℕ → ℕ → ℕ → ℕ → ℕ
-nodeFactor b h i k = factor (node b i k) h
+abbrev pub node_factor : ℕ → ℕ → ℕ → ℕ → ℕ
+node_factor b h i k = factor (node b i k) h
 
-abbrev pub curveDiscount : ℕ → ℕ → List ℕ → ℕ → ℕ → ℕ
-curveDiscount b h quotes = fittedDiscount (rateTree b) (nodeFactor b h) (quoted quotes)
+abbrev pub curve_discount : ℕ → ℕ → List ℕ → ℕ → ℕ → ℕ
+curve_discount b h quotes = fitted_discount (rate_tree b) (node_factor b h) (quoted quotes)
 
-abbrev pub curveStatePrice : ℕ → ℕ → List ℕ → ℕ → ℕ → ℕ
-curveStatePrice b h quotes = fittedStatePrice (rateTree b) (nodeFactor b h) (quoted quotes)
+abbrev pub curve_state_price : ℕ → ℕ → List ℕ → ℕ → ℕ → ℕ
+curve_state_price b h quotes = fitted_state_price (rate_tree b) (node_factor b h) (quoted quotes)
 
-unfoldable pub curveAccepted : ℕ → ℕ → List ℕ → Bool
-curveAccepted b h quotes = each (length quotes) (acceptedRow (rateTree b) (curveDiscount b h quotes))
+unfoldable pub curve_accepted : ℕ → ℕ → List ℕ → Bool
+curve_accepted b h quotes = each (length quotes) (accepted_row (rate_tree b) (curve_discount b h quotes))

@@ -11,11 +11,11 @@ use lib.Seq.{take_at, drop_at, length-take-le, drop-drop}
 use Rattle.arithmetic.specs.Row.{row, values, place, each}
 use Rattle.arithmetic.proofs.PartLaws.{part-is, part_length}
 use Rattle.arithmetic.proofs.RowLaws.{row-cong, values-row, length-row}
-use Rattle.tree.specs.Tree.{incoming, probabilityTotal}
-use Rattle.row_branches.specs.inside.Transitions.{rowTransition}
-use Rattle.limits.specs.Limits.{isDiscount}
-use Rattle.fit_laws.specs.Step.{carried, nextStatePrice}
-use Rattle.fitting.specs.inside.Rows.{RowStepped, RowFitted, partValues, rowDiscounts}
+use Rattle.tree.specs.Tree.{incoming, probability_total}
+use Rattle.row_branches.specs.inside.Transitions.{row_transition}
+use Rattle.limits.specs.Limits.{is_discount}
+use Rattle.fit_laws.specs.Step.{carried, next_state_price}
+use Rattle.fitting.specs.inside.Rows.{RowStepped, RowFitted, part_values, row_discounts}
 use Rattle.fitting.specs.inside.Preconditions.{StepReady, RowReady}
 use Rattle.fitting.proofs.StepRows.{never}
 
@@ -79,14 +79,14 @@ module _ {at next quote : ℕ} {factors downs discounts state-prices sums : List
   module _ {d' s' : List ℕ} {r : Bool}
       (step : RowStepped quote (length (take next sums)) (lent at (length factors) state-prices) factors downs d' s' r)
       (long : length d' ≡ length (lent at (length factors) discounts)) where
-    row-tested : r ≡ each (length factors) (λ k. isDiscount (rowDiscounts at (length factors) quote (values factors) state-prices k))
+    row-tested : r ≡ each (length factors) (λ k. is_discount (row_discounts at (length factors) quote (values factors) state-prices k))
     row-tested = step.tested ∙ rw (lent-state-prices, part-is state-prices at (length factors))
 
     placed : replaced at (at + length factors - at) discounts d' ≡ place discounts at d'
     placed = replaced-place at (length factors) discounts d' (long ∙ lent-discounts)
 
     row-filled : r ≡ true → replaced at (at + length factors - at) discounts d'
-        ≡ place discounts at (row (length factors) (rowDiscounts at (length factors) quote (values factors) state-prices))
+        ≡ place discounts at (row (length factors) (row_discounts at (length factors) quote (values factors) state-prices))
     row-filled t = placed ∙ ap (place discounts at) (step.filled t ∙ rw (lent-state-prices, part-is state-prices at (length factors)))
 
     row_kept : drop (at + length factors) (replaced at (at + length factors - at) discounts d') ≡ drop (at + length factors) discounts
@@ -95,14 +95,14 @@ module _ {at next quote : ℕ} {factors downs discounts state-prices sums : List
         ∙ place-past discounts d' at (length factors) (long ∙ lent-discounts) (omega (arith, ready.room-discounts))
 
     -- a discount was not accepted
-    pub row-refused : r ≡ false → RowFitted at (length factors) next quote (values factors) (rowTransition downs next)
+    pub row-refused : r ≡ false → RowFitted at (length factors) next quote (values factors) (row_transition downs next)
         discounts state-prices (replaced at (at + length factors - at) discounts d') state-prices false
     row-refused e = record { tested = sym e ∙ row-tested; filled = λ t. never t; kept = row_kept; stepped = refl }
 
     -- all were
     module _ (t : r ≡ true) where
-      sums-known : s' ≡ row next (incoming (rowTransition downs next) (length factors)
-          (carried (partValues at (length factors) state-prices) (rowDiscounts at (length factors) quote (values factors) state-prices)))
+      sums-known : s' ≡ row next (incoming (row_transition downs next) (length factors)
+          (carried (part_values at (length factors) state-prices) (row_discounts at (length factors) quote (values factors) state-prices)))
       sums-known = step.spreads t ∙ rw (front_length, lent-state-prices, part-is state-prices at (length factors))
 
       sums-length : length s' ≡ next
@@ -122,16 +122,16 @@ module _ {at next quote : ℕ} {factors downs discounts state-prices sums : List
 
       module _ {p' : List ℕ}
           (divided : p' ≡ row (length (lent (at + length factors) next state-prices))
-          (λ j. values (take next (s' ++ drop next sums)) j / probabilityTotal)) where
+          (λ j. values (take next (s' ++ drop next sums)) j / probability_total)) where
         next-state-prices : p' ≡ row next
-            (nextStatePrice (rowTransition downs next) (length factors) (partValues at (length factors) state-prices)
-            (rowDiscounts at (length factors) quote (values factors) state-prices))
-        unfolding nextStatePrice
+            (next_state_price (row_transition downs next) (length factors) (part_values at (length factors) state-prices)
+            (row_discounts at (length factors) quote (values factors) state-prices))
+        unfolding next_state_price
         next-state-prices =
             divided ∙ rw (next-length, front-is)
-            (row-cong next _ _ (λ j h. ap (λ (x : ℕ). x / probabilityTotal) (ap (λ (l : List ℕ). values l j) sums-known ∙ values-row next j _ h)))
+            (row-cong next _ _ (λ j h. ap (λ (x : ℕ). x / probability_total) (ap (λ (l : List ℕ). values l j) sums-known ∙ values-row next j _ h)))
 
-        pub row-accepted : RowFitted at (length factors) next quote (values factors) (rowTransition downs next) discounts state-prices
+        pub row-accepted : RowFitted at (length factors) next quote (values factors) (row_transition downs next) discounts state-prices
             (replaced at (at + length factors - at) discounts d')
             (replaced (at + length factors) (at + length factors + next - (at + length factors)) state-prices p') true
         row-accepted =

@@ -7,16 +7,16 @@ mod tables;
 ghost use Rattle.std.specs.Prelude.{◌≡◌, length};
 ghost use Rattle.fitting.specs.inside.Plans.{SpacingKnown};
 ghost use Rattle.fitted_laws.specs.Entry.{
-  fittedNumber,
-  fitMemory,
-  fitDiscounts,
-  fitStatePrices,
-  fitNumber,
-  discountsAfter,
-  statePricesAfter,
-  versionNumber,
-  versionDiscountsAfter,
-  versionStatePricesAfter,
+  fitted_number,
+  fit_memory,
+  fit_discounts,
+  fit_state_prices,
+  fit_number,
+  discounts_after,
+  state_prices_after,
+  version_number,
+  version_discounts_after,
+  version_state_prices_after,
 };
 
 use arithmetic::Answer;
@@ -35,14 +35,14 @@ fn fit_tree(
     state_prices: &mut [u64],
 ) -> u64
     requires { SpacingKnown spaced }
-    ensures number { result ≡ fittedNumber frequency steps reversion spaced.number spaced.value
+    ensures number { result ≡ fitted_number frequency steps reversion spaced.number spaced.value
         rows.now kinds.now figures.now (length discounts.old) (length state_prices.old) }
-    ensures discounted { discounts.new ≡ fitMemory (fittedNumber frequency steps reversion spaced.number spaced.value
+    ensures discounted { discounts.new ≡ fit_memory (fitted_number frequency steps reversion spaced.number spaced.value
         rows.now kinds.now figures.now (length discounts.old) (length state_prices.old))
-        (fitDiscounts frequency steps reversion spaced.value kinds.now figures.now) discounts.old }
-    ensures priced { state_prices.new ≡ fitMemory (fittedNumber frequency steps reversion spaced.number spaced.value
+        (fit_discounts frequency steps reversion spaced.value kinds.now figures.now) discounts.old }
+    ensures priced { state_prices.new ≡ fit_memory (fitted_number frequency steps reversion spaced.number spaced.value
         rows.now kinds.now figures.now (length discounts.old) (length state_prices.old))
-        (fitStatePrices frequency steps reversion spaced.value kinds.now figures.now) state_prices.old }
+        (fit_state_prices frequency steps reversion spaced.value kinds.now figures.now) state_prices.old }
 {
     let mut quotes = [0u64; limits::MOST_STEPS];
     let converted = curve::convert(frequency, steps, rows, kinds, figures, &mut quotes);
@@ -79,11 +79,11 @@ pub fn fit(
     discounts: &mut [u64],
     state_prices: &mut [u64],
 ) -> u64
-    ensures number { result ≡ fitNumber frequency steps reversion volatility rows.now kinds.now figures.now
+    ensures number { result ≡ fit_number frequency steps reversion volatility rows.now kinds.now figures.now
         (length discounts.old) (length state_prices.old) }
-    ensures discounted { discounts.new ≡ discountsAfter frequency steps reversion volatility
+    ensures discounted { discounts.new ≡ discounts_after frequency steps reversion volatility
         rows.now kinds.now figures.now discounts.old state_prices.old }
-    ensures priced { state_prices.new ≡ statePricesAfter frequency steps reversion volatility
+    ensures priced { state_prices.new ≡ state_prices_after frequency steps reversion volatility
         rows.now kinds.now figures.now discounts.old state_prices.old }
 {
     let spaced = spacing::spacing(frequency, volatility);
@@ -114,11 +114,11 @@ pub fn fit_version(
     discounts: &mut [u64],
     state_prices: &mut [u64],
 ) -> u64
-    ensures number { result ≡ versionNumber version frequency steps reversion volatility
+    ensures number { result ≡ version_number version frequency steps reversion volatility
         rows.now kinds.now figures.now (length discounts.old) (length state_prices.old) }
-    ensures discounted { discounts.new ≡ versionDiscountsAfter version frequency steps reversion volatility
+    ensures discounted { discounts.new ≡ version_discounts_after version frequency steps reversion volatility
         rows.now kinds.now figures.now discounts.old state_prices.old }
-    ensures priced { state_prices.new ≡ versionStatePricesAfter version frequency steps reversion volatility
+    ensures priced { state_prices.new ≡ version_state_prices_after version frequency steps reversion volatility
         rows.now kinds.now figures.now discounts.old state_prices.old }
 {
     let working = reversion::working_or_same(version, reversion);

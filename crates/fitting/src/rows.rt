@@ -1,12 +1,12 @@
 // The fit over all rows, in two memories that store their rows one after the other.
 ghost use Rattle.std.specs.Prelude.{◌≡◌, true, suc, length};
 ghost use Rattle.arithmetic.specs.Row.{values};
-ghost use Rattle.row_branches.specs.inside.Transitions.{rowTransition};
-ghost use Rattle.lattice.specs.Shape.{nodeCount, rowStart};
-ghost use Rattle.lattice.specs.RateTree.{rateTree};
-ghost use Rattle.fitting.specs.inside.Rows.{tableFactor, RowFitted};
+ghost use Rattle.row_branches.specs.inside.Transitions.{row_transition};
+ghost use Rattle.lattice.specs.Shape.{node_count, row_start};
+ghost use Rattle.lattice.specs.RateTree.{rate_tree};
+ghost use Rattle.fitting.specs.inside.Rows.{table_factor, RowFitted};
 ghost use Rattle.fitting.specs.inside.Preconditions.{RowReady, TreeRowReady, RowsReady};
-ghost use Rattle.fitting.specs.inside.TableFit.{tableDiscount, tableStatePrice, tableAccepted, TreeFitted, PastKept};
+ghost use Rattle.fitting.specs.inside.TableFit.{table_discount, table_state_price, table_accepted, TreeFitted, PastKept};
 
 use crate::step;
 
@@ -38,7 +38,7 @@ fn fit_row(
 ) -> bool
     requires { RowReady at.start at.next at.quote factors.now downs.now discounts.old state_prices.old sums.old }
     ensures { RowFitted at.start (length factors.now) at.next at.quote
-        (values factors.now) (rowTransition downs.now at.next)
+        (values factors.now) (row_transition downs.now at.next)
         discounts.old state_prices.old discounts.new state_prices.new result }
 {
     let start = at.start;
@@ -70,9 +70,9 @@ fn tree_row(
 ) -> bool
     requires { TreeRowReady at.reversion at.steps at.row at.quote
         factors.now downs.now discounts.old state_prices.old sums.old }
-    ensures { RowFitted (rowStart at.reversion at.row) (nodeCount at.reversion at.row)
-        (nodeCount at.reversion (suc at.row)) at.quote
-        (tableFactor at.reversion at.steps factors.now at.row) ((rateTree at.reversion).step at.row)
+    ensures { RowFitted (row_start at.reversion at.row) (node_count at.reversion at.row)
+        (node_count at.reversion (suc at.row)) at.quote
+        (table_factor at.reversion at.steps factors.now at.row) ((rate_tree at.reversion).step at.row)
         discounts.old state_prices.old discounts.new state_prices.new result }
 {
     let shape = lattice::row_shape(at.reversion, at.steps - 1, at.row);
@@ -103,9 +103,9 @@ pub(crate) fn fit_rows(
     sums: &mut [u64],
 ) -> bool
     requires { RowsReady reversion quotes.now factors.now downs.now discounts.old state_prices.old sums.old }
-    ensures tested { result ≡ tableAccepted reversion quotes.now factors.now }
+    ensures tested { result ≡ table_accepted reversion quotes.now factors.now }
     ensures fitted { result ≡ true → TreeFitted reversion (length quotes.now) true
-        (tableDiscount reversion quotes.now factors.now) (tableStatePrice reversion quotes.now factors.now)
+        (table_discount reversion quotes.now factors.now) (table_state_price reversion quotes.now factors.now)
         discounts.old state_prices.old discounts.new state_prices.new }
     ensures kept { PastKept reversion (length quotes.now)
         discounts.old state_prices.old discounts.new state_prices.new }

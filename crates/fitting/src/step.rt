@@ -2,12 +2,12 @@
 ghost use Rattle.std.specs.Prelude.{◌≡◌, true, ◌+◌, ◌*◌, ◌/◌, ◌≤◌, ◌<◌, length};
 ghost use Rattle.arithmetic.specs.Sum.{sum, only};
 ghost use Rattle.arithmetic.specs.Row.{row, values, each};
-ghost use Rattle.tree.specs.Tree.{chance, incoming, probabilityTotal};
-ghost use Rattle.row_branches.specs.RowBranches.{rowBranch};
-ghost use Rattle.row_branches.specs.inside.Transitions.{branchUp, branchMiddle, branchDown, rowTransition};
-ghost use Rattle.limits.specs.Limits.{isDiscount};
+ghost use Rattle.tree.specs.Tree.{chance, incoming, probability_total};
+ghost use Rattle.row_branches.specs.RowBranches.{row_branch};
+ghost use Rattle.row_branches.specs.inside.Transitions.{branch_up, branch_middle, branch_down, row_transition};
+ghost use Rattle.limits.specs.Limits.{is_discount};
 ghost use Rattle.fit_laws.specs.Step.{normaliser, carried};
-ghost use Rattle.fit_laws.specs.inside.Bounds.{mostRowSum};
+ghost use Rattle.fit_laws.specs.inside.Bounds.{most_row_sum};
 ghost use Rattle.fitting.specs.inside.Rows.{RowStepped};
 ghost use Rattle.fitting.specs.inside.Preconditions.{Factors, StepReady, SpreadReady};
 
@@ -17,7 +17,7 @@ use tree::PROBABILITY_TOTAL;
 
 // Z of a row.
 pub(crate) fn normaliser_of(state_prices: &[u64], factors: &[u64]) -> u64
-    requires { Factors factors.now (length state_prices.now) × (sum (length state_prices.now) (values state_prices.now) ≤ mostRowSum) }
+    requires { Factors factors.now (length state_prices.now) × (sum (length state_prices.now) (values state_prices.now) ≤ most_row_sum) }
     ensures { result ≡ normaliser (length state_prices.now) (values state_prices.now) (values factors.now) }
 {
     let mut total: u64 = 0;
@@ -50,8 +50,8 @@ fn add_at(next: &mut [u64], at: usize, amount: u64)
 fn scatter(next: &mut [u64], branch: RowBranch, amount: u64)
     requires { SpreadReady branch amount next.old }
     ensures { next.new ≡ row (length next.old) (λ j. values next.old j
-        + (only (branch.low + 2) j (branchUp branch * amount) + only (branch.low + 1) j (branchMiddle branch * amount)
-        + only branch.low j (branchDown branch * amount))) }
+        + (only (branch.low + 2) j (branch_up branch * amount) + only (branch.low + 1) j (branch_middle branch * amount)
+        + only branch.low j (branch_down branch * amount))) }
 {
     let low = branch.low;
     let probabilities = branch.probabilities;
@@ -62,9 +62,9 @@ fn scatter(next: &mut [u64], branch: RowBranch, amount: u64)
 
 // Adds what a node hands on to the sums of the next row.
 fn spread_node(downs: &[u64], index: usize, amount: u64, sums: &mut [u64])
-    requires { SpreadReady (rowBranch downs.now (length sums.old) index) amount sums.old }
+    requires { SpreadReady (row_branch downs.now (length sums.old) index) amount sums.old }
     ensures { sums.new ≡ row (length sums.old)
-        (λ j. values sums.old j + chance (rowTransition downs.now (length sums.old)) index j * amount) }
+        (λ j. values sums.old j + chance (row_transition downs.now (length sums.old)) index j * amount) }
 {
     let branch = row_branches::row_branch(downs, sums.len(), index);
     scatter(sums, branch, amount);
@@ -83,11 +83,11 @@ fn fill_row(
 ) -> bool
     requires { StepReady quote state_prices.now factors.now downs.now (length discounts.old) (length sums.old)
         × (0 < z) × (sums.old ≡ row (length sums.old) (λ j. 0)) }
-    ensures tested { result ≡ each (length state_prices.now) (λ k. isDiscount (quote * values factors.now k / z)) }
+    ensures tested { result ≡ each (length state_prices.now) (λ k. is_discount (quote * values factors.now k / z)) }
     ensures filled { result ≡ true → discounts.new ≡ row (length state_prices.now)
         (λ k. quote * values factors.now k / z) }
     ensures spreads { result ≡ true → sums.new ≡ row (length sums.old)
-        (incoming (rowTransition downs.now (length sums.old)) (length state_prices.now)
+        (incoming (row_transition downs.now (length sums.old)) (length state_prices.now)
         (carried (values state_prices.now) (λ k. quote * values factors.now k / z))) }
 {
     let mut k: usize = 0;
@@ -106,7 +106,7 @@ fn fill_row(
 // The state prices: each sum over the denominator of the probabilities.
 pub(crate) fn divide(sums: &[u64], next: &mut [u64])
     requires { length sums.now ≡ length next.old }
-    ensures { next.new ≡ row (length next.old) (λ j. values sums.now j / probabilityTotal) }
+    ensures { next.new ≡ row (length next.old) (λ j. values sums.now j / probability_total) }
 {
     let mut k: usize = 0;
     while k < next.len() {

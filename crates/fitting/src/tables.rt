@@ -2,12 +2,12 @@
 ghost use Rattle.std.specs.Prelude.{◌≡◌, cond, ◌++◌, ◌+◌, ◌*◌, ◌≤◌, length, drop};
 ghost use Rattle.arithmetic.specs.Rounding.{one};
 ghost use Rattle.arithmetic.specs.Row.{row};
-ghost use Rattle.limits.specs.Limits.{mostSteps, mostNodes};
-ghost use Rattle.lattice.specs.RateTree.{nodeOfIndex};
+ghost use Rattle.limits.specs.Limits.{most_steps, most_nodes};
+ghost use Rattle.lattice.specs.RateTree.{node_of_index};
 ghost use Rattle.factor.specs.Factor.{factor};
 ghost use Rattle.fitting.specs.inside.Preconditions.{RowsReady, QuotesReady};
-ghost use Rattle.fitted_laws.specs.Fit.{curveAccepted, curveDiscount, curveStatePrice};
-ghost use Rattle.fitting.specs.inside.TableFit.{tableDiscount, tableStatePrice, tableAccepted, TreeFitted, FitTried};
+ghost use Rattle.fitted_laws.specs.Fit.{curve_accepted, curve_discount, curve_state_price};
+ghost use Rattle.fitting.specs.inside.TableFit.{table_discount, table_state_price, table_accepted, TreeFitted, FitTried};
 
 use crate::{rows, step};
 
@@ -21,8 +21,8 @@ pub(crate) struct Grid {
 
 // The factors of a row, from the middle node outwards: one series gives those of both sides.
 fn fill_factors(widest: usize, spacing: u64, factors: &mut [u64])
-    requires { (widest ≤ mostSteps) × (widest * spacing ≤ one) × (length factors.old ≡ 2 * widest + 1) }
-    ensures { factors.new ≡ row (length factors.old) (λ k. factor (nodeOfIndex widest k) spacing) }
+    requires { (widest ≤ most_steps) × (widest * spacing ≤ one) × (length factors.old ≡ 2 * widest + 1) }
+    ensures { factors.new ≡ row (length factors.old) (λ k. factor (node_of_index widest k) spacing) }
 {
     let mut distance: usize = 0;
     while distance <= widest {
@@ -51,8 +51,8 @@ fn fit_or_clear(
     sums: &mut [u64],
 ) -> bool
     requires { RowsReady reversion quotes.now factors.now downs.now discounts.old state_prices.old sums.old }
-    ensures { FitTried reversion (length quotes.now) (tableAccepted reversion quotes.now factors.now)
-        (tableDiscount reversion quotes.now factors.now) (tableStatePrice reversion quotes.now factors.now)
+    ensures { FitTried reversion (length quotes.now) (table_accepted reversion quotes.now factors.now)
+        (table_discount reversion quotes.now factors.now) (table_state_price reversion quotes.now factors.now)
         discounts.old state_prices.old discounts.new state_prices.new result }
 {
     let steps = quotes.len();
@@ -85,10 +85,10 @@ fn fit_tables(
     sums: &mut [u64],
 ) -> bool
     requires { QuotesReady grid.reversion grid.spacing grid.widest quotes.now (length discounts.old) (length state_prices.old)
-        × (length factors.old ≡ 2 * grid.widest + 1) × (length downs.old ≡ 2 * grid.widest + 1) × (mostNodes ≤ length sums.old) }
+        × (length factors.old ≡ 2 * grid.widest + 1) × (length downs.old ≡ 2 * grid.widest + 1) × (most_nodes ≤ length sums.old) }
     ensures { FitTried grid.reversion (length quotes.now)
-        (curveAccepted grid.reversion grid.spacing quotes.now)
-        (curveDiscount grid.reversion grid.spacing quotes.now) (curveStatePrice grid.reversion grid.spacing quotes.now)
+        (curve_accepted grid.reversion grid.spacing quotes.now)
+        (curve_discount grid.reversion grid.spacing quotes.now) (curve_state_price grid.reversion grid.spacing quotes.now)
         discounts.old state_prices.old discounts.new state_prices.new result }
 {
     fill_factors(grid.widest, grid.spacing, factors);
@@ -112,10 +112,10 @@ pub(crate) fn fit_quotes(
     state_prices: &mut [u64],
 ) -> u64
     requires { QuotesReady grid.reversion grid.spacing grid.widest quotes.now (length discounts.old) (length state_prices.old) }
-    ensures number { result ≡ cond (curveAccepted grid.reversion grid.spacing quotes.now) 0 9 }
+    ensures number { result ≡ cond (curve_accepted grid.reversion grid.spacing quotes.now) 0 9 }
     ensures fitted { TreeFitted grid.reversion (length quotes.now)
-        (curveAccepted grid.reversion grid.spacing quotes.now)
-        (curveDiscount grid.reversion grid.spacing quotes.now) (curveStatePrice grid.reversion grid.spacing quotes.now)
+        (curve_accepted grid.reversion grid.spacing quotes.now)
+        (curve_discount grid.reversion grid.spacing quotes.now) (curve_state_price grid.reversion grid.spacing quotes.now)
         discounts.old state_prices.old discounts.new state_prices.new }
 {
     let count = 2 * grid.widest + 1;

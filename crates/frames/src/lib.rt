@@ -1,6 +1,6 @@
 // Framed input: each frame stands after its length in two bytes, high byte first.
 ghost use Rattle.std.specs.Prelude.{◌≡◌, ◌+◌, ◌*◌, ◌≤◌, length, replicate};
-ghost use Rattle.frames.specs.Frames.{inputRoom, noFrame, frame_at};
+ghost use Rattle.frames.specs.Frames.{input_room, no_frame, frame_at};
 
 // Whether there is a frame, where its bytes start, and how many they are.
 #[derive(Drop)]
@@ -12,8 +12,8 @@ pub struct Frame {
 
 // Room for the whole input of a program: what is read is outside every contract, what is done with it is not.
 pub fn input_room() -> [u8; 262144]
-    ensures zeros { result ≡ replicate inputRoom 0 }
-    ensures size { length result ≡ inputRoom }
+    ensures zeros { result ≡ replicate input_room 0 }
+    ensures size { length result ≡ input_room }
 {
     [0; 262144]
 }
@@ -25,7 +25,7 @@ fn size_of(high: u8, low: u8) -> usize
 }
 
 fn no_frame() -> Frame
-    ensures { result ≡ noFrame }
+    ensures { result ≡ no_frame }
 {
     Frame {
         found: false,

@@ -10,7 +10,7 @@ use lib.ListN.{length, get_or, take, set, length-take, length-set, length-map}
 use lib.Seq.{get_or-take}
 use Rattle.arithmetic.specs.Row.{row}
 use Rattle.arithmetic.proofs.RowLaws.{Filled, row_of}
-use Rattle.figure.specs.Figure.{patternFloat}
+use Rattle.figure.specs.Figure.{pattern_float}
 
 -- ---- rows 1 to n
 
@@ -24,7 +24,7 @@ rows-filled l₀ l count i f p e h =
 -- the first i floats are those of the patterns, and as many are left as there were
 pub record Figured (patterns : List ℕ) (l₀ l : List Float) (i : ℕ) : Type 0 where
   pub same : length l ≡ length l₀
-  pub done : take i l ≡ map patternFloat (take i patterns)
+  pub done : take i l ≡ map pattern_float (take i patterns)
 
 pub figured-start : (patterns : List ℕ) (l : List Float) → Figured patterns l l 0
 figured-start patterns l = record { same = refl; done = refl }
@@ -34,21 +34,21 @@ take-set [] i x h = let none : ⊥ = omega arith in absurd none
 take-set (y ∷ l) zero x h = refl
 take-set (y ∷ l) (suc i) x h = ap (λ t. y ∷ t) (take-set l i x (omega arith))
 
-take-map : (l : List ℕ) (i : ℕ) → i < length l → map patternFloat (take (suc i) l) ≡ map patternFloat (take i l) ++ (patternFloat (get_or l i 0) ∷ [])
+take-map : (l : List ℕ) (i : ℕ) → i < length l → map pattern_float (take (suc i) l) ≡ map pattern_float (take i l) ++ (pattern_float (get_or l i 0) ∷ [])
 take-map [] i h = let none : ⊥ = omega arith in absurd none
 take-map (y ∷ l) zero h = refl
-take-map (y ∷ l) (suc i) h = ap (λ t. patternFloat y ∷ t) (take-map l i (omega arith))
+take-map (y ∷ l) (suc i) h = ap (λ t. pattern_float y ∷ t) (take-map l i (omega arith))
 
 pub figured-next : (patterns : List ℕ) (l₀ l : List Float) (i : ℕ) (x : Float) →
-    Figured patterns l₀ l i → i < length patterns → i < length l₀ → x ≡ patternFloat (get_or patterns i 0) → Figured patterns l₀ (set l i x) (i + 1)
+    Figured patterns l₀ l i → i < length patterns → i < length l₀ → x ≡ pattern_float (get_or patterns i 0) → Figured patterns l₀ (set l i x) (i + 1)
 figured-next patterns l₀ l i x p h g e =
     record {
       same = length-set l i x ∙ p.same;
       done =
           rw (add-one i)
           (take-set l i x (omega (arith, p.same)) ∙ ap (λ (t : List Float). t ++ (x ∷ [])) p.done
-          ∙ ap (λ (y : Float). map patternFloat (take i patterns) ++ (y ∷ [])) e ∙ sym (take-map patterns i h));
+          ∙ ap (λ (y : Float). map pattern_float (take i patterns) ++ (y ∷ [])) e ∙ sym (take-map patterns i h));
     }
 
-pub floats-length : (l : List ℕ) → length (map patternFloat l) ≡ length l
-floats-length l = length-map l patternFloat
+pub floats-length : (l : List ℕ) → length (map pattern_float l) ≡ length l
+floats-length l = length-map l pattern_float

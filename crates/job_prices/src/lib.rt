@@ -3,9 +3,9 @@ mod memories;
 mod priced;
 
 ghost use Rattle.std.specs.Prelude.{◌≡◌, length};
-ghost use Rattle.job_laws.specs.RecordFit.{jobDiscounts, jobStatePrices, memoryAfter};
+ghost use Rattle.job_laws.specs.RecordFit.{job_discounts, job_state_prices, memory_after};
 ghost use Rattle.job_record.specs.Reader.{reading_of};
-ghost use Rattle.job_laws.specs.JobPrices.{recordNumber, recordPrices, fittedMemory, bytesNumber, bytesPrices, bytesMemory};
+ghost use Rattle.job_laws.specs.JobPrices.{record_number, record_prices, fitted_memory, bytes_number, bytes_prices, bytes_memory};
 
 use job_laws::JobPrices;
 use job_record::Job;
@@ -14,11 +14,11 @@ use job_record::Job;
 // option's form; then the lowest of the causes of its fit and of 6 for a memory that is too short; then the option's number where there is an option,
 // else the bond's. The memories are as the fit leaves them, also where a price is refused.
 pub fn prices_in_place(job: Job, discounts: &mut [u64], state_prices: &mut [u64]) -> JobPrices
-    ensures answer { result ≡ recordPrices job (length discounts.old) (length state_prices.old) }
-    ensures discounted { discounts.new ≡ fittedMemory job
-        (length discounts.old) (length state_prices.old) (jobDiscounts job) discounts.old }
-    ensures priced { state_prices.new ≡ fittedMemory job
-        (length discounts.old) (length state_prices.old) (jobStatePrices job) state_prices.old }
+    ensures answer { result ≡ record_prices job (length discounts.old) (length state_prices.old) }
+    ensures discounted { discounts.new ≡ fitted_memory job
+        (length discounts.old) (length state_prices.old) (job_discounts job) discounts.old }
+    ensures priced { state_prices.new ≡ fitted_memory job
+        (length discounts.old) (length state_prices.old) (job_state_prices job) state_prices.old }
 {
     let option = job.option;
     let form = priced::option_form(option.tag, option.count);
@@ -45,11 +45,11 @@ pub fn prices_in_place(job: Job, discounts: &mut [u64], state_prices: &mut [u64]
 // The prices of a record, its tree at the start of both lent memories. Numbers as above; any refusal leaves both memories as they were, so that the
 // tree is fitted and priced apart where they are long enough. Where one is too short, the fit refuses before it writes.
 pub fn prices_of_record(job: Job, discounts: &mut [u64], state_prices: &mut [u64]) -> JobPrices
-    ensures answer { result ≡ recordPrices job (length discounts.old) (length state_prices.old) }
-    ensures discounted { discounts.new ≡ memoryAfter
-        (recordNumber job (length discounts.old) (length state_prices.old)) (jobDiscounts job) discounts.old }
-    ensures priced { state_prices.new ≡ memoryAfter
-        (recordNumber job (length discounts.old) (length state_prices.old)) (jobStatePrices job) state_prices.old }
+    ensures answer { result ≡ record_prices job (length discounts.old) (length state_prices.old) }
+    ensures discounted { discounts.new ≡ memory_after
+        (record_number job (length discounts.old) (length state_prices.old)) (job_discounts job) discounts.old }
+    ensures priced { state_prices.new ≡ memory_after
+        (record_number job (length discounts.old) (length state_prices.old)) (job_state_prices job) state_prices.old }
 {
     let steps = job.steps;
     let working = job_fit::meant_reversion(job.version, job.reversion);
@@ -75,13 +75,13 @@ pub fn prices_of_record(job: Job, discounts: &mut [u64], state_prices: &mut [u64
 
 // The prices of a job's bytes: 1 where they are no job's, then as for its record.
 pub fn prices_of_job(job: &[u8], discounts: &mut [u64], state_prices: &mut [u64]) -> JobPrices
-    ensures answer { result ≡ bytesPrices job.now (length discounts.old) (length state_prices.old) }
-    ensures discounted { discounts.new ≡ memoryAfter
-        (bytesNumber job.now (length discounts.old) (length state_prices.old))
-        (jobDiscounts (reading_of job.now).job) discounts.old }
-    ensures priced { state_prices.new ≡ memoryAfter
-        (bytesNumber job.now (length discounts.old) (length state_prices.old))
-        (jobStatePrices (reading_of job.now).job) state_prices.old }
+    ensures answer { result ≡ bytes_prices job.now (length discounts.old) (length state_prices.old) }
+    ensures discounted { discounts.new ≡ memory_after
+        (bytes_number job.now (length discounts.old) (length state_prices.old))
+        (job_discounts (reading_of job.now).job) discounts.old }
+    ensures priced { state_prices.new ≡ memory_after
+        (bytes_number job.now (length discounts.old) (length state_prices.old))
+        (job_state_prices (reading_of job.now).job) state_prices.old }
 {
     let reading = job_reader::read(job);
     if reading.number != 0 {
@@ -92,11 +92,11 @@ pub fn prices_of_job(job: &[u8], discounts: &mut [u64], state_prices: &mut [u64]
 
 // The same in the lent memories themselves, which are as they were where the bytes are no job's, and as the fit of its record leaves them otherwise.
 pub fn job_in_place(job: &[u8], discounts: &mut [u64], state_prices: &mut [u64]) -> JobPrices
-    ensures answer { result ≡ bytesPrices job.now (length discounts.old) (length state_prices.old) }
-    ensures discounted { discounts.new ≡ bytesMemory job.now
-        (length discounts.old) (length state_prices.old) jobDiscounts discounts.old }
-    ensures priced { state_prices.new ≡ bytesMemory job.now
-        (length discounts.old) (length state_prices.old) jobStatePrices state_prices.old }
+    ensures answer { result ≡ bytes_prices job.now (length discounts.old) (length state_prices.old) }
+    ensures discounted { discounts.new ≡ bytes_memory job.now
+        (length discounts.old) (length state_prices.old) job_discounts discounts.old }
+    ensures priced { state_prices.new ≡ bytes_memory job.now
+        (length discounts.old) (length state_prices.old) job_state_prices state_prices.old }
 {
     let read = job_reader::read(job);
     if read.number != 0 {

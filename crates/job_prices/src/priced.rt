@@ -1,9 +1,9 @@
 // The prices of a tree whose discounts are lent.
 ghost use Rattle.std.specs.Prelude.{◌≡◌, ◌≤◌};
-ghost use Rattle.job_record.specs.Form.{mostDates};
-ghost use Rattle.price_laws.specs.Prices.{bondPrice};
-ghost use Rattle.job_laws.specs.JobPrices.{refusedPrices, pricesOf, optionForm, taggedOption};
-ghost use Rattle.job_laws.specs.inside.TreePrices.{treePrices};
+ghost use Rattle.job_record.specs.Form.{most_dates};
+ghost use Rattle.price_laws.specs.Prices.{bond_price};
+ghost use Rattle.job_laws.specs.JobPrices.{refused_prices, prices_of, option_form, tagged_option};
+ghost use Rattle.job_laws.specs.inside.TreePrices.{tree_prices};
 
 use job_laws::JobPrices;
 use job_record::OptionRecord;
@@ -20,7 +20,7 @@ fn no_price() -> Price
 }
 
 pub(crate) fn refused(number: u64) -> JobPrices
-    ensures { result ≡ refusedPrices number }
+    ensures { result ≡ refused_prices number }
 {
     JobPrices {
         number,
@@ -31,7 +31,7 @@ pub(crate) fn refused(number: u64) -> JobPrices
 }
 
 fn prices_of(number: u64, bond: Price, has_option: bool, option: Price) -> JobPrices
-    ensures { result ≡ pricesOf number bond has_option option }
+    ensures { result ≡ prices_of number bond has_option option }
 {
     if number != 0 {
         return refused(number);
@@ -46,7 +46,7 @@ fn prices_of(number: u64, bond: Price, has_option: bool, option: Price) -> JobPr
 
 // The cause about the form of a record's option: 1 for a tag or a number of dates that no job's bytes give.
 pub(crate) fn option_form(tag: u64, count: usize) -> u64
-    ensures { result ≡ optionForm tag count }
+    ensures { result ≡ option_form tag count }
 {
     if job_record::MOST_DATES < count {
         return 1;
@@ -71,9 +71,9 @@ fn both_of(
     flows: &[u64],
     option: OptionRecord,
 ) -> BondAndOption
-    requires { option.count ≤ mostDates }
-    ensures bond { result.bond ≡ bondPrice steps reversion discounts.now flows.now }
-    ensures option { result.option ≡ taggedOption steps reversion discounts.now flows.now option }
+    requires { option.count ≤ most_dates }
+    ensures bond { result.bond ≡ bond_price steps reversion discounts.now flows.now }
+    ensures option { result.option ≡ tagged_option steps reversion discounts.now flows.now option }
 {
     let kind = option.kind;
     let strike = option.strike;
@@ -102,8 +102,8 @@ pub(crate) fn tree_prices(
     flows: &[u64],
     option: OptionRecord,
 ) -> JobPrices
-    requires { option.count ≤ mostDates }
-    ensures { result ≡ treePrices steps reversion discounts.now flows.now option }
+    requires { option.count ≤ most_dates }
+    ensures { result ≡ tree_prices steps reversion discounts.now flows.now option }
 {
     if option.tag == 0 {
         let bond = pricing::bond_price(steps, reversion, discounts, flows);

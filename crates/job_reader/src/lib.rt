@@ -2,32 +2,32 @@
 ghost use Rattle.std.specs.Prelude.{◌≡◌, true, ◌+◌, ◌*◌, ◌^◌, ◌≤◌, ◌<◌, length, replicate};
 ghost use Rattle.arithmetic.specs.Row.{padded};
 ghost use Rattle.job_record.specs.Bytes.{number_at};
-ghost use Rattle.job_record.specs.inside.Widths.{mostWidth, farthest};
+ghost use Rattle.job_record.specs.inside.Widths.{most_width, farthest};
 ghost use Rattle.job_record.specs.Form.{
-  mostBytes,
-  mostJobSteps,
-  mostDates,
-  afterField,
-  afterFields,
+  most_bytes,
+  most_job_steps,
+  most_dates,
+  after_field,
+  after_fields,
   rest_at,
-  isKind,
-  hasTag,
-  versionAt,
-  hasVersion,
-  quotesAt,
-  optionWidth,
-  datesAt,
-  datesLeft,
-  fieldAt,
-  fieldsFrom,
-  headFormed,
-  kindFormed,
-  listFormed,
-  restFormed,
-  bodyFormed,
-  wellFormed,
+  is_kind,
+  has_tag,
+  version_at,
+  has_version,
+  quotes_at,
+  option_width,
+  dates_at,
+  dates_left,
+  field_at,
+  fields_from,
+  head_formed,
+  kind_formed,
+  list_formed,
+  rest_formed,
+  body_formed,
+  well_formed,
 };
-ghost use Rattle.job_record.specs.Reader.{tag_of, data_of, dateOf, noOption, kindOptionAt, listOptionAt, optionAt, versionOf, job_of, noJob, reading_of};
+ghost use Rattle.job_record.specs.Reader.{tag_of, data_of, date_of, no_option, kind_option_at, list_option_at, option_at, version_of, job_of, no_job, reading_of};
 ghost use Rattle.job_record.specs.Grammar.{ReadsAs};
 
 use job_record::{Job, OptionRecord, Reading, Tags};
@@ -66,7 +66,7 @@ fn wide(x: u8) -> u64
 
 // The number in `width` bytes from a place on, high byte first.
 fn number(bytes: &[u8], at: usize, width: usize) -> u64
-    requires { (width ≤ mostWidth) × (at + width ≤ length bytes.now) }
+    requires { (width ≤ most_width) × (at + width ≤ length bytes.now) }
     ensures { (result ≡ number_at bytes.now at width) × (result < 256 ^ width) }
 {
     let mut value: u64 = 0;
@@ -80,15 +80,15 @@ fn number(bytes: &[u8], at: usize, width: usize) -> u64
 
 // The place after `count` fields of one width that stand from a place on.
 fn after_fields(from: usize, width: usize, count: usize) -> usize
-    requires { (from ≤ mostBytes) × (width ≤ mostWidth) × (count ≤ mostJobSteps) }
-    ensures { (result ≡ afterFields from width count) × (result ≤ farthest) }
+    requires { (from ≤ most_bytes) × (width ≤ most_width) × (count ≤ most_job_steps) }
+    ensures { (result ≡ after_fields from width count) × (result ≤ farthest) }
 {
     from + (width + FIELD_HEAD) * count
 }
 
 // Whether a tag is a kind of quote.
 pub fn is_kind(tag: u8) -> bool
-    ensures { result ≡ isKind tag }
+    ensures { result ≡ is_kind tag }
 {
     if tag == 5 {
         return true;
@@ -101,7 +101,7 @@ pub fn is_kind(tag: u8) -> bool
 
 // Whether a tag is among those asked for.
 fn has_tag(tags: Tags, tag: u8) -> bool
-    ensures { result ≡ hasTag tags tag }
+    ensures { result ≡ has_tag tags tag }
 {
     match tags {
         Tags::AnyKind => is_kind(tag),
@@ -111,8 +111,8 @@ fn has_tag(tags: Tags, tag: u8) -> bool
 
 // Whether a whole field stands at a place: its tag, its length and as many bytes of data.
 fn field_at(bytes: &[u8], at: usize, tags: Tags, width: usize) -> bool
-    requires { (at ≤ farthest) × (width ≤ mostBytes) }
-    ensures { result ≡ fieldAt bytes.now at tags width }
+    requires { (at ≤ farthest) × (width ≤ most_bytes) }
+    ensures { result ≡ field_at bytes.now at tags width }
 {
     if bytes.len() < at + FIELD_HEAD + width {
         return false;
@@ -125,8 +125,8 @@ fn field_at(bytes: &[u8], at: usize, tags: Tags, width: usize) -> bool
 
 // Whether `count` such fields stand one after the other from a place on.
 fn fields_from(bytes: &[u8], from: usize, tags: Tags, width: usize, count: usize) -> bool
-    requires { (from ≤ mostBytes) × (width ≤ mostWidth) × (count ≤ mostJobSteps) }
-    ensures { result ≡ fieldsFrom bytes.now from tags width count }
+    requires { (from ≤ most_bytes) × (width ≤ most_width) × (count ≤ most_job_steps) }
+    ensures { result ≡ fields_from bytes.now from tags width count }
 {
     let mut i: usize = 0;
     while i < count {
@@ -139,7 +139,7 @@ fn fields_from(bytes: &[u8], from: usize, tags: Tags, width: usize, count: usize
 }
 
 fn head_formed(bytes: &[u8]) -> bool
-    ensures { result ≡ headFormed bytes.now }
+    ensures { result ≡ head_formed bytes.now }
 {
     if !field_at(bytes, FREQUENCY_AT, Tags::Only(1), 1) {
         return false;
@@ -155,7 +155,7 @@ fn head_formed(bytes: &[u8]) -> bool
 
 // Whether a version, 1 or 2, stands after the head.
 fn has_version(bytes: &[u8]) -> bool
-    ensures { result ≡ hasVersion bytes.now }
+    ensures { result ≡ has_version bytes.now }
 {
     if !field_at(bytes, VERSION_AT, Tags::Only(11), 1) {
         return false;
@@ -165,7 +165,7 @@ fn has_version(bytes: &[u8]) -> bool
 
 // Where the quotes start.
 fn quotes_at(bytes: &[u8]) -> usize
-    ensures { (result ≡ quotesAt bytes.now) × (result ≤ afterField versionAt 1) }
+    ensures { (result ≡ quotes_at bytes.now) × (result ≤ after_field version_at 1) }
 {
     if has_version(bytes) {
         return QUOTES_AT;
@@ -176,7 +176,7 @@ fn quotes_at(bytes: &[u8]) -> usize
 // Whether one option of a kind, and nothing after it, stands from a place on.
 fn kind_formed(bytes: &[u8], at: usize) -> bool
     requires { at ≤ farthest }
-    ensures { result ≡ kindFormed bytes.now at }
+    ensures { result ≡ kind_formed bytes.now at }
 {
     if !field_at(bytes, at, Tags::Only(8), OPTION_WIDTH) {
         return false;
@@ -186,8 +186,8 @@ fn kind_formed(bytes: &[u8], at: usize) -> bool
 
 // Whether one list of dates stands from a place on: all the bytes that are left are its data.
 fn list_formed(bytes: &[u8], at: usize) -> bool
-    requires { (at ≤ farthest) × (length bytes.now ≤ mostBytes) }
-    ensures { result ≡ listFormed bytes.now at }
+    requires { (at ≤ farthest) × (length bytes.now ≤ most_bytes) }
+    ensures { result ≡ list_formed bytes.now at }
 {
     let data_at = at + FIELD_HEAD;
     if bytes.len() < data_at + LIST_HEAD {
@@ -198,8 +198,8 @@ fn list_formed(bytes: &[u8], at: usize) -> bool
 
 // Whether nothing, or one option and nothing after it, stands from a place on.
 fn rest_formed(bytes: &[u8], at: usize) -> bool
-    requires { (at ≤ farthest) × (length bytes.now ≤ mostBytes) }
-    ensures { result ≡ restFormed bytes.now at }
+    requires { (at ≤ farthest) × (length bytes.now ≤ most_bytes) }
+    ensures { result ≡ rest_formed bytes.now at }
 {
     if bytes.len() == at {
         return true;
@@ -212,8 +212,8 @@ fn rest_formed(bytes: &[u8], at: usize) -> bool
 
 // Whether as many quotes and flows as there are steps, and at most one option, stand from a place on.
 fn body_formed(bytes: &[u8], quotes: usize, steps: usize) -> bool
-    requires { (steps ≤ mostJobSteps) × (rest_at quotes steps ≤ mostBytes) × (length bytes.now ≤ mostBytes) }
-    ensures { result ≡ bodyFormed bytes.now quotes steps }
+    requires { (steps ≤ most_job_steps) × (rest_at quotes steps ≤ most_bytes) × (length bytes.now ≤ most_bytes) }
+    ensures { result ≡ body_formed bytes.now quotes steps }
 {
     if !fields_from(bytes, quotes, Tags::AnyKind, 8, steps) {
         return false;
@@ -226,7 +226,7 @@ fn body_formed(bytes: &[u8], quotes: usize, steps: usize) -> bool
 }
 
 fn well_formed(bytes: &[u8]) -> bool
-    ensures { result ≡ wellFormed bytes.now }
+    ensures { result ≡ well_formed bytes.now }
 {
     if MOST_BYTES < bytes.len() {
         return false;
@@ -240,8 +240,8 @@ fn well_formed(bytes: &[u8]) -> bool
 
 // The tags of `count` fields of one width from a place on.
 fn tags_from(bytes: &[u8], from: usize, width: usize, count: usize) -> [u8; job_record::MOST_STEPS]
-    requires { (from ≤ mostBytes) × (width ≤ mostWidth) × (count ≤ mostJobSteps) × (afterFields from width count ≤ length bytes.now) }
-    ensures { result ≡ padded mostJobSteps count (tag_of bytes.now from width) }
+    requires { (from ≤ most_bytes) × (width ≤ most_width) × (count ≤ most_job_steps) × (after_fields from width count ≤ length bytes.now) }
+    ensures { result ≡ padded most_job_steps count (tag_of bytes.now from width) }
 {
     let mut tags = [0u8; job_record::MOST_STEPS];
     let mut i: usize = 0;
@@ -254,8 +254,8 @@ fn tags_from(bytes: &[u8], from: usize, width: usize, count: usize) -> [u8; job_
 
 // The data of `count` fields of one width from a place on.
 fn data_from(bytes: &[u8], from: usize, width: usize, count: usize) -> [u64; job_record::MOST_STEPS]
-    requires { (from ≤ mostBytes) × (width ≤ mostWidth) × (count ≤ mostJobSteps) × (afterFields from width count ≤ length bytes.now) }
-    ensures { result ≡ padded mostJobSteps count (data_of bytes.now from width) }
+    requires { (from ≤ most_bytes) × (width ≤ most_width) × (count ≤ most_job_steps) × (after_fields from width count ≤ length bytes.now) }
+    ensures { result ≡ padded most_job_steps count (data_of bytes.now from width) }
 {
     let mut numbers = [0u64; job_record::MOST_STEPS];
     let mut i: usize = 0;
@@ -268,13 +268,13 @@ fn data_from(bytes: &[u8], from: usize, width: usize, count: usize) -> [u64; job
 
 // Zeros, made apart so that no proof above sees them one by one.
 fn no_dates() -> [u8; job_record::MOST_DATES]
-    ensures { result ≡ replicate mostDates 0 }
+    ensures { result ≡ replicate most_dates 0 }
 {
     [0u8; job_record::MOST_DATES]
 }
 
 fn no_option() -> OptionRecord
-    ensures { result ≡ noOption }
+    ensures { result ≡ no_option }
 {
     let dates = no_dates();
     OptionRecord {
@@ -289,8 +289,8 @@ fn no_option() -> OptionRecord
 
 // The option of a kind whose field stands at a place.
 fn kind_option_at(bytes: &[u8], at: usize) -> OptionRecord
-    requires { (at ≤ farthest) × (afterField at optionWidth ≤ length bytes.now) }
-    ensures { result ≡ kindOptionAt bytes.now at }
+    requires { (at ≤ farthest) × (after_field at option_width ≤ length bytes.now) }
+    ensures { result ≡ kind_option_at bytes.now at }
 {
     let kind_at = at + FIELD_HEAD;
     let expiry_at = kind_at + 1;
@@ -307,8 +307,8 @@ fn kind_option_at(bytes: &[u8], at: usize) -> OptionRecord
 
 // The `count` dates from a place on.
 fn dates_from(bytes: &[u8], from: usize, count: usize) -> [u8; job_record::MOST_DATES]
-    requires { (count ≤ mostDates) × (from + count ≤ length bytes.now) }
-    ensures { result ≡ padded mostDates count (dateOf bytes.now from) }
+    requires { (count ≤ most_dates) × (from + count ≤ length bytes.now) }
+    ensures { result ≡ padded most_dates count (date_of bytes.now from) }
 {
     let mut dates = no_dates();
     let mut i: usize = 0;
@@ -321,8 +321,8 @@ fn dates_from(bytes: &[u8], from: usize, count: usize) -> [u8; job_record::MOST_
 
 // The option with a list of dates whose field stands at a place, and ends the bytes.
 fn list_option_at(bytes: &[u8], at: usize) -> OptionRecord
-    requires { (at ≤ farthest) × (datesAt at ≤ length bytes.now) × (datesLeft bytes.now at ≤ mostDates) }
-    ensures { result ≡ listOptionAt bytes.now at }
+    requires { (at ≤ farthest) × (dates_at at ≤ length bytes.now) × (dates_left bytes.now at ≤ most_dates) }
+    ensures { result ≡ list_option_at bytes.now at }
 {
     let side_at = at + FIELD_HEAD;
     let strike_at = side_at + 1;
@@ -341,8 +341,8 @@ fn list_option_at(bytes: &[u8], at: usize) -> OptionRecord
 
 // The option of a well-formed job, whose other fields end at a place.
 fn option_at(bytes: &[u8], at: usize) -> OptionRecord
-    requires { (at ≤ farthest) × (restFormed bytes.now at ≡ true) × (datesLeft bytes.now at ≤ mostDates) }
-    ensures { result ≡ optionAt bytes.now at }
+    requires { (at ≤ farthest) × (rest_formed bytes.now at ≡ true) × (dates_left bytes.now at ≤ most_dates) }
+    ensures { result ≡ option_at bytes.now at }
 {
     if bytes.len() == at {
         return no_option();
@@ -355,7 +355,7 @@ fn option_at(bytes: &[u8], at: usize) -> OptionRecord
 
 // The version, 0 where there is none.
 fn version_of(bytes: &[u8]) -> u64
-    ensures { result ≡ versionOf bytes.now }
+    ensures { result ≡ version_of bytes.now }
 {
     if !has_version(bytes) {
         return 0;
@@ -364,7 +364,7 @@ fn version_of(bytes: &[u8]) -> u64
 }
 
 fn job_of(bytes: &[u8]) -> Job
-    requires { wellFormed bytes.now ≡ true }
+    requires { well_formed bytes.now ≡ true }
     ensures { result ≡ job_of bytes.now }
 {
     let steps = number(bytes, STEPS_AT + FIELD_HEAD, 1) as usize;
@@ -388,7 +388,7 @@ fn job_of(bytes: &[u8]) -> Job
 }
 
 fn no_job() -> Job
-    ensures { result ≡ noJob }
+    ensures { result ≡ no_job }
 {
     let option = no_option();
     Job {

@@ -11,7 +11,7 @@ use Rattle.arithmetic.specs.Row.{row, values, padded}
 use Rattle.arithmetic.proofs.Numbers.{by_order}
 use Rattle.arithmetic.proofs.RowLaws.{length-row, values-row, zeros}
 use Rattle.arithmetic.proofs.PaddedLaws.{padded-of, padded-length, padded-at, padded-after}
-use Rattle.job_record.specs.Form.{afterField, afterFields}
+use Rattle.job_record.specs.Form.{after_field, after_fields}
 use Rattle.job_record.specs.Grammar.{Column}
 
 -- columns of any number of places
@@ -61,5 +61,5 @@ module _ (places : ℕ) where
     padded-split = padded-of places (row n f ++ replicate (places - n) 0) n f split-length split-before split_after
 
 -- of fields of one width, each stands within all of them
-pub field-within : (from width i count : ℕ) → i < count → afterField (afterFields from width i) width ≤ afterFields from width count
+pub field-within : (from width i count : ℕ) → i < count → after_field (after_fields from width i) width ≤ after_fields from width count
 field-within from width i count h = omega (arith, mul-le-mul_left (width + 3) h)

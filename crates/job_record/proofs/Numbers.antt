@@ -9,7 +9,7 @@ use mathlib.Core.Path.{◌≡◌, refl}
 use lib.ListN.{get_or}
 use lib.Arith.{digits_lt}
 use Rattle.job_record.specs.Bytes.{Bytes, number_at}
-use Rattle.job_record.specs.inside.Widths.{mostWidth}
+use Rattle.job_record.specs.inside.Widths.{most_width}
 
 pub number-nothing : (s : List ℕ) (o : ℕ) → number_at s o 0 ≡ 0
 unfolding number_at
@@ -26,5 +26,5 @@ number_bound s h o zero = omega arith
 number_bound s h o (suc k) = rw pow-suc (digits_lt (number_bound s h o k) (h (o + k)))
 
 -- one byte more than k fits 64 bits
-pub byte_more : (k v b : ℕ) → k < mostWidth → v < 256 ^ k → b < 256 → v * 256 + b < 2 ^ 64
+pub byte_more : (k v b : ℕ) → k < most_width → v < 256 ^ k → b < 256 → v * 256 + b < 2 ^ 64
 byte_more k v b hk hv hb = lt_of_lt_of_le (rw (← pow-suc) at (digits_lt hv hb)) (pow-le-pow_right {n = 256} (omega arith) hk)

@@ -11,8 +11,8 @@ use borrow.Author.Tests.{le-leb, eq-eqb}
 use lib.ListN.{length, get_or, length-append, get_or-append}
 use lib.Seq.{get_or_at, get_or-append-add}
 use lib.Arith.{lt_of_le-ne}
-use Rattle.job_record.specs.Bytes.{number_at, numberBytes}
-use Rattle.job_record.specs.Form.{dataAt, hasTag, fieldAt}
+use Rattle.job_record.specs.Bytes.{number_at, number_bytes}
+use Rattle.job_record.specs.Form.{data_at, has_tag, field_at}
 use Rattle.job_record.specs.Grammar.{field, joined}
 use Rattle.job_record.specs.declared.Tags.{Tags}
 use Rattle.job_record.proofs.Answers.{both}
@@ -57,44 +57,44 @@ at_entry s o l k inside h =
 pub at-within : (s : List ℕ) (o : ℕ) (l : List ℕ) → At s o l → o + length l ≤ length s
 at-within s o l h = rw h.split (simp length-append (omega (arith, h.place)))
 
-pub digits-length : (k v : ℕ) → length (numberBytes k v) ≡ k
-unfolding numberBytes
+pub digits-length : (k v : ℕ) → length (number_bytes k v) ≡ k
+unfolding number_bytes
 digits-length zero v = refl
 digits-length (suc k) v = simp length-append (omega (arith, digits-length k (v / 256)))
 
-pub at-number : (s : List ℕ) (o k v : ℕ) → v < 256 ^ k → At s o (numberBytes k v) → number_at s o k ≡ v
-unfolding number_at numberBytes
+pub at-number : (s : List ℕ) (o k v : ℕ) → v < 256 ^ k → At s o (number_bytes k v) → number_at s o k ≡ v
+unfolding number_at number_bytes
 at-number s o zero v fits h = omega arith
 at-number s o (suc k) v fits h =
     let high : v / 256 < 256 ^ k = (div-lt_iff_lt-mul {k = 256} (omega arith)).1 (rw pow-suc at fits) in
-    let upper : number_at s o k ≡ v / 256 = at-number s o k (v / 256) high (at_first s o (numberBytes k (v / 256)) (v % 256 ∷ []) h) in
-    let last : At s (o + k) (v % 256 ∷ []) = rw (digits-length k (v / 256)) at (at_second s o (numberBytes k (v / 256)) (v % 256 ∷ []) h) in
+    let upper : number_at s o k ≡ v / 256 = at-number s o k (v / 256) high (at_first s o (number_bytes k (v / 256)) (v % 256 ∷ []) h) in
+    let last : At s (o + k) (v % 256 ∷ []) = rw (digits-length k (v / 256)) at (at_second s o (number_bytes k (v / 256)) (v % 256 ∷ []) h) in
     let lower : get_or s (o + k) 0 ≡ v % 256 = at_byte s (o + k) (v % 256) [] last in
     rw (upper, lower) (div-add-mod' v 256)
 
 -- a field that was written
 module _ (s : List ℕ) (o tag : ℕ) (body : List ℕ) (h : At s o (field tag body)) where
-  parts : At s o ((tag ∷ []) ++ (numberBytes 2 (length body) ++ body))
+  parts : At s o ((tag ∷ []) ++ (number_bytes 2 (length body) ++ body))
   unfolding field
   parts = h
 
-  counted : At s (o + 1) (numberBytes 2 (length body) ++ body)
-  counted = at_second s o (tag ∷ []) (numberBytes 2 (length body) ++ body) parts
+  counted : At s (o + 1) (number_bytes 2 (length body) ++ body)
+  counted = at_second s o (tag ∷ []) (number_bytes 2 (length body) ++ body) parts
 
-  pub at_body : At s (dataAt o) body
+  pub at_body : At s (data_at o) body
   at_body =
       let place : o + 1 + 2 ≡ o + 3 = omega arith in
-      rw place at (rw (digits-length 2 (length body)) at (at_second s (o + 1) (numberBytes 2 (length body)) body counted))
+      rw place at (rw (digits-length 2 (length body)) at (at_second s (o + 1) (number_bytes 2 (length body)) body counted))
 
   pub at_tag : get_or s o 0 ≡ tag
-  at_tag = at_byte s o tag (numberBytes 2 (length body) ++ body) parts
+  at_tag = at_byte s o tag (number_bytes 2 (length body) ++ body) parts
 
-  pub at_field : (tags : Tags) → hasTag tags tag ≡ true → length body < 65536 → fieldAt s o tags (length body) ≡ true
-  unfolding fieldAt
+  pub at_field : (tags : Tags) → has_tag tags tag ≡ true → length body < 65536 → field_at s o tags (length body) ≡ true
+  unfolding field_at
   at_field tags has small =
       both (le-leb _ _ (at-within s (o + 3) body at_body))
-      (both (ap (hasTag tags) at_tag ∙ has)
-      (eq-eqb _ _ (at-number s (o + 1) 2 (length body) small (at_first s (o + 1) (numberBytes 2 (length body)) body counted))))
+      (both (ap (has_tag tags) at_tag ∙ has)
+      (eq-eqb _ _ (at-number s (o + 1) 2 (length body) small (at_first s (o + 1) (number_bytes 2 (length body)) body counted))))
 
 pub field-size : (tag : ℕ) (body : List ℕ) → length (field tag body) ≡ length body + 3
 unfolding field

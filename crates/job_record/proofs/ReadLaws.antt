@@ -9,8 +9,8 @@ use mathlib.Core.Path.{◌≡◌, refl, sym, ap, ◌∙◌}
 use lib.ListN.{length, take, length-take}
 use Rattle.arithmetic.proofs.Numbers.{by_equal}
 use Rattle.job_record.specs.Bytes.{Bytes}
-use Rattle.job_record.specs.Form.{mostJobSteps, wellFormed}
-use Rattle.job_record.specs.Reader.{job_of, noJob, acceptedReading, malformed, reading_of}
+use Rattle.job_record.specs.Form.{most_job_steps, well_formed}
+use Rattle.job_record.specs.Reader.{job_of, no_job, accepted_reading, malformed, reading_of}
 use Rattle.job_record.specs.Grammar.{encode, Column, SoundJob, Encodes, ReadsAs}
 use Rattle.job_record.specs.declared.Job.{Job}
 use Rattle.job_record.specs.declared.Reading.{Reading}
@@ -24,31 +24,31 @@ abbrev refusal : Job → Reading
 refusal job = record { number = 1; job = job }
 
 module _ (s : List ℕ) where
-  pub reading-well : wellFormed s ≡ true → reading_of s ≡ acceptedReading (job_of s)
+  pub reading-well : well_formed s ≡ true → reading_of s ≡ accepted_reading (job_of s)
   unfolding reading_of
   reading-well h = rw h
 
-  pub reading-bad : wellFormed s ≡ false → reading_of s ≡ malformed
+  pub reading-bad : well_formed s ≡ false → reading_of s ≡ malformed
   unfolding reading_of
   reading-bad h = rw h
 
 -- a record's bytes are accepted, and give that record
-encoded-by : (s : List ℕ) (job : Job) → Encodes s job → encode job ≡ s → reading_of s ≡ acceptedReading job
+encoded-by : (s : List ℕ) (job : Job) → Encodes s job → encode job ≡ s → reading_of s ≡ accepted_reading job
 encoded-by s job e same =
-    let formed : wellFormed s ≡ true = rw same at (encode-formed job e.sound (rw (← same) at e.short)) in
+    let formed : well_formed s ≡ true = rw same at (encode-formed job e.sound (rw (← same) at e.short)) in
     let read : job_of s ≡ job = rw same at (encode-read job e.sound) in
-    reading-well s formed ∙ ap acceptedReading read
+    reading-well s formed ∙ ap accepted_reading read
 
-pub read-encoded : (s : List ℕ) (job : Job) → Encodes s job → reading_of s ≡ acceptedReading job
+pub read-encoded : (s : List ℕ) (job : Job) → Encodes s job → reading_of s ≡ accepted_reading job
 read-encoded s job e = encoded-by s job e e.fields
 
 -- what is accepted is the bytes of the record that is given
-pub read-encodes : (s : List ℕ) → Bytes s → wellFormed s ≡ true → Encodes s (job_of s)
+pub read-encodes : (s : List ℕ) → Bytes s → well_formed s ≡ true → Encodes s (job_of s)
 read-encodes s b h = record { sound = read-sound s b h; fields = written s b h; short = well-short s h }
 
 -- zeros are a sound record
-zeros-sound : SoundJob noJob
-unfolding noJob
+zeros-sound : SoundJob no_job
+unfolding no_job
 zeros-sound =
     record {
       frequency = omega arith;
@@ -56,15 +56,15 @@ zeros-sound =
       reversion = omega arith;
       volatility = omega arith;
       version = refl;
-      kinds = zeros-column mostJobSteps 256 (omega arith);
+      kinds = zeros-column most_job_steps 256 (omega arith);
       kind = λ k below. absurd (not-suc-le-zero below);
-      figures = zeros-column mostJobSteps (256 ^ 8) (omega arith);
-      flows = zeros-column mostJobSteps (256 ^ 4) (omega arith);
+      figures = zeros-column most_job_steps (256 ^ 8) (omega arith);
+      flows = zeros-column most_job_steps (256 ^ 4) (omega arith);
       option = no-option-sound;
     }
 
 module _ (s : List ℕ) (b : Bytes s) where
-  reads-by : (t : Bool) → wellFormed s ≡ t → ReadsAs s (reading_of s)
+  reads-by : (t : Bool) → well_formed s ≡ t → ReadsAs s (reading_of s)
   reads-by true h =
       record {
         reads = read-encoded s;
@@ -85,15 +85,15 @@ module _ (s : List ℕ) (b : Bytes s) where
 
   -- the theorem: accepted exactly where the bytes are a record's, and then with that record
   pub reads : ReadsAs s (reading_of s)
-  reads = reads-by (wellFormed s) refl
+  reads = reads-by (well_formed s) refl
 
   -- the two answers of the code
-  pub read-well : (job : Job) → job ≡ job_of s → wellFormed s ≡ true → (acceptedReading job ≡ reading_of s) × ReadsAs s (acceptedReading job)
+  pub read-well : (job : Job) → job ≡ job_of s → well_formed s ≡ true → (accepted_reading job ≡ reading_of s) × ReadsAs s (accepted_reading job)
   read-well job e h =
-      let same : acceptedReading job ≡ reading_of s = ap acceptedReading e ∙ sym (reading-well s h) in
+      let same : accepted_reading job ≡ reading_of s = ap accepted_reading e ∙ sym (reading-well s h) in
       (same, rw same reads)
 
-  pub read-bad : (job : Job) → job ≡ noJob → wellFormed s ≡ false → (refusal job ≡ reading_of s) × ReadsAs s (refusal job)
+  pub read-bad : (job : Job) → job ≡ no_job → well_formed s ≡ false → (refusal job ≡ reading_of s) × ReadsAs s (refusal job)
   read-bad job e h =
       let same : refusal job ≡ reading_of s = ap refusal e ∙ sym (reading-bad s h) in
       (same, rw same reads)

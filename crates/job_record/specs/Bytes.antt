@@ -7,9 +7,9 @@ abbrev pub Bytes : List ℕ → Type 0
 Bytes s = (i : ℕ) → get_or s i 0 < 256
 
 -- a number in width bytes
-unfoldable pub numberBytes : ℕ → ℕ → List ℕ
-numberBytes zero v = []
-numberBytes (suc width) v = numberBytes width (v / 256) ++ (v % 256 ∷ [])
+unfoldable pub number_bytes : ℕ → ℕ → List ℕ
+number_bytes zero v = []
+number_bytes (suc width) v = number_bytes width (v / 256) ++ (v % 256 ∷ [])
 
 -- the number in the width bytes of s from a place on
 unfoldable pub number_at : List ℕ → ℕ → ℕ → ℕ

@@ -1,11 +1,11 @@
 // A whole job: its bytes in, its sheet out.
 ghost use Rattle.std.specs.Prelude.{◌≡◌, ◌≤◌, length};
 ghost use Rattle.sheet_laws.specs.WholeJob.{
-  sheetNumber,
-  sheetText,
-  sheetMemory,
-  printedAnswer,
-  printedMemory,
+  sheet_number,
+  sheet_text,
+  sheet_memory,
+  printed_answer,
+  printed_memory,
 };
 ghost use Rattle.record_sheet.specs.Answers.{answer_of};
 
@@ -15,8 +15,8 @@ pub use text::Placed;
 // The sheet of a job, at the end of the lent room: 468,736 bytes are enough for every job, and fewer are refused with 6. 1 a job that is
 // malformed; then the lowest of the causes of its fit, its bond and its option, but 13 before 12. A refusal leaves the room as it was.
 pub fn sheet(job: &[u8], out: &mut [u8]) -> Written
-    ensures answer { result ≡ answer_of (sheetNumber job.now (length out.old)) (sheetText job.now) }
-    ensures memory { out.new ≡ sheetMemory job.now out.old }
+    ensures answer { result ≡ answer_of (sheet_number job.now (length out.old)) (sheet_text job.now) }
+    ensures memory { out.new ≡ sheet_memory job.now out.old }
 {
     let reading = job_reader::read(job);
     if reading.number != 0 {
@@ -31,9 +31,9 @@ pub fn sheet(job: &[u8], out: &mut [u8]) -> Written
 // What the sheet program prints of a job, at the end of the lent room, and where it starts: the sheet, or `refused` and the number. 6 where not
 // even that line has room.
 pub fn printed(job: &[u8], out: &mut [u8]) -> Placed
-    ensures answer { result ≡ printedAnswer job.now out.old }
+    ensures answer { result ≡ printed_answer job.now out.old }
     ensures within { result.start ≤ length out.old }
-    ensures memory { out.new ≡ printedMemory job.now out.old }
+    ensures memory { out.new ≡ printed_memory job.now out.old }
 {
     let written = sheet(job, out);
     let room = out.len();

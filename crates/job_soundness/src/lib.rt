@@ -1,9 +1,9 @@
 // Whether a record is one that some bytes are read as: each number fits its field, the option's numbers belong to its tag, and zeros stand wherever
 // the form says nothing.
 ghost use Rattle.std.specs.Prelude.{◌≡◌, ◌≤◌, max, length};
-ghost use Rattle.job_record.specs.Form.{mostJobSteps};
-ghost use Rattle.writer_laws.specs.Sound.{mostIn, allAtMost, isColumn, areKinds, areColumns, headFits, optionFits, isAbsent, optionBelongs};
-ghost use Rattle.writer_laws.specs.Sound.{versionFits, isSoundOption, isSound};
+ghost use Rattle.job_record.specs.Form.{most_job_steps};
+ghost use Rattle.writer_laws.specs.Sound.{most_in, all_at_most, is_column, are_kinds, are_columns, head_fits, option_fits, is_absent, option_belongs};
+ghost use Rattle.writer_laws.specs.Sound.{version_fits, is_sound_option, is_sound};
 
 use job_record::{Job, OptionRecord};
 
@@ -24,7 +24,7 @@ fn larger_byte(a: u8, b: u8) -> u8
 
 // Whether each byte of a slice is 0. There is no test on the way, so that many are looked at together.
 fn all_zero(bytes: &[u8]) -> bool
-    ensures { result ≡ allAtMost 0 bytes.now }
+    ensures { result ≡ all_at_most 0 bytes.now }
 {
     let mut top: u8 = 0;
     let mut k: usize = 0;
@@ -38,7 +38,7 @@ fn all_zero(bytes: &[u8]) -> bool
 // Whether zeros stand after the first `count` bytes of a column.
 fn is_byte_column(column: &[u8], count: usize) -> bool
     requires { count ≤ length column.now }
-    ensures { result ≡ isColumn (length column.now) column.now count (mostIn 1) }
+    ensures { result ≡ is_column (length column.now) column.now count (most_in 1) }
 {
     all_zero(&column[count..])
 }
@@ -46,7 +46,7 @@ fn is_byte_column(column: &[u8], count: usize) -> bool
 // Whether the first `count` numbers of a column are at most a limit, and zeros stand after them.
 fn is_column(column: &[u64], count: usize, most: u64) -> bool
     requires { count ≤ length column.now }
-    ensures { result ≡ isColumn (length column.now) column.now count most }
+    ensures { result ≡ is_column (length column.now) column.now count most }
 {
     if !arithmetic::all_between(0, most, &column[..count]) {
         return false;
@@ -57,7 +57,7 @@ fn is_column(column: &[u64], count: usize, most: u64) -> bool
 // Whether each of the first `count` tags is a kind of quote.
 fn are_kinds(kinds: &[u8], count: usize) -> bool
     requires { count ≤ length kinds.now }
-    ensures { result ≡ areKinds kinds.now count }
+    ensures { result ≡ are_kinds kinds.now count }
 {
     let mut k: usize = 0;
     while k < count {
@@ -71,8 +71,8 @@ fn are_kinds(kinds: &[u8], count: usize) -> bool
 
 // Whether the columns are those of so many quotes and flows.
 fn are_columns(kinds: &[u8], figures: &[u64], flows: &[u64], steps: usize) -> bool
-    requires { (steps ≤ mostJobSteps) × (length kinds.now ≡ mostJobSteps) × (length figures.now ≡ mostJobSteps) × (length flows.now ≡ mostJobSteps) }
-    ensures { result ≡ areColumns kinds.now figures.now flows.now steps }
+    requires { (steps ≤ most_job_steps) × (length kinds.now ≡ most_job_steps) × (length figures.now ≡ most_job_steps) × (length flows.now ≡ most_job_steps) }
+    ensures { result ≡ are_columns kinds.now figures.now flows.now steps }
 {
     if !are_kinds(kinds, steps) {
         return false;
@@ -88,7 +88,7 @@ fn are_columns(kinds: &[u8], figures: &[u64], flows: &[u64], steps: usize) -> bo
 
 // Whether a number is a version, or 0 for none.
 fn version_fits(version: u64) -> bool
-    ensures { result ≡ versionFits version }
+    ensures { result ≡ version_fits version }
 {
     if version == 0 {
         return true;
@@ -98,7 +98,7 @@ fn version_fits(version: u64) -> bool
 
 // Whether the numbers of the head fit their fields.
 fn head_fits(frequency: u64, steps: usize, reversion: u64, volatility: u64, version: u64) -> bool
-    ensures { result ≡ headFits frequency steps reversion volatility version }
+    ensures { result ≡ head_fits frequency steps reversion volatility version }
 {
     if MOST_IN_ONE < frequency {
         return false;
@@ -117,7 +117,7 @@ fn head_fits(frequency: u64, steps: usize, reversion: u64, volatility: u64, vers
 
 // Whether the numbers of an option fit their fields, and its dates their places.
 fn option_fits(kind: u64, expiry: u64, strike: u64, count: usize) -> bool
-    ensures { result ≡ optionFits kind expiry strike count }
+    ensures { result ≡ option_fits kind expiry strike count }
 {
     if MOST_IN_ONE < kind {
         return false;
@@ -133,7 +133,7 @@ fn option_fits(kind: u64, expiry: u64, strike: u64, count: usize) -> bool
 
 // Whether nothing is said of an option that is not there.
 fn is_absent(tag: u64, kind: u64, expiry: u64, strike: u64, count: usize) -> bool
-    ensures { result ≡ isAbsent tag kind expiry strike count }
+    ensures { result ≡ is_absent tag kind expiry strike count }
 {
     if tag != 0 {
         return false;
@@ -152,7 +152,7 @@ fn is_absent(tag: u64, kind: u64, expiry: u64, strike: u64, count: usize) -> boo
 
 // Whether the numbers of an option belong to its tag.
 fn option_belongs(tag: u64, kind: u64, expiry: u64, strike: u64, count: usize) -> bool
-    ensures { result ≡ optionBelongs tag kind expiry strike count }
+    ensures { result ≡ option_belongs tag kind expiry strike count }
 {
     if tag == 8 {
         return count == 0;
@@ -165,7 +165,7 @@ fn option_belongs(tag: u64, kind: u64, expiry: u64, strike: u64, count: usize) -
 
 // Whether an option is one that is read from some job.
 fn is_sound_option(option: OptionRecord) -> bool
-    ensures { result ≡ isSoundOption option }
+    ensures { result ≡ is_sound_option option }
 {
     let count = option.count;
     if !option_fits(option.kind, option.expiry, option.strike, count) {
@@ -180,7 +180,7 @@ fn is_sound_option(option: OptionRecord) -> bool
 
 // Whether a record is one that is read from some bytes, however many.
 pub fn is_sound(job: Job) -> bool
-    ensures { result ≡ isSound job }
+    ensures { result ≡ is_sound job }
 {
     let steps = job.steps;
     if !head_fits(

@@ -2,20 +2,20 @@
 ghost use Rattle.std.specs.Prelude.{◌≡◌, ◌∷◌, ◌+◌, ◌≤◌, length};
 ghost use Rattle.arithmetic.specs.Row.{place};
 ghost use Rattle.arithmetic.specs.Answers.{refused};
-ghost use Rattle.job_record.specs.Bytes.{numberBytes};
-ghost use Rattle.job_record.specs.inside.Widths.{mostWidth};
-ghost use Rattle.job_record.specs.Form.{mostJobSteps, mostDates, versionAt, dataAt, afterField, afterFields, optionWidth, rest_at, datesAt};
-ghost use Rattle.job_record.specs.Grammar.{field, joined, optionField, versionField, encode, SoundOption, SoundJob};
-ghost use Rattle.writer_laws.specs.inside.Parts.{headFields, quotesFrom, quoteOf, flow_of, kindBytes, listBytes, optionSize};
-ghost use Rattle.writer_laws.specs.Writer.{written, writtenMemory};
+ghost use Rattle.job_record.specs.Bytes.{number_bytes};
+ghost use Rattle.job_record.specs.inside.Widths.{most_width};
+ghost use Rattle.job_record.specs.Form.{most_job_steps, most_dates, version_at, data_at, after_field, after_fields, option_width, rest_at, dates_at};
+ghost use Rattle.job_record.specs.Grammar.{field, joined, option_field, version_field, encode, SoundOption, SoundJob};
+ghost use Rattle.writer_laws.specs.inside.Parts.{head_fields, quotes_from, quote_of, flow_of, kind_bytes, list_bytes, option_size};
+ghost use Rattle.writer_laws.specs.Writer.{written, written_memory};
 
 use arithmetic::Answer;
 use job_record::{Job, OptionRecord};
 
 // Writes `width` bytes of a number at a place, high byte first: the last one comes first.
 fn put_number(out: &mut [u8], at: usize, width: usize, value: u64)
-    requires { (width ≤ mostWidth) × (at + width ≤ length out.old) }
-    ensures { out.new ≡ place out.old at (numberBytes width value) }
+    requires { (width ≤ most_width) × (at + width ≤ length out.old) }
+    ensures { out.new ≡ place out.old at (number_bytes width value) }
 {
     let mut rest = value;
     let mut left = width;
@@ -28,8 +28,8 @@ fn put_number(out: &mut [u8], at: usize, width: usize, value: u64)
 
 // Writes the tag of a field, and the length of its data.
 fn put_tag(out: &mut [u8], at: usize, tag: u8, size: usize)
-    requires { dataAt at ≤ length out.old }
-    ensures { out.new ≡ place out.old at (tag ∷ numberBytes 2 size) }
+    requires { data_at at ≤ length out.old }
+    ensures { out.new ≡ place out.old at (tag ∷ number_bytes 2 size) }
 {
     out[at] = tag;
     put_number(out, at + 1, 2, size as u64);
@@ -37,8 +37,8 @@ fn put_tag(out: &mut [u8], at: usize, tag: u8, size: usize)
 
 // Writes a field whose data are one number.
 fn put_field(out: &mut [u8], at: usize, tag: u8, width: usize, value: u64)
-    requires { (width ≤ mostWidth) × (afterField at width ≤ length out.old) }
-    ensures { out.new ≡ place out.old at (field tag (numberBytes width value)) }
+    requires { (width ≤ most_width) × (after_field at width ≤ length out.old) }
+    ensures { out.new ≡ place out.old at (field tag (number_bytes width value)) }
 {
     put_tag(out, at, tag, width);
     put_number(out, at + job_reader::FIELD_HEAD, width, value);
@@ -46,8 +46,8 @@ fn put_field(out: &mut [u8], at: usize, tag: u8, width: usize, value: u64)
 
 // Writes the fields that stand once, at the front.
 fn put_head(out: &mut [u8], frequency: u64, steps: u64, reversion: u64, volatility: u64)
-    requires { versionAt ≤ length out.old }
-    ensures { out.new ≡ place out.old 0 (headFields frequency steps reversion volatility) }
+    requires { version_at ≤ length out.old }
+    ensures { out.new ≡ place out.old 0 (head_fields frequency steps reversion volatility) }
 {
     put_field(out, job_reader::FREQUENCY_AT, 1, 1, frequency);
     put_field(out, job_reader::STEPS_AT, 2, 1, steps);
@@ -57,8 +57,8 @@ fn put_head(out: &mut [u8], frequency: u64, steps: u64, reversion: u64, volatili
 
 // Writes the version, if there is one.
 fn put_version(out: &mut [u8], version: u64)
-    requires { quotesFrom version ≤ length out.old }
-    ensures { out.new ≡ place out.old versionAt (versionField version) }
+    requires { quotes_from version ≤ length out.old }
+    ensures { out.new ≡ place out.old version_at (version_field version) }
 {
     if version != 0 {
         put_field(out, job_reader::VERSION_AT, 11, 1, version);
@@ -67,7 +67,7 @@ fn put_version(out: &mut [u8], version: u64)
 
 // Where the quotes start.
 fn quotes_from(version: u64) -> usize
-    ensures { (result ≡ quotesFrom version) × (result ≤ afterField versionAt 1) }
+    ensures { (result ≡ quotes_from version) × (result ≤ after_field version_at 1) }
 {
     if version == 0 {
         return job_reader::VERSION_AT;
@@ -77,8 +77,8 @@ fn quotes_from(version: u64) -> usize
 
 // Writes `count` quotes from a place on.
 fn put_quotes(out: &mut [u8], from: usize, kinds: &[u8], figures: &[u64], count: usize)
-    requires { (afterFields from 8 count ≤ length out.old) × (count ≤ length kinds.now) × (count ≤ length figures.now) }
-    ensures { out.new ≡ place out.old from (joined count (quoteOf kinds.now figures.now)) }
+    requires { (after_fields from 8 count ≤ length out.old) × (count ≤ length kinds.now) × (count ≤ length figures.now) }
+    ensures { out.new ≡ place out.old from (joined count (quote_of kinds.now figures.now)) }
 {
     let mut i: usize = 0;
     while i < count {
@@ -95,7 +95,7 @@ fn put_quotes(out: &mut [u8], from: usize, kinds: &[u8], figures: &[u64], count:
 
 // Writes `count` flows from a place on.
 fn put_flows(out: &mut [u8], from: usize, flows: &[u64], count: usize)
-    requires { (afterFields from 4 count ≤ length out.old) × (count ≤ length flows.now) }
+    requires { (after_fields from 4 count ≤ length out.old) × (count ≤ length flows.now) }
     ensures { out.new ≡ place out.old from (joined count (flow_of flows.now)) }
 {
     let mut i: usize = 0;
@@ -119,8 +119,8 @@ fn put_dates(out: &mut [u8], from: usize, dates: &[u8])
 
 // Writes an option of a kind.
 fn put_kind(out: &mut [u8], at: usize, kind: u64, expiry: u64, strike: u64)
-    requires { afterField at optionWidth ≤ length out.old }
-    ensures { out.new ≡ place out.old at (field 8 (kindBytes kind expiry strike)) }
+    requires { after_field at option_width ≤ length out.old }
+    ensures { out.new ≡ place out.old at (field 8 (kind_bytes kind expiry strike)) }
 {
     let kind_at = at + job_reader::FIELD_HEAD;
     put_tag(out, at, 8, job_reader::OPTION_WIDTH);
@@ -131,8 +131,8 @@ fn put_kind(out: &mut [u8], at: usize, kind: u64, expiry: u64, strike: u64)
 
 // Writes an option with a list of dates.
 fn put_list(out: &mut [u8], at: usize, side: u64, strike: u64, dates: &[u8])
-    requires { datesAt at + length dates.now ≤ length out.old }
-    ensures { out.new ≡ place out.old at (field 10 (listBytes side strike dates.now)) }
+    requires { dates_at at + length dates.now ≤ length out.old }
+    ensures { out.new ≡ place out.old at (field 10 (list_bytes side strike dates.now)) }
 {
     let side_at = at + job_reader::FIELD_HEAD;
     put_tag(out, at, 10, job_reader::LIST_HEAD + dates.len());
@@ -143,8 +143,8 @@ fn put_list(out: &mut [u8], at: usize, side: u64, strike: u64, dates: &[u8])
 
 // Writes an option, if there is one.
 fn put_option(out: &mut [u8], at: usize, option: OptionRecord)
-    requires { (SoundOption option) × (at + length (optionField option) ≤ length out.old) }
-    ensures { out.new ≡ place out.old at (optionField option) }
+    requires { (SoundOption option) × (at + length (option_field option) ≤ length out.old) }
+    ensures { out.new ≡ place out.old at (option_field option) }
 {
     if option.tag == 8 {
         put_kind(out, at, option.kind, option.expiry, option.strike);
@@ -159,8 +159,8 @@ fn put_option(out: &mut [u8], at: usize, option: OptionRecord)
 
 // How many bytes the field of an option has.
 fn option_size(tag: u64, count: usize) -> usize
-    requires { count ≤ mostDates }
-    ensures { result ≡ optionSize tag count }
+    requires { count ≤ most_dates }
+    ensures { result ≡ option_size tag count }
 {
     if tag == 8 {
         return job_reader::FIELD_HEAD + job_reader::OPTION_WIDTH;
@@ -198,8 +198,8 @@ fn put_job(out: &mut [u8], job: Job)
 
 // How many bytes a record is written in.
 fn job_size(version: u64, steps: usize, tag: u64, count: usize) -> usize
-    requires { (steps ≤ mostJobSteps) × (count ≤ mostDates) }
-    ensures { result ≡ rest_at (quotesFrom version) steps + optionSize tag count }
+    requires { (steps ≤ most_job_steps) × (count ≤ most_dates) }
+    ensures { result ≡ rest_at (quotes_from version) steps + option_size tag count }
 {
     let flows_at = quotes_from(version) + (8 + job_reader::FIELD_HEAD) * steps;
     flows_at + (4 + job_reader::FIELD_HEAD) * steps + option_size(tag, count)
@@ -218,7 +218,7 @@ fn refusal(cause: u64) -> Answer
 // short. A refusal leaves the memory as it was.
 pub fn write(job: Job, out: &mut [u8]) -> Answer
     ensures answer { result ≡ written job (length out.old) }
-    ensures memory { out.new ≡ writtenMemory job out.old }
+    ensures memory { out.new ≡ written_memory job out.old }
 {
     if !job_soundness::is_sound(job) {
         return refusal(1);

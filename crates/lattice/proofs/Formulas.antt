@@ -6,7 +6,7 @@ use native.Mathlib.Nat.{sub-add_cancel, mul-le-mul, mul-zero}
 use native.Mathlib.Omega.{arith}
 use lib.IntN.{ℤ, pos, neg_ℤ, ◌+ℤ◌, ◌*ℤ◌, +ℤ-neg_ℤ_cancel, neg_ℤ-neg_ℤ, neg_ℤ-+ℤ, +ℤ_comm}
 use Rattle.arithmetic.proofs.Numbers.{tangent, between}
-use Rattle.lattice.specs.Branching.{Branching, ordinary, top, bottom, upFormula, middleFormula, downFormula}
+use Rattle.lattice.specs.Branching.{Branching, ordinary, top, bottom, up_formula, middle_formula, down_formula}
 use Rattle.lattice.proofs.Destinations.{change-of, square-of}
 
 -- a difference that is at least 0
@@ -33,9 +33,9 @@ times-negative c (suc x) = refl
 
 -- Three numbers of a node on the upper side by its branching, a = z: each with its difference written as a sum.
 pub record Upper (r : Branching) (a u m d : ℕ) : Type 0 where
-  pub up_is : upFormula r (pos a) ≡ pos u
-  pub middle-is : middleFormula r (pos a) ≡ pos m
-  pub down_is : downFormula r (pos a) ≡ pos d
+  pub up_is : up_formula r (pos a) ≡ pos u
+  pub middle-is : middle_formula r (pos a) ≡ pos m
+  pub down_is : down_formula r (pos a) ≡ pos d
   pub total : u + m + d ≡ 600000000
   pub change-is : change-of r u m d ≡ neg_ℤ (pos (60000 * a))
   pub square-is : square-of r u m d ≡ 2 * (100000000 + 3 * (a * a))
@@ -59,7 +59,7 @@ square-within a h = mul-le-mul h h
 
 pub upper-ordinary : (a : ℕ) → a ≤ 1840 →
     Upper ordinary a (100000000 + 3 * (a * a) - 30000 * a) (400000000 - 6 * (a * a)) (100000000 + 3 * (a * a) + 30000 * a)
-unfolding upFormula middleFormula downFormula change-of square-of
+unfolding up_formula middle_formula down_formula change-of square-of
 upper-ordinary a h =
     let o = ordinary-up-whole a in
     let c = ordinary-middle-whole a h in
@@ -77,7 +77,7 @@ upper-ordinary a h =
 
 pub upper-top : (a : ℕ) → 1841 ≤ a → a ≤ 7840 →
     Upper top a (700000000 + 3 * (a * a) - 90000 * a) (120000 * a - (200000000 + 6 * (a * a))) (100000000 + 3 * (a * a) - 30000 * a)
-unfolding upFormula middleFormula downFormula change-of square-of
+unfolding up_formula middle_formula down_formula change-of square-of
 upper-top a l h =
     let o = ordinary-up-whole a in
     let s = edge-up-whole a in
@@ -100,8 +100,8 @@ mirrored top = bottom
 mirrored bottom = top
 
 -- a sum that adds what the other side takes away
-pub up-mirrored : (r : Branching) (a : ℕ) → upFormula (mirrored r) (neg_ℤ (pos a)) ≡ downFormula r (pos a)
-unfolding upFormula downFormula
+pub up-mirrored : (r : Branching) (a : ℕ) → up_formula (mirrored r) (neg_ℤ (pos a)) ≡ down_formula r (pos a)
+unfolding up_formula down_formula
 up-mirrored ordinary zero = refl
 up-mirrored top zero = refl
 up-mirrored bottom zero = refl
@@ -109,8 +109,8 @@ up-mirrored ordinary (suc c) = ap (λ (t : ℤ). pos (100000000 + 3 * (suc c * s
 up-mirrored top (suc c) = refl
 up-mirrored bottom (suc c) = ap (λ (t : ℤ). pos (700000000 + 3 * (suc c * suc c)) +ℤ t) (neg_ℤ-neg_ℤ (pos (90000 * suc c)))
 
-pub down-mirrored : (r : Branching) (a : ℕ) → downFormula (mirrored r) (neg_ℤ (pos a)) ≡ upFormula r (pos a)
-unfolding upFormula downFormula
+pub down-mirrored : (r : Branching) (a : ℕ) → down_formula (mirrored r) (neg_ℤ (pos a)) ≡ up_formula r (pos a)
+unfolding up_formula down_formula
 down-mirrored ordinary zero = refl
 down-mirrored top zero = refl
 down-mirrored bottom zero = refl
@@ -118,8 +118,8 @@ down-mirrored ordinary (suc c) = refl
 down-mirrored top (suc c) = refl
 down-mirrored bottom (suc c) = ap (λ (t : ℤ). pos (100000000 + 3 * (suc c * suc c)) +ℤ t) (neg_ℤ-neg_ℤ (pos (30000 * suc c)))
 
-pub middle-mirrored : (r : Branching) (a : ℕ) → middleFormula (mirrored r) (neg_ℤ (pos a)) ≡ middleFormula r (pos a)
-unfolding middleFormula
+pub middle-mirrored : (r : Branching) (a : ℕ) → middle_formula (mirrored r) (neg_ℤ (pos a)) ≡ middle_formula r (pos a)
+unfolding middle_formula
 middle-mirrored ordinary zero = refl
 middle-mirrored top zero = refl
 middle-mirrored bottom zero = refl

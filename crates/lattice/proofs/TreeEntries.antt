@@ -8,11 +8,11 @@ use Rattle.limits.specs.WithinLimits.{WithinLimits}
 use Rattle.arithmetic.specs.Answers.{refused, answered}
 use Rattle.arithmetic.specs.declared.Answer.{Answer}
 use Rattle.arithmetic.proofs.Numbers.{by_order, by_equal}
-use Rattle.lattice.specs.Entries.{aboutRow, aboutTree}
+use Rattle.lattice.specs.Entries.{about_row, about_tree}
 use Rattle.lattice.proofs.EntryLaws.{row-found, tree-empty, tree-long, tree-steep, tree-found}
 
 -- the value that an entry gives for a row of a tree
-pub row-value : (b i x : ℕ) (a : Answer) → a ≡ aboutRow b i x → b ≤ 6000 → i ≤ 60 → a.value ≡ x
+pub row-value : (b i x : ℕ) (a : Answer) → a ≡ about_row b i x → b ≤ 6000 → i ≤ 60 → a.value ≡ x
 row-value b i x a e hb hi = ap (λ (r : Answer). r.value) (e ∙ row-found b i x hb hi)
 
 module _ (n b x : ℕ) where
@@ -23,7 +23,7 @@ module _ (n b x : ℕ) where
       → (60 < n → P (refused 3))
       → (0 < n → n ≤ 60 → 6000 < b → P (refused 4))
       → (WithinLimits n b → P (answered x))
-      → P (aboutTree n b x)
+      → P (about_tree n b x)
   by-tree P empty long steep found =
       by_equal n 0
       (λ z. subst P (sym (tree-empty n b x z)) (empty z))
@@ -33,7 +33,7 @@ module _ (n b x : ℕ) where
       (λ g. subst P (sym (tree-steep n b x nz h g)) (steep (pos_of_ne-zero nz) h g)))
       (λ h. subst P (sym (tree-long n b x nz h)) (long h)))
 
-  module _ (a : Answer) (e : a ≡ aboutTree n b x) where
+  module _ (a : Answer) (e : a ≡ about_tree n b x) where
     -- number 0: the limits hold
     pub tree-accepted : a.number ≡ 0 → WithinLimits n b
     tree-accepted z =

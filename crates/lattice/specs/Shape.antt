@@ -4,24 +4,24 @@ use Rattle.std.specs.Prelude.{ℕ, suc, ◌+◌, ◌*◌, ◌/◌, min, cond, eq
 use Rattle.arithmetic.specs.Sum.{sum}
 
 -- J: 1,840 divided by b, down, plus 1. With b = 0 there is no J, and nothing reads this.
-unfoldable pub highestNode : ℕ → ℕ
-highestNode b = 1840 / b + 1
+unfoldable pub highest_node : ℕ → ℕ
+highest_node b = 1840 / b + 1
 
 -- w: the lesser of i and J; i where b = 0
-unfoldable pub halfWidth : ℕ → ℕ → ℕ
-halfWidth b i = cond (eqb b 0) i (min i (highestNode b))
+unfoldable pub half_width : ℕ → ℕ → ℕ
+half_width b i = cond (eqb b 0) i (min i (highest_node b))
 
 -- nodes −w to w
-unfoldable pub nodeCount : ℕ → ℕ → ℕ
-nodeCount b i = 2 * halfWidth b i + 1
+unfoldable pub node_count : ℕ → ℕ → ℕ
+node_count b i = 2 * half_width b i + 1
 
 -- stored row after row: where row i starts
-unfoldable pub rowStart : ℕ → ℕ → ℕ
-rowStart b i = sum i (nodeCount b)
+unfoldable pub row_start : ℕ → ℕ → ℕ
+row_start b i = sum i (node_count b)
 
 -- discounts exist for rows 0 to n − 1, state prices for rows 0 to n
-unfoldable pub discountsNeeded : ℕ → ℕ → ℕ
-discountsNeeded n b = rowStart b n
+unfoldable pub discounts_needed : ℕ → ℕ → ℕ
+discounts_needed n b = row_start b n
 
-unfoldable pub statePricesNeeded : ℕ → ℕ → ℕ
-statePricesNeeded n b = rowStart b (suc n)
+unfoldable pub state_prices_needed : ℕ → ℕ → ℕ
+state_prices_needed n b = row_start b (suc n)

@@ -1,19 +1,19 @@
 // The shape of the rate tree: widths of rows and where rows start.
 ghost use Rattle.std.specs.Prelude.{◌≡◌, ◌+◌, ◌≤◌, ◌<◌, min};
-ghost use Rattle.limits.specs.Limits.{mostSteps};
-ghost use Rattle.lattice.specs.Shape.{highestNode, halfWidth, rowStart};
+ghost use Rattle.limits.specs.Limits.{most_steps};
+ghost use Rattle.lattice.specs.Shape.{highest_node, half_width, row_start};
 ghost use Rattle.lattice.specs.Entries.{
-  aboutRow,
-  aboutTree,
-  halfWidthAnswer,
-  nodeCountAnswer,
-  rowStartAnswer,
-  discountsNeededAnswer,
-  statePricesNeededAnswer,
-  memoryCause,
-  refusedShape,
+  about_row,
+  about_tree,
+  half_width_answer,
+  node_count_answer,
+  row_start_answer,
+  discounts_needed_answer,
+  state_prices_needed_answer,
+  memory_cause,
+  refused_shape,
   shape_of,
-  rowShapeAnswer,
+  row_shape_answer,
 };
 
 use arithmetic::Answer;
@@ -40,7 +40,7 @@ pub struct RowShape {
 // J. Where rows are narrow a division would cost more than their nodes do, so the least values are told by comparison.
 fn highest_node(reversion: u64) -> usize
     requires { 0 < reversion }
-    ensures { result ≡ highestNode reversion }
+    ensures { result ≡ highest_node reversion }
 {
     if 1840 < reversion {
         return 1;
@@ -58,7 +58,7 @@ fn highest_node(reversion: u64) -> usize
 }
 
 fn half_width_of(reversion: u64, row: usize) -> usize
-    ensures { result ≡ halfWidth reversion row }
+    ensures { result ≡ half_width reversion row }
 {
     if reversion == 0 {
         return row;
@@ -69,8 +69,8 @@ fn half_width_of(reversion: u64, row: usize) -> usize
 
 // Rows that still grow have the odd numbers of nodes, so that they start at squares; later rows are equally wide.
 fn row_start_of(reversion: u64, row: usize) -> usize
-    requires { row ≤ mostSteps + 1 }
-    ensures { result ≡ rowStart reversion row }
+    requires { row ≤ most_steps + 1 }
+    ensures { result ≡ row_start reversion row }
 {
     let widest = half_width_of(reversion, row);
     widest * widest + (row - widest) * (2 * widest + 1)
@@ -78,7 +78,7 @@ fn row_start_of(reversion: u64, row: usize) -> usize
 
 // A row or a number of steps for which every size fits.
 fn clipped(row: usize) -> usize
-    ensures { result ≡ min row mostSteps }
+    ensures { result ≡ min row most_steps }
 {
     if row < limits::MOST_STEPS {
         row
@@ -88,7 +88,7 @@ fn clipped(row: usize) -> usize
 }
 
 fn about_row(reversion: u64, row: usize, res: usize) -> Answer
-    ensures { result ≡ aboutRow reversion row res }
+    ensures { result ≡ about_row reversion row res }
 {
     if limits::MOST_REVERSION < reversion {
         return Answer {
@@ -109,7 +109,7 @@ fn about_row(reversion: u64, row: usize, res: usize) -> Answer
 }
 
 fn about_tree(steps: usize, reversion: u64, res: usize) -> Answer
-    ensures { result ≡ aboutTree steps reversion res }
+    ensures { result ≡ about_tree steps reversion res }
 {
     let number = limits::shape_cause(steps, reversion);
     if number != 0 {
@@ -123,14 +123,14 @@ fn about_tree(steps: usize, reversion: u64, res: usize) -> Answer
 
 // w, the half width of a row.
 pub fn half_width(reversion: u64, row: usize) -> Answer
-    ensures { result ≡ halfWidthAnswer reversion row }
+    ensures { result ≡ half_width_answer reversion row }
 {
     about_row(reversion, row, half_width_of(reversion, clipped(row)))
 }
 
 // The number of nodes of a row.
 pub fn node_count(reversion: u64, row: usize) -> Answer
-    ensures { result ≡ nodeCountAnswer reversion row }
+    ensures { result ≡ node_count_answer reversion row }
 {
     about_row(
         reversion,
@@ -141,21 +141,21 @@ pub fn node_count(reversion: u64, row: usize) -> Answer
 
 // Where a row starts in a memory that stores row after row.
 pub fn row_start(reversion: u64, row: usize) -> Answer
-    ensures { result ≡ rowStartAnswer reversion row }
+    ensures { result ≡ row_start_answer reversion row }
 {
     about_row(reversion, row, row_start_of(reversion, clipped(row)))
 }
 
 // How many discounts a tree has.
 pub fn discounts_needed(steps: usize, reversion: u64) -> Answer
-    ensures { result ≡ discountsNeededAnswer steps reversion }
+    ensures { result ≡ discounts_needed_answer steps reversion }
 {
     about_tree(steps, reversion, row_start_of(reversion, clipped(steps)))
 }
 
 // How many state prices a tree has.
 pub fn state_prices_needed(steps: usize, reversion: u64) -> Answer
-    ensures { result ≡ statePricesNeededAnswer steps reversion }
+    ensures { result ≡ state_prices_needed_answer steps reversion }
 {
     about_tree(
         steps,
@@ -166,7 +166,7 @@ pub fn state_prices_needed(steps: usize, reversion: u64) -> Answer
 
 // 6 where the memories of so many discounts and state prices are too short for a tree; 0 for a tree that is refused itself.
 pub fn memory_cause(steps: usize, reversion: u64, discounts: usize, state_prices: usize) -> u64
-    ensures { result ≡ memoryCause steps reversion discounts state_prices }
+    ensures { result ≡ memory_cause steps reversion discounts state_prices }
 {
     let needed = discounts_needed(steps, reversion);
     let all = state_prices_needed(steps, reversion);
@@ -180,7 +180,7 @@ pub fn memory_cause(steps: usize, reversion: u64, discounts: usize, state_prices
 }
 
 fn refused_shape(number: u64) -> RowShape
-    ensures { result ≡ refusedShape number }
+    ensures { result ≡ refused_shape number }
 {
     RowShape {
         number,
@@ -192,7 +192,7 @@ fn refused_shape(number: u64) -> RowShape
 }
 
 fn shape_of(reversion: u64, widest: usize, row: usize) -> RowShape
-    requires { (row < mostSteps) × (row ≤ widest) }
+    requires { (row < most_steps) × (row ≤ widest) }
     ensures { result ≡ shape_of reversion widest row }
 {
     let half = half_width_of(reversion, row);
@@ -208,7 +208,7 @@ fn shape_of(reversion: u64, widest: usize, row: usize) -> RowShape
 
 // Where a row stands, in tables of row `widest` too. Row 60 has no next row, and a row past `widest` no place in the tables.
 pub fn row_shape(reversion: u64, widest: usize, row: usize) -> RowShape
-    ensures { result ≡ rowShapeAnswer reversion widest row }
+    ensures { result ≡ row_shape_answer reversion widest row }
 {
     if limits::MOST_REVERSION < reversion {
         return refused_shape(4);

@@ -6,23 +6,23 @@ use Prim.Native.Nat.{ℕ, zero, suc, ◌≤◌, ◌<◌}
 use native.Mathlib.Omega.{arith}
 use borrow.Author.Tests.{le-leb}
 use Rattle.bands.specs.declared.Verdict.{Verdict}
-use Rattle.limits.specs.Limits.{valueLimit}
+use Rattle.limits.specs.Limits.{value_limit}
 use Rattle.arithmetic.specs.Row.{values}
 use Rattle.arithmetic.proofs.Implied.{implied}
-use Rattle.bands.specs.Bands.{Bands, bandsOf, covering, coverage, within, sound, verdict, verdictOf, sameLengths}
+use Rattle.bands.specs.Bands.{Bands, bands_of, covering, coverage, within, sound, verdict, verdict_of, same_lengths}
 use Rattle.bands.specs.Judged.{AllSound, uncovered, accepted}
-use Rattle.lending.specs.Lending.{lendingWorth}
+use Rattle.lending.specs.Lending.{lending_worth}
 use Rattle.bands.proofs.StopLaws.{inside}
 use Rattle.bands.proofs.VerdictLaws.{verdict-table}
 use Rattle.bands.proofs.Meaning.{judged-verdict}
 use Rattle.lending.proofs.LendingLaws.{lending-meaning}
 
 -- no bands: row 1, price 0 is in none
-pub no-bands : verdict [] [] [] [] [] ≡ verdictOf 17 1 0 0
-unfolding covering sameLengths
+pub no-bands : verdict [] [] [] [] [] ≡ verdict_of 17 1 0 0
+unfolding covering same_lengths
 no-bands =
     sym
-    (judged-verdict (bandsOf [] [] [] []) (values []) (verdictOf 17 1 0 0)
+    (judged-verdict (bands_of [] [] [] []) (values []) (verdict_of 17 1 0 0)
     (uncovered 1 0 (λ k m. absurd (below-zero k m)) (omega arith)
     (record {
       row-least = omega arith;
@@ -46,9 +46,9 @@ no-bands =
 
 -- one band over all rows and prices
 abbrev whole : Bands
-whole = bandsOf (1 ∷ []) (60 ∷ []) (0 ∷ []) (8000000000 ∷ [])
+whole = bands_of (1 ∷ []) (60 ∷ []) (0 ∷ []) (8000000000 ∷ [])
 
-whole_covers : (row price : ℕ) → 1 ≤ row → row ≤ 60 → price ≤ valueLimit → coverage whole row price ≡ 1
+whole_covers : (row price : ℕ) → 1 ≤ row → row ≤ 60 → price ≤ value_limit → coverage whole row price ≡ 1
 unfolding covering
 whole_covers row price l m p = rw (inside {lo = 0} {hi = 8000000000} l m (omega arith) p)
 
@@ -61,17 +61,17 @@ whole-sound haircut h (suc k) m = absurd (past k m)
     past k m = omega arith
 
 -- is accepted
-pub one-band : (haircut : ℕ) → haircut ≤ 10000 → verdict (1 ∷ []) (60 ∷ []) (0 ∷ []) (8000000000 ∷ []) (haircut ∷ []) ≡ verdictOf 0 0 0 0
-unfolding sameLengths
+pub one-band : (haircut : ℕ) → haircut ≤ 10000 → verdict (1 ∷ []) (60 ∷ []) (0 ∷ []) (8000000000 ∷ []) (haircut ∷ []) ≡ verdict_of 0 0 0 0
+unfolding same_lengths
 one-band haircut h =
     sym
-    (judged-verdict whole (values (haircut ∷ [])) (verdictOf 0 0 0 0)
+    (judged-verdict whole (values (haircut ∷ [])) (verdict_of 0 0 0 0)
     (accepted (whole-sound haircut h) (omega arith) whole_covers refl)
     ∙ verdict-table implied refl)
 
 -- and takes 2.5 percent from 1.000000001: 0.975000000975, down
-pub one-band-worth : (lendingWorth (1 ∷ []) (60 ∷ []) (0 ∷ []) (8000000000 ∷ []) (250 ∷ []) 60 1000000001).worth ≡ 975000000
-unfolding sameLengths within
+pub one-band-worth : (lending_worth (1 ∷ []) (60 ∷ []) (0 ∷ []) (8000000000 ∷ []) (250 ∷ []) 60 1000000001).worth ≡ 975000000
+unfolding same_lengths within
 one-band-worth =
     lending-meaning (1 ∷ []) (60 ∷ []) (0 ∷ []) (8000000000 ∷ []) (250 ∷ []) 60 1000000001 0 refl
     (ap (λ (v : Verdict). v.number) (one-band 250 (omega arith))) (omega arith) (omega arith) (omega arith) (omega arith) refl

@@ -1,9 +1,9 @@
 // The lending worth of a bond by a table of haircut bands, which comes as five slices of one length: first rows, last rows, lowest prices,
 // highest prices, haircuts.
 ghost use Rattle.std.specs.Prelude.{◌≡◌};
-ghost use Rattle.bands.specs.Bands.{within, bandsOf};
+ghost use Rattle.bands.specs.Bands.{within, bands_of};
 ghost use Rattle.bands.specs.inside.Lists.{Parallel};
-ghost use Rattle.lending.specs.Lending.{bandIndex, lendingWorth, refusedWorth};
+ghost use Rattle.lending.specs.Lending.{band_index, lending_worth, refused_worth};
 
 use bands::Verdict;
 
@@ -44,7 +44,7 @@ fn find_band(
     price: u64,
 ) -> usize
     requires { Parallel firsts.now lasts.now lowests.now highests.now }
-    ensures { result ≡ bandIndex (bandsOf firsts.now lasts.now lowests.now highests.now) row price }
+    ensures { result ≡ band_index (bands_of firsts.now lasts.now lowests.now highests.now) row price }
 {
     let mut k = 0usize;
     while k < firsts.len() {
@@ -58,7 +58,7 @@ fn find_band(
 
 // A refusal that no table decides.
 fn refused(number: u64) -> Worth
-    ensures { result ≡ refusedWorth number }
+    ensures { result ≡ refused_worth number }
 {
     let verdict = Verdict {
         number,
@@ -80,7 +80,7 @@ pub fn lending_worth(
     row: u64,
     price: u64,
 ) -> Worth
-    ensures { result ≡ lendingWorth firsts.now lasts.now lowests.now highests.now haircuts.now row
+    ensures { result ≡ lending_worth firsts.now lasts.now lowests.now highests.now haircuts.now row
         price }
 {
     if row < 1 {

@@ -2,38 +2,38 @@
 -- Assumes nothing.
 use Rattle.std.specs.Prelude.{ℕ, ◌+◌, ◌≤◌, ◌<◌, Bool, cond, List, eqb, leb, length, take, drop}
 use Rattle.arithmetic.specs.Row.{values}
-use Rattle.limits.specs.Limits.{mostDiscount, shapeCause, allDiscounts}
+use Rattle.limits.specs.Limits.{most_discount, shape_cause, all_discounts}
 use Rattle.limits.specs.WithinLimits.{WithinLimits}
-use Rattle.lattice.specs.Shape.{nodeCount, rowStart, discountsNeeded}
+use Rattle.lattice.specs.Shape.{node_count, row_start, discounts_needed}
 
 -- what a memory that stores row after row, lowest node first, holds for row i, by node
 unfoldable pub stored : ℕ → List ℕ → ℕ → ℕ → ℕ
-stored b memory i = λ k. values memory (rowStart b i + k)
+stored b memory i = λ k. values memory (row_start b i + k)
 
 -- and as the part of the memory that contains it
-unfoldable pub storedRow : ℕ → List ℕ → ℕ → List ℕ
-storedRow b memory i = take (nodeCount b i) (drop (rowStart b i) memory)
+unfoldable pub stored_row : ℕ → List ℕ → ℕ → List ℕ
+stored_row b memory i = take (node_count b i) (drop (row_start b i) memory)
 
 -- every node discount of the needed part, rows 0 to n − 1, is 1 to 1,100,000,000
-unfoldable pub acceptedDiscounts : ℕ → ℕ → List ℕ → Bool
-acceptedDiscounts n b discounts = allDiscounts (discountsNeeded n b) discounts
+unfoldable pub accepted_discounts : ℕ → ℕ → List ℕ → Bool
+accepted_discounts n b discounts = all_discounts (discounts_needed n b) discounts
 
 -- 3 and 4 about the numbers, 6 for too short a memory, whatever it holds; 0 where there is none
-unfoldable pub roomCause : ℕ → ℕ → List ℕ → ℕ
-roomCause n b discounts = cond (eqb (shapeCause n b) 0) (cond (leb (discountsNeeded n b) (length discounts)) 0 6) (shapeCause n b)
+unfoldable pub room_cause : ℕ → ℕ → List ℕ → ℕ
+room_cause n b discounts = cond (eqb (shape_cause n b) 0) (cond (leb (discounts_needed n b) (length discounts)) 0 6) (shape_cause n b)
 
 -- 3 and 4 about the numbers, 6 for too short a memory, 9 for a discount, lowest number first; 0 where there is none
-unfoldable pub discountsCause : ℕ → ℕ → List ℕ → ℕ
-discountsCause n b discounts =
-    cond (eqb (shapeCause n b) 0)
-    (cond (leb (discountsNeeded n b) (length discounts))
-    (cond (acceptedDiscounts n b discounts) 0 9)
+unfoldable pub discounts_cause : ℕ → ℕ → List ℕ → ℕ
+discounts_cause n b discounts =
+    cond (eqb (shape_cause n b) 0)
+    (cond (leb (discounts_needed n b) (length discounts))
+    (cond (accepted_discounts n b discounts) 0 9)
     6)
-    (shapeCause n b)
+    (shape_cause n b)
 
 -- a tree and its discounts after the causes were tested
 pub record Accepted (n b : ℕ) (discounts : List ℕ) : Type 0 where
   pub limits : WithinLimits n b
-  pub room : rowStart b n ≤ length discounts
-  pub positive : (k : ℕ) → k < rowStart b n → 1 ≤ values discounts k
-  pub discounted : (k : ℕ) → k < rowStart b n → values discounts k ≤ mostDiscount
+  pub room : row_start b n ≤ length discounts
+  pub positive : (k : ℕ) → k < row_start b n → 1 ≤ values discounts k
+  pub discounted : (k : ℕ) → k < row_start b n → values discounts k ≤ most_discount

@@ -1,10 +1,10 @@
 // A tree whose discounts are lent.
 ghost use Rattle.std.specs.Prelude.{◌≡◌};
-ghost use Rattle.lent_tree.specs.LentTree.{roomCause, discountsCause};
+ghost use Rattle.lent_tree.specs.LentTree.{room_cause, discounts_cause};
 
 // The first cause about a tree's numbers and the room of its lent discounts, which are not looked at; 0 where there is none.
 pub fn room_cause(steps: usize, reversion: u64, discounts: &[u64]) -> u64
-    ensures { result ≡ roomCause steps reversion discounts.now }
+    ensures { result ≡ room_cause steps reversion discounts.now }
 {
     let needed = lattice::discounts_needed(steps, reversion);
     if needed.number != 0 {
@@ -18,7 +18,7 @@ pub fn room_cause(steps: usize, reversion: u64, discounts: &[u64]) -> u64
 
 // The first cause about a tree's numbers and its lent discounts; 0 where there is none.
 pub fn discounts_cause(steps: usize, reversion: u64, discounts: &[u64]) -> u64
-    ensures { result ≡ discountsCause steps reversion discounts.now }
+    ensures { result ≡ discounts_cause steps reversion discounts.now }
 {
     let needed = lattice::discounts_needed(steps, reversion);
     if needed.number != 0 {

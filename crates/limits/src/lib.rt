@@ -1,6 +1,6 @@
 // The limits of steps, reversions, discounts and values, tested in one place, and memories of the widest tree.
 ghost use Rattle.std.specs.Prelude.{◌≡◌, length};
-ghost use Rattle.limits.specs.Limits.{mostDiscounts, mostStatePrices, isSteps, isReversion, isDiscount, shapeCause, limitCause};
+ghost use Rattle.limits.specs.Limits.{most_discounts, most_state_prices, is_steps, is_reversion, is_discount, shape_cause, limit_cause};
 
 pub const MOST_STEPS: usize = 60;
 
@@ -21,7 +21,7 @@ pub const MOST_STATE_PRICES: usize = 3_721;
 
 // Whether the steps are 1 to 60.
 pub fn is_steps(steps: usize) -> bool
-    ensures { result ≡ isSteps steps }
+    ensures { result ≡ is_steps steps }
 {
     if steps < 1 {
         return false;
@@ -31,14 +31,14 @@ pub fn is_steps(steps: usize) -> bool
 
 // Whether the reversion is at most 6,000.
 pub fn is_reversion(reversion: u64) -> bool
-    ensures { result ≡ isReversion reversion }
+    ensures { result ≡ is_reversion reversion }
 {
     reversion <= MOST_REVERSION
 }
 
 // Whether a number is a node discount, 1 to 1,100,000,000.
 pub fn is_discount(discount: u64) -> bool
-    ensures { result ≡ isDiscount discount }
+    ensures { result ≡ is_discount discount }
 {
     if discount < 1 {
         return false;
@@ -48,7 +48,7 @@ pub fn is_discount(discount: u64) -> bool
 
 // The cause about the numbers of a tree: 3, 4, or 0 where there is none.
 pub fn shape_cause(steps: usize, reversion: u64) -> u64
-    ensures { result ≡ shapeCause steps reversion }
+    ensures { result ≡ shape_cause steps reversion }
 {
     if !is_steps(steps) {
         return 3;
@@ -61,21 +61,21 @@ pub fn shape_cause(steps: usize, reversion: u64) -> u64
 
 // The cause about a value: 12 where it is above 8, or 0.
 pub fn limit_cause(value: u64) -> u64
-    ensures { result ≡ limitCause value }
+    ensures { result ≡ limit_cause value }
 {
     if VALUE_LIMIT < value { 12 } else { 0 }
 }
 
 // Room for the discounts of the widest tree.
 pub fn discount_room() -> [u64; MOST_DISCOUNTS]
-    ensures { length result ≡ mostDiscounts }
+    ensures { length result ≡ most_discounts }
 {
     [0; MOST_DISCOUNTS]
 }
 
 // Room for the state prices of the widest tree.
 pub fn state_price_room() -> [u64; MOST_STATE_PRICES]
-    ensures { length result ≡ mostStatePrices }
+    ensures { length result ≡ most_state_prices }
 {
     [0; MOST_STATE_PRICES]
 }

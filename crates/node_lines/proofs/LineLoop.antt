@@ -5,7 +5,7 @@ use mathlib.Core.List.{List}
 use Prim.Native.Nat.{ℕ, zero, suc, ◌+◌, ◌-◌, ◌≤◌, ◌<◌}
 use native.Mathlib.Omega.{arith}
 use lib.ListN.{length, length-append}
-use Rattle.text_laws.specs.Put.{putBefore}
+use Rattle.text_laws.specs.Put.{put_before}
 use Rattle.text_laws.specs.inside.Put.{Put}
 use Rattle.text_laws.proofs.PutLaws.{put-nothing, put_whole}
 use Rattle.node_lines.specs.Rows.{lines}
@@ -18,7 +18,7 @@ pub record Progress (line : ℕ → List ℕ) (room : ℕ → ℕ) (out₀ : Lis
   pub place : start + length (lines line n) ≡ end + length (lines line left)
   pub below : start ≤ end
   pub same : length out ≡ length out₀
-  pub memory : putBefore out start (lines line left) ≡ putBefore out₀ end (lines line n)
+  pub memory : put_before out start (lines line left) ≡ put_before out₀ end (lines line n)
 
 module _ (line : ℕ → List ℕ) (room : ℕ → ℕ) (n : ℕ) (fits : (i : ℕ) → i < n → room i + length (line i) ≤ room (suc i)) (out₀ : List ℕ) (end : ℕ) where
   pub lines_fit : (k : ℕ) → k ≤ n → length (lines line k) ≤ room k
@@ -50,4 +50,4 @@ module _ (line : ℕ → List ℕ) (room : ℕ → ℕ) (n : ℕ) (fits : (i : �
       let e = lines_none line left z in
       let none : length (lines line left) ≡ 0 = ap length e in
       put_whole out₀ out (lines line n) end start (omega (arith, p.place)) h
-      (sym (put-nothing out start) ∙ ap (λ (t : List ℕ). putBefore out start t) (sym e) ∙ p.memory)
+      (sym (put-nothing out start) ∙ ap (λ (t : List ℕ). put_before out start t) (sym e) ∙ p.memory)

@@ -9,108 +9,108 @@ use borrow.Author.Tests.{le-leb, lt-leb, leb-true, eq-eqb, ne_eqb}
 use lib.Dec.{leb}
 use lib.ListN.{length, get_or, take, drop}
 use Rattle.arithmetic.proofs.PartLaws.{part_length, part-value}
-use Rattle.limits.specs.Limits.{mostDiscount}
-use Rattle.lattice.specs.RateTree.{nodeOfIndex}
-use Rattle.text_laws.specs.Lines.{lineOfNode}
-use Rattle.text_laws.specs.Put.{putBefore, withText}
+use Rattle.limits.specs.Limits.{most_discount}
+use Rattle.lattice.specs.RateTree.{node_of_index}
+use Rattle.text_laws.specs.Lines.{line_of_node}
+use Rattle.text_laws.specs.Put.{put_before, with_text}
 use Rattle.text_laws.specs.inside.Put.{Put}
 use Rattle.text_laws.proofs.PutLaws.{put_whole}
 use Rattle.node_lines.specs.declared.Drawn.{Drawn}
-use Rattle.node_lines.specs.Rows.{nodeText, isRow, hasRoomFor, acceptedNodes, rowNumber}
-use Rattle.node_lines.specs.Reading.{standBefore, nodesBefore, readNumber, drawnOf}
+use Rattle.node_lines.specs.Rows.{node_text, is_row, has_room_for, accepted_nodes, row_number}
+use Rattle.node_lines.specs.Reading.{stand_before, nodes_before, read_number, drawn_of}
 use Rattle.node_lines.specs.inside.Preconditions.{Readable}
 use Rattle.node_lines.proofs.RowLaws.{and_both, row-none, row-short, row-judged, row_room, row-accepted, row_within, row-discount}
 
 -- ---- the nodes before a place
 
-pub stand-none : (count next size : ℕ) → next < count → standBefore count next size ≡ false
-unfolding standBefore
+pub stand-none : (count next size : ℕ) → next < count → stand_before count next size ≡ false
+unfolding stand_before
 stand-none count next size h = rw (lt-leb count next h)
 
-pub stand-test : (count next size : ℕ) → count ≤ next → standBefore count next size ≡ leb next size
-unfolding standBefore
+pub stand-test : (count next size : ℕ) → count ≤ next → stand_before count next size ≡ leb next size
+unfolding stand_before
 stand-test count next size h = rw (le-leb count next h)
 
-pub stand-known : (count next size : ℕ) → standBefore count next size ≡ true → (count ≤ next) × (next ≤ size)
-unfolding standBefore
+pub stand-known : (count next size : ℕ) → stand_before count next size ≡ true → (count ≤ next) × (next ≤ size)
+unfolding stand_before
 stand-known count next size e =
     let both = and_both (leb count next) (leb next size) e in
     (leb-true count next both.0, leb-true next size both.1)
 
 module _ (discounts : List ℕ) (next count : ℕ) (standing : count ≤ next) (within : next ≤ length discounts) where
-  pub before-length : length (nodesBefore discounts next count) ≡ count
-  unfolding nodesBefore
+  pub before-length : length (nodes_before discounts next count) ≡ count
+  unfolding nodes_before
   before-length = part_length discounts (next - count) count (omega arith)
 
   -- as lending has it
-  pub before_lent : take (next - (next - count)) (drop (next - count) discounts) ≡ nodesBefore discounts next count
-  unfolding nodesBefore
+  pub before_lent : take (next - (next - count)) (drop (next - count) discounts) ≡ nodes_before discounts next count
+  unfolding nodes_before
   before_lent = let e : next - (next - count) ≡ count = omega arith in rw e
 
-  before-value : (k : ℕ) → k < count → get_or (nodesBefore discounts next count) k 0 ≡ get_or discounts (next - count + k) 0
-  unfolding nodesBefore
+  before-value : (k : ℕ) → k < count → get_or (nodes_before discounts next count) k 0 ≡ get_or discounts (next - count + k) 0
+  unfolding nodes_before
   before-value k h = part-value discounts (next - count) count k h
 
   pub before_text : (row k : ℕ) → k < count →
-      lineOfNode row (nodeOfIndex (count / 2) k) (get_or discounts (next - count + k) 0) ≡ nodeText row (nodesBefore discounts next count) k
-  unfolding nodeText
+      line_of_node row (node_of_index (count / 2) k) (get_or discounts (next - count + k) 0) ≡ node_text row (nodes_before discounts next count) k
+  unfolding node_text
   before_text row k h = sym (rw (before-length, before-value k h))
 
-  pub before-discount : acceptedNodes (nodesBefore discounts next count) ≡ true → (k : ℕ) → k < count →
-      (1 ≤ get_or discounts (next - count + k) 0) × (get_or discounts (next - count + k) 0 ≤ mostDiscount)
+  pub before-discount : accepted_nodes (nodes_before discounts next count) ≡ true → (k : ℕ) → k < count →
+      (1 ≤ get_or discounts (next - count + k) 0) × (get_or discounts (next - count + k) 0 ≤ most_discount)
   before-discount a k h =
-      subst (λ (d : ℕ). (1 ≤ d) × (d ≤ mostDiscount)) (before-value k h) (row-discount (nodesBefore discounts next count) k a (omega (arith, before-length)))
+      subst (λ (d : ℕ). (1 ≤ d) × (d ≤ most_discount)) (before-value k h) (row-discount (nodes_before discounts next count) k a (omega (arith, before-length)))
 
 -- ---- the number of what is read
 
 module _ (size end row : ℕ) (discounts : List ℕ) (next count : ℕ) where
-  pub read_none : standBefore count next (length discounts) ≡ false → 6 ≡ readNumber size end row discounts next count
-  unfolding readNumber
+  pub read_none : stand_before count next (length discounts) ≡ false → 6 ≡ read_number size end row discounts next count
+  unfolding read_number
   read_none e = sym (rw e)
 
-  module _ (e : standBefore count next (length discounts) ≡ true) where
+  module _ (e : stand_before count next (length discounts) ≡ true) where
     known : (count ≤ next) × (next ≤ length discounts)
     known = stand-known count next (length discounts) e
 
-    counted : length (nodesBefore discounts next count) ≡ count
+    counted : length (nodes_before discounts next count) ≡ count
     counted = before-length discounts next count known.0 known.1
 
-    row_read : rowNumber size end row (nodesBefore discounts next count) ≡ readNumber size end row discounts next count
-    unfolding readNumber
+    row_read : row_number size end row (nodes_before discounts next count) ≡ read_number size end row discounts next count
+    unfolding read_number
     row_read = sym (rw e)
 
-    pub read-no-row : isRow row count ≡ false → 6 ≡ readNumber size end row discounts next count
-    read-no-row r = row-none size end row (nodesBefore discounts next count) (rw counted r) ∙ row_read
+    pub read-no-row : is_row row count ≡ false → 6 ≡ read_number size end row discounts next count
+    read-no-row r = row-none size end row (nodes_before discounts next count) (rw counted r) ∙ row_read
 
-    module _ (shaped : isRow row count ≡ true) where
-      pub read_short : hasRoomFor count size end ≡ false → 6 ≡ readNumber size end row discounts next count
-      read_short r = row-short size end row (nodesBefore discounts next count) (rw counted shaped) (rw counted r) ∙ row_read
+    module _ (shaped : is_row row count ≡ true) where
+      pub read_short : has_room_for count size end ≡ false → 6 ≡ read_number size end row discounts next count
+      read_short r = row-short size end row (nodes_before discounts next count) (rw counted shaped) (rw counted r) ∙ row_read
 
-      pub read-judged : hasRoomFor count size end ≡ true → (t : Bool) → acceptedNodes (nodesBefore discounts next count) ≡ t →
-          cond t 0 9 ≡ readNumber size end row discounts next count
-      read-judged r t a = row-judged size end row (nodesBefore discounts next count) (rw counted shaped) (rw counted r) t a ∙ row_read
+      pub read-judged : has_room_for count size end ≡ true → (t : Bool) → accepted_nodes (nodes_before discounts next count) ≡ t →
+          cond t 0 9 ≡ read_number size end row discounts next count
+      read-judged r t a = row-judged size end row (nodes_before discounts next count) (rw counted shaped) (rw counted r) t a ∙ row_read
 
 pub read-number-none : (size end row : ℕ) (discounts : List ℕ) (next count : ℕ) → count ≤ next → next ≤ length discounts →
-    rowNumber size end row (nodesBefore discounts next count) ≡ 0 → readNumber size end row discounts next count ≡ 0
-unfolding readNumber standBefore
+    row_number size end row (nodes_before discounts next count) ≡ 0 → read_number size end row discounts next count ≡ 0
+unfolding read_number stand_before
 read-number-none size end row discounts next count h p z = rw (le-leb count next h, le-leb next (length discounts) p) z
 
 read-parts : (stands : Bool) (number : ℕ) → cond stands number 6 ≡ 0 → (stands ≡ true) × (number ≡ 0)
 read-parts true number e = (refl, e)
 read-parts false number e = let none : ⊥ = omega arith in absurd none
 
-pub read_known : (size end row : ℕ) (discounts : List ℕ) (next count : ℕ) → readNumber size end row discounts next count ≡ 0 →
+pub read_known : (size end row : ℕ) (discounts : List ℕ) (next count : ℕ) → read_number size end row discounts next count ≡ 0 →
     Readable discounts next count end size
-unfolding readNumber
+unfolding read_number
 read_known size end row discounts next count z =
-    let parts = read-parts (standBefore count next (length discounts)) _ z in
+    let parts = read-parts (stand_before count next (length discounts)) _ z in
     let stands = stand-known count next (length discounts) parts.0 in
     let counted = before-length discounts next count stands.0 stands.1 in
-    let room = row_room size end row (nodesBefore discounts next count) parts.1 in record {
+    let room = row_room size end row (nodes_before discounts next count) parts.1 in record {
       standing = stands.0;
       next-within = stands.1;
-      within-row = omega (arith, counted, row_within size end row (nodesBefore discounts next count) parts.1);
-      accepted = row-accepted size end row (nodesBefore discounts next count) parts.1;
+      within-row = omega (arith, counted, row_within size end row (nodes_before discounts next count) parts.1);
+      accepted = row-accepted size end row (nodes_before discounts next count) parts.1;
       room = omega (arith, counted, room.0);
       inside = room.1;
     }
@@ -120,33 +120,33 @@ read_known size end row discounts next count z =
 module _ (number : ℕ) (out : List ℕ) (end : ℕ) (text : List ℕ) (next : ℕ) where
   -- an answer, and the buffer afterwards
   abbrev pub Drew : Drawn → List ℕ → Type 0
-  Drew answer after = (answer ≡ drawnOf number end text next) × (after ≡ withText number out end text)
+  Drew answer after = (answer ≡ drawn_of number end text next) × (after ≡ with_text number out end text)
 
   pub drawn-refused : (found : ℕ) → found ≡ number → (found ≡ 0 → ⊥) → Drew (record { number = found; start = 0; next = 0 }) out
-  unfolding drawnOf withText
+  unfolding drawn_of with_text
   drawn-refused found e nz = let test = ne_eqb number 0 (λ z. nz (e ∙ z)) in (rw (test, e), rw test)
 
   -- all lines put, and the place gone down
   pub drawn-whole : {start place : ℕ} {after : List ℕ} → Put out end text start after → place ≡ next →
-      (◌≡◌ {A = Drawn} (record { number = 0; start = start; next = place }) (drawnOf 0 end text next)) × (after ≡ putBefore out end text)
-  unfolding drawnOf
+      (◌≡◌ {A = Drawn} (record { number = 0; start = start; next = place }) (drawn_of 0 end text next)) × (after ≡ put_before out end text)
+  unfolding drawn_of
   drawn-whole {start} {place} p e =
       let s : start ≡ end - length text = omega (arith, p.place) in
       (rw (s, e), p.memory)
 
-  pub drawn-answered : {answer : Drawn} {after : List ℕ} → number ≡ 0 → answer ≡ drawnOf 0 end text next → after ≡ putBefore out end text →
+  pub drawn-answered : {answer : Drawn} {after : List ℕ} → number ≡ 0 → answer ≡ drawn_of 0 end text next → after ≡ put_before out end text →
       Drew answer after
-  unfolding withText
-  drawn-answered z a m = (a ∙ ap (λ (n : ℕ). drawnOf n end text next) (sym z), rw (eq-eqb number 0 z) m)
+  unfolding with_text
+  drawn-answered z a m = (a ∙ ap (λ (n : ℕ). drawn_of n end text next) (sym z), rw (eq-eqb number 0 z) m)
 
   -- what a caller has of it
   module _ {answer : Drawn} {after : List ℕ} (d : Drew answer after) (z : number ≡ 0) where
     answered : answer ≡ record { number = 0; start = end - length text; next = next }
-    unfolding drawnOf
+    unfolding drawn_of
     answered = d.0 ∙ rw (eq-eqb number 0 z)
 
     pub drawn-put : length text ≤ end → end ≤ length out → Put out end text answer.start after
-    unfolding withText
+    unfolding with_text
     drawn-put l p =
         let s : answer.start ≡ end - length text = ap (λ (a : Drawn). a.start) answered in
         put_whole out after text end answer.start (omega arith) p (rw (eq-eqb number 0 z) at d.1)

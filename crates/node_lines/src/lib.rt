@@ -1,12 +1,12 @@
 // The node lines of a row, put into a lent buffer from its end by a reader that goes down from node to node.
 ghost use Rattle.std.specs.Prelude.{◌≡◌, ◌-◌, ◌≤◌, ◌<◌, length};
-ghost use Rattle.text_laws.specs.Lines.{longestLine, lineOfNode};
-ghost use Rattle.limits.specs.Limits.{mostDiscount};
-ghost use Rattle.lattice.specs.RateTree.{nodeOfIndex};
-ghost use Rattle.text_laws.specs.Put.{putBefore, withText};
+ghost use Rattle.text_laws.specs.Lines.{longest_line, line_of_node};
+ghost use Rattle.limits.specs.Limits.{most_discount};
+ghost use Rattle.lattice.specs.RateTree.{node_of_index};
+ghost use Rattle.text_laws.specs.Put.{put_before, with_text};
 ghost use Rattle.text_laws.specs.inside.Put.{Put};
-ghost use Rattle.node_lines.specs.Rows.{rowText, hasRoomFor, isRow};
-ghost use Rattle.node_lines.specs.Reading.{standBefore, nodesBefore, readNumber, drawnOf};
+ghost use Rattle.node_lines.specs.Rows.{row_text, has_room_for, is_row};
+ghost use Rattle.node_lines.specs.Reading.{stand_before, nodes_before, read_number, drawn_of};
 ghost use Rattle.node_lines.specs.inside.Preconditions.{Readable};
 
 use text_laws::LONGEST_LINE;
@@ -23,7 +23,7 @@ pub struct Drawn {
 }
 
 fn has_room(count: usize, size: usize, end: usize) -> bool
-    ensures { result ≡ hasRoomFor count size end }
+    ensures { result ≡ has_room_for count size end }
 {
     if end / LONGEST_LINE < count {
         return false;
@@ -33,7 +33,7 @@ fn has_room(count: usize, size: usize, end: usize) -> bool
 
 // Whether a row with discounts can have so many nodes: an odd number, at most 2 × row + 1.
 fn is_row(row: u64, count: usize) -> bool
-    ensures { result ≡ isRow row count }
+    ensures { result ≡ is_row row count }
 {
     if LAST_ROW < row {
         return false;
@@ -45,7 +45,7 @@ fn is_row(row: u64, count: usize) -> bool
 }
 
 fn stand_before(count: usize, next: usize, size: usize) -> bool
-    ensures { result ≡ standBefore count next size }
+    ensures { result ≡ stand_before count next size }
 {
     if next < count {
         return false;
@@ -62,7 +62,7 @@ fn row_number(
     next: usize,
     count: usize,
 ) -> u64
-    ensures { result ≡ readNumber size end row discounts.now next count }
+    ensures { result ≡ read_number size end row discounts.now next count }
 {
     if !stand_before(count, next, discounts.len()) {
         return 6;
@@ -88,8 +88,8 @@ fn put_node_line(
     index: usize,
     discount: u64,
 ) -> usize
-    requires { (half_width < 60) × (index < 119) × (0 < discount) × (discount ≤ mostDiscount) × (longestLine ≤ end) × (end ≤ length out.old) }
-    ensures { Put out.old end (lineOfNode row (nodeOfIndex half_width index) discount) result out.new }
+    requires { (half_width < 60) × (index < 119) × (0 < discount) × (discount ≤ most_discount) × (longest_line ≤ end) × (end ≤ length out.old) }
+    ensures { Put out.old end (line_of_node row (node_of_index half_width index) discount) result out.new }
 {
     let node = index as i64 - half_width as i64;
     let line = text::node_line(out, end, row, node, discount);
@@ -106,8 +106,8 @@ fn put_row_nodes(
     count: usize,
 ) -> Drawn
     requires { Readable discounts.now next count end (length out.old) }
-    ensures answer { result ≡ drawnOf 0 end (rowText row (nodesBefore discounts.now next count)) (next - count) }
-    ensures memory { out.new ≡ putBefore out.old end (rowText row (nodesBefore discounts.now next count)) }
+    ensures answer { result ≡ drawn_of 0 end (row_text row (nodes_before discounts.now next count)) (next - count) }
+    ensures memory { out.new ≡ put_before out.old end (row_text row (nodes_before discounts.now next count)) }
 {
     let half_width = count / 2;
     let mut start = end;
@@ -136,10 +136,10 @@ pub fn node_lines(
     next: usize,
     count: usize,
 ) -> Drawn
-    ensures answer { result ≡ drawnOf (readNumber (length out.old) end row discounts.now next count) end
-        (rowText row (nodesBefore discounts.now next count)) (next - count) }
-    ensures memory { out.new ≡ withText (readNumber (length out.old) end row discounts.now next count)
-        out.old end (rowText row (nodesBefore discounts.now next count)) }
+    ensures answer { result ≡ drawn_of (read_number (length out.old) end row discounts.now next count) end
+        (row_text row (nodes_before discounts.now next count)) (next - count) }
+    ensures memory { out.new ≡ with_text (read_number (length out.old) end row discounts.now next count)
+        out.old end (row_text row (nodes_before discounts.now next count)) }
 {
     let number = row_number(out.len(), end, row, discounts, next, count);
     if number != 0 {

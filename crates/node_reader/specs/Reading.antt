@@ -4,5 +4,5 @@ use Rattle.std.specs.Prelude.{ℕ, cond, List, length, get_or, ltb}
 use Rattle.node_reader.specs.declared.Node.{Node}
 
 -- the node at a place: number 0 and its discount, or 6 with a zero where there is no node
-abbrev pub nodeAt : List ℕ → ℕ → Node
-nodeAt discounts next = cond (ltb next (length discounts)) (record { number = 0; discount = get_or discounts next 0 }) (record { number = 6; discount = 0 })
+abbrev pub node_at : List ℕ → ℕ → Node
+node_at discounts next = cond (ltb next (length discounts)) (record { number = 0; discount = get_or discounts next 0 }) (record { number = 6; discount = 0 })

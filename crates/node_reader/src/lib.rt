@@ -1,7 +1,7 @@
 // A reader that keeps the lent discounts and the next node. Who draws through it takes it apart and calls a function on the slice and the
 // number, which reads each node by `node_at`.
 ghost use Rattle.std.specs.Prelude.{◌≡◌};
-ghost use Rattle.node_reader.specs.Reading.{nodeAt};
+ghost use Rattle.node_reader.specs.Reading.{node_at};
 
 #[derive(Drop)]
 pub struct NodeReader<'a> {
@@ -25,7 +25,7 @@ pub fn reader_at<'a>(discounts: &'a [u64], next: usize) -> NodeReader<'a>
 
 // The node at a place of the discounts.
 pub fn node_at(discounts: &[u64], next: usize) -> Node
-    ensures { result ≡ nodeAt discounts.now next }
+    ensures { result ≡ node_at discounts.now next }
 {
     if discounts.len() <= next {
         return Node {

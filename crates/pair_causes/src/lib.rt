@@ -1,15 +1,15 @@
 // Causes of refusal about a rate tree and a spread tree, their lent discounts and their flows. Nothing lent is changed.
 ghost use Rattle.std.specs.Prelude.{◌≡◌, ◌<◌, length};
 ghost use Rattle.arithmetic.specs.Row.{values};
-ghost use Rattle.lattice.specs.Shape.{nodeCount};
+ghost use Rattle.lattice.specs.Shape.{node_count};
 ghost use Rattle.lent_tree.specs.LentTree.{stored, Accepted};
-ghost use Rattle.pair_laws.specs.PairCauses.{pairStepsCause, discounted, combinedCause, pairCause, least, AcceptedTrees};
+ghost use Rattle.pair_laws.specs.PairCauses.{pair_steps_cause, discounted, combined_cause, pair_cause, least, AcceptedTrees};
 
 const MOST_PAIR_STEPS: usize = 20;
 
 // The cause about both numbers of steps: 3 outside 1 to 60, then 19 where they are above 20 or differ; 0 where there is none.
 fn pair_steps_cause(rate_steps: usize, spread_steps: usize) -> u64
-    ensures { result ≡ pairStepsCause rate_steps spread_steps }
+    ensures { result ≡ pair_steps_cause rate_steps spread_steps }
 {
     if !limits::is_steps(rate_steps) {
         return 3;
@@ -45,7 +45,7 @@ fn least_of(xs: &[u64]) -> u64
 // The least discount of a row.
 fn least_discount(steps: usize, reversion: u64, row: usize, discounts: &[u64]) -> u64
     requires { Accepted steps reversion discounts.now × (row < steps) }
-    ensures { result ≡ least (nodeCount reversion row) (stored reversion discounts.now row) }
+    ensures { result ≡ least (node_count reversion row) (stored reversion discounts.now row) }
 {
     let shape = lattice::row_shape(reversion, steps, row);
     let start = shape.start;
@@ -79,7 +79,7 @@ fn combined_cause(
     spreads: &[u64],
 ) -> u64
     requires { AcceptedTrees steps rate_reversion spread_reversion rates.now spreads.now }
-    ensures { result ≡ combinedCause steps rate_reversion spread_reversion rates.now spreads.now }
+    ensures { result ≡ combined_cause steps rate_reversion spread_reversion rates.now spreads.now }
 {
     let mut row: usize = 0;
     while row < steps {
@@ -101,7 +101,7 @@ pub fn pair_cause(
     spread_discounts: &[u64],
     flows: &[u64],
 ) -> u64
-    ensures { result ≡ pairCause rate_steps rate_reversion rate_discounts.now spread_steps spread_reversion
+    ensures { result ≡ pair_cause rate_steps rate_reversion rate_discounts.now spread_steps spread_reversion
         spread_discounts.now flows.now }
 {
     let about_steps = pair_steps_cause(rate_steps, spread_steps);

@@ -4,14 +4,14 @@ mod squares;
 mod walk;
 
 ghost use Rattle.std.specs.Prelude.{◌≡◌, ◌≤◌, length, take};
-ghost use Rattle.limits.specs.Limits.{mostSteps, mostReversion, mostNodes};
-ghost use Rattle.lattice.specs.Shape.{nodeCount};
+ghost use Rattle.limits.specs.Limits.{most_steps, most_reversion, most_nodes};
+ghost use Rattle.lattice.specs.Shape.{node_count};
 ghost use Rattle.exercise.specs.Terms.{side};
 ghost use Rattle.pricing_laws.specs.inside.Marks.{marked};
-ghost use Rattle.price_laws.specs.Prices.{refusedPrice};
-ghost use Rattle.pricing.specs.inside.Trees.{downTable, Exercisable};
-ghost use Rattle.pair_laws.specs.PairPrices.{pairBondPrice, pairDatedPrice};
-ghost use Rattle.pair_laws.specs.inside.Accepted.{acceptedPairBond, acceptedPairOption};
+ghost use Rattle.price_laws.specs.Prices.{refused_price};
+ghost use Rattle.pricing.specs.inside.Trees.{down_table, Exercisable};
+ghost use Rattle.pair_laws.specs.PairPrices.{pair_bond_price, pair_dated_price};
+ghost use Rattle.pair_laws.specs.inside.Accepted.{accepted_pair_bond, accepted_pair_option};
 ghost use Rattle.pair_laws.specs.inside.States.{AcceptedPair};
 
 use crate::walk::Trees;
@@ -19,7 +19,7 @@ use exercise::Terms;
 use price_laws::Price;
 
 fn refused(number: u64) -> Price
-    ensures { result ≡ refusedPrice number }
+    ensures { result ≡ refused_price number }
 {
     Price {
         number,
@@ -29,15 +29,15 @@ fn refused(number: u64) -> Price
 }
 
 fn empty_table() -> [u64; limits::MOST_NODES]
-    ensures { length result ≡ mostNodes }
+    ensures { length result ≡ most_nodes }
 {
     [0; limits::MOST_NODES]
 }
 
 // The table of down-probabilities of a tree, worked out once for all rows.
 fn table_of(steps: usize, reversion: u64) -> [u64; limits::MOST_NODES]
-    requires { (steps ≤ mostSteps) × (reversion ≤ mostReversion) }
-    ensures { take (nodeCount reversion steps) result ≡ downTable steps reversion }
+    requires { (steps ≤ most_steps) × (reversion ≤ most_reversion) }
+    ensures { take (node_count reversion steps) result ≡ down_table steps reversion }
 {
     let widest = lattice::half_width(reversion, steps).value as usize;
     let nodes = 2 * widest + 1;
@@ -49,7 +49,7 @@ fn table_of(steps: usize, reversion: u64) -> [u64; limits::MOST_NODES]
 // The bond of accepted trees.
 fn accepted_bond(trees: Trees, rates: &[u64], spreads: &[u64], flows: &[u64]) -> Price
     requires { AcceptedPair trees.steps trees.rate trees.spread rates.now spreads.now flows.now }
-    ensures { result ≡ acceptedPairBond trees.steps trees.rate trees.spread rates.now spreads.now flows.now }
+    ensures { result ≡ accepted_pair_bond trees.steps trees.rate trees.spread rates.now spreads.now flows.now }
 {
     let rate_nodes = lattice::node_count(trees.rate, trees.steps).value as usize;
     let rate_table = table_of(trees.steps, trees.rate);
@@ -89,7 +89,7 @@ fn accepted_option(
 ) -> Price
     requires { AcceptedPair trees.steps trees.rate trees.spread rates.now spreads.now flows.now
         × Exercisable terms trees.steps marks.now }
-    ensures { result ≡ acceptedPairOption trees.steps trees.rate trees.spread rates.now spreads.now flows.now
+    ensures { result ≡ accepted_pair_option trees.steps trees.rate trees.spread rates.now spreads.now flows.now
         (side terms.call) terms.strike (marked terms.last marks.now) }
 {
     let rate_nodes = lattice::node_count(trees.rate, trees.steps).value as usize;
@@ -132,7 +132,7 @@ pub fn pair_bond_price(
     spread_discounts: &[u64],
     flows: &[u64],
 ) -> Price
-    ensures { result ≡ pairBondPrice rate_steps rate_reversion rate_discounts.now spread_steps spread_reversion
+    ensures { result ≡ pair_bond_price rate_steps rate_reversion rate_discounts.now spread_steps spread_reversion
         spread_discounts.now flows.now }
 {
     let cause = pair_causes::pair_cause(
@@ -168,7 +168,7 @@ pub fn pair_dated_option_price(
     dates: &[u8],
     strike: u64,
 ) -> Price
-    ensures { result ≡ pairDatedPrice rate_steps rate_reversion rate_discounts.now spread_steps spread_reversion
+    ensures { result ≡ pair_dated_price rate_steps rate_reversion rate_discounts.now spread_steps spread_reversion
         spread_discounts.now flows.now side dates.now strike }
 {
     let cause = pair_causes::pair_cause(

@@ -3,16 +3,16 @@ ghost use Rattle.std.specs.Prelude.{◌≡◌, ◌+◌, ◌*◌, ◌/◌, ◌≤
 ghost use Rattle.arithmetic.specs.Rounding.{one};
 ghost use Rattle.arithmetic.specs.Row.{values};
 ghost use Rattle.arithmetic.specs.Sum.{greatest};
-ghost use Rattle.tree.specs.Tree.{probabilityTotal};
-ghost use Rattle.limits.specs.Limits.{mostDiscount, valueLimit};
-ghost use Rattle.price_causes.specs.Causes.{mostFlow};
-ghost use Rattle.pricing_laws.specs.TreePricer.{rollRounding};
-ghost use Rattle.row_branches.specs.RowBranches.{rowBranch};
-ghost use Rattle.row_branches.specs.inside.Transitions.{branchUp, branchMiddle, branchDown, branchTotal};
+ghost use Rattle.tree.specs.Tree.{probability_total};
+ghost use Rattle.limits.specs.Limits.{most_discount, value_limit};
+ghost use Rattle.price_causes.specs.Causes.{most_flow};
+ghost use Rattle.pricing_laws.specs.TreePricer.{roll_rounding};
+ghost use Rattle.row_branches.specs.RowBranches.{row_branch};
+ghost use Rattle.row_branches.specs.inside.Transitions.{branch_up, branch_middle, branch_down, branch_total};
 ghost use Rattle.pricing.specs.inside.Rows.{Holds};
 ghost use Rattle.pair_laws.specs.inside.Square.{
-  lineSize,
-  squareSize,
+  line_size,
+  square_size,
   cell,
   AtMost,
   Cells,
@@ -21,10 +21,10 @@ ghost use Rattle.pair_laws.specs.inside.Square.{
   Column,
   Branched,
   RollablePair,
-  branchAverage,
-  rateAverage,
-  spreadValue,
-  rolledCell,
+  branch_average,
+  rate_average,
+  spread_value,
+  rolled_cell,
   exercised,
 };
 
@@ -39,7 +39,7 @@ pub(crate) const SQUARE: usize = 1681;
 
 // A square's memory.
 pub(crate) fn empty_square() -> [u64; SQUARE]
-    ensures { length result ≡ squareSize }
+    ensures { length result ≡ square_size }
 {
     [0; SQUARE]
 }
@@ -55,11 +55,11 @@ pub(crate) fn part(memory: &[u64], start: usize, count: usize) -> &[u64]
 
 // Three places of a square, one stride apart, by the probabilities of a branch; divided by their whole, nearest.
 fn average(branch: RowBranch, xs: &[u64], from: usize, stride: usize) -> u64
-    requires { (branchTotal branch ≡ probabilityTotal) × (from + 2 * stride < length xs.now) × (values xs.now from ≤ valueLimit)
-        × (values xs.now (from + stride) ≤ valueLimit) × (values xs.now (from + 2 * stride) ≤ valueLimit) }
-    ensures { (result ≡ rollRounding (branchUp branch * values xs.now (from + 2 * stride)
-        + branchMiddle branch * values xs.now (from + stride) + branchDown branch * values xs.now from) probabilityTotal)
-        × (result ≤ valueLimit) }
+    requires { (branch_total branch ≡ probability_total) × (from + 2 * stride < length xs.now) × (values xs.now from ≤ value_limit)
+        × (values xs.now (from + stride) ≤ value_limit) × (values xs.now (from + 2 * stride) ≤ value_limit) }
+    ensures { (result ≡ roll_rounding (branch_up branch * values xs.now (from + 2 * stride)
+        + branch_middle branch * values xs.now (from + stride) + branch_down branch * values xs.now from) probability_total)
+        × (result ≤ value_limit) }
 {
     let probabilities = branch.probabilities;
     let sum = probabilities[0] * xs[from + 2 * stride]
@@ -70,17 +70,17 @@ fn average(branch: RowBranch, xs: &[u64], from: usize, stride: usize) -> u64
 
 // A value times the product of two discounts over one, down; over one, nearest. It takes all 64 bits.
 fn discounted(value: u64, rate: u64, spread: u64) -> u64
-    requires { (value ≤ valueLimit) × (rate ≤ mostDiscount) × (spread ≤ mostDiscount) }
-    ensures { (result ≡ rollRounding (value * (rate * spread / one)) one) × (result ≤ 9680000000) }
+    requires { (value ≤ value_limit) × (rate ≤ most_discount) × (spread ≤ most_discount) }
+    ensures { (result ≡ roll_rounding (value * (rate * spread / one)) one) × (result ≤ 9680000000) }
 {
     (value * (rate * spread / ONE) + ONE / 2) / ONE
 }
 
 // Along the rate side at one node of the rates, over every column of the later square.
 fn rate_line(branch: RowBranch, line: usize, width: usize, later: &[u64], middle: &mut [u64])
-    requires { (branchTotal branch ≡ probabilityTotal) × (branch.low + 2 < lineSize) × (line < lineSize) × (width ≤ lineSize)
-        × Most valueLimit (branch.low + 3) width later.now × (length later.now ≡ squareSize) × (length middle.old ≡ squareSize) }
-    ensures { (length middle.new ≡ squareSize) × Line line (λ l. branchAverage branch (λ a. cell later.now a l))
+    requires { (branch_total branch ≡ probability_total) × (branch.low + 2 < line_size) × (line < line_size) × (width ≤ line_size)
+        × Most value_limit (branch.low + 3) width later.now × (length later.now ≡ square_size) × (length middle.old ≡ square_size) }
+    ensures { (length middle.new ≡ square_size) × Line line (λ l. branch_average branch (λ a. cell later.now a l))
         middle.old middle.new width }
 {
     let from = LINE * branch.low;
@@ -93,9 +93,9 @@ fn rate_line(branch: RowBranch, line: usize, width: usize, later: &[u64], middle
 
 // Along the rate side at every node of the rates.
 fn rate_side(downs: &[u64], next: usize, width: usize, later: &[u64], middle: &mut [u64])
-    requires { Branched downs.now next × (length downs.now ≤ lineSize) × (next ≤ lineSize) × (width ≤ lineSize)
-        × Most valueLimit next width later.now × (length later.now ≡ squareSize) × (length middle.old ≡ squareSize) }
-    ensures { (length middle.new ≡ squareSize) × Cells (rateAverage downs.now next later.now)
+    requires { Branched downs.now next × (length downs.now ≤ line_size) × (next ≤ line_size) × (width ≤ line_size)
+        × Most value_limit next width later.now × (length later.now ≡ square_size) × (length middle.old ≡ square_size) }
+    ensures { (length middle.new ≡ square_size) × Cells (rate_average downs.now next later.now)
         (length downs.now) width middle.new }
 {
     let mut j: usize = 0;
@@ -116,12 +116,12 @@ fn spread_column(
     flow: u64,
     square: &mut [u64],
 )
-    requires { (branchTotal branch ≡ probabilityTotal) × (branch.low + 2 < lineSize) × (column < lineSize) × (length rates.now ≤ lineSize)
-        × AtMost mostDiscount rates.now (length rates.now) × (spread ≤ mostDiscount) × (flow ≤ mostFlow)
-        × Most valueLimit (length rates.now) (branch.low + 3) middle.now × (length middle.now ≡ squareSize)
-        × (length square.old ≡ squareSize) }
-    ensures { (length square.new ≡ squareSize)
-        × Column column (λ a. spreadValue branch (values rates.now a) spread (cell middle.now a) + flow)
+    requires { (branch_total branch ≡ probability_total) × (branch.low + 2 < line_size) × (column < line_size) × (length rates.now ≤ line_size)
+        × AtMost most_discount rates.now (length rates.now) × (spread ≤ most_discount) × (flow ≤ most_flow)
+        × Most value_limit (length rates.now) (branch.low + 3) middle.now × (length middle.now ≡ square_size)
+        × (length square.old ≡ square_size) }
+    ensures { (length square.new ≡ square_size)
+        × Column column (λ a. spread_value branch (values rates.now a) spread (cell middle.now a) + flow)
         square.old square.new (length rates.now) }
 {
     let low = branch.low;
@@ -143,12 +143,12 @@ fn spread_side(
     flow: u64,
     square: &mut [u64],
 )
-    requires { Branched downs.now next × (length spreads.now ≡ length downs.now) × (length downs.now ≤ lineSize) × (next ≤ lineSize)
-        × (length rates.now ≤ lineSize) × AtMost mostDiscount rates.now (length rates.now)
-        × AtMost mostDiscount spreads.now (length spreads.now) × (flow ≤ mostFlow) × Most valueLimit (length rates.now) next middle.now
-        × (length middle.now ≡ squareSize) × (length square.old ≡ squareSize) }
-    ensures { (length square.new ≡ squareSize)
-        × Cells (λ a l. spreadValue (rowBranch downs.now next l) (values rates.now a) (values spreads.now l)
+    requires { Branched downs.now next × (length spreads.now ≡ length downs.now) × (length downs.now ≤ line_size) × (next ≤ line_size)
+        × (length rates.now ≤ line_size) × AtMost most_discount rates.now (length rates.now)
+        × AtMost most_discount spreads.now (length spreads.now) × (flow ≤ most_flow) × Most value_limit (length rates.now) next middle.now
+        × (length middle.now ≡ square_size) × (length square.old ≡ square_size) }
+    ensures { (length square.new ≡ square_size)
+        × Cells (λ a l. spread_value (row_branch downs.now next l) (values rates.now a) (values spreads.now l)
         (cell middle.now a) + flow) (length rates.now) (length spreads.now) square.new }
 {
     let mut l: usize = 0;
@@ -172,19 +172,19 @@ pub(crate) fn roll(
     middle: &mut [u64],
 )
     requires { RollablePair (record {
-      rateDowns = rate_downs.now;
-      spreadDowns = spread_downs.now;
-      rateNext = rate_next;
-      spreadNext = spread_next;
+      rate_downs = rate_downs.now;
+      spread_downs = spread_downs.now;
+      rate_next = rate_next;
+      spread_next = spread_next;
       rates = rates.now;
       spreads = spreads.now;
-    }) flow × Most valueLimit rate_next spread_next square.old
-        × (length square.old ≡ squareSize) × (length middle.old ≡ squareSize) }
-    ensures { Cells (λ a l. rolledCell (record {
-      rateDowns = rate_downs.now;
-      spreadDowns = spread_downs.now;
-      rateNext = rate_next;
-      spreadNext = spread_next;
+    }) flow × Most value_limit rate_next spread_next square.old
+        × (length square.old ≡ square_size) × (length middle.old ≡ square_size) }
+    ensures { Cells (λ a l. rolled_cell (record {
+      rate_downs = rate_downs.now;
+      spread_downs = spread_downs.now;
+      rate_next = rate_next;
+      spread_next = spread_next;
       rates = rates.now;
       spreads = spreads.now;
     }) square.old a l
@@ -204,7 +204,7 @@ pub(crate) fn roll(
 
 // The greatest value of the first places of the first lines.
 pub(crate) fn greatest_value(lines: usize, width: usize, square: &[u64]) -> u64
-    requires { (lines ≤ lineSize) × (width ≤ lineSize) × (length square.now ≡ squareSize) }
+    requires { (lines ≤ line_size) × (width ≤ line_size) × (length square.now ≡ square_size) }
     ensures { result ≡ greatest lines (λ a. greatest width (λ l. cell square.now a l)) }
 {
     let mut best: u64 = 0;
@@ -238,8 +238,8 @@ pub(crate) fn exercise_square(
     bonds: &[u64],
     square: &mut [u64],
 )
-    requires { (lines ≤ lineSize) × (length bonds.now ≡ squareSize) × (length square.old ≡ squareSize) }
-    ensures { Holds square.new (lineSize * lines)
+    requires { (lines ≤ line_size) × (length bonds.now ≡ square_size) × (length square.old ≡ square_size) }
+    ensures { Holds square.new (line_size * lines)
         (λ k. exercised listed call strike flow (values square.old k) (values bonds.now k)) }
 {
     if !listed {

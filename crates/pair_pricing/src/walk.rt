@@ -1,21 +1,21 @@
 // The way back through two trees, row by row.
 ghost use Rattle.std.specs.Prelude.{◌≡◌, ◌+◌, ◌-◌, ◌*◌, ◌<◌, ◌≤◌, length};
 ghost use Rattle.arithmetic.specs.Rounding.{one, round_up};
-ghost use Rattle.limits.specs.Limits.{mostReversion};
-ghost use Rattle.lattice.specs.Shape.{nodeCount};
-ghost use Rattle.lattice.specs.RateTree.{rateTree};
+ghost use Rattle.limits.specs.Limits.{most_reversion};
+ghost use Rattle.lattice.specs.Shape.{node_count};
+ghost use Rattle.lattice.specs.RateTree.{rate_tree};
 ghost use Rattle.lent_tree.specs.LentTree.{stored, Accepted};
-ghost use Rattle.price_causes.specs.Causes.{mostFlow};
+ghost use Rattle.price_causes.specs.Causes.{most_flow};
 ghost use Rattle.pricing_laws.specs.Pricer.{exercise};
 ghost use Rattle.pricing_laws.specs.inside.Marks.{marked};
-ghost use Rattle.pricing_laws.specs.TreePricer.{greatestDiscount, rollLoss};
+ghost use Rattle.pricing_laws.specs.TreePricer.{greatest_discount, roll_loss};
 ghost use Rattle.exercise.specs.Terms.{side};
-ghost use Rattle.price_laws.specs.Prices.{flowAt};
+ghost use Rattle.price_laws.specs.Prices.{flow_at};
 ghost use Rattle.pricing.specs.inside.Trees.{Exercisable};
 ghost use Rattle.pair_laws.specs.Pair.{Pair, Stands};
-ghost use Rattle.pair_laws.specs.PairCauses.{mostPairSteps, AcceptedTrees};
-ghost use Rattle.pair_laws.specs.PairPrices.{greatestOfRow, greatestPair, pairBound};
-ghost use Rattle.pair_laws.specs.inside.Accepted.{rollOf};
+ghost use Rattle.pair_laws.specs.PairCauses.{most_pair_steps, AcceptedTrees};
+ghost use Rattle.pair_laws.specs.PairPrices.{greatest_of_row, greatest_pair, pair_bound};
+ghost use Rattle.pair_laws.specs.inside.Accepted.{roll_of};
 ghost use Rattle.pair_laws.specs.inside.Square.{square, LimitedPairs};
 ghost use Rattle.pair_laws.specs.inside.States.{AcceptedPair, Tables, Bonds, RolledBond, Options, RolledBoth, BondRow, OptionRow};
 
@@ -35,7 +35,7 @@ pub(crate) struct Trees {
 // The flow of a row; row 0 has none.
 fn flow_of(flows: &[u64], row: usize) -> u64
     requires { row ≤ length flows.now }
-    ensures { result ≡ flowAt flows.now row }
+    ensures { result ≡ flow_at flows.now row }
 {
     if row == 0 {
         return 0;
@@ -56,10 +56,10 @@ fn roll_row(
     middle: &mut [u64; SQUARE],
 )
     requires { AcceptedTrees trees.steps trees.rate trees.spread rates.now spreads.now
-        × Tables trees.steps trees.rate trees.spread rate_downs.now spread_downs.now × (row < trees.steps) × (flow ≤ mostFlow)
+        × Tables trees.steps trees.rate trees.spread rate_downs.now spread_downs.now × (row < trees.steps) × (flow ≤ most_flow)
         × LimitedPairs trees.rate trees.spread (row + 1) memory.old }
-    ensures { (k : Pair) → Stands (rateTree trees.rate) (rateTree trees.spread) row k → square memory.new k
-        ≡ rollOf trees.rate trees.spread rates.now spreads.now row (square memory.old) k + flow }
+    ensures { (k : Pair) → Stands (rate_tree trees.rate) (rate_tree trees.spread) row k → square memory.new k
+        ≡ roll_of trees.rate trees.spread rates.now spreads.now row (square memory.old) k + flow }
 {
     let rate = lattice::row_shape(trees.rate, trees.steps, row);
     let spread = lattice::row_shape(trees.spread, trees.steps, row);
@@ -78,16 +78,16 @@ fn roll_row(
 
 // The nodes of a row of the rates.
 fn lines_of(trees: Trees, row: usize) -> usize
-    requires { (trees.rate ≤ mostReversion) × (row ≤ mostPairSteps) }
-    ensures { result ≡ nodeCount trees.rate row }
+    requires { (trees.rate ≤ most_reversion) × (row ≤ most_pair_steps) }
+    ensures { result ≡ node_count trees.rate row }
 {
     lattice::node_count(trees.rate, row).value as usize
 }
 
 // The greatest value of a row.
 fn greatest_of_row(trees: Trees, row: usize, memory: &[u64; SQUARE]) -> u64
-    requires { (trees.rate ≤ mostReversion) × (trees.spread ≤ mostReversion) × (row ≤ mostPairSteps) }
-    ensures { result ≡ greatestPair trees.rate trees.spread row (square memory.now) }
+    requires { (trees.rate ≤ most_reversion) × (trees.spread ≤ most_reversion) × (row ≤ most_pair_steps) }
+    ensures { result ≡ greatest_pair trees.rate trees.spread row (square memory.now) }
 {
     let lines = lattice::node_count(trees.rate, row).value as usize;
     let width = lattice::node_count(trees.spread, row).value as usize;
@@ -107,7 +107,7 @@ fn bond_row(
     middle: &mut [u64; SQUARE],
 ) -> u64
     requires { AcceptedTrees trees.steps trees.rate trees.spread rates.now spreads.now
-        × Tables trees.steps trees.rate trees.spread rate_downs.now spread_downs.now × (row < trees.steps) × (flow ≤ mostFlow)
+        × Tables trees.steps trees.rate trees.spread rate_downs.now spread_downs.now × (row < trees.steps) × (flow ≤ most_flow)
         × LimitedPairs trees.rate trees.spread (row + 1) bond.old }
     ensures { BondRow trees.rate trees.spread rates.now spreads.now row flow bond.old bond.new result }
 {
@@ -218,8 +218,8 @@ fn expiry_row(
     bond: &[u64; SQUARE],
     option: &mut [u64; SQUARE],
 )
-    requires { (trees.rate ≤ mostReversion) × (row ≤ mostPairSteps) }
-    ensures { (k : Pair) → Stands (rateTree trees.rate) (rateTree trees.spread) row k → square option.new k
+    requires { (trees.rate ≤ most_reversion) × (row ≤ most_pair_steps) }
+    ensures { (k : Pair) → Stands (rate_tree trees.rate) (rate_tree trees.spread) row k → square option.new k
         ≡ exercise (side terms.call) terms.strike (square bond.now k - flow) }
 {
     squares::fill(0, option);
@@ -298,7 +298,7 @@ fn roll_both(
 // The greatest discount of a row of a tree.
 fn greatest_discount(steps: usize, reversion: u64, row: usize, discounts: &[u64]) -> u64
     requires { Accepted steps reversion discounts.now × (row < steps) }
-    ensures { result ≡ greatestDiscount (rateTree reversion) (stored reversion discounts.now) row }
+    ensures { result ≡ greatest_discount (rate_tree reversion) (stored reversion discounts.now) row }
 {
     let shape = lattice::row_shape(reversion, steps, row);
     let start = shape.start;
@@ -309,8 +309,8 @@ fn greatest_discount(steps: usize, reversion: u64, row: usize, discounts: &[u64]
 // The error bound of a row from the later one. The greatest discount of a pair is that of the greatest of both rows.
 fn bound_step(trees: Trees, row: usize, rates: &[u64], spreads: &[u64], later: u64) -> u64
     requires { AcceptedTrees trees.steps trees.rate trees.spread rates.now spreads.now × (row < trees.steps) × (later ≤ 1000000) }
-    ensures { result ≡ round_up (greatestOfRow trees.rate trees.spread rates.now spreads.now row * later) one
-        + rollLoss }
+    ensures { result ≡ round_up (greatest_of_row trees.rate trees.spread rates.now spreads.now row * later) one
+        + roll_loss }
 {
     let rate = greatest_discount(trees.steps, trees.rate, row, rates);
     let spread = greatest_discount(trees.steps, trees.spread, row, spreads);
@@ -320,7 +320,7 @@ fn bound_step(trees: Trees, row: usize, rates: &[u64], spreads: &[u64], later: u
 // The error bound of row 0.
 pub(crate) fn error_bound(trees: Trees, rates: &[u64], spreads: &[u64]) -> u64
     requires { AcceptedTrees trees.steps trees.rate trees.spread rates.now spreads.now }
-    ensures { result ≡ pairBound trees.steps trees.rate trees.spread rates.now spreads.now }
+    ensures { result ≡ pair_bound trees.steps trees.rate trees.spread rates.now spreads.now }
 {
     let mut bound: u64 = 0;
     let mut row = trees.steps;

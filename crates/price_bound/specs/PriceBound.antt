@@ -5,30 +5,30 @@ use Rattle.std.specs.Prelude.{ℕ, cond, List, eqb, replicate}
 use Rattle.arithmetic.specs.Row.{padded}
 use Rattle.arithmetic.specs.declared.Answer.{Answer}
 use Rattle.arithmetic.specs.Answers.{refused, answered}
-use Rattle.limits.specs.Limits.{mostSteps}
-use Rattle.lattice.specs.RateTree.{rateTree}
-use Rattle.lent_tree.specs.LentTree.{stored, discountsCause}
-use Rattle.pricing_laws.specs.TreePricer.{greatestDiscount, priceErrorBound}
+use Rattle.limits.specs.Limits.{most_steps}
+use Rattle.lattice.specs.RateTree.{rate_tree}
+use Rattle.lent_tree.specs.LentTree.{stored, discounts_cause}
+use Rattle.pricing_laws.specs.TreePricer.{greatest_discount, price_error_bound}
 use Rattle.price_bound.specs.declared.TreeErrorBounds.{TreeErrorBounds}
 
 -- the price allowance of row 0
-unfoldable pub treeErrorBound : ℕ → ℕ → List ℕ → ℕ
-treeErrorBound n b discounts = priceErrorBound (rateTree b) (stored b discounts) n 0
+unfoldable pub tree_error_bound : ℕ → ℕ → List ℕ → ℕ
+tree_error_bound n b discounts = price_error_bound (rate_tree b) (stored b discounts) n 0
 
-unfoldable pub priceErrorBoundAnswer : ℕ → ℕ → List ℕ → Answer
-priceErrorBoundAnswer n b discounts =
-    cond (eqb (discountsCause n b discounts) 0) (answered (treeErrorBound n b discounts)) (refused (discountsCause n b discounts))
+unfoldable pub price_error_bound_answer : ℕ → ℕ → List ℕ → Answer
+price_error_bound_answer n b discounts =
+    cond (eqb (discounts_cause n b discounts) 0) (answered (tree_error_bound n b discounts)) (refused (discounts_cause n b discounts))
 
 -- G of rows 0 to n − 1, in as many places as a tree may have rows with discounts; 0 past them
-unfoldable pub greatestDiscounts : ℕ → ℕ → List ℕ → List ℕ
-greatestDiscounts n b discounts = padded mostSteps n (greatestDiscount (rateTree b) (stored b discounts))
+unfoldable pub greatest_discounts : ℕ → ℕ → List ℕ → List ℕ
+greatest_discounts n b discounts = padded most_steps n (greatest_discount (rate_tree b) (stored b discounts))
 
-abbrev pub refusedBounds : ℕ → TreeErrorBounds
-refusedBounds number = record { number = number; bound = 0; greatest = replicate mostSteps 0 }
+abbrev pub refused_bounds : ℕ → TreeErrorBounds
+refused_bounds number = record { number = number; bound = 0; greatest = replicate most_steps 0 }
 
 -- both, or a refusal's number with zeros
-unfoldable pub treeBoundsAnswer : ℕ → ℕ → List ℕ → TreeErrorBounds
-treeBoundsAnswer n b discounts =
-    cond (eqb (discountsCause n b discounts) 0)
-    (record { number = 0; bound = treeErrorBound n b discounts; greatest = greatestDiscounts n b discounts })
-    (refusedBounds (discountsCause n b discounts))
+unfoldable pub tree_bounds_answer : ℕ → ℕ → List ℕ → TreeErrorBounds
+tree_bounds_answer n b discounts =
+    cond (eqb (discounts_cause n b discounts) 0)
+    (record { number = 0; bound = tree_error_bound n b discounts; greatest = greatest_discounts n b discounts })
+    (refused_bounds (discounts_cause n b discounts))

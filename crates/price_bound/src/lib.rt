@@ -1,15 +1,15 @@
 // How far the prices on a tree may be from the exact ones, and the greatest discounts of its rows, from its lent discounts.
 ghost use Rattle.std.specs.Prelude.{◌≡◌, true, false, ◌<◌, length, replicate};
-ghost use Rattle.limits.specs.Limits.{mostSteps, isDiscount};
-ghost use Rattle.lattice.specs.RateTree.{rateTree};
-ghost use Rattle.lent_tree.specs.LentTree.{stored, acceptedDiscounts};
+ghost use Rattle.limits.specs.Limits.{most_steps, is_discount};
+ghost use Rattle.lattice.specs.RateTree.{rate_tree};
+ghost use Rattle.lent_tree.specs.LentTree.{stored, accepted_discounts};
 ghost use Rattle.lent_tree.specs.inside.Lent.{Lent};
 ghost use Rattle.arithmetic.specs.Row.{values, each};
 ghost use Rattle.arithmetic.specs.Sum.{greatest};
-ghost use Rattle.pricing_laws.specs.Pricer.{errorBound};
-ghost use Rattle.pricing_laws.specs.TreePricer.{greatestDiscount, rollLoss};
-ghost use Rattle.price_bound.specs.PriceBound.{priceErrorBoundAnswer, greatestDiscounts, refusedBounds, treeBoundsAnswer};
-ghost use Rattle.price_bound.specs.inside.Rows.{rowAccepted, RowsBounded};
+ghost use Rattle.pricing_laws.specs.Pricer.{error_bound};
+ghost use Rattle.pricing_laws.specs.TreePricer.{greatest_discount, roll_loss};
+ghost use Rattle.price_bound.specs.PriceBound.{price_error_bound_answer, greatest_discounts, refused_bounds, tree_bounds_answer};
+ghost use Rattle.price_bound.specs.inside.Rows.{row_accepted, RowsBounded};
 
 use arithmetic::{Answer, ONE};
 use limits::MOST_STEPS;
@@ -48,7 +48,7 @@ fn refused_row() -> RowRange
 
 // One pass: the least discount and the greatest decide whether all are accepted.
 fn range_of(discounts: &[u64]) -> RowRange
-    ensures within { result.within ≡ each (length discounts.now) (λ k. isDiscount (values discounts.now k)) }
+    ensures within { result.within ≡ each (length discounts.now) (λ k. is_discount (values discounts.now k)) }
     ensures greatest { result.within ≡ true → result.greatest ≡ greatest (length discounts.now) (values discounts.now) }
 {
     let mut top: u64 = 0;
@@ -69,8 +69,8 @@ fn range_of(discounts: &[u64]) -> RowRange
 
 fn row_range(steps: usize, reversion: u64, row: usize, discounts: &[u64]) -> RowRange
     requires { Lent steps reversion discounts.now × (row < steps) }
-    ensures within { result.within ≡ rowAccepted reversion discounts.now row }
-    ensures greatest { result.within ≡ true → result.greatest ≡ greatestDiscount (rateTree reversion) (stored reversion discounts.now) row }
+    ensures within { result.within ≡ row_accepted reversion discounts.now row }
+    ensures greatest { result.within ≡ true → result.greatest ≡ greatest_discount (rate_tree reversion) (stored reversion discounts.now) row }
 {
     let shape = lattice::row_shape(reversion, steps, row);
     let start = shape.start;
@@ -80,7 +80,7 @@ fn row_range(steps: usize, reversion: u64, row: usize, discounts: &[u64]) -> Row
 
 // Zeros, made apart so that no proof above sees them one by one.
 fn no_rows() -> [u64; MOST_STEPS]
-    ensures { result ≡ replicate mostSteps 0 }
+    ensures { result ≡ replicate most_steps 0 }
 {
     [0; MOST_STEPS]
 }
@@ -98,8 +98,8 @@ fn refused_tree() -> TreeRange
 
 fn tree_range(steps: usize, reversion: u64, discounts: &[u64]) -> TreeRange
     requires { Lent steps reversion discounts.now }
-    ensures within { result.within ≡ acceptedDiscounts steps reversion discounts.now }
-    ensures greatest { result.within ≡ true → result.greatest ≡ greatestDiscounts steps reversion discounts.now }
+    ensures within { result.within ≡ accepted_discounts steps reversion discounts.now }
+    ensures greatest { result.within ≡ true → result.greatest ≡ greatest_discounts steps reversion discounts.now }
 {
     let mut rows = no_rows();
     let mut row: usize = 0;
@@ -120,7 +120,7 @@ fn tree_range(steps: usize, reversion: u64, discounts: &[u64]) -> TreeRange
 // The error bound of row 0, from the greatest discounts of the rows.
 fn error_bound(steps: usize, rows: [u64; MOST_STEPS]) -> u64
     requires { RowsBounded steps rows }
-    ensures { result ≡ errorBound rollLoss (values rows) steps 0 }
+    ensures { result ≡ error_bound roll_loss (values rows) steps 0 }
 {
     let mut bound: u64 = 0;
     let mut row = steps;
@@ -132,7 +132,7 @@ fn error_bound(steps: usize, rows: [u64; MOST_STEPS]) -> u64
 }
 
 fn refused_bounds(number: u64) -> TreeErrorBounds
-    ensures { result ≡ refusedBounds number }
+    ensures { result ≡ refused_bounds number }
 {
     let none = no_rows();
     TreeErrorBounds {
@@ -145,7 +145,7 @@ fn refused_bounds(number: u64) -> TreeErrorBounds
 // The error bound of bonds and options on the tree whose discounts are lent, and the greatest discounts of its rows; 3, 4, 6 or 9 where the tree
 // is refused. The discounts are judged in the pass that looks for the greatest.
 pub fn tree_bounds(steps: usize, reversion: u64, discounts: &[u64]) -> TreeErrorBounds
-    ensures { result ≡ treeBoundsAnswer steps reversion discounts.now }
+    ensures { result ≡ tree_bounds_answer steps reversion discounts.now }
 {
     let cause = lent_tree::room_cause(steps, reversion, discounts);
     if cause != 0 {
@@ -165,7 +165,7 @@ pub fn tree_bounds(steps: usize, reversion: u64, discounts: &[u64]) -> TreeError
 
 // The error bound alone.
 pub fn price_error_bound(steps: usize, reversion: u64, discounts: &[u64]) -> Answer
-    ensures { result ≡ priceErrorBoundAnswer steps reversion discounts.now }
+    ensures { result ≡ price_error_bound_answer steps reversion discounts.now }
 {
     let found = tree_bounds(steps, reversion, discounts);
     Answer {

@@ -1,12 +1,12 @@
 // Causes of refusal about a bond's flows and about an option.
 ghost use Rattle.std.specs.Prelude.{◌≡◌};
-ghost use Rattle.price_causes.specs.Causes.{flowsCause, optionCause, termsCause};
+ghost use Rattle.price_causes.specs.Causes.{flows_cause, option_cause, terms_cause};
 
 const MOST_STRIKE: u64 = 4_000_000_000;
 
 // The cause about flows: 6 where they are not as many as the steps, then 10 for one above its limit; 0 where there is none.
 pub fn flows_cause(steps: usize, flows: &[u64]) -> u64
-    ensures { result ≡ flowsCause steps flows.now }
+    ensures { result ≡ flows_cause steps flows.now }
 {
     if flows.len() != steps {
         return 6;
@@ -19,7 +19,7 @@ pub fn flows_cause(steps: usize, flows: &[u64]) -> u64
 
 // The cause about an option's kind, expiry and strike; 0 where there is none.
 pub fn option_cause(steps: usize, kind: u64, expiry: usize, strike: u64) -> u64
-    ensures { result ≡ optionCause steps kind expiry strike }
+    ensures { result ≡ option_cause steps kind expiry strike }
 {
     if kind < 1 {
         return 11;
@@ -38,7 +38,7 @@ pub fn option_cause(steps: usize, kind: u64, expiry: usize, strike: u64) -> u64
 
 // The cause about a dated option's side and strike; 0 where there is none.
 pub fn terms_cause(side: u64, strike: u64) -> u64
-    ensures { result ≡ termsCause side strike }
+    ensures { result ≡ terms_cause side strike }
 {
     if side < 1 {
         return 11;

@@ -5,29 +5,29 @@
 use Rattle.std.specs.Prelude.{ℕ, List}
 use Rattle.arithmetic.specs.Within.{Within}
 use Rattle.arithmetic.specs.Row.{values}
-use Rattle.lattice.specs.RateTree.{rateTree}
-use Rattle.pricing_laws.specs.Pricer.{bond, option, payoffValue}
-use Rattle.pricing_laws.specs.Schedule.{side_of, scheduleOf, numberedSide, datedSchedule}
+use Rattle.lattice.specs.RateTree.{rate_tree}
+use Rattle.pricing_laws.specs.Pricer.{bond, option, payoff_value}
+use Rattle.pricing_laws.specs.Schedule.{side_of, schedule_of, numbered_side, dated_schedule}
 use Rattle.pricing_laws.specs.TreePricer.{exact}
 use Rattle.lent_tree.specs.LentTree.{stored}
 use Rattle.price_laws.specs.declared.Price.{Price}
-use Rattle.price_laws.specs.Prices.{flowAt}
+use Rattle.price_laws.specs.Prices.{flow_at}
 
-unfoldable pub exactBond : ℕ → ℕ → List ℕ → List ℕ → ℕ
-exactBond n b discounts flows = bond (exact (rateTree b) (stored b discounts)) (flowAt flows) n 0 0
+unfoldable pub exact_bond : ℕ → ℕ → List ℕ → List ℕ → ℕ
+exact_bond n b discounts flows = bond (exact (rate_tree b) (stored b discounts)) (flow_at flows) n 0 0
 
-unfoldable pub exactOption : ℕ → ℕ → List ℕ → List ℕ → ℕ → ℕ → ℕ → ℕ
-exactOption n b discounts flows kind expiry strike =
-    option (exact (rateTree b) (stored b discounts)) (flowAt flows) n (side_of kind) strike (scheduleOf kind expiry) 0 0
+unfoldable pub exact_option : ℕ → ℕ → List ℕ → List ℕ → ℕ → ℕ → ℕ → ℕ
+exact_option n b discounts flows kind expiry strike =
+    option (exact (rate_tree b) (stored b discounts)) (flow_at flows) n (side_of kind) strike (schedule_of kind expiry) 0 0
 
-unfoldable pub exactDated : ℕ → ℕ → List ℕ → List ℕ → ℕ → List ℕ → ℕ → ℕ
-exactDated n b discounts flows side dates strike =
-    option (exact (rateTree b) (stored b discounts)) (flowAt flows) n (numberedSide side) strike (datedSchedule dates) 0 0
+unfoldable pub exact_dated : ℕ → ℕ → List ℕ → List ℕ → ℕ → List ℕ → ℕ → ℕ
+exact_dated n b discounts flows side dates strike =
+    option (exact (rate_tree b) (stored b discounts)) (flow_at flows) n (numbered_side side) strike (dated_schedule dates) 0 0
 
 -- payoffs on row t, rolled to row 0 without flows
-unfoldable pub exactPayoff : ℕ → List ℕ → ℕ → List ℕ → ℕ
-exactPayoff b discounts t payoffs = payoffValue (exact (rateTree b) (stored b discounts)) (values payoffs) t 0 0
+unfoldable pub exact_payoff : ℕ → List ℕ → ℕ → List ℕ → ℕ
+exact_payoff b discounts t payoffs = payoff_value (exact (rate_tree b) (stored b discounts)) (values payoffs) t 0 0
 
 -- a price is within its own error bound of the exact price, which is held times a scale
 abbrev pub Accurate : ℕ → Price → ℕ → Type 0
-Accurate scale price exactPrice = Within price.bound scale price.value exactPrice
+Accurate scale price exact_price = Within price.bound scale price.value exact_price

@@ -12,14 +12,14 @@ use Rattle.arithmetic.specs.Sum.{greatest}
 use Rattle.arithmetic.proofs.SumLaws.{greatest-none, greatest-next}
 use Rattle.arithmetic.proofs.RowLaws.{Filled, filled_next}
 use Rattle.arithmetic.proofs.Implied.{Implied, lastly, ◌▸◌}
-use Rattle.tree.specs.Tree.{probabilityTotal}
-use Rattle.pricing_laws.specs.Pricer.{Side, exercise, heldOrExercised}
+use Rattle.tree.specs.Tree.{probability_total}
+use Rattle.pricing_laws.specs.Pricer.{Side, exercise, held_or_exercised}
 use Rattle.row_branches.specs.declared.RowBranch.{RowBranch}
-use Rattle.row_branches.specs.RowBranches.{opposite, rowBranch}
-use Rattle.row_branches.specs.inside.Transitions.{branchTotal}
+use Rattle.row_branches.specs.RowBranches.{opposite, row_branch}
+use Rattle.row_branches.specs.inside.Transitions.{branch_total}
 use Rattle.row_branches.proofs.BranchLaws.{branch-filled}
 use Rattle.pricing.specs.declared.rows.Span.{Span}
-use Rattle.pricing.specs.inside.Rows.{branchRoll, rolledRow, optionValues, spanBranch, Rollable, Leads, Limited, Later, FilledRow, FilledRows}
+use Rattle.pricing.specs.inside.Rows.{branch_roll, rolled_row, option_values, span_branch, Rollable, Leads, Limited, Later, FilledRow, FilledRows}
 
 -- a node of a span: what its branch asks, and that it is the row's
 module _ (downs discounts : List ℕ) (span : Span) (k : ℕ) (r : Rollable downs discounts span.next) (l : Leads downs span (length discounts))
@@ -33,32 +33,32 @@ module _ (downs discounts : List ℕ) (span : Span) (k : ℕ) (r : Rollable down
   pub span-shifted : span.shift ≤ k
   span-shifted = omega (arith, l.shifted)
 
-  pub span-whole : values downs k + opposite downs k ≤ probabilityTotal
+  pub span-whole : values downs k + opposite downs k ≤ probability_total
   span-whole = (branch-filled downs span.next k (r.total k within)).0
 
-  pub span-is : (b : RowBranch) → b ≡ spanBranch downs span.shift k → b ≡ rowBranch downs span.next k
+  pub span-is : (b : RowBranch) → b ≡ span_branch downs span.shift k → b ≡ row_branch downs span.next k
   span-is b e =
-      e ∙ ap (λ (x : ℕ). record { low = x; probabilities = (spanBranch downs span.shift k).probabilities }) (sym (l.leads k from to))
+      e ∙ ap (λ (x : ℕ). record { low = x; probabilities = (span_branch downs span.shift k).probabilities }) (sym (l.leads k from to))
       ∙ (branch-filled downs span.next k (r.total k within)).1
 
 -- what the roll of a node asks of its branch
 module _ {downs discounts later : List ℕ} {next k : ℕ} (r : Rollable downs discounts next) (l : Later later next) (hk : k < length discounts)
-    (b : RowBranch) (e : b ≡ rowBranch downs next k) where
-  low-is : b.low ≡ (rowBranch downs next k).low
+    (b : RowBranch) (e : b ≡ row_branch downs next k) where
+  low-is : b.low ≡ (row_branch downs next k).low
   low-is = ap (λ (x : RowBranch). x.low) e
 
   pub branch-inside : b.low + 2 < length later
   branch-inside = omega (arith, low-is, r.inside k hk, l.room)
 
-  pub branch-whole : branchTotal b ≡ probabilityTotal
+  pub branch-whole : branch_total b ≡ probability_total
   branch-whole = rw e (r.total k hk)
 
   pub branch-limited : Limited later (b.low + 3)
   branch-limited j h = l.limited j (omega (arith, low-is, r.inside k hk))
 
-  pub branch-rolled : (x : ℕ) → x ≡ branchRoll b (values later) (values discounts k) → x ≡ rolledRow later downs discounts next k
-  unfolding rolledRow
-  branch-rolled x h = h ∙ ap (λ (y : RowBranch). branchRoll y (values later) (values discounts k)) e
+  pub branch-rolled : (x : ℕ) → x ≡ branch_roll b (values later) (values discounts k) → x ≡ rolled_row later downs discounts next k
+  unfolding rolled_row
+  branch-rolled x h = h ∙ ap (λ (y : RowBranch). branch_roll y (values later) (values discounts k)) e
 
 -- The loop over a row: k nodes done, and the greatest of them.
 pub record Row-state (row₀ row : List ℕ) (f : ℕ → ℕ) (top k : ℕ) : Type 0 where
@@ -135,8 +135,8 @@ rows-done {f} {g} s e =
 pub option-from-roll :
     (side : Side) (strike : ℕ) (listed : Bool) {bonds options downs discounts : List ℕ} {next k bond roll r : ℕ} →
     Implied (bonds ▸ options ▸ downs ▸ discounts ▸ next ▸ lastly k) →
-    bond ≡ rolledRow bonds downs discounts next k → roll ≡ rolledRow options downs discounts next k →
-    r ≡ heldOrExercised listed roll (exercise side strike bond) →
-    r ≡ optionValues side strike listed bonds options downs discounts next k
+    bond ≡ rolled_row bonds downs discounts next k → roll ≡ rolled_row options downs discounts next k →
+    r ≡ held_or_exercised listed roll (exercise side strike bond) →
+    r ≡ option_values side strike listed bonds options downs discounts next k
 option-from-roll side strike listed _ eb eo er =
-    er ∙ ap₂ (λ (x y : ℕ). heldOrExercised listed x (exercise side strike y)) eo eb
+    er ∙ ap₂ (λ (x y : ℕ). held_or_exercised listed x (exercise side strike y)) eo eb

@@ -5,18 +5,18 @@ use mathlib.Core.List.{List}
 use Prim.Native.Nat.{ℕ, ◌+◌, ◌-◌, ◌≤◌, ◌<◌}
 use native.Mathlib.Omega.{arith}
 use lib.ListN.{length}
-use Rattle.row_branches.specs.RowBranches.{lowest, rowBranch}
+use Rattle.row_branches.specs.RowBranches.{lowest, row_branch}
 use Rattle.row_branches.proofs.BranchLaws.{branch_leads, lowest-grown, lowest-first, lowest-inner, lowest-last}
 use Rattle.arithmetic.proofs.Numbers.{by_order}
 use borrow.Author.Tests.{lt-ltb, le-ltb}
 use Rattle.pricing.specs.declared.rows.Span.{Span}
-use Rattle.pricing.specs.inside.Rows.{growingSpan, lowestSpan, innerSpan, highestSpan, edgeNodes, betweenEdges, Rollable, Leads}
+use Rattle.pricing.specs.inside.Rows.{growing_span, lowest_span, inner_span, highest_span, edge_nodes, between_edges, Rollable, Leads}
 
 module _ (downs discounts : List ℕ) (next : ℕ) (r : Rollable downs discounts next) where
-  leads-to : (k : ℕ) → k < length discounts → (rowBranch downs next k).low ≡ lowest (length downs) next k
+  leads-to : (k : ℕ) → k < length discounts → (row_branch downs next k).low ≡ lowest (length downs) next k
   leads-to k h = branch_leads downs next k (r.total k h) (omega (arith, r.paired))
 
-  pub leads-growing : length discounts < next → Leads downs (growingSpan (length discounts) next) (length discounts)
+  pub leads-growing : length discounts < next → Leads downs (growing_span (length discounts) next) (length discounts)
   leads-growing g =
       record {
         ordered = omega arith;
@@ -35,7 +35,7 @@ module _ (downs discounts : List ℕ) (next : ℕ) (r : Rollable downs discounts
     narrow : next ≤ length downs
     narrow = omega (arith, r.paired)
 
-    pub leads-lowest : Leads downs (lowestSpan next) (length discounts)
+    pub leads-lowest : Leads downs (lowest_span next) (length discounts)
     leads-lowest =
         record {
           ordered = omega arith;
@@ -46,17 +46,17 @@ module _ (downs discounts : List ℕ) (next : ℕ) (r : Rollable downs discounts
               leads-to k (omega (arith, wide)) ∙ sym (lowest-first (length downs) next k narrow (omega arith)) ∙ z;
         }
 
-    inner-leads : (k : ℕ) → 1 ≤ k → k < length discounts - 1 → (rowBranch downs next k).low ≡ k - 1
+    inner-leads : (k : ℕ) → 1 ≤ k → k < length discounts - 1 → (row_branch downs next k).low ≡ k - 1
     inner-leads k from to =
         leads-to k (omega arith)
         ∙ by_order 2 k
         (λ h. sym (lowest-inner (length downs) next k narrow h (λ e. let none : ⊥ = omega (arith, r.paired) in absurd none)))
         (λ h. let z : 0 ≡ k - 1 = omega arith in sym (lowest-first (length downs) next k narrow h) ∙ z)
 
-    pub leads-inner : Leads downs (innerSpan (length discounts) next) (length discounts)
+    pub leads-inner : Leads downs (inner_span (length discounts) next) (length discounts)
     leads-inner = record { ordered = omega (arith, wide); ends = omega arith; shifted = omega arith; leads = inner-leads }
 
-    pub leads-highest : Leads downs (highestSpan (length discounts) next) (length discounts)
+    pub leads-highest : Leads downs (highest_span (length discounts) next) (length discounts)
     leads-highest =
         record {
           ordered = omega arith;
@@ -67,20 +67,20 @@ module _ (downs discounts : List ℕ) (next : ℕ) (r : Rollable downs discounts
         }
 
   -- the edges are one node or none, and fit
-  pub edge-growing : (edge : ℕ) → edge ≡ edgeNodes (length discounts) next → length discounts < next → edge ≡ 0
+  pub edge-growing : (edge : ℕ) → edge ≡ edge_nodes (length discounts) next → length discounts < next → edge ≡ 0
   edge-growing edge e g = e ∙ rw (lt-ltb (length discounts) next g)
 
-  pub edge-capped : (edge : ℕ) → edge ≡ edgeNodes (length discounts) next → next ≤ length discounts → edge ≡ 1
+  pub edge-capped : (edge : ℕ) → edge ≡ edge_nodes (length discounts) next → next ≤ length discounts → edge ≡ 1
   edge-capped edge e c = e ∙ rw (le-ltb (length discounts) next c)
 
-  pub edge-fits : (edge : ℕ) → edge ≡ edgeNodes (length discounts) next → (edge ≤ 1) × (edge + edge ≤ length discounts)
+  pub edge-fits : (edge : ℕ) → edge ≡ edge_nodes (length discounts) next → (edge ≤ 1) × (edge + edge ≤ length discounts)
   edge-fits edge e =
       by_order next (length discounts)
       (λ c. let z = edge-capped edge e c in (omega arith, omega (arith, wide c)))
       (λ g. let z = edge-growing edge e g in (omega arith, omega arith))
 
-  pub leads-between : (edge : ℕ) → edge ≡ edgeNodes (length discounts) next →
-      (span : Span) → span ≡ betweenEdges edge (length discounts) next → Leads downs span (length discounts)
+  pub leads-between : (edge : ℕ) → edge ≡ edge_nodes (length discounts) next →
+      (span : Span) → span ≡ between_edges edge (length discounts) next → Leads downs span (length discounts)
   leads-between edge e span es =
       rw es
       (by_order next (length discounts)

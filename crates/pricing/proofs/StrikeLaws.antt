@@ -6,47 +6,47 @@ use Prim.Native.Nat.{ℕ, ◌≤◌, ◌<◌}
 use native.Mathlib.Omega.{arith}
 use Rattle.arithmetic.specs.declared.Answer.{Answer}
 use Rattle.arithmetic.proofs.Implied.{Implied, implied, lastly, ◌▸◌}
-use Rattle.limits.specs.Limits.{mostSteps, limitCause}
+use Rattle.limits.specs.Limits.{most_steps, limit_cause}
 use Rattle.pricing_laws.specs.inside.Marks.{marked}
 use Rattle.exercise.specs.declared.Terms.{Terms}
 use Rattle.exercise.specs.Terms.{side}
-use Rattle.exercise_dates.specs.Dates.{marksOf, datedTerms}
+use Rattle.exercise_dates.specs.Dates.{marks_of, dated_terms}
 use Rattle.exercise_dates.proofs.DateLaws.{marks-room}
 use Rattle.lent_tree.specs.LentTree.{Accepted}
 use Rattle.price_causes.specs.inside.Flows.{AcceptedFlows}
 use Rattle.price_laws.specs.declared.Price.{Price}
-use Rattle.price_laws.specs.Prices.{treeCause, refusedPrice, valueAlone, withBound, bondPeak, datedCause, datedPrice}
-use Rattle.price_laws.specs.inside.Accepted.{acceptedOption}
+use Rattle.price_laws.specs.Prices.{tree_cause, refused_price, value_alone, with_bound, bond_peak, dated_cause, dated_price}
+use Rattle.price_laws.specs.inside.Accepted.{accepted_option}
 use Rattle.price_laws.proofs.AnswerLaws.{marked-price}
 use Rattle.price_laws.proofs.OptionLaws.{dated-price}
 use Rattle.price_laws.proofs.ValueLaws.{option-cause, option-passed}
 use Rattle.pricing.specs.inside.Trees.{Exercisable, BothRolled}
-use Rattle.pricing.specs.inside.Strips.{besideBond}
+use Rattle.pricing.specs.inside.Strips.{beside_bond}
 use Rattle.pricing.proofs.EntryLaws.{dated-exercised, option-refused, option-given}
 use Rattle.pricing.proofs.WalkStates.{bond-over}
 
 module _ {n b : ℕ} {discounts flows : List ℕ} {number : ℕ} {dates : List ℕ} {strike cause bound : ℕ}
-    (_ : Implied (n ▸ b ▸ discounts ▸ flows ▸ number ▸ dates ▸ strike ▸ lastly bound)) (none : treeCause n b discounts flows ≡ 0)
-    (ec : cause ≡ datedCause n number dates strike) where
+    (_ : Implied (n ▸ b ▸ discounts ▸ flows ▸ number ▸ dates ▸ strike ▸ lastly bound)) (none : tree_cause n b discounts flows ≡ 0)
+    (ec : cause ≡ dated_cause n number dates strike) where
   -- the answer of a call for this strike alone
   abbrev alone : Price
-  alone = withBound (valueAlone (datedPrice n b discounts flows number dates strike)) bound
+  alone = with_bound (value_alone (dated_price n b discounts flows number dates strike)) bound
 
-  pub strike-refused : (cause ≡ 0 → ⊥) → refusedPrice cause ≡ alone
-  unfolding datedPrice
+  pub strike-refused : (cause ≡ 0 → ⊥) → refused_price cause ≡ alone
+  unfolding dated_price
   strike-refused nz =
-      ap refusedPrice ec ∙ option-cause implied none (λ e. nz (ec ∙ e))
+      ap refused_price ec ∙ option-cause implied none (λ e. nz (ec ∙ e))
 
-  module _ (z : cause ≡ 0) (few : n ≤ mostSteps) {terms : Terms} (et : terms ≡ datedTerms number dates strike) {marks : List ℕ}
-      (em : marks ≡ marksOf dates) where
+  module _ (z : cause ≡ 0) (few : n ≤ most_steps) {terms : Terms} (et : terms ≡ dated_terms number dates strike) {marks : List ℕ}
+      (em : marks ≡ marks_of dates) where
     strike-price-is :
-        (p : Price) → p ≡ acceptedOption n b discounts flows (side terms.call) terms.strike (marked terms.last marks) bound → p ≡ alone
+        (p : Price) → p ≡ accepted_option n b discounts flows (side terms.call) terms.strike (marked terms.last marks) bound → p ≡ alone
     strike-price-is p ep =
         let on = dated-exercised number strike ec terms et z few in
         option-passed implied none z
         (marked-price n b discounts flows implied (omega (arith, on.before-end))
         on.last-listed em ep)
-        ∙ ap (λ (q : Price). withBound (valueAlone q) bound) (dated-price n number dates strike ec terms et b discounts flows)
+        ∙ ap (λ (q : Price). with_bound (value_alone q) bound) (dated-price n number dates strike ec terms et b discounts flows)
 
     -- the option may be exercised on the tree
     last-before : terms.last < n
@@ -67,17 +67,17 @@ module _ {n b : ℕ} {discounts flows : List ℕ} {number : ℕ} {dates : List �
 
     -- what the roll answers
     module _ {r : Answer}
-        (s : BothRolled n b discounts flows (side terms.call) terms.strike (marked terms.last marks) (besideBond n b discounts flows r)) where
-      pub rolled-refuses : (r.number ≡ 0 → ⊥) → refusedPrice r.number ≡ alone
-      rolled-refuses nz = strike-price-is (refusedPrice r.number) (option-refused bound s nz)
+        (s : BothRolled n b discounts flows (side terms.call) terms.strike (marked terms.last marks) (beside_bond n b discounts flows r)) where
+      pub rolled-refuses : (r.number ≡ 0 → ⊥) → refused_price r.number ≡ alone
+      rolled-refuses nz = strike-price-is (refused_price r.number) (option-refused bound s nz)
 
       pub rolled-gives : r.number ≡ 0 → ◌≡◌ {A = Price} (record { number = 0; value = r.value; bound = bound }) alone
       rolled-gives e = strike-price-is (record { number = 0; value = r.value; bound = bound }) (option-given bound s e)
 
     -- a bond above the limit
     pub bond-refuses :
-        Accepted n b discounts → AcceptedFlows n flows → {over : ℕ} → over ≡ limitCause (bondPeak n b discounts flows) → (over ≡ 0 → ⊥) →
-        refusedPrice over ≡ alone
+        Accepted n b discounts → AcceptedFlows n flows → {over : ℕ} → over ≡ limit_cause (bond_peak n b discounts flows) → (over ≡ 0 → ⊥) →
+        refused_price over ≡ alone
     unfolding marked
     bond-refuses a f {over} e nz =
         rolled-refuses

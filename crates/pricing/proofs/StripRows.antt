@@ -11,9 +11,9 @@ use lib.Seq.{get_or-set_same, get_or-set_other}
 use Rattle.arithmetic.specs.Row.{values}
 use Rattle.arithmetic.proofs.Numbers.{by_equal}
 use Rattle.arithmetic.proofs.Implied.{Implied, lastly, ◌▸◌}
-use Rattle.pricing_laws.specs.Pricer.{Side, exercise, heldOrExercised}
-use Rattle.pricing.specs.inside.Rows.{rolledRow}
-use Rattle.pricing.specs.inside.Strips.{Laid, strikeValues}
+use Rattle.pricing_laws.specs.Pricer.{Side, exercise, held_or_exercised}
+use Rattle.pricing.specs.inside.Rows.{rolled_row}
+use Rattle.pricing.specs.inside.Strips.{Laid, strike_values}
 
 -- k nodes laid from a place on
 pub record Laying (before after : List ℕ) (start : ℕ) (f : ℕ → ℕ) (k : ℕ) : Type 0 where
@@ -46,7 +46,7 @@ laying-next {l} {start} {k} {x} s h e =
 pub strike-from-roll :
     (side : Side) (strike : ℕ) (listed : Bool) (bare : List ℕ) {options downs discounts : List ℕ} {next k roll r : ℕ} →
     Implied (options ▸ downs ▸ discounts ▸ next ▸ lastly k) →
-    roll ≡ rolledRow options downs discounts next k → r ≡ heldOrExercised listed roll (exercise side strike (values bare k)) →
-    r ≡ strikeValues side strike listed bare options downs discounts next k
+    roll ≡ rolled_row options downs discounts next k → r ≡ held_or_exercised listed roll (exercise side strike (values bare k)) →
+    r ≡ strike_values side strike listed bare options downs discounts next k
 strike-from-roll side strike listed bare {k = k} _ eo er =
-    er ∙ ap (λ (x : ℕ). heldOrExercised listed x (exercise side strike (values bare k))) eo
+    er ∙ ap (λ (x : ℕ). held_or_exercised listed x (exercise side strike (values bare k))) eo

@@ -5,30 +5,30 @@ mod strips;
 mod walk;
 
 ghost use Rattle.std.specs.Prelude.{◌≡◌, ◌≤◌, length, take};
-ghost use Rattle.limits.specs.Limits.{mostSteps, mostReversion};
-ghost use Rattle.lattice.specs.Shape.{nodeCount};
-ghost use Rattle.pricing_laws.specs.Schedule.{datedSchedule, kindSide};
+ghost use Rattle.limits.specs.Limits.{most_steps, most_reversion};
+ghost use Rattle.lattice.specs.Shape.{node_count};
+ghost use Rattle.pricing_laws.specs.Schedule.{dated_schedule, kind_side};
 ghost use Rattle.pricing_laws.specs.inside.Marks.{marked};
 ghost use Rattle.exercise.specs.Terms.{side};
 ghost use Rattle.lent_tree.specs.LentTree.{Accepted};
 ghost use Rattle.price_causes.specs.inside.Flows.{AcceptedFlows};
-ghost use Rattle.arithmetic.specs.Answers.{firstCause};
+ghost use Rattle.arithmetic.specs.Answers.{first_cause};
 ghost use Rattle.price_laws.specs.Prices.{
-  refusedPrice,
-  bondPrice,
-  optionPrice,
-  bondAndOption,
-  datedPrice,
-  bondAndDatedOption,
-  treeCause,
-  scheduledPrice,
-  valueAlone,
-  withBound,
-  bothValues,
+  refused_price,
+  bond_price,
+  option_price,
+  bond_and_option,
+  dated_price,
+  bond_and_dated_option,
+  tree_cause,
+  scheduled_price,
+  value_alone,
+  with_bound,
+  both_values,
 };
-ghost use Rattle.price_laws.specs.inside.Accepted.{acceptedBond, acceptedOption, bothWith};
-ghost use Rattle.price_laws.specs.Strips.{mostStrikes, stripOf, stripAnswer, strikePrice, kindPrice, optionStrip, kindStrip, eachWith};
-ghost use Rattle.pricing.specs.inside.Trees.{downTable, TreeBounded, Exercisable, ExercisedOn};
+ghost use Rattle.price_laws.specs.inside.Accepted.{accepted_bond, accepted_option, both_with};
+ghost use Rattle.price_laws.specs.Strips.{most_strikes, strip_of, strip_answer, strike_price, kind_price, option_strip, kind_strip, each_with};
+ghost use Rattle.pricing.specs.inside.Trees.{down_table, TreeBounded, Exercisable, ExercisedOn};
 
 use crate::strips::Shared;
 use crate::walk::TreeShape;
@@ -37,7 +37,7 @@ use exercise::Terms;
 use price_laws::{BondAndOption, BondAndOptionValues, BoundedTree, Price, Strip};
 
 pub(crate) fn refused(number: u64) -> Price
-    ensures { result ≡ refusedPrice number }
+    ensures { result ≡ refused_price number }
 {
     Price {
         number,
@@ -48,8 +48,8 @@ pub(crate) fn refused(number: u64) -> Price
 
 // The table of down-probabilities, worked out once for all rows.
 fn table_of(steps: usize, reversion: u64) -> [u64; limits::MOST_NODES]
-    requires { (steps ≤ mostSteps) × (reversion ≤ mostReversion) }
-    ensures { take (nodeCount reversion steps) result ≡ downTable steps reversion }
+    requires { (steps ≤ most_steps) × (reversion ≤ most_reversion) }
+    ensures { take (node_count reversion steps) result ≡ down_table steps reversion }
 {
     let widest = lattice::half_width(reversion, steps).value as usize;
     let nodes = 2 * widest + 1;
@@ -61,7 +61,7 @@ fn table_of(steps: usize, reversion: u64) -> [u64; limits::MOST_NODES]
 // The bond of an accepted tree, with the error bound that is handed in.
 fn accepted_bond(tree: TreeShape, discounts: &[u64], flows: &[u64], bound: u64) -> Price
     requires { Accepted tree.steps tree.reversion discounts.now × AcceptedFlows tree.steps flows.now }
-    ensures { result ≡ acceptedBond tree.steps tree.reversion discounts.now flows.now bound }
+    ensures { result ≡ accepted_bond tree.steps tree.reversion discounts.now flows.now bound }
 {
     let nodes = lattice::node_count(tree.reversion, tree.steps).value as usize;
     let table = table_of(tree.steps, tree.reversion);
@@ -88,8 +88,8 @@ fn accepted_both(
 ) -> BondAndOption
     requires { Accepted tree.steps tree.reversion discounts.now × AcceptedFlows tree.steps flows.now
         × Exercisable terms tree.steps marks.now }
-    ensures bond { result.bond ≡ acceptedBond tree.steps tree.reversion discounts.now flows.now bound }
-    ensures option { result.option ≡ acceptedOption tree.steps tree.reversion discounts.now flows.now (side terms.call)
+    ensures bond { result.bond ≡ accepted_bond tree.steps tree.reversion discounts.now flows.now bound }
+    ensures option { result.option ≡ accepted_option tree.steps tree.reversion discounts.now flows.now (side terms.call)
         terms.strike (marked terms.last marks.now) bound }
 {
     let nodes = lattice::node_count(tree.reversion, tree.steps).value as usize;
@@ -128,7 +128,7 @@ fn tree_bound(steps: usize, reversion: u64, discounts: &[u64], flows: &[u64]) ->
 }
 
 fn tree_cause(steps: usize, reversion: u64, discounts: &[u64], flows: &[u64]) -> Answer
-    ensures { result.number ≡ treeCause steps reversion discounts.now flows.now }
+    ensures { result.number ≡ tree_cause steps reversion discounts.now flows.now }
 {
     let about_tree = lent_tree::discounts_cause(steps, reversion, discounts);
     Answer {
@@ -140,8 +140,8 @@ fn tree_cause(steps: usize, reversion: u64, discounts: &[u64], flows: &[u64]) ->
 // ---- prices with an error bound that is handed in with the cause about the tree
 
 fn judged_bond(tree: TreeShape, discounts: &[u64], flows: &[u64], bound: Answer) -> Price
-    requires { bound.number ≡ treeCause tree.steps tree.reversion discounts.now flows.now }
-    ensures { result ≡ withBound (valueAlone (bondPrice tree.steps tree.reversion discounts.now flows.now)) bound.value }
+    requires { bound.number ≡ tree_cause tree.steps tree.reversion discounts.now flows.now }
+    ensures { result ≡ with_bound (value_alone (bond_price tree.steps tree.reversion discounts.now flows.now)) bound.value }
 {
     if bound.number != 0 {
         return refused(bound.number);
@@ -159,12 +159,12 @@ fn judged_both(
     terms: Terms,
     dates: &[u8],
 ) -> BondAndOption
-    requires { (bound.number ≡ treeCause tree.steps tree.reversion discounts.now flows.now)
-        × (cause ≡ 0 → tree.steps ≤ mostSteps → ExercisedOn terms tree.steps dates.now) }
-    ensures bond { result.bond ≡ withBound (valueAlone (bondPrice tree.steps tree.reversion discounts.now flows.now))
+    requires { (bound.number ≡ tree_cause tree.steps tree.reversion discounts.now flows.now)
+        × (cause ≡ 0 → tree.steps ≤ most_steps → ExercisedOn terms tree.steps dates.now) }
+    ensures bond { result.bond ≡ with_bound (value_alone (bond_price tree.steps tree.reversion discounts.now flows.now))
         bound.value }
-    ensures option { result.option ≡ withBound (valueAlone (scheduledPrice tree.steps tree.reversion discounts.now flows.now
-        (side terms.call) terms.strike (datedSchedule dates.now) cause)) bound.value }
+    ensures option { result.option ≡ with_bound (value_alone (scheduled_price tree.steps tree.reversion discounts.now flows.now
+        (side terms.call) terms.strike (dated_schedule dates.now) cause)) bound.value }
 {
     if bound.number != 0 {
         return BondAndOption {
@@ -191,8 +191,8 @@ fn both_of_kind(
     expiry: usize,
     strike: u64,
 ) -> BondAndOption
-    requires { bound.number ≡ treeCause tree.steps tree.reversion discounts.now flows.now }
-    ensures { result ≡ bothWith (bothValues (bondAndOption tree.steps tree.reversion discounts.now flows.now kind expiry strike))
+    requires { bound.number ≡ tree_cause tree.steps tree.reversion discounts.now flows.now }
+    ensures { result ≡ both_with (both_values (bond_and_option tree.steps tree.reversion discounts.now flows.now kind expiry strike))
         bound.value }
 {
     let cause = price_causes::option_cause(tree.steps, kind, expiry, strike);
@@ -212,8 +212,8 @@ fn both_on_dates(
     dates: &[u8],
     strike: u64,
 ) -> BondAndOption
-    requires { bound.number ≡ treeCause tree.steps tree.reversion discounts.now flows.now }
-    ensures { result ≡ bothWith (bothValues (bondAndDatedOption tree.steps tree.reversion discounts.now flows.now side
+    requires { bound.number ≡ tree_cause tree.steps tree.reversion discounts.now flows.now }
+    ensures { result ≡ both_with (both_values (bond_and_dated_option tree.steps tree.reversion discounts.now flows.now side
         dates.now strike)) bound.value }
 {
     let about_terms = price_causes::terms_cause(side, strike);
@@ -227,7 +227,7 @@ fn both_on_dates(
 
 // The price at row 0 of the bond with these flows, and its error bound.
 pub fn bond_price(steps: usize, reversion: u64, discounts: &[u64], flows: &[u64]) -> Price
-    ensures { result ≡ bondPrice steps reversion discounts.now flows.now }
+    ensures { result ≡ bond_price steps reversion discounts.now flows.now }
 {
     let bound = tree_bound(steps, reversion, discounts, flows);
     judged_bond(TreeShape { steps, reversion }, discounts, flows, bound)
@@ -243,7 +243,7 @@ pub fn bond_and_option(
     expiry: usize,
     strike: u64,
 ) -> BondAndOption
-    ensures { result ≡ bondAndOption steps reversion discounts.now flows.now kind expiry strike }
+    ensures { result ≡ bond_and_option steps reversion discounts.now flows.now kind expiry strike }
 {
     let bound = tree_bound(steps, reversion, discounts, flows);
     both_of_kind(
@@ -267,7 +267,7 @@ pub fn bond_and_dated_option(
     dates: &[u8],
     strike: u64,
 ) -> BondAndOption
-    ensures { result ≡ bondAndDatedOption steps reversion discounts.now flows.now side dates.now strike }
+    ensures { result ≡ bond_and_dated_option steps reversion discounts.now flows.now side dates.now strike }
 {
     let bound = tree_bound(steps, reversion, discounts, flows);
     both_on_dates(
@@ -291,7 +291,7 @@ pub fn option_price(
     expiry: usize,
     strike: u64,
 ) -> Price
-    ensures { result ≡ optionPrice steps reversion discounts.now flows.now kind expiry strike }
+    ensures { result ≡ option_price steps reversion discounts.now flows.now kind expiry strike }
 {
     let both = bond_and_option(steps, reversion, discounts, flows, kind, expiry, strike);
     both.option
@@ -307,7 +307,7 @@ pub fn dated_option_price(
     dates: &[u8],
     strike: u64,
 ) -> Price
-    ensures { result ≡ datedPrice steps reversion discounts.now flows.now side dates.now strike }
+    ensures { result ≡ dated_price steps reversion discounts.now flows.now side dates.now strike }
 {
     let both = bond_and_dated_option(steps, reversion, discounts, flows, side, dates, strike);
     both.option
@@ -316,7 +316,7 @@ pub fn dated_option_price(
 // ---- values alone, for a caller who knows the tree's error bound: number and value of each price, which the bound does not enter
 
 fn value_of(price: Price) -> Answer
-    ensures { result ≡ valueAlone price }
+    ensures { result ≡ value_alone price }
 {
     Answer {
         number: price.number,
@@ -325,7 +325,7 @@ fn value_of(price: Price) -> Answer
 }
 
 fn values_of(both: BondAndOption) -> BondAndOptionValues
-    ensures { result ≡ bothValues both }
+    ensures { result ≡ both_values both }
 {
     BondAndOptionValues {
         bond: value_of(both.bond),
@@ -335,7 +335,7 @@ fn values_of(both: BondAndOption) -> BondAndOptionValues
 
 // As `bond_price`.
 pub fn bond_value(steps: usize, reversion: u64, discounts: &[u64], flows: &[u64]) -> Answer
-    ensures { result ≡ valueAlone (bondPrice steps reversion discounts.now flows.now) }
+    ensures { result ≡ value_alone (bond_price steps reversion discounts.now flows.now) }
 {
     let cause = tree_cause(steps, reversion, discounts, flows);
     value_of(judged_bond(TreeShape { steps, reversion }, discounts, flows, cause))
@@ -351,7 +351,7 @@ pub fn bond_and_option_values(
     expiry: usize,
     strike: u64,
 ) -> BondAndOptionValues
-    ensures { result ≡ bothValues (bondAndOption steps reversion discounts.now flows.now kind expiry strike) }
+    ensures { result ≡ both_values (bond_and_option steps reversion discounts.now flows.now kind expiry strike) }
 {
     let cause = tree_cause(steps, reversion, discounts, flows);
     values_of(both_of_kind(
@@ -375,7 +375,7 @@ pub fn bond_and_dated_option_values(
     dates: &[u8],
     strike: u64,
 ) -> BondAndOptionValues
-    ensures { result ≡ bothValues (bondAndDatedOption steps reversion discounts.now flows.now side dates.now strike) }
+    ensures { result ≡ both_values (bond_and_dated_option steps reversion discounts.now flows.now side dates.now strike) }
 {
     let cause = tree_cause(steps, reversion, discounts, flows);
     values_of(both_on_dates(
@@ -401,9 +401,9 @@ fn accepted_strip(
     strikes: &[u64],
     bound: u64,
 ) -> Strip
-    requires { (treeCause tree.steps tree.reversion discounts.now flows.now ≡ 0) × (length strikes.now ≤ mostStrikes) }
-    ensures { result ≡ stripOf (length strikes.now) (eachWith bound
-        (strikePrice tree.steps tree.reversion discounts.now flows.now side dates.now strikes.now)) }
+    requires { (tree_cause tree.steps tree.reversion discounts.now flows.now ≡ 0) × (length strikes.now ≤ most_strikes) }
+    ensures { result ≡ strip_of (length strikes.now) (each_with bound
+        (strike_price tree.steps tree.reversion discounts.now flows.now side dates.now strikes.now)) }
 {
     let nodes = lattice::node_count(tree.reversion, tree.steps).value as usize;
     let table = table_of(tree.steps, tree.reversion);
@@ -440,9 +440,9 @@ fn judged_strip(
     dates: &[u8],
     strikes: &[u64],
 ) -> Strip
-    requires { bound.number ≡ treeCause tree.steps tree.reversion discounts.now flows.now }
-    ensures { result ≡ stripAnswer tree.steps tree.reversion (length strikes.now) (eachWith bound.value
-        (strikePrice tree.steps tree.reversion discounts.now flows.now side dates.now strikes.now)) }
+    requires { bound.number ≡ tree_cause tree.steps tree.reversion discounts.now flows.now }
+    ensures { result ≡ strip_answer tree.steps tree.reversion (length strikes.now) (each_with bound.value
+        (strike_price tree.steps tree.reversion discounts.now flows.now side dates.now strikes.now)) }
 {
     let cause = strips::strip_cause(tree.steps, tree.reversion, strikes.len());
     if cause != 0 {
@@ -455,7 +455,7 @@ fn judged_strip(
 }
 
 fn side_of_kind(kind: u64) -> u64
-    ensures { result ≡ kindSide kind }
+    ensures { result ≡ kind_side kind }
 {
     if kind == 1 {
         return 1;
@@ -468,7 +468,7 @@ fn side_of_kind(kind: u64) -> u64
 
 // A strip of a kind that is refused, or whose expiry is: so is every strike, but a cause about the tree comes first.
 fn refused_kind(tree: TreeShape, bound: Answer, cause: u64, count: usize) -> Strip
-    ensures { result ≡ stripAnswer tree.steps tree.reversion count (λ k. refusedPrice (firstCause bound.number cause)) }
+    ensures { result ≡ strip_answer tree.steps tree.reversion count (λ k. refused_price (first_cause bound.number cause)) }
 {
     let own = strips::strip_cause(tree.steps, tree.reversion, count);
     if own != 0 {
@@ -490,9 +490,9 @@ fn strip_of_kind(
     expiry: usize,
     strikes: &[u64],
 ) -> Strip
-    requires { bound.number ≡ treeCause tree.steps tree.reversion discounts.now flows.now }
-    ensures { result ≡ stripAnswer tree.steps tree.reversion (length strikes.now) (eachWith bound.value
-        (kindPrice tree.steps tree.reversion discounts.now flows.now kind expiry strikes.now)) }
+    requires { bound.number ≡ tree_cause tree.steps tree.reversion discounts.now flows.now }
+    ensures { result ≡ strip_answer tree.steps tree.reversion (length strikes.now) (each_with bound.value
+        (kind_price tree.steps tree.reversion discounts.now flows.now kind expiry strikes.now)) }
 {
     let cause = price_causes::option_cause(tree.steps, kind, expiry, 0);
     if cause != 0 {
@@ -523,7 +523,7 @@ pub fn option_strip(
     dates: &[u8],
     strikes: &[u64],
 ) -> Strip
-    ensures { result ≡ optionStrip steps reversion discounts.now flows.now side dates.now strikes.now }
+    ensures { result ≡ option_strip steps reversion discounts.now flows.now side dates.now strikes.now }
 {
     let bound = tree_bound(steps, reversion, discounts, flows);
     judged_strip(
@@ -547,7 +547,7 @@ pub fn option_strip_of_kind(
     expiry: usize,
     strikes: &[u64],
 ) -> Strip
-    ensures { result ≡ kindStrip steps reversion discounts.now flows.now kind expiry strikes.now }
+    ensures { result ≡ kind_strip steps reversion discounts.now flows.now kind expiry strikes.now }
 {
     let bound = tree_bound(steps, reversion, discounts, flows);
     strip_of_kind(
@@ -565,7 +565,7 @@ pub fn option_strip_of_kind(
 
 // The cause about a tree and its flows, with the known error bound.
 fn known_bound(tree: BoundedTree, discounts: &[u64], flows: &[u64]) -> Answer
-    ensures cause { result.number ≡ treeCause tree.steps tree.reversion discounts.now flows.now }
+    ensures cause { result.number ≡ tree_cause tree.steps tree.reversion discounts.now flows.now }
     ensures bound { result.value ≡ tree.bound }
 {
     let cause = tree_cause(tree.steps, tree.reversion, discounts, flows);
@@ -584,8 +584,8 @@ pub fn bounded_strip(
     dates: &[u8],
     strikes: &[u64],
 ) -> Strip
-    ensures { result ≡ stripAnswer tree.steps tree.reversion (length strikes.now) (eachWith tree.bound
-        (strikePrice tree.steps tree.reversion discounts.now flows.now side dates.now strikes.now)) }
+    ensures { result ≡ strip_answer tree.steps tree.reversion (length strikes.now) (each_with tree.bound
+        (strike_price tree.steps tree.reversion discounts.now flows.now side dates.now strikes.now)) }
 {
     let bound = known_bound(tree, discounts, flows);
     judged_strip(
@@ -611,8 +611,8 @@ pub fn bounded_strip_of_kind(
     expiry: usize,
     strikes: &[u64],
 ) -> Strip
-    ensures { result ≡ stripAnswer tree.steps tree.reversion (length strikes.now) (eachWith tree.bound
-        (kindPrice tree.steps tree.reversion discounts.now flows.now kind expiry strikes.now)) }
+    ensures { result ≡ strip_answer tree.steps tree.reversion (length strikes.now) (each_with tree.bound
+        (kind_price tree.steps tree.reversion discounts.now flows.now kind expiry strikes.now)) }
 {
     let bound = known_bound(tree, discounts, flows);
     strip_of_kind(

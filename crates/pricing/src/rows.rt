@@ -1,26 +1,26 @@
 // One row of the tree, rolled back from the row after it.
 ghost use Rattle.std.specs.Prelude.{◌≡◌, ◌+◌, ◌-◌, ◌*◌, ◌<◌, ◌≤◌, length};
 ghost use Rattle.arithmetic.specs.Row.{values};
-ghost use Rattle.tree.specs.Tree.{probabilityTotal};
-ghost use Rattle.limits.specs.Limits.{mostDiscount, mostNodes};
-ghost use Rattle.price_causes.specs.Causes.{mostFlow};
+ghost use Rattle.tree.specs.Tree.{probability_total};
+ghost use Rattle.limits.specs.Limits.{most_discount, most_nodes};
+ghost use Rattle.price_causes.specs.Causes.{most_flow};
 ghost use Rattle.pricing_laws.specs.Pricer.{exercise};
 ghost use Rattle.exercise.specs.Terms.{side};
 ghost use Rattle.row_branches.specs.RowBranches.{opposite};
-ghost use Rattle.row_branches.specs.inside.Transitions.{branchTotal};
+ghost use Rattle.row_branches.specs.inside.Transitions.{branch_total};
 ghost use Rattle.pricing.specs.inside.Rows.{
-  growingSpan,
-  lowestSpan,
-  innerSpan,
-  highestSpan,
-  spanBranch,
-  edgeNodes,
-  betweenEdges,
+  growing_span,
+  lowest_span,
+  inner_span,
+  highest_span,
+  span_branch,
+  edge_nodes,
+  between_edges,
   Leads,
-  branchRoll,
-  mostRoll,
-  bondValues,
-  optionValues,
+  branch_roll,
+  most_roll,
+  bond_values,
+  option_values,
   Rollable,
   Limited,
   Later,
@@ -28,7 +28,7 @@ ghost use Rattle.pricing.specs.inside.Rows.{
   FilledRow,
   FilledRows,
 };
-ghost use Rattle.pricing.specs.inside.Strips.{Paid, Laid, strikeValues};
+ghost use Rattle.pricing.specs.inside.Strips.{Paid, Laid, strike_values};
 
 use arithmetic::ONE;
 use exercise::Terms;
@@ -38,16 +38,16 @@ use tree::PROBABILITY_TOTAL;
 
 // A row's memory.
 pub(crate) fn empty_row() -> [u64; MOST_NODES]
-    ensures { length result ≡ mostNodes }
+    ensures { length result ≡ most_nodes }
 {
     [0; MOST_NODES]
 }
 
 // The roll of a node along its branch: divided by the whole of the probabilities, nearest; then discounted, nearest.
 fn roll_node(branch: RowBranch, later: &[u64], discount: u64) -> u64
-    requires { (branch.low + 2 < length later.now) × (branchTotal branch ≡ probabilityTotal)
-        × Limited later.now (branch.low + 3) × (discount ≤ mostDiscount) }
-    ensures { (result ≡ branchRoll branch (values later.now) discount) × (result ≤ mostRoll) }
+    requires { (branch.low + 2 < length later.now) × (branch_total branch ≡ probability_total)
+        × Limited later.now (branch.low + 3) × (discount ≤ most_discount) }
+    ensures { (result ≡ branch_roll branch (values later.now) discount) × (result ≤ most_roll) }
 {
     let low = branch.low;
     let probabilities = branch.probabilities;
@@ -69,7 +69,7 @@ struct Span {
 
 // The whole of a row whose next row is wider.
 fn growing(count: usize, next: usize) -> Span
-    ensures { result ≡ growingSpan count next }
+    ensures { result ≡ growing_span count next }
 {
     Span {
         next,
@@ -81,7 +81,7 @@ fn growing(count: usize, next: usize) -> Span
 
 // The lowest node, the inner ones and the highest node of any other row.
 fn lowest(next: usize) -> Span
-    ensures { result ≡ lowestSpan next }
+    ensures { result ≡ lowest_span next }
 {
     Span {
         next,
@@ -93,7 +93,7 @@ fn lowest(next: usize) -> Span
 
 fn inner(count: usize, next: usize) -> Span
     requires { 0 < count }
-    ensures { result ≡ innerSpan count next }
+    ensures { result ≡ inner_span count next }
 {
     Span {
         next,
@@ -105,7 +105,7 @@ fn inner(count: usize, next: usize) -> Span
 
 fn highest(count: usize, next: usize) -> Span
     requires { 0 < count }
-    ensures { result ≡ highestSpan count next }
+    ensures { result ≡ highest_span count next }
 {
     Span {
         next,
@@ -117,8 +117,8 @@ fn highest(count: usize, next: usize) -> Span
 
 // The branch of a node, where the shift is known: nothing to test.
 fn span_branch(downs: &[u64], shift: usize, index: usize) -> RowBranch
-    requires { (index < length downs.now) × (shift ≤ index) × (values downs.now index + opposite downs.now index ≤ probabilityTotal) }
-    ensures { result ≡ spanBranch downs.now shift index }
+    requires { (index < length downs.now) × (shift ≤ index) × (values downs.now index + opposite downs.now index ≤ probability_total) }
+    ensures { result ≡ span_branch downs.now shift index }
 {
     let down = downs[index];
     let up = downs[downs.len() - 1 - index];
@@ -139,10 +139,10 @@ fn bond_nodes(
     greatest: u64,
 ) -> u64
     requires { Rollable downs.now discounts.now span.next × Later later.now span.next
-        × (length discounts.now ≤ length row.old) × (flow ≤ mostFlow) × Leads downs.now span (length discounts.now)
-        × FilledRow row.old span.from (bondValues later.now downs.now discounts.now span.next flow) greatest }
+        × (length discounts.now ≤ length row.old) × (flow ≤ most_flow) × Leads downs.now span (length discounts.now)
+        × FilledRow row.old span.from (bond_values later.now downs.now discounts.now span.next flow) greatest }
     ensures { FilledRow row.new span.to
-        (bondValues later.now downs.now discounts.now span.next flow) result }
+        (bond_values later.now downs.now discounts.now span.next flow) result }
 {
     let next = span.next;
     let to = span.to;
@@ -169,9 +169,9 @@ pub(crate) fn bond_row(
     flow: u64,
 ) -> u64
     requires { Rollable downs.now discounts.now next × Later later.now next
-        × (length discounts.now ≤ length row.old) × (flow ≤ mostFlow) }
+        × (length discounts.now ≤ length row.old) × (flow ≤ most_flow) }
     ensures { FilledRow row.new (length discounts.now)
-        (bondValues later.now downs.now discounts.now next flow) result }
+        (bond_values later.now downs.now discounts.now next flow) result }
 {
     let count = discounts.len();
     if count < next {
@@ -213,15 +213,15 @@ fn option_nodes(
     greatest: u64,
 ) -> u64
     requires { Rollable downs.now discounts.now span.next × Later bonds.now span.next × Later options.now span.next
-        × (length discounts.now ≤ length bond.old) × (length discounts.now ≤ length option.old) × (right.flow ≤ mostFlow)
+        × (length discounts.now ≤ length bond.old) × (length discounts.now ≤ length option.old) × (right.flow ≤ most_flow)
         × Leads downs.now span (length discounts.now)
         × FilledRows bond.old option.old span.from
-        (bondValues bonds.now downs.now discounts.now span.next right.flow)
-        (optionValues (side right.call) right.strike right.listed
+        (bond_values bonds.now downs.now discounts.now span.next right.flow)
+        (option_values (side right.call) right.strike right.listed
         bonds.now options.now downs.now discounts.now span.next) greatest }
     ensures { FilledRows bond.new option.new span.to
-        (bondValues bonds.now downs.now discounts.now span.next right.flow)
-        (optionValues (side right.call) right.strike right.listed
+        (bond_values bonds.now downs.now discounts.now span.next right.flow)
+        (option_values (side right.call) right.strike right.listed
         bonds.now options.now downs.now discounts.now span.next) result }
 {
     let call = right.call;
@@ -259,11 +259,11 @@ fn capped_option_row(
     option: &mut [u64],
 ) -> u64
     requires { Rollable downs.now discounts.now right.next × Later bonds.now right.next × Later options.now right.next
-        × (length discounts.now ≤ length bond.old) × (length discounts.now ≤ length option.old) × (right.flow ≤ mostFlow)
+        × (length discounts.now ≤ length bond.old) × (length discounts.now ≤ length option.old) × (right.flow ≤ most_flow)
         × (right.next ≤ length discounts.now) }
     ensures { FilledRows bond.new option.new (length discounts.now)
-        (bondValues bonds.now downs.now discounts.now right.next right.flow)
-        (optionValues (side right.call) right.strike right.listed
+        (bond_values bonds.now downs.now discounts.now right.next right.flow)
+        (option_values (side right.call) right.strike right.listed
         bonds.now options.now downs.now discounts.now right.next) result }
 {
     let count = discounts.len();
@@ -293,10 +293,10 @@ pub(crate) fn option_row(
     option: &mut [u64],
 ) -> u64
     requires { Rollable downs.now discounts.now right.next × Later bonds.now right.next × Later options.now right.next
-        × (length discounts.now ≤ length bond.old) × (length discounts.now ≤ length option.old) × (right.flow ≤ mostFlow) }
+        × (length discounts.now ≤ length bond.old) × (length discounts.now ≤ length option.old) × (right.flow ≤ most_flow) }
     ensures { FilledRows bond.new option.new (length discounts.now)
-        (bondValues bonds.now downs.now discounts.now right.next right.flow)
-        (optionValues (side right.call) right.strike right.listed
+        (bond_values bonds.now downs.now discounts.now right.next right.flow)
+        (option_values (side right.call) right.strike right.listed
         bonds.now options.now downs.now discounts.now right.next) result }
 {
     let count = discounts.len();
@@ -344,7 +344,7 @@ pub(crate) fn keep_row(
     start: usize,
     count: usize,
 )
-    requires { (count ≤ mostNodes) × (start + count ≤ length kept.old) × Paid bond.now count flow }
+    requires { (count ≤ most_nodes) × (start + count ≤ length kept.old) × Paid bond.now count flow }
     ensures { Laid kept.old kept.new start count (λ k. values bond.now k - flow) }
 {
     let mut k: usize = 0;
@@ -384,9 +384,9 @@ fn strike_nodes(
         × (length discounts.now ≤ length bare.now) × (length discounts.now ≤ length option.old)
         × Leads downs.now span (length discounts.now)
         × FilledRow option.old span.from
-        (strikeValues (side right.call) right.strike right.listed bare.now options.now downs.now discounts.now span.next) greatest }
+        (strike_values (side right.call) right.strike right.listed bare.now options.now downs.now discounts.now span.next) greatest }
     ensures { FilledRow option.new span.to
-        (strikeValues (side right.call) right.strike right.listed
+        (strike_values (side right.call) right.strike right.listed
         bare.now options.now downs.now discounts.now span.next) result }
 {
     let call = right.call;
@@ -410,7 +410,7 @@ fn strike_nodes(
 
 // 1 where a row's edges branch inwards, else 0.
 fn edge_nodes(count: usize, next: usize) -> usize
-    ensures { result ≡ edgeNodes count next }
+    ensures { result ≡ edge_nodes count next }
 {
     if count < next { 0 } else { 1 }
 }
@@ -431,9 +431,9 @@ fn strike_edge(
         × (length discounts.now ≤ length bare.now) × (length discounts.now ≤ length option.old)
         × (edge ≤ 1) × (index + edge ≤ length discounts.now)
         × FilledRow option.old index
-        (strikeValues (side right.call) right.strike right.listed bare.now options.now downs.now discounts.now right.next) greatest }
+        (strike_values (side right.call) right.strike right.listed bare.now options.now downs.now discounts.now right.next) greatest }
     ensures { FilledRow option.new (index + edge)
-        (strikeValues (side right.call) right.strike right.listed
+        (strike_values (side right.call) right.strike right.listed
         bare.now options.now downs.now discounts.now right.next) result }
 {
     if edge == 0 {
@@ -449,7 +449,7 @@ fn strike_edge(
 // The nodes between the edges.
 fn between_edges(edge: usize, count: usize, next: usize) -> Span
     requires { edge ≤ count }
-    ensures { result ≡ betweenEdges edge count next }
+    ensures { result ≡ between_edges edge count next }
 {
     Span {
         next,
@@ -472,7 +472,7 @@ pub(crate) fn strike_row(
     requires { Rollable downs.now discounts.now right.next × Later options.now right.next
         × (length discounts.now ≤ length bare.now) × (length discounts.now ≤ length option.old) }
     ensures { FilledRow option.new (length discounts.now)
-        (strikeValues (side right.call) right.strike right.listed
+        (strike_values (side right.call) right.strike right.listed
         bare.now options.now downs.now discounts.now right.next) result }
 {
     let count = discounts.len();

@@ -1,7 +1,7 @@
 // The strikes of a strip, one after the other, and what they share.
 ghost use Rattle.std.specs.Prelude.{◌≡◌, ◌≤◌, length, replicate};
-ghost use Rattle.price_laws.specs.Prices.{refusedPrice, valueAlone, withBound, datedPrice};
-ghost use Rattle.price_laws.specs.Strips.{mostStrikes, stripCause, refusedStrip, stripOf, strikePrice, eachWith};
+ghost use Rattle.price_laws.specs.Prices.{refused_price, value_alone, with_bound, dated_price};
+ghost use Rattle.price_laws.specs.Strips.{most_strikes, strip_cause, refused_strip, strip_of, strike_price, each_with};
 ghost use Rattle.pricing.specs.inside.Strips.{Shareable};
 
 use crate::walk;
@@ -20,14 +20,14 @@ pub(crate) struct Shared {
 }
 
 fn no_answers() -> [u64; MOST_STRIKES]
-    ensures { result ≡ replicate mostStrikes 0 }
+    ensures { result ≡ replicate most_strikes 0 }
 {
     [0; MOST_STRIKES]
 }
 
 // The cause about a strip itself: 3, 4, or 6 for no strike or more than 16; 0 where there is none.
 pub(crate) fn strip_cause(steps: usize, reversion: u64, count: usize) -> u64
-    ensures { result ≡ stripCause steps reversion count }
+    ensures { result ≡ strip_cause steps reversion count }
 {
     let shape = limits::shape_cause(steps, reversion);
     if shape != 0 {
@@ -43,7 +43,7 @@ pub(crate) fn strip_cause(steps: usize, reversion: u64, count: usize) -> u64
 }
 
 pub(crate) fn refused_strip(number: u64) -> Strip
-    ensures { result ≡ refusedStrip number }
+    ensures { result ≡ refused_strip number }
 {
     let zeros = no_answers();
     Strip {
@@ -56,8 +56,8 @@ pub(crate) fn refused_strip(number: u64) -> Strip
 
 // A refusal for each of `count` strikes.
 pub(crate) fn refused_prices(number: u64, count: usize) -> Strip
-    requires { count ≤ mostStrikes }
-    ensures { result ≡ stripOf count (λ k. refusedPrice number) }
+    requires { count ≤ most_strikes }
+    ensures { result ≡ strip_of count (λ k. refused_price number) }
 {
     let zeros = no_answers();
     let mut numbers = no_answers();
@@ -86,7 +86,7 @@ fn strike_price(
     strike: u64,
 ) -> Price
     requires { Shareable shared dates.now marks.now downs.now discounts.now flows.now kept.now }
-    ensures { result ≡ withBound (valueAlone (datedPrice shared.steps shared.reversion discounts.now flows.now
+    ensures { result ≡ with_bound (value_alone (dated_price shared.steps shared.reversion discounts.now flows.now
         shared.side dates.now strike)) shared.bound }
 {
     let about_terms = price_causes::terms_cause(shared.side, strike);
@@ -125,8 +125,8 @@ pub(crate) fn strike_prices(
     strikes: &[u64],
 ) -> Strip
     requires { Shareable shared dates.now marks.now downs.now discounts.now flows.now kept.now
-        × (length strikes.now ≤ mostStrikes) }
-    ensures { result ≡ stripOf (length strikes.now) (eachWith shared.bound (strikePrice shared.steps shared.reversion
+        × (length strikes.now ≤ most_strikes) }
+    ensures { result ≡ strip_of (length strikes.now) (each_with shared.bound (strike_price shared.steps shared.reversion
         discounts.now flows.now shared.side dates.now strikes.now)) }
 {
     let mut numbers = no_answers();

@@ -2,24 +2,24 @@
 ghost use Rattle.std.specs.Prelude.{◌≡◌, ◌+◌, ◌-◌, ◌<◌, ◌≤◌, length, take, drop};
 ghost use Rattle.arithmetic.specs.Row.{values};
 ghost use Rattle.arithmetic.specs.Answers.{refused, answered};
-ghost use Rattle.lattice.specs.Shape.{nodeCount, rowStart};
+ghost use Rattle.lattice.specs.Shape.{node_count, row_start};
 ghost use Rattle.pricing_laws.specs.Pricer.{exercise};
 ghost use Rattle.pricing_laws.specs.inside.Marks.{marked};
 ghost use Rattle.exercise.specs.Terms.{side};
-ghost use Rattle.price_laws.specs.Prices.{flowAt};
+ghost use Rattle.price_laws.specs.Prices.{flow_at};
 ghost use Rattle.pricing.specs.inside.Rows.{Limited, Holds, FilledRow, FilledRows};
 ghost use Rattle.pricing.specs.inside.Trees.{
   Ready,
   Exercisable,
   Steppable,
-  optionStepAt,
-  bondStep,
-  optionStep,
+  option_step_at,
+  bond_step,
+  option_step,
   BondRolled,
   BothRolled,
 };
-ghost use Rattle.limits.specs.Limits.{mostSteps, mostReversion, mostDiscounts};
-ghost use Rattle.pricing.specs.inside.Strips.{Laid, BondKept, strikeStep, besideBond};
+ghost use Rattle.limits.specs.Limits.{most_steps, most_reversion, most_discounts};
+ghost use Rattle.pricing.specs.inside.Strips.{Laid, BondKept, strike_step, beside_bond};
 
 use crate::rows;
 use crate::rows::RowRight;
@@ -57,7 +57,7 @@ pub(crate) struct Rolled {
 // The flow of a row; row 0 has none.
 fn flow_of(flows: &[u64], row: usize) -> u64
     requires { row ≤ length flows.now }
-    ensures { result ≡ flowAt flows.now row }
+    ensures { result ≡ flow_at flows.now row }
 {
     if row == 0 {
         return 0;
@@ -82,7 +82,7 @@ fn option_step_at(
     row: usize,
 ) -> OptionStep
     requires { (row ≤ length flows.now) × (row < length marks.now) }
-    ensures { result ≡ optionStepAt tree.steps tree.reversion flows.now terms marks.now row }
+    ensures { result ≡ option_step_at tree.steps tree.reversion flows.now terms marks.now row }
 {
     OptionStep {
         steps: tree.steps,
@@ -106,9 +106,9 @@ fn bond_step(
     bond: &mut [u64; MOST_NODES],
 ) -> u64
     requires { Steppable tree.steps tree.reversion row flow downs.now discounts.now
-        × Limited later.now (nodeCount tree.reversion (row + 1)) }
-    ensures { FilledRow bond.new (nodeCount tree.reversion row)
-        (bondStep tree.reversion discounts.now flow row later.now) result }
+        × Limited later.now (node_count tree.reversion (row + 1)) }
+    ensures { FilledRow bond.new (node_count tree.reversion row)
+        (bond_step tree.reversion discounts.now flow row later.now) result }
 {
     let shape = lattice::row_shape(tree.reversion, tree.steps, row);
     rows::bond_row(
@@ -132,11 +132,11 @@ fn option_step(
     option: &mut [u64; MOST_NODES],
 ) -> u64
     requires { Steppable right.steps right.reversion right.row right.flow downs.now discounts.now
-        × Limited bonds.now (nodeCount right.reversion (right.row + 1))
-        × Limited options.now (nodeCount right.reversion (right.row + 1)) }
-    ensures { FilledRows bond.new option.new (nodeCount right.reversion right.row)
-        (bondStep right.reversion discounts.now right.flow right.row bonds.now)
-        (optionStep (side right.call) right.strike right.listed right.reversion
+        × Limited bonds.now (node_count right.reversion (right.row + 1))
+        × Limited options.now (node_count right.reversion (right.row + 1)) }
+    ensures { FilledRows bond.new option.new (node_count right.reversion right.row)
+        (bond_step right.reversion discounts.now right.flow right.row bonds.now)
+        (option_step (side right.call) right.strike right.listed right.reversion
         discounts.now right.row bonds.now options.now) result }
 {
     let shape = lattice::row_shape(right.reversion, right.steps, right.row);
@@ -220,9 +220,9 @@ fn exercise_step(
     bond: &[u64; MOST_NODES],
     option: &mut [u64; MOST_NODES],
 )
-    requires { (reversion ≤ mostReversion) × (terms.last ≤ mostSteps) × (terms.last ≤ length flows.now) }
-    ensures { Holds option.new (nodeCount reversion terms.last)
-        (λ k. exercise (side terms.call) terms.strike (values bond.now k - flowAt flows.now terms.last)) }
+    requires { (reversion ≤ most_reversion) × (terms.last ≤ most_steps) × (terms.last ≤ length flows.now) }
+    ensures { Holds option.new (node_count reversion terms.last)
+        (λ k. exercise (side terms.call) terms.strike (values bond.now k - flow_at flows.now terms.last)) }
 {
     let count = lattice::node_count(reversion, terms.last).value as usize;
     rows::exercise_row(terms, flow_of(flows, terms.last), count, bond, option);
@@ -316,10 +316,10 @@ fn keep_step(
     kept: &mut [u64],
 ) -> u64
     requires { Steppable tree.steps tree.reversion row flow downs.now discounts.now
-        × Limited later.now (nodeCount tree.reversion (row + 1)) × (mostDiscounts ≤ length kept.old) }
-    ensures rolled { FilledRow bond.new (nodeCount tree.reversion row)
-        (bondStep tree.reversion discounts.now flow row later.now) result }
-    ensures laid { Laid kept.old kept.new (rowStart tree.reversion row) (nodeCount tree.reversion row)
+        × Limited later.now (node_count tree.reversion (row + 1)) × (most_discounts ≤ length kept.old) }
+    ensures rolled { FilledRow bond.new (node_count tree.reversion row)
+        (bond_step tree.reversion discounts.now flow row later.now) result }
+    ensures laid { Laid kept.old kept.new (row_start tree.reversion row) (node_count tree.reversion row)
         (λ k. values bond.new k - flow) }
 {
     let shape = lattice::row_shape(tree.reversion, tree.steps, row);
@@ -343,7 +343,7 @@ pub(crate) fn keep_bond(
     flows: &[u64],
     kept: &mut [u64],
 ) -> u64
-    requires { Ready tree.steps tree.reversion downs.now discounts.now flows.now × (mostDiscounts ≤ length kept.old) }
+    requires { Ready tree.steps tree.reversion downs.now discounts.now flows.now × (most_discounts ≤ length kept.old) }
     ensures { BondKept tree.steps tree.reversion discounts.now flows.now result kept.new }
 {
     let mut bond = rows::empty_row();
@@ -380,9 +380,9 @@ fn strike_step(
     option: &mut [u64; MOST_NODES],
 ) -> u64
     requires { Steppable right.steps right.reversion right.row right.flow downs.now discounts.now
-        × Limited options.now (nodeCount right.reversion (right.row + 1)) × (mostDiscounts ≤ length kept.now) }
-    ensures { FilledRow option.new (nodeCount right.reversion right.row)
-        (strikeStep (side right.call) right.strike right.listed right.reversion
+        × Limited options.now (node_count right.reversion (right.row + 1)) × (most_discounts ≤ length kept.now) }
+    ensures { FilledRow option.new (node_count right.reversion right.row)
+        (strike_step (side right.call) right.strike right.listed right.reversion
         discounts.now right.row kept.now options.now) result }
 {
     let shape = lattice::row_shape(right.reversion, right.steps, right.row);
@@ -433,10 +433,10 @@ pub(crate) fn roll_strike(
 ) -> Answer
     requires { Ready tree.steps tree.reversion downs.now discounts.now flows.now × Exercisable terms tree.steps marks.now
         × (terms.last < tree.steps) × BondKept tree.steps tree.reversion discounts.now flows.now 0 kept.now
-        × (mostDiscounts ≤ length kept.now) }
+        × (most_discounts ≤ length kept.now) }
     ensures { BothRolled tree.steps tree.reversion discounts.now flows.now (side terms.call) terms.strike
         (marked terms.last marks.now)
-        (besideBond tree.steps tree.reversion discounts.now flows.now result) }
+        (beside_bond tree.steps tree.reversion discounts.now flows.now result) }
 {
     let shape = lattice::row_shape(tree.reversion, tree.steps, terms.last);
     let mut option = rows::empty_row();

@@ -5,8 +5,8 @@ use mathlib.Core.Path.{◌≡◌, sym, ap, ap₂, ◌∙◌}
 use Prim.Native.Nat.{ℕ, suc, ◌+◌, ◌-◌, ◌≤◌, ◌<◌}
 use native.Mathlib.Nat.{le_refl}
 use native.Mathlib.Omega.{arith}
-use Rattle.pricing_laws.specs.Pricer.{rounded, bond, bareBond, Side, exercise, exerciseRow, Schedule, heldOrExercised, option}
-use Rattle.limits.specs.Limits.{valueLimit}
+use Rattle.pricing_laws.specs.Pricer.{rounded, bond, bare_bond, Side, exercise, exercise_row, Schedule, held_or_exercised, option}
+use Rattle.limits.specs.Limits.{value_limit}
 use Rattle.pricing_laws.specs.Peak.{peak}
 use Rattle.pricing_laws.proofs.Peaks.{peak-last, peak-before, row-in-peak}
 use Rattle.pricing_laws.proofs.Recurrences.{bond-last, bond-before, bare-bond-before, bond-of-bare, option-last, option-before}
@@ -28,13 +28,13 @@ module _ {Node : Type 0} (n : ℕ) (Stands : ℕ → Node → Type 0) (top : ℕ
   pub record Bond-state (i : ℕ) (v : Node → ℕ) : Type 0 where
     pub in_tree : i ≤ n
     pub held : (k : Node) → Stands i k → v k ≡ bond (rounded roll) flow n i k
-    pub within-limit : peak (λ r. top r (bond (rounded roll) flow n r)) n i ≤ valueLimit
+    pub within-limit : peak (λ r. top r (bond (rounded roll) flow n r)) n i ≤ value_limit
 
   -- the option at row i
   pub record Option-state (side : Side) (strike : ℕ) (rows : Schedule) (i : ℕ) (v : Node → ℕ) : Type 0 where
     pub before_last : i ≤ rows.last
     pub held : (k : Node) → Stands i k → v k ≡ option (rounded roll) flow n side strike rows i k
-    pub within-limit : peak (λ r. top r (option (rounded roll) flow n side strike rows r)) rows.last i ≤ valueLimit
+    pub within-limit : peak (λ r. top r (option (rounded roll) flow n side strike rows r)) rows.last i ≤ value_limit
 
 module _ {Node : Type 0} (n : ℕ) (Stands : ℕ → Node → Type 0) (top : ℕ → (Node → ℕ) → ℕ) (great : Greatest Stands top)
     (roll : ℕ → (Node → ℕ) → Node → ℕ) (local : Local Stands roll) (flow : ℕ → ℕ) where
@@ -45,7 +45,7 @@ module _ {Node : Type 0} (n : ℕ) (Stands : ℕ → Node → Type 0) (top : ℕ
   Bonds = Bond-state n Stands top roll flow
 
   -- no value of the row is above the limit
-  pub bond-limit : (i : ℕ) (v : Node → ℕ) → Bonds i v → (k : Node) → Stands i k → v k ≤ valueLimit
+  pub bond-limit : (i : ℕ) (v : Node → ℕ) → Bonds i v → (k : Node) → Stands i k → v k ≤ value_limit
   bond-limit i v s k hk =
       omega (
         arith,
@@ -56,7 +56,7 @@ module _ {Node : Type 0} (n : ℕ) (Stands : ℕ → Node → Type 0) (top : ℕ
       )
 
   -- row n
-  pub bond-first : (v : Node → ℕ) → flow n ≤ valueLimit → ((k : Node) → Stands n k → v k ≡ flow n) → Bonds n v
+  pub bond-first : (v : Node → ℕ) → flow n ≤ value_limit → ((k : Node) → Stands n k → v k ≡ flow n) → Bonds n v
   bond-first v h e =
       record {
         in_tree = le_refl n;
@@ -65,7 +65,7 @@ module _ {Node : Type 0} (n : ℕ) (Stands : ℕ → Node → Type 0) (top : ℕ
             omega (
               arith,
               peak-last bond-top n,
-              great.bounded n (bond (rounded roll) flow n n) valueLimit (λ k hk. omega (arith, bond-last (rounded roll) flow n k)),
+              great.bounded n (bond (rounded roll) flow n n) value_limit (λ k hk. omega (arith, bond-last (rounded roll) flow n k)),
             );
       }
 
@@ -81,10 +81,10 @@ module _ {Node : Type 0} (n : ℕ) (Stands : ℕ → Node → Type 0) (top : ℕ
     found-top : found ≡ bond-top i
     found-top = ef ∙ great.same i w _ bond-held
 
-    pub bond-over : valueLimit < found → valueLimit < peak bond-top n i
+    pub bond-over : value_limit < found → value_limit < peak bond-top n i
     bond-over h = omega (arith, found-top, row-in-peak bond-top n i (omega arith))
 
-    pub bond-step : found ≤ valueLimit → Bonds i w
+    pub bond-step : found ≤ value_limit → Bonds i w
     bond-step h =
         record {
           in_tree = omega arith;
@@ -100,7 +100,7 @@ module _ {Node : Type 0} (n : ℕ) (Stands : ℕ → Node → Type 0) (top : ℕ
     abbrev pub Options : ℕ → (Node → ℕ) → Type 0
     Options = Option-state n Stands top roll flow side strike rows
 
-    pub option-limit : (i : ℕ) (v : Node → ℕ) → Options i v → (k : Node) → Stands i k → v k ≤ valueLimit
+    pub option-limit : (i : ℕ) (v : Node → ℕ) → Options i v → (k : Node) → Stands i k → v k ≤ value_limit
     option-limit i v s k hk =
         omega (
           arith,
@@ -112,19 +112,19 @@ module _ {Node : Type 0} (n : ℕ) (Stands : ℕ → Node → Type 0) (top : ℕ
 
     -- the exercise value, from what the code holds: the bond less the row's flow, or the bond before its flow is added
     exercise-held :
-        (i : ℕ) (k : Node) (x : ℕ) → x ≡ bareBond (rounded roll) flow n i k → exercise side strike x ≡ exerciseRow (rounded roll) flow n side strike i k
-    unfolding exerciseRow
+        (i : ℕ) (k : Node) (x : ℕ) → x ≡ bare_bond (rounded roll) flow n i k → exercise side strike x ≡ exercise_row (rounded roll) flow n side strike i k
+    unfolding exercise_row
     exercise-held i k x e = ap (exercise side strike) e
 
     exercise-less-flow :
         (i : ℕ) (k : Node) (x : ℕ) → x ≡ bond (rounded roll) flow n i k →
-        exercise side strike (x - flow i) ≡ exerciseRow (rounded roll) flow n side strike i k
+        exercise side strike (x - flow i) ≡ exercise_row (rounded roll) flow n side strike i k
     exercise-less-flow i k x e = exercise-held i k (x - flow i) (omega (arith, e, bond-of-bare (rounded roll) flow n i k))
 
     -- at expiry: the exercise values, none above the limit
     pub option-first :
         (v w : Node → ℕ) → Bonds rows.last v → ((k : Node) → Stands rows.last k → w k ≡ exercise side strike (v k - flow rows.last)) →
-        ((k : Node) → Stands rows.last k → w k ≤ valueLimit) → Options rows.last w
+        ((k : Node) → Stands rows.last k → w k ≤ value_limit) → Options rows.last w
     option-first v w s step h =
         let held : (k : Node) → Stands rows.last k → w k ≡ option (rounded roll) flow n side strike rows rows.last k
         = λ k hk. step k hk ∙ exercise-less-flow rows.last k (v k) (s.held k hk) ∙ sym (option-last (rounded roll) flow n side strike rows k) in
@@ -135,16 +135,16 @@ module _ {Node : Type 0} (n : ℕ) (Stands : ℕ → Node → Type 0) (top : ℕ
               omega (
                 arith,
                 peak-last option-top rows.last,
-                great.bounded rows.last (option (rounded roll) flow n side strike rows rows.last) valueLimit
+                great.bounded rows.last (option (rounded roll) flow n side strike rows rows.last) value_limit
                     (λ k hk. omega (arith, held k hk, h k hk)),
               );
         }
 
     -- one row back, with the bond's later row
     module _ (i : ℕ) (v : Node → ℕ) (hi : i < rows.last) (s : Options (suc i) v) (bonds : Node → ℕ) (bs : Bonds (suc i) bonds) (w : Node → ℕ)
-        (step : (k : Node) → Stands i k → w k ≡ heldOrExercised (rows.listed i) (roll i v k) (exercise side strike (roll i bonds k)))
+        (step : (k : Node) → Stands i k → w k ≡ held_or_exercised (rows.listed i) (roll i v k) (exercise side strike (roll i bonds k)))
         (found : ℕ) (ef : found ≡ top i w) where
-      bare-held : (k : Node) → Stands i k → roll i bonds k ≡ bareBond (rounded roll) flow n i k
+      bare-held : (k : Node) → Stands i k → roll i bonds k ≡ bare_bond (rounded roll) flow n i k
       bare-held k hk =
           local.roll-same i bonds (bond (rounded roll) flow n (suc i)) bs.held k hk
           ∙ sym (bare-bond-before (rounded roll) flow n i (omega (arith, bs.in_tree)) k)
@@ -152,7 +152,7 @@ module _ {Node : Type 0} (n : ℕ) (Stands : ℕ → Node → Type 0) (top : ℕ
       option-held : (k : Node) → Stands i k → w k ≡ option (rounded roll) flow n side strike rows i k
       option-held k hk =
           step k hk
-          ∙ ap₂ (heldOrExercised (rows.listed i))
+          ∙ ap₂ (held_or_exercised (rows.listed i))
           (local.roll-same i v (option (rounded roll) flow n side strike rows (suc i)) s.held k hk)
           (exercise-held i k (roll i bonds k) (bare-held k hk))
           ∙ sym (option-before (rounded roll) flow n side strike rows i hi k)
@@ -160,10 +160,10 @@ module _ {Node : Type 0} (n : ℕ) (Stands : ℕ → Node → Type 0) (top : ℕ
       found-option : found ≡ option-top i
       found-option = ef ∙ great.same i w _ option-held
 
-      pub option-over : valueLimit < found → valueLimit < peak option-top rows.last i
+      pub option-over : value_limit < found → value_limit < peak option-top rows.last i
       option-over h = omega (arith, found-option, row-in-peak option-top rows.last i (omega arith))
 
-      pub option-step : found ≤ valueLimit → Options i w
+      pub option-step : found ≤ value_limit → Options i w
       option-step h =
           record {
             before_last = omega arith;

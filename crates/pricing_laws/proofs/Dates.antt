@@ -15,8 +15,8 @@ use Rattle.arithmetic.specs.Row.{values}
 use Rattle.arithmetic.proofs.Numbers.{by_equal, by-test}
 use Rattle.arithmetic.proofs.RowLaws.{length-row, values-row, each_none, each_all, each_holds}
 use Rattle.pricing_laws.specs.Pricer.{call, put}
-use Rattle.pricing_laws.specs.Schedule.{among, inDates, lastDate, datedSchedule, rising, datesCause, numberedSide}
-use Rattle.pricing_laws.specs.Schedule.{everyRow, european, american, side_of, kindDates, kindSide, scheduleOf}
+use Rattle.pricing_laws.specs.Schedule.{among, in_dates, last_date, dated_schedule, rising, dates_cause, numbered_side}
+use Rattle.pricing_laws.specs.Schedule.{every_row, european, american, side_of, kind_dates, kind_side, schedule_of}
 
 -- ---- membership
 
@@ -62,7 +62,7 @@ among_none dates i = refl
 pub record AcceptedDates (n : ℕ) (dates : List ℕ) : Type 0 where
   pub some : 0 < length dates
   pub rises : rising dates ≡ true
-  pub before-end : lastDate dates < n
+  pub before-end : last_date dates < n
 
 and_parts : (a b c : Bool) → cond {A = ℕ} (a && (b && c)) 0 13 ≡ 0 → (a ≡ true) × (b ≡ true) × (c ≡ true)
 and_parts true true true h = (refl, refl, refl)
@@ -70,11 +70,11 @@ and_parts true true false h = absurd (omega arith)
 and_parts true false c h = absurd (omega arith)
 and_parts false b c h = absurd (omega arith)
 
-pub dates-accepted : (n : ℕ) (dates : List ℕ) → datesCause n dates ≡ 0 → AcceptedDates n dates
-unfolding datesCause
+pub dates-accepted : (n : ℕ) (dates : List ℕ) → dates_cause n dates ≡ 0 → AcceptedDates n dates
+unfolding dates_cause
 dates-accepted n dates h =
-    let parts = and_parts (ltb 0 (length dates)) (rising dates) (ltb (lastDate dates) n) h in
-    record { some = ltb-true 0 (length dates) parts.0; rises = parts.1; before-end = ltb-true (lastDate dates) n parts.2 }
+    let parts = and_parts (ltb 0 (length dates)) (rising dates) (ltb (last_date dates) n) h in
+    record { some = ltb-true 0 (length dates) parts.0; rises = parts.1; before-end = ltb-true (last_date dates) n parts.2 }
 
 -- of a rising list no entry is above a later one
 rising_le : (dates : List ℕ) → rising dates ≡ true → (d k : ℕ) → k + d < length dates → values dates k ≤ values dates (k + d)
@@ -87,113 +87,113 @@ rising_le dates h (suc d) k l =
     (each_holds (length dates - 1) (k + d) (λ j. ltb (values dates j) (values dates (j + 1))) h (omega arith)) in
     rw e (omega (arith, next, rising_le dates h d k (omega arith)))
 
-pub rising-last : (dates : List ℕ) → rising dates ≡ true → (k : ℕ) → k < length dates → values dates k ≤ lastDate dates
+pub rising-last : (dates : List ℕ) → rising dates ≡ true → (k : ℕ) → k < length dates → values dates k ≤ last_date dates
 rising-last dates h k l =
     let e : k + (length dates - 1 - k) ≡ length dates - 1 = omega arith in
     rw e at (rising_le dates h (length dates - 1 - k) k (omega arith))
 
 -- the cause by the tests that the code makes
 module _ (n : ℕ) (dates : List ℕ) where
-  pub cause-empty : length dates ≡ 0 → 13 ≡ datesCause n dates
-  unfolding datesCause
+  pub cause-empty : length dates ≡ 0 → 13 ≡ dates_cause n dates
+  unfolding dates_cause
   cause-empty e = rw (le-ltb 0 (length dates) (omega arith))
 
   module _ (some : length dates ≡ 0 → ⊥) where
-    pub cause-order : rising dates ≡ false → 13 ≡ datesCause n dates
-    unfolding datesCause
+    pub cause-order : rising dates ≡ false → 13 ≡ dates_cause n dates
+    unfolding dates_cause
     cause-order e = rw (lt-ltb 0 (length dates) (omega arith), e)
 
     module _ (order : rising dates ≡ true) where
-      pub cause-end : n ≤ lastDate dates → 13 ≡ datesCause n dates
-      unfolding datesCause
-      cause-end h = rw (lt-ltb 0 (length dates) (omega arith), order, le-ltb (lastDate dates) n h)
+      pub cause-end : n ≤ last_date dates → 13 ≡ dates_cause n dates
+      unfolding dates_cause
+      cause-end h = rw (lt-ltb 0 (length dates) (omega arith), order, le-ltb (last_date dates) n h)
 
-      pub cause-none : lastDate dates < n → 0 ≡ datesCause n dates
-      unfolding datesCause
-      cause-none h = rw (lt-ltb 0 (length dates) (omega arith), order, lt-ltb (lastDate dates) n h)
+      pub cause-none : last_date dates < n → 0 ≡ dates_cause n dates
+      unfolding dates_cause
+      cause-none h = rw (lt-ltb 0 (length dates) (omega arith), order, lt-ltb (last_date dates) n h)
 
 -- ---- the lists of the kinds
 
-pub every-last : (expiry : ℕ) → lastDate (everyRow expiry) ≡ expiry
+pub every-last : (expiry : ℕ) → last_date (every_row expiry) ≡ expiry
 every-last expiry =
-    ap (λ (c : ℕ). values (everyRow expiry) (c - 1)) (length-row (suc expiry) (λ i. i))
+    ap (λ (c : ℕ). values (every_row expiry) (c - 1)) (length-row (suc expiry) (λ i. i))
     ∙ (let e : suc expiry - 1 ≡ expiry = omega arith in rw e (values-row (suc expiry) expiry (λ i. i) (omega arith)))
 
-pub every-listed : (expiry i : ℕ) → i ≤ expiry → inDates (everyRow expiry) i ≡ true
+pub every-listed : (expiry i : ℕ) → i ≤ expiry → in_dates (every_row expiry) i ≡ true
 every-listed expiry i h =
-    let e : values (everyRow expiry) i ≡ i = values-row (suc expiry) i (λ k. k) (omega arith) in
-    rw (length-row (suc expiry) (λ k. k)) (rw e at (among-entry (everyRow expiry) (suc expiry) i (omega arith)))
+    let e : values (every_row expiry) i ≡ i = values-row (suc expiry) i (λ k. k) (omega arith) in
+    rw (length-row (suc expiry) (λ k. k)) (rw e at (among-entry (every_row expiry) (suc expiry) i (omega arith)))
 
-pub expiry-alone : (expiry i : ℕ) → i < expiry → inDates (expiry ∷ []) i ≡ false
+pub expiry-alone : (expiry i : ℕ) → i < expiry → in_dates (expiry ∷ []) i ≡ false
 unfolding among
 expiry-alone expiry i h = rw (ne_eqb i expiry (λ e. omega arith))
 
 pub european-last : (expiry : ℕ) → (european expiry).last ≡ expiry
-unfolding european datedSchedule
+unfolding european dated_schedule
 european-last expiry = refl
 
 pub european-listed : (expiry i : ℕ) → i < expiry → (european expiry).listed i ≡ false
-unfolding european datedSchedule
+unfolding european dated_schedule
 european-listed expiry i h = expiry-alone expiry i h
 
 pub american-last : (expiry : ℕ) → (american expiry).last ≡ expiry
-unfolding american datedSchedule
+unfolding american dated_schedule
 american-last expiry = every-last expiry
 
 pub american-listed : (expiry i : ℕ) → i ≤ expiry → (american expiry).listed i ≡ true
-unfolding american datedSchedule
+unfolding american dated_schedule
 american-listed expiry i h = every-listed expiry i h
 
 -- a kind's list ends at expiry
-pub kind-last : (kind expiry : ℕ) → lastDate (kindDates kind expiry) ≡ expiry
-unfolding kindDates
+pub kind-last : (kind expiry : ℕ) → last_date (kind_dates kind expiry) ≡ expiry
+unfolding kind_dates
 kind-last kind expiry =
-    by-test (leb 3 kind) (λ (dates : List ℕ). lastDate dates ≡ expiry) (everyRow expiry) (expiry ∷ []) (λ t. every-last expiry) (λ t. refl)
+    by-test (leb 3 kind) (λ (dates : List ℕ). last_date dates ≡ expiry) (every_row expiry) (expiry ∷ []) (λ t. every-last expiry) (λ t. refl)
 
-pub schedule-last : (kind expiry : ℕ) → (scheduleOf kind expiry).last ≡ expiry
-unfolding scheduleOf datedSchedule
+pub schedule-last : (kind expiry : ℕ) → (schedule_of kind expiry).last ≡ expiry
+unfolding schedule_of dated_schedule
 schedule-last kind expiry = kind-last kind expiry
 
 -- and it is accepted wherever expiry is below n
-every-rises : (expiry : ℕ) → rising (everyRow expiry) ≡ true
+every-rises : (expiry : ℕ) → rising (every_row expiry) ≡ true
 unfolding rising
 every-rises expiry =
     let size = length-row (suc expiry) (λ i. i) in
-    each_all (length (everyRow expiry) - 1) (λ k. ltb (values (everyRow expiry) k) (values (everyRow expiry) (k + 1)))
+    each_all (length (every_row expiry) - 1) (λ k. ltb (values (every_row expiry) k) (values (every_row expiry) (k + 1)))
     (λ k h.
-    lt-ltb (values (everyRow expiry) k) (values (everyRow expiry) (k + 1))
+    lt-ltb (values (every_row expiry) k) (values (every_row expiry) (k + 1))
     (omega (
       arith,
       values-row (suc expiry) k (λ i. i) (omega (arith, size)),
       values-row (suc expiry) (k + 1) (λ i. i) (omega (arith, size)),
     )))
 
-every-accepted : (n expiry : ℕ) → expiry < n → datesCause n (everyRow expiry) ≡ 0
+every-accepted : (n expiry : ℕ) → expiry < n → dates_cause n (every_row expiry) ≡ 0
 every-accepted n expiry h =
     sym
-    (cause-none n (everyRow expiry) (λ e. absurd (omega (arith, length-row (suc expiry) (λ i. i)))) (every-rises expiry) (rw (every-last expiry) h))
+    (cause-none n (every_row expiry) (λ e. absurd (omega (arith, length-row (suc expiry) (λ i. i)))) (every-rises expiry) (rw (every-last expiry) h))
 
-alone-accepted : (n expiry : ℕ) → expiry < n → datesCause n (expiry ∷ []) ≡ 0
+alone-accepted : (n expiry : ℕ) → expiry < n → dates_cause n (expiry ∷ []) ≡ 0
 unfolding rising
 alone-accepted n expiry h = sym (cause-none n (expiry ∷ []) (λ e. absurd (omega arith)) (each_none _) h)
 
-pub kind-accepted : (n kind expiry : ℕ) → expiry < n → datesCause n (kindDates kind expiry) ≡ 0
-unfolding kindDates
+pub kind-accepted : (n kind expiry : ℕ) → expiry < n → dates_cause n (kind_dates kind expiry) ≡ 0
+unfolding kind_dates
 kind-accepted n kind expiry h =
-    by-test (leb 3 kind) (λ (dates : List ℕ). datesCause n dates ≡ 0) (everyRow expiry) (expiry ∷ [])
+    by-test (leb 3 kind) (λ (dates : List ℕ). dates_cause n dates ≡ 0) (every_row expiry) (expiry ∷ [])
     (λ t. every-accepted n expiry h) (λ t. alone-accepted n expiry h)
 
 -- the side of a kind is that of its number
-pub kind-side : (kind : ℕ) → numberedSide (kindSide kind) ≡ side_of kind
-unfolding numberedSide kindSide side_of
+pub kind-side : (kind : ℕ) → numbered_side (kind_side kind) ≡ side_of kind
+unfolding numbered_side kind_side side_of
 kind-side kind = go (eqb kind 1 || eqb kind 3)
   where
     go : (t : Bool) → cond (eqb (cond t 1 2) 1) call put ≡ cond t call put
     go true = refl
     go false = refl
 
-pub kind-side-number : (kind : ℕ) → (1 ≤ kindSide kind) × (kindSide kind ≤ 2)
-unfolding kindSide
+pub kind-side-number : (kind : ℕ) → (1 ≤ kind_side kind) × (kind_side kind ≤ 2)
+unfolding kind_side
 kind-side-number kind = go (eqb kind 1 || eqb kind 3)
   where
     go : (t : Bool) → (1 ≤ cond t 1 2) × (cond t 1 2 ≤ 2)

@@ -7,9 +7,9 @@ use Prim.Native.Nat.{ℕ, ◌+◌, ◌-◌, ◌*◌, ◌≤◌, ◌<◌, max}
 use native.Mathlib.Nat.{add-mul, mul_comm, mul-sub, mul-le-mul_left, mul-le-mul_right, max-eq_left, max-eq_right, le_of_lt}
 use native.Mathlib.Omega.{arith}
 use Rattle.arithmetic.specs.Rounding.{one, Rounds}
-use Rattle.tree.specs.Tree.{probabilityTotal, Transition, outgoing, Inside, Total}
+use Rattle.tree.specs.Tree.{probability_total, Transition, outgoing, Inside, Total}
 use Rattle.arithmetic.proofs.Numbers.{by_order}
-use Rattle.pricing_laws.specs.Pricer.{Side, call, put, exercise, heldOrExercised}
+use Rattle.pricing_laws.specs.Pricer.{Side, call, put, exercise, held_or_exercised}
 
 -- e is the engine's number and x the exact one times M: e is above x by at most l halves, and below it by at most u halves
 pub record Near (l u M e x : ℕ) : Type 0 where
@@ -17,7 +17,7 @@ pub record Near (l u M e x : ℕ) : Type 0 where
   pub below : 2 * x ≤ 2 * (e * M) + u * M
 
 -- the whole times one value, by the three probabilities
-parts : (p q r w : ℕ) → p + q + r ≡ probabilityTotal → p * w + q * w + r * w ≡ 600000000 * w
+parts : (p q r w : ℕ) → p + q + r ≡ probability_total → p * w + q * w + r * w ≡ 600000000 * w
 parts p q r w h = simp (← add-mul) (ap (λ (t : ℕ). t * w) h)
 
 -- Averaging over the branches of a node, then dividing by 600,000,000.
@@ -49,11 +49,11 @@ module _ (divide : ℕ → ℕ → ℕ) (over under : ℕ) (rounds : Rounds divi
         parts (t.down k) (t.middle k) (t.up k) (u * M) (total k hk),
       )
 
-  pub near-average : Near (l + over) (u + under) (M * probabilityTotal) (divide (outgoing t v k) probabilityTotal) (outgoing t x k)
+  pub near-average : Near (l + over) (u + under) (M * probability_total) (divide (outgoing t v k) probability_total) (outgoing t x k)
   near-average =
       record {
-        above = omega (arith, sum-above, mul-le-mul_right M (rounds.above (outgoing t v k) probabilityTotal (omega arith)));
-        below = omega (arith, sum_below, mul-le-mul_right M (rounds.below (outgoing t v k) probabilityTotal (omega arith)));
+        above = omega (arith, sum-above, mul-le-mul_right M (rounds.above (outgoing t v k) probability_total (omega arith)));
+        below = omega (arith, sum_below, mul-le-mul_right M (rounds.below (outgoing t v k) probability_total (omega arith)));
       }
 
 -- Discounting, then dividing by one. Any discount of at most g.
@@ -105,7 +105,7 @@ near-max l u M e x f y n m =
     (λ h. let g = mul-le-mul_right M (le_of_lt h) in
     rw (max-eq_left (le_of_lt h)) (record { above = omega (arith, g, n.above); below = omega (arith, g, n.below, m.below) }))
 
-pub near-held : (b : Bool) {l u M e x f y : ℕ} → Near l u M e x → Near l u M f y → Near l u M (heldOrExercised b e f) (heldOrExercised b x y)
-unfolding heldOrExercised
+pub near-held : (b : Bool) {l u M e x f y : ℕ} → Near l u M e x → Near l u M f y → Near l u M (held_or_exercised b e f) (held_or_exercised b x y)
+unfolding held_or_exercised
 near-held true {l} {u} {M} {e} {x} {f} {y} n m = near-max l u M e x f y n m
 near-held false n m = n

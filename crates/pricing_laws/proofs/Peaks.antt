@@ -5,15 +5,15 @@ use mathlib.Core.Logic.{⊎_elim}
 use Prim.Native.Nat.{ℕ, zero, suc, ◌+◌, ◌-◌, ◌≤◌, ◌<◌, max}
 use native.Mathlib.Nat.{sub_self, le_refl, eq-or-lt_of_le, add-zero, add-suc}
 use native.Mathlib.Omega.{arith}
-use Rattle.pricing_laws.specs.Peak.{peakFrom, peak}
+use Rattle.pricing_laws.specs.Peak.{peak_from, peak}
 
 module _ (top : ℕ → ℕ) (n : ℕ) where
   pub peak-last : peak top n n ≡ top n
-  unfolding peak peakFrom
+  unfolding peak peak_from
   peak-last = rw sub_self
 
   pub peak-before : (i : ℕ) → i < n → peak top n i ≡ max (top i) (peak top n (suc i))
-  unfolding peak peakFrom
+  unfolding peak peak_from
   peak-before i h = let e : n - i ≡ suc (n - suc i) = omega arith in rw e
 
   -- more rows have no smaller peak

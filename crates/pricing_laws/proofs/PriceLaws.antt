@@ -10,10 +10,10 @@ use Rattle.arithmetic.specs.Within.{Within}
 use Rattle.arithmetic.specs.Sum.{greatest}
 use Rattle.arithmetic.proofs.RoundingLaws.{nearest-rounds}
 use Rattle.arithmetic.proofs.SumLaws.{greatest-ge, greatest-le, greatest-cong}
-use Rattle.tree.specs.Tree.{Tree, Sound, outgoing, probabilityTotal, unit}
+use Rattle.tree.specs.Tree.{Tree, Sound, outgoing, probability_total, unit}
 use Rattle.tree.proofs.StepLaws.{outgoing-le}
 use Rattle.pricing_laws.specs.Pricer.{bond, Side, Schedule, option}
-use Rattle.pricing_laws.specs.TreePricer.{rollRounding, rollLoss, nodeRoll, roll, exactRoll, engine, exact, greatestDiscount, priceErrorBound}
+use Rattle.pricing_laws.specs.TreePricer.{roll_rounding, roll_loss, node_roll, roll, exact_roll, engine, exact, greatest_discount, price_error_bound}
 use Rattle.pricing_laws.proofs.Near.{near-average, near-discount}
 use Rattle.pricing_laws.proofs.Accuracy.{Close, bond-within, option-within, loss-a-step}
 use Rattle.pricing_laws.proofs.Ceiling.{ceiling, error-bound-ceiling}
@@ -33,21 +33,21 @@ abbrev pub cost : ℕ → (ℕ → ℕ) → ℕ → ℕ
 cost halves greatest i = greatest i * halves + one * halves
 
 -- the rounding of the engine's rolls, in half billionths: at most 1 from the exact quotient, either way
-pub roll-rounds : Rounds rollRounding 1 1
+pub roll-rounds : Rounds roll_rounding 1 1
 roll-rounds = nearest-rounds
 
 -- One roll step, under any rounding: values near the exact ones give values near the exact ones.
 pub roll-close :
     (divide : ℕ → ℕ → ℕ) (over under : ℕ) → Rounds divide over under → (t : Tree) → Sound t → (discount : ℕ → ℕ → ℕ) (n : ℕ) →
-    Close n unit (On t) (roll t discount divide) (exactRoll t discount) (greatestDiscount t discount)
-    (cost over (greatestDiscount t discount)) (cost under (greatestDiscount t discount))
-unfolding roll nodeRoll exactRoll greatestDiscount
+    Close n unit (On t) (roll t discount divide) (exact_roll t discount) (greatest_discount t discount)
+    (cost over (greatest_discount t discount)) (cost under (greatest_discount t discount))
+unfolding roll node_roll exact_roll greatest_discount
 roll-close divide over under rounds t sound discount n =
     record {
       roll-near = λ i hi v x l u l' u' M hl hu near k hk.
-          let e : M * probabilityTotal * one ≡ M * unit = mul_assoc M probabilityTotal one in
+          let e : M * probability_total * one ≡ M * unit = mul_assoc M probability_total one in
           rw (← e)
-          (near-discount divide over under rounds (l + over) (u + under) l' u' (M * probabilityTotal) _ _ (discount i k) _
+          (near-discount divide over under rounds (l + over) (u + under) l' u' (M * probability_total) _ _ (discount i k) _
           (greatest-ge (t.nodes i) (discount i) k hk) (omega arith) (omega arith)
           (near-average divide over under rounds (t.step i) (t.nodes i) (t.nodes (suc i)) (sound.inside i) (sound.total i) v x l u M near k hk));
     }
@@ -61,52 +61,52 @@ expected-monotone t sound =
 pub roll-monotone :
     (divide : ℕ → ℕ → ℕ) (over under : ℕ) → Rounds divide over under → (t : Tree) → Sound t → (discount : ℕ → ℕ → ℕ) →
     Monotone (On t) (roll t discount divide)
-unfolding roll nodeRoll
+unfolding roll node_roll
 roll-monotone divide over under rounds t sound discount =
     record {
       roll-le = λ i v w h k hk.
           let sums = (expected-monotone t sound).roll-le i v w h k hk in
           rounds.monotone _ _ one (omega arith)
-          (mul-le-mul_right (discount i k) (rounds.monotone _ _ probabilityTotal (omega arith) sums));
+          (mul-le-mul_right (discount i k) (rounds.monotone _ _ probability_total (omega arith) sums));
     }
 
 -- and so the engine's, whatever its rounding
 pub engine-monotone : (t : Tree) → Sound t → (discount : ℕ → ℕ → ℕ) → Monotone (On t) (engine t discount).roll
-engine-monotone t sound discount = roll-monotone rollRounding _ _ roll-rounds t sound discount
+engine-monotone t sound discount = roll-monotone roll_rounding _ _ roll-rounds t sound discount
 
 -- a roll depends on the values of the next row's nodes alone
 pub roll-same :
     (t : Tree) → Sound t → (discount : ℕ → ℕ → ℕ) (divide : ℕ → ℕ → ℕ) (i : ℕ) (v w : ℕ → ℕ) → ((j : ℕ) → j < t.nodes (suc i) → v j ≡ w j) →
     (k : ℕ) → k < t.nodes i → roll t discount divide i v k ≡ roll t discount divide i w k
-unfolding roll nodeRoll
+unfolding roll node_roll
 roll-same t sound discount divide i v w h k hk =
-    ap (λ (s : ℕ). divide (divide s probabilityTotal * discount i k) one) ((monotone-local (On t) _ (expected-monotone t sound)).roll-same i v w h k hk)
+    ap (λ (s : ℕ). divide (divide s probability_total * discount i k) one) ((monotone-local (On t) _ (expected-monotone t sound)).roll-same i v w h k hk)
 
 -- a loss a step covers the two roundings, where 2,100,000,000 times the rounding's halves are at most twice the loss in billionths
 cost-covered :
     (t : Tree) (discount : ℕ → ℕ → ℕ) (n loss halves : ℕ) → Discounts-at-most 1100000000 t discount n → 2100000000 * halves ≤ one * (2 * loss) →
-    (i : ℕ) → i < n → cost halves (greatestDiscount t discount) i ≤ one * (2 * loss)
-unfolding greatestDiscount
+    (i : ℕ) → i < n → cost halves (greatest_discount t discount) i ≤ one * (2 * loss)
+unfolding greatest_discount
 cost-covered t discount n loss halves hd h i hi =
     omega (arith, mul-le-mul_right halves (greatest-le (t.nodes i) (discount i) 1100000000 (λ k l. hd i k hi l)))
 
 module _ (t : Tree) (sound : Sound t) (discount : ℕ → ℕ → ℕ) (n : ℕ) (hd : Discounts-at-most 1100000000 t discount n) (flow : ℕ → ℕ) where
   -- the bond's price is within its error bound
   pub bond-accurate :
-      Within (priceErrorBound t discount n 0) (unit ^ n) (bond (engine t discount) flow n 0 0) (bond (exact t discount) flow n 0 0)
+      Within (price_error_bound t discount n 0) (unit ^ n) (bond (engine t discount) flow n 0 0) (bond (exact t discount) flow n 0 0)
   bond-accurate =
-      bond-within n unit rollLoss (On t) (roll-close rollRounding 1 1 roll-rounds t sound discount n)
-      (cost-covered t discount n rollLoss 1 hd (omega arith)) (cost-covered t discount n rollLoss 1 hd (omega arith)) flow 0
+      bond-within n unit roll_loss (On t) (roll-close roll_rounding 1 1 roll-rounds t sound discount n)
+      (cost-covered t discount n roll_loss 1 hd (omega arith)) (cost-covered t discount n roll_loss 1 hd (omega arith)) flow 0
       (omega (arith, sound.root))
 
   -- the option's price is within the same error bound, whatever its schedule
   pub option-accurate :
       (side : Side) (strike : ℕ) (rows : Schedule) → rows.last ≤ n →
-      Within (priceErrorBound t discount n 0) (unit ^ n)
+      Within (price_error_bound t discount n 0) (unit ^ n)
       (option (engine t discount) flow n side strike rows 0 0) (option (exact t discount) flow n side strike rows 0 0)
   option-accurate side strike rows h =
-      option-within n unit rollLoss (On t) (roll-close rollRounding 1 1 roll-rounds t sound discount n)
-      (cost-covered t discount n rollLoss 1 hd (omega arith)) (cost-covered t discount n rollLoss 1 hd (omega arith)) flow side strike rows h 0
+      option-within n unit roll_loss (On t) (roll-close roll_rounding 1 1 roll-rounds t sound discount n)
+      (cost-covered t discount n roll_loss 1 hd (omega arith)) (cost-covered t discount n roll_loss 1 hd (omega arith)) flow side strike rows h 0
       (omega (arith, sound.root))
 
 -- what the laws of a walk back use: the greatest value of a row, and that a roll is local
@@ -128,17 +128,17 @@ ceiling-60 = lit≤ tt
 -- the error bound of every row of at most 60 steps is small
 pub error-bound-small :
     (t : Tree) (discount : ℕ → ℕ → ℕ) (n : ℕ) → Discounts-at-most 1100000000 t discount n → n ≤ 60 → (i : ℕ) → i ≤ n →
-    priceErrorBound t discount n i ≤ 1000000
-unfolding greatestDiscount
+    price_error_bound t discount n i ≤ 1000000
+unfolding greatest_discount
 error-bound-small t discount n hd few i h =
     le_trans
-    (error-bound-ceiling 110 (greatestDiscount t discount) n
+    (error-bound-ceiling 110 (greatest_discount t discount) n
     (λ r hr. greatest-le (t.nodes r) (discount r) 1100000000 (λ k l. hd r k hr l)) (omega arith) 60 few i h)
     ceiling-60
 
 -- where no discount is above one: at most 2 a step
 pub error-bound-a-step :
-    (t : Tree) (discount : ℕ → ℕ → ℕ) (n : ℕ) → Discounts-at-most one t discount n → priceErrorBound t discount n 0 ≤ 2 * n
-unfolding greatestDiscount
+    (t : Tree) (discount : ℕ → ℕ → ℕ) (n : ℕ) → Discounts-at-most one t discount n → price_error_bound t discount n 0 ≤ 2 * n
+unfolding greatest_discount
 error-bound-a-step t discount n h =
-    loss-a-step 2 (greatestDiscount t discount) n (λ i hi. greatest-le (t.nodes i) (discount i) one (λ k l. h i k hi l))
+    loss-a-step 2 (greatest_discount t discount) n (λ i hi. greatest-le (t.nodes i) (discount i) one (λ k l. h i k hi l))

@@ -5,7 +5,7 @@ use mathlib.Core.Bool.{Bool, true, false}
 use Prim.Native.Nat.{ℕ, zero, suc, ◌+◌, ◌-◌, ◌≤◌, ◌<◌}
 use native.Mathlib.Nat.{le_refl, le_antisymm}
 use native.Mathlib.Omega.{arith}
-use Rattle.pricing_laws.specs.Pricer.{Pricer, Side, exerciseRow, Schedule, heldOrExercised, optionFrom, option}
+use Rattle.pricing_laws.specs.Pricer.{Pricer, Side, exercise_row, Schedule, held_or_exercised, option_from, option}
 use Rattle.pricing_laws.proofs.Backward.{Local}
 
 -- What the laws use of a roll: larger values on the next row give no smaller one on this row.
@@ -22,14 +22,14 @@ monotone-local Stands roll m =
     }
 
 -- a right to exercise is worth at least the exercise
-held-ge : (b : Bool) (roll now : ℕ) → b ≡ true → now ≤ heldOrExercised b roll now
-unfolding heldOrExercised
+held-ge : (b : Bool) (roll now : ℕ) → b ≡ true → now ≤ held_or_exercised b roll now
+unfolding held_or_exercised
 held-ge true roll now h = omega arith
 held-ge false roll now h = let z : ◌≡◌ {A = ℕ} 0 1 = cc in absurd (omega arith)
 
 -- a roll that is no smaller, and at least the same right
-held-le : (b c : Bool) (r s now : ℕ) → (b ≡ true → c ≡ true) → r ≤ s → heldOrExercised b r now ≤ heldOrExercised c s now
-unfolding heldOrExercised
+held-le : (b c : Bool) (r s now : ℕ) → (b ≡ true → c ≡ true) → r ≤ s → held_or_exercised b r now ≤ held_or_exercised c s now
+unfolding held_or_exercised
 held-le true true r s now h l = omega arith
 held-le true false r s now h l = let q : false ≡ true = h refl in let z : ◌≡◌ {A = ℕ} 0 1 = cc in absurd (omega arith)
 held-le false true r s now h l = omega arith
@@ -45,16 +45,16 @@ module _ {Node : Type 0} (Stands : ℕ → Node → Type 0) (p : Pricer Node) (m
   -- the last row of the lesser schedule, with d rows left in the greater one
   last-row-le :
       (many : ℕ → Bool) (d i : ℕ) → (0 < d → many i ≡ true) → (k : Node) →
-      exerciseRow p flow n side strike i k ≤ optionFrom p flow n side strike many d i k
-  unfolding optionFrom
+      exercise_row p flow n side strike i k ≤ option_from p flow n side strike many d i k
+  unfolding option_from
   last-row-le many zero i h k = le_refl _
   last-row-le many (suc d) i h k = held-ge (many i) _ _ (h (omega arith))
 
   rights-from :
       (few many : ℕ → Bool) (s d i last : ℕ) → i + s ≡ last → (0 < d → many last ≡ true) →
       ((r : ℕ) → r < last → few r ≡ true → many r ≡ true) → (k : Node) → Stands i k →
-      optionFrom p flow n side strike few s i k ≤ optionFrom p flow n side strike many (s + d) i k
-  unfolding optionFrom
+      option_from p flow n side strike few s i k ≤ option_from p flow n side strike many (s + d) i k
+  unfolding option_from
   rights-from few many zero d i last e hl h k hk =
       let z : 0 + d ≡ d = omega arith in
       let f : i ≡ last = omega arith in
@@ -63,7 +63,7 @@ module _ {Node : Type 0} (Stands : ℕ → Node → Type 0) (p : Pricer Node) (m
       let z : suc s + d ≡ suc (s + d) = omega arith in
       rw z
       (held-le (few i) (many i) _ _ _ (h i (omega arith))
-      (m.roll-le i (optionFrom p flow n side strike few s (suc i)) (optionFrom p flow n side strike many (s + d) (suc i))
+      (m.roll-le i (option_from p flow n side strike few s (suc i)) (option_from p flow n side strike many (s + d) (suc i))
       (rights-from few many s d (suc i) last (omega arith) hl h) k hk))
 
   -- the price of the schedule with more rights is not lower, at every row and node

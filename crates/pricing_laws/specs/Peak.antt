@@ -5,14 +5,14 @@ use Rattle.arithmetic.specs.Sum.{greatest}
 use Rattle.tree.specs.Tree.{Tree}
 
 -- the greatest of top i, .., top (i + s)
-unfoldable pub peakFrom : (ℕ → ℕ) → ℕ → ℕ → ℕ
-peakFrom top zero i = top i
-peakFrom top (suc s) i = max (top i) (peakFrom top s (suc i))
+unfoldable pub peak_from : (ℕ → ℕ) → ℕ → ℕ → ℕ
+peak_from top zero i = top i
+peak_from top (suc s) i = max (top i) (peak_from top s (suc i))
 
 -- the greatest of top i, .., top n
 unfoldable pub peak : (ℕ → ℕ) → ℕ → ℕ → ℕ
-peak top n i = peakFrom top (n - i) i
+peak top n i = peak_from top (n - i) i
 
 -- the greatest value of row i, of values by row and node
-unfoldable pub greatestValue : Tree → (ℕ → ℕ → ℕ) → ℕ → ℕ
-greatestValue t value i = greatest (t.nodes i) (value i)
+unfoldable pub greatest_value : Tree → (ℕ → ℕ → ℕ) → ℕ → ℕ
+greatest_value t value i = greatest (t.nodes i) (value i)

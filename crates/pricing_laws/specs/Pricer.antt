@@ -21,27 +21,27 @@ fractions unit roll = record { roll = roll; scaled = λ s x. x * unit ^ s }
 -- Bond: the flow at row n; before, the roll plus the row's flow. Row 0 has none: flow 0 is 0.
 module _ {Node : Type 0} (p : Pricer Node) (flow : ℕ → ℕ) where
   -- with the flow of its row, at row i with s rows left
-  unfoldable pub bondFrom : ℕ → ℕ → Node → ℕ
-  bondFrom zero i = λ k. p.scaled 0 (flow i)
-  bondFrom (suc s) i = λ k. p.roll i (bondFrom s (suc i)) k + p.scaled (suc s) (flow i)
+  unfoldable pub bond_from : ℕ → ℕ → Node → ℕ
+  bond_from zero i = λ k. p.scaled 0 (flow i)
+  bond_from (suc s) i = λ k. p.roll i (bond_from s (suc i)) k + p.scaled (suc s) (flow i)
 
   -- without the flow of its row; at row n the bond is then repaid
-  unfoldable pub bareBondFrom : ℕ → ℕ → Node → ℕ
-  bareBondFrom zero i = λ k. 0
-  bareBondFrom (suc s) i = p.roll i (bondFrom s (suc i))
+  unfoldable pub bare_bond_from : ℕ → ℕ → Node → ℕ
+  bare_bond_from zero i = λ k. 0
+  bare_bond_from (suc s) i = p.roll i (bond_from s (suc i))
 
   -- with and without the flow of row i, of a bond that ends at row n
   unfoldable pub bond : ℕ → ℕ → Node → ℕ
-  bond n i = bondFrom (n - i) i
+  bond n i = bond_from (n - i) i
 
-  unfoldable pub bareBond : ℕ → ℕ → Node → ℕ
-  bareBond n i = bareBondFrom (n - i) i
+  unfoldable pub bare_bond : ℕ → ℕ → Node → ℕ
+  bare_bond n i = bare_bond_from (n - i) i
 
 -- Payoffs on a row, rolled back without flows: the value at row i of payoffs on row i + s.
 module _ {Node : Type 0} (p : Pricer Node) (payoff : Node → ℕ) where
-  unfoldable pub payoffValue : ℕ → ℕ → Node → ℕ
-  payoffValue zero i = λ k. p.scaled 0 (payoff k)
-  payoffValue (suc s) i = p.roll i (payoffValue s (suc i))
+  unfoldable pub payoff_value : ℕ → ℕ → Node → ℕ
+  payoff_value zero i = λ k. p.scaled 0 (payoff k)
+  payoff_value (suc s) i = p.roll i (payoff_value s (suc i))
 
 pub data Side : Type 0 where
   call put : Side
@@ -57,30 +57,30 @@ pub record Schedule : Type 0 where
   pub listed : ℕ → Bool
 
 -- before expiry: on a row that is listed the larger of roll and exercise, on any other the roll
-unfoldable pub heldOrExercised : Bool → ℕ → ℕ → ℕ
-heldOrExercised true roll now = max roll now
-heldOrExercised false roll now = roll
+unfoldable pub held_or_exercised : Bool → ℕ → ℕ → ℕ
+held_or_exercised true roll now = max roll now
+held_or_exercised false roll now = roll
 
 -- The option on a bond that ends at row n.
 module _ {Node : Type 0} (p : Pricer Node) (flow : ℕ → ℕ) (n : ℕ) (side : Side) (strike : ℕ) where
   -- the exercise value at row i: on the bond without the flow of its row, which stays with the seller (document 02, request (ii))
-  unfoldable pub exerciseRow : ℕ → Node → ℕ
-  exerciseRow i = λ k. exercise side (p.scaled (n - i) strike) (bareBond p flow n i k)
+  unfoldable pub exercise_row : ℕ → Node → ℕ
+  exercise_row i = λ k. exercise side (p.scaled (n - i) strike) (bare_bond p flow n i k)
 
   -- at row i, with s rows left to expiry
-  unfoldable pub optionFrom : (ℕ → Bool) → ℕ → ℕ → Node → ℕ
-  optionFrom listed zero i = exerciseRow i
-  optionFrom listed (suc s) i = λ k. heldOrExercised (listed i) (p.roll i (optionFrom listed s (suc i)) k) (exerciseRow i k)
+  unfoldable pub option_from : (ℕ → Bool) → ℕ → ℕ → Node → ℕ
+  option_from listed zero i = exercise_row i
+  option_from listed (suc s) i = λ k. held_or_exercised (listed i) (p.roll i (option_from listed s (suc i)) k) (exercise_row i k)
 
   unfoldable pub option : Schedule → ℕ → Node → ℕ
-  option rows i = optionFrom rows.listed (rows.last - i) i
+  option rows i = option_from rows.listed (rows.last - i) i
 
 -- The error bound of prices (document 01: price allowance), with the greatest discount of each row: 0 at row n, then greatest × later bound
 -- / one, up, plus a loss for each step.
 module _ (loss : ℕ) (greatest : ℕ → ℕ) where
-  unfoldable pub errorBoundFrom : ℕ → ℕ → ℕ
-  errorBoundFrom zero i = 0
-  errorBoundFrom (suc s) i = round_up (greatest i * errorBoundFrom s (suc i)) one + loss
+  unfoldable pub error_bound_from : ℕ → ℕ → ℕ
+  error_bound_from zero i = 0
+  error_bound_from (suc s) i = round_up (greatest i * error_bound_from s (suc i)) one + loss
 
-  unfoldable pub errorBound : ℕ → ℕ → ℕ
-  errorBound n i = errorBoundFrom (n - i) i
+  unfoldable pub error_bound : ℕ → ℕ → ℕ
+  error_bound n i = error_bound_from (n - i) i

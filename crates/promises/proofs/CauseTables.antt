@@ -8,14 +8,14 @@ use native.Mathlib.Nat.{le_trans, zero-add}
 use native.Mathlib.Omega.{arith}
 use borrow.Author.Tests.{eq-eqb, ne_eqb, eqb-true, ltb-true, ltb-false, leb-true, le-leb, lt-leb, lt-ltb, le-ltb}
 use lib.Dec.{eqb, leb, ltb}
-use Rattle.arithmetic.specs.Answers.{refused, answered, firstCause}
+use Rattle.arithmetic.specs.Answers.{refused, answered, first_cause}
 use Rattle.arithmetic.proofs.Numbers.{by_order, by_equal}
 use Rattle.arithmetic.proofs.BetweenLaws.{and_left, and_right}
 use Rattle.arithmetic.proofs.RowLaws.{each_all, each_holds}
 use Rattle.arithmetic.proofs.SumLaws.{greatest-ge, greatest-le}
 use Rattle.arithmetic.specs.Sum.{greatest}
 use Rattle.arithmetic.specs.Row.{each}
-use Rattle.pricing_laws.specs.Peak.{peakFrom, peak}
+use Rattle.pricing_laws.specs.Peak.{peak_from, peak}
 use Rattle.pricing_laws.proofs.Peaks.{peak-grows, row-in-peak}
 use Rattle.price_laws.specs.Prices.{priced}
 use Rattle.promises.specs.Causes.{Cause, cause, first_of}
@@ -72,14 +72,14 @@ abbrev pub numbered : List Cause → Bool
 numbered [] = true
 numbered (c ∷ later) = ltb 0 c.number && numbered later
 
-pub first-append : (causes later : List Cause) → numbered causes ≡ true → firstCause (first_of causes) (first_of later) ≡ first_of (causes ++ later)
-unfolding first_of firstCause
+pub first-append : (causes later : List Cause) → numbered causes ≡ true → first_cause (first_of causes) (first_of later) ≡ first_of (causes ++ later)
+unfolding first_of first_cause
 first-append [] later h = refl
 first-append (c ∷ causes) later h =
     by-cause (ltb-true 0 c.number (and_left (ltb 0 c.number) (numbered causes) h))
     (first-append causes later (and_right (ltb 0 c.number) (numbered causes) h)) c.applies
   where
-    by-cause : 0 < c.number → firstCause (first_of causes) (first_of later) ≡ first_of (causes ++ later) → (t : Bool) →
+    by-cause : 0 < c.number → first_cause (first_of causes) (first_of later) ≡ first_of (causes ++ later) → (t : Bool) →
         cond (eqb (cond t c.number (first_of causes)) 0) (first_of later) (cond t c.number (first_of causes))
         ≡ cond t c.number (first_of (causes ++ later))
     by-cause l e true = rw (ne_eqb c.number 0 (λ z. omega arith))
@@ -121,8 +121,8 @@ greatest-above n f limit =
     (λ h. each_all n _ (λ k l. le-leb (f k) limit (le_trans (greatest-ge n f k l) h)))
     (λ e. greatest-le n f limit (λ k l. leb-true (f k) limit (each_holds n k _ e l)))
 
-peak-within : (top : ℕ → ℕ) (limit s i : ℕ) → ((r : ℕ) → i ≤ r → r ≤ i + s → top r ≤ limit) → peakFrom top s i ≤ limit
-unfolding peakFrom
+peak-within : (top : ℕ → ℕ) (limit s i : ℕ) → ((r : ℕ) → i ≤ r → r ≤ i + s → top r ≤ limit) → peak_from top s i ≤ limit
+unfolding peak_from
 peak-within top limit zero i h = h i (omega arith) (omega arith)
 peak-within top limit (suc s) i h =
     omega (arith, h i (omega arith) (omega arith), peak-within top limit s (suc i) (λ r l u. h r (omega arith) (omega arith)))

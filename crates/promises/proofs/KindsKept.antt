@@ -4,29 +4,29 @@ use mathlib.Core.Path.{◌≡◌, refl, sym, subst}
 use mathlib.Core.List.{List}
 use Prim.Native.Nat.{ℕ}
 use lib.ListN.{length}
-use Rattle.pricing_laws.specs.Schedule.{everyRow, datedSchedule, kindDates, scheduleOf}
+use Rattle.pricing_laws.specs.Schedule.{every_row, dated_schedule, kind_dates, schedule_of}
 use Rattle.pricing_laws.proofs.Dates.{among-entry, among-some}
 use Rattle.pricing_laws.proofs.Recurrences.{sides, schedules, kind-sides, numbered-sides, kind-lists, every-row-is, exercise-values}
-use Rattle.price_laws.specs.Prices.{flowAt}
+use Rattle.price_laws.specs.Prices.{flow_at}
 use Rattle.promises.specs.Promises.{FlowRows, Exercised, ListedRows, EveryRow, Kinds}
 
 pub flows-kept : (flows : List ℕ) → FlowRows flows
-unfolding flowAt
+unfolding flow_at
 flows-kept flows = record { none = refl; of_row = λ t. refl }
 
 pub exercise-kept : (strike price : ℕ) → Exercised strike price
 exercise-kept strike price = record { of-call = (exercise-values strike price).0; of-put = (exercise-values strike price).1 }
 
 pub listed_kept : (dates : List ℕ) → ListedRows dates
-unfolding datedSchedule
+unfolding dated_schedule
 listed_kept dates =
     record { last_entry = refl; entries = among-entry dates (length dates); no_other = among-some dates (length dates) }
 
-every-kept : (expiry : ℕ) → EveryRow expiry (everyRow expiry)
+every-kept : (expiry : ℕ) → EveryRow expiry (every_row expiry)
 every-kept expiry = record { size = (every-row-is expiry).0; rows = (every-row-is expiry).1 }
 
-list-is : (kind expiry : ℕ) → scheduleOf kind expiry ≡ datedSchedule (kindDates kind expiry)
-unfolding scheduleOf
+list-is : (kind expiry : ℕ) → schedule_of kind expiry ≡ dated_schedule (kind_dates kind expiry)
+unfolding schedule_of
 list-is kind expiry = refl
 
 pub kinds_kept : (expiry : ℕ) → Kinds expiry

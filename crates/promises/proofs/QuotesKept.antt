@@ -12,21 +12,21 @@ use lib.IntN.{ℤ, pos, negsuc, neg_ℤ, nat_abs, ◌+ℤ◌, ◌*ℤ◌}
 use lib.Pow.{pow_pos}
 use Rattle.arithmetic.specs.Answers.{refused, answered}
 use Rattle.arithmetic.specs.declared.Answer.{Answer}
-use Rattle.arithmetic.specs.Frequency.{isFrequency}
-use Rattle.arithmetic.specs.Rounding.{one, nearest, roundDown}
+use Rattle.arithmetic.specs.Frequency.{is_frequency}
+use Rattle.arithmetic.specs.Rounding.{one, nearest, round_down}
 use Rattle.arithmetic.proofs.Numbers.{by-test}
 use Rattle.arithmetic.proofs.RoundingLaws.{nearest-le-half, nearest-gt-half}
 use Rattle.arithmetic.proofs.Implied.{implied}
-use Rattle.limits.specs.Limits.{mostSteps, isSteps}
-use Rattle.figure.specs.Figure.{beyond, signed, negative, magnitudeOf, billionthsOf, figureOf}
+use Rattle.limits.specs.Limits.{most_steps, is_steps}
+use Rattle.figure.specs.Figure.{beyond, signed, negative, magnitude_of, billionths_of, figure_of}
 use Rattle.figure.proofs.FigureLaws.{number-accepted, value-accepted}
 use Rattle.quotes.specs.declared.Point.{Point}
-use Rattle.quotes.specs.Quotes.{rowKnown, in_range, factorDiscount, quotient, rateDiscount, rangedAnswer, figureAnswer, quoteAnswer, kindAnswer, loneAnswer}
+use Rattle.quotes.specs.Quotes.{row_known, in_range, factor_discount, quotient, rate_discount, ranged_answer, figure_answer, quote_answer, kind_answer, lone_answer}
 use Rattle.quotes.proofs.QuoteLaws.{lone-told, range-bounds}
-use Rattle.curve.specs.Curve.{answerAt, curveNumber}
+use Rattle.curve.specs.Curve.{answer_at, curve_number}
 use Rattle.curve.proofs.CurveLaws.{accepted}
 use Rattle.fitted_laws.proofs.Promised.{fit-numbers}
-use Rattle.promises.specs.Causes.{isKind}
+use Rattle.promises.specs.Causes.{is_kind}
 use Rattle.promises.proofs.CauseTables.{none_first}
 use Rattle.promises.proofs.QuoteCauses.{lone-causes}
 use Rattle.promises.specs.Quoted.{Taken, OfRate, Quoted, CurveQuoted, QuotePromises}
@@ -42,8 +42,8 @@ sign-size true zero = refl
 sign-size true (suc n) = refl
 sign-size false n = refl
 
-taken : (x : Float) → beyond x ≡ false → Taken x (billionthsOf x)
-unfolding beyond billionthsOf magnitudeOf
+taken : (x : Float) → beyond x ≡ false → Taken x (billionths_of x)
+unfolding beyond billionths_of magnitude_of
 taken nan h = absurd (true≢false h)
 taken (inf s) h = absurd (true≢false h)
 taken (fin s m e) h =
@@ -64,8 +64,8 @@ taken (fin s m e) h =
     by_sign true = refl
     by_sign false = refl
 
-figures-taken : (x : Float) → (figureOf x).number ≡ 0 → Taken x (figureOf x).value
-figures-taken x h = subst (Taken x) (sym (value-accepted x (figureOf x) refl h)) (taken x (number-accepted x (figureOf x) refl h))
+figures-taken : (x : Float) → (figure_of x).number ≡ 0 → Taken x (figure_of x).value
+figures-taken x h = subst (Taken x) (sym (value-accepted x (figure_of x) refl h)) (taken x (number-accepted x (figure_of x) refl h))
 
 -- ---- a lone quote
 
@@ -73,13 +73,13 @@ seven : ◌≡◌ {A = ℕ} 7 0 → ⊥
 seven e = omega arith
 
 -- the discount of an accepted figure, which is no 0
-figured : (x : Float) (discount : ℤ → ℕ) → (figureAnswer x discount).number ≡ 0 →
-    ((figureAnswer x discount).value ≡ discount (billionthsOf x)) × (1 ≤ discount (billionthsOf x))
-unfolding figureAnswer rangedAnswer
+figured : (x : Float) (discount : ℤ → ℕ) → (figure_answer x discount).number ≡ 0 →
+    ((figure_answer x discount).value ≡ discount (billionths_of x)) × (1 ≤ discount (billionths_of x))
+unfolding figure_answer ranged_answer
 figured x discount = by_tests (beyond x) (in_range p) refl
   where
     p : ℕ
-    p = discount (billionthsOf x)
+    p = discount (billionths_of x)
 
     by_tests : (t u : Bool) → in_range p ≡ u → (cond t (refused 7) (cond u (answered p) (refused 7))).number ≡ 0 →
         ((cond t (refused 7) (cond u (answered p) (refused 7))).value ≡ p) × (1 ≤ p)
@@ -88,15 +88,15 @@ figured x discount = by_tests (beyond x) (in_range p) refl
     by_tests false false h e = absurd (seven e)
 
 -- what holds of a kind's answer holds of a lone quote's
-by-lone : (P : Answer → Type 0) (f kind : ℕ) (p : Point) → ((k : ℕ) → P (refused (suc k))) → P (kindAnswer f kind p) → P (loneAnswer f kind p)
-unfolding loneAnswer
+by-lone : (P : Answer → Type 0) (f kind : ℕ) (p : Point) → ((k : ℕ) → P (refused (suc k))) → P (kind_answer f kind p) → P (lone_answer f kind p)
+unfolding lone_answer
 by-lone P f kind p of-refused of-kind =
-    by-test (not (isFrequency f)) P (refused 2) _ (λ h. of-refused 1)
-    (λ h. by-test (not (rowKnown p.row)) P (refused 6) (kindAnswer f kind p) (λ g. of-refused 5) (λ g. of-kind))
+    by-test (not (is_frequency f)) P (refused 2) _ (λ h. of-refused 1)
+    (λ h. by-test (not (row_known p.row)) P (refused 6) (kind_answer f kind p) (λ g. of-refused 5) (λ g. of-kind))
 
 module _ (f : ℕ) (p : Point) where
   abbrev amount : ℤ
-  amount = billionthsOf p.figure
+  amount = billionths_of p.figure
 
   abbrev factor-promised : Answer → Type 0
   factor-promised a = a.number ≡ 0 → pos a.value ≡ amount
@@ -104,18 +104,18 @@ module _ (f : ℕ) (p : Point) where
   abbrev rate-promised : Answer → Type 0
   rate-promised a = a.number ≡ 0 → OfRate f p.row amount a.value
 
-  factor-kind : factor-promised (kindAnswer f 5 p)
-  unfolding kindAnswer quoteAnswer factorDiscount
-  factor-kind e = let told = figured p.figure factorDiscount e in rw told.0 (whole amount told.1)
+  factor-kind : factor-promised (kind_answer f 5 p)
+  unfolding kind_answer quote_answer factor_discount
+  factor-kind e = let told = figured p.figure factor_discount e in rw told.0 (whole amount told.1)
     where
-      whole : (r : ℤ) → 1 ≤ factorDiscount r → pos (factorDiscount r) ≡ r
+      whole : (r : ℤ) → 1 ≤ factor_discount r → pos (factor_discount r) ≡ r
       whole (pos r) h = refl
       whole (negsuc r) h = let none : ⊥ = omega arith in absurd none
 
-  rate-kind : rate-promised (kindAnswer f 6 p)
-  unfolding kindAnswer quoteAnswer rateDiscount quotient roundDown
+  rate-kind : rate-promised (kind_answer f 6 p)
+  unfolding kind_answer quote_answer rate_discount quotient round_down
   rate-kind e =
-      let told = figured p.figure (rateDiscount f p.row) e in
+      let told = figured p.figure (rate_discount f p.row) e in
       rw told.0 (divided (pos (f * one) +ℤ pos p.row *ℤ amount) refl told.1)
     where
       divided : (z : ℤ) → z ≡ pos (f * one) +ℤ pos p.row *ℤ amount → 1 ≤ quotient (one * one * f) z →
@@ -124,29 +124,29 @@ module _ (f : ℕ) (p : Point) where
       divided (pos (suc d)) ez h = record { divisor = suc d; divisor-is = ez; divisor-positive = omega arith; discount = refl }
       divided (negsuc d) ez h = let none : ⊥ = omega arith in absurd none
 
-  discount-factors : factor-promised (loneAnswer f 5 p)
+  discount-factors : factor-promised (lone_answer f 5 p)
   discount-factors = by-lone factor-promised f 5 p (λ k e. let none : ⊥ = omega arith in absurd none) factor-kind
 
-  yearly-rates : rate-promised (loneAnswer f 6 p)
+  yearly-rates : rate-promised (lone_answer f 6 p)
   yearly-rates = by-lone rate-promised f 6 p (λ k e. let none : ⊥ = omega arith in absurd none) rate-kind
 
   -- the figure is not beyond ±10
-  figure-passes : (kind : ℕ) → (loneAnswer f kind p).number ≡ 0 → beyond p.figure ≡ false
+  figure-passes : (kind : ℕ) → (lone_answer f kind p).number ≡ 0 → beyond p.figure ≡ false
   figure-passes kind h =
-      let rows = (none_first 2 (not (isFrequency f)) _ (omega arith) (sym (lone-causes f kind p) ∙ h)).1 in
-      let kinds = (none_first 6 (not (isSteps p.row)) _ (omega arith) rows).1 in
-      let figures = (none_first 7 (not (isKind kind)) _ (omega arith) kinds).1 in
+      let rows = (none_first 2 (not (is_frequency f)) _ (omega arith) (sym (lone-causes f kind p) ∙ h)).1 in
+      let kinds = (none_first 6 (not (is_steps p.row)) _ (omega arith) rows).1 in
+      let figures = (none_first 7 (not (is_kind kind)) _ (omega arith) kinds).1 in
       (none_first 7 (beyond p.figure) _ (omega arith) figures).0
 
-  quoted : (kind : ℕ) → (loneAnswer f kind p).number ≡ 0 → Quoted f kind p
+  quoted : (kind : ℕ) → (lone_answer f kind p).number ≡ 0 → Quoted f kind p
   quoted kind h =
       let range = (lone-told f kind p).range h in
       record { figure = taken p.figure (figure-passes kind h); range = record { least = range.0; most = range.1 } }
 
 -- ---- a curve
 
-curve-quoted : (f n : ℕ) (rows kinds : List ℕ) (figures : List Float) (room : ℕ) → curveNumber f n rows kinds figures room ≡ 0 → CurveQuoted f n kinds figures
-unfolding answerAt
+curve-quoted : (f n : ℕ) (rows kinds : List ℕ) (figures : List Float) (room : ℕ) → curve_number f n rows kinds figures room ≡ 0 → CurveQuoted f n kinds figures
+unfolding answer_at
 curve-quoted f n rows kinds figures room h = record { accepted = (accepted f n rows kinds figures room h).converted; discount = λ i. refl }
 
 pub quotes-kept : QuotePromises
@@ -158,5 +158,5 @@ quotes-kept =
       yearly-rates = yearly-rates;
       curves-quoted = curve-quoted;
       fits-quoted = λ f n w spaced h rows kinds figures ds ps z.
-          curve-quoted f n rows kinds figures mostSteps (fit-numbers implied z).quotes-converted;
+          curve-quoted f n rows kinds figures most_steps (fit-numbers implied z).quotes-converted;
     }

@@ -6,18 +6,18 @@ use Prim.Native.Nat.{ℕ}
 use lib.ListN.{length}
 use Rattle.arithmetic.specs.Row.{values}
 use Rattle.arithmetic.proofs.PaddedLaws.{padded-length, padded-at, padded-after}
-use Rattle.limits.specs.Limits.{mostSteps}
+use Rattle.limits.specs.Limits.{most_steps}
 use Rattle.tree.specs.Tree.{Tree}
-use Rattle.lattice.specs.RateTree.{rateTree}
-use Rattle.lent_tree.specs.LentTree.{stored, discountsCause}
+use Rattle.lattice.specs.RateTree.{rate_tree}
+use Rattle.lent_tree.specs.LentTree.{stored, discounts_cause}
 use Rattle.lent_tree.proofs.LentLaws.{accepted}
-use Rattle.pricing_laws.specs.TreePricer.{greatestDiscount}
+use Rattle.pricing_laws.specs.TreePricer.{greatest_discount}
 use Rattle.pricing_laws.specs.Pricer.{Side}
 use Rattle.pricing_laws.proofs.Recurrences as rows
-use Rattle.price_bound.specs.PriceBound.{treeErrorBound, greatestDiscounts, treeBoundsAnswer}
+use Rattle.price_bound.specs.PriceBound.{tree_error_bound, greatest_discounts, tree_bounds_answer}
 use Rattle.price_bound.proofs.BoundLaws.{bounds-number, bounds-bound, bounds-greatest}
-use Rattle.price_laws.specs.Prices.{bondValue, optionValue}
-use Rattle.price_laws.specs.Exact.{exactBond, exactOption, exactDated, exactPayoff}
+use Rattle.price_laws.specs.Prices.{bond_value, option_value}
+use Rattle.price_laws.specs.Exact.{exact_bond, exact_option, exact_dated, exact_payoff}
 use Rattle.price_laws.proofs.Accuracy as prices
 use Rattle.promises.specs.Promises.{EngineRows, ExactRows, BoundRows, BoundsKnown, PricedByRows}
 
@@ -51,7 +51,7 @@ module _ (t : Tree) (discount : ℕ → ℕ → ℕ) (flow : ℕ → ℕ) (n : �
       }
 
 pub bound-kept : (t : Tree) (discount : ℕ → ℕ → ℕ) (n : ℕ) → BoundRows t discount n
-unfolding greatestDiscount
+unfolding greatest_discount
 bound-kept t discount n =
     record {
       greatest-of-row = λ i. refl;
@@ -59,22 +59,22 @@ bound-kept t discount n =
       before = rows.price-error-bound-before t discount n;
     }
 
-pub bounds-kept : (n b : ℕ) (discounts : List ℕ) → (treeBoundsAnswer n b discounts).number ≡ 0 → BoundsKnown n b discounts (treeBoundsAnswer n b discounts)
-unfolding treeErrorBound greatestDiscounts
+pub bounds-kept : (n b : ℕ) (discounts : List ℕ) → (tree_bounds_answer n b discounts).number ≡ 0 → BoundsKnown n b discounts (tree_bounds_answer n b discounts)
+unfolding tree_error_bound greatest_discounts
 bounds-kept n b discounts z =
-    let none : discountsCause n b discounts ≡ 0 = sym (bounds-number n b discounts) ∙ z in
+    let none : discounts_cause n b discounts ≡ 0 = sym (bounds-number n b discounts) ∙ z in
     let few = (accepted n b discounts none).limits.steps-within-limit in
-    let g = greatestDiscount (rateTree b) (stored b discounts) in
+    let g = greatest_discount (rate_tree b) (stored b discounts) in
     let by_Row = bounds-greatest n b discounts none in
     record {
       bound-is = bounds-bound n b discounts none;
-      places = ap length by_Row ∙ padded-length mostSteps n g;
-      greatest-is = λ i h. ap (λ (l : List ℕ). values l i) by_Row ∙ padded-at mostSteps n g i few h;
-      none-past = λ i h. ap (λ (l : List ℕ). values l i) by_Row ∙ padded-after mostSteps n g i h;
+      places = ap length by_Row ∙ padded-length most_steps n g;
+      greatest-is = λ i h. ap (λ (l : List ℕ). values l i) by_Row ∙ padded-at most_steps n g i few h;
+      none-past = λ i h. ap (λ (l : List ℕ). values l i) by_Row ∙ padded-after most_steps n g i h;
     }
 
 pub priced-kept : (n b : ℕ) (discounts flows : List ℕ) → PricedByRows n b discounts flows
-unfolding bondValue optionValue treeErrorBound exactBond exactOption exactDated exactPayoff
+unfolding bond_value option_value tree_error_bound exact_bond exact_option exact_dated exact_payoff
 priced-kept n b discounts flows =
     record {
       bond-is = λ z. (prices.bond-given n b discounts flows z).value;

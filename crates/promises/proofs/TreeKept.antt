@@ -11,25 +11,25 @@ use lib.Signed.{lt_z}
 use borrow.Author.Tests.{ltb-false, leb-true}
 use Rattle.arithmetic.specs.Rounding.{one}
 use Rattle.arithmetic.specs.Within.{Within}
-use Rattle.arithmetic.specs.Frequency.{isFrequency}
+use Rattle.arithmetic.specs.Frequency.{is_frequency}
 use Rattle.arithmetic.specs.Answers.{refused, answered}
 use Rattle.arithmetic.proofs.FrequencyLaws.{listed_small}
 use Rattle.arithmetic.proofs.Numbers.{by_order, by_equal}
 use Rattle.arithmetic.proofs.Implied.{implied}
-use Rattle.lattice.specs.Shape.{halfWidth}
-use Rattle.lattice.specs.Entries.{branchAnswer, branchOf, refusedBranch}
+use Rattle.lattice.specs.Shape.{half_width}
+use Rattle.lattice.specs.Entries.{branch_answer, branch_of, refused_branch}
 use Rattle.lattice.specs.Branching.{change, square, squared}
 use Rattle.lattice.proofs.Sizes.{within-row}
 use Rattle.lattice.proofs.Landing.{lands}
 use Rattle.lattice.proofs.Nodes.{node_laws}
 use Rattle.lattice.proofs.RateTreeLaws.{rate-tree-sound}
 use Rattle.lattice.proofs.TreeBranches.{tree-nodes}
-use Rattle.spacing.specs.Spacing.{spacing, spacingAnswer}
+use Rattle.spacing.specs.Spacing.{spacing, spacing_answer}
 use Rattle.spacing.proofs.SpacingLaws.{spacing-passes, spacing-zero, root-greatest, cube-positive}
 use Rattle.factor.specs.Series.{scale}
-use Rattle.factor.specs.Factor.{factor, exactFactor, nodeAnswer}
+use Rattle.factor.specs.Factor.{factor, exact_factor, node_answer}
 use Rattle.factor.proofs.FactorLaws.{factor-within}
-use Rattle.step_rate.specs.StepRate.{rateAnswer}
+use Rattle.step_rate.specs.StepRate.{rate_answer}
 use Rattle.step_rate.specs.declared.Rate.{Rate}
 use Rattle.step_rate.proofs.RateLaws.{answer-zero, answer-high, answer-sign}
 use Rattle.fitted_laws.proofs.Promised.{fit-numbers, fit-repriced}
@@ -40,20 +40,20 @@ use Rattle.promises.proofs.StatePricesKept.{state-prices-kept}
 
 -- a branch that is not refused leaves a node of the row, and is that node's
 branch-given :
-    (b i : ℕ) (j : ℤ) → (branchAnswer b i j).number ≡ 0 → (b ≤ 6000) × (nat_abs j ≤ halfWidth b i) × (branchAnswer b i j ≡ branchOf b j)
-unfolding branchAnswer
-branch-given b i j z = go (ltb 6000 b) (leb 60 i) (leb (nat_abs j) (halfWidth b i)) refl refl z
+    (b i : ℕ) (j : ℤ) → (branch_answer b i j).number ≡ 0 → (b ≤ 6000) × (nat_abs j ≤ half_width b i) × (branch_answer b i j ≡ branch_of b j)
+unfolding branch_answer
+branch-given b i j z = go (ltb 6000 b) (leb 60 i) (leb (nat_abs j) (half_width b i)) refl refl z
   where
-    go : (s t u : Bool) → ltb 6000 b ≡ s → leb (nat_abs j) (halfWidth b i) ≡ u →
-        (cond s (refusedBranch 4) (cond t (refusedBranch 6) (cond u (branchOf b j) (refusedBranch 6)))).number ≡ 0 →
-        (b ≤ 6000) × (nat_abs j ≤ halfWidth b i)
-        × (cond s (refusedBranch 4) (cond t (refusedBranch 6) (cond u (branchOf b j) (refusedBranch 6))) ≡ branchOf b j)
+    go : (s t u : Bool) → ltb 6000 b ≡ s → leb (nat_abs j) (half_width b i) ≡ u →
+        (cond s (refused_branch 4) (cond t (refused_branch 6) (cond u (branch_of b j) (refused_branch 6)))).number ≡ 0 →
+        (b ≤ 6000) × (nat_abs j ≤ half_width b i)
+        × (cond s (refused_branch 4) (cond t (refused_branch 6) (cond u (branch_of b j) (refused_branch 6))) ≡ branch_of b j)
     go true t u e f k = absurd (omega arith)
     go false true u e f k = absurd (omega arith)
-    go false false true e f k = (ltb-false 6000 b e, leb-true (nat_abs j) (halfWidth b i) f, refl)
+    go false false true e f k = (ltb-false 6000 b e, leb-true (nat_abs j) (half_width b i) f, refl)
     go false false false e f k = absurd (omega arith)
 
-branched : (b i : ℕ) (j : ℤ) → b ≤ 6000 → nat_abs j ≤ halfWidth b i → Branched b i j (branchOf b j)
+branched : (b i : ℕ) (j : ℤ) → b ≤ 6000 → nat_abs j ≤ half_width b i → Branched b i j (branch_of b j)
 unfolding change square squared
 branched b i j hb h =
     let n = node_laws b j hb (within-row b i (nat_abs j) h) in
@@ -69,11 +69,11 @@ branched b i j hb h =
     }
 
 -- the spacing and the factor, where they are answered
-spaced : (f s : ℕ) → (spacingAnswer f s).number ≡ 0 → Spaced f s (spacingAnswer f s).value
-unfolding spacingAnswer spacing
-spaced f s z = go (isFrequency f) (ltb 50000 s) refl z
+spaced : (f s : ℕ) → (spacing_answer f s).number ≡ 0 → Spaced f s (spacing_answer f s).value
+unfolding spacing_answer spacing
+spaced f s z = go (is_frequency f) (ltb 50000 s) refl z
   where
-    go : (t u : Bool) → isFrequency f ≡ t → (cond (not t) (refused 2) (cond u (refused 5) (answered (spacing f s)))).number ≡ 0 →
+    go : (t u : Bool) → is_frequency f ≡ t → (cond (not t) (refused 2) (cond u (refused 5) (answered (spacing f s)))).number ≡ 0 →
         Spaced f s (cond (not t) (refused 2) (cond u (refused 5) (answered (spacing f s)))).value
     go true true e k = absurd (omega arith)
     go false u e k = absurd (omega arith)
@@ -83,17 +83,17 @@ spaced f s z = go (isFrequency f) (ltb 50000 s) refl z
           greatest = root-greatest (f * f * f) (3 * (1000 * s * (1000 * s))) (cube-positive (omega (arith, (listed_small f e).0)));
         }
 
-factor-near : (j : ℤ) (h : ℕ) → (nodeAnswer j h).number ≡ 0 → Within 14 scale (nodeAnswer j h).value (exactFactor j h)
-unfolding nodeAnswer
+factor-near : (j : ℤ) (h : ℕ) → (node_answer j h).number ≡ 0 → Within 14 scale (node_answer j h).value (exact_factor j h)
+unfolding node_answer
 factor-near j h z = go (ltb one (nat_abs j * h)) refl z
   where
     go : (t : Bool) → ltb one (nat_abs j * h) ≡ t → (cond t (refused 8) (answered (factor j h))).number ≡ 0 →
-        Within 14 scale (cond t (refused 8) (answered (factor j h))).value (exactFactor j h)
+        Within 14 scale (cond t (refused 8) (answered (factor j h))).value (exact_factor j h)
     go true e k = absurd (omega arith)
     go false e k = factor-within j h (ltb-false one (nat_abs j * h) e)
 
-sign : (v : ℕ) → (rateAnswer v).number ≡ 0 →
-    (lt_z (rateAnswer v).value (pos 0) ≡ ltb one v) × (lt_z (pos 0) (rateAnswer v).value ≡ ltb v one)
+sign : (v : ℕ) → (rate_answer v).number ≡ 0 →
+    (lt_z (rate_answer v).value (pos 0) ≡ ltb one v) × (lt_z (pos 0) (rate_answer v).value ≡ ltb v one)
 sign v z =
     by_equal v 0
     (λ e. absurd (apart (sym (ap (λ (r : Rate). r.number) (answer-zero v e)) ∙ z)))

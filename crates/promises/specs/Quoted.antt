@@ -6,11 +6,11 @@ use Rattle.std.specs.Float.{nan, fin}
 use Rattle.std.specs.Float.Ieee.{up, down}
 use Rattle.arithmetic.specs.Rounding.{one}
 use Rattle.arithmetic.specs.Row.{values}
-use Rattle.figure.specs.Figure.{billionthsOf, figureOf}
+use Rattle.figure.specs.Figure.{billionths_of, figure_of}
 use Rattle.quotes.specs.declared.Point.{Point}
-use Rattle.quotes.specs.Quotes.{loneAnswer}
-use Rattle.curve.specs.Curve.{discountAt, curveNumber}
-use Rattle.fitted_laws.specs.Entry.{fittedNumber}
+use Rattle.quotes.specs.Quotes.{lone_answer}
+use Rattle.curve.specs.Curve.{discount_at, curve_number}
+use Rattle.fitted_laws.specs.Entry.{fitted_number}
 
 -- a figure's exact binary value, at most 10 either way before rounding, times one, to the nearest whole number, halves away from zero, sign kept
 pub record Taken (x : Float) (z : ℤ) : Type 0 where
@@ -37,22 +37,22 @@ pub record Ranged (p : ℕ) : Type 0 where
 
 -- a quote that is accepted: its figure, and its discount in range
 pub record Quoted (f kind : ℕ) (p : Point) : Type 0 where
-  pub figure : Taken p.figure (billionthsOf p.figure)
-  pub range : Ranged (loneAnswer f kind p).value
+  pub figure : Taken p.figure (billionths_of p.figure)
+  pub range : Ranged (lone_answer f kind p).value
 
 -- the quotes of a curve, that of row i + 1 at place i: lone quotes, each accepted
 pub record CurveQuoted (f n : ℕ) (kinds : List ℕ) (figures : List Float) : Type 0 where
-  pub accepted : (i : ℕ) → i < n → (loneAnswer f (values kinds i) (record { row = i + 1; figure = get_or figures i nan })).number ≡ 0
-  pub discount : (i : ℕ) → discountAt f kinds figures i ≡ (loneAnswer f (values kinds i) (record { row = i + 1; figure = get_or figures i nan })).value
+  pub accepted : (i : ℕ) → i < n → (lone_answer f (values kinds i) (record { row = i + 1; figure = get_or figures i nan })).number ≡ 0
+  pub discount : (i : ℕ) → discount_at f kinds figures i ≡ (lone_answer f (values kinds i) (record { row = i + 1; figure = get_or figures i nan })).value
 
 pub record QuotePromises : Type 0 where
-  pub figures-taken : (x : Float) → (figureOf x).number ≡ 0 → Taken x (figureOf x).value
-  pub quotes-accepted : (f kind : ℕ) (p : Point) → (loneAnswer f kind p).number ≡ 0 → Quoted f kind p
+  pub figures-taken : (x : Float) → (figure_of x).number ≡ 0 → Taken x (figure_of x).value
+  pub quotes-accepted : (f kind : ℕ) (p : Point) → (lone_answer f kind p).number ≡ 0 → Quoted f kind p
   -- a discount factor gives its billionths as P
-  pub discount-factors : (f : ℕ) (p : Point) → (loneAnswer f 5 p).number ≡ 0 → pos (loneAnswer f 5 p).value ≡ billionthsOf p.figure
-  pub yearly-rates : (f : ℕ) (p : Point) → (loneAnswer f 6 p).number ≡ 0 → OfRate f p.row (billionthsOf p.figure) (loneAnswer f 6 p).value
+  pub discount-factors : (f : ℕ) (p : Point) → (lone_answer f 5 p).number ≡ 0 → pos (lone_answer f 5 p).value ≡ billionths_of p.figure
+  pub yearly-rates : (f : ℕ) (p : Point) → (lone_answer f 6 p).number ≡ 0 → OfRate f p.row (billionths_of p.figure) (lone_answer f 6 p).value
   -- the quotes that a curve is converted from, and that a fit is fitted to, of whatever working reversion w and spacing h
   pub curves-quoted : (f n : ℕ) (rows kinds : List ℕ) (figures : List Float) (room : ℕ) →
-      curveNumber f n rows kinds figures room ≡ 0 → CurveQuoted f n kinds figures
+      curve_number f n rows kinds figures room ≡ 0 → CurveQuoted f n kinds figures
   pub fits-quoted : (f n w spaced h : ℕ) (rows kinds : List ℕ) (figures : List Float) (room-discounts room-prices : ℕ) →
-      fittedNumber f n w spaced h rows kinds figures room-discounts room-prices ≡ 0 → CurveQuoted f n kinds figures
+      fitted_number f n w spaced h rows kinds figures room-discounts room-prices ≡ 0 → CurveQuoted f n kinds figures

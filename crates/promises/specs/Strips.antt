@@ -3,11 +3,11 @@
 -- Assumes nothing.
 use Rattle.std.specs.Prelude.{List, ℕ, length}
 use Rattle.arithmetic.specs.Row.{values}
-use Rattle.price_laws.specs.Prices.{optionPrice, datedPrice}
-use Rattle.price_laws.specs.Strips.{Shown, optionStrip, kindStrip}
+use Rattle.price_laws.specs.Prices.{option_price, dated_price}
+use Rattle.price_laws.specs.Strips.{Shown, option_strip, kind_strip}
 
 pub record StripPromises : Type 0 where
   pub listed-strips : (n b : ℕ) (discounts flows : List ℕ) (side : ℕ) (dates strikes : List ℕ) →
-      Shown (optionStrip n b discounts flows side dates strikes) (length strikes) (λ k. datedPrice n b discounts flows side dates (values strikes k))
+      Shown (option_strip n b discounts flows side dates strikes) (length strikes) (λ k. dated_price n b discounts flows side dates (values strikes k))
   pub kind-strips : (n b : ℕ) (discounts flows : List ℕ) (kind expiry : ℕ) (strikes : List ℕ) →
-      Shown (kindStrip n b discounts flows kind expiry strikes) (length strikes) (λ k. optionPrice n b discounts flows kind expiry (values strikes k))
+      Shown (kind_strip n b discounts flows kind expiry strikes) (length strikes) (λ k. option_price n b discounts flows kind expiry (values strikes k))

@@ -13,7 +13,7 @@ use mir.Syntax.{w64}
 use mir.Val.{SFits, to_z, of_z}
 use mir.Facts.{to_z-of_z, to_z_pos}
 use Rattle.quotes.specs.Quotes.{quotient}
-use Rattle.arithmetic.specs.Rounding.{roundDown}
+use Rattle.arithmetic.specs.Rounding.{round_down}
 use Rattle.arithmetic.proofs.Signed.{abs-sum, abs-product, fits-by-size}
 
 -- ---- a quotient by the divisor's sign
@@ -25,7 +25,7 @@ quotient-none n (pos (suc d)) h = let l : suc d ≤ 0 = leb-true (suc d) 0 h in 
 quotient-none n (negsuc d) h = refl
 
 pub quotient-some : (n : ℕ) (z : ℤ) → le_z z (pos 0) ≡ false → T (non_neg z) × (0 < nat_abs z) × (quotient n z ≡ n / nat_abs z)
-unfolding quotient roundDown
+unfolding quotient round_down
 quotient-some n (pos zero) h = let l : 0 < 0 = leb-false 0 0 h in let none : ⊥ = omega arith in absurd none
 quotient-some n (pos (suc d)) h = (tt, leb-false (suc d) 0 h, refl)
 quotient-some n (negsuc d) h = let z : ◌≡◌ {A = ℕ} 0 1 = cc in let none : ⊥ = omega arith in absurd none

@@ -4,10 +4,10 @@ use mathlib.Core.Path.{◌≡◌, refl}
 use mathlib.Core.Bool.{true}
 use lib.Ieee.{binary64, round}
 use Rattle.arithmetic.specs.Answers.{answered}
-use Rattle.figure.specs.Figure.{billionthsOf, beyond}
-use Rattle.quotes.specs.Quotes.{loneAnswer}
+use Rattle.figure.specs.Figure.{billionths_of, beyond}
+use Rattle.quotes.specs.Quotes.{lone_answer}
 
 -- * the rate -0.0025 with one step a year, for row 1
-pub rate-discount : loneAnswer 1 6 (record { row = 1; figure = round binary64 true 25 10000 }) ≡ answered 1002506265
-unfolding loneAnswer round billionthsOf beyond
+pub rate-discount : lone_answer 1 6 (record { row = 1; figure = round binary64 true 25 10000 }) ≡ answered 1002506265
+unfolding lone_answer round billionths_of beyond
 rate-discount = refl

@@ -12,20 +12,20 @@ use lib.Ieee.{Float}
 use Rattle.arithmetic.specs.Within.{Within}
 use Rattle.arithmetic.specs.declared.Answer.{Answer}
 use Rattle.arithmetic.specs.Answers.{refused, answered}
-use Rattle.arithmetic.specs.Rounding.{roundDown, round_up, roundDownSigned}
+use Rattle.arithmetic.specs.Rounding.{round_down, round_up, round_down_signed}
 use Rattle.arithmetic.proofs.Numbers.{by_order}
 use Rattle.arithmetic.proofs.RoundingLaws.{down-rounds, up-exact}
-use Rattle.continuous.specs.Continuous.{amountLimit, continuousDiscount, continuousAnswer, exactPower, powerScale}
+use Rattle.continuous.specs.Continuous.{amount_limit, continuous_discount, continuous_answer, exact_power, power_scale}
 use Rattle.continuous.proofs.Within.{continuous-within}
 use Rattle.continuous.proofs.Answers.{amount-refused, amount-accepted}
-use Rattle.figure.specs.Figure.{beyond, billionthsOf}
+use Rattle.figure.specs.Figure.{beyond, billionths_of}
 use Rattle.quotes.specs.declared.Quote.TheVariants.{YearlyYield}
-use Rattle.quotes.specs.Quotes.{in_range, yieldAmount, yieldDiscount, rangedAnswer, figureAnswer, quoteAnswer}
+use Rattle.quotes.specs.Quotes.{in_range, yield_amount, yield_discount, ranged_answer, figure_answer, quote_answer}
 use Rattle.quotes.proofs.QuoteLaws.{range-bounds}
 
 -- down of a negative number is away from zero
-down-negated : (a d : ℕ) → 0 < d → roundDownSigned (neg_ℤ (pos a)) d ≡ neg_ℤ (pos (round_up a d))
-unfolding roundDownSigned
+down-negated : (a d : ℕ) → 0 < d → round_down_signed (neg_ℤ (pos a)) d ≡ neg_ℤ (pos (round_up a d))
+unfolding round_down_signed
 down-negated zero d h = ap pos (rw mul-zero at (down-rounds.exact 0 d h)) ∙ ap (λ (x : ℕ). neg_ℤ (pos x)) (sym (rw mul-zero at (up-exact 0 d h)))
 down-negated (suc a) d h = refl
 
@@ -34,13 +34,13 @@ true≢false q = let z : ◌≡◌ {A = ℕ} 0 1 = cc in omega arith
 
 -- y by the size m of the yield and its sign
 module _ (f t m : ℕ) where
-  pub amount-above : (r : ℤ) → m ≡ nat_abs r → lt_z r (pos 0) ≡ false → pos (t * m / f) ≡ yieldAmount f t r
-  unfolding yieldAmount roundDownSigned roundDown
+  pub amount-above : (r : ℤ) → m ≡ nat_abs r → lt_z r (pos 0) ≡ false → pos (t * m / f) ≡ yield_amount f t r
+  unfolding yield_amount round_down_signed round_down
   amount-above (pos n) e h = rw e refl
   amount-above (negsuc n) e h = absurd (true≢false h)
 
-  pub amount-below : (r : ℤ) → 1 ≤ f → m ≡ nat_abs r → lt_z r (pos 0) ≡ true → neg_ℤ (pos ((t * m + (f - 1)) / f)) ≡ yieldAmount f t r
-  unfolding yieldAmount round_up
+  pub amount-below : (r : ℤ) → 1 ≤ f → m ≡ nat_abs r → lt_z r (pos 0) ≡ true → neg_ℤ (pos ((t * m + (f - 1)) / f)) ≡ yield_amount f t r
+  unfolding yield_amount round_up
   amount-below (pos n) p e h = let l : n < 0 = ltb-true n 0 h in let none : ⊥ = omega arith in absurd none
   amount-below (negsuc n) p e h = rw e (sym (down-negated (t * suc n) f p))
 
@@ -51,8 +51,8 @@ quotient-small a f h = le_trans (div-le_self a f) h
 -- ---- the law of request (i), of a quote that is accepted
 
 -- an answer with number 0 gives P, which is in range and so no 0
-accepted-ranged : (p : ℕ) → (rangedAnswer p).number ≡ 0 → ((rangedAnswer p).value ≡ p) × (1 ≤ p) × (p ≤ 2000000000)
-unfolding rangedAnswer
+accepted-ranged : (p : ℕ) → (ranged_answer p).number ≡ 0 → ((ranged_answer p).value ≡ p) × (1 ≤ p) × (p ≤ 2000000000)
+unfolding ranged_answer
 accepted-ranged p = by-range (in_range p) refl
   where
     by-range :
@@ -62,35 +62,35 @@ accepted-ranged p = by-range (in_range p) refl
     by-range false h e = let none : ⊥ = omega arith in absurd none
 
 -- y is within its limit, and P is F of y
-accepted-amount : (y : ℤ) → 1 ≤ (continuousAnswer y).value → (nat_abs y ≤ amountLimit) × ((continuousAnswer y).value ≡ continuousDiscount y)
+accepted-amount : (y : ℤ) → 1 ≤ (continuous_answer y).value → (nat_abs y ≤ amount_limit) × ((continuous_answer y).value ≡ continuous_discount y)
 accepted-amount y h =
-    by_order (nat_abs y) amountLimit
+    by_order (nat_abs y) amount_limit
     (λ l. (l, ap (λ (a : Answer). a.value) (amount-accepted y l)))
     (λ l. let none : ⊥ = nothing (ap (λ (a : Answer). a.value) (amount-refused y l)) in absurd none)
   where
-    nothing : (continuousAnswer y).value ≡ 0 → ⊥
+    nothing : (continuous_answer y).value ≡ 0 → ⊥
     nothing e = omega arith
 
 ranged-within :
-    (y : ℤ) → (rangedAnswer (continuousAnswer y).value).number ≡ 0 →
-    Within 100 powerScale (rangedAnswer (continuousAnswer y).value).value (exactPower y)
+    (y : ℤ) → (ranged_answer (continuous_answer y).value).number ≡ 0 →
+    Within 100 power_scale (ranged_answer (continuous_answer y).value).value (exact_power y)
 ranged-within y e =
-    let r = accepted-ranged (continuousAnswer y).value e in
+    let r = accepted-ranged (continuous_answer y).value e in
     let a = accepted-amount y r.1 in
     rw (r.0 ∙ a.1) (continuous-within y a.0 (omega (arith, r.2, a.1)))
 
 -- P of a yearly yield is within 100 of the fourth power of the exact series at a quarter of y
 pub yield-within :
-    (f t : ℕ) (x : Float) → (quoteAnswer f t (YearlyYield x)).number ≡ 0 →
-    Within 100 powerScale (quoteAnswer f t (YearlyYield x)).value (exactPower (yieldAmount f t (billionthsOf x)))
-unfolding quoteAnswer figureAnswer yieldDiscount
+    (f t : ℕ) (x : Float) → (quote_answer f t (YearlyYield x)).number ≡ 0 →
+    Within 100 power_scale (quote_answer f t (YearlyYield x)).value (exact_power (yield_amount f t (billionths_of x)))
+unfolding quote_answer figure_answer yield_discount
 yield-within f t x = by-figure (beyond x)
   where
     y : ℤ
-    y = yieldAmount f t (billionthsOf x)
+    y = yield_amount f t (billionths_of x)
 
     by-figure :
-        (b : Bool) → (cond b (refused 7) (rangedAnswer (continuousAnswer y).value)).number ≡ 0 →
-        Within 100 powerScale (cond b (refused 7) (rangedAnswer (continuousAnswer y).value)).value (exactPower y)
+        (b : Bool) → (cond b (refused 7) (ranged_answer (continuous_answer y).value)).number ≡ 0 →
+        Within 100 power_scale (cond b (refused 7) (ranged_answer (continuous_answer y).value)).value (exact_power y)
     by-figure true e = let none : ⊥ = omega arith in absurd none
     by-figure false e = ranged-within y e

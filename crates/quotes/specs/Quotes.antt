@@ -3,80 +3,80 @@
 use Rattle.std.specs.Prelude.{ℕ, zero, suc, ◌*◌, Bool, not, cond, ◌&&◌, leb, eqb, ℤ, pos, negsuc, ◌+ℤ◌, ◌*ℤ◌, Float}
 use Rattle.arithmetic.specs.declared.Answer.{Answer}
 use Rattle.arithmetic.specs.Answers.{refused, answered}
-use Rattle.arithmetic.specs.Frequency.{isFrequency}
-use Rattle.arithmetic.specs.Rounding.{one, roundDown, roundDownSigned}
-use Rattle.limits.specs.Limits.{leastQuote, mostQuote, isSteps}
-use Rattle.continuous.specs.Continuous.{continuousAnswer}
-use Rattle.figure.specs.Figure.{billionthsOf, beyond}
+use Rattle.arithmetic.specs.Frequency.{is_frequency}
+use Rattle.arithmetic.specs.Rounding.{one, round_down, round_down_signed}
+use Rattle.limits.specs.Limits.{least_quote, most_quote, is_steps}
+use Rattle.continuous.specs.Continuous.{continuous_answer}
+use Rattle.figure.specs.Figure.{billionths_of, beyond}
 use Rattle.quotes.specs.declared.Point.{Point}
 use Rattle.quotes.specs.declared.Quote.{Quote}
 use Rattle.quotes.specs.declared.Quote.TheVariants.{DiscountFactor, YearlyRate, YearlyYield}
 
 -- the row of a lone point, within the limits of n
-unfoldable pub rowKnown : ℕ → Bool
-rowKnown t = isSteps t
+unfoldable pub row_known : ℕ → Bool
+row_known t = is_steps t
 
 -- the range of P
 unfoldable pub in_range : ℕ → Bool
-in_range p = leb leastQuote p && leb p mostQuote
+in_range p = leb least_quote p && leb p most_quote
 
 -- P of a discount factor of r billionths; 0, which is out of range, where it is negative
-unfoldable pub factorDiscount : ℤ → ℕ
-factorDiscount (pos r) = r
-factorDiscount (negsuc r) = 0
+unfoldable pub factor_discount : ℤ → ℕ
+factor_discount (pos r) = r
+factor_discount (negsuc r) = 0
 
 -- a quotient, down; 0, which is out of range, where the divisor is 0 or less
 unfoldable pub quotient : ℕ → ℤ → ℕ
-unfolding roundDown
+unfolding round_down
 quotient n (pos zero) = 0
-quotient n (pos (suc d)) = roundDown n (suc d)
+quotient n (pos (suc d)) = round_down n (suc d)
 quotient n (negsuc d) = 0
 
 -- P of a yearly rate of r billionths for row t: one × one × f / (f × one + t × r), down
-unfoldable pub rateDiscount : ℕ → ℕ → ℤ → ℕ
+unfoldable pub rate_discount : ℕ → ℕ → ℤ → ℕ
 unfolding quotient
-rateDiscount f t r = quotient (one * one * f) (pos (f * one) +ℤ pos t *ℤ r)
+rate_discount f t r = quotient (one * one * f) (pos (f * one) +ℤ pos t *ℤ r)
 
 -- y of a yearly yield of r billionths for row t: r × t / f, down
-unfoldable pub yieldAmount : ℕ → ℕ → ℤ → ℤ
-unfolding roundDownSigned
-yieldAmount f t r = roundDownSigned (pos t *ℤ r) f
+unfoldable pub yield_amount : ℕ → ℕ → ℤ → ℤ
+unfolding round_down_signed
+yield_amount f t r = round_down_signed (pos t *ℤ r) f
 
 -- P of a yearly yield: F of y; 0, which is out of range, where y is beyond its limit
-unfoldable pub yieldDiscount : ℕ → ℕ → ℤ → ℕ
-unfolding yieldAmount continuousAnswer
-yieldDiscount f t r = (continuousAnswer (yieldAmount f t r)).value
+unfoldable pub yield_discount : ℕ → ℕ → ℤ → ℕ
+unfolding yield_amount continuous_answer
+yield_discount f t r = (continuous_answer (yield_amount f t r)).value
 
 -- P, or refusal 7 outside its range
-unfoldable pub rangedAnswer : ℕ → Answer
+unfoldable pub ranged_answer : ℕ → Answer
 unfolding in_range
-rangedAnswer p = cond (in_range p) (answered p) (refused 7)
+ranged_answer p = cond (in_range p) (answered p) (refused 7)
 
 -- P of a figure by a rule for its billionths; refusal 7 for NaN, an infinity or a figure beyond ±10
-unfoldable pub figureAnswer : Float → (ℤ → ℕ) → Answer
-unfolding rangedAnswer
-figureAnswer x discount = cond (beyond x) (refused 7) (rangedAnswer (discount (billionthsOf x)))
+unfoldable pub figure_answer : Float → (ℤ → ℕ) → Answer
+unfolding ranged_answer
+figure_answer x discount = cond (beyond x) (refused 7) (ranged_answer (discount (billionths_of x)))
 
 -- a quote for row t, kind by kind
-unfoldable pub quoteAnswer : ℕ → ℕ → Quote → Answer
-unfolding figureAnswer factorDiscount rateDiscount yieldDiscount
-quoteAnswer f t (DiscountFactor x) = figureAnswer x factorDiscount
-quoteAnswer f t (YearlyRate x) = figureAnswer x (rateDiscount f t)
-quoteAnswer f t (YearlyYield x) = figureAnswer x (yieldDiscount f t)
+unfoldable pub quote_answer : ℕ → ℕ → Quote → Answer
+unfolding figure_answer factor_discount rate_discount yield_discount
+quote_answer f t (DiscountFactor x) = figure_answer x factor_discount
+quote_answer f t (YearlyRate x) = figure_answer x (rate_discount f t)
+quote_answer f t (YearlyYield x) = figure_answer x (yield_discount f t)
 
 -- a point whose kind is told by its number; refusal 7 for an unknown kind
-unfoldable pub kindAnswer : ℕ → ℕ → Point → Answer
-unfolding quoteAnswer
-kindAnswer f kind p =
-    cond (eqb kind 5) (quoteAnswer f p.row (DiscountFactor p.figure))
-    (cond (eqb kind 6) (quoteAnswer f p.row (YearlyRate p.figure))
-    (cond (eqb kind 9) (quoteAnswer f p.row (YearlyYield p.figure))
+unfoldable pub kind_answer : ℕ → ℕ → Point → Answer
+unfolding quote_answer
+kind_answer f kind p =
+    cond (eqb kind 5) (quote_answer f p.row (DiscountFactor p.figure))
+    (cond (eqb kind 6) (quote_answer f p.row (YearlyRate p.figure))
+    (cond (eqb kind 9) (quote_answer f p.row (YearlyYield p.figure))
     (refused 7)))
 
 -- a lone point, the lowest refusal first
-unfoldable pub loneAnswer : ℕ → ℕ → Point → Answer
-unfolding isFrequency rowKnown kindAnswer
-loneAnswer f kind p =
-    cond (not (isFrequency f)) (refused 2)
-    (cond (not (rowKnown p.row)) (refused 6)
-    (kindAnswer f kind p))
+unfoldable pub lone_answer : ℕ → ℕ → Point → Answer
+unfolding is_frequency row_known kind_answer
+lone_answer f kind p =
+    cond (not (is_frequency f)) (refused 2)
+    (cond (not (row_known p.row)) (refused 6)
+    (kind_answer f kind p))

@@ -1,9 +1,9 @@
 // Quoted points, and the discounts that they give.
 ghost use Rattle.std.specs.Prelude.{◌≡◌, ◌≤◌, nat_abs};
-ghost use Rattle.limits.specs.Limits.{mostSteps};
+ghost use Rattle.limits.specs.Limits.{most_steps};
 ghost use Rattle.arithmetic.specs.Answers.{refused};
-ghost use Rattle.continuous.specs.Continuous.{continuousAnswer};
-ghost use Rattle.quotes.specs.Quotes.{factorDiscount, rateDiscount, yieldDiscount, rangedAnswer, figureAnswer, quoteAnswer, kindAnswer, loneAnswer};
+ghost use Rattle.continuous.specs.Continuous.{continuous_answer};
+ghost use Rattle.quotes.specs.Quotes.{factor_discount, rate_discount, yield_discount, ranged_answer, figure_answer, quote_answer, kind_answer, lone_answer};
 
 use arithmetic::{Answer, ONE};
 
@@ -37,7 +37,7 @@ fn refusal(cause: u64) -> Answer
 
 // A discount within its range.
 fn ranged(discount: u64) -> Answer
-    ensures { result ≡ rangedAnswer discount }
+    ensures { result ≡ ranged_answer discount }
 {
     if discount < 100_000_000 {
         return refusal(7);
@@ -53,7 +53,7 @@ fn ranged(discount: u64) -> Answer
 
 // The discount of a discount factor.
 fn of_factor(figure: f64) -> Answer
-    ensures { result ≡ figureAnswer figure factorDiscount }
+    ensures { result ≡ figure_answer figure factor_discount }
 {
     let factor = figure::billionths(figure);
     if factor.number != 0 {
@@ -68,8 +68,8 @@ fn of_factor(figure: f64) -> Answer
 
 // The discount of a yearly rate in billionths.
 fn of_billionths(frequency: u64, row: u64, rate: i64) -> Answer
-    requires { (frequency ≤ 12) × (row ≤ mostSteps) × (nat_abs rate ≤ 10000000000) }
-    ensures { result ≡ rangedAnswer (rateDiscount frequency row rate) }
+    requires { (frequency ≤ 12) × (row ≤ most_steps) × (nat_abs rate ≤ 10000000000) }
+    ensures { result ≡ ranged_answer (rate_discount frequency row rate) }
 {
     let divisor = (frequency * ONE) as i64 + (row as i64) * rate;
     if divisor <= 0 {
@@ -80,8 +80,8 @@ fn of_billionths(frequency: u64, row: u64, rate: i64) -> Answer
 
 // The discount of a yearly rate.
 fn of_rate(frequency: u64, row: u64, figure: f64) -> Answer
-    requires { (frequency ≤ 12) × (row ≤ mostSteps) }
-    ensures { result ≡ figureAnswer figure (rateDiscount frequency row) }
+    requires { (frequency ≤ 12) × (row ≤ most_steps) }
+    ensures { result ≡ figure_answer figure (rate_discount frequency row) }
 {
     let rate = figure::billionths(figure);
     if rate.number != 0 {
@@ -92,7 +92,7 @@ fn of_rate(frequency: u64, row: u64, figure: f64) -> Answer
 
 // The discount of an amount by continuous compounding.
 fn of_amount(amount: i64) -> Answer
-    ensures { result ≡ rangedAnswer (continuousAnswer amount).value }
+    ensures { result ≡ ranged_answer (continuous_answer amount).value }
 {
     let discount = continuous::discount(amount);
     ranged(discount.value)
@@ -100,8 +100,8 @@ fn of_amount(amount: i64) -> Answer
 
 // The discount of a yearly yield in billionths. Its amount is rounded down, so away from zero below it.
 fn of_yearly(frequency: u64, row: u64, rate: i64) -> Answer
-    requires { (1 ≤ frequency) × (frequency ≤ 12) × (row ≤ mostSteps) × (nat_abs rate ≤ 10000000000) }
-    ensures { result ≡ rangedAnswer (yieldDiscount frequency row rate) }
+    requires { (1 ≤ frequency) × (frequency ≤ 12) × (row ≤ most_steps) × (nat_abs rate ≤ 10000000000) }
+    ensures { result ≡ ranged_answer (yield_discount frequency row rate) }
 {
     let size = row * arithmetic::magnitude(rate);
     if rate < 0 {
@@ -112,8 +112,8 @@ fn of_yearly(frequency: u64, row: u64, rate: i64) -> Answer
 
 // The discount of a yearly yield.
 fn of_yield(frequency: u64, row: u64, figure: f64) -> Answer
-    requires { (1 ≤ frequency) × (frequency ≤ 12) × (row ≤ mostSteps) }
-    ensures { result ≡ figureAnswer figure (yieldDiscount frequency row) }
+    requires { (1 ≤ frequency) × (frequency ≤ 12) × (row ≤ most_steps) }
+    ensures { result ≡ figure_answer figure (yield_discount frequency row) }
 {
     let rate = figure::billionths(figure);
     if rate.number != 0 {
@@ -124,8 +124,8 @@ fn of_yield(frequency: u64, row: u64, figure: f64) -> Answer
 
 // The discount of a quote for a row, case by case.
 fn of_quote(frequency: u64, row: u64, quote: Quote) -> Answer
-    requires { (1 ≤ frequency) × (frequency ≤ 12) × (row ≤ mostSteps) }
-    ensures { result ≡ quoteAnswer frequency row quote }
+    requires { (1 ≤ frequency) × (frequency ≤ 12) × (row ≤ most_steps) }
+    ensures { result ≡ quote_answer frequency row quote }
 {
     match quote {
         Quote::DiscountFactor(x) => of_factor(x),
@@ -136,8 +136,8 @@ fn of_quote(frequency: u64, row: u64, quote: Quote) -> Answer
 
 // The discount of a point whose kind is told by its number.
 fn of_point(frequency: u64, kind: u8, point: Point) -> Answer
-    requires { (1 ≤ frequency) × (frequency ≤ 12) × (point.row ≤ mostSteps) }
-    ensures { result ≡ kindAnswer frequency kind point }
+    requires { (1 ≤ frequency) × (frequency ≤ 12) × (point.row ≤ most_steps) }
+    ensures { result ≡ kind_answer frequency kind point }
 {
     let row = point.row;
     let figure = point.figure;
@@ -155,7 +155,7 @@ fn of_point(frequency: u64, kind: u8, point: Point) -> Answer
 
 // The discount of a lone point. Refusals, the lowest first: 2 the steps a year, 6 the row, 7 the kind, the figure or the discount.
 pub fn lone_point(frequency: u64, kind: u8, point: Point) -> Answer
-    ensures { result ≡ loneAnswer frequency kind point }
+    ensures { result ≡ lone_answer frequency kind point }
 {
     if !arithmetic::is_frequency(frequency) {
         return refusal(2);

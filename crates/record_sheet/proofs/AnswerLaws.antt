@@ -9,19 +9,19 @@ use lib.ListN.{length}
 use Rattle.arithmetic.proofs.Numbers.{by_equal}
 use Rattle.job_record.specs.declared.Reading.{Reading}
 use Rattle.job_record.specs.Reader.{reading_of}
-use Rattle.text_laws.specs.Put.{withText}
+use Rattle.text_laws.specs.Put.{with_text}
 use Rattle.text_laws.specs.inside.Put.{Put}
-use Rattle.sheet_laws.specs.WholeJob.{jobNumber, jobText, sheetNumber, sheetText}
+use Rattle.sheet_laws.specs.WholeJob.{job_number, job_text, sheet_number, sheet_text}
 use Rattle.sheet_laws.proofs.SheetLaws.{memory-refused, memory-put, number-accepted}
 use Rattle.record_sheet.specs.declared.Written.{Written}
-use Rattle.record_sheet.specs.Answers.{refusedSheet, answer_of}
+use Rattle.record_sheet.specs.Answers.{refused_sheet, answer_of}
 
 -- a sheet or a refusal, and the room afterwards
 abbrev pub Made : ℕ → List ℕ → List ℕ → Written → List ℕ → Type 0
-Made number text out answer after = (answer ≡ answer_of number text) × (after ≡ withText number out (length out) text)
+Made number text out answer after = (answer ≡ answer_of number text) × (after ≡ with_text number out (length out) text)
 
 module _ (number : ℕ) (text : List ℕ) where
-  answer-refused : (number ≡ 0 → ⊥) → refusedSheet number ≡ answer_of number text
+  answer-refused : (number ≡ 0 → ⊥) → refused_sheet number ≡ answer_of number text
   unfolding answer_of
   answer-refused nz = rw (ne_eqb number 0 nz)
 
@@ -30,11 +30,11 @@ module _ (number : ℕ) (text : List ℕ) where
   answer-put k z e = rw (eq-eqb number 0 z, e)
 
   -- the number of a refusal, as the code found it
-  pub refused-by : (found : ℕ) (out : List ℕ) (answer : Written) → answer ≡ refusedSheet found → found ≡ number → (found ≡ 0 → ⊥) → Made number text out
+  pub refused-by : (found : ℕ) (out : List ℕ) (answer : Written) → answer ≡ refused_sheet found → found ≡ number → (found ≡ 0 → ⊥) → Made number text out
       answer out
   refused-by found out answer ea e nz =
       let some : number ≡ 0 → ⊥ = λ z. nz (e ∙ z) in
-      (ea ∙ ap refusedSheet e ∙ answer-refused some, memory-refused number text out some)
+      (ea ∙ ap refused_sheet e ∙ answer-refused some, memory-refused number text out some)
 
   pub sheet-put : (out : List ℕ) (start : ℕ) (after : List ℕ) → number ≡ 0 → Put out (length out) text start after →
       Made number text out (record { number = 0; size = length out - start }) after
@@ -53,7 +53,7 @@ module _ (number : ℕ) (text : List ℕ) where
 
 -- the sheet of the record that was read is the job's
 pub read_made : (bytes out : List ℕ) (q : Reading) (answer : Written) (after : List ℕ) → q ≡ reading_of bytes → q.number ≡ 0 →
-    Made (jobNumber q.job (length out)) (jobText q.job) out answer after → Made (sheetNumber bytes (length out)) (sheetText bytes) out answer after
+    Made (job_number q.job (length out)) (job_text q.job) out answer after → Made (sheet_number bytes (length out)) (sheet_text bytes) out answer after
 read_made bytes out q answer after e z made =
-    subst (λ (x : ℕ). Made x (sheetText bytes) out answer after) (number-accepted bytes (length out) q e z)
-    (subst (λ (x : Reading). Made (jobNumber x.job (length out)) (jobText x.job) out answer after) e made)
+    subst (λ (x : ℕ). Made x (sheet_text bytes) out answer after) (number-accepted bytes (length out) q e z)
+    (subst (λ (x : Reading). Made (job_number x.job (length out)) (job_text x.job) out answer after) e made)

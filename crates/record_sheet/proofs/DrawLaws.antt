@@ -6,29 +6,29 @@ use mathlib.Core.List.{List}
 use Prim.Native.Nat.{ℕ, ◌≤◌}
 use lib.ListN.{length, take}
 use Rattle.arithmetic.specs.declared.Answer.{Answer}
-use Rattle.lattice.specs.Entries.{discountsNeededAnswer, statePricesNeededAnswer}
+use Rattle.lattice.specs.Entries.{discounts_needed_answer, state_prices_needed_answer}
 use Rattle.job_record.specs.declared.Job.{Job}
-use Rattle.job_laws.specs.RecordFit.{jobReversion, jobQuotes, jobDiscounts, jobStatePrices, recordQuotes, memoryAfter}
+use Rattle.job_laws.specs.RecordFit.{job_reversion, job_quotes, job_discounts, job_state_prices, record_quotes, memory_after}
 use Rattle.sheet_laws.specs.inside.Stored.{Stored, Summed, Fitted}
 use Rattle.sheet_laws.proofs.FittedLaws as fits
 
 -- quotes, discounts and state prices at the start of their memories, so many of each
 pub record Drawn (job : Job) (b : ℕ) (quotes discounts prices : List ℕ) (discount-count price-count : ℕ) : Type 0 where
-  pub reversion-is : b ≡ jobReversion job
+  pub reversion-is : b ≡ job_reversion job
   pub quotes-end : job.steps ≤ length quotes
   pub quotes-count : job.steps ≡ length (take job.steps quotes)
   pub discounts-count : discount-count ≡ length (take discount-count discounts)
   pub prices-count : price-count ≡ length (take price-count prices)
-  pub quotes-are : take job.steps quotes ≡ jobQuotes job
-  pub discounts-are : take discount-count discounts ≡ jobDiscounts job
-  pub prices-are : take price-count prices ≡ jobStatePrices job
+  pub quotes-are : take job.steps quotes ≡ job_quotes job
+  pub discounts-are : take discount-count discounts ≡ job_discounts job
+  pub prices-are : take price-count prices ≡ job_state_prices job
   pub stored : Stored job.steps b (take discount-count discounts) (take price-count prices)
   pub summed : Summed job.steps b (take price-count prices)
 
 pub drawn : (job : Job) (discounts prices : List ℕ) → Fitted job discounts prices →
-    (quotes₀ quotes : List ℕ) → length quotes₀ ≡ 60 → quotes ≡ memoryAfter (recordQuotes job (length quotes₀)) (jobQuotes job) quotes₀ →
-    (b : ℕ) → b ≡ jobReversion job →
-    (needed all : Answer) → needed ≡ discountsNeededAnswer job.steps b → all ≡ statePricesNeededAnswer job.steps b →
+    (quotes₀ quotes : List ℕ) → length quotes₀ ≡ 60 → quotes ≡ memory_after (record_quotes job (length quotes₀)) (job_quotes job) quotes₀ →
+    (b : ℕ) → b ≡ job_reversion job →
+    (needed all : Answer) → needed ≡ discounts_needed_answer job.steps b → all ≡ state_prices_needed_answer job.steps b →
     Drawn job b quotes discounts prices needed.value all.value
 drawn job d p h q₀ q lq eq b eb needed all en ea =
     record {

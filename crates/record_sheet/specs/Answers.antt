@@ -3,8 +3,8 @@
 use Rattle.std.specs.Prelude.{ℕ, cond, List, eqb, length}
 use Rattle.record_sheet.specs.declared.Written.{Written}
 
-abbrev pub refusedSheet : ℕ → Written
-refusedSheet number = record { number = number; size = 0 }
+abbrev pub refused_sheet : ℕ → Written
+refused_sheet number = record { number = number; size = 0 }
 
 unfoldable pub answer_of : ℕ → List ℕ → Written
-answer_of number text = cond (eqb number 0) (record { number = 0; size = length text }) (refusedSheet number)
+answer_of number text = cond (eqb number 0) (record { number = 0; size = length text }) (refused_sheet number)

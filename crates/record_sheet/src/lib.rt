@@ -2,14 +2,14 @@
 mod lines;
 
 ghost use Rattle.std.specs.Prelude.{◌≡◌, ◌≤◌, length};
-ghost use Rattle.limits.specs.Limits.{mostSteps};
-ghost use Rattle.job_laws.specs.JobPrices.{hasOption, jobBond, jobOption};
-ghost use Rattle.sheet_room.specs.Room.{sheetRoom};
-ghost use Rattle.text_laws.specs.Put.{withText};
+ghost use Rattle.limits.specs.Limits.{most_steps};
+ghost use Rattle.job_laws.specs.JobPrices.{has_option, job_bond, job_option};
+ghost use Rattle.sheet_room.specs.Room.{sheet_room};
+ghost use Rattle.text_laws.specs.Put.{with_text};
 ghost use Rattle.text_laws.specs.inside.Put.{Put};
 ghost use Rattle.sheet_laws.specs.inside.Stored.{Fitted};
-ghost use Rattle.sheet_laws.specs.WholeJob.{roomCause, jobNumber, jobText};
-ghost use Rattle.record_sheet.specs.Answers.{refusedSheet, answer_of};
+ghost use Rattle.sheet_laws.specs.WholeJob.{room_cause, job_number, job_text};
+ghost use Rattle.record_sheet.specs.Answers.{refused_sheet, answer_of};
 
 use job_laws::JobPrices;
 use job_record::Job;
@@ -24,13 +24,13 @@ pub struct Written {
 }
 
 fn refused(number: u64) -> Written
-    ensures { result ≡ refusedSheet number }
+    ensures { result ≡ refused_sheet number }
 {
     Written { number, size: 0 }
 }
 
 fn room_cause(room: usize) -> u64
-    ensures { result ≡ roomCause room }
+    ensures { result ≡ room_cause room }
 {
     if room < SHEET_ROOM {
         return 6;
@@ -40,7 +40,7 @@ fn room_cause(room: usize) -> u64
 
 // Room for the quotes of the longest tree.
 fn quote_room() -> [u64; limits::MOST_STEPS]
-    ensures { length result ≡ mostSteps }
+    ensures { length result ≡ most_steps }
 {
     [0; limits::MOST_STEPS]
 }
@@ -53,9 +53,9 @@ fn draw<'a>(
     state_prices: &'a [u64],
     out: &mut [u8],
 ) -> usize
-    requires fitted { Fitted job discounts.now state_prices.now × (sheetRoom ≤ length out.old) }
-    requires prices_value { prices ≡ record { number = 0; bond = jobBond job; has_option = hasOption job.option; option = jobOption job } }
-    ensures { Put out.old (length out.old) (jobText job) result out.new }
+    requires fitted { Fitted job discounts.now state_prices.now × (sheet_room ≤ length out.old) }
+    requires prices_value { prices ≡ record { number = 0; bond = job_bond job; has_option = has_option job.option; option = job_option job } }
+    ensures { Put out.old (length out.old) (job_text job) result out.new }
 {
     let steps = job.steps;
     let reversion = job_fit::meant_reversion(job.version, job.reversion);
@@ -77,9 +77,9 @@ fn draw<'a>(
 // The sheet of a record, at the end of the lent room: 468,736 bytes are enough for every job, and fewer are refused with 6. Else the number of
 // its prices. A refusal leaves the room as it was.
 pub fn sheet_of_record(job: Job, out: &mut [u8]) -> Written
-    ensures answer { result ≡ answer_of (jobNumber job (length out.old)) (jobText job) }
-    ensures memory { out.new ≡ withText (jobNumber job (length out.old)) out.old (length out.old)
-        (jobText job) }
+    ensures answer { result ≡ answer_of (job_number job (length out.old)) (job_text job) }
+    ensures memory { out.new ≡ with_text (job_number job (length out.old)) out.old (length out.old)
+        (job_text job) }
 {
     let mut discounts = limits::discount_room();
     let mut state_prices = limits::state_price_room();

@@ -1,13 +1,13 @@
 // The lines of a priced tree, put into a lent buffer from its end.
 ghost use Rattle.std.specs.Prelude.{◌≡◌, suc, ◌+◌, ◌*◌, ◌≤◌, ◌<◌, length};
-ghost use Rattle.sheet_room.specs.Room.{sheetRoom};
-ghost use Rattle.text_laws.specs.Lines.{longestLine};
+ghost use Rattle.sheet_room.specs.Room.{sheet_room};
+ghost use Rattle.text_laws.specs.Lines.{longest_line};
 ghost use Rattle.arithmetic.specs.Row.{sum_of};
-ghost use Rattle.limits.specs.Limits.{sumLimit};
+ghost use Rattle.limits.specs.Limits.{sum_limit};
 ghost use Rattle.text_laws.specs.inside.Put.{Put};
-ghost use Rattle.state_price_bound.specs.ErrorBound.{statePriceErrorBoundAnswer, statePriceErrorBoundsAnswer};
-ghost use Rattle.lent_tree.specs.LentTree.{storedRow};
-ghost use Rattle.sheet_laws.specs.TreeSheet.{nodeLines, lineOfRow, row_lines, optionLines, priceLines, treeSheet};
+ghost use Rattle.state_price_bound.specs.ErrorBound.{state_price_error_bound_answer, state_price_error_bounds_answer};
+ghost use Rattle.lent_tree.specs.LentTree.{stored_row};
+ghost use Rattle.sheet_laws.specs.TreeSheet.{node_lines, line_of_row, row_lines, option_lines, price_lines, tree_sheet};
 ghost use Rattle.sheet_laws.specs.inside.Stored.{Drawing, Stored, Summed};
 
 use job_laws::JobPrices;
@@ -30,7 +30,7 @@ struct Row {
 }
 
 fn row_total(row: &[u64]) -> u64
-    requires { sum_of row.now ≤ sumLimit }
+    requires { sum_of row.now ≤ sum_limit }
     ensures { result ≡ sum_of row.now }
 {
     let mut sum = 0u64;
@@ -53,7 +53,7 @@ fn put_node_rows(
     next: usize,
 ) -> usize
     requires { Drawing steps reversion discounts.now next end (length out.old) }
-    ensures { Put out.old end (nodeLines steps reversion discounts.now) result out.new }
+    ensures { Put out.old end (node_lines steps reversion discounts.now) result out.new }
 {
     let mut start = end;
     let mut place = next;
@@ -84,7 +84,7 @@ fn draw_nodes<'a>(
     reader: NodeReader<'a>,
 ) -> usize
     requires { Drawing steps reversion reader.discounts.now reader.next end (length out.old) }
-    ensures { Put out.old end (nodeLines steps reversion reader.entry.discounts.now) result out.new }
+    ensures { Put out.old end (node_lines steps reversion reader.entry.discounts.now) result out.new }
 {
     put_node_rows(out, end, steps, reversion, reader.discounts, reader.next)
 }
@@ -99,7 +99,7 @@ fn put_all_nodes(
     count: usize,
 ) -> usize
     requires { Drawing steps reversion discounts.now count end (length out.old) }
-    ensures { Put out.old end (nodeLines steps reversion discounts.now) result out.new }
+    ensures { Put out.old end (node_lines steps reversion discounts.now) result out.new }
 {
     draw_nodes(
         out,
@@ -121,10 +121,10 @@ fn put_row<'a>(
     state_prices: &'a [u64],
 ) -> usize
     requires before_lt_steps { (row.before < tree.steps) × Stored tree.steps tree.reversion discounts.now state_prices.now
-        × (length quotes.now ≡ tree.steps) × (sum_of (storedRow tree.reversion state_prices.now (suc row.before)) ≤ sumLimit)
-        × (longestLine ≤ end) × (end ≤ length out.old) }
-    requires bound_value { row.bound ≡ (statePriceErrorBoundAnswer tree.steps tree.reversion discounts.now (suc row.before)).value }
-    ensures { Put out.old end (lineOfRow tree.steps tree.reversion quotes.now discounts.now
+        × (length quotes.now ≡ tree.steps) × (sum_of (stored_row tree.reversion state_prices.now (suc row.before)) ≤ sum_limit)
+        × (longest_line ≤ end) × (end ≤ length out.old) }
+    requires bound_value { row.bound ≡ (state_price_error_bound_answer tree.steps tree.reversion discounts.now (suc row.before)).value }
+    ensures { Put out.old end (line_of_row tree.steps tree.reversion quotes.now discounts.now
         state_prices.now row.before) result out.new }
 {
     let before = row.before;
@@ -153,9 +153,9 @@ fn put_rows<'a>(
     bounds: &[u64],
 ) -> usize
     requires stored { Stored tree.steps tree.reversion discounts.now state_prices.now × (length quotes.now ≡ tree.steps)
-        × (longestLine * tree.steps ≤ end) × (end ≤ length out.old) }
+        × (longest_line * tree.steps ≤ end) × (end ≤ length out.old) }
     requires summed { Summed tree.steps tree.reversion state_prices.now }
-    requires bounds_value { (bounds.now ≡ (statePriceErrorBoundsAnswer tree.steps tree.reversion discounts.now).bounds)
+    requires bounds_value { (bounds.now ≡ (state_price_error_bounds_answer tree.steps tree.reversion discounts.now).bounds)
         × (tree.steps < length bounds.now) }
     ensures { Put out.old end (row_lines tree.steps tree.reversion quotes.now discounts.now
         state_prices.now) result out.new }
@@ -176,8 +176,8 @@ fn put_rows<'a>(
 
 // The price lines; no option, no line.
 fn put_prices(out: &mut [u8], end: usize, bond: Price, present: bool, option: Price) -> usize
-    requires { (2 * longestLine ≤ end) × (end ≤ length out.old) }
-    ensures { Put out.old end (priceLines bond present option) result out.new }
+    requires { (2 * longest_line ≤ end) × (end ≤ length out.old) }
+    ensures { Put out.old end (price_lines bond present option) result out.new }
 {
     let below = put_option(out, end, present, option);
     let line = text::bond_line(out, below, bond.value, bond.bound);
@@ -185,8 +185,8 @@ fn put_prices(out: &mut [u8], end: usize, bond: Price, present: bool, option: Pr
 }
 
 fn put_option(out: &mut [u8], end: usize, present: bool, option: Price) -> usize
-    requires { (longestLine ≤ end) × (end ≤ length out.old) }
-    ensures { Put out.old end (optionLines present option) result out.new }
+    requires { (longest_line ≤ end) × (end ≤ length out.old) }
+    ensures { Put out.old end (option_lines present option) result out.new }
 {
     if present {
         let line = text::option_line(out, end, option.value, option.bound);
@@ -205,10 +205,10 @@ pub(crate) fn put_sheet<'a>(
     state_prices: &'a [u64],
     prices: JobPrices,
 ) -> usize
-    requires stored { Stored steps reversion discounts.now state_prices.now × (length quotes.now ≡ steps) × (sheetRoom ≤ length out.old) }
+    requires stored { Stored steps reversion discounts.now state_prices.now × (length quotes.now ≡ steps) × (sheet_room ≤ length out.old) }
     requires summed { Summed steps reversion state_prices.now }
     ensures { Put out.old (length out.old)
-        (treeSheet steps reversion quotes.now discounts.now state_prices.now
+        (tree_sheet steps reversion quotes.now discounts.now state_prices.now
         prices.bond prices.has_option prices.option) result out.new }
 {
     let end = out.len();

@@ -10,9 +10,9 @@ use lib.Dec.{eqb, ltb}
 use lib.ListN.{length}
 use Rattle.arithmetic.specs.Row.{values}
 use Rattle.arithmetic.proofs.RowLaws.{row-cong, values-row, row_of, zeros}
-use Rattle.book_laws.specs.Bounds.{mostNumber}
+use Rattle.book_laws.specs.Bounds.{most_number}
 use Rattle.report_laws.specs.declared.Report.{Report}
-use Rattle.report_laws.specs.Reports.{emptyReport, isLater, sumReport}
+use Rattle.report_laws.specs.Reports.{empty_report, is_later, sum_report}
 
 -- a report is its figures
 made : ℕ → ℕ → ℕ → List ℕ → ℕ → ℕ → ℕ → ℕ → ℕ → ℕ → Report
@@ -75,13 +75,13 @@ added-chosen true n x y = refl
 added-chosen false n x y = refl
 
 module _ (a b c : Report) where
-  is_later : isLater a b ≡ later (none a) (none b) (higher a b)
-  unfolding isLater
-  is_later = refl
+  is_later_lem : is_later a b ≡ later (none a) (none b) (higher a b)
+  unfolding is_later
+  is_later_lem = refl
 
-  later-of-sum : isLater (sumReport a b) c ≡ later (cond (isLater a b) (none b) (none a)) (none c) (cond (isLater a b) (higher b c) (higher a c))
-  unfolding isLater sumReport
-  later-of-sum = go (isLater a b)
+  later-of-sum : is_later (sum_report a b) c ≡ later (cond (is_later a b) (none b) (none a)) (none c) (cond (is_later a b) (higher b c) (higher a c))
+  unfolding is_later sum_report
+  later-of-sum = go (is_later a b)
     where
       go : (t : Bool) →
           (not (eqb c.place 0) && (eqb (cond t b.place a.place) 0 || ltb (cond t b.dearest a.dearest) c.dearest))
@@ -89,9 +89,9 @@ module _ (a b c : Report) where
       go true = refl
       go false = refl
 
-  later-than-sum : isLater a (sumReport b c) ≡ later (none a) (cond (isLater b c) (none c) (none b)) (cond (isLater b c) (higher a c) (higher a b))
-  unfolding isLater sumReport
-  later-than-sum = go (isLater b c)
+  later-than-sum : is_later a (sum_report b c) ≡ later (none a) (cond (is_later b c) (none c) (none b)) (cond (is_later b c) (higher a c) (higher a b))
+  unfolding is_later sum_report
+  later-than-sum = go (is_later b c)
     where
       go : (t : Bool) →
           (not (eqb (cond t c.place b.place) 0) && (eqb a.place 0 || ltb a.dearest (cond t c.dearest b.dearest)))
@@ -101,65 +101,65 @@ module _ (a b c : Report) where
 
 module _ (a b c : Report) where
   chosen-same : (x y z : ℕ) →
-      cond (isLater (sumReport a b) c) z (cond (isLater a b) y x) ≡ cond (isLater a (sumReport b c)) (cond (isLater b c) z y) x
+      cond (is_later (sum_report a b) c) z (cond (is_later a b) y x) ≡ cond (is_later a (sum_report b c)) (cond (is_later b c) z y) x
   chosen-same x y z =
-      rw (later-of-sum a b c, later-than-sum a b c, is_later a b c, is_later b c a)
+      rw (later-of-sum a b c, later-than-sum a b c, is_later_lem a b c, is_later_lem b c a)
       (chosen-thrice (none a) (none b) (none c) (higher a b) (higher b c) (higher a c)
       (λ p q. lt-ltb a.dearest c.dearest (omega (arith, ltb-true a.dearest b.dearest p, ltb-true b.dearest c.dearest q)))
       (λ p q. le-ltb a.dearest c.dearest (omega (arith, ltb-false a.dearest b.dearest p, ltb-false b.dearest c.dearest q))) x y z)
 
-  dearest-same : (sumReport (sumReport a b) c).dearest ≡ (sumReport a (sumReport b c)).dearest
-  unfolding sumReport
+  dearest-same : (sum_report (sum_report a b) c).dearest ≡ (sum_report a (sum_report b c)).dearest
+  unfolding sum_report
   dearest-same = chosen-same a.dearest b.dearest c.dearest
 
-  place_same : (sumReport (sumReport a b) c).place ≡ (sumReport a (sumReport b c)).place
-  unfolding sumReport
+  place_same : (sum_report (sum_report a b) c).place ≡ (sum_report a (sum_report b c)).place
+  unfolding sum_report
   place_same = chosen-same a.place b.place c.place
 
-  book-same : (sumReport (sumReport a b) c).book ≡ (sumReport a (sumReport b c)).book
-  unfolding sumReport
+  book-same : (sum_report (sum_report a b) c).book ≡ (sum_report a (sum_report b c)).book
+  unfolding sum_report
   book-same =
       let e : a.books + b.books + c.book ≡ a.books + (b.books + c.book) = omega arith in
-      rw (e, added-chosen (isLater b c) a.books (b.books + c.book) b.book)
+      rw (e, added-chosen (is_later b c) a.books (b.books + c.book) b.book)
       (chosen-same a.book (a.books + b.book) (a.books + (b.books + c.book)))
 
-  refused-same : (sumReport (sumReport a b) c).refused ≡ (sumReport a (sumReport b c)).refused
-  unfolding sumReport
+  refused-same : (sum_report (sum_report a b) c).refused ≡ (sum_report a (sum_report b c)).refused
+  unfolding sum_report
   refused-same =
-      row-cong mostNumber _ _
+      row-cong most_number _ _
       (λ k l.
       omega (
         arith,
-        values-row mostNumber k (λ j. values a.refused j + values b.refused j) l,
-        values-row mostNumber k (λ j. values b.refused j + values c.refused j) l,
+        values-row most_number k (λ j. values a.refused j + values b.refused j) l,
+        values-row most_number k (λ j. values b.refused j + values c.refused j) l,
       ))
 
-  books-same : (sumReport (sumReport a b) c).books ≡ (sumReport a (sumReport b c)).books
-  unfolding sumReport
+  books-same : (sum_report (sum_report a b) c).books ≡ (sum_report a (sum_report b c)).books
+  unfolding sum_report
   books-same = omega arith
 
-  fields-same : (sumReport (sumReport a b) c).fields ≡ (sumReport a (sumReport b c)).fields
-  unfolding sumReport
+  fields-same : (sum_report (sum_report a b) c).fields ≡ (sum_report a (sum_report b c)).fields
+  unfolding sum_report
   fields-same = omega arith
 
-  priced-same : (sumReport (sumReport a b) c).priced ≡ (sumReport a (sumReport b c)).priced
-  unfolding sumReport
+  priced-same : (sum_report (sum_report a b) c).priced ≡ (sum_report a (sum_report b c)).priced
+  unfolding sum_report
   priced-same = omega arith
 
-  bonds-same : (sumReport (sumReport a b) c).bonds ≡ (sumReport a (sumReport b c)).bonds
-  unfolding sumReport
+  bonds-same : (sum_report (sum_report a b) c).bonds ≡ (sum_report a (sum_report b c)).bonds
+  unfolding sum_report
   bonds-same = omega arith
 
-  options-same : (sumReport (sumReport a b) c).options ≡ (sumReport a (sumReport b c)).options
-  unfolding sumReport
+  options-same : (sum_report (sum_report a b) c).options ≡ (sum_report a (sum_report b c)).options
+  unfolding sum_report
   options-same = omega arith
 
-  error-bounds-same : (sumReport (sumReport a b) c).error_bounds ≡ (sumReport a (sumReport b c)).error_bounds
-  unfolding sumReport
+  error-bounds-same : (sum_report (sum_report a b) c).error_bounds ≡ (sum_report a (sum_report b c)).error_bounds
+  unfolding sum_report
   error-bounds-same = omega arith
 
   -- THE SUM IS ASSOCIATIVE
-  pub sum-assoc : sumReport (sumReport a b) c ≡ sumReport a (sumReport b c)
+  pub sum-assoc : sum_report (sum_report a b) c ≡ sum_report a (sum_report b c)
   sum-assoc =
       same-report _ _ books-same fields-same priced-same refused-same bonds-same options-same error-bounds-same dearest-same book-same place_same
 
@@ -167,120 +167,120 @@ module _ (a b c : Report) where
 
 -- a report of which nothing is kept where no bond is priced, and which has thirteen counts
 pub record Plain (r : Report) : Type 0 where
-  pub size : length r.refused ≡ mostNumber
+  pub size : length r.refused ≡ most_number
   pub dearest : r.place ≡ 0 → r.dearest ≡ 0
   pub book : r.place ≡ 0 → r.book ≡ 0
 
-pub empty-plain : Plain emptyReport
-unfolding emptyReport
+pub empty-plain : Plain empty_report
+unfolding empty_report
 empty-plain = record { size = refl; dearest = λ z. refl; book = λ z. refl }
 
 module _ (r : Report) (p : Plain r) where
-  left-counts : (sumReport emptyReport r).refused ≡ r.refused
-  unfolding sumReport emptyReport
-  left-counts = sym (row_of r.refused mostNumber _ p.size (λ k l. omega (arith, zeros mostNumber k)))
+  left-counts : (sum_report empty_report r).refused ≡ r.refused
+  unfolding sum_report empty_report
+  left-counts = sym (row_of r.refused most_number _ p.size (λ k l. omega (arith, zeros most_number k)))
 
-  right-counts : (sumReport r emptyReport).refused ≡ r.refused
-  unfolding sumReport emptyReport
-  right-counts = sym (row_of r.refused mostNumber _ p.size (λ k l. omega (arith, zeros mostNumber k)))
+  right-counts : (sum_report r empty_report).refused ≡ r.refused
+  unfolding sum_report empty_report
+  right-counts = sym (row_of r.refused most_number _ p.size (λ k l. omega (arith, zeros most_number k)))
 
   -- the empty report has no bond: a report's own is taken where it has one
-  later-empty : isLater emptyReport r ≡ not (none r)
-  unfolding isLater emptyReport
+  later-empty : is_later empty_report r ≡ not (none r)
+  unfolding is_later empty_report
   later-empty = go (eqb r.place 0)
     where
       go : (t : Bool) → (not t && true) ≡ not t
       go true = refl
       go false = refl
 
-  taken : (x : ℕ) → (r.place ≡ 0 → x ≡ 0) → cond (isLater emptyReport r) x 0 ≡ x
+  taken : (x : ℕ) → (r.place ≡ 0 → x ≡ 0) → cond (is_later empty_report r) x 0 ≡ x
   taken x z = rw later-empty (go (none r) refl)
     where
       go : (t : Bool) → none r ≡ t → cond (not t) x 0 ≡ x
       go true e = sym (z (eqb-true r.place 0 e))
       go false e = refl
 
-  dearest-taken : (sumReport emptyReport r).dearest ≡ r.dearest
-  unfolding sumReport emptyReport
+  dearest-taken : (sum_report empty_report r).dearest ≡ r.dearest
+  unfolding sum_report empty_report
   dearest-taken = taken r.dearest p.dearest
 
-  book-taken : (sumReport emptyReport r).book ≡ r.book
-  unfolding sumReport emptyReport
+  book-taken : (sum_report empty_report r).book ≡ r.book
+  unfolding sum_report empty_report
   book-taken = let e : 0 + r.book ≡ r.book = omega arith in rw e (taken r.book p.book)
 
-  place-taken : (sumReport emptyReport r).place ≡ r.place
-  unfolding sumReport emptyReport
+  place-taken : (sum_report empty_report r).place ≡ r.place
+  unfolding sum_report empty_report
   place-taken = taken r.place (λ z. z)
 
-  left_books : (sumReport emptyReport r).books ≡ r.books
-  unfolding sumReport emptyReport
+  left_books : (sum_report empty_report r).books ≡ r.books
+  unfolding sum_report empty_report
   left_books = omega arith
 
-  right-books : (sumReport r emptyReport).books ≡ r.books
-  unfolding sumReport emptyReport
+  right-books : (sum_report r empty_report).books ≡ r.books
+  unfolding sum_report empty_report
   right-books = omega arith
 
-  left-fields : (sumReport emptyReport r).fields ≡ r.fields
-  unfolding sumReport emptyReport
+  left-fields : (sum_report empty_report r).fields ≡ r.fields
+  unfolding sum_report empty_report
   left-fields = omega arith
 
-  right-fields : (sumReport r emptyReport).fields ≡ r.fields
-  unfolding sumReport emptyReport
+  right-fields : (sum_report r empty_report).fields ≡ r.fields
+  unfolding sum_report empty_report
   right-fields = omega arith
 
-  left-priced : (sumReport emptyReport r).priced ≡ r.priced
-  unfolding sumReport emptyReport
+  left-priced : (sum_report empty_report r).priced ≡ r.priced
+  unfolding sum_report empty_report
   left-priced = omega arith
 
-  right-priced : (sumReport r emptyReport).priced ≡ r.priced
-  unfolding sumReport emptyReport
+  right-priced : (sum_report r empty_report).priced ≡ r.priced
+  unfolding sum_report empty_report
   right-priced = omega arith
 
-  left-bonds : (sumReport emptyReport r).bonds ≡ r.bonds
-  unfolding sumReport emptyReport
+  left-bonds : (sum_report empty_report r).bonds ≡ r.bonds
+  unfolding sum_report empty_report
   left-bonds = omega arith
 
-  right-bonds : (sumReport r emptyReport).bonds ≡ r.bonds
-  unfolding sumReport emptyReport
+  right-bonds : (sum_report r empty_report).bonds ≡ r.bonds
+  unfolding sum_report empty_report
   right-bonds = omega arith
 
-  left-options : (sumReport emptyReport r).options ≡ r.options
-  unfolding sumReport emptyReport
+  left-options : (sum_report empty_report r).options ≡ r.options
+  unfolding sum_report empty_report
   left-options = omega arith
 
-  right-options : (sumReport r emptyReport).options ≡ r.options
-  unfolding sumReport emptyReport
+  right-options : (sum_report r empty_report).options ≡ r.options
+  unfolding sum_report empty_report
   right-options = omega arith
 
-  left-error-bounds : (sumReport emptyReport r).error_bounds ≡ r.error_bounds
-  unfolding sumReport emptyReport
+  left-error-bounds : (sum_report empty_report r).error_bounds ≡ r.error_bounds
+  unfolding sum_report empty_report
   left-error-bounds = omega arith
 
-  right-error-bounds : (sumReport r emptyReport).error_bounds ≡ r.error_bounds
-  unfolding sumReport emptyReport
+  right-error-bounds : (sum_report r empty_report).error_bounds ≡ r.error_bounds
+  unfolding sum_report empty_report
   right-error-bounds = omega arith
 
-  earlier-empty : isLater r emptyReport ≡ false
-  unfolding isLater emptyReport
+  earlier-empty : is_later r empty_report ≡ false
+  unfolding is_later empty_report
   earlier-empty = refl
 
-  right-dearest : (sumReport r emptyReport).dearest ≡ r.dearest
-  unfolding sumReport
+  right-dearest : (sum_report r empty_report).dearest ≡ r.dearest
+  unfolding sum_report
   right-dearest = rw earlier-empty
 
-  right-book : (sumReport r emptyReport).book ≡ r.book
-  unfolding sumReport
+  right-book : (sum_report r empty_report).book ≡ r.book
+  unfolding sum_report
   right-book = rw earlier-empty
 
-  right-place : (sumReport r emptyReport).place ≡ r.place
-  unfolding sumReport
+  right-place : (sum_report r empty_report).place ≡ r.place
+  unfolding sum_report
   right-place = rw earlier-empty
 
   -- THE EMPTY REPORT IS ITS UNIT
-  pub sum-empty-left : sumReport emptyReport r ≡ r
+  pub sum-empty-left : sum_report empty_report r ≡ r
   sum-empty-left =
       same-report _ _ left_books left-fields left-priced left-counts left-bonds left-options left-error-bounds dearest-taken book-taken place-taken
 
-  pub sum-empty-right : sumReport r emptyReport ≡ r
+  pub sum-empty-right : sum_report r empty_report ≡ r
   sum-empty-right =
       same-report _ _ right-books right-fields right-priced right-counts right-bonds right-options right-error-bounds right-dearest right-book right-place

@@ -7,12 +7,12 @@ use Prim.Native.Nat.{ℕ, ◌^◌}
 use native.Mathlib.Omega.{arith}
 use Rattle.arithmetic.specs.Within.{Within}
 use Rattle.tree.specs.Tree.{unit}
-use Rattle.book_promises.specs.BookPromises.{exactTotal}
+use Rattle.book_promises.specs.BookPromises.{exact_total}
 use Rattle.book_promises.proofs.BookKept.{exact-total}
 use Rattle.report_laws.specs.declared.Report.{Report}
-use Rattle.report_laws.specs.Reports.{emptyReport}
-use Rattle.report_laws.specs.Joins.{isReport, joinedReport}
-use Rattle.report_laws.specs.FileReports.{filesReport, fileReport, allJobs}
+use Rattle.report_laws.specs.Reports.{empty_report}
+use Rattle.report_laws.specs.Joins.{is_report, joined_report}
+use Rattle.report_laws.specs.FileReports.{files_report, file_report, all_jobs}
 use Rattle.report_laws.proofs.SoundLaws.{report-sound, sound-report}
 use Rattle.report_laws.proofs.SumLaws.{sum-empty-right}
 use Rattle.report_laws.proofs.JoinLaws.{first-refused, second-refused, join-assoc, join-empty-left, join-empty-right}
@@ -21,19 +21,19 @@ use Rattle.report_promises.specs.ReportPromises.{Refused, Fits, ReportPromises}
 
 -- THE EXACT TOTAL OF ALL FILES: within the error bounds of their report
 pub files-total : (files : List (List ℕ)) →
-    Within (filesReport files).error_bounds (unit ^ 60) (filesReport files).bonds (exactTotal (allJobs files))
-files-total files = let t = files-tally files in rw (t.bonds, t.error-bounds) (exact-total (allJobs files))
+    Within (files_report files).error_bounds (unit ^ 60) (files_report files).bonds (exact_total (all_jobs files))
+files-total files = let t = files-tally files in rw (t.bonds, t.error-bounds) (exact-total (all_jobs files))
 
-one-file : (file : List ℕ) → filesReport (file ∷ []) ≡ fileReport file
-unfolding filesReport
-one-file file = sum-empty-right (fileReport file) (file-plain file)
+one-file : (file : List ℕ) → files_report (file ∷ []) ≡ file_report file
+unfolding files_report
+one-file file = sum-empty-right (file_report file) (file-plain file)
 
-no-files : filesReport [] ≡ emptyReport
-unfolding filesReport
+no-files : files_report [] ≡ empty_report
+unfolding files_report
 no-files = refl
 
 -- no report that passes the test has a figure above 64 bits
-figures-fit : (r : Report) → isReport r ≡ true → Fits r
+figures-fit : (r : Report) → is_report r ≡ true → Fits r
 figures-fit r h =
     let s = report-sound r h in
     record {
@@ -46,10 +46,10 @@ figures-fit r h =
     }
 
 -- a second report that is none is refused whatever the first is
-second_none : (a b : Report) → isReport b ≡ false → Refused (joinedReport a b) 1
-second_none a b e = go (isReport a) refl
+second_none : (a b : Report) → is_report b ≡ false → Refused (joined_report a b) 1
+second_none a b e = go (is_report a) refl
   where
-    go : (t : Bool) → isReport a ≡ t → Refused (joinedReport a b) 1
+    go : (t : Bool) → is_report a ≡ t → Refused (joined_report a b) 1
     go true f = sym (second-refused a b f e)
     go false f = sym (first-refused a b f)
 

@@ -5,30 +5,30 @@
 use Rattle.std.specs.Prelude.{ℕ, ◌+◌, ◌^◌, ◌≤◌, ◌<◌, ◌≡◌, true, false, List, [], ◌∷◌, ◌++◌, length}
 use Rattle.arithmetic.specs.Within.{Within}
 use Rattle.tree.specs.Tree.{unit}
-use Rattle.book_laws.specs.Files.{fileBook}
-use Rattle.book_promises.specs.BookPromises.{exactTotal}
+use Rattle.book_laws.specs.Files.{file_book}
+use Rattle.book_promises.specs.BookPromises.{exact_total}
 use Rattle.report_laws.specs.declared.Report.{Report}
 use Rattle.report_laws.specs.declared.Joined.{Joined}
-use Rattle.report_laws.specs.Reports.{emptyReport, bookReport}
-use Rattle.report_laws.specs.Joins.{isReport, joinedReport, and_then}
-use Rattle.report_laws.specs.FileReports.{filesReport, allJobs, FilesTally}
+use Rattle.report_laws.specs.Reports.{empty_report, book_report}
+use Rattle.report_laws.specs.Joins.{is_report, joined_report, and_then}
+use Rattle.report_laws.specs.FileReports.{files_report, all_jobs, FilesTally}
 
 -- books and fields of files, each counted once
-abbrev pub countedIn : List (List ℕ) → ℕ
-countedIn files = length files + length (allJobs files)
+abbrev pub counted_in : List (List ℕ) → ℕ
+counted_in files = length files + length (all_jobs files)
 
 -- a join that gives a report, and one that is refused
 abbrev pub Gives : Joined → Report → Type 0
 Gives j r = j ≡ record { number = 0; report = r }
 
 abbrev pub Refused : Joined → ℕ → Type 0
-Refused j number = j ≡ record { number = number; report = emptyReport }
+Refused j number = j ≡ record { number = number; report = empty_report }
 
 -- what a report says of files
 pub record Reported (files : List (List ℕ)) (r : Report) : Type 0 where
   pub totals : FilesTally files r
   -- within the sum of the bonds' bounds, as the total of a book
-  pub total-near : Within r.error_bounds (unit ^ 60) r.bonds (exactTotal (allJobs files))
+  pub total-near : Within r.error_bounds (unit ^ 60) r.bonds (exact_total (all_jobs files))
 
 -- the figures of a report, none of which passes 64 bits
 pub record Fits (r : Report) : Type 0 where
@@ -41,22 +41,22 @@ pub record Fits (r : Report) : Type 0 where
 
 pub record ReportPromises : Type 0 where
   -- the report of any files; that of one is its book's, that of none is empty
-  pub reported : (files : List (List ℕ)) → Reported files (filesReport files)
-  pub of_one : (file : List ℕ) → filesReport (file ∷ []) ≡ bookReport (fileBook file)
-  pub of_none : filesReport [] ≡ emptyReport
+  pub reported : (files : List (List ℕ)) → Reported files (files_report files)
+  pub of_one : (file : List ℕ) → files_report (file ∷ []) ≡ book_report (file_book file)
+  pub of_none : files_report [] ≡ empty_report
   -- files that are split anyhow over two reports: these join to the report of all of them, in the order of the files
-  pub joined : (front rest : List (List ℕ)) → countedIn front + countedIn rest ≤ 2305843009 →
-      Gives (joinedReport (filesReport front) (filesReport rest)) (filesReport (front ++ rest))
+  pub joined : (front rest : List (List ℕ)) → counted_in front + counted_in rest ≤ 2305843009 →
+      Gives (joined_report (files_report front) (files_report rest)) (files_report (front ++ rest))
   -- and are refused where they are more
-  pub too_many : (front rest : List (List ℕ)) → countedIn front ≤ 2305843009 → countedIn rest ≤ 2305843009 →
-      2305843009 < countedIn front + countedIn rest → Refused (joinedReport (filesReport front) (filesReport rest)) 12
+  pub too_many : (front rest : List (List ℕ)) → counted_in front ≤ 2305843009 → counted_in rest ≤ 2305843009 →
+      2305843009 < counted_in front + counted_in rest → Refused (joined_report (files_report front) (files_report rest)) 12
   -- the reports of files are reports; what is none is refused
-  pub files-give : (files : List (List ℕ)) → countedIn files ≤ 2305843009 → isReport (filesReport files) ≡ true
-  pub first-is-none : (a b : Report) → isReport a ≡ false → Refused (joinedReport a b) 1
-  pub second-is-none : (a b : Report) → isReport b ≡ false → Refused (joinedReport a b) 1
-  pub fits : (r : Report) → isReport r ≡ true → Fits r
+  pub files-give : (files : List (List ℕ)) → counted_in files ≤ 2305843009 → is_report (files_report files) ≡ true
+  pub first-is-none : (a b : Report) → is_report a ≡ false → Refused (joined_report a b) 1
+  pub second-is-none : (a b : Report) → is_report b ≡ false → Refused (joined_report a b) 1
+  pub fits : (r : Report) → is_report r ≡ true → Fits r
   -- joining is associative, refusals for the size too, and the empty report is neutral
-  pub associative : (a b c : Report) → isReport a ≡ true → isReport b ≡ true → isReport c ≡ true →
-      and_then (joinedReport a b) (λ ab. joinedReport ab c) ≡ and_then (joinedReport b c) (λ bc. joinedReport a bc)
-  pub neutral-first : (r : Report) → isReport r ≡ true → length r.refused ≡ 13 → Gives (joinedReport emptyReport r) r
-  pub neutral-second : (r : Report) → isReport r ≡ true → length r.refused ≡ 13 → Gives (joinedReport r emptyReport) r
+  pub associative : (a b c : Report) → is_report a ≡ true → is_report b ≡ true → is_report c ≡ true →
+      and_then (joined_report a b) (λ ab. joined_report ab c) ≡ and_then (joined_report b c) (λ bc. joined_report a bc)
+  pub neutral-first : (r : Report) → is_report r ≡ true → length r.refused ≡ 13 → Gives (joined_report empty_report r) r
+  pub neutral-second : (r : Report) → is_report r ≡ true → length r.refused ≡ 13 → Gives (joined_report r empty_report) r

@@ -1,22 +1,22 @@
 // The reversion by version: what stands for b in rows, branching and prices, and the ratio of the variance of a step.
 ghost use Rattle.std.specs.Prelude.{◌≡◌, ◌≤◌, ◌<◌, pos};
 ghost use Rattle.arithmetic.specs.Rounding.{one};
-ghost use Rattle.limits.specs.Limits.{mostReversion};
-ghost use Rattle.continuous.specs.Continuous.{amountLimit, continuousDiscount};
+ghost use Rattle.limits.specs.Limits.{most_reversion};
+ghost use Rattle.continuous.specs.Continuous.{amount_limit, continuous_discount};
 ghost use Rattle.reversion.specs.Reversion.{
-  isVersion,
-  exactReversion,
-  workingReversion,
-  varianceRatio,
-  workingAnswer,
-  ratioAnswer,
+  is_version,
+  exact_reversion,
+  working_reversion,
+  variance_ratio,
+  working_answer,
+  ratio_answer,
 };
 
 use arithmetic::{Answer, ONE};
 
 // Whether there is such a version.
 pub fn is_version(version: u64) -> bool
-    ensures { result ≡ isVersion version }
+    ensures { result ≡ is_version version }
 {
     if version == 1 {
         return true;
@@ -26,23 +26,23 @@ pub fn is_version(version: u64) -> bool
 
 // The discount of an amount of at most 4 × one, by continuous compounding.
 fn discount(amount: u64) -> u64
-    requires { amount ≤ amountLimit }
-    ensures { (result ≡ continuousDiscount (pos amount)) × (result ≤ one) }
+    requires { amount ≤ amount_limit }
+    ensures { (result ≡ continuous_discount (pos amount)) × (result ≤ one) }
 {
     continuous::discount_of_quotient(amount / 4, false).value
 }
 
 fn exact_reversion(reversion: u64) -> u64
-    requires { reversion ≤ mostReversion }
-    ensures { result ≡ exactReversion reversion }
+    requires { reversion ≤ most_reversion }
+    ensures { result ≡ exact_reversion reversion }
 {
     let lost = ONE - discount(100_000 * reversion);
     (10_000 * lost + ONE / 2) / ONE
 }
 
 fn exact_ratio(reversion: u64) -> u64
-    requires { (0 < reversion) × (reversion ≤ mostReversion) }
-    ensures { result ≡ varianceRatio reversion }
+    requires { (0 < reversion) × (reversion ≤ most_reversion) }
+    ensures { result ≡ variance_ratio reversion }
 {
     let twice = 200_000 * reversion;
     ONE * (ONE - discount(twice)) / twice
@@ -50,7 +50,7 @@ fn exact_ratio(reversion: u64) -> u64
 
 // What stands for the reversion in rows, branching and prices: the reversion itself unless the version is 2 and the reversion within its limit.
 pub fn working_or_same(version: u64, reversion: u64) -> u64
-    ensures { result ≡ workingReversion version reversion }
+    ensures { result ≡ working_reversion version reversion }
 {
     if version != 2 {
         return reversion;
@@ -63,7 +63,7 @@ pub fn working_or_same(version: u64, reversion: u64) -> u64
 
 // The same; refuses with 4 or 7.
 pub fn working_reversion(version: u64, reversion: u64) -> Answer
-    ensures { result ≡ workingAnswer version reversion }
+    ensures { result ≡ working_answer version reversion }
 {
     if limits::MOST_REVERSION < reversion {
         return Answer {
@@ -85,7 +85,7 @@ pub fn working_reversion(version: u64, reversion: u64) -> Answer
 
 // The variance of a step over that of version 1, in billionths; refuses with 4 or 7.
 pub fn variance_ratio(version: u64, reversion: u64) -> Answer
-    ensures { result ≡ ratioAnswer version reversion }
+    ensures { result ≡ ratio_answer version reversion }
 {
     if limits::MOST_REVERSION < reversion {
         return Answer {

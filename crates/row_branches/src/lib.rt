@@ -1,6 +1,6 @@
 // The branches of a row's nodes, from the row's part of the table of down-probabilities.
 ghost use Rattle.std.specs.Prelude.{◌≡◌, ◌+◌, ◌<◌};
-ghost use Rattle.row_branches.specs.RowBranches.{lowest, noBranch, rowBranch};
+ghost use Rattle.row_branches.specs.RowBranches.{lowest, no_branch, row_branch};
 
 use tree::PROBABILITY_TOTAL;
 
@@ -29,7 +29,7 @@ fn lowest_target(count: usize, next: usize, index: usize) -> usize
 }
 
 fn no_branch() -> RowBranch
-    ensures { result ≡ noBranch }
+    ensures { result ≡ no_branch }
 {
     RowBranch {
         low: 0,
@@ -39,7 +39,7 @@ fn no_branch() -> RowBranch
 
 // The branch of the node at an index; zeros where the row has no such node or the numbers are no probabilities.
 pub fn row_branch(downs: &[u64], next: usize, index: usize) -> RowBranch
-    ensures { result ≡ rowBranch downs.now next index }
+    ensures { result ≡ row_branch downs.now next index }
 {
     let count = downs.len();
     if count <= index {

@@ -15,26 +15,26 @@ use Rattle.arithmetic.specs.Row.{values}
 use Rattle.arithmetic.specs.declared.Answer.{Answer}
 use Rattle.arithmetic.proofs.BetweenLaws.{and_left, and_right}
 use Rattle.arithmetic.proofs.Implied.{Implied, lastly, ◌▸◌}
-use Rattle.lattice.specs.Shape.{nodeCount, rowStart, discountsNeeded, statePricesNeeded}
-use Rattle.lattice.specs.Entries.{aboutTree}
+use Rattle.lattice.specs.Shape.{node_count, row_start, discounts_needed, state_prices_needed}
+use Rattle.lattice.specs.Entries.{about_tree}
 use Rattle.lattice.proofs.Sizes.{row_ends}
 use Rattle.row_view.specs.declared.RowKind.{RowKind}
 use Rattle.row_view.specs.declared.RowKind.TheVariants.{Discounts, StatePrices}
 use Rattle.row_view.specs.declared.RowRange.{RowRange}
-use Rattle.row_view.specs.RowView.{isTree, holdsTree, storesRow, memoryOf, isShown, viewStart, viewCount, rangeOfRow, no_range, rangeByNumber, PartOf}
+use Rattle.row_view.specs.RowView.{is_tree, holds_tree, stores_row, memory_of, is_shown, view_start, view_count, range_of_row, no_range, range_by_number, PartOf}
 use Rattle.lattice.proofs.TreeEntries.{by-tree}
 
 -- ---- whether both memories hold the tree, by the tests that code makes
 
 module _ {discounts prices : List ℕ} {n b : ℕ} (_ : Implied (discounts ▸ prices ▸ n ▸ lastly b)) where
-  no-tree : isTree n b ≡ false → false ≡ holdsTree n b discounts prices
-  unfolding holdsTree
+  no-tree : is_tree n b ≡ false → false ≡ holds_tree n b discounts prices
+  unfolding holds_tree
   no-tree h = rw h
 
-  pub refused-tree : (x : ℕ) (a : Answer) → a ≡ aboutTree n b x → (a.number ≡ 0 → ⊥) → false ≡ holdsTree n b discounts prices
-  unfolding isTree
+  pub refused-tree : (x : ℕ) (a : Answer) → a ≡ about_tree n b x → (a.number ≡ 0 → ⊥) → false ≡ holds_tree n b discounts prices
+  unfolding is_tree
   refused-tree x a e nz =
-      by-tree n b x (λ r. (r.number ≡ 0 → ⊥) → false ≡ holdsTree n b discounts prices)
+      by-tree n b x (λ r. (r.number ≡ 0 → ⊥) → false ≡ holds_tree n b discounts prices)
       (λ z k. no-tree (simp (lt-leb 1 n (omega arith))))
       (λ h k. no-tree (simp (lt-leb n 60 h, and-false)))
       (λ p h s k. no-tree (simp (lt-leb b 6000 s, and-false)))
@@ -42,33 +42,33 @@ module _ {discounts prices : List ℕ} {n b : ℕ} (_ : Implied (discounts ▸ p
       (λ z. nz (ap (λ (r : Answer). r.number) e ∙ z))
 
   module _ (l : WithinLimits n b) where
-    a-tree : isTree n b ≡ true
-    unfolding isTree
+    a-tree : is_tree n b ≡ true
+    unfolding is_tree
     a-tree = simp (le-leb 1 n l.steps-positive, le-leb n 60 l.steps-within-limit, le-leb b 6000 l.reversion-within-limit)
 
-    pub short-discounts : (x : ℕ) → x ≡ discountsNeeded n b → length discounts < x → false ≡ holdsTree n b discounts prices
-    unfolding holdsTree
-    short-discounts x e h = rw (a-tree, lt-leb (discountsNeeded n b) (length discounts) (omega arith))
+    pub short-discounts : (x : ℕ) → x ≡ discounts_needed n b → length discounts < x → false ≡ holds_tree n b discounts prices
+    unfolding holds_tree
+    short-discounts x e h = rw (a-tree, lt-leb (discounts_needed n b) (length discounts) (omega arith))
 
-    pub long-discounts : (x y : ℕ) → x ≡ discountsNeeded n b → y ≡ statePricesNeeded n b → x ≤ length discounts →
-        leb y (length prices) ≡ holdsTree n b discounts prices
-    unfolding holdsTree
-    long-discounts x y e f h = rw (a-tree, le-leb (discountsNeeded n b) (length discounts) (omega arith), f)
+    pub long-discounts : (x y : ℕ) → x ≡ discounts_needed n b → y ≡ state_prices_needed n b → x ≤ length discounts →
+        leb y (length prices) ≡ holds_tree n b discounts prices
+    unfolding holds_tree
+    long-discounts x y e f h = rw (a-tree, le-leb (discounts_needed n b) (length discounts) (omega arith), f)
 
 -- what memories that hold the tree tell
 pub record Holding (discounts prices : List ℕ) (n b : ℕ) : Type 0 where
   pub limits : WithinLimits n b
-  pub discounts-room : rowStart b n ≤ length discounts
-  pub prices-room : rowStart b (suc n) ≤ length prices
+  pub discounts-room : row_start b n ≤ length discounts
+  pub prices-room : row_start b (suc n) ≤ length prices
 
-pub holding : (discounts prices : List ℕ) (n b : ℕ) → holdsTree n b discounts prices ≡ true → Holding discounts prices n b
-unfolding holdsTree isTree discountsNeeded statePricesNeeded
+pub holding : (discounts prices : List ℕ) (n b : ℕ) → holds_tree n b discounts prices ≡ true → Holding discounts prices n b
+unfolding holds_tree is_tree discounts_needed state_prices_needed
 holding discounts prices n b h =
     let t₁ = leb 1 n in
     let t₂ = leb n 60 in
     let t₃ = leb b 6000 in
-    let t₄ = leb (rowStart b n) (length discounts) in
-    let t₅ = leb (rowStart b (suc n)) (length prices) in
+    let t₄ = leb (row_start b n) (length discounts) in
+    let t₅ = leb (row_start b (suc n)) (length prices) in
     let room = and_left (t₁ && t₂ && t₃ && t₄) t₅ h in
     let tree = and_left (t₁ && t₂ && t₃) t₄ room in
     let steps = and_left (t₁ && t₂) t₃ tree in
@@ -78,20 +78,20 @@ holding discounts prices n b h =
         steps-within-limit = leb-true n 60 (and_right t₁ t₂ steps);
         reversion-within-limit = leb-true b 6000 (and_right (t₁ && t₂) t₃ tree);
       };
-      discounts-room = leb-true (rowStart b n) (length discounts) (and_right (t₁ && t₂ && t₃) t₄ room);
-      prices-room = leb-true (rowStart b (suc n)) (length prices) (and_right (t₁ && t₂ && t₃ && t₄) t₅ h);
+      discounts-room = leb-true (row_start b n) (length discounts) (and_right (t₁ && t₂ && t₃) t₄ room);
+      prices-room = leb-true (row_start b (suc n)) (length prices) (and_right (t₁ && t₂ && t₃ && t₄) t₅ h);
     }
 
 -- ---- the shown part
 
 module _ (discounts prices : Bor (List ℕ)) (kind : RowKind) (n b i : ℕ) where
   -- a stored row ends within its memory
-  pub row_room : Holding discounts.now prices.now n b → storesRow kind n i ≡ true →
-      (b ≤ 6000) × (i ≤ 60) × (rowStart b i + nodeCount b i ≤ length (memoryOf discounts prices kind).now)
+  pub row_room : Holding discounts.now prices.now n b → stores_row kind n i ≡ true →
+      (b ≤ 6000) × (i ≤ 60) × (row_start b i + node_count b i ≤ length (memory_of discounts prices kind).now)
   row_room h = go kind
     where
-      go : (kind : RowKind) → storesRow kind n i ≡ true →
-          (b ≤ 6000) × (i ≤ 60) × (rowStart b i + nodeCount b i ≤ length (memoryOf discounts prices kind).now)
+      go : (kind : RowKind) → stores_row kind n i ≡ true →
+          (b ≤ 6000) × (i ≤ 60) × (row_start b i + node_count b i ≤ length (memory_of discounts prices kind).now)
       go Discounts s =
           let l : i < n = ltb-true i n s in
           omega (arith, h, row_ends b i n l)
@@ -100,41 +100,41 @@ module _ (discounts prices : Bor (List ℕ)) (kind : RowKind) (n b i : ℕ) wher
           omega (arith, h, row_ends b i (suc n) (omega arith))
 
 module _ {discounts prices : List ℕ} {kind : RowKind} {n b i : ℕ} (_ : Implied (discounts ▸ prices ▸ kind ▸ n ▸ b ▸ lastly i)) where
-  pub not-held : holdsTree n b discounts prices ≡ false → isShown n b i kind discounts prices ≡ false
-  unfolding isShown
+  pub not-held : holds_tree n b discounts prices ≡ false → is_shown n b i kind discounts prices ≡ false
+  unfolding is_shown
   not-held h = rw h
 
-  pub not-stored : storesRow kind n i ≡ false → isShown n b i kind discounts prices ≡ false
-  unfolding isShown
+  pub not-stored : stores_row kind n i ≡ false → is_shown n b i kind discounts prices ≡ false
+  unfolding is_shown
   not-stored h = simp (h, and-false)
 
-  pub is-stored : holdsTree n b discounts prices ≡ true → storesRow kind n i ≡ true → isShown n b i kind discounts prices ≡ true
-  unfolding isShown
+  pub is-stored : holds_tree n b discounts prices ≡ true → stores_row kind n i ≡ true → is_shown n b i kind discounts prices ≡ true
+  unfolding is_shown
   is-stored h s = simp (h, s)
 
   -- the range of a row, by whether the row is shown
-  pub hidden-range : isShown n b i kind discounts prices ≡ false → no_range ≡ rangeOfRow n b i kind discounts prices
-  unfolding viewStart viewCount
+  pub hidden-range : is_shown n b i kind discounts prices ≡ false → no_range ≡ range_of_row n b i kind discounts prices
+  unfolding view_start view_count
   hidden-range h = rw h
 
-  pub shown-range : (start count : ℕ) → isShown n b i kind discounts prices ≡ true → start ≡ rowStart b i → count ≡ nodeCount b i →
-      ◌≡◌ {A = RowRange} (record { start = start; count = count }) (rangeOfRow n b i kind discounts prices)
-  unfolding viewStart viewCount
+  pub shown-range : (start count : ℕ) → is_shown n b i kind discounts prices ≡ true → start ≡ row_start b i → count ≡ node_count b i →
+      ◌≡◌ {A = RowRange} (record { start = start; count = count }) (range_of_row n b i kind discounts prices)
+  unfolding view_start view_count
   shown-range start count h p q = rw (h, p, q)
 
 -- the range by the kind's number
 module _ {discounts prices : List ℕ} {kind n b i : ℕ} (_ : Implied (discounts ▸ prices ▸ kind ▸ n ▸ b ▸ lastly i)) where
-  pub numbered-discounts : kind ≡ 1 → rangeOfRow n b i Discounts discounts prices ≡ rangeByNumber n b i kind discounts prices
-  unfolding rangeByNumber
+  pub numbered-discounts : kind ≡ 1 → range_of_row n b i Discounts discounts prices ≡ range_by_number n b i kind discounts prices
+  unfolding range_by_number
   numbered-discounts h = simp (eq-eqb kind 1 h)
 
   module _ (h : kind ≡ 1 → ⊥) where
-    pub numbered-prices : kind ≡ 2 → rangeOfRow n b i StatePrices discounts prices ≡ rangeByNumber n b i kind discounts prices
-    unfolding rangeByNumber
+    pub numbered-prices : kind ≡ 2 → range_of_row n b i StatePrices discounts prices ≡ range_by_number n b i kind discounts prices
+    unfolding range_by_number
     numbered-prices k = simp (ne_eqb kind 1 h, eq-eqb kind 2 k)
 
-    pub numbered-otherwise : (kind ≡ 2 → ⊥) → no_range ≡ rangeByNumber n b i kind discounts prices
-    unfolding rangeByNumber
+    pub numbered-otherwise : (kind ≡ 2 → ⊥) → no_range ≡ range_by_number n b i kind discounts prices
+    unfolding range_by_number
     numbered-otherwise k = simp (ne_eqb kind 1 h, ne_eqb kind 2 k)
 
 -- the part between a start and an end that code has computed
@@ -154,29 +154,29 @@ module _ (whole : Bor (List ℕ)) (start count : ℕ) (part : Bor (List ℕ)) (p
 
 module _ {discounts prices : Bor (List ℕ)} {kind : RowKind} {n b i : ℕ} (_ : Implied (discounts ▸ prices ▸ kind ▸ n ▸ b ▸ lastly i)) where
   pub view-within :
-      viewStart n b i kind discounts.now prices.now + viewCount n b i kind discounts.now prices.now
-      ≤ length (memoryOf discounts prices kind).now
-  unfolding viewStart viewCount isShown
-  view-within = go (holdsTree n b discounts.now prices.now) (storesRow kind n i) refl refl
+      view_start n b i kind discounts.now prices.now + view_count n b i kind discounts.now prices.now
+      ≤ length (memory_of discounts prices kind).now
+  unfolding view_start view_count is_shown
+  view-within = go (holds_tree n b discounts.now prices.now) (stores_row kind n i) refl refl
     where
-      go : (t u : Bool) → holdsTree n b discounts.now prices.now ≡ t → storesRow kind n i ≡ u →
-          cond (t && u) (rowStart b i) 0 + cond (t && u) (nodeCount b i) 0 ≤ length (memoryOf discounts prices kind).now
+      go : (t u : Bool) → holds_tree n b discounts.now prices.now ≡ t → stores_row kind n i ≡ u →
+          cond (t && u) (row_start b i) 0 + cond (t && u) (node_count b i) 0 ≤ length (memory_of discounts prices kind).now
       go true true h s = (row_room discounts prices kind n b i (holding _ _ _ _ h) s).2
       go true false h s = omega arith
       go false u h s = omega arith
 
-  module _ {memory : Bor (List ℕ)} (e : memory ≡ memoryOf discounts prices kind)
-      {r : RowRange} (q : r ≡ rangeOfRow n b i kind discounts.now prices.now) where
-    starts : r.start ≡ viewStart n b i kind discounts.now prices.now
+  module _ {memory : Bor (List ℕ)} (e : memory ≡ memory_of discounts prices kind)
+      {r : RowRange} (q : r ≡ range_of_row n b i kind discounts.now prices.now) where
+    starts : r.start ≡ view_start n b i kind discounts.now prices.now
     starts = ap (λ (x : RowRange). x.start) q
 
-    counts : r.count ≡ viewCount n b i kind discounts.now prices.now
+    counts : r.count ≡ view_count n b i kind discounts.now prices.now
     counts = ap (λ (x : RowRange). x.count) q
 
     pub range-within : r.start + r.count ≤ length memory.now
     range-within = rw (starts, counts, e) view-within
 
     pub range-part : {part : Bor (List ℕ)} → PartOf memory r.start r.count part →
-        PartOf (memoryOf discounts prices kind) (viewStart n b i kind discounts.now prices.now)
-        (viewCount n b i kind discounts.now prices.now) part
+        PartOf (memory_of discounts prices kind) (view_start n b i kind discounts.now prices.now)
+        (view_count n b i kind discounts.now prices.now) part
     range-part p = rw (← starts, ← counts, ← e) p

@@ -1,14 +1,14 @@
 // Either kind of row of a tree, shown as the part of the lent memory that contains it.
 ghost use Rattle.std.specs.Prelude.{◌≡◌};
 ghost use Rattle.row_view.specs.RowView.{
-  holdsTree,
-  storesRow,
-  memoryOf,
+  holds_tree,
+  stores_row,
+  memory_of,
   PartOf,
-  viewStart,
-  viewCount,
-  rangeOfRow,
-  rangeByNumber,
+  view_start,
+  view_count,
+  range_of_row,
+  range_by_number,
 };
 
 // The two kinds of rows that a tree has in memory.
@@ -28,7 +28,7 @@ pub struct RowRange {
 
 // Whether the steps and the reversion are within their limits and both memories are long enough for the tree.
 fn holds_tree(steps: usize, reversion: u64, discounts: &[u64], state_prices: &[u64]) -> bool
-    ensures { result ≡ holdsTree steps reversion discounts.now state_prices.now }
+    ensures { result ≡ holds_tree steps reversion discounts.now state_prices.now }
 {
     let discounts_needed = lattice::discounts_needed(steps, reversion);
     if discounts_needed.number != 0 {
@@ -43,7 +43,7 @@ fn holds_tree(steps: usize, reversion: u64, discounts: &[u64], state_prices: &[u
 
 // Discounts have rows 0 to n - 1, state prices rows 0 to n.
 fn stores_row(kind: RowKind, steps: usize, row: usize) -> bool
-    ensures { result ≡ storesRow kind steps row }
+    ensures { result ≡ stores_row kind steps row }
 {
     match kind {
         RowKind::Discounts => row < steps,
@@ -53,7 +53,7 @@ fn stores_row(kind: RowKind, steps: usize, row: usize) -> bool
 
 // The lent memory of a kind: the caller's own reference.
 fn memory_of<'a>(discounts: &'a [u64], state_prices: &'a [u64], kind: RowKind) -> &'a [u64]
-    ensures { result ≡ memoryOf discounts.entry state_prices.entry kind }
+    ensures { result ≡ memory_of discounts.entry state_prices.entry kind }
 {
     match kind {
         RowKind::Discounts => discounts,
@@ -70,7 +70,7 @@ pub fn row_range(
     discounts: &[u64],
     state_prices: &[u64],
 ) -> RowRange
-    ensures { result ≡ rangeOfRow steps reversion row kind discounts.now state_prices.now }
+    ensures { result ≡ range_of_row steps reversion row kind discounts.now state_prices.now }
 {
     if !holds_tree(steps, reversion, discounts, state_prices) {
         return RowRange { start: 0, count: 0 };
@@ -95,7 +95,7 @@ pub fn range_by_number(
     discounts: &[u64],
     state_prices: &[u64],
 ) -> RowRange
-    ensures { result ≡ rangeByNumber steps reversion row kind discounts.now state_prices.now }
+    ensures { result ≡ range_by_number steps reversion row kind discounts.now state_prices.now }
 {
     if kind == 1 {
         return row_range(
@@ -129,9 +129,9 @@ pub fn row_view<'a>(
     discounts: &'a [u64],
     state_prices: &'a [u64],
 ) -> &'a [u64]
-    ensures { PartOf (memoryOf discounts.entry state_prices.entry kind)
-        (viewStart steps reversion row kind discounts.now state_prices.now)
-        (viewCount steps reversion row kind discounts.now state_prices.now) result }
+    ensures { PartOf (memory_of discounts.entry state_prices.entry kind)
+        (view_start steps reversion row kind discounts.now state_prices.now)
+        (view_count steps reversion row kind discounts.now state_prices.now) result }
 {
     let memory = memory_of(discounts, state_prices, kind);
     let range = row_range(steps, reversion, row, kind, discounts, state_prices);

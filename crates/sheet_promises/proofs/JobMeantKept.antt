@@ -6,45 +6,45 @@ use lib.ListN.{take}
 use borrow.Author.Tests.{eq-eqb, ne_eqb}
 use Rattle.arithmetic.specs.Row.{values}
 use Rattle.arithmetic.proofs.RowLaws.{values-row}
-use Rattle.curve.specs.Curve.{discountAt}
-use Rattle.price_laws.specs.Prices.{optionPrice, datedPrice}
+use Rattle.curve.specs.Curve.{discount_at}
+use Rattle.price_laws.specs.Prices.{option_price, dated_price}
 use Rattle.job_record.specs.declared.Job.{Job}
-use Rattle.job_laws.specs.RecordFit.{meantVersion, meantReversion, jobReversion, jobKinds, jobFigures, jobFlows}
-use Rattle.job_laws.specs.RecordFit.{jobQuotes, jobDiscounts, jobStatePrices}
-use Rattle.job_laws.specs.JobPrices.{taggedOption, jobOption}
+use Rattle.job_laws.specs.RecordFit.{meant_version, meant_reversion, job_reversion, job_kinds, job_figures, job_flows}
+use Rattle.job_laws.specs.RecordFit.{job_quotes, job_discounts, job_state_prices}
+use Rattle.job_laws.specs.JobPrices.{tagged_option, job_option}
 use Rattle.sheet_promises.specs.JobMeant.{JobMeant}
 
-absent-first : (version : ℕ) → version ≡ 0 → meantVersion version ≡ 1
-unfolding meantVersion
+absent-first : (version : ℕ) → version ≡ 0 → meant_version version ≡ 1
+unfolding meant_version
 absent-first version e = rw (eq-eqb version 0 e)
 
-given-same : (version : ℕ) → (version ≡ 0 → ⊥) → meantVersion version ≡ version
-unfolding meantVersion
+given-same : (version : ℕ) → (version ≡ 0 → ⊥) → meant_version version ≡ version
+unfolding meant_version
 given-same version ne = rw (ne_eqb version 0 ne)
 
 module _ (job : Job) where
   of-kind : job.option.tag ≡ 8 →
-      jobOption job
-      ≡ optionPrice job.steps (jobReversion job) (jobDiscounts job) (jobFlows job) job.option.kind job.option.expiry job.option.strike
-  unfolding taggedOption
+      job_option job
+      ≡ option_price job.steps (job_reversion job) (job_discounts job) (job_flows job) job.option.kind job.option.expiry job.option.strike
+  unfolding tagged_option
   of-kind e = rw e refl
 
   on-dates : job.option.tag ≡ 10 →
-      jobOption job
-      ≡ datedPrice job.steps (jobReversion job) (jobDiscounts job) (jobFlows job) job.option.kind
+      job_option job
+      ≡ dated_price job.steps (job_reversion job) (job_discounts job) (job_flows job) job.option.kind
       (take job.option.count job.option.dates) job.option.strike
-  unfolding taggedOption
+  unfolding tagged_option
   on-dates e = rw e refl
 
-  quoted : (i : ℕ) → i < job.steps → values (jobQuotes job) i ≡ discountAt job.frequency (jobKinds job) (jobFigures job) i
-  unfolding jobQuotes
-  quoted i h = values-row job.steps i (discountAt job.frequency (jobKinds job) (jobFigures job)) h
+  quoted : (i : ℕ) → i < job.steps → values (job_quotes job) i ≡ discount_at job.frequency (job_kinds job) (job_figures job) i
+  unfolding job_quotes
+  quoted i h = values-row job.steps i (discount_at job.frequency (job_kinds job) (job_figures job)) h
 
   pub job-meant : JobMeant job
-  unfolding meantReversion jobDiscounts jobStatePrices
+  unfolding meant_reversion job_discounts job_state_prices
   job-meant =
       record {
-        version = meantVersion job.version;
+        version = meant_version job.version;
         absent = absent-first job.version;
         given = given-same job.version;
         causes-by = refl;

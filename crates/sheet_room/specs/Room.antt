@@ -3,5 +3,5 @@
 use Rattle.std.specs.Prelude.{ℕ}
 
 -- the longest sheet has 3,600 nodes, 60 rows and two prices, 128 bytes a line
-abbrev pub sheetRoom : ℕ
-sheetRoom = 468736
+abbrev pub sheet_room : ℕ
+sheet_room = 468736

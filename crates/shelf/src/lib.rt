@@ -5,18 +5,18 @@ mod slots;
 
 ghost use Rattle.std.specs.Prelude.{◌≡◌};
 ghost use Rattle.shelf_laws.specs.Shelf.{
-  emptySlots,
-  locatedTree,
+  empty_slots,
+  located_tree,
   part_of,
-  askNumber,
-  askSlots,
-  askMemory,
-  commitNumber,
-  commitSlots,
-  commitMemory,
-  nameCause,
-  releaseSlots,
-  releaseMemory,
+  ask_number,
+  ask_slots,
+  ask_memory,
+  commit_number,
+  commit_slots,
+  commit_memory,
+  name_cause,
+  release_slots,
+  release_memory,
 };
 
 use shelf_laws::{Located, Part, Shelf, Shelved};
@@ -29,7 +29,7 @@ fn refused(number: u64, shelf: Shelf) -> Shelved
 
 // The empty shelf: no name present, no node held.
 pub fn empty_shelf() -> Shelf
-    ensures { result.slots ≡ emptySlots }
+    ensures { result.slots ≡ empty_slots }
 {
     let slot = slots::empty_slot();
     let slots = [slot; 8];
@@ -51,7 +51,7 @@ fn no_tree() -> Located
 
 // The tree of a name: where it stands and what it is; zeros for a name outside 1 to 8, one without a tree, or a shelf that no calls lead to.
 pub fn tree_of(shelf: Shelf, name: usize) -> Located
-    ensures { result ≡ locatedTree shelf.slots name }
+    ensures { result ≡ located_tree shelf.slots name }
 {
     let status = slots::status_of(shelf, name);
     if status == 0 {
@@ -91,9 +91,9 @@ pub fn ask(
     steps: usize,
     reversion: u64,
 ) -> Shelved
-    ensures number { result.number ≡ askNumber shelf.slots name steps reversion }
-    ensures slots { result.shelf.slots ≡ askSlots shelf.slots name steps reversion }
-    ensures memory { memory.new ≡ askMemory shelf.slots memory.old name steps reversion }
+    ensures number { result.number ≡ ask_number shelf.slots name steps reversion }
+    ensures slots { result.shelf.slots ≡ ask_slots shelf.slots name steps reversion }
+    ensures memory { memory.new ≡ ask_memory shelf.slots memory.old name steps reversion }
 {
     let number = slots::ask_number(shelf, name, steps, reversion);
     if number != 0 {
@@ -118,11 +118,11 @@ pub fn commit(
     kinds: &[u8],
     figures: &[f64],
 ) -> Shelved
-    ensures number { result.number ≡ commitNumber shelf.slots name frequency volatility
+    ensures number { result.number ≡ commit_number shelf.slots name frequency volatility
         rows.now kinds.now figures.now }
-    ensures slots { result.shelf.slots ≡ commitSlots shelf.slots memory.old name frequency volatility
+    ensures slots { result.shelf.slots ≡ commit_slots shelf.slots memory.old name frequency volatility
         rows.now kinds.now figures.now }
-    ensures memory { memory.new ≡ commitMemory shelf.slots memory.old name frequency volatility
+    ensures memory { memory.new ≡ commit_memory shelf.slots memory.old name frequency volatility
         rows.now kinds.now figures.now }
 {
     let tree = tree_of(shelf, name);
@@ -139,9 +139,9 @@ pub fn commit(
 
 // Releases a tree: its nodes are given back. 15 a name without a tree.
 pub fn release(shelf: Shelf, memory: &mut [u64; shelf_laws::ROOM], name: usize) -> Shelved
-    ensures number { result.number ≡ nameCause shelf.slots name }
-    ensures slots { result.shelf.slots ≡ releaseSlots shelf.slots name }
-    ensures memory { memory.new ≡ releaseMemory shelf.slots memory.old name }
+    ensures number { result.number ≡ name_cause shelf.slots name }
+    ensures slots { result.shelf.slots ≡ release_slots shelf.slots name }
+    ensures memory { memory.new ≡ release_memory shelf.slots memory.old name }
 {
     let tree = tree_of(shelf, name);
     if tree.status == 0 {

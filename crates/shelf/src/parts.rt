@@ -1,11 +1,11 @@
 // Parts of the memory: one is opened or closed by moving what stands behind it, and a tree is fitted in one.
 ghost use Rattle.std.specs.Prelude.{◌≡◌, ◌++◌, ◌+◌, ◌-◌, ◌≤◌, length, take, drop};
 ghost use Rattle.arithmetic.specs.Row.{place};
-ghost use Rattle.limits.specs.Limits.{mostStatePrices};
+ghost use Rattle.limits.specs.Limits.{most_state_prices};
 ghost use Rattle.spacing.specs.Spacing.{spacing};
-ghost use Rattle.fitted_laws.specs.Entry.{fitNumber, fitMemory, fitDiscounts};
+ghost use Rattle.fitted_laws.specs.Entry.{fit_number, fit_memory, fit_discounts};
 ghost use Rattle.shelf_laws.specs.Parts.{part, zeros, opened, closed};
-ghost use Rattle.shelf_laws.specs.Shelf.{fittedSlot};
+ghost use Rattle.shelf_laws.specs.Shelf.{fitted_slot};
 
 use shelf_laws::{Located, Slot};
 
@@ -78,10 +78,10 @@ pub(crate) fn fit_part(
     figures: &[f64],
 ) -> u64
     requires { tree.start + tree.count ≤ length memory.old }
-    ensures number { result ≡ fitNumber frequency tree.steps tree.reversion volatility
-        rows.now kinds.now figures.now tree.count mostStatePrices }
+    ensures number { result ≡ fit_number frequency tree.steps tree.reversion volatility
+        rows.now kinds.now figures.now tree.count most_state_prices }
     ensures memory { memory.new ≡ place memory.old tree.start
-        (fitMemory result (fitDiscounts frequency tree.steps tree.reversion (spacing frequency volatility) kinds.now figures.now)
+        (fit_memory result (fit_discounts frequency tree.steps tree.reversion (spacing frequency volatility) kinds.now figures.now)
         (part memory.old tree.start tree.count)) }
 {
     let mut state_prices = limits::state_price_room();
@@ -103,7 +103,7 @@ pub(crate) fn fit_part(
 // The slot of a fitted tree, by the discounts that stand in its part of the memory.
 pub(crate) fn fitted_slot(memory: &[u64], tree: Located) -> Slot
     requires { tree.start + tree.count ≤ length memory.now }
-    ensures { result ≡ fittedSlot tree.steps tree.reversion (part memory.now tree.start tree.count) }
+    ensures { result ≡ fitted_slot tree.steps tree.reversion (part memory.now tree.start tree.count) }
 {
     let start = tree.start;
     let end = start + tree.count;

@@ -1,14 +1,14 @@
 // The slots of a shelf: the nodes that they hold, and the tree of a name.
 ghost use Rattle.std.specs.Prelude.{◌≡◌, ◌≤◌, ◌<◌, set, replicate};
-ghost use Rattle.limits.specs.Limits.{mostSteps};
+ghost use Rattle.limits.specs.Limits.{most_steps};
 ghost use Rattle.shelf_laws.specs.Shelf.{
-  emptySlot,
-  awaitingSlot,
+  empty_slot,
+  awaiting_slot,
   slot_at,
-  nodesOf,
-  nodesBefore,
-  statusOf,
-  askNumber,
+  nodes_of,
+  nodes_before,
+  status_of,
+  ask_number,
 };
 
 use shelf_laws::{Shelf, Shelved, Slot};
@@ -18,13 +18,13 @@ const TOO_MANY: usize = shelf_laws::ROOM + 1;
 
 // Zeros, made apart so that no proof above sees them one by one.
 fn no_rows() -> [u64; limits::MOST_STEPS]
-    ensures { result ≡ replicate mostSteps 0 }
+    ensures { result ≡ replicate most_steps 0 }
 {
     [0u64; limits::MOST_STEPS]
 }
 
 pub(crate) fn empty_slot() -> Slot
-    ensures { result ≡ emptySlot }
+    ensures { result ≡ empty_slot }
 {
     let rows = no_rows();
     Slot {
@@ -37,7 +37,7 @@ pub(crate) fn empty_slot() -> Slot
 }
 
 pub(crate) fn awaiting_slot(steps: usize, reversion: u64) -> Slot
-    ensures { result ≡ awaitingSlot steps reversion }
+    ensures { result ≡ awaiting_slot steps reversion }
 {
     let rows = no_rows();
     Slot {
@@ -71,7 +71,7 @@ pub(crate) fn slot_at(shelf: Shelf, at: usize) -> Slot
 
 // The nodes of a slot's tree. A slot that no call leaves behind counts as more than the memory has.
 pub(crate) fn nodes_of(slot: Slot) -> usize
-    ensures { result ≡ nodesOf slot }
+    ensures { result ≡ nodes_of slot }
 {
     if slot.status == 0 {
         return 0;
@@ -89,7 +89,7 @@ pub(crate) fn nodes_of(slot: Slot) -> usize
 // The nodes of the first slots, which is where the next one's stand.
 pub(crate) fn nodes_before(shelf: Shelf, count: usize) -> usize
     requires { count ≤ 8 }
-    ensures { result ≡ nodesBefore shelf.slots count }
+    ensures { result ≡ nodes_before shelf.slots count }
 {
     let mut nodes: usize = 0;
     let mut at: usize = 0;
@@ -103,7 +103,7 @@ pub(crate) fn nodes_before(shelf: Shelf, count: usize) -> usize
 
 // A name's status; 3 where there is no such name, or the shelf holds more nodes than the memory has, which no calls lead to.
 pub(crate) fn status_of(shelf: Shelf, name: usize) -> u64
-    ensures { result ≡ statusOf shelf.slots name }
+    ensures { result ≡ status_of shelf.slots name }
 {
     if name == 0 {
         return 3;
@@ -120,7 +120,7 @@ pub(crate) fn status_of(shelf: Shelf, name: usize) -> u64
 
 // The number of an asking: 15, 3, 4 or 14, or 0 where it is accepted.
 pub(crate) fn ask_number(shelf: Shelf, name: usize, steps: usize, reversion: u64) -> u64
-    ensures { result ≡ askNumber shelf.slots name steps reversion }
+    ensures { result ≡ ask_number shelf.slots name steps reversion }
 {
     if status_of(shelf, name) != 0 {
         return 15;

@@ -9,7 +9,7 @@ use lib.ListN.{length, drop_of_length-le}
 use Rattle.arithmetic.specs.Row.{place}
 use Rattle.arithmetic.proofs.Numbers.{by_equal}
 use Rattle.arithmetic.proofs.RowLaws.{length-row}
-use Rattle.fitted_laws.specs.Entry.{fitMemory}
+use Rattle.fitted_laws.specs.Entry.{fit_memory}
 use Rattle.shelf_laws.specs.Parts.{zeros}
 
 place-whole : (memory row : List ℕ) → length row ≡ length memory → place memory 0 row ≡ row
@@ -18,19 +18,19 @@ place-whole memory row e =
     rw (drop_of_length-le memory {i = 0 + length row} (omega (arith, e))) (append-nil row)
 
 module _ (number : ℕ) (rows memory : List ℕ) (same : length memory ≡ length rows) where
-  pub part-fitted : number ≡ 0 → fitMemory number rows memory ≡ rows
-  unfolding fitMemory
+  pub part-fitted : number ≡ 0 → fit_memory number rows memory ≡ rows
+  unfolding fit_memory
   part-fitted z = rw (eq-eqb number 0 z) (place-whole memory rows (sym same))
 
-  pub part-zeroed : number ≡ 9 → fitMemory number rows memory ≡ zeros (length rows)
-  unfolding fitMemory
+  pub part-zeroed : number ≡ 9 → fit_memory number rows memory ≡ zeros (length rows)
+  unfolding fit_memory
   part-zeroed z = rw z (place-whole memory (zeros (length rows)) (length-row (length rows) _ ∙ sym same))
 
-  pub part_left : (number ≡ 0 → ⊥) → (number ≡ 9 → ⊥) → fitMemory number rows memory ≡ memory
-  unfolding fitMemory
+  pub part_left : (number ≡ 0 → ⊥) → (number ≡ 9 → ⊥) → fit_memory number rows memory ≡ memory
+  unfolding fit_memory
   part_left z n = rw (ne_eqb number 0 z, ne_eqb number 9 n)
 
-  pub part-size : length (fitMemory number rows memory) ≡ length rows
+  pub part-size : length (fit_memory number rows memory) ≡ length rows
   part-size =
       by_equal number 0
       (λ (z : number ≡ 0). ap length (part-fitted z))

@@ -6,48 +6,48 @@ use Rattle.arithmetic.specs.Row.{values}
 use Rattle.price_laws.specs.declared.Price.{Price}
 use Rattle.price_laws.specs.declared.BondAndOption.{BondAndOption}
 use Rattle.price_laws.specs.declared.Strip.{Strip}
-use Rattle.price_laws.specs.Prices.{refusedPrice, valueAlone, withBound, bondPrice, optionPrice, datedPrice}
-use Rattle.price_laws.specs.Strips.{refusedStrip, stripAnswer}
+use Rattle.price_laws.specs.Prices.{refused_price, value_alone, with_bound, bond_price, option_price, dated_price}
+use Rattle.price_laws.specs.Strips.{refused_strip, strip_answer}
 use Rattle.shelf_laws.specs.declared.Slot.{Slot}
-use Rattle.shelf_laws.specs.Shelf.{slot_of, discountsOf, nameCause}
+use Rattle.shelf_laws.specs.Shelf.{slot_of, discounts_of, name_cause}
 
-unfoldable pub shelfPrice : (ℕ → ℕ → List ℕ → Price) → List Slot → List ℕ → ℕ → Price
-shelfPrice price slots memory name =
-    cond (eqb (nameCause slots name) 0)
-    (withBound (valueAlone (price (slot_of slots name).steps (slot_of slots name).reversion (discountsOf slots memory name))) (slot_of slots name).bound)
-    (refusedPrice 15)
+unfoldable pub shelf_price : (ℕ → ℕ → List ℕ → Price) → List Slot → List ℕ → ℕ → Price
+shelf_price price slots memory name =
+    cond (eqb (name_cause slots name) 0)
+    (with_bound (value_alone (price (slot_of slots name).steps (slot_of slots name).reversion (discounts_of slots memory name))) (slot_of slots name).bound)
+    (refused_price 15)
 
-abbrev pub shelfBond : List Slot → List ℕ → ℕ → List ℕ → Price
-shelfBond slots memory name flows = shelfPrice (λ n b discounts. bondPrice n b discounts flows) slots memory name
+abbrev pub shelf_bond : List Slot → List ℕ → ℕ → List ℕ → Price
+shelf_bond slots memory name flows = shelf_price (λ n b discounts. bond_price n b discounts flows) slots memory name
 
-abbrev pub shelfOption : List Slot → List ℕ → ℕ → List ℕ → ℕ → ℕ → ℕ → Price
-shelfOption slots memory name flows kind expiry strike =
-    shelfPrice (λ n b discounts. optionPrice n b discounts flows kind expiry strike) slots memory name
+abbrev pub shelf_option : List Slot → List ℕ → ℕ → List ℕ → ℕ → ℕ → ℕ → Price
+shelf_option slots memory name flows kind expiry strike =
+    shelf_price (λ n b discounts. option_price n b discounts flows kind expiry strike) slots memory name
 
-abbrev pub shelfDated : List Slot → List ℕ → ℕ → List ℕ → ℕ → List ℕ → ℕ → Price
-shelfDated slots memory name flows side dates strike =
-    shelfPrice (λ n b discounts. datedPrice n b discounts flows side dates strike) slots memory name
+abbrev pub shelf_dated : List Slot → List ℕ → ℕ → List ℕ → ℕ → List ℕ → ℕ → Price
+shelf_dated slots memory name flows side dates strike =
+    shelf_price (λ n b discounts. dated_price n b discounts flows side dates strike) slots memory name
 
 -- a bond and an option on it, each as its own entry answers
 
-abbrev pub shelfBondAndOption : List Slot → List ℕ → ℕ → List ℕ → ℕ → ℕ → ℕ → BondAndOption
-shelfBondAndOption slots memory name flows kind expiry strike =
-    record { bond = shelfBond slots memory name flows; option = shelfOption slots memory name flows kind expiry strike }
+abbrev pub shelf_bond_and_option : List Slot → List ℕ → ℕ → List ℕ → ℕ → ℕ → ℕ → BondAndOption
+shelf_bond_and_option slots memory name flows kind expiry strike =
+    record { bond = shelf_bond slots memory name flows; option = shelf_option slots memory name flows kind expiry strike }
 
-abbrev pub shelfBondAndDated : List Slot → List ℕ → ℕ → List ℕ → ℕ → List ℕ → ℕ → BondAndOption
-shelfBondAndDated slots memory name flows side dates strike =
-    record { bond = shelfBond slots memory name flows; option = shelfDated slots memory name flows side dates strike }
+abbrev pub shelf_bond_and_dated : List Slot → List ℕ → ℕ → List ℕ → ℕ → List ℕ → ℕ → BondAndOption
+shelf_bond_and_dated slots memory name flows side dates strike =
+    record { bond = shelf_bond slots memory name flows; option = shelf_dated slots memory name flows side dates strike }
 
 -- a strip: 15 for the name, or the strip's own causes; each answer is that of the entry for its strike alone
 
-unfoldable pub shelfStrip : List Slot → ℕ → ℕ → (ℕ → Price) → Strip
-shelfStrip slots name count price =
-    cond (eqb (nameCause slots name) 0) (stripAnswer (slot_of slots name).steps (slot_of slots name).reversion count price) (refusedStrip 15)
+unfoldable pub shelf_strip : List Slot → ℕ → ℕ → (ℕ → Price) → Strip
+shelf_strip slots name count price =
+    cond (eqb (name_cause slots name) 0) (strip_answer (slot_of slots name).steps (slot_of slots name).reversion count price) (refused_strip 15)
 
-abbrev pub shelfDatedStrip : List Slot → List ℕ → ℕ → List ℕ → ℕ → List ℕ → List ℕ → Strip
-shelfDatedStrip slots memory name flows side dates strikes =
-    shelfStrip slots name (length strikes) (λ k. shelfDated slots memory name flows side dates (values strikes k))
+abbrev pub shelf_dated_strip : List Slot → List ℕ → ℕ → List ℕ → ℕ → List ℕ → List ℕ → Strip
+shelf_dated_strip slots memory name flows side dates strikes =
+    shelf_strip slots name (length strikes) (λ k. shelf_dated slots memory name flows side dates (values strikes k))
 
-abbrev pub shelfKindStrip : List Slot → List ℕ → ℕ → List ℕ → ℕ → ℕ → List ℕ → Strip
-shelfKindStrip slots memory name flows kind expiry strikes =
-    shelfStrip slots name (length strikes) (λ k. shelfOption slots memory name flows kind expiry (values strikes k))
+abbrev pub shelf_kind_strip : List Slot → List ℕ → ℕ → List ℕ → ℕ → ℕ → List ℕ → Strip
+shelf_kind_strip slots memory name flows kind expiry strikes =
+    shelf_strip slots name (length strikes) (λ k. shelf_option slots memory name flows kind expiry (values strikes k))

@@ -1,9 +1,9 @@
 // Prices on the trees of a shelf. Shelf and memory are read and left as they are.
 ghost use Rattle.std.specs.Prelude.{◌≡◌};
-ghost use Rattle.price_laws.specs.Prices.{refusedPrice, withBound};
-ghost use Rattle.price_laws.specs.Strips.{refusedStrip};
-ghost use Rattle.shelf_prices.specs.ShelfPrices.{shelfBond, shelfOption, shelfDated, shelfBondAndOption, shelfBondAndDated};
-ghost use Rattle.shelf_prices.specs.ShelfPrices.{shelfDatedStrip, shelfKindStrip};
+ghost use Rattle.price_laws.specs.Prices.{refused_price, with_bound};
+ghost use Rattle.price_laws.specs.Strips.{refused_strip};
+ghost use Rattle.shelf_prices.specs.ShelfPrices.{shelf_bond, shelf_option, shelf_dated, shelf_bond_and_option, shelf_bond_and_dated};
+ghost use Rattle.shelf_prices.specs.ShelfPrices.{shelf_dated_strip, shelf_kind_strip};
 
 use arithmetic::Answer;
 use price_laws::{BondAndOption, BoundedTree, Price, Strip};
@@ -13,7 +13,7 @@ use shelf_laws::Shelf;
 const NO_TREE: u64 = 15;
 
 fn no_price() -> Price
-    ensures { result ≡ refusedPrice 15 }
+    ensures { result ≡ refused_price 15 }
 {
     Price {
         number: NO_TREE,
@@ -23,7 +23,7 @@ fn no_price() -> Price
 }
 
 fn no_prices() -> BondAndOption
-    ensures { result ≡ record { bond = refusedPrice 15; option = refusedPrice 15 } }
+    ensures { result ≡ record { bond = refused_price 15; option = refused_price 15 } }
 {
     let none = no_price();
     BondAndOption {
@@ -34,7 +34,7 @@ fn no_prices() -> BondAndOption
 
 // A value with the error bound that its tree carries; a refusal as it is.
 fn carried(value: Answer, bound: u64) -> Price
-    ensures { result ≡ withBound value bound }
+    ensures { result ≡ with_bound value bound }
 {
     if value.number != 0 {
         return Price {
@@ -58,7 +58,7 @@ pub fn bond_price(
     name: usize,
     flows: &[u64],
 ) -> Price
-    ensures { result ≡ shelfBond shelf.slots memory.now name flows.now }
+    ensures { result ≡ shelf_bond shelf.slots memory.now name flows.now }
 {
     let tree = shelf::tree_of(shelf, name);
     if tree.status == 0 {
@@ -81,7 +81,7 @@ pub fn option_price(
     expiry: usize,
     strike: u64,
 ) -> Price
-    ensures { result ≡ shelfOption shelf.slots memory.now name flows.now kind expiry strike }
+    ensures { result ≡ shelf_option shelf.slots memory.now name flows.now kind expiry strike }
 {
     let both = bond_and_option(shelf, memory, name, flows, kind, expiry, strike);
     both.option
@@ -97,7 +97,7 @@ pub fn dated_option_price(
     dates: &[u8],
     strike: u64,
 ) -> Price
-    ensures { result ≡ shelfDated shelf.slots memory.now name flows.now side dates.now strike }
+    ensures { result ≡ shelf_dated shelf.slots memory.now name flows.now side dates.now strike }
 {
     let both = bond_and_dated_option(shelf, memory, name, flows, side, dates, strike);
     both.option
@@ -113,7 +113,7 @@ pub fn bond_and_option(
     expiry: usize,
     strike: u64,
 ) -> BondAndOption
-    ensures { result ≡ shelfBondAndOption shelf.slots memory.now name flows.now kind expiry strike }
+    ensures { result ≡ shelf_bond_and_option shelf.slots memory.now name flows.now kind expiry strike }
 {
     let tree = shelf::tree_of(shelf, name);
     if tree.status == 0 {
@@ -147,7 +147,7 @@ pub fn bond_and_dated_option(
     dates: &[u8],
     strike: u64,
 ) -> BondAndOption
-    ensures { result ≡ shelfBondAndDated shelf.slots memory.now name flows.now side dates.now strike }
+    ensures { result ≡ shelf_bond_and_dated shelf.slots memory.now name flows.now side dates.now strike }
 {
     let tree = shelf::tree_of(shelf, name);
     if tree.status == 0 {
@@ -172,7 +172,7 @@ pub fn bond_and_dated_option(
 }
 
 fn no_strip() -> Strip
-    ensures { result ≡ refusedStrip 15 }
+    ensures { result ≡ refused_strip 15 }
 {
     let zeros = [0u64; price_laws::MOST_STRIKES];
     Strip {
@@ -194,7 +194,7 @@ pub fn option_strip(
     dates: &[u8],
     strikes: &[u64],
 ) -> Strip
-    ensures { result ≡ shelfDatedStrip shelf.slots memory.now name flows.now side dates.now strikes.now }
+    ensures { result ≡ shelf_dated_strip shelf.slots memory.now name flows.now side dates.now strikes.now }
 {
     let tree = shelf::tree_of(shelf, name);
     if tree.status == 0 {
@@ -221,7 +221,7 @@ pub fn option_strip_of_kind(
     expiry: usize,
     strikes: &[u64],
 ) -> Strip
-    ensures { result ≡ shelfKindStrip shelf.slots memory.now name flows.now kind expiry strikes.now }
+    ensures { result ≡ shelf_kind_strip shelf.slots memory.now name flows.now kind expiry strikes.now }
 {
     let tree = shelf::tree_of(shelf, name);
     if tree.status == 0 {

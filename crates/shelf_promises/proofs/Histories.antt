@@ -9,11 +9,11 @@ use native.Mathlib.Omega.{arith}
 use lib.ListN.{length, get_or-replicate}
 use Rattle.arithmetic.proofs.Numbers.{by_order, by_equal}
 use Rattle.shelf_laws.specs.declared.Slot.{Slot}
-use Rattle.shelf_laws.specs.Shelf.{room, emptySlot, emptySlots, slot_at, nodesOf, nodesBefore, nodesHeld, discountsAt}
+use Rattle.shelf_laws.specs.Shelf.{room, empty_slot, empty_slots, slot_at, nodes_of, nodes_before, nodes_held, discounts_at}
 use Rattle.shelf_laws.proofs.SlotLaws.{nodes-none}
-use Rattle.shelf_promises.specs.Model.{ShelvedTree, Seen, absent, present, Quoted, unfittedTree, fittedTree, stepsSeen, reversionSeen}
-use Rattle.shelf_promises.specs.Model.{Call, asking, committing, releasing, pricing, locating, deskNumber, put, deskTaken, deskAfter, deskRun}
-use Rattle.shelf_promises.specs.History.{Kept, seenSlot, seen, number_of, after, run, emptyShelf, Reached, askedIn, releasedIn}
+use Rattle.shelf_promises.specs.Model.{ShelvedTree, Seen, absent, present, Quoted, unfitted_tree, fitted_tree, steps_seen, reversion_seen}
+use Rattle.shelf_promises.specs.Model.{Call, asking, committing, releasing, pricing, locating, desk_number, put, desk_taken, desk_after, desk_run}
+use Rattle.shelf_promises.specs.History.{Kept, seen_slot, seen, number_of, after, run, empty_shelf, Reached, asked_in, released_in}
 use Rattle.shelf_promises.specs.ShelfPromises.{CommittedIn}
 use Rattle.shelf_promises.proofs.Others.{Sound}
 use Rattle.shelf_promises.proofs.DeskLaws.{seen-out, put_same, put_other, taken, refused}
@@ -32,7 +32,7 @@ follows k v (releasing name) = follows-releasing k v.sound name
 follows k v (pricing name p) = follows-pricing k v.sound name p
 follows k v (locating name) = follows-locating k v.sound name
 
-desk-after : (k : Kept) → Valid k → (call : Call) → seen (after k call) ≡ deskAfter (seen k) call
+desk-after : (k : Kept) → Valid k → (call : Call) → seen (after k call) ≡ desk_after (seen k) call
 desk-after k v call = fun_ext (follows k v call).desk
 
 valid-after : (k : Kept) → Valid k → (call : Call) → Valid (after k call)
@@ -48,42 +48,42 @@ unfolding run
 valid-run k v [] = v
 valid-run k v (call ∷ calls) = valid-run (after k call) (valid-after k v call) calls
 
-desk-run : (k : Kept) → Valid k → (calls : List Call) → seen (run k calls) ≡ deskRun (seen k) calls
-unfolding run deskRun
+desk-run : (k : Kept) → Valid k → (calls : List Call) → seen (run k calls) ≡ desk_run (seen k) calls
+unfolding run desk_run
 desk-run k v [] = refl
 desk-run k v (call ∷ calls) =
-    desk-run (after k call) (valid-after k v call) calls ∙ ap (λ (d : ℕ → Seen). deskRun d calls) (desk-after k v call)
+    desk-run (after k call) (valid-after k v call) calls ∙ ap (λ (d : ℕ → Seen). desk_run d calls) (desk-after k v call)
 
-held-run : (k : Kept) → Valid k → (calls : List Call) → nodesHeld (run k calls).slots + releasedIn k calls ≡ nodesHeld k.slots + askedIn k calls
-unfolding run releasedIn askedIn
+held-run : (k : Kept) → Valid k → (calls : List Call) → nodes_held (run k calls).slots + released_in k calls ≡ nodes_held k.slots + asked_in k calls
+unfolding run released_in asked_in
 held-run k v [] = omega arith
 held-run k v (call ∷ calls) = omega (arith, (follows k v call).nodes, held-run (after k call) (valid-after k v call) calls)
 
 -- ---- the empty shelf
-none_before : (slots : List Slot) (j : ℕ) → ((i : ℕ) → i < j → nodesOf (slot_at slots i) ≡ 0) → nodesBefore slots j ≡ 0
-unfolding nodesBefore
+none_before : (slots : List Slot) (j : ℕ) → ((i : ℕ) → i < j → nodes_of (slot_at slots i) ≡ 0) → nodes_before slots j ≡ 0
+unfolding nodes_before
 none_before slots zero h = refl
 none_before slots (suc j) h = omega (arith, none_before slots j (λ i l. h i (omega arith)), h j (omega arith))
 
-empty-at : (i : ℕ) → i < 8 → slot_at emptySlots i ≡ emptySlot
-unfolding slot_at emptySlots
-empty-at i h = get_or-replicate 8 i emptySlot _ h
+empty-at : (i : ℕ) → i < 8 → slot_at empty_slots i ≡ empty_slot
+unfolding slot_at empty_slots
+empty-at i h = get_or-replicate 8 i empty_slot _ h
 
-empty-held : nodesHeld emptySlots ≡ 0
-empty-held = none_before emptySlots 8 (λ i h. ap nodesOf (empty-at i h) ∙ nodes-none emptySlot refl)
+empty-held : nodes_held empty_slots ≡ 0
+empty-held = none_before empty_slots 8 (λ i h. ap nodes_of (empty-at i h) ∙ nodes-none empty_slot refl)
 
-empty-size : length emptySlots ≡ 8
-unfolding emptySlots
+empty-size : length empty_slots ≡ 8
+unfolding empty_slots
 empty-size = refl
 
-empty-seen : (m : List ℕ) (i : ℕ) → seen (emptyShelf m) i ≡ absent
+empty-seen : (m : List ℕ) (i : ℕ) → seen (empty_shelf m) i ≡ absent
 unfolding seen
 empty-seen m i =
     by_order 8 i
-    (λ (h : 8 ≤ i). seen-out (emptyShelf m) i empty-size h)
-    (λ (h : i < 8). ap (λ (t : Slot). seenSlot t (discountsAt emptySlots m i)) (empty-at i h))
+    (λ (h : 8 ≤ i). seen-out (empty_shelf m) i empty-size h)
+    (λ (h : i < 8). ap (λ (t : Slot). seen_slot t (discounts_at empty_slots m i)) (empty-at i h))
 
-empty-valid : (m : List ℕ) → length m ≡ room → Valid (emptyShelf m)
+empty-valid : (m : List ℕ) → length m ≡ room → Valid (empty_shelf m)
 empty-valid m h =
     record {
       sound = record { size = empty-size; long = h; fits = omega (arith, empty-held) };
@@ -92,22 +92,22 @@ empty-valid m h =
 
 -- ---- every shelf that is reached
 pub valid : (k : Kept) → Reached k → Valid k
-valid k r = subst Valid (sym r.by) (valid-run (emptyShelf r.memory) (empty-valid r.memory r.long) r.calls)
+valid k r = subst Valid (sym r.by) (valid-run (empty_shelf r.memory) (empty-valid r.memory r.long) r.calls)
 
-pub history-is : (m : List ℕ) → length m ≡ room → (calls : List Call) (i : ℕ) → seen (run (emptyShelf m) calls) i ≡ deskRun (λ j. absent) calls i
+pub history-is : (m : List ℕ) → length m ≡ room → (calls : List Call) (i : ℕ) → seen (run (empty_shelf m) calls) i ≡ desk_run (λ j. absent) calls i
 history-is m h calls i =
     ap (λ (d : ℕ → Seen). d i)
-    (desk-run (emptyShelf m) (empty-valid m h) calls ∙ ap (λ (d : ℕ → Seen). deskRun d calls) (fun_ext (empty-seen m)))
+    (desk-run (empty_shelf m) (empty-valid m h) calls ∙ ap (λ (d : ℕ → Seen). desk_run d calls) (fun_ext (empty-seen m)))
 
 pub held-is : (m : List ℕ) → length m ≡ room → (calls : List Call) →
-    nodesHeld (run (emptyShelf m) calls).slots + releasedIn (emptyShelf m) calls ≡ askedIn (emptyShelf m) calls
-held-is m h calls = omega (arith, empty-held, held-run (emptyShelf m) (empty-valid m h) calls)
+    nodes_held (run (empty_shelf m) calls).slots + released_in (empty_shelf m) calls ≡ asked_in (empty_shelf m) calls
+held-is m h calls = omega (arith, empty-held, held-run (empty_shelf m) (empty-valid m h) calls)
 
 -- ---- a fitted tree comes from a commit of its name
 -- what is seen under a name after one call: what was seen, no tree, an unfitted one, or that of a commit
 pub data Came (k : Kept) (call : Call) (i : ℕ) (t : ShelvedTree) : Type 0 where
   stayed : seen k i ≡ present t → Came k call i t
-  fitted-now : (q : Quoted) → call ≡ committing (suc i) q → number_of k call ≡ 0 → t ≡ fittedTree q t.steps t.reversion → Came k call i t
+  fitted-now : (q : Quoted) → call ≡ committing (suc i) q → number_of k call ≡ 0 → t ≡ fitted_tree q t.steps t.reversion → Came k call i t
 
 -- a tree that was put under a name
 tree-put : (desk : ℕ → Seen) (i j : ℕ) (x : Seen) (t : ShelvedTree) {X : Type 0} → put desk i x j ≡ present t →
@@ -117,25 +117,25 @@ tree-put desk i j x t e new old =
     (λ (s : j ≡ i). new s (put_same desk i x j s ∙ e))
     (λ (s : j ≡ i → ⊥). old (put_other desk i x j s ∙ e))
 
-fitted-parts : (q : Quoted) (n b : ℕ) (t : ShelvedTree) → fittedTree q n b ≡ t → t ≡ fittedTree q t.steps t.reversion
-fitted-parts q n b t e = subst (λ (u : ShelvedTree). u ≡ fittedTree q u.steps u.reversion) e refl
+fitted-parts : (q : Quoted) (n b : ℕ) (t : ShelvedTree) → fitted_tree q n b ≡ t → t ≡ fitted_tree q t.steps t.reversion
+fitted-parts q n b t e = subst (λ (u : ShelvedTree). u ≡ fitted_tree q u.steps u.reversion) e refl
 
-came-taken : (k : Kept) (call : Call) (i : ℕ) (t : ShelvedTree) → number_of k call ≡ 0 → deskNumber (seen k) call ≡ 0 →
-    deskTaken (seen k) call i ≡ present t → t.fitted ≡ true → Came k call i t
-unfolding deskTaken
+came-taken : (k : Kept) (call : Call) (i : ℕ) (t : ShelvedTree) → number_of k call ≡ 0 → desk_number (seen k) call ≡ 0 →
+    desk_taken (seen k) call i ≡ present t → t.fitted ≡ true → Came k call i t
+unfolding desk_taken
 came-taken k (asking name n b) i t z d e f =
-    tree-put (seen k) (name - 1) i (present (unfittedTree n b)) t e
-    (λ s p. never (ap (λ (u : ShelvedTree). u.fitted) (same-tree (unfittedTree n b) t p) ∙ f))
+    tree-put (seen k) (name - 1) i (present (unfitted_tree n b)) t e
+    (λ s p. never (ap (λ (u : ShelvedTree). u.fitted) (same-tree (unfitted_tree n b) t p) ∙ f))
     (λ o. stayed o)
 came-taken k (committing name q) i t z d e f =
-    let n = stepsSeen (seen k (name - 1)) in
-    let b = reversionSeen (seen k (name - 1)) in
+    let n = steps_seen (seen k (name - 1)) in
+    let b = reversion_seen (seen k (name - 1)) in
     let told = committing-told (seen k) name q d in
     let low : 0 < name = name-low (seen k) name (omega (arith, told.0)) in
-    tree-put (seen k) (name - 1) i (present (fittedTree q n b)) t e
+    tree-put (seen k) (name - 1) i (present (fitted_tree q n b)) t e
     (λ s p.
     let same : name ≡ suc i = omega arith in
-    fitted-now q (ap (λ (x : ℕ). committing x q) same) z (fitted-parts q n b t (same-tree (fittedTree q n b) t p)))
+    fitted-now q (ap (λ (x : ℕ). committing x q) same) z (fitted-parts q n b t (same-tree (fitted_tree q n b) t p)))
     (λ o. stayed o)
 came-taken k (releasing name) i t z d e f =
     tree-put (seen k) (name - 1) i absent t e (λ s p. absurd (no-tree t p)) (λ o. stayed o)
@@ -146,10 +146,10 @@ came : (k : Kept) → Valid k → (call : Call) (i : ℕ) (t : ShelvedTree) → 
 came k v call i t e f =
     let w = follows k v call in
     let a = sym (w.desk i) ∙ e in
-    by_equal (deskNumber (seen k) call) 0
-    (λ (z : deskNumber (seen k) call ≡ 0).
+    by_equal (desk_number (seen k) call) 0
+    (λ (z : desk_number (seen k) call ≡ 0).
     came-taken k call i t (w.number ∙ z) z (ap (λ (d : ℕ → Seen). d i) (taken (seen k) call z) ∙ a) f)
-    (λ (z : deskNumber (seen k) call ≡ 0 → ⊥). stayed (ap (λ (d : ℕ → Seen). d i) (refused (seen k) call z) ∙ a))
+    (λ (z : desk_number (seen k) call ≡ 0 → ⊥). stayed (ap (λ (d : ℕ → Seen). d i) (refused (seen k) call z) ∙ a))
 
 later-commit : (k : Kept) (call : Call) (calls : List Call) (i : ℕ) (t : ShelvedTree) → CommittedIn (after k call) calls i t →
     CommittedIn k (call ∷ calls) i t
@@ -165,7 +165,7 @@ later-commit k call calls i t c =
     }
 
 first-commit : (k : Kept) (call : Call) (calls : List Call) (i : ℕ) (t : ShelvedTree) (q : Quoted) → call ≡ committing (suc i) q →
-    number_of k call ≡ 0 → t ≡ fittedTree q t.steps t.reversion → CommittedIn k (call ∷ calls) i t
+    number_of k call ≡ 0 → t ≡ fitted_tree q t.steps t.reversion → CommittedIn k (call ∷ calls) i t
 unfolding run
 first-commit k call calls i t q e z r =
     record {
@@ -193,9 +193,9 @@ committed-run k v (call ∷ calls) i t e f =
     (committed-run (after k call) (valid-after k v call) calls i t e f)
 
 pub own-commit-is : (m : List ℕ) → length m ≡ room → (calls : List Call) (i : ℕ) (t : ShelvedTree) →
-    seen (run (emptyShelf m) calls) i ≡ present t → t.fitted ≡ true → CommittedIn (emptyShelf m) calls i t
+    seen (run (empty_shelf m) calls) i ≡ present t → t.fitted ≡ true → CommittedIn (empty_shelf m) calls i t
 own-commit-is m h calls i t e f =
     ⊎_elim
-    (λ (o : seen (emptyShelf m) i ≡ present t). absurd (no-tree t (sym (empty-seen m i) ∙ o)))
-    (λ (c : CommittedIn (emptyShelf m) calls i t). c)
-    (committed-run (emptyShelf m) (empty-valid m h) calls i t e f)
+    (λ (o : seen (empty_shelf m) i ≡ present t). absurd (no-tree t (sym (empty-seen m i) ∙ o)))
+    (λ (c : CommittedIn (empty_shelf m) calls i t). c)
+    (committed-run (empty_shelf m) (empty-valid m h) calls i t e f)

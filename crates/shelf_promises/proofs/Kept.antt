@@ -11,12 +11,12 @@ use Rattle.arithmetic.specs.Row.{values}
 use Rattle.arithmetic.proofs.Numbers.{by-test}
 use Rattle.price_laws.specs.declared.Price.{Price}
 use Rattle.price_laws.specs.declared.Strip.{Strip}
-use Rattle.price_laws.specs.Strips.{stripCause, refusedStrip, stripAnswer, Shown}
+use Rattle.price_laws.specs.Strips.{strip_cause, refused_strip, strip_answer, Shown}
 use Rattle.price_laws.proofs.StripLaws.{answer-shown, refused-shown, strip-number}
-use Rattle.shelf_laws.specs.Shelf.{slot_of, nameCause}
-use Rattle.shelf_prices.specs.ShelfPrices.{shelfBondAndOption, shelfBondAndDated, shelfStrip, shelfDatedStrip, shelfKindStrip}
+use Rattle.shelf_laws.specs.Shelf.{slot_of, name_cause}
+use Rattle.shelf_prices.specs.ShelfPrices.{shelf_bond_and_option, shelf_bond_and_dated, shelf_strip, shelf_dated_strip, shelf_kind_strip}
 use Rattle.shelf_promises.specs.Model.{Pricing, bond, option, dated, pricing, locating}
-use Rattle.shelf_promises.specs.History.{Kept, priceOf, after}
+use Rattle.shelf_promises.specs.History.{Kept, price_of, after}
 use Rattle.shelf_promises.specs.ShelfPromises.{ShelfPromises}
 use Rattle.shelf_promises.proofs.DeskLaws.{held-seen, price-is}
 use Rattle.shelf_promises.proofs.Histories.{follows, valid, history-is, held-is, own-commit-is}
@@ -32,41 +32,41 @@ unfolding after
 locating-stays k name = refl
 
 kinds-pair : (k : Kept) (name : ℕ) (flows : List ℕ) (kind expiry strike : ℕ) →
-    shelfBondAndOption k.slots k.memory name flows kind expiry strike
-    ≡ record { bond = priceOf k name (bond flows); option = priceOf k name (option flows kind expiry strike) }
-unfolding priceOf
+    shelf_bond_and_option k.slots k.memory name flows kind expiry strike
+    ≡ record { bond = price_of k name (bond flows); option = price_of k name (option flows kind expiry strike) }
+unfolding price_of
 kinds-pair k name flows kind expiry strike = refl
 
 lists-pair : (k : Kept) (name : ℕ) (flows : List ℕ) (side : ℕ) (dates : List ℕ) (strike : ℕ) →
-    shelfBondAndDated k.slots k.memory name flows side dates strike
-    ≡ record { bond = priceOf k name (bond flows); option = priceOf k name (dated flows side dates strike) }
-unfolding priceOf
+    shelf_bond_and_dated k.slots k.memory name flows side dates strike
+    ≡ record { bond = price_of k name (bond flows); option = price_of k name (dated flows side dates strike) }
+unfolding price_of
 lists-pair k name flows side dates strike = refl
 
 -- strips
-shelf-shown : (k : Kept) (name count : ℕ) (price : ℕ → Price) → Shown (shelfStrip k.slots name count price) count price
-unfolding shelfStrip
+shelf-shown : (k : Kept) (name count : ℕ) (price : ℕ → Price) → Shown (shelf_strip k.slots name count price) count price
+unfolding shelf_strip
 shelf-shown k name count price =
-    by-test (eqb (nameCause k.slots name) 0) (λ (s : Strip). Shown s count price) _ (refusedStrip 15)
+    by-test (eqb (name_cause k.slots name) 0) (λ (s : Strip). Shown s count price) _ (refused_strip 15)
     (λ e. answer-shown _ _ count price) (λ e. refused-shown 15 count price (λ z. omega (arith, z)))
 
 lists-shown : (k : Kept) (name : ℕ) (flows : List ℕ) (side : ℕ) (dates strikes : List ℕ) →
-    Shown (shelfDatedStrip k.slots k.memory name flows side dates strikes) (length strikes)
-    (λ i. priceOf k name (dated flows side dates (values strikes i)))
-unfolding priceOf
+    Shown (shelf_dated_strip k.slots k.memory name flows side dates strikes) (length strikes)
+    (λ i. price_of k name (dated flows side dates (values strikes i)))
+unfolding price_of
 lists-shown k name flows side dates strikes = shelf-shown k name (length strikes) _
 
 kinds-shown : (k : Kept) (name : ℕ) (flows : List ℕ) (kind expiry : ℕ) (strikes : List ℕ) →
-    Shown (shelfKindStrip k.slots k.memory name flows kind expiry strikes) (length strikes)
-    (λ i. priceOf k name (option flows kind expiry (values strikes i)))
-unfolding priceOf
+    Shown (shelf_kind_strip k.slots k.memory name flows kind expiry strikes) (length strikes)
+    (λ i. price_of k name (option flows kind expiry (values strikes i)))
+unfolding price_of
 kinds-shown k name flows kind expiry strikes = shelf-shown k name (length strikes) _
 
 shelf-numbered : (k : Kept) (name count : ℕ) (price : ℕ → Price) →
-    (shelfStrip k.slots name count price).number
-    ≡ cond (eqb (nameCause k.slots name) 0) (stripCause (slot_of k.slots name).steps (slot_of k.slots name).reversion count) 15
-unfolding shelfStrip
-shelf-numbered k name count price = by_name (eqb (nameCause k.slots name) 0)
+    (shelf_strip k.slots name count price).number
+    ≡ cond (eqb (name_cause k.slots name) 0) (strip_cause (slot_of k.slots name).steps (slot_of k.slots name).reversion count) 15
+unfolding shelf_strip
+shelf-numbered k name count price = by_name (eqb (name_cause k.slots name) 0)
   where
     n : ℕ
     n = (slot_of k.slots name).steps
@@ -74,7 +74,7 @@ shelf-numbered k name count price = by_name (eqb (nameCause k.slots name) 0)
     b : ℕ
     b = (slot_of k.slots name).reversion
 
-    by_name : (t : Bool) → (cond t (stripAnswer n b count price) (refusedStrip 15)).number ≡ cond t (stripCause n b count) 15
+    by_name : (t : Bool) → (cond t (strip_answer n b count price) (refused_strip 15)).number ≡ cond t (strip_cause n b count) 15
     by_name true = strip-number n b count price
     by_name false = refl
 

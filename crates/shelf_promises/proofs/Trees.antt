@@ -8,15 +8,15 @@ use borrow.Author.Tests.{eq-eqb, ne_eqb, eqb-true, eqb-false}
 use lib.Dec.{eqb, ltb}
 use Rattle.arithmetic.proofs.Numbers.{by_equal}
 use Rattle.arithmetic.proofs.RowLaws.{length-row}
-use Rattle.limits.specs.Limits.{shapeCause}
-use Rattle.lattice.specs.Shape.{discountsNeeded}
+use Rattle.limits.specs.Limits.{shape_cause}
+use Rattle.lattice.specs.Shape.{discounts_needed}
 use Rattle.lent_tree.proofs.LentLaws.{accepted-shape}
 use Rattle.spacing.specs.Spacing.{spacing}
 use Rattle.fitted_laws.proofs.FittedTree.{fit-discounts-length}
 use Rattle.shelf_laws.specs.Shelf.{room}
-use Rattle.shelf_promises.specs.Model.{ShelvedTree, Seen, absent, present, Quoted, fitNumberOf, fitDiscountsOf, unfittedTree, fittedTree}
-use Rattle.shelf_promises.specs.Model.{stepsSeen, reversionSeen, heldBy, Call, asking, committing, releasing, pricing, locating}
-use Rattle.shelf_promises.specs.Model.{deskStatus, deskCause, deskNumber, put, deskTaken, deskAfter}
+use Rattle.shelf_promises.specs.Model.{ShelvedTree, Seen, absent, present, Quoted, fit_number_of, fit_discounts_of, unfitted_tree, fitted_tree}
+use Rattle.shelf_promises.specs.Model.{steps_seen, reversion_seen, held_by, Call, asking, committing, releasing, pricing, locating}
+use Rattle.shelf_promises.specs.Model.{desk_status, desk_cause, desk_number, put, desk_taken, desk_after}
 use Rattle.shelf_promises.specs.ShelfPromises.{GoodTree}
 use Rattle.shelf_promises.proofs.DeskLaws.{put_same, put_other, taken, refused}
 use Rattle.shelf_promises.proofs.FitRoom.{fit-lent}
@@ -50,45 +50,45 @@ committing-parts false c e = absurd (none e)
     none z = omega arith
 
 module _ (desk : ℕ → Seen) (name : ℕ) where
-  pub asking-told : (n b : ℕ) → deskNumber desk (asking name n b) ≡ 0 → (deskStatus desk name ≡ 0) × (shapeCause n b ≡ 0)
-  unfolding deskNumber
+  pub asking-told : (n b : ℕ) → desk_number desk (asking name n b) ≡ 0 → (desk_status desk name ≡ 0) × (shape_cause n b ≡ 0)
+  unfolding desk_number
   asking-told n b e =
       let p =
-      asking-parts (eqb (deskStatus desk name) 0) (eqb (shapeCause n b) 0) (ltb room (discountsNeeded n b + heldBy desk 8)) (shapeCause n b)
-      (λ f. eqb-false (shapeCause n b) 0 f) e in
-      (eqb-true (deskStatus desk name) 0 p.0, eqb-true (shapeCause n b) 0 p.1)
+      asking-parts (eqb (desk_status desk name) 0) (eqb (shape_cause n b) 0) (ltb room (discounts_needed n b + held_by desk 8)) (shape_cause n b)
+      (λ f. eqb-false (shape_cause n b) 0 f) e in
+      (eqb-true (desk_status desk name) 0 p.0, eqb-true (shape_cause n b) 0 p.1)
 
-  pub committing-told : (q : Quoted) → deskNumber desk (committing name q) ≡ 0 →
-      (deskStatus desk name ≡ 1) × (fitNumberOf q (stepsSeen (desk (name - 1))) (reversionSeen (desk (name - 1))) ≡ 0)
-  unfolding deskNumber
+  pub committing-told : (q : Quoted) → desk_number desk (committing name q) ≡ 0 →
+      (desk_status desk name ≡ 1) × (fit_number_of q (steps_seen (desk (name - 1))) (reversion_seen (desk (name - 1))) ≡ 0)
+  unfolding desk_number
   committing-told q e =
-      let p = committing-parts (eqb (deskStatus desk name) 1) _ e in
-      (eqb-true (deskStatus desk name) 1 p.0, p.1)
+      let p = committing-parts (eqb (desk_status desk name) 1) _ e in
+      (eqb-true (desk_status desk name) 1 p.0, p.1)
 
   -- a name that has a status is 1 to 8
-  pub name-low : deskStatus desk name < 3 → 0 < name
-  unfolding deskStatus
+  pub name-low : desk_status desk name < 3 → 0 < name
+  unfolding desk_status
   name-low h =
       by_equal name 0
       (λ (z : name ≡ 0). let none : ⊥ = omega (arith, rw (eq-eqb name 0 z) at h) in absurd none)
       (λ (z : name ≡ 0 → ⊥). omega arith)
 
-  pub releasing-told : deskNumber desk (releasing name) ≡ 0 → 0 < name
-  unfolding deskNumber deskCause
+  pub releasing-told : desk_number desk (releasing name) ≡ 0 → 0 < name
+  unfolding desk_number desk_cause
   releasing-told e =
-      by_equal (deskStatus desk name) 1
-      (λ (h : deskStatus desk name ≡ 1). name-low (omega arith))
-      (λ (h : deskStatus desk name ≡ 1 → ⊥). by_equal (deskStatus desk name) 2
-      (λ (i : deskStatus desk name ≡ 2). name-low (omega arith))
-      (λ (i : deskStatus desk name ≡ 2 → ⊥).
-      let none : ⊥ = omega (arith, rw (ne_eqb (deskStatus desk name) 1 h, ne_eqb (deskStatus desk name) 2 i) at e) in absurd none))
+      by_equal (desk_status desk name) 1
+      (λ (h : desk_status desk name ≡ 1). name-low (omega arith))
+      (λ (h : desk_status desk name ≡ 1 → ⊥). by_equal (desk_status desk name) 2
+      (λ (i : desk_status desk name ≡ 2). name-low (omega arith))
+      (λ (i : desk_status desk name ≡ 2 → ⊥).
+      let none : ⊥ = omega (arith, rw (ne_eqb (desk_status desk name) 1 h, ne_eqb (desk_status desk name) 2 i) at e) in absurd none))
 
 -- ---- good trees
-good-unfitted : (n b : ℕ) → shapeCause n b ≡ 0 → GoodTree (unfittedTree n b)
+good-unfitted : (n b : ℕ) → shape_cause n b ≡ 0 → GoodTree (unfitted_tree n b)
 good-unfitted n b e =
     record {
       shape = e;
-      nodes = length-row (discountsNeeded n b) (λ k. 0);
+      nodes = length-row (discounts_needed n b) (λ k. 0);
       unfitted = λ h. refl;
       committed = λ h. never h;
       accepted = λ h. never h;
@@ -98,10 +98,10 @@ good-unfitted n b e =
       fitted-greatest = λ h. never h;
     }
 
-good-fitted : (q : Quoted) (n b : ℕ) → fitNumberOf q n b ≡ 0 → GoodTree (fittedTree q n b)
+good-fitted : (q : Quoted) (n b : ℕ) → fit_number_of q n b ≡ 0 → GoodTree (fitted_tree q n b)
 good-fitted q n b e =
     record {
-      shape = accepted-shape n b (fitDiscountsOf q n b) (fit-lent q n b e);
+      shape = accepted-shape n b (fit_discounts_of q n b) (fit-lent q n b e);
       nodes = fit-discounts-length q.frequency n b (spacing q.frequency q.volatility) q.kinds q.figures;
       unfitted = λ h. never (sym h);
       committed = λ h. record { quoted = q; accepted = e; discounts-are = refl };
@@ -118,22 +118,22 @@ good-put desk i x g h j t e =
     (λ (s : j ≡ i). h t (put_same desk i x j s ∙ e))
     (λ (s : j ≡ i → ⊥). g j t (put_other desk i x j s ∙ e))
 
-good-taken : (desk : ℕ → Seen) (call : Call) → GoodDesk desk → deskNumber desk call ≡ 0 → GoodDesk (deskTaken desk call)
-unfolding deskTaken
+good-taken : (desk : ℕ → Seen) (call : Call) → GoodDesk desk → desk_number desk call ≡ 0 → GoodDesk (desk_taken desk call)
+unfolding desk_taken
 good-taken desk (asking name n b) g z =
-    good-put desk (name - 1) (present (unfittedTree n b)) g
-    (λ t e. subst GoodTree (same-tree (unfittedTree n b) t e) (good-unfitted n b (asking-told desk name n b z).1))
+    good-put desk (name - 1) (present (unfitted_tree n b)) g
+    (λ t e. subst GoodTree (same-tree (unfitted_tree n b) t e) (good-unfitted n b (asking-told desk name n b z).1))
 good-taken desk (committing name q) g z =
-    let n = stepsSeen (desk (name - 1)) in
-    let b = reversionSeen (desk (name - 1)) in
-    good-put desk (name - 1) (present (fittedTree q n b)) g
-    (λ t e. subst GoodTree (same-tree (fittedTree q n b) t e) (good-fitted q n b (committing-told desk name q z).1))
+    let n = steps_seen (desk (name - 1)) in
+    let b = reversion_seen (desk (name - 1)) in
+    good-put desk (name - 1) (present (fitted_tree q n b)) g
+    (λ t e. subst GoodTree (same-tree (fitted_tree q n b) t e) (good-fitted q n b (committing-told desk name q z).1))
 good-taken desk (releasing name) g z = good-put desk (name - 1) absent g (λ t e. absurd (no-tree t e))
 good-taken desk (pricing name p) g z = g
 good-taken desk (locating name) g z = g
 
-pub good-after : (desk : ℕ → Seen) (call : Call) → GoodDesk desk → GoodDesk (deskAfter desk call)
+pub good-after : (desk : ℕ → Seen) (call : Call) → GoodDesk desk → GoodDesk (desk_after desk call)
 good-after desk call g =
-    by_equal (deskNumber desk call) 0
-    (λ (e : deskNumber desk call ≡ 0). subst GoodDesk (taken desk call e) (good-taken desk call g e))
-    (λ (e : deskNumber desk call ≡ 0 → ⊥). subst GoodDesk (refused desk call e) g)
+    by_equal (desk_number desk call) 0
+    (λ (e : desk_number desk call ≡ 0). subst GoodDesk (taken desk call e) (good-taken desk call g e))
+    (λ (e : desk_number desk call ≡ 0 → ⊥). subst GoodDesk (refused desk call e) g)

@@ -2,14 +2,14 @@
 -- discounts stand. Index i stands for the name i + 1.
 -- Assumes nothing.
 use Rattle.std.specs.Prelude.{ℕ, zero, suc, ◌+◌, ◌-◌, Bool, true, false, cond, List, [], ◌∷◌, eqb, ltb, Float, length, replicate}
-use Rattle.limits.specs.Limits.{mostSteps, mostStatePrices, shapeCause}
-use Rattle.lattice.specs.Shape.{discountsNeeded}
+use Rattle.limits.specs.Limits.{most_steps, most_state_prices, shape_cause}
+use Rattle.lattice.specs.Shape.{discounts_needed}
 use Rattle.spacing.specs.Spacing.{spacing}
-use Rattle.fitted_laws.specs.Entry.{fitNumber, fitDiscounts}
-use Rattle.price_bound.specs.PriceBound.{treeErrorBound, greatestDiscounts}
+use Rattle.fitted_laws.specs.Entry.{fit_number, fit_discounts}
+use Rattle.price_bound.specs.PriceBound.{tree_error_bound, greatest_discounts}
 use Rattle.price_laws.specs.declared.Price.{Price}
-use Rattle.price_laws.specs.Prices.{refusedPrice, valueAlone, withBound, bondPrice, optionPrice, datedPrice}
-use Rattle.price_laws.specs.Exact.{exactBond, exactOption, exactDated}
+use Rattle.price_laws.specs.Prices.{refused_price, value_alone, with_bound, bond_price, option_price, dated_price}
+use Rattle.price_laws.specs.Exact.{exact_bond, exact_option, exact_dated}
 use Rattle.shelf_laws.specs.Parts.{zeros}
 use Rattle.shelf_laws.specs.Shelf.{room}
 
@@ -37,12 +37,12 @@ pub record Quoted : Type 0 where
   pub figures : List Float
 
 -- the fit's number in memories that are long enough, and its discounts
-abbrev pub fitNumberOf : Quoted → ℕ → ℕ → ℕ
-fitNumberOf q n b =
-    fitNumber q.frequency n b q.volatility q.rows q.kinds q.figures (discountsNeeded n b) mostStatePrices
+abbrev pub fit_number_of : Quoted → ℕ → ℕ → ℕ
+fit_number_of q n b =
+    fit_number q.frequency n b q.volatility q.rows q.kinds q.figures (discounts_needed n b) most_state_prices
 
-abbrev pub fitDiscountsOf : Quoted → ℕ → ℕ → List ℕ
-fitDiscountsOf q n b = fitDiscounts q.frequency n b (spacing q.frequency q.volatility) q.kinds q.figures
+abbrev pub fit_discounts_of : Quoted → ℕ → ℕ → List ℕ
+fit_discounts_of q n b = fit_discounts q.frequency n b (spacing q.frequency q.volatility) q.kinds q.figures
 
 -- a bond by its flows; an option on it by kind, expiry and strike; an option on it by side, listed rows and strike
 pub data Pricing : Type 0 where
@@ -50,21 +50,21 @@ pub data Pricing : Type 0 where
   option : List ℕ → ℕ → ℕ → ℕ → Pricing
   dated : List ℕ → ℕ → List ℕ → ℕ → Pricing
 
-abbrev pub flowsOf : Pricing → List ℕ
-flowsOf (bond flows) = flows
-flowsOf (option flows kind expiry strike) = flows
-flowsOf (dated flows side dates strike) = flows
+abbrev pub flows_of : Pricing → List ℕ
+flows_of (bond flows) = flows
+flows_of (option flows kind expiry strike) = flows
+flows_of (dated flows side dates strike) = flows
 
 -- what the plain entries answer for n steps, reversion b and these discounts, and the exact price
-abbrev pub plainPrice : Pricing → ℕ → ℕ → List ℕ → Price
-plainPrice (bond flows) n b discounts = bondPrice n b discounts flows
-plainPrice (option flows kind expiry strike) n b discounts = optionPrice n b discounts flows kind expiry strike
-plainPrice (dated flows side dates strike) n b discounts = datedPrice n b discounts flows side dates strike
+abbrev pub plain_price : Pricing → ℕ → ℕ → List ℕ → Price
+plain_price (bond flows) n b discounts = bond_price n b discounts flows
+plain_price (option flows kind expiry strike) n b discounts = option_price n b discounts flows kind expiry strike
+plain_price (dated flows side dates strike) n b discounts = dated_price n b discounts flows side dates strike
 
-abbrev pub exactOf : Pricing → ℕ → ℕ → List ℕ → ℕ
-exactOf (bond flows) n b discounts = exactBond n b discounts flows
-exactOf (option flows kind expiry strike) n b discounts = exactOption n b discounts flows kind expiry strike
-exactOf (dated flows side dates strike) n b discounts = exactDated n b discounts flows side dates strike
+abbrev pub exact_of : Pricing → ℕ → ℕ → List ℕ → ℕ
+exact_of (bond flows) n b discounts = exact_bond n b discounts flows
+exact_of (option flows kind expiry strike) n b discounts = exact_option n b discounts flows kind expiry strike
+exact_of (dated flows side dates strike) n b discounts = exact_dated n b discounts flows side dates strike
 
 -- ---- calls of the entries that take a shelf
 
@@ -87,104 +87,104 @@ name_of (locating name) = name
 -- ---- the desk
 
 -- set aside: all 0
-abbrev pub unfittedTree : ℕ → ℕ → ShelvedTree
-unfittedTree n b =
+abbrev pub unfitted_tree : ℕ → ℕ → ShelvedTree
+unfitted_tree n b =
     record {
       fitted = false;
       steps = n;
       reversion = b;
-      discounts = zeros (discountsNeeded n b);
+      discounts = zeros (discounts_needed n b);
       bound = 0;
-      greatest = replicate mostSteps 0;
+      greatest = replicate most_steps 0;
     }
 
 -- fitted: with what the rule gives for its discounts
-abbrev pub fittedTree : Quoted → ℕ → ℕ → ShelvedTree
-fittedTree q n b =
+abbrev pub fitted_tree : Quoted → ℕ → ℕ → ShelvedTree
+fitted_tree q n b =
     record {
       fitted = true;
       steps = n;
       reversion = b;
-      discounts = fitDiscountsOf q n b;
-      bound = treeErrorBound n b (fitDiscountsOf q n b);
-      greatest = greatestDiscounts n b (fitDiscountsOf q n b);
+      discounts = fit_discounts_of q n b;
+      bound = tree_error_bound n b (fit_discounts_of q n b);
+      greatest = greatest_discounts n b (fit_discounts_of q n b);
     }
 
-abbrev pub nodesSeen : Seen → ℕ
-nodesSeen absent = 0
-nodesSeen (present t) = length t.discounts
+abbrev pub nodes_seen : Seen → ℕ
+nodes_seen absent = 0
+nodes_seen (present t) = length t.discounts
 
 -- 0 absent, 1 awaiting a commit, 2 fitted
-abbrev pub statusSeen : Seen → ℕ
-statusSeen absent = 0
-statusSeen (present t) = cond t.fitted 2 1
+abbrev pub status_seen : Seen → ℕ
+status_seen absent = 0
+status_seen (present t) = cond t.fitted 2 1
 
-abbrev pub stepsSeen : Seen → ℕ
-stepsSeen absent = 0
-stepsSeen (present t) = t.steps
+abbrev pub steps_seen : Seen → ℕ
+steps_seen absent = 0
+steps_seen (present t) = t.steps
 
-abbrev pub reversionSeen : Seen → ℕ
-reversionSeen absent = 0
-reversionSeen (present t) = t.reversion
+abbrev pub reversion_seen : Seen → ℕ
+reversion_seen absent = 0
+reversion_seen (present t) = t.reversion
 
-abbrev pub discountsSeen : Seen → List ℕ
-discountsSeen absent = []
-discountsSeen (present t) = t.discounts
+abbrev pub discounts_seen : Seen → List ℕ
+discounts_seen absent = []
+discounts_seen (present t) = t.discounts
 
-abbrev pub boundSeen : Seen → ℕ
-boundSeen absent = 0
-boundSeen (present t) = t.bound
+abbrev pub bound_seen : Seen → ℕ
+bound_seen absent = 0
+bound_seen (present t) = t.bound
 
 -- the nodes held by the first names
-unfoldable pub heldBy : (ℕ → Seen) → ℕ → ℕ
-heldBy desk zero = 0
-heldBy desk (suc i) = heldBy desk i + nodesSeen (desk i)
+unfoldable pub held_by : (ℕ → Seen) → ℕ → ℕ
+held_by desk zero = 0
+held_by desk (suc i) = held_by desk i + nodes_seen (desk i)
 
 -- a name's status; 3 where there is no such name
-unfoldable pub deskStatus : (ℕ → Seen) → ℕ → ℕ
-deskStatus desk name = cond (eqb name 0) 3 (cond (ltb 8 name) 3 (statusSeen (desk (name - 1))))
+unfoldable pub desk_status : (ℕ → Seen) → ℕ → ℕ
+desk_status desk name = cond (eqb name 0) 3 (cond (ltb 8 name) 3 (status_seen (desk (name - 1))))
 
 -- 15 where a name has no tree; else 0
-unfoldable pub deskCause : (ℕ → Seen) → ℕ → ℕ
-deskCause desk name = cond (eqb (deskStatus desk name) 1) 0 (cond (eqb (deskStatus desk name) 2) 0 15)
+unfoldable pub desk_cause : (ℕ → Seen) → ℕ → ℕ
+desk_cause desk name = cond (eqb (desk_status desk name) 1) 0 (cond (eqb (desk_status desk name) 2) 0 15)
 
 -- number and value of the plain entry's answer, with the error bound that the tree carries
-unfoldable pub deskPrice : (ℕ → Seen) → ℕ → Pricing → Price
-deskPrice desk name p =
-    cond (eqb (deskCause desk name) 0)
-    (withBound (valueAlone (plainPrice p (stepsSeen (desk (name - 1))) (reversionSeen (desk (name - 1))) (discountsSeen (desk (name - 1)))))
-    (boundSeen (desk (name - 1))))
-    (refusedPrice 15)
+unfoldable pub desk_price : (ℕ → Seen) → ℕ → Pricing → Price
+desk_price desk name p =
+    cond (eqb (desk_cause desk name) 0)
+    (with_bound (value_alone (plain_price p (steps_seen (desk (name - 1))) (reversion_seen (desk (name - 1))) (discounts_seen (desk (name - 1)))))
+    (bound_seen (desk (name - 1))))
+    (refused_price 15)
 
 -- the number of a call: 0 where it is accepted
-unfoldable pub deskNumber : (ℕ → Seen) → Call → ℕ
-deskNumber desk (asking name n b) =
-    cond (eqb (deskStatus desk name) 0)
-    (cond (eqb (shapeCause n b) 0) (cond (ltb room (discountsNeeded n b + heldBy desk 8)) 14 0) (shapeCause n b))
+unfoldable pub desk_number : (ℕ → Seen) → Call → ℕ
+desk_number desk (asking name n b) =
+    cond (eqb (desk_status desk name) 0)
+    (cond (eqb (shape_cause n b) 0) (cond (ltb room (discounts_needed n b + held_by desk 8)) 14 0) (shape_cause n b))
     15
-deskNumber desk (committing name q) =
-    cond (eqb (deskStatus desk name) 1) (fitNumberOf q (stepsSeen (desk (name - 1))) (reversionSeen (desk (name - 1)))) 15
-deskNumber desk (releasing name) = deskCause desk name
-deskNumber desk (pricing name p) = (deskPrice desk name p).number
-deskNumber desk (locating name) = 0
+desk_number desk (committing name q) =
+    cond (eqb (desk_status desk name) 1) (fit_number_of q (steps_seen (desk (name - 1))) (reversion_seen (desk (name - 1)))) 15
+desk_number desk (releasing name) = desk_cause desk name
+desk_number desk (pricing name p) = (desk_price desk name p).number
+desk_number desk (locating name) = 0
 
 -- one name changes
 unfoldable pub put : (ℕ → Seen) → ℕ → Seen → ℕ → Seen
 put desk i x j = cond (eqb j i) x (desk j)
 
 -- the desk after an accepted call
-unfoldable pub deskTaken : (ℕ → Seen) → Call → ℕ → Seen
-deskTaken desk (asking name n b) = put desk (name - 1) (present (unfittedTree n b))
-deskTaken desk (committing name q) =
-    put desk (name - 1) (present (fittedTree q (stepsSeen (desk (name - 1))) (reversionSeen (desk (name - 1)))))
-deskTaken desk (releasing name) = put desk (name - 1) absent
-deskTaken desk (pricing name p) = desk
-deskTaken desk (locating name) = desk
+unfoldable pub desk_taken : (ℕ → Seen) → Call → ℕ → Seen
+desk_taken desk (asking name n b) = put desk (name - 1) (present (unfitted_tree n b))
+desk_taken desk (committing name q) =
+    put desk (name - 1) (present (fitted_tree q (steps_seen (desk (name - 1))) (reversion_seen (desk (name - 1)))))
+desk_taken desk (releasing name) = put desk (name - 1) absent
+desk_taken desk (pricing name p) = desk
+desk_taken desk (locating name) = desk
 
 -- a refused call leaves the desk as it was
-unfoldable pub deskAfter : (ℕ → Seen) → Call → ℕ → Seen
-deskAfter desk call = cond (eqb (deskNumber desk call) 0) (deskTaken desk call) desk
+unfoldable pub desk_after : (ℕ → Seen) → Call → ℕ → Seen
+desk_after desk call = cond (eqb (desk_number desk call) 0) (desk_taken desk call) desk
 
-unfoldable pub deskRun : (ℕ → Seen) → List Call → ℕ → Seen
-deskRun desk [] = desk
-deskRun desk (call ∷ calls) = deskRun (deskAfter desk call) calls
+unfoldable pub desk_run : (ℕ → Seen) → List Call → ℕ → Seen
+desk_run desk [] = desk
+desk_run desk (call ∷ calls) = desk_run (desk_after desk call) calls

@@ -4,45 +4,45 @@
 use Rattle.std.specs.Prelude.{◌≡◌, true, false, cond, List, ◌∷◌, ◌++◌, ℕ, suc, ◌+◌, ◌-◌, ◌*◌, ◌^◌, ◌≤◌, ◌<◌, eqb, length, replicate}
 use Rattle.arithmetic.specs.Row.{values}
 use Rattle.tree.specs.Tree.{unit}
-use Rattle.limits.specs.Limits.{mostSteps, shapeCause}
-use Rattle.lattice.specs.Shape.{discountsNeeded, statePricesNeeded}
-use Rattle.lent_tree.specs.LentTree.{discountsCause}
-use Rattle.fitted_laws.specs.Entry.{fitNumber}
-use Rattle.price_bound.specs.PriceBound.{treeErrorBound, greatestDiscounts}
+use Rattle.limits.specs.Limits.{most_steps, shape_cause}
+use Rattle.lattice.specs.Shape.{discounts_needed, state_prices_needed}
+use Rattle.lent_tree.specs.LentTree.{discounts_cause}
+use Rattle.fitted_laws.specs.Entry.{fit_number}
+use Rattle.price_bound.specs.PriceBound.{tree_error_bound, greatest_discounts}
 use Rattle.price_laws.specs.declared.Price.{Price}
-use Rattle.price_laws.specs.Prices.{refusedPrice}
+use Rattle.price_laws.specs.Prices.{refused_price}
 use Rattle.price_laws.specs.Exact.{Accurate}
-use Rattle.price_laws.specs.Strips.{stripCause, Shown}
+use Rattle.price_laws.specs.Strips.{strip_cause, Shown}
 use Rattle.promises.specs.Promises.{NoneAboveOne}
 use Rattle.shelf_laws.specs.Parts.{zeros, part}
-use Rattle.shelf_laws.specs.Shelf.{room, nodesHeld, part_of, slot_of, nameCause}
-use Rattle.shelf_prices.specs.ShelfPrices.{shelfBondAndOption, shelfBondAndDated, shelfStrip, shelfDatedStrip, shelfKindStrip}
-use Rattle.shelf_promises.specs.Model.{ShelvedTree, absent, present, Quoted, fitNumberOf, fitDiscountsOf, fittedTree}
-use Rattle.shelf_promises.specs.Model.{Pricing, bond, option, dated, flowsOf, plainPrice, exactOf}
+use Rattle.shelf_laws.specs.Shelf.{room, nodes_held, part_of, slot_of, name_cause}
+use Rattle.shelf_prices.specs.ShelfPrices.{shelf_bond_and_option, shelf_bond_and_dated, shelf_strip, shelf_dated_strip, shelf_kind_strip}
+use Rattle.shelf_promises.specs.Model.{ShelvedTree, absent, present, Quoted, fit_number_of, fit_discounts_of, fitted_tree}
+use Rattle.shelf_promises.specs.Model.{Pricing, bond, option, dated, flows_of, plain_price, exact_of}
 use Rattle.shelf_promises.specs.Model.{Call, asking, committing, releasing, pricing, locating, name_of}
-use Rattle.shelf_promises.specs.Model.{heldBy, deskPrice, deskNumber, deskAfter, deskRun}
-use Rattle.shelf_promises.specs.History.{Kept, seen, priceOf, number_of, after, run, emptyShelf, Reached, askedIn, releasedIn}
+use Rattle.shelf_promises.specs.Model.{held_by, desk_price, desk_number, desk_after, desk_run}
+use Rattle.shelf_promises.specs.History.{Kept, seen, price_of, number_of, after, run, empty_shelf, Reached, asked_in, released_in}
 
 -- ---- trees
 
 -- a tree's discounts are those of a fit that was accepted
 pub record Committed (t : ShelvedTree) : Type 0 where
   pub quoted : Quoted
-  pub accepted : fitNumberOf quoted t.steps t.reversion ≡ 0
-  pub discounts-are : t.discounts ≡ fitDiscountsOf quoted t.steps t.reversion
+  pub accepted : fit_number_of quoted t.steps t.reversion ≡ 0
+  pub discounts-are : t.discounts ≡ fit_discounts_of quoted t.steps t.reversion
 
 -- what holds of every tree on the shelf
 pub record GoodTree (t : ShelvedTree) : Type 0 where
-  pub shape : shapeCause t.steps t.reversion ≡ 0
-  pub nodes : length t.discounts ≡ discountsNeeded t.steps t.reversion
-  pub unfitted : t.fitted ≡ false → t.discounts ≡ zeros (discountsNeeded t.steps t.reversion)
+  pub shape : shape_cause t.steps t.reversion ≡ 0
+  pub nodes : length t.discounts ≡ discounts_needed t.steps t.reversion
+  pub unfitted : t.fitted ≡ false → t.discounts ≡ zeros (discounts_needed t.steps t.reversion)
   pub committed : t.fitted ≡ true → Committed t
-  pub accepted : t.fitted ≡ true → discountsCause t.steps t.reversion t.discounts ≡ 0
+  pub accepted : t.fitted ≡ true → discounts_cause t.steps t.reversion t.discounts ≡ 0
   -- what it carries: the rule's numbers for its stored discounts, or zeros
   pub unfitted-bound : t.fitted ≡ false → t.bound ≡ 0
-  pub unfitted-greatest : t.fitted ≡ false → t.greatest ≡ replicate mostSteps 0
-  pub fitted-bound : t.fitted ≡ true → t.bound ≡ treeErrorBound t.steps t.reversion t.discounts
-  pub fitted-greatest : t.fitted ≡ true → t.greatest ≡ greatestDiscounts t.steps t.reversion t.discounts
+  pub unfitted-greatest : t.fitted ≡ false → t.greatest ≡ replicate most_steps 0
+  pub fitted-bound : t.fitted ≡ true → t.bound ≡ tree_error_bound t.steps t.reversion t.discounts
+  pub fitted-greatest : t.fitted ≡ true → t.greatest ≡ greatest_discounts t.steps t.reversion t.discounts
 
 -- some call of the history was a commit of name i + 1 that was accepted, and its fit's discounts are the tree's
 pub record CommittedIn (k : Kept) (calls : List Call) (i : ℕ) (t : ShelvedTree) : Type 0 where
@@ -51,7 +51,7 @@ pub record CommittedIn (k : Kept) (calls : List Call) (i : ℕ) (t : ShelvedTree
   pub quoted : Quoted
   pub split : calls ≡ earlier ++ (committing (suc i) quoted ∷ later)
   pub accepted : number_of (run k earlier) (committing (suc i) quoted) ≡ 0
-  pub tree_is : t ≡ fittedTree quoted t.steps t.reversion
+  pub tree_is : t ≡ fitted_tree quoted t.steps t.reversion
 
 -- ---- prices
 
@@ -61,18 +61,18 @@ pub record PricedTree (k : Kept) (name : ℕ) (p : Pricing) : Type 0 where
   pub tree : ShelvedTree
   pub found : seen k (name - 1) ≡ present tree
   pub fitted : tree.fitted ≡ true
-  pub carried : (priceOf k name p).bound ≡ tree.bound
-  pub answered : priceOf k name p ≡ plainPrice p tree.steps tree.reversion tree.discounts
+  pub carried : (price_of k name p).bound ≡ tree.bound
+  pub answered : price_of k name p ≡ plain_price p tree.steps tree.reversion tree.discounts
   pub accurate :
-      Accurate (unit ^ tree.steps) (priceOf k name p) (exactOf p tree.steps tree.reversion tree.discounts)
+      Accurate (unit ^ tree.steps) (price_of k name p) (exact_of p tree.steps tree.reversion tree.discounts)
   pub a-step : NoneAboveOne tree.steps tree.reversion tree.discounts → tree.bound ≤ 2 * tree.steps
 
 -- ---- calls
 
 -- an asking for a free name within the limits: accepted exactly where the asked nodes and those held fit
 pub record AskedExactly (k : Kept) (name n b : ℕ) : Type 0 where
-  pub taken : discountsNeeded n b + nodesHeld k.slots ≤ room → number_of k (asking name n b) ≡ 0
-  pub full : room < discountsNeeded n b + nodesHeld k.slots → number_of k (asking name n b) ≡ 14
+  pub taken : discounts_needed n b + nodes_held k.slots ≤ room → number_of k (asking name n b) ≡ 0
+  pub full : room < discounts_needed n b + nodes_held k.slots → number_of k (asking name n b) ≡ 14
 
 -- everything but an asking
 pub data Alone : Call → Type 0 where
@@ -86,41 +86,41 @@ pub record Refused (k : Kept) (name : ℕ) : Type 0 where
   pub asked : (n b : ℕ) → number_of k (asking name n b) ≡ 15
   pub committed : (q : Quoted) → number_of k (committing name q) ≡ 15
   pub released : number_of k (releasing name) ≡ 15
-  pub priced : (p : Pricing) → priceOf k name p ≡ refusedPrice 15
+  pub priced : (p : Pricing) → price_of k name p ≡ refused_price 15
   pub located : part_of k.slots name ≡ record { start = 0; count = 0 }
 
 pub record ShelfPromises : Type 0 where
   -- the shelf is what the model says: each call's number, each price and each tree afterwards; and over a whole history
-  pub numbers-seen : (k : Kept) → Reached k → (call : Call) → number_of k call ≡ deskNumber (seen k) call
-  pub prices-seen : (k : Kept) → Reached k → (name : ℕ) (p : Pricing) → priceOf k name p ≡ deskPrice (seen k) name p
-  pub trees-seen : (k : Kept) → Reached k → (call : Call) (i : ℕ) → seen (after k call) i ≡ deskAfter (seen k) call i
+  pub numbers-seen : (k : Kept) → Reached k → (call : Call) → number_of k call ≡ desk_number (seen k) call
+  pub prices-seen : (k : Kept) → Reached k → (name : ℕ) (p : Pricing) → price_of k name p ≡ desk_price (seen k) name p
+  pub trees-seen : (k : Kept) → Reached k → (call : Call) (i : ℕ) → seen (after k call) i ≡ desk_after (seen k) call i
   pub history-seen : (m : List ℕ) → length m ≡ room → (calls : List Call) (i : ℕ) →
-      seen (run (emptyShelf m) calls) i ≡ deskRun (λ j. absent) calls i
+      seen (run (empty_shelf m) calls) i ≡ desk_run (λ j. absent) calls i
   -- nodes held are those of successful askings less releases, and those of the trees that are seen; they never pass 3,600
   pub nodes-held : (m : List ℕ) → length m ≡ room → (calls : List Call) →
-      nodesHeld (run (emptyShelf m) calls).slots + releasedIn (emptyShelf m) calls ≡ askedIn (emptyShelf m) calls
-  pub nodes-seen : (k : Kept) → Reached k → nodesHeld k.slots ≡ heldBy (seen k) 8
-  pub nodes-fit : (k : Kept) → Reached k → nodesHeld k.slots ≤ room
-  pub asked-exactly : (k : Kept) → Reached k → (name n b : ℕ) → 1 ≤ name → name ≤ 8 → seen k (name - 1) ≡ absent → shapeCause n b ≡ 0 →
+      nodes_held (run (empty_shelf m) calls).slots + released_in (empty_shelf m) calls ≡ asked_in (empty_shelf m) calls
+  pub nodes-seen : (k : Kept) → Reached k → nodes_held k.slots ≡ held_by (seen k) 8
+  pub nodes-fit : (k : Kept) → Reached k → nodes_held k.slots ≤ room
+  pub asked-exactly : (k : Kept) → Reached k → (name n b : ℕ) → 1 ≤ name → name ≤ 8 → seen k (name - 1) ≡ absent → shape_cause n b ≡ 0 →
       AskedExactly k name n b
   -- an unfitted tree's discounts are all 0; a fitted one's are those of a commit of its own name, all accepted
   pub trees-good : (k : Kept) → Reached k → (i : ℕ) (t : ShelvedTree) → seen k i ≡ present t → GoodTree t
   pub own-commit : (m : List ℕ) → length m ≡ room → (calls : List Call) (i : ℕ) (t : ShelvedTree) →
-      seen (run (emptyShelf m) calls) i ≡ present t → t.fitted ≡ true → CommittedIn (emptyShelf m) calls i t
+      seen (run (empty_shelf m) calls) i ≡ present t → t.fitted ≡ true → CommittedIn (empty_shelf m) calls i t
   -- the commit of a tree that awaits it has the number of the fit in any memories that are long enough
   pub commit-as-fit : (k : Kept) → Reached k → (name : ℕ) (q : Quoted) (t : ShelvedTree) → 1 ≤ name → name ≤ 8 → seen k (name - 1) ≡ present t →
-      t.fitted ≡ false → (discounts prices : ℕ) → discountsNeeded t.steps t.reversion ≤ discounts →
-      statePricesNeeded t.steps t.reversion ≤ prices →
+      t.fitted ≡ false → (discounts prices : ℕ) → discounts_needed t.steps t.reversion ≤ discounts →
+      state_prices_needed t.steps t.reversion ≤ prices →
       number_of k (committing name q)
-      ≡ fitNumber q.frequency t.steps t.reversion q.volatility q.rows q.kinds q.figures discounts prices
+      ≡ fit_number q.frequency t.steps t.reversion q.volatility q.rows q.kinds q.figures discounts prices
   -- a call on one name leaves every other name's tree, and no answer but an asking's depends on other names
   pub others-kept : (k : Kept) → Reached k → (call : Call) (i : ℕ) → (suc i ≡ name_of call → ⊥) → seen (after k call) i ≡ seen k i
   pub numbers-alone : (k j : Kept) → Reached k → Reached j → (call : Call) → Alone call → seen k (name_of call - 1) ≡ seen j (name_of call - 1) →
       number_of k call ≡ number_of j call
   pub prices-alone : (k j : Kept) → Reached k → Reached j → (name : ℕ) (p : Pricing) → seen k (name - 1) ≡ seen j (name - 1) →
-      priceOf k name p ≡ priceOf j name p
+      price_of k name p ≡ price_of j name p
   pub askings-alone : (k j : Kept) → Reached k → Reached j → (name n b : ℕ) →
-      seen k (name - 1) ≡ seen j (name - 1) → nodesHeld k.slots ≡ nodesHeld j.slots →
+      seen k (name - 1) ≡ seen j (name - 1) → nodes_held k.slots ≡ nodes_held j.slots →
       number_of k (asking name n b) ≡ number_of j (asking name n b)
   -- pricing, and every refused call, leaves slots and memory as they were
   pub pricing-kept : (k : Kept) (name : ℕ) (p : Pricing) → after k (pricing name p) ≡ k
@@ -129,34 +129,34 @@ pub record ShelfPromises : Type 0 where
   -- an unfitted tree is priced with 9, or 6 where the flows are not its steps; a fitted one never with 9
   pub unfitted-priced : (k : Kept) → Reached k → (name : ℕ) (t : ShelvedTree) → 1 ≤ name → name ≤ 8 → seen k (name - 1) ≡ present t → t.fitted ≡ false →
       (p : Pricing) →
-      (length (flowsOf p) ≡ t.steps → (priceOf k name p).number ≡ 9) × ((length (flowsOf p) ≡ t.steps → ⊥) → (priceOf k name p).number ≡ 6)
+      (length (flows_of p) ≡ t.steps → (price_of k name p).number ≡ 9) × ((length (flows_of p) ≡ t.steps → ⊥) → (price_of k name p).number ≡ 6)
   pub fitted-priced : (k : Kept) → Reached k → (name : ℕ) (t : ShelvedTree) → seen k (name - 1) ≡ present t → t.fitted ≡ true → (p : Pricing) →
-      (priceOf k name p).number ≡ 9 → ⊥
+      (price_of k name p).number ≡ 9 → ⊥
   -- the price of a tree that is there, given or refused, is the plain entry's whole answer for its discounts
   pub prices-plain : (k : Kept) → Reached k → (name : ℕ) (t : ShelvedTree) → 1 ≤ name → name ≤ 8 → seen k (name - 1) ≡ present t → (p : Pricing) →
-      priceOf k name p ≡ plainPrice p t.steps t.reversion t.discounts
+      price_of k name p ≡ plain_price p t.steps t.reversion t.discounts
   -- demand 3 for bonds, kinds and date lists
-  pub prices-accurate : (k : Kept) → Reached k → (name : ℕ) (p : Pricing) → (priceOf k name p).number ≡ 0 → PricedTree k name p
+  pub prices-accurate : (k : Kept) → Reached k → (name : ℕ) (p : Pricing) → (price_of k name p).number ≡ 0 → PricedTree k name p
   -- bond and option in one roll are the two prices, for kinds and for date lists
   pub kinds-paired : (k : Kept) (name : ℕ) (flows : List ℕ) (kind expiry strike : ℕ) →
-      shelfBondAndOption k.slots k.memory name flows kind expiry strike
-      ≡ record { bond = priceOf k name (bond flows); option = priceOf k name (option flows kind expiry strike) }
+      shelf_bond_and_option k.slots k.memory name flows kind expiry strike
+      ≡ record { bond = price_of k name (bond flows); option = price_of k name (option flows kind expiry strike) }
   pub lists-paired : (k : Kept) (name : ℕ) (flows : List ℕ) (side : ℕ) (dates : List ℕ) (strike : ℕ) →
-      shelfBondAndDated k.slots k.memory name flows side dates strike
-      ≡ record { bond = priceOf k name (bond flows); option = priceOf k name (dated flows side dates strike) }
+      shelf_bond_and_dated k.slots k.memory name flows side dates strike
+      ≡ record { bond = price_of k name (bond flows); option = price_of k name (dated flows side dates strike) }
   -- strips: each answer is the price of its strike alone; 15 for the name, then the strip's own causes
   pub lists-strip : (k : Kept) (name : ℕ) (flows : List ℕ) (side : ℕ) (dates strikes : List ℕ) →
-      Shown (shelfDatedStrip k.slots k.memory name flows side dates strikes) (length strikes)
-      (λ i. priceOf k name (dated flows side dates (values strikes i)))
+      Shown (shelf_dated_strip k.slots k.memory name flows side dates strikes) (length strikes)
+      (λ i. price_of k name (dated flows side dates (values strikes i)))
   pub kinds-strip : (k : Kept) (name : ℕ) (flows : List ℕ) (kind expiry : ℕ) (strikes : List ℕ) →
-      Shown (shelfKindStrip k.slots k.memory name flows kind expiry strikes) (length strikes)
-      (λ i. priceOf k name (option flows kind expiry (values strikes i)))
+      Shown (shelf_kind_strip k.slots k.memory name flows kind expiry strikes) (length strikes)
+      (λ i. price_of k name (option flows kind expiry (values strikes i)))
   pub strips-numbered : (k : Kept) (name count : ℕ) (price : ℕ → Price) →
-      (shelfStrip k.slots name count price).number
-      ≡ cond (eqb (nameCause k.slots name) 0) (stripCause (slot_of k.slots name).steps (slot_of k.slots name).reversion count) 15
+      (shelf_strip k.slots name count price).number
+      ≡ cond (eqb (name_cause k.slots name) 0) (strip_cause (slot_of k.slots name).steps (slot_of k.slots name).reversion count) 15
   -- where the discounts of a name's tree stand
   pub parts-shown : (k : Kept) → Reached k → (name : ℕ) (t : ShelvedTree) → 1 ≤ name → name ≤ 8 → seen k (name - 1) ≡ present t →
       part k.memory (part_of k.slots name).start (part_of k.slots name).count ≡ t.discounts
   -- a shelf that holds more nodes than the memory has is reached by no calls: it is refused with 15 and left as it was
-  pub unreached-refused : (k : Kept) → room < nodesHeld k.slots → (name : ℕ) → Refused k name
-  pub unreached-kept : (k : Kept) → room < nodesHeld k.slots → (call : Call) → after k call ≡ k
+  pub unreached-refused : (k : Kept) → room < nodes_held k.slots → (name : ℕ) → Refused k name
+  pub unreached-kept : (k : Kept) → room < nodes_held k.slots → (call : Call) → after k call ≡ k

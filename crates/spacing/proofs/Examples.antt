@@ -4,10 +4,10 @@ use mathlib.Core.Path.{◌≡◌, sym}
 use Prim.Native.Nat.{ℕ, ◌<◌}
 use native.Mathlib.Omega.{arith}
 use lib.Dec.{lit≤}
-use Rattle.arithmetic.specs.Rounding.{roundDown}
-use Rattle.reversion.specs.Reversion.{isExact}
+use Rattle.arithmetic.specs.Rounding.{round_down}
+use Rattle.reversion.specs.Reversion.{is_exact}
 use Rattle.reversion.proofs.Examples.{examples}
-use Rattle.spacing.specs.Spacing.{spacing, versionVariance, versionSpacing}
+use Rattle.spacing.specs.Spacing.{spacing, version_variance, version_spacing}
 use Rattle.spacing.proofs.SpacingLaws.{cube-positive, spacing-unique}
 use Rattle.spacing.proofs.VersionLaws.{version-unique}
 
@@ -23,11 +23,11 @@ pub spacing-none : (f : ℕ) → 0 < f → spacing f 0 ≡ 0
 spacing-none f positive = sym (spacing-unique f 0 positive 0 (omega arith) (omega (arith, cube-positive positive)))
 
 -- b = 1,000 in version 2: 3 × (1,000 s)² × c / one, and h from it
-variance-exact : versionVariance 2 10000 1000 ≡ 271903870500000
-unfolding versionVariance isExact roundDown
+variance-exact : version_variance 2 10000 1000 ≡ 271903870500000
+unfolding version_variance is_exact round_down
 variance-exact = rw examples.ratio
 
-pub version-yearly : versionSpacing 2 1 10000 1000 ≡ 16489507
+pub version-yearly : version_spacing 2 1 10000 1000 ≡ 16489507
 version-yearly =
     sym (version-unique 2 1 10000 1000 (lit≤ tt) 16489507
     (rw variance-exact (lit≤ tt))

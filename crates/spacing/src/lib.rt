@@ -1,6 +1,6 @@
 // The spacing of the nodes.
 ghost use Rattle.std.specs.Prelude.{◌≡◌, ◌+◌, ◌*◌, ◌≤◌, ◌<◌};
-ghost use Rattle.spacing.specs.Spacing.{spacingAnswer, versionSpacingAnswer};
+ghost use Rattle.spacing.specs.Spacing.{spacing_answer, version_spacing_answer};
 
 use arithmetic::Answer;
 
@@ -25,7 +25,7 @@ fn square_root(square: u64) -> u64
 // The spacing of the nodes by version, for a listed number of steps a year, a yearly volatility in millionths and a reversion in
 // ten-thousandths a step; refuses with 2, 4, 5 or 7.
 pub fn version_spacing(version: u64, frequency: u64, volatility: u64, reversion: u64) -> Answer
-    ensures { result ≡ versionSpacingAnswer version frequency volatility reversion }
+    ensures { result ≡ version_spacing_answer version frequency volatility reversion }
 {
     if !arithmetic::is_frequency(frequency) {
         return Answer {
@@ -63,7 +63,7 @@ pub fn version_spacing(version: u64, frequency: u64, volatility: u64, reversion:
 
 // The spacing of version 1, for which the reversion does not count; refuses with 2 or 5.
 pub fn spacing(frequency: u64, volatility: u64) -> Answer
-    ensures { result ≡ spacingAnswer frequency volatility }
+    ensures { result ≡ spacing_answer frequency volatility }
 {
     version_spacing(1, frequency, volatility, 0)
 }

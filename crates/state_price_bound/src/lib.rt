@@ -1,15 +1,15 @@
 // How far, in sum, the rounded state prices of a row may fall short of the exact ones, from the tree's discounts.
 ghost use Rattle.std.specs.Prelude.{◌≡◌, ◌+◌, ◌*◌, ◌≤◌, replicate};
 ghost use Rattle.arithmetic.specs.Rounding.{one, round_up};
-ghost use Rattle.limits.specs.Limits.{mostSteps, mostDiscount, mostNodes};
-ghost use Rattle.lattice.specs.RateTree.{rateTree};
+ghost use Rattle.limits.specs.Limits.{most_steps, most_discount, most_nodes};
+ghost use Rattle.lattice.specs.RateTree.{rate_tree};
 ghost use Rattle.lent_tree.specs.LentTree.{stored};
-ghost use Rattle.fit_laws.specs.StatePrices.{statePriceErrorBound};
+ghost use Rattle.fit_laws.specs.StatePrices.{state_price_error_bound};
 ghost use Rattle.state_price_bound.specs.ErrorBound.{
-  rowCause,
-  statePriceErrorBoundAnswer,
-  statePriceErrorBounds,
-  statePriceErrorBoundsAnswer,
+  row_cause,
+  state_price_error_bound_answer,
+  state_price_error_bounds,
+  state_price_error_bounds_answer,
 };
 ghost use Rattle.state_price_bound.specs.inside.Reached.{Bounded, Reached};
 
@@ -33,7 +33,7 @@ struct RowReached {
 
 // The bound of the next row. No row has more than 121 nodes, and 60 steps keep the bound below a million.
 fn next_bound(greatest: u64, bound: u64, nodes: u64, next_nodes: u64) -> u64
-    requires { (greatest ≤ mostDiscount) × (bound ≤ 1000000) × (nodes ≤ mostNodes) × (next_nodes ≤ mostNodes) }
+    requires { (greatest ≤ most_discount) × (bound ≤ 1000000) × (nodes ≤ most_nodes) × (next_nodes ≤ most_nodes) }
     ensures { result ≡ round_up (greatest * bound) one + nodes + next_nodes }
 {
     (greatest * bound + (ONE - 1)) / ONE + nodes + next_nodes
@@ -70,7 +70,7 @@ fn next_row(reversion: u64, discounts: &[u64], index: usize, row: RowReached) ->
 
 fn bound_of_row(reversion: u64, discounts: &[u64], row: usize) -> u64
     requires { Bounded reversion discounts.now row }
-    ensures { result ≡ statePriceErrorBound (rateTree reversion) (stored reversion discounts.now) row }
+    ensures { result ≡ state_price_error_bound (rate_tree reversion) (stored reversion discounts.now) row }
 {
     let mut reached = first_row();
     let mut index: usize = 0;
@@ -84,14 +84,14 @@ fn bound_of_row(reversion: u64, discounts: &[u64], row: usize) -> u64
 
 // Zeros, made apart so that no proof above sees them one by one.
 fn no_bounds() -> [u64; MOST_ROWS]
-    ensures { result ≡ replicate (mostSteps + 1) 0 }
+    ensures { result ≡ replicate (most_steps + 1) 0 }
 {
     [0u64; MOST_ROWS]
 }
 
 fn bounds_of_rows(steps: usize, reversion: u64, discounts: &[u64]) -> [u64; MOST_ROWS]
     requires { Bounded reversion discounts.now steps }
-    ensures { result ≡ statePriceErrorBounds steps reversion discounts.now }
+    ensures { result ≡ state_price_error_bounds steps reversion discounts.now }
 {
     let mut bounds = no_bounds();
     let mut reached = first_row();
@@ -107,7 +107,7 @@ fn bounds_of_rows(steps: usize, reversion: u64, discounts: &[u64]) -> [u64; MOST
 
 // 6 for a row that the tree has not, or 0.
 fn row_cause(steps: usize, row: usize) -> u64
-    ensures { result ≡ rowCause steps row }
+    ensures { result ≡ row_cause steps row }
 {
     if steps < row { 6 } else { 0 }
 }
@@ -119,7 +119,7 @@ pub fn state_price_error_bound(
     discounts: &[u64],
     row: usize,
 ) -> Answer
-    ensures { result ≡ statePriceErrorBoundAnswer steps reversion discounts.now row }
+    ensures { result ≡ state_price_error_bound_answer steps reversion discounts.now row }
 {
     let number = arithmetic::lowest_cause(
         lent_tree::discounts_cause(steps, reversion, discounts),
@@ -136,7 +136,7 @@ pub fn state_price_error_bound(
 
 // The state-price error bounds of all rows, whose discounts are judged once; 3, 4, 6 or 9 where the tree is refused.
 pub fn state_price_error_bounds(steps: usize, reversion: u64, discounts: &[u64]) -> RowBounds
-    ensures { result ≡ statePriceErrorBoundsAnswer steps reversion discounts.now }
+    ensures { result ≡ state_price_error_bounds_answer steps reversion discounts.now }
 {
     let number = lent_tree::discounts_cause(steps, reversion, discounts);
     if number != 0 {

@@ -12,14 +12,14 @@ use lib.Signed.{lt_z}
 use mir.Syntax.{w64}
 use mir.Val.{to_z, of_z}
 use mir.Facts.{to_z-of_z}
-use Rattle.arithmetic.specs.Rounding.{one, nearest, nearestSigned}
+use Rattle.arithmetic.specs.Rounding.{one, nearest, nearest_signed}
 use Rattle.arithmetic.proofs.Numbers.{by_order}
 use Rattle.arithmetic.proofs.RoundingLaws.{nearest-rounds, nearest-le}
 use Rattle.arithmetic.proofs.Signed.{abs-negative, fits-by-size}
-use Rattle.limits.specs.Limits.{isDiscount}
+use Rattle.limits.specs.Limits.{is_discount}
 use Rattle.limits.proofs.LimitLaws.{discount-least, discount-most}
 use Rattle.step_rate.specs.declared.Rate.{Rate}
-use Rattle.step_rate.specs.StepRate.{stepRate, refusedRate, answeredRate, rateAnswer}
+use Rattle.step_rate.specs.StepRate.{step_rate, refused_rate, answered_rate, rate_answer}
 
 -- ---- differences with a sign
 
@@ -39,8 +39,8 @@ negative-times zero b = rw (zero-mul b)
 negative-times (suc a) b = refl
 
 -- a quotient to the nearest goes by the magnitude, so a changed sign stays outside
-pub nearest-negated : (a d : ℕ) → 0 < d → nearestSigned (neg_ℤ (pos a)) d ≡ neg_ℤ (pos (nearest a d))
-unfolding nearestSigned
+pub nearest-negated : (a d : ℕ) → 0 < d → nearest_signed (neg_ℤ (pos a)) d ≡ neg_ℤ (pos (nearest a d))
+unfolding nearest_signed
 nearest-negated zero d h =
     let e : nearest 0 d ≡ 0 = rw mul-zero at (nearest-rounds.exact 0 d h) in
     ap pos e ∙ ap (λ (k : ℕ). neg_ℤ (pos k)) (sym e)
@@ -49,12 +49,12 @@ nearest-negated (suc a) d h = refl
 -- ---- the rate on either side of one
 
 module _ (v : ℕ) (h : 0 < v) where
-  pub rate-above : one < v → stepRate v ≡ neg_ℤ (pos (nearest ((v - one) * one) v))
-  unfolding stepRate
+  pub rate-above : one < v → step_rate v ≡ neg_ℤ (pos (nearest ((v - one) * one) v))
+  unfolding step_rate
   rate-above l = rw (less-negative one v l, negative-times (v - one) one) (nearest-negated ((v - one) * one) v h)
 
-  pub rate-within : v ≤ one → stepRate v ≡ pos (nearest ((one - v) * one) v)
-  unfolding stepRate nearestSigned
+  pub rate-within : v ≤ one → step_rate v ≡ pos (nearest ((one - v) * one) v)
+  unfolding step_rate nearest_signed
   rate-within l = rw (less-whole one v l)
 
 -- a gap of at least 1 gives a rate of at least 1 in size
@@ -69,14 +69,14 @@ below-zero (suc n) h = (refl, refl)
 
 module _ (v : ℕ) (h : 0 < v) where
   -- the rate is negative exactly where the discount is above one
-  pub rate-negative : lt_z (stepRate v) (pos 0) ≡ ltb one v
+  pub rate-negative : lt_z (step_rate v) (pos 0) ≡ ltb one v
   rate-negative =
       by_order v one
       (λ l. rw (rate-within v h l, le-ltb one v l, le-ltb (nearest ((one - v) * one) v) 0 (omega arith)))
       (λ l. rw (rate-above v h l, lt-ltb one v l) (below-zero _ (least (v - one) v h (omega arith))).0)
 
   -- it is positive exactly where the discount is below one
-  pub rate-positive : lt_z (pos 0) (stepRate v) ≡ ltb v one
+  pub rate-positive : lt_z (pos 0) (step_rate v) ≡ ltb v one
   rate-positive =
       by_order one v
       (λ l. rw (le-ltb v one l) (not-below l))
@@ -85,14 +85,14 @@ module _ (v : ℕ) (h : 0 < v) where
       at_one : one ≡ v → nearest ((one - v) * one) v ≤ 0
       at_one e = omega (arith, nearest-le ((one - v) * one) v h)
 
-      not-below : one ≤ v → lt_z (pos 0) (stepRate v) ≡ false
+      not-below : one ≤ v → lt_z (pos 0) (step_rate v) ≡ false
       not-below l =
           by_order v one
           (λ k. rw (rate-within v h k) (le-ltb 0 _ (at_one (omega arith))))
           (λ k. rw (rate-above v h k) (below-zero _ (least (v - one) v h (omega arith))).1)
 
   -- its size is at most one × one
-  pub rate-size : v ≤ 2 * one → nat_abs (stepRate v) ≤ one * one
+  pub rate-size : v ≤ 2 * one → nat_abs (step_rate v) ≤ one * one
   rate-size m =
       by_order v one
       (λ l. rw (rate-within v h l) (omega (arith, nearest-le ((one - v) * one) v h)))
@@ -101,36 +101,36 @@ module _ (v : ℕ) (h : 0 < v) where
 -- ---- the answer, by its causes
 
 module _ (v : ℕ) where
-  pub answer-zero : v ≡ 0 → rateAnswer v ≡ refusedRate
-  unfolding rateAnswer
+  pub answer-zero : v ≡ 0 → rate_answer v ≡ refused_rate
+  unfolding rate_answer
   answer-zero e = rw (lt-leb 1 v (omega arith))
 
-  pub answer-high : 1100000000 < v → rateAnswer v ≡ refusedRate
-  unfolding rateAnswer
+  pub answer-high : 1100000000 < v → rate_answer v ≡ refused_rate
+  unfolding rate_answer
   answer-high l = rw (le-leb 1 v (omega arith), lt-leb v 1100000000 l)
 
-  pub answer-refused : isDiscount v ≡ false → rateAnswer v ≡ refusedRate
-  unfolding rateAnswer
+  pub answer-refused : is_discount v ≡ false → rate_answer v ≡ refused_rate
+  unfolding rate_answer
   answer-refused e = rw e
 
   -- an accepted discount has number 0 and its step rate
-  pub answer-known : 0 < v → v ≤ 1100000000 → rateAnswer v ≡ answeredRate (stepRate v)
-  unfolding rateAnswer
+  pub answer-known : 0 < v → v ≤ 1100000000 → rate_answer v ≡ answered_rate (step_rate v)
+  unfolding rate_answer
   answer-known h l = rw (le-leb 1 v h, le-leb v 1100000000 l)
 
   -- an accepted answer is negative exactly where the discount is above one, positive exactly where it is below
   pub answer-sign :
       0 < v → v ≤ 1100000000 →
-      (lt_z (rateAnswer v).value (pos 0) ≡ ltb one v) × (lt_z (pos 0) (rateAnswer v).value ≡ ltb v one)
+      (lt_z (rate_answer v).value (pos 0) ≡ ltb one v) × (lt_z (pos 0) (rate_answer v).value ≡ ltb v one)
   answer-sign h l = rw (answer-known h l) (rate-negative v h, rate-positive v h)
 
 -- the value of any answer is at most one × one in size, and is the same when read back from its bits
-module _ (v : ℕ) (r : Rate) (e : r ≡ rateAnswer v) where
+module _ (v : ℕ) (r : Rate) (e : r ≡ rate_answer v) where
   pub value-bound : nat_abs r.value ≤ one * one
-  unfolding rateAnswer
-  value-bound = subst (λ (q : Rate). nat_abs q.value ≤ one * one) (sym e) (by-known (isDiscount v) refl)
+  unfolding rate_answer
+  value-bound = subst (λ (q : Rate). nat_abs q.value ≤ one * one) (sym e) (by-known (is_discount v) refl)
     where
-      by-known : (b : Bool) → isDiscount v ≡ b → nat_abs (cond (not b) refusedRate (answeredRate (stepRate v))).value ≤ one * one
+      by-known : (b : Bool) → is_discount v ≡ b → nat_abs (cond (not b) refused_rate (answered_rate (step_rate v))).value ≤ one * one
       by-known true h = rate-size v (discount-least v h) (omega (arith, discount-most v h))
       by-known false h = omega arith
 

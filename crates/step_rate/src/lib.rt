@@ -1,8 +1,8 @@
 // The rate of one step, with its sign, from the step's discount.
 ghost use Rattle.std.specs.Prelude.{◌≡◌, ◌*◌, ◌≤◌};
 ghost use Rattle.arithmetic.specs.Rounding.{one, nearest};
-ghost use Rattle.limits.specs.Limits.{mostDiscount};
-ghost use Rattle.step_rate.specs.StepRate.{rateAnswer};
+ghost use Rattle.limits.specs.Limits.{most_discount};
+ghost use Rattle.step_rate.specs.StepRate.{rate_answer};
 
 use arithmetic::ONE;
 
@@ -16,7 +16,7 @@ pub struct Rate {
 
 // gap × one / discount, to the nearest.
 fn ratio(gap: u64, discount: u64) -> u64
-    requires { (1 ≤ discount) × (discount ≤ mostDiscount) × (gap ≤ one) }
+    requires { (1 ≤ discount) × (discount ≤ most_discount) × (gap ≤ one) }
     ensures { result ≡ nearest (gap * one) discount }
 {
     (2 * (gap * ONE) + discount) / (2 * discount)
@@ -24,7 +24,7 @@ fn ratio(gap: u64, discount: u64) -> u64
 
 // The step rate of a discount. Refusal 9: the discount is 0 or above 1.1.
 pub fn of_discount(discount: u64) -> Rate
-    ensures { result ≡ rateAnswer discount }
+    ensures { result ≡ rate_answer discount }
 {
     if !limits::is_discount(discount) {
         return Rate {

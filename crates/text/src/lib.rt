@@ -2,28 +2,28 @@
 // text starts, so that the line that stands above it is put before that. A line that has no room is refused with 6, and the buffer stays.
 ghost use Rattle.std.specs.Prelude.{◌≡◌, [], ◌∷◌, ◌++◌, ◌+◌, ◌-◌, ◌≤◌, ◌<◌, length};
 ghost use Rattle.text_laws.specs.Lines.{
-  longestLine,
+  longest_line,
   space,
   newline,
-  wholeNumber,
+  whole_number,
   amount,
-  nodeLine,
+  node_line,
   row_line,
-  priceLine,
-  bondLine,
-  optionLine,
-  refusedLine,
-  lineOfNode,
-  lineNumber,
-  nodeNumber,
-  lineAnswer,
-  withLine,
+  price_line,
+  bond_line,
+  option_line,
+  refused_line,
+  line_of_node,
+  line_number,
+  node_number,
+  line_answer,
+  with_line,
 };
-ghost use Rattle.text_laws.specs.Decimal.{natural, decimal, sign_of, signedDecimal};
+ghost use Rattle.text_laws.specs.Decimal.{natural, decimal, sign_of, signed_decimal};
 ghost use Rattle.text_laws.specs.inside.Decimal.{fraction};
-ghost use Rattle.text_laws.specs.Put.{place_of, withText};
+ghost use Rattle.text_laws.specs.Put.{place_of, with_text};
 ghost use Rattle.text_laws.specs.inside.Put.{Put};
-ghost use Rattle.text_laws.specs.WordLines.{wholeLine, pairLine, amountLine, wordNumber, wordAnswer, withWord};
+ghost use Rattle.text_laws.specs.WordLines.{whole_line, pair_line, amount_line, word_number, word_answer, with_word};
 
 use text_laws::LONGEST_LINE;
 pub use text_laws::Placed;
@@ -33,7 +33,7 @@ const LONGEST_WORD: usize = 16;
 
 // 6 where a line has no room before a place, or 0.
 fn line_number(size: usize, end: usize) -> u64
-    ensures { result ≡ lineNumber size end }
+    ensures { result ≡ line_number size end }
 {
     if end < LONGEST_LINE {
         return 6;
@@ -131,8 +131,8 @@ fn put_sign(out: &mut [u8], end: usize, number: i64) -> usize
 
 // A number with its sign and the byte that follows it.
 fn put_signed_field(out: &mut [u8], end: usize, number: i64, decimals: usize, follower: u8) -> usize
-    requires { (decimals < 19) × (length (signedDecimal decimals number ++ (follower ∷ [])) ≤ end) × (end ≤ length out.old) }
-    ensures { Put out.old end (signedDecimal decimals number ++ (follower ∷ [])) result out.new }
+    requires { (decimals < 19) × (length (signed_decimal decimals number ++ (follower ∷ [])) ≤ end) × (end ≤ length out.old) }
+    ensures { Put out.old end (signed_decimal decimals number ++ (follower ∷ [])) result out.new }
 {
     let unsigned = put_field(out, end, arithmetic::magnitude(number), decimals, follower);
     put_sign(out, unsigned, number)
@@ -141,7 +141,7 @@ fn put_signed_field(out: &mut [u8], end: usize, number: i64, decimals: usize, fo
 // A line's word and the whole number that follows it.
 fn put_label(out: &mut [u8], end: usize, word: &[u8], number: u64, follower: u8) -> usize
     requires { (length word.now + 22 ≤ end) × (end ≤ length out.old) }
-    ensures { Put out.old end (word.now ++ (wholeNumber number ++ (follower ∷ []))) result out.new }
+    ensures { Put out.old end (word.now ++ (whole_number number ++ (follower ∷ []))) result out.new }
 {
     let start = put_field(out, end, number, 0, follower);
     put_word(out, start, word)
@@ -150,7 +150,7 @@ fn put_label(out: &mut [u8], end: usize, word: &[u8], number: u64, follower: u8)
 // An amount and its error bound, with which a line ends.
 fn put_bounded(out: &mut [u8], end: usize, value: u64, bound: u64) -> usize
     requires { (53 ≤ end) × (end ≤ length out.old) }
-    ensures { Put out.old end ((amount value ++ space) ++ (wholeNumber bound ++ newline)) result out.new }
+    ensures { Put out.old end ((amount value ++ space) ++ (whole_number bound ++ newline)) result out.new }
 {
     let start = put_field(out, end, bound, 0, b'\n');
     put_field(out, start, value, 9, b' ')
@@ -158,8 +158,8 @@ fn put_bounded(out: &mut [u8], end: usize, value: u64, bound: u64) -> usize
 
 // The fields of a node's line: the rate is in billionths, and is put in percent.
 fn put_node(out: &mut [u8], end: usize, row: u64, node: i64, discount: u64, rate: i64) -> usize
-    requires { (longestLine ≤ end) × (end ≤ length out.old) }
-    ensures { Put out.old end (nodeLine row node discount rate) result out.new }
+    requires { (longest_line ≤ end) × (end ≤ length out.old) }
+    ensures { Put out.old end (node_line row node discount rate) result out.new }
 {
     let rate_start = put_signed_field(out, end, rate, 7, b'\n');
     let discount_start = put_field(out, rate_start, discount, 9, b' ');
@@ -169,8 +169,8 @@ fn put_node(out: &mut [u8], end: usize, row: u64, node: i64, discount: u64, rate
 
 // `node ROW NODE DISCOUNT RATE`, with the step rate of the discount. Refused with 6 without room, then with 9 for a discount of 0 or above 1.1.
 pub fn node_line(out: &mut [u8], end: usize, row: u64, node: i64, discount: u64) -> Placed
-    ensures value { result ≡ place_of (nodeNumber (length out.old) end discount) end (lineOfNode row node discount) }
-    ensures out_after { out.new ≡ withText (nodeNumber (length out.old) end discount) out.old end (lineOfNode row node discount) }
+    ensures value { result ≡ place_of (node_number (length out.old) end discount) end (line_of_node row node discount) }
+    ensures out_after { out.new ≡ with_text (node_number (length out.old) end discount) out.old end (line_of_node row node discount) }
 {
     let rate = step_rate::of_discount(discount);
     let cause = arithmetic::lowest_cause(line_number(out.len(), end), rate.number);
@@ -186,8 +186,8 @@ pub fn node_line(out: &mut [u8], end: usize, row: u64, node: i64, discount: u64)
 
 // `row ROW QUOTE SUM ALLOWANCE`.
 pub fn row_line(out: &mut [u8], end: usize, row: u64, quote: u64, total: u64, bound: u64) -> Placed
-    ensures value { result ≡ lineAnswer out.old end (row_line row quote total bound) }
-    ensures out_after { out.new ≡ withLine out.old end (row_line row quote total bound) }
+    ensures value { result ≡ line_answer out.old end (row_line row quote total bound) }
+    ensures out_after { out.new ≡ with_line out.old end (row_line row quote total bound) }
 {
     let cause = line_number(out.len(), end);
     if cause != 0 {
@@ -205,8 +205,8 @@ pub fn row_line(out: &mut [u8], end: usize, row: u64, quote: u64, total: u64, bo
 // A word, a price and its error bound.
 fn price_line(out: &mut [u8], end: usize, word: &[u8], price: u64, bound: u64) -> Placed
     requires { length word.now ≤ 8 }
-    ensures value { result ≡ lineAnswer out.old end (priceLine word.now price bound) }
-    ensures out_after { out.new ≡ withLine out.old end (priceLine word.now price bound) }
+    ensures value { result ≡ line_answer out.old end (price_line word.now price bound) }
+    ensures out_after { out.new ≡ with_line out.old end (price_line word.now price bound) }
 {
     let cause = line_number(out.len(), end);
     if cause != 0 {
@@ -222,24 +222,24 @@ fn price_line(out: &mut [u8], end: usize, word: &[u8], price: u64, bound: u64) -
 
 // `bond PRICE ALLOWANCE`.
 pub fn bond_line(out: &mut [u8], end: usize, price: u64, bound: u64) -> Placed
-    ensures value { result ≡ lineAnswer out.old end (bondLine price bound) }
-    ensures out_after { out.new ≡ withLine out.old end (bondLine price bound) }
+    ensures value { result ≡ line_answer out.old end (bond_line price bound) }
+    ensures out_after { out.new ≡ with_line out.old end (bond_line price bound) }
 {
     price_line(out, end, b"bond ", price, bound)
 }
 
 // `option PRICE ALLOWANCE`.
 pub fn option_line(out: &mut [u8], end: usize, price: u64, bound: u64) -> Placed
-    ensures value { result ≡ lineAnswer out.old end (optionLine price bound) }
-    ensures out_after { out.new ≡ withLine out.old end (optionLine price bound) }
+    ensures value { result ≡ line_answer out.old end (option_line price bound) }
+    ensures out_after { out.new ≡ with_line out.old end (option_line price bound) }
 {
     price_line(out, end, b"option ", price, bound)
 }
 
 // `refused NUMBER`.
 pub fn refused_line(out: &mut [u8], end: usize, number: u64) -> Placed
-    ensures value { result ≡ lineAnswer out.old end (refusedLine number) }
-    ensures out_after { out.new ≡ withLine out.old end (refusedLine number) }
+    ensures value { result ≡ line_answer out.old end (refused_line number) }
+    ensures out_after { out.new ≡ with_line out.old end (refused_line number) }
 {
     let cause = line_number(out.len(), end);
     if cause != 0 {
@@ -254,7 +254,7 @@ pub fn refused_line(out: &mut [u8], end: usize, number: u64) -> Placed
 
 // 6 where a word is too long or its line has no room before a place, or 0.
 fn word_number(word: usize, size: usize, end: usize) -> u64
-    ensures { result ≡ wordNumber word size end }
+    ensures { result ≡ word_number word size end }
 {
     if LONGEST_WORD < word {
         return 6;
@@ -264,8 +264,8 @@ fn word_number(word: usize, size: usize, end: usize) -> u64
 
 // A word and a whole number. A word of more than 16 bytes is refused with 6.
 pub fn whole_line(out: &mut [u8], end: usize, word: &[u8], number: u64) -> Placed
-    ensures value { result ≡ wordAnswer word.now out.old end (wholeLine word.now number) }
-    ensures out_after { out.new ≡ withWord word.now out.old end (wholeLine word.now number) }
+    ensures value { result ≡ word_answer word.now out.old end (whole_line word.now number) }
+    ensures out_after { out.new ≡ with_word word.now out.old end (whole_line word.now number) }
 {
     let cause = word_number(word.len(), out.len(), end);
     if cause != 0 {
@@ -280,8 +280,8 @@ pub fn whole_line(out: &mut [u8], end: usize, word: &[u8], number: u64) -> Place
 
 // A word and two whole numbers. A word of more than 16 bytes is refused with 6.
 pub fn pair_line(out: &mut [u8], end: usize, word: &[u8], first: u64, second: u64) -> Placed
-    ensures value { result ≡ wordAnswer word.now out.old end (pairLine word.now first second) }
-    ensures out_after { out.new ≡ withWord word.now out.old end (pairLine word.now first second) }
+    ensures value { result ≡ word_answer word.now out.old end (pair_line word.now first second) }
+    ensures out_after { out.new ≡ with_word word.now out.old end (pair_line word.now first second) }
 {
     let cause = word_number(word.len(), out.len(), end);
     if cause != 0 {
@@ -297,8 +297,8 @@ pub fn pair_line(out: &mut [u8], end: usize, word: &[u8], first: u64, second: u6
 
 // A word and an amount. A word of more than 16 bytes is refused with 6.
 pub fn amount_line(out: &mut [u8], end: usize, word: &[u8], value: u64) -> Placed
-    ensures value { result ≡ wordAnswer word.now out.old end (amountLine word.now value) }
-    ensures out_after { out.new ≡ withWord word.now out.old end (amountLine word.now value) }
+    ensures value { result ≡ word_answer word.now out.old end (amount_line word.now value) }
+    ensures out_after { out.new ≡ with_word word.now out.old end (amount_line word.now value) }
 {
     let cause = word_number(word.len(), out.len(), end);
     if cause != 0 {

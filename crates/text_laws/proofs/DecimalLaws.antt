@@ -10,43 +10,43 @@ use borrow.Author.Tests.{lt-ltb, le-ltb, ltb-true, ltb-false}
 use lib.Dec.{ltb, lit<}
 use lib.IntN.{ℤ, pos, negsuc, nat_abs}
 use lib.ListN.{length, length-append}
-use Rattle.text_laws.specs.Decimal.{digit, naturalWithin, natural, lastDigits, decimal, sign_of, signedDecimal}
+use Rattle.text_laws.specs.Decimal.{digit, natural_within, natural, last_digits, decimal, sign_of, signed_decimal}
 use Rattle.text_laws.specs.inside.Decimal.{fraction}
 
 -- ---- the last digit
 
-pub digits_step : (k n : ℕ) → 0 < k → lastDigits k n ≡ lastDigits (k - 1) (n / 10) ++ (digit (n % 10) ∷ [])
-unfolding lastDigits
+pub digits_step : (k n : ℕ) → 0 < k → last_digits k n ≡ last_digits (k - 1) (n / 10) ++ (digit (n % 10) ∷ [])
+unfolding last_digits
 digits_step zero n h = let none : ⊥ = omega arith in absurd none
 digits_step (suc k) n h = let e : suc k - 1 ≡ k = omega arith in rw e
 
-pub digits-none : (k n : ℕ) → k ≡ 0 → lastDigits k n ≡ []
-unfolding lastDigits
+pub digits-none : (k n : ℕ) → k ≡ 0 → last_digits k n ≡ []
+unfolding last_digits
 digits-none k n e = rw e
 
 pub natural-small : (n : ℕ) → n < 10 → natural n ≡ digit n ∷ []
-unfolding natural naturalWithin
+unfolding natural natural_within
 natural-small n h = go n
   where
-    go : (m : ℕ) → naturalWithin m n ≡ digit n ∷ []
+    go : (m : ℕ) → natural_within m n ≡ digit n ∷ []
     go zero = let e : n % 10 ≡ n = omega arith in rw e
     go (suc m) = rw (lt-ltb n 10 h)
 
 -- the bound does not matter, where it is no less than the number
-within : (a b n : ℕ) → n ≤ a → n ≤ b → naturalWithin a n ≡ naturalWithin b n
-unfolding naturalWithin
+within : (a b n : ℕ) → n ≤ a → n ≤ b → natural_within a n ≡ natural_within b n
+unfolding natural_within
 within zero zero n h p = refl
 within zero (suc b) n h p = let e : n ≡ 0 = omega arith in rw e
 within (suc a) zero n h p = let e : n ≡ 0 = omega arith in rw e
 within (suc a) (suc b) n h p = go (ltb n 10) refl (λ x y. within a b (n / 10) x y)
   where
-    go : (t : Bool) → ltb n 10 ≡ t → (n / 10 ≤ a → n / 10 ≤ b → naturalWithin a (n / 10) ≡ naturalWithin b (n / 10))
-        → cond t (digit n ∷ []) (naturalWithin a (n / 10) ++ (digit (n % 10) ∷ [])) ≡ cond t (digit n ∷ []) (naturalWithin b (n / 10) ++ (digit (n % 10) ∷ []))
+    go : (t : Bool) → ltb n 10 ≡ t → (n / 10 ≤ a → n / 10 ≤ b → natural_within a (n / 10) ≡ natural_within b (n / 10))
+        → cond t (digit n ∷ []) (natural_within a (n / 10) ++ (digit (n % 10) ∷ [])) ≡ cond t (digit n ∷ []) (natural_within b (n / 10) ++ (digit (n % 10) ∷ []))
     go true q r = refl
     go false q r = let big = ltb-false n 10 q in ap (λ (l : List ℕ). l ++ (digit (n % 10) ∷ [])) (r (omega arith) (omega arith))
 
 pub natural-step : (n : ℕ) → 9 < n → natural n ≡ natural (n / 10) ++ (digit (n % 10) ∷ [])
-unfolding natural naturalWithin
+unfolding natural natural_within
 natural-step zero h = let none : ⊥ = omega arith in absurd none
 natural-step (suc m) h = rw (le-ltb (suc m) 10 h, within m (suc m / 10) (suc m / 10) (omega arith) (omega arith))
 
@@ -54,7 +54,7 @@ pub fraction-none : (k n : ℕ) → k ≡ 0 → fraction k n ≡ []
 unfolding fraction
 fraction-none k n e = rw e
 
-pub fraction-point : (k n : ℕ) → 0 < k → fraction k n ≡ 46 ∷ lastDigits k n
+pub fraction-point : (k n : ℕ) → 0 < k → fraction k n ≡ 46 ∷ last_digits k n
 unfolding fraction
 fraction-point zero n h = let none : ⊥ = omega arith in absurd none
 fraction-point (suc k) n h = refl
@@ -67,8 +67,8 @@ decimal-parts (suc k) n = refl
 
 -- ---- lengths
 
-pub length_digits : (k n : ℕ) → length (lastDigits k n) ≡ k
-unfolding lastDigits
+pub length_digits : (k n : ℕ) → length (last_digits k n) ≡ k
+unfolding last_digits
 length_digits zero n = refl
 length_digits (suc k) n = simp (length-append, length_digits k (n / 10)) (omega arith)
 
@@ -117,19 +117,19 @@ pub field-length : (k n follower : ℕ) → length (decimal k n ++ (follower ∷
 field-length k n follower = length-followed (decimal k n) follower
 
 pub signed-length : (k follower : ℕ) (z : ℤ) →
-    length (signedDecimal k z ++ (follower ∷ [])) ≡ length (sign_of z) + length (decimal k (nat_abs z) ++ (follower ∷ []))
-unfolding signedDecimal
+    length (signed_decimal k z ++ (follower ∷ [])) ≡ length (sign_of z) + length (decimal k (nat_abs z) ++ (follower ∷ []))
+unfolding signed_decimal
 signed-length k follower z = simp length-append (omega arith)
 
-pub signed_parts : (k follower : ℕ) (z : ℤ) → signedDecimal k z ++ (follower ∷ []) ≡ sign_of z ++ (decimal k (nat_abs z) ++ (follower ∷ []))
-unfolding signedDecimal
+pub signed_parts : (k follower : ℕ) (z : ℤ) → signed_decimal k z ++ (follower ∷ []) ≡ sign_of z ++ (decimal k (nat_abs z) ++ (follower ∷ []))
+unfolding signed_decimal
 signed_parts k follower z = append_assoc (sign_of z) (decimal k (nat_abs z)) (follower ∷ [])
 
 sign-room : (z : ℤ) → length (sign_of z) ≤ 1
 sign-room (pos n) = omega arith
 sign-room (negsuc n) = omega arith
 
-pub signed-room : (k follower : ℕ) (z : ℤ) → nat_abs z < 2 ^ 64 → length (signedDecimal k z ++ (follower ∷ [])) ≤ 23 + k
+pub signed-room : (k follower : ℕ) (z : ℤ) → nat_abs z < 2 ^ 64 → length (signed_decimal k z ++ (follower ∷ [])) ≤ 23 + k
 signed-room k follower z h = omega (arith, signed-length k follower z, sign-room z, field_room k (nat_abs z) follower h)
 
 pub ten-pos : (k : ℕ) → 0 < 10 ^ k

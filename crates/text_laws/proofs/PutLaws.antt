@@ -8,23 +8,23 @@ use borrow.Author.Tests.{eq-eqb, ne_eqb}
 use lib.ListN.{length, drop, take, set, length-append, length-drop, take-append-drop}
 use lib.Seq.{set_split, drop_at, length-take-le, take-append-le, take-take}
 use Rattle.text_laws.specs.declared.Placed.{Placed}
-use Rattle.text_laws.specs.Put.{putBefore, place_of, withText}
+use Rattle.text_laws.specs.Put.{put_before, place_of, with_text}
 use Rattle.text_laws.specs.inside.Put.{Put}
 
 -- putting nothing changes nothing
-pub put-nothing : (out : List ℕ) (end : ℕ) → putBefore out end [] ≡ out
-unfolding putBefore
+pub put-nothing : (out : List ℕ) (end : ℕ) → put_before out end [] ≡ out
+unfolding put_before
 put-nothing out end = let e : end - 0 ≡ end = omega arith in rw e (take-append-drop end out)
 
-pub length-put : (out text : List ℕ) (end : ℕ) → length text ≤ end → end ≤ length out → length (putBefore out end text) ≡ length out
-unfolding putBefore
+pub length-put : (out text : List ℕ) (end : ℕ) → length text ≤ end → end ≤ length out → length (put_before out end text) ≡ length out
+unfolding put_before
 length-put out text end h p =
     simp (length-append, length-drop)
     (omega (arith, length-take-le (end - length text) out (omega arith)))
 
 -- a byte that is stored just before a place
-pub stored : (out : List ℕ) (end byte : ℕ) → 0 < end → end ≤ length out → set out (end - 1) byte ≡ putBefore out end (byte ∷ [])
-unfolding putBefore
+pub stored : (out : List ℕ) (end byte : ℕ) → 0 < end → end ≤ length out → set out (end - 1) byte ≡ put_before out end (byte ∷ [])
+unfolding put_before
 stored out end byte h p =
     let e : suc (end - 1) ≡ end = omega arith in
     let q : end - 1 < length out = omega arith in
@@ -32,8 +32,8 @@ stored out end byte h p =
 
 -- THE LAW OF JOINING: a text that is put before another is the two put at once
 pub put-joined : (out text next : List ℕ) (end : ℕ) → length next + length text ≤ end → end ≤ length out
-    → putBefore (putBefore out end text) (end - length text) next ≡ putBefore out end (next ++ text)
-unfolding putBefore
+    → put_before (put_before out end text) (end - length text) next ≡ put_before out end (next ++ text)
+unfolding put_before
 put-joined out text next end h p =
     let mid : ℕ = end - length text in
     let low : ℕ = end - length (next ++ text) in
@@ -46,11 +46,11 @@ put-joined out text next end h p =
 
 -- a loop that stores the last byte of what is left keeps what the whole gives
 pub put_last : (out text next whole : List ℕ) (start byte : ℕ) → next ≡ text ++ (byte ∷ []) → length next ≤ start → start ≤ length out
-    → putBefore out start next ≡ whole → putBefore (set out (start - 1) byte) (start - 1) text ≡ whole
+    → put_before out start next ≡ whole → put_before (set out (start - 1) byte) (start - 1) text ≡ whole
 put_last out text next whole start byte e h p w =
     let n : length next ≡ length text + 1 = ap length e ∙ simp length-append in
     rw (stored out start byte (omega arith) p)
-    (put-joined out (byte ∷ []) text start (omega arith) p ∙ ap (λ (t : List ℕ). putBefore out start t) (sym e) ∙ w)
+    (put-joined out (byte ∷ []) text start (omega arith) p ∙ ap (λ (t : List ℕ). put_before out start t) (sym e) ∙ w)
 
 -- ---- the contract of a put
 
@@ -58,7 +58,7 @@ pub put-none : (out : List ℕ) (end : ℕ) → end ≤ length out → Put out e
 put-none out end h = record { place = omega arith; within = h; same = refl; memory = sym (put-nothing out end) }
 
 pub put_whole : (out after text : List ℕ) (end start : ℕ) → start + length text ≡ end → end ≤ length out →
-    after ≡ putBefore out end text → Put out end text start after
+    after ≡ put_before out end text → Put out end text start after
 put_whole out after text end start p h e = record {
   place = p;
   within = h;
@@ -71,10 +71,10 @@ pub put_one : (out : List ℕ) (end byte : ℕ) → 0 < end → end ≤ length o
 put_one out end byte h p = put_whole out (set out (end - 1) byte) (byte ∷ []) end (end - 1) (omega arith) p (stored out end byte h p)
 
 pub put_front : (out out₀ text last : List ℕ) (start byte end : ℕ) → 0 < start → start ≤ length out → last ≡ byte ∷ [] →
-    start - 1 + length text ≡ end → end ≤ length out₀ → putBefore out start last ≡ putBefore out₀ end text →
+    start - 1 + length text ≡ end → end ≤ length out₀ → put_before out start last ≡ put_before out₀ end text →
     Put out₀ end text (start - 1) (set out (start - 1) byte)
 put_front out out₀ text last start byte end h p e n q w =
-    put_whole out₀ (set out (start - 1) byte) text end (start - 1) n q (stored out start byte h p ∙ ap (λ (l : List ℕ). putBefore out start l) (sym e) ∙ w)
+    put_whole out₀ (set out (start - 1) byte) text end (start - 1) n q (stored out start byte h p ∙ ap (λ (l : List ℕ). put_before out start l) (sym e) ∙ w)
 
 -- one text before another
 pub put-before : {out after later text next : List ℕ} {end mid start : ℕ} →
@@ -83,7 +83,7 @@ put-before {out} {after} {later} {text} {next} {end} {mid} {start} p q =
     let s : start + (length next + length text) ≡ end = omega (arith, p.place, q.place) in
     let m : mid ≡ end - length text = omega (arith, p.place) in
     put_whole out later (next ++ text) end start (simp length-append s) p.within
-    (q.memory ∙ ap (λ (l : List ℕ). putBefore l mid next) p.memory ∙ ap (λ (i : ℕ). putBefore (putBefore out end text) i next) m
+    (q.memory ∙ ap (λ (l : List ℕ). put_before l mid next) p.memory ∙ ap (λ (i : ℕ). put_before (put_before out end text) i next) m
     ∙ put-joined out text next end (omega arith) p.within)
 
 pub put_then : {out after text : List ℕ} {end mid : ℕ} (byte : ℕ) → Put out end text mid after → 0 < mid →
@@ -95,14 +95,14 @@ put_then {out} {after} {text} {end} {mid} byte p h = put-before p (put_one after
 module _ (number : ℕ) (out : List ℕ) (end : ℕ) (text : List ℕ) where
   -- an answer, and the buffer afterwards
   abbrev pub Answered : Placed → List ℕ → Type 0
-  Answered answer after = (answer ≡ place_of number end text) × (after ≡ withText number out end text)
+  Answered answer after = (answer ≡ place_of number end text) × (after ≡ with_text number out end text)
 
   pub put_refused : (found : ℕ) → found ≡ number → (found ≡ 0 → ⊥) → Answered (record { number = found; start = 0 }) out
-  unfolding place_of withText
+  unfolding place_of with_text
   put_refused found e nz = let test = ne_eqb number 0 (λ z. nz (e ∙ z)) in (rw (test, e), rw test)
 
   pub put-answered : {start : ℕ} {after : List ℕ} → number ≡ 0 → Put out end text start after → Answered (record { number = 0; start = start }) after
-  unfolding place_of withText
+  unfolding place_of with_text
   put-answered {start} z p =
       let test = eq-eqb number 0 z in
       let s : start ≡ end - length text = omega (arith, p.place) in
@@ -111,7 +111,7 @@ module _ (number : ℕ) (out : List ℕ) (end : ℕ) (text : List ℕ) where
   -- what a caller has of it
   module _ {answer : Placed} {after : List ℕ} (a : Answered answer after) where
     pub answered-put : number ≡ 0 → length text ≤ end → end ≤ length out → Put out end text answer.start after
-    unfolding place_of withText
+    unfolding place_of with_text
     answered-put z l p =
         let test = eq-eqb number 0 z in
         let s : answer.start ≡ end - length text = ap (λ (p : Placed). p.start) a.0 ∙ rw test in

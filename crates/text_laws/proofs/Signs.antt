@@ -13,7 +13,7 @@ use mir.Syntax.{w64}
 use mir.Val.{SFits, to_z, of_z}
 use mir.Facts.{to_z-of_z}
 use Rattle.arithmetic.proofs.Signed.{size-most}
-use Rattle.text_laws.specs.Decimal.{sign_of, signedDecimal}
+use Rattle.text_laws.specs.Decimal.{sign_of, signed_decimal}
 use Rattle.text_laws.proofs.DecimalLaws.{signed-room}
 
 below-zero : (n : ℕ) → n < 0 → ⊥
@@ -28,5 +28,5 @@ sign-none (pos n) h = refl
 sign-none (negsuc a) h = cc
 
 -- the field of a number that is read back from its bits
-pub held-room : (k follower : ℕ) (z : ℤ) → SFits w64 z → length (signedDecimal k (to_z w64 (of_z w64 z)) ++ (follower ∷ [])) ≤ 23 + k
+pub held-room : (k follower : ℕ) (z : ℤ) → SFits w64 z → length (signed_decimal k (to_z w64 (of_z w64 z)) ++ (follower ∷ [])) ≤ 23 + k
 held-room k follower z f = rw (to_z-of_z f) (signed-room k follower z (omega (arith, size-most z f)))

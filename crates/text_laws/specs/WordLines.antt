@@ -2,29 +2,29 @@
 -- Assumes nothing.
 use Rattle.std.specs.Prelude.{ℕ, cond, List, ◌++◌, leb, length}
 use Rattle.text_laws.specs.declared.Placed.{Placed}
-use Rattle.text_laws.specs.Lines.{space, newline, wholeNumber, amount, lineNumber}
-use Rattle.text_laws.specs.Put.{place_of, withText}
+use Rattle.text_laws.specs.Lines.{space, newline, whole_number, amount, line_number}
+use Rattle.text_laws.specs.Put.{place_of, with_text}
 
-unfoldable pub wholeLine : List ℕ → ℕ → List ℕ
-wholeLine word number = word ++ (wholeNumber number ++ newline)
+unfoldable pub whole_line : List ℕ → ℕ → List ℕ
+whole_line word number = word ++ (whole_number number ++ newline)
 
-unfoldable pub pairLine : List ℕ → ℕ → ℕ → List ℕ
-pairLine word first second = word ++ ((wholeNumber first ++ space) ++ (wholeNumber second ++ newline))
+unfoldable pub pair_line : List ℕ → ℕ → ℕ → List ℕ
+pair_line word first second = word ++ ((whole_number first ++ space) ++ (whole_number second ++ newline))
 
-unfoldable pub amountLine : List ℕ → ℕ → List ℕ
-amountLine word value = word ++ (amount value ++ newline)
+unfoldable pub amount_line : List ℕ → ℕ → List ℕ
+amount_line word value = word ++ (amount value ++ newline)
 
 -- a word has at most so many bytes
-abbrev pub longestWord : ℕ
-longestWord = 16
+abbrev pub longest_word : ℕ
+longest_word = 16
 
 -- 6 for a longer word, and where the line has no room
-unfoldable pub wordNumber : ℕ → ℕ → ℕ → ℕ
-wordNumber word size end = cond (leb word longestWord) (lineNumber size end) 6
+unfoldable pub word_number : ℕ → ℕ → ℕ → ℕ
+word_number word size end = cond (leb word longest_word) (line_number size end) 6
 
 -- the answer to a line with a word, and the buffer afterwards
-abbrev pub wordAnswer : List ℕ → List ℕ → ℕ → List ℕ → Placed
-wordAnswer word out end line = place_of (wordNumber (length word) (length out) end) end line
+abbrev pub word_answer : List ℕ → List ℕ → ℕ → List ℕ → Placed
+word_answer word out end line = place_of (word_number (length word) (length out) end) end line
 
-abbrev pub withWord : List ℕ → List ℕ → ℕ → List ℕ → List ℕ
-withWord word out end line = withText (wordNumber (length word) (length out) end) out end line
+abbrev pub with_word : List ℕ → List ℕ → ℕ → List ℕ → List ℕ
+with_word word out end line = with_text (word_number (length word) (length out) end) out end line

@@ -6,7 +6,7 @@ use Prim.Native.Nat.{ℕ, zero, suc, ◌+◌, ◌*◌, ◌≤◌, ◌<◌}
 use native.Mathlib.Nat.{add-mul, mul-le-mul_left}
 use native.Mathlib.Omega.{arith}
 use Rattle.arithmetic.specs.Sum.{sum, only}
-use Rattle.tree.specs.Tree.{Transition, Tree, Inside, Total, Sound, chance, incoming, outgoing, probabilityTotal}
+use Rattle.tree.specs.Tree.{Transition, Tree, Inside, Total, Sound, chance, incoming, outgoing, probability_total}
 use Rattle.arithmetic.proofs.SumLaws.{sum-cong, sum-add, sum-scale, sum-swap, sum-only, sum-next, sum-le, only-times}
 
 -- what node k hands on, weighed by the values where its branches lead
@@ -55,16 +55,16 @@ duality t n m c v h =
 -- what flows into the next row is the whole times what stood on this one
 pub incoming-total :
     (t : Transition) (n m : ℕ) (c : ℕ → ℕ) → Inside t n m → Total t n →
-    sum m (λ j. incoming t n c j) ≡ probabilityTotal * sum n c
+    sum m (λ j. incoming t n c j) ≡ probability_total * sum n c
 unfolding outgoing
 incoming-total t n m c h p =
     sum-cong m _ (λ j. incoming t n c j * 1) (λ j l. omega arith)
     ∙ (duality t n m c (λ j. 1) h
-    ∙ (sum-cong n _ (λ k. probabilityTotal * c k) (λ k l. product k l) ∙ sum-scale n probabilityTotal c))
+    ∙ (sum-cong n _ (λ k. probability_total * c k) (λ k l. product k l) ∙ sum-scale n probability_total c))
   where
-    product : (k : ℕ) → k < n → c k * (t.down k * 1 + t.middle k * 1 + t.up k * 1) ≡ probabilityTotal * c k
+    product : (k : ℕ) → k < n → c k * (t.down k * 1 + t.middle k * 1 + t.up k * 1) ≡ probability_total * c k
     product k l =
-        let e : t.down k * 1 + t.middle k * 1 + t.up k * 1 ≡ probabilityTotal = omega (arith, p k l) in
+        let e : t.down k * 1 + t.middle k * 1 + t.up k * 1 ≡ probability_total = omega (arith, p k l) in
         rw e (omega arith)
 
 -- one node more: what flows into node j
@@ -123,7 +123,7 @@ module _ (t : Transition) (n m : ℕ) (inside : Inside t n m) (v w : ℕ → ℕ
 -- the sum of one value on all branches
 pub outgoing-same :
     (t : Transition) (n m : ℕ) → Inside t n m → Total t n → (v : ℕ → ℕ) (a k : ℕ) → k < n → ((j : ℕ) → j < m → v j ≡ a) →
-    outgoing t v k ≡ probabilityTotal * a
+    outgoing t v k ≡ probability_total * a
 unfolding outgoing
 outgoing-same t n m inside total v a k hk h =
     let r = inside k hk in

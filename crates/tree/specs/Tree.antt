@@ -4,8 +4,8 @@ use Rattle.std.specs.Prelude.{◌≡◌, ℕ, suc, ◌+◌, ◌*◌, ◌<◌}
 use Rattle.arithmetic.specs.Sum.{sum, only}
 
 -- the denominator of the probabilities
-abbrev pub probabilityTotal : ℕ
-probabilityTotal = 600000000
+abbrev pub probability_total : ℕ
+probability_total = 600000000
 
 -- m: the factor that one exact roll adds to a denominator, 600,000,000 × one
 abbrev pub unit : ℕ
@@ -29,7 +29,7 @@ Inside t n m = (k : ℕ) → k < n → t.low k + 2 < m
 
 -- the probabilities of each of n nodes sum to the whole
 abbrev pub Total : Transition → ℕ → Type 0
-Total t n = (k : ℕ) → k < n → t.down k + t.middle k + t.up k ≡ probabilityTotal
+Total t n = (k : ℕ) → k < n → t.down k + t.middle k + t.up k ≡ probability_total
 
 -- What laws may use of a tree: one node on row 0, branches that stay inside the next row, probabilities that sum to the whole.
 pub record Sound (t : Tree) : Type 0 where

@@ -1,10 +1,10 @@
 // What payoffs on a row are worth by the row's state prices, and how far that may fall short of their exact price.
 ghost use Rattle.std.specs.Prelude.{◌≡◌, ◌≤◌, ltb, length};
-ghost use Rattle.arithmetic.specs.Row.{greatestOf, sum_of};
-ghost use Rattle.limits.specs.Limits.{valueLimit, sumLimit};
-ghost use Rattle.valuation_laws.specs.Valuation.{valuationBound};
-ghost use Rattle.valuation.specs.Entries.{payoffsCause, valueByStatePricesAnswer, valuationErrorBoundAnswer};
-ghost use Rattle.valuation.specs.inside.Products.{sumOfProducts};
+ghost use Rattle.arithmetic.specs.Row.{greatest_of, sum_of};
+ghost use Rattle.limits.specs.Limits.{value_limit, sum_limit};
+ghost use Rattle.valuation_laws.specs.Valuation.{valuation_bound};
+ghost use Rattle.valuation.specs.Entries.{payoffs_cause, value_by_state_prices_answer, valuation_error_bound_answer};
+ghost use Rattle.valuation.specs.inside.Products.{sum_of_products};
 
 use arithmetic::{Answer, ONE};
 
@@ -16,7 +16,7 @@ fn refused(number: u64) -> Answer
 
 // Whether state prices sum above 2,000,000,100. Tests what is left before it adds, so that no sum wraps.
 fn sums_above_limit(prices: &[u64]) -> bool
-    ensures { result ≡ ltb sumLimit (sum_of prices.now) }
+    ensures { result ≡ ltb sum_limit (sum_of prices.now) }
 {
     let mut total: u64 = 0;
     let mut index = 0;
@@ -32,8 +32,8 @@ fn sums_above_limit(prices: &[u64]) -> bool
 
 // At most 2,000,000,100 times 8,000,000,000, which 64 bits hold.
 fn sum_of_products(prices: &[u64], payoffs: &[u64]) -> u64
-    requires { (length prices.now ≡ length payoffs.now) × (sum_of prices.now ≤ sumLimit) × (greatestOf payoffs.now ≤ valueLimit) }
-    ensures { result ≡ sumOfProducts prices.now payoffs.now }
+    requires { (length prices.now ≡ length payoffs.now) × (sum_of prices.now ≤ sum_limit) × (greatest_of payoffs.now ≤ value_limit) }
+    ensures { result ≡ sum_of_products prices.now payoffs.now }
 {
     let mut total: u64 = 0;
     let mut index = 0;
@@ -46,7 +46,7 @@ fn sum_of_products(prices: &[u64], payoffs: &[u64]) -> u64
 
 // The value of payoffs on a row, by the row's state prices.
 pub fn value_by_state_prices(prices: &[u64], payoffs: &[u64]) -> Answer
-    ensures { result ≡ valueByStatePricesAnswer prices.now payoffs.now }
+    ensures { result ≡ value_by_state_prices_answer prices.now payoffs.now }
 {
     if prices.len() != payoffs.len() {
         return refused(6);
@@ -72,7 +72,7 @@ pub fn value_by_state_prices(prices: &[u64], payoffs: &[u64]) -> Answer
 
 // The causes about payoffs: their number, then their size.
 fn payoffs_cause(count: usize, nodes: u64, greatest: u64) -> u64
-    ensures { result ≡ payoffsCause count nodes greatest }
+    ensures { result ≡ payoffs_cause count nodes greatest }
 {
     let high = limits::limit_cause(greatest);
     if count as u64 != nodes {
@@ -82,8 +82,8 @@ fn payoffs_cause(count: usize, nodes: u64, greatest: u64) -> u64
 }
 
 fn bound_of_value(greatest: u64, bound: u64) -> u64
-    requires { (greatest ≤ valueLimit) × (bound ≤ 1000000) }
-    ensures { result ≡ valuationBound greatest bound }
+    requires { (greatest ≤ value_limit) × (bound ≤ 1000000) }
+    ensures { result ≡ valuation_bound greatest bound }
 {
     (greatest * bound + (ONE - 1)) / ONE + 1
 }
@@ -96,7 +96,7 @@ pub fn valuation_error_bound(
     row: usize,
     payoffs: &[u64],
 ) -> Answer
-    ensures { result ≡ valuationErrorBoundAnswer steps reversion discounts.now row payoffs.now }
+    ensures { result ≡ valuation_error_bound_answer steps reversion discounts.now row payoffs.now }
 {
     let bound = state_price_bound::state_price_error_bound(steps, reversion, discounts, row);
     let nodes = lattice::node_count(reversion, row);

@@ -1,8 +1,8 @@
 -- Every starred figure holds.
 -- Assumes nothing.
 use mathlib.Core.Path.{refl}
-use Rattle.lattice.specs.Shape.{highestNode}
-use Rattle.lattice.specs.Branching.{branching, z_of, upFormula, middleFormula, downFormula, upProbability, middleProbability, downProbability}
+use Rattle.lattice.specs.Shape.{highest_node}
+use Rattle.lattice.specs.Branching.{branching, z_of, up_formula, middle_formula, down_formula, up_probability, middle_probability, down_probability}
 use Rattle.spacing.proofs.Examples as spacings
 use Rattle.factor.proofs.Examples as factors
 use Rattle.figure.proofs.Examples as floats
@@ -12,7 +12,7 @@ use Rattle.text_laws.proofs.Examples as text
 use Rattle.worked_examples.specs.Examples.{Examples}
 
 pub examples : Examples
-unfolding highestNode branching z_of upFormula middleFormula downFormula upProbability middleProbability downProbability
+unfolding highest_node branching z_of up_formula middle_formula down_formula up_probability middle_probability down_probability
 examples =
     record {
       highest-at-1840 = refl;

@@ -2,18 +2,18 @@
 -- Assumes nothing.
 use mathlib.Core.Path.{refl}
 use lib.Ieee.{round}
-use Rattle.arithmetic.specs.Rounding.{roundDown, round_up}
+use Rattle.arithmetic.specs.Rounding.{round_down, round_up}
 use Rattle.arithmetic.specs.Sum.{sum}
 use Rattle.factor.specs.Series.{term, series}
-use Rattle.continuous.specs.Continuous.{squareDown, fourthPower, sideDiscount, continuousDiscount}
-use Rattle.figure.specs.Figure.{billionthsOf, beyond}
-use Rattle.quotes.specs.Quotes.{loneAnswer}
+use Rattle.continuous.specs.Continuous.{square_down, fourth_power, side_discount, continuous_discount}
+use Rattle.figure.specs.Figure.{billionths_of, beyond}
+use Rattle.quotes.specs.Quotes.{lone_answer}
 use Rattle.continuous.proofs.Examples as discounts
 use Rattle.continuous_rate.proofs.Examples as rates
 use Rattle.worked_examples.specs.Yields.{Yields}
 
 pub yields : Yields
-unfolding loneAnswer round billionthsOf beyond continuousDiscount sideDiscount fourthPower squareDown series sum term roundDown round_up
+unfolding lone_answer round billionths_of beyond continuous_discount side_discount fourth_power square_down series sum term round_down round_up
 yields =
     record {
       greatest-amount = discounts.greatest-amount;

@@ -16,13 +16,13 @@ use Rattle.arithmetic.proofs.BetweenLaws.{between-holds, between-most}
 use Rattle.arithmetic.proofs.RowLaws.{each_all, each_holds}
 use Rattle.job_record.specs.Grammar.{Column}
 use Rattle.job_record.proofs.Answers.{first, second, both}
-use Rattle.writer_laws.specs.Sound.{allAtMost, isColumn}
+use Rattle.writer_laws.specs.Sound.{all_at_most, is_column}
 
 module _ (most : ℕ) (l : List ℕ) where
-  pub at-most-test : ((k : ℕ) → k < length l → values l k ≤ most) → allAtMost most l ≡ true
+  pub at-most-test : ((k : ℕ) → k < length l → values l k ≤ most) → all_at_most most l ≡ true
   at-most-test h = each_all (length l) (between 0 most (values l)) (λ k below. between-holds 0 most (values l) k (omega arith) (h k below))
 
-  pub at-most-holds : allAtMost most l ≡ true → (k : ℕ) → k < length l → values l k ≤ most
+  pub at-most-holds : all_at_most most l ≡ true → (k : ℕ) → k < length l → values l k ≤ most
   at-most-holds h k below = between-most 0 most (values l) k (each_holds (length l) k (between 0 most (values l)) h below)
 
 -- what follows the first n numbers, as lending has it
@@ -31,17 +31,17 @@ rest-is l n = take_all (length l - n) (drop n l) (simp length-drop (omega arith)
 
 -- the answer, by the part that fails first
 module _ (l : List ℕ) (n most : ℕ) where
-  pub column-fails : allAtMost most (take n l) ≡ false → false ≡ isColumn (length l) l n most
-  unfolding isColumn
+  pub column-fails : all_at_most most (take n l) ≡ false → false ≡ is_column (length l) l n most
+  unfolding is_column
   column-fails bad = rw (eq-eqb (length l) (length l) refl, bad)
 
-  pub column-by-rest : allAtMost most (take n l) ≡ true → allAtMost 0 (take (length l - n) (drop n l)) ≡ isColumn (length l) l n most
-  unfolding isColumn
+  pub column-by-rest : all_at_most most (take n l) ≡ true → all_at_most 0 (take (length l - n) (drop n l)) ≡ is_column (length l) l n most
+  unfolding is_column
   column-by-rest good = rw (eq-eqb (length l) (length l) refl, good, rest-is l n)
 
   -- numbers that are none above the limit for their type
   pub column-by-type :
-      ((k : ℕ) → values l k ≤ most) → allAtMost 0 (take (length l - n) (drop n l)) ≡ isColumn (length l) l n most
+      ((k : ℕ) → values l k ≤ most) → all_at_most 0 (take (length l - n) (drop n l)) ≡ is_column (length l) l n most
   column-by-type small =
       column-by-rest
       (at-most-test most (take n l)
@@ -51,18 +51,18 @@ module _ (l : List ℕ) (n most : ℕ) where
 
 -- the test holds of a column, and of nothing else
 module _ (places : ℕ) (l : List ℕ) (n most bound : ℕ) where
-  module _ (h : isColumn places l n most ≡ true) (limit : most < bound) where
+  module _ (h : is_column places l n most ≡ true) (limit : most < bound) where
     size_is : length l ≡ places
-    unfolding isColumn
+    unfolding is_column
     size_is = eqb-true _ _ (first (eqb (length l) places) _ h)
 
-    entries : allAtMost most (take n l) ≡ true
-    unfolding isColumn
-    entries = first (allAtMost most (take n l)) _ (second (eqb (length l) places) h)
+    entries : all_at_most most (take n l) ≡ true
+    unfolding is_column
+    entries = first (all_at_most most (take n l)) _ (second (eqb (length l) places) h)
 
-    rest : allAtMost 0 (drop n l) ≡ true
-    unfolding isColumn
-    rest = second (allAtMost most (take n l)) (second (eqb (length l) places) h)
+    rest : all_at_most 0 (drop n l) ≡ true
+    unfolding is_column
+    rest = second (all_at_most most (take n l)) (second (eqb (length l) places) h)
 
     inside-rest : (k : ℕ) → n ≤ k → k < length l → values l k ≡ 0
     inside-rest k past inside =
@@ -87,8 +87,8 @@ module _ (places : ℕ) (l : List ℕ) (n most bound : ℕ) where
     pub column-is : Column places l n bound
     column-is = record { size = size_is; below = below-is; after = after_is }
 
-  pub column-test : Column places l n bound → bound ≤ most + 1 → isColumn places l n most ≡ true
-  unfolding isColumn
+  pub column-test : Column places l n bound → bound ≤ most + 1 → is_column places l n most ≡ true
+  unfolding is_column
   column-test c limit =
       both (eq-eqb (length l) places c.size)
       (both

@@ -10,12 +10,12 @@ use lib.ListN.{length, get_or, take, drop, set, length-append, take-append-drop}
 use lib.Seq.{length-take-le, take_at, drop_at, take-suc, take-set-le, drop-append-add, drop-drop, set_split}
 use Rattle.arithmetic.specs.Row.{place}
 use Rattle.arithmetic.proofs.PlaceLaws.{length-place}
-use Rattle.job_record.specs.Bytes.{numberBytes}
-use Rattle.job_record.specs.Form.{stepsAt, reversionAt, volatilityAt, versionAt, afterField, optionWidth, datesAt, listHead}
+use Rattle.job_record.specs.Bytes.{number_bytes}
+use Rattle.job_record.specs.Form.{steps_at, reversion_at, volatility_at, version_at, after_field, option_width, dates_at, list_head}
 use Rattle.job_record.specs.Grammar.{field, joined}
 use Rattle.job_record.proofs.Places.{digits-length, joined-size}
 use Rattle.job_record.proofs.Reread.{number_size}
-use Rattle.writer_laws.specs.inside.Parts.{headFields, kindBytes, listBytes}
+use Rattle.writer_laws.specs.inside.Parts.{head_fields, kind_bytes, list_bytes}
 
 pub place_none : (out : List ℕ) (at : ℕ) → place out at [] ≡ out
 unfolding place
@@ -51,18 +51,18 @@ unfolding place
 set-place out i x h = rw add-one (set_split out i x h)
 
 -- no byte of a number; and its last byte, with the others placed before it
-pub number-none : (out : List ℕ) (at width value : ℕ) → width ≤ 0 → out ≡ place out at (numberBytes width value)
-unfolding numberBytes
+pub number-none : (out : List ℕ) (at width value : ℕ) → width ≤ 0 → out ≡ place out at (number_bytes width value)
+unfolding number_bytes
 number-none out at width value h =
     let none : width ≡ 0 = omega arith in
     rw none (sym (place_none out at))
 
 number-before :
     (out : List ℕ) (at k value : ℕ) → at + suc k ≤ length out
-    → place (set out (at + k) (value % 256)) at (numberBytes k (value / 256)) ≡ place out at (numberBytes (suc k) value)
-unfolding place numberBytes
+    → place (set out (at + k) (value % 256)) at (number_bytes k (value / 256)) ≡ place out at (number_bytes (suc k) value)
+unfolding place number_bytes
 number-before out at k value h =
-    let a = numberBytes k (value / 256) in
+    let a = number_bytes k (value / 256) in
     let x = value % 256 in
     let size : length a ≡ k = digits-length k (value / 256) in
     let longer : at + length (a ++ (x ∷ [])) ≡ suc (at + k) = simp length-append (omega (arith, size)) in
@@ -74,7 +74,7 @@ number-before out at k value h =
 
 pub number-last :
     (out : List ℕ) (at width value : ℕ) → 0 < width → at + width ≤ length out
-    → place (set out (at + (width - 1)) (value % 256)) at (numberBytes (width - 1) (value / 256)) ≡ place out at (numberBytes width value)
+    → place (set out (at + (width - 1)) (value % 256)) at (number_bytes (width - 1) (value / 256)) ≡ place out at (number_bytes width value)
 number-last out at zero value some h = absurd (not-suc-le-zero some)
 number-last out at (suc k) value some h = let less : suc k - 1 ≡ k = omega arith in rw less (number-before out at k value h)
 
@@ -130,51 +130,51 @@ fields-more out l₁ l₂ from size i p f same here room e₁ e₂ =
 -- a field: tag and length, then its data
 module _ (out : List ℕ) (at tag : ℕ) where
   pub tag-placed :
-      {l : List ℕ} (size : ℕ) → at + 3 ≤ length out → l ≡ place (set out at tag) (at + 1) (numberBytes 2 size)
-      → l ≡ place out at (tag ∷ numberBytes 2 size)
+      {l : List ℕ} (size : ℕ) → at + 3 ≤ length out → l ≡ place (set out at tag) (at + 1) (number_bytes 2 size)
+      → l ≡ place out at (tag ∷ number_bytes 2 size)
   tag-placed {l} size room e =
-      place-two out (set out at tag) l at (at + 1) (tag ∷ []) (numberBytes 2 size) (set-place out at tag (omega arith)) refl e (omega arith)
+      place-two out (set out at tag) l at (at + 1) (tag ∷ []) (number_bytes 2 size) (set-place out at tag (omega arith)) refl e (omega arith)
 
   pub field-placed :
-      {l₁ l₂ : List ℕ} {size : ℕ} (content : List ℕ) → l₁ ≡ place out at (tag ∷ numberBytes 2 size) → length content ≡ size
+      {l₁ l₂ : List ℕ} {size : ℕ} (content : List ℕ) → l₁ ≡ place out at (tag ∷ number_bytes 2 size) → length content ≡ size
       → l₂ ≡ place l₁ (at + 3) content → at + 3 ≤ length out → l₂ ≡ place out at (field tag content)
   unfolding field
   field-placed {l₁} {l₂} {size} content e₁ long e₂ room =
-      let two : length (numberBytes 2 size) ≡ 2 = digits-length 2 size in
-      rw long (place-two out l₁ l₂ at (at + 3) (tag ∷ numberBytes 2 size) content e₁ (omega arith) e₂ room)
+      let two : length (number_bytes 2 size) ≡ 2 = digits-length 2 size in
+      rw long (place-two out l₁ l₂ at (at + 3) (tag ∷ number_bytes 2 size) content e₁ (omega arith) e₂ room)
 
 -- the fields of the head
 pub head-placed :
-    (out : List ℕ) {l₁ l₂ l₃ l₄ : List ℕ} (f n b s : ℕ) → versionAt ≤ length out → l₁ ≡ place out 0 (field 1 (numberBytes 1 f))
-    → l₂ ≡ place l₁ stepsAt (field 2 (numberBytes 1 n)) → l₃ ≡ place l₂ reversionAt (field 3 (numberBytes 2 b))
-    → l₄ ≡ place l₃ volatilityAt (field 4 (numberBytes 4 s)) → l₄ ≡ place out 0 (headFields f n b s)
+    (out : List ℕ) {l₁ l₂ l₃ l₄ : List ℕ} (f n b s : ℕ) → version_at ≤ length out → l₁ ≡ place out 0 (field 1 (number_bytes 1 f))
+    → l₂ ≡ place l₁ steps_at (field 2 (number_bytes 1 n)) → l₃ ≡ place l₂ reversion_at (field 3 (number_bytes 2 b))
+    → l₄ ≡ place l₃ volatility_at (field 4 (number_bytes 4 s)) → l₄ ≡ place out 0 (head_fields f n b s)
 head-placed out {l₁} {l₂} {l₃} {l₄} f n b s room e₁ e₂ e₃ e₄ =
-    place-four out l₁ l₂ 0 stepsAt (field 1 (numberBytes 1 f)) (field 2 (numberBytes 1 n)) e₁ (omega (arith, number_size 1 1 f)) e₂ l₃ reversionAt
-    (field 3 (numberBytes 2 b)) (omega (arith, number_size 2 1 n)) e₃ l₄ volatilityAt (field 4 (numberBytes 4 s))
+    place-four out l₁ l₂ 0 steps_at (field 1 (number_bytes 1 f)) (field 2 (number_bytes 1 n)) e₁ (omega (arith, number_size 1 1 f)) e₂ l₃ reversion_at
+    (field 3 (number_bytes 2 b)) (omega (arith, number_size 2 1 n)) e₃ l₄ volatility_at (field 4 (number_bytes 4 s))
     (omega (arith, number_size 3 2 b)) e₄ (omega arith)
 
 -- the data of an option of a kind, and of one with a list of dates
 module _ (out : List ℕ) {l₁ l₂ l₃ l₄ : List ℕ} (at : ℕ) where
   pub kind-placed :
-      (kind expiry strike : ℕ) → afterField at optionWidth ≤ length out → length l₁ ≡ length out
-      → l₁ ≡ place out at (8 ∷ numberBytes 2 optionWidth) → l₂ ≡ place l₁ (at + 3) (numberBytes 1 kind)
-      → l₃ ≡ place l₂ (at + 3 + 1) (numberBytes 1 expiry) → l₄ ≡ place l₃ (at + 3 + 2) (numberBytes 4 strike)
-      → l₄ ≡ place out at (field 8 (kindBytes kind expiry strike))
+      (kind expiry strike : ℕ) → after_field at option_width ≤ length out → length l₁ ≡ length out
+      → l₁ ≡ place out at (8 ∷ number_bytes 2 option_width) → l₂ ≡ place l₁ (at + 3) (number_bytes 1 kind)
+      → l₃ ≡ place l₂ (at + 3 + 1) (number_bytes 1 expiry) → l₄ ≡ place l₃ (at + 3 + 2) (number_bytes 4 strike)
+      → l₄ ≡ place out at (field 8 (kind_bytes kind expiry strike))
   kind-placed kind expiry strike room same e₁ e₂ e₃ e₄ =
-      let long : length (kindBytes kind expiry strike) ≡ optionWidth = simp (length-append, digits-length) in
-      field-placed out at 8 (kindBytes kind expiry strike) e₁ long
-      (place-three l₁ l₂ l₃ (at + 3) (at + 3 + 1) (numberBytes 1 kind) (numberBytes 1 expiry) e₂ (omega (arith, digits-length 1 kind)) e₃ l₄ (at + 3 + 2)
-      (numberBytes 4 strike) (omega (arith, digits-length 1 expiry)) e₄ (omega arith))
+      let long : length (kind_bytes kind expiry strike) ≡ option_width = simp (length-append, digits-length) in
+      field-placed out at 8 (kind_bytes kind expiry strike) e₁ long
+      (place-three l₁ l₂ l₃ (at + 3) (at + 3 + 1) (number_bytes 1 kind) (number_bytes 1 expiry) e₂ (omega (arith, digits-length 1 kind)) e₃ l₄ (at + 3 + 2)
+      (number_bytes 4 strike) (omega (arith, digits-length 1 expiry)) e₄ (omega arith))
       (omega arith)
 
   pub list-placed :
-      (side strike : ℕ) (dates : List ℕ) → datesAt at + length dates ≤ length out → length l₁ ≡ length out
-      → l₁ ≡ place out at (10 ∷ numberBytes 2 (listHead + length dates)) → l₂ ≡ place l₁ (at + 3) (numberBytes 1 side)
-      → l₃ ≡ place l₂ (at + 3 + 1) (numberBytes 4 strike) → l₄ ≡ place l₃ (at + 3 + listHead) dates
-      → l₄ ≡ place out at (field 10 (listBytes side strike dates))
+      (side strike : ℕ) (dates : List ℕ) → dates_at at + length dates ≤ length out → length l₁ ≡ length out
+      → l₁ ≡ place out at (10 ∷ number_bytes 2 (list_head + length dates)) → l₂ ≡ place l₁ (at + 3) (number_bytes 1 side)
+      → l₃ ≡ place l₂ (at + 3 + 1) (number_bytes 4 strike) → l₄ ≡ place l₃ (at + 3 + list_head) dates
+      → l₄ ≡ place out at (field 10 (list_bytes side strike dates))
   list-placed side strike dates room same e₁ e₂ e₃ e₄ =
-      let long : length (listBytes side strike dates) ≡ listHead + length dates = simp (length-append, digits-length) (omega arith) in
-      field-placed out at 10 (listBytes side strike dates) e₁ long
-      (place-three l₁ l₂ l₃ (at + 3) (at + 3 + 1) (numberBytes 1 side) (numberBytes 4 strike) e₂ (omega (arith, digits-length 1 side)) e₃ l₄
-      (at + 3 + listHead) dates (omega (arith, digits-length 4 strike)) e₄ (omega arith))
+      let long : length (list_bytes side strike dates) ≡ list_head + length dates = simp (length-append, digits-length) (omega arith) in
+      field-placed out at 10 (list_bytes side strike dates) e₁ long
+      (place-three l₁ l₂ l₃ (at + 3) (at + 3 + 1) (number_bytes 1 side) (number_bytes 4 strike) e₂ (omega (arith, digits-length 1 side)) e₃ l₄
+      (at + 3 + list_head) dates (omega (arith, digits-length 4 strike)) e₄ (omega arith))
       (omega arith)

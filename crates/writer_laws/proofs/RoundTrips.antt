@@ -13,14 +13,14 @@ use Rattle.arithmetic.specs.declared.Answer.{Answer}
 use Rattle.arithmetic.proofs.Numbers.{by_order}
 use Rattle.arithmetic.proofs.PlaceLaws.{place-front}
 use Rattle.job_record.specs.Bytes.{Bytes}
-use Rattle.job_record.specs.Form.{mostBytes}
-use Rattle.job_record.specs.Reader.{acceptedReading}
+use Rattle.job_record.specs.Form.{most_bytes}
+use Rattle.job_record.specs.Reader.{accepted_reading}
 use Rattle.job_record.specs.Grammar.{encode, Encodes, ReadsAs}
 use Rattle.job_record.specs.declared.Job.{Job}
 use Rattle.job_record.specs.declared.Reading.{Reading}
 use Rattle.job_record.proofs.ReadLaws.{reads, read-encoded}
-use Rattle.writer_laws.specs.Sound.{isSound}
-use Rattle.writer_laws.specs.Writer.{written, writtenMemory}
+use Rattle.writer_laws.specs.Sound.{is_sound}
+use Rattle.writer_laws.specs.Writer.{written, written_memory}
 use Rattle.writer_laws.proofs.BytesLaws.{encode-bytes}
 use Rattle.writer_laws.proofs.SoundTests.{sound-job, job-test}
 use Rattle.writer_laws.proofs.WriteLaws.{written-unsound, written-long, written-beyond, written-whole, memory-written}
@@ -49,26 +49,26 @@ module _ (s : List ℕ) (r : Reading) (h : ReadsAs s r) (accepted : r.number ≡
   pub written-after-reading : written r.job (length out) ≡ answered (length s)
   written-after-reading = encodes-written s r.job (h.only accepted) (length out) enough
 
-  pub bytes-after-reading : writtenMemory r.job out ≡ place out 0 s
+  pub bytes-after-reading : written_memory r.job out ≡ place out 0 s
   bytes-after-reading = memory-written r.job out (length s) written-after-reading ∙ ap (place out 0) (h.only accepted).fields
 
 -- the answer of writing, by cases
 module _ (job : Job) (room : ℕ) where
-  by-sound : (t : Bool) → isSound job ≡ t → ((written job room).number ≡ 1 → ⊥) → Encodes (encode job) job
+  by-sound : (t : Bool) → is_sound job ≡ t → ((written job room).number ≡ 1 → ⊥) → Encodes (encode job) job
   by-sound true sound other =
-      by_order (length (encode job)) mostBytes (λ short. record { sound = sound-job job sound; fields = refl; short = short })
+      by_order (length (encode job)) most_bytes (λ short. record { sound = sound-job job sound; fields = refl; short = short })
       (λ long. absurd (other (ap (λ (a : Answer). a.number) (written-long job room sound long))))
   by-sound false unsound other = absurd (other (ap (λ (a : Answer). a.number) (written-unsound job room unsound)))
 
   -- a record that is not refused with 1 is a job's
   pub written-encodes : ((written job room).number ≡ 1 → ⊥) → Encodes (encode job) job
-  written-encodes = by-sound (isSound job) refl
+  written-encodes = by-sound (is_sound job) refl
 
   -- 0, 1 or 6
   answers_by :
-      (t : Bool) → isSound job ≡ t → ((written job room).number ≡ 0) ⊎ ((written job room ≡ refused 1) ⊎ (written job room ≡ refused 6))
+      (t : Bool) → is_sound job ≡ t → ((written job room).number ≡ 0) ⊎ ((written job room ≡ refused 1) ⊎ (written job room ≡ refused 6))
   answers_by true sound =
-      by_order (length (encode job)) mostBytes
+      by_order (length (encode job)) most_bytes
       (λ short.
       by_order (length (encode job)) room (λ enough. inl (ap (λ (a : Answer). a.number) (written-whole job room sound short enough)))
       (λ few. inr (inr (written-beyond job room sound short few))))
@@ -76,15 +76,15 @@ module _ (job : Job) (room : ℕ) where
   answers_by false unsound = inr (inl (written-unsound job room unsound))
 
   pub answers : ((written job room).number ≡ 0) ⊎ ((written job room ≡ refused 1) ⊎ (written job room ≡ refused 6))
-  answers = answers_by (isSound job) refl
+  answers = answers_by (is_sound job) refl
 
   -- 1 is given exactly where no bytes are read as the record
-  pub none-read-as : (written job room).number ≡ 1 → (s : List ℕ) (r : Reading) → ReadsAs s r → r ≡ acceptedReading job → ⊥
+  pub none-read-as : (written job room).number ≡ 1 → (s : List ℕ) (r : Reading) → ReadsAs s r → r ≡ accepted_reading job → ⊥
   none-read-as one s r h e =
       let accepted : r.number ≡ 0 = ap (λ (x : Reading). x.number) e in
       encodes-never-one s job (subst (λ (x : Reading). Encodes s x.job) e (h.only accepted)) room one
 
-  pub some-read-as : ((written job room).number ≡ 1 → ⊥) → ReadsAs (encode job) (acceptedReading job) × Bytes (encode job)
+  pub some-read-as : ((written job room).number ≡ 1 → ⊥) → ReadsAs (encode job) (accepted_reading job) × Bytes (encode job)
   some-read-as other =
       let e = written-encodes other in
       let b = encode-bytes job e.sound in
@@ -116,12 +116,12 @@ module _ (job : Job) (out : List ℕ) (done : (written job (length out)).number 
       let none : ⊥ = omega arith in
       absurd none)
 
-  pub bytes-written : take (written job (length out)).value (writtenMemory job out) ≡ encode job
+  pub bytes-written : take (written job (length out)).value (written_memory job out) ≡ encode job
   bytes-written =
       rw (whole-answer, memory-written job out (length (encode job)) whole-answer)
       (place-front out (encode job) (length (encode job)) refl)
 
-  pub read-after-writing : (r : Reading) → ReadsAs (take (written job (length out)).value (writtenMemory job out)) r → r ≡ acceptedReading job
+  pub read-after-writing : (r : Reading) → ReadsAs (take (written job (length out)).value (written_memory job out)) r → r ≡ accepted_reading job
   read-after-writing r h =
       let same : ReadsAs (encode job) r = rw bytes-written at h in
       same.reads job (written-encodes job (length out) not-one)

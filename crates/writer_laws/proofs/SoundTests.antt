@@ -11,15 +11,15 @@ use lib.ListN.{length, replicate}
 use Rattle.arithmetic.specs.Row.{values}
 use Rattle.arithmetic.proofs.Numbers.{by_equal}
 use Rattle.arithmetic.proofs.RowLaws.{each_all, each_holds, each_none, each_more, each-fails}
-use Rattle.job_record.specs.Form.{mostJobSteps, mostDates, isKind}
-use Rattle.job_record.specs.Reader.{noOption}
+use Rattle.job_record.specs.Form.{most_job_steps, most_dates, is_kind}
+use Rattle.job_record.specs.Reader.{no_option}
 use Rattle.job_record.specs.Grammar.{Column, SoundOption, SoundJob}
 use Rattle.job_record.specs.declared.OptionRecord.{OptionRecord}
 use Rattle.job_record.specs.declared.Job.{Job}
 use Rattle.job_record.proofs.Answers.{first, second, both}
 use Rattle.job_record.proofs.Columns.{column-zeros}
-use Rattle.writer_laws.specs.Sound.{mostIn, isColumn, areKinds, areColumns, versionFits, headFits, optionFits, isAbsent, optionBelongs}
-use Rattle.writer_laws.specs.Sound.{isSoundOption, isSound}
+use Rattle.writer_laws.specs.Sound.{most_in, is_column, are_kinds, are_columns, version_fits, head_fits, option_fits, is_absent, option_belongs}
+use Rattle.writer_laws.specs.Sound.{is_sound_option, is_sound}
 use Rattle.writer_laws.proofs.ColumnTests.{column-is, column-test}
 
 -- four limits, one after the other
@@ -41,56 +41,56 @@ module _ (a b c d ma mb mc md : ℕ) where
   four-test p q r s = both (le-leb a ma p) (both (le-leb b mb q) (both (le-leb c mc r) (le-leb d md s)))
 
 -- as many dates as a record has places for
-pub dates-few : (kind expiry strike count : ℕ) → optionFits kind expiry strike count ≡ true → count ≤ mostDates
-unfolding optionFits
-dates-few kind expiry strike count h = (four-holds kind expiry strike count (mostIn 1) (mostIn 1) (mostIn 4) mostDates h).3
+pub dates-few : (kind expiry strike count : ℕ) → option_fits kind expiry strike count ≡ true → count ≤ most_dates
+unfolding option_fits
+dates-few kind expiry strike count h = (four-holds kind expiry strike count (most_in 1) (most_in 1) (most_in 4) most_dates h).3
 
 -- the numbers of a head, and its version
-module _ (f n b s v : ℕ) (h : headFits f n b s v ≡ true) where
-  head-holds : (f ≤ mostIn 1) × (n ≤ mostIn 1) × (b ≤ mostIn 2) × (s ≤ mostIn 4)
-  unfolding headFits
+module _ (f n b s v : ℕ) (h : head_fits f n b s v ≡ true) where
+  head-holds : (f ≤ most_in 1) × (n ≤ most_in 1) × (b ≤ most_in 2) × (s ≤ most_in 4)
+  unfolding head_fits
   head-holds =
-      four-holds f n b s (mostIn 1) (mostIn 1) (mostIn 2) (mostIn 4)
-      (first (four f n b s (mostIn 1) (mostIn 1) (mostIn 2) (mostIn 4)) _ h)
+      four-holds f n b s (most_in 1) (most_in 1) (most_in 2) (most_in 4)
+      (first (four f n b s (most_in 1) (most_in 1) (most_in 2) (most_in 4)) _ h)
 
-  version-holds : versionFits v ≡ true
-  unfolding headFits
-  version-holds = second (four f n b s (mostIn 1) (mostIn 1) (mostIn 2) (mostIn 4)) h
+  version-holds : version_fits v ≡ true
+  unfolding head_fits
+  version-holds = second (four f n b s (most_in 1) (most_in 1) (most_in 2) (most_in 4)) h
 
-pub steps-few : (f : ℕ) {n : ℕ} (b s v : ℕ) → headFits f n b s v ≡ true → n ≤ mostJobSteps
+pub steps-few : (f : ℕ) {n : ℕ} (b s v : ℕ) → head_fits f n b s v ≡ true → n ≤ most_job_steps
 steps-few f {n} b s v h = (head-holds f n b s v h).1
 
 -- kinds: none, one more, one that is none, and all of them
 module _ (kinds : List ℕ) where
-  pub kinds-none : areKinds kinds 0 ≡ true
-  unfolding areKinds
-  kinds-none = each_none (λ k. isKind (values kinds k))
+  pub kinds-none : are_kinds kinds 0 ≡ true
+  unfolding are_kinds
+  kinds-none = each_none (λ k. is_kind (values kinds k))
 
-  pub kinds-more : (n : ℕ) → areKinds kinds n ≡ true → isKind (values kinds n) ≡ true → areKinds kinds (n + 1) ≡ true
-  unfolding areKinds
-  kinds-more n = each_more n (λ k. isKind (values kinds k))
+  pub kinds-more : (n : ℕ) → are_kinds kinds n ≡ true → is_kind (values kinds n) ≡ true → are_kinds kinds (n + 1) ≡ true
+  unfolding are_kinds
+  kinds-more n = each_more n (λ k. is_kind (values kinds k))
 
-  pub kinds-fails : (n k : ℕ) → k < n → isKind (values kinds k) ≡ false → areKinds kinds n ≡ false
-  unfolding areKinds
-  kinds-fails n k = each-fails n k (λ i. isKind (values kinds i))
+  pub kinds-fails : (n k : ℕ) → k < n → is_kind (values kinds k) ≡ false → are_kinds kinds n ≡ false
+  unfolding are_kinds
+  kinds-fails n k = each-fails n k (λ i. is_kind (values kinds i))
 
-  kinds-each : (n : ℕ) → areKinds kinds n ≡ true → (k : ℕ) → k < n → isKind (values kinds k) ≡ true
-  unfolding areKinds
-  kinds-each n h k = each_holds n k (λ i. isKind (values kinds i)) h
+  kinds-each : (n : ℕ) → are_kinds kinds n ≡ true → (k : ℕ) → k < n → is_kind (values kinds k) ≡ true
+  unfolding are_kinds
+  kinds-each n h k = each_holds n k (λ i. is_kind (values kinds i)) h
 
-  kinds-test : (n : ℕ) → ((k : ℕ) → k < n → isKind (values kinds k) ≡ true) → areKinds kinds n ≡ true
-  unfolding areKinds
-  kinds-test n = each_all n (λ i. isKind (values kinds i))
+  kinds-test : (n : ℕ) → ((k : ℕ) → k < n → is_kind (values kinds k) ≡ true) → are_kinds kinds n ≡ true
+  unfolding are_kinds
+  kinds-test n = each_all n (λ i. is_kind (values kinds i))
 
 -- an option that is not there
 no-option-is :
-    (t k e s c : ℕ) (d : List ℕ) → t ≡ 0 → k ≡ 0 → e ≡ 0 → s ≡ 0 → c ≡ 0 → replicate mostDates 0 ≡ d
-    → record { tag = t; kind = k; expiry = e; strike = s; count = c; dates = d } ≡ noOption
+    (t k e s c : ℕ) (d : List ℕ) → t ≡ 0 → k ≡ 0 → e ≡ 0 → s ≡ 0 → c ≡ 0 → replicate most_dates 0 ≡ d
+    → record { tag = t; kind = k; expiry = e; strike = s; count = c; dates = d } ≡ no_option
 no-option-is t k e s c d p q r u v w = rw (p, q, r, u, v, ← w)
 
-module _ (t k e s c : ℕ) (h : isAbsent t k e s c ≡ true) where
+module _ (t k e s c : ℕ) (h : is_absent t k e s c ≡ true) where
   absent-parts : (t ≡ 0) × (k ≡ 0) × (e ≡ 0) × (s ≡ 0) × (c ≡ 0)
-  unfolding isAbsent
+  unfolding is_absent
   absent-parts =
       let h₂ = second (eqb t 0) h in
       let h₃ = second (eqb k 0) h₂ in
@@ -102,55 +102,55 @@ module _ (t k e s c : ℕ) (h : isAbsent t k e s c ≡ true) where
         eqb-true c 0 (second (eqb s 0) h₄),
       )
 
-absent-test : (t k e s c : ℕ) → t ≡ 0 → k ≡ 0 → e ≡ 0 → s ≡ 0 → c ≡ 0 → isAbsent t k e s c ≡ true
-unfolding isAbsent
+absent-test : (t k e s c : ℕ) → t ≡ 0 → k ≡ 0 → e ≡ 0 → s ≡ 0 → c ≡ 0 → is_absent t k e s c ≡ true
+unfolding is_absent
 absent-test t k e s c p q r u v = rw (p, q, r, u, v)
 
 -- by the tag
 module _ {t : ℕ} (k e s c : ℕ) where
-  pub belongs-kind : t ≡ 8 → optionBelongs t k e s c ≡ eqb c 0
-  unfolding optionBelongs
+  pub belongs-kind : t ≡ 8 → option_belongs t k e s c ≡ eqb c 0
+  unfolding option_belongs
   belongs-kind tag = rw (eq-eqb t 8 tag)
 
   module _ (unlike : t ≡ 8 → ⊥) where
-    pub belongs-list : t ≡ 10 → optionBelongs t k e s c ≡ eqb e 0
-    unfolding optionBelongs
+    pub belongs-list : t ≡ 10 → option_belongs t k e s c ≡ eqb e 0
+    unfolding option_belongs
     belongs-list tag = rw (ne_eqb t 8 unlike, eq-eqb t 10 tag)
 
-    pub belongs-none : (t ≡ 10 → ⊥) → optionBelongs t k e s c ≡ isAbsent t k e s c
-    unfolding optionBelongs
+    pub belongs-none : (t ≡ 10 → ⊥) → option_belongs t k e s c ≡ is_absent t k e s c
+    unfolding option_belongs
     belongs-none neither = rw (ne_eqb t 8 unlike, ne_eqb t 10 neither)
 
 module _ (option : OptionRecord) where
   abbrev pub fits : Bool
-  fits = optionFits option.kind option.expiry option.strike option.count
+  fits = option_fits option.kind option.expiry option.strike option.count
 
   abbrev pub belonging : Bool
-  belonging = optionBelongs option.tag option.kind option.expiry option.strike option.count
+  belonging = option_belongs option.tag option.kind option.expiry option.strike option.count
 
-  module _ (h : isSoundOption option ≡ true) where
+  module _ (h : is_sound_option option ≡ true) where
     option-numbers :
-        (option.kind ≤ mostIn 1) × (option.expiry ≤ mostIn 1) × (option.strike ≤ mostIn 4) × (option.count ≤ mostDates)
-    unfolding isSoundOption optionFits
+        (option.kind ≤ most_in 1) × (option.expiry ≤ most_in 1) × (option.strike ≤ most_in 4) × (option.count ≤ most_dates)
+    unfolding is_sound_option option_fits
     option-numbers =
-        four-holds option.kind option.expiry option.strike option.count (mostIn 1) (mostIn 1) (mostIn 4) mostDates (first fits _ h)
+        four-holds option.kind option.expiry option.strike option.count (most_in 1) (most_in 1) (most_in 4) most_dates (first fits _ h)
 
     option-own : belonging ≡ true
-    unfolding isSoundOption
+    unfolding is_sound_option
     option-own = first belonging _ (second fits h)
 
-    option-dates : Column mostDates option.dates option.count 256
-    unfolding isSoundOption
+    option-dates : Column most_dates option.dates option.count 256
+    unfolding is_sound_option
     option-dates =
-        column-is mostDates option.dates option.count (mostIn 1) 256 (second belonging (second fits h)) (omega arith)
+        column-is most_dates option.dates option.count (most_in 1) 256 (second belonging (second fits h)) (omega arith)
 
-    option-absent : (option.tag ≡ 8 → ⊥) → (option.tag ≡ 10 → ⊥) → option ≡ noOption
+    option-absent : (option.tag ≡ 8 → ⊥) → (option.tag ≡ 10 → ⊥) → option ≡ no_option
     option-absent unlike neither =
         let none = belongs-none option.kind option.expiry option.strike option.count unlike neither in
         let parts = absent-parts option.tag option.kind option.expiry option.strike option.count (sym none ∙ option-own) in
-        let unlisted : Column mostDates option.dates 0 256 = rw parts.4 at option-dates in
+        let unlisted : Column most_dates option.dates 0 256 = rw parts.4 at option-dates in
         no-option-is option.tag option.kind option.expiry option.strike option.count option.dates parts.0 parts.1 parts.2
-        parts.3 parts.4 (column-zeros mostDates option.dates 256 unlisted)
+        parts.3 parts.4 (column-zeros most_dates option.dates 256 unlisted)
 
     pub sound-option : SoundOption option
     sound-option =
@@ -177,54 +177,54 @@ module _ (option : OptionRecord) where
         by_equal option.tag 10
         (λ tag. belongs-list _ option.expiry _ _ unlike tag ∙ eq-eqb option.expiry 0 (sound.no-expiry tag))
         (λ neither.
-        let none : option ≡ noOption = sound.absent unlike neither in
+        let none : option ≡ no_option = sound.absent unlike neither in
         belongs-none option.kind option.expiry option.strike option.count unlike neither
         ∙ absent-test option.tag option.kind option.expiry option.strike option.count (rw none) (rw none) (rw none) (rw none) (rw none)))
 
-    pub option-test : isSoundOption option ≡ true
-    unfolding isSoundOption optionFits
+    pub option-test : is_sound_option option ≡ true
+    unfolding is_sound_option option_fits
     option-test =
         both
-        (four-test option.kind option.expiry option.strike option.count (mostIn 1) (mostIn 1) (mostIn 4) mostDates
+        (four-test option.kind option.expiry option.strike option.count (most_in 1) (most_in 1) (most_in 4) most_dates
         (omega (arith, sound.kind)) (omega (arith, sound.expiry)) (omega (arith, sound.strike)) sound.few)
-        (both own-test (column-test mostDates option.dates option.count (mostIn 1) 256 sound.dates (omega arith)))
+        (both own-test (column-test most_dates option.dates option.count (most_in 1) 256 sound.dates (omega arith)))
 
 module _ (job : Job) where
   abbrev pub head : Bool
-  head = headFits job.frequency job.steps job.reversion job.volatility job.version
+  head = head_fits job.frequency job.steps job.reversion job.volatility job.version
 
   abbrev pub columns : Bool
-  columns = areColumns job.kinds job.figures job.flows job.steps
+  columns = are_columns job.kinds job.figures job.flows job.steps
 
-  module _ (h : isSound job ≡ true) where
+  module _ (h : is_sound job ≡ true) where
     head-hold : head ≡ true
-    unfolding isSound
+    unfolding is_sound
     head-hold = first head _ h
 
-    head-numbers : (job.frequency ≤ mostIn 1) × (job.steps ≤ mostIn 1) × (job.reversion ≤ mostIn 2) × (job.volatility ≤ mostIn 4)
+    head-numbers : (job.frequency ≤ most_in 1) × (job.steps ≤ most_in 1) × (job.reversion ≤ most_in 2) × (job.volatility ≤ most_in 4)
     head-numbers = head-holds job.frequency job.steps job.reversion job.volatility job.version head-hold
 
     columns-hold : columns ≡ true
-    unfolding isSound
+    unfolding is_sound
     columns-hold = first columns _ (second head h)
 
-    kinds-hold : areKinds job.kinds job.steps ≡ true
-    unfolding areColumns
-    kinds-hold = first (areKinds job.kinds job.steps) _ columns-hold
+    kinds-hold : are_kinds job.kinds job.steps ≡ true
+    unfolding are_columns
+    kinds-hold = first (are_kinds job.kinds job.steps) _ columns-hold
 
     after-kinds :
-        (isColumn mostJobSteps job.kinds job.steps (mostIn 1)
-        && (isColumn mostJobSteps job.figures job.steps (mostIn 8) && isColumn mostJobSteps job.flows job.steps (mostIn 4)))
+        (is_column most_job_steps job.kinds job.steps (most_in 1)
+        && (is_column most_job_steps job.figures job.steps (most_in 8) && is_column most_job_steps job.flows job.steps (most_in 4)))
         ≡ true
-    unfolding areColumns
-    after-kinds = second (areKinds job.kinds job.steps) columns-hold
+    unfolding are_columns
+    after-kinds = second (are_kinds job.kinds job.steps) columns-hold
 
     after-tags :
-        (isColumn mostJobSteps job.figures job.steps (mostIn 8) && isColumn mostJobSteps job.flows job.steps (mostIn 4)) ≡ true
-    after-tags = second (isColumn mostJobSteps job.kinds job.steps (mostIn 1)) after-kinds
+        (is_column most_job_steps job.figures job.steps (most_in 8) && is_column most_job_steps job.flows job.steps (most_in 4)) ≡ true
+    after-tags = second (is_column most_job_steps job.kinds job.steps (most_in 1)) after-kinds
 
-    option-hold : isSoundOption job.option ≡ true
-    unfolding isSound
+    option-hold : is_sound_option job.option ≡ true
+    unfolding is_sound
     option-hold = second columns (second head h)
 
     pub sound-job : SoundJob job
@@ -236,78 +236,78 @@ module _ (job : Job) where
           reversion = omega arith;
           volatility = omega arith;
           version = version-holds job.frequency job.steps job.reversion job.volatility job.version head-hold;
-          kinds = column-is mostJobSteps job.kinds job.steps (mostIn 1) 256 (first _ _ after-kinds) (omega arith);
+          kinds = column-is most_job_steps job.kinds job.steps (most_in 1) 256 (first _ _ after-kinds) (omega arith);
           kind = kinds-each job.kinds job.steps kinds-hold;
-          figures = column-is mostJobSteps job.figures job.steps (mostIn 8) _ (first _ _ after-tags) (omega arith);
+          figures = column-is most_job_steps job.figures job.steps (most_in 8) _ (first _ _ after-tags) (omega arith);
           flows =
-              column-is mostJobSteps job.flows job.steps (mostIn 4) _
-              (second (isColumn mostJobSteps job.figures job.steps (mostIn 8)) after-tags) (omega arith);
+              column-is most_job_steps job.flows job.steps (most_in 4) _
+              (second (is_column most_job_steps job.figures job.steps (most_in 8)) after-tags) (omega arith);
           option = sound-option job.option option-hold;
         }
 
-  pub job-test : SoundJob job → isSound job ≡ true
-  unfolding isSound headFits areColumns
+  pub job-test : SoundJob job → is_sound job ≡ true
+  unfolding is_sound head_fits are_columns
   job-test sound =
       both
       (both
-      (four-test job.frequency job.steps job.reversion job.volatility (mostIn 1) (mostIn 1) (mostIn 2) (mostIn 4)
+      (four-test job.frequency job.steps job.reversion job.volatility (most_in 1) (most_in 1) (most_in 2) (most_in 4)
       (omega (arith, sound.frequency)) (omega (arith, sound.steps)) (omega (arith, sound.reversion)) (omega (arith, sound.volatility)))
       sound.version)
       (both
       (both (kinds-test job.kinds job.steps sound.kind)
-      (both (column-test mostJobSteps job.kinds job.steps (mostIn 1) 256 sound.kinds (omega arith))
-      (both (column-test mostJobSteps job.figures job.steps (mostIn 8) _ sound.figures (omega arith))
-      (column-test mostJobSteps job.flows job.steps (mostIn 4) _ sound.flows (omega arith)))))
+      (both (column-test most_job_steps job.kinds job.steps (most_in 1) 256 sound.kinds (omega arith))
+      (both (column-test most_job_steps job.figures job.steps (most_in 8) _ sound.figures (omega arith))
+      (column-test most_job_steps job.flows job.steps (most_in 4) _ sound.flows (omega arith)))))
       (option-test job.option sound.option))
 
 -- the answers of the code, by the test that fails first
-pub column-here : {r : Bool} (places : ℕ) (l : List ℕ) (n most : ℕ) → length l ≡ places → r ≡ isColumn (length l) l n most → r ≡ isColumn places l n most
+pub column-here : {r : Bool} (places : ℕ) (l : List ℕ) (n most : ℕ) → length l ≡ places → r ≡ is_column (length l) l n most → r ≡ is_column places l n most
 column-here places l n most long e = e ∙ rw long
 
 module _ (kinds figures flows : List ℕ) (n : ℕ) where
-  pub no-kinds : areKinds kinds n ≡ false → false ≡ areColumns kinds figures flows n
-  unfolding areColumns
+  pub no-kinds : are_kinds kinds n ≡ false → false ≡ are_columns kinds figures flows n
+  unfolding are_columns
   no-kinds bad = rw bad
 
-  module _ (good : areKinds kinds n ≡ true) where
-    pub no-tags : isColumn mostJobSteps kinds n (mostIn 1) ≡ false → false ≡ areColumns kinds figures flows n
-    unfolding areColumns
+  module _ (good : are_kinds kinds n ≡ true) where
+    pub no-tags : is_column most_job_steps kinds n (most_in 1) ≡ false → false ≡ are_columns kinds figures flows n
+    unfolding are_columns
     no-tags bad = rw (good, bad)
 
-    module _ (tags : isColumn mostJobSteps kinds n (mostIn 1) ≡ true) where
-      pub no-figures : isColumn mostJobSteps figures n (mostIn 8) ≡ false → false ≡ areColumns kinds figures flows n
-      unfolding areColumns
+    module _ (tags : is_column most_job_steps kinds n (most_in 1) ≡ true) where
+      pub no-figures : is_column most_job_steps figures n (most_in 8) ≡ false → false ≡ are_columns kinds figures flows n
+      unfolding are_columns
       no-figures bad = rw (good, tags, bad)
 
       pub columns-by-flows :
-          isColumn mostJobSteps figures n (mostIn 8) ≡ true → isColumn mostJobSteps flows n (mostIn 4) ≡ areColumns kinds figures flows n
-      unfolding areColumns
+          is_column most_job_steps figures n (most_in 8) ≡ true → is_column most_job_steps flows n (most_in 4) ≡ are_columns kinds figures flows n
+      unfolding are_columns
       columns-by-flows numbers = rw (good, tags, numbers)
 
 module _ (option : OptionRecord) where
-  pub option-misfits : fits option ≡ false → false ≡ isSoundOption option
-  unfolding isSoundOption
+  pub option-misfits : fits option ≡ false → false ≡ is_sound_option option
+  unfolding is_sound_option
   option-misfits bad = rw bad
 
   module _ (good : fits option ≡ true) where
-    pub option-alien : belonging option ≡ false → false ≡ isSoundOption option
-    unfolding isSoundOption
+    pub option-alien : belonging option ≡ false → false ≡ is_sound_option option
+    unfolding is_sound_option
     option-alien bad = rw (good, bad)
 
-    pub option-by-dates : belonging option ≡ true → isColumn mostDates option.dates option.count (mostIn 1) ≡ isSoundOption option
-    unfolding isSoundOption
+    pub option-by-dates : belonging option ≡ true → is_column most_dates option.dates option.count (most_in 1) ≡ is_sound_option option
+    unfolding is_sound_option
     option-by-dates own = rw (good, own)
 
 module _ (job : Job) where
-  pub job-misfits : head job ≡ false → false ≡ isSound job
-  unfolding isSound
+  pub job-misfits : head job ≡ false → false ≡ is_sound job
+  unfolding is_sound
   job-misfits bad = rw bad
 
   module _ (good : head job ≡ true) where
-    pub job-columns : columns job ≡ false → false ≡ isSound job
-    unfolding isSound
+    pub job-columns : columns job ≡ false → false ≡ is_sound job
+    unfolding is_sound
     job-columns bad = rw (good, bad)
 
-    pub job-by-option : columns job ≡ true → isSoundOption job.option ≡ isSound job
-    unfolding isSound
+    pub job-by-option : columns job ≡ true → is_sound_option job.option ≡ is_sound job
+    unfolding is_sound
     job-by-option full = rw (good, full)

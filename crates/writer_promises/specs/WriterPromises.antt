@@ -4,10 +4,10 @@ use Rattle.std.specs.Prelude.{◌≡◌, List, [], ◌∷◌, ◌++◌, ◌⊎�
 use Rattle.arithmetic.specs.Row.{values}
 use Rattle.arithmetic.specs.Answers.{refused, answered}
 use Rattle.job_record.specs.Bytes.{Bytes}
-use Rattle.job_record.specs.Reader.{reading_of, acceptedReading}
+use Rattle.job_record.specs.Reader.{reading_of, accepted_reading}
 use Rattle.job_record.specs.declared.OptionRecord.{OptionRecord}
 use Rattle.job_record.specs.declared.Job.{Job}
-use Rattle.writer_laws.specs.Writer.{written, writtenMemory}
+use Rattle.writer_laws.specs.Writer.{written, written_memory}
 
 -- a number in one, two, four and eight bytes, the high byte first
 abbrev pub one : ℕ → List ℕ
@@ -63,26 +63,26 @@ pub record WriterPromises : Type 0 where
   -- what is written is the record in the one form that the reader takes, at the front of the memory; what stood behind it stays
   pub form-written : (job : Job) (out : List ℕ) → (written job (length out)).number ≡ 0 →
       (version option : List ℕ) → Version job version → Option job.option option →
-      writtenMemory job out ≡ form job version option ++ drop (written job (length out)).value out
+      written_memory job out ≡ form job version option ++ drop (written job (length out)).value out
   pub counted : (job : Job) (out : List ℕ) → (written job (length out)).number ≡ 0 →
       (version option : List ℕ) → Version job version → Option job.option option → (written job (length out)).value ≡ length (form job version option)
   -- every well-formed job, written after reading, returns its own bytes
   pub returns-bytes : (bytes out : List ℕ) → Bytes bytes → (reading_of bytes).number ≡ 0 → length bytes ≤ length out →
       (written (reading_of bytes).job (length out) ≡ answered (length bytes))
-      × (writtenMemory (reading_of bytes).job out ≡ bytes ++ drop (length bytes) out)
+      × (written_memory (reading_of bytes).job out ≡ bytes ++ drop (length bytes) out)
   -- every record that is written, and then read, is the same record
   pub same-record : (job : Job) (out : List ℕ) → (written job (length out)).number ≡ 0 →
-      reading_of (take (written job (length out)).value (writtenMemory job out)) ≡ acceptedReading job
+      reading_of (take (written job (length out)).value (written_memory job out)) ≡ accepted_reading job
   -- 1 exactly where no job is read as the record
-  pub none_read : (job : Job) (room : ℕ) → (written job room).number ≡ 1 → (bytes : List ℕ) → Bytes bytes → reading_of bytes ≡ acceptedReading job → ⊥
-  pub none-refused : (job : Job) (room : ℕ) → ((bytes : List ℕ) → Bytes bytes → reading_of bytes ≡ acceptedReading job → ⊥) →
+  pub none_read : (job : Job) (room : ℕ) → (written job room).number ≡ 1 → (bytes : List ℕ) → Bytes bytes → reading_of bytes ≡ accepted_reading job → ⊥
+  pub none-refused : (job : Job) (room : ℕ) → ((bytes : List ℕ) → Bytes bytes → reading_of bytes ≡ accepted_reading job → ⊥) →
       written job room ≡ refused 1
   -- else 6 where the memory is shorter than the job that is read as the record
   pub short-refused : (bytes : List ℕ) (room : ℕ) → Bytes bytes → (reading_of bytes).number ≡ 0 → room < length bytes →
       written (reading_of bytes).job room ≡ refused 6
   pub numbers : (job : Job) (room : ℕ) → ((written job room).number ≡ 0) ⊎ ((written job room ≡ refused 1) ⊎ (written job room ≡ refused 6))
   -- a refusal leaves the memory as it was
-  pub untouched : (job : Job) (out : List ℕ) → ((written job (length out)).number ≡ 0 → ⊥) → writtenMemory job out ≡ out
+  pub untouched : (job : Job) (out : List ℕ) → ((written job (length out)).number ≡ 0 → ⊥) → written_memory job out ≡ out
   -- different jobs are different records: a version by tag and by absence, an option from 08 and from 0A
   pub distinct : (bytes other : List ℕ) → Bytes bytes → Bytes other → (reading_of bytes).number ≡ 0 → reading_of other ≡ reading_of bytes → other ≡ bytes
   -- and no job has more than 4,700 bytes

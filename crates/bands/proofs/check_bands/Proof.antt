@@ -4,7 +4,7 @@ use mathlib.Core.Path.{◌≡◌, sym, ◌∙◌}
 use mathlib.Core.Bool.{true}
 use borrow.Author.Tests.{not-true, not-false}
 use Rattle.arithmetic.proofs.Implied.{implied}
-use Rattle.bands.specs.Bands.{sameLengths}
+use Rattle.bands.specs.Bands.{same_lengths}
 use Rattle.bands.proofs.TestLaws.{lengths-agree}
 use Rattle.bands.proofs.VerdictLaws.{table-bad, table-many, table-pairs, verdict-lengths, verdict-table}
 use borrow.Author.Rules.{rules}
@@ -15,7 +15,7 @@ returns : tie.Need-returns
 returns c = verdict-lengths implied (sym c.before.have-one-length.ensures ∙ not-true c.before.have-one-length.result c.if1.true)
 
 -- the lengths agree past the first test
-agree : (c : tie.Else1) → sameLengths c.before.before.before.before.before.before.before.args.firsts.now
+agree : (c : tie.Else1) → same_lengths c.before.before.before.before.before.before.before.args.firsts.now
     c.before.before.before.before.before.before.before.args.lasts.now
     c.before.before.before.before.before.before.before.args.lowests.now
     c.before.before.before.before.before.before.before.args.highests.now

@@ -4,24 +4,24 @@ use mathlib.Core.Path.{◌≡◌}
 use Prim.Native.Nat.{◌+◌, ◌-◌}
 use borrow.Author.Rules.{rules}
 use native.Mathlib.Omega.{arith}
-use Rattle.limits.specs.Limits.{valueLimit}
-use Rattle.bands.specs.Bands.{bandsOf, failing, failingPrice}
+use Rattle.limits.specs.Limits.{value_limit}
+use Rattle.bands.specs.Bands.{bands_of, failing, failing_price}
 use Rattle.bands.proofs.FirstLaws.{Searched, searched-start, searched-jump, searched-found, searched-none}
 use Rattle.bands.proofs.TestLaws.{stop-fails, stop-passes}
 use Rattle.bands.proofs.failing_price.Statement.{statement}
 use Rattle.bands.proofs.failing_price.Tie as tie
 
 abbrev invariant-loop : tie.invariant-loop
-invariant-loop firsts lasts lowests highests row price₀ price = Searched (failing (bandsOf firsts lasts lowests highests) row) 0 (valueLimit + 1) price
+invariant-loop firsts lasts lowests highests row price₀ price = Searched (failing (bands_of firsts lasts lowests highests) row) 0 (value_limit + 1) price
 
 abbrev decreases-loop : tie.decreases-loop
-decreases-loop firsts lasts lowests highests row price₀ price = valueLimit + 1 - price
+decreases-loop firsts lasts lowests highests row price₀ price = value_limit + 1 - price
 
 loop-holds : tie.Need-loop-init invariant-loop decreases-loop
 loop-holds c = searched-start (omega arith)
 
 returns : tie.Need-returns invariant-loop decreases-loop
-unfolding failingPrice
+unfolding failing_price
 returns c =
     searched-found c.before.before.before.loop.price c.before.before.before.loop.invariant (omega arith)
     (stop-fails c.before.stop-at.ensures c.if1.true)
@@ -36,10 +36,10 @@ loop-again c =
     (stop-passes stop c.if1.false)
 
 returns-2 : tie.Need-returns-2 invariant-loop decreases-loop
-unfolding failingPrice
+unfolding failing_price
 returns-2 c =
     let a = c.before.before.before.before.before.before.args in
-    let end : c.before.loop.price ≡ valueLimit + 1 = omega (arith, c.before.loop.invariant.most) in
+    let end : c.before.loop.price ≡ value_limit + 1 = omega (arith, c.before.loop.invariant.most) in
     searched-none (rw end at c.before.loop.invariant)
 
 pub failing-price-spec : {M : Type 1} → statement M

@@ -4,24 +4,24 @@ use mathlib.Core.Path.{◌≡◌, ◌∙◌}
 use Prim.Native.Nat.{◌+◌, ◌-◌}
 use borrow.Author.Rules.{rules}
 use native.Mathlib.Omega.{arith}
-use Rattle.limits.specs.Limits.{mostSteps}
-use Rattle.bands.specs.Bands.{bandsOf, fails, failingRow}
+use Rattle.limits.specs.Limits.{most_steps}
+use Rattle.bands.specs.Bands.{bands_of, fails, failing_row}
 use Rattle.bands.proofs.FirstLaws.{Searched, searched-start, searched-more, searched-found, searched-none}
 use Rattle.bands.proofs.TestLaws.{fails-false, fails-true}
 use Rattle.bands.proofs.failing_row.Statement.{statement}
 use Rattle.bands.proofs.failing_row.Tie as tie
 
 abbrev invariant-loop : tie.invariant-loop
-invariant-loop firsts lasts lowests highests row₀ row = Searched (fails (bandsOf firsts lasts lowests highests)) 1 (mostSteps + 1) row
+invariant-loop firsts lasts lowests highests row₀ row = Searched (fails (bands_of firsts lasts lowests highests)) 1 (most_steps + 1) row
 
 abbrev decreases-loop : tie.decreases-loop
-decreases-loop firsts lasts lowests highests row₀ row = mostSteps + 1 - row
+decreases-loop firsts lasts lowests highests row₀ row = most_steps + 1 - row
 
 loop-holds : tie.Need-loop-init invariant-loop decreases-loop
 loop-holds c = searched-start (omega arith)
 
 returns : tie.Need-returns invariant-loop decreases-loop
-unfolding failingRow
+unfolding failing_row
 returns c =
     searched-found c.before.before.before.loop.row c.before.before.before.loop.invariant (omega arith)
     (fails-true _ _ c.before.failing-price.result c.before.failing-price.ensures (omega arith))
@@ -32,9 +32,9 @@ loop-again c =
     (fails-false _ _ c.before.failing-price.result c.before.failing-price.ensures (omega arith))
 
 returns-2 : tie.Need-returns-2 invariant-loop decreases-loop
-unfolding failingRow
+unfolding failing_row
 returns-2 c =
-    let end : c.before.loop.row ≡ mostSteps + 1 = omega (arith, c.before.loop.invariant.most) in
+    let end : c.before.loop.row ≡ most_steps + 1 = omega (arith, c.before.loop.invariant.most) in
     end ∙ searched-none (rw end at c.before.loop.invariant)
 
 pub failing-row-spec : {M : Type 1} → statement M

@@ -8,13 +8,13 @@ use mathlib.Core.Bool.{not}
 use mathlib.Core.Path.{ap}
 use lib.ListN.{length}
 use Rattle.arithmetic.specs.Row.{values}
-use Rattle.bands.specs.Bands.{bandsOf, unsound, badIndex}
+use Rattle.bands.specs.Bands.{bands_of, unsound, bad_index}
 use Rattle.bands.proofs.FirstLaws.{Searched, searched-start, searched-more, searched-found, searched-none}
 use Rattle.bands.proofs.first_bad.Statement.{statement}
 use Rattle.bands.proofs.first_bad.Tie as tie
 
 abbrev invariant-loop : tie.invariant-loop
-invariant-loop firsts lasts lowests highests haircuts k₀ k = Searched (unsound (bandsOf firsts lasts lowests highests) (values haircuts)) 0 (length firsts) k
+invariant-loop firsts lasts lowests highests haircuts k₀ k = Searched (unsound (bands_of firsts lasts lowests highests) (values haircuts)) 0 (length firsts) k
 
 abbrev decreases-loop : tie.decreases-loop
 decreases-loop firsts lasts lowests highests haircuts k₀ k = length firsts - k
@@ -23,7 +23,7 @@ loop-holds : tie.Need-loop-init invariant-loop decreases-loop
 loop-holds c = searched-start (omega arith)
 
 returns : tie.Need-returns invariant-loop decreases-loop
-unfolding badIndex
+unfolding bad_index
 returns c =
     let loop = c.before.before.before.before.before.before.before.before.loop in
     searched-found loop.k loop.invariant (omega arith)
@@ -36,7 +36,7 @@ loop-again c =
     (ap not (sym c.before.is-sound.ensures) ∙ c.if1.false)
 
 returns-2 : tie.Need-returns-2 invariant-loop decreases-loop
-unfolding badIndex
+unfolding bad_index
 returns-2 c =
     let s = c.before.before.before.before.before.before.before in
     let end : c.before.loop.k ≡ length s.args.firsts.now = omega (arith, c.before.loop.invariant.most) in

@@ -17,16 +17,16 @@ stop-at-requires c κs =
 returns-2 : tie.Need-returns-2
 returns-2 c =
     let if1 = c.before.before.before.if1 in
-    let failingPrice = c.before.before.failing-price in
-    let failingRow = c.before.before.before.before.failing-row in
-    pairs-uncovered _ _ _ failingRow.ensures if1.false failingPrice.ensures _ c.before.stop-at.ensures.counted c.if2.true
+    let failing_price = c.before.before.failing-price in
+    let failing_row = c.before.before.before.before.failing-row in
+    pairs-uncovered _ _ _ failing_row.ensures if1.false failing_price.ensures _ c.before.stop-at.ensures.counted c.if2.true
 
 returns-3 : tie.Need-returns-3
 returns-3 c =
     let if1 = c.before.before.before.if1 in
-    let failingPrice = c.before.before.failing-price in
-    let failingRow = c.before.before.before.before.failing-row in
-    pairs-overlapping _ _ _ failingRow.ensures if1.false failingPrice.ensures _ c.before.stop-at.ensures.counted c.if2.false
+    let failing_price = c.before.before.failing-price in
+    let failing_row = c.before.before.before.before.failing-row in
+    pairs-overlapping _ _ _ failing_row.ensures if1.false failing_price.ensures _ c.before.stop-at.ensures.counted c.if2.false
 
 pub judge-pairs-spec : {M : Type 1} → statement M
 judge-pairs-spec =

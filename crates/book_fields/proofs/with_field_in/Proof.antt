@@ -4,7 +4,7 @@ use borrow.Author.Tests.{not-true, not-false}
 use mathlib.Core.Path.{sym, ◌∙◌, ap}
 use borrow.Author.Rules.{rules}
 use Rattle.book_laws.proofs.OpenLaws.{field-shut, field-full, field-added, memory-shut, memory-full, memory-added}
-use Rattle.book_laws.specs.Books.{withPrices}
+use Rattle.book_laws.specs.Books.{with_prices}
 use Rattle.book_laws.proofs.BoundLaws.{bounded}
 use Rattle.book_fields.proofs.with_field_in.Statement.{statement}
 use Rattle.book_fields.proofs.with_field_in.Tie as tie
@@ -33,7 +33,7 @@ returns-3 c =
     let s = opened.before.before in
     let going = sym opened.is_open.ensures ∙ not-false _ at-if1.if1.false in
     let room = at-if2.if2.false in (
-      c.with-prices.ensures ∙ ap (λ p. withPrices s.args.book p) priced.prices-of.ensures.0 ∙ sym (field-added _ _ going room),
+      c.with-prices.ensures ∙ ap (λ p. with_prices s.args.book p) priced.prices-of.ensures.0 ∙ sym (field-added _ _ going room),
       (
         priced.prices-of.ensures.1.0 ∙ memory-added _ _ _ _ going room,
         priced.prices-of.ensures.1.1 ∙ memory-added _ _ _ _ going room,

@@ -2,7 +2,7 @@
 -- Assumes nothing.
 use native.Mathlib.Omega.{arith}
 use borrow.Author.Rules.{rules}
-use Rattle.book_laws.specs.Report.{bookLines}
+use Rattle.book_laws.specs.Report.{book_lines}
 use Rattle.book_laws.proofs.ReportLaws.{answer-short, memory-short, answer-put, memory-put}
 use Rattle.book_lines.proofs.lines.Statement.{statement}
 use Rattle.book_lines.proofs.lines.Tie as tie
@@ -13,7 +13,7 @@ returns c = (answer-short _ c.before.before.args.out.now c.if1.true, (omega arit
 returns-2 : tie.Need-returns-2
 returns-2 c =
     let a = c.before.before.before.before.before.before.args in
-    let text = bookLines a.book in
+    let text = book_lines a.book in
     let long = c.before.before.before.before.if1.false in
     let put = c.before.before.put-book.ensures in
     (answer-put text a.out.now long put, (omega arith, memory-put text a.out.now long put))

@@ -4,14 +4,14 @@ use lib.ListN.{length}
 use Prim.Native.Nat.{◌+◌, ◌*◌, ◌^◌, ◌≤◌, ◌<◌}
 use native.Mathlib.Omega.{arith}
 use borrow.Author.Rules.{rules}
-use Rattle.text_laws.specs.Lines.{longestLine}
-use Rattle.book_laws.specs.Bounds.{mostNumber}
+use Rattle.text_laws.specs.Lines.{longest_line}
+use Rattle.book_laws.specs.Bounds.{most_number}
 use Rattle.book_laws.proofs.ReportLaws.{refusals-room-left, book-stands}
 use Rattle.book_lines.proofs.put_book.Statement.{statement}
 use Rattle.book_lines.proofs.put_book.Tie as tie
 
 -- the room that the sums leave
-after-sums : (c : tie.After-put-sums) → (longestLine * mostNumber + longestLine ≤ c.put-sums.result) × (c.put-sums.result ≤ length c.put-sums.new.0)
+after-sums : (c : tie.After-put-sums) → (longest_line * most_number + longest_line ≤ c.put-sums.result) × (c.put-sums.result ≤ length c.put-sums.new.0)
 after-sums c =
     let s = c.before.before.before in
     refusals-room-left s.args.book c.put-sums.ensures s.requires.0 (search rules) (search rules) (search rules) (search rules)

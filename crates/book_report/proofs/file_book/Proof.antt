@@ -5,13 +5,13 @@ use mathlib.Core.Path.{◌≡◌, ◌∙◌}
 use Prim.Native.Nat.{◌+◌, ◌≤◌}
 use borrow.Author.Rules.{rules}
 use native.Mathlib.Omega.{arith}
-use Rattle.book_laws.specs.Files.{streamed, fileBook}
+use Rattle.book_laws.specs.Files.{streamed, file_book}
 use Rattle.book_laws.proofs.FileLaws.{walk_start, walk_step, walk-stop, walk-full, end-room}
 use Rattle.book_report.proofs.file_book.Statement.{statement}
 use Rattle.book_report.proofs.file_book.Tie as tie
 
 abbrev invariant-loop : tie.invariant-loop
-invariant-loop file discounts₀ prices₀ book₀ at₀ left₀ discounts prices book at left = (at ≤ length file) × (streamed left book (drop at file) ≡ fileBook file)
+invariant-loop file discounts₀ prices₀ book₀ at₀ left₀ discounts prices book at left = (at ≤ length file) × (streamed left book (drop at file) ≡ file_book file)
 
 abbrev decreases-loop : tie.decreases-loop
 decreases-loop file discounts₀ prices₀ book₀ at₀ left₀ discounts prices book at left = left

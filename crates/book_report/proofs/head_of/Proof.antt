@@ -3,7 +3,7 @@
 use native.Mathlib.Omega.{arith}
 use borrow.Author.Rules.{rules}
 use Rattle.book_laws.proofs.FileLaws.{head-short, head-other, head-sound}
-use Rattle.book_laws.specs.Files.{fieldSize}
+use Rattle.book_laws.specs.Files.{field_size}
 use Rattle.book_report.proofs.head_of.Statement.{statement}
 use Rattle.book_report.proofs.head_of.Tie as tie
 
@@ -14,7 +14,7 @@ returns-2 : tie.Need-returns-2
 returns-2 c = (head-other _ c.before.before.if1.false c.if2.true, omega arith)
 
 returns-3 : tie.Need-returns-3
-unfolding fieldSize
+unfolding field_size
 returns-3 c =
     let at_wide = c.before.before in
     let at-if2 = at_wide.before.before in

@@ -5,20 +5,20 @@ use borrow.Author.Rules.{rules}
 use Rattle.arithmetic.proofs.RowLaws.{Filled, filled-start, filled_next, filled-all}
 use Prim.Native.Nat.{ℕ, ◌≤◌, ◌-◌}
 use lib.ListN.{length}
-use Rattle.lattice.specs.Branching.{downProbability}
-use Rattle.lattice.specs.RateTree.{nodeOfIndex}
+use Rattle.lattice.specs.Branching.{down_probability}
+use Rattle.lattice.specs.RateTree.{node_of_index}
 use Rattle.branches.proofs.fill_table.Statement.{statement}
 use Rattle.branches.proofs.fill_table.Tie as tie
 
 abbrev invariant-loop : tie.invariant-loop
 invariant-loop reversion half-width table₀ index₀ table index =
-    (index ≤ length table₀) × Filled table₀ table (λ k. downProbability reversion (nodeOfIndex half-width k)) index
+    (index ≤ length table₀) × Filled table₀ table (λ k. down_probability reversion (node_of_index half-width k)) index
 
 abbrev decreases-loop : tie.decreases-loop
 decreases-loop reversion half-width table₀ index₀ table index = length table₀ - index
 
 abbrev downs : tie.Start invariant-loop decreases-loop → ℕ → ℕ
-downs s k = downProbability s.args.reversion (nodeOfIndex s.args.half-width k)
+downs s k = down_probability s.args.reversion (node_of_index s.args.half-width k)
 
 loop-holds : tie.Need-loop-init invariant-loop decreases-loop
 loop-holds c = (search rules, filled-start _ _)

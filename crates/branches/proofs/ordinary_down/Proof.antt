@@ -2,7 +2,7 @@
 -- Assumes nothing.
 use mathlib.Core.Path.{refl}
 use native.Mathlib.Omega.{arith}
-use Rattle.lattice.specs.Branching.{downFormula}
+use Rattle.lattice.specs.Branching.{down_formula}
 use Rattle.lattice.proofs.Formulas as formulas
 use Rattle.branches.proofs.ordinary_down.Statement.{statement}
 use Rattle.branches.proofs.ordinary_down.Tie as tie
@@ -23,7 +23,7 @@ add-result-2 : tie.Need-overflow-add-result-2
 add-result-2 c = omega (arith, formulas.square-within c.args.z c.requires)
 
 returns : tie.Need-returns
-unfolding downFormula
+unfolding down_formula
 returns c = refl
 
 pub ordinary-down-spec : {M : Type 1} → statement M

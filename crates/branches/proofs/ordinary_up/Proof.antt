@@ -2,7 +2,7 @@
 -- Assumes nothing.
 use mathlib.Core.Path.{sym, ap}
 use native.Mathlib.Omega.{arith}
-use Rattle.lattice.specs.Branching.{upFormula}
+use Rattle.lattice.specs.Branching.{up_formula}
 use lib.IntN.{nat_abs}
 use Rattle.lattice.proofs.Formulas as formulas
 use Rattle.branches.proofs.ordinary_up.Statement.{statement}
@@ -24,7 +24,7 @@ sub-result : tie.Need-overflow-sub-result
 sub-result c = omega (arith, formulas.ordinary-up-whole c.args.z)
 
 returns : tie.Need-returns
-unfolding upFormula
+unfolding up_formula
 returns c = sym (ap nat_abs (formulas.pos-minus _ _ (formulas.ordinary-up-whole c.args.z)))
 
 pub ordinary-up-spec : {M : Type 1} → statement M

@@ -5,8 +5,8 @@ use mathlib.Core.Bool.{false}
 use Prim.Native.Nat.{◌+◌, ◌-◌, ◌≤◌}
 use native.Mathlib.Omega.{arith}
 use borrow.Author.Rules.{rules}
-use Rattle.continuous_rate.specs.Least.{firstLeast}
-use Rattle.continuous_rate.specs.inside.Search.{sideMiss, windowMiss}
+use Rattle.continuous_rate.specs.Least.{first_least}
+use Rattle.continuous_rate.specs.inside.Search.{side_miss, window_miss}
 use Rattle.continuous_rate.proofs.LeastLaws.{least-none}
 use Rattle.continuous_rate.proofs.Window.{scan-moves, scan-stays}
 use Rattle.continuous_rate.proofs.nearest_between.Statement.{statement}
@@ -14,7 +14,7 @@ use Rattle.continuous_rate.proofs.nearest_between.Tie as tie
 
 abbrev invariant-loop : tie.invariant-loop
 invariant-loop discount from count best₀ least₀ k₀ best least k =
-    (k ≤ count) × (best ≡ from + firstLeast (windowMiss discount from) k) × (least ≡ sideMiss discount false best)
+    (k ≤ count) × (best ≡ from + first_least (window_miss discount from) k) × (least ≡ side_miss discount false best)
 
 abbrev decreases-loop : tie.decreases-loop
 decreases-loop discount from count best₀ least₀ k₀ best least k = count - k
@@ -22,7 +22,7 @@ decreases-loop discount from count best₀ least₀ k₀ best least k = count - 
 loop-holds : tie.Need-loop-init invariant-loop decreases-loop
 loop-holds c =
     let a = c.before.args in
-    (omega arith, omega (arith, least-none (windowMiss a.discount a.from)), c.side-miss.ensures)
+    (omega arith, omega (arith, least-none (window_miss a.discount a.from)), c.side-miss.ensures)
 
 loop-again : tie.Need-loop-preserved invariant-loop decreases-loop
 loop-again c =

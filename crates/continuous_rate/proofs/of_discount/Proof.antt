@@ -9,9 +9,9 @@ use mir.Facts.{to_z_pos}
 use borrow.Author.Rules.{rules}
 use borrow.Author.Tests.{not-true, not-false}
 use Rattle.arithmetic.proofs.Signed.{minus-fits, minus-back}
-use Rattle.limits.specs.Limits.{isDiscount}
+use Rattle.limits.specs.Limits.{is_discount}
 use Rattle.limits.proofs.LimitLaws.{discount-most}
-use Rattle.step_rate.specs.StepRate.{answeredRate}
+use Rattle.step_rate.specs.StepRate.{answered_rate}
 use Rattle.continuous_rate.proofs.Candidates.{rate-above, rate-below}
 use Rattle.continuous_rate.proofs.RateLaws.{answer-refused, answer-known, quotient_fits}
 use Rattle.continuous_rate.proofs.of_discount.Statement.{statement}
@@ -20,7 +20,7 @@ use Rattle.continuous_rate.proofs.of_discount.Tie as tie
 returns : tie.Need-returns
 returns c = sym (answer-refused c.before.before.args.discount (sym c.before.is-discount.ensures ∙ not-true _ c.if1.true))
 
-known : (c : tie.Else1) → isDiscount c.before.before.args.discount ≡ true
+known : (c : tie.Else1) → is_discount c.before.before.args.discount ≡ true
 known c = sym c.before.is-discount.ensures ∙ not-false _ c.if1.false
 
 nearest-below-requires : tie.Need-nearest-below-requires
@@ -46,7 +46,7 @@ returns-2 : tie.Need-returns-2
 returns-2 c =
     let v = c.before.before.before.before.args.discount in
     let q = c.nearest-below.result in
-    ap answeredRate (minus-back (4 * q) (omega (arith, below-fits c)) ∙ sym (rate-below v q (omega arith) c.nearest-below.ensures))
+    ap answered_rate (minus-back (4 * q) (omega (arith, below-fits c)) ∙ sym (rate-below v q (omega arith) c.nearest-below.ensures))
     ∙ sym (answer-known v (known c.before.before))
 
 mul-t9 : tie.Need-overflow-mul-t9
@@ -59,7 +59,7 @@ returns-3 : tie.Need-returns-3
 returns-3 c =
     let v = c.before.before.before.before.args.discount in
     let q = c.nearest-above.result in
-    ap answeredRate (to_z_pos w64 (omega (arith, above-fits c)) ∙ sym (rate-above v q (omega arith) c.nearest-above.ensures))
+    ap answered_rate (to_z_pos w64 (omega (arith, above-fits c)) ∙ sym (rate-above v q (omega arith) c.nearest-above.ensures))
     ∙ sym (answer-known v (known c.before.before))
 
 pub of-discount-spec : {M : Type 1} → statement M

@@ -8,13 +8,13 @@ use lib.ListN.{length}
 use borrow.Author.Rules.{rules}
 use Rattle.arithmetic.specs.Row.{each}
 use Rattle.arithmetic.proofs.RowLaws.{each_none, each_more, each-fails}
-use Rattle.curve.specs.Curve.{convertsAt}
+use Rattle.curve.specs.Curve.{converts_at}
 use Rattle.curve.proofs.CurveLaws.{converts, refuses}
 use Rattle.curve.proofs.all_convert.Statement.{statement}
 use Rattle.curve.proofs.all_convert.Tie as tie
 
 abbrev invariant-loop : tie.invariant-loop
-invariant-loop frequency kinds figures i₀ i = (i ≤ length kinds) × (each i (convertsAt frequency kinds figures) ≡ true)
+invariant-loop frequency kinds figures i₀ i = (i ≤ length kinds) × (each i (converts_at frequency kinds figures) ≡ true)
 
 abbrev decreases-loop : tie.decreases-loop
 decreases-loop frequency kinds figures i₀ i = length kinds - i
@@ -27,7 +27,7 @@ abbrev start : tie.After-answer-at invariant-loop decreases-loop → tie.Start i
 start c = c.before.before.before.before.before
 
 abbrev test : tie.After-answer-at invariant-loop decreases-loop → ℕ → Bool
-test c = let a = (start c).args in convertsAt a.frequency a.kinds.now a.figures.now
+test c = let a = (start c).args in converts_at a.frequency a.kinds.now a.figures.now
 
 returns : tie.Need-returns invariant-loop decreases-loop
 returns c =
@@ -52,7 +52,7 @@ returns-2 c =
     let a = c.before.before.before.before.args in
     let l = c.before.loop in
     let same : l.i ≡ length a.kinds.now = omega arith in
-    sym l.invariant.1 ∙ ap (λ (n : ℕ). each n (convertsAt a.frequency a.kinds.now a.figures.now)) same
+    sym l.invariant.1 ∙ ap (λ (n : ℕ). each n (converts_at a.frequency a.kinds.now a.figures.now)) same
 
 pub all-convert-spec : {M : Type 1} → statement M
 all-convert-spec =

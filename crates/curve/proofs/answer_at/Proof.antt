@@ -1,12 +1,12 @@
 -- `curve::answer_at` meets its contract.
 -- Assumes nothing.
-use Rattle.curve.specs.Curve.{answerAt}
+use Rattle.curve.specs.Curve.{answer_at}
 use borrow.Author.Rules.{rules}
 use Rattle.curve.proofs.answer_at.Statement.{statement}
 use Rattle.curve.proofs.answer_at.Tie as tie
 
 returns : tie.Need-returns
-unfolding answerAt
+unfolding answer_at
 returns c = c.lone-point.ensures
 
 pub answer-at-spec : {M : Type 1} → statement M

@@ -3,10 +3,10 @@
 use mathlib.Core.Path.{◌≡◌, sym, ◌∙◌}
 use mathlib.Core.Bool.{Bool, true, false}
 use borrow.Author.Tests.{not-true, not-false}
-use Rattle.arithmetic.specs.Frequency.{isFrequency}
+use Rattle.arithmetic.specs.Frequency.{is_frequency}
 use Rattle.arithmetic.proofs.Implied.{implied}
-use Rattle.limits.specs.Limits.{isSteps}
-use Rattle.curve.specs.Curve.{inPlace}
+use Rattle.limits.specs.Limits.{is_steps}
+use Rattle.curve.specs.Curve.{in_place}
 use Rattle.curve.proofs.CurveLaws.{placed-kinds, placed-figures, number-frequency, number-steps, number-place, number-quotes, number-accepted}
 use borrow.Author.Rules.{rules}
 use Rattle.curve.proofs.cause.Statement.{statement}
@@ -20,7 +20,7 @@ returns c =
 abbrev start : tie.Else1 → tie.Start
 start c = c.before.before.before.before.before
 
-known : (c : tie.Else1) → isFrequency (start c).args.frequency ≡ true
+known : (c : tie.Else1) → is_frequency (start c).args.frequency ≡ true
 known c = sym c.before.is-frequency.ensures ∙ not-false c.before.is-frequency.result c.if1.false
 
 returns-2 : tie.Need-returns-2
@@ -29,11 +29,11 @@ returns-2 c = sym (number-steps implied (known c.before.before) (sym c.before.is
 abbrev listed_at : tie.Else2 → tie.Else1
 listed_at c = c.before.before
 
-few : (c : tie.Else2) → isSteps (start (listed_at c)).args.steps ≡ true
+few : (c : tie.Else2) → is_steps (start (listed_at c)).args.steps ≡ true
 few c = sym c.before.is-steps.ensures ∙ not-false _ c.if2.false
 
 abbrev test : tie.After-is-in-place → Bool
-test c = let a = (start (listed_at c.before)).args in inPlace a.steps a.rows.now a.kinds.now a.figures.now a.room
+test c = let a = (start (listed_at c.before)).args in in_place a.steps a.rows.now a.kinds.now a.figures.now a.room
 
 misplaced : (c : tie.Then3) → test c.before ≡ false
 misplaced c = sym c.before.is-in-place.ensures ∙ not-true c.before.is-in-place.result c.if3.true

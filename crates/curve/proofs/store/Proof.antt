@@ -7,14 +7,14 @@ use lib.ListN.{length, length-set}
 use borrow.Author.Rules.{rules}
 use Rattle.arithmetic.specs.declared.Answer.{Answer}
 use Rattle.arithmetic.proofs.RowLaws.{Filled, filled-start, filled_next}
-use Rattle.curve.specs.Curve.{discountAt}
+use Rattle.curve.specs.Curve.{discount_at}
 use Rattle.arithmetic.proofs.PlaceLaws.{filled-place}
 use Rattle.curve.proofs.store.Statement.{statement}
 use Rattle.curve.proofs.store.Tie as tie
 
 abbrev invariant-loop : tie.invariant-loop
 invariant-loop frequency kinds figures discounts₀ i₀ discounts i =
-    (i ≤ length kinds) × (length discounts ≡ length discounts₀) × Filled discounts₀ discounts (discountAt frequency kinds figures) i
+    (i ≤ length kinds) × (length discounts ≡ length discounts₀) × Filled discounts₀ discounts (discount_at frequency kinds figures) i
 
 abbrev decreases-loop : tie.decreases-loop
 decreases-loop frequency kinds figures discounts₀ i₀ discounts i = length kinds - i
@@ -28,7 +28,7 @@ loop-again c =
     let l = c.before.before.loop in
     let value = ap (λ (r : Answer). r.value) c.answer_at.ensures in
     let next =
-    filled_next {f = discountAt a.frequency a.kinds.now a.figures.now}
+    filled_next {f = discount_at a.frequency a.kinds.now a.figures.now}
     l.invariant.2 (omega arith) value in
     (omega arith, simp length-set l.invariant.1, next)
 
@@ -40,7 +40,7 @@ returns c =
     let a = c.before.before.before.before.before.args in
     let l = c.before.loop in
     let same : l.i ≡ length a.kinds.now = omega arith in
-    filled-place a.discounts.now l.discounts (discountAt a.frequency a.kinds.now a.figures.now) (length a.kinds.now)
+    filled-place a.discounts.now l.discounts (discount_at a.frequency a.kinds.now a.figures.now) (length a.kinds.now)
     (rw same at l.invariant.2) (omega arith)
 
 pub store_spec : {M : Type 1} → statement M

@@ -4,7 +4,7 @@ use mathlib.Core.Path.{refl}
 use native.Mathlib.Nat.{mul-le-mul}
 use native.Mathlib.Omega.{arith}
 use borrow.Author.Rules.{rules}
-use Rattle.arithmetic.specs.Rounding.{roundDown}
+use Rattle.arithmetic.specs.Rounding.{round_down}
 use Rattle.factor.proofs.next_term.Statement.{statement}
 use Rattle.factor.proofs.next_term.Tie as tie
 
@@ -12,7 +12,7 @@ mul-result : tie.Need-overflow-mul-result
 mul-result c = omega (arith, mul-le-mul c.requires.0 c.requires.1)
 
 returns : tie.Need-returns
-unfolding roundDown
+unfolding round_down
 returns c = refl
 
 pub next-term-spec : {M : Type 1} → statement M

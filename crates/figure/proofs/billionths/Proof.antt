@@ -9,7 +9,7 @@ use mir.Syntax.{w64}
 use mir.Facts.{to_z_pos}
 use lib.Ieee.{Float, binary64, fits}
 use borrow.Author.Rules.{rules}
-use Rattle.figure.specs.Figure.{beyond, acceptedFigure}
+use Rattle.figure.specs.Figure.{beyond, accepted_figure}
 use Rattle.figure.proofs.FigureLaws.{figure-refused, figure-accepted, not-nan, field-small, size_small, plus, minus}
 use Rattle.arithmetic.proofs.Signed.{minus-fits, minus-back}
 use Rattle.figure.proofs.billionths.Statement.{statement}
@@ -44,7 +44,7 @@ returns-2 c =
     let x : Float = c.before.before.before.before.args.x in
     let m : ℕ = c.before.magnitude.result in
     let e = c.before.before in
-    ap acceptedFigure
+    ap accepted_figure
     (to_z_pos w64 (omega (arith, small c.before))
     ∙ sym (plus x (in-format e) (within e) m c.before.magnitude.ensures c.if2.true))
     ∙ sym (figure-accepted x (within e))
@@ -60,7 +60,7 @@ returns-3 c =
     let x : Float = c.before.before.before.before.args.x in
     let m : ℕ = c.before.magnitude.result in
     let e = c.before.before in
-    ap acceptedFigure
+    ap accepted_figure
     (minus-back m (omega (arith, small c.before))
     ∙ sym (minus x (in-format e) (within e) m c.before.magnitude.ensures c.if2.false))
     ∙ sym (figure-accepted x (within e))

@@ -6,7 +6,7 @@ use native.Mathlib.Nat.{suc-pred-eq_of_ne-zero}
 use native.Mathlib.Omega.{arith}
 use borrow.Author.Rules.{rules}
 use Rattle.arithmetic.specs.Rounding.{one, nearest}
-use Rattle.figure.proofs.Patterns.{pattern-zero, pattern-later, field_of, digitsOf}
+use Rattle.figure.proofs.Patterns.{pattern-zero, pattern-later, field_of, digits_of}
 use Rattle.figure.proofs.magnitude.Statement.{statement}
 use Rattle.figure.proofs.magnitude.Tie as tie
 
@@ -18,7 +18,7 @@ returns-2 c =
     let b : ℕ = c.before.before.args.bits in
     let e : field_of b ≡ suc (pred (field_of b)) = sym (suc-pred-eq_of_ne-zero c.before.if1.false) in
     c.scaled2.ensures
-    ∙ ap (λ (x : ℕ). nearest ((digitsOf b + 2 ^ 52) * one) (2 ^ (1075 - x))) e
+    ∙ ap (λ (x : ℕ). nearest ((digits_of b + 2 ^ 52) * one) (2 ^ (1075 - x))) e
     ∙ sym (pattern-later b (pred (field_of b)) e (omega arith))
 
 pub magnitude-spec : {M : Type 1} → statement M

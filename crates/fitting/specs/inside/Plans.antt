@@ -3,25 +3,25 @@
 use Rattle.std.specs.Prelude.{◌≡◌, cond, ℕ, ◌-◌, ◌*◌, ◌≤◌, eqb, ltb}
 use Rattle.arithmetic.specs.Rounding.{one}
 use Rattle.arithmetic.specs.declared.Answer.{Answer}
-use Rattle.lattice.specs.Shape.{halfWidth}
+use Rattle.lattice.specs.Shape.{half_width}
 use Rattle.fitted_laws.specs.inside.Numbers.{Numbers}
 use Rattle.fitting.specs.declared.causes.Plan.{Plan}
-use Rattle.fitted_laws.specs.Entry.{earlyCause}
+use Rattle.fitted_laws.specs.Entry.{early_cause}
 
 -- the greatest spacing, that of one step a year and the greatest volatility
-abbrev pub mostSpacing : ℕ
-mostSpacing = 86602540
+abbrev pub most_spacing : ℕ
+most_spacing = 86602540
 
 -- what the answer of a spacing meets
 pub record SpacingKnown (spaced : Answer) : Type 0 where
   pub cause-most : spaced.number ≤ 7
-  pub within-limit : spaced.value ≤ mostSpacing
+  pub within-limit : spaced.value ≤ most_spacing
 
 -- the plan's number is that of the lowest cause, 8 after the others; without one, it holds h and the half width of row n − 1
 pub record Planned (n w converted spaced h discounts state-prices : ℕ) (p : Plan) : Type 0 where
-  pub number : p.number ≡ cond (eqb (earlyCause converted n w spaced discounts state-prices) 0)
-      (cond (ltb one (halfWidth w (n - 1) * h)) 8 0) (earlyCause converted n w spaced discounts state-prices)
+  pub number : p.number ≡ cond (eqb (early_cause converted n w spaced discounts state-prices) 0)
+      (cond (ltb one (half_width w (n - 1) * h)) 8 0) (early_cause converted n w spaced discounts state-prices)
   pub numbers : p.number ≡ 0 → Numbers n w converted spaced discounts state-prices
   pub spacing-is : p.number ≡ 0 → p.spacing ≡ h
-  pub widest-is : p.number ≡ 0 → p.widest ≡ halfWidth w (n - 1)
+  pub widest-is : p.number ≡ 0 → p.widest ≡ half_width w (n - 1)
   pub spacing-within-one : p.number ≡ 0 → p.widest * p.spacing ≤ one

@@ -4,12 +4,12 @@ use mathlib.Core.Path.{◌≡◌}
 use native.Mathlib.Omega.{arith}
 use lib.ListN.{length}
 use borrow.Author.Rules.{rules}
-use Rattle.job_record.specs.Form.{mostJobSteps}
+use Rattle.job_record.specs.Form.{most_job_steps}
 use Rattle.job_laws.proofs.FitLaws as laws
 use Rattle.job_fit.proofs.fit_of_record.Statement.{statement}
 use Rattle.job_fit.proofs.fit_of_record.Tie as tie
 
-kinds-size : (s : tie.Start) → length s.args.job.kinds ≡ mostJobSteps
+kinds-size : (s : tie.Start) → length s.args.job.kinds ≡ most_job_steps
 kinds-size s = search rules
 
 returns : tie.Need-returns

@@ -5,9 +5,9 @@ use Prim.Native.Nat.{◌≤◌}
 use native.Mathlib.Omega.{arith}
 use lib.ListN.{length}
 use borrow.Author.Rules.{rules}
-use Rattle.job_record.specs.Form.{mostJobSteps}
+use Rattle.job_record.specs.Form.{most_job_steps}
 use Rattle.job_laws.proofs.FitLaws.{lent-column}
-use Rattle.job_laws.specs.JobPrices.{optionForm}
+use Rattle.job_laws.specs.JobPrices.{option_form}
 use Rattle.job_laws.proofs.PriceLaws as laws
 use Rattle.job_prices.proofs.prices_in_place.Statement.{statement}
 use Rattle.job_prices.proofs.prices_in_place.Tie as tie
@@ -30,7 +30,7 @@ abbrev start : tie.After-slice-known4 → tie.Start
 start c = (formed c).before.before.before.before.before
 
 -- the option has a job's form
-form-none : (c : tie.After-slice-known4) → let a = (start c).args in optionForm a.job.option.tag a.job.option.count ≡ 0
+form-none : (c : tie.After-slice-known4) → let a = (start c).args in option_form a.job.option.tag a.job.option.count ≡ 0
 form-none c = sym (formed c).before.option-form.ensures ∙ (formed c).if1.false
 
 returns-2 : tie.Need-returns-2
@@ -47,7 +47,7 @@ accepted c = c.before.before.before
 abbrev standing : tie.After-discounts-needed → tie.After-slice-known4
 standing c = (accepted c).before
 
-few : (c : tie.After-discounts-needed) → (start (standing c)).args.job.steps ≤ mostJobSteps
+few : (c : tie.After-discounts-needed) → (start (standing c)).args.job.steps ≤ most_job_steps
 few c =
     let known = standing c in
     let a = (start known).args in
@@ -70,7 +70,7 @@ slice-aggregate-tree-prices c =
     laws.discounts-count a.job a.discounts.now a.state-prices.now (form-none known) _ _ _ (fitted known).fit-of-record.ensures
     (accepted counted).if2.false meant.result meant.ensures counted.discounts-needed.result counted.discounts-needed.ensures
 
-flows-size : (s : tie.Start) → length s.args.job.flows ≡ mostJobSteps
+flows-size : (s : tie.Start) → length s.args.job.flows ≡ most_job_steps
 flows-size s = search rules
 
 array-share-prefix-flows : tie.Need-array-share-prefix-flows

@@ -4,8 +4,8 @@ use mathlib.Core.Path.{◌≡◌, sym, ap, ◌∙◌}
 use Prim.Native.Nat.{ℕ}
 use lib.ListN.{length}
 use borrow.Author.Rules.{rules}
-use Rattle.lattice.specs.Entries.{memoryCause}
-use Rattle.job_laws.specs.RecordFit.{jobReversion}
+use Rattle.lattice.specs.Entries.{memory_cause}
+use Rattle.job_laws.specs.RecordFit.{job_reversion}
 use Rattle.job_laws.proofs.PriceLaws as laws
 use Rattle.job_prices.proofs.prices_of_record.Statement.{statement}
 use Rattle.job_prices.proofs.prices_of_record.Tie as tie
@@ -16,11 +16,11 @@ start c = c.before.before.before.before
 -- whether the lent memories are long enough
 memory-is : (c : tie.After-memory-cause) →
     let a = (start c).args in
-    c.memory-cause.result ≡ memoryCause a.job.steps (jobReversion a.job) (length a.discounts.now) (length a.state-prices.now)
+    c.memory-cause.result ≡ memory_cause a.job.steps (job_reversion a.job) (length a.discounts.now) (length a.state-prices.now)
 memory-is c =
     let a = (start c).args in
     c.memory-cause.ensures
-    ∙ ap (λ (b : ℕ). memoryCause a.job.steps b (length a.discounts.now) (length a.state-prices.now)) c.before.meant-reversion.ensures
+    ∙ ap (λ (b : ℕ). memory_cause a.job.steps b (length a.discounts.now) (length a.state-prices.now)) c.before.meant-reversion.ensures
 
 returns : tie.Need-returns
 returns c =

@@ -4,7 +4,7 @@ use borrow.Author.Rules.{rules}
 use mathlib.Core.Path.{◌≡◌, ◌∙◌}
 use mathlib.Core.Bool.{true}
 use Rattle.job_record.specs.declared.Tags.TheVariants.{Only, AnyKind}
-use Rattle.job_record.specs.Form.{fieldsFrom}
+use Rattle.job_record.specs.Form.{fields_from}
 use native.Mathlib.Omega.{arith}
 use Rattle.job_record.proofs.Answers.{passed, failed}
 use Rattle.job_record.proofs.Forms.{refuse-quotes, refuse-flows, formed-by-rest}
@@ -15,7 +15,7 @@ returns : tie.Need-returns
 returns c = refuse-quotes _ _ _ (failed c.before.fields-from.ensures c.if1.true)
 
 -- where both tests have passed, the quotes and the flows are formed
-quotes : (c : tie.Else1) → let a = c.before.before.before.args in fieldsFrom a.bytes.now a.quotes AnyKind 8 a.steps ≡ true
+quotes : (c : tie.Else1) → let a = c.before.before.before.args in fields_from a.bytes.now a.quotes AnyKind 8 a.steps ≡ true
 quotes c = passed c.before.fields-from.ensures c.if1.false
 
 fields-from-requires-2 : tie.Need-fields-from-requires-2
@@ -27,7 +27,7 @@ returns-2 c =
     (failed c.before.fields-from2.ensures c.if2.true)
 
 flows : (c : tie.Else2) → let flows-at = c.before.before in
-    let a = flows-at.before.before.before.before.args in fieldsFrom a.bytes.now flows-at.after-fields.result (Only 7) 4 a.steps ≡ true
+    let a = flows-at.before.before.before.before.args in fields_from a.bytes.now flows-at.after-fields.result (Only 7) 4 a.steps ≡ true
 flows c = passed c.before.fields-from2.ensures c.if2.false
 
 after-fields-requires-2 : tie.Need-after-fields-requires-2

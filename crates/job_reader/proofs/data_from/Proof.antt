@@ -7,7 +7,7 @@ use native.Mathlib.Omega.{arith}
 use lib.ListN.{replicate}
 use Rattle.arithmetic.proofs.RowLaws.{Filled, filled-start, filled_next}
 use Rattle.job_record.specs.Bytes.{number_at}
-use Rattle.job_record.specs.Form.{mostJobSteps, dataAt}
+use Rattle.job_record.specs.Form.{most_job_steps, data_at}
 use Rattle.job_record.specs.Reader.{data_of}
 use Rattle.arithmetic.proofs.PaddedLaws.{filled-padded}
 use Rattle.job_record.proofs.Columns.{field-within}
@@ -15,7 +15,7 @@ use Rattle.job_reader.proofs.data_from.Statement.{statement}
 use Rattle.job_reader.proofs.data_from.Tie as tie
 
 abbrev invariant-loop : tie.invariant-loop
-invariant-loop bytes from width count numbers₀ i₀ numbers i = (i ≤ count) × Filled (replicate mostJobSteps 0) numbers (data_of bytes from width) i
+invariant-loop bytes from width count numbers₀ i₀ numbers i = (i ≤ count) × Filled (replicate most_job_steps 0) numbers (data_of bytes from width) i
 
 abbrev decreases-loop : tie.decreases-loop
 decreases-loop bytes from width count numbers₀ i₀ numbers i = count - i
@@ -31,7 +31,7 @@ number-requires c κs =
 loop-again : tie.Need-loop-preserved invariant-loop decreases-loop
 loop-again c =
     let start = c.before.before.before.before.before.args in
-    let read = ap (λ (place : ℕ). number_at start.bytes.now (dataAt place) start.width) c.before.after-fields.ensures.0 in
+    let read = ap (λ (place : ℕ). number_at start.bytes.now (data_at place) start.width) c.before.after-fields.ensures.0 in
     (omega arith, filled_next c.before.before.before.loop.invariant.1 (search rules) (c.number.ensures.0 ∙ read))
 
 returns : tie.Need-returns invariant-loop decreases-loop

@@ -6,14 +6,14 @@ use Prim.Native.Nat.{◌-◌, ◌≤◌}
 use native.Mathlib.Omega.{arith}
 use lib.ListN.{replicate}
 use Rattle.arithmetic.proofs.RowLaws.{Filled, filled-start, filled_next}
-use Rattle.job_record.specs.Form.{mostDates}
-use Rattle.job_record.specs.Reader.{dateOf}
+use Rattle.job_record.specs.Form.{most_dates}
+use Rattle.job_record.specs.Reader.{date_of}
 use Rattle.arithmetic.proofs.PaddedLaws.{filled-padded}
 use Rattle.job_reader.proofs.dates_from.Statement.{statement}
 use Rattle.job_reader.proofs.dates_from.Tie as tie
 
 abbrev invariant-loop : tie.invariant-loop
-invariant-loop bytes from count dates₀ i₀ dates i = (i ≤ count) × Filled (replicate mostDates 0) dates (dateOf bytes from) i
+invariant-loop bytes from count dates₀ i₀ dates i = (i ≤ count) × Filled (replicate most_dates 0) dates (date_of bytes from) i
 
 abbrev decreases-loop : tie.decreases-loop
 decreases-loop bytes from count dates₀ i₀ dates i = count - i

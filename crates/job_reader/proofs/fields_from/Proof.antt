@@ -5,14 +5,14 @@ use mathlib.Core.Bool.{true}
 use mathlib.Core.Path.{◌≡◌, sym}
 use Prim.Native.Nat.{◌-◌, ◌≤◌}
 use native.Mathlib.Omega.{arith}
-use Rattle.job_record.specs.Form.{fieldsFrom}
+use Rattle.job_record.specs.Form.{fields_from}
 use Rattle.job_record.proofs.Answers.{passed, failed}
 use Rattle.job_record.proofs.Forms.{fields-none, fields-more, fields-fails}
 use Rattle.job_reader.proofs.fields_from.Statement.{statement}
 use Rattle.job_reader.proofs.fields_from.Tie as tie
 
 abbrev invariant-loop : tie.invariant-loop
-invariant-loop bytes from tags width count i₀ i = (i ≤ count) × (fieldsFrom bytes from tags width i ≡ true)
+invariant-loop bytes from tags width count i₀ i = (i ≤ count) × (fields_from bytes from tags width i ≡ true)
 
 abbrev decreases-loop : tie.decreases-loop
 decreases-loop bytes from tags width count i₀ i = count - i

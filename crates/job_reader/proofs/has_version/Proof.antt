@@ -3,7 +3,7 @@
 use borrow.Author.Rules.{rules}
 use mathlib.Core.Path.{◌∙◌}
 use native.Mathlib.Omega.{arith}
-use Rattle.job_record.specs.Form.{versionAt}
+use Rattle.job_record.specs.Form.{version_at}
 use Rattle.job_record.specs.declared.Tags.TheVariants.{Only}
 use Rattle.job_record.proofs.Answers.{passed, failed}
 use Rattle.job_record.proofs.Forms.{field-whole, version-absent, version-by-number}
@@ -14,7 +14,7 @@ returns : tie.Need-returns
 returns c = version-absent _ (failed c.before.field_at.ensures c.if1.true)
 
 number-requires : tie.Need-number-requires
-number-requires c κs = omega (arith, field-whole _ versionAt (Only 11) 1 (passed c.before.field_at.ensures c.if1.false))
+number-requires c κs = omega (arith, field-whole _ version_at (Only 11) 1 (passed c.before.field_at.ensures c.if1.false))
 
 returns-2 : tie.Need-returns-2
 returns-2 c =

@@ -5,7 +5,7 @@ use mathlib.Core.Path.{◌≡◌, ap, ◌∙◌}
 use Prim.Native.Nat.{ℕ, ◌≤◌}
 use native.Mathlib.Omega.{arith}
 use lib.ListN.{length}
-use Rattle.job_record.specs.Form.{mostJobSteps, afterFields, versionAt, quotesAt, rest_at, steps_of}
+use Rattle.job_record.specs.Form.{most_job_steps, after_fields, version_at, quotes_at, rest_at, steps_of}
 use Rattle.job_record.specs.Reader.{job_of}
 use Rattle.job_record.proofs.Forms.{well-body, well-length, quotes-from, body-rest, dates-few}
 use Rattle.job_reader.proofs.job_of.Statement.{statement}
@@ -17,7 +17,7 @@ number-requires c κs = omega (arith, well-length _ c.before.requires, quotes-fr
 -- the number of steps and the place of the quotes as they were read, and the place after the flows
 known : (c : tie.After-quotes-at) →
     let n = c.before.number.result in
-    (n ≤ mostJobSteps) × (rest_at c.quotes-at.result n ≤ length c.before.before.before.args.bytes.now)
+    (n ≤ most_job_steps) × (rest_at c.quotes-at.result n ≤ length c.before.before.before.args.bytes.now)
 known c =
     let read = c.before.number.ensures in
     (omega (arith, read.1), rw (read.0, c.quotes-at.ensures.0) (well-length _ c.before.before.before.requires))
@@ -55,21 +55,21 @@ abbrev start : tie.After-after-fields2 → tie.Start
 start c = (counted c).before.before
 
 -- the place of what follows the flows
-rest-place : (c : tie.After-after-fields2) → c.after-fields2.result ≡ rest_at (quotesAt (start c).args.bytes.now) (counted c).number.result
+rest-place : (c : tie.After-after-fields2) → c.after-fields2.result ≡ rest_at (quotes_at (start c).args.bytes.now) (counted c).number.result
 rest-place c =
     let n = (counted c).number.result in
     c.after-fields2.ensures.0
-    ∙ ap (λ (flows : ℕ). afterFields flows 4 n) (flows-found c).after-fields.ensures.0
+    ∙ ap (λ (flows : ℕ). after_fields flows 4 n) (flows-found c).after-fields.ensures.0
     ∙ ap (λ (quotes : ℕ). rest_at quotes n) (placed c).quotes-at.ensures.0
 
 -- the record is long enough for each of its fields
 long : (c : tie.After-after-fields2) →
-    let bytes = (start c).args.bytes.now in rest_at versionAt (steps_of bytes) ≤ length bytes
+    let bytes = (start c).args.bytes.now in rest_at version_at (steps_of bytes) ≤ length bytes
 long c = omega (arith, well-length _ (start c).requires, quotes-from (start c).args.bytes.now)
 
 option-at-requires : tie.Need-option-at-requires
 option-at-requires c κs =
-    let quotes = quotesAt (start c).args.bytes.now in
+    let quotes = quotes_at (start c).args.bytes.now in
     let formed = body-rest _ quotes _ (well-body _ (start c).requires) in
     let few = dates-few _ (start c).requires in
     let there = rest-place c ∙ ap (λ (n : ℕ). rest_at quotes n) (counted c).number.ensures.0 in

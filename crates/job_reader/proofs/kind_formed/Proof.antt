@@ -1,17 +1,17 @@
 -- `job_reader::kind_formed` meets its contract.
 -- Assumes nothing.
 use borrow.Author.Rules.{rules}
-use Rattle.job_record.specs.Form.{kindFormed}
+use Rattle.job_record.specs.Form.{kind_formed}
 use Rattle.job_record.proofs.Answers.{passed, failed}
 use Rattle.job_reader.proofs.kind_formed.Statement.{statement}
 use Rattle.job_reader.proofs.kind_formed.Tie as tie
 
 returns : tie.Need-returns
-unfolding kindFormed
+unfolding kind_formed
 returns c = simp (failed c.before.field_at.ensures c.if1.true)
 
 returns-2 : tie.Need-returns-2
-unfolding kindFormed
+unfolding kind_formed
 returns-2 c = simp (passed c.before.field_at.ensures c.if1.false)
 
 pub kind-formed-spec : {M : Type 1} → statement M

@@ -1,12 +1,12 @@
 -- `job_reader::kind_option_at` meets its contract.
 -- Assumes nothing.
 use borrow.Author.Rules.{rules}
-use Rattle.job_record.specs.Reader.{kindOptionAt}
+use Rattle.job_record.specs.Reader.{kind_option_at}
 use Rattle.job_reader.proofs.kind_option_at.Statement.{statement}
 use Rattle.job_reader.proofs.kind_option_at.Tie as tie
 
 returns : tie.Need-returns
-unfolding kindOptionAt
+unfolding kind_option_at
 returns c =
     rw (
       c.before.before.before.no-dates.ensures,

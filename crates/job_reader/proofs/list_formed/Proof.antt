@@ -2,16 +2,16 @@
 -- Assumes nothing.
 use borrow.Author.Rules.{rules}
 use borrow.Author.Tests.{lt-leb, le-leb}
-use Rattle.job_record.specs.Form.{listFormed}
+use Rattle.job_record.specs.Form.{list_formed}
 use Rattle.job_reader.proofs.list_formed.Statement.{statement}
 use Rattle.job_reader.proofs.list_formed.Tie as tie
 
 returns : tie.Need-returns
-unfolding listFormed
+unfolding list_formed
 returns c = simp (lt-leb _ _ c.if1.true)
 
 returns-2 : tie.Need-returns-2
-unfolding listFormed
+unfolding list_formed
 returns-2 c = simp (le-leb _ _ c.before.if1.false) c.field_at.ensures
 
 pub list-formed-spec : {M : Type 1} → statement M

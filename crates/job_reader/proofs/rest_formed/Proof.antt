@@ -3,20 +3,20 @@
 use borrow.Author.Rules.{rules}
 use borrow.Author.Tests.{eq-eqb, ne_eqb}
 use mathlib.Core.Path.{sym, ◌∙◌}
-use Rattle.job_record.specs.Form.{restFormed}
+use Rattle.job_record.specs.Form.{rest_formed}
 use Rattle.job_reader.proofs.rest_formed.Statement.{statement}
 use Rattle.job_reader.proofs.rest_formed.Tie as tie
 
 returns : tie.Need-returns
-unfolding restFormed
+unfolding rest_formed
 returns c = simp (eq-eqb _ _ c.if1.true)
 
 returns-2 : tie.Need-returns-2
-unfolding restFormed
+unfolding rest_formed
 returns-2 c = simp (ne_eqb _ _ c.before.before.if1.false, sym c.before.kind-formed.ensures ∙ c.if2.true)
 
 returns-3 : tie.Need-returns-3
-unfolding restFormed
+unfolding rest_formed
 returns-3 c =
     simp (ne_eqb _ _ c.before.before.before.if1.false, sym c.before.before.kind-formed.ensures ∙ c.before.if2.false)
     c.list-formed.ensures

@@ -6,7 +6,7 @@ use Prim.Native.Nat.{ℕ, ◌-◌, ◌≤◌}
 use native.Mathlib.Omega.{arith}
 use lib.ListN.{replicate, get_or}
 use Rattle.arithmetic.proofs.RowLaws.{Filled, filled-start, filled_next}
-use Rattle.job_record.specs.Form.{mostJobSteps}
+use Rattle.job_record.specs.Form.{most_job_steps}
 use Rattle.job_record.specs.Reader.{tag_of}
 use Rattle.arithmetic.proofs.PaddedLaws.{filled-padded}
 use Rattle.job_record.proofs.Columns.{field-within}
@@ -14,7 +14,7 @@ use Rattle.job_reader.proofs.tags_from.Statement.{statement}
 use Rattle.job_reader.proofs.tags_from.Tie as tie
 
 abbrev invariant-loop : tie.invariant-loop
-invariant-loop bytes from width count tags₀ i₀ tags i = (i ≤ count) × Filled (replicate mostJobSteps 0) tags (tag_of bytes from width) i
+invariant-loop bytes from width count tags₀ i₀ tags i = (i ≤ count) × Filled (replicate most_job_steps 0) tags (tag_of bytes from width) i
 
 abbrev decreases-loop : tie.decreases-loop
 decreases-loop bytes from width count tags₀ i₀ tags i = count - i

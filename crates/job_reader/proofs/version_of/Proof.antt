@@ -3,7 +3,7 @@
 use borrow.Author.Rules.{rules}
 use mathlib.Core.Path.{sym, ◌∙◌}
 use native.Mathlib.Omega.{arith}
-use Rattle.job_record.specs.Form.{versionAt}
+use Rattle.job_record.specs.Form.{version_at}
 use Rattle.job_record.specs.declared.Tags.TheVariants.{Only}
 use Rattle.job_record.proofs.Answers.{passed, failed}
 use Rattle.job_record.proofs.Forms.{field-whole, version-field, version-read, version-missing}
@@ -15,7 +15,7 @@ returns c = sym (version-missing _ (failed c.before.has-version.ensures c.if1.tr
 
 number-requires : tie.Need-number-requires
 number-requires c κs =
-    omega (arith, field-whole _ versionAt (Only 11) 1 (version-field _ (passed c.before.has-version.ensures c.if1.false)))
+    omega (arith, field-whole _ version_at (Only 11) 1 (version-field _ (passed c.before.has-version.ensures c.if1.false)))
 
 returns-2 : tie.Need-returns-2
 returns-2 c =

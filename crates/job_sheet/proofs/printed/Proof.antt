@@ -3,7 +3,7 @@
 use mathlib.Core.Path.{◌≡◌}
 use lib.ListN.{length}
 use borrow.Author.Rules.{rules}
-use Rattle.sheet_laws.specs.WholeJob.{sheetNumber, sheetText}
+use Rattle.sheet_laws.specs.WholeJob.{sheet_number, sheet_text}
 use Rattle.sheet_laws.proofs.SheetLaws as laws
 use Rattle.record_sheet.proofs.AnswerLaws as answers
 use Rattle.job_sheet.proofs.printed.Statement.{statement}
@@ -15,10 +15,10 @@ start c = c.before.before.before.before
 
 number_is : (c : tie.After-sheet) →
     let a = (start c).args in
-    c.sheet.result.number ≡ sheetNumber a.job.now (length a.out.now)
+    c.sheet.result.number ≡ sheet_number a.job.now (length a.out.now)
 number_is c = answers.answer-number _ _ c.sheet.result c.sheet.ensures.0
 
-size_is : (c : tie.After-sheet) → c.sheet.result.number ≡ 0 → c.sheet.result.size ≡ length (sheetText (start c).args.job.now)
+size_is : (c : tie.After-sheet) → c.sheet.result.number ≡ 0 → c.sheet.result.size ≡ length (sheet_text (start c).args.job.now)
 size_is c = answers.answer-size _ _ c.sheet.result c.sheet.ensures.0
 
 returns : tie.Need-returns

@@ -5,14 +5,14 @@ use mathlib.Core.Bool.{true}
 use mathlib.Core.Path.{◌≡◌, sym}
 use Prim.Native.Nat.{◌-◌, ◌≤◌}
 use Rattle.job_record.proofs.Answers.{passed, failed}
-use Rattle.writer_laws.specs.Sound.{areKinds}
+use Rattle.writer_laws.specs.Sound.{are_kinds}
 use Rattle.writer_laws.proofs.SoundTests.{kinds-none, kinds-more, kinds-fails}
 use borrow.Author.Rules.{rules}
 use Rattle.job_soundness.proofs.are_kinds.Statement.{statement}
 use Rattle.job_soundness.proofs.are_kinds.Tie as tie
 
 abbrev invariant-loop : tie.invariant-loop
-invariant-loop kinds count k₀ k = (k ≤ count) × (areKinds kinds k ≡ true)
+invariant-loop kinds count k₀ k = (k ≤ count) × (are_kinds kinds k ≡ true)
 
 abbrev decreases-loop : tie.decreases-loop
 decreases-loop kinds count k₀ k = count - k

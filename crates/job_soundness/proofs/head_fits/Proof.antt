@@ -3,24 +3,24 @@
 use mathlib.Core.Path.{◌∙◌}
 use borrow.Author.Tests.{le-leb, lt-leb}
 use borrow.Author.Rules.{rules}
-use Rattle.writer_laws.specs.Sound.{headFits}
+use Rattle.writer_laws.specs.Sound.{head_fits}
 use Rattle.job_soundness.proofs.head_fits.Statement.{statement}
 use Rattle.job_soundness.proofs.head_fits.Tie as tie
 
 returns : tie.Need-returns
-unfolding headFits
+unfolding head_fits
 returns c = simp (lt-leb _ _ c.if1.true)
 
 returns-2 : tie.Need-returns-2
-unfolding headFits
+unfolding head_fits
 returns-2 c = simp (le-leb _ _ c.before.if1.false, lt-leb _ _ c.if2.true)
 
 returns-3 : tie.Need-returns-3
-unfolding headFits
+unfolding head_fits
 returns-3 c = simp (le-leb _ _ c.before.before.if1.false, le-leb _ _ c.before.if2.false, lt-leb _ _ c.if3.true)
 
 returns-4 : tie.Need-returns-4
-unfolding headFits
+unfolding head_fits
 returns-4 c =
     simp (
       le-leb _ _ c.before.before.before.if1.false,
@@ -30,7 +30,7 @@ returns-4 c =
     )
 
 returns-5 : tie.Need-returns-5
-unfolding headFits
+unfolding head_fits
 returns-5 c =
     c.version-fits.ensures
     ∙ simp (

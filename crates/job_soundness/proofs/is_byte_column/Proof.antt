@@ -2,7 +2,7 @@
 -- Assumes nothing.
 use native.Mathlib.Omega.{arith}
 use mathlib.Core.Path.{◌∙◌}
-use Rattle.writer_laws.specs.Sound.{mostIn}
+use Rattle.writer_laws.specs.Sound.{most_in}
 use Rattle.writer_laws.proofs.ColumnTests.{column-by-type}
 use borrow.Author.Rules.{rules}
 use Rattle.job_soundness.proofs.is_byte_column.Statement.{statement}
@@ -11,7 +11,7 @@ use Rattle.job_soundness.proofs.is_byte_column.Tie as tie
 returns : tie.Need-returns
 returns c =
     let a = c.before.before.before.args in
-    c.all-zero.ensures ∙ column-by-type a.column.now a.count (mostIn 1) (λ k. omega (arith, c.before.before.shared-slice-known.given k))
+    c.all-zero.ensures ∙ column-by-type a.column.now a.count (most_in 1) (λ k. omega (arith, c.before.before.shared-slice-known.given k))
 
 pub is-byte-column-spec : {M : Type 1} → statement M
 is-byte-column-spec =

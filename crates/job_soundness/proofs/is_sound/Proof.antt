@@ -3,20 +3,20 @@
 use mathlib.Core.Bool.{true}
 use mathlib.Core.Path.{◌≡◌, ◌∙◌}
 use lib.ListN.{length}
-use Rattle.job_record.specs.Form.{mostJobSteps}
+use Rattle.job_record.specs.Form.{most_job_steps}
 use Rattle.job_record.proofs.Answers.{passed, failed}
 use Rattle.writer_laws.proofs.SoundTests.{head, steps-few, job-misfits, job-columns, job-by-option}
 use borrow.Author.Rules.{rules}
 use Rattle.job_soundness.proofs.is_sound.Statement.{statement}
 use Rattle.job_soundness.proofs.is_sound.Tie as tie
 
-kinds-long : (c : tie.Start) → length c.args.job.kinds ≡ mostJobSteps
+kinds-long : (c : tie.Start) → length c.args.job.kinds ≡ most_job_steps
 kinds-long c = search rules
 
-figures-long : (c : tie.Start) → length c.args.job.figures ≡ mostJobSteps
+figures-long : (c : tie.Start) → length c.args.job.figures ≡ most_job_steps
 figures-long c = search rules
 
-flows_long : (c : tie.Start) → length c.args.job.flows ≡ mostJobSteps
+flows_long : (c : tie.Start) → length c.args.job.flows ≡ most_job_steps
 flows_long c = search rules
 
 returns : tie.Need-returns

@@ -4,14 +4,14 @@ use native.Mathlib.Omega.{arith}
 use mathlib.Core.Bool.{true}
 use mathlib.Core.Path.{◌≡◌, ◌∙◌}
 use lib.ListN.{length}
-use Rattle.job_record.specs.Form.{mostDates}
+use Rattle.job_record.specs.Form.{most_dates}
 use Rattle.job_record.proofs.Answers.{passed, failed}
 use Rattle.writer_laws.proofs.SoundTests.{fits, column-here, dates-few, option-misfits, option-alien, option-by-dates}
 use borrow.Author.Rules.{rules}
 use Rattle.job_soundness.proofs.is_sound_option.Statement.{statement}
 use Rattle.job_soundness.proofs.is_sound_option.Tie as tie
 
-dates-long : (c : tie.Start) → length c.args.option.dates ≡ mostDates
+dates-long : (c : tie.Start) → length c.args.option.dates ≡ most_dates
 dates-long c = search rules
 
 returns : tie.Need-returns

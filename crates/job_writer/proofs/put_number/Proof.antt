@@ -6,7 +6,7 @@ use Prim.Native.Nat.{◌≤◌}
 use lib.ListN.{length, length-set}
 use borrow.Author.Rules.{rules}
 use Rattle.arithmetic.specs.Row.{place}
-use Rattle.job_record.specs.Bytes.{numberBytes}
+use Rattle.job_record.specs.Bytes.{number_bytes}
 use Rattle.writer_laws.proofs.PutLaws.{number-none, number-last}
 use Rattle.job_writer.proofs.put_number.Statement.{statement}
 use Rattle.job_writer.proofs.put_number.Tie as tie
@@ -14,7 +14,7 @@ use Rattle.job_writer.proofs.put_number.Tie as tie
 -- placing what is left gives the whole
 abbrev invariant-loop : tie.invariant-loop
 invariant-loop out₀ at width value rest₀ left₀ out rest left =
-    (left ≤ width) × (length out ≡ length out₀) × (place out at (numberBytes left rest) ≡ place out₀ at (numberBytes width value))
+    (left ≤ width) × (length out ≡ length out₀) × (place out at (number_bytes left rest) ≡ place out₀ at (number_bytes width value))
 
 abbrev decreases-loop : tie.decreases-loop
 decreases-loop out₀ at width value rest₀ left₀ out rest left = left

@@ -7,14 +7,14 @@ use lib.ListN.{length}
 use Rattle.arithmetic.specs.Row.{place}
 use Rattle.job_record.specs.Grammar.{joined}
 use Rattle.job_record.proofs.Reread.{number_size}
-use Rattle.writer_laws.specs.inside.Parts.{quoteOf}
+use Rattle.writer_laws.specs.inside.Parts.{quote_of}
 use Rattle.writer_laws.proofs.PutLaws.{fields-none, fields-more}
 use borrow.Author.Rules.{rules}
 use Rattle.job_writer.proofs.put_quotes.Statement.{statement}
 use Rattle.job_writer.proofs.put_quotes.Tie as tie
 
 abbrev invariant-loop : tie.invariant-loop
-invariant-loop out₀ from kinds figures count i₀ out i = (i ≤ count) × (length out ≡ length out₀) × (out ≡ place out₀ from (joined i (quoteOf kinds figures)))
+invariant-loop out₀ from kinds figures count i₀ out i = (i ≤ count) × (length out ≡ length out₀) × (out ≡ place out₀ from (joined i (quote_of kinds figures)))
 
 abbrev decreases-loop : tie.decreases-loop
 decreases-loop out₀ from kinds figures count i₀ out i = count - i

@@ -2,7 +2,7 @@
 -- Assumes nothing.
 use mathlib.Core.Path.{refl}
 use native.Mathlib.Omega.{arith}
-use Rattle.lattice.specs.Shape.{highestNode}
+use Rattle.lattice.specs.Shape.{highest_node}
 use Rattle.lattice.proofs.EntryLaws as entry
 use Rattle.lattice.proofs.Sizes.{highest-is}
 use borrow.Author.Rules.{rules}
@@ -25,7 +25,7 @@ add-result : tie.Need-overflow-add-result
 add-result c = record { fits = entry.highest-fits _ _ (omega arith) }
 
 returns-5 : tie.Need-returns-5
-unfolding highestNode
+unfolding highest_node
 returns-5 c = refl
 
 pub highest-node-spec : {M : Type 1} → statement M

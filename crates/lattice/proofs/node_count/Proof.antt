@@ -1,6 +1,6 @@
 -- `lattice::node_count` meets its contract.
 -- Assumes nothing.
-use Rattle.lattice.specs.Shape.{nodeCount}
+use Rattle.lattice.specs.Shape.{node_count}
 use Prim.Native.Nat.{ℕ, ◌+◌, ◌*◌, ◌≤◌}
 use Rattle.lattice.proofs.Sizes.{half-within}
 use mathlib.Core.Path.{ap, ◌∙◌}
@@ -20,10 +20,10 @@ add-about-row : tie.Need-overflow-add-about-row
 add-about-row c = omega (arith, small c)
 
 returns : tie.Need-returns
-unfolding nodeCount
+unfolding node_count
 returns c =
     let count = ap (λ (x : ℕ). 2 * x + 1) c.before.half-width-of.ensures in
-    c.about-row.ensures ∙ entry.row-answer _ _ (nodeCount _) _ _ c.before.before.clipped.ensures count
+    c.about-row.ensures ∙ entry.row-answer _ _ (node_count _) _ _ c.before.before.clipped.ensures count
 
 pub node-count-spec : {M : Type 1} → statement M
 node-count-spec =

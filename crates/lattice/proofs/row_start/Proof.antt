@@ -1,6 +1,6 @@
 -- `lattice::row_start` meets its contract.
 -- Assumes nothing.
-use Rattle.lattice.specs.Shape.{rowStart}
+use Rattle.lattice.specs.Shape.{row_start}
 use mathlib.Core.Path.{◌∙◌}
 use Rattle.lattice.proofs.EntryLaws as entry
 use borrow.Author.Rules.{rules}
@@ -8,7 +8,7 @@ use Rattle.lattice.proofs.row_start.Statement.{statement}
 use Rattle.lattice.proofs.row_start.Tie as tie
 
 returns : tie.Need-returns
-returns c = c.about-row.ensures ∙ entry.row-answer _ _ (rowStart _) _ _ c.before.before.clipped.ensures c.before.row-start-of.ensures
+returns c = c.about-row.ensures ∙ entry.row-answer _ _ (row_start _) _ _ c.before.before.clipped.ensures c.before.row-start-of.ensures
 
 pub row-start-spec : {M : Type 1} → statement M
 row-start-spec =

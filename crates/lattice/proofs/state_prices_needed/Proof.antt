@@ -1,6 +1,6 @@
 -- `lattice::state_prices_needed` meets its contract.
 -- Assumes nothing.
-use Rattle.lattice.specs.Shape.{rowStart, statePricesNeeded}
+use Rattle.lattice.specs.Shape.{row_start, state_prices_needed}
 use Prim.Native.Nat.{ℕ}
 use native.Mathlib.Numerals.{add-one}
 use mathlib.Core.Path.{ap, ◌∙◌}
@@ -10,10 +10,10 @@ use Rattle.lattice.proofs.state_prices_needed.Statement.{statement}
 use Rattle.lattice.proofs.state_prices_needed.Tie as tie
 
 returns : tie.Need-returns
-unfolding statePricesNeeded
+unfolding state_prices_needed
 returns c =
-    let needed : ℕ → ℕ = λ n. statePricesNeeded n c.before.before.before.args.reversion in
-    let start = c.before.row-start-of.ensures ∙ ap (rowStart _) (add-one _) in
+    let needed : ℕ → ℕ = λ n. state_prices_needed n c.before.before.before.args.reversion in
+    let start = c.before.row-start-of.ensures ∙ ap (row_start _) (add-one _) in
     c.about-tree.ensures ∙ entry.tree-answer _ _ needed _ _ c.before.before.clipped.ensures start
 
 pub state-prices-needed-spec : {M : Type 1} → statement M

@@ -5,14 +5,14 @@ use Prim.Native.Nat.{◌-◌}
 use borrow.Author.Rules.{rules}
 use native.Mathlib.Omega.{arith}
 use lib.ListN.{length}
-use Rattle.bands.specs.Bands.{bandsOf, contains}
-use Rattle.lending.specs.Lending.{bandIndex}
+use Rattle.bands.specs.Bands.{bands_of, contains}
+use Rattle.lending.specs.Lending.{band_index}
 use Rattle.bands.proofs.FirstLaws.{Searched, searched-start, searched-more, searched-found, searched-none}
 use Rattle.lending.proofs.find_band.Statement.{statement}
 use Rattle.lending.proofs.find_band.Tie as tie
 
 abbrev invariant-loop : tie.invariant-loop
-invariant-loop firsts lasts lowests highests row price k₀ k = Searched (contains (bandsOf firsts lasts lowests highests) row price) 0 (length firsts) k
+invariant-loop firsts lasts lowests highests row price k₀ k = Searched (contains (bands_of firsts lasts lowests highests) row price) 0 (length firsts) k
 
 abbrev decreases-loop : tie.decreases-loop
 decreases-loop firsts lasts lowests highests row price k₀ k = length firsts - k
@@ -21,7 +21,7 @@ loop-holds : tie.Need-loop-init invariant-loop decreases-loop
 loop-holds c = searched-start (omega arith)
 
 returns : tie.Need-returns invariant-loop decreases-loop
-unfolding bandIndex
+unfolding band_index
 returns c =
     let loop = c.before.before.before.before.before.before.before.loop in
     searched-found loop.k loop.invariant (omega arith) (sym c.before.is_Within.ensures ∙ c.if1.true)
@@ -32,7 +32,7 @@ loop-again c =
     searched-more loop.k loop.invariant (omega arith) (sym c.before.is_Within.ensures ∙ c.if1.false)
 
 returns-2 : tie.Need-returns-2 invariant-loop decreases-loop
-unfolding bandIndex
+unfolding band_index
 returns-2 c =
     let s = c.before.before.before.before.before.before in
     let end : c.before.loop.k ≡ length s.args.firsts.now = omega (arith, c.before.loop.invariant.most) in

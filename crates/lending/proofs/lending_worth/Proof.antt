@@ -7,7 +7,7 @@ use native.Mathlib.Omega.{arith}
 use borrow.Author.Tests.{not-true, not-false}
 use lib.ListN.{length, get_or}
 use Rattle.arithmetic.proofs.Implied.{implied}
-use Rattle.bands.specs.Bands.{sameLengths}
+use Rattle.bands.specs.Bands.{same_lengths}
 use Rattle.bands.proofs.TestLaws.{lengths-agree}
 use Rattle.lending.proofs.LendingLaws.{in_table, haircut-fits, lending-accepted, lending-row-low}
 use Rattle.lending.proofs.LendingLaws.{lending-row-high, lending-lengths, lending-price, lending-refused, product-fits}
@@ -30,7 +30,7 @@ returns-3 c =
 -- the lengths agree past the third test
 agree :
     (c : tie.Else3) →
-    sameLengths c.before.before.before.before.before.before.before.before.before.args.firsts.now
+    same_lengths c.before.before.before.before.before.before.before.before.before.args.firsts.now
     c.before.before.before.before.before.before.before.before.before.args.lasts.now
     c.before.before.before.before.before.before.before.before.before.args.lowests.now
     c.before.before.before.before.before.before.before.before.before.args.highests.now

@@ -4,7 +4,7 @@ use mathlib.Core.Path.{◌≡◌, sym, ◌∙◌}
 use Prim.Native.Nat.{◌-◌}
 use lib.ListN.{length}
 use borrow.Author.Rules.{rules}
-use Rattle.node_lines.specs.Reading.{readNumber}
+use Rattle.node_lines.specs.Reading.{read_number}
 use Rattle.node_lines.proofs.ReadingLaws.{read_known, drawn-refused, drawn-answered}
 use Rattle.node_lines.proofs.node_lines.Statement.{statement}
 use Rattle.node_lines.proofs.node_lines.Tie as tie
@@ -17,7 +17,7 @@ returns c =
 
 -- where there is no cause
 accepted : (c : tie.Else1) → let a = c.before.before.before.before.args in
-    readNumber (length a.out.now) a.end a.row a.discounts.now a.next a.count ≡ 0
+    read_number (length a.out.now) a.end a.row a.discounts.now a.next a.count ≡ 0
 accepted c = sym c.before.row_number.ensures ∙ c.if1.false
 
 put-row-nodes-requires : tie.Need-put-row-nodes-requires

@@ -7,11 +7,11 @@ use Prim.Native.Nat.{ℕ, suc, ◌≤◌, ◌<◌, ◌+◌, ◌-◌, ◌*◌, �
 use native.Mathlib.Omega.{arith}
 use lib.ListN.{length, get_or}
 use borrow.Author.Rules.{rules}
-use Rattle.lattice.specs.RateTree.{nodeOfIndex}
-use Rattle.text_laws.specs.Lines.{lineOfNode, longestLine}
+use Rattle.lattice.specs.RateTree.{node_of_index}
+use Rattle.text_laws.specs.Lines.{line_of_node, longest_line}
 use Rattle.text_laws.specs.inside.Put.{Put}
-use Rattle.node_lines.specs.Rows.{nodeText, lines}
-use Rattle.node_lines.specs.Reading.{nodesBefore}
+use Rattle.node_lines.specs.Rows.{node_text, lines}
+use Rattle.node_lines.specs.Reading.{nodes_before}
 use Rattle.node_lines.proofs.RowLaws.{discount-read, line-room}
 use Rattle.node_lines.proofs.LineLoop.{Progress, begun, gone, ended}
 use Rattle.node_lines.proofs.ReadingLaws.{before-length, before_text, before-discount, drawn-whole}
@@ -20,14 +20,14 @@ use Rattle.node_lines.proofs.put_row_nodes.Tie as tie
 
 abbrev invariant-loop : tie.invariant-loop
 invariant-loop out₀ end row discounts next count half-width start₀ place₀ left₀ out start place left =
-    Progress (nodeText row (nodesBefore discounts next count)) (λ (i : ℕ). longestLine * i) out₀ end count out start left × (place ≡ next - count + left)
+    Progress (node_text row (nodes_before discounts next count)) (λ (i : ℕ). longest_line * i) out₀ end count out start left × (place ≡ next - count + left)
 
 abbrev decreases-loop : tie.decreases-loop
 decreases-loop out₀ end row discounts next count half-width start₀ place₀ left₀ out start place left = left
 
 fits : (c : tie.After-shared-slice-known invariant-loop decreases-loop) (i : ℕ) → i < c.before.before.args.count →
     let a = c.before.before.args in
-    longestLine * i + length (nodeText a.row (nodesBefore a.discounts.now a.next a.count) i) ≤ longestLine * suc i
+    longest_line * i + length (node_text a.row (nodes_before a.discounts.now a.next a.count) i) ≤ longest_line * suc i
 fits c i h =
     let s = c.before.before in
     let a = s.args in
@@ -41,7 +41,7 @@ loop-holds : tie.Need-loop-init invariant-loop decreases-loop
 loop-holds c =
     let s = c.before.before in
     let a = s.args in
-    (begun _ (λ (i : ℕ). longestLine * i) a.count (fits c) a.out.now a.end s.requires.room, omega (arith, s.requires.standing))
+    (begun _ (λ (i : ℕ). longest_line * i) a.count (fits c) a.out.now a.end s.requires.room, omega (arith, s.requires.standing))
 
 sub-place : tie.Need-overflow-sub-place invariant-loop decreases-loop
 sub-place c = let l = c.before.loop in omega (arith, l.invariant.1)
@@ -87,11 +87,11 @@ loop-again c =
     let l = in-loop.before.loop in
     let p = l.invariant.0 in
     let some : 0 < l.left = omega arith in
-    let text = ap (λ (d : ℕ). lineOfNode a.row (nodeOfIndex (a.count / 2) (l.left - 1)) d) (read at-node)
+    let text = ap (λ (d : ℕ). line_of_node a.row (node_of_index (a.count / 2) (l.left - 1)) d) (read at-node)
     ∙ before_text a.discounts.now a.next a.count s.requires.standing s.requires.next-within a.row (l.left - 1) (omega (arith, p.upto)) in
     let put = subst (λ (t : List ℕ). Put l.out l.start t c.before.before.put-node-line.result c.before.before.put-node-line.new.0) text
     c.before.before.put-node-line.ensures in
-    (gone _ (λ (i : ℕ). longestLine * i) a.count (fits in-loop.before.before) a.out.now a.end p some put, place_is in-loop)
+    (gone _ (λ (i : ℕ). longest_line * i) a.count (fits in-loop.before.before) a.out.now a.end p some put, place_is in-loop)
 
 same_length : tie.Need-same-length invariant-loop decreases-loop
 same_length c = c.before.loop.invariant.0.same
@@ -102,9 +102,9 @@ returns c =
     let a = s.args in
     let l = c.before.loop in
     let none : l.left ≡ 0 = omega arith in
-    let put = ended _ (λ (i : ℕ). longestLine * i) a.count (fits c.before.before) a.out.now a.end l.invariant.0 none s.requires.inside in
+    let put = ended _ (λ (i : ℕ). longest_line * i) a.count (fits c.before.before) a.out.now a.end l.invariant.0 none s.requires.inside in
     let counted = before-length a.discounts.now a.next a.count s.requires.standing s.requires.next-within in
-    let line = nodeText a.row (nodesBefore a.discounts.now a.next a.count) in
+    let line = node_text a.row (nodes_before a.discounts.now a.next a.count) in
     drawn-whole 0 a.out.now a.end _ (a.next - a.count)
     (subst (λ (n : ℕ). Put a.out.now a.end (lines line n) l.start l.out) (sym counted) put) (omega (arith, l.invariant.1))
 

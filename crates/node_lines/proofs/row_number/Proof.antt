@@ -6,8 +6,8 @@ use Prim.Native.Nat.{◌≤◌}
 use lib.ListN.{length}
 use borrow.Author.Rules.{rules}
 use borrow.Author.Tests.{not-true, not-false}
-use Rattle.node_lines.specs.Rows.{isRow, hasRoomFor, acceptedNodes}
-use Rattle.node_lines.specs.Reading.{standBefore, nodesBefore}
+use Rattle.node_lines.specs.Rows.{is_row, has_room_for, accepted_nodes}
+use Rattle.node_lines.specs.Reading.{stand_before, nodes_before}
 use Rattle.node_lines.proofs.RowLaws.{accepted-found}
 use Rattle.node_lines.proofs.ReadingLaws.{stand-known, before_lent, read_none, read-no-row, read_short, read-judged}
 use Rattle.node_lines.proofs.row_number.Statement.{statement}
@@ -20,7 +20,7 @@ returns c =
     (sym c.before.stand-before.ensures ∙ not-true _ c.if1.true)
 
 -- what is known where the nodes stand before the place
-stands : (c : tie.Else1) → let a = c.before.before.before.args in standBefore a.count a.next (length a.discounts.now) ≡ true
+stands : (c : tie.Else1) → let a = c.before.before.before.args in stand_before a.count a.next (length a.discounts.now) ≡ true
 stands c = sym c.before.stand-before.ensures ∙ not-false _ c.if1.false
 
 standing : (c : tie.Else1) → let a = c.before.before.before.args in (a.count ≤ a.next) × (a.next ≤ length a.discounts.now)
@@ -34,7 +34,7 @@ returns-2 c =
     (sym c.before.is_row.ensures ∙ not-true _ c.if2.true)
 
 -- where the row is one
-shaped : (c : tie.Else2) → let a = c.before.before.before.before.before.args in isRow a.row a.count ≡ true
+shaped : (c : tie.Else2) → let a = c.before.before.before.before.before.args in is_row a.row a.count ≡ true
 shaped c = sym c.before.is_row.ensures ∙ not-false _ c.if2.false
 
 returns-3 : tie.Need-returns-3
@@ -46,7 +46,7 @@ returns-3 c =
     (sym c.before.has_room.ensures ∙ not-true _ c.if3.true)
 
 -- where its lines have room
-roomy : (c : tie.Else3) → let a = c.before.before.before.before.before.before.before.args in hasRoomFor a.count a.size a.end ≡ true
+roomy : (c : tie.Else3) → let a = c.before.before.before.before.before.before.before.args in has_room_for a.count a.size a.end ≡ true
 roomy c = sym c.before.has_room.ensures ∙ not-false _ c.if3.false
 
 sub-all-between : tie.Need-overflow-sub-all-between
@@ -61,12 +61,12 @@ part-all-between-end c = (standing c.before.before.before.before).1
 -- the test that the code makes is of the nodes before the place
 tested : (c : tie.After-all-between) →
     let a = c.before.before.before.before.before.before.before.before.before.args in
-    acceptedNodes (nodesBefore a.discounts.now a.next a.count) ≡ c.all-between.result
+    accepted_nodes (nodes_before a.discounts.now a.next a.count) ≡ c.all-between.result
 tested c =
     let e = c.before.before.before.before.before.before in
     let a = e.before.before.before.args in
     let lent = before_lent a.discounts.now a.next a.count (standing e).0 (standing e).1 in
-    ap acceptedNodes (sym lent) ∙ accepted-found _ c.all-between.result c.all-between.ensures
+    ap accepted_nodes (sym lent) ∙ accepted-found _ c.all-between.result c.all-between.ensures
 
 returns-4 : tie.Need-returns-4
 returns-4 c =

@@ -2,7 +2,7 @@
 -- Assumes nothing.
 use mathlib.Core.Path.{◌≡◌, refl, sym, ◌∙◌}
 use Prim.Native.Nat.{ℕ}
-use Rattle.lent_tree.specs.LentTree.{Accepted, discountsCause}
+use Rattle.lent_tree.specs.LentTree.{Accepted, discounts_cause}
 use Rattle.lent_tree.proofs.LentLaws.{lent, accepted}
 use Rattle.price_bound.proofs.BoundLaws.{rows-bounded, bound-is, room-refused, range-refused, range-accepted, bounds-given}
 use borrow.Author.Rules.{rules}
@@ -23,7 +23,7 @@ returns-2 c =
 
 -- where the discounts have been judged
 none : (c : tie.Else2) → let a = c.before.before.before.before.before.before.args in ◌≡◌ {A = ℕ} 0
-    (discountsCause a.steps a.reversion a.discounts.now)
+    (discounts_cause a.steps a.reversion a.discounts.now)
 none c = range-accepted _ _ _ _ c.before.before.before.before.room-cause.ensures c.before.before.before.if1.false _
     c.before.before.tree-range.ensures.0 (not-false _ c.if2.false)
 

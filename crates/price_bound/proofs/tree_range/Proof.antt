@@ -7,11 +7,11 @@ use native.Mathlib.Omega.{arith}
 use lib.ListN.{replicate}
 use Rattle.arithmetic.specs.Row.{each}
 use Rattle.arithmetic.proofs.RowLaws.{Filled, filled-start, filled_next, each_none, each_more}
-use Rattle.limits.specs.Limits.{mostSteps}
-use Rattle.lattice.specs.RateTree.{rateTree}
+use Rattle.limits.specs.Limits.{most_steps}
+use Rattle.lattice.specs.RateTree.{rate_tree}
 use Rattle.lent_tree.specs.LentTree.{stored}
-use Rattle.pricing_laws.specs.TreePricer.{greatestDiscount}
-use Rattle.price_bound.specs.inside.Rows.{rowAccepted}
+use Rattle.pricing_laws.specs.TreePricer.{greatest_discount}
+use Rattle.price_bound.specs.inside.Rows.{row_accepted}
 use Rattle.price_bound.proofs.BoundLaws.{rows-filled, rows-refused, rows-accepted}
 use borrow.Author.Rules.{rules}
 use borrow.Author.Tests.{not-true, not-false}
@@ -20,8 +20,8 @@ use Rattle.price_bound.proofs.tree_range.Tie as tie
 
 abbrev invariant-loop : tie.invariant-loop
 invariant-loop steps reversion discounts rows₀ row₀ rows row =
-    (row ≤ steps) × (each row (rowAccepted reversion discounts) ≡ true)
-    × Filled (replicate mostSteps 0) rows (greatestDiscount (rateTree reversion) (stored reversion discounts)) row
+    (row ≤ steps) × (each row (row_accepted reversion discounts) ≡ true)
+    × Filled (replicate most_steps 0) rows (greatest_discount (rate_tree reversion) (stored reversion discounts)) row
 
 abbrev decreases-loop : tie.decreases-loop
 decreases-loop steps reversion discounts rows₀ row₀ rows row = steps - row

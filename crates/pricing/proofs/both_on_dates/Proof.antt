@@ -1,7 +1,7 @@
 -- `pricing::both_on_dates` meets its contract.
 -- Assumes nothing.
 use mathlib.Core.Path.{◌≡◌}
-use Rattle.price_laws.specs.Prices.{datedCause}
+use Rattle.price_laws.specs.Prices.{dated_cause}
 use Rattle.price_laws.proofs.OptionLaws.{dated-cause-is, dates-both}
 use Rattle.pricing.proofs.EntryLaws.{dated-exercised}
 use borrow.Author.Rules.{rules}
@@ -12,7 +12,7 @@ use Rattle.pricing.proofs.both_on_dates.Tie as tie
 abbrev start : tie.After-lowest-cause → tie.Start
 start c = c.before.before.before.before.before.before
 
-cause : (c : tie.After-lowest-cause) → let a = (start c).args in c.lowest-cause.result ≡ datedCause a.tree.steps a.side a.dates.now a.strike
+cause : (c : tie.After-lowest-cause) → let a = (start c).args in c.lowest-cause.result ≡ dated_cause a.tree.steps a.side a.dates.now a.strike
 cause c = dated-cause-is _ _ _ _ c.before.before.terms-cause.ensures c.before.dates-cause.ensures c.lowest-cause.ensures
 
 judged-both-requires : tie.Need-judged-both-requires

@@ -4,7 +4,7 @@ use mathlib.Core.Path.{◌≡◌, sym, ◌∙◌}
 use native.Mathlib.Omega.{arith}
 use Rattle.arithmetic.proofs.Implied.{implied}
 use Rattle.lent_tree.specs.LentTree.{Accepted}
-use Rattle.price_laws.specs.Prices.{treeCause}
+use Rattle.price_laws.specs.Prices.{tree_cause}
 use Rattle.price_laws.proofs.Accuracy.{tree_lent, tree-paid}
 use Rattle.price_laws.proofs.AnswerLaws.{marked-price}
 use Rattle.price_laws.proofs.ValueLaws as answers
@@ -26,7 +26,7 @@ returns c =
 abbrev start : tie.Else1 → tie.Start
 start c = c.before.before.before.before.before
 
-none : (c : tie.Else1) → let a = (start c).args in treeCause a.tree.steps a.tree.reversion a.discounts.now a.flows.now ≡ 0
+none : (c : tie.Else1) → let a = (start c).args in tree_cause a.tree.steps a.tree.reversion a.discounts.now a.flows.now ≡ 0
 none c = sym (start c).requires.0 ∙ c.if1.false
 
 tree : (c : tie.Else1) → let a = (start c).args in Accepted a.tree.steps a.tree.reversion a.discounts.now

@@ -3,21 +3,21 @@
 use mathlib.Core.Path.{◌≡◌, sym, ◌∙◌}
 use Prim.Native.Nat.{ℕ}
 use borrow.Author.Tests.{eq-eqb, ne_eqb}
-use Rattle.arithmetic.specs.Answers.{firstCause}
-use Rattle.price_laws.specs.Prices.{refusedPrice}
-use Rattle.price_laws.specs.Strips.{stripOf}
+use Rattle.arithmetic.specs.Answers.{first_cause}
+use Rattle.price_laws.specs.Prices.{refused_price}
+use Rattle.price_laws.specs.Strips.{strip_of}
 use Rattle.price_laws.proofs.StripLaws.{strip-few, strip-refused, strip-given}
 use borrow.Author.Rules.{rules}
 use Rattle.pricing.proofs.refused_kind.Statement.{statement}
 use Rattle.pricing.proofs.refused_kind.Tie as tie
 
 -- the first of the two causes in every place
-by_first : (count found cause : ℕ) → (found ≡ 0 → ⊥) → stripOf count (λ k. refusedPrice found) ≡ stripOf count (λ k. refusedPrice (firstCause found cause))
-unfolding firstCause
+by_first : (count found cause : ℕ) → (found ≡ 0 → ⊥) → strip_of count (λ k. refused_price found) ≡ strip_of count (λ k. refused_price (first_cause found cause))
+unfolding first_cause
 by_first count found cause z = rw (ne_eqb found 0 z)
 
-by-later : (count found cause : ℕ) → found ≡ 0 → stripOf count (λ k. refusedPrice cause) ≡ stripOf count (λ k. refusedPrice (firstCause found cause))
-unfolding firstCause
+by-later : (count found cause : ℕ) → found ≡ 0 → strip_of count (λ k. refused_price cause) ≡ strip_of count (λ k. refused_price (first_cause found cause))
+unfolding first_cause
 by-later count found cause z = rw (eq-eqb found 0 z)
 
 returns : tie.Need-returns

@@ -3,7 +3,7 @@
 use mathlib.Core.Path.{◌≡◌, sym, ◌∙◌}
 use mathlib.Core.Bool.{true}
 use borrow.Author.Tests.{not-true, not-false}
-use Rattle.arithmetic.specs.Frequency.{isFrequency}
+use Rattle.arithmetic.specs.Frequency.{is_frequency}
 use Rattle.arithmetic.proofs.FrequencyLaws.{listed_small}
 use Rattle.quotes.proofs.QuoteLaws.{row_low, row-high, row-known, lone-frequency, lone_row, lone-kind}
 use borrow.Author.Rules.{rules}
@@ -17,7 +17,7 @@ returns c =
     c.refusal.ensures
     ∙ sym (lone-frequency a.frequency a.kind a.point (sym l.is-frequency.ensures ∙ not-true l.is-frequency.result c.before.if1.true))
 
-known : (c : tie.Else1) → isFrequency c.before.before.args.frequency ≡ true
+known : (c : tie.Else1) → is_frequency c.before.before.args.frequency ≡ true
 known c = sym c.before.is-frequency.ensures ∙ not-false c.before.is-frequency.result c.if1.false
 
 returns-2 : tie.Need-returns-2

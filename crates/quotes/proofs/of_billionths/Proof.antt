@@ -9,7 +9,7 @@ use lib.Signed.{le_z}
 use mir.Syntax.{w64}
 use mir.Val.{to_z, of_z}
 use Rattle.arithmetic.specs.Rounding.{one}
-use Rattle.quotes.specs.Quotes.{rangedAnswer, rateDiscount}
+use Rattle.quotes.specs.Quotes.{ranged_answer, rate_discount}
 use Rattle.quotes.proofs.Divisor.{quotient-none, quotient-some, product-fits, divisor-fits, divisor-back, divisor-size}
 use Rattle.quotes.proofs.QuoteLaws.{ranged-none}
 use borrow.Author.Rules.{rules}
@@ -36,7 +36,7 @@ size : (c : tie.Start) → nat_abs (divisor c) ≤ 612000000000
 size c = divisor-size c.args.frequency c.args.row c.args.rate c.requires.0 c.requires.1 c.requires.2 c.ranges.rate
 
 returns : tie.Need-returns
-unfolding rateDiscount
+unfolding rate_discount
 returns c =
     let s = c.before.before in
     c.refusal.ensures
@@ -52,11 +52,11 @@ div-ranged : tie.Need-nonzero-div-ranged
 div-ranged c = rw (back c.before) (quotient-some 0 (divisor c.before) (positive c)).1
 
 returns-2 : tie.Need-returns-2
-unfolding rateDiscount
+unfolding rate_discount
 returns-2 c =
     let s = c.before.before in
     c.ranged.ensures
-    ∙ ap rangedAnswer (rw (back s) (sym (quotient-some (one * one * s.args.frequency) (divisor s) (positive c.before)).2))
+    ∙ ap ranged_answer (rw (back s) (sym (quotient-some (one * one * s.args.frequency) (divisor s) (positive c.before)).2))
 
 pub of-billionths-spec : {M : Type 1} → statement M
 of-billionths-spec =

@@ -9,7 +9,7 @@ use mir.Syntax.{w64}
 use mir.Val.{to_z, of_z}
 use borrow.Author.Rules.{rules}
 use Rattle.figure.proofs.FigureLaws.{value-bound, value-back}
-use Rattle.quotes.specs.Quotes.{rangedAnswer, factorDiscount}
+use Rattle.quotes.specs.Quotes.{ranged_answer, factor_discount}
 use Rattle.quotes.proofs.QuoteLaws.{ranged-none, figure-refused, figure-accepted, factor-negative, factor-whole}
 use Rattle.quotes.proofs.of_factor.Statement.{statement}
 use Rattle.quotes.proofs.of_factor.Tie as tie
@@ -17,7 +17,7 @@ use Rattle.quotes.proofs.of_factor.Tie as tie
 returns : tie.Need-returns
 returns c =
     let b = c.before.before.before in
-    c.refusal.ensures ∙ sym (figure-refused b.before.args.figure factorDiscount b.billionths.result b.billionths.ensures c.before.if1.true)
+    c.refusal.ensures ∙ sym (figure-refused b.before.args.figure factor_discount b.billionths.result b.billionths.ensures c.before.if1.true)
 
 returns-2 : tie.Need-returns-2
 returns-2 c =
@@ -25,7 +25,7 @@ returns-2 c =
     let back = value-back b.before.args.figure b.billionths.result b.billionths.ensures in
     c.refusal2.ensures
     ∙ sym
-    (figure-accepted b.before.args.figure factorDiscount b.billionths.result b.billionths.ensures c.before.before.before.if1.false
+    (figure-accepted b.before.args.figure factor_discount b.billionths.result b.billionths.ensures c.before.before.before.if1.false
     ∙ ranged-none _ (factor-negative b.billionths.result.value (rw back at c.before.if2.true)))
 
 -- the value, where it is not below 0
@@ -48,8 +48,8 @@ returns-3 : tie.Need-returns-3
 returns-3 c =
     let b = c.before.before.before.before.before in
     c.ranged.ensures
-    ∙ ap rangedAnswer (rw (back c.before) (sym (factor-whole (value c.before) (whole c.before)).1))
-    ∙ sym (figure-accepted b.before.args.figure factorDiscount b.billionths.result b.billionths.ensures c.before.before.before.if1.false)
+    ∙ ap ranged_answer (rw (back c.before) (sym (factor-whole (value c.before) (whole c.before)).1))
+    ∙ sym (figure-accepted b.before.args.figure factor_discount b.billionths.result b.billionths.ensures c.before.before.before.if1.false)
 
 pub of-factor-spec : {M : Type 1} → statement M
 of-factor-spec =

@@ -4,7 +4,7 @@ use mathlib.Core.Path.{sym, ◌∙◌, ap}
 use lib.IntN.{ℤ}
 use borrow.Author.Rules.{rules}
 use Rattle.figure.proofs.FigureLaws.{value-bound, value-back}
-use Rattle.quotes.specs.Quotes.{rangedAnswer, rateDiscount}
+use Rattle.quotes.specs.Quotes.{ranged_answer, rate_discount}
 use Rattle.quotes.proofs.QuoteLaws.{figure-refused, figure-accepted}
 use Rattle.quotes.proofs.of_rate.Statement.{statement}
 use Rattle.quotes.proofs.of_rate.Tie as tie
@@ -14,7 +14,7 @@ returns c =
     let b = c.before.before.before in
     let a = b.before.args in
     c.refusal.ensures
-    ∙ sym (figure-refused a.figure (rateDiscount a.frequency a.row) b.billionths.result b.billionths.ensures c.before.if1.true)
+    ∙ sym (figure-refused a.figure (rate_discount a.frequency a.row) b.billionths.result b.billionths.ensures c.before.if1.true)
 
 of-billionths-requires : tie.Need-of-billionths-requires
 of-billionths-requires c κs =
@@ -28,8 +28,8 @@ returns-2 c =
     let b = c.before.before.before.before in
     let a = b.before.args in
     c.of-billionths.ensures
-    ∙ ap (λ (z : ℤ). rangedAnswer (rateDiscount a.frequency a.row z)) (value-back a.figure b.billionths.result b.billionths.ensures)
-    ∙ sym (figure-accepted a.figure (rateDiscount a.frequency a.row) b.billionths.result b.billionths.ensures c.before.before.if1.false)
+    ∙ ap (λ (z : ℤ). ranged_answer (rate_discount a.frequency a.row z)) (value-back a.figure b.billionths.result b.billionths.ensures)
+    ∙ sym (figure-accepted a.figure (rate_discount a.frequency a.row) b.billionths.result b.billionths.ensures c.before.before.if1.false)
 
 pub of-rate-spec : {M : Type 1} → statement M
 of-rate-spec =

@@ -12,8 +12,8 @@ use mir.Val.{to_z, of_z}
 use mir.Facts.{to_z-of_z, to_z_pos}
 use borrow.Author.Rules.{rules}
 use Rattle.arithmetic.proofs.Signed.{minus-fits, minus-back}
-use Rattle.continuous.specs.Continuous.{continuousAnswer}
-use Rattle.quotes.specs.Quotes.{rangedAnswer, yieldDiscount}
+use Rattle.continuous.specs.Continuous.{continuous_answer}
+use Rattle.quotes.specs.Quotes.{ranged_answer, yield_discount}
 use Rattle.quotes.proofs.YieldLaws.{amount-above, amount-below, quotient-small}
 use Rattle.quotes.proofs.of_yearly.Statement.{statement}
 use Rattle.quotes.proofs.of_yearly.Tie as tie
@@ -56,11 +56,11 @@ sub-of-amount-2 : tie.Need-overflow-sub-of-amount-2
 sub-of-amount-2 c = minus-fits (below c.before) (omega (arith, below-small c.before))
 
 returns : tie.Need-returns
-unfolding yieldDiscount
+unfolding yield_discount
 returns c =
     let m = c.before.before in
     c.of-amount.ensures
-    ∙ ap (λ (z : ℤ). rangedAnswer (continuousAnswer z).value)
+    ∙ ap (λ (z : ℤ). ranged_answer (continuous_answer z).value)
     (minus-back (below m) (omega (arith, below-small m))
     ∙ amount-below _ _ _ m.before.args.rate m.before.requires.0 (size m) (sign m.before _ c.before.if1.true))
 
@@ -68,11 +68,11 @@ cast-of-amount-2 : tie.Need-overflow-cast-of-amount-2
 cast-of-amount-2 c = record { sfits = omega (arith, above-small c.before) }
 
 returns-2 : tie.Need-returns-2
-unfolding yieldDiscount
+unfolding yield_discount
 returns-2 c =
     let m = c.before.before in
     c.of-amount2.ensures
-    ∙ ap (λ (z : ℤ). rangedAnswer (continuousAnswer z).value)
+    ∙ ap (λ (z : ℤ). ranged_answer (continuous_answer z).value)
     (to_z_pos w64 (omega (arith, above-small m)) ∙ amount-above _ _ _ m.before.args.rate (size m) (sign m.before _ c.before.if1.false))
 
 pub of-yearly-spec : {M : Type 1} → statement M

@@ -4,7 +4,7 @@ use mathlib.Core.Path.{sym, ◌∙◌, ap}
 use lib.IntN.{ℤ}
 use borrow.Author.Rules.{rules}
 use Rattle.figure.proofs.FigureLaws.{value-bound, value-back}
-use Rattle.quotes.specs.Quotes.{rangedAnswer, yieldDiscount}
+use Rattle.quotes.specs.Quotes.{ranged_answer, yield_discount}
 use Rattle.quotes.proofs.QuoteLaws.{figure-refused, figure-accepted}
 use Rattle.quotes.proofs.of_yield.Statement.{statement}
 use Rattle.quotes.proofs.of_yield.Tie as tie
@@ -14,7 +14,7 @@ returns c =
     let b = c.before.before.before in
     let a = b.before.args in
     c.refusal.ensures
-    ∙ sym (figure-refused a.figure (yieldDiscount a.frequency a.row) b.billionths.result b.billionths.ensures c.before.if1.true)
+    ∙ sym (figure-refused a.figure (yield_discount a.frequency a.row) b.billionths.result b.billionths.ensures c.before.if1.true)
 
 of-yearly-requires : tie.Need-of-yearly-requires
 of-yearly-requires c κs =
@@ -28,8 +28,8 @@ returns-2 c =
     let b = c.before.before.before.before in
     let a = b.before.args in
     c.of-yearly.ensures
-    ∙ ap (λ (z : ℤ). rangedAnswer (yieldDiscount a.frequency a.row z)) (value-back a.figure b.billionths.result b.billionths.ensures)
-    ∙ sym (figure-accepted a.figure (yieldDiscount a.frequency a.row) b.billionths.result b.billionths.ensures c.before.before.if1.false)
+    ∙ ap (λ (z : ℤ). ranged_answer (yield_discount a.frequency a.row z)) (value-back a.figure b.billionths.result b.billionths.ensures)
+    ∙ sym (figure-accepted a.figure (yield_discount a.frequency a.row) b.billionths.result b.billionths.ensures c.before.before.if1.false)
 
 pub of-yield-spec : {M : Type 1} → statement M
 of-yield-spec =

@@ -5,11 +5,11 @@ use Prim.Native.Nat.{◌≤◌}
 use native.Mathlib.Omega.{arith}
 use lib.ListN.{length}
 use borrow.Author.Rules.{rules}
-use Rattle.limits.specs.Limits.{mostDiscounts, mostStatePrices}
-use Rattle.job_laws.specs.JobPrices.{recordPrices}
-use Rattle.sheet_room.specs.Room.{sheetRoom}
+use Rattle.limits.specs.Limits.{most_discounts, most_state_prices}
+use Rattle.job_laws.specs.JobPrices.{record_prices}
+use Rattle.sheet_room.specs.Room.{sheet_room}
 use Rattle.sheet_laws.specs.inside.Stored.{Fitted}
-use Rattle.sheet_laws.specs.WholeJob.{jobNumber}
+use Rattle.sheet_laws.specs.WholeJob.{job_number}
 use Rattle.sheet_laws.proofs.FittedLaws as fits
 use Rattle.sheet_laws.proofs.SheetLaws as laws
 use Rattle.record_sheet.proofs.AnswerLaws as answers
@@ -23,7 +23,7 @@ memories c = c.before.before.before
 abbrev start : tie.After-prices-in-place → tie.Start
 start c = (memories c).before.before.before
 
-largest : (c : tie.After-prices-in-place) → c.prices-in-place.result ≡ recordPrices (start c).args.job mostDiscounts mostStatePrices
+largest : (c : tie.After-prices-in-place) → c.prices-in-place.result ≡ record_prices (start c).args.job most_discounts most_state_prices
 largest c =
     let own-d = (memories c).before.discount-room in
     let own-p = (memories c).state-price-room in
@@ -35,7 +35,7 @@ priced c = c.before.before.before.before
 
 number_is : (c : tie.After-lowest-cause) →
     let a = (start (priced c)).args in
-    c.lowest-cause.result ≡ jobNumber a.job (length a.out.now)
+    c.lowest-cause.result ≡ job_number a.job (length a.out.now)
 number_is c =
     let a = (start (priced c)).args in
     laws.cause-is a.job _ (largest (priced c)) a.out.now _ _ c.before.room-cause.ensures c.lowest-cause.ensures
@@ -53,7 +53,7 @@ no-cause c =
     let a = (start (priced found)).args in
     laws.priced-none a.job _ (largest (priced found)) a.out.now _ _ found.before.room-cause.ensures found.lowest-cause.ensures c.if1.false
 
-room : (c : tie.Else1) → sheetRoom ≤ length (start (priced c.before)).args.out.now
+room : (c : tie.Else1) → sheet_room ≤ length (start (priced c.before)).args.out.now
 room c =
     let found = c.before in
     let a = (start (priced found)).args in

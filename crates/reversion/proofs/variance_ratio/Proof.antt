@@ -6,13 +6,13 @@ use native.Mathlib.Omega.{arith}
 use borrow.Author.Rules.{rules}
 use borrow.Author.Tests.{not-true, not-false}
 use Rattle.arithmetic.specs.Answers.{answered}
-use Rattle.reversion.specs.Reversion.{isVersion}
+use Rattle.reversion.specs.Reversion.{is_version}
 use Rattle.reversion.proofs.EntryLaws.{answer-beyond, answer-unknown, ratio-answer-first, ratio-answer-none, ratio-answer-second}
 use Rattle.reversion.proofs.variance_ratio.Statement.{statement}
 use Rattle.reversion.proofs.variance_ratio.Tie as tie
 
 -- past the second test there is such a version
-known : (c : tie.Else2) → isVersion c.before.before.before.args.version ≡ true
+known : (c : tie.Else2) → is_version c.before.before.before.args.version ≡ true
 known c = sym c.before.is-version.ensures ∙ not-false _ c.if2.false
 
 returns : tie.Need-returns

@@ -5,7 +5,7 @@ use mathlib.Core.Bool.{true}
 use borrow.Author.Tests.{not-true, not-false}
 use Rattle.arithmetic.proofs.Implied.{implied}
 use Rattle.lattice.proofs.TreeEntries.{row-value}
-use Rattle.row_view.specs.RowView.{holdsTree, storesRow}
+use Rattle.row_view.specs.RowView.{holds_tree, stores_row}
 use Rattle.row_view.proofs.ViewLaws as laws
 use borrow.Author.Rules.{rules}
 use Rattle.row_view.proofs.row_range.Statement.{statement}
@@ -24,13 +24,13 @@ returns-2 c =
 held :
     (c : tie.Else1) →
     let a = c.before.before.before.before.args in
-    holdsTree a.steps a.reversion a.discounts.now a.state-prices.now ≡ true
+    holds_tree a.steps a.reversion a.discounts.now a.state-prices.now ≡ true
 held c = sym c.before.holds-tree.ensures ∙ not-false _ c.if1.false
 
 stored :
     (c : tie.Else2) →
     let a = c.before.before.before.before.before.before.args in
-    storesRow a.kind a.steps a.row ≡ true
+    stores_row a.kind a.steps a.row ≡ true
 stored c = sym c.before.stores_row.ensures ∙ not-false _ c.if2.false
 
 returns-3 : tie.Need-returns-3

@@ -3,8 +3,8 @@
 use mathlib.Core.Path.{◌≡◌, sym, ◌∙◌}
 use Prim.Native.Nat.{◌-◌}
 use native.Mathlib.Omega.{arith}
-use Rattle.lattice.specs.Shape.{discountsNeeded}
-use Rattle.shelf_laws.specs.Shelf.{askNumber}
+use Rattle.lattice.specs.Shape.{discounts_needed}
+use Rattle.shelf_laws.specs.Shelf.{ask_number}
 use Rattle.shelf_laws.proofs.SlotLaws.{answer-value, answer-cause, ends-before}
 use Rattle.shelf_laws.proofs.NameLaws.{Asked, asked}
 use Rattle.shelf_laws.proofs.EntryLaws.{ask-slots-left, ask-memory-left, ask-slots, ask-memory}
@@ -13,7 +13,7 @@ use Rattle.shelf.proofs.ask.Statement.{statement}
 use Rattle.shelf.proofs.ask.Tie as tie
 
 -- what an accepted asking tells
-zero : (c : tie.Else1) → let a = c.before.before.args in askNumber a.shelf.slots a.name a.steps a.reversion ≡ 0
+zero : (c : tie.Else1) → let a = c.before.before.args in ask_number a.shelf.slots a.name a.steps a.reversion ≡ 0
 zero c = omega arith
 
 told : (c : tie.Else1) → let a = c.before.before.args in Asked a.shelf.slots a.name a.steps a.reversion
@@ -35,7 +35,7 @@ nodes-before-requires c κs = omega (arith, (told c).name-known.high)
 -- as many nodes as are asked for
 counted : (c : tie.After-discounts-needed) →
     let a = c.before.before.before.before.args in
-    c.discounts-needed.result.value ≡ discountsNeeded a.steps a.reversion
+    c.discounts-needed.result.value ≡ discounts_needed a.steps a.reversion
 counted c =
     let e = c.discounts-needed.ensures in
     answer-value _ _ _ e (answer-cause _ _ _ e ∙ (told c.before.before).shape)

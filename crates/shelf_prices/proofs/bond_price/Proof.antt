@@ -4,7 +4,7 @@ use Prim.Native.Nat.{ℕ}
 use mathlib.Core.Path.{◌∙◌}
 use mathlib.Core.List.{List}
 use native.Mathlib.Omega.{arith}
-use Rattle.price_laws.specs.Prices.{bondPrice}
+use Rattle.price_laws.specs.Prices.{bond_price}
 use Rattle.shelf_laws.proofs.NameLaws.{There, tree-found}
 use Rattle.shelf_prices.proofs.PriceLaws.{price-none, price-there}
 use borrow.Author.Rules.{rules}
@@ -38,7 +38,7 @@ returns-2 c =
     let a = c.before.before.before.before.before.before.before.before.before.args in
     let valued = c.before in
     let tree = valued.before.before.before.before.before.before.tree_of in
-    price-there (λ (n b : ℕ) (d : List ℕ). bondPrice n b d a.flows.now) _ _ _ tree.ensures (search rules)
+    price-there (λ (n b : ℕ) (d : List ℕ). bond_price n b d a.flows.now) _ _ _ tree.ensures (search rules)
     _ valued.bond-value.ensures _ c.carried.ensures
 
 pub bond-price-spec : {M : Type 1} → statement M

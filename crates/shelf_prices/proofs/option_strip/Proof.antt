@@ -5,7 +5,7 @@ use mathlib.Core.Path.{◌∙◌}
 use mathlib.Core.List.{List}
 use native.Mathlib.Omega.{arith}
 use Rattle.arithmetic.specs.Row.{values}
-use Rattle.price_laws.specs.Prices.{datedPrice}
+use Rattle.price_laws.specs.Prices.{dated_price}
 use Rattle.shelf_laws.proofs.NameLaws.{There, tree-found}
 use Rattle.shelf_prices.proofs.PriceLaws.{strip-none, strip-there}
 use borrow.Author.Rules.{rules}
@@ -22,7 +22,7 @@ returns : tie.Need-returns
 returns c =
     let a = c.before.before.before.before.before.before.before.args in
     c.no-strip.ensures
-    ∙ strip-none (λ (n b : ℕ) (d : List ℕ) (k : ℕ). datedPrice n b d a.flows.now a.side a.dates.now (values a.strikes.now k))
+    ∙ strip-none (λ (n b : ℕ) (d : List ℕ) (k : ℕ). dated_price n b d a.flows.now a.side a.dates.now (values a.strikes.now k))
     _ a.memory.now _ _ _ c.before.before.before.tree_of.ensures (search rules)
 
 add-end : tie.Need-overflow-add-end
@@ -37,7 +37,7 @@ part-bounded-strip-end c = omega (arith, (told c.before.before).fits)
 returns-2 : tie.Need-returns-2
 returns-2 c =
     let a = c.before.before.before.before.before.before.before.before.before.before.args in
-    strip-there (λ (n b : ℕ) (d : List ℕ) (k : ℕ). datedPrice n b d a.flows.now a.side a.dates.now (values a.strikes.now k))
+    strip-there (λ (n b : ℕ) (d : List ℕ) (k : ℕ). dated_price n b d a.flows.now a.side a.dates.now (values a.strikes.now k))
     _ a.memory.now _ _ _ c.before.before.before.before.before.before.tree_of.ensures (search rules) _ c.bounded-strip.ensures
 
 pub option-strip-spec : {M : Type 1} → statement M

@@ -7,7 +7,7 @@ use native.Mathlib.Nat.{mul-le-mul, div-le_self, lt_of_le_of_lt}
 use native.Mathlib.Omega.{arith}
 use borrow.Author.Rules.{rules}
 use borrow.Author.Tests.{not-true, not-false}
-use Rattle.arithmetic.specs.Frequency.{isFrequency}
+use Rattle.arithmetic.specs.Frequency.{is_frequency}
 use Rattle.arithmetic.proofs.FrequencyLaws.{listed_small}
 use Rattle.arithmetic.proofs.Implied.{implied}
 use Rattle.spacing.proofs.SpacingLaws.{cube-positive}
@@ -16,7 +16,7 @@ use Rattle.spacing.proofs.version_spacing.Statement.{statement}
 use Rattle.spacing.proofs.version_spacing.Tie as tie
 
 -- past the first test the number of steps a year is listed
-accepted : (c : tie.Else1) → isFrequency c.before.before.args.frequency ≡ true
+accepted : (c : tie.Else1) → is_frequency c.before.before.args.frequency ≡ true
 accepted c = sym c.before.is-frequency.ensures ∙ not-false _ c.if1.false
 
 -- where the function starts, from where the ratio is known

@@ -6,10 +6,10 @@ use lib.ListN.{replicate}
 use native.Mathlib.Omega.{arith}
 use borrow.Author.Rules.{rules}
 use Rattle.arithmetic.proofs.RowLaws.{Filled, filled_next}
-use Rattle.limits.specs.Limits.{mostSteps}
-use Rattle.lattice.specs.RateTree.{rateTree}
+use Rattle.limits.specs.Limits.{most_steps}
+use Rattle.lattice.specs.RateTree.{rate_tree}
 use Rattle.lent_tree.specs.LentTree.{stored}
-use Rattle.fit_laws.specs.StatePrices.{statePriceErrorBound}
+use Rattle.fit_laws.specs.StatePrices.{state_price_error_bound}
 use Rattle.state_price_bound.specs.inside.Reached.{Reached}
 use Rattle.state_price_bound.proofs.BoundLaws as laws
 use Rattle.state_price_bound.proofs.bounds_of_rows.Statement.{statement}
@@ -18,7 +18,7 @@ use Rattle.state_price_bound.proofs.bounds_of_rows.Tie as tie
 abbrev invariant-loop : tie.invariant-loop
 invariant-loop steps reversion discounts bounds₀ reached₀ index₀ bounds reached index =
     (index ≤ steps) × Reached reversion discounts index reached.start reached.nodes reached.bound
-    × Filled (replicate (mostSteps + 1) 0) bounds (statePriceErrorBound (rateTree reversion) (stored reversion discounts)) (index + 1)
+    × Filled (replicate (most_steps + 1) 0) bounds (state_price_error_bound (rate_tree reversion) (stored reversion discounts)) (index + 1)
 
 abbrev decreases-loop : tie.decreases-loop
 decreases-loop steps reversion discounts bounds₀ reached₀ index₀ bounds reached index = steps - index

@@ -2,7 +2,7 @@
 -- Assumes nothing.
 use mathlib.Core.Path.{◌≡◌}
 use borrow.Author.Rules.{rules}
-use Rattle.state_price_bound.specs.ErrorBound.{boundCause}
+use Rattle.state_price_bound.specs.ErrorBound.{bound_cause}
 use Rattle.state_price_bound.proofs.BoundLaws as laws
 use Rattle.state_price_bound.proofs.state_price_error_bound.Statement.{statement}
 use Rattle.state_price_bound.proofs.state_price_error_bound.Tie as tie
@@ -11,7 +11,7 @@ abbrev start : tie.After-lowest-cause → tie.Start
 start c = c.before.before.before.before
 
 joined : (c : tie.After-lowest-cause) →
-    c.lowest-cause.result ≡ boundCause (start c).args.steps (start c).args.reversion (start c).args.discounts.now (start c).args.row
+    c.lowest-cause.result ≡ bound_cause (start c).args.steps (start c).args.reversion (start c).args.discounts.now (start c).args.row
 joined c =
     laws.refusal_is _ _ _ _ c.before.before.discounts-cause.ensures c.before.row-cause.ensures c.lowest-cause.ensures
 

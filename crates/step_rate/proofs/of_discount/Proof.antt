@@ -11,9 +11,9 @@ use borrow.Author.Rules.{rules}
 use borrow.Author.Tests.{not-true, not-false}
 use Rattle.arithmetic.specs.Rounding.{one}
 use Rattle.arithmetic.proofs.Signed.{minus-fits, minus-back}
-use Rattle.limits.specs.Limits.{mostDiscount, isDiscount}
+use Rattle.limits.specs.Limits.{most_discount, is_discount}
 use Rattle.limits.proofs.LimitLaws.{discount-least, discount-most}
-use Rattle.step_rate.specs.StepRate.{answeredRate}
+use Rattle.step_rate.specs.StepRate.{answered_rate}
 use Rattle.step_rate.proofs.RateLaws.{ratio-small, rate-above, rate-within, answer-refused, answer-known}
 use Rattle.step_rate.proofs.of_discount.Statement.{statement}
 use Rattle.step_rate.proofs.of_discount.Tie as tie
@@ -21,10 +21,10 @@ use Rattle.step_rate.proofs.of_discount.Tie as tie
 returns : tie.Need-returns
 returns c = sym (answer-refused c.before.before.args.discount (sym c.before.is-discount.ensures ∙ not-true _ c.if1.true))
 
-accepted : (c : tie.Else1) → isDiscount c.before.before.args.discount ≡ true
+accepted : (c : tie.Else1) → is_discount c.before.before.args.discount ≡ true
 accepted c = sym c.before.is-discount.ensures ∙ not-false _ c.if1.false
 
-known : (c : tie.Else1) → (1 ≤ c.before.before.args.discount) × (c.before.before.args.discount ≤ mostDiscount)
+known : (c : tie.Else1) → (1 ≤ c.before.before.args.discount) × (c.before.before.args.discount ≤ most_discount)
 known c = (discount-least c.before.before.args.discount (accepted c), discount-most c.before.before.args.discount (accepted c))
 
 ratio-requires : tie.Need-ratio-requires
@@ -46,7 +46,7 @@ returns-2 : tie.Need-returns-2
 returns-2 c =
     let v = c.before.before.before.before.args.discount in
     let k = known c.before.before in
-    ap answeredRate
+    ap answered_rate
     (minus-back c.ratio.result (omega (arith, above-small c))
     ∙ ap (λ (m : ℕ). neg_ℤ (pos m)) c.ratio.ensures
     ∙ sym (rate-above v (omega arith) c.before.if2.true))
@@ -68,7 +68,7 @@ returns-3 : tie.Need-returns-3
 returns-3 c =
     let v = c.before.before.before.before.args.discount in
     let k = known c.before.before in
-    ap answeredRate
+    ap answered_rate
     (to_z_pos w64 (omega (arith, within-small c))
     ∙ ap pos c.ratio2.ensures
     ∙ sym (rate-within v (omega arith) c.before.if2.false))

@@ -4,8 +4,8 @@ use Prim.Native.Nat.{◌≤◌}
 use native.Mathlib.Omega.{arith}
 use lib.ListN.{length}
 use borrow.Author.Rules.{rules}
-use Rattle.text_laws.specs.Lines.{longestLine}
-use Rattle.text_laws.specs.WordLines.{amountLine, longestWord}
+use Rattle.text_laws.specs.Lines.{longest_line}
+use Rattle.text_laws.specs.WordLines.{amount_line, longest_word}
 use Rattle.text_laws.proofs.DecimalLaws.{field_room}
 use Rattle.text_laws.proofs.LineLaws.{room-left}
 use Rattle.text_laws.proofs.PutLaws.{put-before}
@@ -19,7 +19,7 @@ returns c =
     word-refused a.word.now a.out.now a.end _ c.before.word_number.result c.before.word_number.ensures c.if1.true
 
 room : (c : tie.Else1) →
-    (length c.before.before.before.before.args.word.now ≤ longestWord) × (longestLine ≤ c.before.before.before.before.args.end)
+    (length c.before.before.before.before.args.word.now ≤ longest_word) × (longest_line ≤ c.before.before.before.before.args.end)
     × (c.before.before.before.before.args.end ≤ length c.before.before.before.before.args.out.now)
 room c =
     let at-word-number = c.before in
@@ -47,7 +47,7 @@ put-word-requires c κs =
     (omega arith, p.1)
 
 returns-2 : tie.Need-returns-2
-unfolding amountLine
+unfolding amount_line
 returns-2 c =
     let at-put-word = c.before.before in
     let at-put-field = at-put-word.before.before.before.before in

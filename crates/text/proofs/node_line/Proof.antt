@@ -6,7 +6,7 @@ use mir.Facts.{to_z-of_z}
 use borrow.Author.Rules.{rules}
 use Rattle.step_rate.specs.declared.Rate.{Rate}
 use Rattle.step_rate.proofs.RateLaws.{value-back}
-use Rattle.text_laws.specs.Lines.{nodeNumber}
+use Rattle.text_laws.specs.Lines.{node_number}
 use Rattle.text_laws.proofs.LineLaws.{node-cause, node-room-known, node-refused, node-put}
 use Rattle.text.proofs.node_line.Statement.{statement}
 use Rattle.text.proofs.node_line.Tie as tie
@@ -18,7 +18,7 @@ rated c = c.before.before
 abbrev start : tie.After-lowest-cause → tie.Start
 start c = (rated c).before.before
 
-cause : (c : tie.After-lowest-cause) → let a = (start c).args in c.lowest-cause.result ≡ nodeNumber (length a.out.now) a.end a.discount
+cause : (c : tie.After-lowest-cause) → let a = (start c).args in c.lowest-cause.result ≡ node_number (length a.out.now) a.end a.discount
 cause c =
     let a = (start c).args in
     node-cause (length a.out.now) a.end a.discount _ _ _ (rated c).of-discount.ensures c.before.line-number.ensures

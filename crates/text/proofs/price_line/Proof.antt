@@ -5,7 +5,7 @@ use Prim.Native.Nat.{◌≤◌}
 use native.Mathlib.Omega.{arith}
 use lib.ListN.{length}
 use borrow.Author.Rules.{rules}
-use Rattle.text_laws.specs.Lines.{priceLine, longestLine}
+use Rattle.text_laws.specs.Lines.{price_line, longest_line}
 use Rattle.text_laws.proofs.LineLaws.{room-known, line_refused, line-put, room-left, bounded-room}
 use Rattle.text_laws.proofs.PutLaws.{put-before}
 use Rattle.text.proofs.price_line.Statement.{statement}
@@ -20,7 +20,7 @@ returns c =
 abbrev start : tie.Else1 → tie.Start
 start c = c.before.before.before.before
 
-room : (c : tie.Else1) → (longestLine ≤ (start c).args.end) × ((start c).args.end ≤ length (start c).args.out.now)
+room : (c : tie.Else1) → (longest_line ≤ (start c).args.end) × ((start c).args.end ≤ length (start c).args.out.now)
 room c =
     let a = (start c).args in
     room-known (length a.out.now) a.end (sym c.before.line-number.ensures ∙ c.if1.false)
@@ -44,7 +44,7 @@ put-word-requires c κs =
     (omega arith, p.1)
 
 returns-2 : tie.Need-returns-2
-unfolding priceLine
+unfolding price_line
 returns-2 c =
     let worded = c.before.before in
     let priced = worded.before.before.before.before in

@@ -6,8 +6,8 @@ use Prim.Native.Nat.{ℕ, ◌≤◌, ◌+◌}
 use native.Mathlib.Omega.{arith}
 use lib.ListN.{length, length-set}
 use borrow.Author.Rules.{rules}
-use Rattle.text_laws.specs.Decimal.{lastDigits}
-use Rattle.text_laws.specs.Put.{putBefore}
+use Rattle.text_laws.specs.Decimal.{last_digits}
+use Rattle.text_laws.specs.Put.{put_before}
 use Rattle.text_laws.proofs.DecimalLaws.{digits_step, digits-none, length_digits, fraction-none, fraction-point, fraction-length}
 use Rattle.text_laws.proofs.PutLaws.{put-nothing, put-none, put_last, put_whole, put_then}
 use Rattle.text.proofs.put_fraction.Statement.{statement}
@@ -16,7 +16,7 @@ use Rattle.text.proofs.put_fraction.Tie as tie
 abbrev invariant-loop : tie.invariant-loop
 invariant-loop out₀ end number count rest₀ start₀ left₀ out rest start left =
     (left ≤ count) × (start + count ≡ end + left) × (length out ≡ length out₀)
-    × (putBefore out start (lastDigits left rest) ≡ putBefore out₀ end (lastDigits count number))
+    × (put_before out start (last_digits left rest) ≡ put_before out₀ end (last_digits count number))
 
 abbrev decreases-loop : tie.decreases-loop
 decreases-loop out₀ end number count rest₀ start₀ left₀ out rest start left = left
@@ -42,7 +42,7 @@ loop-again c =
       search rules,
       omega arith,
       simp length-set (search rules),
-      put_last l.out _ (lastDigits l.left l.rest) _ l.start _ (digits_step l.left l.rest (omega arith))
+      put_last l.out _ (last_digits l.left l.rest) _ l.start _ (digits_step l.left l.rest (omega arith))
           (omega (arith, length_digits l.left l.rest)) (omega arith) l.invariant.3,
     )
 
@@ -63,9 +63,9 @@ returns-2 c =
     let none = digits-none l.left l.rest (omega arith) in
     rw (fraction-point a.decimals a.number (omega arith))
     (put_then 46
-    (put_whole a.out.now l.out (lastDigits a.decimals a.number) a.end l.start
+    (put_whole a.out.now l.out (last_digits a.decimals a.number) a.end l.start
     (omega (arith, length_digits a.decimals a.number)) c.before.before.before.requires.1
-    (sym (put-nothing l.out l.start) ∙ ap (λ (t : List ℕ). putBefore l.out l.start t) (sym none) ∙ l.invariant.3))
+    (sym (put-nothing l.out l.start) ∙ ap (λ (t : List ℕ). put_before l.out l.start t) (sym none) ∙ l.invariant.3))
     (omega arith))
 
 pub put-fraction-spec : {M : Type 1} → statement M

@@ -6,7 +6,7 @@ use native.Mathlib.Omega.{arith}
 use lib.ListN.{length, length-set}
 use borrow.Author.Rules.{rules}
 use Rattle.text_laws.specs.Decimal.{digit, natural}
-use Rattle.text_laws.specs.Put.{putBefore}
+use Rattle.text_laws.specs.Put.{put_before}
 use Rattle.text_laws.proofs.DecimalLaws.{natural-small, natural-step, length-natural-small, length-natural-step}
 use Rattle.text_laws.proofs.PutLaws.{put_last, put_front}
 use Rattle.text.proofs.put_natural.Statement.{statement}
@@ -15,7 +15,7 @@ use Rattle.text.proofs.put_natural.Tie as tie
 abbrev invariant-loop : tie.invariant-loop
 invariant-loop out₀ end number rest₀ start₀ out rest start =
     (start + length (natural number) ≡ end + length (natural rest)) × (start ≤ end) × (length out ≡ length out₀)
-    × (putBefore out start (natural rest) ≡ putBefore out₀ end (natural number))
+    × (put_before out start (natural rest) ≡ put_before out₀ end (natural number))
 
 abbrev decreases-loop : tie.decreases-loop
 decreases-loop out₀ end number rest₀ start₀ out rest start = rest

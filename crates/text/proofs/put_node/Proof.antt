@@ -5,7 +5,7 @@ use native.Mathlib.Omega.{arith}
 use lib.ListN.{length}
 use mir.Facts.{to_z-of_z}
 use borrow.Author.Rules.{rules}
-use Rattle.text_laws.specs.Lines.{nodeWord, nodeLine}
+use Rattle.text_laws.specs.Lines.{node_word, node_line}
 use Rattle.text_laws.proofs.DecimalLaws.{field_room}
 use Rattle.text_laws.proofs.Signs.{held-room}
 use Rattle.text_laws.proofs.LineLaws as laws
@@ -64,7 +64,7 @@ put-label-requires : tie.Need-put-label-requires
 put-label-requires c κs = let r = node-put c.before.before.before.before in (omega arith, r.1)
 
 returns : tie.Need-returns
-unfolding nodeLine
+unfolding node_line
 returns c =
     let labelled = c.before.before in
     let noded = labelled.before.before.before.before.before in
@@ -73,7 +73,7 @@ returns c =
     let s = start rated in
     let rate = rw (to_z-of_z s.fits.rate) at rated.put-signed-field.ensures in
     let node = rw (to_z-of_z s.fits.node) at noded.put-signed-field2.ensures in
-    laws.put-label nodeWord _ (put-before (put-before rate discounted.put-field.ensures) node) labelled.put-label.ensures
+    laws.put-label node_word _ (put-before (put-before rate discounted.put-field.ensures) node) labelled.put-label.ensures
 
 pub put-node-spec : {M : Type 1} → statement M
 put-node-spec =

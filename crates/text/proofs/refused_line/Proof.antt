@@ -4,7 +4,7 @@ use mathlib.Core.Path.{sym, ◌∙◌}
 use native.Mathlib.Omega.{arith}
 use lib.ListN.{length}
 use borrow.Author.Rules.{rules}
-use Rattle.text_laws.specs.Lines.{refusedLine}
+use Rattle.text_laws.specs.Lines.{refused_line}
 use Rattle.text_laws.proofs.LineLaws.{room-known, line_refused, line-put}
 use Rattle.text.proofs.refused_line.Statement.{statement}
 use Rattle.text.proofs.refused_line.Tie as tie
@@ -25,7 +25,7 @@ put-label-requires c κs =
     (omega arith, r.1)
 
 returns-2 : tie.Need-returns-2
-unfolding refusedLine
+unfolding refused_line
 returns-2 c =
     let s = c.before.before.before.before.before.before.before.before in
     let line-number = c.before.before.before.before.before.before.line-number in

@@ -5,7 +5,7 @@ use Prim.Native.Nat.{◌≤◌}
 use native.Mathlib.Omega.{arith}
 use lib.ListN.{length}
 use borrow.Author.Rules.{rules}
-use Rattle.text_laws.specs.Lines.{rowWord, row_line, longestLine}
+use Rattle.text_laws.specs.Lines.{row_word, row_line, longest_line}
 use Rattle.text_laws.proofs.DecimalLaws.{field_room}
 use Rattle.text_laws.proofs.LineLaws as laws
 use Rattle.text_laws.proofs.LineLaws.{room-known, line_refused, line-put, room-left, bounded-room}
@@ -22,7 +22,7 @@ returns c =
 abbrev start : tie.Else1 → tie.Start
 start c = c.before.before.before
 
-room : (c : tie.Else1) → (longestLine ≤ (start c).args.end) × ((start c).args.end ≤ length (start c).args.out.now)
+room : (c : tie.Else1) → (longest_line ≤ (start c).args.end) × ((start c).args.end ≤ length (start c).args.out.now)
 room c =
     let a = (start c).args in
     room-known (length a.out.now) a.end (sym c.before.line-number.ensures ∙ c.if1.false)
@@ -67,7 +67,7 @@ returns-2 c =
     let totalled = total-at quoted in
     let a = (start (fits-at totalled)).args in
     let fields = put-before totalled.put-bounded.ensures quoted.put-field.ensures in
-    line-put a.out.now a.end _ (room (fits-at totalled)).0 (laws.put-label rowWord _ fields labelled.put-label.ensures)
+    line-put a.out.now a.end _ (room (fits-at totalled)).0 (laws.put-label row_word _ fields labelled.put-label.ensures)
 
 pub row-line-spec : {M : Type 1} → statement M
 row-line-spec =

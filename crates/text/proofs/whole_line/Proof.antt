@@ -3,7 +3,7 @@
 use native.Mathlib.Omega.{arith}
 use lib.ListN.{length}
 use borrow.Author.Rules.{rules}
-use Rattle.text_laws.specs.WordLines.{wholeLine}
+use Rattle.text_laws.specs.WordLines.{whole_line}
 use Rattle.text_laws.proofs.WordLineLaws.{word-known, word-refused, word-put}
 use Rattle.text.proofs.whole_line.Statement.{statement}
 use Rattle.text.proofs.whole_line.Tie as tie
@@ -20,7 +20,7 @@ put-label-requires c κs =
     (omega arith, r.2)
 
 returns-2 : tie.Need-returns-2
-unfolding wholeLine
+unfolding whole_line
 returns-2 c =
     let at-put-label = c.before.before in
     let at-if1 = at-put-label.before.before in

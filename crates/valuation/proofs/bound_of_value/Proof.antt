@@ -4,7 +4,7 @@ use Prim.Native.Nat.{◌*◌, ◌≤◌}
 use native.Mathlib.Nat.{mul-le-mul}
 use native.Mathlib.Omega.{arith}
 use Rattle.arithmetic.specs.Rounding.{round_up}
-use Rattle.valuation_laws.specs.Valuation.{valuationBound}
+use Rattle.valuation_laws.specs.Valuation.{valuation_bound}
 use borrow.Author.Rules.{rules}
 use Rattle.valuation.proofs.EntryLaws as laws
 use Rattle.valuation.proofs.bound_of_value.Statement.{statement}
@@ -23,7 +23,7 @@ add-result-2 : tie.Need-overflow-add-result-2
 add-result-2 c = omega (arith, small c)
 
 returns : tie.Need-returns
-unfolding valuationBound round_up
+unfolding valuation_bound round_up
 returns c = omega arith
 
 pub bound-of-value-spec : {M : Type 1} → statement M

@@ -5,8 +5,8 @@ use mathlib.Core.Path.{◌≡◌}
 use mathlib.Core.List.{List}
 use Prim.Native.Nat.{ℕ, ◌≤◌, ◌%◌}
 use lib.ListN.{length}
-use Rattle.arithmetic.specs.Row.{greatestOf}
-use Rattle.limits.specs.Limits.{mostNodes, valueLimit}
+use Rattle.arithmetic.specs.Row.{greatest_of}
+use Rattle.limits.specs.Limits.{most_nodes, value_limit}
 use Rattle.valuation.proofs.EntryLaws as laws
 use Rattle.valuation.proofs.value_by_state_prices.Statement.{statement}
 use Rattle.valuation.proofs.value_by_state_prices.Tie as tie
@@ -24,14 +24,14 @@ same c = c.before.before.if1.false
 odd : (c : tie.Else3) → length (prices c) % 2 ≡ 0 → ⊥
 odd c = c.before.if2.false
 
-few : (c : tie.Else3) → length (prices c) ≤ mostNodes
+few : (c : tie.Else3) → length (prices c) ≤ most_nodes
 few c = c.if3.false
 
 -- where no payoff is above the limit
 abbrev counted : tie.Else4 → tie.Else3
 counted c = c.before.before
 
-low : (c : tie.Else4) → greatestOf (start (counted c)).args.payoffs.now ≤ valueLimit
+low : (c : tie.Else4) → greatest_of (start (counted c)).args.payoffs.now ≤ value_limit
 low c = laws.low-payoffs (start (counted c)).args.payoffs.now _ c.before.greatest-of.ensures c.if4.false
 
 returns : tie.Need-returns

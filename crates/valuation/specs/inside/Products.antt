@@ -5,5 +5,5 @@ use Rattle.arithmetic.specs.Sum.{sum}
 use Rattle.arithmetic.specs.Row.{values}
 
 -- the sum of state price × payoff
-unfoldable pub sumOfProducts : List ℕ → List ℕ → ℕ
-sumOfProducts prices payoffs = sum (length prices) (λ k. values prices k * values payoffs k)
+unfoldable pub sum_of_products : List ℕ → List ℕ → ℕ
+sum_of_products prices payoffs = sum (length prices) (λ k. values prices k * values payoffs k)

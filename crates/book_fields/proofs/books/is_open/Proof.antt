@@ -4,7 +4,7 @@ use mathlib.Core.Path.{◌≡◌, sym, ◌∙◌}
 use native.Mathlib.Omega.{arith}
 use borrow.Author.Rules.{rules}
 use lib.ListN.{length}
-use Rattle.book_laws.specs.Bounds.{mostNumber}
+use Rattle.book_laws.specs.Bounds.{most_number}
 use Rattle.book_laws.proofs.OpenLaws.{shut, ended-shut, counts-tested, counts-last}
 use Rattle.book_fields.proofs.books.is_open.Statement.{statement}
 use Rattle.book_fields.proofs.books.is_open.Tie as tie
@@ -31,7 +31,7 @@ returns-7 : tie.Need-returns-7
 returns-7 c = shut _ (λ w. omega (arith, w.place, c.if7.true))
 
 -- a book has thirteen counts
-sized : (s : tie.Start) → length s.args.book.refused ≡ mostNumber
+sized : (s : tie.Start) → length s.args.book.refused ≡ most_number
 sized s = search rules
 
 slice-aggregate-all-between : tie.Need-slice-aggregate-all-between

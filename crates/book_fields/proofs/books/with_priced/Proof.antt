@@ -3,7 +3,7 @@
 use native.Mathlib.Omega.{arith}
 use borrow.Author.Rules.{rules}
 use Rattle.book_laws.proofs.OpenLaws.{Within, open-within, option-most}
-use Rattle.book_laws.specs.Books.{withPriced}
+use Rattle.book_laws.specs.Books.{with_priced}
 use Rattle.book_fields.proofs.books.with_priced.Statement.{statement}
 use Rattle.book_fields.proofs.books.with_priced.Tie as tie
 
@@ -34,7 +34,7 @@ add-t10 c =
     let w = known s in omega (arith, w.fields, w.error-bounds, s.requires.1.bound)
 
 returns : tie.Need-returns
-unfolding withPriced
+unfolding with_priced
 returns c =
     let at-chosen = c.before in
     let at-option-of = at-chosen.before.before.before.before in

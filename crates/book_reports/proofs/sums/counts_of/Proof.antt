@@ -7,18 +7,18 @@ use borrow.Author.Rules.{rules}
 use lib.ListN.{length}
 use Rattle.arithmetic.specs.Row.{row, values}
 use Rattle.arithmetic.proofs.RowLaws.{Filled, filled-start, filled_next, filled-all}
-use Rattle.book_laws.specs.Bounds.{mostNumber}
+use Rattle.book_laws.specs.Bounds.{most_number}
 use Rattle.book_laws.proofs.OpenLaws.{counts-within}
-use Rattle.report_laws.specs.Joins.{mostSize}
+use Rattle.report_laws.specs.Joins.{most_size}
 use Rattle.book_reports.proofs.sums.counts_of.Statement.{statement}
 use Rattle.book_reports.proofs.sums.counts_of.Tie as tie
 
 abbrev invariant-loop : tie.invariant-loop
 invariant-loop first second sums₀ k₀ sums k =
-    (length sums₀ ≡ mostNumber) × (k ≤ mostNumber) × Filled sums₀ sums (λ j. values first j + values second j) k
+    (length sums₀ ≡ most_number) × (k ≤ most_number) × Filled sums₀ sums (λ j. values first j + values second j) k
 
 abbrev decreases-loop : tie.decreases-loop
-decreases-loop first second sums₀ k₀ sums k = mostNumber - k
+decreases-loop first second sums₀ k₀ sums k = most_number - k
 
 loop-holds : tie.Need-loop-init invariant-loop decreases-loop
 loop-holds c = (refl, omega arith, filled-start _ _)
@@ -29,8 +29,8 @@ add-sums c =
     let k = c.before.loop.k in
     omega (
       arith,
-      counts-within s.args.t1 mostSize k s.requires.0 (omega arith),
-      counts-within s.args.t2 mostSize k s.requires.1 (omega arith),
+      counts-within s.args.t1 most_size k s.requires.0 (omega arith),
+      counts-within s.args.t2 most_size k s.requires.1 (omega arith),
     )
 
 loop-again : tie.Need-loop-preserved invariant-loop decreases-loop

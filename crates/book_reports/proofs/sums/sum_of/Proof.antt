@@ -2,7 +2,7 @@
 -- Assumes nothing.
 use native.Mathlib.Omega.{arith}
 use borrow.Author.Rules.{rules}
-use Rattle.report_laws.specs.Reports.{sumReport}
+use Rattle.report_laws.specs.Reports.{sum_report}
 use Rattle.report_laws.proofs.SoundLaws.{Sound, report-sound, counts-small, book-most}
 use Rattle.book_reports.proofs.sums.sum_of.Statement.{statement}
 use Rattle.book_reports.proofs.sums.sum_of.Tie as tie
@@ -61,7 +61,7 @@ add-chosen c =
     omega (arith, book-most s.args.second (second s), s.requires.2)
 
 returns : tie.Need-returns
-unfolding sumReport
+unfolding sum_report
 returns c =
     let at-chosen2 = c.before in
     let at-chosen = at-chosen2.before.before.before in

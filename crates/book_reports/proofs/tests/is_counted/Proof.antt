@@ -7,16 +7,16 @@ use lib.ListN.{length}
 use native.Mathlib.Omega.{arith}
 use borrow.Author.Rules.{rules}
 use borrow.Author.Tests.{not-true, not-false}
-use Rattle.book_laws.specs.Bounds.{mostNumber}
-use Rattle.book_laws.specs.Books.{countsWithin}
+use Rattle.book_laws.specs.Bounds.{most_number}
+use Rattle.book_laws.specs.Books.{counts_within}
 use Rattle.book_laws.proofs.OpenLaws.{counts-tested, counts-within, within-counts}
-use Rattle.report_laws.specs.Joins.{mostSize}
+use Rattle.report_laws.specs.Joins.{most_size}
 use Rattle.report_laws.proofs.SoundLaws.{uncounted, counted-less, counted-last, total-most}
 use Rattle.book_reports.proofs.tests.is_counted.Statement.{statement}
 use Rattle.book_reports.proofs.tests.is_counted.Tie as tie
 
 -- a report has thirteen counts
-sized : (s : tie.Start) → length s.args.report.refused ≡ mostNumber
+sized : (s : tie.Start) → length s.args.report.refused ≡ most_number
 sized s = search rules
 
 slice-aggregate-all-between : tie.Need-slice-aggregate-all-between
@@ -29,17 +29,17 @@ returns c =
     uncounted _ (sym (counts-tested _ _ (sized s)) ∙ sym at-all-between.all-between.ensures ∙ not-true _ c.if1.true)
 
 -- the counts are within, and so they are small
-within : (c : tie.Else1) → countsWithin c.before.before.before.before.before.args.report.refused
+within : (c : tie.Else1) → counts_within c.before.before.before.before.before.args.report.refused
     (c.before.before.before.before.before.args.report.fields + c.before.before.before.before.before.args.report.books) ≡ true
 within c =
     let at-all-between = c.before in
     let s = at-all-between.before.before.before.before in
     sym (counts-tested _ _ (sized s)) ∙ sym at-all-between.all-between.ensures ∙ not-false _ c.if1.false
 
-small : (c : tie.Else1) → countsWithin c.before.before.before.before.before.args.report.refused mostSize ≡ true
+small : (c : tie.Else1) → counts_within c.before.before.before.before.before.args.report.refused most_size ≡ true
 small c =
     let s = c.before.before.before.before.before in
-    within-counts _ mostSize (λ k l. omega (arith, counts-within _ _ k (within c) l, s.requires.0))
+    within-counts _ most_size (λ k l. omega (arith, counts-within _ _ k (within c) l, s.requires.0))
 
 counts-total-requires : tie.Need-counts-total-requires
 counts-total-requires c κs = small (c)

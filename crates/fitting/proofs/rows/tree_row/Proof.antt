@@ -4,8 +4,8 @@ use mathlib.Core.Path.{◌≡◌}
 use Prim.Native.Nat.{◌+◌, ◌-◌, ◌≤◌}
 use native.Mathlib.Omega.{arith}
 use borrow.Author.Rules.{rules}
-use Rattle.limits.specs.Limits.{mostNodes}
-use Rattle.lattice.specs.Shape.{nodeCount}
+use Rattle.limits.specs.Limits.{most_nodes}
+use Rattle.lattice.specs.Shape.{node_count}
 use Rattle.lattice.specs.Entries.{shape_of}
 use Rattle.fitting.proofs.TreeRows as laws
 use Rattle.fitting.proofs.rows.tree_row.Statement.{statement}
@@ -21,8 +21,8 @@ known c =
     laws.shape-known s.pre.tables.limits.reversion-within-limit s.pre.tables.limits.steps-within-limit s.pre.in_tree c.row-shape.ensures
 
 room : (c : tie.After-row-shape) →
-    (c.row-shape.result.offset + c.row-shape.result.count ≤ nodeCount (start c).args.at.reversion ((start c).args.at.steps - 1))
-    × (nodeCount (start c).args.at.reversion ((start c).args.at.steps - 1) ≤ mostNodes)
+    (c.row-shape.result.offset + c.row-shape.result.count ≤ node_count (start c).args.at.reversion ((start c).args.at.steps - 1))
+    × (node_count (start c).args.at.reversion ((start c).args.at.steps - 1) ≤ most_nodes)
 room c =
     let s = start c in
     laws.shape-room s.pre.tables.limits.reversion-within-limit s.pre.tables.limits.steps-within-limit s.pre.in_tree c.row-shape.ensures

@@ -7,7 +7,7 @@ use native.Mathlib.Omega.{arith}
 use lib.ListN.{length}
 use borrow.Author.Rules.{rules}
 use borrow.Author.Tests.{not-true, not-false}
-use Rattle.limits.specs.Limits.{isDiscount}
+use Rattle.limits.specs.Limits.{is_discount}
 use Rattle.fitting.proofs.StepRows.{never}
 use Rattle.fitting.proofs.NodeLoop as laws
 use Rattle.fitting.proofs.step.fill_row.Statement.{statement}
@@ -35,7 +35,7 @@ quotient c =
     laws.ratio s.args.quote s.args.factors.now s.args.z (looped c).before.loop.k
 
 -- the discount of this node is accepted
-accepted : (c : tie.Else1 invariant-loop decreases-loop) → isDiscount (quotient c) ≡ true
+accepted : (c : tie.Else1 invariant-loop decreases-loop) → is_discount (quotient c) ≡ true
 accepted c = sym c.before.is-discount.ensures ∙ not-false _ c.if1.false
 
 -- the node is one of the row

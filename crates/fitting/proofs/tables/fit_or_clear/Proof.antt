@@ -4,7 +4,7 @@ use mathlib.Core.Path.{◌≡◌, sym, ◌∙◌}
 use Prim.Native.Nat.{suc}
 use native.Mathlib.Omega.{arith}
 use lib.ListN.{length}
-use Rattle.lattice.specs.Shape.{rowStart}
+use Rattle.lattice.specs.Shape.{row_start}
 use Rattle.fitting.proofs.TableFit as laws
 use borrow.Author.Rules.{rules}
 use Rattle.fitting.proofs.tables.fit_or_clear.Statement.{statement}
@@ -18,11 +18,11 @@ sized c = c.before.before.before.before
 
 -- the sizes of the needed parts
 discounts-size : (c : tie.After-state-prices-needed) →
-    c.before.discounts-needed.result.value ≡ rowStart (start c).args.reversion (length (start c).args.quotes.now)
+    c.before.discounts-needed.result.value ≡ row_start (start c).args.reversion (length (start c).args.quotes.now)
 discounts-size c = laws.needed-discounts (start c).requires.tables c.before.discounts-needed.ensures
 
 state-prices-size : (c : tie.After-state-prices-needed) →
-    c.state-prices-needed.result.value ≡ rowStart (start c).args.reversion (suc (length (start c).args.quotes.now))
+    c.state-prices-needed.result.value ≡ row_start (start c).args.reversion (suc (length (start c).args.quotes.now))
 state-prices-size c = laws.needed-state-prices (start c).requires.tables c.state-prices-needed.ensures
 
 fit-rows-requires : tie.Need-fit-rows-requires

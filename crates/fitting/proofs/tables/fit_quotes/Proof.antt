@@ -3,14 +3,14 @@
 use Prim.Native.Nat.{◌+◌, ◌≤◌}
 use native.Mathlib.Omega.{arith}
 use lib.ListN.{length-take}
-use Rattle.limits.specs.Limits.{mostSteps}
+use Rattle.limits.specs.Limits.{most_steps}
 use Rattle.fitting.proofs.TableFit as laws
 use borrow.Author.Rules.{rules}
 use Rattle.fitting.proofs.tables.fit_quotes.Statement.{statement}
 use Rattle.fitting.proofs.tables.fit_quotes.Tie as tie
 
 -- the widest row's count fits the tables
-small : (s : tie.Start) → s.args.grid.widest + 1 ≤ mostSteps
+small : (s : tie.Start) → s.args.grid.widest + 1 ≤ most_steps
 small s = laws.widest-small s.requires
 
 mul-count : tie.Need-overflow-mul-count

@@ -5,7 +5,7 @@ use native.Mathlib.Omega.{arith}
 use Prim.Native.Nat.{◌≤◌}
 use lib.ListN.{length}
 use Rattle.job_laws.proofs.FitLaws.{lent-column}
-use Rattle.job_record.specs.Form.{mostDates}
+use Rattle.job_record.specs.Form.{most_dates}
 use Rattle.price_laws.specs.declared.BondAndOption.{BondAndOption}
 use borrow.Author.Rules.{rules}
 use Rattle.job_laws.proofs.PriceLaws as laws
@@ -21,7 +21,7 @@ returns c =
           ∙ laws.tagged-kind a.steps a.reversion a.discounts.now a.flows.now a.option c.before.if1.true,
     )
 
-dates-size : (s : tie.Start) → length s.args.option.dates ≡ mostDates
+dates-size : (s : tie.Start) → length s.args.option.dates ≡ most_dates
 dates-size s = search rules
 
 room : (s : tie.Start) → s.args.option.count ≤ length s.args.option.dates

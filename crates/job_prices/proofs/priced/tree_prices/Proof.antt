@@ -3,7 +3,7 @@
 use mathlib.Core.Path.{◌∙◌, ap}
 use mathlib.Core.Bool.{false}
 use Rattle.price_laws.specs.declared.Price.{Price}
-use Rattle.job_laws.specs.JobPrices.{pricesOf}
+use Rattle.job_laws.specs.JobPrices.{prices_of}
 use borrow.Author.Rules.{rules}
 use Rattle.job_laws.proofs.PriceLaws as laws
 use Rattle.job_prices.proofs.priced.tree_prices.Statement.{statement}
@@ -13,7 +13,7 @@ returns : tie.Need-returns
 returns c =
     let a = c.before.before.before.before.before.before.before.args in
     let bond = c.before.before.bond-price in
-    let none = ap (λ (p : Price). pricesOf bond.result.number bond.result false p) c.before.no-price.ensures in
+    let none = ap (λ (p : Price). prices_of bond.result.number bond.result false p) c.before.no-price.ensures in
     laws.without-option a.steps a.reversion a.discounts.now a.flows.now a.option _ bond.result c.before.before.before.if1.true
     bond.ensures
     (c.prices-of.ensures ∙ none)

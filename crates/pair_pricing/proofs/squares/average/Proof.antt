@@ -4,15 +4,15 @@ use Prim.Native.Nat.{◌+◌, ◌*◌, ◌≤◌}
 use native.Mathlib.Omega.{arith}
 use borrow.Author.Rules.{rules}
 use Rattle.arithmetic.specs.Row.{values}
-use Rattle.row_branches.specs.inside.Transitions.{branchUp, branchMiddle, branchDown}
+use Rattle.row_branches.specs.inside.Transitions.{branch_up, branch_middle, branch_down}
 use Rattle.pair_laws.proofs.Squares.{sum_fits, average-is}
 use Rattle.pair_pricing.proofs.squares.average.Statement.{statement}
 use Rattle.pair_pricing.proofs.squares.average.Tie as tie
 
 sum : (s : tie.Start) →
-    branchUp s.args.branch * values s.args.xs.now (s.args.from + 2 * s.args.stride)
-    + branchMiddle s.args.branch * values s.args.xs.now (s.args.from + s.args.stride)
-    + branchDown s.args.branch * values s.args.xs.now s.args.from ≤ 4800000000000000000
+    branch_up s.args.branch * values s.args.xs.now (s.args.from + 2 * s.args.stride)
+    + branch_middle s.args.branch * values s.args.xs.now (s.args.from + s.args.stride)
+    + branch_down s.args.branch * values s.args.xs.now s.args.from ≤ 4800000000000000000
 sum s = sum_fits _ _ _ s.requires.0 s.requires.4 s.requires.3 s.requires.2
 
 mul-sum-3 : tie.Need-overflow-mul-sum-3

@@ -7,18 +7,18 @@ use lib.ListN.{length, length-set}
 use borrow.Author.Rules.{rules}
 use borrow.Author.Tests.{not-true, not-false}
 use Rattle.arithmetic.specs.Row.{values}
-use Rattle.pair_laws.specs.inside.Square.{lineSize, squareSize, exercised}
+use Rattle.pair_laws.specs.inside.Square.{line_size, square_size, exercised}
 use Rattle.pair_laws.proofs.Squares.{Changed, changed-first, changed-more, exercised-not, exercised-on}
 use Rattle.pair_pricing.proofs.squares.exercise_square.Statement.{statement}
 use Rattle.pair_pricing.proofs.squares.exercise_square.Tie as tie
 
 abbrev invariant-loop : tie.invariant-loop
 invariant-loop lines listed call strike flow bonds square₀ count₀ k₀ square k =
-    (k ≤ lineSize * lines) × (length square ≡ squareSize) × (length square ≡ length square₀)
+    (k ≤ line_size * lines) × (length square ≡ square_size) × (length square ≡ length square₀)
     × Changed (λ (t x : ℕ). exercised listed call strike flow x (values bonds t)) square₀ square k
 
 abbrev decreases-loop : tie.decreases-loop
-decreases-loop lines listed call strike flow bonds square₀ count₀ k₀ square k = lineSize * lines - k
+decreases-loop lines listed call strike flow bonds square₀ count₀ k₀ square k = line_size * lines - k
 
 returns : tie.Need-returns invariant-loop decreases-loop
 returns c = let s = c.before.before.before.args in λ t h. exercised-not s.listed s.call s.strike s.flow _ _ (not-true _ c.if1.true)

@@ -4,15 +4,15 @@ use mathlib.Core.Path.{◌≡◌, refl}
 use Prim.Native.Nat.{◌+◌, ◌-◌, ◌≤◌}
 use native.Mathlib.Omega.{arith}
 use lib.ListN.{length, length-set}
-use Rattle.pair_laws.specs.inside.Square.{squareSize, cell, Line, branchAverage}
+use Rattle.pair_laws.specs.inside.Square.{square_size, cell, Line, branch_average}
 use Rattle.pair_laws.proofs.Squares.{cell-most, rate-from, line_first, line-more, line-done}
 use Rattle.pair_pricing.proofs.squares.rate_line.Statement.{statement}
 use Rattle.pair_pricing.proofs.squares.rate_line.Tie as tie
 
 abbrev invariant-loop : tie.invariant-loop
 invariant-loop branch line width later middle₀ from l₀ middle l =
-    (l ≤ width) × (length middle ≡ squareSize) × (length middle ≡ length middle₀)
-    × Line line (λ t. branchAverage branch (λ a. cell later a t)) middle₀ middle l
+    (l ≤ width) × (length middle ≡ square_size) × (length middle ≡ length middle₀)
+    × Line line (λ t. branch_average branch (λ a. cell later a t)) middle₀ middle l
 
 abbrev decreases-loop : tie.decreases-loop
 decreases-loop branch line width later middle₀ from l₀ middle l = width - l

@@ -5,14 +5,14 @@ use Prim.Native.Nat.{◌-◌, ◌≤◌}
 use native.Mathlib.Omega.{arith}
 use lib.ListN.{length}
 use borrow.Author.Rules.{rules}
-use Rattle.pair_laws.specs.inside.Square.{squareSize, Cells, rateAverage}
+use Rattle.pair_laws.specs.inside.Square.{square_size, Cells, rate_average}
 use Rattle.pair_laws.proofs.Squares.{cells-none, cells-line, cells-done, line-of-row, leads-inside, leads-whole, leads-limited}
 use Rattle.pair_pricing.proofs.squares.rate_side.Statement.{statement}
 use Rattle.pair_pricing.proofs.squares.rate_side.Tie as tie
 
 abbrev invariant-loop : tie.invariant-loop
 invariant-loop downs next width later middle₀ j₀ middle j =
-    (j ≤ length downs) × (length middle ≡ squareSize) × (length middle ≡ length middle₀) × Cells (rateAverage downs next later) j width middle
+    (j ≤ length downs) × (length middle ≡ square_size) × (length middle ≡ length middle₀) × Cells (rate_average downs next later) j width middle
 
 abbrev decreases-loop : tie.decreases-loop
 decreases-loop downs next width later middle₀ j₀ middle j = length downs - j

@@ -5,15 +5,15 @@ use Prim.Native.Nat.{ℕ, ◌+◌, ◌-◌, ◌≤◌}
 use native.Mathlib.Omega.{arith}
 use lib.ListN.{length, length-set}
 use Rattle.arithmetic.specs.Row.{values}
-use Rattle.pair_laws.specs.inside.Square.{squareSize, cell, Column, spreadValue}
+use Rattle.pair_laws.specs.inside.Square.{square_size, cell, Column, spread_value}
 use Rattle.pair_laws.proofs.Squares.{cell-most, spread-from, column-first, column-more, column-done}
 use Rattle.pair_pricing.proofs.squares.spread_column.Statement.{statement}
 use Rattle.pair_pricing.proofs.squares.spread_column.Tie as tie
 
 abbrev invariant-loop : tie.invariant-loop
 invariant-loop branch column middle rates spread flow square₀ low a₀ square a =
-    (a ≤ length rates) × (length square ≡ squareSize) × (length square ≡ length square₀)
-    × Column column (λ (t : ℕ). spreadValue branch (values rates t) spread (cell middle t) + flow) square₀ square a
+    (a ≤ length rates) × (length square ≡ square_size) × (length square ≡ length square₀)
+    × Column column (λ (t : ℕ). spread_value branch (values rates t) spread (cell middle t) + flow) square₀ square a
 
 abbrev decreases-loop : tie.decreases-loop
 decreases-loop branch column middle rates spread flow square₀ low a₀ square a = length rates - a

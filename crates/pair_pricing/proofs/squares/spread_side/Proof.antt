@@ -6,16 +6,16 @@ use native.Mathlib.Omega.{arith}
 use lib.ListN.{length}
 use borrow.Author.Rules.{rules}
 use Rattle.arithmetic.specs.Row.{values}
-use Rattle.row_branches.specs.RowBranches.{rowBranch}
-use Rattle.pair_laws.specs.inside.Square.{squareSize, cell, Cells, spreadValue}
+use Rattle.row_branches.specs.RowBranches.{row_branch}
+use Rattle.pair_laws.specs.inside.Square.{square_size, cell, Cells, spread_value}
 use Rattle.pair_laws.proofs.Squares.{cells-empty, cells-column, cells-done, column-of-row, leads-inside, leads-whole, leads-across}
 use Rattle.pair_pricing.proofs.squares.spread_side.Statement.{statement}
 use Rattle.pair_pricing.proofs.squares.spread_side.Tie as tie
 
 abbrev invariant-loop : tie.invariant-loop
 invariant-loop downs next middle rates spreads flow square₀ l₀ square l =
-    (l ≤ length spreads) × (length square ≡ squareSize) × (length square ≡ length square₀)
-    × Cells (λ (a t : ℕ). spreadValue (rowBranch downs next t) (values rates a) (values spreads t) (cell middle a) + flow) (length rates) l square
+    (l ≤ length spreads) × (length square ≡ square_size) × (length square ≡ length square₀)
+    × Cells (λ (a t : ℕ). spread_value (row_branch downs next t) (values rates a) (values spreads t) (cell middle a) + flow) (length rates) l square
 
 abbrev decreases-loop : tie.decreases-loop
 decreases-loop downs next middle rates spreads flow square₀ l₀ square l = length spreads - l

@@ -4,9 +4,9 @@ use mathlib.Core.Path.{◌≡◌}
 use Prim.Native.Nat.{◌≤◌}
 use native.Mathlib.Omega.{arith}
 use borrow.Author.Rules.{rules}
-use Rattle.lattice.specs.RateTree.{rateTree}
+use Rattle.lattice.specs.RateTree.{rate_tree}
 use Rattle.lent_tree.specs.LentTree.{stored}
-use Rattle.pair_laws.specs.Pair.{pairErrorBound}
+use Rattle.pair_laws.specs.Pair.{pair_error_bound}
 use Rattle.pair_laws.proofs.WalkStates.{bound-first, bound-small, bound-next, bound-last}
 use Rattle.pair_pricing.proofs.walk.error_bound.Statement.{statement}
 use Rattle.pair_pricing.proofs.walk.error_bound.Tie as tie
@@ -14,7 +14,7 @@ use Rattle.pair_pricing.proofs.walk.error_bound.Tie as tie
 abbrev invariant-loop : tie.invariant-loop
 invariant-loop trees rates spreads bound₀ row₀ bound row =
     (row ≤ trees.steps)
-    × (bound ≡ pairErrorBound (rateTree trees.rate) (rateTree trees.spread) (stored trees.rate rates) (stored trees.spread spreads)
+    × (bound ≡ pair_error_bound (rate_tree trees.rate) (rate_tree trees.spread) (stored trees.rate rates) (stored trees.spread spreads)
     trees.steps row)
 
 abbrev decreases-loop : tie.decreases-loop

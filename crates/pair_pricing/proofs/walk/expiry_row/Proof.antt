@@ -3,14 +3,14 @@
 use mathlib.Core.Path.{◌≡◌}
 use native.Mathlib.Omega.{arith}
 use lib.ListN.{length}
-use Rattle.pair_laws.specs.inside.Square.{squareSize}
+use Rattle.pair_laws.specs.inside.Square.{square_size}
 use borrow.Author.Rules.{rules}
 use Rattle.pair_laws.proofs.SquareRows.{row_fits, expiry-from}
 use Rattle.pair_pricing.proofs.walk.expiry_row.Statement.{statement}
 use Rattle.pair_pricing.proofs.walk.expiry_row.Tie as tie
 
 -- the option's square is whole
-long : (c : tie.After-fill-arg) → length c.before.args.option.now ≡ squareSize
+long : (c : tie.After-fill-arg) → length c.before.args.option.now ≡ square_size
 long c = search rules
 
 exercise-square-requires : tie.Need-exercise-square-requires

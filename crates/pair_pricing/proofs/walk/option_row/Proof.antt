@@ -2,7 +2,7 @@
 -- Assumes nothing.
 use native.Mathlib.Omega.{arith}
 use borrow.Author.Rules.{rules}
-use Rattle.pair_laws.specs.inside.Accepted.{rollOf}
+use Rattle.pair_laws.specs.inside.Accepted.{roll_of}
 use Rattle.pair_laws.specs.inside.Square.{square}
 use Rattle.pair_laws.proofs.SquareRows.{row_fits, option-from}
 use Rattle.pair_pricing.proofs.walk.option_row.Statement.{statement}
@@ -32,7 +32,7 @@ returns c =
       rolled = option-from t.rate t.spread s.args.row _ s.args.listed m.call m.strike s.args.flow _
           roll-row.new.1.1.1.1.1.1.1.0
           s.args.bond.now
-          (rollOf t.rate t.spread s.args.rates.now s.args.spreads.now s.args.row (square s.args.option.now))
+          (roll_of t.rate t.spread s.args.rates.now s.args.spreads.now s.args.row (square s.args.option.now))
           (omega (arith, s.requires.0.few, s.requires.2)) lines_of.ensures exercise-square.ensures roll-row.ensures;
       found = c.greatest-of-row.ensures;
     }

@@ -4,7 +4,7 @@ use mathlib.Core.Path.{◌≡◌}
 use Prim.Native.Nat.{◌-◌, ◌≤◌}
 use native.Mathlib.Omega.{arith}
 use lib.ListN.{length}
-use Rattle.pair_laws.specs.inside.Square.{squareSize}
+use Rattle.pair_laws.specs.inside.Square.{square_size}
 use borrow.Author.Rules.{rules}
 use Rattle.pricing.proofs.TreeRows.{flow-within}
 use Rattle.pair_laws.specs.inside.States.{Bonds}
@@ -21,7 +21,7 @@ abbrev decreases-loop : tie.decreases-loop
 decreases-loop trees last rate-downs spread-downs rates spreads flows bond₀ middle₀ row₀ bond middle row = row
 
 -- the bond's square is whole
-long : (c : tie.After-fill-arg invariant-loop decreases-loop) → length c.before.before.before.before.before.before.before.args.bond.now ≡ squareSize
+long : (c : tie.After-fill-arg invariant-loop decreases-loop) → length c.before.before.before.before.before.before.before.args.bond.now ≡ square_size
 long c = search rules
 
 flow-of-requires : tie.Need-flow-of-requires invariant-loop decreases-loop

@@ -2,7 +2,7 @@
 -- Assumes nothing.
 use mathlib.Core.Path.{◌≡◌, refl}
 use lib.ListN.{length}
-use Rattle.pair_laws.specs.inside.Square.{squareSize}
+use Rattle.pair_laws.specs.inside.Square.{square_size}
 use borrow.Author.Rules.{rules}
 use Rattle.pair_laws.proofs.SquareRows.{table-room, discount-room, pair-rollable, limited-cells, pairs-rolled}
 use Rattle.pair_pricing.proofs.walk.roll_row.Statement.{statement}
@@ -31,8 +31,8 @@ part-requires-4 c κs =
 -- both squares are whole
 long :
     (c : tie.After-roll-arg2) →
-    (length c.before.before.before.before.before.before.before.before.before.before.before.before.args.memory.now ≡ squareSize)
-    × (length c.before.before.before.before.before.before.before.before.before.before.before.before.args.middle.now ≡ squareSize)
+    (length c.before.before.before.before.before.before.before.before.before.before.before.before.args.memory.now ≡ square_size)
+    × (length c.before.before.before.before.before.before.before.before.before.before.before.before.args.middle.now ≡ square_size)
 long c = (search rules, search rules)
 
 roll-requires : tie.Need-roll-requires

@@ -4,7 +4,7 @@ use mathlib.Core.Path.{ap}
 use Prim.Native.Nat.{ℕ, ◌+◌, ◌-◌, ◌≤◌, ◌<◌}
 use native.Mathlib.Omega.{arith}
 use lib.ListN.{length}
-use Rattle.pricing.specs.inside.Rows.{bondValues}
+use Rattle.pricing.specs.inside.Rows.{bond_values}
 use Rattle.pricing.proofs.RowSteps.{span-inside, span-shifted, span-whole, span-is}
 use Rattle.pricing.proofs.RowSteps.{branch-inside, branch-whole, branch-limited, branch-rolled, Row-state, row-resume, row_next, row_done}
 use borrow.Author.Rules.{rules}
@@ -13,7 +13,7 @@ use Rattle.pricing.proofs.rows.bond_nodes.Tie as tie
 
 abbrev invariant-loop : tie.invariant-loop
 invariant-loop row₀ later downs discounts flow greatest next to shift top₀ k₀ row top k =
-    (k₀ ≤ k) × (k ≤ to) × Row-state row₀ row (bondValues later downs discounts next flow) top k
+    (k₀ ≤ k) × (k ≤ to) × Row-state row₀ row (bond_values later downs discounts next flow) top k
 
 abbrev decreases-loop : tie.decreases-loop
 decreases-loop row₀ later downs discounts flow greatest next to shift top₀ k₀ row top k = to - k

@@ -7,12 +7,12 @@ use native.Mathlib.Omega.{arith}
 use lib.ListN.{length}
 use Rattle.arithmetic.specs.Row.{values}
 use Rattle.arithmetic.proofs.Implied.{implied}
-use Rattle.tree.specs.Tree.{probabilityTotal}
-use Rattle.limits.specs.Limits.{mostDiscount}
+use Rattle.tree.specs.Tree.{probability_total}
+use Rattle.limits.specs.Limits.{most_discount}
 use Rattle.exercise.specs.Terms.{side}
-use Rattle.row_branches.specs.RowBranches.{rowBranch}
-use Rattle.row_branches.specs.inside.Transitions.{branchTotal}
-use Rattle.pricing.specs.inside.Rows.{bondValues, optionValues, Limited, Later}
+use Rattle.row_branches.specs.RowBranches.{row_branch}
+use Rattle.row_branches.specs.inside.Transitions.{branch_total}
+use Rattle.pricing.specs.inside.Rows.{bond_values, option_values, Limited, Later}
 use Rattle.pricing.proofs.RowSteps.{span-inside, span-shifted, span-whole, span-is}
 use Rattle.pricing.proofs.RowSteps.{branch-inside, branch-whole, branch-limited, branch-rolled, option-from-roll}
 use Rattle.pricing.proofs.RowSteps.{Rows-state, rows-resume, rows_next, rows-done}
@@ -23,8 +23,8 @@ use Rattle.pricing.proofs.rows.option_nodes.Tie as tie
 abbrev invariant-loop : tie.invariant-loop
 invariant-loop downs discounts bonds options bond₀ option₀ greatest call strike listed flow next to shift top₀ k₀ bond option top k =
     (k₀ ≤ k) × (k ≤ to)
-    × Rows-state bond₀ bond option₀ option (bondValues bonds downs discounts next flow)
-    (optionValues (side call) strike listed bonds options downs discounts next) top k
+    × Rows-state bond₀ bond option₀ option (bond_values bonds downs discounts next flow)
+    (option_values (side call) strike listed bonds options downs discounts next) top k
 
 abbrev decreases-loop : tie.decreases-loop
 decreases-loop downs discounts bonds options bond₀ option₀ greatest call strike listed flow next to shift top₀ k₀ bond option top k = to - k
@@ -65,7 +65,7 @@ inside c = omega (
 
 -- the node's branch is the row's
 branch : (c : tie.After-shared-slice-known5 invariant-loop decreases-loop) →
-    c.before.span-branch.result ≡ rowBranch c.before.before.before.before.before.before.before.before.before.before.args.downs.now
+    c.before.span-branch.result ≡ row_branch c.before.before.before.before.before.before.before.before.before.before.args.downs.now
     c.before.before.before.before.before.before.before.before.before.before.args.span.next c.before.before.before.loop.k
 branch c = span-is _ c.before.before.before.before.before.before.before.before.before.before.args.discounts.now _ _
     c.before.before.before.before.before.before.before.before.before.before.requires.0
@@ -76,7 +76,7 @@ branch c = span-is _ c.before.before.before.before.before.before.before.before.b
 rolls : (c : tie.After-shared-slice-known5 invariant-loop decreases-loop) (later : List ℕ) → Later later
     c.before.before.before.before.before.before.before.before.before.before.args.span.next →
     let branch = c.before.span-branch.result in
-    (branch.low + 2 < length later) × (branchTotal branch ≡ probabilityTotal) × Limited later (branch.low + 3)
+    (branch.low + 2 < length later) × (branch_total branch ≡ probability_total) × Limited later (branch.low + 3)
 rolls c later l =
     let ready = c.before.before.before.before.before.before.before.before.before.before.requires.0 in
     let e = branch c in (
@@ -87,7 +87,7 @@ rolls c later l =
 
 discounted : (c : tie.After-shared-slice-known5 invariant-loop decreases-loop) → values
     c.before.before.before.before.before.before.before.before.before.before.args.discounts.now c.before.before.before.loop.k
-    ≤ mostDiscount
+    ≤ most_discount
 discounted c = c.before.before.before.before.before.before.before.before.before.before.requires.0.discounted
     c.before.before.before.loop.k (inside c)
 

@@ -3,18 +3,18 @@
 use Prim.Native.Nat.{◌+◌, ◌*◌, ◌/◌, ◌≤◌}
 use native.Mathlib.Omega.{arith}
 use Rattle.arithmetic.specs.Row.{values}
-use Rattle.tree.specs.Tree.{probabilityTotal}
-use Rattle.pricing.specs.inside.Rows.{branchSum, branchRoll}
+use Rattle.tree.specs.Tree.{probability_total}
+use Rattle.pricing.specs.inside.Rows.{branch_sum, branch_roll}
 use Rattle.pricing.proofs.NodeLaws.{sum_fits, product-fits, rolled-nearest}
 use borrow.Author.Rules.{rules}
 use Rattle.pricing.proofs.rows.roll_node.Statement.{statement}
 use Rattle.pricing.proofs.rows.roll_node.Tie as tie
 
-sum : (s : tie.Start) → branchSum s.args.branch (values s.args.later.now) ≤ 4800000000000000000
+sum : (s : tie.Start) → branch_sum s.args.branch (values s.args.later.now) ≤ 4800000000000000000
 sum s = sum_fits _ _ _ s.requires.1 (s.requires.2 _ (omega arith)) (s.requires.2 _ (omega arith)) (s.requires.2 _ (omega arith)) s.requires.3
 
 product : (s : tie.Start) →
-    (branchSum s.args.branch (values s.args.later.now) + probabilityTotal / 2) / probabilityTotal * s.args.discount ≤ 8800000000000000000
+    (branch_sum s.args.branch (values s.args.later.now) + probability_total / 2) / probability_total * s.args.discount ≤ 8800000000000000000
 product s = product-fits _ _ _ s.requires.1 (s.requires.2 _ (omega arith)) (s.requires.2 _ (omega arith)) (s.requires.2 _ (omega arith)) s.requires.3
 
 mul-sum-2 : tie.Need-overflow-mul-sum-2
@@ -42,7 +42,7 @@ add-result-2 : tie.Need-overflow-add-result-2
 add-result-2 c = omega (arith, product c.before.before.before.before)
 
 returns : tie.Need-returns
-unfolding branchRoll
+unfolding branch_roll
 returns c = (rolled-nearest _ _, omega (arith, product c.before.before.before.before))
 
 pub roll-node-spec : {M : Type 1} → statement M

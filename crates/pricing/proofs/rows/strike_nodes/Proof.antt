@@ -5,7 +5,7 @@ use native.Mathlib.Omega.{arith}
 use lib.ListN.{length}
 use Rattle.arithmetic.proofs.Implied.{implied}
 use Rattle.exercise.specs.Terms.{side}
-use Rattle.pricing.specs.inside.Strips.{strikeValues}
+use Rattle.pricing.specs.inside.Strips.{strike_values}
 use Rattle.pricing.proofs.RowSteps.{span-inside, span-shifted, span-whole, span-is}
 use Rattle.pricing.proofs.RowSteps.{branch-inside, branch-whole, branch-limited, branch-rolled, Row-state, row-resume, row_next, row_done}
 use Rattle.pricing.proofs.StripRows.{strike-from-roll}
@@ -15,7 +15,7 @@ use Rattle.pricing.proofs.rows.strike_nodes.Tie as tie
 
 abbrev invariant-loop : tie.invariant-loop
 invariant-loop downs discounts bare options option₀ greatest call strike listed next to shift top₀ k₀ option top k =
-    (k₀ ≤ k) × (k ≤ to) × Row-state option₀ option (strikeValues (side call) strike listed bare options downs discounts next) top k
+    (k₀ ≤ k) × (k ≤ to) × Row-state option₀ option (strike_values (side call) strike listed bare options downs discounts next) top k
 
 abbrev decreases-loop : tie.decreases-loop
 decreases-loop downs discounts bare options option₀ greatest call strike listed next to shift top₀ k₀ option top k = to - k

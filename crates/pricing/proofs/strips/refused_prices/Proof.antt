@@ -6,15 +6,15 @@ use native.Mathlib.Omega.{arith}
 use lib.ListN.{replicate}
 use Rattle.arithmetic.proofs.RowLaws.{Filled, filled-start, filled_next}
 use Rattle.arithmetic.proofs.PaddedLaws.{filled-padded}
-use Rattle.price_laws.specs.Prices.{refusedPrice}
-use Rattle.price_laws.specs.Strips.{mostStrikes}
+use Rattle.price_laws.specs.Prices.{refused_price}
+use Rattle.price_laws.specs.Strips.{most_strikes}
 use Rattle.price_laws.proofs.StripLaws.{no-column, strip-is}
 use borrow.Author.Rules.{rules}
 use Rattle.pricing.proofs.strips.refused_prices.Statement.{statement}
 use Rattle.pricing.proofs.strips.refused_prices.Tie as tie
 
 abbrev invariant-loop : tie.invariant-loop
-invariant-loop number count zeros numbers₀ k₀ numbers k = (k ≤ count) × Filled (replicate mostStrikes 0) numbers (λ (j : ℕ). number) k
+invariant-loop number count zeros numbers₀ k₀ numbers k = (k ≤ count) × Filled (replicate most_strikes 0) numbers (λ (j : ℕ). number) k
 
 abbrev decreases-loop : tie.decreases-loop
 decreases-loop number count zeros numbers₀ k₀ numbers k = count - k
@@ -30,7 +30,7 @@ returns c =
     let a = c.before.before.before.before.args in
     let end : c.before.loop.k ≡ a.count = omega arith in
     let zeros = no-column _ a.count c.before.before.before.no-answers.ensures in
-    strip-is a.count (λ k. refusedPrice a.number) _ _ _ (filled-padded _ _ _ _ (rw end at c.before.loop.invariant.1)) zeros zeros
+    strip-is a.count (λ k. refused_price a.number) _ _ _ (filled-padded _ _ _ _ (rw end at c.before.loop.invariant.1)) zeros zeros
 
 pub refused-prices-spec : {M : Type 1} → statement M
 refused-prices-spec =

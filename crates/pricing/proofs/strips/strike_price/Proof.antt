@@ -2,7 +2,7 @@
 -- Assumes nothing.
 use mathlib.Core.Path.{◌≡◌, refl, ◌∙◌}
 use Rattle.arithmetic.proofs.Implied.{implied}
-use Rattle.price_laws.specs.Prices.{datedCause}
+use Rattle.price_laws.specs.Prices.{dated_cause}
 use Rattle.price_laws.proofs.OptionLaws.{dated-cause-is}
 use Rattle.pricing.proofs.StripTurns.{kept-through}
 use Rattle.pricing.proofs.StrikeLaws.{strike-refused, exercisable, rolled-refuses, rolled-gives, bond-refuses}
@@ -12,7 +12,7 @@ use Rattle.pricing.proofs.strips.strike_price.Tie as tie
 
 -- the cause about the strike and the list
 cause : (c : tie.After-lowest-cause) → let a = c.before.before.before.before.before.before.before.before.args in
-    c.lowest-cause.result ≡ datedCause a.shared.steps a.shared.side a.dates.now a.strike
+    c.lowest-cause.result ≡ dated_cause a.shared.steps a.shared.side a.dates.now a.strike
 cause c =
     let c₁ = c.before.before.before.before.before.before.before.before in
     dated-cause-is _ _ _ _ c.before.terms-cause.ensures c₁.requires.list-is c.lowest-cause.ensures

@@ -9,7 +9,7 @@ use Rattle.arithmetic.proofs.RowLaws.{Filled, filled-start, filled_next}
 use Rattle.arithmetic.proofs.PaddedLaws.{filled-padded}
 use Rattle.price_laws.specs.declared.Price.{Price}
 use Rattle.pricing.specs.declared.strips.Shared.{Shared}
-use Rattle.price_laws.specs.Strips.{mostStrikes, strikePrice, eachWith}
+use Rattle.price_laws.specs.Strips.{most_strikes, strike_price, each_with}
 use Rattle.price_laws.proofs.StripLaws.{strip-is}
 use borrow.Author.Rules.{rules}
 use Rattle.pricing.proofs.strips.strike_prices.Statement.{statement}
@@ -18,14 +18,14 @@ use Rattle.pricing.proofs.strips.strike_prices.Tie as tie
 -- the answer of a place
 abbrev price : Shared → List ℕ → List ℕ → List ℕ → List ℕ → ℕ → Price
 price shared dates discounts flows strikes =
-    eachWith shared.bound (strikePrice shared.steps shared.reversion discounts flows shared.side dates strikes)
+    each_with shared.bound (strike_price shared.steps shared.reversion discounts flows shared.side dates strikes)
 
 abbrev invariant-loop : tie.invariant-loop
 invariant-loop shared dates marks downs discounts flows kept strikes numbers₀ values₀ bounds₀ k₀ numbers values bounds k =
     (k ≤ length strikes)
-    × Filled (replicate mostStrikes 0) numbers (λ (j : ℕ). (price shared dates discounts flows strikes j).number) k
-    × Filled (replicate mostStrikes 0) values (λ (j : ℕ). (price shared dates discounts flows strikes j).value) k
-    × Filled (replicate mostStrikes 0) bounds (λ (j : ℕ). (price shared dates discounts flows strikes j).bound) k
+    × Filled (replicate most_strikes 0) numbers (λ (j : ℕ). (price shared dates discounts flows strikes j).number) k
+    × Filled (replicate most_strikes 0) values (λ (j : ℕ). (price shared dates discounts flows strikes j).value) k
+    × Filled (replicate most_strikes 0) bounds (λ (j : ℕ). (price shared dates discounts flows strikes j).bound) k
 
 abbrev decreases-loop : tie.decreases-loop
 decreases-loop shared dates marks downs discounts flows kept strikes numbers₀ values₀ bounds₀ k₀ numbers values bounds k =
@@ -43,13 +43,13 @@ strike-price-requires : tie.Need-strike-price-requires invariant-loop decreases-
 strike-price-requires c κs = c.before.before.before.before.before.before.before.before.before.before.before.before.before.requires.0
 
 -- each column has its places
-numbers-long : (c : tie.After-strike-price invariant-loop decreases-loop) → length c.before.before.before.loop.numbers ≡ mostStrikes
+numbers-long : (c : tie.After-strike-price invariant-loop decreases-loop) → length c.before.before.before.loop.numbers ≡ most_strikes
 numbers-long c = search rules
 
-values-long : (c : tie.After-strike-price invariant-loop decreases-loop) → length c.before.before.before.loop.values ≡ mostStrikes
+values-long : (c : tie.After-strike-price invariant-loop decreases-loop) → length c.before.before.before.loop.values ≡ most_strikes
 values-long c = search rules
 
-bounds-long : (c : tie.After-strike-price invariant-loop decreases-loop) → length c.before.before.before.loop.bounds ≡ mostStrikes
+bounds-long : (c : tie.After-strike-price invariant-loop decreases-loop) → length c.before.before.before.loop.bounds ≡ most_strikes
 bounds-long c = search rules
 
 mul-numbers : tie.Need-overflow-mul-numbers invariant-loop decreases-loop

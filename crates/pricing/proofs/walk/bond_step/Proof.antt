@@ -3,17 +3,17 @@
 use mathlib.Core.Path.{◌≡◌}
 use native.Mathlib.Omega.{arith}
 use lib.ListN.{length}
-use Rattle.limits.specs.Limits.{mostNodes}
+use Rattle.limits.specs.Limits.{most_nodes}
 use Rattle.pricing.proofs.StepParts.{table-room, discount-room, later-next, part-within, part-rollable, part-bond}
 use borrow.Author.Rules.{rules}
 use Rattle.pricing.proofs.walk.bond_step.Statement.{statement}
 use Rattle.pricing.proofs.walk.bond_step.Tie as tie
 
 -- both rows are whole
-long : (c : tie.After-bond-row-arg) → length c.before.before.before.before.args.bond.now ≡ mostNodes
+long : (c : tie.After-bond-row-arg) → length c.before.before.before.before.args.bond.now ≡ most_nodes
 long c = search rules
 
-later-long : (c : tie.After-bond-row-arg2) → length c.before.before.before.before.before.args.later.now ≡ mostNodes
+later-long : (c : tie.After-bond-row-arg2) → length c.before.before.before.before.before.args.later.now ≡ most_nodes
 later-long c = search rules
 
 part-requires : tie.Need-part-requires

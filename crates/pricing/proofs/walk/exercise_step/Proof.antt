@@ -4,7 +4,7 @@ use mathlib.Core.Path.{◌≡◌, ap, ◌∙◌}
 use Prim.Native.Nat.{ℕ, ◌-◌}
 use native.Mathlib.Omega.{arith}
 use Rattle.arithmetic.specs.Row.{values}
-use Rattle.lattice.specs.Shape.{nodeCount}
+use Rattle.lattice.specs.Shape.{node_count}
 use Rattle.lattice.proofs.Sizes.{count-within}
 use Rattle.pricing_laws.specs.Pricer.{exercise}
 use Rattle.exercise.specs.Terms.{side}
@@ -18,7 +18,7 @@ flow-of-requires c κs = c.before.before.requires.2
 
 -- the nodes of the option's last row
 nodes : (c : tie.After-flow-of) →
-    let a = c.before.before.before.args in c.before.node-count.result.value ≡ nodeCount a.reversion a.terms.last
+    let a = c.before.before.before.args in c.before.node-count.result.value ≡ node_count a.reversion a.terms.last
 nodes c = answer-value _ _ c.before.before.before.requires.1 c.before.before.before.requires.0 _ _ c.before.node-count.ensures
 
 exercise-row-requires : tie.Need-exercise-row-requires

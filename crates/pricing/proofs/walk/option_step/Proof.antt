@@ -3,7 +3,7 @@
 use mathlib.Core.Path.{◌≡◌}
 use native.Mathlib.Omega.{arith}
 use lib.ListN.{length}
-use Rattle.limits.specs.Limits.{mostNodes}
+use Rattle.limits.specs.Limits.{most_nodes}
 use Rattle.pricing.proofs.StepParts.{table-room, discount-room, later-next, part-within, part-rollable, part-option}
 use borrow.Author.Rules.{rules}
 use Rattle.pricing.proofs.walk.option_step.Statement.{statement}
@@ -24,16 +24,16 @@ part-requires-2 c κs =
     discount-room _ _ _ _ ready.tree ready.inside _ c.before.row-shape.ensures
 
 -- all four rows are whole
-bonds-long : (c : tie.After-option-row-arg) → length (start c.before.before.before).args.bonds.now ≡ mostNodes
+bonds-long : (c : tie.After-option-row-arg) → length (start c.before.before.before).args.bonds.now ≡ most_nodes
 bonds-long c = search rules
 
-options-long : (c : tie.After-option-row-arg2) → length (start c.before.before.before.before).args.options.now ≡ mostNodes
+options-long : (c : tie.After-option-row-arg2) → length (start c.before.before.before.before).args.options.now ≡ most_nodes
 options-long c = search rules
 
-bond-long : (c : tie.After-option-row-arg3) → length (start c.before.before.before.before.before).args.bond.now ≡ mostNodes
+bond-long : (c : tie.After-option-row-arg3) → length (start c.before.before.before.before.before).args.bond.now ≡ most_nodes
 bond-long c = search rules
 
-option-long : (c : tie.After-option-row-arg4) → length (start c.before.before.before.before.before.before).args.option.now ≡ mostNodes
+option-long : (c : tie.After-option-row-arg4) → length (start c.before.before.before.before.before.before).args.option.now ≡ most_nodes
 option-long c = search rules
 
 option-row-requires : tie.Need-option-row-requires

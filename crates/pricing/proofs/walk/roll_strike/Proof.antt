@@ -4,7 +4,7 @@ use mathlib.Core.Path.{◌≡◌}
 use Prim.Native.Nat.{◌-◌, ◌<◌}
 use native.Mathlib.Omega.{arith}
 use lib.ListN.{length}
-use Rattle.limits.specs.Limits.{mostNodes}
+use Rattle.limits.specs.Limits.{most_nodes}
 use Rattle.pricing.proofs.StripTurns.{Alone, last-room, last-short, alone-start, alone-before, alone-ready, turn-alone-over, turn-alone-next}
 use Rattle.pricing.proofs.StripTurns.{alone-done, beside-answer}
 use borrow.Author.Rules.{rules}
@@ -23,7 +23,7 @@ part-requires c κs =
     let s = c.before.before.before.before.before.before.before in
     last-room s.requires.0 _ _ s.requires.1 s.requires.2 _ s.requires.3 s.requires.4 _ c.before.row-shape.ensures
 
-option-long : (c : tie.After-part invariant-loop decreases-loop) → length c.before.empty-row.result ≡ mostNodes
+option-long : (c : tie.After-part invariant-loop decreases-loop) → length c.before.empty-row.result ≡ most_nodes
 option-long c = search rules
 
 first-row-requires : tie.Need-first-row-requires invariant-loop decreases-loop

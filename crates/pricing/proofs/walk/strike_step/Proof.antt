@@ -3,7 +3,7 @@
 use mathlib.Core.Path.{◌≡◌}
 use native.Mathlib.Omega.{arith}
 use lib.ListN.{length}
-use Rattle.limits.specs.Limits.{mostNodes}
+use Rattle.limits.specs.Limits.{most_nodes}
 use Rattle.pricing.proofs.StepParts.{table-room, discount-room, kept-room, later-next, part-within, part-beside, part-rollable, part-strike}
 use borrow.Author.Rules.{rules}
 use Rattle.pricing.proofs.walk.strike_step.Statement.{statement}
@@ -27,11 +27,11 @@ part-requires-3 c κs =
     kept-room _ _ _ _ ready.tree ready.inside _ c₁.row-shape.ensures c₂.args.kept.now c₂.requires.2
 
 -- both rows are whole
-options-long : (c : tie.After-strike-row-arg) → length c.before.before.before.before.before.before.before.before.args.options.now ≡ mostNodes
+options-long : (c : tie.After-strike-row-arg) → length c.before.before.before.before.before.before.before.before.args.options.now ≡ most_nodes
 options-long c = search rules
 
 option-long : (c : tie.After-strike-row-arg2) →
-    length c.before.before.before.before.before.before.before.before.before.args.option.now ≡ mostNodes
+    length c.before.before.before.before.before.before.before.before.before.args.option.now ≡ most_nodes
 option-long c = search rules
 
 strike-row-requires : tie.Need-strike-row-requires

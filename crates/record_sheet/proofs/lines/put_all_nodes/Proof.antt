@@ -44,7 +44,7 @@ use denote.Triple.Walked.{Goes-none, Goes-none_slice, Goes-gave_slice, Walks, en
 use denote.Exit.{yes}
 use denote.Signature.{plain, named_lft}
 use Rattle.text_laws.specs.inside.Put.{Put}
-use Rattle.sheet_laws.specs.TreeSheet.{nodeLines}
+use Rattle.sheet_laws.specs.TreeSheet.{node_lines}
 use Rattle.sheet_laws.specs.inside.Stored.{Drawing}
 use Rattle.node_reader.specs.declared.NodeReader.{NodeReader}
 use Rattle.node_reader.specs.contracts.NodeReader as T
@@ -156,7 +156,7 @@ module _ {M : Type 1} {𝓤 : Ura M} (𝓛 : Logic 𝓤) (mem : Memory → SProp
       says ! pre $ frame ! $ done !
 
   abbrev Said : ℕ → List ℕ → Type 0
-  Said r zs = Put ys end (nodeLines steps reversion z.now) r zs
+  Said r zs = Put ys end (node_lines steps reversion z.now) r zs
 
   exits : (r : ℕ) (u : Val) (zs : List ℕ) → Said r zs → length zs ≡ length ys
       → ent 𝓤 (⋆ 𝓛 ((‵ (flft κ q) ⊛ ‵ (flft κ' q') ⊛ ‵ ftrue) ∷ ‵ (finally u8 γ zs) ∷ ‵ (usize.own_val r (u ∷ [])) ∷ ‵ Own ∷ [])) (Post u)

@@ -3,9 +3,9 @@
 use mathlib.Core.Path.{◌≡◌, refl, ◌∙◌}
 use Prim.Native.Nat.{ℕ, suc, ◌+◌, ◌*◌, ◌≤◌, ◌<◌}
 use lib.ListN.{length}
-use Rattle.text_laws.specs.Lines.{longestLine}
-use Rattle.lattice.specs.Shape.{rowStart, discountsNeeded}
-use Rattle.sheet_laws.specs.TreeSheet.{nodesOfRow}
+use Rattle.text_laws.specs.Lines.{longest_line}
+use Rattle.lattice.specs.Shape.{row_start, discounts_needed}
+use Rattle.sheet_laws.specs.TreeSheet.{nodes_of_row}
 use Rattle.node_lines.proofs.LineLoop.{Progress, begun, gone, ended}
 use Rattle.sheet_laws.proofs.PartLaws as laws
 use borrow.Author.Rules.{rules}
@@ -15,18 +15,18 @@ use Rattle.record_sheet.proofs.lines.put_node_rows.Tie as tie
 
 abbrev invariant-loop : tie.invariant-loop
 invariant-loop out₀ end steps reversion discounts next start₀ place₀ left₀ out start place left =
-    Progress (nodesOfRow reversion discounts) (λ (i : ℕ). longestLine * rowStart reversion i) out₀ end steps out start left × (place ≡ rowStart reversion left)
+    Progress (nodes_of_row reversion discounts) (λ (i : ℕ). longest_line * row_start reversion i) out₀ end steps out start left × (place ≡ row_start reversion left)
 
 abbrev decreases-loop : tie.decreases-loop
 decreases-loop out₀ end steps reversion discounts next start₀ place₀ left₀ out start place left = left
 
-needed : (n b : ℕ) → discountsNeeded n b ≡ rowStart b n
-unfolding discountsNeeded
+needed : (n b : ℕ) → discounts_needed n b ≡ row_start b n
+unfolding discounts_needed
 needed n b = refl
 
-fits : (c : tie.After-shared-slice-known invariant-loop decreases-loop) (i : ℕ) → i < c.before.before.args.steps → longestLine * rowStart
-    c.before.before.args.reversion i + length (nodesOfRow c.before.before.args.reversion
-    c.before.before.args.discounts.now i) ≤ longestLine * rowStart c.before.before.args.reversion (suc i)
+fits : (c : tie.After-shared-slice-known invariant-loop decreases-loop) (i : ℕ) → i < c.before.before.args.steps → longest_line * row_start
+    c.before.before.args.reversion i + length (nodes_of_row c.before.before.args.reversion
+    c.before.before.args.discounts.now i) ≤ longest_line * row_start c.before.before.args.reversion (suc i)
 fits c =
     let s = c.before.before in
     let shared-slice-known = c.shared-slice-known in
@@ -37,7 +37,7 @@ loop-holds : tie.Need-loop-init invariant-loop decreases-loop
 loop-holds c =
     let s = c.before.before in
     let a = s.args in (
-      begun (nodesOfRow a.reversion a.discounts.now) (λ (i : ℕ). longestLine * rowStart a.reversion i) a.steps (fits c) a.out.now a.end
+      begun (nodes_of_row a.reversion a.discounts.now) (λ (i : ℕ). longest_line * row_start a.reversion i) a.steps (fits c) a.out.now a.end
           (omega (arith, needed a.steps a.reversion, s.requires.room)),
       s.requires.place ∙ needed a.steps a.reversion,
     )
@@ -56,7 +56,7 @@ loop-again c =
     let put = laws.before-put a.steps a.reversion a.discounts.now s.requires.lent l.left l.place counted.node-count.result some
     p.upto counted.node-count.ensures l.invariant.1 (λ j. (known.shared-slice-known.given j).fits) l.out l.start lines.result _ p.enough
     (omega (arith, p.below, p.same, s.requires.inside)) lines.ensures in (
-      gone (nodesOfRow a.reversion a.discounts.now) (λ (i : ℕ). longestLine * rowStart a.reversion i) a.steps (fits known)
+      gone (nodes_of_row a.reversion a.discounts.now) (λ (i : ℕ). longest_line * row_start a.reversion i) a.steps (fits known)
           a.out.now a.end p some put.0,
       put.1,
     )
@@ -69,7 +69,7 @@ returns c =
     let s = c.before.before.before.before in
     let l = c.before.loop in
     let a = s.args in
-    ended (nodesOfRow a.reversion a.discounts.now) (λ (i : ℕ). longestLine * rowStart a.reversion i) a.steps (fits c.before.before)
+    ended (nodes_of_row a.reversion a.discounts.now) (λ (i : ℕ). longest_line * row_start a.reversion i) a.steps (fits c.before.before)
     a.out.now a.end l.invariant.0 (omega arith) s.requires.inside
 
 pub put-node-rows-spec : {M : Type 1} → statement M

@@ -3,7 +3,7 @@
 use mathlib.Core.Path.{◌≡◌, ap, ◌∙◌}
 use Prim.Native.Nat.{suc, ◌+◌}
 use borrow.Author.Tests.{le-leb}
-use Rattle.lent_tree.specs.LentTree.{storedRow}
+use Rattle.lent_tree.specs.LentTree.{stored_row}
 use Rattle.arithmetic.specs.Row.{sum_of}
 use Rattle.row_view.specs.declared.RowKind.TheVariants.{StatePrices}
 use native.Mathlib.Numerals.{add-one}
@@ -19,7 +19,7 @@ start c = c.before.before.before.before.before
 
 part-is : (c : tie.After-row-view) →
     let a = (start c).args in
-    c.row-view.result.now ≡ storedRow a.tree.reversion a.state-prices.now (suc a.row.before)
+    c.row-view.result.now ≡ stored_row a.tree.reversion a.state-prices.now (suc a.row.before)
 part-is c =
     let s = start c in
     let a = s.args in
@@ -33,7 +33,7 @@ row-total-requires c κs = rw (part-is c) (start c).requires.0.3
 -- where the sum is known
 total-is : (c : tie.After-row-total) →
     let a = (start c.before).args in
-    c.row-total.result ≡ sum_of (storedRow a.tree.reversion a.state-prices.now (suc a.row.before))
+    c.row-total.result ≡ sum_of (stored_row a.tree.reversion a.state-prices.now (suc a.row.before))
 total-is c = c.row-total.ensures ∙ ap sum_of (part-is c.before)
 
 returns : tie.Need-returns

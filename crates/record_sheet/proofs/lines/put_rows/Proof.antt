@@ -3,8 +3,8 @@
 use Prim.Native.Nat.{ℕ, suc, ◌+◌, ◌-◌, ◌*◌, ◌≤◌, ◌<◌}
 use mathlib.Core.List.{List}
 use lib.ListN.{length}
-use Rattle.text_laws.specs.Lines.{longestLine}
-use Rattle.sheet_laws.specs.TreeSheet.{lineOfRow}
+use Rattle.text_laws.specs.Lines.{longest_line}
+use Rattle.sheet_laws.specs.TreeSheet.{line_of_row}
 use Rattle.node_lines.proofs.LineLoop.{Progress, begun, gone, ended}
 use Rattle.sheet_laws.proofs.PartLaws as laws
 use borrow.Author.Rules.{rules}
@@ -14,20 +14,20 @@ use Rattle.record_sheet.proofs.lines.put_rows.Tie as tie
 
 abbrev invariant-loop : tie.invariant-loop
 invariant-loop out₀ end tree quotes discounts state-prices bounds start₀ left₀ out start left =
-    Progress (lineOfRow tree.steps tree.reversion quotes discounts state-prices) (λ (i : ℕ). longestLine * i) out₀ end tree.steps out start left
+    Progress (line_of_row tree.steps tree.reversion quotes discounts state-prices) (λ (i : ℕ). longest_line * i) out₀ end tree.steps out start left
 
 abbrev decreases-loop : tie.decreases-loop
 decreases-loop out₀ end tree quotes discounts state-prices bounds start₀ left₀ out start left = left
 
 abbrev line : tie.Start invariant-loop decreases-loop → ℕ → List ℕ
-line s = lineOfRow s.args.tree.steps s.args.tree.reversion s.args.quotes.now s.args.discounts.now s.args.state-prices.now
+line s = line_of_row s.args.tree.steps s.args.tree.reversion s.args.quotes.now s.args.discounts.now s.args.state-prices.now
 
 -- where the loop begins
 abbrev start : tie.After-shared-slice-known4 invariant-loop decreases-loop → tie.Start invariant-loop decreases-loop
 start c = c.before.before.before.before.before
 
 fits : (c : tie.After-shared-slice-known4 invariant-loop decreases-loop) (i : ℕ) → i < (start c).args.tree.steps →
-    longestLine * i + length (line (start c) i) ≤ longestLine * suc i
+    longest_line * i + length (line (start c) i) ≤ longest_line * suc i
 fits c =
     let s = start c in
     let a = s.args in
@@ -38,7 +38,7 @@ fits c =
 loop-holds : tie.Need-loop-init invariant-loop decreases-loop
 loop-holds c =
     let s = start c in
-    begun (line s) (λ (i : ℕ). longestLine * i) s.args.tree.steps (fits c) s.args.out.now s.args.end s.pre.0.2
+    begun (line s) (λ (i : ℕ). longest_line * i) s.args.tree.steps (fits c) s.args.out.now s.args.end s.pre.0.2
 
 -- the row's bound is among those lent
 there : (c : tie.In-loop invariant-loop decreases-loop) → c.before.loop.left < length (start c.before.before).args.bounds.now
@@ -58,7 +58,7 @@ put-row-requires c κs =
         omega (arith, p.enough),
         omega (arith, p.below, p.same, pre.0.3),
       ),
-      laws.bound_of _ _ _ _ l.left (l.left - 1) (omega arith) pre.1.1.0,
+      laws.bound_of_lem _ _ _ _ l.left (l.left - 1) (omega arith) pre.1.1.0,
     )
 
 loop-again : tie.Need-loop-preserved invariant-loop decreases-loop
@@ -66,7 +66,7 @@ loop-again c =
     let put = c.before.before in
     let looping = put.before.before.before.before in
     let s = start looping.before in
-    gone (line s) (λ (i : ℕ). longestLine * i) s.args.tree.steps (fits looping.before) s.args.out.now s.args.end
+    gone (line s) (λ (i : ℕ). longest_line * i) s.args.tree.steps (fits looping.before) s.args.out.now s.args.end
     looping.loop.invariant (omega arith)
     put.put-row.ensures
 
@@ -77,7 +77,7 @@ returns : tie.Need-returns invariant-loop decreases-loop
 returns c =
     let looping = c.before in
     let s = start looping.before in
-    ended (line s) (λ (i : ℕ). longestLine * i) s.args.tree.steps (fits looping.before) s.args.out.now s.args.end
+    ended (line s) (λ (i : ℕ). longest_line * i) s.args.tree.steps (fits looping.before) s.args.out.now s.args.end
     looping.loop.invariant (omega arith)
     s.pre.0.3
 

@@ -4,7 +4,7 @@ use mathlib.Core.List.{List}
 use mathlib.Core.Path.{◌≡◌, ap}
 use Prim.Native.Nat.{ℕ, ◌+◌, ◌≤◌, ◌<◌}
 use lib.ListN.{length}
-use Rattle.limits.specs.Limits.{mostSteps}
+use Rattle.limits.specs.Limits.{most_steps}
 use Rattle.state_price_bound.specs.declared.RowBounds.{RowBounds}
 use Rattle.sheet_laws.proofs.PartLaws as laws
 use borrow.Author.Rules.{rules}
@@ -24,10 +24,10 @@ abbrev start : tie.After-put-prices → tie.Start
 start c = c.before.before.before.before.before.before.before.before
 
 -- a place for each row
-size : (c : tie.After-state-price-error-bounds) → length c.state-price-error-bounds.result.bounds ≡ mostSteps + 1
+size : (c : tie.After-state-price-error-bounds) → length c.state-price-error-bounds.result.bounds ≡ most_steps + 1
 size c = search rules
 
-all-rows : (n : ℕ) (bounds : List ℕ) → n ≤ mostSteps → length bounds ≡ mostSteps + 1 → n < length bounds
+all-rows : (n : ℕ) (bounds : List ℕ) → n ≤ most_steps → length bounds ≡ most_steps + 1 → n < length bounds
 all-rows n bounds few e = omega arith
 
 put-rows-requires : tie.Need-put-rows-requires

@@ -2,14 +2,14 @@
 -- Assumes nothing.
 use mathlib.Core.Path.{◌≡◌, sym, ◌∙◌}
 use native.Mathlib.Omega.{arith}
-use Rattle.shelf_laws.specs.Shelf.{statusOf}
+use Rattle.shelf_laws.specs.Shelf.{status_of}
 use Rattle.shelf_laws.proofs.NameLaws.{ask-name, ask-refused, ask-14, ask-0, ask-fits}
 use borrow.Author.Rules.{rules}
 use Rattle.shelf.proofs.slots.ask_number.Statement.{statement}
 use Rattle.shelf.proofs.slots.ask_number.Tie as tie
 
 -- the name is free
-free : (c : tie.Else1) → let s = c.before.before in statusOf s.args.shelf.slots s.args.name ≡ 0
+free : (c : tie.Else1) → let s = c.before.before in status_of s.args.shelf.slots s.args.name ≡ 0
 free c = omega arith
 
 returns : tie.Need-returns

@@ -3,20 +3,20 @@
 use mathlib.Core.Path.{◌≡◌, refl, ap, ◌∙◌}
 use Prim.Native.Nat.{◌≤◌, ◌-◌}
 use native.Mathlib.Omega.{arith}
-use Rattle.shelf_laws.specs.Shelf.{slot_at, nodesBefore}
+use Rattle.shelf_laws.specs.Shelf.{slot_at, nodes_before}
 use Rattle.shelf_laws.proofs.SlotLaws.{before_more, before-most, nodes-most}
 use borrow.Author.Rules.{rules}
 use Rattle.shelf.proofs.slots.nodes_before.Statement.{statement}
 use Rattle.shelf.proofs.slots.nodes_before.Tie as tie
 
 abbrev invariant-loop : tie.invariant-loop
-invariant-loop count shelf nodes₀ at₀ nodes at = (at ≤ count) × (nodes ≡ nodesBefore shelf.slots at)
+invariant-loop count shelf nodes₀ at₀ nodes at = (at ≤ count) × (nodes ≡ nodes_before shelf.slots at)
 
 abbrev decreases-loop : tie.decreases-loop
 decreases-loop count shelf nodes₀ at₀ nodes at = count - at
 
 loop-holds : tie.Need-loop-init invariant-loop decreases-loop
-unfolding nodesBefore
+unfolding nodes_before
 loop-holds c = search rules
 
 add-nodes : tie.Need-overflow-add-nodes invariant-loop decreases-loop
@@ -37,7 +37,7 @@ returns : tie.Need-returns invariant-loop decreases-loop
 returns c =
     let a = c.before.before.args in
     let e : c.before.loop.at ≡ a.count = omega arith in
-    c.before.loop.invariant.1 ∙ ap (nodesBefore a.t1.slots) e
+    c.before.loop.invariant.1 ∙ ap (nodes_before a.t1.slots) e
 
 pub nodes-before-spec : {M : Type 1} → statement M
 nodes-before-spec =
