@@ -1,4 +1,6 @@
 // Rounding, sums and rows that every layer shares, answers with their causes, the powers of ten, and tests of slices.
+#![tactic(auto)]
+
 ghost use Rattle.std.specs.Prelude.{◌≡◌, ◌<◌, ◌≤◌, ◌^◌, max, nat_abs, length};
 ghost use Rattle.arithmetic.specs.Sum.{greatest};
 ghost use Rattle.arithmetic.specs.Row.{values, greatest_of, each, between};

@@ -3,6 +3,8 @@
 //
 // A table comes as numbers of eight bytes, high byte first: the five lengths of its lists and the number of pairs, the lists themselves, then the
 // rows and the prices of the pairs.
+#![tactic(auto)]
+
 ghost use Rattle.std.specs.Prelude.{◌+◌, ◌≤◌, length};
 
 use bands::Verdict;

@@ -1,1 +1,2 @@
 // No code: what the entries of haircut bands promise, over the definitions that their contracts cite.
+#![tactic(auto)]

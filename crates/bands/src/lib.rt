@@ -1,5 +1,7 @@
 // Haircut bands: whether a table of bands covers each row and price precisely once.
 // A table is five slices of one length: first rows, last rows, lowest prices, highest prices, haircuts.
+#![tactic(auto)]
+
 ghost use Rattle.std.specs.Prelude.{◌≡◌, ◌+◌, ◌<◌, ◌≤◌, length};
 ghost use Rattle.arithmetic.specs.Row.{values};
 ghost use Rattle.limits.specs.Limits.{value_limit};

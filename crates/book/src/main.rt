@@ -1,4 +1,6 @@
 // The report of the jobs on standard input, each in a field of tag 10 (hex), on standard output. The input is never held whole.
+#![tactic(auto)]
+
 ghost use Rattle.std.specs.Prelude.{◌≤◌, length};
 
 use book_laws::Book;

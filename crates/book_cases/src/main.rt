@@ -1,5 +1,7 @@
 // Reads files from standard input, each after its length in two bytes, and writes their reports one after the other. vectors.py makes the
 // input, and the reference works the output out apart.
+#![tactic(auto)]
+
 fn write_report(file: &[u8], room: &mut [u8]) {
     let written = book_report::report(file, room);
     let start = room.len() - written.size;

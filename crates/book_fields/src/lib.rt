@@ -1,4 +1,6 @@
 // A book of jobs, field by field: how many are priced and refused, the sums of what they are worth, and the dearest bond.
+#![tactic(auto)]
+
 mod books;
 mod jobs;
 

@@ -1,4 +1,5 @@
 // Definitions and laws of a book of jobs: what its fields add to it, what a file gives, and its lines.
+#![tactic(auto)]
 
 // A file has at most so many fields.
 pub const MOST_FIELDS: u64 = 500;

@@ -1,4 +1,6 @@
 // The lines of a book, put into a lent buffer from its end.
+#![tactic(auto)]
+
 ghost use Rattle.std.specs.Prelude.{◌≡◌, ◌+◌, ◌*◌, ◌≤◌, length};
 ghost use Rattle.text_laws.specs.Lines.{longest_line};
 ghost use Rattle.text_laws.specs.inside.Put.{Put};

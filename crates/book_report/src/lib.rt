@@ -1,4 +1,6 @@
 // The report of a whole file of jobs, and the head of one of its fields.
+#![tactic(auto)]
+
 ghost use Rattle.std.specs.Prelude.{◌≡◌, ◌≤◌, ◌<◌, length};
 ghost use Rattle.book_laws.specs.Files.{head_of, file_book};
 ghost use Rattle.book_laws.specs.inside.Files.{field_end};

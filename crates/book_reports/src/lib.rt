@@ -1,4 +1,6 @@
 // Reports of books that add up: of no book, of one, and of two reports together.
+#![tactic(auto)]
+
 mod sums;
 mod tests;
 

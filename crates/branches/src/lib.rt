@@ -1,4 +1,6 @@
 // The branch of a node: where it leads and how likely; and the table of down-probabilities that serves every row.
+#![tactic(auto)]
+
 ghost use Rattle.std.specs.Prelude.{◌≡◌, ◌+◌, ◌*◌, ◌≤◌, true, pos, nat_abs, length};
 ghost use Rattle.std.specs.Int.Signed.{lt_z};
 ghost use Rattle.arithmetic.specs.Row.{row};

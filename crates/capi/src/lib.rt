@@ -1,4 +1,6 @@
 // The engine for C, Rust and Python. Each function but the version hands its arguments on to the entry below it and has that entry's contract.
+#![tactic(auto)]
+
 ghost use Rattle.std.specs.Prelude.{◌≡◌, length};
 ghost use Rattle.lattice.specs.Entries.{
   half_width_answer,

@@ -1,4 +1,6 @@
 // The discount of an amount by continuous compounding: the exponential series at a quarter of the amount, squared twice.
+#![tactic(auto)]
+
 ghost use Rattle.std.specs.Prelude.{◌≡◌, ◌≤◌};
 ghost use Rattle.continuous.specs.Continuous.{fourth_power, quotient_answer, continuous_answer};
 

@@ -1,4 +1,6 @@
 // A node's continuous rate over its step, with its sign, from the step's discount.
+#![tactic(auto)]
+
 ghost use Rattle.std.specs.Prelude.{◌≡◌, true, false, ◌+◌, ◌-◌, ◌≤◌, ◌<◌};
 ghost use Rattle.arithmetic.specs.Rounding.{one};
 ghost use Rattle.limits.specs.Limits.{most_discount};

@@ -1,4 +1,6 @@
 // The quotes of rows 1 to n, converted to discounts in lent memory.
+#![tactic(auto)]
+
 ghost use Rattle.std.specs.Prelude.{◌≡◌, ◌≤◌, ◌<◌, length};
 ghost use Rattle.arithmetic.specs.Row.{row, place, each};
 ghost use Rattle.curve.specs.Curve.{answer_at, discount_at, converts_at, place_at, in_place, curve_number, curve_memory};

@@ -1,1 +1,2 @@
 // All that the engine promises, as one statement with its proof. No code.
+#![tactic(auto)]

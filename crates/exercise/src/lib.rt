@@ -1,4 +1,6 @@
 // The value of one node of an option, and the terms of each kind.
+#![tactic(auto)]
+
 ghost use Rattle.std.specs.Prelude.{◌≡◌, ◌-◌};
 ghost use Rattle.pricing_laws.specs.Pricer.{exercise, held_or_exercised};
 ghost use Rattle.exercise.specs.Terms.{side, terms_of};

@@ -1,4 +1,6 @@
 // The dates on which an option may be exercised: their cause of refusal, a mark for each listed row, and the dates of a kind.
+#![tactic(auto)]
+
 ghost use Rattle.std.specs.Prelude.{◌≡◌, ◌<◌, cond, leb};
 ghost use Rattle.arithmetic.specs.Row.{row};
 ghost use Rattle.pricing_laws.specs.Schedule.{last_date, rising, dates_cause};

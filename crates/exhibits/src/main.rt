@@ -1,6 +1,8 @@
 // Document 002's exhibit 2, and exhibit 3 from the document's own yields: its state prices and its rates, which are continuous. Each figure is
 // held against its printed digits within the units that document 01 names, exhibit 3's rates within one. Then refusals that document 01 gives
 // as run figures. What must be printed is worked out apart by reference.py.
+#![tactic(auto)]
+
 ghost use Rattle.std.specs.Prelude.{◌≤◌};
 
 // A value times a scale, against a printed figure in units: met where they differ by at most so many units.

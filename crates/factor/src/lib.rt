@@ -1,4 +1,6 @@
 // The factor of a node: the exponential series to its twelfth term, each term rounded down.
+#![tactic(auto)]
+
 ghost use Rattle.std.specs.Prelude.{◌≡◌, ◌+◌, ◌*◌, ◌≤◌, ◌<◌, min};
 ghost use Rattle.arithmetic.specs.Rounding.{one, round_down};
 ghost use Rattle.arithmetic.specs.Sum.{sum};

@@ -1,4 +1,6 @@
 // Spacings and factors, held against figures that were worked out apart in exact fractions.
+#![tactic(auto)]
+
 use arithmetic::Answer;
 
 const HIGHEST: u64 = 18_446_744_073_709_551_615;

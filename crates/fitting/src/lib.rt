@@ -1,4 +1,6 @@
 // The fit of a rate tree to quoted discounts.
+#![tactic(auto)]
+
 mod causes;
 mod rows;
 mod step;

@@ -1,4 +1,6 @@
 // Framed input: each frame stands after its length in two bytes, high byte first.
+#![tactic(auto)]
+
 ghost use Rattle.std.specs.Prelude.{◌≡◌, ◌+◌, ◌*◌, ◌≤◌, length, replicate};
 ghost use Rattle.frames.specs.Frames.{input_room, no_frame, frame_at};
 

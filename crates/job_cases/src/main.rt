@@ -1,5 +1,7 @@
 // Reads jobs from standard input, each after its length in two bytes, and writes what the reader gives. vectors.py makes the input, and
 // works the output out apart, field after field.
+#![tactic(auto)]
+
 ghost use Rattle.std.specs.Prelude.{◌≡◌, length};
 ghost use Rattle.job_record.specs.Grammar.{SoundOption, SoundJob};
 

@@ -1,5 +1,7 @@
 // Reads jobs from standard input, each after its length in two bytes, and writes each again in the same way, or a refusal: its number as one
 // byte, which is no job. vectors.py makes the input, and works the output out apart.
+#![tactic(auto)]
+
 fn write_frame(bytes: &[u8]) {
     let size = bytes.len();
     let head = [(size / 256 % 256) as u8, (size % 256) as u8];

@@ -1,4 +1,6 @@
 // A job's record handed to the conversion of quotes and to the fit.
+#![tactic(auto)]
+
 mod columns;
 
 ghost use Rattle.std.specs.Prelude.{◌≡◌, length};

@@ -1,4 +1,6 @@
 // The prices of a job: its bytes or its record in; number, bond and option out, and the tree in lent memory.
+#![tactic(auto)]
+
 mod memories;
 mod priced;
 

@@ -1,4 +1,6 @@
 // The job reader: bytes to a job record by value, or refusal 1. The form is judged before any number.
+#![tactic(auto)]
+
 ghost use Rattle.std.specs.Prelude.{◌≡◌, true, ◌+◌, ◌*◌, ◌^◌, ◌≤◌, ◌<◌, length, replicate};
 ghost use Rattle.arithmetic.specs.Row.{padded};
 ghost use Rattle.job_record.specs.Bytes.{number_at};

@@ -1,4 +1,5 @@
 // A job as a record, with the definitions and laws of its form, its grammar and its reading.
+#![tactic(auto)]
 
 // As many steps as one byte can say: the places that a record has for quotes and for flows.
 pub const MOST_STEPS: usize = 255;

@@ -1,4 +1,6 @@
 // A whole job: its bytes in, its sheet out.
+#![tactic(auto)]
+
 ghost use Rattle.std.specs.Prelude.{◌≡◌, ◌≤◌, length};
 ghost use Rattle.sheet_laws.specs.WholeJob.{
   sheet_number,

@@ -1,5 +1,7 @@
 // Whether a record is one that some bytes are read as: each number fits its field, the option's numbers belong to its tag, and zeros stand wherever
 // the form says nothing.
+#![tactic(auto)]
+
 ghost use Rattle.std.specs.Prelude.{◌≡◌, ◌≤◌, max, length};
 ghost use Rattle.job_record.specs.Form.{most_job_steps};
 ghost use Rattle.writer_laws.specs.Sound.{most_in, all_at_most, is_column, are_kinds, are_columns, head_fits, option_fits, is_absent, option_belongs};

@@ -1,4 +1,6 @@
 // The job writer: a record to the bytes that are read as it. Limits are not the writer's: only the form counts.
+#![tactic(auto)]
+
 ghost use Rattle.std.specs.Prelude.{◌≡◌, ◌∷◌, ◌+◌, ◌≤◌, length};
 ghost use Rattle.arithmetic.specs.Row.{place};
 ghost use Rattle.arithmetic.specs.Answers.{refused};

@@ -1,4 +1,6 @@
 // The shape of the rate tree: widths of rows and where rows start.
+#![tactic(auto)]
+
 ghost use Rattle.std.specs.Prelude.{◌≡◌, ◌+◌, ◌≤◌, ◌<◌, min};
 ghost use Rattle.limits.specs.Limits.{most_steps};
 ghost use Rattle.lattice.specs.Shape.{highest_node, half_width, row_start};

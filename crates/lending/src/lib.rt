@@ -1,5 +1,7 @@
 // The lending worth of a bond by a table of haircut bands, which comes as five slices of one length: first rows, last rows, lowest prices,
 // highest prices, haircuts.
+#![tactic(auto)]
+
 ghost use Rattle.std.specs.Prelude.{◌≡◌};
 ghost use Rattle.bands.specs.Bands.{within, bands_of};
 ghost use Rattle.bands.specs.inside.Lists.{Parallel};

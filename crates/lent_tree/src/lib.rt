@@ -1,4 +1,6 @@
 // A tree whose discounts are lent.
+#![tactic(auto)]
+
 ghost use Rattle.std.specs.Prelude.{◌≡◌};
 ghost use Rattle.lent_tree.specs.LentTree.{room_cause, discounts_cause};
 

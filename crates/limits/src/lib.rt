@@ -1,4 +1,6 @@
 // The limits of steps, reversions, discounts and values, tested in one place, and memories of the widest tree.
+#![tactic(auto)]
+
 ghost use Rattle.std.specs.Prelude.{◌≡◌, length};
 ghost use Rattle.limits.specs.Limits.{most_discounts, most_state_prices, is_steps, is_reversion, is_discount, shape_cause, limit_cause};
 

@@ -1,4 +1,6 @@
 // The node lines of a row, put into a lent buffer from its end by a reader that goes down from node to node.
+#![tactic(auto)]
+
 ghost use Rattle.std.specs.Prelude.{◌≡◌, ◌-◌, ◌≤◌, ◌<◌, length};
 ghost use Rattle.text_laws.specs.Lines.{longest_line, line_of_node};
 ghost use Rattle.limits.specs.Limits.{most_discount};

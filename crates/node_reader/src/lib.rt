@@ -1,5 +1,7 @@
 // A reader that keeps the lent discounts and the next node. Who draws through it takes it apart and calls a function on the slice and the
 // number, which reads each node by `node_at`.
+#![tactic(auto)]
+
 ghost use Rattle.std.specs.Prelude.{◌≡◌};
 ghost use Rattle.node_reader.specs.Reading.{node_at};
 

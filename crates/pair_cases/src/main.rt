@@ -1,4 +1,6 @@
 // Prices on two trees: figures by hand, trees of several shapes, refusals. The expected output is that of an independent model.
+#![tactic(auto)]
+
 ghost use Rattle.std.specs.Prelude.{◌≤◌, ◌<◌};
 
 use price_laws::Price;

@@ -1,4 +1,6 @@
 // Causes of refusal about a rate tree and a spread tree, their lent discounts and their flows. Nothing lent is changed.
+#![tactic(auto)]
+
 ghost use Rattle.std.specs.Prelude.{◌≡◌, ◌<◌, length};
 ghost use Rattle.arithmetic.specs.Row.{values};
 ghost use Rattle.lattice.specs.Shape.{node_count};

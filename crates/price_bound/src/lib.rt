@@ -1,4 +1,6 @@
 // How far the prices on a tree may be from the exact ones, and the greatest discounts of its rows, from its lent discounts.
+#![tactic(auto)]
+
 ghost use Rattle.std.specs.Prelude.{◌≡◌, true, false, ◌<◌, length, replicate};
 ghost use Rattle.limits.specs.Limits.{most_steps, is_discount};
 ghost use Rattle.lattice.specs.RateTree.{rate_tree};

@@ -1,4 +1,6 @@
 // Causes of refusal about a bond's flows and about an option.
+#![tactic(auto)]
+
 ghost use Rattle.std.specs.Prelude.{◌≡◌};
 ghost use Rattle.price_causes.specs.Causes.{flows_cause, option_cause, terms_cause};
 

@@ -1,4 +1,6 @@
 // A price, laid out for C, with the definitions and laws of what the pricing entries answer. No code: the entries are in pricing.
+#![tactic(auto)]
+
 use arithmetic::Answer;
 
 // A price in billionths with its error bound; a refusal's number with zeros.

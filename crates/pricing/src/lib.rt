@@ -1,5 +1,7 @@
 // Bond and option prices on a rate tree whose node discounts the caller lends. Discounts stand row after row, lowest node first, rows 0 to
 // steps - 1; flows stand for rows 1 to steps. Nothing lent is changed.
+#![tactic(auto)]
+
 mod rows;
 mod strips;
 mod walk;

@@ -1,4 +1,6 @@
 // Prices of trees of several shapes, held against reference.py, which works them out from documents 01 and 02 alone.
+#![tactic(auto)]
+
 ghost use Rattle.std.specs.Prelude.{◌≤◌, ◌<◌};
 
 use arithmetic::ONE;

@@ -1,1 +1,2 @@
 // No code: what the entries promise together, over the definitions that their contracts cite.
+#![tactic(auto)]

@@ -1,4 +1,6 @@
 // Floats, lone points, both rates of discounts and curves, whose answers were worked out apart, in exact fractions (vectors.py).
+#![tactic(auto)]
+
 ghost use Rattle.std.specs.Prelude.{◌≤◌, ◌<◌, nat_abs, length};
 
 use arithmetic::Answer;

@@ -1,4 +1,6 @@
 // Quoted points, and the discounts that they give.
+#![tactic(auto)]
+
 ghost use Rattle.std.specs.Prelude.{◌≡◌, ◌≤◌, nat_abs};
 ghost use Rattle.limits.specs.Limits.{most_steps};
 ghost use Rattle.arithmetic.specs.Answers.{refused};

@@ -1,4 +1,6 @@
 // The sheet of a job's record.
+#![tactic(auto)]
+
 mod lines;
 
 ghost use Rattle.std.specs.Prelude.{◌≡◌, ◌≤◌, length};

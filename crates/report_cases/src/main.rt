@@ -1,5 +1,7 @@
 // Reads files from standard input, each after its length in two bytes, and writes the report of all of them twice: joined one by one, and
 // joined by twos first. vectors.py makes the input, and the reference works the output out apart.
+#![tactic(auto)]
+
 use report_laws::Report;
 
 // All files one by one, and by twos: the pairs so far, and the file that waits for its second.

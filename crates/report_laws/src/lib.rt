@@ -1,4 +1,5 @@
 // Definitions and laws of reports of books that add up: the totals over the fields of any number of files.
+#![tactic(auto)]
 
 // The books of a report and their fields together are at most so many: as many bonds of the highest price are worth less than 2 ^ 64, and one more is not.
 pub const MOST_SIZE: u64 = 2_305_843_009;

@@ -1,1 +1,2 @@
 // What reports of books promise, joined or not, and why it holds: definitions and laws, no code.
+#![tactic(auto)]

@@ -1,4 +1,6 @@
 // The reversion by version: what stands for b in rows, branching and prices, and the ratio of the variance of a step.
+#![tactic(auto)]
+
 ghost use Rattle.std.specs.Prelude.{◌≡◌, ◌≤◌, ◌<◌, pos};
 ghost use Rattle.arithmetic.specs.Rounding.{one};
 ghost use Rattle.limits.specs.Limits.{most_reversion};

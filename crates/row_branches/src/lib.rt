@@ -1,4 +1,6 @@
 // The branches of a row's nodes, from the row's part of the table of down-probabilities.
+#![tactic(auto)]
+
 ghost use Rattle.std.specs.Prelude.{◌≡◌, ◌+◌, ◌<◌};
 ghost use Rattle.row_branches.specs.RowBranches.{lowest, no_branch, row_branch};
 

@@ -1,4 +1,6 @@
 // Either kind of row of a tree, shown as the part of the lent memory that contains it.
+#![tactic(auto)]
+
 ghost use Rattle.std.specs.Prelude.{◌≡◌};
 ghost use Rattle.row_view.specs.RowView.{
   holds_tree,

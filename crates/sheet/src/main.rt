@@ -1,4 +1,6 @@
 // The sheet of the job on standard input, on standard output.
+#![tactic(auto)]
+
 fn main() {
     let mut input = io::large_buffer();
     let count = io::read_full(0, &mut input);

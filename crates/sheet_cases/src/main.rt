@@ -1,5 +1,7 @@
 // Reads jobs from standard input, each after its length in two bytes, and writes their sheets one after the other. vectors.py makes the
 // input, and the reference works the output out apart.
+#![tactic(auto)]
+
 fn write_sheet(job: &[u8], room: &mut [u8]) {
     let sheet = job_sheet::printed(job, room);
     if sheet.number == 0 {

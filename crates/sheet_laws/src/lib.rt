@@ -1,1 +1,2 @@
 // Definitions and laws of a job's sheet.
+#![tactic(auto)]

@@ -1,4 +1,6 @@
 // Memory in which every sheet has room.
+#![tactic(auto)]
+
 ghost use Rattle.std.specs.Prelude.{◌≡◌, length, replicate};
 ghost use Rattle.sheet_room.specs.Room.{sheet_room};
 

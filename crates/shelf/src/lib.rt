@@ -1,5 +1,7 @@
 // A shelf of trees under the names 1 to 8, whose discounts stand in one memory of 3,600 numbers. The trees stand in the order of their names
 // without gaps, so where a tree starts follows from the slots before it, and moves when others are asked for or released.
+#![tactic(auto)]
+
 mod parts;
 mod slots;
 

@@ -1,4 +1,5 @@
 // What a shelf of trees holds, laid out for C, with the definitions and laws of its entries. No code: the entries are in shelf and shelf_prices.
+#![tactic(auto)]
 
 // The numbers in the memory of a shelf, which are the nodes that it has for all its trees.
 pub const ROOM: usize = 3_600;

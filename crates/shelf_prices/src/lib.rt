@@ -1,4 +1,6 @@
 // Prices on the trees of a shelf. Shelf and memory are read and left as they are.
+#![tactic(auto)]
+
 ghost use Rattle.std.specs.Prelude.{◌≡◌};
 ghost use Rattle.price_laws.specs.Prices.{refused_price, with_bound};
 ghost use Rattle.price_laws.specs.Strips.{refused_strip};

@@ -1,4 +1,6 @@
 // The spacing of the nodes.
+#![tactic(auto)]
+
 ghost use Rattle.std.specs.Prelude.{◌≡◌, ◌+◌, ◌*◌, ◌≤◌, ◌<◌};
 ghost use Rattle.spacing.specs.Spacing.{spacing_answer, version_spacing_answer};
 

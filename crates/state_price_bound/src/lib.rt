@@ -1,4 +1,6 @@
 // How far, in sum, the rounded state prices of a row may fall short of the exact ones, from the tree's discounts.
+#![tactic(auto)]
+
 ghost use Rattle.std.specs.Prelude.{◌≡◌, ◌+◌, ◌*◌, ◌≤◌, replicate};
 ghost use Rattle.arithmetic.specs.Rounding.{one, round_up};
 ghost use Rattle.limits.specs.Limits.{most_steps, most_discount, most_nodes};

@@ -1,4 +1,6 @@
 // The rate of one step, with its sign, from the step's discount.
+#![tactic(auto)]
+
 ghost use Rattle.std.specs.Prelude.{◌≡◌, ◌*◌, ◌≤◌};
 ghost use Rattle.arithmetic.specs.Rounding.{one, nearest};
 ghost use Rattle.limits.specs.Limits.{most_discount};

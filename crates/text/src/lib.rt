@@ -1,5 +1,7 @@
 // The lines of the sheet, put into a lent buffer from its end: each function puts its text just before a place and answers where the
 // text starts, so that the line that stands above it is put before that. A line that has no room is refused with 6, and the buffer stays.
+#![tactic(auto)]
+
 ghost use Rattle.std.specs.Prelude.{◌≡◌, [], ◌∷◌, ◌++◌, ◌+◌, ◌-◌, ◌≤◌, ◌<◌, length};
 ghost use Rattle.text_laws.specs.Lines.{
   longest_line,

@@ -1,4 +1,6 @@
 // What payoffs on a row are worth by the row's state prices, and how far that may fall short of their exact price.
+#![tactic(auto)]
+
 ghost use Rattle.std.specs.Prelude.{◌≡◌, ◌≤◌, ltb, length};
 ghost use Rattle.arithmetic.specs.Row.{greatest_of, sum_of};
 ghost use Rattle.limits.specs.Limits.{value_limit, sum_limit};

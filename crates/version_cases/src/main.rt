@@ -1,5 +1,7 @@
 // The numbers of version 2 for every reversion from 0 to 6,000, a hundred at a time: the sums of the working reversions, of the ratios of the variance
 // and of four spacings. vectors.py works the output out apart.
+#![tactic(auto)]
+
 ghost use Rattle.std.specs.Prelude.{◌≤◌};
 
 const BLOCK: u64 = 100;
