@@ -1,0 +1,15 @@
+use mathlib.Core.Path.{◌≡◌, sym, ap, ◌∙◌}
+use mathlib.Core.Bool.{true}
+use Prim.Native.Nat.{ℕ, ◌-◌, ◌≤◌}
+use native.Mathlib.Omega.{arith}
+use lib.ListN.{length}
+use Rattle.arithmetic.specs.Row.{values, each, between}
+use Rattle.arithmetic.proofs.RowLaws.{each_none, each_more, each-fails}
+use Rattle.arithmetic.proofs.BetweenLaws.{between-holds, between-below, between-above}
+use Rattle.arithmetic.proofs.all_between.Given as goal
+
+abbrev pub invariant-loop-k : goal.invariant-loop-k
+invariant-loop-k l = (l.k ≤ length l.xs) × (each l.k (between l.low l.high (values l.xs)) ≡ true)
+
+abbrev pub decreases-loop-k : goal.decreases-loop-k
+decreases-loop-k l = length l.xs - l.k

@@ -1,0 +1,15 @@
+use mathlib.Core.Path.{◌≡◌, sym, ap, ◌∙◌}
+use mathlib.Core.Logic.{⊎_elim}
+use Prim.Native.Nat.{ℕ, ◌-◌, ◌≤◌}
+use native.Mathlib.Omega.{arith}
+use lib.ListN.{length}
+use Rattle.arithmetic.specs.Row.{values}
+use Rattle.arithmetic.specs.Sum.{greatest}
+use Rattle.arithmetic.proofs.SumLaws.{greatest-none, greatest-next}
+use Rattle.arithmetic.proofs.greatest_of.Given as goal
+
+abbrev pub invariant-loop-k : goal.invariant-loop-k
+invariant-loop-k l = (l.k ≤ length l.xs) × (l.best ≡ greatest l.k (values l.xs))
+
+abbrev pub decreases-loop-k : goal.decreases-loop-k
+decreases-loop-k l = length l.xs - l.k

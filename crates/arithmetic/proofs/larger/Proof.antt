@@ -1,8 +1,0 @@
--- `arithmetic::larger` meets its contract.
--- Assumes nothing.
-use native.Mathlib.Omega.{arith}
-use Rattle.arithmetic.proofs.larger.Statement.{statement}
-use Rattle.arithmetic.proofs.larger.Tie as tie
-
-pub larger-spec : {M : Type 1} → statement M
-larger-spec = tie.close (tie.spec (λ c. omega arith) (λ c. omega arith))

@@ -1,0 +1,21 @@
+use mathlib.Core.Path.{◌≡◌, sym}
+use native.Mathlib.Omega.{arith}
+use borrow.Author.Rules.{rules}
+use Rattle.factor.specs.Series.{term, series}
+use Rattle.factor.proofs.Bounds.{series-bounds}
+use Rattle.continuous.proofs.Answers.{quotient-refused, series-of-node, quotient-found}
+use Rattle.continuous.proofs.discount_of_quotient.Goals as goal
+use Rattle.continuous.proofs.discount_of_quotient.Goals.{After-factor-series}
+
+-- past the test the factor is the series
+found : (c : After-factor-series) → c.factor-series.result.value ≡ series c.args.below (term c.args.quotient)
+found c = series-of-node _ _ _ c.factor-series.ensures (omega arith)
+
+pub returns-then-quotient-gt-ONE : goal.returns-then-quotient-gt-ONE
+returns-then-quotient-gt-ONE c = sym (quotient-refused _ _ (omega arith))
+
+pub fourth_power-requires : goal.fourth_power-requires
+fourth_power-requires c = let s = c.args in omega (arith, found c, (series-bounds s.quotient s.below c.if-quotient-gt-ONE.false).1)
+
+pub returns : goal.returns
+returns c = quotient-found _ _ _ _ (found c.before) c.fourth_power.ensures c.if-quotient-gt-ONE.false

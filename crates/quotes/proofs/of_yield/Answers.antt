@@ -1,0 +1,26 @@
+use mathlib.Core.Path.{sym, ◌∙◌, ap}
+use lib.IntN.{ℤ}
+use borrow.Author.Rules.{rules}
+use Rattle.figure.proofs.FigureLaws.{value-bound, value-back}
+use Rattle.quotes.specs.Quotes.{ranged_answer, yield_discount}
+use Rattle.quotes.proofs.QuoteLaws.{figure-refused, figure-accepted}
+use Rattle.quotes.proofs.of_yield.Goals as goal
+
+pub returns-then-rate-ne0 : goal.returns-then-rate-ne0
+returns-then-rate-ne0 c =
+    let a = c.args in
+    c.refusal.ensures
+    ∙ sym (figure-refused a.figure (yield_discount a.frequency a.row) c.billionths-rate.result c.billionths-rate.ensures c.if-rate-ne0.true)
+
+pub of_yearly-requires : goal.of_yearly-requires
+of_yearly-requires c =
+    let x = c.args.figure in
+    rw (value-back x c.billionths-rate.result c.billionths-rate.ensures)
+    (c.requires.0, c.requires.1, c.requires.2, value-bound x c.billionths-rate.result c.billionths-rate.ensures)
+
+pub returns : goal.returns
+returns c =
+    let a = c.args in
+    c.of_yearly.ensures
+    ∙ ap (λ (z : ℤ). ranged_answer (yield_discount a.frequency a.row z)) (value-back a.figure c.billionths-rate.result c.billionths-rate.ensures)
+    ∙ sym (figure-accepted a.figure (yield_discount a.frequency a.row) c.billionths-rate.result c.billionths-rate.ensures c.if-rate-ne0.false)
