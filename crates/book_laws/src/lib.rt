@@ -9,7 +9,7 @@ pub const MOST_ERROR_BOUND: u64 = 1_000_000;
 
 // A book so far. The count of refusals with number k stands at place k - 1; `place` counts all fields from 1, and is 0 where none is priced.
 #[repr(C)]
-#[derive(Drop)]
+#[derive(Clone, Copy)]
 pub struct Book {
     pub fields: u64,
     pub ended: bool,

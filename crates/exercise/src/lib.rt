@@ -6,7 +6,7 @@ ghost use Rattle.pricing_laws.specs.Pricer.{exercise, held_or_exercised};
 ghost use Rattle.exercise.specs.Terms.{side, terms_of};
 
 // An option's side, its strike and the last row on which it may be exercised.
-#[derive(Drop)]
+#[derive(Clone, Copy)]
 pub struct Terms {
     pub call: bool,
     pub strike: u64,

@@ -5,7 +5,7 @@ use price_laws::Price;
 
 // The prices of a job: number 0 with the bond and, where the job has one, the option; a refusal's number with zeros.
 #[repr(C)]
-#[derive(Drop)]
+#[derive(Clone, Copy)]
 pub struct JobPrices {
     pub number: u64,
     pub bond: Price,

@@ -5,11 +5,11 @@ use mathlib.Core.Path.{◌≡◌, refl, sym, ◌∙◌}
 use borrow.Author.Tests.{not-true, not-false}
 
 -- after `if !f(..) { return .. }`
-pub passed : {r t : Bool} → r ≡ t → not r ≡ false → t ≡ true
-passed e h = sym e ∙ not-false _ h
+pub passed : {r t : Bool} → r ≡ t → r ≡ true → t ≡ true
+passed e h = sym e ∙ h
 
-pub failed : {r t : Bool} → r ≡ t → not r ≡ true → t ≡ false
-failed e h = sym e ∙ not-true _ h
+pub failed : {r t : Bool} → r ≡ t → r ≡ false → t ≡ false
+failed e h = sym e ∙ h
 
 -- the parts of a test that holds. The first test is given: antt finds the second
 pub first : (a b : Bool) → (a && b) ≡ true → a ≡ true

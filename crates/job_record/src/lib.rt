@@ -8,7 +8,7 @@ pub const MOST_STEPS: usize = 255;
 pub const MOST_DATES: usize = 4672;
 
 // What the tag of a field may be: any kind of quote, or one tag alone.
-#[derive(Drop)]
+#[derive(Clone, Copy)]
 pub enum Tags {
     AnyKind,
     Only(u8),
@@ -16,7 +16,7 @@ pub enum Tags {
 
 // The option of a job as it was read: tag 8 or 10, or 0 and zeros where the job has none.
 #[repr(C)]
-#[derive(Drop)]
+#[derive(Clone, Copy)]
 pub struct OptionRecord {
     pub tag: u64,
     // The kind of tag 8, the side of tag 10.
@@ -32,7 +32,7 @@ pub struct OptionRecord {
 
 // A job: its quotes and flows stand in the first `steps` places, zeros after them. A figure is the pattern of a float, NaN or not.
 #[repr(C)]
-#[derive(Drop)]
+#[derive(Clone, Copy)]
 pub struct Job {
     pub frequency: u64,
     pub steps: usize,

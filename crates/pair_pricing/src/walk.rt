@@ -25,7 +25,7 @@ use arithmetic::ONE;
 use exercise::Terms;
 
 // The number of steps of two trees, and their reversions.
-#[derive(Drop)]
+#[derive(Clone, Copy)]
 pub(crate) struct Trees {
     pub(crate) steps: usize,
     pub(crate) rate: u64,

@@ -5,7 +5,7 @@ use arithmetic::Answer;
 
 // A price in billionths with its error bound; a refusal's number with zeros.
 #[repr(C)]
-#[derive(Drop)]
+#[derive(Clone, Copy)]
 pub struct Price {
     pub number: u64,
     pub value: u64,
@@ -40,7 +40,7 @@ pub struct Strip {
 }
 
 // A tree whose error bound is known.
-#[derive(Drop)]
+#[derive(Clone, Copy)]
 pub struct BoundedTree {
     pub steps: usize,
     pub reversion: u64,

@@ -191,7 +191,7 @@ pub(crate) fn bond_row(
 }
 
 // A row that bond and option are rolled into: the nodes of the row after it, its flow, and the option's right on it.
-#[derive(Drop)]
+#[derive(Clone, Copy)]
 pub(crate) struct RowRight {
     pub(crate) next: usize,
     pub(crate) flow: u64,

@@ -9,7 +9,7 @@ use crate::walk::TreeShape;
 use price_laws::{MOST_STRIKES, Price, Strip};
 
 // What all strikes of a strip share: the tree, the option's side, an error bound, and the causes about the list and about the bond.
-#[derive(Drop)]
+#[derive(Clone, Copy)]
 pub(crate) struct Shared {
     pub(crate) steps: usize,
     pub(crate) reversion: u64,

@@ -28,7 +28,7 @@ use exercise::Terms;
 use limits::MOST_NODES;
 
 // A tree's number of steps and its reversion.
-#[derive(Drop)]
+#[derive(Clone, Copy)]
 pub(crate) struct TreeShape {
     pub(crate) steps: usize,
     pub(crate) reversion: u64,

@@ -16,7 +16,7 @@ use price_laws::Price;
 use row_view::RowKind;
 
 // A tree's number of steps and its reversion.
-#[derive(Drop)]
+#[derive(Clone, Copy)]
 struct TreeShape {
     steps: usize,
     reversion: u64,

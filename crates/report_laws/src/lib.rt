@@ -7,7 +7,7 @@ pub const MOST_SIZE: u64 = 2_305_843_009;
 // The totals over so many books. The count of refusals with number k stands at place k - 1. The dearest bond is that of the field `place` of the book
 // with the number `book`, both from 1, and both are 0 where none is priced.
 #[repr(C)]
-#[derive(Drop)]
+#[derive(Clone, Copy)]
 pub struct Report {
     pub books: u64,
     pub fields: u64,

@@ -7,7 +7,7 @@ ghost use Rattle.row_branches.specs.RowBranches.{lowest, no_branch, row_branch};
 use tree::PROBABILITY_TOTAL;
 
 // The lowest of the three nodes of the next row that a node leads to, and up, middle and down over 600,000,000.
-#[derive(Drop)]
+#[derive(Clone, Copy)]
 pub struct RowBranch {
     pub low: usize,
     pub probabilities: [u64; 3],

@@ -14,7 +14,7 @@ ghost use Rattle.row_view.specs.RowView.{
 };
 
 // The two kinds of rows that a tree has in memory.
-#[derive(Drop)]
+#[derive(Clone, Copy)]
 pub enum RowKind {
     Discounts,
     StatePrices,

@@ -7,7 +7,7 @@ pub const ROOM: usize = 3_600;
 // What a shelf keeps of a name: status 0 no tree, 1 a tree that awaits a commit, 2 a fitted tree; then its steps and its reversion. A fitted tree
 // carries its price error bound and the greatest discount of each of its rows; all else is 0.
 #[repr(C)]
-#[derive(Drop)]
+#[derive(Clone, Copy)]
 pub struct Slot {
     pub status: u64,
     pub steps: usize,
@@ -18,7 +18,7 @@ pub struct Slot {
 
 // The slot of name k has index k - 1.
 #[repr(C)]
-#[derive(Drop)]
+#[derive(Clone, Copy)]
 pub struct Shelf {
     pub slots: [Slot; 8],
 }
@@ -40,7 +40,7 @@ pub struct Part {
 }
 
 // A name's tree: its status, where its discounts stand, how many they are, its steps, its reversion and its price error bound; zeros where there is none.
-#[derive(Drop)]
+#[derive(Clone, Copy)]
 pub struct Located {
     pub status: u64,
     pub start: usize,

@@ -26,7 +26,7 @@ pub struct RowBounds {
 }
 
 // Where a row starts in the discounts, how many nodes it has, and its bound.
-#[derive(Drop)]
+#[derive(Clone, Copy)]
 struct RowReached {
     start: usize,
     nodes: u64,

@@ -44,14 +44,14 @@ positive : (c : Else-divisor-le0) → le_z (divisor c.before) (pos 0) ≡ false
 positive c = rw (back c.before) at c.if-divisor-le0.false
 
 pub overflow_cast-divisor-3 : goal.overflow_cast-divisor-3
-overflow_cast-divisor-3 c = rw (back c.before) ((quotient-some 0 (divisor c.before) (positive c)).0, record { fits = omega (arith, size c.before) })
+overflow_cast-divisor-3 c = rw (back (goal.at.overflow_cast-divisor-3 c).Start) ((quotient-some 0 (divisor (goal.at.overflow_cast-divisor-3 c).Start) (positive c)).0, record { fits = omega (arith, size (goal.at.overflow_cast-divisor-3 c).Start) })
 
 pub nonzero_div-frequency : goal.nonzero_div-frequency
-nonzero_div-frequency c = rw (back c.before) (quotient-some 0 (divisor c.before) (positive c)).1
+nonzero_div-frequency c = rw (back (goal.at.nonzero_div-frequency c).Start) (quotient-some 0 (divisor (goal.at.nonzero_div-frequency c).Start) (positive c)).1
 
 pub returns : goal.returns
 unfolding rate_discount
 returns c =
     let s = c.before.before in
     c.ranged.ensures
-    ∙ ap ranged_answer (rw (back s) (sym (quotient-some (one * one * s.args.frequency) (divisor s) (positive c.before)).2))
+    ∙ ap ranged_answer (rw (back s) (sym (quotient-some (one * one * s.args.frequency) (divisor s) (positive (goal.at.returns c).Else-divisor-le0)).2))

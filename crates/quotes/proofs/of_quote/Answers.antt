@@ -7,16 +7,16 @@ pub returns-in-DiscountFactor : goal.returns-in-DiscountFactor
 unfolding quote_answer
 returns-in-DiscountFactor c =
     let a = c.args in
-    c.of_factor.ensures ∙ sym (ap (quote_answer a.frequency a.row) c.quote-1.given.1)
+    c.of_factor.ensures ∙ sym (ap (quote_answer a.frequency a.row) c.in-DiscountFactor.is)
 
 pub returns-in-YearlyRate : goal.returns-in-YearlyRate
 unfolding quote_answer
 returns-in-YearlyRate c =
     let a = c.args in
-    c.of_rate.ensures ∙ sym (ap (quote_answer a.frequency a.row) c.quote-in-YearlyRate-1.given.1)
+    c.of_rate.ensures ∙ sym (ap (quote_answer a.frequency a.row) c.in-YearlyRate.is)
 
 pub returns-in-YearlyYield : goal.returns-in-YearlyYield
 unfolding quote_answer
 returns-in-YearlyYield c =
     let a = c.args in
-    c.of_yield.ensures ∙ sym (ap (quote_answer a.frequency a.row) c.quote-in-YearlyYield-1.given.1)
+    c.of_yield.ensures ∙ sym (ap (quote_answer a.frequency a.row) c.in-YearlyYield.is)

@@ -45,13 +45,13 @@ pub overflow_mul-size : goal.overflow_mul-size
 overflow_mul-size c = omega (arith, product c)
 
 pub overflow_add-size : goal.overflow_add-size
-overflow_add-size c = omega (arith, product c.before, c.requires.1)
+overflow_add-size c = omega (arith, product (goal.at.overflow_add-size c).After-magnitude, c.requires.1)
 
 pub overflow_cast-size : goal.overflow_cast-size
-overflow_cast-size c = record { sfits = omega (arith, below-small c.before) }
+overflow_cast-size c = record { sfits = omega (arith, below-small (goal.at.overflow_cast-size c).After-magnitude) }
 
 pub overflow_sub-size : goal.overflow_sub-size
-overflow_sub-size c = minus-fits (below c.before) (omega (arith, below-small c.before))
+overflow_sub-size c = minus-fits (below (goal.at.overflow_sub-size c).After-magnitude) (omega (arith, below-small (goal.at.overflow_sub-size c).After-magnitude))
 
 pub returns-then-rate-lt0 : goal.returns-then-rate-lt0
 unfolding yield_discount
@@ -63,7 +63,7 @@ returns-then-rate-lt0 c =
     ∙ amount-below _ _ _ m.args.rate m.requires.0 (size m) (sign m.before _ c.if-rate-lt0.true))
 
 pub overflow_cast-size-2 : goal.overflow_cast-size-2
-overflow_cast-size-2 c = record { sfits = omega (arith, above-small c.before) }
+overflow_cast-size-2 c = record { sfits = omega (arith, above-small (goal.at.overflow_cast-size-2 c).After-magnitude) }
 
 pub returns : goal.returns
 unfolding yield_discount

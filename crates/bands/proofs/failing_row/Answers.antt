@@ -1,0 +1,29 @@
+use mathlib.Core.Path.{◌≡◌, ◌∙◌}
+use Prim.Native.Nat.{◌+◌, ◌-◌}
+use borrow.Author.Rules.{rules}
+use native.Mathlib.Omega.{arith}
+use Rattle.limits.specs.Limits.{most_steps}
+use Rattle.bands.specs.Bands.{bands_of, fails, failing_row}
+use Rattle.bands.proofs.FirstLaws.{Searched, searched-start, searched-more, searched-found, searched-none}
+use Rattle.bands.proofs.TestLaws.{fails-false, fails-true}
+use Rattle.bands.proofs.failing_row.Goals as goal
+
+pub loop-row-init : goal.loop-row-init
+loop-row-init c = searched-start (omega arith)
+
+pub returns-then-price-le-VALUE_LIMIT : goal.returns-then-price-le-VALUE_LIMIT
+unfolding failing_row
+returns-then-price-le-VALUE_LIMIT c =
+    searched-found c.loop-row.row c.loop-row.invariant (omega arith)
+    (fails-true _ _ c.failing_price-price.result c.failing_price-price.ensures (omega arith))
+
+pub loop-row-preserved : goal.loop-row-preserved
+loop-row-preserved c =
+    searched-more c.loop-row.row c.loop-row.invariant (omega arith)
+    (fails-false _ _ c.failing_price-price.result c.failing_price-price.ensures (omega arith))
+
+pub returns : goal.returns
+unfolding failing_row
+returns c =
+    let end : c.loop-row.row ≡ most_steps + 1 = omega (arith, c.loop-row.invariant.most) in
+    end ∙ searched-none (rw end at c.loop-row.invariant)

@@ -1,0 +1,17 @@
+use mathlib.Core.Path.{◌≡◌, sym, ◌∙◌}
+use Prim.Native.Nat.{◌-◌}
+use borrow.Author.Rules.{rules}
+use native.Mathlib.Omega.{arith}
+use mathlib.Core.Bool.{not}
+use mathlib.Core.Path.{ap}
+use lib.ListN.{length}
+use Rattle.arithmetic.specs.Row.{values}
+use Rattle.bands.specs.Bands.{bands_of, unsound, bad_index}
+use Rattle.bands.proofs.FirstLaws.{Searched, searched-start, searched-more, searched-found, searched-none}
+use Rattle.bands.proofs.first_bad.Given as goal
+
+abbrev pub invariant-loop-k : goal.invariant-loop-k
+invariant-loop-k l = Searched (unsound (bands_of l.firsts l.lasts l.lowests l.highests) (values l.haircuts)) 0 (length l.firsts) l.k
+
+abbrev pub decreases-loop-k : goal.decreases-loop-k
+decreases-loop-k l = length l.firsts - l.k

@@ -1,0 +1,17 @@
+use mathlib.Core.Path.{◌≡◌, sym, ◌∙◌, ap}
+use mathlib.Core.Bool.{Bool, true}
+use Prim.Native.Nat.{ℕ, ◌-◌, ◌≤◌}
+use native.Mathlib.Omega.{arith}
+use lib.ListN.{length}
+use borrow.Author.Rules.{rules}
+use Rattle.arithmetic.specs.Row.{each}
+use Rattle.arithmetic.proofs.RowLaws.{each_none, each_more, each-fails}
+use Rattle.curve.specs.Curve.{converts_at}
+use Rattle.curve.proofs.CurveLaws.{converts, refuses}
+use Rattle.curve.proofs.all_convert.Given as goal
+
+abbrev pub invariant-loop-i : goal.invariant-loop-i
+invariant-loop-i l = (l.i ≤ length l.kinds) × (each l.i (converts_at l.frequency l.kinds l.figures) ≡ true)
+
+abbrev pub decreases-loop-i : goal.decreases-loop-i
+decreases-loop-i l = length l.kinds - l.i

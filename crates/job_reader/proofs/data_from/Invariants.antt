@@ -1,0 +1,18 @@
+use borrow.Author.Rules.{rules}
+use mathlib.Core.Path.{◌≡◌, ap, ◌∙◌}
+use Prim.Native.Nat.{ℕ, ◌-◌, ◌≤◌}
+use native.Mathlib.Omega.{arith}
+use lib.ListN.{replicate}
+use Rattle.arithmetic.proofs.RowLaws.{Filled, filled-start, filled_next}
+use Rattle.job_record.specs.Bytes.{number_at}
+use Rattle.job_record.specs.Form.{most_job_steps, data_at}
+use Rattle.job_record.specs.Reader.{data_of}
+use Rattle.arithmetic.proofs.PaddedLaws.{filled-padded}
+use Rattle.job_record.proofs.Columns.{field-within}
+use Rattle.job_reader.proofs.data_from.Given as goal
+
+abbrev pub invariant-loop-i : goal.invariant-loop-i
+invariant-loop-i l = (l.i ≤ l.count) × Filled (replicate most_job_steps 0) l.numbers (data_of l.bytes l.from l.width) l.i
+
+abbrev pub decreases-loop-i : goal.decreases-loop-i
+decreases-loop-i l = l.count - l.i

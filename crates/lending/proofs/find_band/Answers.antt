@@ -1,0 +1,29 @@
+use mathlib.Core.Path.{◌≡◌, sym, ◌∙◌}
+use Prim.Native.Nat.{◌-◌}
+use borrow.Author.Rules.{rules}
+use native.Mathlib.Omega.{arith}
+use lib.ListN.{length}
+use Rattle.bands.specs.Bands.{bands_of, contains}
+use Rattle.lending.specs.Lending.{band_index}
+use Rattle.bands.proofs.FirstLaws.{Searched, searched-start, searched-more, searched-found, searched-none}
+use Rattle.lending.proofs.find_band.Goals as goal
+
+pub loop-k-init : goal.loop-k-init
+loop-k-init c = searched-start (omega arith)
+
+pub returns-then-is_within : goal.returns-then-is_within
+unfolding band_index
+returns-then-is_within c =
+    let loop = c.loop-k in
+    searched-found loop.k loop.invariant (omega arith) (sym c.is_Within.ensures ∙ c.if-is_within.true)
+
+pub loop-k-preserved : goal.loop-k-preserved
+loop-k-preserved c =
+    let loop = c.loop-k in
+    searched-more loop.k loop.invariant (omega arith) (sym c.is_Within.ensures ∙ c.if-is_within.false)
+
+pub returns : goal.returns
+unfolding band_index
+returns c =
+    let end : c.loop-k.k ≡ length c.args.firsts.now = omega (arith, c.loop-k.invariant.most) in
+    end ∙ searched-none (rw end at c.loop-k.invariant)

@@ -1,0 +1,6 @@
+use Rattle.price_bound.proofs.BoundLaws.{alone}
+use borrow.Author.Rules.{rules}
+use Rattle.price_bound.proofs.price_error_bound.Goals as goal
+
+pub returns : goal.returns
+returns c = alone _ _ _ _ c.tree_bounds-found.ensures

@@ -1,0 +1,5 @@
+use borrow.Author.Rules.{rules}
+use Rattle.price_bound.proofs.refused_bounds.Goals as goal
+
+pub returns : goal.returns
+returns c = rw c.no_rows-none.ensures

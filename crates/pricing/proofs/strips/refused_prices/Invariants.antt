@@ -1,0 +1,17 @@
+use mathlib.Core.Path.{◌≡◌, refl}
+use Prim.Native.Nat.{ℕ, ◌-◌, ◌≤◌}
+use native.Mathlib.Omega.{arith}
+use lib.ListN.{replicate}
+use Rattle.arithmetic.proofs.RowLaws.{Filled, filled-start, filled_next}
+use Rattle.arithmetic.proofs.PaddedLaws.{filled-padded}
+use Rattle.price_laws.specs.Prices.{refused_price}
+use Rattle.price_laws.specs.Strips.{most_strikes}
+use Rattle.price_laws.proofs.StripLaws.{no-column, strip-is}
+use borrow.Author.Rules.{rules}
+use Rattle.pricing.proofs.strips.refused_prices.Given as goal
+
+abbrev pub invariant-loop-k : goal.invariant-loop-k
+invariant-loop-k l = (l.k ≤ l.count) × Filled (replicate most_strikes 0) l.numbers (λ (j : ℕ). l.number) l.k
+
+abbrev pub decreases-loop-k : goal.decreases-loop-k
+decreases-loop-k l = l.count - l.k

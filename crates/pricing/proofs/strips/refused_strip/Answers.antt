@@ -1,0 +1,6 @@
+use Rattle.price_laws.proofs.StripLaws.{refused-is}
+use borrow.Author.Rules.{rules}
+use Rattle.pricing.proofs.strips.refused_strip.Goals as goal
+
+pub returns : goal.returns
+returns c = refused-is _ _ c.no_answers-zeros.ensures

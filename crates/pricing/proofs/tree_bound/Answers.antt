@@ -1,0 +1,6 @@
+use Rattle.pricing.proofs.EntryLaws.{tree-bounded}
+use borrow.Author.Rules.{rules}
+use Rattle.pricing.proofs.tree_bound.Goals as goal
+
+pub returns : goal.returns
+returns c = tree-bounded c.price_error_bound-bound.ensures c.flows_cause.ensures c.lowest_cause.ensures

@@ -1,0 +1,9 @@
+use mathlib.Core.Path.{ap₂, ◌∙◌}
+use Rattle.arithmetic.specs.Answers.{lowest_cause}
+use Rattle.price_laws.specs.Prices.{tree_cause}
+use borrow.Author.Rules.{rules}
+use Rattle.pricing.proofs.tree_cause.Goals as goal
+
+pub returns : goal.returns
+unfolding tree_cause
+returns c = c.lowest_cause.ensures ∙ ap₂ lowest_cause c.discounts_cause-about_tree.ensures c.flows_cause.ensures

@@ -1,0 +1,6 @@
+use Rattle.price_laws.proofs.AnswerLaws.{values-are}
+use borrow.Author.Rules.{rules}
+use Rattle.pricing.proofs.values_of.Goals as goal
+
+pub returns : goal.returns
+returns c = values-are _ _ _ c.value_of_lem.ensures c.value_of-2.ensures

@@ -1,0 +1,18 @@
+use mathlib.Core.Path.{◌≡◌, refl, ◌∙◌}
+use Prim.Native.Nat.{◌-◌, ◌<◌}
+use native.Mathlib.Omega.{arith}
+use lib.ListN.{length}
+use Rattle.pricing.specs.inside.Strips.{KeptFrom}
+use Rattle.pricing.proofs.WalkStates.{Bonds, bonds-first, bonds-inside}
+use Rattle.pricing.proofs.WalkTurns.{turn-steppable, turn-limited, turn-over, turn-next}
+use Rattle.pricing.proofs.StripTurns.{kept-none, kept_next, kept-refused, kept_whole}
+use borrow.Author.Rules.{rules}
+use Rattle.pricing.proofs.walk.keep_bond.Given as goal
+
+abbrev pub invariant-loop-row : goal.invariant-loop-row
+invariant-loop-row l =
+    (length l.kept-1 ≡ length l.initial.kept) × Bonds l.tree.steps l.tree.reversion l.discounts l.flows l.row l.bond-1
+    × KeptFrom l.tree.steps l.tree.reversion l.discounts l.flows l.row l.kept-1
+
+abbrev pub decreases-loop-row : goal.decreases-loop-row
+decreases-loop-row l = l.row

@@ -1,0 +1,14 @@
+use mathlib.Core.Path.{◌∙◌}
+use Prim.Native.Nat.{◌-◌, ◌≤◌, ◌<◌}
+use native.Mathlib.Omega.{arith}
+use Rattle.pricing.proofs.WalkStates.{Bonds, bonds-first, bond-rolled, bonds-inside}
+use Rattle.pricing.proofs.WalkTurns.{turn-steppable, turn-limited, turn-over, turn-next}
+use borrow.Author.Rules.{rules}
+use Rattle.pricing.proofs.walk.roll_bond.Given as goal
+
+abbrev pub invariant-loop-row : goal.invariant-loop-row
+invariant-loop-row l =
+    (l.last ≤ l.row) × Bonds l.tree.steps l.tree.reversion l.discounts l.flows l.row l.bond
+
+abbrev pub decreases-loop-row : goal.decreases-loop-row
+decreases-loop-row l = l.row

@@ -1,0 +1,13 @@
+use Prim.Native.Nat.{◌-◌, ◌<◌}
+use native.Mathlib.Omega.{arith}
+use Rattle.pricing.proofs.WalkStates.{rolled-answer}
+use Rattle.pricing.proofs.WalkTurns.{Both, both_first, both-done, both-before, turn-both-ready, turn-both-over, turn-both-next}
+use borrow.Author.Rules.{rules}
+use Rattle.pricing.proofs.walk.roll_option.Given as goal
+
+abbrev pub invariant-loop-row : goal.invariant-loop-row
+invariant-loop-row l =
+    Both l.tree.steps l.tree.reversion l.discounts l.flows l.terms l.marks l.row l.bond l.option-1
+
+abbrev pub decreases-loop-row : goal.decreases-loop-row
+decreases-loop-row l = l.row

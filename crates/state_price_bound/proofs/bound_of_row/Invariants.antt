@@ -1,0 +1,13 @@
+use Prim.Native.Nat.{◌≤◌, ◌-◌}
+use native.Mathlib.Omega.{arith}
+use borrow.Author.Rules.{rules}
+use Rattle.state_price_bound.specs.inside.Reached.{Reached}
+use Rattle.state_price_bound.proofs.BoundLaws as laws
+use Rattle.state_price_bound.proofs.bound_of_row.Given as goal
+
+abbrev pub invariant-loop-index : goal.invariant-loop-index
+invariant-loop-index l =
+    (l.index ≤ l.row) × Reached l.reversion l.discounts l.index l.reached.start l.reached.nodes l.reached.bound
+
+abbrev pub decreases-loop-index : goal.decreases-loop-index
+decreases-loop-index l = l.row - l.index

@@ -1,0 +1,21 @@
+use mathlib.Core.Path.{◌≡◌}
+use Prim.Native.Nat.{◌+◌, ◌≤◌, ◌-◌}
+use lib.ListN.{replicate}
+use native.Mathlib.Omega.{arith}
+use borrow.Author.Rules.{rules}
+use Rattle.arithmetic.proofs.RowLaws.{Filled, filled_next}
+use Rattle.limits.specs.Limits.{most_steps}
+use Rattle.lattice.specs.RateTree.{rate_tree}
+use Rattle.lent_tree.specs.LentTree.{stored}
+use Rattle.fit_laws.specs.StatePrices.{state_price_error_bound}
+use Rattle.state_price_bound.specs.inside.Reached.{Reached}
+use Rattle.state_price_bound.proofs.BoundLaws as laws
+use Rattle.state_price_bound.proofs.bounds_of_rows.Given as goal
+
+abbrev pub invariant-loop-index : goal.invariant-loop-index
+invariant-loop-index l =
+    (l.index ≤ l.steps) × Reached l.reversion l.discounts l.index l.reached.start l.reached.nodes l.reached.bound
+    × Filled (replicate (most_steps + 1) 0) l.bounds (state_price_error_bound (rate_tree l.reversion) (stored l.reversion l.discounts)) (l.index + 1)
+
+abbrev pub decreases-loop-index : goal.decreases-loop-index
+decreases-loop-index l = l.steps - l.index

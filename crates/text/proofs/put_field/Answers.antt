@@ -1,0 +1,32 @@
+use native.Mathlib.Omega.{arith}
+use Prim.Native.Nat.{◌<◌}
+use Rattle.text_laws.proofs.DecimalLaws.{field-length}
+use Rattle.text_laws.proofs.PutLaws.{put_one, put-before}
+use Rattle.text.proofs.put_field.Goals as goal
+use Rattle.text.proofs.put_field.Goals.{Start}
+
+room : (s : Start) → 0 < s.args.end
+room s = omega (arith, field-length s.args.decimals s.args.number s.args.follower)
+
+pub overflow_sub-after : goal.overflow_sub-after
+overflow_sub-after c = room c.before
+
+pub bounds-out-after : goal.bounds-out-after
+bounds-out-after c = let r = room c.before in omega arith
+
+pub put_decimal-requires : goal.put_decimal-requires
+put_decimal-requires c =
+    let s = c.before.before in
+    let a = s.args in
+    let b = put_one a.out-1.now a.end a.follower (room s) s.requires.2 in
+    (s.requires.0, omega (arith, field-length a.decimals a.number a.follower), omega (arith, b.same))
+
+pub shape_of-out : goal.shape_of-out
+shape_of-out c =
+    let s = c.before.before.before.before.before in
+    omega (arith, (put_one s.args.out.now s.args.end s.args.follower (room s) s.requires.2).same, c.put_decimal.ensures.same)
+
+pub returns : goal.returns
+returns c =
+    let s = c.before.before.before.before.before in
+    put-before (put_one s.args.out.now s.args.end s.args.follower (room s) s.requires.2) c.put_decimal.ensures

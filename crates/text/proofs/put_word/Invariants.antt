@@ -1,0 +1,17 @@
+use mathlib.Core.Path.{◌≡◌, refl, sym, ap, ◌∙◌}
+use mathlib.Core.List.{List}
+use Prim.Native.Nat.{ℕ, suc, ◌≤◌, ◌<◌, ◌+◌, ◌-◌}
+use native.Mathlib.Omega.{arith}
+use lib.ListN.{length, get_or, take, set, length-set}
+use lib.Seq.{take-length, take-suc, length-take-le}
+use borrow.Author.Rules.{rules}
+use Rattle.text_laws.specs.Put.{put_before}
+use Rattle.text_laws.proofs.PutLaws.{put-nothing, put_last, put_whole}
+use Rattle.text.proofs.put_word.Given as goal
+
+abbrev pub invariant-loop-left : goal.invariant-loop-left
+invariant-loop-left l =
+    (l.left ≤ length l.word) × (l.start + length l.word ≡ l.end + l.left) × (length l.out ≡ length l.initial.out) × (put_before l.out l.start (take l.left l.word) ≡ put_before l.initial.out l.end l.word)
+
+abbrev pub decreases-loop-left : goal.decreases-loop-left
+decreases-loop-left l = l.left
