@@ -8,13 +8,13 @@ use borrow.Author.Rules.{rules}
 use Rattle.job_soundness.proofs.is_sound.Goals as goal
 use Rattle.job_soundness.proofs.is_sound.Goals.{Else-not-head_fits, Start}
 
-kinds-long : (c : Start) → length c.args.job.kinds-1 ≡ most_job_steps
+kinds-long : (c : Start) → length c.args.job.kinds ≡ most_job_steps
 kinds-long c = search rules
 
-figures-long : (c : Start) → length c.args.job.figures-1 ≡ most_job_steps
+figures-long : (c : Start) → length c.args.job.figures ≡ most_job_steps
 figures-long c = search rules
 
-flows_long : (c : Start) → length c.args.job.flows-1 ≡ most_job_steps
+flows_long : (c : Start) → length c.args.job.flows ≡ most_job_steps
 flows_long c = search rules
 
 pub returns-then-not-head_fits : goal.returns-then-not-head_fits

@@ -9,7 +9,7 @@ use borrow.Author.Rules.{rules}
 use Rattle.job_soundness.proofs.is_sound_option.Goals as goal
 use Rattle.job_soundness.proofs.is_sound_option.Goals.{Else-not-option_fits, Start}
 
-dates-long : (c : Start) → length c.args.option.dates-1 ≡ most_dates
+dates-long : (c : Start) → length c.args.option.dates ≡ most_dates
 dates-long c = search rules
 
 pub returns-then-not-option_fits : goal.returns-then-not-option_fits

@@ -15,12 +15,12 @@ pub returns-then-is_within : goal.returns-then-is_within
 unfolding band_index
 returns-then-is_within c =
     let loop = c.loop-k in
-    searched-found loop.k loop.invariant (omega arith) (sym c.is_Within.ensures ∙ c.if-is_within.true)
+    searched-found loop.k loop.invariant (omega arith) (sym c.is_within.ensures ∙ c.if-is_within.true)
 
 pub loop-k-preserved : goal.loop-k-preserved
 loop-k-preserved c =
     let loop = c.loop-k in
-    searched-more loop.k loop.invariant (omega arith) (sym c.is_Within.ensures ∙ c.if-is_within.false)
+    searched-more loop.k loop.invariant (omega arith) (sym c.is_within.ensures ∙ c.if-is_within.false)
 
 pub returns : goal.returns
 unfolding band_index

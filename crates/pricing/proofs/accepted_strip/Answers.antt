@@ -58,7 +58,7 @@ strike_prices-requires c =
         list-is = c.dates_cause.ensures;
         marks-are = c.marks_of-marks.ensures;
         bond-is = c.keep_bond-bond.ensures;
-        room = omega (arith, c.keep_bond-bond.auto.1.1.1.1.0, c.discount_room-kept.ensures);
+        room = omega (arith, c.keep_bond-bond.auto.kept, c.discount_room-kept.ensures);
       },
       c.requires.1,
     )

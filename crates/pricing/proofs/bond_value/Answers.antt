@@ -9,4 +9,4 @@ pub judged_bond-requires : goal.judged_bond-requires
 judged_bond-requires c = c.tree_cause-cause.ensures
 
 pub returns : goal.returns
-returns c = c.value_of_lem.ensures ∙ ap value_alone c.judged_bond.ensures ∙ bond-value-again implied _
+returns c = c.value_of.ensures ∙ ap value_alone c.judged_bond.ensures ∙ bond-value-again implied _

@@ -20,4 +20,4 @@ judged_both-requires c =
 pub returns : goal.returns
 returns c =
     let both = c.judged_both.ensures in
-    kind-both _ _ _ _ c.option_cause-cause.ensures _ c.terms_of-terms.ensures _ c.dates_of_kind-dates.ensures _ _ _ _ both.0 both.1
+    kind-both _ _ _ _ c.option_cause-cause.ensures _ c.terms_of-terms.ensures _ c.dates_of_kind-dates.ensures _ _ _ _ both.bond both.option

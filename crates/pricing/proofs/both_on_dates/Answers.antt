@@ -16,4 +16,4 @@ pub returns : goal.returns
 returns c =
     let termed = c.before in
     let both = c.judged_both.ensures in
-    dates-both _ _ _ _ (cause (goal.at.returns c).After-lowest_cause-cause) _ termed.terms_on-terms.ensures _ _ _ _ both.0 both.1
+    dates-both _ _ _ _ (cause (goal.at.returns c).After-lowest_cause-cause) _ termed.terms_on-terms.ensures _ _ _ _ both.bond both.option

@@ -27,7 +27,7 @@ accepted_bond-requires c = (tree (goal.at.accepted_bond-requires c).Else-bound-n
 
 pub returns-then-cause-ne0 : goal.returns-then-cause-ne0
 returns-then-cause-ne0 c =
-    let refusing = c.before.before in record { bond = answers.bond-passed implied (none (goal.at.returns-then-cause-ne0 c).Else-bound-ne0) c.accepted_bond.ensures; option = c.refused-then-cause-ne0.ensures ∙ answers.option_cause implied (none (goal.at.returns-then-cause-ne0 c).Else-bound-ne0) refusing.if-cause-ne0.true }
+    let refusing = c.before.before in record { bond = answers.bond-passed implied (none (goal.at.returns-then-cause-ne0 c).Else-bound-ne0) c.accepted_bond.ensures; option = c.refused-then-cause-ne0.ensures ∙ answers.option-cause implied (none (goal.at.returns-then-cause-ne0 c).Else-bound-ne0) refusing.if-cause-ne0.true }
 
 -- where there is no cause about the option either
 exercised : (c : Else-cause-ne0) → let a = c.args in ExercisedOn a.terms a.tree.steps a.dates.now

@@ -3,4 +3,4 @@ use borrow.Author.Rules.{rules}
 use Rattle.pricing.proofs.values_of.Goals as goal
 
 pub returns : goal.returns
-returns c = values-are _ _ _ c.value_of_lem.ensures c.value_of-2.ensures
+returns c = values-are _ _ _ c.value_of.ensures c.value_of-2.ensures

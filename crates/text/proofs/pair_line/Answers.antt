@@ -15,34 +15,34 @@ clauses-value-out_after w = record { value = w.0; out_after = w.1 }
 
 pub returns-then-cause-ne0 : goal.returns-then-cause-ne0
 returns-then-cause-ne0 c =
-    let a = c.args in clauses-value-out_after (word-refused a.word.now a.out-1.now a.end _ c.word_number-cause.result c.word_number-cause.ensures c.if-cause-ne0.true)
+    let a = c.args in clauses-value-out_after (word-refused a.word.now a.out.now a.end _ c.word_number-cause.result c.word_number-cause.ensures c.if-cause-ne0.true)
 
 room : (c : Else-cause-ne0) →
     (length c.args.word.now ≤ longest_word) × (longest_line ≤ c.args.end)
     × (c.args.end ≤ length c.args.out.now)
 room c =
     let a = c.args in
-    word-known (length a.word.now) (length a.out-1.now) a.end _ c.word_number-cause.ensures c.if-cause-ne0.false
+    word-known (length a.word.now) (length a.out.now) a.end _ c.word_number-cause.ensures c.if-cause-ne0.false
 
 pub put_field-second_start-requires : goal.put_field-second_start-requires
 put_field-second_start-requires c =
-    let r = room c.before in
+    let r = room (goal.at.put_field-second_start-requires c).Else-cause-ne0 in
     (omega arith, omega (arith, field_room 0 c.args.second 10 c.ranges.second.fits), r.2)
 
 -- where the second number is put, and the room that it leaves
 put-room : (c : After-put_field-second_start) → (106 ≤ c.put_field-second_start.result) × (c.put_field-second_start.result ≤ length c.put_field-second_start.new.out)
 put-room c =
-    let r = room c.before.before in
+    let r = room (goal.at.After-put_field-second_start c).Else-cause-ne0 in
     room-left 22 106 c.put_field-second_start.ensures (omega arith) (field_room 0 c.args.second 10 c.ranges.second.fits)
 
 pub put_label-start-requires : goal.put_label-start-requires
 put_label-start-requires c =
-    let p = put-room c.before.before.before in
-    let r = room c.before.before.before.before.before in
+    let p = put-room (goal.at.put_label-start-requires c).After-put_field-second_start in
+    let r = room (goal.at.put_label-start-requires c).Else-cause-ne0 in
     (omega arith, p.1)
 
 pub returns : goal.returns
 unfolding pair_line
 returns c =
-    let a = c.args in clauses-value-out_after (word-put a.word.now a.out-1.now a.end _ _ c.word_number-cause.ensures c.if-cause-ne0.false
+    let a = c.args in clauses-value-out_after (word-put a.word.now a.out.now a.end _ _ c.word_number-cause.ensures c.if-cause-ne0.false
     (put-label a.word.now _ c.put_field-second_start.ensures c.put_label-start.ensures))

@@ -9,24 +9,24 @@ room : (s : Start) → 0 < s.args.end
 room s = omega (arith, field-length s.args.decimals s.args.number s.args.follower)
 
 pub overflow_sub-after : goal.overflow_sub-after
-overflow_sub-after c = room c.before
+overflow_sub-after c = room (goal.at.overflow_sub-after c).Start
 
 pub bounds-out-after : goal.bounds-out-after
-bounds-out-after c = let r = room c.before in omega arith
+bounds-out-after c = let r = room (goal.at.bounds-out-after c).Start in omega arith
 
 pub put_decimal-requires : goal.put_decimal-requires
 put_decimal-requires c =
     let s = c.before.before in
     let a = s.args in
-    let b = put_one a.out-1.now a.end a.follower (room s) s.requires.2 in
+    let b = put_one a.out.now a.end a.follower (room (goal.at.put_decimal-requires c).Start) s.requires.2 in
     (s.requires.0, omega (arith, field-length a.decimals a.number a.follower), omega (arith, b.same))
 
 pub shape_of-out : goal.shape_of-out
 shape_of-out c =
     let s = c.before.before.before.before.before in
-    omega (arith, (put_one s.args.out.now s.args.end s.args.follower (room s) s.requires.2).same, c.put_decimal.ensures.same)
+    omega (arith, (put_one s.args.out.now s.args.end s.args.follower (room (goal.at.shape_of-out c).Start) s.requires.2).same, c.put_decimal.ensures.same)
 
 pub returns : goal.returns
 returns c =
     let s = c.before.before.before.before.before in
-    put-before (put_one s.args.out.now s.args.end s.args.follower (room s) s.requires.2) c.put_decimal.ensures
+    put-before (put_one s.args.out.now s.args.end s.args.follower (room (goal.at.returns c).Start) s.requires.2) c.put_decimal.ensures

@@ -19,15 +19,15 @@ room : (c : Else-decimals-eq0) → 1 + c.args.decimals ≤ c.args.end
 room c = omega (arith, fraction-length c.args.decimals c.args.number (omega arith), c.requires.0)
 
 pub overflow_sub-start : goal.overflow_sub-start
-overflow_sub-start c = omega (arith, room c.before.before)
+overflow_sub-start c = omega (arith, room (goal.at.overflow_sub-start c).Else-decimals-eq0)
 
 pub bounds-out-start : goal.bounds-out-start
-bounds-out-start c = omega (arith, room c.before.before)
+bounds-out-start c = omega (arith, room (goal.at.bounds-out-start c).Else-decimals-eq0)
 
 pub loop-left-preserved : goal.loop-left-preserved
 loop-left-preserved c =
     let l = c.loop-left in
-    let r = room c.before.before in (
+    let r = room (goal.at.loop-left-preserved c).Else-decimals-eq0 in (
       search rules,
       omega arith,
       simp length-set (search rules),
@@ -36,10 +36,10 @@ loop-left-preserved c =
     )
 
 pub overflow_sub-start-2 : goal.overflow_sub-start-2
-overflow_sub-start-2 c = omega (arith, room c.before.before)
+overflow_sub-start-2 c = omega (arith, room (goal.at.overflow_sub-start-2 c).Else-decimals-eq0)
 
 pub bounds-out-start-2 : goal.bounds-out-start-2
-bounds-out-start-2 c = omega (arith, room c.before.before)
+bounds-out-start-2 c = omega (arith, room (goal.at.bounds-out-start-2 c).Else-decimals-eq0)
 
 pub shape_of-out : goal.shape_of-out
 shape_of-out c = simp length-set (search rules)
@@ -48,7 +48,7 @@ pub returns : goal.returns
 returns c =
     let a = c.args in
     let l = c.loop-left in
-    let r = room c.before.before in
+    let r = room (goal.at.returns c).Else-decimals-eq0 in
     let none = digits-none l.left l.rest (omega arith) in
     rw (fraction-point a.decimals a.number (omega arith))
     (put_then 46

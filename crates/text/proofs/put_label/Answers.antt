@@ -11,7 +11,7 @@ put_field-start-requires c =
 pub put_word-requires : goal.put_word-requires
 put_word-requires c =
     let p = c.put_field-start.ensures in
-    (omega (arith, p.place, field_room 0 c.args.number c.args.follower c.fits.number.fits), omega (arith, p.place, p.within, p.same))
+    (omega (arith, p.place, field_room 0 c.args.number c.args.follower c.ranges.number.fits), omega (arith, p.place, p.within, p.same))
 
 pub returns : goal.returns
 returns c =

@@ -21,19 +21,19 @@ put_field-unsigned-requires c =
 
 -- the field as it is put, of the number without its sign
 field_put : (c : After-put_field-unsigned) → let a = c.args in
-    Put a.out-1.now a.end (decimal a.decimals (nat_abs a.number) ++ (a.follower ∷ [])) c.put_field-unsigned.result c.put_field-unsigned.new.out
-field_put c = rw (size c.before) at c.put_field-unsigned.ensures
+    Put a.out.now a.end (decimal a.decimals (nat_abs a.number) ++ (a.follower ∷ [])) c.put_field-unsigned.result c.put_field-unsigned.new.out
+field_put c = rw (size (goal.at.After-put_field-unsigned c).After-magnitude) at c.put_field-unsigned.ensures
 
 pub put_sign-requires : goal.put_sign-requires
 put_sign-requires c =
     let fielded = c.before.before.before in
     let a = fielded.args in
-    let p = field_put fielded in
-    rw (to_z-of_z fielded.fits.number)
+    let p = field_put (goal.at.put_sign-requires c).After-put_field-unsigned in
+    rw (to_z-of_z fielded.ranges.number)
     (omega (arith, p.place, signed-length a.decimals a.follower a.number), omega (arith, p.place, p.same))
 
 pub returns : goal.returns
 returns c =
     let fielded = c.before.before.before.before in
-    let sign = rw (to_z-of_z fielded.fits.number) at c.put_sign.ensures in
-    rw (signed_parts fielded.args.decimals fielded.args.follower fielded.args.number) (put-before (field_put fielded) sign)
+    let sign = rw (to_z-of_z fielded.ranges.number) at c.put_sign.ensures in
+    rw (signed_parts fielded.args.decimals fielded.args.follower fielded.args.number) (put-before (field_put (goal.at.returns c).After-put_field-unsigned) sign)

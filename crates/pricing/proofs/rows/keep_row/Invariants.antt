@@ -7,7 +7,7 @@ use borrow.Author.Rules.{rules}
 use Rattle.pricing.proofs.rows.keep_row.Given as goal
 
 abbrev pub invariant-loop-k : goal.invariant-loop-k
-invariant-loop-k l = (l.k ≤ l.count) × Laying l.initial.kept l.kept-1 l.start (λ (j : ℕ). values l.bond j - l.flow) l.k
+invariant-loop-k l = (l.k ≤ l.count) × Laying l.initial.kept l.kept l.start (λ (j : ℕ). values l.bond j - l.flow) l.k
 
 abbrev pub decreases-loop-k : goal.decreases-loop-k
 decreases-loop-k l = l.count - l.k

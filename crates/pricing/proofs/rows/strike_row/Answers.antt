@@ -49,7 +49,7 @@ strike_edge-requires c =
       c.requires.0,
       c.requires.1,
       c.requires.2,
-      omega (arith, first.auto.1.1.1.1.1.1.1.0, second.auto.1.1.1.1.1.1.0, c.requires.3),
+      omega (arith, first.auto.option, second.auto.option, c.requires.3),
       f.0,
       omega
           (arith, f.1),

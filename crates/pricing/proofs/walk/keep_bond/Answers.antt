@@ -40,7 +40,7 @@ keep_step-first-requires c =
 
 pub shape_of-kept-then-first-gt-VALUE_LIMIT : goal.shape_of-kept-then-first-gt-VALUE_LIMIT
 shape_of-kept-then-first-gt-VALUE_LIMIT c =
-    c.keep_step-first.auto.1.1.1.1.1.1.1.0 ∙ c.loop-row.invariant.0
+    c.keep_step-first.auto.kept ∙ c.loop-row.invariant.0
 
 pub returns-then-first-gt-VALUE_LIMIT : goal.returns-then-first-gt-VALUE_LIMIT
 returns-then-first-gt-VALUE_LIMIT c =
@@ -65,12 +65,12 @@ first-kept : (c : Else-first-gt-VALUE_LIMIT) →
     c.keep_step-first.new.kept
 first-kept c =
     let l = c.loop-row in
-    kept_next c.requires.0 l.row c.loop-row-test.true l.auto _ _ l.invariant.2 (first c) _ c.flow_of-flow.ensures
+    kept_next c.requires.0 l.row c.loop-row-test.true l.kept _ _ l.invariant.2 (first c) _ c.flow_of-flow.ensures
     c.keep_step-first.ensures.laid
 
 pub shape_of-kept-then-row-eq0 : goal.shape_of-kept-then-row-eq0
 shape_of-kept-then-row-eq0 c =
-    c.keep_step-first.auto.1.1.1.1.1.1.1.0 ∙ c.loop-row.invariant.0
+    c.keep_step-first.auto.kept ∙ c.loop-row.invariant.0
 
 pub returns-then-row-eq0 : goal.returns-then-row-eq0
 returns-then-row-eq0 c =
@@ -78,7 +78,7 @@ returns-then-row-eq0 c =
 
 -- where the turn goes on to its second row
 again : (c : Else-row-eq0) → 0 < c.loop-row.row - 1
-again c = omega (arith, c.loop-row-test.taken, c.if-row-eq0.false)
+again c = omega (arith, c.loop-row-test.true, c.if-row-eq0.false)
 
 pub overflow_sub-row-in-loop-row : goal.overflow_sub-row-in-loop-row
 overflow_sub-row-in-loop-row c = omega (arith, again c)
@@ -96,12 +96,12 @@ keep_step-second-requires c =
     let e = c.flow_of-before.ensures in (
       turn-steppable c₃.requires.0 _ _ some bonds _ e,
       turn-limited c₃.requires.0 _ _ some bonds _ e,
-      omega (arith, c₃.keep_step-first.auto.1.1.1.1.1.1.1.0, c₃.loop-row.invariant.0, c₃.requires.1),
+      omega (arith, c₃.keep_step-first.auto.kept, c₃.loop-row.invariant.0, c₃.requires.1),
     )
 
 pub shape_of-kept-then-second-gt-VALUE_LIMIT : goal.shape_of-kept-then-second-gt-VALUE_LIMIT
 shape_of-kept-then-second-gt-VALUE_LIMIT c =
-    c.keep_step-second.auto.1.1.1.1.1.1.1.0 ∙ c.keep_step-first.auto.1.1.1.1.1.1.1.0 ∙ c.loop-row.invariant.0
+    c.keep_step-second.auto.kept ∙ c.keep_step-first.auto.kept ∙ c.loop-row.invariant.0
 
 pub returns-then-second-gt-VALUE_LIMIT : goal.returns-then-second-gt-VALUE_LIMIT
 returns-then-second-gt-VALUE_LIMIT c =
@@ -123,7 +123,7 @@ loop-row-preserved c =
     let some = again (goal.at.loop-row-preserved c).Else-row-eq0 in
     let e = c.flow_of-before.ensures in
     let next = turn-next ready _ _ some (first (goal.at.loop-row-preserved c).Else-first-gt-VALUE_LIMIT) _ e _ _ c.keep_step-second.ensures.rolled c.if-second-gt-VALUE_LIMIT.false in (
-      c.keep_step-second.auto.1.1.1.1.1.1.1.0 ∙ c₄.keep_step-first.auto.1.1.1.1.1.1.1.0 ∙ c₄.loop-row.invariant.0,
+      c.keep_step-second.auto.kept ∙ c₄.keep_step-first.auto.kept ∙ c₄.loop-row.invariant.0,
       next,
       kept_next ready _ some _ _ _ (first-kept (goal.at.loop-row-preserved c).Else-first-gt-VALUE_LIMIT) next _ e c.keep_step-second.ensures.laid,
     )
@@ -134,4 +134,4 @@ shape_of-kept c = c.loop-row.invariant.0
 pub returns : goal.returns
 returns c =
     let l = c.loop-row in
-    kept_whole c.requires.0 l.row l.auto l.bond (omega (arith, c.loop-row-test.false)) l.invariant.1 l.invariant.2
+    kept_whole c.requires.0 l.row l.kept l.bond (omega (arith, c.loop-row-test.false)) l.invariant.1 l.invariant.2

@@ -44,7 +44,7 @@ first : (c : Else-bond_step-gt-VALUE_LIMIT) →
     c.bond_step.new.bond
 first c =
     let l = c.loop-row in
-    turn-next c.requires.0 l.row l.bond (some (goal.at.Else-bond_step-gt-VALUE_LIMIT c).In-loop-row) l.inv.1 _
+    turn-next c.requires.0 l.row l.bond (some (goal.at.Else-bond_step-gt-VALUE_LIMIT c).In-loop-row) l.invariant.1 _
     c.flow_of-flow.ensures _ _ c.bond_step.ensures c.if-bond_step-gt-VALUE_LIMIT.false
 
 pub returns-then-row-last : goal.returns-then-row-last
@@ -53,7 +53,7 @@ returns-then-row-last c =
 
 -- where the turn goes on to its second row
 again : (c : Else-row-last) → c.args.last < c.loop-row.row - 1
-again c = omega (arith, c.loop-row-test.taken, c.if-row-last.false)
+again c = omega (arith, c.loop-row-test.true, c.if-row-last.false)
 
 pub overflow_sub-row-in-loop-row : goal.overflow_sub-row-in-loop-row
 overflow_sub-row-in-loop-row c = omega (arith, again c)

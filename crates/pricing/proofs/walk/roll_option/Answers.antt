@@ -31,7 +31,7 @@ pub returns-then-first-gt-VALUE_LIMIT : goal.returns-then-first-gt-VALUE_LIMIT
 returns-then-first-gt-VALUE_LIMIT c =
     let l = c.loop-row in
     rolled-answer c.over.result c.over.ensures
-    (turn-both-over c.requires.0 _ _ c.requires.1 l.row l.bond l.option c.loop-row-test.taken l.inv _
+    (turn-both-over c.requires.0 _ _ c.requires.1 l.row l.bond l.option c.loop-row-test.true l.invariant _
     c.option_step_at-right.ensures _ _ _ c.option_step-first.ensures c.if-first-gt-VALUE_LIMIT.true)
 
 -- where it has passed: it stands in the other two rows
@@ -42,7 +42,7 @@ first : (c : Else-first-gt-VALUE_LIMIT) →
     rolled.option_step-first.new.bond rolled.option_step-first.new.option
 first c =
     let l = c.loop-row in
-    turn-both-next c.requires.0 _ _ c.requires.1 l.row l.bond l.option c.loop-row-test.taken l.inv _
+    turn-both-next c.requires.0 _ _ c.requires.1 l.row l.bond l.option c.loop-row-test.true l.invariant _
     c.option_step_at-right.ensures _ _ _ c.option_step-first.ensures c.if-first-gt-VALUE_LIMIT.false
 
 pub returns-then-row-eq0 : goal.returns-then-row-eq0
@@ -53,7 +53,7 @@ returns-then-row-eq0 c =
 
 -- where the turn goes on to its second row
 again : (c : Else-row-eq0) → 0 < c.loop-row.row - 1
-again c = omega (arith, c.loop-row-test.taken, c.if-row-eq0.false)
+again c = omega (arith, c.loop-row-test.true, c.if-row-eq0.false)
 
 pub overflow_sub-row-in-loop-row : goal.overflow_sub-row-in-loop-row
 overflow_sub-row-in-loop-row c = again c

@@ -53,7 +53,7 @@ first : (c : Else-strike_step-gt-VALUE_LIMIT) →
     c.strike_step.new.option
 first c =
     let l = c.loop-row in
-    turn-alone-next c.requires.0 _ _ c.requires.1 c.requires.2 _ c.requires.3 c.requires.4 l.row l.option c.loop-row-test.true l.inv _
+    turn-alone-next c.requires.0 _ _ c.requires.1 c.requires.2 _ c.requires.3 c.requires.4 l.row l.option c.loop-row-test.true l.invariant _
     c.option_step_at-right.ensures _ _ c.strike_step.ensures c.if-strike_step-gt-VALUE_LIMIT.false
 
 pub returns-then-row-eq0 : goal.returns-then-row-eq0
@@ -64,7 +64,7 @@ returns-then-row-eq0 c =
 
 -- where the turn goes on to its second row
 again : (c : Else-row-eq0) → 0 < c.loop-row.row - 1
-again c = omega (arith, c.loop-row-test.taken, c.if-row-eq0.false)
+again c = omega (arith, c.loop-row-test.true, c.if-row-eq0.false)
 
 pub overflow_sub-row-in-loop-row : goal.overflow_sub-row-in-loop-row
 overflow_sub-row-in-loop-row c = again c

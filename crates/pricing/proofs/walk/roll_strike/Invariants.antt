@@ -10,7 +10,7 @@ use Rattle.pricing.proofs.walk.roll_strike.Given as goal
 
 abbrev pub invariant-loop-row : goal.invariant-loop-row
 invariant-loop-row l =
-    Alone l.tree.steps l.tree.reversion l.discounts l.flows l.terms l.marks l.row l.option-1
+    Alone l.tree.steps l.tree.reversion l.discounts l.flows l.terms l.marks l.row l.option
 
 abbrev pub decreases-loop-row : goal.decreases-loop-row
 decreases-loop-row l = l.row

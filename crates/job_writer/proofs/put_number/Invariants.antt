@@ -1,0 +1,17 @@
+use mathlib.Core.Path.{◌≡◌, refl, ◌∙◌}
+use native.Mathlib.Omega.{arith}
+use Prim.Native.Nat.{◌≤◌}
+use lib.ListN.{length, length-set}
+use borrow.Author.Rules.{rules}
+use Rattle.arithmetic.specs.Row.{place}
+use Rattle.job_record.specs.Bytes.{number_bytes}
+use Rattle.writer_laws.proofs.PutLaws.{number-none, number-last}
+use Rattle.job_writer.proofs.put_number.Given as goal
+
+-- placing what is left gives the whole
+abbrev pub invariant-loop-left : goal.invariant-loop-left
+invariant-loop-left l =
+    (l.left ≤ l.width) × (length l.out ≡ length l.initial.out) × (place l.out l.at (number_bytes l.left l.rest) ≡ place l.initial.out l.at (number_bytes l.width l.value))
+
+abbrev pub decreases-loop-left : goal.decreases-loop-left
+decreases-loop-left l = l.left
