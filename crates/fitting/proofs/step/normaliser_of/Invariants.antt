@@ -1,0 +1,16 @@
+use mathlib.Core.Path.{◌≡◌, refl, ap, ◌∙◌}
+use native.Mathlib.Omega.{arith}
+use borrow.Author.Rules.{rules}
+use Prim.Native.Nat.{ℕ, ◌-◌, ◌/◌, ◌≤◌, ◌<◌}
+use lib.ListN.{length}
+use Rattle.arithmetic.specs.Rounding.{one}
+use Rattle.arithmetic.specs.Sum.{sum}
+use Rattle.fit_laws.specs.Step.{normaliser}
+use Rattle.fitting.proofs.StepRows as laws
+use Rattle.fitting.proofs.step.normaliser_of.Given as goal
+
+abbrev pub invariant-loop-k : goal.invariant-loop-k
+invariant-loop-k l = (l.k ≤ length l.state_prices) × (l.total ≡ laws.weighed l.state_prices l.factors l.k)
+
+abbrev pub decreases-loop-k : goal.decreases-loop-k
+decreases-loop-k l = length l.state_prices - l.k

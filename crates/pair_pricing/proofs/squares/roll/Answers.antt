@@ -1,0 +1,29 @@
+use native.Mathlib.Omega.{arith}
+use borrow.Author.Rules.{rules}
+use Rattle.pair_laws.proofs.Squares.{middle-most, rolled-square}
+use Rattle.pair_pricing.proofs.squares.roll.Goals as goal
+
+pub spread_side-requires : goal.spread_side-requires
+spread_side-requires c =
+    let r = c.requires.0 in
+    let side = c.rate_side.ensures in (
+      r.spread-branches,
+      r.spread-count,
+      r.spread_line,
+      r.spread-room,
+      omega (arith, r.rate-count, r.rate_line),
+      r.rate_discounts,
+      r.spread_discounts,
+      r.flow-most,
+      middle-most c.args.rate_downs.now c.args.rate_next c.args.spread_next c.args.square.now _ r.rate-branches c.requires.1
+          side.1 _ r.rate-count,
+      side.0,
+      c.requires.2,
+    )
+
+pub returns : goal.returns
+returns c =
+    let spread-side = c.spread_side in
+    let rate-side = c.rate_side in
+    rolled-square _ c.args.square.now rate-side.new.middle _ c.args.flow c.requires.0 rate-side.ensures.1
+    spread-side.ensures.1

@@ -1,0 +1,18 @@
+use mathlib.Core.Path.{◌≡◌, refl}
+use Prim.Native.Nat.{ℕ, ◌+◌, ◌-◌, ◌≤◌}
+use native.Mathlib.Omega.{arith}
+use lib.ListN.{length}
+use borrow.Author.Rules.{rules}
+use Rattle.arithmetic.specs.Row.{values}
+use Rattle.row_branches.specs.RowBranches.{row_branch}
+use Rattle.pair_laws.specs.inside.Square.{square_size, cell, Cells, spread_value}
+use Rattle.pair_laws.proofs.Squares.{cells-empty, cells-column, cells-done, column-of-row, leads-inside, leads-whole, leads-across}
+use Rattle.pair_pricing.proofs.squares.spread_side.Given as goal
+
+abbrev pub invariant-loop-l : goal.invariant-loop-l
+invariant-loop-l l =
+    (l.l ≤ length l.spreads) × (length l.square ≡ square_size) × (length l.square ≡ length l.initial.square)
+    × Cells (λ (a t : ℕ). spread_value (row_branch l.downs l.next t) (values l.rates a) (values l.spreads t) (cell l.middle a) + l.flow) (length l.rates) l.l l.square
+
+abbrev pub decreases-loop-l : goal.decreases-loop-l
+decreases-loop-l l = length l.spreads - l.l
