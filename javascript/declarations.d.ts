@@ -91,8 +91,8 @@ export interface BondAndOptionGiven {
     option: PriceGiven;
 }
 
-/** Up to 16 answers in order, a number, a value and a bound for each, zeros after them, beside the strip's own
- *  number. A strip of no strike or of more than 16 has no answer. */
+/** Up to 16 answers in order, a number, a value and a bound for each, zeros after them; or the strip's own refusal
+ *  with zeros. */
 export interface Strip {
     number: bigint;
     numbers: bigint[];

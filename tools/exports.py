@@ -60,7 +60,7 @@ class Crate:
 
     def record(self, name):
         """The struct of this name, with the comment above it."""
-        found = re.search(rf'((?:^//[^\n]*\n)*)^#\[repr\(C\)\]\s*^pub struct {name} \{{(.*?)^\}}', self.source, re.M | re.S)
+        found = re.search(rf'((?:^//[^\n]*\n)*)^#\[repr\(C\)\]\s*(?:^#\[derive\([^\]]*\)\]\s*)?^pub struct {name} \{{(.*?)^\}}', self.source, re.M | re.S)
         if not found:
             raise NotUnderstood(f'crate {self.folder.name} has no struct {name} laid out for C')
         comment = ' '.join(line.removeprefix('//').strip() for line in found[1].splitlines())
@@ -140,7 +140,7 @@ def c_struct(name):
 def exported(root=ROOT):
     """The exported functions in their order, and the structs that they need, each after those that it holds."""
     capi = Crate(root / 'crates/capi')
-    found = re.finditer(r'#\[no_mangle\]\s*pub extern "C" fn (\w+)\(([^)]*)\)(?:\s*->\s*(\[[^\]]*\]|\w+))?', capi.code)
+    found = re.finditer(r'#\[unsafe\(no_mangle\)\]\s*pub extern "C" fn (\w+)\(([^)]*)\)(?:\s*->\s*(\[[^\]]*\]|\w+))?', capi.code)
     functions = [Function(m[1], [(name, capi.type(kind)) for name, kind in split(m[2])], capi.type(m[3]) if m[3] else None) for m in found]
     if len(functions) != capi.code.count('extern "C"'):
         raise NotUnderstood('a function of crates/capi is not marked or not understood')

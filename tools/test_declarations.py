@@ -26,6 +26,7 @@ CRATES = {
     'slots': '''use sizes::MOST;
 // A slot.
 #[repr(C)]
+#[derive(Drop)]
 pub struct Slot {
     pub status: u8, // 0, 1 or 2
     pub fitted: bool,
@@ -38,11 +39,13 @@ pub struct Hidden { pub slot: Slot }
 // A shelf
 // of slots.
 #[repr(C)]
+#[derive(Drop)]
 pub struct Shelf {
     pub slots: [Slot; sizes::NAMES],
     pub last: f64,
 }
 #[repr(C)]
+#[derive(Drop)]
 pub struct Shelved {
     pub open: bool,
     pub shelf: Shelf,
@@ -52,18 +55,18 @@ pub struct Shelved {
 ''',
     'capi': '''use shelf::Shelf;
 use shelf::Shelved;
-// #[no_mangle] pub extern fn left_out()
-#[no_mangle]
+// #[unsafe(no_mangle)] pub extern fn left_out()
+#[unsafe(no_mangle)]
 pub extern "C" fn mixegorta_ask(shelf: Shelf, memory: &mut [u64; 3600], name: usize, open: bool) -> Shelved { }
-#[no_mangle]
+#[unsafe(no_mangle)]
 pub extern "C" fn mixegorta_sum(
     memory: &[u64; 3600],
     weights: &[u64],
     last: &Shelf,
 ) -> u64
-    ensures { λ r. ⌜ r ≡ 0 ⌝ }
+    ensures { result ≡ 0 }
 { }
-#[no_mangle]
+#[unsafe(no_mangle)]
 pub extern "C" fn mixegorta_clear(memory: &mut [u64]) { }
 ''',
 }
@@ -139,13 +142,13 @@ class Reading(InFolder):
                 ('no crate others', {'capi': capi.replace('use shelf::Shelved', 'use others::Shelved')}),
                 ('type that no declaration knows: u128', {'capi': capi.replace('name: usize', 'name: u128')}),
                 ('pointer to one number', {'capi': capi.replace('name: usize', 'name: &u64')}),
-                ('not marked', {'capi': capi.replace('#[no_mangle]\npub extern "C" fn mixegorta_sum', 'pub extern "C" fn mixegorta_sum')}),
+                ('not marked', {'capi': capi.replace('#[unsafe(no_mangle)]\npub extern "C" fn mixegorta_sum', 'pub extern "C" fn mixegorta_sum')}),
                 ('one name do not compile in C\\+\\+: mixegorta_shelved', {'capi': capi.replace('mixegorta_clear', 'mixegorta_shelved')})):
             with self.subTest(words), self.assertRaisesRegex(exports.NotUnderstood, words):
                 made_up(self.folder / f'case{len(list(self.folder.iterdir()))}', **changed)
 
     def test_two_structs_of_one_name(self):
-        other = '#[repr(C)]\npub struct Shelved {\n    pub number: u64,\n}\n#[repr(C)]\npub struct Part {\n    pub from: Shelved,\n}\n'
+        other = '#[repr(C)]\n#[derive(Drop)]\npub struct Shelved {\n    pub number: u64,\n}\n#[repr(C)]\n#[derive(Drop)]\npub struct Part {\n    pub from: Shelved,\n}\n'
         capi = CRATES['capi'].replace('use shelf::Shelf;', 'use shelf::Shelf;\nuse parts::Part;').replace('name: usize', 'name: Part')
         with self.assertRaisesRegex(exports.NotUnderstood, 'two structs Shelved'):
             made_up(self.folder, parts=other, capi=capi)

@@ -33,7 +33,7 @@ def header_versions():
 
 def crate_versions():
     """The definition that the export is proved to meet, and the number in its code."""
-    defined = re.search(r'^version = versionNumber (\d+) (\d+) (\d+)$', (ROOT / 'crates/capi/specs/Version.antt').read_text(), re.M)
+    defined = re.search(r'^version = version_number (\d+) (\d+) (\d+)$', (ROOT / 'crates/capi/specs/Version.antt').read_text(), re.M)
     coded = re.search(r'fn mixegorta_version\(\)[^{]*\{[^}]*\}\s*\{\s*([\d_]+)\s*\}', (ROOT / 'crates/capi/src/lib.rt').read_text())
     number = int(coded[1]) if coded else 0
     return ([('crates/capi/specs/Version.antt', '.'.join(defined.groups()) if defined else '?'),
