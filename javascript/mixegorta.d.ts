@@ -120,7 +120,7 @@ type Bytes = ArrayLike<Whole>;
 /** The engine in use. Its memory is handled inside; a refusal is thrown by its name. */
 export class Engine {
     constructor(module: WebAssembly.Module);
-    /** The version of the module as one number: 14003 is 0.14.3. */
+    /** The version of the module as one number: 14002 is 0.14.2. */
     readonly version: number;
     /** Bytes of memory that the engine has. */
     readonly memory: number;

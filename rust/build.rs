@@ -41,11 +41,11 @@ fn version_of(folder: &Path) -> Option<String> {
         .map(|said| String::from_utf8_lossy(&said.stdout).into_owned())
 }
 
-/// The first file below a folder that was changed after a time. Wrong edits are not part of the archive.
+/// The first file below a folder that was changed after a time. Wrong edits, and what the kit leaves in a crate's folder, are not part of the archive.
 fn newer(folder: &Path, than: SystemTime) -> Option<PathBuf> {
     let entries = fs::read_dir(folder).ok()?.flatten();
     entries
-        .filter(|entry| entry.file_name() != "must-fail")
+        .filter(|entry| entry.file_name() != "must-fail" && entry.file_name() != "out")
         .find_map(|entry| {
             let about = entry.metadata().ok()?;
             if about.is_dir() {
@@ -60,6 +60,8 @@ fn needed(listed: &str) -> Vec<&str> {
     let lines: Vec<(&str, &str)> = listed
         .lines()
         .filter_map(|line| line.split_once(':'))
+        // A static library has a word beside its name.
+        .map(|(name, below)| (name.split(' ').next().unwrap_or(name), below))
         .collect();
     let mut found = vec!["capi"];
     let mut done = 0;
@@ -79,8 +81,17 @@ fn needed(listed: &str) -> Vec<&str> {
 fn newer_crate(archive: &Path) -> Option<PathBuf> {
     let root = set("CARGO_MANIFEST_DIR").join("..");
     let crates = root.join("crates");
-    println!("cargo:rerun-if-changed={}", crates.display());
+    println!(
+        "cargo:rerun-if-changed={}",
+        root.join("crates.txt").display()
+    );
     let listed = fs::read_to_string(root.join("crates.txt")).ok()?;
+    for name in needed(&listed) {
+        let parts = ["src", "specs", "proofs"].map(|part| crates.join(name).join(part));
+        for part in parts.iter().filter(|part| part.exists()) {
+            println!("cargo:rerun-if-changed={}", part.display());
+        }
+    }
     let built = fs::metadata(archive).ok()?.modified().ok()?;
     needed(&listed)
         .into_iter()

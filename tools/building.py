@@ -4,6 +4,8 @@
     tools/building.py archive    target/libmixegorta.a, from which everything else is linked
     tools/building.py sheet      target/bin/sheet; any other program of crates/ likewise
 
+The kit proves and builds in a crate's folder: `rt lib` makes the archive, `rt run` a program, which is run on its crate's file stdin and must print its
+file stdout. Both are compiled for every x86-64 processor and copied into target/.
 What cannot be made is told in one line on standard output, with exit status 1. Progress goes to standard error where that is a terminal, else to
 the terminal itself, since pip keeps a build's output to itself; where there is none, a line now and then goes to standard error.
 The time left is worked out from the times of the last run, target/times.txt, or of tools/times.txt where there was none.
@@ -18,9 +20,15 @@ import sys
 import time
 
 ROOT = pathlib.Path(__file__).resolve().parent.parent
-ARCHIVE, KIT_ARCHIVE = ROOT / 'target/libmixegorta.a', ROOT / 'target/staticlib/libcapi.a'
+ARCHIVE, KIT_ARCHIVE = ROOT / 'target/libmixegorta.a', ROOT / 'crates/capi/out/libcapi.a'
 LAST_TIMES, FIRST_TIMES = ROOT / 'target/times.txt', ROOT / 'tools/times.txt'
-DONE = re.compile(r'^rt: (\w+) proved \((?:(\d+) s|unchanged)')
+# The processor that the kit compiles for where nothing is said lacks some that are in use.
+PROCESSOR = ('--cpu', 'x86-64')
+# A crate's proof has begun, and those below it are done; a crate is done, in the gate's words.
+BEGUN = re.compile(r'^rt: chose --jobs \d+ for (\w+)$')
+DONE = re.compile(r'^rt: (\w+) (?:(proved)$|is kept:)')
+# What is no part of what is built: wrong edits, and what the kit leaves in a crate's folder.
+NOT_BUILT_FROM = ('must-fail', 'out')
 # Without a terminal a line is told every so many seconds.
 QUIET_SECONDS = 30
 # Seconds of this run for one of the last, before so many of those are worked off.
@@ -28,23 +36,36 @@ FIRST_PACE, LEAST_WORK = 0.6, 20
 USAGE = 'usage: tools/building.py archive, or the name of a program of crates/'
 
 
-def needed(name):
-    """The crates that a crate is proved by, and itself."""
-    below = dict(line.split(':', 1) for line in (ROOT / 'crates.txt').read_text(encoding='utf-8').splitlines() if ':' in line)
-    found, left = set(), [name]
-    while left:
-        each = left.pop()
-        if each not in found and each in below:
-            found.add(each)
-            left += below[each].split()
+def listed():
+    """The crates of crates.txt, each with those that it names; a static library has a word beside its name."""
+    lines = (line.partition(':') for line in (ROOT / 'crates.txt').read_text(encoding='utf-8').splitlines() if ':' in line)
+    return {name.split()[0]: below.split() for name, _, below in lines}
+
+
+def order(name):
+    """The crates that a crate is proved by, and itself, as the kit comes to them: each after those that it names."""
+    below, found = listed(), []
+
+    def add(each):
+        for other in below[each]:
+            if other in below and other not in found:
+                add(other)
+        found.append(each)
+    if name in below:
+        add(name)
     return found
 
 
+def needed(name):
+    """The crates that a crate is proved by, and itself."""
+    return set(order(name))
+
+
 def newer(crates, than):
-    """A file of these crates that was changed after a time. Wrong edits are part of nothing that is built."""
+    """A file of these crates that was changed after a time."""
     for crate in sorted(crates):
         for folder, folders, files in os.walk(ROOT / 'crates' / crate):
-            folders[:] = [name for name in folders if name != 'must-fail']
+            folders[:] = [name for name in folders if name not in NOT_BUILT_FROM]
             for path in (os.path.join(folder, name) for name in sorted(files)):
                 if os.path.getmtime(path) > than:
                     return os.path.relpath(path, ROOT)
@@ -70,8 +91,9 @@ class Progress:
     """Crates done of all, and the time left: what the crates still to be proved took last time, by how fast this run is beside that one."""
 
     def __init__(self, crates):
-        self.left, self.all, self.known = set(crates), len(crates), times()
-        self.began, self.told, self.took = time.monotonic(), 0.0, {}
+        self.order, self.all, self.known = list(crates), len(crates), times()
+        self.left, self.proved = set(crates), set()
+        self.began, self.told, self.took, self.at = time.monotonic(), 0.0, {}, None
         self.ends = self.began + FIRST_PACE * self.usual(crates)
         self.out, self.terminal = self.stream()
 
@@ -89,16 +111,29 @@ class Progress:
         return sum(self.known.get(crate, average) for crate in crates)
 
     def done(self, line):
-        """Takes a line of rt's. Crates are proved side by side, so this run's pace is measured over all that it has proved."""
-        found = DONE.match(line)
-        if not found:
+        """Takes a line of rt's. This run's pace is measured over all that it has proved, since the gate proves crates side by side."""
+        begun, done = BEGUN.match(line), DONE.match(line)
+        if begun and begun[1] in self.order:
+            self.end_last()
+            self.at = begun[1], time.monotonic()
+            self.left -= set(self.order[:self.order.index(begun[1])])
+        elif done:
+            self.left.discard(done[1])
+            self.proved |= {done[1]} if done[2] else set()
+        else:
             return
-        self.left.discard(found[1])
-        if found[2] is not None:
-            self.took[found[1]] = int(found[2])
-        now, worked = time.monotonic(), self.usual(self.took)
+        now, worked = time.monotonic(), self.usual(self.proved)
         pace = (now - self.began) / worked if worked > LEAST_WORK else FIRST_PACE
         self.ends = now + self.usual(self.left) * pace
+
+    def end_last(self):
+        """The crate whose proof began last is done."""
+        if self.at:
+            name, began = self.at
+            self.took[name] = round(time.monotonic() - began)
+            self.proved.add(name)
+            self.left.discard(name)
+            self.at = None
 
     def seconds_left(self):
         return max(0, self.ends - time.monotonic())
@@ -121,15 +156,17 @@ def keep_times(took):
         LAST_TIMES.write_text('\n'.join(lines) + '\n', encoding='utf-8')
 
 
-def proved(command, crates, log):
-    """Whether rt proves and builds; its lines go to a log."""
+def proved(command, crates, log, folder=ROOT, given=subprocess.DEVNULL, printed=None):
+    """Whether rt proves and builds; its lines go to a log, and a program that it runs is given one file and prints to another."""
     progress = Progress(crates)
-    with open(log, 'wb') as kept, subprocess.Popen(command, cwd=ROOT, stdout=subprocess.PIPE, stderr=subprocess.STDOUT) as running:
-        os.set_blocking(running.stdout.fileno(), False)
+    streams = {'stdout': subprocess.PIPE, 'stderr': subprocess.STDOUT} if printed is None else {'stdout': printed, 'stderr': subprocess.PIPE}
+    with open(log, 'wb') as kept, subprocess.Popen(command, cwd=folder, stdin=given, **streams) as running:
+        said = running.stdout or running.stderr
+        os.set_blocking(said.fileno(), False)
         rest, open_end = b'', True
         while open_end:
-            if select.select([running.stdout], [], [], 1)[0]:
-                part = os.read(running.stdout.fileno(), 65_536)
+            if select.select([said], [], [], 1)[0]:
+                part = os.read(said.fileno(), 65_536)
                 open_end = bool(part)
                 kept.write(part)
                 *whole, rest = (rest + part).split(b'\n')
@@ -138,32 +175,55 @@ def proved(command, crates, log):
             progress.show()
         status = running.wait()
     if status == 0:
+        progress.end_last()
         progress.left.clear()
     progress.show(last=True)
     keep_times(progress.took)
     return status == 0
 
 
+def archive(crates, log):
+    """Proves and builds the archive; what is wrong, or None."""
+    if not proved(['rt', 'lib', *PROCESSOR], crates, log, ROOT / 'crates/capi'):
+        return f'`rt lib` in crates/capi failed: {log.relative_to(ROOT)} says why'
+    shutil.copyfile(KIT_ARCHIVE, ARCHIVE)
+    return None
+
+
+def program(name, crates, log):
+    """Proves, builds and runs a program; what is wrong, or None."""
+    folder, product, printed = ROOT / 'crates' / name, ROOT / 'target/bin' / name, log.with_suffix('.printed')
+    given = folder / 'stdin' if (folder / 'stdin').is_file() else os.devnull
+    with open(given, 'rb') as taken, open(printed, 'wb') as out:
+        ran = proved(['rt', 'run', *PROCESSOR], crates, log, folder, taken, out)
+    if not ran:
+        return f'`rt run` in crates/{name} failed: {log.relative_to(ROOT)} says why'
+    if (folder / 'stdout').is_file() and printed.read_bytes() != (folder / 'stdout').read_bytes():
+        return f'what it printed, {printed.relative_to(ROOT)}, is not crates/{name}/stdout'
+    product.parent.mkdir(exist_ok=True)
+    # A program that runs just now keeps its own file.
+    product.unlink(missing_ok=True)
+    shutil.copy(folder / 'out' / name, product)
+    return None
+
+
 def make(name):
     """Makes a product where that is needed; what is wrong, or None."""
-    crate = 'capi' if name == 'archive' else name
-    product, command = (ARCHIVE, ['rt', 'staticlib', 'capi']) if name == 'archive' else (ROOT / 'target/bin' / name, ['rt', 'check', name])
-    crates = needed(crate)
+    product = ARCHIVE if name == 'archive' else ROOT / 'target/bin' / name
+    crates = order('capi' if name == 'archive' else name)
     if not crates:
         return f'crates/ has no program {name}'
     wrong = fault(product, crates)
     if wrong is None:
         return None
-    told = f'`{" ".join(command)}`'
     if not shutil.which('rt'):
-        return f"{wrong}: run {told}, with the Rattle kit's rt on the path"
+        return f"{wrong}: run `{'tools/archive' if name == 'archive' else f'tools/building.py {name}'}`, with the Rattle kit's rt on the path"
     log = ROOT / 'target' / f'{name}.log'
     log.parent.mkdir(exist_ok=True)
     began = time.time()
-    if not proved(command, crates, log):
-        return f'{wrong}, and {told} failed: {log.relative_to(ROOT)} says why'
-    if name == 'archive':
-        shutil.copyfile(KIT_ARCHIVE, ARCHIVE)
+    failed = archive(crates, log) if name == 'archive' else program(name, crates, log)
+    if failed:
+        return f'{wrong}, and {failed}'
     # A crate that was changed meanwhile is newer than what was made of it.
     os.utime(product, (began, began))
     return None

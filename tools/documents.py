@@ -115,7 +115,8 @@ def rooms_of_crates(text):
         if line.startswith('#'):
             rooms.append([line[1:].partition(',')[0].strip(), []])
         elif ':' in line:
-            rooms[-1][1].append(line.partition(':')[0])
+            # A static library has a word beside its name.
+            rooms[-1][1].append(line.split(':')[0].split()[0])
     return [(room, crates) for room, crates in rooms if room or crates]
 
 

@@ -71,7 +71,7 @@ def faults_of_programs(measured, texts):
     """What is wrong of the figure for programs, given the KiB of each."""
     figure, faults = stated(texts)
     if not measured:
-        return faults + ['target/bin has no program to measure: run `rt check sheet`']
+        return faults + ['target/bin has no program to measure: run `tools/building.py sheet`']
     for name, size in measured.items():
         if size is None:
             faults.append(f'{name} does not print its stdout in {MOST} KiB')

@@ -296,7 +296,7 @@ class Mentions(unittest.TestCase):
 
 
 class Rooms(unittest.TestCase):
-    CRATES = '# Ground, numbers\narithmetic:\ntree: arithmetic\n\n# Doors\ncapi: tree\n'
+    CRATES = '# Ground, numbers\narithmetic:\ntree: arithmetic\n\n# Doors\ncapi staticlib: tree\n'
     LAYERS = '# Layers\n\n## Crates\n\n### Ground\n\n| Crate | Gives |\n|---|---|\n| `arithmetic` | `rows` |\n| `tree` | trees |\n\n### Doors\n\n| `capi` | all |\n\n## Level one\n\n| `none` |\n'
 
     def faults(self, crates, layers):

@@ -323,27 +323,34 @@ class Building(unittest.TestCase):
         """Lines of rt as it prints them, in a clone with a kit that only prints."""
         with tempfile.TemporaryDirectory() as folder:
             root = pathlib.Path(folder)
-            for name in ('tools', 'bin', 'crates/below/src', 'crates/sheet/src', 'crates/sheet/must-fail'):
+            for name in ('tools', 'bin', 'crates/low/src', 'crates/below/src', 'crates/sheet/src', 'crates/sheet/must-fail', 'crates/sheet/out'):
                 (root / name).mkdir(parents=True)
-            (root / 'crates.txt').write_text('below:\nsheet: below\nother:\n')
+            (root / 'crates.txt').write_text('low:\nbelow: low\nsheet: below\nother:\n')
+            (root / 'crates/sheet/stdin').write_text('a job')
+            (root / 'crates/sheet/stdout').write_text('a job, priced')
             (root / 'tools/building.py').write_bytes((ROOT / 'tools/building.py').read_bytes())
             kit = root / 'bin/rt'
-            kit.write_text('#!/bin/sh\necho "rt: below proved (3 s)"\necho "rt: sheet proved (unchanged since it was last proved)"\n'
-                           'mkdir -p target/bin && : >target/bin/sheet && echo run >>target/runs\n')
+            kit.write_text('#!/bin/sh\necho "rt: chose --jobs 2 for below" >&2\nsleep 3\necho "rt: chose --jobs 2 for sheet" >&2\n'
+                           f'echo "$PWD $*" >>{root}/target/runs\n: >out/sheet\necho "$(cat), priced" | tr -d "\\n"\n')
             kit.chmod(0o755)
             settings = {'PATH': f'{root}/bin:{os.environ["PATH"]}'}
             runs = []
-            for change in (None, None, 'crates/sheet/must-fail/a.edit', 'crates/below/src/lib.rt'):
+            for change in (None, None, 'crates/sheet/must-fail/a.edit', 'crates/sheet/out/sheet.o', 'crates/below/src/lib.rt'):
                 if change:
                     path = root / change
                     path.write_text('')
                     os.utime(path, (path.stat().st_mtime + 100,) * 2)
                 made = subprocess.run(['setsid', sys.executable, '-B', root / 'tools/building.py', 'sheet'], env=settings, capture_output=True, text=True)
                 self.assertEqual((made.returncode, made.stdout), (0, ''), made.stderr)
-                runs.append((root / 'target/runs').read_text().count('run'))
+                runs.append((root / 'target/runs').read_text().count(f'{root}/crates/sheet run --cpu x86-64\n'))
                 told = made.stderr.splitlines()[-1:]
-            self.assertEqual((runs, told), ([1, 1, 1, 2], ['proving: 2 of 2 crates']))
-            self.assertEqual((root / 'target/times.txt').read_text(), 'below 3\n')
+            self.assertEqual((runs, told), ([1, 1, 1, 1, 2], ['proving: 3 of 3 crates']))
+            self.assertRegex((root / 'target/times.txt').read_text(), r'\Abelow [3-9]\nsheet \d\n\Z')
+            self.assertTrue((root / 'target/bin/sheet').is_file())
+            (root / 'crates/sheet/stdout').write_text('another job, priced')
+            made = subprocess.run(['setsid', sys.executable, '-B', root / 'tools/building.py', 'sheet'], env=settings, capture_output=True, text=True)
+            self.assertEqual((made.returncode, made.stdout), (1, 'target/bin/sheet is older than crates/below/src/lib.rt, and what it printed, '
+                                                                 'target/sheet.printed, is not crates/sheet/stdout\n'))
 
 
 if __name__ == '__main__':

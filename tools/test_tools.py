@@ -298,7 +298,7 @@ class Pricing(Tool):
                     made = self.price(file, program=self.reference)
                     self.assertEqual((made.stdout, made.returncode), (sheet, int(sheet.startswith(b'refused'))))
 
-    @unittest.skipUnless((ROOT / 'target/bin/sheet').exists(), 'target/bin/sheet is not built: rt check sheet')
+    @unittest.skipUnless((ROOT / 'target/bin/sheet').exists(), 'target/bin/sheet is not built: tools/building.py sheet')
     def test_the_proved_program(self):
         for path in EXAMPLES:
             self.assertEqual(self.price(path).stdout, path.with_suffix('.sheet').read_bytes(), path.name)
@@ -355,6 +355,7 @@ class Pricing(Tool):
         for name in ('tools', 'python'):
             shutil.copytree(ROOT / name, self.folder / 'clone' / name)
         (self.folder / 'clone/crates.txt').write_text('sheet:\n')
+        (self.folder / 'clone/crates/sheet/src').mkdir(parents=True)
         file, tools = ROOT / 'examples/one-step.txt', self.folder / 'clone/tools'
         commands = self.folder / 'commands'
         commands.mkdir()
@@ -364,9 +365,9 @@ class Pricing(Tool):
         self.program('echo no; exit 1').rename(commands / 'rt')
         failed = self.price(file, tools=tools, path=commands)
         self.assertEqual((failed.returncode, failed.stdout), (2, b''))
-        self.assertIn(b'there is no target/bin/sheet, and `rt check sheet` failed: target/sheet.log says why', failed.stderr)
+        self.assertIn(b'there is no target/bin/sheet, and `rt run` in crates/sheet failed: target/sheet.log says why', failed.stderr)
         self.check_sentence(self.price(file, program='no-such-program'), 'no-such-program', 'MIXEGORTA_SHEET')
-        self.check_sentence(self.price(file, program=self.file('no program')), 'does not run here', 'rt check sheet')
+        self.check_sentence(self.price(file, program=self.file('no program')), 'does not run here', 'tools/building.py sheet')
         self.check_sentence(self.price(file, path=self.folder / 'nothing'), 'needs python3')
 
     def test_other_tools_that_lose_output(self):
@@ -392,7 +393,7 @@ class Books(Tool):
         made = self.run_tool(*EXAMPLES, program=self.reference)
         self.assertEqual((made.stdout, made.returncode, made.stderr), (desk.with_suffix('.report').read_bytes(), 0, b''))
 
-    @unittest.skipUnless((ROOT / 'target/bin/book').exists(), 'target/bin/book is not built: rt check book')
+    @unittest.skipUnless((ROOT / 'target/bin/book').exists(), 'target/bin/book is not built: tools/building.py book')
     def test_the_proved_program(self):
         self.assertEqual(self.run_tool(*EXAMPLES).stdout, (ROOT / 'examples/desk.report').read_bytes())
 
@@ -435,6 +436,7 @@ class Books(Tool):
         for name in ('tools', 'python'):
             shutil.copytree(ROOT / name, self.folder / 'clone' / name)
         (self.folder / 'clone/crates.txt').write_text('book:\n')
+        (self.folder / 'clone/crates/book/src').mkdir(parents=True)
         tools, commands = self.folder / 'clone/tools', self.folder / 'commands'
         commands.mkdir()
         for name in ('python3', 'dirname', 'readlink'):
@@ -443,7 +445,7 @@ class Books(Tool):
         self.program('echo no; exit 1').rename(commands / 'rt')
         failed = self.run_tool(EXAMPLES[0], tools=tools, path=commands)
         self.assertEqual((failed.returncode, failed.stdout), (2, b''))
-        self.assertIn(b'there is no target/bin/book, and `rt check book` failed: target/book.log says why', failed.stderr)
+        self.assertIn(b'there is no target/bin/book, and `rt run` in crates/book failed: target/book.log says why', failed.stderr)
         self.check_sentence(self.run_tool(EXAMPLES[0], program='no-such-program'), 'no-such-program', 'MIXEGORTA_BOOK')
         self.check_sentence(self.run_tool(EXAMPLES[0], path=self.folder / 'nothing'), 'needs python3')
 

@@ -18,7 +18,8 @@ def _crates(root: str) -> Set[str]:
         for line in file:
             name, colon, needed = line.partition(":")
             if colon:
-                below[name] = needed.split()
+                # A static library has a word beside its name.
+                below[name.split()[0]] = needed.split()
     found: Set[str] = set()
     left = ["capi"]
     while left:
@@ -30,10 +31,10 @@ def _crates(root: str) -> Set[str]:
 
 
 def _newer(root: str, than: float) -> Optional[str]:
-    """A file of these crates that was changed after a time; wrong edits of a crate are not part of the library."""
+    """A file of these crates that was changed after a time; wrong edits of a crate, and what the kit leaves in its folder, are not part of the library."""
     for crate in sorted(_crates(root)):
         for place, folders, files in os.walk(os.path.join(root, "crates", crate)):
-            folders[:] = [name for name in folders if name != "must-fail"]
+            folders[:] = [name for name in folders if name not in ("must-fail", "out")]
             for path in (os.path.join(place, name) for name in files):
                 if os.path.getmtime(path) > than:
                     return path

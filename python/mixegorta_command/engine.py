@@ -18,7 +18,7 @@ def built(name):
     """The program of the source folder, made anew where that is needed."""
     path = ROOT / 'target/bin' / name
     if not shutil.which('rt') and not path.is_file():
-        raise Stop(f'the proved program target/bin/{name} is not built, and there is no Rattle kit to build it: install the kit and run `rt check {name}`, '
+        raise Stop(f'the proved program target/bin/{name} is not built, and there is no Rattle kit to build it: install the kit and run `tools/building.py {name}`, '
                    f'or {WITHOUT_KIT[name]}')
     made = subprocess.run([sys.executable, '-B', BUILDER, name], stdout=subprocess.PIPE, text=True)
     if made.returncode:
@@ -41,7 +41,7 @@ def printed_by(path, name, content):
     try:
         done = subprocess.run([path], input=content, stdout=subprocess.PIPE)
     except OSError as error:
-        raise Stop(f'{path} does not run here ({error.strerror}): build it anew by `rt check {name}`')
+        raise Stop(f'{path} does not run here ({error.strerror}): build it anew by `tools/building.py {name}`')
     if done.returncode < 0:
         raise Stop(f'output is lost: {path.name} was ended by signal {-done.returncode}; 768 KiB of stack are enough, so try '
                    '`ulimit -s 8192` and run it again')

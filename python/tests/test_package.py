@@ -104,9 +104,9 @@ class Test(unittest.TestCase):
     def test_an_archive_that_is_missing_or_older_than_a_crate_is_not_taken(self):
         with backend() as (module, folder), mock.patch.dict(os.environ, PATH=commands(folder)):
             root = pathlib.Path(folder) / "root"
-            for place in ("tools", "crates/capi/must-fail", "target"):
+            for place in ("tools", "crates/capi/must-fail", "crates/capi/out", "target"):
                 (root / place).mkdir(parents=True)
-            (root / "crates.txt").write_text("capi:\n")
+            (root / "crates.txt").write_text("capi staticlib:\n")
             for name in ("archive", "building.py"):
                 shutil.copy(module.ROOT / "tools" / name, root / "tools")
             archive = root / "target/libmixegorta.a"
@@ -117,7 +117,7 @@ class Test(unittest.TestCase):
                 archive.write_text("")
                 os.utime(archive, (time.time() + 10,) * 2)
                 self.assertEqual(module.archive(), archive)
-                for name, stale in (("must-fail/a.edit", False), ("lib.rt", True)):
+                for name, stale in (("must-fail/a.edit", False), ("out/libcapi.a", False), ("lib.rt", True)):
                     path = root / "crates/capi" / name
                     path.write_text("")
                     os.utime(path, (time.time() + 20,) * 2)
@@ -151,7 +151,7 @@ class Test(unittest.TestCase):
             for place in ("python", "target", "crates/capi"):
                 os.makedirs(os.path.join(folder, place))
             shutil.copytree(os.path.dirname(m.__file__), os.path.join(folder, "python/mixegorta"), ignore=shutil.ignore_patterns("*.so"))
-            pathlib.Path(folder, "crates.txt").write_text("below:\ncapi: below\nother: below\n")
+            pathlib.Path(folder, "crates.txt").write_text("below:\ncapi staticlib: below\nother: below\n")
             for name in ("below", "other"):
                 os.makedirs(os.path.join(folder, "crates", name))
             library, source = os.path.join(folder, "target/libmixegorta.so"), os.path.join(folder, "crates/below/lib.rt")
