@@ -4,15 +4,13 @@
     tools/compiling.py module            target/module/mixegorta.bc
     tools/compiling.py targets [NAME..]  target/targets/NAME/ for each name, or for all
 
-The module is kept by a copy of the kit's folder in which everything is a link but the compiler: a script that copies
-what it is handed and then calls the kit's own. The archive that comes out of it must be target/libmixegorta.a to the
+The module is kept by a copy of the kit's folder in which everything is a link but the kit's command, which finds the kit
+by its own place, and the compiler: a script that copies what it is handed and then calls the kit's own. The archive that comes out of it must be target/libmixegorta.a to the
 byte, with the sum of the same logic in its log. Nothing of another target is proved beyond the module: docs/TRUST.md.
 Two runs give the same bytes.
 """
 import hashlib
-import os
 import pathlib
-import platform
 import re
 import shutil
 import subprocess
@@ -29,6 +27,8 @@ KEPT_FOR = ROOT / 'target/module/kept.txt'
 TARGETS = ROOT / 'target/targets'
 LOG = ROOT / 'target/module/module.log'
 SUM = re.compile(r'^logic=proved .*? sum=(\w+)', re.M)
+# The files of the kit's command.
+COMMANDS = ('rt', 'rtlib.py')
 IDENTITY = re.compile(r'!"rattle logic=(\w+)"')
 KEEPER = '''#!/bin/sh
 for word in "$@"; do
@@ -54,9 +54,9 @@ class Failed(Exception):
     """What could not be made, in a sentence."""
 
 
-def ran(*command, **more):
-    made = subprocess.run([str(word) for word in command], cwd=ROOT, stdout=subprocess.PIPE, stderr=subprocess.STDOUT,
-                          text=True, **more)
+def ran(*command, cwd=ROOT):
+    made = subprocess.run([str(word) for word in command], cwd=cwd, stdin=subprocess.DEVNULL, stdout=subprocess.PIPE,
+                          stderr=subprocess.STDOUT, text=True)
     if made.returncode:
         raise Failed(f'{pathlib.Path(str(command[0])).name} failed: {" ".join(made.stdout.split())[-400:]}')
     return made.stdout
@@ -69,45 +69,46 @@ def digest(path):
 # The module
 
 def kit():
-    """The kit's folder: that of rt, or what RATTLE_HOME names."""
+    """The kit's folder: that of rt."""
     found = shutil.which('rt')
     if not found:
         raise Failed("the module is taken from the Rattle kit's own compilation, and its rt is not on the path")
-    return pathlib.Path(os.environ.get('RATTLE_HOME') or pathlib.Path(found).resolve().parent.parent)
+    return pathlib.Path(found).resolve().parent.parent
 
 
 def tools():
     """The folder of the kit's compiler and linker."""
-    return kit() / 'on' / platform.machine() / 'toolchain/bin'
+    return kit() / 'toolchain/bin'
 
 
-def linked(source, place, but):
-    """A folder of links to everything of another, but for one name."""
+def linked(source, place, *but):
+    """A folder of links to everything of another, but for these names."""
     place.mkdir(parents=True)
     for path in source.iterdir():
-        if path.name != but:
+        if path.name not in but:
             (place / path.name).symlink_to(path)
 
 
 def keeping_kit(place, kept):
-    """A folder in the form of the kit whose compiler also copies the module that it is handed."""
-    home, machine = kit(), platform.machine()
-    linked(home, place, 'on')
-    linked(home / 'on' / machine, place / 'on' / machine, 'toolchain')
-    own = place / 'on' / machine / 'toolchain'
-    linked(home / 'on' / machine / 'toolchain', own, 'bin')
-    linked(tools(), own / 'bin', 'clang')
-    script = own / 'bin/clang'
+    """A folder in the form of the kit whose compiler also copies the module that it is handed; its rt."""
+    home = kit()
+    linked(home, place, 'bin', 'toolchain')
+    linked(home / 'toolchain', place / 'toolchain', 'bin')
+    linked(tools(), place / 'toolchain/bin', 'clang')
+    # The kit's commands find the kit by where they stand.
+    linked(home / 'bin', place / 'bin', *COMMANDS)
+    for name in COMMANDS:
+        shutil.copy(home / 'bin' / name, place / 'bin' / name)
+    script = place / 'toolchain/bin/clang'
     script.write_text(KEEPER.format(kept=kept, clang=tools() / 'clang'), encoding='utf-8')
     script.chmod(0o755)
-    return place
+    return place / 'bin/rt'
 
 
 def kept_module(place):
-    """Proves and builds the archive once more with the compiler that keeps its module; the module's path."""
+    """Builds the archive once more, over its proof, with the compiler that keeps its module; the module's path."""
     kept = place / 'module.bc'
-    home = keeping_kit(place / 'kit', kept)
-    said = ran('rt', 'staticlib', 'capi', env={**os.environ, 'RATTLE_HOME': str(home)})
+    said = ran(keeping_kit(place / 'kit', kept), 'lib', *building.PROCESSOR, cwd=ROOT / 'crates/capi')
     LOG.write_text(said, encoding='utf-8')
     if building.KIT_ARCHIVE.read_bytes() != building.ARCHIVE.read_bytes():
         raise Failed('the archive that the module was compiled to is not target/libmixegorta.a')
@@ -154,7 +155,7 @@ def changed(text, pattern, new, least=1):
 def plain(text):
     """The module without the x86-64 processor, layout and way to touch a stack; the target's own hold."""
     text = changed(text, r' "target-cpu"="x86-64"', '')
-    text = changed(text, r' "probe-stack"="inline-asm"', '')
+    text = changed(text, r' "probe-stack"="inline-asm" "stack-probe-size"="\d+"', '')
     return changed(text, r'^target (?:datalayout|triple) = .*\n', '', 2)
 
 

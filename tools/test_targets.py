@@ -68,7 +68,7 @@ class Targets(unittest.TestCase):
     def test_the_module_is_that_of_the_archive(self):
         archive, module, logic = compiling.KEPT_FOR.read_text().split()
         self.assertEqual((archive, module), (compiling.digest(building.ARCHIVE), compiling.digest(compiling.MODULE)))
-        said = (building.ROOT / 'target/log/capi.say').read_text(errors='replace')
+        said = (building.ROOT / 'target/archive.log').read_text(errors='replace')
         self.assertEqual(compiling.SUM.findall(said)[-1], logic)
         self.assertTrue(compiling.IDENTITY.search(self.text)[1].startswith(logic))
         self.assertNotIn('ptrtoint', self.text)
