@@ -1,10 +1,11 @@
 #!/usr/bin/env python3
-"""Tests of tools/promises.py, tools/documents.py, tools/reach, tools/shorten, tools/trials, tools/stack.py and reference/widths.py: what is wrong is found, and what is right is let through.
+"""Tests of tools/promises.py, tools/proofs.py, tools/documents.py, tools/reach, tools/shorten, tools/trials, tools/stack.py and reference/widths.py: what is wrong is found, and what is right is let through.
 
     python3 tools/test_checks.py
 """
 import importlib.machinery
 import importlib.util
+import os
 import pathlib
 import shutil
 import subprocess
@@ -239,6 +240,52 @@ class Trials(unittest.TestCase):
             with self.subTest(path=path.name):
                 fits = subprocess.run(['git', 'apply', '--check', str(path)], cwd=ROOT, capture_output=True, text=True)
                 self.assertEqual((fits.returncode, fits.stderr), (0, ''))
+
+
+class Proofs(unittest.TestCase):
+    """A clone with a kit that only prints: of two crates the gate proves one, and took the other from an earlier run."""
+
+    LINE = 'logic=proved functions={} sum=00ff native=nat,char,string logic-built=trusted\n'
+    GATE = ('rt: low is kept: an earlier run on this machine proved the same files over the same libraries\n'
+            f'== capi: its tests\n{LINE.format(9)}rt: capi: its tests are proved\n'
+            f'== capi\nfn capi::row: proved\n{LINE.format("3 axioms=2 target=x")}rt: capi proved\n1 passed, 0 failed\n')
+
+    def setUp(self):
+        folder = tempfile.TemporaryDirectory()
+        self.addCleanup(folder.cleanup)
+        self.root = pathlib.Path(folder.name)
+        for name in ('tools', 'bin', 'crates/low/src', 'crates/capi/src'):
+            (self.root / name).mkdir(parents=True)
+        (self.root / 'crates.txt').write_text('# Doors\nlow:\ncapi staticlib: low\n')
+        for name in ('building.py', 'proofs.py'):
+            shutil.copy(ROOT / 'tools' / name, self.root / 'tools')
+        (self.root / 'gate').write_text(self.GATE)
+        (self.root / 'check').write_text('rt: chose --jobs 2 for low\n' + self.LINE.format(7))
+        kit = self.root / 'bin/rt'
+        kit.write_text(f'#!/bin/sh\necho "$1 $PWD" >>{self.root}/runs\ncase $1 in ci) cat {self.root}/gate ;; check) cat {self.root}/check ;; *) echo kit ;; esac\n')
+        kit.chmod(0o755)
+
+    def ran(self, code):
+        made = subprocess.run([sys.executable, '-B', '-c', f'import proofs; {code}'], cwd=self.root / 'tools', capture_output=True, text=True,
+                              env={**os.environ, 'PATH': f'{self.root}/bin:{os.environ["PATH"]}'})
+        return made.stdout + made.stderr.splitlines()[-1] if made.returncode else made.stdout
+
+    def checks(self):
+        return [line for line in (self.root / 'runs').read_text().splitlines() if line.startswith('check ')]
+
+    def test_lines_of_the_gate_and_of_a_check(self):
+        self.assertEqual(self.ran('print(proofs.gate(), proofs.line("capi"), proofs.line("low"))'), "True (3, 2, '00ff') (7, 0, '00ff')\n")
+        self.assertEqual(self.checks(), [f'check {self.root}/crates/low'])
+        # What is kept is taken again, until a crate below changes.
+        self.assertEqual(self.ran('print(proofs.line("capi"), proofs.line("low"))'), "(3, 2, '00ff') (7, 0, '00ff')\n")
+        self.assertEqual(len(self.checks()), 1)
+        (self.root / 'crates/low/src/lib.rt').write_text('')
+        self.assertEqual(self.ran('print(proofs.line("capi"))'), "(7, 0, '00ff')\n")
+        self.assertEqual(self.checks()[1:], [f'check {self.root}/crates/capi'])
+
+    def test_what_is_not_proved(self):
+        (self.root / 'check').write_text('logic=not-proved\n')
+        self.assertIn('Failed: target/log/low.say does not say that low is proved', self.ran('proofs.line("low")'))
 
 
 class Documents(unittest.TestCase):
