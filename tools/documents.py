@@ -9,6 +9,7 @@ A name stands for what its block, a row of a table or a paragraph, named before 
 that is not in specs/inside/ stands in docs/READING.md. The rooms of crates.txt, its comments, are those of docs/LAYERS.md, with the same crates. Exit status 1 where
 anything is wrong.
 """
+import os
 import pathlib
 import re
 import sys
@@ -75,12 +76,19 @@ def faults_of_names(name, root=ROOT):
                 yield f'{name}, line {line}: {wrong}'
 
 
+def sources_below(folder):
+    """The files and folders below a folder but what is made: in target/, and in out/ by the kit."""
+    for place, folders, files in os.walk(folder):
+        folders[:] = [name for name in folders if name not in ('target', 'out')]
+        yield from (pathlib.Path(place, name) for name in [*folders, *files])
+
+
 def words_of_sources(root=ROOT):
     """Every word of the sources, and the names of their files and folders."""
     found = set()
-    for path in (each for name in SOURCES for each in ([root / name] if (root / name).is_file() else (root / name).rglob('*'))):
+    for path in (each for name in SOURCES for each in ([root / name] if (root / name).is_file() else sources_below(root / name))):
         found.update((path.name, path.stem))
-        if path.is_file() and 'target' not in path.parts and path.stat().st_size < MOST_BYTES:
+        if path.is_file() and path.stat().st_size < MOST_BYTES:
             found.update(WORD.findall(path.read_text(encoding='utf-8', errors='ignore')))
     return found
 

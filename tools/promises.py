@@ -1,16 +1,19 @@
 #!/usr/bin/env python3
-"""Holds docs/PROMISES.md against the tree, and the logs of wrong edits against what an edit must be refused for.
+"""Holds docs/PROMISES.md against the tree, and what the kit said of wrong edits against what an edit must be refused for.
 
-    tools/promises.py
+    tools/promises.py                      as far as the edits were tried
+    tools/promises.py --edits [CRATE ...]  tries the edits of these crates first, or of all, by `rt must-fail`
 
 Every file, name and edit that docs/PROMISES.md names is there, and every public function is named. A name stands for what its block, a row of a table or
 a paragraph, named before it: a function of the crate, or a definition, theorem or field of the file. The table of fields and wrong edits has every field of
-the joint statement with an edit, and every edit of the statement's crates. The first error of an edit, in the logs that
-`rt must-fail` and `rt ci` leave in target/must-fail, is none that a true edit could give too. An edit whose run did not end, since the gate was broken off or
-still runs, has no verdict beside its log: it is told and not judged. Exit status 1 where anything is wrong.
+the joint statement with an edit, and every edit of the statement's crates. The first error of an edit, as `rt must-fail` and the gate print it and as
+target/must-fail.log and target/gate.log keep it, is none that a true edit could give too; nor is the edit one that is still proved, that cannot be read or
+that only a limit or a lost name refuses. An edit whose run did not end is told and not judged. `rt must-fail` tries again what changed, and nothing that the
+gate tried. Exit status 1 where anything is wrong.
 """
 import pathlib
 import re
+import subprocess
 import sys
 
 sys.dont_write_bytecode = True
@@ -30,12 +33,12 @@ FIELD = re.compile(r'^  pub ([\w-]+) :(.*)', re.M)
 EVERY = re.compile(r'^ \(.*\) → (\w+Promises)(?: \w+)*$')
 # Words of the language that a contract is written in.
 WORDS = {'requires', 'ensures'}
-# What the first error of a wrong edit must not be about: these say that a proof does not fit, not that a fact is false. The first are words of an error's
-# first line, whose further lines may use them of what they print; the last is what a search tells at its end.
-HOLLOW, ENDED = ('not in scope', 'has no `Need-', 'no occurrence'), 'found no proof'
-# An error with its further lines; where the prover told none, the notes on what its own search did not prove.
-ERROR = re.compile(r'^\S+: error.*\n?(?:^  .*\n?)*', re.M)
-NOTES = re.compile(r'^note: \S+:\d+:\d+:.*\n?(?:^(?:note:|  ).*\n?)*', re.M)
+# What the kit prints of an edit: its verdict, and of a refused one the first line that the prover told. A line is cut short.
+LOGS = ('target/gate.log', 'target/must-fail.log')
+VERDICT = re.compile(r'^rt: must-fail (\w+/[\w.-]+)\.edit: (.*)$', re.M)
+REFUSED, UNTRIED = 'refused, as it must be', 'NOT TRIED'
+# What the first error of a wrong edit must not be about: these say that a proof does not fit, not that a fact is false.
+HOLLOW = ('not in scope', 'has no `', 'has no field', 'was not admitted', 'no occurrence', 'found no proof')
 
 
 class Tree:
@@ -154,61 +157,67 @@ def faults_of_fields(text, root):
     return [f'docs/PROMISES.md, fields and wrong edits: {fault}' for fault in faults]
 
 
-def first_error(log):
-    """The first error that the prover told of an edit, or its first notes where it told none; empty where there are neither."""
-    found = ERROR.search(log) or NOTES.search(log)
-    return found.group() if found else ''
-
-
-def faults_of_log(edit, log):
-    """What is wrong of the first error of an edit."""
-    error = first_error(log)
-    if not error:
+def faults_of_verdict(edit, verdict):
+    """What is wrong of what the kit said of an edit: a refusal must name a false fact, and not what the kit itself says little of."""
+    told, colon, line = verdict.partition(': ')
+    if not verdict.startswith(REFUSED):
+        return [f'{edit}: {verdict[:240]}']
+    if told != REFUSED:
+        return [f'{edit}: it is refused {told.removeprefix(REFUSED).strip()}: {line[:240]}' if colon else f'{edit}: {told[:240]}']
+    if not line:
         return [f'{edit}: no error in its log']
-    line = error.splitlines()[0]
-    found = [word for word in HOLLOW if word in line] + [ENDED] * (ENDED in error)
-    return [f'{edit}: its first error says "{word}": {line[:240]}' for word in found[:1]]
+    return [f'{edit}: its first error says "{word}": {line[:240]}' for word in [word for word in HOLLOW if word in line][:1]]
 
 
-def edits_with_logs(root):
-    """The edits of the tree that have a log: names, logs, and whether the run of the edit ended, which its verdict
-    beside the log says."""
-    for edit in sorted((root / 'crates').glob('*/must-fail/*.edit')):
-        crate = edit.parent.parent.name
-        log = root / 'target/must-fail' / crate / edit.stem / '.log'
-        verdict = log.parent.with_suffix('.out')
-        if log.is_file():
-            yield f'{crate}/{edit.stem}', log, not verdict.is_file() or verdict.stat().st_size > 0
+def verdicts(root):
+    """What the kit said of each edit of the tree, by its name; of two logs the later says it."""
+    logs = sorted((path for path in (root / name for name in LOGS) if path.is_file()), key=lambda path: path.stat().st_mtime)
+    said = {name: verdict for path in logs for name, verdict in VERDICT.findall(path.read_text(encoding='utf-8', errors='replace'))}
+    edits = [f'{edit.parent.parent.name}/{edit.stem}' for edit in sorted((root / 'crates').glob('*/must-fail/*.edit'))]
+    return {edit: said[edit] for edit in edits if edit in said}
 
 
-def logs(root):
-    """The edits whose run ended, by their names, with the log."""
-    for name, log, ended in edits_with_logs(root):
-        if ended:
-            yield name, log.read_text(encoding='utf-8', errors='replace')
+def judged(root):
+    """The edits whose run ended, by their names, with what was said."""
+    return {edit: verdict for edit, verdict in verdicts(root).items() if not verdict.startswith(UNTRIED)}
 
 
 def unended(root):
-    """The edits whose run did not end: the gate was broken off, or still runs."""
-    return [name for name, _, ended in edits_with_logs(root) if not ended]
+    """The edits whose run did not end: it was broken off or killed."""
+    return [edit for edit, verdict in verdicts(root).items() if verdict.startswith(UNTRIED)]
 
 
-def main():
-    usage.answer(__doc__, sys.argv[1:])
+def try_edits(crates, root=ROOT):
+    """Tries the edits of these crates, or of all; what was said of others is kept."""
+    made = subprocess.run(['rt', 'must-fail', *crates], cwd=root, stdin=subprocess.DEVNULL, stdout=subprocess.PIPE, stderr=subprocess.STDOUT, text=True,
+                          errors='replace')
+    new = dict(VERDICT.findall(made.stdout))
+    if not new:
+        sys.exit(f'rt must-fail said nothing of an edit: {" ".join(made.stdout.split())[-400:]}')
+    log = root / LOGS[-1]
+    log.parent.mkdir(exist_ok=True)
+    said = dict(VERDICT.findall(log.read_text(encoding='utf-8'))) if log.is_file() else {}
+    log.write_text(''.join(f'rt: must-fail {edit}.edit: {verdict}\n' for edit, verdict in sorted({**said, **new}.items())), encoding='utf-8')
+
+
+def main(arguments=()):
+    usage.answer(__doc__, list(arguments), ('--edits',), most=len(arguments) if '--edits' in arguments else 0)
+    if '--edits' in arguments:
+        try_edits([word for word in arguments if word != '--edits'])
     tree, text = Tree(ROOT), (ROOT / 'docs/PROMISES.md').read_text(encoding='utf-8')
     faults = faults_of_text(text, tree) + faults_of_fields(text, ROOT)
-    read = dict(logs(ROOT))
-    for edit, log in read.items():
-        faults += faults_of_log(edit, log)
+    read = judged(ROOT)
+    for edit, verdict in read.items():
+        faults += faults_of_verdict(edit, verdict)
     count = len(list((ROOT / 'crates').glob('*/must-fail/*.edit')))
-    print(f'first errors read of {len(read)} edits of {count}' if read else 'no first error read: target/must-fail has no logs')
+    print(f'first errors read of {len(read)} edits of {count}' if read else f'no first error read: there is no {" or ".join(LOGS)}')
     left = unended(ROOT)
     if left:
         named = f'{", ".join(left[:3])}{" and others" * (len(left) > 3)}'
-        print(f'not judged: the run of {named} did not end, since the gate was broken off or still runs')
+        print(f'not judged: the run of {named} did not end, since it was broken off or killed')
     print(*faults, sep='\n', end='\n' if faults else '')
     return 1 if faults else 0
 
 
 if __name__ == '__main__':
-    sys.exit(main())
+    sys.exit(main(sys.argv[1:]))

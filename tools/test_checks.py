@@ -12,6 +12,7 @@ import subprocess
 import sys
 import tempfile
 import unittest
+from unittest import mock
 
 ROOT = pathlib.Path(__file__).resolve().parent.parent
 sys.path[:0] = [str(ROOT / 'reference'), str(ROOT / 'tools')]
@@ -33,11 +34,11 @@ def script(name):
 
 reach, shorten, trials = script('reach'), script('shorten'), script('trials')
 
-SOURCE = '''ghost use lib.IntN.{
-  natAbs,
+SOURCE = '''ghost use Rattle.std.specs.Prelude.{
+  nat_abs,
 };
 pub fn half_width(row: usize) -> usize
-    ensures { λ r. ⌜ r ≡ natAbs (halfWidth row) ⌝ }
+    ensures { result ≡ nat_abs (double_width row) }
 {
     row
 }
@@ -48,7 +49,7 @@ pub extern "C" fn mixegorta_rows(row: usize) -> usize { row }
 '''
 FILES = {
     'crates/lattice/src/lib.rt': SOURCE,
-    'crates/lattice/specs/Shape.antt': 'unfoldable pub halfWidth : ℕ → ℕ\nhalfWidth i = i\n\npub record Shape : Type 0 where\n  pub width-is : ℕ\n',
+    'crates/lattice/specs/Shape.antt': 'unfoldable pub double_width : ℕ → ℕ\ndouble_width i = i\n\npub record Shape : Type 0 where\n  pub width-is : ℕ\n',
     'crates/lattice/proofs/Sizes.antt': '-- start-first is proved below\npub row-ends : (i : ℕ) → i ≡ i\nrow-ends i = refl\n',
     'crates/lattice/must-fail/one_less.edit': 'file: src/lib.rt\nold: row\nnew: 0\n',
     'docs/notes.md': 'notes\n',
@@ -59,19 +60,25 @@ No function has a `requires`; see `docs/notes.md`.
 
 | Entry | Contract | Definition |
 |---|---|---|
-| width; nodes; `refused 6` | `lattice::half_width`; `node_count` | `natAbs`; `lattice/specs/Shape` `halfWidth`, `width-is` |
-| exports | `lattice::mixegorta_*` | `halfWidth` |
+| width; nodes; `refused 6` | `lattice::half_width`; `node_count` | `nat_abs`; `lattice/specs/Shape` `double_width`, `width-is` |
+| exports | `lattice::mixegorta_*` | `double_width` |
 | refused | `lattice/must-fail/one_less` | `lattice/must-fail` `one_less` |
 
 Rows end: `lattice/proofs/Sizes` `row-ends`
 (record `Shape`).
 '''
-FALSE_FACT = '''note: no function with a body is declared, so nothing was lowered
-/proofs/Laws.antt:61:5: error: `value-below`: `omega`: the goal does not follow from what it read
-  but this has type `a ≤ b`
-/proofs/Laws.antt:70:5: error: `value-short`: `rw`: no occurrence of the path's left endpoint in the goal
-logic=not-proved
-'''
+# What the kit says of an edit, as it says it of a false fact, of a false contract and of what shows nothing.
+REFUSED = 'refused, as it must be'
+FALSE_FACT = f'{REFUSED}: proofs/Laws.antt:61:5: error: `value-below`: `omega`: the goal does not follow from what it read'
+FALSE_CONTRACT = (f'{REFUSED}: note: src/lib.rt:85:1: it is not proved that what the function ensures holds when it returns (`returns`); '
+                  'the facts known there allow values at which this goal i')
+BY_A_NAME = (f'{REFUSED} (only because a proof file names what the edit took away, so this says little of the contract: change a value and keep the names): '
+             'proofs/Laws.antt:61:5: error: `value-below`: `out` is not in scope')
+BY_A_LIMIT = (f'{REFUSED} (only by a limit of the prover, which gave no verdict, so this says less of the contract: choose a change that it refuses sooner): '
+              'proofs/Laws.antt:61:5: error: antt ran out of stack')
+UNREADABLE = 'BAD EDIT: the prover cannot read the edited text, so no contract was tried: src/lib.rt:8:35: error: `ensures`: `+` is not in scope'
+PROVED = 'NOT REFUSED: the crate is still proved with this edit (one that means the same as before cannot be refused: remove it)'
+KILLED = 'NOT TRIED: its check was killed, most likely for memory, so nothing is known of it: run this again'
 STATEMENT = {
     'crates/promises/specs/Promises.antt': '''pub record Rows (i : ℕ) : Type 0 where
   pub first : i ≡ i
@@ -109,12 +116,6 @@ rt: fitting proved (unchanged since it was last proved)
 rt: promises NOT PROVED (exit 1, 6 s)
 rt: FAILED: promises
 '''
-SEARCHED = '''fn capi::mixegorta_fit: proved
-note: /src/lib.rt:85:1: it is not proved that what the function ensures holds when it returns (`returns`)
-note: what antt said of a `search` in the proof that rattle made: /src/lib.rt:86:19: `returns`: `search`: no proof of `c`
-  was found. `omega` was tried too, and it found no proof.
-logic=not-proved
-'''
 
 
 class Promises(unittest.TestCase):
@@ -141,7 +142,7 @@ class Promises(unittest.TestCase):
                 ('lattice::half_width', 'lattice::half_widths', 7, 'crates/lattice has no public function half_widths'),
                 ('lattice::half_width', 'lattices::half_width', 7, 'crates/lattices has no public function half_width'),
                 ('`node_count`', '`within`', 7, 'within is nowhere in what the block names'),
-                ('`natAbs`', '`natRel`', 7, 'natRel is nowhere in what the block names'),
+                ('`nat_abs`', '`nat_rel`', 7, 'nat_rel is nowhere in what the block names'),
                 ('lattice/specs/Shape`', 'lattice/specs/Shapes`', 7, 'there is no lattice/specs/Shapes'),
                 ('`width-is`', '`width-was`', 7, 'width-was is nowhere in what the block names'),
                 ('mixegorta_*', 'mixegorta_x*', 8, 'crates/lattice has no public function mixegorta_x*'),
@@ -174,37 +175,58 @@ class Promises(unittest.TestCase):
                 self.assertEqual(promises.faults_of_fields(text, self.root), [f'docs/PROMISES.md, fields and wrong edits: {each}' for each in faults])
 
     def test_first_errors(self):
-        self.assertEqual(promises.faults_of_log('a/b', FALSE_FACT), [])
-        self.assertEqual(promises.faults_of_log('a/b', FALSE_FACT.replace('but this has type', '`out` is not in scope here:')), [])
-        for log, word in ((FALSE_FACT.replace('`omega`: the goal does not follow from what it read', '`<` is not in scope'), 'not in scope'),
-                          (FALSE_FACT.replace('the goal does not follow', 'it has no `Need-returns-2`'), 'has no `Need-'),
-                          (FALSE_FACT.replace('`omega`', '`rw`: no occurrence: `omega`'), 'no occurrence'),
-                          (FALSE_FACT.replace('but this has type', '`search` found no proof of'), 'found no proof'), (SEARCHED, 'found no proof')):
+        for verdict in (FALSE_FACT, FALSE_CONTRACT):
+            self.assertEqual(promises.faults_of_verdict('a/b', verdict), [])
+        goal = 'the goal does not follow from what it read'
+        for changed, new, word in ((goal, '`<` is not in scope', 'not in scope'), (goal, 'it has no `Need-returns-2`', 'has no `'),
+                                   (goal, 'it has no field `low`', 'has no field'), (goal, '`low` was not admitted', 'was not admitted'),
+                                   ('`omega`: ', '`rw`: no occurrence of the path: ', 'no occurrence'), (goal, '`search` found no proof', 'found no proof')):
             with self.subTest(word=word):
-                faults = promises.faults_of_log('a/b', log)
-                self.assertEqual([fault.startswith(f'a/b: its first error says "{word}": ') for fault in faults], [True])
-        self.assertEqual(promises.faults_of_log('a/b', 'logic=proved\n'), ['a/b: no error in its log'])
+                faults = promises.faults_of_verdict('a/b', FALSE_FACT.replace(changed, new))
+                self.assertEqual([fault.startswith(f'a/b: its first error says "{word}": ') for fault in faults], [True], faults)
+        self.assertEqual(promises.faults_of_verdict('a/b', REFUSED), ['a/b: no error in its log'])
+
+    def test_what_shows_nothing(self):
+        for verdict, words in ((BY_A_NAME, 'it is refused (only because a proof file names'), (BY_A_LIMIT, 'it is refused (only by a limit'),
+                               (UNREADABLE, 'BAD EDIT'), (PROVED, 'NOT REFUSED')):
+            with self.subTest(words=words):
+                self.assertEqual([fault.startswith(f'a/b: {words}') for fault in promises.faults_of_verdict('a/b', verdict)], [True])
 
     def test_logs_are_those_of_edits(self):
-        for label in ('one_less', 'gone'):
-            folder = self.root / 'target/must-fail/lattice' / label
-            folder.mkdir(parents=True)
-            (folder / '.log').write_text(SEARCHED, encoding='utf-8')
-        self.assertEqual(list(promises.logs(self.root)), [('lattice/one_less', SEARCHED)])
+        """And of two logs the later one says what was found."""
+        (self.root / 'target').mkdir()
+        gate, log = self.root / 'target/gate.log', self.root / 'target/must-fail.log'
+        log.write_text(f'rt: must-fail lattice/gone.edit: {PROVED}\nrt: must-fail lattice/one_less.edit: {FALSE_FACT}\n', encoding='utf-8')
+        self.assertEqual(promises.verdicts(self.root), {'lattice/one_less': FALSE_FACT})
+        gate.write_text(f'rt: lattice proved\nrt: must-fail lattice/one_less.edit: {PROVED}\n1 passed, 1 failed\n', encoding='utf-8')
+        for age, said in ((10, PROVED), (-10, FALSE_FACT)):
+            os.utime(gate, (log.stat().st_mtime + age,) * 2)
+            self.assertEqual(promises.verdicts(self.root), {'lattice/one_less': said})
 
     def test_an_edit_whose_run_did_not_end_is_not_judged(self):
-        """A gate that was broken off leaves a log without an error, and an empty verdict beside it; with a verdict the
-        same log is a fault."""
-        folder = self.root / 'target/must-fail/lattice'
-        (folder / 'one_less').mkdir(parents=True)
-        (folder / 'one_less/.log').write_text('')
-        for verdict, left in (('', ['lattice/one_less']), ('rt: must-fail lattice/one_less: NOT refused\n', [])):
-            (folder / 'one_less.out').write_text(verdict)
-            self.assertEqual((promises.unended(self.root), [name for name, _ in promises.logs(self.root)]),
-                             (left, [] if left else ['lattice/one_less']))
-            self.assertEqual(
-                [fault for name, log in promises.logs(self.root) for fault in promises.faults_of_log(name, log)],
-                [] if left else ['lattice/one_less: no error in its log'])
+        """A check that was killed says nothing of an edit; one that ended without an error is a fault."""
+        (self.root / 'target').mkdir()
+        for verdict, left in ((KILLED, ['lattice/one_less']), (PROVED, [])):
+            (self.root / 'target/gate.log').write_text(f'rt: must-fail lattice/one_less.edit: {verdict}\n')
+            self.assertEqual((promises.unended(self.root), list(promises.judged(self.root))), (left, [] if left else ['lattice/one_less']))
+            faults = [fault for name, said in promises.judged(self.root).items() for fault in promises.faults_of_verdict(name, said)]
+            self.assertEqual(faults, [] if left else [f'lattice/one_less: {PROVED}'])
+
+    def test_edits_that_are_tried(self):
+        """What the kit says of these is kept beside what it said of others; where it says nothing, that is told."""
+        kit, log = self.root / 'rt', self.root / 'target/must-fail.log'
+        said = [f'rt: must-fail {name}.edit: {FALSE_FACT}' for name in ('fitting/half', 'lattice/one_less')]
+        for line, content in ((said[1], [said[1]]), (said[0], said), (said[1].replace(FALSE_FACT, PROVED), [said[0], said[1].replace(FALSE_FACT, PROVED)])):
+            kit.write_text(f'#!/bin/sh\necho "$*" >ran\ncat <<\\END\n{line}\nEND\nexit 1\n', encoding='utf-8')
+            kit.chmod(0o755)
+            with mock.patch.dict(os.environ, PATH=f'{self.root}:{os.environ["PATH"]}'):
+                promises.try_edits(['lattice'], self.root)
+            self.assertEqual((self.root / 'ran').read_text(), 'must-fail lattice\n')
+            self.assertEqual(log.read_text(encoding='utf-8').splitlines(), content)
+        kit.write_text('#!/bin/sh\necho "rt: there is no crate"\n')
+        with mock.patch.dict(os.environ, PATH=f'{self.root}:{os.environ["PATH"]}'):
+            with self.assertRaisesRegex(SystemExit, 'said nothing of an edit: rt: there is no crate'):
+                promises.try_edits([], self.root)
 
 
 class Trials(unittest.TestCase):
@@ -319,9 +341,9 @@ class Documents(unittest.TestCase):
 
 
 class Mentions(unittest.TestCase):
-    FILES = {'crates/lattice/specs/Shape.antt': 'unfoldable pub halfWidth : ℕ → ℕ\n', 'crates/lattice/specs/Lib.antt': '', 'crates/lattice/src/lib.rt': 'pub fn half_width() {}\n',
+    FILES = {'crates/lattice/specs/Shape.antt': 'unfoldable pub double_width : ℕ → ℕ\n', 'crates/lattice/specs/Lib.antt': '', 'crates/lattice/src/lib.rt': 'pub fn half_width() {}\n',
              'rust/src/lib.rs': 'pub struct LentTree;\n'}
-    RIGHT = 'See `lattice/specs/Shape` `halfWidth`, `lattice::half_width`, `LentTree`, `specs/Lib.antt`, `rust/src/lib.rs`, `target/made.log`, `a + b`, `half_*`.'
+    RIGHT = 'See `lattice/specs/Shape` `double_width`, `lattice::half_width`, `LentTree`, `specs/Lib.antt`, `rust/src/lib.rs`, `target/made.log`, `a + b`, `half_*`.'
 
     def faults(self, text):
         with tempfile.TemporaryDirectory() as folder:
@@ -335,7 +357,7 @@ class Mentions(unittest.TestCase):
         self.assertEqual(self.faults(self.RIGHT), [])
 
     def test_wrong(self):
-        for old, new, words in (('`lattice/specs/Shape`', '`lattice/specs/Width`', 'there is no lattice/specs/Width'), ('`halfWidth`', '`wholeWidth`', 'no source has wholeWidth'),
+        for old, new, words in (('`lattice/specs/Shape`', '`lattice/specs/Width`', 'there is no lattice/specs/Width'), ('`double_width`', '`triple_width`', 'no source has triple_width'),
                                 ('lattice::half_width', 'lattice::whole_width', 'no source has whole_width'), ('`LentTree`', '`Lent`', 'no source has Lent'),
                                 ('rust/src/lib.rs', 'rust/src/raw.rs', 'there is no rust/src/raw.rs')):
             faults = self.faults(self.RIGHT.replace(old, new))
@@ -368,26 +390,26 @@ class Reach(unittest.TestCase):
     """Two crates: a contract, a theorem and a statement, each of which reaches what it names, and what nothing reaches."""
 
     FILES = {
-        'crates/lattice/src/lib.rt': """ghost use Rattle·lattice·specs.specs.Shape.{halfWidth};
-ghost use Rattle·lattice·specs.specs.inside.Loops.{Held};
+        'crates/lattice/src/lib.rt': """ghost use Rattle.lattice.specs.Shape.{half_width};
+ghost use Rattle.lattice.specs.inside.Loops.{Held};
 
 fn held(row: usize) -> usize
-    requires { ⌜ Held row ⌝ }
+    requires { Held row }
 {
     row
 }
 
 pub fn half_width(row: usize) -> usize
-    ensures { λ r. ⌜ r ≡ halfWidth row ⌝ }
+    ensures { result ≡ half_width row }
 {
     held(row)
 }
 """,
-        'crates/lattice/specs/Shape.antt': """use Prim.Native.Nat.{ℕ, _+_}
+        'crates/lattice/specs/Shape.antt': """use Rattle.std.specs.Prelude.{ℕ, ◌+◌, ◌≤◌}
 
 -- half the width, as node says
-unfoldable pub halfWidth : ℕ → ℕ
-halfWidth i = doubled i + steps i
+unfoldable pub half_width : ℕ → ℕ
+half_width i = doubled i + steps i
 
 abbrev pub doubled : ℕ → ℕ
 doubled i = i + i
@@ -399,20 +421,20 @@ module _ (b : ℕ) where
   pub record Signed (i : ℕ) : Type 0 where
     pub width : b ≡ i
 """,
-        'crates/lattice/specs/inside/Loops.antt': """use Rattle·lattice·specs.specs.Shape.{doubled}
+        'crates/lattice/specs/inside/Loops.antt': """use Rattle.lattice.specs.Shape.{doubled}
 
 pub record Held (row : ℕ) : Type 0 where
-  pub most : row .doubled ≤ doubled row
+  pub most : row.doubled ≤ doubled row
 """,
-        'crates/lattice/proofs/Laws.antt': """use Rattle·lattice·specs.specs.Shape.{Signed}
+        'crates/lattice/proofs/Laws.antt': """use Rattle.lattice.specs.Shape.{Signed}
 
 pub as-written : (i : ℕ) → Signed i i
 as-written i = refl
 """,
-        'crates/all_promises/specs/All.antt': """use Rattle·lattice.specs.Shape as shape
+        'crates/all_promises/specs/All.antt': """use Rattle.lattice.specs.Shape as shape
 
 pub record AllPromises : Type 0 where
-  pub widths : (i : ℕ) → Seen (shape.halfWidth i)
+  pub widths : (i : ℕ) → Seen (shape.half_width i)
 
 pub data Seen : ℕ → Type 0 where
   seen : (i : ℕ) → Seen i
@@ -438,10 +460,10 @@ pub data Seen : ℕ → Type 0 where
     def test_wrong(self):
         shape, laws = 'crates/lattice/specs/Shape.antt', 'docs/PROMISES.md'
         for change, faults in (
-                ((shape, 'halfWidth i = doubled i + steps i', 'halfWidth i = i + steps i'), ['lattice/specs/Shape doubled is help, and stands outside specs/inside/']),
+                ((shape, 'half_width i = doubled i + steps i', 'half_width i = i + steps i'), ['lattice/specs/Shape doubled is help, and stands outside specs/inside/']),
                 ((laws, 'as-written', 'as-meant'), ['lattice/specs/Shape Signed is help, and stands outside specs/inside/']),
-                (('crates/lattice/src/lib.rt', 'r ≡ halfWidth row', '(r ≡ halfWidth row) × Held r'), ['lattice/specs/inside/Loops Held is meaning, and stands in specs/inside/']),
-                (('crates/all_promises/specs/All.antt', 'Seen (shape.halfWidth i)', 'i ≡ i'), [f'all_promises/specs/All {name} is help, and stands outside specs/inside/' for name in ('Seen', 'seen')])):
+                (('crates/lattice/src/lib.rt', 'result ≡ half_width row', '(result ≡ half_width row) × Held result'), ['lattice/specs/inside/Loops Held is meaning, and stands in specs/inside/']),
+                (('crates/all_promises/specs/All.antt', 'Seen (shape.half_width i)', 'i ≡ i'), [f'all_promises/specs/All {name} is help, and stands outside specs/inside/' for name in ('Seen', 'seen')])):
             self.assertEqual(self.faults(change), faults)
 
     def test_lines(self):
