@@ -107,15 +107,16 @@ FIELDS = '''| Record | Field | Line | Wrong edit |
 | `fit` | 9 |
 '''
 TRIAL = 'A tree.\nRefused: crates/promises/proofs/Kept.antt tree-kept\n\n--- a/crates/lattice/specs/Shape.antt\n'
-CRATES = 'lattice:\nfitting: lattice\npromises: lattice fitting io\nsheet: promises\n'
-TOLD = '''rt: lattice proved (14 s)
+CRATES = 'lattice:\nfitting: lattice\npromises: lattice fitting io\ncapi staticlib: lattice\nsheet: promises\n'
+TOLD = '''rt: chose --jobs 2 for fitting
 fn fitting::state_price_error_bound: proved
-rt: fitting proved (unchanged since it was last proved)
-/t/tree/crates/promises/proofs/Kept.antt:25:113: error: `tree-kept`: the two types differ
-/t/tree/crates/promises/proofs/All.antt:4:1: error: `all-kept`: `tree-kept` was not admitted (it has holes)
-rt: promises NOT PROVED (exit 1, 6 s)
-rt: FAILED: promises
+logic=proved functions=1 sum=00ff
+rt: chose --jobs 2 for promises
+./proofs/Kept.antt:25:113: error: `tree-kept`: the two types differ
+proofs/All.antt:4:1: error: `all-kept`: `tree-kept` was not admitted (it has holes)
+logic=not-proved
 '''
+LACKING = 'rt: chose --jobs 2 for {0}\nlogic=not-proved\nrt: the library {0} did not build, so nothing above it was checked\n'
 
 
 class Promises(unittest.TestCase):
@@ -230,25 +231,35 @@ class Promises(unittest.TestCase):
 
 
 class Trials(unittest.TestCase):
+    def fault(self, patch=TRIAL, status=1, said=TOLD, **beside):
+        return trials.fault(patch, CRATES, {'promises': (status, said), **beside})
+
     def test_a_refusal_at_its_place(self):
-        self.assertIsNone(trials.fault(TRIAL, CRATES, TOLD, '/t/tree'))
+        self.assertIsNone(self.fault())
+        # A crate that the patch changes and that does not stand below the statement is proved beside it.
+        self.assertIsNone(self.fault(f'{TRIAL}+++ b/crates/capi/src/lib.rt\n', capi=(0, 'logic=proved functions=1 sum=00ff\n')))
 
     def test_crates_below(self):
         self.assertEqual(trials.below(CRATES, 'sheet'), {'lattice', 'fitting', 'promises'})
+        self.assertEqual(trials.below(CRATES, 'capi'), {'lattice'})
 
     def test_what_is_no_refusal(self):
-        place = 'crates/promises/proofs/Kept.antt tree-kept'
-        for patch, told, fault in (
-                (TRIAL.replace('Refused', 'refused'), TOLD, 'the patch names no place: Refused: FILE PROOF'),
-                (TRIAL, TOLD.replace('rt: lattice proved', 'rt: lattice NOT PROVED'), 'not proved below or beside promises: lattice'),
-                (TRIAL, TOLD.replace('rt: fitting proved', 'rt: fit proved'), 'not proved below or beside promises: fitting'),
-                (f'{TRIAL}+++ b/crates/pricing/src/walk.rt\n', TOLD, 'not proved below or beside promises: pricing'),
-                (TRIAL, TOLD.replace('rt: promises NOT PROVED', 'rt: promises proved'), 'promises is not refused'),
-                (TRIAL.replace('tree-kept', 'led-as'), TOLD, f'refused at {place}, not at crates/promises/proofs/Kept.antt led-as alone'),
-                (TRIAL, TOLD.replace('was not admitted', 'differs'), f'refused at crates/promises/proofs/All.antt all-kept, {place}, not at {place} alone'),
-                (TRIAL, TOLD.replace(': error', ': note'), f'refused at no place, not at {place} alone')):
+        place, pricing = 'crates/promises/proofs/Kept.antt tree-kept', f'{TRIAL}+++ b/crates/pricing/src/walk.rt\n'
+        for given, fault in (
+                ({'patch': TRIAL.replace('Refused', 'refused')}, 'the patch names no place: Refused: FILE PROOF'),
+                ({'said': LACKING.format('lattice')}, 'not proved below or beside promises: lattice'),
+                ({'said': LACKING.format('fitting')}, 'not proved below or beside promises: fitting'),
+                ({'patch': pricing}, 'not proved below or beside promises: pricing'),
+                ({'patch': pricing, 'pricing': (1, 'logic=not-proved\n')}, 'not proved below or beside promises: pricing'),
+                ({'patch': pricing, 'pricing': (1, LACKING.format('walks'))}, 'not proved below or beside promises: pricing, walks'),
+                ({'status': 0, 'said': 'logic=proved functions=1 sum=00ff\n'}, 'promises is not refused'),
+                ({'status': 3}, 'the check of promises ended with status 3 and no verdict'),
+                ({'said': TOLD.replace('logic=not-proved', 'killed')}, 'the check of promises ended with status 1 and no verdict'),
+                ({'patch': TRIAL.replace('tree-kept', 'led-as')}, f'refused at {place}, not at crates/promises/proofs/Kept.antt led-as alone'),
+                ({'said': TOLD.replace('was not admitted', 'differs')}, f'refused at crates/promises/proofs/All.antt all-kept, {place}, not at {place} alone'),
+                ({'said': TOLD.replace(': error', ': note')}, f'refused at no place, not at {place} alone')):
             with self.subTest(fault=fault):
-                self.assertEqual(trials.fault(patch, CRATES, told, '/t/tree'), fault)
+                self.assertEqual(self.fault(**given), fault)
 
     def test_patches_name_their_place(self):
         for path in sorted((ROOT / 'trials').iterdir()):
