@@ -483,7 +483,7 @@ pub data Seen : ℕ → Type 0 where
 
 
 class Shorten(unittest.TestCase):
-    LONG = """use Rattle·lattice·proofs.proofs.half_width.Tie as tie
+    LONG = """use Rattle.lattice.proofs.half_width.Tie as tie
 
 abbrev Inv-loop : tie.InvT-loop
 Inv-loop row i = i ≤ row
@@ -493,13 +493,13 @@ loop-holds : tie.Need-loop-holds Inv-loop
 loop-holds c = omega arith
 
 add-i : tie.Need-add-i Inv-loop
-add-i c = search needs
+add-i c = search rules
 
 expect-requires : tie.Need-expect-requires
 expect-requires c κs = tt
 
 shared : tie.Need-shared Inv-loop
-shared c = search needs
+shared c = search rules
 
 returns : tie.Need-returns Inv-loop
 returns c = omega (arith, shared c)
@@ -510,26 +510,69 @@ half-width-spec = tie.close (tie.spec Inv-loop loop-holds add-i expect-requires 
 
     def test_needs_that_say_nothing(self):
         short = shorten.shortened(self.LONG)
-        self.assertIn('(tie.spec Inv-loop loop-holds (λ c. search needs) (λ c κs. tt) shared returns)', short)
+        self.assertIn('(tie.spec Inv-loop loop-holds (λ c. search rules) (λ c κs. tt) shared returns)', short)
         self.assertEqual([name for name in ('loop-holds :', 'add-i', 'expect-requires', 'shared :', 'returns :') if name in short], ['loop-holds :', 'shared :', 'returns :'])
         self.assertEqual(shorten.shortened(short), short)
 
     BRINGS = """-- of a fit, and `unused`
-use mathlib.Core.Path.{_≡_, refl, sym}
-use Rattle·fit.specs.Fit.{unused}
-use Rattle·fit.specs.Other.{wide as wider, fit-most}
-ghost use Prim.Native.Nat.{_+_, _-_};
+use Rattle.std.proofs.Common.{◌≡◌, refl, sym, [◌], ⟨◌⟩}
+use Rattle.fit.specs.Fit.{unused}
+use Rattle.fit.specs.Other.{
+  wide as wider,
+  fit_most,
+  fit,
+}
+ghost use Rattle.std.specs.Prelude.{◌+◌, ◌-◌};
 
-law : (n : ℕ) → _≡_ {A = ℕ} (n + 0) (wider n)
+law : (n : ℕ) → ◌≡◌ {A = ℕ} (n + 0) (wider fit_most_of [n])
 law n = refl
 """
 
     def test_names_that_nothing_names(self):
         needed = shorten.needed(self.BRINGS)
         self.assertEqual([line for line in needed.splitlines() if 'use ' in line],
-                         ['use mathlib.Core.Path.{_≡_, refl}', 'use Rattle·fit.specs.Other.{wide as wider}', 'ghost use Prim.Native.Nat.{_+_};'])
+                         ['use Rattle.std.proofs.Common.{◌≡◌, refl, [◌]}', 'use Rattle.fit.specs.Other.{wide as wider}', 'ghost use Rattle.std.specs.Prelude.{◌+◌};'])
         self.assertEqual(needed.partition('law')[1:], self.BRINGS.partition('law')[1:])
         self.assertEqual(shorten.needed(needed), needed)
+
+    ANSWERS = """use Rattle.std.proofs.Common.{rules}
+use Rattle.lattice.proofs.half_width.Goals as goal
+
+-- src/lib.rt:7:1
+pub returns : goal.returns
+returns c = search rules
+
+-- why it holds
+pub low : goal.low
+low c = search rules
+
+-- src/lib.rt:9:5
+pub high : goal.high
+high c = omega (arith, shared c)
+
+pub shared : goal.shared
+shared c = search rules
+
+-- src/lib.rt:12:5
+pub last : goal.last
+last c = search rules
+"""
+
+    def test_answers_that_say_nothing(self):
+        short = shorten.answered(self.ANSWERS)
+        self.assertEqual([name for name in ('returns', 'low', 'high', 'shared', 'last') if f'pub {name} :' in short], ['low', 'high', 'shared'])
+        self.assertNotIn('lib.rt:7', short)
+        self.assertIn('-- why it holds\npub low : goal.low\nlow c = search rules\n', short)
+        self.assertEqual(shorten.answered(short), short)
+        first = self.ANSWERS.partition('-- why')[0]
+        self.assertEqual((shorten.answered(first), shorten.answered(first.partition('-- src')[0])), ('', first.partition('-- src')[0]))
+
+    def test_a_file_without_an_answer_goes(self):
+        """And only a function's: a file of laws of that name stays as it is."""
+        folder = pathlib.Path('crates/lattice/proofs')
+        first = self.ANSWERS.partition('-- why')[0]
+        self.assertEqual(shorten.short(folder / 'half_width/Answers.antt', first), '')
+        self.assertIn('returns c', shorten.short(folder / 'Answers.antt', first))
 
     def test_without_a_last_answer(self):
         self.assertEqual(shorten.shortened(self.LONG.partition('pub half')[0]), self.LONG.partition('pub half')[0])
