@@ -48,6 +48,9 @@ def mapping(names):
 
 
 def main():
+    if sys.argv[1:] in (["-h"], ["--help"]):
+        print(__doc__.strip())
+        return 0
     root = pathlib.Path(__file__).resolve().parent.parent
     if len(sys.argv) > 1:
         root = pathlib.Path(sys.argv[1])

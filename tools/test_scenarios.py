@@ -103,9 +103,11 @@ class Scenarios(unittest.TestCase):
     def test_a_scenario_that_is_the_base(self):
         job = m.Job.read(texts.job_of(ONE_STEP.read_bytes(), 'one'))
         book = self.put('one.book', m.book_of_jobs([job.to_bytes()] * 3))
-        row = json.loads(self.shown(book, '--curves', self.table(line('same', 1, 'discount', job.quotes[0].figure)), '--keep', self.folder, '--json'))[1]
+        given = book, '--curves', self.table(line('same', 1, 'discount', job.quotes[0].figure)), '--keep', self.folder, '--json'
+        row, bonds = (json.loads(self.shown(*given, *more))[1] for more in ((), ('--bonds',)))
         # two billionths of bond and two of option, in base and scenario, for each of three jobs
         self.assertEqual((row['from_base'], row['from_base_most'], row['compared']), ('0.000000000', '0.000000024', 3))
+        self.assertEqual((bonds['from_base'], bonds['from_base_most'], bonds['compared']), ('0.000000000', '0.000000012', 3))
         self.assertEqual((self.folder / 'same.book').read_bytes(), book.read_bytes())
 
     def test_exact_differences(self):

@@ -15,6 +15,7 @@ import sys
 import tempfile
 import unittest
 import xml.etree.ElementTree as ElementTree
+from unittest import mock
 
 ROOT = pathlib.Path(__file__).resolve().parent.parent
 sys.path[:0] = [str(ROOT / 'reference'), str(ROOT / 'tools')]
@@ -581,6 +582,13 @@ class Drawing(unittest.TestCase):
             run('draw', sheet, '--page', '--job', str(path)).stdout.decode()
             for path in (text, text.with_suffix('.job'))]
         self.assertEqual(*(re.sub('<p id="source".*', '', page) for page in pages))
+        # Under one name and at one time all is the same, byte for byte.
+        with tempfile.TemporaryDirectory() as folder, mock.patch.dict(os.environ, SOURCE_DATE_EPOCH='1795000000'):
+            paths = [pathlib.Path(folder, kind, 'one-step-today') for kind in ('text', 'job')]
+            for path, source in zip(paths, (text, text.with_suffix('.job'))):
+                path.parent.mkdir()
+                path.write_bytes(source.read_bytes())
+            self.assertEqual(*(run('draw', sheet, '--page', '--job', str(path)).stdout for path in paths))
         for other, line in (('coupon-put', 1), ('one-step', 1), ('refused', 1)):
             made = run('draw', sheet, '--job', str(ROOT / f'examples/{other}.txt'))
             self.assertEqual((made.returncode, made.stdout), (2, b''))

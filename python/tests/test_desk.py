@@ -385,6 +385,10 @@ class Risk(unittest.TestCase):
         for name, wanted in (("dv01", dv01), ("convexity", convexity), ("vega", 0)):
             self.assertLessEqual(float(found[name].low), wanted, name)
             self.assertGreaterEqual(float(found[name].high), wanted, name)
+        narrow = desk.sensitivities(BOND, CURVE, MODEL, convexity_bp=25)["convexity"]
+        convexity = sum(2 * value * (math.cosh(0.0025 * time) - 1) for time, value in flows) / sum(value for _, value in flows) / 0.0025 ** 2
+        self.assertLessEqual(float(narrow.low), convexity)
+        self.assertGreaterEqual(float(narrow.high), convexity)
         keyed = [found[f"dv01 {key}"] for key in ("2Y", "5Y", "10Y")]
         self.assertAlmostEqual(float(sum(each.value for each in keyed)), dv01, delta=float(4 * found.price.bound))
         self.assertIn("exact on this tree", str(found))
