@@ -27,9 +27,9 @@ WORD = re.compile(r'[^\W\d][\w-]*')
 LINKED = ('README.md', 'CHANGELOG.md', 'examples/README.md', 'javascript/README.md', *(str(path.relative_to(ROOT)) for path in sorted((ROOT / 'docs').rglob('*.md'))))
 LINK = re.compile(r'\]\(([^)\s]+)\)')
 # What is made and not kept, and the size of a file that is no source.
-MADE, MOST_BYTES = ('target', 'dist', 'share', 'lib/'), 1_000_000
+MADE, MOST_BYTES = ('target', 'out/', 'dist', 'share', 'lib/'), 1_000_000
 # Words that are no names of the tree: of the prover, the C library, the kit and files that are made.
-OTHERS = {'memcpy', 'memset', 'mixegorta', 'stdout', 'dist/', 'target/', 'target/log/', 'target/module/mixegorta.bc', 'src/', 'specs/', 'specs/inside/', 'proofs/', 'PROOF.txt', 'libmixegorta.a'}
+OTHERS = {'memcpy', 'memset', 'mixegorta', 'stdout', 'dist/', 'target/', 'target/log/', 'target/module/mixegorta.bc', 'out/', 'src/', 'specs/', 'specs/inside/', 'proofs/', 'PROOF.txt', 'libmixegorta.a'}
 
 
 def anchors(text):
