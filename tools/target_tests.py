@@ -145,7 +145,7 @@ class OnTarget:
 def run(target, programs):
     """Runs the calling script's tests, or says in one line what they lack, with exit status 2."""
     lacks = [program for program in programs if not shutil.which(program)]
-    if lacks:
+    if lacks and not {'-h', '--help'} & set(sys.argv):
         print(f'{target} is not tested, since {" and ".join(lacks)} {"is" if len(lacks) == 1 else "are"} not installed')
         sys.exit(2)
     unittest.main()
