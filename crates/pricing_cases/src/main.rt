@@ -323,7 +323,7 @@ fn order_of_dates() {
 }
 
 // A tree, and the side of the options on it.
-#[derive(Drop)]
+#[derive(Clone, Copy)]
 struct Sided {
     steps: usize,
     reversion: u64,

@@ -5,8 +5,8 @@ use borrow.Author.Rules.{rules}
 use Rattle.fitting.proofs.fit_tree.Goals as goal
 use Rattle.fitting.proofs.fit_tree.Goals.{After-plan_of-plan}
 
-clauses-number-discounted-priced : {A B C : Type 0} → A × B × C → record { number : A; discounted : B; priced : C }
-clauses-number-discounted-priced w = record { number = w.0; discounted = w.1; priced = w.2 }
+clauses-number-discounted-priced : {A B C : Type 0} → A × (B × C) → record { number : A; discounted : B; priced : C }
+clauses-number-discounted-priced w = record { number = w.0; discounted = w.1.0; priced = w.1.1 }
 
 -- what is known once the quotes were converted and the plan was made
 prepared : (c : After-plan_of-plan) →

@@ -9,14 +9,14 @@ pub slice_bounds-rate_table-end : goal.slice_bounds-rate_table-end
 slice_bounds-rate_table-end c =
     let table_of = c.table_of-rate_table in
     let node-count = c.node_count-rate_nodes in
-    let a = c.requires.trees.rate_tree in
+    let a = c.requires.trees.rate-tree in
     prefix-room _ _ a.limits.steps-within-limit a.limits.reversion-within-limit _ _ node-count.ensures table_of.ensures
 
 pub slice_bounds-roll_bond-end : goal.slice_bounds-roll_bond-end
 slice_bounds-roll_bond-end c =
     let table_of = c.table_of-rate_table in
     let node-count = c.node_count-rate_nodes in
-    let a = c.requires.trees.rate_tree in
+    let a = c.requires.trees.rate-tree in
     prefix-length _ _ (prefix-room _ _ a.limits.steps-within-limit a.limits.reversion-within-limit _ _ node-count.ensures table_of.ensures)
 
 pub slice_bounds-spread_table-end : goal.slice_bounds-spread_table-end
@@ -39,7 +39,7 @@ roll_bond-number-requires c =
     let node-count2 = c.node_count-spread_nodes in
     let table_of = c.table_of-rate_table in
     let node-count = c.node_count-rate_nodes in
-    let r = c.requires.trees.rate_tree in
+    let r = c.requires.trees.rate-tree in
     let q = c.requires.trees.spread-tree in (
       c.requires,
       record {

@@ -10,14 +10,14 @@ pub slice_bounds-rate_table-end : goal.slice_bounds-rate_table-end
 slice_bounds-rate_table-end c =
     let table_of = c.table_of-rate_table in
     let node-count = c.node_count-rate_nodes in
-    let a = c.requires.0.trees.rate_tree in
+    let a = c.requires.0.trees.rate-tree in
     prefix-room _ _ a.limits.steps-within-limit a.limits.reversion-within-limit _ _ node-count.ensures table_of.ensures
 
 pub slice_bounds-roll_option-end : goal.slice_bounds-roll_option-end
 slice_bounds-roll_option-end c =
     let table_of = c.table_of-rate_table in
     let node-count = c.node_count-rate_nodes in
-    let a = c.requires.0.trees.rate_tree in
+    let a = c.requires.0.trees.rate-tree in
     prefix-length _ _ (prefix-room _ _ a.limits.steps-within-limit a.limits.reversion-within-limit _ _ node-count.ensures table_of.ensures)
 
 pub slice_bounds-spread_table-end : goal.slice_bounds-spread_table-end
@@ -40,7 +40,7 @@ roll_option-number-requires c =
     let node-count2 = c.node_count-spread_nodes in
     let table_of = c.table_of-rate_table in
     let node-count = c.node_count-rate_nodes in
-    let r = c.requires.0.trees.rate_tree in
+    let r = c.requires.0.trees.rate-tree in
     let q = c.requires.0.trees.spread-tree in (
       c.requires.0,
       record {
@@ -61,9 +61,7 @@ returns-then-number-ne0 c =
 
 pub error_bound-requires : goal.error_bound-requires
 error_bound-requires c =
-    let s = c.before.before.before.before.before.before.before.before.before.before.before.before.before.before.before.before.before.before
-    in
-    s.pre.0.trees
+    c.requires.0.trees
 
 pub returns : goal.returns
 returns c =

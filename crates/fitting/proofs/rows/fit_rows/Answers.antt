@@ -9,9 +9,6 @@ use Rattle.fitting.proofs.StepRows.{never}
 use Rattle.fitting.proofs.rows.fit_rows.Goals as goal
 use Rattle.fitting.proofs.rows.fit_rows.Goals.{In-loop-row}
 
-clauses-tested-fitted-kept : {A B C : Type 0} → A × B × C → record { tested : A; fitted : B; kept : C }
-clauses-tested-fitted-kept w = record { tested = w.0; fitted = w.1; kept = w.2 }
-
 inside : (c : In-loop-row) → c.loop-row.row < length c.args.quotes.now
 inside c = omega arith
 
@@ -35,10 +32,7 @@ returns-then-not-tree_row c =
     let l = c in
     let ready = laws.stored-ready l.requires in
     let done = l.loop-row.invariant.1 in
-    let rejected = c.if-not-tree_row.true in clauses-tested-fitted-kept ((
-      laws.refused ready done (inside (goal.at.returns-then-not-tree_row c).In-loop-row) c.tree_row.ensures rejected,
-      (λ e. never e, laws.past-stored (laws.refused-past ready done (inside (goal.at.returns-then-not-tree_row c).In-loop-row) c.tree_row.ensures rejected)),
-    ))
+    let rejected = c.if-not-tree_row.true in record { tested = laws.refused ready done (inside (goal.at.returns-then-not-tree_row c).In-loop-row) c.tree_row.ensures rejected; fitted = λ e. never e; kept = laws.past-stored (laws.refused-past ready done (inside (goal.at.returns-then-not-tree_row c).In-loop-row) c.tree_row.ensures rejected) }
 
 pub loop-row-preserved : goal.loop-row-preserved
 loop-row-preserved c =
@@ -56,7 +50,4 @@ shape_of-state_prices c = c.loop-row.invariant.4 ∙ simp length-set
 pub returns : goal.returns
 returns c =
     let e : c.loop-row.row ≡ length c.args.quotes.now = omega arith in
-    let done = c.loop-row.invariant.1 in clauses-tested-fitted-kept ((
-      laws.complete-accepted c.args.state_prices.now e done,
-      (λ _. laws.complete c.args.state_prices.now e done, laws.complete-past c.args.state_prices.now e done),
-    ))
+    let done = c.loop-row.invariant.1 in record { tested = laws.complete-accepted c.args.state_prices.now e done; fitted = λ _. laws.complete c.args.state_prices.now e done; kept = laws.complete-past c.args.state_prices.now e done }

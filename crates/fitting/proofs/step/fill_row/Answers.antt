@@ -11,9 +11,6 @@ use Rattle.fitting.proofs.NodeLoop as laws
 use Rattle.fitting.proofs.step.fill_row.Goals as goal
 use Rattle.fitting.proofs.step.fill_row.Goals.{Else-not-is_discount, In-loop-k}
 
-clauses-tested-filled-spreads : {A B C : Type 0} → A × B × C → record { tested : A; filled : B; spreads : C }
-clauses-tested-filled-spreads w = record { tested = w.0; filled = w.1; spreads = w.2 }
-
 abbrev quotient : Else-not-is_discount → ℕ
 quotient c =
     laws.ratio c.args.quote c.args.factors.now c.args.z c.loop-k.k
@@ -51,11 +48,8 @@ shape_of-sums-then-not-is_discount c =
 
 pub returns-then-not-is_discount : goal.returns-then-not-is_discount
 returns-then-not-is_discount c =
-    let l = c.before.before.before in clauses-tested-filled-spreads ((
-      laws.stepping-fails l.requires.0 l.loop-k.invariant (inside (goal.at.returns-then-not-is_discount c).In-loop-k)
-          (sym c.is_discount.ensures ∙ c.if-not-is_discount.true),
-      (λ e. never e, λ e. never e),
-    ))
+    let l = c.before.before.before in record { tested = laws.stepping-fails l.requires.0 l.loop-k.invariant (inside (goal.at.returns-then-not-is_discount c).In-loop-k)
+          (sym c.is_discount.ensures ∙ c.if-not-is_discount.true); filled = λ e. never e; spreads = λ e. never e }
 
 pub bounds-discounts-k : goal.bounds-discounts-k
 bounds-discounts-k c =
@@ -87,7 +81,4 @@ shape_of-sums c = laws.sums-length c.requires.0 c.loop-k.invariant
 pub returns : goal.returns
 returns c =
     let g = c.loop-k.invariant in
-    let e : c.loop-k.k ≡ length c.args.state_prices.now = omega (arith, g.within) in clauses-tested-filled-spreads ((
-      laws.stepping-good c.requires.0 g e,
-      (λ _. laws.stepping-filled c.requires.0 g e, λ _. laws.stepping-spread c.requires.0 g e),
-    ))
+    let e : c.loop-k.k ≡ length c.args.state_prices.now = omega (arith, g.within) in record { tested = laws.stepping-good c.requires.0 g e; filled = λ _. laws.stepping-filled c.requires.0 g e; spreads = λ _. laws.stepping-spread c.requires.0 g e }

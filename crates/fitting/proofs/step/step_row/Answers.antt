@@ -16,4 +16,4 @@ fill_row-requires c =
 pub returns : goal.returns
 returns c =
     let loop = c.fill_row.ensures in
-    laws.stepped c.normaliser_of-z.ensures _ _ _ _ c.clear.ensures loop.tested loop.filled.0 loop.filled.1
+    laws.stepped c.normaliser_of-z.ensures _ _ _ _ c.clear.ensures loop.tested loop.filled loop.spreads

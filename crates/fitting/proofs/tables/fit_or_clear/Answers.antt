@@ -23,7 +23,7 @@ fit_rows-requires c = c.requires
 pub returns-then-fit_rows : goal.returns-then-fit_rows
 returns-then-fit_rows c =
     let rows = c.fit_rows in
-    record { tested = sym c.if-fit_rows.true ∙ rows.ensures.tested; memories = rows.ensures.fitted.0 c.if-fit_rows.true }
+    record { tested = sym c.if-fit_rows.true ∙ rows.ensures.tested; memories = rows.ensures.fitted c.if-fit_rows.true }
 
 pub clear_front-requires : goal.clear_front-requires
 clear_front-requires c =
@@ -41,6 +41,6 @@ returns c =
     record {
       tested = sym c.if-fit_rows.false ∙ fitted.fit_rows.ensures.tested;
       memories =
-          laws.cleared fitted.fit_rows.ensures.fitted.1 (discounts-size (goal.at.returns c).After-state_prices_needed-all) (state-prices-size (goal.at.returns c).After-state_prices_needed-all)
+          laws.cleared fitted.fit_rows.ensures.kept (discounts-size (goal.at.returns c).After-state_prices_needed-all) (state-prices-size (goal.at.returns c).After-state_prices_needed-all)
           c.clear_front.ensures c.clear_front-2.ensures;
     }

@@ -9,7 +9,7 @@ use Rattle.pair_laws.proofs.Squares.{line-greatest, lines-greatest}
 use Rattle.pair_pricing.proofs.squares.greatest_value.Given as goal
 
 abbrev pub invariant-loop-a : goal.invariant-loop-a
-invariant-loop-a l = (l.a ≤ l.lines) × (l.best ≡ greatest l.a (λ (t : ℕ). greatest l.width (λ (l : ℕ). cell l.square t l)))
+invariant-loop-a l = (l.a ≤ l.lines) × (l.best ≡ greatest l.a (λ (t : ℕ). greatest l.width (λ (place : ℕ). cell l.square t place)))
 
 abbrev pub decreases-loop-a : goal.decreases-loop-a
 decreases-loop-a l = l.lines - l.a

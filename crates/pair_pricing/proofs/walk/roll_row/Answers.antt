@@ -8,15 +8,15 @@ use Rattle.pair_pricing.proofs.walk.roll_row.Goals.{After-roll-arg-2-1}
 
 pub part-requires : goal.part-requires
 part-requires c =
-    table-room _ _ _ c.args.rates.now c.requires.0.rate_tree c.requires.2 _ c.row_shape-rate.ensures _ c.requires.1.rate_table
+    table-room _ _ _ c.args.rates.now c.requires.0.rate-tree c.requires.2 _ c.row_shape-rate.ensures _ c.requires.1.rate-table
 
 pub part-requires-2 : goal.part-requires-2
 part-requires-2 c =
-    table-room _ _ _ c.args.spreads.now c.requires.0.spread-tree c.requires.2 _ c.row_shape-spread.ensures _ c.requires.1.spread_table
+    table-room _ _ _ c.args.spreads.now c.requires.0.spread-tree c.requires.2 _ c.row_shape-spread.ensures _ c.requires.1.spread-table
 
 pub part-requires-3 : goal.part-requires-3
 part-requires-3 c =
-    discount-room _ _ _ c.args.rates.now c.requires.0.rate_tree c.requires.2 _ c.row_shape-rate.ensures
+    discount-room _ _ _ c.args.rates.now c.requires.0.rate-tree c.requires.2 _ c.row_shape-rate.ensures
 
 pub part-requires-4 : goal.part-requires-4
 part-requires-4 c =

@@ -1,0 +1,15 @@
+use mathlib.Core.Path.{◌≡◌, refl}
+use Prim.Native.Nat.{ℕ, ◌+◌, ◌-◌, ◌≤◌}
+use lib.ListN.{length, length-set}
+use Rattle.arithmetic.proofs.RowLaws.{Filled, filled-start, filled_next}
+use Rattle.job_fit.proofs.ColumnLaws as laws
+use borrow.Author.Rules.{rules}
+use native.Mathlib.Omega.{arith}
+use Rattle.job_fit.proofs.columns.fill_rows.Given as goal
+
+abbrev pub invariant-loop-index : goal.invariant-loop-index
+invariant-loop-index l =
+    (l.index ≤ l.count) × (length l.rows ≡ length l.initial.rows) × Filled l.initial.rows l.rows (λ (k : ℕ). k + 1) l.index
+
+abbrev pub decreases-loop-index : goal.decreases-loop-index
+decreases-loop-index l = l.count - l.index

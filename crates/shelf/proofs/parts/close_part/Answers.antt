@@ -1,0 +1,32 @@
+use mathlib.Core.Path.{◌≡◌, sym, ap, ◌∙◌}
+use Prim.Native.Nat.{ℕ, ◌-◌, ◌+◌}
+use mathlib.Core.List.{List, ◌++◌}
+use lib.ListN.{length, take, drop, length-drop}
+use native.Mathlib.Omega.{arith}
+use borrow.Rule.Slice.PartMut.{mid_len}
+use Rattle.arithmetic.specs.Row.{place}
+use Rattle.arithmetic.proofs.RowLaws.{length-row}
+use Rattle.shelf_laws.specs.Parts.{zeros, closed}
+use Rattle.shelf_laws.proofs.Moves.{closed_is, rest-length}
+use Rattle.shelf_laws.proofs.PartLaws.{part-back-to}
+use borrow.Author.Rules.{rules}
+use Rattle.shelf.proofs.parts.close_part.Goals as goal
+
+pub returns : goal.returns
+unfolding closed
+returns c =
+    let a = c.args in
+    let down = c.move_down in
+    let zero = c.clear in
+    let m = a.memory.now in
+    let moved = down.new.memory in
+    let same : length moved ≡ length m = omega arith in
+    let e : length moved - (length moved - a.count) ≡ a.count = omega arith in
+    let f : length moved - a.count ≡ length m - a.count = omega arith in
+    part-back-to moved (length moved - a.count) (length moved) (zeros a.count) zero.new.part (omega arith)
+    (zero.ensures ∙ ap zeros (mid_len (length moved - a.count) (length moved) moved (omega arith) ∙ e))
+    (length-row a.count _ ∙ sym e)
+    ∙ ap (λ (n : ℕ). place moved n (zeros a.count)) f
+    ∙ ap (λ (l : List ℕ). place l (length m - a.count) (zeros a.count)) down.ensures
+    ∙ closed_is (take a.at m ++ drop (a.at + a.count) m) (drop (length m - a.count) m) (length m - a.count) a.count
+    (rest-length m a.at a.count (omega arith)) (simp length-drop (omega arith))

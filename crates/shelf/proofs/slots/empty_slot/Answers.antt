@@ -1,0 +1,6 @@
+use Rattle.shelf_laws.proofs.SlotLaws.{empty-is}
+use borrow.Author.Rules.{rules}
+use Rattle.shelf.proofs.slots.empty_slot.Goals as goal
+
+pub returns : goal.returns
+returns c = empty-is _ c.no_rows-rows.ensures

@@ -1,0 +1,13 @@
+use mathlib.Core.Path.{◌≡◌, refl, ap, ◌∙◌}
+use Prim.Native.Nat.{◌≤◌, ◌-◌}
+use native.Mathlib.Omega.{arith}
+use Rattle.shelf_laws.specs.Shelf.{slot_at, nodes_before}
+use Rattle.shelf_laws.proofs.SlotLaws.{before_more, before-most, nodes-most}
+use borrow.Author.Rules.{rules}
+use Rattle.shelf.proofs.slots.nodes_before.Given as goal
+
+abbrev pub invariant-loop-at : goal.invariant-loop-at
+invariant-loop-at l = (l.at ≤ l.count) × (l.nodes ≡ nodes_before l.shelf.slots l.at)
+
+abbrev pub decreases-loop-at : goal.decreases-loop-at
+decreases-loop-at l = l.count - l.at

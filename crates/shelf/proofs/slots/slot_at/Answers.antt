@@ -1,0 +1,8 @@
+use mathlib.Core.Path.{refl}
+use Rattle.shelf_laws.specs.Shelf.{slot_at}
+use borrow.Author.Rules.{rules}
+use Rattle.shelf.proofs.slots.slot_at.Goals as goal
+
+pub returns : goal.returns
+unfolding slot_at
+returns c = refl
