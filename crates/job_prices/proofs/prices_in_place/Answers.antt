@@ -17,9 +17,6 @@ pub returns-then-form-ne0 : goal.returns-then-form-ne0
 returns-then-form-ne0 c =
     let a = c.args in clauses-answer-discounted-priced (laws.form-refused a.job a.discounts.now a.state_prices.now _ c.option_form-form.ensures c.if-form-ne0.true _ c.refused.ensures)
 
-abbrev start : After-slice_known-4-1 → Start
-start c = c.before.before.before.before.before
-
 -- the option has a job's form
 form-none : (c : After-slice_known-4-1) → let a = c.args in option_form a.job.option.tag a.job.option.count ≡ 0
 form-none c = sym c.option_form-form.ensures ∙ c.if-form-ne0.false

@@ -26,10 +26,6 @@ returns-then-memory-ne0 c =
     let a = short.args in clauses-answer-discounted-priced (laws.short-left a.job a.discounts.now a.state_prices.now (λ z. short.if-memory-ne0.true (memory-is (goal.at.returns-then-memory-ne0 c).After-memory_cause-memory ∙ z)) _ _ _
     (c.prices_in_place.ensures.answer, (c.prices_in_place.ensures.discounted, c.prices_in_place.ensures.priced)))
 
--- where the record is fitted and priced apart
-abbrev long : After-prices_in_place-prices → Else-memory-ne0
-long c = c.before.before.before.before.before
-
 pub returns-then-prices-ne0 : goal.returns-then-prices-ne0
 returns-then-prices-ne0 c =
     let enough = c in
@@ -40,7 +36,7 @@ returns-then-prices-ne0 c =
 
 apart : (c : After-state_prices_needed-price_count) →
     let a = c.args in
-    laws.Apart a.job a.discounts.now a.state_prices.now c.prices_in_place-prices.last.1.0 c.prices_in_place-prices.last.1.1.0
+    laws.Apart a.job a.discounts.now a.state_prices.now c.prices_in_place-prices.new.discounts c.prices_in_place-prices.new.state_prices
     c.discounts_needed-discount_count.result.value c.state_prices_needed-price_count.result.value c.prices_in_place-prices.result
 apart c =
     let enough = c in

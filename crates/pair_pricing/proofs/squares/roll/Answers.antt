@@ -11,9 +11,9 @@ spread_side-requires c =
       r.spread-count,
       r.spread_line,
       r.spread-room,
-      omega (arith, r.rate-count, r.rate_line),
-      r.rate_discounts,
-      r.spread_discounts,
+      omega (arith, r.rate-count, r.rate-line),
+      r.rate-discounts,
+      r.spread-discounts,
       r.flow-most,
       middle-most c.args.rate_downs.now c.args.rate_next c.args.spread_next c.args.square.now _ r.rate-branches c.requires.1
           side.1 _ r.rate-count,

@@ -1,0 +1,18 @@
+use mathlib.Core.Path.{◌≡◌, refl, ◌∙◌}
+use Prim.Native.Nat.{ℕ, suc, ◌+◌, ◌*◌, ◌≤◌, ◌<◌}
+use lib.ListN.{length}
+use Rattle.text_laws.specs.Lines.{longest_line}
+use Rattle.lattice.specs.Shape.{row_start, discounts_needed}
+use Rattle.sheet_laws.specs.TreeSheet.{nodes_of_row}
+use Rattle.node_lines.proofs.LineLoop.{Progress, begun, gone, ended}
+use Rattle.sheet_laws.proofs.PartLaws as laws
+use borrow.Author.Rules.{rules}
+use native.Mathlib.Omega.{arith}
+use Rattle.record_sheet.proofs.lines.put_node_rows.Given as goal
+
+abbrev pub invariant-loop-left : goal.invariant-loop-left
+invariant-loop-left l =
+    Progress (nodes_of_row l.reversion l.discounts) (λ (i : ℕ). longest_line * row_start l.reversion i) l.initial.out l.end l.steps l.out l.start l.left × (l.place ≡ row_start l.reversion l.left)
+
+abbrev pub decreases-loop-left : goal.decreases-loop-left
+decreases-loop-left l = l.left
