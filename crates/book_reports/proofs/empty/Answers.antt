@@ -1,0 +1,7 @@
+use mathlib.Core.Path.{refl}
+use Rattle.report_laws.specs.Reports.{empty_report}
+use Rattle.book_reports.proofs.empty.Goals as goal
+
+pub returns : goal.returns
+unfolding empty_report
+returns c = refl

@@ -1,0 +1,7 @@
+use mathlib.Core.Path.{ap, ◌∙◌}
+use borrow.Author.Rules.{rules}
+use Rattle.report_laws.specs.Reports.{book_report}
+use Rattle.book_reports.proofs.of_file.Goals as goal
+
+pub returns : goal.returns
+returns c = c.of_book.ensures ∙ ap book_report c.file_book.ensures

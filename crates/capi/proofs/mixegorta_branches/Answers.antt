@@ -1,0 +1,6 @@
+use mir.Facts.{to_z-of_z}
+use borrow.Author.Rules.{rules}
+use Rattle.capi.proofs.mixegorta_branches.Goals as goal
+
+pub returns : goal.returns
+returns c = rw (to_z-of_z c.ranges.node) at c.branch-reversion.ensures

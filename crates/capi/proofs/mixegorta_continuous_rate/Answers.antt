@@ -1,0 +1,5 @@
+use borrow.Author.Rules.{rules}
+use Rattle.capi.proofs.mixegorta_continuous_rate.Goals as goal
+
+pub returns : goal.returns
+returns c = c.of_discount.ensures

@@ -1,0 +1,5 @@
+use borrow.Author.Rules.{rules}
+use Rattle.capi.proofs.mixegorta_curve_discounts.Goals as goal
+
+pub returns : goal.returns
+returns c = record { number = c.convert.ensures.number; memory = c.convert.ensures.memory }

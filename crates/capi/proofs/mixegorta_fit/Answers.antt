@@ -1,0 +1,5 @@
+use borrow.Author.Rules.{rules}
+use Rattle.capi.proofs.mixegorta_fit.Goals as goal
+
+pub returns : goal.returns
+returns c = record { number = c.fit.ensures.number; discounted = c.fit.ensures.discounted; priced = c.fit.ensures.priced }
