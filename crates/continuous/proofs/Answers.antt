@@ -1,5 +1,3 @@
--- The answers, by their causes.
--- Assumes nothing.
 use mathlib.Core.Path.{◌≡◌, refl, sym, ◌∙◌, ap}
 use mathlib.Core.Bool.{Bool, true, false}
 use Prim.Native.Nat.{ℕ, suc, ◌/◌, ◌≤◌, ◌<◌}
@@ -19,6 +17,9 @@ use Rattle.factor.specs.Factor.{side_factor, side_answer}
 use Rattle.factor.proofs.FactorLaws.{side-accepted}
 use Rattle.continuous.specs.Continuous.{amount_limit, quarter_of, fourth_power, side_discount, continuous_discount, continuous_answer, quotient_answer}
 use Rattle.continuous.proofs.Sides.{quotient-most}
+
+-- The answers, by their causes.
+-- Assumes nothing.
 
 module _ (q : ℕ) (below : Bool) where
   pub quotient-refused : one < q → quotient_answer q below ≡ refused 7

@@ -1,8 +1,8 @@
+use mathlib.Core.Bool.{Bool, true, false, ◌&&◌}
+use mathlib.Core.Path.{◌≡◌, refl, sym, ◌∙◌}
+
 -- From what a call that tests says of its answer, and the branch on it, to the tested fact; and the parts of a test.
 -- Assumes nothing.
-use mathlib.Core.Bool.{Bool, true, false, not, ◌&&◌}
-use mathlib.Core.Path.{◌≡◌, refl, sym, ◌∙◌}
-use borrow.Author.Tests.{not-true, not-false}
 
 -- after `if !f(..) { return .. }`
 pub passed : {r t : Bool} → r ≡ t → r ≡ true → t ≡ true

@@ -1,5 +1,3 @@
--- Prices on two trees that are not refused: what they are, and how far they stand from the exact ones.
--- Assumes nothing.
 use mathlib.Core.Path.{◌≡◌, refl}
 use mathlib.Core.Bool.{Bool, true, false, cond}
 use mathlib.Core.List.{List}
@@ -33,6 +31,9 @@ use Rattle.pair_laws.specs.inside.States.{AcceptedPair}
 use Rattle.pair_laws.proofs.CauseLaws.{pair-accepted}
 use Rattle.pair_laws.proofs.PairLaws.{pair-bond-accurate, pair-option-accurate, pair-bound-a-step, pair-monotone, pair-root}
 use Rattle.pair_promises.specs.PairPromises.{NoPairAboveOne}
+
+-- Prices on two trees that are not refused: what they are, and how far they stand from the exact ones.
+-- Assumes nothing.
 
 -- an answer with number 0 has the price, and no cause
 given : (cause v e : ℕ) → (priced cause v e).number ≡ 0 → Given cause v e (priced cause v e)

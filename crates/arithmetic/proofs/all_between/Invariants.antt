@@ -1,11 +1,8 @@
-use mathlib.Core.Path.{◌≡◌, sym, ap, ◌∙◌}
+use mathlib.Core.Path.{◌≡◌}
 use mathlib.Core.Bool.{true}
-use Prim.Native.Nat.{ℕ, ◌-◌, ◌≤◌}
-use native.Mathlib.Omega.{arith}
+use Prim.Native.Nat.{◌-◌, ◌≤◌}
 use lib.ListN.{length}
 use Rattle.arithmetic.specs.Row.{values, each, between}
-use Rattle.arithmetic.proofs.RowLaws.{each_none, each_more, each-fails}
-use Rattle.arithmetic.proofs.BetweenLaws.{between-holds, between-below, between-above}
 use Rattle.arithmetic.proofs.all_between.Given as goal
 
 abbrev pub invariant-loop-k : goal.invariant-loop-k

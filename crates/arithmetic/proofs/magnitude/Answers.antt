@@ -5,7 +5,6 @@ use native.Mathlib.Omega.{arith}
 use lib.IntN.{pos, nat_abs}
 use lib.Signed.{lt_z}
 use mir.Facts.{to_z-of_z}
-use borrow.Author.Rules.{rules}
 use Rattle.arithmetic.proofs.Signed.{negated_fits, negated_back, is_whole, size-most, size-lowest, size-other}
 use Rattle.arithmetic.proofs.magnitude.Goals as goal
 use Rattle.arithmetic.proofs.magnitude.Goals.{Then-number-lt0}

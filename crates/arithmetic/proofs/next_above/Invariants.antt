@@ -1,10 +1,8 @@
 use mathlib.Core.Path.{◌≡◌}
 use Prim.Native.Nat.{◌-◌, ◌≤◌}
-use native.Mathlib.Omega.{arith}
 use lib.ListN.{length}
 use Rattle.arithmetic.specs.Row.{values}
 use Rattle.arithmetic.specs.Sum.{greatest}
-use Rattle.arithmetic.proofs.SumLaws.{greatest-next}
 use Rattle.arithmetic.proofs.next_above.Given as goal
 
 abbrev pub invariant-loop-k : goal.invariant-loop-k

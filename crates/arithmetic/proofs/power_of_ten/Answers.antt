@@ -1,5 +1,4 @@
 use mathlib.Core.Path.{sym, ◌∙◌}
-use borrow.Author.Rules.{rules}
 use Rattle.arithmetic.proofs.PowerLaws.{power-listed, power-past}
 use Rattle.arithmetic.proofs.power_of_ten.Goals as goal
 

@@ -1,5 +1,4 @@
 use Prim.Native.Nat.{◌≤◌}
-use borrow.Author.Rules.{rules}
 use Rattle.band_cases.proofs.show_all.Given as goal
 
 abbrev pub invariant-loop-left : goal.invariant-loop-left

@@ -1,6 +1,5 @@
 use Prim.Native.Nat.{◌-◌, ◌≤◌}
 use lib.ListN.{length}
-use borrow.Author.Rules.{rules}
 use Rattle.band_cases.proofs.show_worths.Given as goal
 
 abbrev pub invariant-loop-k : goal.invariant-loop-k

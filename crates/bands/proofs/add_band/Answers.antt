@@ -1,4 +1,3 @@
-use borrow.Author.Rules.{rules}
 use native.Mathlib.Omega.{arith}
 use Rattle.bands.proofs.StopLaws.{row_before, row-after, price-below, price-above, inside, added_none, added-one}
 use Rattle.bands.proofs.add_band.Goals as goal

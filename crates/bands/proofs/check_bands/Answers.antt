@@ -1,11 +1,9 @@
 use mathlib.Core.Path.{◌≡◌, sym, ◌∙◌}
 use mathlib.Core.Bool.{true}
-use borrow.Author.Tests.{not-true, not-false}
 use Rattle.arithmetic.proofs.Implied.{implied}
 use Rattle.bands.specs.Bands.{same_lengths}
 use Rattle.bands.proofs.TestLaws.{lengths-agree}
 use Rattle.bands.proofs.VerdictLaws.{table-bad, table-many, table-pairs, verdict-lengths, verdict-table}
-use borrow.Author.Rules.{rules}
 use Rattle.bands.proofs.check_bands.Goals as goal
 use Rattle.bands.proofs.check_bands.Goals.{Else-not-have_one_length}
 

@@ -1,10 +1,9 @@
 use mathlib.Core.Path.{◌≡◌}
 use Prim.Native.Nat.{◌+◌, ◌-◌}
-use borrow.Author.Rules.{rules}
 use native.Mathlib.Omega.{arith}
 use Rattle.limits.specs.Limits.{value_limit}
-use Rattle.bands.specs.Bands.{bands_of, failing, failing_price}
-use Rattle.bands.proofs.FirstLaws.{Searched, searched-start, searched-jump, searched-found, searched-none}
+use Rattle.bands.specs.Bands.{failing_price}
+use Rattle.bands.proofs.FirstLaws.{searched-start, searched-jump, searched-found, searched-none}
 use Rattle.bands.proofs.TestLaws.{stop-fails, stop-passes}
 use Rattle.bands.proofs.failing_price.Goals as goal
 

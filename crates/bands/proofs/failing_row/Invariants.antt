@@ -1,11 +1,7 @@
-use mathlib.Core.Path.{◌≡◌, ◌∙◌}
 use Prim.Native.Nat.{◌+◌, ◌-◌}
-use borrow.Author.Rules.{rules}
-use native.Mathlib.Omega.{arith}
 use Rattle.limits.specs.Limits.{most_steps}
-use Rattle.bands.specs.Bands.{bands_of, fails, failing_row}
-use Rattle.bands.proofs.FirstLaws.{Searched, searched-start, searched-more, searched-found, searched-none}
-use Rattle.bands.proofs.TestLaws.{fails-false, fails-true}
+use Rattle.bands.specs.Bands.{bands_of, fails}
+use Rattle.bands.proofs.FirstLaws.{Searched}
 use Rattle.bands.proofs.failing_row.Given as goal
 
 abbrev pub invariant-loop-row : goal.invariant-loop-row

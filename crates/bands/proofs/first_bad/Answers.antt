@@ -1,13 +1,11 @@
 use mathlib.Core.Path.{◌≡◌, sym, ◌∙◌}
 use Prim.Native.Nat.{◌-◌}
-use borrow.Author.Rules.{rules}
 use native.Mathlib.Omega.{arith}
 use mathlib.Core.Bool.{not}
 use mathlib.Core.Path.{ap}
 use lib.ListN.{length}
-use Rattle.arithmetic.specs.Row.{values}
-use Rattle.bands.specs.Bands.{bands_of, unsound, bad_index}
-use Rattle.bands.proofs.FirstLaws.{Searched, searched-start, searched-more, searched-found, searched-none}
+use Rattle.bands.specs.Bands.{bad_index}
+use Rattle.bands.proofs.FirstLaws.{searched-start, searched-more, searched-found, searched-none}
 use Rattle.bands.proofs.first_bad.Goals as goal
 
 pub loop-k-init : goal.loop-k-init

@@ -1,6 +1,5 @@
 use native.Mathlib.Omega.{arith}
 use Rattle.bands.proofs.VerdictLaws.{pairs-accepted, pairs-uncovered, pairs-overlapping, failing-price-fits}
-use borrow.Author.Rules.{rules}
 use Rattle.bands.proofs.judge_pairs.Goals as goal
 
 pub returns-then-row-gt-LAST_ROW : goal.returns-then-row-gt-LAST_ROW

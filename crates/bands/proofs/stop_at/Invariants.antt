@@ -1,11 +1,7 @@
-use borrow.Author.Rules.{rules}
-use native.Mathlib.Omega.{arith}
-use mathlib.Core.Path.{◌≡◌}
 use Prim.Native.Nat.{◌-◌, ◌≤◌}
 use lib.ListN.{length}
 use Rattle.bands.specs.Bands.{bands_of}
 use Rattle.bands.specs.inside.Stops.{StopAt}
-use Rattle.bands.proofs.StopLaws.{stop-none, stop-more, covering-most}
 use Rattle.bands.proofs.stop_at.Given as goal
 
 abbrev pub invariant-loop-k : goal.invariant-loop-k

@@ -2,7 +2,6 @@ use lib.Seq.{length-take-le}
 use lib.ListN.{length-append, length-take, length-drop}
 use mathlib.Core.Path.{sym}
 use native.Mathlib.Omega.{arith}
-use borrow.Author.Rules.{rules}
 use Rattle.book.proofs.next_field.Goals as goal
 
 pub slice_bounds-read_full-end-3 : goal.slice_bounds-read_full-end-3

@@ -1,6 +1,5 @@
 use lib.ListN.{length}
 use mathlib.Core.Path.{◌≡◌}
-use borrow.Author.Rules.{rules}
 use Rattle.book_cases.proofs.write_all.Given as goal
 
 abbrev pub invariant-loop-left : goal.invariant-loop-left

@@ -1,6 +1,4 @@
-use borrow.Author.Tests.{not-true, not-false}
 use mathlib.Core.Path.{sym, ◌∙◌}
-use borrow.Author.Rules.{rules}
 use Rattle.book_laws.proofs.OpenLaws.{broken-shut, broken-ends}
 use Rattle.book_fields.proofs.broken.Goals as goal
 

@@ -1,5 +1,4 @@
 use mathlib.Core.Path.{◌∙◌}
-use borrow.Author.Rules.{rules}
 use Rattle.book_laws.proofs.OpenLaws.{closed-whole, closed-broken}
 use Rattle.book_fields.proofs.closed.Goals as goal
 

@@ -1,6 +1,4 @@
-use borrow.Author.Tests.{not-true, not-false}
 use mathlib.Core.Path.{sym, ◌∙◌, ap}
-use borrow.Author.Rules.{rules}
 use Rattle.book_laws.proofs.OpenLaws.{field-shut, field-full, field-added, memory-shut, memory-full, memory-added}
 use Rattle.book_laws.specs.Books.{with_prices}
 use Rattle.book_laws.proofs.BoundLaws.{bounded}

@@ -1,5 +1,4 @@
 use native.Mathlib.Omega.{arith}
-use borrow.Author.Rules.{rules}
 use Rattle.book_laws.specs.Report.{book_lines}
 use Rattle.book_laws.proofs.ReportLaws.{answer-short, memory-short, answer-put, memory-put}
 use Rattle.book_lines.proofs.lines.Goals as goal

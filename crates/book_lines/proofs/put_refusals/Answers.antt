@@ -1,7 +1,6 @@
 use mathlib.Core.Path.{refl}
 use native.Mathlib.Omega.{arith}
-use borrow.Author.Rules.{rules}
-use Rattle.book_laws.proofs.ReportLaws.{Standing, standing-first, standing-next, standing-all}
+use Rattle.book_laws.proofs.ReportLaws.{standing-first, standing-next, standing-all}
 use Rattle.book_lines.proofs.put_refusals.Goals as goal
 
 pub loop-left-init : goal.loop-left-init

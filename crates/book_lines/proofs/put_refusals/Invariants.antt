@@ -1,7 +1,4 @@
-use mathlib.Core.Path.{refl}
-use native.Mathlib.Omega.{arith}
-use borrow.Author.Rules.{rules}
-use Rattle.book_laws.proofs.ReportLaws.{Standing, standing-first, standing-next, standing-all}
+use Rattle.book_laws.proofs.ReportLaws.{Standing}
 use Rattle.book_lines.proofs.put_refusals.Given as goal
 
 abbrev pub invariant-loop-left : goal.invariant-loop-left

@@ -1,4 +1,3 @@
-use borrow.Author.Rules.{rules}
 use Rattle.book_laws.proofs.ReportLaws.{sums-stand}
 use Rattle.book_lines.proofs.put_sums.Goals as goal
 

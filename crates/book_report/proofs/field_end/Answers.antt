@@ -1,5 +1,4 @@
 use borrow.Author.Tests.{not-true, not-false}
-use borrow.Author.Rules.{rules}
 use Rattle.book_laws.proofs.FileLaws.{end-unsound, end-cut, end_whole}
 use Rattle.book_report.proofs.field_end.Goals as goal
 

@@ -1,9 +1,7 @@
-use lib.ListN.{length, drop}
-use mathlib.Core.Path.{◌≡◌, ◌∙◌}
+use lib.ListN.{length}
+use mathlib.Core.Path.{◌∙◌}
 use Prim.Native.Nat.{◌+◌, ◌≤◌}
-use borrow.Author.Rules.{rules}
 use native.Mathlib.Omega.{arith}
-use Rattle.book_laws.specs.Files.{streamed, file_book}
 use Rattle.book_laws.proofs.FileLaws.{walk_start, walk_step, walk-stop, walk-full, end-room}
 use Rattle.book_report.proofs.file_book.Goals as goal
 use Rattle.book_report.proofs.file_book.Goals.{Else-end-at}

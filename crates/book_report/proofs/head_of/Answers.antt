@@ -1,5 +1,4 @@
 use native.Mathlib.Omega.{arith}
-use borrow.Author.Rules.{rules}
 use Rattle.book_laws.proofs.FileLaws.{head-short, head-other, head-sound}
 use Rattle.book_laws.specs.Files.{field_size}
 use Rattle.book_report.proofs.head_of.Goals as goal

@@ -2,8 +2,6 @@ use mathlib.Core.Path.{◌≡◌, sym, ap, ◌∙◌}
 use mathlib.Core.Bool.{true}
 use Prim.Native.Nat.{◌≤◌}
 use native.Mathlib.Omega.{arith}
-use borrow.Author.Rules.{rules}
-use borrow.Author.Tests.{not-true, not-false}
 use Rattle.report_laws.specs.Joins.{size_of, most_size, is_report, given_join}
 use Rattle.report_laws.proofs.SoundLaws.{report-sound}
 use Rattle.report_laws.proofs.JoinLaws.{first-refused, second-refused, too_many, join-given}

@@ -1,4 +1,3 @@
-use borrow.Author.Rules.{rules}
 use Rattle.report_laws.specs.Reports.{book_report}
 use Rattle.book_reports.proofs.of_book.Goals as goal
 

@@ -1,5 +1,4 @@
 use mathlib.Core.Path.{ap, ◌∙◌}
-use borrow.Author.Rules.{rules}
 use Rattle.report_laws.specs.Reports.{book_report}
 use Rattle.book_reports.proofs.of_file.Goals as goal
 

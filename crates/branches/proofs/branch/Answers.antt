@@ -6,7 +6,6 @@ use native.Mathlib.Omega.{arith}
 use lib.IntN.{pos, nat_abs}
 use lib.Signed.{lt_z}
 use mir.Facts.{to_z-of_z}
-use borrow.Author.Rules.{rules}
 use Rattle.arithmetic.proofs.Signed.{not_negative}
 use Rattle.branches.proofs.BranchLaws as laws
 use Rattle.branches.proofs.branch.Goals as goal

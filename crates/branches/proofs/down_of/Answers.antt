@@ -1,6 +1,5 @@
 use native.Mathlib.Omega.{arith}
 use Rattle.lattice.proofs.TableLaws as laws
-use borrow.Author.Rules.{rules}
 use Rattle.branches.proofs.down_of.Goals as goal
 
 pub upper-image-requires : goal.upper-image-requires

@@ -1,7 +1,6 @@
 use native.Mathlib.Omega.{arith}
 use Rattle.lattice.proofs.TableLaws as laws
 use native.Mathlib.Nat.{mul-le-mul}
-use borrow.Author.Rules.{rules}
 use Rattle.branches.proofs.down_probabilities.Goals as goal
 
 clauses-number-memory : {A B : Type 0} → A × B → record { number : A; memory : B }

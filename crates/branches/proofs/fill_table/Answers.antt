@@ -1,8 +1,7 @@
 use native.Mathlib.Omega.{arith}
 use borrow.Author.Rules.{rules}
-use Rattle.arithmetic.proofs.RowLaws.{Filled, filled-start, filled_next, filled-all}
-use Prim.Native.Nat.{ℕ, ◌≤◌, ◌-◌}
-use lib.ListN.{length}
+use Rattle.arithmetic.proofs.RowLaws.{filled-start, filled_next, filled-all}
+use Prim.Native.Nat.{ℕ, ◌-◌}
 use Rattle.lattice.specs.Branching.{down_probability}
 use Rattle.lattice.specs.RateTree.{node_of_index}
 use Rattle.branches.proofs.fill_table.Goals as goal

@@ -1,7 +1,5 @@
-use native.Mathlib.Omega.{arith}
-use borrow.Author.Rules.{rules}
-use Rattle.arithmetic.proofs.RowLaws.{Filled, filled-start, filled_next, filled-all}
-use Prim.Native.Nat.{ℕ, ◌≤◌, ◌-◌}
+use Rattle.arithmetic.proofs.RowLaws.{Filled}
+use Prim.Native.Nat.{◌≤◌, ◌-◌}
 use lib.ListN.{length}
 use Rattle.lattice.specs.Branching.{down_probability}
 use Rattle.lattice.specs.RateTree.{node_of_index}

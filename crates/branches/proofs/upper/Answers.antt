@@ -5,7 +5,6 @@ use native.Mathlib.Nat.{mul-le-mul}
 use Prim.Native.Nat.{◌*◌, ◌≤◌}
 use Rattle.lattice.proofs.Nodes.{top-range}
 use Rattle.lattice.proofs.Sizes.{within-by-product}
-use borrow.Author.Rules.{rules}
 use Rattle.branches.proofs.upper.Goals as goal
 use Rattle.branches.proofs.upper.Goals.{Then-z-gt1840}
 

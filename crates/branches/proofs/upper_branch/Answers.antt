@@ -5,7 +5,6 @@ use mir.Syntax.{w64}
 use mir.Val.{SFits, to_z, of_z}
 use mir.Facts.{to_z-of_z}
 use lib.IntN.{pos, nat_abs, ◌-ℤ◌}
-use borrow.Author.Rules.{rules}
 use Rattle.branches.proofs.BranchLaws as laws
 use Rattle.branches.proofs.upper_branch.Goals as goal
 use Rattle.branches.proofs.upper_branch.Goals.{Start}

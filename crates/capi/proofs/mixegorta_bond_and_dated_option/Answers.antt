@@ -1,4 +1,3 @@
-use borrow.Author.Rules.{rules}
 use Rattle.capi.proofs.mixegorta_bond_and_dated_option.Goals as goal
 
 pub returns : goal.returns

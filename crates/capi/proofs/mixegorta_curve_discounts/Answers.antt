@@ -1,4 +1,3 @@
-use borrow.Author.Rules.{rules}
 use Rattle.capi.proofs.mixegorta_curve_discounts.Goals as goal
 
 pub returns : goal.returns

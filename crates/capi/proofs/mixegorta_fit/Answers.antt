@@ -1,4 +1,3 @@
-use borrow.Author.Rules.{rules}
 use Rattle.capi.proofs.mixegorta_fit.Goals as goal
 
 pub returns : goal.returns

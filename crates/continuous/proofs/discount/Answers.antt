@@ -2,7 +2,6 @@ use mathlib.Core.Path.{◌≡◌, sym, ◌∙◌}
 use native.Mathlib.Omega.{arith}
 use lib.IntN.{nat_abs}
 use mir.Facts.{to_z-of_z}
-use borrow.Author.Rules.{rules}
 use Rattle.continuous.proofs.Answers.{amount-refused, amount-found}
 use Rattle.continuous.proofs.discount.Goals as goal
 use Rattle.continuous.proofs.discount.Goals.{After-magnitude-size}

@@ -1,6 +1,5 @@
 use mathlib.Core.Path.{◌≡◌, sym}
 use native.Mathlib.Omega.{arith}
-use borrow.Author.Rules.{rules}
 use Rattle.factor.specs.Series.{term, series}
 use Rattle.factor.proofs.Bounds.{series-bounds}
 use Rattle.continuous.proofs.Answers.{quotient-refused, series-of-node, quotient-found}

@@ -1,7 +1,6 @@
 use mathlib.Core.Path.{ap}
 use Prim.Native.Nat.{ℕ}
 use lib.Dec.{leb}
-use borrow.Author.Rules.{rules}
 use Rattle.continuous_rate.specs.inside.Search.{before}
 use Rattle.continuous_rate.proofs.is_before.Goals as goal
 

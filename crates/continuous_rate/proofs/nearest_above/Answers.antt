@@ -1,7 +1,6 @@
 use mathlib.Core.Path.{◌≡◌, ◌∙◌}
 use Prim.Native.Nat.{◌+◌, ◌-◌}
 use native.Mathlib.Omega.{arith}
-use borrow.Author.Rules.{rules}
 use Rattle.continuous_rate.proofs.Near.{reach-most}
 use Rattle.continuous_rate.proofs.Window.{falls-past, starts-above, above-window}
 use Rattle.continuous_rate.proofs.nearest_above.Goals as goal

@@ -1,5 +1,4 @@
 use native.Mathlib.Omega.{arith}
-use borrow.Author.Rules.{rules}
 use Rattle.continuous_rate.proofs.Window.{RisesPast, rises-past, starts-below, below_stays, below-moves}
 use Rattle.continuous_rate.proofs.nearest_below.Goals as goal
 use Rattle.continuous_rate.proofs.nearest_below.Goals.{After-passing-place}

@@ -1,12 +1,8 @@
 use mathlib.Core.Path.{◌≡◌}
 use mathlib.Core.Bool.{false}
 use Prim.Native.Nat.{◌+◌, ◌-◌, ◌≤◌}
-use native.Mathlib.Omega.{arith}
-use borrow.Author.Rules.{rules}
 use Rattle.continuous_rate.specs.Least.{first_least}
 use Rattle.continuous_rate.specs.inside.Search.{side_miss, window_miss}
-use Rattle.continuous_rate.proofs.LeastLaws.{least-none}
-use Rattle.continuous_rate.proofs.Window.{scan-moves, scan-stays}
 use Rattle.continuous_rate.proofs.nearest_between.Given as goal
 
 abbrev pub invariant-loop-k : goal.invariant-loop-k

@@ -4,8 +4,6 @@ use Prim.Native.Nat.{◌*◌, ◌≤◌}
 use native.Mathlib.Omega.{arith}
 use mir.Syntax.{w64}
 use mir.Facts.{to_z_pos}
-use borrow.Author.Rules.{rules}
-use borrow.Author.Tests.{not-true, not-false}
 use Rattle.arithmetic.proofs.Signed.{minus-fits, minus-back}
 use Rattle.limits.specs.Limits.{is_discount}
 use Rattle.limits.proofs.LimitLaws.{discount-most}

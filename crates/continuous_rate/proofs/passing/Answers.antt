@@ -1,10 +1,7 @@
 use mathlib.Core.Path.{◌≡◌, sym, ◌∙◌}
 use mathlib.Core.Bool.{true, false}
-use Prim.Native.Nat.{◌+◌, ◌-◌, ◌≤◌, ◌<◌}
+use Prim.Native.Nat.{◌+◌, ◌-◌}
 use native.Mathlib.Omega.{arith}
-use borrow.Author.Rules.{rules}
-use Rattle.arithmetic.specs.Rounding.{one}
-use Rattle.continuous_rate.specs.inside.Search.{before}
 use Rattle.continuous_rate.proofs.passing.Goals as goal
 
 pub loop-high-init : goal.loop-high-init

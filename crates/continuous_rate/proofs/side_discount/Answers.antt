@@ -1,4 +1,3 @@
-use borrow.Author.Rules.{rules}
 use Rattle.continuous.proofs.Answers.{quotient-value}
 use Rattle.continuous_rate.proofs.side_discount.Goals as goal
 

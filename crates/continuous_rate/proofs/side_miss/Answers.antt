@@ -1,5 +1,4 @@
 use native.Mathlib.Omega.{arith}
-use borrow.Author.Rules.{rules}
 use Rattle.continuous_rate.specs.ContinuousRate.{distance}
 use Rattle.continuous_rate.proofs.side_miss.Goals as goal
 

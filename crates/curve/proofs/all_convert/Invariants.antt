@@ -1,13 +1,9 @@
-use mathlib.Core.Path.{◌≡◌, sym, ◌∙◌, ap}
-use mathlib.Core.Bool.{Bool, true}
-use Prim.Native.Nat.{ℕ, ◌-◌, ◌≤◌}
-use native.Mathlib.Omega.{arith}
+use mathlib.Core.Path.{◌≡◌}
+use mathlib.Core.Bool.{true}
+use Prim.Native.Nat.{◌-◌, ◌≤◌}
 use lib.ListN.{length}
-use borrow.Author.Rules.{rules}
 use Rattle.arithmetic.specs.Row.{each}
-use Rattle.arithmetic.proofs.RowLaws.{each_none, each_more, each-fails}
 use Rattle.curve.specs.Curve.{converts_at}
-use Rattle.curve.proofs.CurveLaws.{converts, refuses}
 use Rattle.curve.proofs.all_convert.Given as goal
 
 abbrev pub invariant-loop-i : goal.invariant-loop-i

@@ -1,5 +1,4 @@
 use Rattle.curve.specs.Curve.{answer_at}
-use borrow.Author.Rules.{rules}
 use Rattle.curve.proofs.answer_at.Goals as goal
 
 pub returns : goal.returns

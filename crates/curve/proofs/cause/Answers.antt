@@ -1,12 +1,10 @@
 use mathlib.Core.Path.{◌≡◌, sym, ◌∙◌}
 use mathlib.Core.Bool.{Bool, true, false}
-use borrow.Author.Tests.{not-true, not-false}
 use Rattle.arithmetic.specs.Frequency.{is_frequency}
 use Rattle.arithmetic.proofs.Implied.{implied}
 use Rattle.limits.specs.Limits.{is_steps}
 use Rattle.curve.specs.Curve.{in_place}
 use Rattle.curve.proofs.CurveLaws.{placed-kinds, placed-figures, number-frequency, number-steps, number-place, number-quotes, number-accepted}
-use borrow.Author.Rules.{rules}
 use Rattle.curve.proofs.cause.Goals as goal
 use Rattle.curve.proofs.cause.Goals.{After-is_in_place, Else-not-is_frequency, Else-not-is_in_place, Else-not-is_steps, Then-not-is_in_place}
 

@@ -1,4 +1,3 @@
-use borrow.Author.Rules.{rules}
 use Rattle.arithmetic.proofs.Implied.{implied}
 use Rattle.curve.proofs.CurveLaws.{entry-refused, entry-room, entry-stored}
 use Rattle.curve.proofs.convert.Goals as goal

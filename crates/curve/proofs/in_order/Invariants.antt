@@ -1,12 +1,8 @@
-use mathlib.Core.Path.{◌≡◌, sym, ◌∙◌, ap}
+use mathlib.Core.Path.{◌≡◌}
 use mathlib.Core.Bool.{true}
-use Prim.Native.Nat.{ℕ, ◌+◌, ◌-◌, ◌≤◌}
-use native.Mathlib.Omega.{arith}
+use Prim.Native.Nat.{◌-◌, ◌≤◌}
 use lib.ListN.{length}
-use borrow.Author.Rules.{rules}
-use borrow.Author.Tests.{eq-eqb, ne_eqb}
-use Rattle.arithmetic.specs.Row.{values, each}
-use Rattle.arithmetic.proofs.RowLaws.{each_none, each_more, each-fails}
+use Rattle.arithmetic.specs.Row.{each}
 use Rattle.curve.specs.Curve.{place_at}
 use Rattle.curve.proofs.in_order.Given as goal
 

@@ -1,6 +1,5 @@
 use mathlib.Core.Path.{sym, ◌∙◌}
 use Rattle.curve.proofs.CurveLaws.{place-rows, place-kinds, place-figures, place_short, place-each}
-use borrow.Author.Rules.{rules}
 use Rattle.curve.proofs.is_in_place.Goals as goal
 
 pub returns-then-rows-steps : goal.returns-then-rows-steps

@@ -1,10 +1,10 @@
 use mathlib.Core.Path.{◌≡◌, refl, ap}
-use Prim.Native.Nat.{◌-◌, ◌≤◌}
+use Prim.Native.Nat.{◌-◌}
 use native.Mathlib.Omega.{arith}
 use lib.ListN.{length, length-set}
 use borrow.Author.Rules.{rules}
 use Rattle.arithmetic.specs.declared.Answer.{Answer}
-use Rattle.arithmetic.proofs.RowLaws.{Filled, filled-start, filled_next}
+use Rattle.arithmetic.proofs.RowLaws.{filled-start, filled_next}
 use Rattle.curve.specs.Curve.{discount_at}
 use Rattle.arithmetic.proofs.PlaceLaws.{filled-place}
 use Rattle.curve.proofs.store.Goals as goal

@@ -1,12 +1,8 @@
-use mathlib.Core.Path.{◌≡◌, refl, ap}
+use mathlib.Core.Path.{◌≡◌}
 use Prim.Native.Nat.{◌-◌, ◌≤◌}
-use native.Mathlib.Omega.{arith}
-use lib.ListN.{length, length-set}
-use borrow.Author.Rules.{rules}
-use Rattle.arithmetic.specs.declared.Answer.{Answer}
-use Rattle.arithmetic.proofs.RowLaws.{Filled, filled-start, filled_next}
+use lib.ListN.{length}
+use Rattle.arithmetic.proofs.RowLaws.{Filled}
 use Rattle.curve.specs.Curve.{discount_at}
-use Rattle.arithmetic.proofs.PlaceLaws.{filled-place}
 use Rattle.curve.proofs.store.Given as goal
 
 abbrev pub invariant-loop-i : goal.invariant-loop-i

@@ -1,5 +1,4 @@
 use Rattle.exercise.proofs.NodeLaws.{call-value, put-value}
-use borrow.Author.Rules.{rules}
 use Rattle.exercise.proofs.exercise_value.Goals as goal
 
 pub returns-then-call : goal.returns-then-call

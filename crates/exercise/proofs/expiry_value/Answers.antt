@@ -1,5 +1,4 @@
 use mathlib.Core.Path.{ap, ◌∙◌}
-use borrow.Author.Rules.{rules}
 use Rattle.pricing_laws.specs.Pricer.{exercise}
 use Rattle.exercise.specs.Terms.{side}
 use Rattle.exercise.proofs.expiry_value.Goals as goal

@@ -1,7 +1,6 @@
 use mathlib.Core.Path.{ap, ◌∙◌}
 use Prim.Native.Nat.{ℕ, max}
 use Rattle.exercise.proofs.NodeLaws.{listed-value, unlisted-value}
-use borrow.Author.Rules.{rules}
 use Rattle.exercise.proofs.held_value.Goals as goal
 
 pub returns-then-listed : goal.returns-then-listed

@@ -1,8 +1,6 @@
 use mathlib.Core.Path.{sym, ◌∙◌}
 use native.Mathlib.Omega.{arith}
-use borrow.Author.Tests.{not-true, not-false}
 use Rattle.pricing_laws.proofs.Dates.{cause-empty, cause-order, cause-end, cause-none}
-use borrow.Author.Rules.{rules}
 use Rattle.exercise_dates.proofs.dates_cause.Goals as goal
 
 pub returns-then-dates-eq0 : goal.returns-then-dates-eq0

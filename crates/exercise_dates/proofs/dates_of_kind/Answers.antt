@@ -1,5 +1,4 @@
 use Rattle.exercise_dates.proofs.DateLaws.{no-list, alone-list, every-list}
-use borrow.Author.Rules.{rules}
 use Rattle.exercise_dates.proofs.dates_of_kind.Goals as goal
 
 pub returns-then-expiry-gt-MOST_STEPS : goal.returns-then-expiry-gt-MOST_STEPS

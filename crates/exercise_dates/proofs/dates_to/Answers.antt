@@ -1,12 +1,7 @@
-use mathlib.Core.Bool.{cond}
-use Prim.Native.Nat.{◌-◌, ◌≤◌}
+use Prim.Native.Nat.{◌-◌}
 use native.Mathlib.Omega.{arith}
-use lib.Dec.{leb}
-use lib.ListN.{replicate}
-use Rattle.arithmetic.proofs.RowLaws.{Filled, filled-start, filled_next, filled-all}
-use Rattle.exercise_dates.specs.Dates.{rows_of_aTree}
+use Rattle.arithmetic.proofs.RowLaws.{filled-start, filled_next, filled-all}
 use Rattle.exercise_dates.specs.inside.Dates.{dates_to}
-use borrow.Author.Rules.{rules}
 use Rattle.exercise_dates.proofs.dates_to.Goals as goal
 
 pub loop-row-init : goal.loop-row-init

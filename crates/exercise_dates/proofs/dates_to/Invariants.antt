@@ -1,12 +1,9 @@
 use mathlib.Core.Bool.{cond}
 use Prim.Native.Nat.{◌-◌, ◌≤◌}
-use native.Mathlib.Omega.{arith}
 use lib.Dec.{leb}
 use lib.ListN.{replicate}
-use Rattle.arithmetic.proofs.RowLaws.{Filled, filled-start, filled_next, filled-all}
+use Rattle.arithmetic.proofs.RowLaws.{Filled}
 use Rattle.exercise_dates.specs.Dates.{rows_of_aTree}
-use Rattle.exercise_dates.specs.inside.Dates.{dates_to}
-use borrow.Author.Rules.{rules}
 use Rattle.exercise_dates.proofs.dates_to.Given as goal
 
 abbrev pub invariant-loop-row : goal.invariant-loop-row

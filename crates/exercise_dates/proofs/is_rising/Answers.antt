@@ -1,11 +1,7 @@
 use mathlib.Core.Bool.{true}
-use mathlib.Core.Path.{◌≡◌}
-use Prim.Native.Nat.{◌-◌, ◌<◌}
+use Prim.Native.Nat.{◌-◌}
 use native.Mathlib.Omega.{arith}
-use lib.ListN.{length}
-use Rattle.arithmetic.specs.Row.{each}
-use Rattle.exercise_dates.proofs.DateLaws.{rises, rising-start, rising-more, rising-fails, rising-all}
-use borrow.Author.Rules.{rules}
+use Rattle.exercise_dates.proofs.DateLaws.{rising-start, rising-more, rising-fails, rising-all}
 use Rattle.exercise_dates.proofs.is_rising.Goals as goal
 
 pub loop-k-init : goal.loop-k-init

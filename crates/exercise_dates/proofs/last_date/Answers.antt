@@ -2,7 +2,6 @@ use Prim.Native.Nat.{◌-◌}
 use native.Mathlib.Omega.{arith}
 use lib.ListN.{length}
 use Rattle.exercise_dates.proofs.DateLaws.{none_last}
-use borrow.Author.Rules.{rules}
 use Rattle.exercise_dates.proofs.last_date.Goals as goal
 
 pub returns-then-count-eq0 : goal.returns-then-count-eq0

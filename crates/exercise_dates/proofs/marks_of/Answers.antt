@@ -1,11 +1,8 @@
-use mathlib.Core.Logic.{⊎_elim}
 use mathlib.Core.Path.{refl}
-use Prim.Native.Nat.{◌-◌, ◌≤◌}
+use Prim.Native.Nat.{◌-◌}
 use native.Mathlib.Omega.{arith}
-use lib.ListN.{length}
 use Rattle.arithmetic.specs.Row.{values}
-use Rattle.exercise_dates.proofs.DateLaws.{Marking, marking-start, marking-hit, marking-past, marking-all}
-use borrow.Author.Rules.{rules}
+use Rattle.exercise_dates.proofs.DateLaws.{marking-start, marking-hit, marking-past, marking-all}
 use Rattle.exercise_dates.proofs.marks_of.Goals as goal
 use Rattle.exercise_dates.proofs.marks_of.Goals.{else-row-lt-MOST_ROWS, then-row-lt-MOST_ROWS}
 

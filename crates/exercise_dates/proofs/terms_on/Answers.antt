@@ -1,5 +1,4 @@
 use Rattle.exercise_dates.specs.Dates.{dated_terms}
-use borrow.Author.Rules.{rules}
 use Rattle.exercise_dates.proofs.terms_on.Goals as goal
 
 pub returns : goal.returns

@@ -1,7 +1,6 @@
 use Prim.Native.Nat.{◌*◌, ◌≤◌}
 use native.Mathlib.Omega.{arith}
 use native.Mathlib.Nat.{mul-le-mul}
-use borrow.Author.Rules.{rules}
 use Rattle.exhibits.proofs.compare.Goals as goal
 use Rattle.exhibits.proofs.compare.Goals.{Else-value-gt2000000000, Start}
 

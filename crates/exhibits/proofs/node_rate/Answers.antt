@@ -1,7 +1,6 @@
 use native.Mathlib.Omega.{arith}
 use Rattle.arithmetic.proofs.Signed.{is_whole}
 use Rattle.continuous_rate.proofs.RateLaws.{value-bound, value-back}
-use borrow.Author.Rules.{rules}
 use Rattle.exhibits.proofs.node_rate.Goals as goal
 
 pub overflow_cast-found : goal.overflow_cast-found

@@ -1,6 +1,5 @@
 use native.Mathlib.Omega.{arith}
 use lib.ListN.{length-take}
-use borrow.Author.Rules.{rules}
 use Rattle.exhibits.proofs.wide.Goals as goal
 
 pub slice_bounds-fit-end : goal.slice_bounds-fit-end

@@ -1,7 +1,6 @@
 use mathlib.Core.Path.{◌≡◌}
 use Prim.Native.Nat.{◌*◌}
 use native.Mathlib.Omega.{arith}
-use borrow.Author.Rules.{rules}
 use Rattle.factor.proofs.FactorLaws.{sides-refused, sums-both, sums-fit, odd-within}
 use Rattle.factor.proofs.both_sides.Goals as goal
 use Rattle.factor.proofs.both_sides.Goals.{Else-y-gt-ONE}

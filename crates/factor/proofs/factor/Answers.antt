@@ -1,4 +1,3 @@
-use borrow.Author.Rules.{rules}
 use Rattle.factor.proofs.FactorLaws.{below-of-both, above-of-both}
 use Rattle.factor.proofs.factor.Goals as goal
 

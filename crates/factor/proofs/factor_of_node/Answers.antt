@@ -1,6 +1,5 @@
 use mathlib.Core.Path.{◌∙◌}
 use native.Mathlib.Omega.{arith}
-use borrow.Author.Rules.{rules}
 use Rattle.factor.proofs.NodeLaws.{nearer-fits, nearer-held, nearer-less, node-below, whole-cast, node-above}
 use Rattle.factor.proofs.factor_of_node.Goals as goal
 

@@ -1,11 +1,10 @@
 use mathlib.Core.Path.{◌≡◌, refl}
 use Prim.Native.Nat.{◌+◌, ◌-◌, ◌*◌, ◌≤◌}
 use native.Mathlib.Omega.{arith}
-use borrow.Author.Rules.{rules}
 use Rattle.arithmetic.specs.Rounding.{one}
 use Rattle.factor.specs.Series.{term}
 use Rattle.factor.proofs.SeriesLaws.{term-most}
-use Rattle.factor.proofs.SumsLaws.{next-is, Summed, summed-start, summed-next, latest-most, even-most, odd-most}
+use Rattle.factor.proofs.SumsLaws.{next-is, summed-start, summed-next, latest-most, even-most, odd-most}
 use Rattle.factor.proofs.series_sums.Goals as goal
 use Rattle.factor.proofs.series_sums.Goals.{After-next_term-last, After-next_term-next}
 

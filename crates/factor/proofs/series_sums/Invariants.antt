@@ -1,11 +1,5 @@
-use mathlib.Core.Path.{◌≡◌, refl}
-use Prim.Native.Nat.{◌+◌, ◌-◌, ◌*◌, ◌≤◌}
-use native.Mathlib.Omega.{arith}
-use borrow.Author.Rules.{rules}
-use Rattle.arithmetic.specs.Rounding.{one}
-use Rattle.factor.specs.Series.{term}
-use Rattle.factor.proofs.SeriesLaws.{term-most}
-use Rattle.factor.proofs.SumsLaws.{next-is, Summed, summed-start, summed-next, latest-most, even-most, odd-most}
+use Prim.Native.Nat.{◌-◌, ◌≤◌}
+use Rattle.factor.proofs.SumsLaws.{Summed}
 use Rattle.factor.proofs.series_sums.Given as goal
 
 abbrev pub invariant-loop-pair : goal.invariant-loop-pair

@@ -2,7 +2,6 @@ use mathlib.Core.Path.{◌≡◌, sym, ◌∙◌, ap}
 use Prim.Native.Nat.{ℕ, suc, pred, ◌+◌, ◌*◌, ◌-◌, ◌^◌}
 use native.Mathlib.Nat.{suc-pred-eq_of_ne-zero}
 use native.Mathlib.Omega.{arith}
-use borrow.Author.Rules.{rules}
 use Rattle.arithmetic.specs.Rounding.{one, nearest}
 use Rattle.figure.proofs.Patterns.{pattern-zero, pattern-later, field_of, digits_of}
 use Rattle.figure.proofs.magnitude.Goals as goal

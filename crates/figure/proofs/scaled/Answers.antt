@@ -2,7 +2,6 @@ use mathlib.Core.Path.{sym}
 use Prim.Native.Nat.{◌-◌, ◌*◌, ◌%◌, ◌^◌}
 use native.Mathlib.Omega.{arith}
 use lib.Pow.{pow_pos, pow_mono}
-use borrow.Author.Rules.{rules}
 use Rattle.arithmetic.specs.Rounding.{one}
 use Rattle.arithmetic.proofs.RoundingLaws.{nearest_zero}
 use Rattle.figure.proofs.Scaling.{bit_up, scaled-is, table-one}

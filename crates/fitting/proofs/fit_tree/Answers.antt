@@ -1,7 +1,6 @@
 use mathlib.Core.Path.{refl, sym}
 use native.Mathlib.Omega.{arith}
 use Rattle.fitting.proofs.FitEntry as laws
-use borrow.Author.Rules.{rules}
 use Rattle.fitting.proofs.fit_tree.Goals as goal
 use Rattle.fitting.proofs.fit_tree.Goals.{After-plan_of-plan}
 

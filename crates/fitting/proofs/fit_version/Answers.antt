@@ -1,4 +1,3 @@
-use borrow.Author.Rules.{rules}
 use Rattle.fitting.proofs.FitEntry as laws
 use Rattle.fitting.proofs.fit_version.Goals as goal
 

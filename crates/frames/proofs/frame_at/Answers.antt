@@ -1,5 +1,4 @@
 use native.Mathlib.Omega.{arith}
-use borrow.Author.Rules.{rules}
 use Rattle.frames.proofs.FrameLaws as laws
 use Rattle.frames.proofs.frame_at.Goals as goal
 

@@ -2,7 +2,6 @@ use native.Mathlib.Omega.{arith}
 use mathlib.Core.Path.{◌≡◌, sym, ◌∙◌}
 use lib.ListN.{length, take}
 use Rattle.job_record.proofs.ReadLaws.{lent_length}
-use borrow.Author.Rules.{rules}
 use Rattle.job_cases.proofs.show_job.Goals as goal
 use Rattle.job_cases.proofs.show_job.Goals.{After-flows-1}
 

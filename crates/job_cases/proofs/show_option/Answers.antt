@@ -1,4 +1,3 @@
-use borrow.Author.Rules.{rules}
 use mathlib.Core.Path.{sym}
 use Rattle.job_record.proofs.ReadLaws.{lent_length}
 use Rattle.job_cases.proofs.show_option.Goals as goal

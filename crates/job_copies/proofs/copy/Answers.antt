@@ -3,7 +3,6 @@ use native.Mathlib.Omega.{arith}
 use mathlib.Core.Path.{sym}
 use lib.ListN.{length, length-take}
 use Rattle.writer_laws.proofs.RoundTrips.{answered-within}
-use borrow.Author.Rules.{rules}
 use Rattle.job_copies.proofs.copy.Goals as goal
 use Rattle.job_copies.proofs.copy.Goals.{Else-written-ne0}
 

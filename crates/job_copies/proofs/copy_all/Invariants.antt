@@ -1,7 +1,6 @@
 use Prim.Native.Nat.{◌≤◌}
 use mathlib.Core.Path.{◌≡◌}
 use lib.ListN.{length}
-use borrow.Author.Rules.{rules}
 use Rattle.job_copies.proofs.copy_all.Given as goal
 
 abbrev pub invariant-loop-left : goal.invariant-loop-left

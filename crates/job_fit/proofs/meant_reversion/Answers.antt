@@ -1,6 +1,5 @@
 use mathlib.Core.Path.{ap, ◌∙◌}
 use Prim.Native.Nat.{ℕ}
-use borrow.Author.Rules.{rules}
 use Rattle.reversion.specs.Reversion.{working_reversion}
 use Rattle.job_laws.specs.RecordFit.{meant_reversion}
 use Rattle.job_fit.proofs.meant_reversion.Goals as goal

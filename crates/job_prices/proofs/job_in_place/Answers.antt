@@ -1,4 +1,3 @@
-use borrow.Author.Rules.{rules}
 use Rattle.job_laws.proofs.PriceLaws as laws
 use Rattle.job_prices.proofs.job_in_place.Goals as goal
 

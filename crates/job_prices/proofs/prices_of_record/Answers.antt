@@ -1,12 +1,11 @@
 use mathlib.Core.Path.{◌≡◌, sym, ap, ◌∙◌}
 use Prim.Native.Nat.{ℕ}
 use lib.ListN.{length}
-use borrow.Author.Rules.{rules}
 use Rattle.lattice.specs.Entries.{memory_cause}
 use Rattle.job_laws.specs.RecordFit.{job_reversion}
 use Rattle.job_laws.proofs.PriceLaws as laws
 use Rattle.job_prices.proofs.prices_of_record.Goals as goal
-use Rattle.job_prices.proofs.prices_of_record.Goals.{After-memory_cause-memory, After-prices_in_place-prices, After-state_prices_needed-price_count, Else-memory-ne0}
+use Rattle.job_prices.proofs.prices_of_record.Goals.{After-memory_cause-memory, After-state_prices_needed-price_count}
 
 clauses-answer-discounted-priced : {A B C : Type 0} → A × (B × C) → record { answer : A; discounted : B; priced : C }
 clauses-answer-discounted-priced w = record { answer = w.0; discounted = w.1.0; priced = w.1.1 }

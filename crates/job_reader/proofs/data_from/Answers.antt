@@ -1,12 +1,10 @@
 use borrow.Author.Rules.{rules}
 use mathlib.Core.Path.{◌≡◌, ap, ◌∙◌}
-use Prim.Native.Nat.{ℕ, ◌-◌, ◌≤◌}
+use Prim.Native.Nat.{ℕ, ◌-◌}
 use native.Mathlib.Omega.{arith}
-use lib.ListN.{replicate}
-use Rattle.arithmetic.proofs.RowLaws.{Filled, filled-start, filled_next}
+use Rattle.arithmetic.proofs.RowLaws.{filled-start, filled_next}
 use Rattle.job_record.specs.Bytes.{number_at}
-use Rattle.job_record.specs.Form.{most_job_steps, data_at}
-use Rattle.job_record.specs.Reader.{data_of}
+use Rattle.job_record.specs.Form.{data_at}
 use Rattle.arithmetic.proofs.PaddedLaws.{filled-padded}
 use Rattle.job_record.proofs.Columns.{field-within}
 use Rattle.job_reader.proofs.data_from.Goals as goal

@@ -1,14 +1,8 @@
-use borrow.Author.Rules.{rules}
-use mathlib.Core.Path.{◌≡◌, ap, ◌∙◌}
-use Prim.Native.Nat.{ℕ, ◌-◌, ◌≤◌}
-use native.Mathlib.Omega.{arith}
+use Prim.Native.Nat.{◌-◌, ◌≤◌}
 use lib.ListN.{replicate}
-use Rattle.arithmetic.proofs.RowLaws.{Filled, filled-start, filled_next}
-use Rattle.job_record.specs.Bytes.{number_at}
-use Rattle.job_record.specs.Form.{most_job_steps, data_at}
+use Rattle.arithmetic.proofs.RowLaws.{Filled}
+use Rattle.job_record.specs.Form.{most_job_steps}
 use Rattle.job_record.specs.Reader.{data_of}
-use Rattle.arithmetic.proofs.PaddedLaws.{filled-padded}
-use Rattle.job_record.proofs.Columns.{field-within}
 use Rattle.job_reader.proofs.data_from.Given as goal
 
 abbrev pub invariant-loop-i : goal.invariant-loop-i

@@ -1,11 +1,8 @@
 use borrow.Author.Rules.{rules}
 use mathlib.Core.Path.{◌≡◌, refl}
-use Prim.Native.Nat.{◌-◌, ◌≤◌}
+use Prim.Native.Nat.{◌-◌}
 use native.Mathlib.Omega.{arith}
-use lib.ListN.{replicate}
-use Rattle.arithmetic.proofs.RowLaws.{Filled, filled-start, filled_next}
-use Rattle.job_record.specs.Form.{most_dates}
-use Rattle.job_record.specs.Reader.{date_of}
+use Rattle.arithmetic.proofs.RowLaws.{filled-start, filled_next}
 use Rattle.arithmetic.proofs.PaddedLaws.{filled-padded}
 use Rattle.job_reader.proofs.dates_from.Goals as goal
 

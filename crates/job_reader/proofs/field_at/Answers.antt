@@ -1,4 +1,3 @@
-use borrow.Author.Rules.{rules}
 use borrow.Author.Tests.{lt-leb, le-leb}
 use Rattle.job_record.specs.Form.{field_at}
 use Rattle.job_record.proofs.Answers.{passed, failed}

@@ -1,9 +1,7 @@
-use borrow.Author.Rules.{rules}
 use mathlib.Core.Bool.{true}
 use mathlib.Core.Path.{◌≡◌, sym}
-use Prim.Native.Nat.{◌-◌, ◌≤◌}
+use Prim.Native.Nat.{◌-◌}
 use native.Mathlib.Omega.{arith}
-use Rattle.job_record.specs.Form.{fields_from}
 use Rattle.job_record.proofs.Answers.{passed, failed}
 use Rattle.job_record.proofs.Forms.{fields-none, fields-more, fields-fails}
 use Rattle.job_reader.proofs.fields_from.Goals as goal

@@ -1,4 +1,3 @@
-use borrow.Author.Rules.{rules}
 use Rattle.job_reader.proofs.has_tag.Goals as goal
 
 pub returns-in-AnyKind : goal.returns-in-AnyKind

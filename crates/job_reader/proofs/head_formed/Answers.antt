@@ -5,7 +5,6 @@ use Prim.Native.Nat.{ℕ}
 use Rattle.job_record.specs.declared.Tags.TheVariants.{Only}
 use Rattle.job_record.specs.Form.{field_at, frequency_at, steps_at, reversion_at, head_formed}
 use Rattle.job_record.proofs.Answers.{passed, failed}
-use borrow.Author.Rules.{rules}
 use Rattle.job_reader.proofs.head_formed.Goals as goal
 use Rattle.job_reader.proofs.head_formed.Goals.{Else-not-field_at, Else-not-field_at-2, Else-not-field_at-3}
 

@@ -1,4 +1,3 @@
-use borrow.Author.Rules.{rules}
 use Rattle.job_record.specs.Form.{kind_formed}
 use Rattle.job_record.proofs.Answers.{passed, failed}
 use Rattle.job_reader.proofs.kind_formed.Goals as goal

@@ -1,4 +1,3 @@
-use borrow.Author.Rules.{rules}
 use Rattle.job_record.specs.Reader.{kind_option_at}
 use Rattle.job_reader.proofs.kind_option_at.Goals as goal
 

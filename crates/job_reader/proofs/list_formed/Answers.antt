@@ -1,4 +1,3 @@
-use borrow.Author.Rules.{rules}
 use borrow.Author.Tests.{lt-leb, le-leb}
 use Rattle.job_record.specs.Form.{list_formed}
 use Rattle.job_reader.proofs.list_formed.Goals as goal

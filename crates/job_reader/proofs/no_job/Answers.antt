@@ -1,4 +1,3 @@
-use borrow.Author.Rules.{rules}
 use Rattle.job_record.specs.Reader.{no_job}
 use Rattle.job_reader.proofs.no_job.Goals as goal
 

@@ -1,4 +1,3 @@
-use borrow.Author.Rules.{rules}
 use Rattle.job_reader.proofs.no_option.Goals as goal
 
 pub returns : goal.returns

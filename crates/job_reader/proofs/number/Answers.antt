@@ -1,7 +1,6 @@
-use borrow.Author.Rules.{rules}
 use native.Mathlib.Omega.{arith}
 use mathlib.Core.Path.{◌≡◌, sym}
-use Prim.Native.Nat.{ℕ, ◌+◌, ◌*◌, ◌-◌, ◌^◌, ◌≤◌, ◌<◌}
+use Prim.Native.Nat.{ℕ, ◌+◌, ◌*◌, ◌-◌, ◌^◌, ◌<◌}
 use Rattle.job_record.specs.Bytes.{number_at}
 use Rattle.job_record.proofs.Numbers.{number-nothing, number_more, number_bound, byte_more}
 use Rattle.job_reader.proofs.number.Goals as goal

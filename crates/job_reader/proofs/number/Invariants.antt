@@ -1,9 +1,6 @@
-use borrow.Author.Rules.{rules}
-use native.Mathlib.Omega.{arith}
-use mathlib.Core.Path.{◌≡◌, sym}
-use Prim.Native.Nat.{ℕ, ◌+◌, ◌*◌, ◌-◌, ◌^◌, ◌≤◌, ◌<◌}
+use mathlib.Core.Path.{◌≡◌}
+use Prim.Native.Nat.{◌-◌, ◌≤◌}
 use Rattle.job_record.specs.Bytes.{number_at}
-use Rattle.job_record.proofs.Numbers.{number-nothing, number_more, number_bound, byte_more}
 use Rattle.job_reader.proofs.number.Given as goal
 
 abbrev pub invariant-loop-i : goal.invariant-loop-i

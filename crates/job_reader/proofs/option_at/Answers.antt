@@ -1,4 +1,3 @@
-use borrow.Author.Rules.{rules}
 use mathlib.Core.Path.{sym, ◌∙◌}
 use native.Mathlib.Omega.{arith}
 use Rattle.job_record.proofs.Forms.{kind-ends, list-head, rest-kind, rest-list, rest_from}

@@ -1,7 +1,6 @@
 use native.Mathlib.Omega.{arith}
 use Rattle.job_record.proofs.Answers.{passed, failed}
 use Rattle.job_record.proofs.ReadLaws.{read-well, read-bad}
-use borrow.Author.Rules.{rules}
 use Rattle.job_reader.proofs.read.Goals as goal
 
 clauses-reading-grammar : {A B : Type 0} → A × B → record { reading : A; grammar : B }

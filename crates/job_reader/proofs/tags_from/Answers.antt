@@ -1,11 +1,9 @@
 use borrow.Author.Rules.{rules}
 use mathlib.Core.Path.{◌≡◌, ap}
-use Prim.Native.Nat.{ℕ, ◌-◌, ◌≤◌}
+use Prim.Native.Nat.{ℕ, ◌-◌}
 use native.Mathlib.Omega.{arith}
-use lib.ListN.{replicate, get_or}
-use Rattle.arithmetic.proofs.RowLaws.{Filled, filled-start, filled_next}
-use Rattle.job_record.specs.Form.{most_job_steps}
-use Rattle.job_record.specs.Reader.{tag_of}
+use lib.ListN.{get_or}
+use Rattle.arithmetic.proofs.RowLaws.{filled-start, filled_next}
 use Rattle.arithmetic.proofs.PaddedLaws.{filled-padded}
 use Rattle.job_record.proofs.Columns.{field-within}
 use Rattle.job_reader.proofs.tags_from.Goals as goal

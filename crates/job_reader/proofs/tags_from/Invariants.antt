@@ -1,13 +1,8 @@
-use borrow.Author.Rules.{rules}
-use mathlib.Core.Path.{◌≡◌, ap}
-use Prim.Native.Nat.{ℕ, ◌-◌, ◌≤◌}
-use native.Mathlib.Omega.{arith}
-use lib.ListN.{replicate, get_or}
-use Rattle.arithmetic.proofs.RowLaws.{Filled, filled-start, filled_next}
+use Prim.Native.Nat.{◌-◌, ◌≤◌}
+use lib.ListN.{replicate}
+use Rattle.arithmetic.proofs.RowLaws.{Filled}
 use Rattle.job_record.specs.Form.{most_job_steps}
 use Rattle.job_record.specs.Reader.{tag_of}
-use Rattle.arithmetic.proofs.PaddedLaws.{filled-padded}
-use Rattle.job_record.proofs.Columns.{field-within}
 use Rattle.job_reader.proofs.tags_from.Given as goal
 
 abbrev pub invariant-loop-i : goal.invariant-loop-i

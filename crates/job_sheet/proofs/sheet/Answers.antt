@@ -1,6 +1,5 @@
 use mathlib.Core.Path.{refl}
 use lib.ListN.{length}
-use borrow.Author.Rules.{rules}
 use Rattle.sheet_laws.proofs.SheetLaws as laws
 use Rattle.record_sheet.proofs.AnswerLaws as answers
 use Rattle.job_sheet.proofs.sheet.Goals as goal

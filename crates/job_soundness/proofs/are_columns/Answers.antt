@@ -1,7 +1,6 @@
 use mathlib.Core.Path.{◌∙◌}
 use Rattle.job_record.proofs.Answers.{passed, failed}
 use Rattle.writer_laws.proofs.SoundTests.{column-here, no-kinds, no-tags, no-figures, columns-by-flows}
-use borrow.Author.Rules.{rules}
 use Rattle.job_soundness.proofs.are_columns.Goals as goal
 
 pub returns-then-not-are_kinds : goal.returns-then-not-are_kinds

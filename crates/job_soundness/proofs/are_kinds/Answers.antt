@@ -1,11 +1,9 @@
 use native.Mathlib.Omega.{arith}
 use mathlib.Core.Bool.{true}
 use mathlib.Core.Path.{◌≡◌, sym}
-use Prim.Native.Nat.{◌-◌, ◌≤◌}
+use Prim.Native.Nat.{◌-◌}
 use Rattle.job_record.proofs.Answers.{passed, failed}
-use Rattle.writer_laws.specs.Sound.{are_kinds}
 use Rattle.writer_laws.proofs.SoundTests.{kinds-none, kinds-more, kinds-fails}
-use borrow.Author.Rules.{rules}
 use Rattle.job_soundness.proofs.are_kinds.Goals as goal
 
 pub loop-k-init : goal.loop-k-init

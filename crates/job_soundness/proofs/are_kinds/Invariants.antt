@@ -1,11 +1,7 @@
-use native.Mathlib.Omega.{arith}
 use mathlib.Core.Bool.{true}
-use mathlib.Core.Path.{◌≡◌, sym}
+use mathlib.Core.Path.{◌≡◌}
 use Prim.Native.Nat.{◌-◌, ◌≤◌}
-use Rattle.job_record.proofs.Answers.{passed, failed}
 use Rattle.writer_laws.specs.Sound.{are_kinds}
-use Rattle.writer_laws.proofs.SoundTests.{kinds-none, kinds-more, kinds-fails}
-use borrow.Author.Rules.{rules}
 use Rattle.job_soundness.proofs.are_kinds.Given as goal
 
 abbrev pub invariant-loop-k : goal.invariant-loop-k

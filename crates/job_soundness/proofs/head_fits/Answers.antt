@@ -1,6 +1,5 @@
 use mathlib.Core.Path.{◌∙◌}
 use borrow.Author.Tests.{le-leb, lt-leb}
-use borrow.Author.Rules.{rules}
 use Rattle.writer_laws.specs.Sound.{head_fits}
 use Rattle.job_soundness.proofs.head_fits.Goals as goal
 

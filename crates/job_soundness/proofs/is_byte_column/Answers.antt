@@ -2,7 +2,6 @@ use native.Mathlib.Omega.{arith}
 use mathlib.Core.Path.{◌∙◌}
 use Rattle.writer_laws.specs.Sound.{most_in}
 use Rattle.writer_laws.proofs.ColumnTests.{column-by-type}
-use borrow.Author.Rules.{rules}
 use Rattle.job_soundness.proofs.is_byte_column.Goals as goal
 
 pub returns : goal.returns

@@ -3,7 +3,6 @@ use mathlib.Core.Path.{◌∙◌}
 use lib.ListN.{length-take}
 use Rattle.job_record.proofs.Answers.{passed, failed}
 use Rattle.writer_laws.proofs.ColumnTests.{column-fails, column-by-rest}
-use borrow.Author.Rules.{rules}
 use Rattle.job_soundness.proofs.is_column.Goals as goal
 
 pub slice_bounds-all_between-end : goal.slice_bounds-all_between-end

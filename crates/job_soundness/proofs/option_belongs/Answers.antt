@@ -1,6 +1,5 @@
 use mathlib.Core.Path.{sym, ◌∙◌}
 use Rattle.writer_laws.proofs.SoundTests.{belongs-kind, belongs-list, belongs-none}
-use borrow.Author.Rules.{rules}
 use Rattle.job_soundness.proofs.option_belongs.Goals as goal
 
 pub returns-then-tag-eq8 : goal.returns-then-tag-eq8

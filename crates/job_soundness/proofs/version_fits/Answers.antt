@@ -1,6 +1,5 @@
 use mathlib.Core.Path.{◌∙◌}
 use borrow.Author.Tests.{eq-eqb, ne_eqb}
-use borrow.Author.Rules.{rules}
 use Rattle.job_soundness.proofs.version_fits.Goals as goal
 
 pub returns-then-version-eq0 : goal.returns-then-version-eq0

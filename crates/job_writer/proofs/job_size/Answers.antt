@@ -1,6 +1,5 @@
 use native.Mathlib.Omega.{arith}
 use Rattle.writer_laws.proofs.SizeLaws.{option-size-few}
-use borrow.Author.Rules.{rules}
 use Rattle.job_writer.proofs.job_size.Goals as goal
 
 pub overflow_add-result-3 : goal.overflow_add-result-3

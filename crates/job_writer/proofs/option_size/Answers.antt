@@ -1,6 +1,5 @@
 use borrow.Author.Tests.{eq-eqb, ne_eqb}
 use Rattle.writer_laws.specs.inside.Parts.{option_size}
-use borrow.Author.Rules.{rules}
 use Rattle.job_writer.proofs.option_size.Goals as goal
 
 pub returns-then-tag-eq8 : goal.returns-then-tag-eq8

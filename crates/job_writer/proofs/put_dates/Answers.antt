@@ -1,11 +1,9 @@
 use native.Mathlib.Omega.{arith}
-use mathlib.Core.Path.{◌≡◌, refl, sym, ◌∙◌}
-use Prim.Native.Nat.{◌-◌, ◌≤◌}
-use lib.ListN.{length, take, length-set}
+use mathlib.Core.Path.{refl, sym, ◌∙◌}
+use Prim.Native.Nat.{◌-◌}
+use lib.ListN.{length-set}
 use lib.Seq.{take_all}
-use Rattle.arithmetic.specs.Row.{place}
 use Rattle.writer_laws.proofs.PutLaws.{place_none, bytes-more}
-use borrow.Author.Rules.{rules}
 use Rattle.job_writer.proofs.put_dates.Goals as goal
 
 pub loop-i-init : goal.loop-i-init

@@ -1,11 +1,7 @@
-use native.Mathlib.Omega.{arith}
-use mathlib.Core.Path.{◌≡◌, refl, sym, ◌∙◌}
+use mathlib.Core.Path.{◌≡◌}
 use Prim.Native.Nat.{◌-◌, ◌≤◌}
-use lib.ListN.{length, take, length-set}
-use lib.Seq.{take_all}
+use lib.ListN.{length, take}
 use Rattle.arithmetic.specs.Row.{place}
-use Rattle.writer_laws.proofs.PutLaws.{place_none, bytes-more}
-use borrow.Author.Rules.{rules}
 use Rattle.job_writer.proofs.put_dates.Given as goal
 
 abbrev pub invariant-loop-i : goal.invariant-loop-i

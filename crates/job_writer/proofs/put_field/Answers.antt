@@ -1,7 +1,6 @@
 use Rattle.job_record.proofs.Places.{digits-length}
 use native.Mathlib.Omega.{arith}
 use Rattle.writer_laws.proofs.PutLaws.{field-placed}
-use borrow.Author.Rules.{rules}
 use Rattle.job_writer.proofs.put_field.Goals as goal
 
 pub returns : goal.returns

@@ -1,25 +1,19 @@
 use native.Mathlib.Omega.{arith}
 use mathlib.Core.Path.{◌≡◌, refl, ◌∙◌}
-use Prim.Native.Nat.{◌-◌, ◌≤◌}
-use lib.ListN.{length}
-use Rattle.arithmetic.specs.Row.{place}
-use Rattle.job_record.specs.Grammar.{joined}
+use Prim.Native.Nat.{◌-◌}
 use Rattle.job_record.proofs.Reread.{number_size}
-use Rattle.writer_laws.specs.inside.Parts.{flow_of}
 use Rattle.writer_laws.proofs.PutLaws.{fields-none, fields-more}
-use borrow.Author.Rules.{rules}
 use Rattle.job_writer.proofs.put_flows.Goals as goal
 
 pub loop-i-init : goal.loop-i-init
 loop-i-init c = (omega arith, refl, fields-none _ _ _)
 
 pub loop-i-preserved : goal.loop-i-preserved
-loop-i-preserved c =
-    (
-      omega arith,
-      c.put_field.auto.out ∙ c.loop-i.invariant.1,
-      fields-more _ _ _ _ 7 _ _ _ (λ k. number_size 7 4 _) (omega arith) (omega arith) c.loop-i.invariant.2 c.put_field.ensures,
-    )
+loop-i-preserved c = (
+  omega arith,
+  c.put_field.auto.out ∙ c.loop-i.invariant.1,
+  fields-more _ _ _ _ 7 _ _ _ (λ k. number_size 7 4 _) (omega arith) (omega arith) c.loop-i.invariant.2 c.put_field.ensures,
+)
 
 pub shape_of-out : goal.shape_of-out
 shape_of-out c = c.loop-i.invariant.1

@@ -1,5 +1,4 @@
 use Rattle.writer_laws.proofs.PutLaws.{head-placed}
-use borrow.Author.Rules.{rules}
 use Rattle.job_writer.proofs.put_head.Goals as goal
 
 pub returns : goal.returns

@@ -1,7 +1,6 @@
 use native.Mathlib.Omega.{arith}
 use mathlib.Core.Path.{◌∙◌}
 use Rattle.writer_laws.proofs.SizeLaws.{encode-size, head-within, flows-room, job-placed}
-use borrow.Author.Rules.{rules}
 use Rattle.job_writer.proofs.put_job.Goals as goal
 
 pub put_head-requires : goal.put_head-requires

@@ -1,5 +1,4 @@
 use Rattle.writer_laws.proofs.PutLaws.{list-placed}
-use borrow.Author.Rules.{rules}
 use Rattle.job_writer.proofs.put_list.Goals as goal
 
 pub returns : goal.returns

@@ -1,10 +1,6 @@
-use mathlib.Core.Path.{◌≡◌, refl, ◌∙◌}
+use mathlib.Core.Path.{refl, ◌∙◌}
 use native.Mathlib.Omega.{arith}
-use Prim.Native.Nat.{◌≤◌}
-use lib.ListN.{length, length-set}
-use borrow.Author.Rules.{rules}
-use Rattle.arithmetic.specs.Row.{place}
-use Rattle.job_record.specs.Bytes.{number_bytes}
+use lib.ListN.{length-set}
 use Rattle.writer_laws.proofs.PutLaws.{number-none, number-last}
 use Rattle.job_writer.proofs.put_number.Goals as goal
 
@@ -13,8 +9,7 @@ loop-left-init c = (omega arith, refl, refl)
 
 pub loop-left-preserved : goal.loop-left-preserved
 loop-left-preserved c =
-    let loop = c.loop-left in
-    (
+    let loop = c.loop-left in (
       omega arith,
       length-set loop.out _ _ ∙ loop.invariant.1,
       number-last loop.out _ _ _ c.loop-left-test.true (omega (arith, c.requires.1, loop.invariant.0, loop.invariant.1)) ∙ loop.invariant.2,

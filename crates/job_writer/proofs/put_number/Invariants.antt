@@ -1,11 +1,8 @@
-use mathlib.Core.Path.{◌≡◌, refl, ◌∙◌}
-use native.Mathlib.Omega.{arith}
+use mathlib.Core.Path.{◌≡◌}
 use Prim.Native.Nat.{◌≤◌}
-use lib.ListN.{length, length-set}
-use borrow.Author.Rules.{rules}
+use lib.ListN.{length}
 use Rattle.arithmetic.specs.Row.{place}
 use Rattle.job_record.specs.Bytes.{number_bytes}
-use Rattle.writer_laws.proofs.PutLaws.{number-none, number-last}
 use Rattle.job_writer.proofs.put_number.Given as goal
 
 -- placing what is left gives the whole

@@ -3,7 +3,6 @@ use mathlib.Core.Path.{sym}
 use Rattle.job_record.proofs.Options.{field-kind, field-list, field-none}
 use Rattle.writer_laws.proofs.PutLaws.{place_none}
 use Rattle.writer_laws.proofs.SizeLaws.{kind-size, list-size, dates-lent}
-use borrow.Author.Rules.{rules}
 use Rattle.job_writer.proofs.put_option.Goals as goal
 
 pub put_kind-requires : goal.put_kind-requires

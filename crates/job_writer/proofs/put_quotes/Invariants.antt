@@ -1,13 +1,9 @@
-use native.Mathlib.Omega.{arith}
-use mathlib.Core.Path.{◌≡◌, refl, ◌∙◌}
+use mathlib.Core.Path.{◌≡◌}
 use Prim.Native.Nat.{◌-◌, ◌≤◌}
 use lib.ListN.{length}
 use Rattle.arithmetic.specs.Row.{place}
 use Rattle.job_record.specs.Grammar.{joined}
-use Rattle.job_record.proofs.Reread.{number_size}
 use Rattle.writer_laws.specs.inside.Parts.{quote_of}
-use Rattle.writer_laws.proofs.PutLaws.{fields-none, fields-more}
-use borrow.Author.Rules.{rules}
 use Rattle.job_writer.proofs.put_quotes.Given as goal
 
 abbrev pub invariant-loop-i : goal.invariant-loop-i

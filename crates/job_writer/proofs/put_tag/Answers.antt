@@ -2,7 +2,6 @@ use native.Mathlib.Omega.{arith}
 use mathlib.Core.Path.{◌∙◌}
 use lib.ListN.{length-set}
 use Rattle.writer_laws.proofs.PutLaws.{tag-placed}
-use borrow.Author.Rules.{rules}
 use Rattle.job_writer.proofs.put_tag.Goals as goal
 
 pub put_number-requires : goal.put_number-requires

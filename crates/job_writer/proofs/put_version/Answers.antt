@@ -2,7 +2,6 @@ use native.Mathlib.Omega.{arith}
 use mathlib.Core.Path.{sym}
 use Rattle.writer_laws.proofs.PutLaws.{place_none}
 use Rattle.writer_laws.proofs.SizeLaws.{version-absent, version-there, quotes-behind}
-use borrow.Author.Rules.{rules}
 use Rattle.job_writer.proofs.put_version.Goals as goal
 
 pub put_field-requires : goal.put_field-requires

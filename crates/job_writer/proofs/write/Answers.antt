@@ -3,7 +3,6 @@ use Rattle.job_record.proofs.Answers.{passed, failed}
 use Rattle.writer_laws.proofs.SoundTests.{sound-job}
 use Rattle.writer_laws.proofs.SizeLaws.{size_is}
 use Rattle.writer_laws.proofs.WriteLaws.{written-unsound, written-long, written-beyond, written-whole, refused-with, wrote}
-use borrow.Author.Rules.{rules}
 use Rattle.job_writer.proofs.write.Goals as goal
 
 clauses-answer-memory : {A B : Type 0} → A × B → record { answer : A; memory : B }

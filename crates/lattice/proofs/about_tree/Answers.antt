@@ -1,5 +1,4 @@
 use mathlib.Core.Path.{sym, ◌∙◌}
-use borrow.Author.Rules.{rules}
 use Rattle.lattice.proofs.EntryLaws.{tree-refused, tree-answered}
 use Rattle.lattice.proofs.about_tree.Goals as goal
 

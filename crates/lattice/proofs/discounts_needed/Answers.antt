@@ -2,7 +2,6 @@ use Rattle.lattice.specs.Shape.{discounts_needed}
 use Prim.Native.Nat.{ℕ}
 use mathlib.Core.Path.{◌∙◌}
 use Rattle.lattice.proofs.EntryLaws as entry
-use borrow.Author.Rules.{rules}
 use Rattle.lattice.proofs.discounts_needed.Goals as goal
 
 pub returns : goal.returns

@@ -1,7 +1,6 @@
 use Rattle.lattice.specs.Shape.{half_width}
 use mathlib.Core.Path.{◌∙◌}
 use Rattle.lattice.proofs.EntryLaws as entry
-use borrow.Author.Rules.{rules}
 use Rattle.lattice.proofs.half_width.Goals as goal
 
 pub returns : goal.returns

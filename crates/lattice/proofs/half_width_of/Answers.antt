@@ -2,7 +2,6 @@ use mathlib.Core.Path.{◌∙◌, sym}
 use native.Mathlib.Omega.{arith}
 use Rattle.lattice.proofs.EntryLaws as entry
 use Rattle.lattice.proofs.Sizes.{half-flat}
-use borrow.Author.Rules.{rules}
 use Rattle.lattice.proofs.half_width_of.Goals as goal
 
 pub returns-then-reversion-eq0 : goal.returns-then-reversion-eq0

@@ -3,7 +3,6 @@ use native.Mathlib.Omega.{arith}
 use Rattle.lattice.specs.Shape.{highest_node}
 use Rattle.lattice.proofs.EntryLaws as entry
 use Rattle.lattice.proofs.Sizes.{highest-is}
-use borrow.Author.Rules.{rules}
 use Rattle.lattice.proofs.highest_node.Goals as goal
 
 pub returns-then-reversion-gt1840 : goal.returns-then-reversion-gt1840

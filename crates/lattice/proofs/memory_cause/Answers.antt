@@ -1,5 +1,4 @@
 use Rattle.lattice.proofs.MemoryLaws as laws
-use borrow.Author.Rules.{rules}
 use Rattle.lattice.proofs.memory_cause.Goals as goal
 
 pub returns-then-discounts-needed : goal.returns-then-discounts-needed

@@ -4,7 +4,6 @@ use Rattle.lattice.proofs.Sizes.{half-within}
 use mathlib.Core.Path.{ap, ◌∙◌}
 use native.Mathlib.Omega.{arith}
 use Rattle.lattice.proofs.EntryLaws as entry
-use borrow.Author.Rules.{rules}
 use Rattle.lattice.proofs.node_count.Goals as goal
 use Rattle.lattice.proofs.node_count.Goals.{After-half_width_of}
 

@@ -1,5 +1,4 @@
 use mathlib.Core.Path.{◌∙◌}
-use borrow.Author.Rules.{rules}
 use Rattle.lattice.proofs.ShapeLaws.{shape-steep, shape-no-table, shape-past, shape-last, shape-found}
 use Rattle.lattice.proofs.row_shape.Goals as goal
 

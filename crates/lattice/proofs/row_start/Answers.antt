@@ -1,7 +1,6 @@
 use Rattle.lattice.specs.Shape.{row_start}
 use mathlib.Core.Path.{◌∙◌}
 use Rattle.lattice.proofs.EntryLaws as entry
-use borrow.Author.Rules.{rules}
 use Rattle.lattice.proofs.row_start.Goals as goal
 
 pub returns : goal.returns

@@ -1,6 +1,5 @@
 use native.Mathlib.Omega.{arith}
 use Rattle.lattice.proofs.EntryLaws as entry
-use borrow.Author.Rules.{rules}
 use Rattle.lattice.proofs.row_start_of.Goals as goal
 
 pub overflow_mul-result : goal.overflow_mul-result

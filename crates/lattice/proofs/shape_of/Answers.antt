@@ -1,6 +1,5 @@
 use Prim.Native.Nat.{◌+◌, ◌≤◌}
 use native.Mathlib.Omega.{arith}
-use borrow.Author.Rules.{rules}
 use Rattle.lattice.proofs.Sizes.{half-within, half-later}
 use Rattle.lattice.proofs.ShapeLaws.{shape-built}
 use Rattle.lattice.proofs.shape_of.Goals as goal

@@ -3,7 +3,6 @@ use Prim.Native.Nat.{ℕ}
 use native.Mathlib.Numerals.{add-one}
 use mathlib.Core.Path.{ap, ◌∙◌}
 use Rattle.lattice.proofs.EntryLaws as entry
-use borrow.Author.Rules.{rules}
 use Rattle.lattice.proofs.state_prices_needed.Goals as goal
 
 pub returns : goal.returns

@@ -1,11 +1,9 @@
 use mathlib.Core.Path.{◌≡◌, sym, ◌∙◌}
 use Prim.Native.Nat.{◌-◌}
-use borrow.Author.Rules.{rules}
 use native.Mathlib.Omega.{arith}
 use lib.ListN.{length}
-use Rattle.bands.specs.Bands.{bands_of, contains}
 use Rattle.lending.specs.Lending.{band_index}
-use Rattle.bands.proofs.FirstLaws.{Searched, searched-start, searched-more, searched-found, searched-none}
+use Rattle.bands.proofs.FirstLaws.{searched-start, searched-more, searched-found, searched-none}
 use Rattle.lending.proofs.find_band.Goals as goal
 
 pub loop-k-init : goal.loop-k-init

@@ -1,7 +1,5 @@
 use native.Mathlib.Omega.{arith}
 use lib.ListN.{length-take}
-use borrow.Author.Rules.{rules}
-use borrow.Author.Tests.{not-true, not-false}
 use Rattle.lent_tree.proofs.LentLaws.{numbers-refused, room-refused, discount-refused, lent-passed}
 use Rattle.lent_tree.proofs.discounts_cause.Goals as goal
 

@@ -1,4 +1,3 @@
-use borrow.Author.Rules.{rules}
 use Rattle.lent_tree.proofs.LentLaws.{room-number, room-short, room-enough}
 use Rattle.lent_tree.proofs.room_cause.Goals as goal
 

@@ -1,6 +1,4 @@
 use mathlib.Core.Path.{sym, ◌∙◌}
-use borrow.Author.Rules.{rules}
-use borrow.Author.Tests.{not-true, not-false}
 use Rattle.limits.proofs.LimitLaws.{shape-steps, shape-reversion, shape-none}
 use Rattle.limits.proofs.shape_cause.Goals as goal
 

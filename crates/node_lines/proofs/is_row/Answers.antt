@@ -1,6 +1,5 @@
 use mathlib.Core.Path.{sym}
 use native.Mathlib.Omega.{arith}
-use borrow.Author.Rules.{rules}
 use Rattle.node_lines.proofs.RowLaws.{row-late, row-even, row-test}
 use Rattle.node_lines.proofs.is_row.Goals as goal
 

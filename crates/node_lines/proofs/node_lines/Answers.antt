@@ -1,7 +1,6 @@
 use mathlib.Core.Path.{◌≡◌, sym, ◌∙◌}
 use Prim.Native.Nat.{◌-◌}
 use lib.ListN.{length}
-use borrow.Author.Rules.{rules}
 use Rattle.node_lines.specs.Reading.{read_number}
 use Rattle.node_lines.proofs.ReadingLaws.{read_known, drawn-refused, drawn-answered}
 use Rattle.node_lines.proofs.node_lines.Goals as goal

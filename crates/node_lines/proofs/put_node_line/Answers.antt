@@ -1,7 +1,6 @@
 use mathlib.Core.Path.{◌∙◌}
 use native.Mathlib.Omega.{arith}
 use mir.Facts.{to_z-of_z}
-use borrow.Author.Rules.{rules}
 use Rattle.node_lines.proofs.RowLaws.{node-fits, node-is, line-room, line-put}
 use Rattle.node_lines.proofs.put_node_line.Goals as goal
 

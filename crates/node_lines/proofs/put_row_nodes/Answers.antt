@@ -3,14 +3,13 @@ use mathlib.Core.List.{List}
 use Prim.Native.Nat.{ℕ, suc, ◌≤◌, ◌<◌, ◌+◌, ◌-◌, ◌*◌, ◌/◌}
 use native.Mathlib.Omega.{arith}
 use lib.ListN.{length, get_or}
-use borrow.Author.Rules.{rules}
 use Rattle.lattice.specs.RateTree.{node_of_index}
 use Rattle.text_laws.specs.Lines.{line_of_node, longest_line}
 use Rattle.text_laws.specs.inside.Put.{Put}
 use Rattle.node_lines.specs.Rows.{node_text, lines}
 use Rattle.node_lines.specs.Reading.{nodes_before}
 use Rattle.node_lines.proofs.RowLaws.{discount-read, line-room}
-use Rattle.node_lines.proofs.LineLoop.{Progress, begun, gone, ended}
+use Rattle.node_lines.proofs.LineLoop.{begun, gone, ended}
 use Rattle.node_lines.proofs.ReadingLaws.{before-length, before_text, before-discount, drawn-whole}
 use Rattle.node_lines.proofs.put_row_nodes.Goals as goal
 use Rattle.node_lines.proofs.put_row_nodes.Goals.{After-node_at-node, After-shared_slice_known-1, In-loop-left}

@@ -3,7 +3,6 @@ use mathlib.Core.Bool.{true, false}
 use Prim.Native.Nat.{◌≤◌}
 use lib.ListN.{length}
 use borrow.Author.Rules.{rules}
-use borrow.Author.Tests.{not-true, not-false}
 use Rattle.node_lines.specs.Rows.{is_row, has_room_for, accepted_nodes}
 use Rattle.node_lines.specs.Reading.{stand_before, nodes_before}
 use Rattle.node_lines.proofs.RowLaws.{accepted-found}

@@ -1,9 +1,7 @@
-use mathlib.Core.Path.{◌≡◌}
-use Prim.Native.Nat.{◌*◌, ◌%◌, ◌-◌, ◌≤◌}
+use Prim.Native.Nat.{◌*◌, ◌%◌, ◌-◌}
 use native.Mathlib.Nat.{mul-le-mul, mod-lt}
 use native.Mathlib.Omega.{arith}
-use lib.ListN.{length, length-set}
-use borrow.Author.Rules.{rules}
+use lib.ListN.{length-set}
 use Rattle.pair_cases.proofs.fill.Goals as goal
 
 pub overflow_mul-numbers : goal.overflow_mul-numbers

@@ -1,10 +1,7 @@
-use mathlib.Core.Path.{◌≡◌, sym, ◌∙◌}
+use mathlib.Core.Path.{◌≡◌}
 use mathlib.Core.Bool.{true}
 use Prim.Native.Nat.{ℕ, ◌-◌, ◌≤◌, ◌<◌}
-use native.Mathlib.Omega.{arith}
-use borrow.Author.Tests.{not-true, not-false}
 use Rattle.pair_laws.specs.PairCauses.{discounted}
-use Rattle.pair_laws.proofs.CauseLaws.{combined-refused, combined-passed, passed-more}
 use Rattle.pair_causes.proofs.combined_cause.Given as goal
 
 abbrev pub invariant-loop-row : goal.invariant-loop-row

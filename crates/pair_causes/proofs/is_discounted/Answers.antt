@@ -1,5 +1,4 @@
 use native.Mathlib.Omega.{arith}
-use borrow.Author.Rules.{rules}
 use Rattle.pair_laws.proofs.CauseLaws.{row-discounted}
 use Rattle.pair_laws.proofs.RowParts.{least_fits}
 use Rattle.pair_causes.proofs.is_discounted.Goals as goal

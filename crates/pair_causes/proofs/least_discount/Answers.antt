@@ -2,7 +2,6 @@ use mathlib.Core.Path.{refl}
 use Prim.Native.Nat.{◌+◌, ◌≤◌}
 use native.Mathlib.Omega.{arith}
 use lib.ListN.{length}
-use borrow.Author.Rules.{rules}
 use Rattle.lent_tree.proofs.LentLaws.{accepted-lent}
 use Rattle.price_bound.proofs.BoundLaws.{part_room}
 use Rattle.pair_laws.proofs.RowParts.{least-part}

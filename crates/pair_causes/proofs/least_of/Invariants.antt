@@ -1,11 +1,8 @@
-use mathlib.Core.Path.{◌≡◌, sym, ap, ◌∙◌}
-use mathlib.Core.Logic.{⊎_elim}
-use Prim.Native.Nat.{ℕ, ◌-◌, ◌≤◌}
-use native.Mathlib.Omega.{arith}
+use mathlib.Core.Path.{◌≡◌}
+use Prim.Native.Nat.{◌-◌, ◌≤◌}
 use lib.ListN.{length}
 use Rattle.arithmetic.specs.Row.{values}
 use Rattle.pair_laws.specs.PairCauses.{least}
-use Rattle.pair_laws.proofs.CauseLaws.{least-none, least-next}
 use Rattle.pair_causes.proofs.least_of.Given as goal
 
 abbrev pub invariant-loop-k : goal.invariant-loop-k

@@ -1,4 +1,3 @@
-use borrow.Author.Rules.{rules}
 use Rattle.arithmetic.proofs.Implied.{implied}
 use Rattle.pair_laws.proofs.CauseLaws.{pair-steps-refused, pair-trees-refused, trees-accepted, pair-rest}
 use Rattle.pair_causes.proofs.pair_cause.Goals as goal

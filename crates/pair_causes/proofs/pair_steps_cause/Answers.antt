@@ -1,7 +1,5 @@
 use mathlib.Core.Path.{sym, ◌∙◌}
 use native.Mathlib.Omega.{arith}
-use borrow.Author.Tests.{not-true, not-false}
-use borrow.Author.Rules.{rules}
 use Rattle.pair_laws.proofs.CauseLaws.{rate-steps-refused, spread-steps-refused, steps-long, steps_apart, steps-passed}
 use Rattle.pair_causes.proofs.pair_steps_cause.Goals as goal
 

@@ -1,6 +1,5 @@
 use mathlib.Core.Path.{◌∙◌}
 use native.Mathlib.Omega.{arith}
-use borrow.Author.Rules.{rules}
 use Rattle.pricing.proofs.EntryLaws.{prefix-room, prefix-is, prefix-length}
 use Rattle.pair_laws.proofs.EntryLaws.{bond-above, bond-given}
 use Rattle.pair_pricing.proofs.accepted_bond.Goals as goal

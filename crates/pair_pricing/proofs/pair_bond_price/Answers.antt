@@ -1,4 +1,3 @@
-use borrow.Author.Rules.{rules}
 use Rattle.arithmetic.proofs.Implied.{implied}
 use Rattle.pair_laws.proofs.EntryLaws.{entry-accepted, bond-refused, bond-found}
 use Rattle.pair_pricing.proofs.pair_bond_price.Goals as goal

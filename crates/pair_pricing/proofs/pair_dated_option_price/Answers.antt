@@ -1,4 +1,3 @@
-use borrow.Author.Rules.{rules}
 use Rattle.arithmetic.proofs.Implied.{implied}
 use Rattle.pair_laws.proofs.EntryLaws.{entry-accepted, dated-refused, terms-refused, exercisable, dated-found}
 use Rattle.pair_pricing.proofs.pair_dated_option_price.Goals as goal

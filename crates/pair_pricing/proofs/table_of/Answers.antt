@@ -1,7 +1,6 @@
 use native.Mathlib.Omega.{arith}
 use lib.ListN.{length-take}
 use Rattle.pricing.proofs.EntryLaws.{widest_fits, table_filled}
-use borrow.Author.Rules.{rules}
 use Rattle.pair_pricing.proofs.table_of.Goals as goal
 
 pub overflow_mul-nodes : goal.overflow_mul-nodes

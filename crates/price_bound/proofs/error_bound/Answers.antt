@@ -3,7 +3,6 @@ use Prim.Native.Nat.{◌-◌, ◌*◌, ◌≤◌}
 use native.Mathlib.Omega.{arith}
 use Rattle.arithmetic.specs.Row.{values}
 use Rattle.price_bound.proofs.BoundLaws.{bound_at, bound-first, bound-fits, bound-next}
-use borrow.Author.Rules.{rules}
 use Rattle.price_bound.proofs.error_bound.Goals as goal
 use Rattle.price_bound.proofs.error_bound.Goals.{In-loop-row}
 

@@ -1,9 +1,6 @@
-use mathlib.Core.Path.{◌≡◌, sym, ap, ◌∙◌}
-use Prim.Native.Nat.{◌-◌, ◌*◌, ◌≤◌}
-use native.Mathlib.Omega.{arith}
-use Rattle.arithmetic.specs.Row.{values}
-use Rattle.price_bound.proofs.BoundLaws.{bound_at, bound-first, bound-fits, bound-next}
-use borrow.Author.Rules.{rules}
+use mathlib.Core.Path.{◌≡◌}
+use Prim.Native.Nat.{◌-◌, ◌≤◌}
+use Rattle.price_bound.proofs.BoundLaws.{bound_at}
 use Rattle.price_bound.proofs.error_bound.Given as goal
 
 abbrev pub invariant-loop-row : goal.invariant-loop-row

@@ -1,5 +1,4 @@
 use Rattle.price_bound.proofs.BoundLaws.{alone}
-use borrow.Author.Rules.{rules}
 use Rattle.price_bound.proofs.price_error_bound.Goals as goal
 
 pub returns : goal.returns

@@ -1,9 +1,8 @@
 use mathlib.Core.Path.{◌≡◌, ◌∙◌}
-use Prim.Native.Nat.{ℕ, ◌-◌, ◌≤◌}
+use Prim.Native.Nat.{ℕ, ◌-◌}
 use native.Mathlib.Omega.{arith}
 use lib.ListN.{length}
-use Rattle.price_bound.proofs.BoundLaws.{Ranged, ranged-start, ranged-next, ranged-done, ranged-greatest, zero-refused}
-use borrow.Author.Rules.{rules}
+use Rattle.price_bound.proofs.BoundLaws.{ranged-start, ranged-next, ranged-done, ranged-greatest, zero-refused}
 use Rattle.price_bound.proofs.range_of.Goals as goal
 
 pub loop-k-init : goal.loop-k-init

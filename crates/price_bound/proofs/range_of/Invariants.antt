@@ -1,9 +1,6 @@
-use mathlib.Core.Path.{◌≡◌, ◌∙◌}
-use Prim.Native.Nat.{ℕ, ◌-◌, ◌≤◌}
-use native.Mathlib.Omega.{arith}
+use Prim.Native.Nat.{◌-◌, ◌≤◌}
 use lib.ListN.{length}
-use Rattle.price_bound.proofs.BoundLaws.{Ranged, ranged-start, ranged-next, ranged-done, ranged-greatest, zero-refused}
-use borrow.Author.Rules.{rules}
+use Rattle.price_bound.proofs.BoundLaws.{Ranged}
 use Rattle.price_bound.proofs.range_of.Given as goal
 
 abbrev pub invariant-loop-k : goal.invariant-loop-k

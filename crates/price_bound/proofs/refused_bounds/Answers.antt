@@ -1,4 +1,3 @@
-use borrow.Author.Rules.{rules}
 use Rattle.price_bound.proofs.refused_bounds.Goals as goal
 
 pub returns : goal.returns

@@ -3,7 +3,6 @@ use Prim.Native.Nat.{◌+◌, ◌≤◌}
 use native.Mathlib.Omega.{arith}
 use lib.ListN.{length}
 use Rattle.price_bound.proofs.BoundLaws.{part_room, greatest-part, judged-part}
-use borrow.Author.Rules.{rules}
 use Rattle.price_bound.proofs.row_range.Goals as goal
 use Rattle.price_bound.proofs.row_range.Goals.{After-struct_known-1}
 

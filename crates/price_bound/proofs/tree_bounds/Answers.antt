@@ -3,7 +3,6 @@ use Prim.Native.Nat.{ℕ}
 use Rattle.lent_tree.specs.LentTree.{Accepted, discounts_cause}
 use Rattle.lent_tree.proofs.LentLaws.{lent, accepted}
 use Rattle.price_bound.proofs.BoundLaws.{rows-bounded, bound-is, room-refused, range-refused, range-accepted, bounds-given}
-use borrow.Author.Rules.{rules}
 use borrow.Author.Tests.{not-true, not-false}
 use Rattle.price_bound.proofs.tree_bounds.Goals as goal
 use Rattle.price_bound.proofs.tree_bounds.Goals.{Else-not-range}

@@ -1,18 +1,14 @@
-use mathlib.Core.Path.{◌≡◌, sym, ◌∙◌}
+use mathlib.Core.Path.{◌≡◌}
 use mathlib.Core.Bool.{true}
-use Prim.Native.Nat.{ℕ, ◌-◌, ◌≤◌}
-use native.Mathlib.Omega.{arith}
+use Prim.Native.Nat.{◌-◌, ◌≤◌}
 use lib.ListN.{replicate}
 use Rattle.arithmetic.specs.Row.{each}
-use Rattle.arithmetic.proofs.RowLaws.{Filled, filled-start, filled_next, each_none, each_more}
+use Rattle.arithmetic.proofs.RowLaws.{Filled}
 use Rattle.limits.specs.Limits.{most_steps}
 use Rattle.lattice.specs.RateTree.{rate_tree}
 use Rattle.lent_tree.specs.LentTree.{stored}
 use Rattle.pricing_laws.specs.TreePricer.{greatest_discount}
 use Rattle.price_bound.specs.inside.Rows.{row_accepted}
-use Rattle.price_bound.proofs.BoundLaws.{rows-filled, rows-refused, rows-accepted}
-use borrow.Author.Rules.{rules}
-use borrow.Author.Tests.{not-true, not-false}
 use Rattle.price_bound.proofs.tree_range.Given as goal
 
 abbrev pub invariant-loop-row : goal.invariant-loop-row

@@ -1,6 +1,4 @@
 use Rattle.price_causes.proofs.CheckLaws.{flows-miscounted, flow-refused, flows-passed}
-use borrow.Author.Rules.{rules}
-use borrow.Author.Tests.{not-true, not-false}
 use Rattle.price_causes.proofs.flows_cause.Goals as goal
 
 pub returns-then-flows-steps : goal.returns-then-flows-steps

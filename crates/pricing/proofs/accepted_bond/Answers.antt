@@ -1,7 +1,6 @@
 use mathlib.Core.Path.{◌∙◌}
 use native.Mathlib.Omega.{arith}
 use Rattle.pricing.proofs.EntryLaws.{prefix-room, prefix-is, prefix-length, bond-refused, bond-given}
-use borrow.Author.Rules.{rules}
 use Rattle.pricing.proofs.accepted_bond.Goals as goal
 
 pub slice_bounds-table-end : goal.slice_bounds-table-end
@@ -18,8 +17,7 @@ slice_bounds-roll_bond-end c =
 pub roll_bond-number-requires : goal.roll_bond-number-requires
 roll_bond-number-requires c =
     let node-count = c.node_count-nodes in
-    let table_of = c.table_of-table in
-    (
+    let table_of = c.table_of-table in (
       record {
         tree = c.requires.0;
         paid = c.requires.1;

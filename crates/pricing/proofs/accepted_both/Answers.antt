@@ -1,6 +1,5 @@
 use mathlib.Core.Path.{◌∙◌}
 use Rattle.pricing.proofs.EntryLaws.{prefix-room, prefix-is, prefix-length, option-refused, option-given, beside-given}
-use borrow.Author.Rules.{rules}
 use Rattle.pricing.proofs.accepted_both.Goals as goal
 
 pub slice_bounds-table-end : goal.slice_bounds-table-end

@@ -5,7 +5,6 @@ use Rattle.lent_tree.specs.LentTree.{Accepted}
 use Rattle.price_laws.proofs.Accuracy.{tree_lent, tree-paid}
 use Rattle.pricing.specs.inside.Trees.{Ready}
 use Rattle.pricing.proofs.EntryLaws.{prefix-room, prefix-is, prefix-length}
-use borrow.Author.Rules.{rules}
 use Rattle.pricing.proofs.accepted_strip.Goals as goal
 use Rattle.pricing.proofs.accepted_strip.Goals.{After-table_of-table, Start}
 
@@ -50,15 +49,14 @@ pub slice_bounds-strike_prices-end-2 : goal.slice_bounds-strike_prices-end-2
 slice_bounds-strike_prices-end-2 c = prefix-length _ _ (room (goal.at.slice_bounds-strike_prices-end-2 c).After-table_of-table)
 
 pub strike_prices-requires : goal.strike_prices-requires
-strike_prices-requires c =
-    (
-      record {
-        ready = ready (goal.at.strike_prices-requires c).After-table_of-table;
-        none = c.requires.0;
-        list-is = c.dates_cause.ensures;
-        marks-are = c.marks_of-marks.ensures;
-        bond-is = c.keep_bond-bond.ensures;
-        room = omega (arith, c.keep_bond-bond.auto.kept, c.discount_room-kept.ensures);
-      },
-      c.requires.1,
-    )
+strike_prices-requires c = (
+  record {
+    ready = ready (goal.at.strike_prices-requires c).After-table_of-table;
+    none = c.requires.0;
+    list-is = c.dates_cause.ensures;
+    marks-are = c.marks_of-marks.ensures;
+    bond-is = c.keep_bond-bond.ensures;
+    room = omega (arith, c.keep_bond-bond.auto.kept, c.discount_room-kept.ensures);
+  },
+  c.requires.1,
+)

@@ -1,7 +1,6 @@
 use mathlib.Core.Path.{◌∙◌}
 use Rattle.arithmetic.proofs.Implied.{implied}
 use Rattle.price_laws.proofs.ValueLaws.{dates-whole}
-use borrow.Author.Rules.{rules}
 use Rattle.pricing.proofs.bond_and_dated_option.Goals as goal
 
 pub both_on_dates-requires : goal.both_on_dates-requires

@@ -1,7 +1,6 @@
 use mathlib.Core.Path.{◌∙◌}
 use Rattle.arithmetic.proofs.Implied.{implied}
 use Rattle.price_laws.proofs.ValueLaws.{kind-whole}
-use borrow.Author.Rules.{rules}
 use Rattle.pricing.proofs.bond_and_option.Goals as goal
 
 pub both_of_kind-requires : goal.both_of_kind-requires

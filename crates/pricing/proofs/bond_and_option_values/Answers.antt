@@ -2,7 +2,6 @@ use mathlib.Core.Path.{ap, ◌∙◌}
 use Rattle.arithmetic.proofs.Implied.{implied}
 use Rattle.price_laws.specs.Prices.{both_values}
 use Rattle.price_laws.proofs.ValueLaws.{kind-values-again}
-use borrow.Author.Rules.{rules}
 use Rattle.pricing.proofs.bond_and_option_values.Goals as goal
 
 pub both_of_kind-requires : goal.both_of_kind-requires

@@ -1,7 +1,6 @@
 use mathlib.Core.Path.{◌∙◌}
 use Rattle.arithmetic.proofs.Implied.{implied}
 use Rattle.price_laws.proofs.ValueLaws.{bond-whole}
-use borrow.Author.Rules.{rules}
 use Rattle.pricing.proofs.bond_price.Goals as goal
 
 pub judged_bond-requires : goal.judged_bond-requires

@@ -2,7 +2,6 @@ use mathlib.Core.Path.{ap, ◌∙◌}
 use Rattle.arithmetic.proofs.Implied.{implied}
 use Rattle.price_laws.specs.Prices.{value_alone}
 use Rattle.price_laws.proofs.ValueLaws.{bond-value-again}
-use borrow.Author.Rules.{rules}
 use Rattle.pricing.proofs.bond_value.Goals as goal
 
 pub judged_bond-requires : goal.judged_bond-requires

@@ -1,7 +1,6 @@
 use Rattle.exercise_dates.proofs.DateLaws.{list-room}
 use Rattle.price_laws.proofs.OptionLaws.{kind-both}
 use Rattle.pricing.proofs.EntryLaws.{prefix-length, kind-exercised}
-use borrow.Author.Rules.{rules}
 use Rattle.pricing.proofs.both_of_kind.Goals as goal
 
 pub slice_bounds-rows-end : goal.slice_bounds-rows-end
@@ -11,11 +10,10 @@ pub slice_bounds-judged_both-end : goal.slice_bounds-judged_both-end
 slice_bounds-judged_both-end c = prefix-length _ _ (list-room _ _ _ c.dates_of_kind-dates.ensures)
 
 pub judged_both-requires : goal.judged_both-requires
-judged_both-requires c =
-    (
-      c.requires,
-      kind-exercised _ _ _ _ c.option_cause-cause.ensures _ c.terms_of-terms.ensures _ c.dates_of_kind-dates.ensures,
-    )
+judged_both-requires c = (
+  c.requires,
+  kind-exercised _ _ _ _ c.option_cause-cause.ensures _ c.terms_of-terms.ensures _ c.dates_of_kind-dates.ensures,
+)
 
 pub returns : goal.returns
 returns c =

@@ -2,7 +2,6 @@ use mathlib.Core.Path.{◌≡◌}
 use Rattle.price_laws.specs.Prices.{dated_cause}
 use Rattle.price_laws.proofs.OptionLaws.{dated-cause-is, dates-both}
 use Rattle.pricing.proofs.EntryLaws.{dated-exercised}
-use borrow.Author.Rules.{rules}
 use Rattle.pricing.proofs.both_on_dates.Goals as goal
 use Rattle.pricing.proofs.both_on_dates.Goals.{After-lowest_cause-cause}
 

@@ -2,7 +2,6 @@ use mathlib.Core.Path.{◌∙◌, ap}
 use Prim.Native.Nat.{ℕ}
 use lib.ListN.{length}
 use Rattle.price_laws.specs.Strips.{strip_answer, strike_price, each_with}
-use borrow.Author.Rules.{rules}
 use Rattle.pricing.proofs.bounded_strip.Goals as goal
 
 pub returns : goal.returns

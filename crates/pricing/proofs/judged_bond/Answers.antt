@@ -2,7 +2,6 @@ use mathlib.Core.Path.{sym, ◌∙◌}
 use Rattle.arithmetic.proofs.Implied.{implied}
 use Rattle.price_laws.proofs.Accuracy.{tree_lent, tree-paid}
 use Rattle.price_laws.proofs.ValueLaws.{bond-refused, bond-passed}
-use borrow.Author.Rules.{rules}
 use Rattle.pricing.proofs.judged_bond.Goals as goal
 
 pub returns-then-bound-ne0 : goal.returns-then-bound-ne0

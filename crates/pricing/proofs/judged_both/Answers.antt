@@ -8,7 +8,6 @@ use Rattle.price_laws.proofs.AnswerLaws.{marked-price}
 use Rattle.price_laws.proofs.ValueLaws as answers
 use Rattle.pricing.specs.inside.Trees.{ExercisedOn}
 use Rattle.pricing.proofs.EntryLaws.{marks-exercisable}
-use borrow.Author.Rules.{rules}
 use Rattle.pricing.proofs.judged_both.Goals as goal
 use Rattle.pricing.proofs.judged_both.Goals.{Else-bound-ne0, Else-cause-ne0}
 
@@ -46,6 +45,9 @@ returns c =
     let marked = c.before.before in
     let on = exercised (goal.at.returns c).Else-cause-ne0 in
     let on-tree = marked.before.before in
-    let few = (tree (goal.at.returns c).Else-bound-ne0).limits.steps-within-limit in record { bond = answers.bond-passed implied (none (goal.at.returns c).Else-bound-ne0) c.accepted_both.ensures.bond; option = answers.option-passed implied (none (goal.at.returns c).Else-bound-ne0) marked.if-cause-ne0.false
+    let few = (tree (goal.at.returns c).Else-bound-ne0).limits.steps-within-limit in record {
+      bond = answers.bond-passed implied (none (goal.at.returns c).Else-bound-ne0) c.accepted_both.ensures.bond;
+      option = answers.option-passed implied (none (goal.at.returns c).Else-bound-ne0) marked.if-cause-ne0.false
           (marked-price _ _ _ _ implied (omega (arith, on.before-end)) on.last-listed marked.marks_of-marks.ensures
-          c.accepted_both.ensures.option) }
+          c.accepted_both.ensures.option);
+    }

@@ -1,6 +1,5 @@
 use mathlib.Core.Path.{sym, ◌∙◌}
 use Rattle.price_laws.proofs.StripLaws.{strip-few, strip-refused, strip-given, tree-refuses}
-use borrow.Author.Rules.{rules}
 use Rattle.pricing.proofs.judged_strip.Goals as goal
 
 pub returns-then-cause-ne0 : goal.returns-then-cause-ne0

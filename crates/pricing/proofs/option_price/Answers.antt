@@ -1,6 +1,5 @@
 use mathlib.Core.Path.{ap}
 use Rattle.price_laws.specs.declared.BondAndOption.{BondAndOption}
-use borrow.Author.Rules.{rules}
 use Rattle.pricing.proofs.option_price.Goals as goal
 
 pub returns : goal.returns

@@ -1,6 +1,5 @@
 use mathlib.Core.Path.{◌∙◌}
 use Rattle.price_laws.proofs.StripLaws.{strip-whole}
-use borrow.Author.Rules.{rules}
 use Rattle.pricing.proofs.option_strip.Goals as goal
 
 pub returns : goal.returns

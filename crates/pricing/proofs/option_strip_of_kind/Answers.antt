@@ -1,6 +1,5 @@
 use mathlib.Core.Path.{◌∙◌}
 use Rattle.price_laws.proofs.StripLaws.{kind-whole}
-use borrow.Author.Rules.{rules}
 use Rattle.pricing.proofs.option_strip_of_kind.Goals as goal
 
 pub returns : goal.returns

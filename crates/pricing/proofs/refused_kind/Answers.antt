@@ -5,7 +5,6 @@ use Rattle.arithmetic.specs.Answers.{first_cause}
 use Rattle.price_laws.specs.Prices.{refused_price}
 use Rattle.price_laws.specs.Strips.{strip_of}
 use Rattle.price_laws.proofs.StripLaws.{strip-few, strip-refused, strip-given}
-use borrow.Author.Rules.{rules}
 use Rattle.pricing.proofs.refused_kind.Goals as goal
 
 -- the first of the two causes in every place

@@ -2,7 +2,6 @@ use mathlib.Core.Path.{sym, ◌∙◌}
 use Rattle.exercise_dates.proofs.DateLaws.{list-room}
 use Rattle.price_laws.proofs.StripLaws.{kind-refuses, list-handed}
 use Rattle.pricing.proofs.EntryLaws.{prefix-length}
-use borrow.Author.Rules.{rules}
 use Rattle.pricing.proofs.strip_of_kind.Goals as goal
 
 pub returns-then-cause-ne0 : goal.returns-then-cause-ne0

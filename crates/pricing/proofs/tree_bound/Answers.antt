@@ -1,5 +1,4 @@
 use Rattle.pricing.proofs.EntryLaws.{tree-bounded}
-use borrow.Author.Rules.{rules}
 use Rattle.pricing.proofs.tree_bound.Goals as goal
 
 pub returns : goal.returns

@@ -1,7 +1,6 @@
 use mathlib.Core.Path.{ap₂, ◌∙◌}
 use Rattle.arithmetic.specs.Answers.{lowest_cause}
 use Rattle.price_laws.specs.Prices.{tree_cause}
-use borrow.Author.Rules.{rules}
 use Rattle.pricing.proofs.tree_cause.Goals as goal
 
 pub returns : goal.returns

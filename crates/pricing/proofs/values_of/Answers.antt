@@ -1,5 +1,4 @@
 use Rattle.price_laws.proofs.AnswerLaws.{values-are}
-use borrow.Author.Rules.{rules}
 use Rattle.pricing.proofs.values_of.Goals as goal
 
 pub returns : goal.returns

@@ -1,5 +1,4 @@
-use Prim.Native.Nat.{◌-◌, ◌≤◌}
-use native.Mathlib.Omega.{arith}
+use Prim.Native.Nat.{◌-◌}
 use Rattle.quote_cases.proofs.main.Goals as goal
 
 pub show_curves-requires : goal.show_curves-requires

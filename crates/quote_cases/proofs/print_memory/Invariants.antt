@@ -1,6 +1,5 @@
 use Prim.Native.Nat.{◌-◌, ◌≤◌}
 use lib.ListN.{length}
-use borrow.Author.Rules.{rules}
 use Rattle.quote_cases.proofs.print_memory.Given as goal
 
 abbrev pub invariant-loop-i : goal.invariant-loop-i

@@ -2,7 +2,6 @@ use Prim.Native.Nat.{◌<◌, ◌^◌}
 use native.Mathlib.Omega.{arith}
 use lib.IntN.{nat_abs}
 use Rattle.arithmetic.proofs.Signed.{is_whole, back, negated_fits, negated_back}
-use borrow.Author.Rules.{rules}
 use Rattle.quote_cases.proofs.print_signed.Goals as goal
 use Rattle.quote_cases.proofs.print_signed.Goals.{Start}
 

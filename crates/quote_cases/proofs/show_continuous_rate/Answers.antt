@@ -1,6 +1,5 @@
 use native.Mathlib.Omega.{arith}
 use Rattle.continuous_rate.proofs.RateLaws.{value-bound, value-back}
-use borrow.Author.Rules.{rules}
 use Rattle.quote_cases.proofs.show_continuous_rate.Goals as goal
 
 pub print_signed-requires : goal.print_signed-requires

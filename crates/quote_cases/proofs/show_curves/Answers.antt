@@ -1,5 +1,3 @@
-use Prim.Native.Nat.{◌-◌, ◌≤◌}
-use native.Mathlib.Omega.{arith}
 use Rattle.quote_cases.proofs.show_curves.Goals as goal
 
 pub returns : goal.returns

@@ -1,6 +1,5 @@
 use native.Mathlib.Omega.{arith}
 use lib.ListN.{length-take}
-use borrow.Author.Rules.{rules}
 use Rattle.quote_cases.proofs.show_lent.Goals as goal
 
 pub slice_bounds-convert-end-2 : goal.slice_bounds-convert-end-2

@@ -1,10 +1,8 @@
 use mathlib.Core.Path.{◌≡◌, sym, ◌∙◌}
 use mathlib.Core.Bool.{true}
-use borrow.Author.Tests.{not-true, not-false}
 use Rattle.arithmetic.specs.Frequency.{is_frequency}
 use Rattle.arithmetic.proofs.FrequencyLaws.{listed_small}
 use Rattle.quotes.proofs.QuoteLaws.{row_low, row-high, row-known, lone-frequency, lone_row, lone-kind}
-use borrow.Author.Rules.{rules}
 use Rattle.quotes.proofs.lone_point.Goals as goal
 use Rattle.quotes.proofs.lone_point.Goals.{Else-not-is_frequency}
 

@@ -1,7 +1,6 @@
 use mathlib.Core.Path.{◌∙◌, ap}
 use lib.IntN.{ℤ}
 use mir.Facts.{to_z-of_z}
-use borrow.Author.Rules.{rules}
 use Rattle.arithmetic.specs.declared.Answer.{Answer}
 use Rattle.continuous.specs.Continuous.{continuous_answer}
 use Rattle.quotes.specs.Quotes.{ranged_answer}

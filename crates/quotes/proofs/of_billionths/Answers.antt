@@ -10,7 +10,6 @@ use Rattle.arithmetic.specs.Rounding.{one}
 use Rattle.quotes.specs.Quotes.{ranged_answer, rate_discount}
 use Rattle.quotes.proofs.Divisor.{quotient-none, quotient-some, product-fits, divisor-fits, divisor-back, divisor-size}
 use Rattle.quotes.proofs.QuoteLaws.{ranged-none}
-use borrow.Author.Rules.{rules}
 use Rattle.quotes.proofs.of_billionths.Goals as goal
 use Rattle.quotes.proofs.of_billionths.Goals.{Else-divisor-le0, Start}
 

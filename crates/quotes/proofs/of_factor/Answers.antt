@@ -5,7 +5,6 @@ use lib.IntN.{ℤ, pos}
 use lib.Signed.{lt_z}
 use mir.Syntax.{w64}
 use mir.Val.{to_z, of_z}
-use borrow.Author.Rules.{rules}
 use Rattle.figure.proofs.FigureLaws.{value-bound, value-back}
 use Rattle.quotes.specs.Quotes.{ranged_answer, factor_discount}
 use Rattle.quotes.proofs.QuoteLaws.{ranged-none, figure-refused, figure-accepted, factor-negative, factor-whole}

@@ -1,5 +1,4 @@
 use borrow.Author.Tests.{eq-eqb, ne_eqb}
-use borrow.Author.Rules.{rules}
 use Rattle.quotes.specs.Quotes.{kind_answer}
 use Rattle.quotes.proofs.of_point.Goals as goal
 

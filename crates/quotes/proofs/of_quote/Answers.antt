@@ -1,6 +1,5 @@
 use mathlib.Core.Path.{sym, ◌∙◌, ap}
 use Rattle.quotes.specs.Quotes.{quote_answer}
-use borrow.Author.Rules.{rules}
 use Rattle.quotes.proofs.of_quote.Goals as goal
 
 pub returns-in-DiscountFactor : goal.returns-in-DiscountFactor

@@ -1,6 +1,5 @@
 use mathlib.Core.Path.{sym, ◌∙◌, ap}
 use lib.IntN.{ℤ}
-use borrow.Author.Rules.{rules}
 use Rattle.figure.proofs.FigureLaws.{value-bound, value-back}
 use Rattle.quotes.specs.Quotes.{ranged_answer, rate_discount}
 use Rattle.quotes.proofs.QuoteLaws.{figure-refused, figure-accepted}

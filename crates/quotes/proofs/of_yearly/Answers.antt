@@ -8,7 +8,6 @@ use lib.Signed.{lt_z}
 use mir.Syntax.{w64}
 use mir.Val.{to_z, of_z}
 use mir.Facts.{to_z-of_z, to_z_pos}
-use borrow.Author.Rules.{rules}
 use Rattle.arithmetic.proofs.Signed.{minus-fits, minus-back}
 use Rattle.continuous.specs.Continuous.{continuous_answer}
 use Rattle.quotes.specs.Quotes.{ranged_answer, yield_discount}

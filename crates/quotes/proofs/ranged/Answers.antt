@@ -1,6 +1,5 @@
 use mathlib.Core.Path.{sym, ◌∙◌}
 use Rattle.quotes.proofs.QuoteLaws.{ranged-low, ranged-high, ranged-known}
-use borrow.Author.Rules.{rules}
 use Rattle.quotes.proofs.ranged.Goals as goal
 
 pub returns-then-discount-lt100000000 : goal.returns-then-discount-lt100000000

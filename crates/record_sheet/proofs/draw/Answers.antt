@@ -1,5 +1,4 @@
 use mathlib.Core.Path.{sym}
-use borrow.Author.Rules.{rules}
 use Rattle.sheet_laws.proofs.SheetLaws as laws
 use Rattle.record_sheet.proofs.DrawLaws.{Drawn, drawn}
 use Rattle.record_sheet.proofs.draw.Goals as goal

@@ -2,7 +2,6 @@ use mathlib.Core.Path.{◌≡◌, sym, ◌∙◌}
 use Prim.Native.Nat.{◌≤◌}
 use native.Mathlib.Omega.{arith}
 use lib.ListN.{length}
-use borrow.Author.Rules.{rules}
 use Rattle.limits.specs.Limits.{most_discounts, most_state_prices}
 use Rattle.job_laws.specs.JobPrices.{record_prices}
 use Rattle.sheet_room.specs.Room.{sheet_room}

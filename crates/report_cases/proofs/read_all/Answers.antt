@@ -1,4 +1,3 @@
-use borrow.Author.Rules.{rules}
 use Rattle.report_cases.proofs.read_all.Goals as goal
 
 pub loop-left-init : goal.loop-left-init

@@ -1,4 +1,3 @@
-use borrow.Author.Rules.{rules}
 use Rattle.report_cases.proofs.read_all.Given as goal
 
 abbrev pub invariant-loop-left : goal.invariant-loop-left

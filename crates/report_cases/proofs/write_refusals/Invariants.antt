@@ -1,7 +1,6 @@
 use Prim.Native.Nat.{◌-◌, ◌≤◌}
 use lib.ListN.{length}
 use mathlib.Core.Path.{◌≡◌}
-use borrow.Author.Rules.{rules}
 use Rattle.report_cases.proofs.write_refusals.Given as goal
 
 abbrev pub invariant-loop-k : goal.invariant-loop-k

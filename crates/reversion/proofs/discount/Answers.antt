@@ -1,4 +1,3 @@
-use borrow.Author.Rules.{rules}
 use Rattle.reversion.proofs.ReversionLaws.{discount-found}
 use Rattle.reversion.proofs.discount.Goals as goal
 

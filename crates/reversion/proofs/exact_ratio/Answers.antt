@@ -1,4 +1,3 @@
-use borrow.Author.Rules.{rules}
 use Rattle.reversion.proofs.ReversionLaws.{ratio-computed}
 use Rattle.reversion.proofs.exact_ratio.Goals as goal
 

@@ -1,4 +1,3 @@
-use borrow.Author.Rules.{rules}
 use Rattle.reversion.proofs.ReversionLaws.{exact-computed}
 use Rattle.reversion.proofs.exact_reversion.Goals as goal
 

@@ -1,8 +1,6 @@
 use mathlib.Core.Path.{◌≡◌, sym, ap, ◌∙◌}
 use mathlib.Core.Bool.{true}
 use native.Mathlib.Omega.{arith}
-use borrow.Author.Rules.{rules}
-use borrow.Author.Tests.{not-true, not-false}
 use Rattle.arithmetic.specs.Answers.{answered}
 use Rattle.reversion.specs.Reversion.{is_version}
 use Rattle.reversion.proofs.EntryLaws.{answer-beyond, answer-unknown, ratio-answer-first, ratio-answer-none, ratio-answer-second}

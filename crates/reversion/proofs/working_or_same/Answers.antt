@@ -1,6 +1,5 @@
 use mathlib.Core.Path.{sym, ◌∙◌}
 use native.Mathlib.Omega.{arith}
-use borrow.Author.Rules.{rules}
 use Rattle.reversion.proofs.ReversionLaws.{working-second, working-other, working-beyond}
 use Rattle.reversion.proofs.working_or_same.Goals as goal
 

@@ -1,6 +1,4 @@
 use mathlib.Core.Path.{sym, ap, ◌∙◌}
-use borrow.Author.Rules.{rules}
-use borrow.Author.Tests.{not-true, not-false}
 use Rattle.arithmetic.specs.Answers.{answered}
 use Rattle.reversion.proofs.EntryLaws.{answer-beyond, answer-unknown, answer-known}
 use Rattle.reversion.proofs.working_reversion.Goals as goal

@@ -1,5 +1,4 @@
 use Rattle.row_branches.proofs.BranchLaws as laws
-use borrow.Author.Rules.{rules}
 use Rattle.row_branches.proofs.lowest_target.Goals as goal
 
 pub returns-then-count-next : goal.returns-then-count-next

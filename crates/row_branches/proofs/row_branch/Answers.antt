@@ -1,7 +1,6 @@
 use mathlib.Core.Path.{◌∙◌}
 use native.Mathlib.Omega.{arith}
 use Rattle.row_branches.proofs.BranchLaws as laws
-use borrow.Author.Rules.{rules}
 use Rattle.row_branches.proofs.row_branch.Goals as goal
 
 pub returns-then-count-index : goal.returns-then-count-index

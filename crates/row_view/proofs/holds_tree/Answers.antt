@@ -2,7 +2,6 @@ use Rattle.limits.specs.WithinLimits.{WithinLimits}
 use Rattle.arithmetic.proofs.Implied.{implied}
 use Rattle.lattice.proofs.TreeEntries.{tree-accepted, tree-value}
 use Rattle.row_view.proofs.ViewLaws as laws
-use borrow.Author.Rules.{rules}
 use Rattle.row_view.proofs.holds_tree.Goals as goal
 use Rattle.row_view.proofs.holds_tree.Goals.{Else-discounts_needed-ne0}
 

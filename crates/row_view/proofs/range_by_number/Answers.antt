@@ -1,7 +1,6 @@
 use mathlib.Core.Path.{◌∙◌}
 use Rattle.arithmetic.proofs.Implied.{implied}
 use Rattle.row_view.proofs.ViewLaws as laws
-use borrow.Author.Rules.{rules}
 use Rattle.row_view.proofs.range_by_number.Goals as goal
 
 pub returns-then-kind-eq1 : goal.returns-then-kind-eq1

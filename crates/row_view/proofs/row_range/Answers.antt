@@ -1,11 +1,9 @@
 use mathlib.Core.Path.{◌≡◌, sym, ◌∙◌}
 use mathlib.Core.Bool.{true}
-use borrow.Author.Tests.{not-true, not-false}
 use Rattle.arithmetic.proofs.Implied.{implied}
 use Rattle.lattice.proofs.TreeEntries.{row-value}
 use Rattle.row_view.specs.RowView.{holds_tree, stores_row}
 use Rattle.row_view.proofs.ViewLaws as laws
-use borrow.Author.Rules.{rules}
 use Rattle.row_view.proofs.row_range.Goals as goal
 use Rattle.row_view.proofs.row_range.Goals.{Else-not-holds_tree, Else-not-stores_row}
 

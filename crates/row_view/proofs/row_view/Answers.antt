@@ -4,7 +4,6 @@ use native.Mathlib.Omega.{arith}
 use lib.ListN.{length}
 use Rattle.arithmetic.proofs.Implied.{implied}
 use Rattle.row_view.proofs.ViewLaws as laws
-use borrow.Author.Rules.{rules}
 use Rattle.row_view.proofs.row_view.Goals as goal
 use Rattle.row_view.proofs.row_view.Goals.{After-struct_known-1}
 

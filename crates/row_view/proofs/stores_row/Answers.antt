@@ -1,4 +1,3 @@
-use borrow.Author.Rules.{rules}
 use Rattle.row_view.proofs.stores_row.Goals as goal
 
 pub returns-in-Discounts : goal.returns-in-Discounts

@@ -6,7 +6,6 @@ use Rattle.shelf_laws.specs.Shelf.{ask_number}
 use Rattle.shelf_laws.proofs.SlotLaws.{answer-value, answer-cause, ends-before}
 use Rattle.shelf_laws.proofs.NameLaws.{Asked, asked}
 use Rattle.shelf_laws.proofs.EntryLaws.{ask-slots-left, ask-memory-left, ask-slots, ask-memory}
-use borrow.Author.Rules.{rules}
 use Rattle.shelf.proofs.ask.Goals as goal
 use Rattle.shelf.proofs.ask.Goals.{After-discounts_needed-needed, Else-number-ne0}
 
@@ -62,5 +61,9 @@ pub returns : goal.returns
 returns c =
     let number = c.ask_number-number.ensures in
     let none = zero (goal.at.returns c).Else-number-ne0 in
-    let after = c.replaced.ensures in record { number = after.0 ∙ sym none; slots = ask-slots _ _ _ _ number (number ∙ none) _ _ c.awaiting_slot-slot.ensures after.1; memory = ask-memory _ _ _ _ number (number ∙ none) _ _ _ _ c.nodes_before-at.ensures
-            (counted (goal.at.returns c).After-discounts_needed-needed) c.open_part.ensures }
+    let after = c.replaced.ensures in record {
+      number = after.0 ∙ sym none;
+      slots = ask-slots _ _ _ _ number (number ∙ none) _ _ c.awaiting_slot-slot.ensures after.1;
+      memory = ask-memory _ _ _ _ number (number ∙ none) _ _ _ _ c.nodes_before-at.ensures
+          (counted (goal.at.returns c).After-discounts_needed-needed) c.open_part.ensures;
+    }

@@ -2,7 +2,6 @@ use mathlib.Core.Path.{ap}
 use lib.ListN.{replicate}
 use Rattle.shelf_laws.specs.declared.Slot.{Slot}
 use Rattle.shelf_laws.specs.Shelf.{empty_slots}
-use borrow.Author.Rules.{rules}
 use Rattle.shelf.proofs.empty_shelf.Goals as goal
 
 pub returns : goal.returns

@@ -1,5 +1,4 @@
 use Rattle.shelf_laws.proofs.EntryLaws.{part-is}
-use borrow.Author.Rules.{rules}
 use Rattle.shelf.proofs.part_of.Goals as goal
 
 pub returns : goal.returns

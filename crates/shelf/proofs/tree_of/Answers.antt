@@ -1,7 +1,6 @@
 use mathlib.Core.Path.{◌≡◌, ◌∙◌}
 use native.Mathlib.Omega.{arith}
 use Rattle.shelf_laws.proofs.NameLaws.{Known, known, cause-there, cause-outside, located-none, located-is}
-use borrow.Author.Rules.{rules}
 use Rattle.shelf.proofs.tree_of.Goals as goal
 use Rattle.shelf.proofs.tree_of.Goals.{Else-status-gt2}
 

@@ -1,6 +1,5 @@
 use mathlib.Core.Path.{ap}
 use Rattle.price_laws.specs.declared.Price.{Price}
-use borrow.Author.Rules.{rules}
 use Rattle.shelf_prices.proofs.no_prices.Goals as goal
 
 pub returns : goal.returns

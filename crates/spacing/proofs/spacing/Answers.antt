@@ -1,5 +1,4 @@
 use mathlib.Core.Path.{◌∙◌}
-use borrow.Author.Rules.{rules}
 use Rattle.spacing.proofs.VersionLaws.{answer-first}
 use Rattle.spacing.proofs.spacing.Goals as goal
 

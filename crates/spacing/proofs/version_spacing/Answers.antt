@@ -3,8 +3,6 @@ use mathlib.Core.Bool.{true}
 use Prim.Native.Nat.{ℕ, ◌*◌, ◌≤◌}
 use native.Mathlib.Nat.{mul-le-mul, div-le_self, lt_of_le_of_lt}
 use native.Mathlib.Omega.{arith}
-use borrow.Author.Rules.{rules}
-use borrow.Author.Tests.{not-true, not-false}
 use Rattle.arithmetic.specs.Frequency.{is_frequency}
 use Rattle.arithmetic.proofs.FrequencyLaws.{listed_small}
 use Rattle.arithmetic.proofs.Implied.{implied}

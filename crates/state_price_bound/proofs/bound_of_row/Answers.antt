@@ -1,7 +1,5 @@
-use Prim.Native.Nat.{◌≤◌, ◌-◌}
+use Prim.Native.Nat.{◌-◌}
 use native.Mathlib.Omega.{arith}
-use borrow.Author.Rules.{rules}
-use Rattle.state_price_bound.specs.inside.Reached.{Reached}
 use Rattle.state_price_bound.proofs.BoundLaws as laws
 use Rattle.state_price_bound.proofs.bound_of_row.Goals as goal
 

@@ -1,15 +1,11 @@
-use mathlib.Core.Path.{◌≡◌}
 use Prim.Native.Nat.{◌+◌, ◌≤◌, ◌-◌}
 use lib.ListN.{replicate}
-use native.Mathlib.Omega.{arith}
-use borrow.Author.Rules.{rules}
-use Rattle.arithmetic.proofs.RowLaws.{Filled, filled_next}
+use Rattle.arithmetic.proofs.RowLaws.{Filled}
 use Rattle.limits.specs.Limits.{most_steps}
 use Rattle.lattice.specs.RateTree.{rate_tree}
 use Rattle.lent_tree.specs.LentTree.{stored}
 use Rattle.fit_laws.specs.StatePrices.{state_price_error_bound}
 use Rattle.state_price_bound.specs.inside.Reached.{Reached}
-use Rattle.state_price_bound.proofs.BoundLaws as laws
 use Rattle.state_price_bound.proofs.bounds_of_rows.Given as goal
 
 abbrev pub invariant-loop-index : goal.invariant-loop-index

@@ -3,7 +3,6 @@ use native.Mathlib.Nat.{mul-le-mul}
 use native.Mathlib.Omega.{arith}
 use Prim.Native.Nat.{◌≤◌, ◌*◌}
 use Rattle.arithmetic.specs.Rounding.{round_up}
-use borrow.Author.Rules.{rules}
 use Rattle.state_price_bound.proofs.next_bound.Goals as goal
 use Rattle.state_price_bound.proofs.next_bound.Goals.{Start}
 

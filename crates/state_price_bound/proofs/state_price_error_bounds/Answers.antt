@@ -1,4 +1,3 @@
-use borrow.Author.Rules.{rules}
 use Rattle.state_price_bound.proofs.BoundLaws as laws
 use Rattle.state_price_bound.proofs.state_price_error_bounds.Goals as goal
 

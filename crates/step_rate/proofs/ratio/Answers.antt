@@ -1,6 +1,5 @@
 use mathlib.Core.Path.{refl}
 use Rattle.arithmetic.specs.Rounding.{nearest}
-use borrow.Author.Rules.{rules}
 use Rattle.step_rate.proofs.ratio.Goals as goal
 
 pub returns : goal.returns

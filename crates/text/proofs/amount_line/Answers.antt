@@ -1,7 +1,6 @@
 use Prim.Native.Nat.{◌≤◌}
 use native.Mathlib.Omega.{arith}
 use lib.ListN.{length}
-use borrow.Author.Rules.{rules}
 use Rattle.text_laws.specs.Lines.{longest_line}
 use Rattle.text_laws.specs.WordLines.{amount_line, longest_word}
 use Rattle.text_laws.proofs.DecimalLaws.{field_room}

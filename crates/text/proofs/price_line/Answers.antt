@@ -2,7 +2,6 @@ use mathlib.Core.Path.{sym, ◌∙◌}
 use Prim.Native.Nat.{◌≤◌}
 use native.Mathlib.Omega.{arith}
 use lib.ListN.{length}
-use borrow.Author.Rules.{rules}
 use Rattle.text_laws.specs.Lines.{price_line, longest_line}
 use Rattle.text_laws.proofs.LineLaws.{room-known, line_refused, line-put, room-left, bounded-room}
 use Rattle.text_laws.proofs.PutLaws.{put-before}

@@ -1,7 +1,6 @@
 use mathlib.Core.Path.{◌≡◌, ◌∙◌}
 use Prim.Native.Nat.{◌^◌}
 use native.Mathlib.Omega.{arith}
-use borrow.Author.Rules.{rules}
 use Rattle.arithmetic.proofs.PowerLaws.{power-listed}
 use Rattle.text_laws.proofs.DecimalLaws.{decimal-parts, decimal-length, ten-pos}
 use Rattle.text_laws.proofs.PutLaws.{put-before}

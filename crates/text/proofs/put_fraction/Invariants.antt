@@ -1,13 +1,8 @@
-use mathlib.Core.Path.{◌≡◌, sym, ap, ◌∙◌}
-use mathlib.Core.List.{List}
-use Prim.Native.Nat.{ℕ, ◌≤◌, ◌+◌}
-use native.Mathlib.Omega.{arith}
-use lib.ListN.{length, length-set}
-use borrow.Author.Rules.{rules}
+use mathlib.Core.Path.{◌≡◌}
+use Prim.Native.Nat.{◌≤◌, ◌+◌}
+use lib.ListN.{length}
 use Rattle.text_laws.specs.Decimal.{last_digits}
 use Rattle.text_laws.specs.Put.{put_before}
-use Rattle.text_laws.proofs.DecimalLaws.{digits_step, digits-none, length_digits, fraction-none, fraction-point, fraction-length}
-use Rattle.text_laws.proofs.PutLaws.{put-nothing, put-none, put_last, put_whole, put_then}
 use Rattle.text.proofs.put_fraction.Given as goal
 
 abbrev pub invariant-loop-left : goal.invariant-loop-left

@@ -1,5 +1,4 @@
 use native.Mathlib.Omega.{arith}
-use borrow.Author.Rules.{rules}
 use Rattle.text_laws.proofs.DecimalLaws.{field_room}
 use Rattle.text_laws.proofs.PutLaws.{put-before}
 use Rattle.text.proofs.put_label.Goals as goal

@@ -1,10 +1,8 @@
-use mathlib.Core.Path.{◌≡◌}
-use Prim.Native.Nat.{◌≤◌, ◌+◌, ◌/◌, ◌%◌}
+use Prim.Native.Nat.{◌/◌, ◌%◌}
 use native.Mathlib.Omega.{arith}
-use lib.ListN.{length, length-set}
+use lib.ListN.{length-set}
 use borrow.Author.Rules.{rules}
 use Rattle.text_laws.specs.Decimal.{digit, natural}
-use Rattle.text_laws.specs.Put.{put_before}
 use Rattle.text_laws.proofs.DecimalLaws.{natural-small, natural-step, length-natural-small, length-natural-step}
 use Rattle.text_laws.proofs.PutLaws.{put_last, put_front}
 use Rattle.text.proofs.put_natural.Goals as goal

@@ -2,7 +2,6 @@ use Prim.Native.Nat.{◌≤◌}
 use native.Mathlib.Omega.{arith}
 use lib.ListN.{length}
 use mir.Facts.{to_z-of_z}
-use borrow.Author.Rules.{rules}
 use Rattle.text_laws.specs.Lines.{node_word, node_line}
 use Rattle.text_laws.proofs.DecimalLaws.{field_room}
 use Rattle.text_laws.proofs.Signs.{held-room}

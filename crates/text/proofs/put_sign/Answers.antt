@@ -7,7 +7,6 @@ use lib.IntN.{pos}
 use lib.ListN.{length}
 use lib.Signed.{lt_z}
 use mir.Facts.{to_z-of_z}
-use borrow.Author.Rules.{rules}
 use Rattle.text_laws.specs.Decimal.{sign_of}
 use Rattle.text_laws.proofs.PutLaws.{put-none, put_one}
 use Rattle.text_laws.proofs.Signs.{sign-negative, sign-none}

@@ -3,7 +3,6 @@ use mathlib.Core.List.{◌++◌, ◌∷◌, []}
 use native.Mathlib.Omega.{arith}
 use lib.IntN.{nat_abs}
 use mir.Facts.{to_z-of_z}
-use borrow.Author.Rules.{rules}
 use Rattle.text_laws.specs.Decimal.{decimal}
 use Rattle.text_laws.specs.inside.Put.{Put}
 use Rattle.text_laws.proofs.DecimalLaws.{signed-length, signed_parts}

@@ -1,12 +1,7 @@
-use mathlib.Core.Path.{◌≡◌, refl, sym, ap, ◌∙◌}
-use mathlib.Core.List.{List}
-use Prim.Native.Nat.{ℕ, suc, ◌≤◌, ◌<◌, ◌+◌, ◌-◌}
-use native.Mathlib.Omega.{arith}
-use lib.ListN.{length, get_or, take, set, length-set}
-use lib.Seq.{take-length, take-suc, length-take-le}
-use borrow.Author.Rules.{rules}
+use mathlib.Core.Path.{◌≡◌}
+use Prim.Native.Nat.{◌≤◌, ◌+◌, ◌-◌}
+use lib.ListN.{length, take}
 use Rattle.text_laws.specs.Put.{put_before}
-use Rattle.text_laws.proofs.PutLaws.{put-nothing, put_last, put_whole}
 use Rattle.text.proofs.put_word.Given as goal
 
 abbrev pub invariant-loop-left : goal.invariant-loop-left

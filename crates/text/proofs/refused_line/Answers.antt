@@ -1,7 +1,6 @@
 use mathlib.Core.Path.{sym, ◌∙◌}
 use native.Mathlib.Omega.{arith}
 use lib.ListN.{length}
-use borrow.Author.Rules.{rules}
 use Rattle.text_laws.specs.Lines.{refused_line}
 use Rattle.text_laws.proofs.LineLaws.{room-known, line_refused, line-put}
 use Rattle.text.proofs.refused_line.Goals as goal

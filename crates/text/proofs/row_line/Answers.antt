@@ -2,7 +2,6 @@ use mathlib.Core.Path.{sym, ◌∙◌}
 use Prim.Native.Nat.{◌≤◌}
 use native.Mathlib.Omega.{arith}
 use lib.ListN.{length}
-use borrow.Author.Rules.{rules}
 use Rattle.text_laws.specs.Lines.{row_word, row_line, longest_line}
 use Rattle.text_laws.proofs.DecimalLaws.{field_room}
 use Rattle.text_laws.proofs.LineLaws as laws

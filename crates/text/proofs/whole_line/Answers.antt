@@ -1,6 +1,5 @@
 use native.Mathlib.Omega.{arith}
 use lib.ListN.{length}
-use borrow.Author.Rules.{rules}
 use Rattle.text_laws.specs.WordLines.{whole_line}
 use Rattle.text_laws.proofs.WordLineLaws.{word-known, word-refused, word-put}
 use Rattle.text.proofs.whole_line.Goals as goal

@@ -1,5 +1,4 @@
 use mathlib.Core.Path.{◌∙◌}
-use borrow.Author.Rules.{rules}
 use Rattle.text_laws.proofs.WordLineLaws.{word-long, word-short}
 use Rattle.text.proofs.word_number.Goals as goal
 

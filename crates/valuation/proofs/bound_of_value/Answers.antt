@@ -3,8 +3,6 @@ use native.Mathlib.Nat.{mul-le-mul}
 use native.Mathlib.Omega.{arith}
 use Rattle.arithmetic.specs.Rounding.{round_up}
 use Rattle.valuation_laws.specs.Valuation.{valuation_bound}
-use borrow.Author.Rules.{rules}
-use Rattle.valuation.proofs.EntryLaws as laws
 use Rattle.valuation.proofs.bound_of_value.Goals as goal
 use Rattle.valuation.proofs.bound_of_value.Goals.{Start}
 

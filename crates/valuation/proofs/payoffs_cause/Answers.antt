@@ -1,4 +1,3 @@
-use borrow.Author.Rules.{rules}
 use Rattle.valuation.proofs.EntryLaws.{payoffs-few, payoffs-counted}
 use Rattle.valuation.proofs.payoffs_cause.Goals as goal
 

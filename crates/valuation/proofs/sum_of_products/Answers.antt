@@ -1,5 +1,4 @@
 use Prim.Native.Nat.{◌+◌, ◌*◌, ◌≤◌, ◌-◌}
-use lib.ListN.{length}
 use native.Mathlib.Omega.{arith}
 use Rattle.arithmetic.specs.Row.{values}
 use borrow.Author.Rules.{rules}

@@ -1,8 +1,5 @@
-use Prim.Native.Nat.{◌+◌, ◌*◌, ◌≤◌, ◌-◌}
+use Prim.Native.Nat.{◌≤◌, ◌-◌}
 use lib.ListN.{length}
-use native.Mathlib.Omega.{arith}
-use Rattle.arithmetic.specs.Row.{values}
-use borrow.Author.Rules.{rules}
 use Rattle.valuation.proofs.EntryLaws as laws
 use Rattle.valuation.proofs.sum_of_products.Given as goal
 

@@ -1,7 +1,5 @@
 use Prim.Native.Nat.{◌≤◌, ◌-◌}
 use lib.ListN.{length}
-use native.Mathlib.Omega.{arith}
-use borrow.Author.Rules.{rules}
 use Rattle.valuation.proofs.EntryLaws as laws
 use Rattle.valuation.proofs.sums_above_limit.Given as goal
 

@@ -1,4 +1,3 @@
-use borrow.Author.Rules.{rules}
 use Rattle.valuation.proofs.EntryLaws as laws
 use Rattle.valuation.proofs.valuation_error_bound.Goals as goal
 use Rattle.valuation.proofs.valuation_error_bound.Goals.{After-lowest_cause-number}

@@ -1,5 +1,4 @@
 use native.Mathlib.Omega.{arith}
-use borrow.Author.Rules.{rules}
 use Rattle.reversion.proofs.EntryLaws.{working-answer-most, ratio-answer-most}
 use Rattle.spacing.proofs.VersionLaws.{version-answer-most}
 use Rattle.version_cases.proofs.figure.Goals as goal

@@ -1,5 +1,4 @@
 use Prim.Native.Nat.{◌*◌, ◌-◌, ◌≤◌}
-use borrow.Author.Rules.{rules}
 use Rattle.version_cases.proofs.total.Given as goal
 
 abbrev pub invariant-loop-index : goal.invariant-loop-index

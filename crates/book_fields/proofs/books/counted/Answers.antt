@@ -1,7 +1,6 @@
 use Prim.Native.Nat.{◌-◌}
 use mathlib.Core.Path.{refl}
 use native.Mathlib.Omega.{arith}
-use borrow.Author.Rules.{rules}
 use Rattle.book_laws.proofs.OpenLaws.{counts-within}
 use Rattle.book_laws.specs.Books.{counted}
 use Rattle.book_fields.proofs.books.counted.Goals as goal

@@ -1,5 +1,4 @@
 use native.Mathlib.Omega.{arith}
-use borrow.Author.Rules.{rules}
 use Rattle.book_laws.proofs.OpenLaws.{Within, open-within, option-most}
 use Rattle.book_laws.specs.Books.{with_priced}
 use Rattle.book_fields.proofs.books.with_priced.Goals as goal

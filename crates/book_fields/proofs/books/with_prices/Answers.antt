@@ -1,6 +1,5 @@
 use mathlib.Core.Path.{◌∙◌}
 use native.Mathlib.Omega.{arith}
-use borrow.Author.Rules.{rules}
 use Rattle.book_laws.proofs.OpenLaws.{prices-refused, prices-priced}
 use Rattle.book_fields.proofs.books.with_prices.Goals as goal
 

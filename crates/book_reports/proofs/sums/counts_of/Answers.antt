@@ -1,11 +1,8 @@
-use mathlib.Core.Path.{◌≡◌, refl, ap, ◌∙◌}
-use Prim.Native.Nat.{ℕ, ◌+◌, ◌-◌, ◌≤◌}
+use mathlib.Core.Path.{refl, ap, ◌∙◌}
+use Prim.Native.Nat.{ℕ, ◌+◌, ◌-◌}
 use native.Mathlib.Omega.{arith}
-use borrow.Author.Rules.{rules}
-use lib.ListN.{length}
 use Rattle.arithmetic.specs.Row.{row, values}
-use Rattle.arithmetic.proofs.RowLaws.{Filled, filled-start, filled_next, filled-all}
-use Rattle.book_laws.specs.Bounds.{most_number}
+use Rattle.arithmetic.proofs.RowLaws.{filled-start, filled_next, filled-all}
 use Rattle.book_laws.proofs.OpenLaws.{counts-within}
 use Rattle.report_laws.specs.Joins.{most_size}
 use Rattle.book_reports.proofs.sums.counts_of.Goals as goal

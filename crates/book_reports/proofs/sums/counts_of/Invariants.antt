@@ -1,13 +1,9 @@
-use mathlib.Core.Path.{◌≡◌, refl, ap, ◌∙◌}
-use Prim.Native.Nat.{ℕ, ◌+◌, ◌-◌, ◌≤◌}
-use native.Mathlib.Omega.{arith}
-use borrow.Author.Rules.{rules}
+use mathlib.Core.Path.{◌≡◌}
+use Prim.Native.Nat.{◌+◌, ◌-◌, ◌≤◌}
 use lib.ListN.{length}
-use Rattle.arithmetic.specs.Row.{row, values}
-use Rattle.arithmetic.proofs.RowLaws.{Filled, filled-start, filled_next, filled-all}
+use Rattle.arithmetic.specs.Row.{values}
+use Rattle.arithmetic.proofs.RowLaws.{Filled}
 use Rattle.book_laws.specs.Bounds.{most_number}
-use Rattle.book_laws.proofs.OpenLaws.{counts-within}
-use Rattle.report_laws.specs.Joins.{most_size}
 use Rattle.book_reports.proofs.sums.counts_of.Given as goal
 
 abbrev pub invariant-loop-k : goal.invariant-loop-k

@@ -1,5 +1,4 @@
 use native.Mathlib.Omega.{arith}
-use borrow.Author.Rules.{rules}
 use Rattle.report_laws.specs.Reports.{sum_report}
 use Rattle.report_laws.proofs.SoundLaws.{Sound, report-sound, counts-small, book-most}
 use Rattle.book_reports.proofs.sums.sum_of.Goals as goal

@@ -1,13 +1,9 @@
-use mathlib.Core.Path.{◌≡◌, refl, ap, ◌∙◌}
-use Prim.Native.Nat.{ℕ, ◌*◌, ◌-◌, ◌≤◌}
-use native.Mathlib.Omega.{arith}
-use borrow.Author.Rules.{rules}
+use mathlib.Core.Path.{◌≡◌}
+use Prim.Native.Nat.{◌*◌, ◌-◌, ◌≤◌}
 use Rattle.arithmetic.specs.Row.{values}
 use Rattle.arithmetic.specs.Sum.{sum}
-use Rattle.arithmetic.proofs.SumLaws.{sum-next}
 use Rattle.book_laws.specs.Bounds.{most_number}
-use Rattle.book_laws.proofs.OpenLaws.{counts-within}
-use Rattle.report_laws.specs.Joins.{most_size, counts_total}
+use Rattle.report_laws.specs.Joins.{most_size}
 use Rattle.book_reports.proofs.tests.counts_total.Given as goal
 
 abbrev pub invariant-loop-k : goal.invariant-loop-k

@@ -4,7 +4,6 @@ use Prim.Native.Nat.{ℕ, ◌+◌}
 use lib.ListN.{length}
 use native.Mathlib.Omega.{arith}
 use borrow.Author.Rules.{rules}
-use borrow.Author.Tests.{not-true, not-false}
 use Rattle.book_laws.specs.Bounds.{most_number}
 use Rattle.book_laws.specs.Books.{counts_within}
 use Rattle.book_laws.proofs.OpenLaws.{counts-tested, counts-within, within-counts}

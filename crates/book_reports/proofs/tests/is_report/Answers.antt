@@ -1,7 +1,5 @@
 use mathlib.Core.Path.{sym, ◌∙◌}
 use native.Mathlib.Omega.{arith}
-use borrow.Author.Rules.{rules}
-use borrow.Author.Tests.{not-true, not-false}
 use Rattle.report_laws.proofs.SoundLaws.{unsound, unnamed-report, counts-last}
 use Rattle.book_reports.proofs.tests.is_report.Goals as goal
 

@@ -1,6 +1,5 @@
 use native.Mathlib.Omega.{arith}
 use Rattle.fitting.proofs.PlanLaws as laws
-use borrow.Author.Rules.{rules}
 use Rattle.fitting.proofs.causes.plan_of.Goals as goal
 use Rattle.fitting.proofs.causes.plan_of.Goals.{After-lowest_cause-early}
 

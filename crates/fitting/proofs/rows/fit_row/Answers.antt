@@ -1,8 +1,6 @@
 use mathlib.Core.Path.{◌≡◌, sym}
 use mathlib.Core.Bool.{true}
 use lib.ListN.{length}
-use borrow.Author.Rules.{rules}
-use borrow.Author.Tests.{not-true, not-false}
 use Rattle.fitting.proofs.RowParts as laws
 use Rattle.fitting.proofs.rows.fit_row.Goals as goal
 use Rattle.fitting.proofs.rows.fit_row.Goals.{After-step_row, After-step_row-arg-3-1, Else-not-step_row, Start}

@@ -1,7 +1,6 @@
 use mathlib.Core.Path.{◌≡◌}
 use Prim.Native.Nat.{◌+◌, ◌-◌, ◌≤◌}
 use native.Mathlib.Omega.{arith}
-use borrow.Author.Rules.{rules}
 use Rattle.limits.specs.Limits.{most_nodes}
 use Rattle.lattice.specs.Shape.{node_count}
 use Rattle.lattice.specs.Entries.{shape_of}

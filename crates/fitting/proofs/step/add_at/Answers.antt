@@ -1,5 +1,4 @@
 use Rattle.arithmetic.proofs.RowLaws.{set-only}
-use borrow.Author.Rules.{rules}
 use Rattle.fitting.proofs.step.add_at.Goals as goal
 
 pub returns : goal.returns

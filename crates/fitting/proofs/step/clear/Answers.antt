@@ -1,9 +1,8 @@
 use mathlib.Core.Path.{refl}
 use native.Mathlib.Omega.{arith}
 use borrow.Author.Rules.{rules}
-use Prim.Native.Nat.{◌-◌, ◌≤◌}
-use lib.ListN.{length}
-use Rattle.arithmetic.proofs.RowLaws.{Filled, filled-start, filled_next, filled-all}
+use Prim.Native.Nat.{◌-◌}
+use Rattle.arithmetic.proofs.RowLaws.{filled-start, filled_next, filled-all}
 use Rattle.fitting.proofs.step.clear.Goals as goal
 
 pub loop-k-init : goal.loop-k-init

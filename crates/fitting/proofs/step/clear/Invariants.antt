@@ -1,9 +1,6 @@
-use mathlib.Core.Path.{refl}
-use native.Mathlib.Omega.{arith}
-use borrow.Author.Rules.{rules}
 use Prim.Native.Nat.{◌-◌, ◌≤◌}
 use lib.ListN.{length}
-use Rattle.arithmetic.proofs.RowLaws.{Filled, filled-start, filled_next, filled-all}
+use Rattle.arithmetic.proofs.RowLaws.{Filled}
 use Rattle.fitting.proofs.step.clear.Given as goal
 
 abbrev pub invariant-loop-k : goal.invariant-loop-k

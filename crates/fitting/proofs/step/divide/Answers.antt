@@ -1,11 +1,10 @@
 use mathlib.Core.Path.{refl}
-use Prim.Native.Nat.{◌-◌, ◌/◌, ◌≤◌}
+use Prim.Native.Nat.{◌-◌, ◌/◌}
 use native.Mathlib.Omega.{arith}
-use lib.ListN.{length}
 use borrow.Author.Rules.{rules}
 use Rattle.tree.specs.Tree.{probability_total}
 use Rattle.arithmetic.specs.Row.{values}
-use Rattle.arithmetic.proofs.RowLaws.{Filled, filled-start, filled_next, filled-all}
+use Rattle.arithmetic.proofs.RowLaws.{filled-start, filled_next, filled-all}
 use Rattle.fitting.proofs.step.divide.Goals as goal
 
 pub loop-k-init : goal.loop-k-init

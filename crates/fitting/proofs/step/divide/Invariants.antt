@@ -1,11 +1,8 @@
-use mathlib.Core.Path.{refl}
 use Prim.Native.Nat.{◌-◌, ◌/◌, ◌≤◌}
-use native.Mathlib.Omega.{arith}
 use lib.ListN.{length}
-use borrow.Author.Rules.{rules}
 use Rattle.tree.specs.Tree.{probability_total}
 use Rattle.arithmetic.specs.Row.{values}
-use Rattle.arithmetic.proofs.RowLaws.{Filled, filled-start, filled_next, filled-all}
+use Rattle.arithmetic.proofs.RowLaws.{Filled}
 use Rattle.fitting.proofs.step.divide.Given as goal
 
 abbrev pub invariant-loop-k : goal.invariant-loop-k

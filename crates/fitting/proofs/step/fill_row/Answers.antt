@@ -3,8 +3,6 @@ use mathlib.Core.Bool.{true}
 use Prim.Native.Nat.{ℕ, ◌-◌, ◌<◌}
 use native.Mathlib.Omega.{arith}
 use lib.ListN.{length}
-use borrow.Author.Rules.{rules}
-use borrow.Author.Tests.{not-true, not-false}
 use Rattle.limits.specs.Limits.{is_discount}
 use Rattle.fitting.proofs.StepRows.{never}
 use Rattle.fitting.proofs.NodeLoop as laws
@@ -48,8 +46,12 @@ shape_of-sums-then-not-is_discount c =
 
 pub returns-then-not-is_discount : goal.returns-then-not-is_discount
 returns-then-not-is_discount c =
-    let l = c.before.before.before in record { tested = laws.stepping-fails l.requires.0 l.loop-k.invariant (inside (goal.at.returns-then-not-is_discount c).In-loop-k)
-          (sym c.is_discount.ensures ∙ c.if-not-is_discount.true); filled = λ e. never e; spreads = λ e. never e }
+    let l = c.before.before.before in record {
+      tested = laws.stepping-fails l.requires.0 l.loop-k.invariant (inside (goal.at.returns-then-not-is_discount c).In-loop-k)
+          (sym c.is_discount.ensures ∙ c.if-not-is_discount.true);
+      filled = λ e. never e;
+      spreads = λ e. never e;
+    }
 
 pub bounds-discounts-k : goal.bounds-discounts-k
 bounds-discounts-k c =

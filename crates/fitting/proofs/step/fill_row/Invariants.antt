@@ -1,12 +1,5 @@
-use mathlib.Core.Path.{◌≡◌, sym, ◌∙◌}
-use mathlib.Core.Bool.{true}
-use Prim.Native.Nat.{ℕ, ◌-◌, ◌<◌}
-use native.Mathlib.Omega.{arith}
+use Prim.Native.Nat.{◌-◌}
 use lib.ListN.{length}
-use borrow.Author.Rules.{rules}
-use borrow.Author.Tests.{not-true, not-false}
-use Rattle.limits.specs.Limits.{is_discount}
-use Rattle.fitting.proofs.StepRows.{never}
 use Rattle.fitting.proofs.NodeLoop as laws
 use Rattle.fitting.proofs.step.fill_row.Given as goal
 

@@ -1,11 +1,6 @@
-use mathlib.Core.Path.{◌≡◌, refl, ap, ◌∙◌}
-use native.Mathlib.Omega.{arith}
-use borrow.Author.Rules.{rules}
-use Prim.Native.Nat.{ℕ, ◌-◌, ◌/◌, ◌≤◌, ◌<◌}
+use mathlib.Core.Path.{◌≡◌}
+use Prim.Native.Nat.{◌-◌, ◌≤◌}
 use lib.ListN.{length}
-use Rattle.arithmetic.specs.Rounding.{one}
-use Rattle.arithmetic.specs.Sum.{sum}
-use Rattle.fit_laws.specs.Step.{normaliser}
 use Rattle.fitting.proofs.StepRows as laws
 use Rattle.fitting.proofs.step.normaliser_of.Given as goal
 

@@ -2,7 +2,6 @@ use native.Mathlib.Omega.{arith}
 use Rattle.arithmetic.proofs.RowLaws.{added-thrice}
 use Rattle.arithmetic.proofs.Implied.{implied}
 use Rattle.fitting.proofs.StepRows as laws
-use borrow.Author.Rules.{rules}
 use Rattle.fitting.proofs.step.scatter.Goals as goal
 
 pub overflow_mul-probabilities : goal.overflow_mul-probabilities

@@ -1,4 +1,3 @@
-use borrow.Author.Rules.{rules}
 use Rattle.fitting.proofs.StepRows.{spread-once}
 use Rattle.fitting.proofs.step.spread_node.Goals as goal
 

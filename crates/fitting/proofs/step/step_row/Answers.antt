@@ -1,4 +1,3 @@
-use borrow.Author.Rules.{rules}
 use Rattle.fitting.proofs.RowStep as laws
 use Rattle.fitting.proofs.step.step_row.Goals as goal
 

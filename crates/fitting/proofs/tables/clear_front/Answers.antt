@@ -4,7 +4,6 @@ use lib.ListN.{length, take, drop}
 use lib.Seq.{length-take-le}
 use mathlib.Core.List.{List, ◌++◌}
 use Rattle.arithmetic.specs.Row.{row}
-use borrow.Author.Rules.{rules}
 use Rattle.fitting.proofs.tables.clear_front.Goals as goal
 use Rattle.fitting.proofs.tables.clear_front.Goals.{Start}
 

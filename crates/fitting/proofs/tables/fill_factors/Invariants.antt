@@ -1,8 +1,5 @@
-use native.Mathlib.Omega.{arith}
-use borrow.Author.Rules.{rules}
 use Prim.Native.Nat.{◌+◌, ◌-◌, ◌≤◌}
-use lib.ListN.{length-set}
-use Rattle.arithmetic.proofs.RowLaws.{Around, around-start, around-next, around-all}
+use Rattle.arithmetic.proofs.RowLaws.{Around}
 use Rattle.fitting.proofs.TableFit as laws
 use Rattle.fitting.proofs.tables.fill_factors.Given as goal
 

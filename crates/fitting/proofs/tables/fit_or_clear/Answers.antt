@@ -4,7 +4,6 @@ use native.Mathlib.Omega.{arith}
 use lib.ListN.{length}
 use Rattle.lattice.specs.Shape.{row_start}
 use Rattle.fitting.proofs.TableFit as laws
-use borrow.Author.Rules.{rules}
 use Rattle.fitting.proofs.tables.fit_or_clear.Goals as goal
 use Rattle.fitting.proofs.tables.fit_or_clear.Goals.{After-state_prices_needed-all}
 

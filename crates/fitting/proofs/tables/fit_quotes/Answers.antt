@@ -3,7 +3,6 @@ use native.Mathlib.Omega.{arith}
 use lib.ListN.{length-take}
 use Rattle.limits.specs.Limits.{most_steps}
 use Rattle.fitting.proofs.TableFit as laws
-use borrow.Author.Rules.{rules}
 use Rattle.fitting.proofs.tables.fit_quotes.Goals as goal
 use Rattle.fitting.proofs.tables.fit_quotes.Goals.{Start}
 

@@ -1,7 +1,6 @@
 use mathlib.Core.Path.{◌∙◌}
 use native.Mathlib.Omega.{arith}
 use Rattle.fitting.proofs.TableFit as laws
-use borrow.Author.Rules.{rules}
 use Rattle.fitting.proofs.tables.fit_tables.Goals as goal
 
 pub fill_factors-requires : goal.fill_factors-requires

@@ -1,6 +1,5 @@
 use mathlib.Core.Path.{◌≡◌, refl}
-use Prim.Native.Nat.{◌-◌, ◌≤◌}
-use lib.ListN.{length}
+use Prim.Native.Nat.{◌-◌}
 use Rattle.job_fit.proofs.ColumnLaws as laws
 use borrow.Author.Rules.{rules}
 use native.Mathlib.Omega.{arith}

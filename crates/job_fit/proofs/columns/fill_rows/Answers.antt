@@ -1,7 +1,7 @@
-use mathlib.Core.Path.{◌≡◌, refl}
-use Prim.Native.Nat.{ℕ, ◌+◌, ◌-◌, ◌≤◌}
-use lib.ListN.{length, length-set}
-use Rattle.arithmetic.proofs.RowLaws.{Filled, filled-start, filled_next}
+use mathlib.Core.Path.{refl}
+use Prim.Native.Nat.{ℕ, ◌+◌, ◌-◌}
+use lib.ListN.{length-set}
+use Rattle.arithmetic.proofs.RowLaws.{filled-start, filled_next}
 use Rattle.job_fit.proofs.ColumnLaws as laws
 use borrow.Author.Rules.{rules}
 use native.Mathlib.Omega.{arith}

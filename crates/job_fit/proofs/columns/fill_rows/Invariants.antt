@@ -1,10 +1,7 @@
-use mathlib.Core.Path.{◌≡◌, refl}
+use mathlib.Core.Path.{◌≡◌}
 use Prim.Native.Nat.{ℕ, ◌+◌, ◌-◌, ◌≤◌}
-use lib.ListN.{length, length-set}
-use Rattle.arithmetic.proofs.RowLaws.{Filled, filled-start, filled_next}
-use Rattle.job_fit.proofs.ColumnLaws as laws
-use borrow.Author.Rules.{rules}
-use native.Mathlib.Omega.{arith}
+use lib.ListN.{length}
+use Rattle.arithmetic.proofs.RowLaws.{Filled}
 use Rattle.job_fit.proofs.columns.fill_rows.Given as goal
 
 abbrev pub invariant-loop-index : goal.invariant-loop-index

@@ -1,9 +1,7 @@
 use mathlib.Core.Path.{refl}
-use Prim.Native.Nat.{◌-◌, ◌≤◌}
+use Prim.Native.Nat.{◌-◌}
 use native.Mathlib.Omega.{arith}
-use lib.ListN.{length}
-use Rattle.arithmetic.specs.Row.{values}
-use Rattle.arithmetic.proofs.RowLaws.{Filled, filled-start, filled_next}
+use Rattle.arithmetic.proofs.RowLaws.{filled-start, filled_next}
 use Rattle.job_laws.proofs.PriceLaws as laws
 use Rattle.job_prices.proofs.memories.place.Goals as goal
 

@@ -1,10 +1,7 @@
-use mathlib.Core.Path.{refl}
 use Prim.Native.Nat.{◌-◌, ◌≤◌}
-use native.Mathlib.Omega.{arith}
 use lib.ListN.{length}
 use Rattle.arithmetic.specs.Row.{values}
-use Rattle.arithmetic.proofs.RowLaws.{Filled, filled-start, filled_next}
-use Rattle.job_laws.proofs.PriceLaws as laws
+use Rattle.arithmetic.proofs.RowLaws.{Filled}
 use Rattle.job_prices.proofs.memories.place.Given as goal
 
 abbrev pub invariant-loop-index : goal.invariant-loop-index

@@ -13,8 +13,11 @@ use Rattle.job_prices.proofs.priced.both_of.Goals.{Start}
 pub returns-then-option-eq8 : goal.returns-then-option-eq8
 returns-then-option-eq8 c =
     let both = c.bond_and_option.ensures in
-    let a = c.args in record { bond = ap (λ (r : BondAndOption). r.bond) both; option = ap (λ (r : BondAndOption). r.option) both
-          ∙ laws.tagged-kind a.steps a.reversion a.discounts.now a.flows.now a.option c.if-option-eq8.true }
+    let a = c.args in record {
+      bond = ap (λ (r : BondAndOption). r.bond) both;
+      option = ap (λ (r : BondAndOption). r.option) both
+          ∙ laws.tagged-kind a.steps a.reversion a.discounts.now a.flows.now a.option c.if-option-eq8.true;
+    }
 
 dates-size : (s : Start) → length s.args.option.dates ≡ most_dates
 dates-size s = search rules
@@ -33,5 +36,8 @@ slice_bounds-bond_and_dated_option-end c =
 pub returns : goal.returns
 returns c =
     let both = c.bond_and_dated_option.ensures in
-    let a = c.args in record { bond = ap (λ (r : BondAndOption). r.bond) both; option = ap (λ (r : BondAndOption). r.option) both
-          ∙ laws.tagged-list a.steps a.reversion a.discounts.now a.flows.now a.option c.if-option-eq8.false }
+    let a = c.args in record {
+      bond = ap (λ (r : BondAndOption). r.bond) both;
+      option = ap (λ (r : BondAndOption). r.option) both
+          ∙ laws.tagged-list a.steps a.reversion a.discounts.now a.flows.now a.option c.if-option-eq8.false;
+    }

@@ -1,5 +1,4 @@
 use mathlib.Core.Path.{◌∙◌}
-use borrow.Author.Rules.{rules}
 use Rattle.job_laws.proofs.PriceLaws as laws
 use Rattle.job_prices.proofs.priced.prices_of.Goals as goal
 

@@ -1,4 +1,3 @@
-use borrow.Author.Rules.{rules}
 use Rattle.job_prices.proofs.priced.refused.Goals as goal
 
 pub returns : goal.returns

@@ -2,7 +2,6 @@ use mathlib.Core.Path.{◌∙◌, ap}
 use mathlib.Core.Bool.{false}
 use Rattle.price_laws.specs.declared.Price.{Price}
 use Rattle.job_laws.specs.JobPrices.{prices_of}
-use borrow.Author.Rules.{rules}
 use Rattle.job_laws.proofs.PriceLaws as laws
 use Rattle.job_prices.proofs.priced.tree_prices.Goals as goal
 

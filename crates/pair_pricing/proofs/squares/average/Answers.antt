@@ -1,6 +1,5 @@
 use Prim.Native.Nat.{◌+◌, ◌*◌, ◌≤◌}
 use native.Mathlib.Omega.{arith}
-use borrow.Author.Rules.{rules}
 use Rattle.arithmetic.specs.Row.{values}
 use Rattle.row_branches.specs.inside.Transitions.{branch_up, branch_middle, branch_down}
 use Rattle.pair_laws.proofs.Squares.{sum_fits, average-is}

@@ -1,12 +1,7 @@
-use mathlib.Core.Path.{◌≡◌}
-use Prim.Native.Nat.{ℕ, ◌-◌, ◌*◌, ◌≤◌}
+use Prim.Native.Nat.{◌-◌}
 use native.Mathlib.Omega.{arith}
-use lib.ListN.{length, length-set}
-use borrow.Author.Rules.{rules}
-use borrow.Author.Tests.{not-true, not-false}
-use Rattle.arithmetic.specs.Row.{values}
-use Rattle.pair_laws.specs.inside.Square.{line_size, square_size, exercised}
-use Rattle.pair_laws.proofs.Squares.{Changed, changed-first, changed-more, exercised-not, exercised-on}
+use lib.ListN.{length-set}
+use Rattle.pair_laws.proofs.Squares.{changed-first, changed-more, exercised-not, exercised-on}
 use Rattle.pair_pricing.proofs.squares.exercise_square.Goals as goal
 
 pub returns-then-not-listed : goal.returns-then-not-listed

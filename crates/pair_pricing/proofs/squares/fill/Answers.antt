@@ -1,9 +1,7 @@
 use mathlib.Core.Path.{refl}
-use Prim.Native.Nat.{◌-◌, ◌≤◌}
+use Prim.Native.Nat.{◌-◌}
 use native.Mathlib.Omega.{arith}
-use lib.ListN.{length}
-use Rattle.arithmetic.proofs.RowLaws.{Filled, filled-start, filled_next}
-use borrow.Author.Rules.{rules}
+use Rattle.arithmetic.proofs.RowLaws.{filled-start, filled_next}
 use Rattle.pair_pricing.proofs.squares.fill.Goals as goal
 
 pub loop-k-init : goal.loop-k-init

@@ -1,11 +1,7 @@
-use mathlib.Core.Path.{◌≡◌, sym, ap, ◌∙◌}
+use mathlib.Core.Path.{◌≡◌}
 use Prim.Native.Nat.{ℕ, ◌-◌, ◌≤◌}
-use native.Mathlib.Omega.{arith}
-use borrow.Author.Rules.{rules}
 use Rattle.arithmetic.specs.Sum.{greatest}
-use Rattle.arithmetic.proofs.SumLaws.{greatest-none}
 use Rattle.pair_laws.specs.inside.Square.{cell}
-use Rattle.pair_laws.proofs.Squares.{line-greatest, lines-greatest}
 use Rattle.pair_pricing.proofs.squares.greatest_value.Given as goal
 
 abbrev pub invariant-loop-a : goal.invariant-loop-a

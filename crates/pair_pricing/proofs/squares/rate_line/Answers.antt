@@ -1,8 +1,7 @@
-use mathlib.Core.Path.{◌≡◌, refl}
-use Prim.Native.Nat.{◌+◌, ◌-◌, ◌≤◌}
+use mathlib.Core.Path.{refl}
+use Prim.Native.Nat.{◌+◌, ◌-◌}
 use native.Mathlib.Omega.{arith}
-use lib.ListN.{length, length-set}
-use Rattle.pair_laws.specs.inside.Square.{square_size, cell, Line, branch_average}
+use lib.ListN.{length-set}
 use Rattle.pair_laws.proofs.Squares.{cell-most, rate-from, line_first, line-more, line-done}
 use Rattle.pair_pricing.proofs.squares.rate_line.Goals as goal
 
@@ -55,8 +54,7 @@ loop-l-smaller c =
 
 pub loop-l-preserved : goal.loop-l-preserved
 loop-l-preserved c =
-    let l = c.loop-l in
-    (
+    let l = c.loop-l in (
       omega (arith, c.loop-l-test.true),
       simp length-set l.invariant.1,
       simp length-set l.invariant.2,

@@ -1,9 +1,7 @@
-use mathlib.Core.Path.{◌≡◌, refl}
-use Prim.Native.Nat.{◌+◌, ◌-◌, ◌≤◌}
-use native.Mathlib.Omega.{arith}
-use lib.ListN.{length, length-set}
+use mathlib.Core.Path.{◌≡◌}
+use Prim.Native.Nat.{◌-◌, ◌≤◌}
+use lib.ListN.{length}
 use Rattle.pair_laws.specs.inside.Square.{square_size, cell, Line, branch_average}
-use Rattle.pair_laws.proofs.Squares.{cell-most, rate-from, line_first, line-more, line-done}
 use Rattle.pair_pricing.proofs.squares.rate_line.Given as goal
 
 abbrev pub invariant-loop-l : goal.invariant-loop-l

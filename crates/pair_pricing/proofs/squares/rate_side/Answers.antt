@@ -1,9 +1,5 @@
-use mathlib.Core.Path.{◌≡◌}
-use Prim.Native.Nat.{◌-◌, ◌≤◌}
+use Prim.Native.Nat.{◌-◌}
 use native.Mathlib.Omega.{arith}
-use lib.ListN.{length}
-use borrow.Author.Rules.{rules}
-use Rattle.pair_laws.specs.inside.Square.{square_size, Cells, rate_average}
 use Rattle.pair_laws.proofs.Squares.{cells-none, cells-line, cells-done, line-of-row, leads-inside, leads-whole, leads-limited}
 use Rattle.pair_pricing.proofs.squares.rate_side.Goals as goal
 

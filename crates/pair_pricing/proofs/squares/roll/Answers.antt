@@ -1,5 +1,4 @@
 use native.Mathlib.Omega.{arith}
-use borrow.Author.Rules.{rules}
 use Rattle.pair_laws.proofs.Squares.{middle-most, rolled-square}
 use Rattle.pair_pricing.proofs.squares.roll.Goals as goal
 

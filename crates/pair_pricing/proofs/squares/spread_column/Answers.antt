@@ -1,9 +1,7 @@
-use mathlib.Core.Path.{◌≡◌, refl}
-use Prim.Native.Nat.{ℕ, ◌+◌, ◌-◌, ◌≤◌}
+use mathlib.Core.Path.{refl}
+use Prim.Native.Nat.{◌+◌, ◌-◌}
 use native.Mathlib.Omega.{arith}
-use lib.ListN.{length, length-set}
-use Rattle.arithmetic.specs.Row.{values}
-use Rattle.pair_laws.specs.inside.Square.{square_size, cell, Column, spread_value}
+use lib.ListN.{length-set}
 use Rattle.pair_laws.proofs.Squares.{cell-most, spread-from, column-first, column-more, column-done}
 use Rattle.pair_pricing.proofs.squares.spread_column.Goals as goal
 
@@ -84,8 +82,7 @@ pub loop-a-preserved : goal.loop-a-preserved
 loop-a-preserved c =
     let average = c.average-value in
     let loop-test = c.loop-a-test in
-    let l = c.loop-a in
-    (
+    let l = c.loop-a in (
       omega (arith, loop-test.true),
       simp length-set l.invariant.1,
       simp length-set l.invariant.2,

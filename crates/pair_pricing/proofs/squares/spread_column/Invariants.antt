@@ -1,10 +1,8 @@
-use mathlib.Core.Path.{◌≡◌, refl}
+use mathlib.Core.Path.{◌≡◌}
 use Prim.Native.Nat.{ℕ, ◌+◌, ◌-◌, ◌≤◌}
-use native.Mathlib.Omega.{arith}
-use lib.ListN.{length, length-set}
+use lib.ListN.{length}
 use Rattle.arithmetic.specs.Row.{values}
 use Rattle.pair_laws.specs.inside.Square.{square_size, cell, Column, spread_value}
-use Rattle.pair_laws.proofs.Squares.{cell-most, spread-from, column-first, column-more, column-done}
 use Rattle.pair_pricing.proofs.squares.spread_column.Given as goal
 
 abbrev pub invariant-loop-a : goal.invariant-loop-a

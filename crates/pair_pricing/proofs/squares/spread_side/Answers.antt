@@ -1,11 +1,6 @@
-use mathlib.Core.Path.{◌≡◌, refl}
-use Prim.Native.Nat.{ℕ, ◌+◌, ◌-◌, ◌≤◌}
+use mathlib.Core.Path.{refl}
+use Prim.Native.Nat.{◌-◌}
 use native.Mathlib.Omega.{arith}
-use lib.ListN.{length}
-use borrow.Author.Rules.{rules}
-use Rattle.arithmetic.specs.Row.{values}
-use Rattle.row_branches.specs.RowBranches.{row_branch}
-use Rattle.pair_laws.specs.inside.Square.{square_size, cell, Cells, spread_value}
 use Rattle.pair_laws.proofs.Squares.{cells-empty, cells-column, cells-done, column-of-row, leads-inside, leads-whole, leads-across}
 use Rattle.pair_pricing.proofs.squares.spread_side.Goals as goal
 

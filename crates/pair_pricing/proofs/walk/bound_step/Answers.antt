@@ -1,5 +1,4 @@
 use native.Mathlib.Omega.{arith}
-use borrow.Author.Rules.{rules}
 use Rattle.pair_laws.proofs.WalkStates.{bound-product, bound-fits, bound-from}
 use Rattle.pair_pricing.proofs.walk.bound_step.Goals as goal
 

@@ -1,10 +1,4 @@
-use mathlib.Core.Path.{◌≡◌}
-use Prim.Native.Nat.{◌≤◌}
 use native.Mathlib.Omega.{arith}
-use borrow.Author.Rules.{rules}
-use Rattle.lattice.specs.RateTree.{rate_tree}
-use Rattle.lent_tree.specs.LentTree.{stored}
-use Rattle.pair_laws.specs.Pair.{pair_error_bound}
 use Rattle.pair_laws.proofs.WalkStates.{bound-first, bound-small, bound-next, bound-last}
 use Rattle.pair_pricing.proofs.walk.error_bound.Goals as goal
 

@@ -1,6 +1,5 @@
 use mathlib.Core.Path.{sym}
 use Rattle.pricing.proofs.TreeRows.{flow-none, flow-later}
-use borrow.Author.Rules.{rules}
 use Rattle.pair_pricing.proofs.walk.flow_of.Goals as goal
 
 pub returns-then-row-eq0 : goal.returns-then-row-eq0

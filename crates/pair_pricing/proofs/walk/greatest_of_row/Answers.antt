@@ -17,12 +17,11 @@ width c =
     answer-value c.args.row c.args.trees.spread (omega (arith, c.requires.2)) c.requires.1 _ _ c.node_count-width.ensures
 
 pub greatest_value-requires : goal.greatest_value-requires
-greatest_value-requires c =
-    (
-      omega (arith, lines (goal.at.greatest_value-requires c).After-node_count-width, row_fits c.args.trees.rate c.args.row c.requires.2),
-      omega (arith, width (goal.at.greatest_value-requires c).After-node_count-width, row_fits c.args.trees.spread c.args.row c.requires.2),
-      search rules,
-    )
+greatest_value-requires c = (
+  omega (arith, lines (goal.at.greatest_value-requires c).After-node_count-width, row_fits c.args.trees.rate c.args.row c.requires.2),
+  omega (arith, width (goal.at.greatest_value-requires c).After-node_count-width, row_fits c.args.trees.spread c.args.row c.requires.2),
+  search rules,
+)
 
 pub returns : goal.returns
 returns c =

@@ -1,5 +1,4 @@
 use native.Mathlib.Omega.{arith}
-use borrow.Author.Rules.{rules}
 use Rattle.pricing.proofs.EntryLaws.{answer-value}
 use Rattle.pair_pricing.proofs.walk.lines_of.Goals as goal
 

@@ -6,16 +6,15 @@ use Rattle.pair_laws.proofs.SquareRows.{row_fits, option-from}
 use Rattle.pair_pricing.proofs.walk.option_row.Goals as goal
 
 pub exercise_square-requires : goal.exercise_square-requires
-exercise_square-requires c =
-    (
-      omega (
-        arith,
-        c.lines_of.ensures,
-        row_fits c.args.trees.rate c.args.row (omega (arith, c.requires.0.few, c.requires.2)),
-      ),
-      search rules,
-      search rules,
-    )
+exercise_square-requires c = (
+  omega (
+    arith,
+    c.lines_of.ensures,
+    row_fits c.args.trees.rate c.args.row (omega (arith, c.requires.0.few, c.requires.2)),
+  ),
+  search rules,
+  search rules,
+)
 
 pub returns : goal.returns
 returns c =

@@ -1,11 +1,10 @@
 use mathlib.Core.Path.{◌≡◌}
-use Prim.Native.Nat.{◌-◌, ◌≤◌}
+use Prim.Native.Nat.{◌-◌}
 use native.Mathlib.Omega.{arith}
 use lib.ListN.{length}
 use Rattle.pair_laws.specs.inside.Square.{square_size}
 use borrow.Author.Rules.{rules}
 use Rattle.pricing.proofs.TreeRows.{flow-within}
-use Rattle.pair_laws.specs.inside.States.{Bonds}
 use Rattle.pair_laws.proofs.WalkStates.{bonds-first, bonds-limited, bonds-over, bonds-step, bond-refused, bond-rolled}
 use Rattle.pair_pricing.proofs.walk.roll_bond.Goals as goal
 use Rattle.pair_pricing.proofs.walk.roll_bond.Goals.{After-fill-arg-1}

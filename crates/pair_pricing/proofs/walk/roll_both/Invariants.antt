@@ -1,11 +1,7 @@
 use Prim.Native.Nat.{◌-◌, ◌≤◌}
-use native.Mathlib.Omega.{arith}
 use Rattle.exercise.specs.Terms.{side}
 use Rattle.pricing_laws.specs.inside.Marks.{marked}
-use Rattle.pricing.proofs.TreeRows.{flow-within}
 use Rattle.pair_laws.specs.inside.States.{Bonds, Options}
-use Rattle.pair_laws.proofs.WalkStates.{bonds-limited, bonds-over, bonds-step, options-limited, options-over}
-use Rattle.pair_laws.proofs.WalkStates.{options-step, both-bond, both-option, both-rolled, marked-listed}
 use Rattle.pair_pricing.proofs.walk.roll_both.Given as goal
 
 abbrev pub invariant-loop-row : goal.invariant-loop-row

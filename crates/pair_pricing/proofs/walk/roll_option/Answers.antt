@@ -1,4 +1,3 @@
-use borrow.Author.Rules.{rules}
 use Rattle.exercise.specs.Terms.{side}
 use Rattle.pricing_laws.specs.inside.Marks.{marked}
 use Rattle.pair_laws.proofs.WalkStates.{options-marked, both-over}

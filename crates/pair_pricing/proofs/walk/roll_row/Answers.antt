@@ -36,8 +36,7 @@ roll-requires c =
     let part2 = c.part-2 in
     let part = c.part in
     let row-shape2 = c.row_shape-spread in
-    let row-shape = c.row_shape-rate in
-    (
+    let row-shape = c.row_shape-rate in (
       pair-rollable c.args.trees.steps c.args.trees.rate c.args.trees.spread c.args.row c.args.rates.now c.args.spreads.now
           c.requires.0 c.requires.2 _ _ row-shape.ensures row-shape2.ensures c.args.rate_downs.now c.args.spread_downs.now c.requires.1
           _ part.ensures part2.ensures refl refl part3.ensures part4.ensures c.args.flow c.requires.3,

@@ -1,11 +1,9 @@
 use mathlib.Core.Path.{ap}
-use Prim.Native.Nat.{ℕ, ◌+◌, ◌-◌, ◌≤◌, ◌<◌}
+use Prim.Native.Nat.{ℕ, ◌+◌, ◌-◌, ◌<◌}
 use native.Mathlib.Omega.{arith}
 use lib.ListN.{length}
-use Rattle.pricing.specs.inside.Rows.{bond_values}
 use Rattle.pricing.proofs.RowSteps.{span-inside, span-shifted, span-whole, span-is}
-use Rattle.pricing.proofs.RowSteps.{branch-inside, branch-whole, branch-limited, branch-rolled, Row-state, row-resume, row_next, row_done}
-use borrow.Author.Rules.{rules}
+use Rattle.pricing.proofs.RowSteps.{branch-inside, branch-whole, branch-limited, branch-rolled, row-resume, row_next, row_done}
 use Rattle.pricing.proofs.rows.bond_nodes.Goals as goal
 
 pub loop-k-init : goal.loop-k-init

@@ -1,11 +1,6 @@
-use mathlib.Core.Path.{ap}
-use Prim.Native.Nat.{ℕ, ◌+◌, ◌-◌, ◌≤◌, ◌<◌}
-use native.Mathlib.Omega.{arith}
-use lib.ListN.{length}
+use Prim.Native.Nat.{◌-◌, ◌≤◌}
 use Rattle.pricing.specs.inside.Rows.{bond_values}
-use Rattle.pricing.proofs.RowSteps.{span-inside, span-shifted, span-whole, span-is}
-use Rattle.pricing.proofs.RowSteps.{branch-inside, branch-whole, branch-limited, branch-rolled, Row-state, row-resume, row_next, row_done}
-use borrow.Author.Rules.{rules}
+use Rattle.pricing.proofs.RowSteps.{Row-state}
 use Rattle.pricing.proofs.rows.bond_nodes.Given as goal
 
 abbrev pub invariant-loop-k : goal.invariant-loop-k

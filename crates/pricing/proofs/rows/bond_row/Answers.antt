@@ -1,7 +1,6 @@
 use native.Mathlib.Omega.{arith}
 use Rattle.pricing.proofs.RowSteps.{row-none}
 use Rattle.pricing.proofs.Spans.{leads-growing, leads-lowest, leads-inner, leads-highest}
-use borrow.Author.Rules.{rules}
 use Rattle.pricing.proofs.rows.bond_row.Goals as goal
 
 pub bond_nodes-requires : goal.bond_nodes-requires

@@ -1,7 +1,6 @@
 use native.Mathlib.Omega.{arith}
 use Rattle.pricing.proofs.RowSteps.{rows_none}
 use Rattle.pricing.proofs.Spans.{leads-lowest, leads-inner, leads-highest}
-use borrow.Author.Rules.{rules}
 use Rattle.pricing.proofs.rows.capped_option_row.Goals as goal
 
 pub option_nodes-low-requires : goal.option_nodes-low-requires

@@ -1,10 +1,8 @@
 use Prim.Native.Nat.{ℕ, ◌-◌, ◌≤◌}
-use native.Mathlib.Omega.{arith}
 use Rattle.arithmetic.specs.Row.{values}
-use Rattle.arithmetic.proofs.RowLaws.{Filled, filled-start, filled_next}
+use Rattle.arithmetic.proofs.RowLaws.{Filled}
 use Rattle.pricing_laws.specs.Pricer.{exercise}
 use Rattle.exercise.specs.Terms.{side}
-use borrow.Author.Rules.{rules}
 use Rattle.pricing.proofs.rows.exercise_row.Given as goal
 
 abbrev pub invariant-loop-k : goal.invariant-loop-k

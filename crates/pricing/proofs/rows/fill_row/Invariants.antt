@@ -1,9 +1,6 @@
-use mathlib.Core.Path.{refl}
 use Prim.Native.Nat.{◌-◌, ◌≤◌}
-use native.Mathlib.Omega.{arith}
 use lib.ListN.{length}
-use Rattle.arithmetic.proofs.RowLaws.{Filled, filled-start, filled_next}
-use borrow.Author.Rules.{rules}
+use Rattle.arithmetic.proofs.RowLaws.{Filled}
 use Rattle.pricing.proofs.rows.fill_row.Given as goal
 
 abbrev pub invariant-loop-k : goal.invariant-loop-k

@@ -1,11 +1,6 @@
-use Prim.Native.Nat.{ℕ, ◌-◌, ◌≤◌}
+use Prim.Native.Nat.{◌-◌}
 use native.Mathlib.Omega.{arith}
-use lib.ListN.{length}
-use Rattle.arithmetic.specs.Row.{values}
-use Rattle.arithmetic.proofs.RowLaws.{Filled, filled-start, filled_next}
-use Rattle.pricing_laws.specs.Pricer.{exercise}
-use Rattle.exercise.specs.Terms.{side}
-use borrow.Author.Rules.{rules}
+use Rattle.arithmetic.proofs.RowLaws.{filled-start, filled_next}
 use Rattle.pricing.proofs.rows.first_row.Goals as goal
 
 pub loop-k-init : goal.loop-k-init

@@ -1,9 +1,7 @@
 use mathlib.Core.Path.{◌≡◌, refl}
-use Prim.Native.Nat.{ℕ, ◌-◌, ◌≤◌}
+use Prim.Native.Nat.{◌-◌}
 use native.Mathlib.Omega.{arith}
-use Rattle.arithmetic.specs.Row.{values}
-use Rattle.pricing.proofs.StripRows.{Laying, laying-start, laying-next}
-use borrow.Author.Rules.{rules}
+use Rattle.pricing.proofs.StripRows.{laying-start, laying-next}
 use Rattle.pricing.proofs.rows.keep_row.Goals as goal
 
 pub loop-k-init : goal.loop-k-init

@@ -1,9 +1,6 @@
-use mathlib.Core.Path.{◌≡◌, refl}
 use Prim.Native.Nat.{ℕ, ◌-◌, ◌≤◌}
-use native.Mathlib.Omega.{arith}
 use Rattle.arithmetic.specs.Row.{values}
-use Rattle.pricing.proofs.StripRows.{Laying, laying-start, laying-next}
-use borrow.Author.Rules.{rules}
+use Rattle.pricing.proofs.StripRows.{Laying}
 use Rattle.pricing.proofs.rows.keep_row.Given as goal
 
 abbrev pub invariant-loop-k : goal.invariant-loop-k

@@ -10,11 +10,10 @@ use Rattle.limits.specs.Limits.{most_discount}
 use Rattle.exercise.specs.Terms.{side}
 use Rattle.row_branches.specs.RowBranches.{row_branch}
 use Rattle.row_branches.specs.inside.Transitions.{branch_total}
-use Rattle.pricing.specs.inside.Rows.{bond_values, option_values, Limited, Later}
+use Rattle.pricing.specs.inside.Rows.{Limited, Later}
 use Rattle.pricing.proofs.RowSteps.{span-inside, span-shifted, span-whole, span-is}
 use Rattle.pricing.proofs.RowSteps.{branch-inside, branch-whole, branch-limited, branch-rolled, option-from-roll}
-use Rattle.pricing.proofs.RowSteps.{Rows-state, rows-resume, rows_next, rows-done}
-use borrow.Author.Rules.{rules}
+use Rattle.pricing.proofs.RowSteps.{rows-resume, rows_next, rows-done}
 use Rattle.pricing.proofs.rows.option_nodes.Goals as goal
 use Rattle.pricing.proofs.rows.option_nodes.Goals.{After-held_value-held, After-shared_slice_known-in-loop-k-1}
 

@@ -1,6 +1,5 @@
 use Rattle.pricing.proofs.RowSteps.{rows_none}
 use Rattle.pricing.proofs.Spans.{leads-growing}
-use borrow.Author.Rules.{rules}
 use Rattle.pricing.proofs.rows.option_row.Goals as goal
 
 pub capped_option_row-requires : goal.capped_option_row-requires

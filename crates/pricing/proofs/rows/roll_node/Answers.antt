@@ -4,7 +4,6 @@ use Rattle.arithmetic.specs.Row.{values}
 use Rattle.tree.specs.Tree.{probability_total}
 use Rattle.pricing.specs.inside.Rows.{branch_sum, branch_roll}
 use Rattle.pricing.proofs.NodeLaws.{sum_fits, product-fits, rolled-nearest}
-use borrow.Author.Rules.{rules}
 use Rattle.pricing.proofs.rows.roll_node.Goals as goal
 use Rattle.pricing.proofs.rows.roll_node.Goals.{Start}
 

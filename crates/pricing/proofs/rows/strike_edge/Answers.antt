@@ -5,7 +5,6 @@ use Rattle.arithmetic.proofs.Implied.{implied}
 use Rattle.exercise.specs.Terms.{side}
 use Rattle.pricing.proofs.RowSteps.{branch-inside, branch-whole, branch-limited, branch-rolled, row-resume, row_next, row_done}
 use Rattle.pricing.proofs.StripRows.{strike-from-roll}
-use borrow.Author.Rules.{rules}
 use Rattle.pricing.proofs.rows.strike_edge.Goals as goal
 use Rattle.pricing.proofs.rows.strike_edge.Goals.{Else-edge-eq0}
 

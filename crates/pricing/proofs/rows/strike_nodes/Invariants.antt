@@ -1,13 +1,7 @@
-use Prim.Native.Nat.{◌-◌, ◌≤◌, ◌<◌}
-use native.Mathlib.Omega.{arith}
-use lib.ListN.{length}
-use Rattle.arithmetic.proofs.Implied.{implied}
+use Prim.Native.Nat.{◌-◌, ◌≤◌}
 use Rattle.exercise.specs.Terms.{side}
 use Rattle.pricing.specs.inside.Strips.{strike_values}
-use Rattle.pricing.proofs.RowSteps.{span-inside, span-shifted, span-whole, span-is}
-use Rattle.pricing.proofs.RowSteps.{branch-inside, branch-whole, branch-limited, branch-rolled, Row-state, row-resume, row_next, row_done}
-use Rattle.pricing.proofs.StripRows.{strike-from-roll}
-use borrow.Author.Rules.{rules}
+use Rattle.pricing.proofs.RowSteps.{Row-state}
 use Rattle.pricing.proofs.rows.strike_nodes.Given as goal
 
 abbrev pub invariant-loop-k : goal.invariant-loop-k

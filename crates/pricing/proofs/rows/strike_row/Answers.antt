@@ -4,7 +4,6 @@ use native.Mathlib.Omega.{arith}
 use lib.ListN.{length}
 use Rattle.pricing.proofs.RowSteps.{row-none}
 use Rattle.pricing.proofs.Spans.{edge-fits, leads-between}
-use borrow.Author.Rules.{rules}
 use Rattle.pricing.proofs.rows.strike_row.Goals as goal
 use Rattle.pricing.proofs.rows.strike_row.Goals.{After-edge_nodes-edge}
 

@@ -1,13 +1,7 @@
-use mathlib.Core.Path.{◌≡◌, refl}
 use Prim.Native.Nat.{ℕ, ◌-◌, ◌≤◌}
-use native.Mathlib.Omega.{arith}
 use lib.ListN.{replicate}
-use Rattle.arithmetic.proofs.RowLaws.{Filled, filled-start, filled_next}
-use Rattle.arithmetic.proofs.PaddedLaws.{filled-padded}
-use Rattle.price_laws.specs.Prices.{refused_price}
+use Rattle.arithmetic.proofs.RowLaws.{Filled}
 use Rattle.price_laws.specs.Strips.{most_strikes}
-use Rattle.price_laws.proofs.StripLaws.{no-column, strip-is}
-use borrow.Author.Rules.{rules}
 use Rattle.pricing.proofs.strips.refused_prices.Given as goal
 
 abbrev pub invariant-loop-k : goal.invariant-loop-k

@@ -1,5 +1,4 @@
 use Rattle.price_laws.proofs.StripLaws.{refused-is}
-use borrow.Author.Rules.{rules}
 use Rattle.pricing.proofs.strips.refused_strip.Goals as goal
 
 pub returns : goal.returns

@@ -4,7 +4,6 @@ use Rattle.price_laws.specs.Prices.{dated_cause}
 use Rattle.price_laws.proofs.OptionLaws.{dated-cause-is}
 use Rattle.pricing.proofs.StripTurns.{kept-through}
 use Rattle.pricing.proofs.StrikeLaws.{strike-refused, exercisable, rolled-refuses, rolled-gives, bond-refuses}
-use borrow.Author.Rules.{rules}
 use Rattle.pricing.proofs.strips.strike_price.Goals as goal
 use Rattle.pricing.proofs.strips.strike_price.Goals.{After-lowest_cause-cause}
 

@@ -1,15 +1,10 @@
-use mathlib.Core.Path.{◌≡◌, ap}
 use mathlib.Core.List.{List}
 use Prim.Native.Nat.{ℕ, ◌-◌, ◌≤◌}
-use native.Mathlib.Omega.{arith}
 use lib.ListN.{length, replicate}
-use Rattle.arithmetic.proofs.RowLaws.{Filled, filled-start, filled_next}
-use Rattle.arithmetic.proofs.PaddedLaws.{filled-padded}
+use Rattle.arithmetic.proofs.RowLaws.{Filled}
 use Rattle.price_laws.specs.declared.Price.{Price}
 use Rattle.pricing.specs.declared.strips.Shared.{Shared}
 use Rattle.price_laws.specs.Strips.{most_strikes, strike_price, each_with}
-use Rattle.price_laws.proofs.StripLaws.{strip-is}
-use borrow.Author.Rules.{rules}
 use Rattle.pricing.proofs.strips.strike_prices.Given as goal
 
 -- the answer of a place

@@ -1,6 +1,5 @@
 use mathlib.Core.Path.{sym, ◌∙◌}
 use Rattle.price_laws.proofs.StripLaws.{strip-shape, strip-none, strip-many, strip-taken}
-use borrow.Author.Rules.{rules}
 use Rattle.pricing.proofs.strips.strip_cause.Goals as goal
 
 pub returns-then-shape-ne0 : goal.returns-then-shape-ne0

@@ -7,7 +7,6 @@ use Rattle.lattice.proofs.Sizes.{count-within}
 use Rattle.pricing_laws.specs.Pricer.{exercise}
 use Rattle.exercise.specs.Terms.{side}
 use Rattle.pricing.proofs.EntryLaws.{answer-value}
-use borrow.Author.Rules.{rules}
 use Rattle.pricing.proofs.walk.exercise_step.Goals as goal
 use Rattle.pricing.proofs.walk.exercise_step.Goals.{After-flow_of}
 

@@ -1,12 +1,8 @@
-use mathlib.Core.Path.{◌≡◌, refl, ◌∙◌}
-use Prim.Native.Nat.{◌-◌, ◌<◌}
-use native.Mathlib.Omega.{arith}
+use mathlib.Core.Path.{◌≡◌}
+use Prim.Native.Nat.{◌-◌}
 use lib.ListN.{length}
 use Rattle.pricing.specs.inside.Strips.{KeptFrom}
-use Rattle.pricing.proofs.WalkStates.{Bonds, bonds-first, bonds-inside}
-use Rattle.pricing.proofs.WalkTurns.{turn-steppable, turn-limited, turn-over, turn-next}
-use Rattle.pricing.proofs.StripTurns.{kept-none, kept_next, kept-refused, kept_whole}
-use borrow.Author.Rules.{rules}
+use Rattle.pricing.proofs.WalkStates.{Bonds}
 use Rattle.pricing.proofs.walk.keep_bond.Given as goal
 
 abbrev pub invariant-loop-row : goal.invariant-loop-row

@@ -1,9 +1,8 @@
 use mathlib.Core.Path.{◌∙◌}
-use Prim.Native.Nat.{◌-◌, ◌≤◌, ◌<◌}
+use Prim.Native.Nat.{◌-◌, ◌<◌}
 use native.Mathlib.Omega.{arith}
 use Rattle.pricing.proofs.WalkStates.{Bonds, bonds-first, bond-rolled, bonds-inside}
 use Rattle.pricing.proofs.WalkTurns.{turn-steppable, turn-limited, turn-over, turn-next}
-use borrow.Author.Rules.{rules}
 use Rattle.pricing.proofs.walk.roll_bond.Goals as goal
 use Rattle.pricing.proofs.walk.roll_bond.Goals.{Else-bond_step-gt-VALUE_LIMIT, Else-row-last, In-loop-row}
 

@@ -1,9 +1,5 @@
-use mathlib.Core.Path.{◌∙◌}
-use Prim.Native.Nat.{◌-◌, ◌≤◌, ◌<◌}
-use native.Mathlib.Omega.{arith}
-use Rattle.pricing.proofs.WalkStates.{Bonds, bonds-first, bond-rolled, bonds-inside}
-use Rattle.pricing.proofs.WalkTurns.{turn-steppable, turn-limited, turn-over, turn-next}
-use borrow.Author.Rules.{rules}
+use Prim.Native.Nat.{◌-◌, ◌≤◌}
+use Rattle.pricing.proofs.WalkStates.{Bonds}
 use Rattle.pricing.proofs.walk.roll_bond.Given as goal
 
 abbrev pub invariant-loop-row : goal.invariant-loop-row

@@ -1,6 +1,5 @@
 use Rattle.pricing_laws.specs.inside.Marks.{marked}
 use Rattle.pricing.proofs.WalkStates.{late-refused, rolled-through, rolled-answer}
-use borrow.Author.Rules.{rules}
 use Rattle.pricing.proofs.walk.roll_both.Goals as goal
 
 pub roll_bond-requires : goal.roll_bond-requires

@@ -2,7 +2,6 @@ use Prim.Native.Nat.{◌-◌, ◌<◌}
 use native.Mathlib.Omega.{arith}
 use Rattle.pricing.proofs.WalkStates.{rolled-answer}
 use Rattle.pricing.proofs.WalkTurns.{Both, both_first, both-done, both-before, turn-both-ready, turn-both-over, turn-both-next}
-use borrow.Author.Rules.{rules}
 use Rattle.pricing.proofs.walk.roll_option.Goals as goal
 use Rattle.pricing.proofs.walk.roll_option.Goals.{Else-first-gt-VALUE_LIMIT, Else-row-eq0}
 

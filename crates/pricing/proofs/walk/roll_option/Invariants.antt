@@ -1,8 +1,5 @@
-use Prim.Native.Nat.{◌-◌, ◌<◌}
-use native.Mathlib.Omega.{arith}
-use Rattle.pricing.proofs.WalkStates.{rolled-answer}
-use Rattle.pricing.proofs.WalkTurns.{Both, both_first, both-done, both-before, turn-both-ready, turn-both-over, turn-both-next}
-use borrow.Author.Rules.{rules}
+use Prim.Native.Nat.{◌-◌}
+use Rattle.pricing.proofs.WalkTurns.{Both}
 use Rattle.pricing.proofs.walk.roll_option.Given as goal
 
 abbrev pub invariant-loop-row : goal.invariant-loop-row

@@ -4,9 +4,8 @@ use lib.ListN.{length}
 use Rattle.text_laws.specs.Lines.{longest_line}
 use Rattle.lattice.specs.Shape.{row_start, discounts_needed}
 use Rattle.sheet_laws.specs.TreeSheet.{nodes_of_row}
-use Rattle.node_lines.proofs.LineLoop.{Progress, begun, gone, ended}
+use Rattle.node_lines.proofs.LineLoop.{begun, gone, ended}
 use Rattle.sheet_laws.proofs.PartLaws as laws
-use borrow.Author.Rules.{rules}
 use native.Mathlib.Omega.{arith}
 use Rattle.record_sheet.proofs.lines.put_node_rows.Goals as goal
 use Rattle.record_sheet.proofs.lines.put_node_rows.Goals.{After-shared_slice_known-1}

@@ -1,13 +1,9 @@
-use mathlib.Core.Path.{◌≡◌, refl, ◌∙◌}
-use Prim.Native.Nat.{ℕ, suc, ◌+◌, ◌*◌, ◌≤◌, ◌<◌}
-use lib.ListN.{length}
+use mathlib.Core.Path.{◌≡◌}
+use Prim.Native.Nat.{ℕ, ◌*◌}
 use Rattle.text_laws.specs.Lines.{longest_line}
-use Rattle.lattice.specs.Shape.{row_start, discounts_needed}
+use Rattle.lattice.specs.Shape.{row_start}
 use Rattle.sheet_laws.specs.TreeSheet.{nodes_of_row}
-use Rattle.node_lines.proofs.LineLoop.{Progress, begun, gone, ended}
-use Rattle.sheet_laws.proofs.PartLaws as laws
-use borrow.Author.Rules.{rules}
-use native.Mathlib.Omega.{arith}
+use Rattle.node_lines.proofs.LineLoop.{Progress}
 use Rattle.record_sheet.proofs.lines.put_node_rows.Given as goal
 
 abbrev pub invariant-loop-left : goal.invariant-loop-left

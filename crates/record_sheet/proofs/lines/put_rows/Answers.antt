@@ -3,9 +3,8 @@ use mathlib.Core.List.{List}
 use lib.ListN.{length}
 use Rattle.text_laws.specs.Lines.{longest_line}
 use Rattle.sheet_laws.specs.TreeSheet.{line_of_row}
-use Rattle.node_lines.proofs.LineLoop.{Progress, begun, gone, ended}
+use Rattle.node_lines.proofs.LineLoop.{begun, gone, ended}
 use Rattle.sheet_laws.proofs.PartLaws as laws
-use borrow.Author.Rules.{rules}
 use native.Mathlib.Omega.{arith}
 use Rattle.record_sheet.proofs.lines.put_rows.Goals as goal
 use Rattle.record_sheet.proofs.lines.put_rows.Goals.{After-shared_slice_known-4-1, In-loop-left, Start}
@@ -34,14 +33,17 @@ pub put_row-start-requires : goal.put_row-start-requires
 put_row-start-requires c =
     let pre = c.requires in
     let l = c.loop-left in
-    let p = l.invariant in record { before_lt_steps = (
+    let p = l.invariant in record {
+      before_lt_steps = (
         omega (arith, p.upto),
         pre.stored.0,
         pre.stored.1,
         pre.summed (l.left - 1) (omega (arith, p.upto)),
         omega (arith, p.enough),
         omega (arith, p.below, p.same, pre.stored.3),
-      ); bound_value = laws.bound_of_lem _ _ _ _ l.left (l.left - 1) (omega arith) pre.bounds_value.0 }
+      );
+      bound_value = laws.bound_of_lem _ _ _ _ l.left (l.left - 1) (omega arith) pre.bounds_value.0;
+    }
 
 pub loop-left-preserved : goal.loop-left-preserved
 loop-left-preserved c =

@@ -1,12 +1,7 @@
-use Prim.Native.Nat.{ℕ, suc, ◌+◌, ◌-◌, ◌*◌, ◌≤◌, ◌<◌}
-use mathlib.Core.List.{List}
-use lib.ListN.{length}
+use Prim.Native.Nat.{ℕ, ◌-◌, ◌*◌}
 use Rattle.text_laws.specs.Lines.{longest_line}
 use Rattle.sheet_laws.specs.TreeSheet.{line_of_row}
-use Rattle.node_lines.proofs.LineLoop.{Progress, begun, gone, ended}
-use Rattle.sheet_laws.proofs.PartLaws as laws
-use borrow.Author.Rules.{rules}
-use native.Mathlib.Omega.{arith}
+use Rattle.node_lines.proofs.LineLoop.{Progress}
 use Rattle.record_sheet.proofs.lines.put_rows.Given as goal
 
 abbrev pub invariant-loop-left : goal.invariant-loop-left

@@ -31,10 +31,14 @@ put_rows-rows_start-requires c =
     let a = s.args in
     let room = laws.rows-room a.steps a.reversion a.quotes.now a.discounts.now a.state_prices.now
     a.prices.bond a.prices.has_option a.prices.option
-    s.requires.stored.0 (fitting (goal.at.put_rows-rows_start-requires c).Start).0 (fitting (goal.at.put_rows-rows_start-requires c).Start).1 s.requires.stored.2 bounded.put_prices-prices_start.ensures in record { stored = (s.requires.stored.0, s.requires.stored.1, room.0, room.1); summed = s.requires.summed; bounds_value = (
-          ap (λ (r : RowBounds). r.bounds) bounded.state_price_error_bounds-known.ensures,
-          all-rows a.steps bounded.state_price_error_bounds-known.result.bounds s.requires.stored.0.lent.limits.steps-within-limit (size (goal.at.put_rows-rows_start-requires c).After-state_price_error_bounds-known),
-        ) }
+    s.requires.stored.0 (fitting (goal.at.put_rows-rows_start-requires c).Start).0 (fitting (goal.at.put_rows-rows_start-requires c).Start).1 s.requires.stored.2 bounded.put_prices-prices_start.ensures in record {
+      stored = (s.requires.stored.0, s.requires.stored.1, room.0, room.1);
+      summed = s.requires.summed;
+      bounds_value = (
+        ap (λ (r : RowBounds). r.bounds) bounded.state_price_error_bounds-known.ensures,
+        all-rows a.steps bounded.state_price_error_bounds-known.result.bounds s.requires.stored.0.lent.limits.steps-within-limit (size (goal.at.put_rows-rows_start-requires c).After-state_price_error_bounds-known),
+      );
+    }
 
 pub put_all_nodes-requires : goal.put_all_nodes-requires
 put_all_nodes-requires c =

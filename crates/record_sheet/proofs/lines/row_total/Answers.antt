@@ -1,8 +1,4 @@
-use mathlib.Core.Path.{◌≡◌}
-use Prim.Native.Nat.{◌-◌, ◌≤◌}
-use lib.ListN.{length}
-use Rattle.arithmetic.specs.Sum as sums
-use Rattle.arithmetic.specs.Row.{values}
+use Prim.Native.Nat.{◌-◌}
 use Rattle.sheet_laws.proofs.PartLaws as laws
 use borrow.Author.Rules.{rules}
 use native.Mathlib.Omega.{arith}

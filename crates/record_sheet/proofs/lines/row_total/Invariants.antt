@@ -3,9 +3,6 @@ use Prim.Native.Nat.{◌-◌, ◌≤◌}
 use lib.ListN.{length}
 use Rattle.arithmetic.specs.Sum as sums
 use Rattle.arithmetic.specs.Row.{values}
-use Rattle.sheet_laws.proofs.PartLaws as laws
-use borrow.Author.Rules.{rules}
-use native.Mathlib.Omega.{arith}
 use Rattle.record_sheet.proofs.lines.row_total.Given as goal
 
 abbrev pub invariant-loop-index : goal.invariant-loop-index

@@ -1,8 +1,7 @@
-use Prim.Native.Nat.{◌-◌, ◌≤◌}
+use Prim.Native.Nat.{◌-◌}
 use native.Mathlib.Omega.{arith}
 use mathlib.Core.Path.{refl}
-use lib.ListN.{length}
-use Rattle.arithmetic.proofs.RowLaws.{Filled, filled-start, filled_next, filled-all}
+use Rattle.arithmetic.proofs.RowLaws.{filled-start, filled_next, filled-all}
 use borrow.Author.Rules.{rules}
 use Rattle.shelf.proofs.parts.clear.Goals as goal
 

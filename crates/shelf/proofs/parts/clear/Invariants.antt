@@ -1,9 +1,6 @@
 use Prim.Native.Nat.{◌-◌, ◌≤◌}
-use native.Mathlib.Omega.{arith}
-use mathlib.Core.Path.{refl}
 use lib.ListN.{length}
-use Rattle.arithmetic.proofs.RowLaws.{Filled, filled-start, filled_next, filled-all}
-use borrow.Author.Rules.{rules}
+use Rattle.arithmetic.proofs.RowLaws.{Filled}
 use Rattle.shelf.proofs.parts.clear.Given as goal
 
 abbrev pub invariant-loop-k : goal.invariant-loop-k

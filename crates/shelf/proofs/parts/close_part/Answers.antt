@@ -9,7 +9,6 @@ use Rattle.arithmetic.proofs.RowLaws.{length-row}
 use Rattle.shelf_laws.specs.Parts.{zeros, closed}
 use Rattle.shelf_laws.proofs.Moves.{closed_is, rest-length}
 use Rattle.shelf_laws.proofs.PartLaws.{part-back-to}
-use borrow.Author.Rules.{rules}
 use Rattle.shelf.proofs.parts.close_part.Goals as goal
 
 pub returns : goal.returns

@@ -2,7 +2,6 @@ use mathlib.Core.Path.{ap, ◌∙◌}
 use Rattle.price_bound.specs.PriceBound.{tree_bounds_answer}
 use Rattle.shelf_laws.proofs.PartLaws.{lent-part}
 use Rattle.shelf_laws.proofs.SlotLaws.{fitted-is}
-use borrow.Author.Rules.{rules}
 use Rattle.shelf.proofs.parts.fitted_slot.Goals as goal
 
 pub returns : goal.returns

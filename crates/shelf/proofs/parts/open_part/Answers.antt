@@ -8,7 +8,6 @@ use Rattle.arithmetic.proofs.RowLaws.{length-row}
 use Rattle.shelf_laws.specs.Parts.{zeros, opened}
 use Rattle.shelf_laws.proofs.Moves.{opened-is}
 use Rattle.shelf_laws.proofs.PartLaws.{part-back-to, lent-count}
-use borrow.Author.Rules.{rules}
 use Rattle.shelf.proofs.parts.open_part.Goals as goal
 
 pub returns : goal.returns

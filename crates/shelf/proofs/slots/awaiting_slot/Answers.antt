@@ -1,5 +1,4 @@
 use Rattle.shelf_laws.proofs.SlotLaws.{awaiting-is}
-use borrow.Author.Rules.{rules}
 use Rattle.shelf.proofs.slots.awaiting_slot.Goals as goal
 
 pub returns : goal.returns

@@ -1,5 +1,4 @@
 use Rattle.shelf_laws.proofs.SlotLaws.{empty-is}
-use borrow.Author.Rules.{rules}
 use Rattle.shelf.proofs.slots.empty_slot.Goals as goal
 
 pub returns : goal.returns

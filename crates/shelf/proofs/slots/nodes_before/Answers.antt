@@ -1,5 +1,5 @@
 use mathlib.Core.Path.{◌≡◌, refl, ap, ◌∙◌}
-use Prim.Native.Nat.{◌≤◌, ◌-◌}
+use Prim.Native.Nat.{◌-◌}
 use native.Mathlib.Omega.{arith}
 use Rattle.shelf_laws.specs.Shelf.{slot_at, nodes_before}
 use Rattle.shelf_laws.proofs.SlotLaws.{before_more, before-most, nodes-most}

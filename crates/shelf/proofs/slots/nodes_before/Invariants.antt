@@ -1,9 +1,6 @@
-use mathlib.Core.Path.{◌≡◌, refl, ap, ◌∙◌}
+use mathlib.Core.Path.{◌≡◌}
 use Prim.Native.Nat.{◌≤◌, ◌-◌}
-use native.Mathlib.Omega.{arith}
-use Rattle.shelf_laws.specs.Shelf.{slot_at, nodes_before}
-use Rattle.shelf_laws.proofs.SlotLaws.{before_more, before-most, nodes-most}
-use borrow.Author.Rules.{rules}
+use Rattle.shelf_laws.specs.Shelf.{nodes_before}
 use Rattle.shelf.proofs.slots.nodes_before.Given as goal
 
 abbrev pub invariant-loop-at : goal.invariant-loop-at

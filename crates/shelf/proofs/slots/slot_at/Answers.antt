@@ -1,6 +1,5 @@
 use mathlib.Core.Path.{refl}
 use Rattle.shelf_laws.specs.Shelf.{slot_at}
-use borrow.Author.Rules.{rules}
 use Rattle.shelf.proofs.slots.slot_at.Goals as goal
 
 pub returns : goal.returns
