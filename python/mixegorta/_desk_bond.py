@@ -12,7 +12,7 @@ from ._limits import MAX_STEPS, ONE
 Days = Union[When, Iterable[When]]
 HUNDRED = 100
 # So many days are named in a sentence.
-MOST_NAMED = 3
+MOST_NAMED = 6
 
 
 class Bond:
@@ -160,17 +160,14 @@ def frequency_of(instrument: Instrument, frequency: Optional[int]) -> int:
 
 
 def _no_frequency(bond: Bond, days: List[int]) -> str:
-    """Why no frequency will do: the coarsest that has all days on rows has too many of them, and coarser ones have days
-    between rows."""
-    least = min(each for each in FREQUENCIES if all(steps_of(count, each) is not None for count in days))
-    coarser = max((each for each in FREQUENCIES if each < least), default=None)
-    told = (f"maturity: {bond.named(bond.months)} is row {steps_of(bond.months, least)} at {steps_a_year(least)}, "
-            f"and a tree has at most {MAX_STEPS}")
-    if coarser is None:
-        return told
-    between = [bond.named(count) for count in days if steps_of(count, coarser) is None]
+    """Why no frequency will do: days between the rows of a year, and more rows than a tree has where they fall on some;
+    where every day falls on a year's row, years alone are too many."""
+    between = [bond.named(count) for count in days if steps_of(count, 1) is None]
+    if not between:
+        return f"maturity: {bond.named(bond.months)} is row {steps_of(bond.months, 1)} at {steps_a_year(1)}, and a tree has at most {MAX_STEPS}"
     more = f" and {len(between) - MOST_NAMED} more" if len(between) > MOST_NAMED else ""
-    return f"{told}; with {steps_a_year(coarser)} {', '.join(between[:MOST_NAMED])}{more} would fall between rows"
+    return (f"maturity: no frequency has all days to {bond.named(bond.months)} on at most {MAX_STEPS} rows; "
+            f"days that do not fall on a year's row: {', '.join(between[:MOST_NAMED])}{more}")
 
 
 def other_frequency(instrument: Instrument, frequency: int) -> Optional[int]:

@@ -261,8 +261,8 @@ def _csv_figures(path: str) -> Tuple[str, Dict[Any, Number]]:
     for place, line in enumerate(lines[1:], 2):
         if any(cell.strip() for cell in line):
             if len(line) > len(heads):
-                raise InputError(f"line {place} of {path}: {len(line)} cells, and the first line has {len(heads)}; "
-                                 "with decimal commas the cells stand between semicolons")
+                warn(f"line {place} of {path}", f"{len(line)} cells, and the first line has {len(heads)}; the further ones are passed over, "
+                                                "and with decimal commas the cells stand between semicolons")
             key, figure = _csv_point(f"line {place} of {path}", dict(zip(heads, line)), time, kind)
             if key in found:
                 raise InputError(f"line {place} of {path}: {key} stands there before")

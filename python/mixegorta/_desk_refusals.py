@@ -70,8 +70,8 @@ def in_desk_units(refused: Refused, model: "Model", frequency: int) -> Refused:
     refused.__notes__ = [f"What to do: {refused.remedy}."]
     if refused.volatility is not None:
         most = Decimal(refused.volatility) / 100
-        refused.__notes__.append(f"Up to volatility_bp {most} a tree is fitted; that is another model, and its prices "
-                                 "are not these.")
+        refused.__notes__ += [f"Up to volatility_bp {most} a tree is fitted; that is another model, and its prices are "
+                              "not these.", f"As volatility_bp {most} is accepted."]
     return refused
 
 

@@ -171,25 +171,22 @@ class Bonds(unittest.TestCase):
     def test_days_that_fall_on_no_row_name_those_that_do(self):
         flat = desk.Curve({"10Y": 1}, compounding="yearly")
         for ask, words in (
-            (lambda: desk.Bond(1, "10Y1M").flows(4), "maturity: 10Y1M falls on no row of 4 steps a year; "
-             "the nearest rows: 10Y and 10Y3M; no frequency does"),
-            (lambda: desk.Bond(1, "2Y1M").flows(4), "maturity: 2Y1M falls on no row of 4 steps a year; "
-             "the nearest rows: 2Y and 2Y3M; frequencies that do: 12"),
-            (lambda: desk.Bond(1, "10Y").flows(12),
-             "maturity: 10Y is row 120 at 12 steps a year, and a tree has at most 60; frequencies that do: 4, 2, 1"),
-            (lambda: desk.Bond(1, "5Y", coupons_a_year=4).flows(2),
-             "coupons_a_year: 3M falls on no row of 2 steps a year; "
-             "the nearest rows: 0M and 6M; frequencies that do: 12, 4"),
-            (lambda: desk.Bond(1, "5Y").callable(on="2Y1M").dates(4), "on: 2Y1M falls on no row of 4 steps a year; "
-             "the nearest rows: 2Y and 2Y3M; frequencies that do: 12"),
-            (lambda: desk.Bond(1, datetime.date(2028, 11, 17), valuation=TODAY),
-             "maturity: 2028-11-17 is no whole number of months after the valuation date 2026-11-16; the nearest days that are: 2028-11-16, 2028-12-16"
-             ), (lambda: desk.price(desk.Bond(1, "61M"), flat, MODEL),
-                 "maturity: 5Y1M is row 61 at 12 steps a year, and a tree has at most 60; "
-                 "with 4 steps a year 1M, 1Y1M, 2Y1M and 3 more would fall between rows"),
-            (lambda: desk.price(desk.Bond(2, "61M", coupons_a_year=12), flat, MODEL),
-             "maturity: 5Y1M is row 61 at 12 steps a year, and a tree has at most 60; with 4 steps a year 1M, 2M, 4M and 38 more would fall between rows"
-             ), (lambda: desk.price(desk.Bond(1, "61Y"), desk.Curve({"61Y": 1}, compounding="yearly"), MODEL),
+                (lambda: desk.Bond(1, "10Y1M").flows(4), "maturity: 10Y1M falls on no row of 4 steps a year; "
+                                                         "the nearest rows: 10Y and 10Y3M; no frequency does"),
+                (lambda: desk.Bond(1, "2Y1M").flows(4), "maturity: 2Y1M falls on no row of 4 steps a year; "
+                                                        "the nearest rows: 2Y and 2Y3M; frequencies that do: 12"),
+                (lambda: desk.Bond(1, "10Y").flows(12), "maturity: 10Y is row 120 at 12 steps a year, and a tree has at most 60; frequencies that do: 4, 2, 1"),
+                (lambda: desk.Bond(1, "5Y", coupons_a_year=4).flows(2), "coupons_a_year: 3M falls on no row of 2 steps a year; "
+                                                                       "the nearest rows: 0M and 6M; frequencies that do: 12, 4"),
+                (lambda: desk.Bond(1, "5Y").callable(on="2Y1M").dates(4), "on: 2Y1M falls on no row of 4 steps a year; "
+                                                                         "the nearest rows: 2Y and 2Y3M; frequencies that do: 12"),
+                (lambda: desk.Bond(1, datetime.date(2028, 11, 17), valuation=TODAY),
+                 "maturity: 2028-11-17 is no whole number of months after the valuation date 2026-11-16; the nearest days that are: 2028-11-16, 2028-12-16"),
+                (lambda: desk.price(desk.Bond(1, "61M"), flat, MODEL), "maturity: no frequency has all days to 5Y1M on at most 60 rows; "
+                                                                       "days that do not fall on a year's row: 1M, 1Y1M, 2Y1M, 3Y1M, 4Y1M, 5Y1M"),
+                (lambda: desk.price(desk.Bond(2, "61M", coupons_a_year=12), flat, MODEL),
+                 "maturity: no frequency has all days to 5Y1M on at most 60 rows; days that do not fall on a year's row: 1M, 2M, 3M, 4M, 5M, 6M and 50 more"),
+                (lambda: desk.price(desk.Bond(1, "61Y"), desk.Curve({"61Y": 1}, compounding="yearly"), MODEL),
                  "maturity: 61Y is row 61 at 1 step a year, and a tree has at most 60")):
             with self.assertRaises(desk.InputError) as raised:
                 ask()
@@ -256,11 +253,15 @@ class Words(unittest.TestCase):
             self.assertEqual(str(pickle.loads(pickle.dumps(refused))), said)
 
     def test_the_advice_on_a_tree_that_is_not_fitted(self):
-        """Another volatility is another model: neither the engine's advice nor the desk's offers it as a way to a
-        price."""
-        self.assertIn("less volatility does too, but is another model with other prices", m.ADVICE[9])
+        """Another volatility is another model: the desk's advice does not offer it as a way to a price, and a note says
+        so before the one that names what is accepted."""
         refused = self.said(lambda: desk.price(BOND, CURVE, desk.Model(400, 0), frequency=1))[1]
         self.assertNotIn("volatility", refused.advice)
+        accepted = Decimal(refused.volatility) / 100
+        self.assertEqual(refused.__notes__, [
+            f"What to do: {refused.advice}.",
+            f"Up to volatility_bp {accepted} a tree is fitted; that is another model, and its prices are not these.",
+            f"As volatility_bp {accepted} is accepted."])
 
     def test_a_bad_strike_leaves_the_others(self):
         with warnings.catch_warnings():
@@ -365,9 +366,7 @@ class Prices(unittest.TestCase):
         with self.assertRaises(m.NodeDiscountOutOfRange) as raised:
             desk.price(BOND, CURVE, desk.Model(volatility_bp=400, reversion=0), frequency=1)
         accepted = Decimal(raised.exception.volatility) / 100
-        self.assertEqual(
-            raised.exception.__notes__[-1],
-            f"Up to volatility_bp {accepted} a tree is fitted; that is another model, and its prices are not these.")
+        self.assertEqual(raised.exception.__notes__[-1], f"As volatility_bp {accepted} is accepted.")
         desk.price(BOND, CURVE, desk.Model(volatility_bp=accepted, reversion=0), frequency=1)
         with self.assertRaises(m.FlowTooLarge), warnings.catch_warnings():
             warnings.simplefilter("ignore")
@@ -495,83 +494,69 @@ class BadInput(unittest.TestCase):
     def test_a_sentence_with_the_arguments_name(self):
         curve = {"compounding": "yearly"}
         for name, ask in (
-            (r"rates\['1Q'\]", lambda: desk.Curve({"1Q": 1}, **curve)), (r"rates\['1Y'\]",
-                                                                         lambda: desk.Curve({"1Y": "one"}, **curve)),
-            (r"rates\['1Y'\]", lambda: desk.Curve({"1Y": float("nan")}, **curve)),
-            (r"rates\['1Y'\]", lambda: desk.Curve({"1Y": True}, **curve)), (r"rates\['1Y'\]",
-                                                                            lambda: desk.Curve({"1Y": None}, **curve)),
-            (r"rates\['12M'\]", lambda: desk.Curve({"1Y": 1, "12M": 2}, **curve)),
-            (r"rates\['0M'\]", lambda: desk.Curve({"0M": 1}, **curve)), (r"rates\['1Y'\]",
-                                                                         lambda: desk.Curve({"1Y": -150}, **curve)),
-            (r"rates\['1Y'\]", lambda: desk.Curve({"1Y": "1e400"}, **curve)), ("rates",
-                                                                               lambda: desk.Curve([1, 2], **curve)),
-            ("rates", lambda: desk.Curve({}, **curve)), ("rates", lambda: desk.Curve("1Y 2", **curve)),
-            (r"rates\[2027-01-01\]", lambda: desk.Curve({datetime.date(2027, 1, 1): 1}, **curve)),
-            ("compounding", lambda: desk.Curve({"1Y": 1}, compounding="daily")),
-            ("valuation",
-             lambda: desk.Curve({"1Y": 1}, valuation="today", **curve)), (r"discounts\['1Y'\]",
-                                                                          lambda: desk.Curve.from_discounts({"1Y": 0})),
-            ("path",
-             lambda: desk.Curve.from_csv("/nowhere.csv", **curve)), ("series",
-                                                                     lambda: desk.Curve.from_series([1], **curve)),
-            ("series",
-             lambda: desk.Curve.from_series(Twice(), **curve)), ("structure",
-                                                                 lambda: desk.Curve.from_quantlib(1, until="1Y")),
-            ("volatility_bp", lambda: desk.Model("many", 0)), ("volatility_bp", lambda: desk.Model(-1, 0)),
-            ("reversion", lambda: desk.Model(1, -1)), ("version", lambda: desk.Model(1, 0, version=3)),
-            ("frequency", lambda: MODEL.handed(3)), ("frequency", lambda: CURVE.quotes(256 + 4, 4)),
-            ("steps", lambda: CURVE.quotes(4, 61)), ("steps", lambda: CURVE.quotes(4, 2 ** 32 + 4)),
-            ("coupon", lambda: desk.Bond([], "1Y")), ("coupon", lambda: desk.Bond(-1, "1Y")),
-            ("maturity", lambda: desk.Bond(1, 10)), ("maturity",
-                                                     lambda: desk.Bond(1, "ten")), ("maturity",
-                                                                                    lambda: desk.Bond(1, "0Y")),
-            ("maturity",
-             lambda: desk.Bond(1, TODAY)), ("maturity",
-                                            lambda: desk.Bond(1, TODAY, valuation=datetime.date(2027, 1, 1))),
-            ("coupons_a_year", lambda: desk.Bond(1, "1Y", coupons_a_year=3)), ("on", lambda: BOND.callable(on=[])),
-            ("on", lambda: BOND.callable(on=["6Y", "5Y"])), ("on", lambda: BOND.callable(on="10Y")),
-            ("on", lambda: BOND.callable(on={"5Y": 100})), (r"on\[0\]", lambda: BOND.callable(on=[5])),
-            ("at", lambda: BOND.callable(on="5Y", at="par")), ("at", lambda: desk.strip(NOTE, CURVE, MODEL, at=[])),
-            ("at", lambda: desk.strip(NOTE, CURVE, MODEL, at=[100] * 17)),
-            ("at",
-             lambda: desk.strip(NOTE, CURVE, MODEL, at="100")), (r"at\[1\]",
-                                                                 lambda: desk.strip(NOTE, CURVE, MODEL, at=[100, "x"])),
-            ("instrument", lambda: desk.strip(BOND, CURVE, MODEL, at=[100])), ("instrument",
-                                                                               lambda: desk.price(1, CURVE, MODEL)),
-            ("curve", lambda: desk.price(BOND, EUR, MODEL)), ("model", lambda: desk.price(BOND, CURVE, 70)),
-            ("frequency", lambda: desk.price(BOND, CURVE, MODEL, frequency=3)), ("volatility_bp",
-                                                                                 lambda: MODEL.with_volatility(-1)),
-            ("curve",
-             lambda: desk.price(desk.Bond(1, "11Y"), CURVE, MODEL)), ("curve",
-                                                                      lambda: desk.sensitivities(BOND, EUR, MODEL)),
-            ("keys", lambda: desk.sensitivities(BOND, CURVE, MODEL, keys="10Y")),
-            ("keys", lambda: desk.sensitivities(BOND, CURVE, MODEL, keys=["x"])),
-            ("move_bp", lambda: desk.sensitivities(BOND, CURVE, MODEL, move_bp=0)),
-            ("instrument", lambda: desk.oas(None, CURVE, MODEL, clean=90)),
-            ("clean", lambda: desk.oas(NOTE, CURVE, MODEL)), ("clean",
-                                                              lambda: desk.oas(NOTE, CURVE, MODEL, clean="par")),
-            ("until", lambda: desk.fitted(CURVE, MODEL, frequency=4, until="16Y"))):
+                (r"rates\['1Q'\]", lambda: desk.Curve({"1Q": 1}, **curve)), (r"rates\['1Y'\]", lambda: desk.Curve({"1Y": "one"}, **curve)),
+                (r"rates\['1Y'\]", lambda: desk.Curve({"1Y": float("nan")}, **curve)), (r"rates\['1Y'\]", lambda: desk.Curve({"1Y": True}, **curve)),
+                (r"rates\['1Y'\]", lambda: desk.Curve({"1Y": None}, **curve)), (r"rates\['12M'\]", lambda: desk.Curve({"1Y": 1, "12M": 2}, **curve)),
+                (r"rates\['0M'\]", lambda: desk.Curve({"0M": 1}, **curve)), (r"rates\['1Y'\]", lambda: desk.Curve({"1Y": -150}, **curve)),
+                (r"rates\['1Y'\]", lambda: desk.Curve({"1Y": "1e400"}, **curve)),
+                ("rates", lambda: desk.Curve([1, 2], **curve)), ("rates", lambda: desk.Curve({}, **curve)), ("rates", lambda: desk.Curve("1Y 2", **curve)),
+                (r"rates\[2027-01-01\]", lambda: desk.Curve({datetime.date(2027, 1, 1): 1}, **curve)),
+                ("compounding", lambda: desk.Curve({"1Y": 1}, compounding="daily")), ("valuation", lambda: desk.Curve({"1Y": 1}, valuation="today", **curve)),
+                (r"discounts\['1Y'\]", lambda: desk.Curve.from_discounts({"1Y": 0})), ("path", lambda: desk.Curve.from_csv("/nowhere.csv", **curve)),
+                ("series", lambda: desk.Curve.from_series([1], **curve)), ("series", lambda: desk.Curve.from_series(Twice(), **curve)),
+                ("structure", lambda: desk.Curve.from_quantlib(1, until="1Y")),
+                ("volatility_bp", lambda: desk.Model("many", 0)), ("volatility_bp", lambda: desk.Model(-1, 0)), ("reversion", lambda: desk.Model(1, -1)),
+                ("version", lambda: desk.Model(1, 0, version=3)), ("frequency", lambda: MODEL.handed(3)), ("frequency", lambda: CURVE.quotes(256 + 4, 4)),
+                ("steps", lambda: CURVE.quotes(4, 61)), ("steps", lambda: CURVE.quotes(4, 2**32 + 4)),
+                ("coupon", lambda: desk.Bond([], "1Y")), ("coupon", lambda: desk.Bond(-1, "1Y")), ("maturity", lambda: desk.Bond(1, 10)),
+                ("maturity", lambda: desk.Bond(1, "ten")), ("maturity", lambda: desk.Bond(1, "0Y")), ("maturity", lambda: desk.Bond(1, TODAY)),
+                ("maturity", lambda: desk.Bond(1, TODAY, valuation=datetime.date(2027, 1, 1))), ("coupons_a_year", lambda: desk.Bond(1, "1Y", coupons_a_year=3)),
+                ("on", lambda: BOND.callable(on=[])), ("on", lambda: BOND.callable(on=["6Y", "5Y"])), ("on", lambda: BOND.callable(on="10Y")),
+                ("on", lambda: BOND.callable(on={"5Y": 100})), (r"on\[0\]", lambda: BOND.callable(on=[5])), ("at", lambda: BOND.callable(on="5Y", at="par")),
+                ("at", lambda: desk.strip(NOTE, CURVE, MODEL, at=[])), ("at", lambda: desk.strip(NOTE, CURVE, MODEL, at=[100] * 17)),
+                ("at", lambda: desk.strip(NOTE, CURVE, MODEL, at="100")), (r"at\[1\]", lambda: desk.strip(NOTE, CURVE, MODEL, at=[100, "x"])),
+                ("instrument", lambda: desk.strip(BOND, CURVE, MODEL, at=[100])), ("instrument", lambda: desk.price(1, CURVE, MODEL)),
+                ("curve", lambda: desk.price(BOND, EUR, MODEL)), ("model", lambda: desk.price(BOND, CURVE, 70)),
+                ("frequency", lambda: desk.price(BOND, CURVE, MODEL, frequency=3)), ("volatility_bp", lambda: MODEL.with_volatility(-1)),
+                ("curve", lambda: desk.price(desk.Bond(1, "11Y"), CURVE, MODEL)), ("curve", lambda: desk.sensitivities(BOND, EUR, MODEL)),
+                ("keys", lambda: desk.sensitivities(BOND, CURVE, MODEL, keys="10Y")), ("keys", lambda: desk.sensitivities(BOND, CURVE, MODEL, keys=["x"])),
+                ("move_bp", lambda: desk.sensitivities(BOND, CURVE, MODEL, move_bp=0)), ("instrument", lambda: desk.oas(None, CURVE, MODEL, clean=90)),
+                ("clean", lambda: desk.oas(NOTE, CURVE, MODEL)), ("clean", lambda: desk.oas(NOTE, CURVE, MODEL, clean="par")),
+                ("until", lambda: desk.fitted(CURVE, MODEL, frequency=4, until="16Y"))):
             with self.assertRaisesRegex(desk.InputError, f"^{name}: ", msg=name):
                 ask()
 
     def test_a_csv_that_cannot_be_read_names_its_line(self):
         with tempfile.TemporaryDirectory() as folder:
             path = os.path.join(folder, "curve.csv")
-            for text, words in (("tenor,percent\n1Y,2\n2Y,x\n", "line 3 of "), ("when,percent\n", "path: "),
-                                ("", "path: "), ("tenor,percent\n10Y,2,5\n",
-                                                 "line 2 of .*: 3 cells, and the first line has 2"),
-                                ("tenor,years,percent\n1Y,1,2\n",
-                                 "path: .* names the columns tenor and years, and one is wanted"),
-                                ("tenor,percent,discount\n1Y,2,0.98\n",
-                                 "path: .* names the columns percent and discount, and one is wanted"),
-                                ("tenor,percent,Percent\n1Y,2,3\n", "path: .* names the columns percent and percent"),
-                                ("tenor,percent\n1Y,\n", "line 2 of "), ("date,percent\nsoon,1\n",
-                                                                         "line 2 of "), ("tenor,percent\n1Y,1\n1Y,2\n",
-                                                                                         "line 3 of ")):
+            for text, words in (("tenor,percent\n1Y,2,5\n2Y,x\n", "line 3 of "), ("when,percent\n", "path: "), ("", "path: "),
+                                ("tenor,percent\n1Y,\n", "line 2 of "), ("date,percent\nsoon,1\n", "line 2 of "), ("tenor,percent\n1Y,1\n1Y,2\n", "line 3 of ")):
                 with open(path, "w") as file:
                     file.write(text)
                 with self.assertRaisesRegex(desk.InputError, f"^{words}"):
                     desk.Curve.from_csv(path, compounding="yearly")
+
+    def test_a_csv_with_two_columns_for_one_thing(self):
+        with tempfile.TemporaryDirectory() as folder:
+            path = os.path.join(folder, "curve.csv")
+            for text, words in (("tenor,years,percent\n1Y,1,2\n", "tenor and years, and one is wanted"),
+                                ("tenor,percent,discount\n1Y,2,0.98\n", "percent and discount, and one is wanted"),
+                                ("tenor,percent,Percent\n1Y,2,3\n", "percent and percent")):
+                with open(path, "w") as file:
+                    file.write(text)
+                with self.assertRaisesRegex(desk.InputError, f"^path: .* names the columns {words}"):
+                    desk.Curve.from_csv(path, compounding="yearly")
+
+    def test_further_cells_of_a_csv_are_passed_over_and_warned_of(self):
+        """They may be decimals behind a comma."""
+        with tempfile.TemporaryDirectory() as folder:
+            path = os.path.join(folder, "curve.csv")
+            with open(path, "w") as file:
+                file.write("tenor,percent\n10Y,2,5\n")
+            with self.assertWarnsRegex(desk.UnitWarning, "^line 2 of .*: 3 cells, and the first line has 2; the further ones are passed over") as caught:
+                curve = desk.Curve.from_csv(path, compounding="yearly")
+            self.assertEqual(os.path.abspath(caught.filename), os.path.abspath(__file__))
+            self.assertEqual([point.figure for point in curve.points], [2])
 
     def test_odd_arguments_never_show_the_internals(self):
         """Whatever stands for one argument, the answer is one, or an InputError or a refusal."""
@@ -604,20 +589,14 @@ class BadInput(unittest.TestCase):
         self.assertEqual("\n".join(wrong), "")
 
     def test_figures_that_look_like_another_unit_are_warned_of(self):
-        for name, ask in (("rates", lambda: desk.Curve({"1Y": 25}, compounding="yearly")),
-                          ("rates", lambda: desk.Curve({"1Y": 0.03}, compounding="yearly")),
-                          ("volatility_bp", lambda: desk.Model(501, 0)), ("volatility_bp",
-                                                                          lambda: desk.Model(0.007, 0)),
-                          ("reversion", lambda: desk.Model(70, 3)), ("coupon", lambda: desk.Bond(102, "1Y")),
-                          ("coupon", lambda: desk.Bond("0.015", "1Y")), ("redemption",
-                                                                         lambda: desk.Bond(1, "1Y", redemption=1000)),
-                          ("redemption",
-                           lambda: desk.Bond(1, "1Y", redemption="0.05")), ("redemption",
-                                                                            lambda: desk.Bond(1, "1Y", redemption=1)),
-                          ("points", lambda: m.Tree(1, 1, 0, 0, [m.Point(1, m.YEARLY_RATE, 3.2)])),
-                          ("points", lambda: m.Tree(1, 1, 0, 0, [m.Point(1, m.YEARLY_YIELD, 0.3)])),
-                          ("at", lambda: BOND.callable(on="5Y", at=1)), ("at",
-                                                                         lambda: BOND.callable(on="5Y", at=1000))):
+        for name, ask in (
+                ("rates", lambda: desk.Curve({"1Y": 25}, compounding="yearly")), ("rates", lambda: desk.Curve({"1Y": 0.03}, compounding="yearly")),
+                ("volatility_bp", lambda: desk.Model(501, 0)), ("volatility_bp", lambda: desk.Model(0.007, 0)), ("reversion", lambda: desk.Model(70, 3)),
+                ("coupon", lambda: desk.Bond(102, "1Y")), ("coupon", lambda: desk.Bond("0.015", "1Y")), ("redemption", lambda: desk.Bond(1, "1Y", redemption=1000)),
+                ("redemption", lambda: desk.Bond(1, "1Y", redemption="0.05")), ("redemption", lambda: desk.Bond(1, "1Y", redemption=1)),
+                ("points", lambda: m.Tree(1, 1, 0, 0, [m.Point(1, m.YEARLY_RATE, 3.2)])),
+                ("points", lambda: m.Tree(1, 1, 0, 0, [m.Point(1, m.YEARLY_YIELD, 0.3)])), ("at", lambda: BOND.callable(on="5Y", at=1)),
+                ("at", lambda: BOND.callable(on="5Y", at=1000))):
             with self.assertWarnsRegex(desk.UnitWarning, f"^{name}: ") as caught:
                 ask()
             self.assertEqual(os.path.abspath(caught.filename), os.path.abspath(__file__))
